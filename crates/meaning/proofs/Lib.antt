@@ -1,0 +1,2 @@
+-- Worked rows, laws and theorems about the definitions.
+pub mod rows

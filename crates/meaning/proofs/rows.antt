@@ -1,0 +1,4 @@
+-- Worked rows of the definitions.
+pub mod Tables
+pub mod Computing
+pub mod Starred

@@ -1,0 +1,40 @@
+-- The five byte classes that conditions ask about: 01 'Table text', "Predicates: IsDigit (48 to 57), IsUpper (65 to 90),
+-- IsLower (97 to 122), IsLetter (the two before), IsBlank (32, 9)". In 000 section 2.2 they are the host program's.
+use Prim.Native.Nat.{ℕ}
+use mathlib.Core.Bool.{Bool, true, false}
+use mathlib.Core.List.{List, [], _∷_}
+use lib.Dec.{leb, eqb}
+use Rattle.meaning.specs.Choice.{Name, both, either}
+
+pub data Class : Type 0 where
+  digit upper lower alphabetic blank : Class
+
+-- from the first byte to the last, both included
+abbrev pub within : ℕ → ℕ → ℕ → Bool
+within low high b = both (leb low b) (leb b high)
+
+abbrev pub inClass : Class → ℕ → Bool
+inClass digit b = within 48 57 b
+inClass upper b = within 65 90 b
+inClass lower b = within 97 122 b
+inClass alphabetic b = either (within 65 90 b) (within 97 122 b)
+inClass blank b = either (eqb b 32) (eqb b 9)
+
+-- a class's number in the code, and its place in the class table
+abbrev pub classNumber : Class → ℕ
+classNumber digit = 0
+classNumber upper = 1
+classNumber lower = 2
+classNumber alphabetic = 3
+classNumber blank = 4
+
+-- IsDigit, IsUpper, IsLower, IsLetter, IsBlank
+abbrev pub className : Class → Name
+className digit = 73 ∷ 115 ∷ 68 ∷ 105 ∷ 103 ∷ 105 ∷ 116 ∷ []
+className upper = 73 ∷ 115 ∷ 85 ∷ 112 ∷ 112 ∷ 101 ∷ 114 ∷ []
+className lower = 73 ∷ 115 ∷ 76 ∷ 111 ∷ 119 ∷ 101 ∷ 114 ∷ []
+className alphabetic = 73 ∷ 115 ∷ 76 ∷ 101 ∷ 116 ∷ 116 ∷ 101 ∷ 114 ∷ []
+className blank = 73 ∷ 115 ∷ 66 ∷ 108 ∷ 97 ∷ 110 ∷ 107 ∷ []
+
+abbrev pub classes : List Class
+classes = digit ∷ upper ∷ lower ∷ alphabetic ∷ blank ∷ []

@@ -1,0 +1,107 @@
+-- How the machine chooses a sentence for a field: 000 section 3.1, 01 'Machine': "With two e-variables the tests begin at the middle template's leftmost place, and a failed
+-- test leads to its next place to the right. Where none is left, or with fewer e-variables, a failed test leads to the next sentence, and after the last sentence to 11".
+use Prim.Native.Nat.{ℕ, zero, suc, _+_, _-_}
+use mathlib.Core.Bool.{Bool, true, false}
+use mathlib.Core.List.{List, [], _∷_}
+use mathlib.Core.Option.{Option, none, some}
+use lib.Dec.{leb, eqb}
+use lib.ListN.{length}
+use Rattle.meaning.specs.Choice.{Bytes, pick, guard, nth}
+use Rattle.meaning.specs.Classes.{inClass}
+use Rattle.meaning.specs.Rewriting.{sameTruth}
+use Rattle.meaning.specs.Instructions.{Site, fromStart, fromEnd, fromPlace, Test, look, compare, predicate, unknownTest, Store, store, unknownStore, Action, Metric, exactly, ends, middle, Sentences, noMore, sentence, unknownSentence}
+
+-- the byte at a site of a field, the place of the middle template being counted from p; none where the field has no such cell
+abbrev pub cellAt : Site → Bytes → ℕ → Option ℕ
+cellAt (fromStart k) field place = nth k field
+cellAt (fromEnd k) field place = guard (leb k (length field)) (nth (length field - k) field)
+cellAt (fromPlace k) field place = nth (place + k) field
+
+-- a test passes, fails, or asks for something that isn't there
+pub data Checked : Type 0 where
+  passed failed wrong : Checked
+
+abbrev pub checked : Bool → Checked
+checked true = passed
+checked false = failed
+
+abbrev pub asked : (ℕ → Checked) → Option ℕ → Checked
+asked f none = wrong
+asked f (some b) = f b
+
+abbrev pub check : Test → Bytes → ℕ → Checked
+check (look s c) field place = asked (λ b. checked (eqb c b)) (cellAt s field place)
+check (compare s r) field place = asked (λ b. asked (λ a. checked (eqb b a)) (cellAt r field place)) (cellAt s field place)
+check (predicate s class expected) field place = asked (λ b. checked (sameTruth expected (inClass class b))) (cellAt s field place)
+check unknownTest field place = wrong
+
+abbrev pub wherePassed : Checked → Checked → Checked
+wherePassed passed later = later
+wherePassed failed later = failed
+wherePassed wrong later = wrong
+
+unfoldable pub checkAll : List Test → Bytes → ℕ → Checked
+checkAll [] field place = passed
+checkAll (t ∷ ts) field place = let later = checkAll ts field place in wherePassed (check t field place) later
+
+-- where the middle template lies; without one, place 0
+pub data Found : Type 0 where
+  foundAt : ℕ → Found
+  foundNone : Found
+  foundWrong : Found
+
+abbrev pub settled : Checked → ℕ → Found → Found
+settled passed place later = foundAt place
+settled failed place later = later
+settled wrong place later = foundWrong
+
+-- the leftmost of so many places from here at which all tests pass
+unfoldable pub search : (ℕ → Checked) → ℕ → ℕ → Found
+search test zero place = foundNone
+search test (suc n) place = let later = search test n (suc place) in settled (test place) place later
+
+-- how many places there are to try, for a field of a length, and the first of them. 000's prose has i < q - tail - med, its program i <= q - tail - med; 01: "at most holds"
+abbrev pub placesOf : Metric → ℕ → ℕ
+placesOf (exactly n) whole = pick (eqb whole n) 1 0
+placesOf (ends head tail) whole = pick (leb (head + tail) whole) 1 0
+placesOf (middle head med tail) whole = suc whole - (head + med + tail)
+
+abbrev pub firstPlace : Metric → ℕ
+firstPlace (exactly n) = 0
+firstPlace (ends head tail) = 0
+firstPlace (middle head med tail) = head
+
+abbrev pub place : Metric → List Test → Bytes → Found
+place metric tests field = search (checkAll tests field) (placesOf metric (length field)) (firstPlace metric)
+
+-- "Store of each different s-variable"
+abbrev pub kept : Option ℕ → Option Bytes → Option Bytes
+kept none later = none
+kept (some b) none = none
+kept (some b) (some values) = some (b ∷ values)
+
+abbrev pub storedCell : Store → Bytes → ℕ → Option ℕ
+storedCell (store s) field at = cellAt s field at
+storedCell unknownStore field at = none
+
+unfoldable pub storedValues : List Store → Bytes → ℕ → Option Bytes
+storedValues [] field at = some []
+storedValues (s ∷ ss) field at = kept (storedCell s field at) (storedValues ss field at)
+
+-- the sentence chosen for a field, as its number counted from 0, where its middle template lies, its stores and its actions; or none; or words that are no sentence
+pub data Choice : Type 0 where
+  chosen : ℕ → ℕ → List Store → List Action → Choice
+  chosenNone : Choice
+  chosenWrong : Choice
+
+abbrev pub choiceOf : Found → ℕ → List Store → List Action → Choice → Choice
+choiceOf (foundAt at) number stores actions later = chosen number at stores actions
+choiceOf foundNone number stores actions later = later
+choiceOf foundWrong number stores actions later = chosenWrong
+
+unfoldable pub chooseFrom : ℕ → Sentences → Bytes → Choice
+chooseFrom number noMore field = chosenNone
+chooseFrom number unknownSentence field = chosenWrong
+chooseFrom number (sentence metric tests stores actions more) field =
+    let later = chooseFrom (suc number) more field in
+    choiceOf (place metric tests field) number stores actions later

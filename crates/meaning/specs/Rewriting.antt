@@ -1,0 +1,140 @@
+-- Rewriting by Refal-0's own rules: 01 'Rewriting', 000 section 2.2. It "is fed tree, start, text and allowance, and knows no cell or frame".
+use Prim.Native.Nat.{ℕ, zero, suc, pred}
+use mathlib.Core.Bool.{Bool, true, false}
+use mathlib.Core.List.{List, [], _∷_, _++_}
+use mathlib.Core.Option.{Option, none, some}
+use lib.Dec.{eqb}
+use Rattle.meaning.specs.Choice.{Bytes, Name, pick, both, guard, orElse, Named, lookup, nth}
+use Rattle.meaning.specs.Classes.{inClass}
+use Rattle.meaning.specs.Tree.{Letter, character, symbol, Element, letter, part, Condition, Expression, end, thenCharacter, thenSymbol, thenPart, thenCall, Sentence, Function, Table}
+use Rattle.meaning.specs.Names.{isEmission, numberOf}
+use Rattle.meaning.specs.Answers.{noSentenceFits, allowanceSpent}
+use Rattle.meaning.specs.Outcome.{Tally, fresh, pay, emitted, Outcome, done, stop, andThen, Result, resultOf}
+
+-- bytes for s-variables and parts for e-variables, in the order in which the pattern first names them
+pub record Bindings : Type 0 where
+  pub symbols : List (Named ℕ)
+  pub parts : List (Named Bytes)
+
+abbrev pub unbound : Bindings
+unbound = record { symbols = []; parts = [] }
+
+-- "Equal s-variables take equal bytes"
+abbrev pub agreed : Option ℕ → Name → ℕ → List (Named ℕ) → Option (List (Named ℕ))
+agreed none x b known = some (known ++ record { name = x; value = b } ∷ [])
+agreed (some c) x b known = guard (eqb c b) (some known)
+
+abbrev pub takeSymbol : Name → ℕ → List (Named ℕ) → Option (List (Named ℕ))
+takeSymbol x b known = agreed (lookup x known) x b known
+
+-- "A condition ... on an s-variable of the pattern"
+abbrev pub sameTruth : Bool → Bool → Bool
+sameTruth true b = b
+sameTruth false true = false
+sameTruth false false = true
+
+abbrev pub holdsFor : Condition → Option ℕ → Bool
+holdsFor c none = false
+holdsFor c (some b) = sameTruth (c .expected) (inClass (c .predicate) b)
+
+unfoldable pub hold : List Condition → List (Named ℕ) → Bool
+hold [] known = true
+hold (c ∷ cs) known = both (holdsFor c (lookup (c .variable) known)) (hold cs known)
+
+-- the first success among all ways to cut the text in two, the shortest first piece first
+unfoldable pub shortest : {A : Type 0} → (Bytes → Bytes → Option A) → Bytes → Bytes → Option A
+shortest k taken [] = k taken []
+shortest k taken (b ∷ rest) = let later = shortest k (taken ++ b ∷ []) rest in orElse (k taken (b ∷ rest)) later
+
+abbrev pub withSymbols : Bindings → List (Named ℕ) → Bindings
+withSymbols bound known = record { symbols = known; parts = bound .parts }
+
+abbrev pub withPart : Bindings → Name → Bytes → Bindings
+withPart bound x piece = record { symbols = bound .symbols; parts = bound .parts ++ record { name = x; value = piece } ∷ [] }
+
+abbrev pub matchRest : (Bindings → Option Bindings) → Bindings → Option (List (Named ℕ)) → Option Bindings
+matchRest k bound none = none
+matchRest k bound (some known) = k (withSymbols bound known)
+
+-- "One fits if the text is its pattern with bytes for s-variables and parts, perhaps empty, for e-variables, and all conditions hold".
+-- Parts are tried shortest first and conditions are asked of the whole match, so the middle template "takes the leftmost place at which all
+-- characters, equalities and conditions hold".
+unfoldable pub match : List Element → List Condition → Bytes → Bindings → Option Bindings
+match [] conditions [] bound = guard (hold conditions (bound .symbols)) (some bound)
+match [] conditions (b ∷ text) bound = none
+match (letter (character c) ∷ pattern) conditions [] bound = none
+match (letter (character c) ∷ pattern) conditions (b ∷ text) bound =
+    let later = match pattern conditions text bound in guard (eqb c b) later
+match (letter (symbol x) ∷ pattern) conditions [] bound = none
+match (letter (symbol x) ∷ pattern) conditions (b ∷ text) bound =
+    matchRest (match pattern conditions text) bound (takeSymbol x b (bound .symbols))
+match (part x ∷ pattern) conditions text bound =
+    shortest (λ piece rest. match pattern conditions rest (withPart bound x piece)) [] text
+
+-- a sentence that fits, with what its variables take
+pub record Fit : Type 0 where
+  pub sentence : Sentence
+  pub bindings : Bindings
+
+abbrev pub fitted : Sentence → Option Bindings → Option Fit
+fitted s none = none
+fitted s (some bound) = some (record { sentence = s; bindings = bound })
+
+-- "A function tries its sentences in order"
+unfoldable pub choose : List Sentence → Bytes → Option Fit
+choose [] text = none
+choose (s ∷ sentences) text =
+    let later = choose sentences text in
+    orElse (fitted s (match (s .pattern) (s .conditions) text unbound)) later
+
+abbrev pub symbolText : Option ℕ → Bytes
+symbolText none = []
+symbolText (some b) = b ∷ []
+
+abbrev pub partText : Option Bytes → Bytes
+partText none = []
+partText (some piece) = piece
+
+abbrev pub before : {L : Type 0} → Bytes → Outcome Bytes L → Outcome Bytes L
+before text o = andThen o (λ rest t. done (text ++ rest) t)
+
+-- "its result is the expression with these put in and each call's text in the call's place ... Calls are done left to right, inner before outer"
+unfoldable pub evaluate : (Name → Bytes → Tally → Outcome Bytes Tally) → Bindings → Expression → Tally → Outcome Bytes Tally
+evaluate call bound end t = done [] t
+evaluate call bound (thenCharacter c e) t = before (c ∷ []) (evaluate call bound e t)
+evaluate call bound (thenSymbol x e) t = before (symbolText (lookup x (bound .symbols))) (evaluate call bound e t)
+evaluate call bound (thenPart x e) t = before (partText (lookup x (bound .parts))) (evaluate call bound e t)
+evaluate call bound (thenCall place n argument e) t =
+    andThen (evaluate call bound argument t)
+    (λ text t₁. andThen (call n text t₁) (λ given t₂. before given (evaluate call bound e t₂)))
+
+abbrev pub sentencesOf : Option Function → List Sentence
+sentencesOf none = []
+sentencesOf (some f) = f .sentences
+
+-- the sentences of the function with a number, counted from 1
+abbrev pub functionAt : Table → ℕ → List Sentence
+functionAt table number = sentencesOf (nth (pred number) table)
+
+-- "Emission ... gives the empty text"; it is no step
+abbrev pub callNamed : Table → (ℕ → Bytes → Tally → Outcome Bytes Tally) → Name → Bytes → Tally → Outcome Bytes Tally
+callNamed table apply n text t = let applied = apply (numberOf table n) text t in pick (isEmission n) (done [] (emitted n text t)) applied
+
+-- "An application that fits no sentence counts as a step"
+abbrev pub rewritten : Table → (ℕ → Bytes → Tally → Outcome Bytes Tally) → ℕ → Option Fit → Tally → Outcome Bytes Tally
+rewritten table apply number none t = stop noSentenceFits number t
+rewritten table apply number (some f) t = evaluate (callNamed table apply) (f .bindings) (f .sentence .expression) t
+
+-- "the first application past the allowance ends the run"; "one answered 12 ... doesn't" count as a step
+abbrev pub applied : Table → (ℕ → Bytes → Tally → Outcome Bytes Tally) → ℕ → Bytes → Tally → Option Tally → Outcome Bytes Tally
+applied table apply number text t none = stop allowanceSpent 0 t
+applied table apply number text t (some paid) = rewritten table apply number (choose (functionAt table number) text) paid
+
+-- One application. The depth bounds how deep applications nest: each one takes a step, so a depth of the steps left is never reached before they are
+-- spent, and the depth never shows (proved in proofs/Depth).
+unfoldable pub apply : ℕ → Table → ℕ → Bytes → Tally → Outcome Bytes Tally
+apply zero table number text t = stop allowanceSpent 0 t
+apply (suc depth) table number text t = applied table (apply depth table) number text t (pay t)
+
+abbrev pub rewrite : Table → ℕ → Bytes → ℕ → Result
+rewrite table start text allowance = resultOf (apply allowance table start text (fresh allowance))

@@ -1,0 +1,204 @@
+-- From the tree to instructions: 01 'Machine', "A sentence becomes: its tests (Look, Compare with the first equal s-variable, Predicate, by pattern then condition order);
+-- Store of each different s-variable; then the expression item by item: OutC, OutV, or Go to an e-variable and Out of it. A call is BeginSeq, argument, UseSeq, Select,
+-- Call. At the end Go passes the rest of the field. If the last item outermost is a declared call, that Go comes before UseSeq and the call takes the caller's frame".
+use Prim.Native.Nat.{ℕ, zero, suc, _+_, _-_}
+use mathlib.Core.Bool.{Bool, true, false}
+use mathlib.Core.List.{List, [], _∷_, _++_, map}
+use mathlib.Core.Option.{Option, none, some}
+use lib.ListN.{length}
+use Rattle.meaning.specs.Choice.{Name, pick, either, Named, lookup, sameBytes}
+use Rattle.meaning.specs.Tree.{Letter, character, symbol, Element, letter, part, Condition, Expression, end, thenCharacter, thenSymbol, thenPart, thenCall, Sentence, Function, Table}
+use Rattle.meaning.specs.Names.{isEmission, numberOf}
+use Rattle.meaning.specs.Instructions.{Site, fromStart, fromEnd, fromPlace, Test, look, compare, predicate, Store, store, Length, null, whole, left, right, Span, Action, go, select, out, outCharacter, outValue, beginSequence, useSequence, call, tailCall, emission, Metric, exactly, ends, middle, Sentences, noMore, sentence, Code}
+
+-- THE TEMPLATES
+
+-- a pattern as its templates round no, one or two e-variables
+pub data Shape : Type 0 where
+  fixed : List Letter → Shape
+  open₁ : List Letter → Name → List Letter → Shape
+  open₂ : List Letter → Name → List Letter → Name → List Letter → Shape
+
+abbrev pub withLetter : Letter → Shape → Shape
+withLetter l (fixed t) = fixed (l ∷ t)
+withLetter l (open₁ h x t) = open₁ (l ∷ h) x t
+withLetter l (open₂ h x m y t) = open₂ (l ∷ h) x m y t
+
+-- a third e-variable is never allowed: it is passed over
+abbrev pub cutAt : Name → Shape → Shape
+cutAt x (fixed t) = open₁ [] x t
+cutAt x (open₁ m y t) = open₂ [] x m y t
+cutAt x (open₂ h y m z t) = open₂ h y m z t
+
+unfoldable pub shapeOf : List Element → Shape
+shapeOf [] = fixed []
+shapeOf (letter l ∷ es) = withLetter l (shapeOf es)
+shapeOf (part x ∷ es) = cutAt x (shapeOf es)
+
+abbrev pub metricOf : Shape → Metric
+metricOf (fixed t) = exactly (length t)
+metricOf (open₁ h x t) = ends (length h) (length t)
+metricOf (open₂ h x m y t) = middle (length h) (length m) (length t)
+
+-- THE TESTS
+
+-- the tests of letters so far, and where each different s-variable stands first
+pub record Tested : Type 0 where
+  pub tests : List Test
+  pub sites : List (Named Site)
+
+abbrev pub testedSymbol : Option Site → Name → Site → Tested → Tested
+testedSymbol none x s d = record { tests = d .tests; sites = d .sites ++ record { name = x; value = s } ∷ [] }
+testedSymbol (some first) x s d = record { tests = d .tests ++ compare first s ∷ []; sites = d .sites }
+
+abbrev pub testedLetter : Letter → Site → Tested → Tested
+testedLetter (character c) s d = record { tests = d .tests ++ look s c ∷ []; sites = d .sites }
+testedLetter (symbol x) s d = testedSymbol (lookup x (d .sites)) x s d
+
+-- a template's letters, the first at `from`, each next one a cell further
+unfoldable pub testedTemplate : (ℕ → Site) → ℕ → List Letter → Tested → Tested
+testedTemplate at from [] d = d
+testedTemplate at from (l ∷ ls) d = testedTemplate at (suc from) ls (testedLetter l (at from) d)
+
+-- "offsets from q go from minus the end template's length to -1"
+abbrev pub beforeEnd : ℕ → ℕ → Site
+beforeEnd template k = fromEnd (template - k)
+
+abbrev pub untested : Tested
+untested = record { tests = []; sites = [] }
+
+abbrev pub testedShape : Shape → Tested
+testedShape (fixed t) = testedTemplate fromStart 0 t untested
+testedShape (open₁ h x t) = testedTemplate (beforeEnd (length t)) 0 t (testedTemplate fromStart 0 h untested)
+testedShape (open₂ h x m y t) =
+    testedTemplate (beforeEnd (length t)) 0 t (testedTemplate fromPlace 0 m (testedTemplate fromStart 0 h untested))
+
+-- a condition's variable always stands in an allowed pattern
+abbrev pub siteOr : Option Site → Site
+siteOr none = fromStart 0
+siteOr (some s) = s
+
+abbrev pub conditionTest : List (Named Site) → Condition → Test
+conditionTest sites c = predicate (siteOr (lookup (c .variable) sites)) (c .predicate) (c .expected)
+
+abbrev pub testsOf : Tested → List Condition → List Test
+testsOf d cs = d .tests ++ map (conditionTest (d .sites)) cs
+
+abbrev pub storesOf : Tested → List Store
+storesOf d = map (λ s. store (s .value)) (d .sites)
+
+-- THE EXPRESSION
+
+-- the number of an s-variable's stored value, counted on from `from`
+unfoldable pub valueFrom : ℕ → Name → List (Named Site) → ℕ
+valueFrom from x [] = 0
+valueFrom from x (s ∷ ss) = let later = valueFrom (suc from) x ss in pick (sameBytes x (s .name)) from later
+
+abbrev pub valueNumber : List (Named Site) → Name → ℕ
+valueNumber sites x = valueFrom 0 x sites
+
+-- where p stands: at the field's start, or just after its first or second e-variable
+pub data Stand : Type 0 where
+  atStart afterFirst afterSecond : Stand
+
+abbrev pub span : Length → ℕ → ℕ → Span
+span r add back = record { register = r; add = add; back = back }
+
+abbrev pub nowhere : Span
+nowhere = span null 0 0
+
+-- from where p stands to an e-variable, the e-variable itself, and where p stands after it
+pub record Passage : Type 0 where
+  pub gap : Span
+  pub piece : Span
+  pub after : Stand
+
+-- only an e-variable that may still come is ever asked for
+abbrev pub passageOne : List Letter → List Letter → Passage
+passageOne h t =
+    record { gap = span null (length h) 0; piece = span whole 0 (length h + length t); after = afterFirst }
+
+abbrev pub passageFirst : List Letter → Passage
+passageFirst h = record { gap = span null (length h) 0; piece = span left 0 (length h); after = afterFirst }
+
+abbrev pub gapToSecond : List Letter → Stand → Span
+gapToSecond m atStart = span left (length m) 0
+gapToSecond m afterFirst = span null (length m) 0
+gapToSecond m afterSecond = nowhere
+
+abbrev pub passageSecond : List Letter → List Letter → Stand → Passage
+passageSecond m t w =
+    record { gap = gapToSecond m w; piece = span right 0 (length m + length t); after = afterSecond }
+
+abbrev pub passage : Shape → Name → Stand → Passage
+passage (fixed t) x w = record { gap = nowhere; piece = nowhere; after = w }
+passage (open₁ h y t) x w = passageOne h t
+passage (open₂ h y m z t) x w = pick (sameBytes x y) (passageFirst h) (passageSecond m t w)
+
+-- the rest of the field from where p stands
+abbrev pub restOf : Shape → Stand → Span
+restOf (fixed t) w = span whole 0 0
+restOf (open₁ h y t) atStart = span whole 0 0
+restOf (open₁ h y t) afterFirst = span null (length t) 0
+restOf (open₁ h y t) afterSecond = nowhere
+restOf (open₂ h y m z t) atStart = span whole 0 0
+restOf (open₂ h y m z t) afterFirst = span right 0 0
+restOf (open₂ h y m z t) afterSecond = span null (length t) 0
+
+-- how a call is done: as an emission, as a tail call, or in a frame of its own
+pub data Manner : Type 0 where
+  emits replaces nests : Manner
+
+-- "the last item outermost": nothing comes after it
+abbrev pub isLast : Bool → Expression → Bool
+isLast false e = false
+isLast true end = true
+isLast true (thenCharacter c e) = false
+isLast true (thenSymbol x e) = false
+isLast true (thenPart x e) = false
+isLast true (thenCall place n a e) = false
+
+abbrev pub mannerOf : Bool → Expression → Name → Manner
+mannerOf outermost after n = pick (isEmission n) emits (pick (isLast outermost after) replaces nests)
+
+abbrev pub argumentReady : List Action → List Action
+argumentReady more = useSequence ∷ select nowhere ∷ more
+
+-- what follows a call's argument
+abbrev pub calling : Shape → Manner → ℕ → Name → Stand → List Action → List Action
+calling shape emits number n w more = argumentReady (emission n ∷ more)
+calling shape replaces number n w more = go (restOf shape w) ∷ argumentReady (tailCall number ∷ [])
+calling shape nests number n w more = argumentReady (call number ∷ more)
+
+module _ (table : Table) (shape : Shape) (sites : List (Named Site)) where
+  -- an expression's instructions, outermost or inside a call, from where p stands, followed by what comes after it
+  unfoldable pub items : Bool → Expression → Stand → (Stand → List Action) → List Action
+  items outermost end w rest = rest w
+  items outermost (thenCharacter c e) w rest = outCharacter c ∷ items outermost e w rest
+  items outermost (thenSymbol x e) w rest = outValue (valueNumber sites x) ∷ items outermost e w rest
+  items outermost (thenPart x e) w rest =
+      go (passage shape x w .gap) ∷ select (passage shape x w .piece) ∷ out ∷ items outermost e (passage shape x w .after) rest
+  items outermost (thenCall place n a e) w rest =
+      beginSequence ∷
+      items false a w
+      (λ w₁. let more = items outermost e w₁ rest in calling shape (mannerOf outermost e n) (numberOf table n) n w₁ more)
+
+abbrev pub passesRest : Shape → Stand → List Action
+passesRest shape w = go (restOf shape w) ∷ []
+
+abbrev pub actionsOf : Table → Shape → List (Named Site) → Expression → List Action
+actionsOf table shape sites e = items table shape sites true e atStart (passesRest shape)
+
+-- SENTENCES, FUNCTIONS, THE TABLE
+
+abbrev pub translatedSentence : Table → Sentence → Shape → Tested → Sentences → Sentences
+translatedSentence table s shape tested more =
+    sentence (metricOf shape) (testsOf tested (s .conditions)) (storesOf tested) (actionsOf table shape (tested .sites) (s .expression)) more
+
+unfoldable pub translatedSentences : Table → List Sentence → Sentences
+translatedSentences table [] = noMore
+translatedSentences table (s ∷ ss) =
+    translatedSentence table s (shapeOf (s .pattern)) (testedShape (shapeOf (s .pattern))) (translatedSentences table ss)
+
+abbrev pub translate : Table → Code
+translate table = map (λ f. translatedSentences table (f .sentences)) table
