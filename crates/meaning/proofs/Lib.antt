@@ -1,2 +1,3 @@
 -- Worked rows, laws and theorems about the definitions.
 pub mod rows
+pub mod laws

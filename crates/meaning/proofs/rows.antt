@@ -2,3 +2,4 @@
 pub mod Tables
 pub mod Computing
 pub mod Starred
+pub mod Read

@@ -38,3 +38,7 @@ className blank = 73 ∷ 115 ∷ 66 ∷ 108 ∷ 97 ∷ 110 ∷ 107 ∷ []
 
 abbrev pub classes : List Class
 classes = digit ∷ upper ∷ lower ∷ alphabetic ∷ blank ∷ []
+
+-- what may stand between tokens: 01 'Table text', "Blanks are 32, 9, 10 and 13"
+abbrev pub isBlankByte : ℕ → Bool
+isBlankByte b = either (either (eqb b 32) (eqb b 9)) (either (eqb b 10) (eqb b 13))

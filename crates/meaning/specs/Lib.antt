@@ -15,3 +15,7 @@ pub mod Runs
 pub mod Translation
 pub mod Packing
 pub mod Leaving
+pub mod Tokens
+pub mod Grammar
+pub mod Reading
+pub mod Listing

@@ -1,0 +1,2 @@
+-- The law of the class table.
+pub mod Table

@@ -1,0 +1,20 @@
+-- `classes::bit` meets its contract: a shift is a division by a power of 2.
+use borrow.Author.Needs.{needs}
+use Rattle.classes.specs.Tests.{bitOf}
+use borrow.Author.Tests.{lt-ltb, le-ltb}
+use Rattle.classes.proofs.bit.Statement.{statement}
+use Rattle.classes.proofs.bit.Tie as tie
+
+shr-result : tie.Need-shr-result
+shr-result c = search needs
+
+returns : tie.Need-returns
+unfolding bitOf
+returns c = rw (lt-ltb _ _ (c .if1 .taken))
+
+returns-2 : tie.Need-returns-2
+unfolding bitOf
+returns-2 c = rw (le-ltb _ _ (c .if1 .left))
+
+pub bit-spec : {M : Type 1} → statement M
+bit-spec = tie.close (tie.spec shr-result returns returns-2)

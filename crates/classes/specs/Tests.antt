@@ -1,0 +1,27 @@
+-- The tests on a byte that the class table answers, by number, and a bit of a number.
+use Prim.Native.Nat.{ℕ, _/_, _%_, _^_}
+use mathlib.Core.Bool.{Bool, true, false}
+use lib.Dec.{eqb, ltb}
+use Rattle.meaning.specs.Choice.{pick, both}
+use Rattle.meaning.specs.Classes.{inClass, digit, upper, lower, alphabetic, blank, isBlankByte}
+use Rattle.meaning.specs.Allowed.{wordByte, nameByte}
+
+-- how many tests the table answers: the five classes of conditions by their `classNumber`, and three that reading asks
+abbrev pub testCount : ℕ
+testCount = 8
+
+abbrev pub classTest : ℕ → ℕ → Bool
+classTest class b =
+    pick (eqb class 0) (inClass digit b)
+    (pick (eqb class 1) (inClass upper b)
+    (pick (eqb class 2) (inClass lower b)
+    (pick (eqb class 3) (inClass alphabetic b)
+    (pick (eqb class 4) (inClass blank b)
+    (pick (eqb class 5) (wordByte b)
+    (pick (eqb class 6) (nameByte b)
+    (pick (eqb class 7) (isBlankByte b)
+    false)))))))
+
+-- a test's bit of an entry, the lowest being bit 0; there are no bits but those of the tests
+unfoldable pub bitOf : ℕ → ℕ → Bool
+bitOf class entry = both (ltb class testCount) (eqb (entry / 2 ^ class % 2) 1)

@@ -1,0 +1,315 @@
+// The byte classes: one constant table of 256 entries, a bit for each test.
+ghost use mathlib.Core.Path.{_≡_};
+ghost use Rattle.meaning.specs.Classes.{inClass, digit, alphabetic, isBlankByte};
+ghost use Rattle.meaning.specs.Allowed.{wordByte, nameByte};
+ghost use Rattle.classes.specs.Tests.{classTest, bitOf};
+
+// Bits 0 to 4: IsDigit, IsUpper, IsLower, IsLetter, IsBlank. Bit 5: letter or digit. Bit 6: a byte of a name after its first.
+// Bit 7: blank between tokens.
+const CLASSES: [u8; 256] = [
+    0,
+    0,
+    0,
+    0,
+    0,
+    0,
+    0,
+    0,
+    0,
+    144, // 9, tab
+    128, // 10, line end
+    0,
+    0,
+    128, // 13, carriage return
+    0,
+    0,
+    0,
+    0,
+    0,
+    0,
+    0,
+    0,
+    0,
+    0,
+    0,
+    0,
+    0,
+    0,
+    0,
+    0,
+    0,
+    0,
+    144, // 32, blank
+    0,
+    0,
+    0,
+    0,
+    0,
+    0,
+    0,
+    0,
+    0,
+    0,
+    0,
+    0,
+    64, // 45, `-`
+    0,
+    0,
+    97, // 48, the first digit
+    97,
+    97,
+    97,
+    97,
+    97,
+    97,
+    97,
+    97,
+    97, // 57, the last digit
+    0,
+    0,
+    0,
+    0,
+    0,
+    0,
+    0,
+    106, // 65, `A`
+    106,
+    106,
+    106,
+    106,
+    106,
+    106,
+    106,
+    106,
+    106,
+    106,
+    106,
+    106,
+    106,
+    106,
+    106,
+    106,
+    106,
+    106,
+    106,
+    106,
+    106,
+    106,
+    106,
+    106,
+    106, // 90, `Z`
+    0,
+    0,
+    0,
+    0,
+    64, // 95, `_`
+    0,
+    108, // 97, `a`
+    108,
+    108,
+    108,
+    108,
+    108,
+    108,
+    108,
+    108,
+    108,
+    108,
+    108,
+    108,
+    108,
+    108,
+    108,
+    108,
+    108,
+    108,
+    108,
+    108,
+    108,
+    108,
+    108,
+    108,
+    108, // 122, `z`
+    0,
+    0,
+    0,
+    0,
+    0,
+    0,
+    0,
+    0,
+    0,
+    0,
+    0,
+    0,
+    0,
+    0,
+    0,
+    0,
+    0,
+    0,
+    0,
+    0,
+    0,
+    0,
+    0,
+    0,
+    0,
+    0,
+    0,
+    0,
+    0,
+    0,
+    0,
+    0,
+    0,
+    0,
+    0,
+    0,
+    0,
+    0,
+    0,
+    0,
+    0,
+    0,
+    0,
+    0,
+    0,
+    0,
+    0,
+    0,
+    0,
+    0,
+    0,
+    0,
+    0,
+    0,
+    0,
+    0,
+    0,
+    0,
+    0,
+    0,
+    0,
+    0,
+    0,
+    0,
+    0,
+    0,
+    0,
+    0,
+    0,
+    0,
+    0,
+    0,
+    0,
+    0,
+    0,
+    0,
+    0,
+    0,
+    0,
+    0,
+    0,
+    0,
+    0,
+    0,
+    0,
+    0,
+    0,
+    0,
+    0,
+    0,
+    0,
+    0,
+    0,
+    0,
+    0,
+    0,
+    0,
+    0,
+    0,
+    0,
+    0,
+    0,
+    0,
+    0,
+    0,
+    0,
+    0,
+    0,
+    0,
+    0,
+    0,
+    0,
+    0,
+    0,
+    0,
+    0,
+    0,
+    0,
+    0,
+    0,
+    0,
+    0,
+    0,
+    0,
+    0,
+    0,
+    0,
+    0,
+    0,
+    0,
+    0,
+    0,
+    0,
+];
+
+// A bit of an entry; there are eight.
+fn bit(entry: u8, class: u8) -> bool
+    ensures { λ r. ⌜ r ≡ bitOf class entry ⌝ }
+{
+    if class < 8 {
+        (entry >> class) % 2 == 1
+    } else {
+        false
+    }
+}
+
+// Whether a byte passes the test with a number.
+pub fn in_class(byte: u8, class: u8) -> bool
+    ensures { λ r. ⌜ r ≡ classTest class byte ⌝ }
+{
+    let entry = CLASSES[byte as usize];
+    bit(entry, class)
+}
+
+pub fn is_digit(byte: u8) -> bool
+    ensures { λ r. ⌜ r ≡ inClass digit byte ⌝ }
+{
+    in_class(byte, 0)
+}
+
+pub fn is_letter(byte: u8) -> bool
+    ensures { λ r. ⌜ r ≡ inClass alphabetic byte ⌝ }
+{
+    in_class(byte, 3)
+}
+
+pub fn is_word_byte(byte: u8) -> bool
+    ensures { λ r. ⌜ r ≡ wordByte byte ⌝ }
+{
+    in_class(byte, 5)
+}
+
+pub fn is_name_byte(byte: u8) -> bool
+    ensures { λ r. ⌜ r ≡ nameByte byte ⌝ }
+{
+    in_class(byte, 6)
+}
+
+pub fn is_blank(byte: u8) -> bool
+    ensures { λ r. ⌜ r ≡ isBlankByte byte ⌝ }
+{
+    in_class(byte, 7)
+}

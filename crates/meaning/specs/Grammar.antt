@@ -1,0 +1,174 @@
+-- The published grammar, rule by rule: 000 section 2.1 with 01's 'Table text' for conditions, as relations between tokens and trees. `IsSentence ts s rest`
+-- says that the tokens `ts` are a sentence with the tree `s`, and then the tokens `rest`. Limits, name rules and variable rules are in Allowed.
+-- Strings of no characters leave nothing in the tree.
+use Prim.Native.Nat.{ℕ, _+_}
+use mathlib.Core.Path.{_≡_}
+use mathlib.Core.Bool.{Bool, true, false}
+use mathlib.Core.List.{List, [], _∷_, _++_, map}
+use mathlib.Core.Option.{some}
+use Rattle.meaning.specs.Choice.{Bytes, Name}
+use Rattle.meaning.specs.Classes.{Class}
+use Rattle.meaning.specs.Tree.{Letter, character, symbol, Element, letter, part, Condition, Expression, end, thenCharacter, thenSymbol, thenPart, thenCall, Sentence, Function, Table}
+use Rattle.meaning.specs.Names.{predicateOf}
+use Rattle.meaning.specs.Tokens.{Token, functionName, word, quoted, sign, textEnd, malformed, Placed}
+
+abbrev pub standing : Token → ℕ → ℕ → Placed
+standing token place past = record { token = token; place = place; past = past }
+
+-- TERMINALS
+
+-- "s-Переменная = "s" Идентификатор", "е-Переменная = "e" Идентификатор", "Идентификатор = (латинСимвол | цифра) {латинСимвол | цифра}": a word of
+-- at least two bytes; that the others are letters and digits is the tokens' rule
+abbrev pub symbolWord : ℕ → Bytes → Token
+symbolWord b x = word (115 ∷ b ∷ x)
+
+abbrev pub partWord : ℕ → Bytes → Token
+partWord b x = word (101 ∷ b ∷ x)
+
+-- the closing string of a condition "is exactly those three bytes": 'T' or 'F'
+abbrev pub truthByte : Bool → ℕ
+truthByte true = 84
+truthByte false = 70
+
+abbrev pub truthString : Bool → ℕ → Placed
+truthString truth place = standing (quoted (truthByte truth ∷ [])) place (place + 3)
+
+-- PATTERNS
+
+-- the characters of a string in a pattern
+abbrev pub charactersOf : Bytes → List Element
+charactersOf text = map (λ c. letter (character c)) text
+
+-- "Строка | s-Переменная"
+pub data IsLetters : Token → List Element → Type 0 where
+  stringLetters : {text : Bytes} → IsLetters (quoted text) (charactersOf text)
+  variableLetter : {b : ℕ} {x : Bytes} → IsLetters (symbolWord b x) (letter (symbol (b ∷ x)) ∷ [])
+
+-- "Шаблон = (Строка | s-Переменная) {Строка | s-Переменная}"
+pub data IsTemplate : List Placed → List Element → List Placed → Type 0 where
+  lettersAlone : {t : Token} {place past : ℕ} {p : List Element} {rest : List Placed}
+      → IsLetters t p
+      → IsTemplate (standing t place past ∷ rest) p rest
+  lettersThen : {t : Token} {place past : ℕ} {p q : List Element} {ts rest : List Placed}
+      → IsLetters t p
+      → IsTemplate ts q rest
+      → IsTemplate (standing t place past ∷ ts) (p ++ q) rest
+
+-- "[Шаблон]"
+pub data IsTemplateOrNone : List Placed → List Element → List Placed → Type 0 where
+  noTemplate : {ts : List Placed} → IsTemplateOrNone ts [] ts
+  someTemplate : {ts rest : List Placed} {p : List Element} → IsTemplate ts p rest → IsTemplateOrNone ts p rest
+
+-- "Образец = "" | Шаблон | [Шаблон] е-Переменная [Шаблон] | [Шаблон] е-Переменная Шаблон е-Переменная [Шаблон]"
+pub data IsPattern : List Placed → List Element → List Placed → Type 0 where
+  noPart : {ts rest : List Placed} {p : List Element} → IsTemplateOrNone ts p rest → IsPattern ts p rest
+  onePart : {ts ts₁ rest : List Placed} {p q : List Element} {b place past : ℕ} {x : Bytes}
+      → IsTemplateOrNone ts p (standing (partWord b x) place past ∷ ts₁)
+      → IsTemplateOrNone ts₁ q rest
+      → IsPattern ts (p ++ part (b ∷ x) ∷ q) rest
+  twoParts : {ts ts₁ ts₂ rest : List Placed} {p q r : List Element} {b place past c place₁ past₁ : ℕ} {x y : Bytes}
+      → IsTemplateOrNone ts p (standing (partWord b x) place past ∷ ts₁)
+      → IsTemplate ts₁ q (standing (partWord c y) place₁ past₁ ∷ ts₂)
+      → IsTemplateOrNone ts₂ r rest
+      → IsPattern ts (p ++ part (b ∷ x) ∷ (q ++ part (c ∷ y) ∷ r)) rest
+
+-- CONDITIONS
+
+-- "Условие = "<" ИмяФункции (s-Переменная | е-Переменная) ">" ":" ("T" | "F")", where 01 has: "`<Predicate sX>: 'T'` or `'F'`"
+pub data IsCondition : List Placed → Condition → List Placed → Type 0 where
+  isCondition : {n : Name} {class : Class} {b : ℕ} {x : Bytes} {truth : Bool} {rest : List Placed}
+      → {at₁ past₁ at₂ past₂ at₃ past₃ at₄ past₄ at₅ past₅ at₆ : ℕ}
+      → predicateOf n ≡ some class
+      → IsCondition
+      (standing (sign 60) at₁ past₁
+      ∷ standing (functionName n) at₂ past₂
+      ∷ standing (symbolWord b x) at₃ past₃
+      ∷ standing (sign 62) at₄ past₄
+      ∷ standing (sign 58) at₅ past₅
+      ∷ truthString truth at₆
+      ∷ rest)
+      (record { predicate = class; variable = b ∷ x; expected = truth })
+      rest
+
+-- "{"," Условие}"
+pub data IsConditions : List Placed → List Condition → List Placed → Type 0 where
+  noConditions : {ts : List Placed} → IsConditions ts [] ts
+  conditionThen : {ts ts₁ rest : List Placed} {place past : ℕ} {c : Condition} {cs : List Condition}
+      → IsCondition ts c ts₁
+      → IsConditions ts₁ cs rest
+      → IsConditions (standing (sign 44) place past ∷ ts) (c ∷ cs) rest
+
+-- EXPRESSIONS
+
+-- the characters of a string in an expression
+unfoldable pub written : Bytes → Expression → Expression
+written [] e = e
+written (c ∷ text) e = thenCharacter c (written text e)
+
+mutual
+  -- "Выражение = {Строка | s-Переменная | е-Переменная | ВызовФункции}"
+  pub data IsExpression : List Placed → Expression → List Placed → Type 0 where
+    noItems : {ts : List Placed} → IsExpression ts end ts
+    stringThen : {ts rest : List Placed} {place past : ℕ} {text : Bytes} {e : Expression}
+        → IsExpression ts e rest
+        → IsExpression (standing (quoted text) place past ∷ ts) (written text e) rest
+    symbolThen : {ts rest : List Placed} {place past b : ℕ} {x : Bytes} {e : Expression}
+        → IsExpression ts e rest
+        → IsExpression (standing (symbolWord b x) place past ∷ ts) (thenSymbol (b ∷ x) e) rest
+    partThen : {ts rest : List Placed} {place past b : ℕ} {x : Bytes} {e : Expression}
+        → IsExpression ts e rest
+        → IsExpression (standing (partWord b x) place past ∷ ts) (thenPart (b ∷ x) e) rest
+    callThen : {ts ts₁ rest : List Placed} {place : ℕ} {n : Name} {a e : Expression}
+        → IsCall ts place n a ts₁
+        → IsExpression ts₁ e rest
+        → IsExpression ts (thenCall place n a e) rest
+
+  -- "ВызовФункции = "<" ИмяФункции Выражение ">"": the place is that of the name
+  pub data IsCall : List Placed → ℕ → Name → Expression → List Placed → Type 0 where
+    isCall : {ts rest : List Placed} {at₁ past₁ at₂ past₂ at₃ past₃ : ℕ} {n : Name} {a : Expression}
+        → IsExpression ts a (standing (sign 62) at₃ past₃ ∷ rest)
+        → IsCall (standing (sign 60) at₁ past₁ ∷ standing (functionName n) at₂ past₂ ∷ ts) at₂ n a rest
+
+-- SENTENCES, FUNCTIONS, THE PROGRAM
+
+-- "Предложение = Образец {"," Условие} "=" Выражение"
+pub data IsSentence : List Placed → Sentence → List Placed → Type 0 where
+  isSentence : {ts ts₁ ts₂ rest : List Placed} {place past : ℕ} {p : List Element} {cs : List Condition} {e : Expression}
+      → IsPattern ts p ts₁
+      → IsConditions ts₁ cs (standing (sign 61) place past ∷ ts₂)
+      → IsExpression ts₂ e rest
+      → IsSentence ts (record { pattern = p; conditions = cs; expression = e }) rest
+
+-- "Предложение { ";" Предложение } [";"] "}""
+pub data IsSentences : List Placed → List Sentence → List Placed → Type 0 where
+  lastSentence : {ts rest : List Placed} {place past : ℕ} {s : Sentence}
+      → IsSentence ts s (standing (sign 125) place past ∷ rest)
+      → IsSentences ts (s ∷ []) rest
+  lastSentenceParted : {ts rest : List Placed} {place past place₁ past₁ : ℕ} {s : Sentence}
+      → IsSentence ts s (standing (sign 59) place past ∷ standing (sign 125) place₁ past₁ ∷ rest)
+      → IsSentences ts (s ∷ []) rest
+  sentenceThen : {ts ts₁ rest : List Placed} {place past : ℕ} {s : Sentence} {ss : List Sentence}
+      → IsSentence ts s (standing (sign 59) place past ∷ ts₁)
+      → IsSentences ts₁ ss rest
+      → IsSentences ts (s ∷ ss) rest
+
+-- "Функция = ИмяФункции "{" Предложение { ";" Предложение } [";"] "}""
+pub data IsFunction : List Placed → Function → List Placed → Type 0 where
+  isFunction : {ts rest : List Placed} {at₁ past₁ at₂ past₂ : ℕ} {n : Name} {ss : List Sentence}
+      → IsSentences ts ss rest
+      → IsFunction
+      (standing (functionName n) at₁ past₁ ∷ standing (sign 123) at₂ past₂ ∷ ts)
+      (record { name = n; sentences = ss })
+      rest
+
+-- "Программа = {Функция [";"]}"
+pub data IsProgram : List Placed → Table → Type 0 where
+  noFunctions : {place past : ℕ} → IsProgram (standing textEnd place past ∷ []) []
+  functionThen : {ts ts₁ : List Placed} {f : Function} {t : Table}
+      → IsFunction ts f ts₁
+      → IsProgram ts₁ t
+      → IsProgram ts (f ∷ t)
+  functionPartedThen : {ts ts₁ : List Placed} {place past : ℕ} {f : Function} {t : Table}
+      → IsFunction ts f (standing (sign 59) place past ∷ ts₁)
+      → IsProgram ts₁ t
+      → IsProgram ts (f ∷ t)
