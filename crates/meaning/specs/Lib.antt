@@ -19,3 +19,4 @@ pub mod Tokens
 pub mod Grammar
 pub mod Reading
 pub mod Listing
+pub mod Entries
