@@ -1,2 +1,3 @@
--- The law of the class table.
+-- The laws of the class table and of class numbers.
 pub mod Table
+pub mod Numbers

@@ -1,6 +1,6 @@
 -- The tests on a byte that the class table answers, by number, and a bit of a number.
 use Prim.Native.Nat.{ℕ, _/_, _%_, _^_}
-use mathlib.Core.Bool.{Bool, true, false}
+use mathlib.Core.Bool.{Bool, false}
 use lib.Dec.{eqb, ltb}
 use Rattle.meaning.specs.Choice.{pick, both}
 use Rattle.meaning.specs.Classes.{inClass, digit, upper, lower, alphabetic, blank, isBlankByte}

@@ -1,5 +1,19 @@
 -- Laws of the definitions.
 pub mod Passing
+pub mod Spelling
+pub mod Words
+pub mod Packable
+pub mod Packing
+pub mod Bounds
+pub mod Templates
+pub mod Translated
+pub mod Narrow
+pub mod Answers
+pub mod Known
 pub mod Related
 pub mod Depth
 pub mod Room
+pub mod Choosing
+pub mod Cuts
+pub mod Fits
+pub mod OneFit

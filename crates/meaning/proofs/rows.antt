@@ -2,4 +2,7 @@
 pub mod Tables
 pub mod Computing
 pub mod Starred
+pub mod Edges
+pub mod Packed
+pub mod Wild
 pub mod Read

@@ -6,6 +6,7 @@ pub mod Names
 pub mod Answers
 pub mod Outcome
 pub mod Rewriting
+pub mod Fits
 pub mod Allowed
 pub mod Tape
 pub mod Instructions

@@ -28,3 +28,14 @@ every-head f x xs t = both-left (f x) (every f xs) t
 pub every-tail {ℓ} : {A : Type ℓ} (f : A → Bool) (x : A) (xs : List A) → T (every f (x ∷ xs)) → T (every f xs)
 unfolding every
 every-tail f x xs t = both-right (f x) (every f xs) t
+
+pub either-cases {ℓ} : {X : Type ℓ} (a b : Bool) → (T a → X) → (T b → X) → T (either a b) → X
+either-cases true b f g t = f t
+either-cases false b f g t = g t
+
+pub every-weaken {ℓ} : {A : Type ℓ} (f g : A → Bool) → ((x : A) → T (f x) → T (g x)) → (xs : List A) → T (every f xs) → T (every g xs)
+unfolding every
+every-weaken f g h [] t = tt
+every-weaken f g h (x ∷ xs) t =
+    both-pass (g x) (every g xs) (h x (both-left (f x) (every f xs) t))
+    (every-weaken f g h xs (both-right (f x) (every f xs) t))

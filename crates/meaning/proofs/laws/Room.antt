@@ -175,11 +175,11 @@ endless-never code start text allowance =
     (endless-own allowance code 1 start (loaded text) (record { tally = fresh allowance; mark = tt }))
 
 -- for a run without end the mark says nothing
-abbrev seenEndless : Option Passed → Seen (Unit {0})
+abbrev pub seenEndless : Option Passed → Seen (Unit {0})
 seenEndless m = going tt
 
 -- on lent cells the run has ended where something was passed
-abbrev seenLent : Option Passed → Seen (Unit {0})
+abbrev pub seenLent : Option Passed → Seen (Unit {0})
 seenLent none = going tt
 seenLent (some p) = ended (answerTo (p .need)) (record { tally = p .tally; mark = tt })
 

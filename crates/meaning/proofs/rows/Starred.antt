@@ -33,38 +33,38 @@ abbrev pub AllHold : List Row → Type 0
 AllHold [] = Unit {0}
 AllHold (r ∷ rs) = Holds r × AllHold rs
 
-abbrev ample : Room
+abbrev pub ample : Room
 ample = record { inCells = 1000; outCells = 1000; recordBytes = 1000; frames = 256 }
 
-abbrev cells : ℕ → ℕ → Room
+abbrev pub cells : ℕ → ℕ → Room
 cells inn out = record { inCells = inn; outCells = out; recordBytes = 1000; frames = 256 }
 
-abbrev most : ℕ
+abbrev pub most : ℕ
 most = 4294967295
 
-abbrev result : ℕ → ℕ → ℕ → Bytes → Bytes → Result
+abbrev pub result : ℕ → ℕ → ℕ → Bytes → Bytes → Result
 result answer function steps text emissions =
     record { answer = answer; function = function; steps = steps; text = text; emissions = emissions }
 
 -- a row whose code does what rewriting does
-abbrev same : Table → Bytes → ℕ → Room → Result → Row
+abbrev pub same : Table → Bytes → ℕ → Room → Result → Row
 same table text allowance room r =
     record { table = table; text = text; allowance = allowance; room = room; rewritten = r; ran = r }
 
 -- a row whose code stops for want of room
-abbrev short : Table → Bytes → Room → Result → Result → Row
+abbrev pub short : Table → Bytes → Room → Result → Result → Row
 short table text room r stopped =
     record { table = table; text = text; allowance = most; room = room; rewritten = r; ran = stopped }
 
 -- `0060`
-abbrev sixty : Bytes
+abbrev pub sixty : Bytes
 sixty = 48 ∷ 48 ∷ 54 ∷ 48 ∷ []
 
-abbrev abc : Bytes
+abbrev pub abc : Bytes
 abc = 97 ∷ 98 ∷ 99 ∷ []
 
 -- EmitC q, EmitA y, EmitB x
-abbrev lines : Bytes
+abbrev pub lines : Bytes
 lines =
     69 ∷ 109 ∷ 105 ∷ 116 ∷ 67 ∷ 32 ∷ 113 ∷ 10 ∷
     69 ∷ 109 ∷ 105 ∷ 116 ∷ 65 ∷ 32 ∷ 121 ∷ 10 ∷

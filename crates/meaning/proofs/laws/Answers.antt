@@ -1,0 +1,71 @@
+-- Rewriting ends done, or with 11 and the function that no sentence fits, or with 12 and function 0.
+use mathlib.Core.Path.{_≡_, refl}
+use mathlib.Core.Bool.{Bool, true, false}
+use mathlib.Core.List.{[], _∷_, _++_}
+use mathlib.Core.Option.{Option, none, some}
+use Prim.Native.Nat.{ℕ, zero, suc}
+use Rattle.meaning.specs.Choice.{Bytes, Name, pick, lookup}
+use Rattle.meaning.specs.Answers.{finished, noSentenceFits, allowanceSpent}
+use Rattle.meaning.specs.Tree.{Expression, end, thenCharacter, thenSymbol, thenPart, thenCall, Table}
+use Rattle.meaning.specs.Names.{isEmission, numberOf}
+use Rattle.meaning.specs.Outcome.{Tally, fresh, pay, emitted, Outcome, done, stop, andThen, resultOf}
+use Rattle.meaning.specs.Rewriting.{Bindings, Fit, symbolText, partText, before, evaluate, functionAt, choose, callNamed, rewritten, applied, apply, rewrite}
+
+-- an answer with its function number
+pub data Ends (answer function : ℕ) : Type 0 where
+  ended : answer ≡ finished → function ≡ 0 → Ends answer function
+  unfitted : answer ≡ noSentenceFits → Ends answer function
+  spent : answer ≡ allowanceSpent → function ≡ 0 → Ends answer function
+
+abbrev pub Plain : {A : Type 0} → Outcome A Tally → Type 0
+Plain (done v t) = Unit {0}
+Plain (stop answer function t) = Ends answer function
+
+andThen-plain : {A B : Type 0} (o : Outcome A Tally) (k : A → Tally → Outcome B Tally) → Plain o → ((v : A) (t : Tally) → Plain (k v t)) → Plain (andThen o k)
+andThen-plain (done v t) k p h = h v t
+andThen-plain (stop answer function t) k p h = p
+
+before-plain : (text : Bytes) (o : Outcome Bytes Tally) → Plain o → Plain (before text o)
+before-plain text o p = andThen-plain o (λ rest t. done (text ++ rest) t) p (λ v t. tt)
+
+module _ (call : Name → Bytes → Tally → Outcome Bytes Tally) (plain : (n : Name) (text : Bytes) (t : Tally) → Plain (call n text t)) (bound : Bindings) where
+  evaluate-plain : (e : Expression) (t : Tally) → Plain (evaluate call bound e t)
+  unfolding evaluate
+  evaluate-plain end t = tt
+  evaluate-plain (thenCharacter c e) t = before-plain (c ∷ []) (evaluate call bound e t) (evaluate-plain e t)
+  evaluate-plain (thenSymbol x e) t = before-plain (symbolText (lookup x (bound .symbols))) (evaluate call bound e t) (evaluate-plain e t)
+  evaluate-plain (thenPart x e) t = before-plain (partText (lookup x (bound .parts))) (evaluate call bound e t) (evaluate-plain e t)
+  evaluate-plain (thenCall place n a e) t =
+      andThen-plain (evaluate call bound a t) (λ text t₁. andThen (call n text t₁) (λ given t₂. before given (evaluate call bound e t₂))) (evaluate-plain a t)
+      (λ text t₁. andThen-plain (call n text t₁) (λ given t₂. before given (evaluate call bound e t₂)) (plain n text t₁)
+      (λ given t₂. before-plain given (evaluate call bound e t₂) (evaluate-plain e t₂)))
+
+picked-plain : (first : Bool) (a b : Outcome Bytes Tally) → Plain a → Plain b → Plain (pick first a b)
+picked-plain true a b p r = p
+picked-plain false a b p r = r
+
+module _ (table : Table) (apply₁ : ℕ → Bytes → Tally → Outcome Bytes Tally) (plain : (number : ℕ) (text : Bytes) (t : Tally) → Plain (apply₁ number text t)) where
+  rewritten-plain : (number : ℕ) (fit : Option Fit) (t : Tally) → Plain (rewritten table apply₁ number fit t)
+  rewritten-plain number none t = unfitted refl
+  rewritten-plain number (some f) t =
+      evaluate-plain (callNamed table apply₁)
+      (λ n text t₁. picked-plain (isEmission n) (done [] (emitted n text t₁)) (apply₁ (numberOf table n) text t₁) tt (plain (numberOf table n) text t₁))
+      (f .bindings) (f .sentence .expression) t
+
+  applied-plain : (number : ℕ) (text : Bytes) (t : Tally) (paid : Option Tally) → Plain (applied table apply₁ number text t paid)
+  applied-plain number text t none = spent refl refl
+  applied-plain number text t (some paid) = rewritten-plain number (choose (functionAt table number) text) paid
+
+pub apply-plain : (depth : ℕ) (table : Table) (number : ℕ) (text : Bytes) (t : Tally) → Plain (apply depth table number text t)
+unfolding apply
+apply-plain zero table number text t = spent refl refl
+apply-plain (suc depth) table number text t = applied-plain table (apply depth table) (apply-plain depth table) number text t (pay t)
+
+result-plain : (o : Outcome Bytes Tally) → Plain o → Ends (resultOf o .answer) (resultOf o .function)
+result-plain (done text t) p = ended refl refl
+result-plain (stop answer function t) p = p
+
+pub rewrite-ends : (table : Table) (start : ℕ) (text : Bytes) (allowance : ℕ) →
+    Ends (rewrite table start text allowance .answer) (rewrite table start text allowance .function)
+rewrite-ends table start text allowance =
+    result-plain (apply allowance table start text (fresh allowance)) (apply-plain allowance table start text (fresh allowance))

@@ -1,0 +1,76 @@
+-- Laws of choosing by a test and of finding a value by its name.
+use Prim.Native.Nat.{ℕ}
+use mathlib.Core.Path.{_≡_, refl}
+use mathlib.Core.Bool.{Bool, true, false}
+use mathlib.Core.List.{List, [], _∷_, _++_, map}
+use mathlib.Core.Option.{Option, none, some}
+use native.Mathlib.Omega.{arith}
+use borrow.Author.Tests.{eqb-true, eq-eqb}
+use lib.Dec.{eqb}
+use Rattle.meaning.specs.Choice.{Bytes, Name, pick, both, either, guard, orElse, isSome, Named, sameBytes, lookup}
+use Rattle.meaning.specs.Allowed.{member}
+
+pub not-both : {b : Bool} → b ≡ true → b ≡ false → ⊥
+not-both p q = let z : _≡_ {A = ℕ} 0 1 = cc in omega arith
+
+pub some-none : {A : Type 0} {o : Option A} {a : A} → o ≡ some a → o ≡ none → ⊥
+some-none p q = let z : _≡_ {A = ℕ} 0 1 = cc in omega arith
+
+pub is-false : (b : Bool) → (b ≡ true → ⊥) → b ≡ false
+is-false true h = absurd (h refl)
+is-false false h = refl
+
+pub either-second : (a : Bool) {b : Bool} → b ≡ true → either a b ≡ true
+either-second true h = refl
+either-second false h = h
+
+pub both-true : (a b : Bool) → both a b ≡ true → (a ≡ true) × (b ≡ true)
+both-true true b h = (refl, h)
+both-true false b h = absurd (not-both h refl)
+
+pub guard-some : {A : Type 0} {a : A} (b : Bool) (o : Option A) → guard b o ≡ some a → (b ≡ true) × (o ≡ some a)
+guard-some true o h = (refl, h)
+guard-some false o h = absurd (some-none h refl)
+
+pub sameBytes-refl : (x : Bytes) → sameBytes x x ≡ true
+unfolding sameBytes
+sameBytes-refl [] = refl
+sameBytes-refl (b ∷ x) = rw (eq-eqb b b refl) (sameBytes-refl x)
+
+pub sameBytes-true : (x y : Bytes) → sameBytes x y ≡ true → x ≡ y
+unfolding sameBytes
+sameBytes-true [] [] h = refl
+sameBytes-true [] (c ∷ y) h = absurd (not-both h refl)
+sameBytes-true (b ∷ x) [] h = absurd (not-both h refl)
+sameBytes-true (b ∷ x) (c ∷ y) h =
+    let t = both-true (eqb b c) (sameBytes x y) h in
+    cc (eqb-true b c (t .0), sameBytes-true x y (t .1))
+
+-- what is bound behind counts only where nothing is bound before
+pub lookup-append : {A : Type 0} (x : Name) (known more : List (Named A)) → lookup x (known ++ more) ≡ orElse (lookup x known) (lookup x more)
+unfolding lookup
+lookup-append x [] more = refl
+lookup-append x (n ∷ known) more = go (sameBytes x (n .name)) (lookup-append x known more)
+  where
+    go : (b : Bool) → lookup x (known ++ more) ≡ orElse (lookup x known) (lookup x more) →
+        pick b (some (n .value)) (lookup x (known ++ more)) ≡ orElse (pick b (some (n .value)) (lookup x known)) (lookup x more)
+    go true later = refl
+    go false later = later
+
+pub lookup-one : {A : Type 0} (x : Name) (v : A) → lookup x (record { name = x; value = v } ∷ []) ≡ some v
+unfolding lookup
+lookup-one x v = rw (sameBytes-refl x)
+
+-- the names that are bound
+abbrev pub namesIn : {A : Type 0} → List (Named A) → List Name
+namesIn known = map (λ n. n .name) known
+
+pub member-bound : {A : Type 0} (x : Name) (known : List (Named A)) → member x (namesIn known) ≡ isSome (lookup x known)
+unfolding lookup member
+member-bound x [] = refl
+member-bound x (n ∷ known) = go (sameBytes x (n .name)) (member-bound x known)
+  where
+    go : (b : Bool) → member x (namesIn known) ≡ isSome (lookup x known) →
+        either b (member x (namesIn known)) ≡ isSome (pick b (some (n .value)) (lookup x known))
+    go true later = refl
+    go false later = later

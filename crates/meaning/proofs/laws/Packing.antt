@@ -1,0 +1,246 @@
+-- Unpacking what was packed gives it back, whatever words follow.
+use mathlib.Core.Path.{_≡_, refl, ap, _∙_}
+use mathlib.Core.Bool.{true, false}
+use mathlib.Core.List.{List, [], _∷_, _++_, map, append-assoc}
+use mathlib.Core.Option.{some}
+use Prim.Native.Nat.{ℕ, suc, _+_, _*_, _<_, _≤_}
+use native.Mathlib.Omega.{arith}
+use lib.Dec.{T, eqb, ltb}
+use lib.ListN.{length, take, drop, length-append, length-map}
+use lib.Seq.{take-at, drop-at, drop-drop}
+use borrow.Author.Tests.{le-leb, lt-ltb}
+use Rattle.meaning.specs.Choice.{every}
+use Rattle.meaning.specs.Classes.{classNumber}
+use Rattle.meaning.specs.Allowed.{isByte}
+use Rattle.meaning.specs.Instructions.{Test, look, compare, predicate, unknownTest, Store, store, unknownStore, Action, go, select, out, outCharacter, outValue, beginSequence, useSequence, call, tailCall, emission, unknownAction, Metric, exactly, ends, middle, Sentences, noMore, sentence, Code}
+use Rattle.meaning.specs.Packing.{Words, numberIn, firstIn, siteRegister, siteOffset, lengthNumber, truthBit, testWord, testOf, storeWord, storeOf, actionWords, actionOf, actionsEnd, packActions, emissionOf, unpackActions, metricWord, metricIn, sentencesEnd, bodyWords, countsWord, packSentences, testsIn, storesIn, bodyIn, unpackTests, unpackStores, maxStored, bodyOf, unpackSentences, packFunctions, placesFrom, pack, functionsAt, soundTable, unpack}
+use Rattle.meaning.proofs.laws.Passing.{passed}
+use Rattle.meaning.proofs.laws.Words.{word-holds, register-below, class-below, truth-below, length-below, look-held, compare-held, predicate-held, store-held, go-held, select-held, character-held, value-held, called-number, call-held, tailCall-held}
+use Rattle.meaning.proofs.laws.Packable.{All, nil, cons, FitsTest, FitsStore, FitsAction, FitsMetric, FitsSentence, FitsSentences, eachNone, eachMore, Packable}
+
+-- TESTS AND STORES
+
+test-back : (t : Test) → FitsTest t → testOf (testWord t) ≡ t
+test-back (look s c) f = look-held _ s c (word-holds 1 (siteRegister s) (siteOffset s) c (omega arith) (omega (arith, register-below s)) (f .0) (f .1))
+test-back (compare s r) f = compare-held _ s r
+    (word-holds 2 (siteRegister s + 4 * siteRegister r) (siteOffset s) (siteOffset r) (omega arith)
+    (omega (arith, register-below s, register-below r)) (f .0) (f .1))
+test-back (predicate s k e) f =
+    predicate-held _ s k e (word-holds 3 (siteRegister s + 4 * truthBit e) (siteOffset s) (classNumber k) (omega arith)
+    (omega (arith, register-below s, truth-below e)) f (class-below k))
+test-back unknownTest f = absurd f
+
+tests-back : {tests : List Test} → All FitsTest tests → (rest : Words) → unpackTests (length tests) (map testWord tests ++ rest) ≡ tests
+unfolding unpackTests
+tests-back nil rest = refl
+tests-back (cons f fs) rest = rw (test-back _ f, tests-back fs rest)
+
+store-back : (t : Store) → FitsStore t → storeOf (storeWord t) ≡ t
+store-back (store s) f = store-held _ s (word-holds 4 (siteRegister s) (siteOffset s) 0 (omega arith) (omega (arith, register-below s)) f (omega arith))
+store-back unknownStore f = absurd f
+
+stores-back : {stores : List Store} → All FitsStore stores → (rest : Words) → unpackStores (length stores) (map storeWord stores ++ rest) ≡ stores
+unfolding unpackStores
+stores-back nil rest = refl
+stores-back (cons f fs) rest = rw (store-back _ f, stores-back fs rest)
+
+-- ACTIONS
+
+-- a word that holds an instruction of its own
+single : (w n : ℕ) (ws : Words) (a : Action) → numberIn w ≡ n → eqb n 14 ≡ false → eqb n 15 ≡ false → actionOf w ≡ a →
+    unpackActions 0 (w ∷ ws) ≡ a ∷ unpackActions 0 ws
+unfolding unpackActions
+single w n ws a number named ended held = rw (held, number, named, ended)
+
+name-skipped : (n ws : Words) → unpackActions (length n) (n ++ ws) ≡ unpackActions 0 ws
+unfolding unpackActions
+name-skipped [] ws = refl
+name-skipped (b ∷ n) ws = name-skipped n ws
+
+emission-back : (n ws : Words) → T (every isByte n) → emissionOf (length n) (n ++ ws) ≡ emission n
+emission-back n ws h = rw (take-at n ws (length n) refl, passed (every isByte n) h, length-append, le-leb (length n) (length n + length ws) (omega arith))
+
+emission-first : (w : ℕ) (n ws : Words) → numberIn w ≡ 14 → firstIn w ≡ length n → T (every isByte n) →
+    unpackActions 0 (w ∷ n ++ ws) ≡ emission n ∷ unpackActions 0 ws
+unfolding unpackActions
+emission-first w n ws number first bytes = rw (number, first, emission-back n ws bytes, name-skipped n ws)
+
+actions-ended : (ws : Words) → unpackActions 0 (actionsEnd ∷ ws) ≡ []
+unfolding unpackActions
+actions-ended ws = refl
+
+module _ (limit : ℕ) where
+  action-first : (a : Action) (ws : Words) → FitsAction limit a → unpackActions 0 (actionWords a ++ ws) ≡ a ∷ unpackActions 0 ws
+  action-first (go s) ws f =
+      let holds = word-holds 5 (lengthNumber (s .register)) (s .add) (s .back) (omega arith) (length-below (s .register)) (f .0) (f .1) in
+      single _ 5 ws (go s) (holds .number) refl refl (go-held _ s holds)
+  action-first (select s) ws f =
+      let holds = word-holds 6 (lengthNumber (s .register)) (s .add) (s .back) (omega arith) (length-below (s .register)) (f .0) (f .1) in
+      single _ 6 ws (select s) (holds .number) refl refl (select-held _ s holds)
+  action-first out ws f = single 7 7 ws out refl refl refl refl
+  action-first (outCharacter c) ws f =
+      let holds = word-holds 8 c 0 0 (omega arith) f (omega arith) (omega arith) in
+      single _ 8 ws (outCharacter c) (holds .number) refl refl (character-held _ c holds)
+  action-first (outValue k) ws f =
+      let holds = word-holds 9 k 0 0 (omega arith) f (omega arith) (omega arith) in
+      single _ 9 ws (outValue k) (holds .number) refl refl (value-held _ k holds)
+  action-first beginSequence ws f = single 10 10 ws beginSequence refl refl refl refl
+  action-first useSequence ws f = single 11 11 ws useSequence refl refl refl refl
+  action-first (call n) ws f = single _ 12 ws (call n) (called-number n 12 (omega arith)) refl refl (call-held n)
+  action-first (tailCall n) ws f = single _ 13 ws (tailCall n) (called-number n 13 (omega arith)) refl refl (tailCall-held n)
+  action-first (emission n) ws f =
+      let holds = word-holds 14 (length n) 0 0 (omega arith) (f .0) (omega arith) (omega arith) in
+      emission-first _ n ws (holds .number) (holds .first) (f .1)
+  action-first unknownAction ws f = absurd f
+
+  actions-back : {actions : List Action} → All (FitsAction limit) actions → (rest : Words) → unpackActions 0 (packActions actions ++ rest) ≡ actions
+  unfolding packActions
+  actions-back nil rest = actions-ended rest
+  actions-back (cons {x = a} {xs = more} f fs) rest =
+      rw append-assoc (action-first a (packActions more ++ rest) f ∙ ap (λ (l : List Action). a ∷ l) (actions-back fs rest))
+
+-- SENTENCES
+
+-- a sentence's first word
+record Begins (w : ℕ) (metric : Metric) : Type 0 where
+  held : metricIn w ≡ some metric
+  goesOn : eqb (numberIn w) sentencesEnd ≡ false
+
+metric-back : (metric : Metric) → FitsMetric metric → Begins (metricWord metric) metric
+metric-back (exactly n) f =
+    let holds = word-holds 16 n 0 0 (omega arith) f (omega arith) (omega arith) in
+    record { held = rw (holds .number, holds .first); goesOn = rw (holds .number) }
+metric-back (ends h t) f =
+    let holds = word-holds 17 h t 0 (omega arith) (f .0) (f .1) (omega arith) in
+    record { held = rw (holds .number, holds .first, holds .second); goesOn = rw (holds .number) }
+metric-back (middle h m t) f =
+    let holds = word-holds 18 h m t (omega arith) (f .0) (f .1) (f .2) in
+    record { held = rw (holds .number, holds .first, holds .second, holds .third); goesOn = rw (holds .number) }
+
+-- a sentence's second word
+record Counts (v tests stores body : ℕ) : Type 0 where
+  testCount : testsIn v ≡ tests
+  storeCount : storesIn v ≡ stores
+  bodyCount : bodyIn v ≡ body
+
+counts-back : (t s b : ℕ) → t < 256 → s ≤ maxStored → Counts (countsWord t s b) t s b
+counts-back t s b ht hs = omega arith
+
+body-skipped : (b ws : Words) → unpackSentences (length b) (b ++ ws) ≡ unpackSentences 0 ws
+unfolding unpackSentences
+body-skipped [] ws = refl
+body-skipped (x ∷ b) ws = body-skipped b ws
+
+module _ (limit : ℕ) (metric : Metric) (tests : List Test) (stores : List Store) (actions : List Action) (f : FitsSentence limit metric tests stores actions) where
+  stores-reached : (ws : Words) → drop (length tests) (bodyWords tests stores actions ++ ws) ≡ map storeWord stores ++ (packActions actions ++ ws)
+  stores-reached ws = rw append-assoc
+      (rw append-assoc (drop-at (map testWord tests) (map storeWord stores ++ (packActions actions ++ ws)) (length tests)
+      (length-map tests testWord)))
+
+  actions-reached : (ws : Words) → drop (length tests + length stores) (bodyWords tests stores actions ++ ws) ≡ packActions actions ++ ws
+  actions-reached ws = rw (← (drop-drop (length stores) (length tests) (bodyWords tests stores actions ++ ws)), stores-reached ws)
+      (drop-at (map storeWord stores) (packActions actions ++ ws) (length stores) (length-map stores storeWord))
+
+  tests-first : (ws : Words) → unpackTests (length tests) (bodyWords tests stores actions ++ ws) ≡ tests
+  tests-first ws = rw append-assoc (tests-back (f .eachTest) ((map storeWord stores ++ packActions actions) ++ ws))
+
+  body-back : (v body : ℕ) (ws : Words) (more : Sentences) → Counts v (length tests) (length stores) body →
+      bodyOf metric v (bodyWords tests stores actions ++ ws) more ≡ sentence metric tests stores actions more
+  body-back v body ws more counts =
+      rw (
+        counts .testCount,
+        counts .storeCount,
+        tests-first ws,
+        stores-reached ws,
+        actions-reached ws,
+        stores-back (f .eachStore)
+            (packActions actions ++ ws),
+        actions-back limit (f .eachAction) ws,
+      )
+
+  sentence-first : (w v : ℕ) (ws : Words) → Begins w metric → Counts v (length tests) (length stores) (length (bodyWords tests stores actions)) →
+      unpackSentences 0 (w ∷ v ∷ bodyWords tests stores actions ++ ws) ≡ sentence metric tests stores actions (unpackSentences 0 ws)
+  unfolding unpackSentences
+  sentence-first w v ws begins counts =
+      rw (
+        begins .goesOn,
+        begins .held,
+        counts .bodyCount,
+        body-skipped (bodyWords tests stores actions) ws,
+        body-back v _ ws
+            (unpackSentences 0 ws) counts,
+        counts .storeCount,
+        le-leb _ _ (f .fewStores),
+      )
+
+sentences-ended : (ws : Words) → unpackSentences 0 (sentencesEnd ∷ ws) ≡ noMore
+unfolding unpackSentences
+sentences-ended ws = refl
+
+pub sentences-back : (limit : ℕ) {s : Sentences} → FitsSentences limit s → (rest : Words) → unpackSentences 0 (packSentences s ++ rest) ≡ s
+unfolding packSentences
+sentences-back limit eachNone rest = sentences-ended rest
+sentences-back limit (eachMore {metric} {tests} {stores} {actions} {more} f fs) rest =
+    rw (append-assoc (bodyWords tests stores actions) (packSentences more) rest)
+    (sentence-first limit metric tests stores actions f _ _ (packSentences more ++ rest) (metric-back metric (f .lengths))
+    (counts-back _ _ _ (f .fewTests) (f .fewStores)) ∙ ap (λ (s : Sentences). sentence metric tests stores actions s)
+    (sentences-back limit fs rest))
+
+-- THE WHOLE
+
+-- a packed function has at least one word
+packed-some : (limit : ℕ) {s : Sentences} → FitsSentences limit s → 0 < length (packSentences s)
+unfolding packSentences
+packed-some limit eachNone = omega arith
+packed-some limit (eachMore f fs) = omega arith
+
+-- the functions from a place of some words on
+module _ (limit : ℕ) (ws junk : Words) where
+  places-below : (at : ℕ) {code : Code} → Packable limit code → at + length (packFunctions code) ≤ length ws →
+      T (every (λ place. ltb place (length ws)) (placesFrom at code))
+  unfolding placesFrom packFunctions every
+  places-below at nil h = tt
+  places-below at (cons {x = s} {xs = code} f fs) h =
+      let sum = length-append (packSentences s) (packFunctions code) in
+      let some = packed-some limit f in
+      rw (lt-ltb at (length ws) (omega arith)) (places-below (at + length (packSentences s)) fs (omega arith))
+
+  functions-back : (at : ℕ) {code : Code} → Packable limit code → drop at ws ≡ packFunctions code ++ junk → functionsAt ws (placesFrom at code) ≡ code
+  unfolding placesFrom packFunctions
+  functions-back at nil h = refl
+  functions-back at (cons {x = s} {xs = code} f fs) h =
+      let here : drop at ws ≡ packSentences s ++ (packFunctions code ++ junk) = rw append-assoc at h in
+      let there : drop (at + length (packSentences s)) ws ≡ packFunctions code ++ junk =
+      rw (← (drop-drop (length (packSentences s)) at ws), here) (drop-at (packSentences s) (packFunctions code ++ junk) _ refl) in
+      rw (here, sentences-back limit f (packFunctions code ++ junk), functions-back (at + length (packSentences s)) fs there)
+
+pub places-length : (at : ℕ) (code : Code) → length (placesFrom at code) ≡ length code
+unfolding placesFrom
+places-length at [] = refl
+places-length at (s ∷ code) = ap suc (places-length (at + length (packSentences s)) code)
+
+module _ (limit : ℕ) (code : Code) (f : Packable limit code) (junk : Words) where
+  abbrev places : Words
+  places = placesFrom (suc (length code)) code
+
+  table-taken : take (length code) ((places ++ packFunctions code) ++ junk) ≡ places
+  table-taken = rw append-assoc (take-at places (packFunctions code ++ junk) (length code) (places-length (suc (length code)) code))
+
+  functions-reached : drop (suc (length code)) (pack code ++ junk) ≡ packFunctions code ++ junk
+  functions-reached = rw append-assoc (drop-at places (packFunctions code ++ junk) (length code) (places-length (suc (length code)) code))
+
+  all-words : length ((places ++ packFunctions code) ++ junk) ≡ length code + length (packFunctions code) + length junk
+  all-words = simp (length-append, places-length)
+
+  table-sound : soundTable (pack code ++ junk) ((places ++ packFunctions code) ++ junk) (length code) ≡ true
+  table-sound =
+      let inside : length code ≤ length ((places ++ packFunctions code) ++ junk) = omega (arith, all-words) in
+      rw (
+        table-taken,
+        le-leb _ _ inside,
+        passed (every (λ at. ltb at (length (pack code ++ junk))) places)
+            (places-below limit (pack code ++ junk) junk (suc (length code)) f (omega (arith, all-words))),
+      )
+
+  pub unpack-pack : unpack (pack code ++ junk) ≡ some code
+  unpack-pack = rw (table-sound, table-taken, functions-back limit (pack code ++ junk) junk (suc (length code)) f functions-reached)

@@ -1,0 +1,36 @@
+-- What is spelled as a name is made of bytes and is short.
+use Prim.Native.Nat.{ℕ, _<_, _≤_}
+use mathlib.Core.List.{[], _∷_}
+use native.Mathlib.Omega.{arith}
+use lib.Dec.{T, leb, eqb, leb→le, eqb→eq, lt→ltb}
+use lib.ListN.{length}
+use Rattle.meaning.specs.Choice.{Name, either, every}
+use Rattle.meaning.specs.Classes.{within, inClass, digit, alphabetic}
+use Rattle.meaning.specs.Allowed.{isByte, wordByte, nameByte, spelledName, maxName}
+use Rattle.meaning.proofs.laws.Passing.{both-left, both-right, both-pass, either-cases, every-weaken}
+
+within-high : (low high b : ℕ) → T (within low high b) → b ≤ high
+within-high low high b t = leb→le b high (both-right (leb low b) (leb b high) t)
+
+letter-low : (b : ℕ) → T (inClass alphabetic b) → b < 256
+letter-low b =
+    either-cases (within 65 90 b) (within 97 122 b)
+    (λ t. omega (arith, within-high 65 90 b t))
+    (λ t. omega (arith, within-high 97 122 b t))
+
+name-low : (b : ℕ) → T (nameByte b) → b < 256
+name-low b =
+    either-cases (wordByte b) (either (eqb b 95) (eqb b 45))
+    (either-cases (inClass alphabetic b) (inClass digit b) (letter-low b) (λ t. omega (arith, within-high 48 57 b t)))
+    (either-cases (eqb b 95) (eqb b 45) (λ t. omega (arith, eqb→eq b 95 t)) (λ t. omega (arith, eqb→eq b 45 t)))
+
+pub name-bytes : (n : Name) → T (spelledName n) → T (every isByte n)
+unfolding every
+name-bytes [] t = tt
+name-bytes (b ∷ n) t =
+    both-pass (isByte b) (every isByte n) (lt→ltb b 256 (letter-low b (search both-left)))
+    (every-weaken nameByte isByte (λ x u. lt→ltb x 256 (name-low x u)) n (search (both-left, both-right)))
+
+pub name-short : (n : Name) → T (spelledName n) → length n ≤ maxName
+name-short [] t = omega arith
+name-short (b ∷ n) t = leb→le (length (b ∷ n)) maxName (search (both-left, both-right))

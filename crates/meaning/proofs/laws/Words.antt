@@ -1,0 +1,122 @@
+-- One word: its four bytes are read back, and with them the instruction that was packed into it.
+use mathlib.Core.Path.{_≡_, refl}
+use mathlib.Core.Bool.{Bool, true, false}
+use mathlib.Core.Option.{some}
+use Prim.Native.Nat.{ℕ, _+_, _*_, _/_, _%_, _^_, _<_}
+use native.Mathlib.Omega.{arith}
+use lib.Dec.{eqb}
+use Rattle.meaning.specs.Classes.{Class, digit, upper, lower, alphabetic, blank, classNumber}
+use Rattle.meaning.specs.Instructions.{Site, fromStart, fromEnd, fromPlace, look, compare, predicate, store, Length, null, whole, left, right, Span, go, select, outCharacter, outValue, call, tailCall}
+use Rattle.meaning.specs.Packing.{word, numberIn, firstIn, secondIn, thirdIn, siteRegister, siteOffset, siteOf, lengthNumber, lengthOf, classOf, truthBit, testOf, storeOf, actionOf}
+
+-- THE FOUR BYTES
+
+-- what a word holds
+pub record Holds (w n a b c : ℕ) : Type 0 where
+  pub number : numberIn w ≡ n
+  pub first : firstIn w ≡ a
+  pub second : secondIn w ≡ b
+  pub third : thirdIn w ≡ c
+
+module _ (n a b c : ℕ) (hn : n < 256) (ha : a < 256) (hb : b < 256) (hc : c < 256) where
+  pub word-holds : Holds (word n a b c) n a b c
+  word-holds = omega arith
+
+  pub word-below : word n a b c < 2 ^ 32
+  word-below = omega arith
+
+-- REGISTERS, CLASSES AND TRUTH VALUES
+
+pub site-back : (s : Site) → siteOf (siteRegister s) (siteOffset s) ≡ some s
+site-back (fromStart k) = refl
+site-back (fromEnd k) = refl
+site-back (fromPlace k) = refl
+
+pub register-below : (s : Site) → siteRegister s < 4
+register-below (fromStart k) = omega arith
+register-below (fromEnd k) = omega arith
+register-below (fromPlace k) = omega arith
+
+length-back : (r : Length) → lengthOf (lengthNumber r) ≡ some r
+length-back null = refl
+length-back whole = refl
+length-back left = refl
+length-back right = refl
+
+pub length-below : (r : Length) → lengthNumber r < 256
+length-below null = omega arith
+length-below whole = omega arith
+length-below left = omega arith
+length-below right = omega arith
+
+class-back : (k : Class) → classOf (classNumber k) ≡ some k
+class-back digit = refl
+class-back upper = refl
+class-back lower = refl
+class-back alphabetic = refl
+class-back blank = refl
+
+pub class-below : (k : Class) → classNumber k < 256
+class-below digit = omega arith
+class-below upper = omega arith
+class-below lower = omega arith
+class-below alphabetic = omega arith
+class-below blank = omega arith
+
+truth-back : (e : Bool) → eqb (truthBit e) 1 ≡ e
+truth-back true = refl
+truth-back false = refl
+
+pub truth-below : (e : Bool) → truthBit e < 2
+truth-below true = omega arith
+truth-below false = omega arith
+
+-- two registers, or a register and a truth value, in one byte
+low-part : (s : Site) (m : ℕ) → (siteRegister s + 4 * m) % 4 ≡ siteRegister s
+low-part s m = omega (arith, register-below s)
+
+high-part : (s : Site) (m : ℕ) → (siteRegister s + 4 * m) / 4 ≡ m
+high-part s m = omega (arith, register-below s)
+
+-- THE INSTRUCTION THAT A WORD HOLDS
+
+module _ (w : ℕ) (s : Site) where
+  pub look-held : (c : ℕ) → Holds w 1 (siteRegister s) (siteOffset s) c → testOf w ≡ look s c
+  look-held c h = rw (h .number, h .first, h .second, h .third, site-back s)
+
+  pub compare-held : (r : Site) → Holds w 2 (siteRegister s + 4 * siteRegister r) (siteOffset s) (siteOffset r) → testOf w ≡ compare s r
+  compare-held r h = rw (h .number, h .first, h .second, h .third, low-part s, high-part s, site-back s, site-back r)
+
+  pub predicate-held : (k : Class) (e : Bool) → Holds w 3 (siteRegister s + 4 * truthBit e) (siteOffset s) (classNumber k) → testOf w ≡ predicate s k e
+  predicate-held k e h =
+      rw (h .number, h .first, h .second, h .third, low-part s, high-part s, site-back s, class-back k, truth-back e)
+
+  pub store-held : Holds w 4 (siteRegister s) (siteOffset s) 0 → storeOf w ≡ store s
+  store-held h = rw (h .number, h .first, h .second, site-back s)
+
+module _ (w : ℕ) (s : Span) where
+  pub go-held : Holds w 5 (lengthNumber (s .register)) (s .add) (s .back) → actionOf w ≡ go s
+  go-held h = rw (h .number, h .first, h .second, h .third, length-back (s .register))
+
+  pub select-held : Holds w 6 (lengthNumber (s .register)) (s .add) (s .back) → actionOf w ≡ select s
+  select-held h = rw (h .number, h .first, h .second, h .third, length-back (s .register))
+
+pub character-held : (w c : ℕ) → Holds w 8 c 0 0 → actionOf w ≡ outCharacter c
+character-held w c h = rw (h .number, h .first)
+
+pub value-held : (w k : ℕ) → Holds w 9 k 0 0 → actionOf w ≡ outValue k
+value-held w k h = rw (h .number, h .first)
+
+-- a called function's number stands above the instruction's
+module _ (f : ℕ) where
+  pub called-number : (n : ℕ) → n < 256 → numberIn (n + 256 * f) ≡ n
+  called-number n h = omega arith
+
+  called-function : (n : ℕ) → n < 256 → (n + 256 * f) / 256 ≡ f
+  called-function n h = omega arith
+
+  pub call-held : actionOf (12 + 256 * f) ≡ call f
+  call-held = rw (called-number 12 (omega arith), called-function 12 (omega arith))
+
+  pub tailCall-held : actionOf (13 + 256 * f) ≡ tailCall f
+  tailCall-held = rw (called-number 13 (omega arith), called-function 13 (omega arith))

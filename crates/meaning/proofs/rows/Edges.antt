@@ -1,0 +1,159 @@
+-- Worked rows at the edges of 01: the allowance, the middle place, full stacks, a full record, the frames, and what comes before what.
+use Prim.Native.Nat.{ℕ}
+use mathlib.Core.Path.{_≡_, refl}
+use mathlib.Core.List.{[], _∷_}
+use lib.ListN.{replicate, take}
+use Rattle.meaning.specs.Choice.{Bytes}
+use Rattle.meaning.specs.Tree.{character, symbol, letter, part, end, thenCharacter, thenSymbol, thenPart, thenCall, Table}
+use Rattle.meaning.specs.Outcome.{Result}
+use Rattle.meaning.specs.Runs.{Room, runLent}
+use Rattle.meaning.specs.Translation.{translate}
+use Rattle.meaning.proofs.rows.Tables.{x1, x2, all1, plain, function, tableZ, tableR, tableP, tableM}
+use Rattle.meaning.proofs.rows.Starred.{Row, Holds, ample, cells, most, result, same, short, sixty, abc, lines}
+use Rattle.meaning.proofs.rows.Computing.{computing}
+
+-- TABLES
+
+-- `B { e1 'b' e2 'c' = e1 '|' e2 }`
+abbrev tableB : Table
+tableB =
+    function (66 ∷ [])
+    (plain (part x1 ∷ letter (character 98) ∷ part x2 ∷ letter (character 99) ∷ [])
+    (thenPart x1 (thenCharacter 124 (thenPart x2 end))) ∷ []) ∷ []
+
+-- `X { e1 = 'x' e1 }`
+abbrev tableX : Table
+tableX = function (88 ∷ []) (plain all1 (thenCharacter 120 (thenPart x1 end)) ∷ []) ∷ []
+
+-- `U { s1 = <V> s1 } V { = }`
+abbrev tableU : Table
+tableU =
+    function (85 ∷ []) (plain (letter (symbol x1) ∷ []) (thenCall 10 (86 ∷ []) end (thenSymbol x1 end)) ∷ []) ∷
+    function (86 ∷ []) (plain [] end ∷ []) ∷ []
+
+-- `W { = <Emit> }`
+abbrev tableW : Table
+tableW = function (87 ∷ []) (plain [] (thenCall 7 (69 ∷ 109 ∷ 105 ∷ 116 ∷ []) end end) ∷ []) ∷ []
+
+-- ROOMS AND ROWS
+
+-- so replicate bytes of the record, and ample else
+abbrev recording : ℕ → Room
+recording bytes = record { inCells = 1000; outCells = 1000; recordBytes = bytes; frames = 256 }
+
+-- so replicate frames, and ample else
+abbrev framed : ℕ → Room
+framed n = record { inCells = 1000; outCells = 1000; recordBytes = 1000; frames = n }
+
+-- with so replicate steps, a row whose code stops for want of room where rewriting says something else
+abbrev sooner : Table → Bytes → ℕ → Room → Result → Result → Row
+sooner table text allowance room r stopped =
+    record { table = table; text = text; allowance = allowance; room = room; rewritten = r; ran = stopped }
+
+-- what the code gives on a long text, with so replicate frames; rewriting would try every cut of it
+abbrev Runs : Table → Bytes → ℕ → ℕ → Result → Type 0
+Runs table text allowance frames r = runLent (framed frames) (translate table) 1 text allowance ≡ r
+
+-- THE ALLOWANCE
+
+-- with no steps the start itself is past the allowance
+pub nothing-allowed : Holds (same tableZ sixty 0 ample (result 12 0 0 [] []))
+unfolding computing
+nothing-allowed = (refl, refl, refl, refl)
+
+-- an emission is no step: it is done after the last one
+pub spent-then-emission : Holds (same tableM (113 ∷ []) 2 ample (result 0 0 2 [] lines))
+unfolding computing
+spent-then-emission = (refl, refl, refl, refl)
+
+-- the application past the allowance comes before the emission that waits for it
+pub spent-before-emission : Holds (same tableM (113 ∷ []) 1 ample (result 12 0 1 [] []))
+unfolding computing
+spent-before-emission = (refl, refl, refl, refl)
+
+-- THE MIDDLE PLACE
+
+-- it may touch the end template
+pub place-at-end : Holds (same tableB abc most ample (result 0 0 1 (97 ∷ 124 ∷ []) []))
+unfolding computing
+place-at-end = (refl, refl, refl, refl)
+
+-- and the start of the field
+pub place-at-start : Holds (same tableB (98 ∷ 99 ∷ []) most ample (result 0 0 1 (124 ∷ []) []))
+unfolding computing
+place-at-start = (refl, refl, refl, refl)
+
+-- FULL STACKS
+
+-- an empty part is no fault where out is full
+pub empty-part : Holds (same tableX [] most (cells 0 1) (result 0 0 1 (120 ∷ []) []))
+unfolding computing
+empty-part = (refl, refl, refl, refl)
+
+pub nothing-lent : Holds (same tableZ [] most (cells 0 0) (result 0 0 1 [] []))
+unfolding computing
+nothing-lent = (refl, refl, refl, refl)
+
+-- an empty argument is no fault where in is full
+pub empty-argument : Holds (same tableU (97 ∷ []) most (cells 1 1) (result 0 0 2 (97 ∷ []) []))
+unfolding computing
+empty-argument = (refl, refl, refl, refl)
+
+-- THE FRAMES
+
+-- 255 bytes reach frame 256
+pub last-frame : Runs tableR (replicate 255 97) most 256 (result 0 0 256 (replicate 255 97) [])
+unfolding computing
+last-frame = refl
+
+-- 256 bytes need frame 257
+pub no-frame-left : Runs tableR (replicate 256 97) most 256 (result 15 0 256 [] [])
+unfolding computing
+no-frame-left = refl
+
+-- 12 comes before 15
+pub spent-before-frame : Runs tableR (replicate 256 97) 256 256 (result 12 0 256 [] [])
+unfolding computing
+spent-before-frame = refl
+
+-- a tail call takes its caller's frame
+pub tail-call : Runs tableZ (replicate 300 48) most 1 (result 0 0 301 [] [])
+unfolding computing
+tail-call = refl
+
+-- and another call another one
+pub no-tail-call : Holds (short tableR (97 ∷ []) (framed 1) (result 0 0 2 (97 ∷ []) []) (result 15 0 1 [] []))
+unfolding computing
+no-tail-call = (refl, refl, refl, refl)
+
+-- WHAT COMES FIRST
+
+-- the argument is written and moved before the call, so that 14 or 13 can come where rewriting says 12
+pub written-before-spent : Holds (sooner tableP (99 ∷ []) 1 (cells 1000 1) (result 12 0 1 [] []) (result 14 0 1 [] []))
+unfolding computing
+written-before-spent = (refl, refl, refl, refl)
+
+pub moved-before-spent : Holds (sooner tableP (99 ∷ []) 1 (cells 2 1000) (result 12 0 1 [] []) (result 13 0 1 [] []))
+unfolding computing
+moved-before-spent = (refl, refl, refl, refl)
+
+-- THE RECORD
+
+-- three lines of eight bytes fit 24
+pub record-fits : Holds (same tableM (113 ∷ []) most (recording 24) (result 0 0 2 [] lines))
+unfolding computing
+record-fits = (refl, refl, refl, refl)
+
+-- where one byte is missing, nothing of the line is written
+pub record-full : Holds (short tableM (113 ∷ []) (recording 23) (result 0 0 2 [] lines) (result 16 0 2 [] (take 16 lines)))
+unfolding computing
+record-full = (refl, refl, refl, refl)
+
+-- an emission of nothing needs its name and two bytes
+pub empty-emission : Holds (same tableW [] most (recording 6) (result 0 0 1 [] (69 ∷ 109 ∷ 105 ∷ 116 ∷ 32 ∷ 10 ∷ [])))
+unfolding computing
+empty-emission = (refl, refl, refl, refl)
+
+pub empty-emission-full : Holds (short tableW [] (recording 5) (result 0 0 1 [] (69 ∷ 109 ∷ 105 ∷ 116 ∷ 32 ∷ 10 ∷ [])) (result 16 0 1 [] []))
+unfolding computing
+empty-emission-full = (refl, refl, refl, refl)
