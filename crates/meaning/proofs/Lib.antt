@@ -1,3 +1,5 @@
 -- Worked rows, laws and theorems about the definitions.
 pub mod rows
 pub mod laws
+pub mod agreement
+pub mod Demand3

@@ -5,4 +5,5 @@ pub mod Starred
 pub mod Edges
 pub mod Packed
 pub mod Wild
+pub mod Example
 pub mod Read

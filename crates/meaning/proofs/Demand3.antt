@@ -1,0 +1,89 @@
+-- Demand 3 over the definitions, for every allowed table, start, text, step allowance and whatever is lent. The proofs behind it: `agreement` (rewriting and the run
+-- without end), `laws/Room` (the run without end and the run on lent cells, for any code), `laws/Translated` (packed words unpacked).
+use Prim.Native.Nat.{ℕ, _≤_}
+use mathlib.Core.Path.{_≡_, refl, sym, _∙_}
+use mathlib.Core.Logic.{_↔_}
+use mathlib.Core.List.{[], _++_}
+use mathlib.Core.Option.{Option, none, some}
+use lib.Dec.{T}
+use lib.ListN.{length}
+use borrow.Author.Tests.{le-leb}
+use Rattle.meaning.specs.Choice.{Bytes}
+use Rattle.meaning.specs.Answers.{noInstruction}
+use Rattle.meaning.specs.Tree.{Table}
+use Rattle.meaning.specs.Outcome.{Tally, fresh, done, Result}
+use Rattle.meaning.specs.Rewriting.{apply, rewrite}
+use Rattle.meaning.specs.Allowed.{allowed}
+use Rattle.meaning.specs.Machine.{isDeclared}
+use Rattle.meaning.specs.Runs.{Room, answerTo, endless, Passed, from, runEndless, runLent, passedFirst}
+use Rattle.meaning.specs.Translation.{translate}
+use Rattle.meaning.specs.Packing.{Words, pack}
+use Rattle.meaning.specs.Leaving.{Cells, left, roomOf, leaving}
+use Rattle.meaning.proofs.agreement.Agree.{agree-done, agree-result, agree-steps}
+use Rattle.meaning.proofs.agreement.Choosing.{passed-true}
+use Rattle.meaning.proofs.laws.Room.{lent-equal, lent-passed, lent-differs}
+use Rattle.meaning.proofs.laws.Known.{Agrees, equal, passing, leaving-known}
+use Rattle.meaning.proofs.laws.Translated.{unpacked}
+
+-- what the run on lent cells answers where the run without end passes a need first: "which of in, out, record and frames that run passed first, gives no text, and has the
+-- steps and emissions that run had made before passing it"
+abbrev pub stoppedAt : Passed → Result
+stoppedAt p =
+    record { answer = answerTo (p .need); function = 0; steps = p .tally .steps; text = []; emissions = p .tally .emissions }
+
+module _ (table : Table) (ok : T (allowed table)) (start : ℕ) (text : Bytes) (allowance : ℕ) where
+  -- 1. WITHOUT END: the machine gives rewriting's outcome: answer, text, emissions, steps and failing function
+  pub without-end : runEndless (translate table) start text allowance ≡ rewrite table start text allowance
+  without-end = agree-result table ok start text allowance
+
+  -- at the end stack in holds nothing, and out is the text
+  pub at-the-end : (result : Bytes) (t : Tally) → apply allowance table start text (fresh allowance) ≡ done result t →
+      from endless (translate table) start text allowance tt ≡
+      done (record { input = []; selected = 0; output = result }) (record { tally = t; mark = tt })
+  at-the-end = agree-done table ok start text allowance
+
+  -- "Each application of a declared function is one step": both sides count the same
+  pub steps-agree : runEndless (translate table) start text allowance .steps ≡ rewrite table start text allowance .steps
+  steps-agree = agree-steps table ok start text allowance
+
+  -- 2. ON LENT CELLS: where the run without end passes nothing, the outcome is rewriting's
+  pub kept-within : (room : Room) → passedFirst room (translate table) start text allowance ≡ none →
+      runLent room (translate table) start text allowance ≡ rewrite table start text allowance
+  kept-within room e = lent-equal room (translate table) start text allowance e ∙ without-end
+
+  -- where it passes something, the run on lent cells stops there
+  pub passed : (room : Room) (p : Passed) → passedFirst room (translate table) start text allowance ≡ some p →
+      runLent room (translate table) start text allowance ≡ stoppedAt p
+  passed room p e = lent-passed room (translate table) start text allowance p e
+
+  -- and the two outcomes are equal exactly when nothing was passed
+  pub exactly-when : (room : Room) →
+      (runLent room (translate table) start text allowance ≡ rewrite table start text allowance) ↔
+      (passedFirst room (translate table) start text allowance ≡ none)
+  exactly-when room = (λ same. nothing (passedFirst room (translate table) start text allowance) refl same, kept-within room)
+    where
+      nothing : (o : Option Passed) → passedFirst room (translate table) start text allowance ≡ o →
+          runLent room (translate table) start text allowance ≡ rewrite table start text allowance →
+          passedFirst room (translate table) start text allowance ≡ none
+      nothing none e same = e
+      nothing (some p) e same = absurd (lent-differs room (translate table) start text allowance p e (same ∙ sym without-end))
+
+  -- 3. ON WORDS: the packed code, whatever words follow it, leaves what the run on lent cells gives
+  pub on-words : (junk : Words) (cells : Cells) → T (isDeclared (translate table) start) → length text ≤ length (cells .stackIn) →
+      leaving (pack (translate table) ++ junk) start text cells allowance ≡
+      left (runLent (roomOf cells) (translate table) start text allowance) cells
+  on-words junk cells declared fits =
+      rw (unpacked table ok junk, passed-true (isDeclared (translate table) start) declared, le-leb (length text) (length (cells .stackIn)) fits)
+
+  agrees : (room : Room) → Agrees (runLent room (translate table) start text allowance) table start text allowance
+  agrees room = by (passedFirst room (translate table) start text allowance) refl
+    where
+      by : (o : Option Passed) → passedFirst room (translate table) start text allowance ≡ o →
+          Agrees (runLent room (translate table) start text allowance) table start text allowance
+      by none e = equal (kept-within room e)
+      by (some p) e = passing (p .need) (rw (passed room p e))
+
+  -- "Translated code never meets 18"
+  pub never-unknown : (junk : Words) (cells : Cells) →
+      leaving (pack (translate table) ++ junk) start text cells allowance .result .answer ≡ noInstruction → ⊥
+  never-unknown junk cells = leaving-known table ok junk start text cells allowance (λ declared. agrees (roomOf cells))

@@ -1,0 +1,78 @@
+-- DEMAND 3 WITHOUT END: on stacks without end the machine, fed an allowed table's translation, comes to the outcome of rewriting the table: the same answer, text, emissions,
+-- steps and failing function, for every start, text and allowance. The start need not even be declared: both sides look a number up alike.
+use Prim.Native.Nat.{ℕ, zero, suc}
+use mathlib.Core.Path.{_≡_, refl, _∙_, ap}
+use mathlib.Core.List.{[], _++_, append-nil}
+use mathlib.Core.Option.{Option, none, some}
+use lib.Dec.{T}
+use lib.ListN.{length}
+use lib.Seq.{take-append-seam}
+use Rattle.meaning.specs.Choice.{Bytes}
+use Rattle.meaning.specs.Tree.{Table}
+use Rattle.meaning.specs.Answers.{allowanceSpent}
+use Rattle.meaning.specs.Outcome.{Tally, fresh, pay, Outcome, done, stop, Result, resultOf}
+use Rattle.meaning.specs.Rewriting.{Fit, rewritten, applied, apply, rewrite}
+use Rattle.meaning.specs.Allowed.{allowed}
+use Rattle.meaning.specs.Matching.{Choice}
+use Rattle.meaning.specs.Machine.{ranChoice, ranPaid, enter}
+use Rattle.meaning.specs.Runs.{endless, from, textOf, runEndless}
+use Rattle.meaning.specs.Translation.{translate}
+use Rattle.meaning.proofs.agreement.Carrying.{stacks, ledger, carried}
+use Rattle.meaning.proofs.agreement.Expressions.{Callee}
+use Rattle.meaning.proofs.agreement.Facts.{facts}
+use Rattle.meaning.proofs.agreement.Sentences.{Chosen, nowhere, here, chosen-alike, code-at, sentence-run}
+
+module _ (table : Table) (ok : T (allowed table)) where
+  -- rewriting stops with 12 where nothing is left to pay with, at any depth
+  spent : (depth f : ℕ) (text : Bytes) (t : Tally) → pay t ≡ none → apply depth table f text t ≡ stop allowanceSpent 0 t
+  unfolding apply
+  spent zero f text t e = refl
+  spent (suc depth) f text t e = rw e
+
+  -- the chosen sentence is run, or 11 is answered, on both sides
+  chosen-run : (depth frame f : ℕ) (field below o : Bytes) (t : Tally) → Callee (enter endless depth (translate table)) (apply depth table) → {c : Choice} {fit : Option Fit} → Chosen table field c fit →
+      ranChoice endless (translate table) (enter endless depth (translate table)) frame f c (stacks (field ++ below) (length field) o) (ledger t) ≡
+      carried below o (rewritten table (apply depth table) f fit t)
+  chosen-run depth frame f field below o t callee nowhere = refl
+  chosen-run depth frame f field below o t callee (here {number} {at} {s} {bound} a fits) =
+      rw (take-append-seam field below) (sentence-run table (enter endless depth (translate table)) (apply depth table) callee s field at bound a fits frame below o t)
+
+  -- by induction on the depth: one application, in any frame, whatever lies below its field on in and before its result on out
+  pub application : (depth frame f : ℕ) (field below o : Bytes) (t : Tally) →
+      enter endless depth (translate table) frame f (stacks (field ++ below) (length field) o) (ledger t) ≡ carried below o (apply depth table f field t)
+  unfolding enter apply
+  application zero frame f field below o t = refl
+  application (suc depth) frame f field below o t = paid (pay t) (record { same = application depth; spent = spent depth })
+    where
+      paid : (p : Option Tally) → Callee (enter endless depth (translate table)) (apply depth table) →
+          ranPaid endless (translate table) (enter endless depth (translate table)) frame f (stacks (field ++ below) (length field) o) (ledger t) p ≡
+          carried below o (applied table (apply depth table) f field t p)
+      paid none callee = refl
+      paid (some t₁) callee =
+          rw (take-append-seam field below, code-at table f) (chosen-run depth frame f field below o t₁ callee (chosen-alike table field (facts table ok f) 0))
+
+  -- The run from the start. `carried` says all of it: where rewriting is done, the machine is done, in holds nothing and out exactly the text; where rewriting stops, the
+  -- machine stops with the same answer and function; and either way steps and emissions are the same.
+  pub agree : (start : ℕ) (text : Bytes) (allowance : ℕ) →
+      from endless (translate table) start text allowance tt ≡ carried [] [] (apply allowance table start text (fresh allowance))
+  agree start text allowance = rw append-nil at (application allowance 1 start text [] [] (fresh allowance))
+
+  pub agree-done : (start : ℕ) (text : Bytes) (allowance : ℕ) (result : Bytes) (t : Tally) → apply allowance table start text (fresh allowance) ≡ done result t →
+      from endless (translate table) start text allowance tt ≡ done (stacks [] 0 result) (ledger t)
+  agree-done start text allowance result t e = agree start text allowance ∙ ap (carried [] []) e
+
+  pub agree-stop : (start : ℕ) (text : Bytes) (allowance answer function : ℕ) (t : Tally) → apply allowance table start text (fresh allowance) ≡ stop answer function t →
+      from endless (translate table) start text allowance tt ≡ stop answer function (ledger t)
+  agree-stop start text allowance answer function t e = agree start text allowance ∙ ap (carried [] []) e
+
+  -- the outcome as 01 tells it
+  pub agree-result : (start : ℕ) (text : Bytes) (allowance : ℕ) → runEndless (translate table) start text allowance ≡ rewrite table start text allowance
+  agree-result start text allowance = rw (agree start text allowance) (told (apply allowance table start text (fresh allowance)))
+    where
+      told : (r : Outcome Bytes Tally) → resultOf (textOf (carried [] [] r)) ≡ resultOf r
+      told (done text t) = refl
+      told (stop answer function t) = refl
+
+  -- "Each application of a declared function is one step": the run's step number is the number of applications that rewriting made
+  pub agree-steps : (start : ℕ) (text : Bytes) (allowance : ℕ) → runEndless (translate table) start text allowance .steps ≡ rewrite table start text allowance .steps
+  agree-steps start text allowance = ap (λ (r : Result). r .steps) (agree-result start text allowance)

@@ -1,0 +1,95 @@
+-- Small laws of the tests and choices that the definitions are written with.
+use Prim.Native.Nat.{ℕ, zero, suc, _≤_, _<_}
+use mathlib.Core.Path.{_≡_, refl, sym}
+use mathlib.Core.Logic.{_≢_}
+use mathlib.Core.Bool.{Bool, true, false}
+use mathlib.Core.List.{List, [], _∷_}
+use mathlib.Core.Option.{Option, none, some, Option·none-ne-some, Option·some-injective}
+use lib.Dec.{T, leb, eqb, le→leb, nleb→lt, eqb-refl, eqb→eq}
+use Rattle.meaning.specs.Choice.{Name, both, isSome, every, sameBytes, nth}
+use Rattle.meaning.specs.Allowed.{whereSome}
+
+-- a passed test is true
+pub passed-true : (b : Bool) → T b → b ≡ true
+passed-true true t = refl
+passed-true false t = absurd t
+
+pub true-passed : (b : Bool) → b ≡ true → T b
+true-passed b e = rw e tt
+
+pub le-leb : (m n : ℕ) → m ≤ n → leb m n ≡ true
+le-leb m n h = passed-true (leb m n) (le→leb m n h)
+
+-- a failed test says the contrary
+pub leb-lt : (m n : ℕ) → leb m n ≡ false → n < m
+leb-lt m n e = nleb→lt m n (rw e tt)
+
+pub eqb-other : (m n : ℕ) → eqb m n ≡ false → m ≢ n
+eqb-other m n e same = let t : T (eqb m n) = rw same (eqb-refl n) in rw e at t
+
+pub both-left : (a b : Bool) → T (both a b) → T a
+both-left true b t = tt
+both-left false b t = t
+
+pub both-right : (a b : Bool) → T (both a b) → T b
+both-right true b t = t
+both-right false b t = absurd t
+
+pub both-pair : (a b : Bool) → T (both a b) → T a × T b
+both-pair a b t = (both-left a b t, both-right a b t)
+
+-- two choices of which the second rests on the first
+pub record Both {A B : Type 0} (o : Option A) (k : A → Option B) (b : B) : Type 0 where
+  pub middle : A
+  pub first : o ≡ some middle
+  pub second : k middle ≡ some b
+
+pub both-some : {A B : Type 0} (o : Option A) (k : A → Option B) (b : B) → whereSome o k ≡ some b → Both o k b
+both-some none k b e = absurd (Option·none-ne-some b e)
+both-some (some a) k b e = record { middle = a; first = refl; second = e }
+
+-- what comes after a choice counts only by what it gives
+pub where-same : {A B : Type 0} (o : Option A) (f g : A → Option B) → ((a : A) → f a ≡ g a) → whereSome o f ≡ whereSome o g
+where-same none f g h = refl
+where-same (some a) f g h = h a
+
+pub where-none : {A B : Type 0} (o : Option A) (f : A → Option B) → ((a : A) → f a ≡ none) → whereSome o f ≡ none
+where-none none f h = refl
+where-none (some a) f h = h a
+
+pub where-last : {A : Type 0} (o : Option A) → whereSome o (λ a. some a) ≡ o
+where-last none = refl
+where-last (some a) = refl
+
+pub where-again : {A B C : Type 0} (o : Option A) (f : A → Option B) (g : B → Option C) → whereSome (whereSome o f) g ≡ whereSome o (λ a. whereSome (f a) g)
+where-again none f g = refl
+where-again (some a) f g = refl
+
+-- what gives nothing from nothing may come after the choice or inside it
+pub where-strict : {A B C : Type 0} (F : Option B → Option C) (o : Option A) (f : A → Option B) → F none ≡ none → whereSome o (λ a. F (f a)) ≡ F (whereSome o f)
+where-strict F none f e = sym e
+where-strict F (some a) f e = refl
+
+-- a choice that there is
+pub record There {A : Type 0} (o : Option A) : Type 0 where
+  pub it : A
+  pub same : o ≡ some it
+
+pub there : {A : Type 0} (o : Option A) → T (isSome o) → There o
+there none t = absurd t
+there (some a) t = record { it = a; same = refl }
+
+-- what holds of every element holds of each
+pub every-nth {ℓ} : {A : Type ℓ} (p : A → Bool) (xs : List A) (i : ℕ) (x : A) → T (every p xs) → nth i xs ≡ some x → T (p x)
+unfolding every nth
+every-nth p [] i x t e = absurd (Option·none-ne-some x e)
+every-nth p (y ∷ ys) zero x t e = rw (Option·some-injective y x e) at (both-left (p y) (every p ys) t)
+every-nth p (y ∷ ys) (suc i) x t e = every-nth p ys i x (both-right (p y) (every p ys) t) e
+
+-- two names that pass the test are one
+pub same-name : (x y : Name) → T (sameBytes x y) → x ≡ y
+unfolding sameBytes
+same-name [] [] t = refl
+same-name [] (b ∷ y) t = absurd t
+same-name (a ∷ x) [] t = absurd t
+same-name (a ∷ x) (b ∷ y) t = rw (eqb→eq a b (both-left (eqb a b) (sameBytes x y) t), same-name x y (both-right (eqb a b) (sameBytes x y) t))
