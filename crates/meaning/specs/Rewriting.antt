@@ -131,7 +131,7 @@ applied table apply number text t none = stop allowanceSpent 0 t
 applied table apply number text t (some paid) = rewritten table apply number (choose (functionAt table number) text) paid
 
 -- One application. The depth bounds how deep applications nest: each one takes a step, so a depth of the steps left is never reached before they are
--- spent, and the depth never shows (proved in proofs/Depth).
+-- spent, and the depth never shows (proved in proofs/laws/Depth).
 unfoldable pub apply : ℕ → Table → ℕ → Bytes → Tally → Outcome Bytes Tally
 apply zero table number text t = stop allowanceSpent 0 t
 apply (suc depth) table number text t = applied table (apply depth table) number text t (pay t)

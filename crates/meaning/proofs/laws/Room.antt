@@ -241,9 +241,16 @@ module _ (room : Room) where
         record { answer = answerTo (p .need); function = 0; steps = p .tally .steps; text = []; emissions = p .tally .emissions }
     lent-passed p h = ap (λ o. resultOf (textOf o)) (lent-stops p h)
 
-    -- Where something is passed, the two come to different results: so they agree exactly when nothing is passed.
+    -- Where something is passed, the two come to different results: so they come to the same exactly when nothing is passed.
     pub lent-differs : (p : Passed) → passedFirst room code start text allowance ≡ some p →
         runLent room code start text allowance ≡ runEndless code start text allowance → ⊥
     lent-differs p h same =
         let answer : answerTo (p .need) ≡ runEndless code start text allowance .answer = ap (λ r. r .answer) (sym (lent-passed p h) ∙ same) in
         endless-never code start text allowance (rw answer at (answer-for-room (p .need)))
+
+    pub lent-exactly : runLent room code start text allowance ≡ runEndless code start text allowance → passedFirst room code start text allowance ≡ none
+    lent-exactly same = go (passedFirst room code start text allowance) refl
+      where
+        go : (o : Option Passed) → passedFirst room code start text allowance ≡ o → o ≡ none
+        go none e = refl
+        go (some p) e = absurd (lent-differs p e same)

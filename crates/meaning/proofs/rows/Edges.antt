@@ -101,6 +101,15 @@ empty-argument = (refl, refl, refl, refl)
 
 -- THE FRAMES
 
+-- as many frames as there are calls one inside another, the start's among them
+pub frames-enough : Holds (same tableR (97 ∷ []) most (framed 2) (result 0 0 2 (97 ∷ []) []))
+unfolding computing
+frames-enough = (refl, refl, refl, refl)
+
+pub frames-short : Holds (short tableR (97 ∷ []) (framed 1) (result 0 0 2 (97 ∷ []) []) (result 15 0 1 [] []))
+unfolding computing
+frames-short = (refl, refl, refl, refl)
+
 -- 255 bytes reach frame 256
 pub last-frame : Runs tableR (replicate 255 97) most 256 (result 0 0 256 (replicate 255 97) [])
 unfolding computing
@@ -120,11 +129,6 @@ spent-before-frame = refl
 pub tail-call : Runs tableZ (replicate 300 48) most 1 (result 0 0 301 [] [])
 unfolding computing
 tail-call = refl
-
--- and another call another one
-pub no-tail-call : Holds (short tableR (97 ∷ []) (framed 1) (result 0 0 2 (97 ∷ []) []) (result 15 0 1 [] []))
-unfolding computing
-no-tail-call = (refl, refl, refl, refl)
 
 -- WHAT COMES FIRST
 
