@@ -8,11 +8,7 @@ use mathlib.Core.Option.{Option, none, some, Option·none-ne-some, Option·some-
 use lib.Dec.{T, leb, eqb, le→leb, nleb→lt, eqb-refl, eqb→eq}
 use Rattle.meaning.specs.Choice.{Name, both, isSome, every, sameBytes, nth}
 use Rattle.meaning.specs.Allowed.{whereSome}
-
--- a passed test is true
-pub passed-true : (b : Bool) → T b → b ≡ true
-passed-true true t = refl
-passed-true false t = absurd t
+pub use Rattle.meaning.proofs.laws.Passing.{both-left, both-right, passed as passed-true}
 
 pub true-passed : (b : Bool) → b ≡ true → T b
 true-passed b e = rw e tt
@@ -26,14 +22,6 @@ leb-lt m n e = nleb→lt m n (rw e tt)
 
 pub eqb-other : (m n : ℕ) → eqb m n ≡ false → m ≢ n
 eqb-other m n e same = let t : T (eqb m n) = rw same (eqb-refl n) in rw e at t
-
-pub both-left : (a b : Bool) → T (both a b) → T a
-both-left true b t = tt
-both-left false b t = t
-
-pub both-right : (a b : Bool) → T (both a b) → T b
-both-right true b t = t
-both-right false b t = absurd t
 
 pub both-pair : (a b : Bool) → T (both a b) → T a × T b
 both-pair a b t = (both-left a b t, both-right a b t)
