@@ -1,0 +1,126 @@
+//! Benchmarks: the engine beside the system written apart, in one process on the same inputs, as a Markdown table.
+
+use compare::exports::{self, Cells};
+use refal0_apart::machine::{self, Rooms};
+use refal0_apart::reader::{TABLE_LIMIT, read};
+use refal0_apart::rewriter::rewrite;
+use refal0_apart::translation::translate;
+use std::hint::black_box;
+use std::time::{Duration, Instant};
+
+const CODE_WORDS: usize = 1 << 20;
+const LONG: usize = 30_000;
+const ROUNDS: usize = 7;
+
+fn main() {
+    println!("| what | engine | Rust | engine : Rust | |");
+    println!("|---|---|---|---|---|");
+    let table = near_the_limit();
+    reading(&format!("reading a table of {} bytes", table.len()), &table);
+    translating(&table);
+    reading("reading 32,768 letters without `<`", &[b'a'; TABLE_LIMIT]);
+    reading("reading one comment of 32,768 bytes", &comment());
+    running("1,000,000 steps of row Z's kind", b"F { '0' e1 = <F e1 '0'>; e1 = e1 }", b"0000", 1_000_000);
+    running("row R, 255 deep", b"G { s1 e2 = <G e2> s1; = }", &[b'a'; 255], 1_000);
+    let late: Vec<u8> = [vec![b'x'; LONG - 1], vec![b'7']].concat();
+    running("a byte found last in 30,000", b"F { e1 '7' e2 = }", &late, 1);
+    running("a class found last in 30,000", b"F { e1 s2 e3, <IsDigit s2>: 'T' = s2 }", &late, 1);
+    let moves = running("1,000 tail calls with 30,000 bytes", b"F { e1 = <F e1> }", &[b'm'; LONG], 1_000);
+    moving(moves, 1_000);
+}
+
+/// The shortest time of some rounds, each of enough calls to be measured.
+fn best(mut call: impl FnMut()) -> f64 {
+    let begin = Instant::now();
+    call();
+    let once = begin.elapsed().max(Duration::from_nanos(50));
+    let calls = (Duration::from_millis(20).as_nanos() / once.as_nanos()).clamp(1, 100_000) as u32;
+    let round = |_| {
+        let begin = Instant::now();
+        (0..calls).for_each(|_| call());
+        begin.elapsed().as_nanos() as f64 / f64::from(calls)
+    };
+    (0..ROUNDS).map(round).fold(f64::INFINITY, f64::min)
+}
+
+fn row(what: &str, engine: f64, rust: f64, remark: &str) {
+    println!("| {what} | {:.1} µs | {:.1} µs | {:.2} | {remark} |", engine / 1e3, rust / 1e3, engine / rust);
+}
+
+fn reading(what: &str, table: &[u8]) {
+    let mut answer = [0; 3];
+    let engine = best(|| exports::read(black_box(table), &mut answer));
+    let rust = best(|| drop(black_box(read(black_box(table)))));
+    let number = read(table).map_or_else(|refusal| refusal.number, |_| 0);
+    assert_eq!(answer[0], number, "{what}");
+    let remark = format!("answer {number}; engine {:.2} ns a byte", engine / table.len() as f64);
+    row(what, engine, rust, &remark);
+}
+
+fn translating(table: &[u8]) {
+    let mut answer = [0; 3];
+    let mut code = vec![0; CODE_WORDS];
+    exports::translate(table, &mut code, &mut answer);
+    code.truncate(answer[2] as usize);
+    let engine = best(|| exports::translate(black_box(table), &mut code, &mut answer));
+    let rust = best(|| drop(black_box(translate(&read(black_box(table)).expect("the table is sound")))));
+    row("reading and translating it", engine, rust, &format!("{} words of code", answer[2]));
+}
+
+/// The engine's time for a run, on the rooms that the run needs.
+fn running(what: &str, table: &[u8], text: &[u8], allowance: u32) -> f64 {
+    let tree = read(table).expect("the table is sound");
+    let (outcome, need) = machine::run(&translate(&tree), 1, text, allowance, Rooms::WITHOUT_END);
+    let mut code = vec![0; CODE_WORDS];
+    let mut words = [0; 3];
+    exports::translate(table, &mut code, &mut words);
+    code.truncate(words[2] as usize);
+    let mut stack_in = vec![0; need.stack_in];
+    let mut stack_out = vec![0; need.stack_out];
+    let mut answer = [0; 5];
+    let engine = best(|| {
+        let cells = Cells { stack_in: &mut stack_in, stack_out: &mut stack_out, record: &mut [] };
+        exports::run(black_box(&code), 1, black_box(text), cells, allowance, &mut answer);
+    });
+    let rust = best(|| drop(black_box(rewrite(&tree, 1, black_box(text), allowance))));
+    assert_eq!((answer[0], answer[2]), (outcome.answer, outcome.steps), "{what}");
+    let (unit, count) = if outcome.steps > 1 { ("step", outcome.steps) } else { ("byte", text.len() as u64) };
+    let remark = format!("answer {}; engine {:.2} ns a {unit}", outcome.answer, engine / count as f64);
+    row(what, engine, rust, &remark);
+    engine
+}
+
+/// The bytes that the tail calls above move, from in to out and back, moved by memmove alone.
+fn moving(engine: f64, calls: u32) {
+    let mut stack_in = vec![b'm'; LONG];
+    let mut stack_out = vec![0; LONG];
+    let time = best(|| {
+        for _ in 0..calls {
+            stack_out.copy_from_slice(black_box(&stack_in));
+            stack_in.copy_from_slice(black_box(&stack_out));
+        }
+    });
+    let ratio = engine / time;
+    println!("| the same bytes by memmove, both ways | | {:.1} µs | {ratio:.2} | |", time / 1e3);
+}
+
+fn comment() -> Vec<u8> {
+    let mut table = vec![b'-'; TABLE_LIMIT];
+    table[..2].copy_from_slice(b"/*");
+    table[TABLE_LIMIT - 2..].copy_from_slice(b"*/");
+    table
+}
+
+/// A table of 64 functions and 512 sentences that is a little shorter than it may be.
+fn near_the_limit() -> Vec<u8> {
+    let mut table = String::new();
+    for function in 0..64 {
+        table.push_str(&format!("Set{function} {{\n"));
+        for line in 0..8 {
+            let next = (function + line) % 64;
+            table.push_str(&format!("  'K{line} ' s1 eV ':' e2, <IsDigit s1>: 'T' = s1 eV <Set{next} e2>;\n"));
+        }
+        table.push_str("}\n");
+    }
+    table.into_bytes()
+}

@@ -1,0 +1,137 @@
+//! The comparisons of one call of the engine with the system written apart.
+
+use crate::engine::{self, Left};
+use refal0_apart::corpus::Lending;
+use refal0_apart::machine;
+use refal0_apart::outcome::Outcome;
+use refal0_apart::reader::{Refusal, read};
+use refal0_apart::rewriter::rewrite;
+use refal0_apart::translation::{Program, translate};
+use refal0_apart::tree::Table;
+
+pub type Check<T = ()> = Result<T, String>;
+
+/// Words lent for the code of a table that is refused.
+const REFUSED_ROOM: usize = 40;
+
+fn equal<T: PartialEq + std::fmt::Debug>(what: &str, expected: T, engine: T) -> Check {
+    if expected == engine {
+        return Ok(());
+    }
+    Err(format!("{what}\n  expected: {expected:?}\n  engine:   {engine:?}"))
+}
+
+fn holds(what: &str, held: bool) -> Check {
+    if held { Ok(()) } else { Err(what.to_string()) }
+}
+
+fn answer(number: u64, place: usize, count: usize) -> [u64; 3] {
+    [number, place as u64, count as u64]
+}
+
+pub fn reading(table: &[u8]) -> Check {
+    let expected = match read(table) {
+        Ok(tree) => answer(0, 0, tree.functions.len()),
+        Err(Refusal { number, place }) => answer(number, place, 0),
+    };
+    equal("reading: number, place, functions", expected, engine::read(table)?)
+}
+
+/// Translating a table that must be refused.
+pub fn refused_translation(table: &[u8], refusal: Refusal) -> Check {
+    let (found, code) = engine::translate(table, REFUSED_ROOM)?;
+    equal("translating: number, place, words", answer(refusal.number, refusal.place, 0), found)?;
+    holds("the code buffer of a refused table is not all zero", code.iter().all(|&word| word == 0))
+}
+
+/// Translating an accepted table: the code, which keeps the bounds on its words.
+pub fn translation(table: &[u8], program: &Program) -> Check<Vec<u32>> {
+    let (found, mut code) = engine::translate(table, program.word_bound())?;
+    let words = found[2] as usize;
+    equal("translating: number, place", [0, 0], [found[0], found[1]])?;
+    holds("the code has more words than were lent", words <= code.len())?;
+    holds("a word after the code is not zero", code[words..].iter().all(|&word| word == 0))?;
+    code.truncate(words);
+    Ok(code)
+}
+
+/// Translating with a buffer of other length: at least as long as the code, or shorter.
+pub fn translation_room(table: &[u8], code: &[u32], room: usize) -> Check {
+    let (found, buffer) = engine::translate(table, room)?;
+    if room < code.len() {
+        equal("translating: number, place, words", answer(17, 0, 0), found)?;
+        return holds("the code buffer that is too short is not all zero", buffer.iter().all(|&word| word == 0));
+    }
+    equal("translating: number, place, words", answer(0, 0, code.len()), found)?;
+    holds("the code differs with the room lent for it", buffer[..code.len()] == *code)?;
+    holds("a word after the code is not zero", buffer[code.len()..].iter().all(|&word| word == 0))
+}
+
+/// The lent run's outcome, which must be the rewriting's where the run without end keeps within the rooms.
+pub fn expected_outcome(tree: &Table, program: &Program, lending: &Lending) -> Check<Outcome> {
+    let Lending { start, text, allowance, rooms } = lending;
+    let (outcome, _) = machine::run(program, *start, text, *allowance, *rooms);
+    if !matches!(outcome.answer, 10 | 13..=16) {
+        equal("rewriter and machine of this system", rewrite(tree, *start, text, *allowance), outcome.clone())?;
+    }
+    Ok(outcome)
+}
+
+pub fn run(tree: &Table, program: &Program, code: &[u32], lending: &Lending) -> Check {
+    let expected = expected_outcome(tree, program, lending)?;
+    left_as_expected(&expected, &engine::run(code, lending)?)
+}
+
+pub fn left_as_expected(expected: &Outcome, left: &Left) -> Check {
+    let Outcome { answer, function, steps, text, record } = expected;
+    let whole = [*answer, *function as u64, *steps, text.len() as u64, record.len() as u64];
+    equal("running: answer, function, steps, length of text and emissions", whole, left.answer)?;
+    if matches!(answer, 9 | 10) {
+        let unchanged = left.stack_in.unchanged() && left.stack_out.unchanged() && left.record.unchanged();
+        return holds("a refused start has changed what was lent", unchanged);
+    }
+    holds("stack in is not all zero after the run", left.stack_in.contents().iter().all(|&cell| cell == 0))?;
+    let (result, rest) = left.stack_out.contents().split_at(text.len());
+    equal("running: result", text.as_slice(), result)?;
+    holds("stack out is not zero after the result", rest.iter().all(|&cell| cell == 0))?;
+    let (emissions, rest) = left.record.contents().split_at(record.len());
+    equal("running: emissions", record.as_slice(), emissions)?;
+    holds("the record past the emissions is changed", *rest == left.record.before()[record.len()..])
+}
+
+#[cfg(feature = "listing")]
+pub fn listing(table: &[u8], spare: usize) -> Check {
+    let (expected, listing) = match read(table) {
+        Ok(tree) => {
+            let listing = refal0_apart::listing::list(&tree);
+            (answer(0, 0, listing.len()), listing)
+        }
+        Err(refusal) => (answer(refusal.number, refusal.place, 0), Vec::new()),
+    };
+    let (found, buffer) = engine::list(table, listing.len() + spare)?;
+    equal("listing: number, place, length", expected, found)?;
+    equal("listing", listing.as_slice(), &buffer.contents()[..listing.len()])?;
+    let rest = listing.len()..;
+    holds("bytes after the listing are changed", buffer.contents()[rest.clone()] == buffer.before()[rest])?;
+    if listing.is_empty() {
+        return Ok(());
+    }
+    let (found, buffer) = engine::list(table, listing.len() - 1)?;
+    equal("listing: number, place, length", answer(17, 0, 0), found)?;
+    holds("a listing buffer that is too short is changed", buffer.unchanged())
+}
+
+/// All that is compared of a table alone; the tree with its translation and the engine's code if it is accepted.
+pub fn table(text: &[u8]) -> Check<Option<(Table, Program, Vec<u32>)>> {
+    reading(text)?;
+    #[cfg(feature = "listing")]
+    listing(text, 5)?;
+    match read(text) {
+        Err(refusal) => refused_translation(text, refusal).map(|()| None),
+        Ok(tree) => {
+            let program = translate(&tree);
+            let code = translation(text, &program)?;
+            Ok(Some((tree, program, code)))
+        }
+    }
+}

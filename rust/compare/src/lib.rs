@@ -1,0 +1,9 @@
+//! The comparison of the Refal-0 system written apart with the proved engine.
+
+pub mod cases;
+pub mod check;
+pub mod engine;
+pub mod exports;
+pub mod lent;
+pub mod tally;
+pub mod wild;

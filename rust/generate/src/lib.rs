@@ -1,0 +1,9 @@
+//! Generators with seeds: trees, texts, sound tables in odd dress, tables at their limits, damaged tables.
+#![forbid(unsafe_code)]
+
+pub mod damage;
+pub mod dress;
+pub mod edges;
+pub mod random;
+pub mod texts;
+pub mod trees;

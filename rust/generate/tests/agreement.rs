@@ -1,0 +1,124 @@
+//! Properties on generated cases: reading, listing, and the machine against the rewriter.
+
+use generate::damage::{damage, rubbish};
+use generate::dress::dress;
+use generate::edges::edge;
+use generate::random::Random;
+use generate::{texts, trees};
+use refal0_apart::listing::list;
+use refal0_apart::machine::{self, Rooms};
+use refal0_apart::outcome::Outcome;
+use refal0_apart::reader::{TABLE_LIMIT, read};
+use refal0_apart::rewriter::rewrite;
+use refal0_apart::translation::{Program, translate};
+use std::collections::BTreeMap;
+
+const CASES: usize = 4_000;
+
+#[test]
+fn a_dressed_tree_is_read_as_this_tree() {
+    let mut random = Random::new(1);
+    for _ in 0..CASES {
+        let tree = trees::table(&mut random);
+        let text = dress(&mut random, &tree);
+        if text.len() <= TABLE_LIMIT {
+            assert_eq!(read(&text).as_ref(), Ok(&tree), "{}", String::from_utf8_lossy(&text));
+        }
+    }
+}
+
+#[test]
+fn a_listing_is_read_back_as_the_same_tree() {
+    let mut random = Random::new(2);
+    for _ in 0..CASES {
+        let tree = trees::table(&mut random);
+        let listing = list(&tree);
+        if listing.len() <= TABLE_LIMIT {
+            assert_eq!(read(&listing).as_ref(), Ok(&tree), "{}", String::from_utf8_lossy(&listing));
+        }
+    }
+}
+
+/// Counts how often each number is met, so that the generators are known to reach all of them.
+fn met(texts: impl Iterator<Item = Vec<u8>>) -> BTreeMap<u64, usize> {
+    let mut met = BTreeMap::new();
+    for text in texts {
+        let number = match read(&text) {
+            Ok(tree) => {
+                let listing = list(&tree);
+                assert!(listing.len() > TABLE_LIMIT || read(&listing).as_ref() == Ok(&tree));
+                0
+            }
+            Err(refusal) => {
+                assert!(refusal.place <= text.len());
+                refusal.number
+            }
+        };
+        *met.entry(number).or_default() += 1;
+    }
+    met
+}
+
+#[test]
+fn damaged_tables_meet_every_refusal() {
+    let mut random = Random::new(3);
+    let damaged = met((0..CASES).map(|_| {
+        let tree = trees::table(&mut random);
+        let text = dress(&mut random, &tree);
+        damage(&mut random, &text)
+    }));
+    for number in [0, 2, 3, 4, 5, 6, 7, 8] {
+        assert!(damaged.contains_key(&number), "no damaged table meets {number}: {damaged:?}");
+    }
+    let edges = met((0..CASES).map(|_| edge(&mut random)));
+    for number in [0, 1, 2, 3, 4, 5, 6, 7, 8] {
+        assert!(edges.contains_key(&number), "no edge meets {number}: {edges:?}");
+    }
+    let rubbish = met((0..CASES).map(|_| rubbish(&mut random)));
+    assert!(rubbish[&3] > 0);
+}
+
+/// The answers that a run may have when one room is taken below what the run without end needs.
+fn narrowed(program: &Program, start: usize, text: &[u8], allowance: u32, whole: &Outcome, need: Rooms) {
+    let narrow = |rooms: Rooms, answer: u64| {
+        let (outcome, _) = machine::run(program, start, text, allowance, rooms);
+        assert_eq!((outcome.answer, outcome.function), (answer, 0));
+        assert!(outcome.text.is_empty() && outcome.steps <= whole.steps);
+        assert!(whole.record.starts_with(&outcome.record));
+    };
+    if need.stack_in > 0 {
+        let answer = if need.stack_in == text.len() { 10 } else { 13 };
+        narrow(Rooms { stack_in: need.stack_in - 1, ..need }, answer);
+    }
+    if need.stack_out > 0 {
+        narrow(Rooms { stack_out: need.stack_out - 1, ..need }, 14);
+    }
+    if need.record > 0 {
+        narrow(Rooms { record: need.record - 1, ..need }, 16);
+    }
+    if need.frames > 1 {
+        narrow(Rooms { frames: need.frames - 1, ..need }, 15);
+    }
+}
+
+#[test]
+fn the_machine_comes_to_the_rewriting() {
+    let mut random = Random::new(4);
+    let mut answers = BTreeMap::new();
+    for _ in 0..5 * CASES {
+        let tree = trees::table(&mut random);
+        let program = translate(&tree);
+        let start = 1 + random.below(tree.functions.len());
+        let text = texts::text(&mut random, &tree.functions[start - 1]);
+        let allowance = random.below(120) as u32;
+        let rewritten = rewrite(&tree, start, &text, allowance);
+        let (outcome, need) = machine::run(&program, start, &text, allowance, Rooms::WITHOUT_END);
+        assert_eq!(outcome, rewritten, "{}", String::from_utf8_lossy(&list(&tree)));
+        assert_eq!(machine::run(&program, start, &text, allowance, need), (rewritten, need));
+        narrowed(&program, start, &text, allowance, &outcome, need);
+        *answers.entry(outcome.answer).or_insert(0) += 1;
+    }
+    for answer in [0, 11, 12] {
+        assert!(answers[&answer] > CASES / 4, "answers met: {answers:?}");
+    }
+}

@@ -1,0 +1,43 @@
+//! Writes a corpus file from standard input with the outcomes this system finds, for review before it is kept.
+
+use refal0_apart::corpus::{Expected, escape, key_and_value, outcome, parse};
+use refal0_apart::reader::read;
+use std::io::{Read, Write};
+
+fn main() {
+    let mut file = Vec::new();
+    std::io::stdin().read_to_end(&mut file).expect("standard input is read");
+    let cases = parse(&file).expect("the lines are well formed");
+    let mut output = Vec::new();
+    for (number, line) in file.strip_suffix(b"\n").unwrap_or(&file).split(|&byte| byte == 10).enumerate() {
+        let key = key_and_value(line).map(|(key, _)| key);
+        if !matches!(key, Some(b"gives" | b"result" | b"record" | b"refused")) {
+            output.extend_from_slice(line);
+            output.push(10);
+        }
+        if let Some(case) = cases.iter().find(|case| case.line == number + 1) {
+            output.extend(expectation(&case.table, &case.expected).into_bytes());
+        }
+    }
+    std::io::stdout().write_all(&output).expect("standard output is written");
+}
+
+fn expectation(table: &[u8], expected: &Expected) -> String {
+    let Expected::Run(lending, _) = expected else {
+        return match read(table) {
+            Err(refusal) => format!("refused: {} {}\n", refusal.number, refusal.place),
+            Ok(_) => String::from("refused: 0 0\n"),
+        };
+    };
+    let outcome = match outcome(table, lending) {
+        Ok(outcome) => outcome,
+        Err(refusal) => return format!("gives: refused {} {}\n", refusal.number, refusal.place),
+    };
+    let mut lines = format!("gives: {} {} {}\n", outcome.answer, outcome.function, outcome.steps);
+    for (key, bytes) in [("result", &outcome.text), ("record", &outcome.record)] {
+        if !bytes.is_empty() {
+            lines.push_str(&format!("{key}: {}\n", escape(bytes)));
+        }
+    }
+    lines
+}

@@ -1,0 +1,46 @@
+//! The five byte classes that conditions ask about, and the names that may not be declared.
+
+#[derive(Clone, Copy, PartialEq, Eq, Debug)]
+pub enum Class {
+    Digit,
+    Upper,
+    Lower,
+    Letter,
+    Blank,
+}
+
+impl Class {
+    pub const ALL: [Class; 5] = [Class::Digit, Class::Upper, Class::Lower, Class::Letter, Class::Blank];
+
+    pub fn predicate(self) -> &'static [u8] {
+        match self {
+            Class::Digit => b"IsDigit",
+            Class::Upper => b"IsUpper",
+            Class::Lower => b"IsLower",
+            Class::Letter => b"IsLetter",
+            Class::Blank => b"IsBlank",
+        }
+    }
+
+    pub fn of_predicate(name: &[u8]) -> Option<Class> {
+        Class::ALL.into_iter().find(|class| class.predicate() == name)
+    }
+
+    pub fn holds(self, byte: u8) -> bool {
+        match self {
+            Class::Digit => (48..=57).contains(&byte),
+            Class::Upper => (65..=90).contains(&byte),
+            Class::Lower => (97..=122).contains(&byte),
+            Class::Letter => Class::Upper.holds(byte) || Class::Lower.holds(byte),
+            Class::Blank => byte == 32 || byte == 9,
+        }
+    }
+}
+
+pub fn is_emission(name: &[u8]) -> bool {
+    name.starts_with(b"Emit")
+}
+
+pub fn is_reserved(name: &[u8]) -> bool {
+    is_emission(name) || Class::of_predicate(name).is_some()
+}

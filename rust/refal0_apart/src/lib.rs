@@ -1,0 +1,13 @@
+//! A Refal-0 system written apart from the proved engine: reader, listing, rewriter and two-stack machine.
+#![forbid(unsafe_code)]
+
+pub mod class;
+pub mod corpus;
+pub mod lexer;
+pub mod listing;
+pub mod machine;
+pub mod outcome;
+pub mod reader;
+pub mod rewriter;
+pub mod translation;
+pub mod tree;

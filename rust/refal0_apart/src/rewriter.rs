@@ -1,0 +1,161 @@
+//! The rewriter: Refal-0's own rules on the tree, without stacks in and out, cells or frames.
+
+use crate::outcome::{Outcome, Stop};
+use crate::reader::SYMBOL_LIMIT;
+use crate::tree::{Callee, Item, Letter, Sentence, Table};
+
+/// Applies function `start`, counted from 1, to the text.
+pub fn rewrite(table: &Table, start: usize, text: &[u8], allowance: u32) -> Outcome {
+    if start == 0 || start > table.functions.len() {
+        return Outcome::refused(9);
+    }
+    let mut rewriter = Rewriter {
+        table,
+        allowance: u64::from(allowance),
+        steps: 0,
+        record: Vec::new(),
+        result: Vec::new(),
+        open: Vec::new(),
+        waiting: Vec::new(),
+    };
+    let end = rewriter.run(start - 1, text);
+    let result = std::mem::take(&mut rewriter.result);
+    Outcome::of(end.map(|()| result), rewriter.steps, rewriter.record)
+}
+
+struct Rewriter<'t> {
+    table: &'t Table,
+    allowance: u64,
+    steps: u64,
+    record: Vec<u8>,
+    /// All text that is ready, the arguments of open calls last.
+    result: Vec<u8>,
+    /// Where the argument of each open call begins in the result.
+    open: Vec<usize>,
+    /// The expressions not yet finished, the innermost last.
+    waiting: Vec<Substitution<'t>>,
+}
+
+/// An expression to be put in a call's place, with its next item and the values of its variables.
+struct Substitution<'t> {
+    items: &'t [Item],
+    next: usize,
+    text: Vec<u8>,
+    values: Values,
+}
+
+/// The bytes of the s-variables and where the e-variables' parts lie in the text.
+#[derive(Clone, Copy, Default)]
+struct Values {
+    symbols: [Option<u8>; SYMBOL_LIMIT],
+    parts: [(usize, usize); 2],
+}
+
+impl<'t> Rewriter<'t> {
+    fn run(&mut self, start: usize, text: &[u8]) -> Result<(), Stop> {
+        self.apply(start, text.to_vec())?;
+        while let Some(current) = self.waiting.last_mut() {
+            let Some(&item) = current.items.get(current.next) else {
+                self.waiting.pop();
+                continue;
+            };
+            current.next += 1;
+            match item {
+                Item::Byte(byte) => self.result.push(byte),
+                Item::Symbol(symbol) => self.result.extend(current.values.symbols[symbol]),
+                Item::Part(part) => {
+                    let (from, to) = current.values.parts[part];
+                    self.result.extend_from_slice(&current.text[from..to]);
+                }
+                Item::Open(_) => self.open.push(self.result.len()),
+                Item::Close(callee) => self.call(callee)?,
+            }
+        }
+        Ok(())
+    }
+
+    fn call(&mut self, callee: Callee) -> Result<(), Stop> {
+        let begin = self.open.pop().expect("a call that closes is open");
+        let argument = self.result.split_off(begin);
+        match callee {
+            Callee::Emission(number) => {
+                self.record.extend_from_slice(&self.table.emissions[number]);
+                self.record.push(32);
+                self.record.extend(argument);
+                self.record.push(10);
+                Ok(())
+            }
+            Callee::Function(number) => {
+                self.let_go();
+                self.apply(number, argument)
+            }
+        }
+    }
+
+    /// Frees what the current expression has no more use for, so that long recursions stay small.
+    fn let_go(&mut self) {
+        let current = self.waiting.last_mut().expect("a call stands in an expression");
+        let rest = &current.items[current.next..];
+        if rest.is_empty() {
+            self.waiting.pop();
+        } else if !rest.iter().any(|item| matches!(item, Item::Part(_))) {
+            current.text = Vec::new();
+        }
+    }
+
+    fn apply(&mut self, number: usize, text: Vec<u8>) -> Result<(), Stop> {
+        if self.steps == self.allowance {
+            return Err(Stop::because(12));
+        }
+        self.steps += 1;
+        for sentence in &self.table.functions[number].sentences {
+            if let Some(values) = fit(sentence, &text) {
+                self.waiting.push(Substitution { items: &sentence.expression, next: 0, text, values });
+                return Ok(());
+            }
+        }
+        Err(Stop { answer: 11, function: number + 1 })
+    }
+}
+
+/// The values with which the sentence's pattern is the text and its conditions hold.
+fn fit(sentence: &Sentence, text: &[u8]) -> Option<Values> {
+    let spare = text.len().checked_sub(sentence.letters())?;
+    let mut values = Values::default();
+    let end = text.len();
+    match sentence.templates.as_slice() {
+        [whole] => (spare == 0 && take(whole, text, &mut values) && hold(sentence, &values)).then_some(values),
+        [head, tail] => {
+            values.parts[0] = (head.len(), end - tail.len());
+            let taken = take(head, text, &mut values) && take(tail, &text[end - tail.len()..], &mut values);
+            (taken && hold(sentence, &values)).then_some(values)
+        }
+        [head, middle, tail] => {
+            let taken = take(head, text, &mut values) && take(tail, &text[end - tail.len()..], &mut values);
+            if !taken {
+                return None;
+            }
+            (head.len()..=head.len() + spare).find_map(|place| {
+                let mut tried = values;
+                tried.parts = [(head.len(), place), (place + middle.len(), end - tail.len())];
+                (take(middle, &text[place..], &mut tried) && hold(sentence, &tried)).then_some(tried)
+            })
+        }
+        _ => unreachable!("a pattern has at most two e-variables"),
+    }
+}
+
+/// Lets a template take the first bytes of the text; equal s-variables take equal bytes.
+fn take(template: &[Letter], text: &[u8], values: &mut Values) -> bool {
+    template.iter().zip(text).all(|(letter, &byte)| match *letter {
+        Letter::Byte(wanted) => wanted == byte,
+        Letter::Symbol(symbol) => *values.symbols[symbol].get_or_insert(byte) == byte,
+    })
+}
+
+fn hold(sentence: &Sentence, values: &Values) -> bool {
+    sentence.conditions.iter().all(|condition| {
+        let byte = values.symbols[condition.symbol].expect("a condition's variable stands in the pattern");
+        condition.class.holds(byte) == condition.expected
+    })
+}

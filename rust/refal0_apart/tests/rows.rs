@@ -1,0 +1,140 @@
+//! Every row of the paper's 'Runs to hold on to', on the rewriter and on the machine.
+
+use refal0_apart::listing::list;
+use refal0_apart::machine::{self, Rooms};
+use refal0_apart::outcome::Outcome;
+use refal0_apart::reader::{Refusal, read};
+use refal0_apart::rewriter::rewrite;
+use refal0_apart::translation::translate;
+
+const Z: &[u8] = b"F { '0' e1 = <F e1>; e1 = e1 }";
+const R: &[u8] = b"G { s1 e2 = <G e2> s1; = }";
+const H: &[u8] = b"H { e1 s2 e3, <IsDigit s2>: 'T' = s2 }";
+const K: &[u8] = b"K { s1 e2 s1 e3 = e2 '|' e3 }";
+const P: &[u8] = b"P { e1 = <Q 'ab' e1> } Q { e1 = e1 }";
+const M: &[u8] = b"M { e1 = <EmitA <N e1>> <EmitB 'x'> } N { e1 = <EmitC e1> 'y' }";
+
+fn done(text: &[u8], steps: u64) -> Outcome {
+    Outcome { answer: 0, function: 0, steps, text: text.to_vec(), record: Vec::new() }
+}
+
+fn stopped(answer: u64, function: usize, steps: u64) -> Outcome {
+    Outcome { answer, function, steps, text: Vec::new(), record: Vec::new() }
+}
+
+/// The outcome of rewriting, which must be that of the machine without end; and what the machine needs.
+fn ample(table: &[u8], text: &[u8], allowance: u32) -> (Outcome, Rooms) {
+    let tree = read(table).expect("the row's table is accepted");
+    let rewritten = rewrite(&tree, 1, text, allowance);
+    let (run, need) = machine::run(&translate(&tree), 1, text, allowance, Rooms::WITHOUT_END);
+    assert_eq!(run, rewritten);
+    (rewritten, need)
+}
+
+fn lent(table: &[u8], text: &[u8], rooms: Rooms) -> Outcome {
+    let tree = read(table).expect("the row's table is accepted");
+    machine::run(&translate(&tree), 1, text, 100_000, rooms).0
+}
+
+#[test]
+fn row_z() {
+    let (outcome, need) = ample(Z, b"0060", 100_000);
+    assert_eq!(outcome, done(b"60", 3));
+    assert_eq!(need.stack_out, 3);
+    assert_eq!(need.frames, 1);
+    assert_eq!(ample(Z, b"", 100_000).0, done(b"", 1));
+    assert_eq!(ample(Z, b"0060", 2).0, stopped(12, 0, 2));
+    assert_eq!(ample(Z, b"0060", 3).0, done(b"60", 3));
+    assert_eq!(lent(Z, b"0060", Rooms::lent(4, 3, 0)), done(b"60", 3));
+    assert_eq!(lent(Z, b"0060", Rooms::lent(4, 2, 0)), stopped(14, 0, 1));
+    assert_eq!(lent(Z, b"0060", Rooms::lent(3, 3, 0)), stopped(10, 0, 0));
+}
+
+#[test]
+fn row_r() {
+    let (outcome, need) = ample(R, b"abc", 100_000);
+    assert_eq!(outcome, done(b"cba", 4));
+    assert_eq!(need, Rooms { stack_in: 3, stack_out: 3, record: 0, frames: 4 });
+    assert_eq!(lent(R, b"abc", Rooms::lent(3, 3, 0)), done(b"cba", 4));
+    assert_eq!(lent(R, b"abc", Rooms::lent(3, 2, 0)), stopped(14, 0, 4));
+}
+
+#[test]
+fn row_r_and_frames() {
+    let text: Vec<u8> = (0..=255).map(|number| b'a' + number % 26).collect();
+    let turned: Vec<u8> = text[..255].iter().rev().copied().collect();
+    let rooms = Rooms::lent(32_768, 32_768, 0);
+    assert_eq!(lent(R, &text[..255], rooms), done(&turned, 256));
+    assert_eq!(ample(R, &text[..255], 100_000).1.frames, 256);
+    assert_eq!(lent(R, &text, rooms), stopped(15, 0, 256));
+    assert_eq!(ample(R, &text, 100_000).0.steps, 257);
+}
+
+#[test]
+fn rows_h_and_k() {
+    assert_eq!(ample(H, b"ab7c9", 100_000).0, done(b"7", 1));
+    assert_eq!(ample(H, b"abc", 100_000).0, stopped(11, 1, 1));
+    assert_eq!(ample(K, b"abcab", 100_000).0, done(b"bc|b", 1));
+    assert_eq!(ample(K, b"aa", 100_000).0, done(b"|", 1));
+    assert_eq!(ample(K, b"ab", 100_000).0, stopped(11, 1, 1));
+}
+
+#[test]
+fn row_p() {
+    assert_eq!(ample(P, b"c", 100_000).0, done(b"abc", 2));
+    assert_eq!(lent(P, b"c", Rooms::lent(3, 3, 0)), done(b"abc", 2));
+    assert_eq!(lent(P, b"c", Rooms::lent(2, 3, 0)), stopped(13, 0, 1));
+}
+
+#[test]
+fn row_m() {
+    let record = b"EmitC q\nEmitA y\nEmitB x\n".to_vec();
+    let (outcome, need) = ample(M, b"q", 100_000);
+    assert_eq!(outcome, Outcome { record: record.clone(), ..done(b"", 2) });
+    assert_eq!(need.record, record.len());
+    let short = lent(M, b"q", Rooms::lent(9, 9, record.len() - 1));
+    assert_eq!(short, Outcome { record: b"EmitC q\nEmitA y\n".to_vec(), ..stopped(16, 0, 2) });
+}
+
+#[test]
+fn rows_of_reading() {
+    let refused = |text: &[u8]| read(text).expect_err("the row's table is refused");
+    assert_eq!(refused(b"F{e1 '' e2=}"), Refusal { number: 6, place: 8 });
+    assert_eq!(refused(b"F{e1=e1 e1}"), Refusal { number: 7, place: 8 });
+    assert_eq!(refused(b"F{=<G>}"), Refusal { number: 8, place: 4 });
+    assert_eq!(refused(b"F{='\\256'}"), Refusal { number: 2, place: 3 });
+    assert_eq!(ample(b"F{='\\255'}", b"", 100_000).0, done(&[255], 1));
+    assert_eq!(refused(b"F{e1 s1='\\256'}"), Refusal { number: 6, place: 5 });
+}
+
+#[test]
+fn listing_of_row_r() {
+    assert_eq!(list(&read(R).unwrap()), b"G {\ns1 e2 = <G e2> s1;\n=;\n}\n");
+}
+
+#[test]
+fn the_program_on_row_r() {
+    let (outcome, _) = ample(R, b"abc", 100_000);
+    let head = format!("{} {} {}", outcome.answer, outcome.function, outcome.steps);
+    assert_eq!((head.as_str(), outcome.text.as_slice()), ("0 0 4", b"cba".as_slice()));
+}
+
+#[test]
+fn the_three_wrong_turns() {
+    // the place is settled together with its condition, not before it
+    assert_eq!(ample(b"F{e1 s2 'x' e3, <IsDigit s2>:'T' = s2 e3}", b"ax7xb", 9).0, done(b"7b", 1));
+    // byte 5 then `7`
+    let tree = read(b"F{='\\5' '7'}").unwrap();
+    assert_eq!(list(&tree), b"F {\n= '\\5\\55';\n}\n");
+    // a tail call takes no frame
+    assert_eq!(ample(b"F{'0' e1=<F e1>; e1=e1}", &[b'0'; 1000], 2000).1.frames, 1);
+}
+
+#[test]
+fn long_and_deep_rewriting_needs_no_native_stack() {
+    let tree = read(R).unwrap();
+    let deep = rewrite(&tree, 1, &[b'a'; 30_000], 100_000);
+    assert_eq!((deep.answer, deep.steps, deep.text.len()), (0, 30_001, 30_000));
+    let tree = read(b"F { e1 = <F e1> }").unwrap();
+    assert_eq!(rewrite(&tree, 1, b"a", 300_000), stopped(12, 0, 300_000));
+}
