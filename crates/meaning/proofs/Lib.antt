@@ -2,4 +2,8 @@
 pub mod rows
 pub mod laws
 pub mod agreement
+pub mod reading
+pub mod roundtrip
+pub mod Demand2
+pub mod ReadBack
 pub mod Demand3

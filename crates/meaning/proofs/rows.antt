@@ -7,3 +7,4 @@ pub mod Packed
 pub mod Wild
 pub mod Example
 pub mod Read
+pub mod Listed

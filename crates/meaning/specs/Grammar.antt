@@ -8,9 +8,9 @@ use mathlib.Core.List.{List, [], _∷_, _++_, map}
 use mathlib.Core.Option.{some}
 use Rattle.meaning.specs.Choice.{Bytes, Name}
 use Rattle.meaning.specs.Classes.{Class}
-use Rattle.meaning.specs.Tree.{Letter, character, symbol, Element, letter, part, Condition, Expression, end, thenCharacter, thenSymbol, thenPart, thenCall, Sentence, Function, Table}
+use Rattle.meaning.specs.Tree.{character, symbol, Element, letter, part, Condition, Expression, end, thenCharacter, thenSymbol, thenPart, thenCall, Sentence, Function, Table}
 use Rattle.meaning.specs.Names.{predicateOf}
-use Rattle.meaning.specs.Tokens.{Token, functionName, word, quoted, sign, textEnd, malformed, Placed}
+use Rattle.meaning.specs.Tokens.{Token, functionName, word, quoted, sign, textEnd, Placed}
 
 abbrev pub standing : Token → ℕ → ℕ → Placed
 standing token place past = record { token = token; place = place; past = past }
@@ -105,29 +105,23 @@ unfoldable pub written : Bytes → Expression → Expression
 written [] e = e
 written (c ∷ text) e = thenCharacter c (written text e)
 
-mutual
-  -- "Выражение = {Строка | s-Переменная | е-Переменная | ВызовФункции}"
-  pub data IsExpression : List Placed → Expression → List Placed → Type 0 where
-    noItems : {ts : List Placed} → IsExpression ts end ts
-    stringThen : {ts rest : List Placed} {place past : ℕ} {text : Bytes} {e : Expression}
-        → IsExpression ts e rest
-        → IsExpression (standing (quoted text) place past ∷ ts) (written text e) rest
-    symbolThen : {ts rest : List Placed} {place past b : ℕ} {x : Bytes} {e : Expression}
-        → IsExpression ts e rest
-        → IsExpression (standing (symbolWord b x) place past ∷ ts) (thenSymbol (b ∷ x) e) rest
-    partThen : {ts rest : List Placed} {place past b : ℕ} {x : Bytes} {e : Expression}
-        → IsExpression ts e rest
-        → IsExpression (standing (partWord b x) place past ∷ ts) (thenPart (b ∷ x) e) rest
-    callThen : {ts ts₁ rest : List Placed} {place : ℕ} {n : Name} {a e : Expression}
-        → IsCall ts place n a ts₁
-        → IsExpression ts₁ e rest
-        → IsExpression ts (thenCall place n a e) rest
-
-  -- "ВызовФункции = "<" ИмяФункции Выражение ">"": the place is that of the name
-  pub data IsCall : List Placed → ℕ → Name → Expression → List Placed → Type 0 where
-    isCall : {ts rest : List Placed} {at₁ past₁ at₂ past₂ at₃ past₃ : ℕ} {n : Name} {a : Expression}
-        → IsExpression ts a (standing (sign 62) at₃ past₃ ∷ rest)
-        → IsCall (standing (sign 60) at₁ past₁ ∷ standing (functionName n) at₂ past₂ ∷ ts) at₂ n a rest
+-- "Выражение = {Строка | s-Переменная | е-Переменная | ВызовФункции}" and "ВызовФункции = "<" ИмяФункции Выражение ">"": a call has the place of
+-- its name
+pub data IsExpression : List Placed → Expression → List Placed → Type 0 where
+  noItems : {ts : List Placed} → IsExpression ts end ts
+  stringThen : {ts rest : List Placed} {place past : ℕ} {text : Bytes} {e : Expression}
+      → IsExpression ts e rest
+      → IsExpression (standing (quoted text) place past ∷ ts) (written text e) rest
+  symbolThen : {ts rest : List Placed} {place past b : ℕ} {x : Bytes} {e : Expression}
+      → IsExpression ts e rest
+      → IsExpression (standing (symbolWord b x) place past ∷ ts) (thenSymbol (b ∷ x) e) rest
+  partThen : {ts rest : List Placed} {place past b : ℕ} {x : Bytes} {e : Expression}
+      → IsExpression ts e rest
+      → IsExpression (standing (partWord b x) place past ∷ ts) (thenPart (b ∷ x) e) rest
+  callThen : {ts ts₁ rest : List Placed} {at₁ past₁ at₂ past₂ at₃ past₃ : ℕ} {n : Name} {a e : Expression}
+      → IsExpression ts a (standing (sign 62) at₃ past₃ ∷ ts₁)
+      → IsExpression ts₁ e rest
+      → IsExpression (standing (sign 60) at₁ past₁ ∷ standing (functionName n) at₂ past₂ ∷ ts) (thenCall at₂ n a e) rest
 
 -- SENTENCES, FUNCTIONS, THE PROGRAM
 

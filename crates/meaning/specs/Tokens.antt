@@ -226,7 +226,7 @@ tokensPast next mode l =
     let later = next (modeAfter mode (l .first .token)) (l .first .past) (l .rest) in
     l .first ∷ pick (isLast (l .first .token)) [] later
 
--- Every token but the last eats a byte, so a bound above the number of bytes is never reached (proved in proofs/reading).
+-- Every token but the last eats a byte, so a bound above the number of bytes is never reached (proved in proofs/roundtrip/Remaining).
 unfoldable pub tokensFrom : ℕ → Mode → ℕ → Bytes → List Placed
 tokensFrom zero mode at bytes = []
 tokensFrom (suc bound) mode at bytes = tokensPast (tokensFrom bound) mode (lex mode at bytes)

@@ -1,5 +1,5 @@
 -- Worked rows of reading and listing: the 'Read' rows of 01, its listing, and the open points of 01 as they are settled, each border with its neighbour.
-use Prim.Native.Nat.{ℕ, zero, suc, _+_}
+use Prim.Native.Nat.{ℕ, zero, suc}
 use Prim.Native.Char.{code}
 use Prim.Native.String.{String}
 use mathlib.Core.Path.{_≡_, refl}
@@ -8,7 +8,7 @@ use mathlib.Core.List.{List, [], _∷_, _++_}
 use lib.Dec.{eqb}
 use Rattle.meaning.specs.Choice.{Bytes, both, every, sameBytes, startsWith}
 use Rattle.meaning.specs.Classes.{digit}
-use Rattle.meaning.specs.Tree.{character, symbol, letter, part, end, thenCharacter, thenSymbol, thenPart, thenCall, Table}
+use Rattle.meaning.specs.Tree.{symbol, letter, part, end, thenCharacter, thenSymbol, thenPart, thenCall}
 use Rattle.meaning.specs.Names.{classNamed, numberFrom}
 use Rattle.meaning.specs.Allowed.{member, symbolsFrom, partsOf, lettersIn, comingAfter}
 use Rattle.meaning.specs.Tokens.{skip, run, quotation, lex, tokensFrom}
@@ -18,7 +18,7 @@ use Rattle.meaning.specs.Listing.{decimal, patternText, conditionsText, 
 
 -- THE TEXTS
 
-abbrev bytes : String → Bytes
+abbrev pub bytes : String → Bytes
 bytes String.[] = []
 bytes (String._∷_ c s) = code c ∷ bytes s
 

@@ -1,0 +1,23 @@
+-- What the reader of tables gives: demand 2's theorem about the definitions, in steps.
+pub mod Basics
+pub mod Lists
+pub mod Sound
+pub mod PatternFacts
+pub mod PatternItems
+pub mod Patterns
+pub mod Conditions
+pub mod ExpressionItems
+pub mod Expressions
+pub mod ExpressionsComplete
+pub mod Sentences
+pub mod Functions
+pub mod Tables
+pub mod TokensSound
+pub mod Accepted
+pub mod Streams
+pub mod StreamsTokens
+pub mod StreamsReaders
+pub mod Lexing
+pub mod Local
+pub mod Leftmost
+pub mod TextEnd

@@ -1,0 +1,138 @@
+-- Every allowed expression of the grammar is read, however large the bound, if it is no less than the number of tokens.
+use Prim.Native.Nat.{ℕ, zero, suc, _+_, _≤_}
+use mathlib.Core.Path.{_≡_, refl, ap}
+use mathlib.Core.Bool.{Bool, true, false, not}
+use mathlib.Core.List.{List, _∷_}
+use mathlib.Core.Option.{some}
+use native.Mathlib.Omega.{arith}
+use borrow.Author.Tests.{le-leb, lt-ltb}
+use lib.ListN.{length}
+use Rattle.meaning.specs.Choice.{Name, both, every}
+use Rattle.meaning.specs.Tree.{Expression, end, thenCharacter, thenSymbol, thenPart, thenCall}
+use Rattle.meaning.specs.Names.{isPredicate}
+use Rattle.meaning.specs.Allowed.{itemsIn, nesting, spelledItems, spelledName, comingAfter, comingAfterAll, spelledIdentifier, maxItems, maxNesting}
+use Rattle.meaning.specs.Tokens.{sign, Placed}
+use Rattle.meaning.specs.Grammar.{standing, IsExpression, noItems, stringThen, symbolThen, partThen, callThen}
+use Rattle.meaning.specs.Reading.{parsed, characters, symbolItem, partItem, itemOf, isItem, isSign, Progress, pastItem, pastCall, callFault, calledFault, expression}
+use Rattle.meaning.proofs.reading.Basics.{both-left, both-right}
+use Rattle.meaning.proofs.reading.Sound.{spelled-name-short}
+use Rattle.meaning.proofs.reading.ExpressionItems.{Leads, item-led, where-some, coming-every}
+
+-- WHAT LEADS WITHIN THE LIMITS
+
+leads-end : (symbols : List Name) (depth : ℕ) (so then : Progress) → Leads symbols depth so end then → so ≡ then
+unfolding itemsIn comingAfterAll
+leads-end symbols depth so then l =
+    let order = l .order in
+    let items : so .items ≡ then .items = let p = l .items in omega arith in
+    let coming : so .coming ≡ then .coming = cc in
+    λ i. record { items = items i; coming = coming i }
+
+coming-all-every : (f : Name → Bool) (e : Expression) (coming : List Name) {then : List Name}
+    → every f coming ≡ true → comingAfterAll e coming ≡ some then → every f then ≡ true
+unfolding comingAfterAll
+coming-all-every f end coming {then} h e = let same : coming ≡ then = cc in rw same at h
+coming-all-every f (thenCharacter c e) coming h p = coming-all-every f e coming h p
+coming-all-every f (thenSymbol x e) coming h p = coming-all-every f e coming h p
+coming-all-every f (thenPart x e) coming h p =
+    let w = where-some (comingAfter x coming) (comingAfterAll e) p in
+    coming-all-every f e (w .0) ((coming-every f x coming h (w .1)) .1) (w .2)
+coming-all-every f (thenCall place n a e) coming h p =
+    let w = where-some (comingAfterAll a coming) (comingAfterAll e) p in
+    coming-all-every f e (w .0) (coming-all-every f a coming h (w .1)) (w .2)
+
+-- a call of an expression that leads within the limits passes its tests
+record CallLed (symbols : List Name) (depth : ℕ) (so : Progress) (n : Name) (a e : Expression) (then : Progress) : Type 0 where
+  between : Progress
+  faultless : callFault depth so ≡ 0
+  named : calledFault n ≡ 0
+  coming : every spelledIdentifier (between .coming) ≡ true
+  inner : Leads symbols (suc depth) (pastCall so) a between
+  outer : Leads symbols depth between e then
+
+call-led : (symbols : List Name) (depth : ℕ) (so : Progress) (place : ℕ) (n : Name) (a e : Expression) (then : Progress)
+    → every spelledIdentifier (so .coming) ≡ true
+    → Leads symbols depth so (thenCall place n a e) then → CallLed symbols depth so n a e then
+unfolding itemsIn comingAfterAll spelledItems nesting
+call-led symbols depth so place n a e then c l =
+    let w = where-some (comingAfterAll a (so .coming)) (comingAfterAll e) (l .order) in
+    let items = l .items in
+    let room = l .room in
+    let deep = l .deep in
+    let name = both-left (both (spelledName n) (not (isPredicate n))) (both (spelledItems symbols a) (spelledItems symbols e)) (l .spelled) in
+    let inside = both-right (both (spelledName n) (not (isPredicate n))) (both (spelledItems symbols a) (spelledItems symbols e)) (l .spelled) in
+    record {
+      between = record { items = so .items + 1 + itemsIn a; coming = w .0 };
+      faultless = rw (lt-ltb depth maxNesting (omega arith), le-leb (so .items + 1) maxItems (omega arith));
+      named =
+          rw (spelled-name-short n (both-left (spelledName n) (not (isPredicate n)) name), both-right (spelledName n) (not (isPredicate n)) name);
+      coming = coming-all-every spelledIdentifier a (so .coming) c (w .1);
+      inner =
+          record {
+            items = refl;
+            room = omega arith;
+            order = w .1;
+            spelled = both-left (spelledItems symbols a) (spelledItems symbols e) inside;
+            deep = omega arith;
+          };
+      outer =
+          record {
+            items = omega arith;
+            room = l .room;
+            order = w .2;
+            spelled = both-right (spelledItems symbols a) (spelledItems symbols e) inside;
+            deep = omega arith;
+          };
+    }
+
+-- EVERY STEP EATS A TOKEN
+
+expression-shorter : {ts rest : List Placed} {e : Expression} → IsExpression ts e rest → length rest ≤ length ts
+expression-shorter noItems = omega arith
+expression-shorter (stringThen d) = omega (arith, expression-shorter d)
+expression-shorter (symbolThen d) = omega (arith, expression-shorter d)
+expression-shorter (partThen d) = omega (arith, expression-shorter d)
+expression-shorter (callThen c d) = omega (arith, expression-shorter d, expression-shorter c)
+
+-- READING
+
+-- the next token begins no item and no call
+pub record Ends (rest : List Placed) : Type 0 where
+  pub first : Placed
+  pub others : List Placed
+  pub shape : rest ≡ first ∷ others
+  pub none-item : isItem (itemOf (first .token)) ≡ false
+  pub none-call : isSign 60 (first .token) ≡ false
+
+abbrev closes : (place past : ℕ) (rest : List Placed) → Ends (standing (sign 62) place past ∷ rest)
+closes place past rest = record { first = standing (sign 62) place past; others = rest; shape = refl; none-item = refl; none-call = refl }
+
+module _ (symbols : List Name) (s : every spelledIdentifier symbols ≡ true) where
+  pub expression-complete : {ts rest : List Placed} {e : Expression} → IsExpression ts e rest → Ends rest
+      → (bound depth : ℕ) (so then : Progress) → every spelledIdentifier (so .coming) ≡ true → length ts ≤ bound
+      → Leads symbols depth so e then
+      → expression bound symbols depth so ts ≡ parsed (record { expression = e; progress = then }) rest
+  unfolding expression
+  expression-complete (noItems {ts = ts}) h zero depth so then c b l = absurd (omega (arith, ap length (h .shape)))
+  expression-complete (stringThen d) h zero depth so then c b l = absurd (omega arith)
+  expression-complete (symbolThen d) h zero depth so then c b l = absurd (omega arith)
+  expression-complete (partThen d) h zero depth so then c b l = absurd (omega arith)
+  expression-complete (callThen k d) h zero depth so then c b l = absurd (omega arith)
+  expression-complete noItems h (suc bound) depth so then c b l = rw (h .shape, h .none-item, h .none-call, leads-end symbols depth so then l)
+  expression-complete (stringThen {text = text} {e = e} d) h (suc bound) depth so then c b l =
+      let i = item-led symbols depth so (characters text) e then s c l in
+      rw (i .faultless, expression-complete d h bound depth (pastItem (characters text) so) then (i .coming) (omega arith) (i .leads))
+  expression-complete (symbolThen {b = y} {x = x} {e = e} d) h (suc bound) depth so then c b l =
+      let i = item-led symbols depth so (symbolItem (y ∷ x)) e then s c l in
+      rw (i .faultless, expression-complete d h bound depth (pastItem (symbolItem (y ∷ x)) so) then (i .coming) (omega arith) (i .leads))
+  expression-complete (partThen {b = y} {x = x} {e = e} d) h (suc bound) depth so then c b l =
+      let i = item-led symbols depth so (partItem (y ∷ x)) e then s c l in
+      rw (i .faultless, expression-complete d h bound depth (pastItem (partItem (y ∷ x)) so) then (i .coming) (omega arith) (i .leads))
+  expression-complete (callThen {ts₁ = ts₁} {at₂ = at₂} {at₃ = at₃} {past₃ = past₃} {n = n} {a = a} {e = e} k d) h (suc bound) depth so then c b l =
+      let i = call-led symbols depth so at₂ n a e then c l in
+      rw (
+        i .faultless,
+        i .named,
+        expression-complete k (closes at₃ past₃ ts₁) bound (suc depth) (pastCall so) (i .between) c (omega arith) (i .inner),
+        expression-complete d h bound depth (i .between) then (i .coming) (omega (arith, expression-shorter k)) (i .outer),
+      )
