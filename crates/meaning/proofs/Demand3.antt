@@ -19,17 +19,12 @@ use Rattle.meaning.specs.Runs.{Room, answerTo, endless, Passed, from, ru
 use Rattle.meaning.specs.Translation.{translate}
 use Rattle.meaning.specs.Packing.{Words, pack}
 use Rattle.meaning.specs.Leaving.{Cells, left, roomOf, leaving}
+use Rattle.meaning.specs.Demanded.{stoppedAt, unlessPassed, demanded}
 use Rattle.meaning.proofs.agreement.Agree.{agree-done, agree-result, agree-steps}
 use Rattle.meaning.proofs.agreement.Choosing.{passed-true}
 use Rattle.meaning.proofs.laws.Room.{lent-equal, lent-passed, lent-differs}
 use Rattle.meaning.proofs.laws.Known.{Agrees, equal, passing, leaving-known}
 use Rattle.meaning.proofs.laws.Translated.{unpacked}
-
--- what the run on lent cells answers where the run without end passes a need first: "which of in, out, record and frames that run passed first, gives no text, and has the
--- steps and emissions that run had made before passing it"
-abbrev pub stoppedAt : Passed → Result
-stoppedAt p =
-    record { answer = answerTo (p .need); function = 0; steps = p .tally .steps; text = []; emissions = p .tally .emissions }
 
 module _ (table : Table) (ok : T (allowed table)) (start : ℕ) (text : Bytes) (allowance : ℕ) where
   -- 1. WITHOUT END: the machine gives rewriting's outcome: answer, text, emissions, steps and failing function
@@ -67,6 +62,15 @@ module _ (table : Table) (ok : T (allowed table)) (start : ℕ) (text : Bytes) (
           passedFirst room (translate table) start text allowance ≡ none
       nothing none e same = e
       nothing (some p) e same = absurd (lent-differs room (translate table) start text allowance p e (same ∙ sym without-end))
+
+  -- both cases in one equation
+  pub as-demanded : (room : Room) → runLent room (translate table) start text allowance ≡ demanded room table start text allowance
+  as-demanded room = by (passedFirst room (translate table) start text allowance) refl
+    where
+      by : (o : Option Passed) → passedFirst room (translate table) start text allowance ≡ o →
+          runLent room (translate table) start text allowance ≡ unlessPassed o (rewrite table start text allowance)
+      by none e = kept-within room e
+      by (some p) e = passed room p e
 
   -- 3. ON WORDS: the packed code, whatever words follow it, leaves what the run on lent cells gives
   pub on-words : (junk : Words) (cells : Cells) → T (isDeclared (translate table) start) → length text ≤ length (cells .stackIn) →

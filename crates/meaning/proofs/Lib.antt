@@ -7,3 +7,4 @@ pub mod roundtrip
 pub mod Demand2
 pub mod ReadBack
 pub mod Demand3
+pub mod BytesToCells

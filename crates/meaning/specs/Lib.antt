@@ -21,3 +21,4 @@ pub mod Grammar
 pub mod Reading
 pub mod Listing
 pub mod Entries
+pub mod Demanded
