@@ -11,7 +11,7 @@ use borrow.Author.Tests.{le-ltb, ne-eqb, ltb-true, ltb-false}
 use Rattle.meaning.specs.Choice.{both}
 use Rattle.meaning.specs.Rewriting.{sameTruth}
 use Rattle.meaning.proofs.laws.Passing.{both-left, both-right}
-use Rattle.classes.specs.Tests.{testCount, classTest, bitOf}
+use Rattle.classes.specs.Tests.{testCount, classTest, bitOf, Answers}
 
 same-eq : (a b : Bool) → T (sameTruth a b) → a ≡ b
 same-eq true true t = refl
@@ -74,3 +74,6 @@ module _ (xs : List ℕ) (class b : ℕ) (t : sound xs ≡ true) (h : b < length
 
   pub classed : bitOf class (getD xs b 0) ≡ classTest class b
   classed = classedBy (ltb class testCount) refl
+
+pub answering : (xs : List ℕ) → sound xs ≡ true → length xs ≡ 256 → Answers xs
+answering xs t e = record { each = λ class b h. classed xs class b t (rw e h) }

@@ -1,6 +1,9 @@
 -- The tests on a byte that the class table answers, by number, and a bit of a number.
-use Prim.Native.Nat.{ℕ, _/_, _%_, _^_}
-use mathlib.Core.Bool.{Bool, false}
+use Prim.Native.Nat.{ℕ, _/_, _%_, _^_, _<_}
+use mathlib.Core.Path.{_≡_}
+use mathlib.Core.List.{List}
+use lib.ListN.{getD}
+use mathlib.Core.Bool.{Bool, true, false}
 use lib.Dec.{eqb, ltb}
 use Rattle.meaning.specs.Choice.{pick, both}
 use Rattle.meaning.specs.Classes.{inClass, digit, upper, lower, alphabetic, blank, isBlankByte}
@@ -25,3 +28,7 @@ classTest class b =
 -- a test's bit of an entry, the lowest being bit 0; there are no bits but those of the tests
 unfoldable pub bitOf : ℕ → ℕ → Bool
 bitOf class entry = both (ltb class testCount) (eqb (entry / 2 ^ class % 2) 1)
+
+-- a table whose entries answer every test
+pub record Answers (table : List ℕ) : Type 0 where
+  pub each : (class b : ℕ) → b < 256 → bitOf class (getD table b 0) ≡ classTest class b

@@ -2,7 +2,7 @@
 ghost use mathlib.Core.Path.{_≡_};
 ghost use Rattle.meaning.specs.Classes.{inClass, digit, alphabetic, isBlankByte};
 ghost use Rattle.meaning.specs.Allowed.{wordByte, nameByte};
-ghost use Rattle.classes.specs.Tests.{classTest, bitOf};
+ghost use Rattle.classes.specs.Tests.{classTest, bitOf, Answers};
 
 // Bits 0 to 4: IsDigit, IsUpper, IsLower, IsLetter, IsBlank. Bit 5: letter or digit. Bit 6: a byte of a name after its first.
 // Bit 7: blank between tokens.
@@ -266,7 +266,7 @@ const CLASSES: [u8; 256] = [
 ];
 
 // A bit of an entry; there are eight.
-fn bit(entry: u8, class: u8) -> bool
+pub fn bit(entry: u8, class: u8) -> bool
     ensures { λ r. ⌜ r ≡ bitOf class entry ⌝ }
 {
     if class < 8 {
@@ -274,6 +274,13 @@ fn bit(entry: u8, class: u8) -> bool
     } else {
         false
     }
+}
+
+// The table, for a caller that asks of many bytes.
+pub fn class_table() -> [u8; 256]
+    ensures { λ r. ⌜ Answers r ⌝ }
+{
+    CLASSES
 }
 
 // Whether a byte passes the test with a number.

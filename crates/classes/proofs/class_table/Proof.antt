@@ -1,0 +1,14 @@
+-- `classes::class_table` meets its contract: the table's rule is one test over all of its entries, which antt computes.
+use borrow.Author.Needs.{needs}
+use mathlib.Core.Path.{refl}
+use Rattle.classes.specs.Tests.{bitOf}
+use Rattle.classes.proofs.Table.{answering}
+use Rattle.classes.proofs.class_table.Statement.{statement}
+use Rattle.classes.proofs.class_table.Tie as tie
+
+returns : tie.Need-returns
+unfolding bitOf
+returns c = answering _ refl refl
+
+pub class-table-spec : {M : Type 1} → statement M
+class-table-spec = tie.close (tie.spec returns)

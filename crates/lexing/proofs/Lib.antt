@@ -1,0 +1,8 @@
+-- Laws of the tokens at places of a text.
+pub mod Places
+pub mod Gaps
+pub mod Words
+pub mod Strings
+pub mod Showing
+pub mod Onward
+pub mod Stream

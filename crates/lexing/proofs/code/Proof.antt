@@ -1,0 +1,93 @@
+-- `lexing::code` meets its contract: the code from the start on is that from here.
+use Rattle.lexing.proofs.code.Statement.{statement}
+use Rattle.lexing.proofs.code.Tie as tie
+use Rattle.lexing.proofs.code.Reads as reads
+use Rattle.lexing.proofs.code.Lts as lts
+use Rattle.classes.proofs.is_digit.Reads as is-digit-reads
+use Prim.Native.Nat.{_-_, _≤_}
+use mathlib.Core.Path.{refl, sym, _∙_}
+use native.Mathlib.Omega.{arith}
+use borrow.Author.Needs.{needs}
+use borrow.Author.Tests.{not-true, not-false}
+use lib.ListN.{length, getD}
+use Rattle.lexing.proofs.Strings.{is-digit, digit-value, Coding, code-goes, code-breaks, code-stops, code-ends}
+
+abbrev Inv-loop : tie.InvT-loop
+Inv-loop text from first value₀ at₀ value at = Coding text first from value at
+
+abbrev μ-loop : tie.MeasureT-loop
+μ-loop text from first value₀ at₀ value at = length text - at
+
+loop-holds : tie.Need-loop-holds Inv-loop μ-loop
+loop-holds c = record { same = λ characters. refl; small = c .before .pre .0; onward = omega arith; inside = c .before .pre .1 }
+
+shared-slice-read-byte : tie.Need-shared-slice-read-byte Inv-loop μ-loop
+shared-slice-read-byte c = omega arith
+
+is-digit-requires : tie.Need-is-digit-requires Inv-loop μ-loop
+is-digit-requires c κs = search needs
+
+cast-t12 : tie.Need-cast-t12 Inv-loop μ-loop
+cast-t12 c = record { fits = c .before .before .before .before .loop .inv .small }
+
+returns : tie.Need-returns Inv-loop μ-loop
+returns c =
+    code-stops _ _ _ _ _ (c .before .before .before .before .loop .inv) (c .before .before .before .loop-test .taken) (sym (c .before .is-digit .ensures) ∙ not-true _ (c .if1 .taken))
+
+mul-value : tie.Need-mul-value Inv-loop μ-loop
+mul-value c = omega arith
+
+sub-value : tie.Need-sub-value Inv-loop μ-loop
+sub-value c = is-digit _ (sym (c .before .is-digit .ensures) ∙ not-false _ (c .if1 .left)) .low
+
+cast-value : tie.Need-cast-value Inv-loop μ-loop
+cast-value c =
+    omega
+    (arith, digit-value (getD (c .before .before .before .before .before .before .args .text .now) (c .before .before .before .before .loop .at) 0) (sym (c .before .is-digit .ensures) ∙ not-false _ (c .if1 .left)))
+
+add-value : tie.Need-add-value Inv-loop μ-loop
+add-value c =
+    omega
+    (arith, digit-value (getD (c .before .before .before .before .before .before .args .text .now) (c .before .before .before .before .loop .at) 0) (sym (c .before .is-digit .ensures) ∙ not-false _ (c .if1 .left)))
+
+add-at : tie.Need-add-at Inv-loop μ-loop
+add-at c = omega arith
+
+returns-2 : tie.Need-returns-2 Inv-loop μ-loop
+returns-2 c =
+    code-breaks _ _ _ _ _ (c .before .before .before .before .before .loop .inv) (c .before .before .before .before .loop-test .taken) (sym (c .before .before .is-digit .ensures) ∙ not-false _ (c .before .if1 .left)) (c .if2 .taken)
+
+loop-less : tie.Need-loop-less Inv-loop μ-loop
+loop-less c = omega arith
+
+loop-again : tie.Need-loop-again Inv-loop μ-loop
+loop-again c =
+    code-goes _ _ _ _ _ (c .before .before .before .before .before .loop .inv) (c .before .before .before .before .loop-test .taken) (sym (c .before .before .is-digit .ensures) ∙ not-false _ (c .before .if1 .left)) (omega arith)
+
+cast-t14 : tie.Need-cast-t14 Inv-loop μ-loop
+cast-t14 c = record { fits = c .before .loop .inv .small }
+
+returns-3 : tie.Need-returns-3 Inv-loop μ-loop
+returns-3 c = code-ends _ _ _ _ _ (c .before .loop .inv) (c .loop-test .left)
+
+pub code-spec : {M : Type 1} → statement M
+code-spec =
+    tie.close
+    (tie.spec
+    Inv-loop
+    μ-loop
+    loop-holds
+    shared-slice-read-byte
+    is-digit-requires
+    cast-t12
+    returns
+    mul-value
+    sub-value
+    cast-value
+    add-value
+    add-at
+    returns-2
+    loop-less
+    loop-again
+    cast-t14
+    returns-3)

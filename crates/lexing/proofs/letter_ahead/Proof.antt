@@ -1,0 +1,25 @@
+-- `lexing::letter_ahead` meets its contract.
+use borrow.Author.Needs.{needs}
+use Rattle.lexing.proofs.letter_ahead.Statement.{statement}
+use Rattle.lexing.proofs.letter_ahead.Tie as tie
+use Rattle.lexing.proofs.letter_ahead.Reads as reads
+use Rattle.lexing.proofs.letter_ahead.Lts as lts
+use Rattle.classes.proofs.is_letter.Reads as is-letter-reads
+use Rattle.lexing.proofs.Places.{ahead-here, ahead-nothing}
+use mathlib.Core.Path.{_∙_}
+
+shared-slice-read-next : tie.Need-shared-slice-read-next
+shared-slice-read-next c = search needs
+
+is-letter-requires : tie.Need-is-letter-requires
+is-letter-requires c κs = search needs
+
+returns : tie.Need-returns
+returns c = c .is-letter .ensures ∙ ahead-here _ _ _ (c .before .before .if1 .taken)
+
+returns-2 : tie.Need-returns-2
+returns-2 c = ahead-nothing _ _ _ (c .if1 .left)
+
+pub letter-ahead-spec : {M : Type 1} → statement M
+letter-ahead-spec =
+    tie.close (tie.spec shared-slice-read-next is-letter-requires returns returns-2)

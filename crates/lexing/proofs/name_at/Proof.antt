@@ -1,0 +1,17 @@
+-- `lexing::name_at` meets its contract.
+use borrow.Author.Needs.{needs}
+use Rattle.lexing.proofs.name_at.Statement.{statement}
+use Rattle.lexing.proofs.name_at.Tie as tie
+use Rattle.lexing.proofs.name_at.Reads as reads
+use Rattle.lexing.proofs.name_at.Lts as lts
+use Rattle.lexing.proofs.run_end.Reads as run-end-reads
+use Rattle.lexing.proofs.Showing.{shows-name}
+
+run-end-requires : tie.Need-run-end-requires
+run-end-requires c κs = search needs
+
+returns : tie.Need-returns
+returns c = shows-name _ _ _ (c .run-end .ensures)
+
+pub name-at-spec : {M : Type 1} → statement M
+name-at-spec = tie.close (tie.spec run-end-requires returns)

@@ -1,0 +1,25 @@
+-- `lexing::variable_at` meets its contract.
+use borrow.Author.Needs.{needs}
+use Rattle.lexing.proofs.variable_at.Statement.{statement}
+use Rattle.lexing.proofs.variable_at.Tie as tie
+use Rattle.lexing.proofs.variable_at.Reads as reads
+use Rattle.lexing.proofs.variable_at.Lts as lts
+use Rattle.lexing.proofs.run_end.Reads as run-end-reads
+use Rattle.lexing.proofs.word_token.Reads as word-token-reads
+use native.Mathlib.Omega.{arith}
+use Rattle.lexing.proofs.Showing.{shows-word, word-some}
+
+run-end-requires : tie.Need-run-end-requires
+run-end-requires c κs = search needs
+
+word-token-requires : tie.Need-word-token-requires
+word-token-requires c κs =
+    let r = c .run-end .ensures in
+    let l = c .before .before .pre .inside in
+    (word-some _ _ _ (c .before .before .pre) r, r .inside (omega arith))
+
+returns : tie.Need-returns
+returns c = shows-word _ _ _ _ (c .before .run-end .ensures) (c .word-token .ensures)
+
+pub variable-at-spec : {M : Type 1} → statement M
+variable-at-spec = tie.close (tie.spec run-end-requires word-token-requires returns)

@@ -1,0 +1,39 @@
+-- `lexing::word_token` meets its contract.
+use borrow.Author.Needs.{needs}
+use Rattle.lexing.proofs.word_token.Statement.{statement}
+use Rattle.lexing.proofs.word_token.Tie as tie
+use Rattle.lexing.proofs.word_token.Reads as reads
+use Rattle.lexing.proofs.word_token.Lts as lts
+use mathlib.Core.Path.{refl, ap}
+use native.Mathlib.Omega.{arith}
+use Rattle.meaning.specs.Tokens.{word}
+use Rattle.lexing.proofs.Words.{variable-word, letter-alone, other-word}
+
+shared-slice-read-byte : tie.Need-shared-slice-read-byte
+shared-slice-read-byte c = let p = c .before .pre in omega arith
+
+add-if1 : tie.Need-add-if1
+add-if1 c = omega arith
+
+add-if1-2 : tie.Need-add-if1-2
+add-if1-2 c = omega arith
+
+returns : tie.Need-returns
+returns c = (refl, letter-alone _ _ _ (c .before .before .pre .0) (c .before .before .pre .1) (c .if1 .taken))
+
+returns-2 : tie.Need-returns-2
+returns-2 c =
+    (variable-word _ _ _ (c .before .before .before .pre .0) (c .before .before .before .pre .1) 115 (c .if2 .taken), (refl, refl, c .before .if1 .left))
+
+returns-3 : tie.Need-returns-3
+returns-3 c =
+    (variable-word _ _ _ (c .before .before .before .before .pre .0) (c .before .before .before .before .pre .1) 101 (c .if3 .taken), (refl, refl, c .before .before .if1 .left))
+
+returns-4 : tie.Need-returns-4
+returns-4 c =
+    (refl, other-word _ _ _ (c .before .before .before .before .pre .0) (c .before .before .before .before .pre .1) (c .before .if2 .left) (c .if3 .left) (c .before .before .if1 .left))
+
+pub word-token-spec : {M : Type 1} → statement M
+word-token-spec =
+    tie.close
+    (tie.spec shared-slice-read-byte add-if1 add-if1-2 returns returns-2 returns-3 returns-4)

@@ -1,0 +1,408 @@
+// The tokens of a table text.
+use classes::in_class;
+use classes::is_blank;
+use classes::is_digit;
+use classes::is_letter;
+ghost use mathlib.Core.Path.{_≡_};
+ghost use mathlib.Core.List.{[]};
+ghost use Prim.Native.Nat.{suc, _+_, _≤_, _<_};
+ghost use lib.Dec.{eqb};
+ghost use lib.ListN.{length, getD, drop};
+ghost use lib.Seq.{slice};
+ghost use Rattle.classes.specs.Tests.{classTest};
+ghost use Rattle.meaning.specs.Classes.{inClass, alphabetic};
+ghost use Rattle.meaning.specs.Tokens as Tokens;
+ghost use Rattle.meaning.specs.Choice.{Bytes};
+ghost use Rattle.meaning.specs.Allowed.{wordByte, nameByte};
+ghost use Rattle.lexing.specs.View.{modeOf, gapOf, gappedOf, skippedOf, RunsTo, LetterAt, Stands, quotationAt, tokenOf, Sound, Shows};
+
+// How a word is read: outside sentences and directly after `<` by the rule of function names, inside a sentence by that of variables.
+pub enum Mode {
+    Outside,
+    Inside,
+    Naming,
+}
+
+// A part of the text.
+pub struct Span {
+    pub from: usize,
+    pub past: usize,
+}
+
+pub enum Token {
+    // A function's name.
+    Name(Span),
+    // An s-variable and an e-variable, by their identifiers.
+    Symbol(Span),
+    Part(Span),
+    // A word of a sentence that is no variable.
+    Word,
+    // A string, by how many characters it has.
+    Quoted(usize),
+    // A byte that stands for itself.
+    Sign(u8),
+    End,
+    Malformed,
+}
+
+// A token with the offset of its first byte and that of the byte after its last.
+pub struct Placed {
+    pub token: Token,
+    pub place: usize,
+    pub past: usize,
+}
+
+// Between tokens, or in the comment whose `/` stands at a place: its `*` comes next, inside it, inside it right after a `*`.
+enum Gap {
+    Between,
+    Opening(usize),
+    Commented(usize),
+    Starred(usize),
+}
+
+// Whether the byte at a place belongs to the gap.
+enum Gapped {
+    Goes(Gap),
+    Stays,
+}
+
+// A token begins at a place, or the comment that begins at a place has no end in the text, which ends at another.
+enum Skipped {
+    Found(usize),
+    Unclosed(usize, usize),
+}
+
+fn byte_ahead(text: &[u8], at: usize, byte: u8) -> bool
+    ensures { λ r. ⌜ r ≡ Tokens.ahead (eqb byte) (drop at (now (text .entry))) ⌝ }
+{
+    if at < text.len() {
+        let next = text[at];
+        byte == next
+    } else {
+        false
+    }
+}
+
+fn letter_ahead(text: &[u8], at: usize) -> bool
+    ensures { λ r. ⌜ r ≡ Tokens.ahead (inClass alphabetic) (drop at (now (text .entry))) ⌝ }
+{
+    if at < text.len() {
+        let next = text[at];
+        is_letter(next)
+    } else {
+        false
+    }
+}
+
+// Between tokens blanks go on and `/*` opens a comment.
+fn gap_between(text: &[u8], at: usize) -> Gapped
+    requires { ⌜ at < length (now text) ⌝ }
+    ensures { λ r. ⌜ gappedOf r ≡ Tokens.gapAfter Tokens.between at (getD (now (text .entry)) at 0) (drop (suc at) (now (text .entry))) ⌝ }
+{
+    let byte = text[at];
+    if is_blank(byte) {
+        return Gapped::Goes(Gap::Between);
+    }
+    if byte == 47 {
+        if byte_ahead(text, at + 1, 42) {
+            return Gapped::Goes(Gap::Opening(at));
+        }
+    }
+    Gapped::Stays
+}
+
+fn gap_after(gap: Gap, text: &[u8], at: usize) -> Gapped
+    requires { ⌜ at < length (now text) ⌝ }
+    ensures { λ r. ⌜ gappedOf r ≡ Tokens.gapAfter (gapOf gap) at (getD (now (text .entry)) at 0) (drop (suc at) (now (text .entry))) ⌝ }
+{
+    let byte = text[at];
+    match gap {
+        Gap::Between => gap_between(text, at),
+        Gap::Opening(slash) => Gapped::Goes(Gap::Commented(slash)),
+        Gap::Commented(slash) => {
+            if byte == 42 {
+                Gapped::Goes(Gap::Starred(slash))
+            } else {
+                Gapped::Goes(Gap::Commented(slash))
+            }
+        }
+        Gap::Starred(slash) => {
+            if byte == 47 {
+                Gapped::Goes(Gap::Between)
+            } else if byte == 42 {
+                Gapped::Goes(Gap::Starred(slash))
+            } else {
+                Gapped::Goes(Gap::Commented(slash))
+            }
+        }
+    }
+}
+
+// Where the text ends in a gap.
+fn gap_end(gap: Gap, at: usize) -> Skipped
+    ensures { λ r. ⌜ ((text : Bytes) → length text ≤ at → skippedOf text r ≡ Tokens.skippedEnd (gapOf gap) at) ⌝ }
+{
+    match gap {
+        Gap::Between => Skipped::Found(at),
+        Gap::Opening(slash) => Skipped::Unclosed(slash, at),
+        Gap::Commented(slash) => Skipped::Unclosed(slash, at),
+        Gap::Starred(slash) => Skipped::Unclosed(slash, at),
+    }
+}
+
+// Passes blanks and comments.
+fn skip(text: &[u8], from: usize) -> Skipped
+    ensures { λ r. ⌜ skippedOf (now (text .entry)) r ≡ Tokens.skip Tokens.between from (drop from (now (text .entry))) ⌝ }
+{
+    let mut at = from;
+    let mut gap = Gap::Between;
+    while at < text.len() {
+        match gap_after(gap, text, at) {
+            Gapped::Goes(next) => {
+                gap = next;
+            }
+            Gapped::Stays => {
+                return Skipped::Found(at);
+            }
+        }
+        at += 1;
+    }
+    gap_end(gap, at)
+}
+
+// The place after the bytes that pass a test of the class table, as long as they go.
+fn run_end(text: &[u8], from: usize, class: u8) -> usize
+    ensures { λ r. ⌜ RunsTo (now (text .entry)) (classTest class) from r ⌝ }
+{
+    let mut at = from;
+    while at < text.len() {
+        let byte = text[at];
+        if !in_class(byte, class) {
+            return at;
+        }
+        at += 1;
+    }
+    at
+}
+
+// A variable is `s` or `e` and an identifier of at least one byte.
+fn word_token(text: &[u8], at: usize, past: usize) -> Token
+    requires { ⌜ (at < past) × (past ≤ length (now text)) ⌝ }
+    ensures { λ r. ⌜ (tokenOf (now (text .entry)) r at past ≡ Tokens.word (slice at past (now (text .entry)))) × Sound (now (text .entry)) r at past ⌝ }
+{
+    let byte = text[at];
+    let identifier = Span {
+        from: at + 1,
+        past: past,
+    };
+    if past <= at + 1 {
+        return Token::Word;
+    }
+    if byte == 115 {
+        return Token::Symbol(identifier);
+    }
+    if byte == 101 {
+        return Token::Part(identifier);
+    }
+    Token::Word
+}
+
+fn name_at(text: &[u8], at: usize) -> Placed
+    ensures { λ r. ⌜ Shows (now (text .entry)) r (Tokens.nameToken at (Tokens.run nameByte [] at (drop at (now (text .entry)))) .first) ⌝ }
+{
+    let past = run_end(text, at, 6);
+    Placed {
+        token: Token::Name(Span {
+            from: at,
+            past: past,
+        }),
+        place: at,
+        past: past,
+    }
+}
+
+fn variable_at(text: &[u8], at: usize) -> Placed
+    requires { ⌜ LetterAt (now text) at ⌝ }
+    ensures { λ r. ⌜ Shows (now (text .entry)) r (Tokens.wordToken at (Tokens.run wordByte [] at (drop at (now (text .entry)))) .first) ⌝ }
+{
+    let past = run_end(text, at, 5);
+    Placed {
+        token: word_token(text, at, past),
+        place: at,
+        past: past,
+    }
+}
+
+fn word_at(text: &[u8], at: usize, mode: Mode) -> Placed
+    requires { ⌜ LetterAt (now text) at ⌝ }
+    ensures { λ r. ⌜ Shows (now (text .entry)) r (Tokens.wordAt (modeOf mode) at (drop at (now (text .entry))) .first) ⌝ }
+{
+    match mode {
+        Mode::Outside => name_at(text, at),
+        Mode::Inside => variable_at(text, at),
+        Mode::Naming => name_at(text, at),
+    }
+}
+
+// What stands at a place of a string: a character, a line end that gives nothing, the closing quote, or what may not stand there; with the place after it.
+pub enum Character {
+    Given(u8, usize),
+    Nothing(usize),
+    Closed(usize),
+    Broken(usize),
+}
+
+// A code: decimal digits as long as they go, from the value of those before.
+fn code(text: &[u8], from: usize, first: usize) -> Character
+    requires { ⌜ (first < 256) × (from ≤ length (now text)) ⌝ }
+    ensures { λ r. ⌜ Stands (now (text .entry)) (Tokens.coded first) from from r ⌝ }
+{
+    let mut value = first;
+    let mut at = from;
+    while at < text.len() {
+        let byte = text[at];
+        if !is_digit(byte) {
+            return Character::Given(value as u8, at);
+        }
+        value = value * 10 + (byte - 48) as usize;
+        at += 1;
+        if 255 < value {
+            return Character::Broken(at);
+        }
+    }
+    Character::Given(value as u8, at)
+}
+
+// After a `\`.
+fn escape(text: &[u8], at: usize) -> Character
+    ensures { λ r. ⌜ Stands (now (text .entry)) Tokens.escaped at at r ⌝ }
+{
+    if text.len() <= at {
+        return Character::Broken(at);
+    }
+    let byte = text[at];
+    let past = at + 1;
+    match byte {
+        34 | 39 | 92 => Character::Given(byte, past),
+        110 => Character::Given(10, past),
+        116 => Character::Given(9, past),
+        10 => Character::Nothing(past),
+        _ => {
+            if is_digit(byte) {
+                code(text, past, (byte - 48) as usize)
+            } else {
+                Character::Broken(past)
+            }
+        }
+    }
+}
+
+pub fn next_character(text: &[u8], at: usize) -> Character
+    ensures { λ r. ⌜ Stands (now (text .entry)) Tokens.plain at (at + 1) r ⌝ }
+{
+    if text.len() <= at {
+        return Character::Broken(at);
+    }
+    let byte = text[at];
+    let past = at + 1;
+    match byte {
+        39 => Character::Closed(past),
+        34 => Character::Broken(past),
+        92 => escape(text, past),
+        _ => Character::Given(byte, past),
+    }
+}
+
+// A string from its opening quote on; all its faults stand there.
+fn quoted_at(text: &[u8], place: usize) -> Placed
+    requires { ⌜ place < length (now text) ⌝ }
+    ensures { λ r. ⌜ Shows (now (text .entry)) r (Tokens.quotedAt place (quotationAt (now (text .entry)) place) .first) ⌝ }
+{
+    let mut at = place + 1;
+    let mut count = 0;
+    loop {
+        match next_character(text, at) {
+            Character::Given(_, past) => {
+                at = past;
+                count += 1;
+            }
+            Character::Nothing(past) => {
+                at = past;
+            }
+            Character::Closed(past) => {
+                return Placed {
+                    token: Token::Quoted(count),
+                    place: place,
+                    past: past,
+                };
+            }
+            Character::Broken(past) => {
+                return Placed {
+                    token: Token::Malformed,
+                    place: place,
+                    past: past,
+                };
+            }
+        }
+    }
+}
+
+// `<` has a letter right after it.
+fn bracket_at(text: &[u8], at: usize) -> Placed
+    requires { ⌜ at < length (now text) ⌝ }
+    ensures { λ r. ⌜ Shows (now (text .entry)) r (Tokens.bracketAt at (drop (suc at) (now (text .entry))) (Tokens.ahead (inClass alphabetic) (drop (suc at) (now (text .entry)))) .first) ⌝ }
+{
+    if letter_ahead(text, at + 1) {
+        Placed {
+            token: Token::Sign(60),
+            place: at,
+            past: at + 1,
+        }
+    } else {
+        Placed {
+            token: Token::Malformed,
+            place: at,
+            past: at + 1,
+        }
+    }
+}
+
+// The token that begins at a place.
+fn token_at(text: &[u8], at: usize, mode: Mode) -> Placed
+    ensures { λ r. ⌜ Shows (now (text .entry)) r (Tokens.tokenAt (modeOf mode) at (drop at (now (text .entry))) .first) ⌝ }
+{
+    if text.len() <= at {
+        return Placed {
+            token: Token::End,
+            place: at,
+            past: at,
+        };
+    }
+    let byte = text[at];
+    if is_letter(byte) {
+        return word_at(text, at, mode);
+    }
+    match byte {
+        39 => quoted_at(text, at),
+        60 => bracket_at(text, at),
+        _ => Placed {
+            token: Token::Sign(byte),
+            place: at,
+            past: at + 1,
+        },
+    }
+}
+
+// The first token from a place on.
+pub fn lex(text: &[u8], from: usize, mode: Mode) -> Placed
+    ensures { λ r. ⌜ Shows (now (text .entry)) r (Tokens.lex (modeOf mode) from (drop from (now (text .entry))) .first) ⌝ }
+{
+    match skip(text, from) {
+        Skipped::Found(at) => token_at(text, at, mode),
+        Skipped::Unclosed(slash, past) => Placed {
+            token: Token::Malformed,
+            place: slash,
+            past: past,
+        },
+    }
+}

@@ -1,0 +1,360 @@
+-- Listing the tape of an allowed tree word by word gives meaning's listing of the tree.
+use Prim.Native.Nat.{ℕ, pred, _+_, _*_, _/_, _%_, _<_, _≤_}
+use native.Mathlib.Omega.{arith}
+use native.Mathlib.Nat.{not-suc-le-zero}
+use mathlib.Core.Path.{_≡_, refl, sym, _∙_, ap}
+use mathlib.Core.Bool.{Bool, true, false}
+use mathlib.Core.List.{List, [], _∷_, _++_, append-assoc}
+use borrow.Author.Tests.{lt-ltb, le-ltb, lt-leb, ne-eqb}
+use lib.Dec.{T, ltb, leb, eqb, ltb→lt}
+use lib.ListN.{length, length-append}
+use Rattle.meaning.specs.Choice.{Bytes, Name, pick, every}
+use Rattle.meaning.specs.Classes.{Class, classNumber, className, digit, upper, lower, alphabetic, blank}
+use Rattle.meaning.specs.Tree.{character, symbol, Element, letter, part, Condition, Expression, Sentence, Function, Table}
+use Rattle.meaning.specs.Allowed.{maxName, isByte, spelledIdentifier, spelledElement, allowedSentence, someSentence, allowedFunction, allowed}
+use Rattle.meaning.specs.Tape.{tapeWord, symbolKind, partKind, conditionKind, equalsKind, closeKind, nextKind, endKind, functionKind, callKind, named, patternTape, truthNumber, conditionTape, conditionsTape, expressionTape, sentenceTape, sentencesTape, functionTape, tape}
+use Rattle.meaning.specs.Grammar.{truthByte}
+use Rattle.meaning.specs.Listing.{Quoted, unquoted, inString, afterCode, closeQuote, isCoded, afterCharacter, quotedCharacter, symbolText, partText, patternText, conditionText, conditionsText, expressionText, withoutBlank, sentenceText, sentencesText, functionText, listing}
+use Rattle.meaning.proofs.laws.Passing.{both-left, both-right, every-head, every-tail}
+use Rattle.listing.specs.declared.State.{State}
+use Rattle.listing.specs.declared.State.the-variants.{Start, Plain, InString, AfterCode, Name as NameLeft, Condition as ConditionLeft, Header}
+use Rattle.listing.specs.Steps.{Step, step, ending, parting, characterStep, classText, truthText, partedStep, endedStep, kindStep, itemStep, copyStep, wordStep, listFrom}
+use Rattle.listing.proofs.Spelled.{Short, short-identifier, Spelled, spelledEnd, spelledCharacter, spelledSymbol, spelledPart, spelledCall, Shorts, noCondition, oneMore, Written, sentence-written, short-name}
+
+-- ONE WORD
+
+-- how the listing stands after an item
+abbrev standing : Quoted → State
+standing unquoted = Plain
+standing inString = InString
+standing afterCode = AfterCode
+
+list-word : (s : State) (w : ℕ) (ws : List ℕ) {x : Step} → wordStep s w ≡ x → listFrom s (w ∷ ws) ≡ x .bytes ++ listFrom (x .state) ws
+unfolding listFrom
+list-word s w ws e = rw e
+
+item-word : (q : Quoted) (w : ℕ) → wordStep (standing q) w ≡ itemStep (standing q) w
+item-word unquoted w = refl
+item-word inString w = refl
+item-word afterCode w = refl
+
+kind-item : (s : State) (kind carried : ℕ) → 0 < kind → carried < 256 → itemStep s (tapeWord kind carried) ≡ kindStep s kind carried
+kind-item s kind carried h l =
+    let high : ltb (tapeWord kind carried) 256 ≡ false = le-ltb (tapeWord kind carried) 256 (omega arith) in
+    let above : tapeWord kind carried / 256 ≡ kind = omega arith in
+    let below : tapeWord kind carried % 256 ≡ carried = omega arith in
+    rw (high, above, below)
+
+-- what stands after an item, whether or not a string is open there
+record Follows (rest : List ℕ) (after : Bytes) : Type 0 where
+  at : (q : Quoted) → listFrom (standing q) rest ≡ closeQuote q ++ after
+
+-- bytes right after an item
+ended-follows : (w : ℕ) (bytes : Bytes) (t : State) → ((s : State) → itemStep s w ≡ endedStep s bytes t) → (ws : List ℕ) → Follows (w ∷ ws) (bytes ++ listFrom t ws)
+ended-follows w bytes t is ws = record { at = λ q. list-word (standing q) w ws (item-word q w ∙ is (standing q)) ∙ go q }
+  where
+    go : (q : Quoted) → (ending (standing q) ++ bytes) ++ listFrom t ws ≡ closeQuote q ++ (bytes ++ listFrom t ws)
+    go unquoted = refl
+    go inString = refl
+    go afterCode = refl
+
+-- a byte after the blank between items
+parted-follows : (w b : ℕ) (t : State) → ((s : State) → itemStep s w ≡ partedStep s b t) → (ws : List ℕ) → Follows (w ∷ ws) (32 ∷ b ∷ listFrom t ws)
+parted-follows w b t is ws = record { at = λ q. list-word (standing q) w ws (item-word q w ∙ is (standing q)) ∙ go q }
+  where
+    go : (q : Quoted) → (parting (standing q) ++ b ∷ []) ++ listFrom t ws ≡ closeQuote q ++ (32 ∷ b ∷ listFrom t ws)
+    go unquoted = refl
+    go inString = refl
+    go afterCode = refl
+
+equals-follows : (ws : List ℕ) → Follows (tapeWord equalsKind 0 ∷ ws) (32 ∷ 61 ∷ listFrom Plain ws)
+equals-follows = parted-follows (tapeWord equalsKind 0) 61 Plain (λ s. refl)
+
+close-follows : (ws : List ℕ) → Follows (tapeWord closeKind 0 ∷ ws) (62 ∷ listFrom Plain ws)
+close-follows = ended-follows (tapeWord closeKind 0) (62 ∷ []) Plain (λ s. refl)
+
+next-follows : (ws : List ℕ) → Follows (tapeWord nextKind 0 ∷ ws) (59 ∷ 10 ∷ listFrom Start ws)
+next-follows = ended-follows (tapeWord nextKind 0) (59 ∷ 10 ∷ []) Start (λ s. refl)
+
+end-follows : (ws : List ℕ) → Follows (tapeWord endKind 0 ∷ ws) (59 ∷ 10 ∷ 125 ∷ 10 ∷ listFrom Start ws)
+end-follows = ended-follows (tapeWord endKind 0) (59 ∷ 10 ∷ 125 ∷ 10 ∷ []) Start (λ s. refl)
+
+-- NAMES
+
+-- a state that copies so many bytes, and after the last one writes a tail
+abbrev Copies : (ℕ → State) → Bytes → State → Type 0
+Copies more tail after = (n w : ℕ) → wordStep (more n) w ≡ copyStep n (w % 256) (more (pred n)) tail after
+
+copied : (more : ℕ → State) (tail : Bytes) (after : State) → Copies more tail after → (x : Name) → 0 < length x → T (every isByte x) → (rest : List ℕ) →
+    listFrom (more (length x)) (x ++ rest) ≡ x ++ (tail ++ listFrom after rest)
+copied more tail after is [] h t rest = absurd (not-suc-le-zero h)
+copied more tail after is (b ∷ []) h t rest =
+    let byte : b % 256 ≡ b = omega (arith, ltb→lt b 256 (every-head isByte b [] t)) in
+    list-word (more 1) b rest (is 1 b) ∙ rw byte
+copied more tail after is (b ∷ c ∷ x) h t rest =
+    let byte : b % 256 ≡ b = omega (arith, ltb→lt b 256 (every-head isByte b (c ∷ x) t)) in
+    let more-left : leb (length (b ∷ c ∷ x)) 1 ≡ false = lt-leb (length (b ∷ c ∷ x)) 1 (omega arith) in
+    let one-less : pred (length (b ∷ c ∷ x)) ≡ length (c ∷ x) = omega arith in
+    list-word (more (length (b ∷ c ∷ x))) b (c ∷ (x ++ rest)) (is (length (b ∷ c ∷ x)) b)
+    ∙ rw (more-left, byte, one-less) (ap (λ (l : Bytes). b ∷ l) (copied more tail after is (c ∷ x) (omega arith) (every-tail isByte b (c ∷ x) t) rest))
+
+-- a kind of word that begins a variable or a call by a byte
+record Begins (kind b : ℕ) : Type 0 where
+  some : 0 < kind
+  is : (s : State) (n : ℕ) → kindStep s kind n ≡ partedStep s b (NameLeft n)
+
+named-item : {kind b : ℕ} → Begins kind b → {x : Name} → Short x → (s : State) → itemStep s (tapeWord kind (length x)) ≡ partedStep s b (NameLeft (length x))
+named-item {kind} k {x} d s = kind-item s kind (length x) (k .some) (omega (arith, d .short)) ∙ k .is s (length x)
+
+named-follows : {kind b : ℕ} → Begins kind b → {x : Name} → Short x → (ws : List ℕ) → Follows (named kind x ++ ws) (32 ∷ b ∷ (x ++ listFrom Plain ws))
+named-follows {kind} {b} k {x} d ws =
+    rw (← (copied NameLeft [] Plain (λ n w. refl) x (d .filled) (d .bytes) ws))
+    (parted-follows (tapeWord kind (length x)) b (NameLeft (length x)) (named-item k d) (x ++ ws))
+
+symbol-begins : Begins symbolKind 115
+symbol-begins = record { some = omega arith; is = λ s n. refl }
+
+part-begins : Begins partKind 101
+part-begins = record { some = omega arith; is = λ s n. refl }
+
+call-kind : (place : ℕ) (s : State) (n : ℕ) → kindStep s (callKind + place) n ≡ partedStep s 60 (NameLeft n)
+call-kind place s n =
+    rw (other 1 (omega arith), other 2 (omega arith), other 3 (omega arith), other 4 (omega arith), other 5 (omega arith), other 6 (omega arith), other 7 (omega arith), other 8 (omega arith))
+  where
+    other : (kind : ℕ) → kind < callKind → eqb (callKind + place) kind ≡ false
+    other kind h = ne-eqb (callKind + place) kind (λ e. omega arith)
+
+call-begins : (place : ℕ) → Begins (callKind + place) 60
+call-begins place = record { some = omega arith; is = call-kind place }
+
+-- ITEMS
+
+character-item : (s : State) (c : ℕ) → c < 256 → itemStep s c ≡ characterStep s c
+character-item s c h = rw (lt-ltb c 256 h)
+
+module _ (body rest : List ℕ) (text after : Bytes) where
+  -- a character, and what comes after it
+  character-then : (c : ℕ) → c < 256 → (q : Quoted) → listFrom (standing (afterCharacter q c)) (body ++ rest) ≡ text ++ after →
+      listFrom (standing q) (c ∷ (body ++ rest)) ≡ (quotedCharacter q c ++ text) ++ after
+  character-then c h q later =
+      list-word (standing q) c (body ++ rest) (item-word q c ∙ character-item (standing q) c h ∙ go q)
+      ∙ rw later (simp append-assoc)
+    where
+      state : (b : Bool) → pick b AfterCode InString ≡ standing (pick b afterCode inString)
+      state true = refl
+      state false = refl
+
+      go : (q : Quoted) → characterStep (standing q) c ≡ step (quotedCharacter q c) (standing (afterCharacter q c))
+      go unquoted = rw (state (isCoded unquoted c))
+      go inString = rw (state (isCoded inString c))
+      go afterCode = rw (state (isCoded afterCode c))
+
+  -- another item, and what comes after it
+  item-then : (item : List ℕ) (bytes : Bytes) → ((ws : List ℕ) → Follows (item ++ ws) (bytes ++ listFrom Plain ws)) →
+      listFrom Plain (body ++ rest) ≡ text ++ after → (q : Quoted) →
+      listFrom (standing q) ((item ++ body) ++ rest) ≡ (closeQuote q ++ (bytes ++ text)) ++ after
+  item-then item bytes follows later q =
+      rw (append-assoc item body rest) (follows (body ++ rest) .at q ∙ rw later (simp append-assoc))
+
+-- a pattern, and what follows it
+pattern-listed : (p : List Element) → T (every spelledElement p) → {rest : List ℕ} {after : Bytes} → Follows rest after → (q : Quoted) →
+    listFrom (standing q) (patternTape p ++ rest) ≡ patternText q p ++ after
+unfolding patternTape patternText every
+pattern-listed [] t f q = f .at q
+pattern-listed (letter (character c) ∷ es) t {rest} {after} f q =
+    character-then (patternTape es) rest (patternText (afterCharacter q c) es) after c (ltb→lt c 256 (both-left (isByte c) (every spelledElement es) t)) q
+    (pattern-listed es (both-right (isByte c) (every spelledElement es) t) f (afterCharacter q c))
+pattern-listed (letter (symbol x) ∷ es) t {rest} {after} f q =
+    item-then (patternTape es) rest (patternText unquoted es) after (named symbolKind x) (symbolText x)
+    (named-follows symbol-begins (short-identifier x (both-left (spelledIdentifier x) (every spelledElement es) t)))
+    (pattern-listed es (both-right (spelledIdentifier x) (every spelledElement es) t) f unquoted) q
+pattern-listed (part x ∷ es) t {rest} {after} f q =
+    item-then (patternTape es) rest (patternText unquoted es) after (named partKind x) (partText x)
+    (named-follows part-begins (short-identifier x (both-left (spelledIdentifier x) (every spelledElement es) t)))
+    (pattern-listed es (both-right (spelledIdentifier x) (every spelledElement es) t) f unquoted) q
+
+-- an expression, and what follows it
+expression-listed : {e : Expression} → Spelled e → {rest : List ℕ} {after : Bytes} → Follows rest after → (q : Quoted) →
+    listFrom (standing q) (expressionTape e ++ rest) ≡ expressionText q e ++ after
+unfolding expressionTape expressionText
+expression-listed spelledEnd f q = f .at q
+expression-listed (spelledCharacter {c = c} {e = e} h d) {rest} {after} f q =
+    character-then (expressionTape e) rest (expressionText (afterCharacter q c) e) after c h q (expression-listed d f (afterCharacter q c))
+expression-listed (spelledSymbol {x = x} {e = e} h d) {rest} {after} f q =
+    item-then (expressionTape e) rest (expressionText unquoted e) after (named symbolKind x) (symbolText x) (named-follows symbol-begins h) (expression-listed d f unquoted) q
+expression-listed (spelledPart {x = x} {e = e} h d) {rest} {after} f q =
+    item-then (expressionTape e) rest (expressionText unquoted e) after (named partKind x) (partText x) (named-follows part-begins h) (expression-listed d f unquoted) q
+expression-listed (spelledCall {place = place} {n = n} {a = a} {e = e} h da de) {rest} {after} f q =
+    item-then (expressionTape a ++ tapeWord closeKind 0 ∷ expressionTape e) rest (expressionText unquoted a ++ 62 ∷ expressionText unquoted e) after
+    (named (callKind + place) n) (32 ∷ 60 ∷ n) (named-follows (call-begins place) h)
+    (rw (append-assoc (expressionTape a) (tapeWord closeKind 0 ∷ expressionTape e) rest)
+    (expression-listed da (close-follows (expressionTape e ++ rest)) unquoted ∙ rw (expression-listed de f unquoted) (simp append-assoc))) q
+
+-- CONDITIONS
+
+class-named : (k : Class) → classText (classNumber k) ≡ className k
+class-named digit = refl
+class-named upper = refl
+class-named lower = refl
+class-named alphabetic = refl
+class-named blank = refl
+
+class-below : (k : Class) → classNumber k < 5
+class-below digit = omega arith
+class-below upper = omega arith
+class-below lower = omega arith
+class-below alphabetic = omega arith
+class-below blank = omega arith
+
+-- what a condition's word carries is read off it
+record Carries (count class : ℕ) (expected : Bool) (carried : ℕ) : Type 0 where
+  low : carried < 256
+  counted : carried / 10 ≡ count
+  classed : carried % 5 ≡ class
+  truth : truthText (carried / 5 % 2) ≡ truthByte expected
+
+carries : (count class : ℕ) (expected : Bool) → count ≤ maxName → class < 5 → Carries count class expected (count * 10 + truthNumber expected + class)
+carries count class true h k =
+    let bit : (count * 10 + 5 + class) / 5 % 2 ≡ 1 = omega arith in
+    record { low = omega arith; counted = omega arith; classed = omega arith; truth = rw bit }
+carries count class false h k =
+    let bit : (count * 10 + 0 + class) / 5 % 2 ≡ 0 = omega arith in
+    record { low = omega arith; counted = omega arith; classed = omega arith; truth = rw bit }
+
+-- `, <Predicate s`
+abbrev openingText : Class → Bytes
+openingText k = 44 ∷ 32 ∷ 60 ∷ (className k ++ 32 ∷ 115 ∷ [])
+
+condition-item : (s : State) {count : ℕ} (k : Class) {expected : Bool} {carried : ℕ} → Carries count (classNumber k) expected carried →
+    itemStep s (tapeWord conditionKind carried) ≡ endedStep s (openingText k) (ConditionLeft count (truthByte expected))
+condition-item s k {carried = carried} r =
+    kind-item s conditionKind carried (omega arith) (r .low) ∙ rw (r .classed, r .counted, r .truth, class-named k) (simp append-assoc)
+
+regrouped : (k x tail l : Bytes) → (k ++ 32 ∷ 115 ∷ []) ++ (x ++ (tail ++ l)) ≡ (k ++ (symbolText x ++ tail)) ++ l
+regrouped k x tail l = simp append-assoc
+
+-- what its word carries
+abbrev carriedBy : Condition → ℕ
+carriedBy c = length (c .variable) * 10 + truthNumber (c .expected) + classNumber (c .predicate)
+
+condition-word : (c : Condition) → Short (c .variable) → (s : State) →
+    itemStep s (tapeWord conditionKind (carriedBy c)) ≡ endedStep s (openingText (c .predicate)) (ConditionLeft (length (c .variable)) (truthByte (c .expected)))
+condition-word c d s =
+    condition-item s (c .predicate) (carries (length (c .variable)) (classNumber (c .predicate)) (c .expected) (d .short) (class-below (c .predicate)))
+
+condition-follows : (c : Condition) → Short (c .variable) → (ws : List ℕ) → Follows (conditionTape c ++ ws) (conditionText c ++ listFrom Plain ws)
+condition-follows c d ws =
+    let x = c .variable in
+    let opening = openingText (c .predicate) in
+    let truth = truthByte (c .expected) in
+    let tail : Bytes = 62 ∷ 58 ∷ 32 ∷ 39 ∷ truth ∷ 39 ∷ [] in
+    let spelled : opening ++ listFrom (ConditionLeft (length x) truth) (x ++ ws) ≡ conditionText c ++ listFrom Plain ws =
+    rw (copied (λ n. ConditionLeft n truth) tail Plain (λ n w. refl) x (d .filled) (d .bytes) ws)
+    (ap (λ (l : Bytes). 44 ∷ 32 ∷ 60 ∷ l) (regrouped (className (c .predicate)) x tail (listFrom Plain ws))) in
+    rw (← spelled) (ended-follows (tapeWord conditionKind (carriedBy c)) opening (ConditionLeft (length x) truth) (condition-word c d) (x ++ ws))
+
+conditions-follow : {cs : List Condition} → Shorts cs → {rest : List ℕ} {after : Bytes} → Follows rest after → Follows (conditionsTape cs ++ rest) (conditionsText cs ++ after)
+unfolding conditionsTape conditionsText
+conditions-follow noCondition f = f
+conditions-follow (oneMore {c = c} {cs = cs} d ds) {rest} {after} f =
+    rw (append-assoc (conditionTape c) (conditionsTape cs) rest, append-assoc (conditionText c) (conditionsText cs) after, ← (conditions-follow ds f .at unquoted))
+    (condition-follows c d (conditionsTape cs ++ rest))
+
+-- SENTENCES
+
+-- a sentence as if an item stood before it
+sentence-listed : {s : Sentence} → Written s → {rest : List ℕ} {after : Bytes} → Follows rest after →
+    listFrom Plain (sentenceTape s ++ rest) ≡
+    patternText unquoted (s .pattern) ++ (conditionsText (s .conditions) ++ 32 ∷ 61 ∷ (expressionText unquoted (s .expression) ++ after))
+sentence-listed {s} d {rest} f =
+    let tail = tapeWord equalsKind 0 ∷ expressionTape (s .expression) in
+    rw (
+      append-assoc (patternTape (s .pattern)) (conditionsTape (s .conditions) ++ tail) rest,
+      append-assoc (conditionsTape (s .conditions)) tail rest,
+      ← (expression-listed (d .expression) f unquoted),
+    )
+    (pattern-listed (s .pattern) (d .pattern) (conditions-follow (d .conditions) (equals-follows (expressionTape (s .expression) ++ rest))) unquoted)
+
+-- no blank stands before a line's first item
+abbrev Leads : ℕ → Type 0
+Leads w = (ws : List ℕ) → listFrom Start (w ∷ ws) ≡ withoutBlank (listFrom Plain (w ∷ ws))
+
+leads : (w : ℕ) {first later : Bytes} {t : State} → itemStep Start w ≡ step first t → itemStep Plain w ≡ step later t →
+    ((l : Bytes) → first ++ l ≡ withoutBlank (later ++ l)) → Leads w
+leads w {t = t} e f h ws = list-word Start w ws e ∙ h (listFrom t ws) ∙ ap withoutBlank (sym (list-word Plain w ws f))
+
+named-leads : {kind b : ℕ} → Begins kind b → (x : Name) → T (spelledIdentifier x) → Leads (tapeWord kind (length x))
+named-leads {kind} k x t =
+    let d = short-identifier x t in
+    leads (tapeWord kind (length x)) (named-item k d Start) (named-item k d Plain) (λ l. refl)
+
+line-start : (p : List Element) → T (every spelledElement p) → {cs : List Condition} → Shorts cs → (tail rest : List ℕ) →
+    let line = (patternTape p ++ (conditionsTape cs ++ tapeWord equalsKind 0 ∷ tail)) ++ rest in
+    listFrom Start line ≡ withoutBlank (listFrom Plain line)
+unfolding patternTape conditionsTape every
+line-start [] t noCondition tail rest = leads (tapeWord equalsKind 0) refl refl (λ l. refl) (tail ++ rest)
+line-start [] t (oneMore {c = c} d ds) tail rest =
+    leads (tapeWord conditionKind (carriedBy c)) (condition-word c d Start) (condition-word c d Plain) (λ l. refl) _
+line-start (letter (character c) ∷ es) t ds tail rest =
+    let h = ltb→lt c 256 (both-left (isByte c) (every spelledElement es) t) in
+    leads c (character-item Start c h) (character-item Plain c h) (λ l. refl) _
+line-start (letter (symbol x) ∷ es) t ds tail rest = named-leads symbol-begins x (both-left (spelledIdentifier x) (every spelledElement es) t) _
+line-start (part x ∷ es) t ds tail rest = named-leads part-begins x (both-left (spelledIdentifier x) (every spelledElement es) t) _
+
+-- where a line begins with a byte, dropping its blank leaves what comes after it alone
+withoutBlank-append : (line rest : Bytes) → 0 < length line → withoutBlank (line ++ rest) ≡ withoutBlank line ++ rest
+withoutBlank-append [] rest h = absurd (not-suc-le-zero h)
+withoutBlank-append (b ∷ line) rest h = go (eqb b 32)
+  where
+    go : (blank : Bool) → pick blank (line ++ rest) (b ∷ (line ++ rest)) ≡ pick blank line (b ∷ line) ++ rest
+    go true = refl
+    go false = refl
+
+line-append : (p c e after : Bytes) →
+    withoutBlank (p ++ (c ++ 32 ∷ 61 ∷ (e ++ 59 ∷ 10 ∷ after))) ≡ withoutBlank (p ++ (c ++ 32 ∷ 61 ∷ (e ++ 59 ∷ 10 ∷ []))) ++ after
+line-append p c e after =
+    let line : Bytes = p ++ (c ++ 32 ∷ 61 ∷ (e ++ 59 ∷ 10 ∷ [])) in
+    let whole : p ++ (c ++ 32 ∷ 61 ∷ (e ++ 59 ∷ 10 ∷ after)) ≡ line ++ after = simp append-assoc in
+    rw whole (withoutBlank-append line after (simp length-append (omega arith)))
+
+-- a sentence's line, ended by `;` and byte 10
+line-listed : {s : Sentence} → Written s → {rest : List ℕ} {after : Bytes} → Follows rest (59 ∷ 10 ∷ after) →
+    listFrom Start (sentenceTape s ++ rest) ≡ sentenceText s ++ after
+line-listed {s} d {rest} {after} f =
+    line-start (s .pattern) (d .pattern) (d .conditions) (expressionTape (s .expression)) rest
+    ∙ ap withoutBlank (sentence-listed d f)
+    ∙ line-append (patternText unquoted (s .pattern)) (conditionsText (s .conditions)) (expressionText unquoted (s .expression)) after
+
+sentences-listed : (s : Sentence) (ss : List Sentence) → T (every allowedSentence (s ∷ ss)) → (rest : List ℕ) →
+    listFrom Start (sentencesTape (s ∷ ss) ++ rest) ≡ sentencesText (s ∷ ss) ++ 125 ∷ 10 ∷ listFrom Start rest
+unfolding sentencesTape sentencesText
+sentences-listed s [] t rest =
+    rw (append-assoc (sentenceTape s) (tapeWord endKind 0 ∷ []) rest)
+    (line-listed (sentence-written s (every-head allowedSentence s [] t)) (end-follows rest) ∙ simp append-assoc)
+sentences-listed s (r ∷ rs) t rest =
+    rw (append-assoc (sentenceTape s) (tapeWord nextKind 0 ∷ sentencesTape (r ∷ rs)) rest)
+    (line-listed (sentence-written s (every-head allowedSentence s (r ∷ rs) t)) (next-follows (sentencesTape (r ∷ rs) ++ rest))
+    ∙ rw (sentences-listed r rs (every-tail allowedSentence s (r ∷ rs) t) rest) (simp append-assoc))
+
+-- FUNCTIONS AND THE TABLE
+
+function-listed : (f : Function) → T (allowedFunction f) → (rest : List ℕ) → listFrom Start (functionTape f ++ rest) ≡ functionText f ++ listFrom Start rest
+function-listed f t rest = go (f .name) (f .sentences) (short-name (f .name) (search (both-left, both-right))) (search (both-left, both-right)) (search (both-left, both-right))
+  where
+    go : (n : Name) (ss : List Sentence) → Short n → T (someSentence ss) → T (every allowedSentence ss) →
+        listFrom Start ((named functionKind n ++ sentencesTape ss) ++ rest) ≡ (n ++ 32 ∷ 123 ∷ 10 ∷ (sentencesText ss ++ 125 ∷ 10 ∷ [])) ++ listFrom Start rest
+    go n [] d u v = absurd u
+    go n (s ∷ ss) d u v =
+        list-word Start (tapeWord functionKind (length n)) _ (kind-item Start functionKind (length n) (omega arith) (omega (arith, d .short)))
+        ∙ rw (append-assoc n (sentencesTape (s ∷ ss)) rest, copied Header (32 ∷ 123 ∷ 10 ∷ []) Start (λ k w. refl) n (d .filled) (d .bytes) (sentencesTape (s ∷ ss) ++ rest), sentences-listed s ss v rest)
+        (simp append-assoc)
+
+functions-listed : (t : Table) → T (every allowedFunction t) → listFrom Start (tape t) ≡ listing t
+unfolding tape listing listFrom
+functions-listed [] t = refl
+functions-listed (f ∷ fs) t =
+    function-listed f (every-head allowedFunction f fs t) (tape fs) ∙ rw (functions-listed fs (every-tail allowedFunction f fs t))
+
+-- the tape of an allowed table, listed word by word, gives the table's listing
+pub tape-listed : (t : Table) → T (allowed t) → listFrom Start (tape t) ≡ listing t
+tape-listed t h = functions-listed t (search both-left)

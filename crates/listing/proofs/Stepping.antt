@@ -1,0 +1,38 @@
+-- The words of a tape listed one after another.
+use Prim.Native.Nat.{ℕ, _+_, _*_, _≤_, _<_}
+use native.Mathlib.Omega.{arith}
+use native.Mathlib.Numerals.{add-one}
+use mathlib.Core.Path.{_≡_, refl, _∙_}
+use mathlib.Core.List.{List}
+use lib.ListN.{length, drop, getD, drop-of-length-le}
+use lib.Seq.{drop-cons}
+use Rattle.listing.specs.declared.State.{State}
+use Rattle.listing.specs.declared.State.the-variants.{Start}
+use Rattle.listing.specs.declared.Stepped.{Stepped}
+use Rattle.listing.specs.Put.{Put}
+use Rattle.listing.specs.Steps.{wordStep, listFrom, Wrote}
+use Rattle.listing.proofs.Writing.{put-none, put-then, put-length}
+use Rattle.listing.proofs.Sizes.{widest, word-size}
+
+-- i words are listed: to write the rest from here is to write the whole from the start
+pub record Lists (out₀ words out : List ℕ) (i at : ℕ) (s : State) : Type 0 where
+  pub low : at ≤ widest * i
+  pub same : length out ≡ length out₀
+  pub rest : {next : ℕ} {new : List ℕ} → Put at out (listFrom s (drop i words)) next new → Put 0 out₀ (listFrom Start words) next new
+
+pub lists-none : {out₀ words : List ℕ} → Lists out₀ words out₀ 0 0 Start
+lists-none = record { low = omega arith; same = refl; rest = λ p. p }
+
+pub lists-word : {out₀ words out : List ℕ} {i at : ℕ} {s : State} {r : Stepped} {out₁ : List ℕ} → Lists out₀ words out i at s → i < length words →
+    Wrote at out (wordStep s (getD words i 0)) r out₁ → Lists out₀ words out₁ (i + 1) (r .at) (r .state)
+unfolding listFrom
+lists-word {words = words} {i = i} {s = s} l h w =
+    record {
+      low = omega (arith, l .low, w .put .place, word-size s (getD words i 0));
+      same = put-length (w .put) ∙ l .same;
+      rest = λ p. l .rest (rw (drop-cons words i 0 h) (put-then (w .put) (rw (add-one i, w .state) at p)));
+    }
+
+pub lists-all : {out₀ words out : List ℕ} {i at : ℕ} {s : State} → Lists out₀ words out i at s → length words ≤ i → Put 0 out₀ (listFrom Start words) at out
+unfolding listFrom
+lists-all {words = words} l h = l .rest (rw (drop-of-length-le words h) put-none)

@@ -1,0 +1,30 @@
+-- `listing::words::list_copied` meets its contract.
+use Rattle.listing.proofs.Writing.{put-then, put-length}
+use borrow.Author.Tests.{le-leb, lt-leb}
+use native.Mathlib.Omega.{arith}
+use mathlib.Core.Path.{refl}
+use borrow.Author.Needs.{needs}
+use Rattle.listing.proofs.words.list_copied.Statement.{statement}
+use Rattle.listing.proofs.words.list_copied.Tie as tie
+
+put-requires : tie.Need-put-requires
+put-requires c κs = search needs
+
+put-all-requires : tie.Need-put-all-requires
+put-all-requires c κs = omega (arith, c .before .before .before .before .put .ensures .place)
+
+same-length : tie.Need-same-length
+same-length c = search needs
+
+returns : tie.Need-returns
+returns c = rw (le-leb _ _ (c .before .before .before .before .if1 .taken)) (record { state = refl; put = put-then (c .before .before .before .before .before .before .before .put .ensures) (c .before .before .put-all .ensures) })
+
+same-length-2 : tie.Need-same-length-2
+same-length-2 c = put-length (c .before .before .before .put .ensures)
+
+returns-2 : tie.Need-returns-2
+returns-2 c = rw (lt-leb _ _ (c .if1 .left)) (record { state = refl; put = c .before .before .before .put .ensures })
+
+pub list-copied-spec : {M : Type 1} → statement M
+list-copied-spec =
+    tie.close (tie.spec put-requires put-all-requires same-length returns same-length-2 returns-2)

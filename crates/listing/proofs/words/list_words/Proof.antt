@@ -1,0 +1,60 @@
+-- `listing::words::list_words` meets its contract: to write the rest of the words from here is to write the whole from the start.
+use Prim.Native.Nat.{_-_}
+use native.Mathlib.Omega.{arith}
+use lib.ListN.{take}
+use lib.Seq.{length-take-le, getD-take}
+use Rattle.listing.proofs.Stepping.{Lists, lists-none, lists-word, lists-all}
+use Rattle.listing.proofs.words.list_words.Statement.{statement}
+use Rattle.listing.proofs.words.list_words.Tie as tie
+
+abbrev Inv-loop : tie.InvT-loop
+Inv-loop tape words out₀ i₀ at₀ state₀ out i at state = Lists out₀ (take words tape) out i at state
+
+abbrev μ-loop : tie.MeasureT-loop
+μ-loop tape words out₀ i₀ at₀ state₀ out i at state = words - i
+
+loop-holds : tie.Need-loop-holds Inv-loop μ-loop
+loop-holds c = lists-none
+
+mul-list-word : tie.Need-mul-list-word Inv-loop μ-loop
+mul-list-word c = omega arith
+
+shared-slice-read-list-word : tie.Need-shared-slice-read-list-word Inv-loop μ-loop
+shared-slice-read-list-word c = omega arith
+
+list-word-requires : tie.Need-list-word-requires Inv-loop μ-loop
+list-word-requires c κs = omega arith
+
+add-i : tie.Need-add-i Inv-loop μ-loop
+add-i c = omega arith
+
+loop-less : tie.Need-loop-less Inv-loop μ-loop
+loop-less c = omega arith
+
+loop-again : tie.Need-loop-again Inv-loop μ-loop
+loop-again c =
+    lists-word (c .before .before .before .before .before .before .loop .inv)
+    (rw (length-take-le _ _ (c .before .before .before .before .before .before .before .before .before .pre .there)) (c .before .before .before .before .before .loop-test .taken))
+    (rw (getD-take _ _ _ _ (c .before .before .before .before .before .loop-test .taken)) (c .before .before .list-word .ensures))
+
+same-length : tie.Need-same-length Inv-loop μ-loop
+same-length c = c .before .loop .inv .same
+
+returns : tie.Need-returns Inv-loop μ-loop
+returns c = lists-all (c .before .loop .inv) (rw (length-take-le _ _ (c .before .before .before .before .pre .there)) (c .loop-test .left))
+
+pub list-words-spec : {M : Type 1} → statement M
+list-words-spec =
+    tie.close
+    (tie.spec
+    Inv-loop
+    μ-loop
+    loop-holds
+    mul-list-word
+    shared-slice-read-list-word
+    list-word-requires
+    add-i
+    loop-less
+    loop-again
+    same-length
+    returns)

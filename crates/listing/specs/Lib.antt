@@ -1,0 +1,4 @@
+-- The definitions that this crate's contracts cite.
+pub mod Put
+pub mod Steps
+pub mod Leaves
