@@ -1,0 +1,83 @@
+-- `following::sound_table` meets its contract. The loop's invariant: the table is sound if the entries from here on are.
+use Prim.Native.Nat.{_-_, _≤_, _<_}
+use native.Mathlib.Omega.{arith}
+use borrow.Author.Needs.{needs}
+use mathlib.Core.Path.{_≡_, refl}
+use lib.ListN.{length}
+use Rattle.running.specs.Waiting.{countIn}
+use Rattle.running.proofs.laws.Tables.{Entries, sound-short, sound-wrong, sound-next, sound-all}
+use Rattle.running.proofs.following.sound_table.Statement.{statement}
+use Rattle.running.proofs.following.sound_table.Tie as tie
+
+abbrev Inv-loop : tie.InvT-loop
+Inv-loop code count i₀ i = (count ≡ countIn code) × (countIn code < length code) × (i ≤ count) × (Entries code i ≡ Entries code 0)
+
+abbrev μ-loop : tie.MeasureT-loop
+μ-loop code count i₀ i = count - i
+
+returns : tie.Need-returns Inv-loop μ-loop
+returns c = sound-short (c .before .before .args .code .now) (omega (arith, c .if1 .taken))
+
+shared-slice-read-wide : tie.Need-shared-slice-read-wide Inv-loop μ-loop
+shared-slice-read-wide c = search needs
+
+wide-requires : tie.Need-wide-requires Inv-loop μ-loop
+wide-requires c κs = search needs
+
+sub-if2 : tie.Need-sub-if2 Inv-loop μ-loop
+sub-if2 c = omega arith
+
+returns-2 : tie.Need-returns-2 Inv-loop μ-loop
+returns-2 c = sound-short (c .before .before .before .before .before .args .code .now) (omega (arith, c .if2 .taken, c .before .wide .ensures))
+
+loop-holds : tie.Need-loop-holds Inv-loop μ-loop
+loop-holds c = (c .before .wide .ensures, omega (arith, c .if2 .left, c .before .before .before .if1 .left, c .before .wide .ensures), omega arith, refl)
+
+add-wide : tie.Need-add-wide Inv-loop μ-loop
+add-wide c = omega (arith, c .before .loop .inv .0, c .before .loop .inv .1, c .loop-test .taken)
+
+mul-wide : tie.Need-mul-wide Inv-loop μ-loop
+mul-wide c = search needs
+
+shared-slice-read-wide-2 : tie.Need-shared-slice-read-wide-2 Inv-loop μ-loop
+shared-slice-read-wide-2 c = omega (arith, c .before .before .loop .inv .0, c .before .before .loop .inv .1, c .before .loop-test .taken)
+
+wide-requires-2 : tie.Need-wide-requires-2 Inv-loop μ-loop
+wide-requires-2 c κs = search needs
+
+returns-3 : tie.Need-returns-3 Inv-loop μ-loop
+returns-3 c = let v = c .before .before .before .before .loop .inv in sound-wrong (c .before .before .before .before .before .before .before .before .before .before .args .code .now) (v .1) (c .before .before .before .before .loop .i) (omega (arith, v .0, c .before .before .before .loop-test .taken)) (v .3) (omega (arith, c .if3 .taken, c .before .wide2 .ensures))
+
+add-i : tie.Need-add-i Inv-loop μ-loop
+add-i c = omega arith
+
+loop-less : tie.Need-loop-less Inv-loop μ-loop
+loop-less c = omega arith
+
+loop-again : tie.Need-loop-again Inv-loop μ-loop
+loop-again c = let v = c .before .before .before .before .loop .inv in (v .0, v .1, omega arith, sound-next (c .before .before .before .before .before .before .before .before .before .before .args .code .now) (v .1) (c .before .before .before .before .loop .i) (omega (arith, v .0, c .before .before .before .loop-test .taken)) (v .3) (omega (arith, c .if3 .left, c .before .wide2 .ensures)))
+
+returns-4 : tie.Need-returns-4 Inv-loop μ-loop
+returns-4 c = let v = c .before .loop .inv in sound-all (c .before .before .before .before .before .before .before .args .code .now) (v .1) (c .before .loop .i) (omega (arith, v .0, c .loop-test .left)) (v .3)
+
+pub sound-table-spec : {M : Type 1} → statement M
+sound-table-spec =
+    tie.close
+    (tie.spec
+    Inv-loop
+    μ-loop
+    returns
+    shared-slice-read-wide
+    wide-requires
+    sub-if2
+    returns-2
+    loop-holds
+    add-wide
+    mul-wide
+    shared-slice-read-wide-2
+    wide-requires-2
+    returns-3
+    add-i
+    loop-less
+    loop-again
+    returns-4)

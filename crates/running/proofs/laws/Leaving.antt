@@ -1,0 +1,217 @@
+-- What a run begins with, and what its end leaves in the lent cells.
+use Prim.Native.Nat.{ℕ, zero, suc, _+_, _-_, _≤_, _<_}
+use native.Mathlib.Nat.{sub-zero}
+use native.Mathlib.Numerals.{add-one}
+use native.Mathlib.Omega.{arith}
+use mathlib.Core.Path.{_≡_, refl, sym, ap, _∙_}
+use mathlib.Core.Bool.{Bool, true, false}
+use mathlib.Core.List.{List, [], _∷_, _++_, append-assoc, append-nil}
+use mathlib.Core.Option.{Option, none, some}
+use lib.Dec.{leb}
+use lib.ListN.{length, getD, take, drop, set, replicate, length-append, length-drop, length-replicate, replicate-append-replicate, take-append-drop}
+use lib.Seq.{drop-cons, append-snoc, set-at, drop-at, length-take-le, take-length, drop-length, paste}
+use borrow.Author.Tests.{le-leb, lt-leb}
+use types.Run.{OneOf, miss}
+use denote.Enum.Declared.{tagOf}
+use Rattle.meaning.specs.Choice.{Bytes, pick}
+use Rattle.meaning.specs.Outcome.{fresh, Outcome, done, stop, pay, resultOf}
+use Rattle.meaning.specs.Machine.{Stacks, Ledger, isDeclared, ranPaid}
+use Rattle.meaning.specs.Runs.{Room, lent, loaded, from, textOf, runLent}
+use Rattle.meaning.specs.Packing.{Words}
+use Rattle.meaning.specs.Leaving.{Cells, Leaving, zeros, refused, left, leaving}
+use Rattle.meaning.specs.Leaving.{roomOf as roomOfCells}
+use Rattle.running.proofs.registers.Next as next-declared
+use Rattle.running.specs.declared.registers.Registers.{Registers}
+use Rattle.running.specs.declared.registers.Ending.{Ending}
+use Rattle.running.specs.declared.registers.Next.{Next}
+use Rattle.running.specs.declared.registers.Next.the-variants.{Onward, Done, Stopped}
+use Rattle.running.specs.Endings.{endingNumber}
+use Rattle.running.specs.States.{Memory, memory, stacksOf, Ledgers, ledgerOf, roomOf, Outcomes}
+use Rattle.running.specs.Waiting.{countIn, soundIn, functionsIn, entering, waiting, comesTo}
+use Rattle.running.specs.Advancing.{Held, Ready, Ended, Keeps, registersIn, Leads, Advances, Applies, IsOver, Follows}
+use Rattle.running.specs.Leaving.{cells, Tells, Leaves, refusedWith, reportedOf, clearedFrom, loadedWith}
+use Rattle.running.proofs.laws.Waiting.{entering-paid}
+use Rattle.running.proofs.laws.Tables.{unpacked}
+
+-- CLEARING
+
+-- the cells cleared from a start on up to a place
+abbrev pub clearedTo : Bytes → ℕ → ℕ → Bytes
+clearedTo bytes start i = (take start bytes ++ zeros (i - start)) ++ drop i bytes
+
+module _ (bytes : Bytes) (start : ℕ) (within : start ≤ length bytes) where
+  pub cleared-none : bytes ≡ clearedTo bytes start start
+  cleared-none =
+      let nothing : start - start ≡ 0 = omega arith in
+      rw (nothing, append-nil (take start bytes)) (sym (take-append-drop start bytes))
+
+  pub cleared-one : (i : ℕ) → start ≤ i → i < length bytes → set (clearedTo bytes start i) i 0 ≡ clearedTo bytes start (i + 1)
+  cleared-one i h l =
+      let front = take start bytes ++ zeros (i - start) in
+      let sized : length front ≡ i =
+      rw (length-append (take start bytes) (zeros (i - start)), length-take-le start bytes within, length-replicate {A = ℕ} (i - start) 0) (omega arith) in
+      let more : i + 1 - start ≡ i - start + 1 = omega arith in
+      rw (
+        drop-cons bytes i 0 l,
+        set-at front (getD bytes i 0) (drop (suc i) bytes) 0 i sized,
+        more,
+        ← replicate-append-replicate {A = ℕ} (i - start) 1 0,
+        ← append-assoc (take start bytes) (zeros (i - start)) (0 ∷ []),
+        append-snoc front 0 (drop (i + 1) bytes),
+        add-one i,
+      )
+
+  pub cleared-all : (i : ℕ) → length bytes ≤ i → i ≤ length bytes → clearedTo bytes start i ≡ clearedFrom start bytes
+  cleared-all i h l =
+      let all : i ≡ length bytes = omega arith in
+      rw (all, drop-length bytes, append-nil (take start bytes ++ zeros (length bytes - start)))
+
+-- THE END
+
+-- the tags that are left tell that a run has ended
+pub is-over : (next : Next) → OneOf (1 ∷ 2 ∷ []) (tagOf next-declared.the-type next) → IsOver next
+is-over (Onward g) k = absurd (miss (1 ∷ 2 ∷ []) 0 tt k)
+is-over (Done g) k = tt
+is-over (Stopped ending function g) k = tt
+
+pub reported-within : (allowance : ℕ) (last : Next) (m : Memory) → IsOver last → Keeps allowance last m → reportedOf last .text ≤ length (m .output)
+reported-within allowance (Onward g) m o k = absurd o
+reported-within allowance (Done g) m o k = k .below
+reported-within allowance (Stopped ending function g) m o k = omega arith
+
+module _ (room : Room) (allowance : ℕ) (words : Words) (m : Memory) where
+  tells-end : (last : Next) → IsOver last → Keeps allowance last m → Tells (reportedOf last) (resultOf (textOf (comesTo room allowance words last m)))
+  tells-end (Onward g) o k = absurd o
+  tells-end (Done g) o k =
+      record {
+        answer = refl;
+        function = refl;
+        steps = refl;
+        text = sym (length-take-le (g .r .0) (m .output) (k .below));
+        emissions = sym (length-take-le (g .emitted) (m .journal) (k .logged));
+      }
+  tells-end (Stopped ending function g) o k =
+      record {
+        answer = refl;
+        function = refl;
+        steps = refl;
+        text = refl;
+        emissions = sym (length-take-le (g .emitted) (m .journal) (k .logged));
+      }
+
+  -- the cells after the stacks are cleared
+  cells-end : (last : Next) (before : Cells) → IsOver last → Keeps allowance last m → roomOf m ≡ roomOfCells before →
+      drop (registersIn last .emitted) (m .journal) ≡ drop (registersIn last .emitted) (before .journal) →
+      cells (clearedFrom 0 (m .input)) (clearedFrom (reportedOf last .text) (m .output)) (m .journal) ≡
+      left (resultOf (textOf (comesTo room allowance words last m))) before .cells
+  cells-end (Onward g) before o k e beyond = absurd o
+  cells-end (Done g) before o k e beyond =
+      rw (
+        length-take-le (g .r .0) (m .output) (k .below),
+        length-take-le (g .emitted) (m .journal) (k .logged),
+        ← beyond,
+        take-append-drop (g .emitted) (m .journal),
+        sub-zero (length (m .input)),
+        ap (λ r. r .inCells) e,
+        ap (λ r. r .outCells) e,
+      )
+  cells-end (Stopped ending function g) before o k e beyond =
+      rw (
+        length-take-le (g .emitted) (m .journal) (k .logged),
+        ← beyond,
+        take-append-drop (g .emitted) (m .journal),
+        sub-zero (length (m .input)),
+        ap (λ r. r .inCells) e,
+        ap (λ r. r .outCells) e,
+      )
+
+  pub leaves-end : (last : Next) (before : Cells) (o : Outcomes) → o ≡ comesTo room allowance words last m → IsOver last → Keeps allowance last m →
+      roomOf m ≡ roomOfCells before → drop (registersIn last .emitted) (m .journal) ≡ drop (registersIn last .emitted) (before .journal) →
+      Leaves (reportedOf last) (cells (clearedFrom 0 (m .input)) (clearedFrom (reportedOf last .text) (m .output)) (m .journal))
+      (left (resultOf (textOf o)) before)
+  leaves-end last before o e over k room beyond =
+      rw e (record { tells = tells-end last over k; leaves = cells-end last before over k room beyond })
+
+-- THE START
+
+module _ (text input input′ : Bytes) (fits : length text ≤ length input)
+    (e : input′ ≡ paste input (length input - length text) text (length text)) (sized : length input′ ≡ length input) where
+  loaded-text : drop (length input - length text) input′ ≡ text
+  loaded-text =
+      let place = length input - length text in
+      let past : place + length text ≡ length input = omega arith in
+      rw (e, past, drop-length input, take-length text, append-nil (take place input ++ text))
+      (drop-at (take place input) text place (length-take-le place input (omega arith)))
+
+  module _ (output journal : Bytes) (frames : List ℕ) (values : Bytes) (words : Words) (start allowance : ℕ) where
+    abbrev Start : Memory
+    Start = memory input′ output journal frames values
+
+    abbrev Beginning : Registers
+    Beginning = loadedWith (length input) (length text)
+
+    loaded-stacks : stacksOf Beginning Start ≡ loaded text
+    loaded-stacks = let whole : length input - (length input - length text) ≡ length text = omega arith in rw (loaded-text, whole)
+
+    -- what the run comes to
+    abbrev pub Whole : Outcomes
+    Whole = from (lent (roomOf Start)) (functionsIn words) start text allowance tt
+
+    ready-start : length frames ≡ 6144 → length values ≡ 4096 → Ready allowance Beginning Start
+    ready-start f v =
+        record {
+          ordered = omega arith;
+          inside = omega (arith, sized);
+          below = omega arith;
+          logged = omega arith;
+          framed = omega arith;
+          frameRoom = f;
+          valueRoom = v;
+          paid = omega arith;
+          held = λ k h. absurd (omega arith);
+        }
+
+    -- the run is followed from its first application
+    pub starting : length frames ≡ 6144 → length values ≡ 4096 → (first : Next) (m : Memory) → Applies words allowance start Beginning Start first m →
+        Leads words allowance Whole Beginning Start first m
+    unfolding waiting
+    starting f v first m applies =
+        let d = applies (ready-start f v) .leads in
+        record {
+          same =
+              entering-paid (roomOf Start) allowance words 1 start (loaded text) (record { tally = fresh allowance; mark = tt }) (omega arith) ∙
+              rw (loaded-stacks, sub-zero allowance) at (d .same);
+          keeps = d .keeps;
+          room = d .room;
+          beyond = d .beyond;
+        }
+
+    -- and leaves what it should when it has been followed to its end
+    pub ending : (last : Next) (m : Memory) → Leads words allowance Whole Beginning Start last m → IsOver last →
+        Leaves (reportedOf last) (cells (clearedFrom 0 (m .input)) (clearedFrom (reportedOf last .text) (m .output)) (m .journal))
+        (left (runLent (roomOfCells (cells input output journal)) (functionsIn words) start text allowance) (cells input output journal))
+    ending last m leads over =
+        rw sized at
+        (leaves-end (roomOf Start) allowance words m last (cells input output journal) Whole (leads .same) over (leads .keeps) (leads .room ∙ rw sized) (leads .beyond journal refl))
+
+-- BEFORE A RUN
+
+pub refused-leaves : (ending : Ending) (before : Cells) → Leaves (refusedWith ending) before (refused (endingNumber ending) before)
+refused-leaves ending before =
+    record { tells = record { answer = refl; function = refl; steps = refl; text = refl; emissions = refl }; leaves = refl }
+
+module _ (words : Words) (start : ℕ) (text : Bytes) (before : Cells) (allowance : ℕ) where
+  pub leaving-unsound : soundIn words ≡ false → leaving words start text before allowance ≡ refused 18 before
+  leaving-unsound e = rw (unpacked words, e)
+
+  module _ (sound : soundIn words ≡ true) where
+    pub leaving-undeclared : isDeclared (functionsIn words) start ≡ false → leaving words start text before allowance ≡ refused 9 before
+    leaving-undeclared d = rw (unpacked words, sound, d)
+
+    module _ (declared : isDeclared (functionsIn words) start ≡ true) where
+      pub leaving-long : length (before .stackIn) < length text → leaving words start text before allowance ≡ refused 10 before
+      leaving-long l = rw (unpacked words, sound, declared, lt-leb (length text) (length (before .stackIn)) l)
+
+      pub leaving-runs : length text ≤ length (before .stackIn) →
+          leaving words start text before allowance ≡ left (runLent (roomOfCells before) (functionsIn words) start text allowance) before
+      leaving-runs l = rw (unpacked words, sound, declared, le-leb (length text) (length (before .stackIn)) l)

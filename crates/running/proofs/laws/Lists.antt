@@ -1,0 +1,30 @@
+-- Elements and parts of lists: `nth` beside `getD`, and what is left of a list at a place.
+use Prim.Native.Nat.{ℕ, zero, suc, _+_, _-_, _≤_, _<_}
+use native.Mathlib.Nat.{le-of-suc-le-suc, not-suc-le-zero}
+use native.Mathlib.Omega.{arith}
+use native.Mathlib.Numerals.{add-one}
+use mathlib.Core.Path.{_≡_, refl}
+use mathlib.Core.List.{List, [], _∷_}
+use mathlib.Core.Option.{Option, none, some}
+use lib.ListN.{length, getD, take, drop, drop-of-length-le}
+use lib.Seq.{drop-cons}
+use Rattle.meaning.specs.Choice.{nth}
+
+pub nth-in : (l : List ℕ) (i : ℕ) → i < length l → nth i l ≡ some (getD l i 0)
+unfolding nth
+nth-in [] i h = absurd (not-suc-le-zero h)
+nth-in (x ∷ l) zero h = refl
+nth-in (x ∷ l) (suc i) h = nth-in l i (le-of-suc-le-suc h)
+
+pub nth-out : (l : List ℕ) (i : ℕ) → length l ≤ i → nth i l ≡ none
+unfolding nth
+nth-out [] i h = refl
+nth-out (x ∷ l) zero h = absurd (not-suc-le-zero h)
+nth-out (x ∷ l) (suc i) h = nth-out l i (le-of-suc-le-suc h)
+
+-- a list from a place on is the element there and the list from the next place on
+pub at-place : (l : List ℕ) (i : ℕ) → i < length l → drop i l ≡ getD l i 0 ∷ drop (i + 1) l
+at-place l i h = rw (add-one, drop-cons l i 0)
+
+pub past-end : (l : List ℕ) (i : ℕ) → length l ≤ i → drop i l ≡ []
+past-end l i h = drop-of-length-le l h

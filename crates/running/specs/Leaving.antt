@@ -1,0 +1,60 @@
+-- What a run answers and leaves, in the terms of meaning's Leaving.
+use Prim.Native.Nat.{ℕ, _-_, _≤_}
+use mathlib.Core.Path.{_≡_}
+use mathlib.Core.List.{_++_}
+use lib.ListN.{length, take}
+use Rattle.meaning.specs.Choice.{Bytes}
+use Rattle.meaning.specs.Outcome.{Outcome, Result, resultOf}
+use Rattle.meaning.specs.Runs.{textOf}
+use Rattle.meaning.specs.Packing.{Words}
+use Rattle.meaning.specs.Leaving.{Cells, Leaving, leaving, zeros}
+use Rattle.running.specs.declared.following.Ran.{Ran}
+use Rattle.running.specs.declared.registers.Registers.{Registers}
+use Rattle.running.specs.declared.registers.Next.{Next}
+use Rattle.running.specs.declared.registers.Next.the-variants.{Onward, Done, Stopped}
+use Rattle.running.specs.declared.registers.Ending.{Ending}
+use Rattle.running.specs.declared.registers.Ending.the-variants.{Finished}
+use Rattle.running.specs.Endings.{endingNumber}
+
+abbrev pub cells : Bytes → Bytes → Bytes → Cells
+cells stackIn stackOut journal = record { stackIn = stackIn; stackOut = stackOut; journal = journal }
+
+-- the numbers that a run answers are those of a result
+pub record Tells (ran : Ran) (result : Result) : Type 0 where
+  pub answer : endingNumber (ran .ending) ≡ result .answer
+  pub function : ran .function ≡ result .function
+  pub steps : ran .steps ≡ result .steps
+  pub text : ran .text ≡ length (result .text)
+  pub emissions : ran .emissions ≡ length (result .emissions)
+
+-- a run answers and leaves what it should
+pub record Leaves (ran : Ran) (now : Cells) (should : Leaving) : Type 0 where
+  pub tells : Tells ran (should .result)
+  pub leaves : now ≡ should .cells
+
+-- a refusal's numbers
+abbrev pub refusedWith : Ending → Ran
+refusedWith ending = record { ending = ending; function = 0; steps = 0; text = 0; emissions = 0 }
+
+-- what is reported of the end of a run
+abbrev pub reportedOf : Next → Ran
+reportedOf (Onward g) = record { ending = Finished; function = 0; steps = g .steps; text = g .r .0; emissions = g .emitted }
+reportedOf (Done g) = record { ending = Finished; function = 0; steps = g .steps; text = g .r .0; emissions = g .emitted }
+reportedOf (Stopped ending function g) = record { ending = ending; function = function; steps = g .steps; text = 0; emissions = g .emitted }
+
+-- the cells up to a place, and zeros after it
+abbrev pub clearedFrom : ℕ → Bytes → Bytes
+clearedFrom start bytes = take start bytes ++ zeros (length bytes - start)
+
+-- the registers as a run begins: the text lies on in as the field, out is empty, and nothing is counted yet
+abbrev pub loadedWith : ℕ → ℕ → Registers
+loadedWith count text =
+    record {
+      p = record { 0 = count - text };
+      q = record { 0 = count };
+      r = record { 0 = 0 };
+      frame = 0;
+      at = record { 0 = 0 };
+      steps = 0;
+      emitted = 0;
+    }

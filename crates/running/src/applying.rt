@@ -1,0 +1,239 @@
+// An application of a function: the start, a call, a tail call.
+ghost use Prim.Native.Nat.{ℕ, _+_, _*_, _-_, _≤_, _<_};
+ghost use mathlib.Core.Path.{_≡_};
+ghost use lib.ListN.{length, drop, set, getD};
+ghost use Rattle.meaning.specs.Choice.{Bytes};
+ghost use Rattle.meaning.specs.Matching.{storedCell, storedValues};
+ghost use Rattle.meaning.specs.Machine.{isDeclared};
+ghost use Rattle.meaning.specs.Instructions.{call as calling, tailCall};
+ghost use Rattle.meaning.specs.Packing.{storeOf, unpackStores};
+ghost use Rattle.classes.specs.Tests.{Answers};
+ghost use Rattle.running.specs.Matched.{cellMeant};
+ghost use Rattle.running.specs.Storing.{Stores, begun};
+ghost use Rattle.running.specs.States.{memory};
+ghost use Rattle.running.specs.Waiting.{countIn, functionsIn};
+ghost use Rattle.running.specs.Advancing.{Performs, Applies, Starts};
+use crate::decoding::wide;
+use crate::frames::set_word;
+use crate::matching::Cell;
+use crate::matching::Choice;
+use crate::matching::cell_at;
+use crate::matching::choose;
+use crate::registers::CodePlace;
+use crate::registers::Ending;
+use crate::registers::Next;
+use crate::registers::Registers;
+
+pub fn declared(code: &[u32], number: usize) -> bool
+    requires { ⌜ countIn (now code) < length (now code) ⌝ }
+    ensures { λ r. ⌜ r ≡ isDeclared (functionsIn (now (code .entry))) number ⌝ }
+{
+    if number == 0 {
+        return false;
+    }
+    number <= wide(code[0])
+}
+
+// Where the words after a sentence's stores begin.
+pub enum Stored {
+    Before(CodePlace),
+    Wrong,
+}
+
+// The values of a sentence's stores, kept for a frame; Wrong where a store asks for a cell that isn't there.
+fn store_values(
+    code: &[u32],
+    stores: CodePlace,
+    count: usize,
+    field: &[u8],
+    place: usize,
+    values: &mut [u8],
+    frame: usize,
+) -> Stored
+    requires { ⌜ 16 * frame + count ≤ length (now values) ⌝ }
+    ensures { λ r. ⌜ Stores (16 * frame) count (stores .0 + count) (storedValues (unpackStores count (drop (stores .0) (now (code .entry)))) (now (field .entry)) place) (now (values .entry)) (now (values .exit)) r ⌝ }
+{
+    let base = 16 * frame;
+    let mut at = stores.0;
+    let mut i = 0;
+    while i < count {
+        if code.len() <= at {
+            return Stored::Wrong;
+        }
+        let Cell::Byte(byte) = stored_cell(field, place, code[at]) else {
+            return Stored::Wrong;
+        };
+        values[base + i] = byte;
+        at += 1;
+        i += 1;
+    }
+    Stored::Before(CodePlace(at))
+}
+
+// The cell that a store's word asks for.
+fn stored_cell(field: &[u8], place: usize, word: u32) -> Cell
+    ensures { λ r. ⌜ cellMeant r ≡ storedCell (storeOf word) (now (field .entry)) place ⌝ }
+{
+    if word % 256 == 4 {
+        cell_at(field, place, word / 256 % 256, word / 65536 % 256)
+    } else {
+        Cell::Nowhere
+    }
+}
+
+// A frame's own numbers as its application begins.
+fn begin_frame(frames: &mut [usize], frame: usize, field: usize, place: usize, stored: usize)
+    requires { ⌜ frame < 256 ⌝ }
+    requires { ⌜ length (now frames) ≡ 6144 ⌝ }
+    ensures { λ _. ⌜ now (frames .exit) ≡ begun frame field place stored (now (frames .entry)) ⌝ }
+{
+    set_word(frames, frame, 1, field);
+    set_word(frames, frame, 2, place);
+    set_word(frames, frame, 3, stored);
+    set_word(frames, frame, 4, 0);
+}
+
+// The actions of the sentence chosen for the field are next, in the frame of the registers.
+fn start_sentence(
+    g: Registers,
+    code: &[u32],
+    place: usize,
+    stores: CodePlace,
+    stored: usize,
+    input: &[u8],
+    frames: &mut [usize],
+    values: &mut [u8],
+) -> Next
+    requires { ⌜ g .p .0 ≤ g .q .0 ⌝ }
+    requires { ⌜ g .q .0 ≤ length (now input) ⌝ }
+    requires { ⌜ g .frame < 256 ⌝ }
+    requires { ⌜ length (now frames) ≡ 6144 ⌝ }
+    requires { ⌜ length (now values) ≡ 4096 ⌝ }
+    requires { ⌜ stored ≤ 16 ⌝ }
+    ensures { λ r. ⌜ ((allowance : ℕ) (output journal : Bytes) → Starts (now (code .entry)) allowance place (stores .0) stored g (memory (now (input .entry)) output journal (now (frames .entry)) (now (values .entry))) r (memory (now (input .entry)) output journal (now (frames .exit)) (now (values .exit)))) ⌝ }
+{
+    let p = g.p.0;
+    let q = g.q.0;
+    let frame = g.frame;
+    let Stored::Before(actions) = store_values(
+        code,
+        stores,
+        stored,
+        &input[p..q],
+        place,
+        values,
+        frame,
+    ) else {
+        return Next::Stopped(Ending::NoInstruction, 0, g);
+    };
+    begin_frame(frames, frame, q - p, place, stored);
+    let mut next = g;
+    let none = g.p;
+    next.q = none;
+    next.at = actions;
+    Next::Onward(next)
+}
+
+// One application in the frame of the registers: 12, or a step and the sentence chosen for the field.
+pub fn apply(
+    g: Registers,
+    bits: &[u8; 256],
+    code: &[u32],
+    number: usize,
+    allowance: u32,
+    input: &[u8],
+    frames: &mut [usize],
+    values: &mut [u8],
+) -> Next
+    requires { ⌜ Answers (now bits) ⌝ }
+    requires { ⌜ countIn (now code) < length (now code) ⌝ }
+    requires { ⌜ 0 < number ⌝ }
+    requires { ⌜ number ≤ countIn (now code) ⌝ }
+    requires { ⌜ g .p .0 ≤ g .q .0 ⌝ }
+    requires { ⌜ g .q .0 ≤ length (now input) ⌝ }
+    requires { ⌜ g .frame < 256 ⌝ }
+    requires { ⌜ length (now frames) ≡ 6144 ⌝ }
+    requires { ⌜ length (now values) ≡ 4096 ⌝ }
+    ensures { λ r. ⌜ ((output journal : Bytes) → Applies (now (code .entry)) allowance number g (memory (now (input .entry)) output journal (now (frames .entry)) (now (values .entry))) r (memory (now (input .entry)) output journal (now (frames .exit)) (now (values .exit)))) ⌝ }
+{
+    if allowance <= g.steps {
+        return Next::Stopped(Ending::AllowanceSpent, 0, g);
+    }
+    let mut paid = g;
+    paid.steps = g.steps + 1;
+    let p = g.p.0;
+    let q = g.q.0;
+    let entry = CodePlace(wide(code[number]));
+    match choose(bits, code, entry, &input[p..q]) {
+        Choice::Sentence {
+            number: _,
+            place,
+            stores,
+            stored,
+        } => start_sentence(paid, code, place, stores, stored, input, frames, values),
+        Choice::Nothing => Next::Stopped(Ending::NoSentenceFits, number, paid),
+        Choice::Wrong => Next::Stopped(Ending::NoInstruction, 0, paid),
+    }
+}
+
+// A call adds a frame; the caller's waits for it.
+pub fn call(
+    g: Registers,
+    bits: &[u8; 256],
+    code: &[u32],
+    number: usize,
+    allowance: u32,
+    input: &[u8],
+    frames: &mut [usize],
+    values: &mut [u8],
+) -> Next
+    requires { ⌜ Answers (now bits) ⌝ }
+    requires { ⌜ countIn (now code) < length (now code) ⌝ }
+    requires { ⌜ g .p .0 ≤ g .q .0 ⌝ }
+    requires { ⌜ g .q .0 ≤ length (now input) ⌝ }
+    requires { ⌜ g .frame < 256 ⌝ }
+    requires { ⌜ length (now frames) ≡ 6144 ⌝ }
+    requires { ⌜ length (now values) ≡ 4096 ⌝ }
+    ensures { λ r. ⌜ ((output journal : Bytes) → Performs (now (code .entry)) allowance (calling number) (g .at .0) g (memory (now (input .entry)) output journal (now (frames .entry)) (now (values .entry))) r (memory (now (input .entry)) output journal (now (frames .exit)) (now (values .exit)))) ⌝ }
+{
+    if !declared(code, number) {
+        return Next::Stopped(Ending::NoInstruction, 0, g);
+    }
+    if allowance <= g.steps {
+        return Next::Stopped(Ending::AllowanceSpent, 0, g);
+    }
+    let frame = g.frame;
+    if 255 <= frame {
+        return Next::Stopped(Ending::FramesFull, 0, g);
+    }
+    set_word(frames, frame, 0, g.at.0);
+    let mut next = g;
+    next.frame = frame + 1;
+    apply(next, bits, code, number, allowance, input, frames, values)
+}
+
+// A tail call takes the caller's frame.
+pub fn tail_call(
+    g: Registers,
+    bits: &[u8; 256],
+    code: &[u32],
+    number: usize,
+    allowance: u32,
+    input: &[u8],
+    frames: &mut [usize],
+    values: &mut [u8],
+) -> Next
+    requires { ⌜ Answers (now bits) ⌝ }
+    requires { ⌜ countIn (now code) < length (now code) ⌝ }
+    requires { ⌜ g .p .0 ≤ g .q .0 ⌝ }
+    requires { ⌜ g .q .0 ≤ length (now input) ⌝ }
+    requires { ⌜ g .frame < 256 ⌝ }
+    requires { ⌜ length (now frames) ≡ 6144 ⌝ }
+    requires { ⌜ length (now values) ≡ 4096 ⌝ }
+    ensures { λ r. ⌜ ((output journal : Bytes) → Performs (now (code .entry)) allowance (tailCall number) (g .at .0) g (memory (now (input .entry)) output journal (now (frames .entry)) (now (values .entry))) r (memory (now (input .entry)) output journal (now (frames .exit)) (now (values .exit)))) ⌝ }
+{
+    if !declared(code, number) {
+        return Next::Stopped(Ending::NoInstruction, 0, g);
+    }
+    apply(g, bits, code, number, allowance, input, frames, values)
+}

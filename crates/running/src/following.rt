@@ -1,0 +1,248 @@
+// A run: the loop over instructions, what comes before it and after it.
+ghost use Prim.Native.Nat.{_-_, _≤_, _<_};
+ghost use mathlib.Core.Path.{_≡_};
+ghost use lib.ListN.{length};
+ghost use Rattle.classes.specs.Tests.{Answers};
+ghost use Rattle.meaning.specs.Outcome.{resultOf};
+ghost use Rattle.meaning.specs.Runs.{lent, textOf, from, runLent};
+ghost use Rattle.meaning.specs.Leaving.{roomOf as roomOfCells, left};
+ghost use Rattle.running.specs.declared.registers.Next.the-variants.{Onward};
+ghost use Rattle.running.specs.States.{memory, roomOf};
+ghost use Rattle.running.specs.Waiting.{countIn, soundIn, functionsIn, comesTo, leftToDo};
+ghost use Rattle.running.specs.Advancing.{Underway, Keeps, registersIn, Advances, Leads, Follows};
+ghost use Rattle.running.specs.Leaving.{cells, Leaves, refusedWith, reportedOf, clearedFrom, loadedWith};
+use crate::applying::apply;
+use crate::applying::call;
+use crate::applying::tail_call;
+use crate::decoding::Instruction;
+use crate::decoding::decode;
+use crate::decoding::wide;
+use crate::emitting::emit;
+use crate::frames::leave;
+use crate::moving::begin_sequence;
+use crate::moving::copy_over;
+use crate::moving::shift;
+use crate::moving::use_sequence;
+use crate::moving::write;
+use crate::registers::CodePlace;
+use crate::registers::Ending;
+use crate::registers::InCell;
+use crate::registers::Next;
+use crate::registers::OutCell;
+use crate::registers::Registers;
+
+// What a run answers: the ending, the function that fits nothing, the steps, and the lengths of the text on out and of the emissions.
+pub struct Ran {
+    pub ending: Ending,
+    pub function: usize,
+    pub steps: u32,
+    pub text: usize,
+    pub emissions: usize,
+}
+
+pub fn refused(ending: Ending) -> Ran
+    ensures { λ r. ⌜ r ≡ refusedWith ending ⌝ }
+{
+    Ran {
+        ending: ending,
+        function: 0,
+        steps: 0,
+        text: 0,
+        emissions: 0,
+    }
+}
+
+// The code has its count word, an entry for each function, and each entry names a place inside the code.
+pub fn sound_table(code: &[u32]) -> bool
+    ensures { λ r. ⌜ r ≡ soundIn (now (code .entry)) ⌝ }
+{
+    if code.len() == 0 {
+        return false;
+    }
+    let count = wide(code[0]);
+    if code.len() - 1 < count {
+        return false;
+    }
+    let mut i = 0;
+    while i < count {
+        if code.len() <= wide(code[i + 1]) {
+            return false;
+        }
+        i += 1;
+    }
+    true
+}
+
+// One instruction.
+fn advance(
+    g: Registers,
+    bits: &[u8; 256],
+    code: &[u32],
+    allowance: u32,
+    input: &mut [u8],
+    output: &mut [u8],
+    journal: &mut [u8],
+    frames: &mut [usize],
+    values: &mut [u8],
+) -> Next
+    requires { ⌜ Answers (now bits) ⌝ }
+    requires { ⌜ countIn (now code) < length (now code) ⌝ }
+    requires { ⌜ Underway allowance g (memory (now input) (now output) (now journal) (now frames) (now values)) ⌝ }
+    ensures { λ r. ⌜ Advances (now (code .entry)) allowance (comesTo (roomOf (memory (now (input .entry)) (now (output .entry)) (now (journal .entry)) (now (frames .entry)) (now (values .entry)))) allowance (now (code .entry)) (Onward g) (memory (now (input .entry)) (now (output .entry)) (now (journal .entry)) (now (frames .entry)) (now (values .entry)))) (leftToDo (length (now (code .entry))) allowance (Onward g) (memory (now (input .entry)) (now (output .entry)) (now (journal .entry)) (now (frames .entry)) (now (values .entry)))) g (memory (now (input .entry)) (now (output .entry)) (now (journal .entry)) (now (frames .entry)) (now (values .entry))) r (memory (now (input .exit)) (now (output .exit)) (now (journal .exit)) (now (frames .exit)) (now (values .exit))) ⌝ }
+{
+    let at = g.at.0;
+    if code.len() <= at {
+        return Next::Stopped(Ending::NoInstruction, 0, g);
+    }
+    let mut h = g;
+    let after = CodePlace(at + 1);
+    h.at = after;
+    match decode(code[at]) {
+        Instruction::Shift(what) => shift(h, what, input, frames),
+        Instruction::Write(what) => write(h, what, input, output, frames, values),
+        Instruction::Begin => begin_sequence(h, frames),
+        Instruction::Use => use_sequence(h, input, output, frames),
+        Instruction::Call(number) => call(h, bits, code, number, allowance, input, frames, values),
+        Instruction::TailCall(number) => tail_call(
+            h,
+            bits,
+            code,
+            number,
+            allowance,
+            input,
+            frames,
+            values,
+        ),
+        Instruction::Emit(length) => emit(h, code, length, input, journal),
+        Instruction::End => leave(h, frames),
+        Instruction::Unknown => Next::Stopped(Ending::NoInstruction, 0, h),
+    }
+}
+
+fn follow(
+    first: Next,
+    bits: &[u8; 256],
+    code: &[u32],
+    allowance: u32,
+    input: &mut [u8],
+    output: &mut [u8],
+    journal: &mut [u8],
+    frames: &mut [usize],
+    values: &mut [u8],
+) -> Next
+    requires { ⌜ Answers (now bits) ⌝ }
+    requires { ⌜ countIn (now code) < length (now code) ⌝ }
+    requires { ⌜ Keeps allowance first (memory (now input) (now output) (now journal) (now frames) (now values)) ⌝ }
+    ensures { λ r. ⌜ Follows (now (code .entry)) allowance first (memory (now (input .entry)) (now (output .entry)) (now (journal .entry)) (now (frames .entry)) (now (values .entry))) r (memory (now (input .exit)) (now (output .exit)) (now (journal .exit)) (now (frames .exit)) (now (values .exit))) ⌝ }
+{
+    let mut next = first;
+    while let Next::Onward(g) = next {
+        next = advance(
+            g,
+            bits,
+            code,
+            allowance,
+            input,
+            output,
+            journal,
+            frames,
+            values,
+        );
+    }
+    next
+}
+
+fn clear_from(cells: &mut [u8], start: usize)
+    requires { ⌜ start ≤ length (now cells) ⌝ }
+    ensures { λ _. ⌜ now (cells .exit) ≡ clearedFrom start (now (cells .entry)) ⌝ }
+{
+    let mut i = start;
+    while i < cells.len() {
+        cells[i] = 0;
+        i += 1;
+    }
+}
+
+fn reported(next: Next) -> Ran
+    ensures { λ r. ⌜ r ≡ reportedOf next ⌝ }
+{
+    match next {
+        Next::Onward(g) => Ran {
+            ending: Ending::Finished,
+            function: 0,
+            steps: g.steps,
+            text: g.r.0,
+            emissions: g.emitted,
+        },
+        Next::Done(g) => Ran {
+            ending: Ending::Finished,
+            function: 0,
+            steps: g.steps,
+            text: g.r.0,
+            emissions: g.emitted,
+        },
+        Next::Stopped(ending, function, g) => Ran {
+            ending: ending,
+            function: function,
+            steps: g.steps,
+            text: 0,
+            emissions: g.emitted,
+        },
+    }
+}
+
+// The text lies on in as the field, out is empty, and nothing is counted yet.
+fn loaded(cells: usize, text: usize) -> Registers
+    requires { ⌜ text ≤ cells ⌝ }
+    ensures { λ r. ⌜ r ≡ loadedWith cells text ⌝ }
+{
+    Registers {
+        p: InCell(cells - text),
+        q: InCell(cells),
+        r: OutCell(0),
+        frame: 0,
+        at: CodePlace(0),
+        steps: 0,
+        emitted: 0,
+    }
+}
+
+pub fn run_lent(
+    code: &[u32],
+    start: usize,
+    text: &[u8],
+    input: &mut [u8],
+    output: &mut [u8],
+    journal: &mut [u8],
+    frames: &mut [usize],
+    values: &mut [u8],
+    allowance: u32,
+) -> Ran
+    requires { ⌜ countIn (now code) < length (now code) ⌝ }
+    requires { ⌜ 0 < start ⌝ }
+    requires { ⌜ start ≤ countIn (now code) ⌝ }
+    requires { ⌜ length (now text) ≤ length (now input) ⌝ }
+    requires { ⌜ length (now frames) ≡ 6144 ⌝ }
+    requires { ⌜ length (now values) ≡ 4096 ⌝ }
+    ensures { λ r. ⌜ Leaves r (cells (now (input .exit)) (now (output .exit)) (now (journal .exit))) (left (runLent (roomOfCells (cells (now (input .entry)) (now (output .entry)) (now (journal .entry)))) (functionsIn (now (code .entry))) start (now (text .entry)) allowance) (cells (now (input .entry)) (now (output .entry)) (now (journal .entry)))) ⌝ }
+{
+    let g = loaded(input.len(), text.len());
+    copy_over(input, g.p.0, text);
+    let bits = classes::class_table();
+    let first = apply(g, &bits, code, start, allowance, input, frames, values);
+    let last = follow(
+        first,
+        &bits,
+        code,
+        allowance,
+        input,
+        output,
+        journal,
+        frames,
+        values,
+    );
+    let ran = reported(last);
+    clear_from(input, 0);
+    clear_from(output, ran.text);
+    ran
+}
