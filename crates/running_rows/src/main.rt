@@ -1,0 +1,339 @@
+// The rows of 01 on their packed code, and runs of words that are no code.
+use libc::STDOUT_FILENO;
+use running::following::Ran;
+use running::registers::ending_number;
+
+const TABLE_Z: [u32; 22] = [
+    1,
+    2,
+    273,
+    655361,
+    805306369,
+    10,
+    65541,
+    16777478,
+    7,
+    5,
+    11,
+    6,
+    269,
+    15,
+    17,
+    327680,
+    5,
+    262,
+    7,
+    5,
+    15,
+    19,
+];
+
+const TABLE_R: [u32; 20] = [
+    1,
+    2,
+    273,
+    721152,
+    4,
+    10,
+    65541,
+    16777478,
+    7,
+    11,
+    6,
+    268,
+    9,
+    5,
+    15,
+    16,
+    131072,
+    261,
+    15,
+    19,
+];
+
+const TABLE_H: [u32; 10] = [1, 2, 65554, 327937, 1539, 516, 9, 261, 15, 19];
+
+const TABLE_K: [u32; 16] = [
+    1,
+    2,
+    65810,
+    721153,
+    2050,
+    4,
+    65541,
+    16777734,
+    7,
+    31752,
+    65541,
+    16777990,
+    7,
+    5,
+    15,
+    19,
+];
+
+const TABLE_P: [u32; 25] = [
+    2,
+    3,
+    17,
+    17,
+    720896,
+    10,
+    24840,
+    25096,
+    5,
+    262,
+    7,
+    5,
+    11,
+    6,
+    525,
+    15,
+    19,
+    17,
+    327680,
+    5,
+    262,
+    7,
+    5,
+    15,
+    19,
+];
+
+const TABLE_M: [u32; 52] = [
+    2,
+    3,
+    34,
+    17,
+    1835008,
+    10,
+    10,
+    5,
+    262,
+    7,
+    11,
+    6,
+    524,
+    11,
+    6,
+    1294,
+    69,
+    109,
+    105,
+    116,
+    65,
+    10,
+    30728,
+    11,
+    6,
+    1294,
+    69,
+    109,
+    105,
+    116,
+    66,
+    5,
+    15,
+    19,
+    17,
+    983040,
+    10,
+    5,
+    262,
+    7,
+    11,
+    6,
+    1294,
+    69,
+    109,
+    105,
+    116,
+    67,
+    30984,
+    5,
+    15,
+    19,
+];
+
+// Words that are no code: an unknown instruction after Out, a call past the count, and UseSeq without BeginSeq.
+const UNKNOWN: [u32; 8] = [1, 2, 17, 196608, 7, 99, 15, 19];
+
+const CALL_PAST: [u32; 7] = [1, 2, 17, 131072, 524, 15, 19];
+
+const UNOPENED: [u32; 7] = [1, 2, 17, 131072, 11, 15, 19];
+
+// What is lent, and the allowance.
+struct Lent {
+    input: usize,
+    output: usize,
+    journal: usize,
+    allowance: u32,
+}
+
+fn ample() -> Lent {
+    Lent {
+        input: 1000,
+        output: 1000,
+        journal: 1000,
+        allowance: 4294967295,
+    }
+}
+
+fn cells(input: usize, output: usize) -> Lent {
+    Lent {
+        input: input,
+        output: output,
+        journal: 1000,
+        allowance: 4294967295,
+    }
+}
+
+fn sevens() -> [u8; 1000] {
+    [7u8; 1000]
+}
+
+fn front(bytes: &[u8], count: usize) {
+    if count <= bytes.len() {
+        io::write_all(STDOUT_FILENO, &bytes[..count]);
+    }
+}
+
+// How many cells from a place on hold another byte than this.
+fn others(bytes: &[u8], start: usize, byte: u8) -> u64 {
+    let mut i = start;
+    let mut count: u64 = 0;
+    while i < bytes.len() {
+        if bytes[i] != byte {
+            count += 1;
+        }
+        i += 1;
+    }
+    count
+}
+
+fn print(n: u64) {
+    io::print_decimal(STDOUT_FILENO, n);
+    io::write_all(STDOUT_FILENO, b" ");
+}
+
+// Answer, function, steps; how many cells of in, of out after the text and of the journal after the emissions hold another byte than
+// they should; the emissions; the text.
+fn show(ran: Ran, input: &[u8], output: &[u8], journal: &[u8], left: u8) {
+    let ending = ran.ending;
+    let text = ran.text;
+    let emissions = ran.emissions;
+    print(ending_number(ending));
+    print(ran.function as u64);
+    print(ran.steps as u64);
+    print(others(input, 0, left));
+    print(others(output, text, left));
+    print(others(journal, emissions, 7));
+    io::write_all(STDOUT_FILENO, b"\n");
+    front(journal, emissions);
+    front(output, text);
+    io::write_all(STDOUT_FILENO, b"\n");
+}
+
+// A run on these cells.
+fn row_on(
+    code: &[u32],
+    start: usize,
+    text: &[u8],
+    input: &mut [u8],
+    output: &mut [u8],
+    journal: &mut [u8],
+    allowance: u32,
+    left: u8,
+) {
+    let ran = running::run(code, start, text, input, output, journal, allowance);
+    show(ran, input, output, journal, left);
+}
+
+fn row_from(code: &[u32], start: usize, text: &[u8], lent: Lent, left: u8) {
+    let mut first = sevens();
+    let mut second = sevens();
+    let mut third = sevens();
+    let input: &mut [u8] = &mut first;
+    let output: &mut [u8] = &mut second;
+    let journal: &mut [u8] = &mut third;
+    let a = lent.input;
+    let b = lent.output;
+    let c = lent.journal;
+    if input.len() < a {
+        return;
+    }
+    if output.len() < b {
+        return;
+    }
+    if journal.len() < c {
+        return;
+    }
+    row_on(
+        code,
+        start,
+        text,
+        &mut input[..a],
+        &mut output[..b],
+        &mut journal[..c],
+        lent.allowance,
+        left,
+    );
+}
+
+fn row(code: &[u32], text: &[u8], lent: Lent) {
+    row_from(code, 1, text, lent, 0);
+}
+
+fn main() {
+    row(&TABLE_Z, b"0060", ample());
+    row(&TABLE_Z, b"", ample());
+    row(
+        &TABLE_Z,
+        b"0060",
+        Lent {
+            input: 1000,
+            output: 1000,
+            journal: 1000,
+            allowance: 2,
+        },
+    );
+    row(
+        &TABLE_Z,
+        b"0060",
+        Lent {
+            input: 1000,
+            output: 1000,
+            journal: 1000,
+            allowance: 3,
+        },
+    );
+    row(&TABLE_Z, b"0060", cells(4, 3));
+    row(&TABLE_Z, b"0060", cells(4, 2));
+    row(&TABLE_R, b"abc", cells(3, 3));
+    row(&TABLE_R, b"abc", cells(3, 2));
+    row(&TABLE_H, b"ab7c9", ample());
+    row(&TABLE_H, b"abc", ample());
+    row(&TABLE_K, b"abcab", ample());
+    row(&TABLE_K, b"aa", ample());
+    row(&TABLE_K, b"ab", ample());
+    row(&TABLE_P, b"c", cells(3, 3));
+    row(&TABLE_P, b"c", cells(2, 3));
+    row(&TABLE_M, b"q", ample());
+    row(
+        &TABLE_M,
+        b"q",
+        Lent {
+            input: 1000,
+            output: 1000,
+            journal: 15,
+            allowance: 2,
+        },
+    );
+    row_from(&TABLE_P, 0, b"c", ample(), 7);
+    row_from(&TABLE_P, 3, b"c", ample(), 7);
+    row_from(&TABLE_P, 2, b"cccc", cells(3, 3), 7);
+    row_from(&TABLE_P[..2], 1, b"c", ample(), 7);
+    row(&UNKNOWN, b"c", ample());
+    row(&CALL_PAST, b"c", ample());
+    row(&UNOPENED, b"c", ample());
+}
