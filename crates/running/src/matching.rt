@@ -1,7 +1,3 @@
-// NOTE TO WHOEVER PROVES THE CRATE RUNNING: a colleague proves all functions of THIS FILE (matching.rt) and `store_values`, `stored_cell` of applying.rt in
-// /work/parts/matching (contracts in specs/Matched.antt there). Do not start on them: go on with moving, emitting, frames, applying, following, run
-// (assume `choose` meets: its result is `chooseFrom 0 (unpackSentences 0 (drop entry code)) field` with stores and actions told by code places), and copy
-// crates/running/{src/matching.rt,specs/Matched.antt,proofs/matching*} from there when /work/parts/matching/DONE exists. Remove this note then.
 // Choosing a function's sentence for a field, read-only.
 ghost use Prim.Native.Nat.{ℕ, suc, _+_, _-_, _≤_, _<_, _%_, _/_, _^_};
 ghost use mathlib.Core.Path.{_≡_};
