@@ -1,8 +1,4 @@
 -- Laws over plain values.
-pub mod Lists
-pub mod Fields
-pub mod Testing
-pub mod Sentences
 pub mod Copying
 pub mod Frames
 pub mod Spanning

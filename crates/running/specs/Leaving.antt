@@ -8,7 +8,7 @@ use Rattle.meaning.specs.Outcome.{Outcome, Result, resultOf}
 use Rattle.meaning.specs.Runs.{textOf}
 use Rattle.meaning.specs.Packing.{Words}
 use Rattle.meaning.specs.Leaving.{Cells, Leaving, leaving, zeros}
-use Rattle.running.specs.declared.following.Ran.{Ran}
+use Rattle.running.specs.declared.registers.Ran.{Ran}
 use Rattle.running.specs.declared.registers.Registers.{Registers}
 use Rattle.running.specs.declared.registers.Next.{Next}
 use Rattle.running.specs.declared.registers.Next.the-variants.{Onward, Done, Stopped}

@@ -8,21 +8,21 @@ ghost use Rattle.meaning.specs.Machine.{isDeclared};
 ghost use Rattle.meaning.specs.Instructions.{call as calling, tailCall};
 ghost use Rattle.meaning.specs.Packing.{storeOf, unpackStores};
 ghost use Rattle.classes.specs.Tests.{Answers};
-ghost use Rattle.running.specs.Matched.{cellMeant};
+ghost use Rattle.matching.specs.Matched.{cellMeant};
 ghost use Rattle.running.specs.Storing.{Stores, begun};
 ghost use Rattle.running.specs.States.{memory};
 ghost use Rattle.running.specs.Waiting.{countIn, functionsIn};
 ghost use Rattle.running.specs.Advancing.{Performs, Applies, Starts};
-use crate::decoding::wide;
 use crate::frames::set_word;
-use crate::matching::Cell;
-use crate::matching::Choice;
-use crate::matching::cell_at;
-use crate::matching::choose;
-use crate::registers::CodePlace;
 use crate::registers::Ending;
 use crate::registers::Next;
 use crate::registers::Registers;
+use matching::Cell;
+use matching::Choice;
+use matching::CodePlace;
+use matching::cell_at;
+use matching::choose;
+use matching::wide;
 
 pub fn declared(code: &[u32], number: usize) -> bool
     requires { ⌜ countIn (now code) < length (now code) ⌝ }
@@ -156,7 +156,8 @@ pub fn apply(
     requires { ⌜ length (now values) ≡ 4096 ⌝ }
     ensures { λ r. ⌜ ((output journal : Bytes) → Applies (now (code .entry)) allowance number g (memory (now (input .entry)) output journal (now (frames .entry)) (now (values .entry))) r (memory (now (input .entry)) output journal (now (frames .exit)) (now (values .exit)))) ⌝ }
 {
-    if allowance <= g.steps {
+    let steps = g.steps;
+    if allowance <= steps {
         return Next::Stopped(Ending::AllowanceSpent, 0, g);
     }
     let mut paid = g;

@@ -1,4 +1,5 @@
 // Code words as instructions.
+use matching::wide;
 ghost use mathlib.Core.Path.{_≡_};
 ghost use Rattle.running.specs.Decoded.{lengthIn, spanIn, instructionIn};
 
@@ -42,12 +43,6 @@ pub enum Instruction {
     Emit(usize),
     End,
     Unknown,
-}
-
-pub fn wide(word: u32) -> usize
-    ensures { λ r. ⌜ r ≡ word ⌝ }
-{
-    word as usize
 }
 
 fn length_of(number: u32) -> Length

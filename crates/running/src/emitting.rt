@@ -11,10 +11,10 @@ ghost use Rattle.meaning.specs.Packing.{emissionOf};
 ghost use Rattle.running.specs.Decoded.{isName};
 ghost use Rattle.running.specs.States.{memory, Acts};
 use crate::moving::copy_over;
-use crate::registers::CodePlace;
 use crate::registers::Ending;
 use crate::registers::Next;
 use crate::registers::Registers;
+use matching::CodePlace;
 
 // Whether so many words from a place on are there and are bytes.
 fn named(code: &[u32], name: CodePlace, size: usize) -> bool

@@ -16,7 +16,6 @@ use crate::applying::call;
 use crate::applying::tail_call;
 use crate::decoding::Instruction;
 use crate::decoding::decode;
-use crate::decoding::wide;
 use crate::emitting::emit;
 use crate::frames::leave;
 use crate::moving::begin_sequence;
@@ -24,21 +23,14 @@ use crate::moving::copy_over;
 use crate::moving::shift;
 use crate::moving::use_sequence;
 use crate::moving::write;
-use crate::registers::CodePlace;
 use crate::registers::Ending;
 use crate::registers::InCell;
 use crate::registers::Next;
 use crate::registers::OutCell;
+use crate::registers::Ran;
 use crate::registers::Registers;
-
-// What a run answers: the ending, the function that fits nothing, the steps, and the lengths of the text on out and of the emissions.
-pub struct Ran {
-    pub ending: Ending,
-    pub function: usize,
-    pub steps: u32,
-    pub text: usize,
-    pub emissions: usize,
-}
+use matching::CodePlace;
+use matching::wide;
 
 pub fn refused(ending: Ending) -> Ran
     ensures { λ r. ⌜ r ≡ refusedWith ending ⌝ }

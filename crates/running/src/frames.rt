@@ -6,9 +6,9 @@ ghost use mathlib.Core.Path.{_≡_};
 ghost use lib.ListN.{length, set};
 ghost use Rattle.running.specs.States.{frameWord};
 ghost use Rattle.running.specs.Waiting.{leftBy};
-use crate::registers::CodePlace;
 use crate::registers::Next;
 use crate::registers::Registers;
+use matching::CodePlace;
 
 pub fn frame_room() -> [usize; 6144]
     ensures { λ r. ⌜ length r ≡ 6144 ⌝ }

@@ -2,23 +2,22 @@
 ghost use Rattle.meaning.specs.Leaving.{leaving};
 ghost use Rattle.running.specs.Leaving.{cells, Leaves};
 
-pub mod applying;
-pub mod decoding;
-pub mod emitting;
-pub mod following;
-pub mod frames;
-pub mod matching;
-pub mod moving;
+mod applying;
+mod decoding;
+mod emitting;
+mod following;
+mod frames;
+mod moving;
 pub mod registers;
 
 use crate::applying::declared;
-use crate::following::Ran;
 use crate::following::refused;
 use crate::following::run_lent;
 use crate::following::sound_table;
 use crate::frames::frame_room;
 use crate::frames::value_room;
 use crate::registers::Ending;
+use crate::registers::Ran;
 
 // A run of code words: what is answered, and what is left in the lent cells.
 pub fn run(

@@ -1,11 +1,12 @@
 // The registers of one run, the three kinds of place that they count, and how a run goes on.
+use matching::CodePlace;
+ghost use mathlib.Core.Path.{_≡_};
+ghost use Rattle.running.specs.Endings.{endingNumber};
 
-// A cell of in, a cell of out, a place in the code.
+// A cell of in and a cell of out. A place in the code is matching's CodePlace.
 pub struct InCell(pub usize);
 
 pub struct OutCell(pub usize);
-
-pub struct CodePlace(pub usize);
 
 // 000's p, q and r; the current frame, as the number of frames that wait below it; the next code word; the steps made and the length of
 // the emissions.
@@ -40,8 +41,19 @@ pub enum Next {
     Stopped(Ending, usize, Registers),
 }
 
+// What a run answers: the ending, the function that fits nothing, the steps, and the lengths of the text on out and of the emissions.
+pub struct Ran {
+    pub ending: Ending,
+    pub function: usize,
+    pub steps: u32,
+    pub text: usize,
+    pub emissions: usize,
+}
+
 // 01's number for an ending.
-pub fn ending_number(ending: Ending) -> u64 {
+pub fn ending_number(ending: Ending) -> u64
+    ensures { λ r. ⌜ r ≡ endingNumber ending ⌝ }
+{
     match ending {
         Ending::Finished => 0,
         Ending::NoSuchStart => 9,

@@ -1,6 +1,6 @@
 // The rows of 01 on their packed code, and runs of words that are no code.
 use libc::STDOUT_FILENO;
-use running::following::Ran;
+use running::registers::Ran;
 use running::registers::ending_number;
 
 const TABLE_Z: [u32; 22] = [

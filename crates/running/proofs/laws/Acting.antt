@@ -30,7 +30,7 @@ use Rattle.running.specs.declared.moving.Reached.the-variants.{At, Wrong
 use Rattle.running.specs.Endings.{endingNumber}
 use Rattle.running.specs.Spans.{cellsOf, reachedBy}
 use Rattle.running.specs.States.{Memory, memory, frameWord, localOf, stacksOf, Ledgers, ledgerOf, roomOf, movedTo, Fits, Outcomes, Going, Stayed, Acts}
-use Rattle.running.proofs.laws.Lists.{nth-in, nth-out}
+use Rattle.matching.proofs.laws.Lists.{nth-in, nth-out}
 use Rattle.running.proofs.laws.Spanning.{counted, not-counted, led, not-led}
 
 -- the value that a frame stored under a number

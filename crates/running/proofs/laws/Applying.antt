@@ -23,14 +23,14 @@ use Rattle.running.specs.declared.registers.Ending.{Ending}
 use Rattle.running.specs.declared.registers.Ending.the-variants.{NoSentenceFits, AllowanceSpent, FramesFull, NoInstruction}
 use Rattle.running.specs.declared.registers.Next.{Next}
 use Rattle.running.specs.declared.registers.Next.the-variants.{Onward, Done, Stopped}
-use Rattle.running.specs.declared.registers.CodePlace.{CodePlace}
+use Rattle.matching.specs.declared.CodePlace.{CodePlace}
 use Rattle.running.specs.declared.applying.Stored.the-variants.{Before, Wrong}
 use Rattle.running.specs.Endings.{endingNumber}
 use Rattle.running.specs.States.{Memory, memory, frameWord, localAt, localOf, stacksOf, Ledgers, ledgerOf, roomOf, Outcomes}
 use Rattle.running.specs.Storing.{Stores, begun}
 use Rattle.running.specs.Waiting.{countIn, functionsIn, entering, going, waiting, returning, comesTo, performing, leftWaiting, leftBelow, leftToDo}
 use Rattle.running.specs.Advancing.{Held, Ready, Underway, Ended, Leads, Advances, Performs, Applies, Starts}
-use Rattle.running.proofs.laws.Lists.{past-end}
+use Rattle.matching.proofs.laws.Lists.{past-end}
 use Rattle.running.proofs.laws.Waiting.{left-same, held-same, waiting-same, waiting-stop, entering-paid}
 use Rattle.running.proofs.laws.Advancing.{ended-of}
 

@@ -11,17 +11,18 @@ use lib.ListN.{length, getD, take, drop, set, length-set}
 use lib.Seq.{getD-set-same, getD-set-other, take-set-le, take-set-lt, drop-set-lt}
 use borrow.Author.Tests.{lt-ltb, le-ltb, ltb-true, ltb-false}
 use Rattle.meaning.specs.Choice.{Bytes}
+use Rattle.meaning.specs.Answers.{noInstruction}
 use Rattle.meaning.specs.Outcome.{pay, stop, andThen}
-use Rattle.meaning.specs.Instructions.{call, tailCall}
+use Rattle.meaning.specs.Instructions.{Action, call, tailCall}
 use Rattle.meaning.specs.Matching.{Choice, chosen, chosenNone, chosenWrong, chooseFrom}
-use Rattle.meaning.specs.Machine.{isDeclared, withSelected, ranPaid, ranChoice}
+use Rattle.meaning.specs.Machine.{perform, isDeclared, withSelected, ranPaid, ranChoice}
 use Rattle.meaning.specs.Runs.{Room, lent}
 use Rattle.meaning.specs.Packing.{Words, unpackSentences, unpackStores, unpackActions}
 use Rattle.running.specs.declared.registers.Registers.{Registers}
 use Rattle.running.specs.declared.registers.Ending.the-variants.{NoSentenceFits, AllowanceSpent, FramesFull, NoInstruction}
 use Rattle.running.specs.declared.registers.Next.{Next}
 use Rattle.running.specs.declared.registers.Next.the-variants.{Onward, Done, Stopped}
-use Rattle.running.specs.States.{Memory, memory, frameWord, localAt, stacksOf, ledgerOf, roomOf, Outcomes}
+use Rattle.running.specs.States.{Memory, memory, frameWord, localAt, localOf, stacksOf, ledgerOf, roomOf, Outcomes}
 use Rattle.running.specs.Waiting.{countIn, functionsIn, entering, going, waiting, performing, leftWaiting, leftBelow, leftToDo}
 use Rattle.running.specs.Advancing.{Held, Ready, Underway, Leads, Advances, Performs, Applies, Starts}
 use Rattle.running.proofs.laws.Waiting.{left-same, held-same, waiting-same, entering-paid}
@@ -147,11 +148,20 @@ module _ (frames : List ℕ) (k at : ℕ) (room : length frames ≡ 6144) (frame
         (waiting-same roomy allowance words frames Calling values values k (sym called-below) refl _)
 
 module _ (words : Words) (allowance number : ℕ) (g : Registers) (m : Memory) where
-  pub call-undeclared : isDeclared (functionsIn words) number ≡ false → Performs words allowance (call number) (g .at .0) g m (Stopped NoInstruction 0 g) m
-  call-undeclared e u = stopping words allowance g m m (u .ready) _ _ NoInstruction 0 g (omega arith) (rw e) refl refl refl refl refl
+  -- a call or a tail call
+  abbrev pub calling : Bool → Action
+  calling true = tailCall number
+  calling false = call number
 
-  pub tail-undeclared : isDeclared (functionsIn words) number ≡ false → Performs words allowance (tailCall number) (g .at .0) g m (Stopped NoInstruction 0 g) m
-  tail-undeclared e u = stopping words allowance g m m (u .ready) _ _ NoInstruction 0 g (omega arith) (rw e) refl refl refl refl refl
+  pub undeclared : (tail : Bool) → isDeclared (functionsIn words) number ≡ false → Performs words allowance (calling tail) (g .at .0) g m (Stopped NoInstruction 0 g) m
+  undeclared tail e u = stopping words allowance g m m (u .ready) _ _ NoInstruction 0 g (omega arith) (stops tail) refl refl refl refl refl
+    where
+      stops : (tail : Bool) →
+          perform (lent (roomOf m)) (functionsIn words) (entering (roomOf m) allowance words) (going (roomOf m) allowance words (g .frame) (g .at .0)) (suc (g .frame))
+          (calling tail) (localOf g m) (stacksOf g m) (ledgerOf allowance g m) ≡
+          stop noInstruction 0 (ledgerOf allowance g m)
+      stops true = rw e
+      stops false = rw e
 
   module _ (declared : isDeclared (functionsIn words) number ≡ true) where
     pub call-spent : allowance ≤ g .steps → Performs words allowance (call number) (g .at .0) g m (Stopped AllowanceSpent 0 g) m

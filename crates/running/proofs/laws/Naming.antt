@@ -15,7 +15,7 @@ use Rattle.meaning.specs.Outcome.{emittedLine}
 use Rattle.meaning.specs.Allowed.{isByte}
 use Rattle.meaning.specs.Packing.{Words}
 use Rattle.running.specs.Decoded.{isName}
-use Rattle.running.proofs.laws.Lists.{at-place}
+use Rattle.matching.proofs.laws.Lists.{at-place}
 
 -- WORDS THAT ARE BYTES
 

@@ -16,7 +16,7 @@ use Rattle.running.specs.declared.decoding.Shift.the-variants.{Go, Selec
 use Rattle.running.specs.declared.decoding.Write.the-variants.{Part, Character, Value}
 use Rattle.running.specs.declared.decoding.Instruction.the-variants.{Shift as Shifts, Write as Writes, Begin, Use, Call, TailCall, Emit, End, Unknown}
 use Rattle.running.specs.Decoded.{spanIn, instructionIn, registerMeant, lengthIn, actionsMeant}
-use Rattle.running.proofs.laws.Lists.{at-place, past-end}
+use Rattle.matching.proofs.laws.Lists.{at-place, past-end}
 
 module _ (a b c d : Bool) where
   known : registerMeant (pick a Null (pick b Whole (pick c Left (pick d Right UnknownLength)))) ≡

@@ -13,9 +13,9 @@ use Rattle.meaning.specs.Instructions.{Site}
 use Rattle.meaning.specs.Matching.{kept, storedCell, storedValues}
 use Rattle.meaning.specs.Packing.{Words, storeAt, storeOf, unpackStores}
 use Rattle.running.specs.declared.applying.Stored.the-variants.{Before, Wrong}
-use Rattle.running.specs.Matched.{siteCell}
+use Rattle.matching.specs.Matched.{siteCell}
 use Rattle.running.specs.Storing.{Stores}
-use Rattle.running.proofs.laws.Lists.{at-place}
+use Rattle.matching.proofs.laws.Lists.{at-place}
 
 -- a store asks for the cell at its site
 pub store-asks : (field : Bytes) (place : ℕ) (s : Option Site) → storedCell (storeAt s) field place ≡ siteCell s field place

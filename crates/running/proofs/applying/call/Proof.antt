@@ -1,10 +1,11 @@
 -- `applying::call` meets its contract.
 use native.Mathlib.Omega.{arith}
 use mathlib.Core.Path.{sym, _∙_}
+use mathlib.Core.Bool.{false}
 use borrow.Author.Tests.{not-true, not-false}
 use Rattle.running.specs.States.{memory}
 use Rattle.running.proofs.laws.Applying.{is-declared}
-use Rattle.running.proofs.laws.Calling.{call-undeclared, call-spent, call-full, call-applies}
+use Rattle.running.proofs.laws.Calling.{undeclared, call-spent, call-full, call-applies}
 use borrow.Author.Needs.{needs}
 use Rattle.running.proofs.applying.call.Statement.{statement}
 use Rattle.running.proofs.applying.call.Tie as tie
@@ -13,7 +14,7 @@ declared-requires : tie.Need-declared-requires
 declared-requires c κs = search needs
 
 returns : tie.Need-returns
-returns c = let a = c .before .before .before .before .before .before .args in λ output journal. call-undeclared (a .code .now) (a .allowance) (a .number) (a .g) (memory (a .input .now) output journal (a .frames .now) (a .values .now)) (sym (c .before .declared .ensures) ∙ not-true _ (c .if1 .taken))
+returns c = let a = c .before .before .before .before .before .before .args in λ output journal. undeclared (a .code .now) (a .allowance) (a .number) (a .g) (memory (a .input .now) output journal (a .frames .now) (a .values .now)) false (sym (c .before .declared .ensures) ∙ not-true _ (c .if1 .taken))
 
 returns-2 : tie.Need-returns-2
 returns-2 c = let a = c .before .before .before .before .before .before .before .before .args in λ output journal. call-spent (a .code .now) (a .allowance) (a .number) (a .g) (memory (a .input .now) output journal (a .frames .now) (a .values .now)) (sym (c .before .before .before .declared .ensures) ∙ not-false _ (c .before .before .if1 .left)) (c .if2 .taken)

@@ -3,7 +3,7 @@
 use Prim.Native.Nat.{_-_}
 use borrow.Author.Needs.{needs}
 use mathlib.Core.Path.{sym, _∙_, ap}
-use Rattle.running.specs.Matched.{cellMeant}
+use Rattle.matching.specs.Matched.{cellMeant}
 use Rattle.running.proofs.laws.Storing.{Storing, storing-start, storing-cut, storing-wrong, storing-next, storing-done}
 use Rattle.running.proofs.applying.store_values.Statement.{statement}
 use Rattle.running.proofs.applying.store_values.Tie as tie

@@ -1,0 +1,28 @@
+-- `byte_after` meets its contract.
+use borrow.Author.Needs.{needs}
+use native.Mathlib.Omega.{arith}
+use mathlib.Core.Path.{sym}
+use Rattle.matching.proofs.laws.Lists.{nth-in, nth-out}
+use Rattle.matching.proofs.byte_after.Statement.{statement}
+use Rattle.matching.proofs.byte_after.Tie as tie
+
+sub-if2 : tie.Need-sub-if2
+sub-if2 c = search needs
+
+add-t9 : tie.Need-add-t9
+add-t9 c = search needs
+
+shared-slice-read-t11 : tie.Need-shared-slice-read-t11
+shared-slice-read-t11 c = search needs
+
+returns : tie.Need-returns
+returns c = sym (nth-in _ _ (omega arith))
+
+returns-2 : tie.Need-returns-2
+returns-2 c = sym (nth-out _ _ (omega arith))
+
+returns-3 : tie.Need-returns-3
+returns-3 c = sym (nth-out _ _ (omega arith))
+
+pub byte-after-spec : {M : Type 1} → statement M
+byte-after-spec = tie.close (tie.spec sub-if2 add-t9 shared-slice-read-t11 returns returns-2 returns-3)

@@ -1,0 +1,62 @@
+-- `check_all` meets its contract. The loop's invariant: the tests from here on say what those from the first on say.
+use borrow.Author.Needs.{needs}
+use native.Mathlib.Omega.{arith}
+use Prim.Native.Nat.{_≤_}
+use mathlib.Core.Path.{_≡_, refl}
+use Rattle.matching.proofs.laws.Testing.{testing, no-tests, tests-run-out, next-test}
+use Rattle.matching.proofs.check_all.Statement.{statement}
+use Rattle.matching.proofs.check_all.Tie as tie
+
+abbrev Inv-loop : tie.InvT-loop
+Inv-loop bits code count field place at₀ left₀ at left = testing field place code at left ≡ testing field place code at₀ left₀
+
+abbrev μ-loop : tie.MeasureT-loop
+μ-loop bits code count field place at₀ left₀ at left = left
+
+loop-holds : tie.Need-loop-holds Inv-loop μ-loop
+loop-holds c = refl
+
+returns : tie.Need-returns Inv-loop μ-loop
+returns c = rw (tests-run-out _ _ _ _ _ (c .before .loop-test .taken) (c .if1 .taken)) at (c .before .before .loop .inv)
+
+mul-check : tie.Need-mul-check Inv-loop μ-loop
+mul-check c = search needs
+
+shared-slice-read-check : tie.Need-shared-slice-read-check Inv-loop μ-loop
+shared-slice-read-check c = omega arith
+
+check-requires : tie.Need-check-requires Inv-loop μ-loop
+check-requires c κs = c .before .before .before .before .before .before .pre
+
+enum-told : tie.Need-enum-told Inv-loop μ-loop
+enum-told c = search needs
+
+returns-2 : tie.Need-returns-2 Inv-loop μ-loop
+returns-2 c = rw (next-test _ _ _ _ _ (c .before .before .before .before .before .loop-test .taken) (c .before .before .before .before .if1 .left), ← (c .before .before .check .ensures), c .enum-told .given .1) at (c .before .before .before .before .before .before .loop .inv)
+
+enum-told-2 : tie.Need-enum-told-2 Inv-loop μ-loop
+enum-told-2 c = search needs
+
+returns-3 : tie.Need-returns-3 Inv-loop μ-loop
+returns-3 c = rw (next-test _ _ _ _ _ (c .before .before .before .before .before .loop-test .taken) (c .before .before .before .before .if1 .left), ← (c .before .before .check .ensures), c .enum-told2 .given .1) at (c .before .before .before .before .before .before .loop .inv)
+
+enum-told-3 : tie.Need-enum-told-3 Inv-loop μ-loop
+enum-told-3 c = search needs
+
+add-at : tie.Need-add-at Inv-loop μ-loop
+add-at c = omega arith
+
+sub-left : tie.Need-sub-left Inv-loop μ-loop
+sub-left c = omega arith
+
+loop-less : tie.Need-loop-less Inv-loop μ-loop
+loop-less c = omega arith
+
+loop-again : tie.Need-loop-again Inv-loop μ-loop
+loop-again c = rw (next-test _ _ _ _ _ (c .before .before .before .before .before .loop-test .taken) (c .before .before .before .before .if1 .left), ← (c .before .before .check .ensures), c .enum-told3 .given .1) at (c .before .before .before .before .before .before .loop .inv)
+
+returns-4 : tie.Need-returns-4 Inv-loop μ-loop
+returns-4 c = rw (no-tests _ _ _ _ _ (c .loop-test .left)) at (c .before .loop .inv)
+
+pub check-all-spec : {M : Type 1} → statement M
+check-all-spec = tie.close (tie.spec Inv-loop μ-loop loop-holds returns mul-check shared-slice-read-check check-requires enum-told returns-2 enum-told-2 returns-3 enum-told-3 add-at sub-left loop-less loop-again returns-4)

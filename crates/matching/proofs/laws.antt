@@ -1,0 +1,5 @@
+-- Laws over plain values.
+pub mod Lists
+pub mod Fields
+pub mod Testing
+pub mod Sentences

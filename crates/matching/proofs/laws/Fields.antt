@@ -1,0 +1,91 @@
+-- The cells of a field and the tests on them, as matching asks for them.
+use Prim.Native.Nat.{ℕ, zero, suc, _+_, _-_, _≤_, _<_}
+use native.Mathlib.Omega.{arith}
+use mathlib.Core.Path.{_≡_, refl, sym, _∙_}
+use mathlib.Core.Bool.{Bool, true, false}
+use mathlib.Core.Option.{Option, none, some}
+use lib.Dec.{leb, eqb}
+use lib.ListN.{length, getD}
+use borrow.Author.Tests.{le-leb, lt-leb, ne-eqb}
+use Rattle.meaning.specs.Choice.{Bytes, pick, guard, nth}
+use Rattle.meaning.specs.Classes.{Class, digit, upper, lower, alphabetic, blank, inClass}
+use Rattle.meaning.specs.Rewriting.{sameTruth}
+use Rattle.meaning.specs.Instructions.{Site, fromEnd, unknownTest}
+use Rattle.meaning.specs.Matching.{Checked, checked, asked, wrong, check, cellAt}
+use Rattle.meaning.specs.Packing.{numberIn, classOf, siteOf, lookOf, compareOf, predicateFor, testOf, metricIn}
+use Rattle.classes.specs.Tests.{classTest}
+use Rattle.matching.specs.Matched.{siteCell}
+use Rattle.matching.proofs.laws.Lists.{nth-in}
+
+-- a test asks for the cell at its site
+pub look-asks : (o : Option Site) (c : ℕ) (field : Bytes) (place : ℕ) (a : Option ℕ) → a ≡ siteCell o field place →
+    check (lookOf o c) field place ≡ asked (λ b. checked (eqb c b)) a
+look-asks none c field place a e = rw e
+look-asks (some s) c field place a e = rw e
+
+pub compare-asks : (o o′ : Option Site) (field : Bytes) (place : ℕ) (a : Option ℕ) → a ≡ siteCell o field place →
+    check (compareOf o o′) field place ≡ asked (λ b. asked (λ b′. checked (eqb b b′)) (siteCell o′ field place)) a
+compare-asks none o′ field place a e = rw e
+compare-asks (some s) none field place a e = no a
+  where
+    no : (a : Option ℕ) → wrong ≡ asked (λ b. wrong) a
+    no none = refl
+    no (some b) = refl
+compare-asks (some s) (some s′) field place a e = rw e
+
+pub predicate-asks : (o : Option Site) (class : Class) (expected : Bool) (field : Bytes) (place : ℕ) (a : Option ℕ) → a ≡ siteCell o field place →
+    check (predicateFor o (some class) expected) field place ≡ asked (λ b. checked (sameTruth expected (inClass class b))) a
+predicate-asks none class expected field place a e = rw e
+predicate-asks (some s) class expected field place a e = rw e
+
+pub predicate-unknown : (o : Option Site) (expected : Bool) (field : Bytes) (place : ℕ) → check (predicateFor o none expected) field place ≡ wrong
+predicate-unknown none expected field place = refl
+predicate-unknown (some s) expected field place = refl
+
+-- the classes have the numbers 0 to 4
+pub class-unknown : (n : ℕ) → 4 < n → classOf n ≡ none
+class-unknown n h =
+    simp (ne-eqb n 0 (omega arith), ne-eqb n 1 (omega arith), ne-eqb n 2 (omega arith), ne-eqb n 3 (omega arith), ne-eqb n 4 (omega arith))
+
+pub record KnownClass (n : ℕ) : Type 0 where
+  pub class : Class
+  pub numbered : classOf n ≡ some class
+  pub asks : (b : ℕ) → classTest n b ≡ inClass class b
+
+pub class-known : (n : ℕ) → n ≤ 4 → KnownClass n
+class-known zero h = record { class = digit; numbered = refl; asks = λ b. refl }
+class-known (suc zero) h = record { class = upper; numbered = refl; asks = λ b. refl }
+class-known (suc (suc zero)) h = record { class = lower; numbered = refl; asks = λ b. refl }
+class-known (suc (suc (suc zero))) h = record { class = alphabetic; numbered = refl; asks = λ b. refl }
+class-known (suc (suc (suc (suc zero)))) h = record { class = blank; numbered = refl; asks = λ b. refl }
+class-known (suc (suc (suc (suc (suc n))))) h = absurd (omega arith)
+
+-- the cell counted back from the end
+pub from-end : (field : Bytes) (k : ℕ) → k ≤ length field → cellAt (fromEnd k) field 0 ≡ nth (length field - k) field
+from-end field k h = rw (le-leb k (length field) h)
+
+pub before-start : (field : Bytes) (k : ℕ) → length field < k → cellAt (fromEnd k) field 0 ≡ none
+before-start field k h = rw (lt-leb k (length field) h)
+
+-- the three registers have the numbers 0 to 2
+pub site-unknown : (register k : ℕ) → (register ≡ 0 → ⊥) → (register ≡ 1 → ⊥) → (register ≡ 2 → ⊥) → siteOf register k ≡ none
+site-unknown register k h h′ h″ = simp (ne-eqb register 0 h, ne-eqb register 1 h′, ne-eqb register 2 h″)
+
+pub predicate-none : (o : Option Site) (n : ℕ) (expected : Bool) (field : Bytes) (place : ℕ) → n ≤ 4 → none ≡ siteCell o field place →
+    check (predicateFor o (classOf n) expected) field place ≡ wrong
+predicate-none o n expected field place h e =
+    let k = class-known n h in
+    rw (k .numbered) (predicate-asks o (k .class) expected field place none e)
+
+pub predicate-told : (o : Option Site) (n : ℕ) (expected : Bool) (field : Bytes) (place b : ℕ) → n ≤ 4 → some b ≡ siteCell o field place →
+    check (predicateFor o (classOf n) expected) field place ≡ checked (sameTruth expected (classTest n b))
+predicate-told o n expected field place b h e =
+    let k = class-known n h in
+    rw (k .numbered, k .asks b) (predicate-asks o (k .class) expected field place (some b) e)
+
+-- a sentence's first word that is none
+pub metric-unknown : (w : ℕ) → (numberIn w ≡ 16 → ⊥) → (numberIn w ≡ 17 → ⊥) → (numberIn w ≡ 18 → ⊥) → metricIn w ≡ none
+metric-unknown w h h′ h″ = simp (ne-eqb (numberIn w) 16 h, ne-eqb (numberIn w) 17 h′, ne-eqb (numberIn w) 18 h″)
+
+pub test-unknown : (w : ℕ) → (numberIn w ≡ 1 → ⊥) → (numberIn w ≡ 2 → ⊥) → (numberIn w ≡ 3 → ⊥) → testOf w ≡ unknownTest
+test-unknown w h h′ h″ = simp (ne-eqb (numberIn w) 1 h, ne-eqb (numberIn w) 2 h′, ne-eqb (numberIn w) 3 h″)

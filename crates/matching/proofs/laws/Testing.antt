@@ -1,0 +1,44 @@
+-- A sentence's tests and the search for its middle template's place, read off the code words.
+use Prim.Native.Nat.{ℕ, zero, suc, pred, _+_, _-_, _≤_, _<_}
+use native.Mathlib.Nat.{not-suc-le-zero}
+use native.Mathlib.Numerals.{add-one, sub-one}
+use native.Mathlib.Omega.{arith}
+use mathlib.Core.Path.{_≡_, refl, sym, _∙_}
+use mathlib.Core.List.{List, [], _∷_}
+use lib.ListN.{length, getD, drop}
+use Rattle.meaning.specs.Choice.{Bytes}
+use Rattle.meaning.specs.Matching.{Checked, passed, wrong, wherePassed, check, checkAll, Found, foundNone, settled, search}
+use Rattle.meaning.specs.Packing.{Words, testOf, unpackTests}
+use Rattle.matching.proofs.laws.Lists.{at-place, past-end}
+
+module _ (field : Bytes) (place : ℕ) where
+  -- all of so many tests from a place of the code on
+  abbrev pub testing : Words → ℕ → ℕ → Checked
+  testing words at left = checkAll (unpackTests left (drop at words)) field place
+
+  pub no-tests : (words : Words) (at left : ℕ) → left ≤ 0 → testing words at left ≡ passed
+  unfolding checkAll unpackTests
+  no-tests words at zero h = refl
+  no-tests words at (suc n) h = absurd (not-suc-le-zero h)
+
+  pub tests-run-out : (words : Words) (at left : ℕ) → 0 < left → length words ≤ at → testing words at left ≡ wrong
+  unfolding checkAll unpackTests
+  tests-run-out words at zero h e = absurd (not-suc-le-zero h)
+  tests-run-out words at (suc n) h e = rw (past-end words at e)
+
+  pub next-test : (words : Words) (at left : ℕ) → 0 < left → at < length words →
+      testing words at left ≡ wherePassed (check (testOf (getD words at 0)) field place) (testing words (at + 1) (left - 1))
+  unfolding checkAll unpackTests
+  next-test words at zero h e = absurd (not-suc-le-zero h)
+  next-test words at (suc n) h e = rw (at-place words at e, sub-one)
+
+module _ (test : ℕ → Checked) where
+  pub no-places : (left place : ℕ) → left ≤ 0 → search test left place ≡ foundNone
+  unfolding search
+  no-places zero place h = refl
+  no-places (suc n) place h = absurd (not-suc-le-zero h)
+
+  pub next-place : (left place : ℕ) → 0 < left → search test left place ≡ settled (test place) place (search test (left - 1) (place + 1))
+  unfolding search
+  next-place zero place h = absurd (not-suc-le-zero h)
+  next-place (suc n) place h = rw (sub-one, add-one)

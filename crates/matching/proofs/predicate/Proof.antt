@@ -1,0 +1,74 @@
+-- `predicate` meets its contract: the class table answers each test.
+use borrow.Author.Needs.{needs}
+use native.Mathlib.Omega.{arith}
+use mathlib.Core.Path.{_≡_, sym, _∙_}
+use mathlib.Core.Bool.{Bool, true, false, not}
+use Prim.Native.Nat.{ℕ, _/_, _%_, _≤_, _<_}
+use borrow.Author.Tests.{eq-eqb, ne-eqb}
+use Rattle.meaning.specs.Matching.{checked}
+use Rattle.meaning.specs.Rewriting.{sameTruth}
+use Rattle.meaning.specs.Packing.{siteOf, firstIn, secondIn, thirdIn}
+use Rattle.matching.proofs.laws.Fields.{class-unknown, predicate-unknown, predicate-none, predicate-told}
+use Rattle.matching.proofs.predicate.Statement.{statement}
+use Rattle.matching.proofs.predicate.Tie as tie
+
+returns : tie.Need-returns
+returns c = let a = c .before .before .args in
+    rw (class-unknown (thirdIn (a .word)) (c .if1 .taken), predicate-unknown (siteOf (firstIn (a .word) % 4) (secondIn (a .word))))
+
+cell-at-requires : tie.Need-cell-at-requires
+cell-at-requires c κs = search needs
+
+enum-known-b : tie.Need-enum-known-b
+enum-known-b c = search needs
+
+enum-told : tie.Need-enum-told
+enum-told c = search needs
+
+returns-2 : tie.Need-returns-2
+returns-2 c = let a = c .before .before .before .before .before .args in
+    sym (predicate-none (siteOf (firstIn (a .word) % 4) (secondIn (a .word))) (thirdIn (a .word)) _ _ _ (c .before .before .before .if1 .left)
+    (rw (c .enum-told .given .1) at (c .before .before .cell-at .ensures)))
+
+cast-entry : tie.Need-cast-entry
+cast-entry c = search needs
+
+element-copy-out-entry : tie.Need-element-copy-out-entry
+element-copy-out-entry c = search needs
+
+cast-bit : tie.Need-cast-bit
+cast-bit c = search needs
+
+bit-requires : tie.Need-bit-requires
+bit-requires c κs = search needs
+
+told-requires : tie.Need-told-requires
+told-requires c κs = search needs
+
+told-requires-2 : tie.Need-told-requires-2
+told-requires-2 c κs = search needs
+
+returns-3 : tie.Need-returns-3
+returns-3 c = let a = c .before .before .before .before .before .before .before .before .before .before .args in
+    rw (
+      eq-eqb _ 1 (c .before .if2 .taken),
+      predicate-told (siteOf (firstIn (a .word) % 4) (secondIn (a .word))) (thirdIn (a .word)) true _ _ _ (c .before .before .before .before .before .before .before .before .if1 .left)
+          (rw (c .before .before .before .before .before .b .given .1) at (c .before .before .before .before .before .before .before .cell-at .ensures)),
+      ← (c .before .before .before .before .before .before .before .before .before .before .pre .each (thirdIn (a .word)) (c .before .before .before .before .before .b .given .0 .0) (search needs)),
+      ← (c .before .before .bit .ensures),
+    )
+    (c .told .ensures)
+
+returns-4 : tie.Need-returns-4
+returns-4 c = let a = c .before .before .before .before .before .before .before .before .before .before .args in
+    rw (
+      ne-eqb _ 1 (c .before .if2 .left),
+      predicate-told (siteOf (firstIn (a .word) % 4) (secondIn (a .word))) (thirdIn (a .word)) false _ _ _ (c .before .before .before .before .before .before .before .before .if1 .left)
+          (rw (c .before .before .before .before .before .b .given .1) at (c .before .before .before .before .before .before .before .cell-at .ensures)),
+      ← (c .before .before .before .before .before .before .before .before .before .before .pre .each (thirdIn (a .word)) (c .before .before .before .before .before .b .given .0 .0) (search needs)),
+      ← (c .before .before .bit .ensures),
+    )
+    (c .told2 .ensures)
+
+pub predicate-spec : {M : Type 1} → statement M
+predicate-spec = tie.close (tie.spec returns cell-at-requires enum-known-b enum-told returns-2 cast-entry element-copy-out-entry cast-bit bit-requires told-requires told-requires-2 returns-3 returns-4)

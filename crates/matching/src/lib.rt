@@ -1,0 +1,318 @@
+// Choosing a function's sentence for a field, read-only: the sentence and where its middle template lies.
+ghost use Prim.Native.Nat.{ℕ, suc, _+_, _-_, _≤_, _<_, _%_, _/_, _^_};
+ghost use mathlib.Core.Path.{_≡_};
+ghost use lib.Dec.{leb, eqb};
+ghost use lib.ListN.{length, drop};
+ghost use Rattle.meaning.specs.Choice.{nth, pick};
+ghost use Rattle.meaning.specs.Instructions.{fromEnd};
+ghost use Rattle.meaning.specs.Matching.{cellAt, checked, checkAll, chooseFrom};
+ghost use Rattle.meaning.specs.Matching.{check as tested, search as searched};
+ghost use Rattle.meaning.specs.Packing.{firstIn, secondIn, thirdIn, siteOf, classOf, testOf, lookOf, compareOf, predicateFor, metricIn, unpackTests, unpackSentences};
+ghost use Rattle.classes.specs.Tests.{Answers};
+ghost use Rattle.matching.specs.Matched.{cellMeant, siteCell, checkedMeant, foundMeant, placesFor, tried, Chooses};
+
+// A place in the code. It is counted apart from the cells of in and of out.
+pub struct CodePlace(pub usize);
+
+// A byte of the field, or no cell there.
+pub enum Cell {
+    Byte(u8),
+    Nowhere,
+}
+
+// A test passes, fails, or asks for something that isn't there.
+pub enum Checked {
+    Passed,
+    Failed,
+    Wrong,
+}
+
+// Where the middle template lies; without one, place 0.
+pub enum Found {
+    At(usize),
+    Nowhere,
+    Wrong,
+}
+
+// The sentence's number from 0, its middle template's place, the place of its stores and how many there are; its actions follow them.
+pub enum Choice {
+    Sentence {
+        number: usize,
+        place: usize,
+        stores: CodePlace,
+        stored: usize,
+    },
+    Nothing,
+    Wrong,
+}
+
+// How many places there are to try, and the first.
+pub enum Places {
+    From { first: usize, count: usize },
+    Unknown,
+}
+
+pub fn wide(word: u32) -> usize
+    ensures { λ r. ⌜ r ≡ word ⌝ }
+{
+    word as usize
+}
+
+fn byte_at(field: &[u8], index: usize) -> Cell
+    ensures { λ r. ⌜ cellMeant r ≡ nth index (now (field .entry)) ⌝ }
+{
+    if index < field.len() {
+        Cell::Byte(field[index])
+    } else {
+        Cell::Nowhere
+    }
+}
+
+fn byte_before_end(field: &[u8], back: usize) -> Cell
+    ensures { λ r. ⌜ cellMeant r ≡ cellAt (fromEnd back) (now (field .entry)) 0 ⌝ }
+{
+    if back <= field.len() {
+        byte_at(field, field.len() - back)
+    } else {
+        Cell::Nowhere
+    }
+}
+
+fn byte_after(field: &[u8], place: usize, offset: usize) -> Cell
+    ensures { λ r. ⌜ cellMeant r ≡ nth (place + offset) (now (field .entry)) ⌝ }
+{
+    if place <= field.len() {
+        if offset < field.len() - place {
+            return Cell::Byte(field[place + offset]);
+        }
+    }
+    Cell::Nowhere
+}
+
+// The byte at a site: counted from p, back from q, or from the middle template's place.
+pub fn cell_at(field: &[u8], place: usize, register: u32, offset: u32) -> Cell
+    ensures { λ r. ⌜ cellMeant r ≡ siteCell (siteOf register offset) (now (field .entry)) place ⌝ }
+{
+    match register {
+        0 => byte_at(field, wide(offset)),
+        1 => byte_before_end(field, wide(offset)),
+        2 => byte_after(field, place, wide(offset)),
+        _ => Cell::Nowhere,
+    }
+}
+
+fn told(ok: bool) -> Checked
+    ensures { λ r. ⌜ checkedMeant r ≡ checked ok ⌝ }
+{
+    if ok { Checked::Passed } else { Checked::Failed }
+}
+
+fn look(field: &[u8], place: usize, word: u32) -> Checked
+    ensures { λ r. ⌜ checkedMeant r ≡ tested (lookOf (siteOf (firstIn word) (secondIn word)) (thirdIn word)) (now (field .entry)) place ⌝ }
+{
+    let Cell::Byte(b) = cell_at(field, place, word / 256 % 256, word / 65536 % 256) else {
+        return Checked::Wrong;
+    };
+    told((word / 16777216 % 256) as u8 == b)
+}
+
+fn compare(field: &[u8], place: usize, word: u32) -> Checked
+    ensures { λ r. ⌜ checkedMeant r ≡ tested (compareOf (siteOf (firstIn word % 4) (secondIn word)) (siteOf (firstIn word / 4) (thirdIn word))) (now (field .entry)) place ⌝ }
+{
+    let sites = word / 256 % 256;
+    let Cell::Byte(b) = cell_at(field, place, sites % 4, word / 65536 % 256) else {
+        return Checked::Wrong;
+    };
+    let Cell::Byte(a) = cell_at(field, place, sites / 4, word / 16777216 % 256) else {
+        return Checked::Wrong;
+    };
+    told(b == a)
+}
+
+fn predicate(bits: &[u8; 256], field: &[u8], place: usize, word: u32) -> Checked
+    requires { ⌜ Answers (now bits) ⌝ }
+    ensures { λ r. ⌜ checkedMeant r ≡ tested (predicateFor (siteOf (firstIn word % 4) (secondIn word)) (classOf (thirdIn word)) (eqb (firstIn word / 4) 1)) (now (field .entry)) place ⌝ }
+{
+    let site = word / 256 % 256;
+    let class = word / 16777216 % 256;
+    if 4 < class {
+        return Checked::Wrong;
+    }
+    let Cell::Byte(b) = cell_at(field, place, site % 4, word / 65536 % 256) else {
+        return Checked::Wrong;
+    };
+    let entry = bits[b as usize];
+    let within = classes::bit(entry, class as u8);
+    if site / 4 == 1 {
+        told(within)
+    } else {
+        told(!within)
+    }
+}
+
+fn check(bits: &[u8; 256], field: &[u8], place: usize, word: u32) -> Checked
+    requires { ⌜ Answers (now bits) ⌝ }
+    ensures { λ r. ⌜ checkedMeant r ≡ tested (testOf word) (now (field .entry)) place ⌝ }
+{
+    let number = word % 256;
+    match number {
+        1 => look(field, place, word),
+        2 => compare(field, place, word),
+        3 => predicate(bits, field, place, word),
+        _ => Checked::Wrong,
+    }
+}
+
+// All of a sentence's tests at one place.
+fn check_all(
+    bits: &[u8; 256],
+    code: &[u32],
+    tests: CodePlace,
+    count: usize,
+    field: &[u8],
+    place: usize,
+) -> Checked
+    requires { ⌜ Answers (now bits) ⌝ }
+    ensures { λ r. ⌜ checkedMeant r ≡ checkAll (unpackTests count (drop (tests .0) (now (code .entry)))) (now (field .entry)) place ⌝ }
+{
+    let mut at = tests.0;
+    let mut left = count;
+    while 0 < left {
+        if code.len() <= at {
+            return Checked::Wrong;
+        }
+        match check(bits, field, place, code[at]) {
+            Checked::Failed => return Checked::Failed,
+            Checked::Wrong => return Checked::Wrong,
+            Checked::Passed => {}
+        }
+        at += 1;
+        left -= 1;
+    }
+    Checked::Passed
+}
+
+// The leftmost of so many places at which all tests pass.
+fn search(
+    bits: &[u8; 256],
+    code: &[u32],
+    tests: CodePlace,
+    count: usize,
+    field: &[u8],
+    first: usize,
+    places: usize,
+) -> Found
+    requires { ⌜ Answers (now bits) ⌝ }
+    requires { ⌜ first + places ≤ length (now field) + 256 ⌝ }
+    ensures { λ r. ⌜ foundMeant r ≡ searched (checkAll (unpackTests count (drop (tests .0) (now (code .entry)))) (now (field .entry))) places first ⌝ }
+{
+    let mut place = first;
+    let mut left = places;
+    while 0 < left {
+        match check_all(bits, code, tests, count, field, place) {
+            Checked::Passed => return Found::At(place),
+            Checked::Wrong => return Found::Wrong,
+            Checked::Failed => {}
+        }
+        place += 1;
+        left -= 1;
+    }
+    Found::Nowhere
+}
+
+fn one_if(ok: bool) -> usize
+    ensures { λ r. ⌜ r ≡ pick ok 1 0 ⌝ }
+{
+    if ok { 1 } else { 0 }
+}
+
+// The places at which so many cells fit into a whole.
+fn places_for(cells: usize, whole: usize) -> usize
+    requires { ⌜ whole < 2 ^ 63 ⌝ }
+    ensures { λ r. ⌜ r ≡ suc whole - cells ⌝ }
+{
+    if cells <= whole { whole - cells + 1 } else { 0 }
+}
+
+// The places that a sentence's first word leaves for a field of a length.
+fn places_of(word: u32, whole: usize) -> Places
+    requires { ⌜ whole < 2 ^ 63 ⌝ }
+    ensures { λ r. ⌜ r ≡ placesFor (metricIn word) whole ⌝ }
+{
+    let number = word % 256;
+    let a = wide(word / 256 % 256);
+    let b = wide(word / 65536 % 256);
+    let c = wide(word / 16777216 % 256);
+    match number {
+        16 => Places::From {
+            first: 0,
+            count: one_if(whole == a),
+        },
+        17 => Places::From {
+            first: 0,
+            count: one_if(a + b <= whole),
+        },
+        18 => Places::From {
+            first: a,
+            count: places_for(a + b + c, whole),
+        },
+        _ => Places::Unknown,
+    }
+}
+
+// A sentence tried at its two first words; `Nowhere` where it doesn't fit.
+fn try_sentence(
+    bits: &[u8; 256],
+    code: &[u32],
+    at: CodePlace,
+    word: u32,
+    counts: u32,
+    field: &[u8],
+) -> Found
+    requires { ⌜ Answers (now bits) ⌝ }
+    requires { ⌜ at .0 < length (now code) ⌝ }
+    ensures { λ r. ⌜ foundMeant r ≡ tried (metricIn word) counts (drop (at .0 + 2) (now (code .entry))) (now (field .entry)) ⌝ }
+{
+    let Places::From { first, count } = places_of(word, field.len()) else {
+        return Found::Wrong;
+    };
+    if 16 < counts / 256 % 256 {
+        return Found::Wrong;
+    }
+    let tests = CodePlace(at.0 + 2);
+    search(bits, code, tests, wide(counts % 256), field, first, count)
+}
+
+// The sentence chosen for a field among those from a place on.
+pub fn choose(bits: &[u8; 256], code: &[u32], entry: CodePlace, field: &[u8]) -> Choice
+    requires { ⌜ Answers (now bits) ⌝ }
+    ensures { λ r. ⌜ Chooses (now (code .entry)) r (chooseFrom 0 (unpackSentences 0 (drop (entry .0) (now (code .entry)))) (now (field .entry))) ⌝ }
+{
+    let mut at = entry.0;
+    let mut number = 0;
+    while at < code.len() {
+        let word = code[at];
+        if word % 256 == 19 {
+            return Choice::Nothing;
+        }
+        if code.len() - at < 2 {
+            return Choice::Wrong;
+        }
+        let counts = code[at + 1];
+        match try_sentence(bits, code, CodePlace(at), word, counts, field) {
+            Found::Wrong => return Choice::Wrong,
+            Found::At(place) => {
+                return Choice::Sentence {
+                    number: number,
+                    place: place,
+                    stores: CodePlace(at + 2 + wide(counts % 256)),
+                    stored: wide(counts / 256 % 256),
+                };
+            }
+            Found::Nowhere => {}
+        }
+        at += 2 + wide(counts / 65536);
+        number += 1;
+    }
+    Choice::Wrong
+}
