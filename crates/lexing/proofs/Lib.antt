@@ -3,6 +3,7 @@ pub mod Places
 pub mod Gaps
 pub mod Words
 pub mod Strings
+pub mod Shortest
 pub mod Showing
 pub mod Onward
 pub mod Stream

@@ -187,7 +187,7 @@ module _ (text : Bytes) (place at count : ℕ) (q : Quoted-to text place at coun
   quoted-closed past e =
       let p = stood e .passes in
       let w : quotationAt text place ≡ closed (q .characters) past (drop past text) = q .same ∙ stood e .same (q .characters) in
-      record { same = rw w; sound = (rw w tt, rw w (q .counted), omega (arith, q .charged)) }
+      record { same = rw w; sound = (rw w, rw w (q .counted), omega (arith, q .charged)) }
 
   pub quoted-broken : (past : ℕ) → r ≡ Broken past
       → Shows text (record { token = Malformed; place = place; past = past }) (quotedAt place (quotationAt text place) .first)

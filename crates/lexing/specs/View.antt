@@ -122,7 +122,10 @@ Sound text (Name name) place past = (name .from ≡ place) × (name .past ≡ pa
 Sound text (Symbol identifier) place past = (identifier .from ≡ place + 1) × (identifier .past ≡ past) × (place + 1 < past)
 Sound text (Part identifier) place past = (identifier .from ≡ place + 1) × (identifier .past ≡ past) × (place + 1 < past)
 Sound text Word place past = variableOf (slice place past text) ≡ noItem
-Sound text (Quoted count) place past = IsClosed (quotationAt text place) × (length (charactersIn (quotationAt text place)) ≡ count) × (place + count + 2 ≤ past)
+Sound text (Quoted count) place past =
+    (quotationAt text place ≡ Tokens.closed (charactersIn (quotationAt text place)) past (drop past text))
+    × (length (charactersIn (quotationAt text place)) ≡ count)
+    × (place + count + 2 ≤ past)
 Sound text (Sign b) place past = Unit {0}
 Sound text End place past = Unit {0}
 Sound text Malformed place past = Unit {0}

@@ -1,0 +1,134 @@
+-- Tokens that are items: strings, s-variables and e-variables.
+use Prim.Native.Nat.{ℕ, suc, _+_, _≤_, _<_}
+use mathlib.Core.Path.{_≡_, refl, sym, _∙_, ap}
+use mathlib.Core.Bool.{Bool, true, false, not, false≢true}
+use lib.Dec.{T}
+use mathlib.Core.List.{List, [], _∷_}
+use native.Mathlib.Omega.{arith}
+use lib.ListN.{length, getD}
+use lib.Seq.{slice, slice-cons}
+use types.Run.{OneOf, miss}
+use denote.Enum.Declared.{tagOf}
+use Rattle.meaning.specs.Choice.{Bytes, pick}
+use Rattle.meaning.specs.Tokens as Tokens
+use Rattle.meaning.specs.Reading.{Item, characters, symbolItem, partItem, noItem, variableOf, itemOf, isItem}
+use Rattle.lexing.proofs.Token as token
+use Rattle.lexing.specs.View as View
+use Rattle.lexing.specs.View.{charactersIn, quotationAt, tokenOf, placedOf, Sound, stream, Comes}
+use Rattle.lexing.specs.declared.Span.{Span}
+use Rattle.lexing.specs.declared.Token.{Token}
+use Rattle.lexing.specs.declared.Token.the-variants.{Name, Symbol, Part, Word, Quoted, Sign, End, Malformed}
+use Rattle.lexing.specs.declared.Placed.{Placed}
+use Rattle.parsing.specs.declared.patterns.Counts.{Counts}
+use Rattle.parsing.specs.declared.patterns.Added.{Added}
+use Rattle.parsing.specs.declared.patterns.Added.the-variants.{Taken, Wrong, Other}
+use Rattle.parsing.specs.Patterns.{Identifier, StringAt, itemAt, ItemGives, AddsItem, TokenGives, AddsToken}
+
+module _ {text : Bytes} {mode : Tokens.Mode} {at : ℕ} {t : Placed} (c : Comes text mode at t) where
+  -- the token is known to be one
+  known : {k : Token} → t .token ≡ k → Sound text k (t .place) (t .past)
+  known e = rw e at (c .sound)
+
+  pub string-at : {count : ℕ} → t .token ≡ Quoted count → StringAt text at (t .place) (t .past) count
+  string-at e =
+      let s = known e in
+      record { after = c .onward; closed = rw (s .0) tt; counted = s .1; charged = s .2; inside = c .inside }
+
+  pub symbol-at : {x : Span} → t .token ≡ Symbol x → Identifier text at x
+  symbol-at e =
+      let s = known e in
+      record {
+        after = omega (arith, s .0, c .onward);
+        some = omega (arith, s .0, s .1, s .2);
+        inside = omega (arith, s .1, c .inside);
+      }
+
+  pub part-at : {x : Span} → t .token ≡ Part x → Identifier text at x
+  part-at e =
+      let s = known e in
+      record {
+        after = omega (arith, s .0, c .onward);
+        some = omega (arith, s .0, s .1, s .2);
+        inside = omega (arith, s .1, c .inside);
+      }
+
+  pub symbol-past : {x : Span} → t .token ≡ Symbol x → x .past ≡ t .past
+  symbol-past e = known e .1
+
+  pub part-past : {x : Span} → t .token ≡ Part x → x .past ≡ t .past
+  part-past e = known e .1
+
+-- a variable has at least one byte after its letter
+module _ {text : Bytes} {at : ℕ} {x : Span} (i : Identifier text at x) where
+  first : View.part text x ≡ getD text (x .from) 0 ∷ slice (suc (x .from)) (x .past) text
+  first = slice-cons (x .from) (x .past) text 0 (i .some) (i .inside)
+
+  pub symbol-variable : variableOf (115 ∷ View.part text x) ≡ symbolItem (View.part text x)
+  symbol-variable = rw first
+
+  pub part-variable : variableOf (101 ∷ View.part text x) ≡ partItem (View.part text x)
+  part-variable = rw first
+
+-- what item a token is
+module _ {text : Bytes} {mode : Tokens.Mode} {at : ℕ} {t : Placed} (c : Comes text mode at t) where
+  pub item-string : {count : ℕ} → t .token ≡ Quoted count → itemAt text t ≡ characters (charactersIn (quotationAt text (t .place)))
+  item-string e = rw e
+
+  pub item-symbol : {x : Span} → t .token ≡ Symbol x → itemAt text t ≡ symbolItem (View.part text x)
+  item-symbol e = rw e (symbol-variable (symbol-at c e))
+
+  pub item-part : {x : Span} → t .token ≡ Part x → itemAt text t ≡ partItem (View.part text x)
+  item-part e = rw e (part-variable (part-at c e))
+
+abbrev otherTags : List ℕ
+otherTags = 0 ∷ 3 ∷ 5 ∷ 6 ∷ 7 ∷ []
+
+no-item : (text : Bytes) (place past : ℕ) (k : Token) → Sound text k place past → OneOf otherTags (tagOf token.the-type k)
+    → isItem (itemOf (tokenOf text k place past)) ≡ false
+no-item text place past (Name n) s o = refl
+no-item text place past (Symbol x) s o = absurd (miss otherTags 1 tt o)
+no-item text place past (Part x) s o = absurd (miss otherTags 2 tt o)
+no-item text place past Word s o = ap isItem s
+no-item text place past (Quoted n) s o = absurd (miss otherTags 4 tt o)
+no-item text place past (Sign b) s o = refl
+no-item text place past End s o = refl
+no-item text place past Malformed s o = refl
+
+pub item-other : {text : Bytes} {mode : Tokens.Mode} {at : ℕ} {t : Placed} → Comes text mode at t → OneOf otherTags (tagOf token.the-type (t .token))
+    → isItem (itemAt text t) ≡ false
+item-other {text} {t = t} c o = no-item text (t .place) (t .past) (t .token) (c .sound) o
+
+-- what comes of the item comes of the token
+pub adds : {text : Bytes} {table : List ℕ} {p : Counts} {tape : List ℕ} {item : Item} {past : ℕ} {table′ tape′ : List ℕ} {r : Added} (t : Placed)
+    → itemAt text t ≡ item → isItem item ≡ true → past ≡ t .past → AddsItem text table p tape item past table′ tape′ r
+    → AddsToken text table p tape t table′ tape′ r
+adds {text} {table} {p} {tape} {item} {past} {table′} {tape′} {r} t e i w a = record { gives = gives r (a .gives) }
+  where
+    gives : (r′ : Added) → ItemGives text table p tape item past table′ tape′ r′ → TokenGives text table p tape t table′ tape′ r′
+    gives (Taken next) g = (rw (e, ← w) g, rw e i)
+    gives (Wrong answer) g = (rw e g, rw e i)
+    gives Other g = absurd g
+
+-- after an item the tokens go on inside the sentence
+module _ (text : Bytes) (place past : ℕ) where
+  item-goes-on : (k : Token) → isItem (itemOf (tokenOf text k place past)) ≡ true
+      → T (not (Tokens.isLast (tokenOf text k place past)))
+      × (pick (Tokens.isLast (tokenOf text k place past)) [] (stream text (Tokens.modeAfter Tokens.inside (tokenOf text k place past)) past)
+      ≡ stream text Tokens.inside past)
+  item-goes-on (Name n) e = absurd (false≢true e)
+  item-goes-on (Symbol x) e = (tt, refl)
+  item-goes-on (Part x) e = (tt, refl)
+  item-goes-on Word e = (tt, refl)
+  item-goes-on (Quoted n) e = (tt, refl)
+  item-goes-on (Sign b) e = absurd (false≢true e)
+  item-goes-on End e = absurd (false≢true e)
+  item-goes-on Malformed e = absurd (false≢true e)
+
+pub record Item-then (text : Bytes) (at : ℕ) (t : Placed) : Type 0 where
+  pub unrolled : stream text Tokens.inside at ≡ placedOf text t ∷ stream text Tokens.inside (t .past)
+  pub moves : at < t .past
+
+pub item-then : {text : Bytes} {at : ℕ} {t : Placed} → Comes text Tokens.inside at t → isItem (itemAt text t) ≡ true → Item-then text at t
+item-then {text} {at} {t} c e =
+    let g = item-goes-on text (t .place) (t .past) (t .token) e in
+    record { unrolled = c .unrolled ∙ rw (g .1); moves = omega (arith, c .onward, c .moves (g .0)) }

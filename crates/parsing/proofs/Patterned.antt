@@ -1,0 +1,115 @@
+-- The pattern's reader: the loop over its tokens.
+use Prim.Native.Nat.{ℕ, zero, suc, _+_, _≤_, _<_}
+use mathlib.Core.Path.{_≡_, refl, sym, _∙_, ap}
+use mathlib.Core.Bool.{Bool, true, false}
+use mathlib.Core.List.{List, [], _∷_, _++_}
+use native.Mathlib.Omega.{arith}
+use lib.Dec.{T}
+use lib.ListN.{length}
+use Rattle.meaning.specs.Choice.{Bytes, every}
+use Rattle.meaning.specs.Tree.{Element}
+use Rattle.meaning.specs.Allowed.{symbolsFrom, partsOf, lettersIn}
+use Rattle.meaning.specs.Tape.{patternTape}
+use Rattle.meaning.specs.Tokens.{Placed, inside}
+use Rattle.meaning.specs.Reading.{Parsed, stopped, parsed, endsInPart, elementsOf, pattern}
+use Rattle.lexing.specs.View.{stream, Comes}
+use Rattle.lexing.specs.declared.Placed as Code
+use Rattle.parsing.specs.declared.Answer.{Answer}
+use Rattle.parsing.specs.declared.progress.Parsed.the-variants.{Stopped, Done}
+use Rattle.parsing.specs.declared.patterns.Counts.{Counts}
+use Rattle.parsing.specs.declared.patterns.Added.{Added}
+use Rattle.parsing.specs.declared.patterns.Added.the-variants.{Taken, Wrong, Other}
+use Rattle.parsing.specs.Answered.{Agrees}
+use Rattle.parsing.specs.Written.{isQuiet, Ready, Went}
+use Rattle.parsing.specs.Patterns.{Variables, Held, Seen, TokenGives, AddsToken, PatternRead, itemAt}
+use Rattle.parsing.proofs.Tabling.{none-yet, no-names, every-append}
+use Rattle.parsing.proofs.Elements.{tape-append}
+use Rattle.parsing.proofs.Items.{item-then}
+use Rattle.parsing.proofs.Going.{check-wrong, stops, reads, went-none, went-on, went-then}
+
+-- the pattern from the start is that from here with these elements before it
+pub record Patterned (text start : List ℕ) (at words : ℕ) (tape table : List ℕ) (p : Counts) : Type 0 where
+  pub before : List Element
+  pub same : pattern [] (stream text inside at) ≡ pattern before (stream text inside (p .at))
+  pub held : Held text table p
+  pub seen : Seen text table p before
+  pub went : Went text at words start (p .at) (p .words) tape (patternTape before)
+  pub quiet : T (every isQuiet (patternTape before))
+
+pub pattern-starts : (text start table : List ℕ) (at words : ℕ) → Ready text at words → length table ≡ 18
+    → Patterned text start at words start table (record { at = at; words = words; letters = 0; symbols = 0; parts = 0; ending = false })
+unfolding patternTape every symbolsFrom partsOf lettersIn endsInPart
+pattern-starts text start table at words r l =
+    record {
+      before = [];
+      same = refl;
+      held =
+          record {
+            variables =
+                record {
+                  symbolEntries = none-yet text table 0 (omega arith);
+                  partEntries = none-yet text table 16 (omega (arith, l));
+                  fewSymbols = omega arith;
+                  fewParts = omega arith;
+                  long = l;
+                };
+            fewLetters = omega arith;
+            ready = r;
+          };
+      seen = record { letters = refl; symbols = no-names text table 0; parts = no-names text table 16; ending = refl };
+      went = went-none text at words start r;
+      quiet = tt;
+    }
+
+module _ {text start : List ℕ} {at words : ℕ} {tape table : List ℕ} {p : Counts} {t : Code.Placed} {table′ tape′ : List ℕ} {r : Added}
+    (k : Patterned text start at words tape table p)
+    (c : Comes text inside (p .at) t)
+    (a : AddsToken text table p tape t table′ tape′ r) where
+  given : {r′ : Added} → r ≡ r′ → TokenGives text table p tape t table′ tape′ r′
+  given e = rw e at (a .gives)
+
+  pub pattern-moves : {next : Counts} → r ≡ Taken next → (p .at < next .at) × (next .at ≤ length text)
+  pattern-moves e =
+      let g = given e in
+      let m = item-then c (g .1) in
+      (omega (arith, g .0 .at, m .moves), g .0 .held .ready .inside)
+
+  pub pattern-takes : {next : Counts} → r ≡ Taken next → Patterned text start at words tape′ table′ next
+  unfolding pattern
+  pattern-takes e =
+      let g = given e in
+      let i = item-then c (g .1) in
+      record {
+        before = k .before ++ elementsOf (itemAt text t);
+        same = k .same ∙ rw (i .unrolled, g .1, g .0 .fault (k .before) (k .seen), g .0 .at);
+        held = g .0 .held;
+        seen = g .0 .seen (k .before) (k .seen);
+        went = rw (tape-append (k .before) (elementsOf (itemAt text t))) (went-then (k .went) (g .0 .went));
+        quiet =
+            rw (tape-append (k .before) (elementsOf (itemAt text t)))
+            (every-append isQuiet (patternTape (k .before)) (patternTape (elementsOf (itemAt text t))) (k .quiet) (g .0 .quiet));
+      }
+
+  pub pattern-stops : {answer : Answer} → r ≡ Wrong answer
+      → Agrees (PatternRead text at words start table′ tape′) (pattern [] (stream text inside at)) (Stopped (record { answer = answer; place = t .place }))
+  unfolding pattern
+  pattern-stops e =
+      let g = given e in
+      let i = item-then c (g .1) in
+      stops _ _ _ (k .same ∙ rw (i .unrolled, g .1, g .0 .fault (k .before) (k .seen)) (check-wrong _ _ _ (g .0 .wrong))) refl refl
+
+  pub pattern-ends : r ≡ Other
+      → Agrees (PatternRead text at words start table′ tape′) (pattern [] (stream text inside at))
+      (Done (record { at = t .place; words = p .words; count = p .symbols; parts = p .parts }))
+  unfolding pattern
+  pattern-ends e =
+      let g = given e in
+      reads (k .before) (stream text inside (p .at)) (k .same ∙ rw (c .unrolled, g .0))
+      (record {
+        tokens = sym (c .again);
+        went = rw (g .2) (went-on (t .place) (k .went) (c .onward) (omega (arith, c .forward, c .inside)));
+        quiet = k .quiet;
+        variables = rw (g .1) (k .held .variables);
+        symbols = rw (g .1) (k .seen .symbols);
+        parts = rw (g .1) (k .seen .parts);
+      })

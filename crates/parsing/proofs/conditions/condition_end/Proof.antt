@@ -1,0 +1,116 @@
+-- `reading::conditions::condition_end` meets its contract.
+use borrow.Author.Needs.{needs}
+use Rattle.parsing.proofs.conditions.condition_end.Statement.{statement}
+use Rattle.parsing.proofs.conditions.condition_end.Tie as tie
+use Rattle.parsing.proofs.conditions.condition_end.Reads as reads
+use Rattle.parsing.proofs.conditions.condition_end.Lts as lts
+use Rattle.lexing.proofs.lex.Reads as lex-reads
+use Rattle.parsing.proofs.conditions.truth_in.Reads as truth-in-reads
+use Rattle.parsing.proofs.progress.pass.Reads as pass-reads
+use Rattle.parsing.proofs.progress.refuse.Reads as refuse-reads
+use Rattle.parsing.proofs.writing.put_named.Reads as put-named-reads
+use mathlib.Core.Path.{refl}
+use native.Mathlib.Omega.{arith}
+use Rattle.meaning.specs.Tokens.{inside}
+use Rattle.lexing.proofs.Stream.{comes}
+use Rattle.parsing.proofs.Conditioned.{end-no-close, end-no-colon, end-no-truth, end-reads}
+
+pass-requires : tie.Need-pass-requires
+pass-requires c κs = search needs
+
+enum-known-at : tie.Need-enum-known-at
+enum-known-at c = search needs
+
+enum-known-fault : tie.Need-enum-known-fault
+enum-known-fault c = search needs
+
+returns : tie.Need-returns
+returns c =
+    λ k e. end-no-close _ _ (c .before .before .before .before .before .args .x) k (rw (c .before .fault .given .1) at (c .before .before .before .pass .ensures))
+
+pass-requires-2 : tie.Need-pass-requires-2
+pass-requires-2 c κs = let t = rw (c .before .at .given .1) at (c .before .before .before .pass .ensures) in t .inside
+
+enum-known-at-2 : tie.Need-enum-known-at-2
+enum-known-at-2 c = search needs
+
+enum-known-fault-2 : tie.Need-enum-known-fault-2
+enum-known-fault-2 c = search needs
+
+returns-2 : tie.Need-returns-2
+returns-2 c =
+    λ k e.
+    end-no-colon _ _ (c .before .before .before .before .before .before .before .before .before .args .x) k (rw (c .before .before .before .before .before .at .given .1) at (c .before .before .before .before .before .before .before .pass .ensures)) (rw (c .before .fault2 .given .1) at (c .before .before .before .pass2 .ensures))
+
+lex-requires : tie.Need-lex-requires
+lex-requires c κs = search needs
+
+truth-in-requires : tie.Need-truth-in-requires
+truth-in-requires c κs =
+    let t = rw (c .before .before .at2 .given .1) at (c .before .before .before .before .pass2 .ensures) in
+    let m = comes _ inside _ _ (t .inside) (c .lex .ensures) in
+    record { forward = m .forward; inside = m .inside; sound = m .sound }
+
+refuse-requires : tie.Need-refuse-requires
+refuse-requires c κs = search needs
+
+returns-3 : tie.Need-returns-3
+returns-3 c =
+    λ k e.
+    let t = rw (c .before .before .before .before .before .at2 .given .1) at (c .before .before .before .before .before .before .before .pass2 .ensures) in
+    end-no-truth _ _ (c .before .before .before .before .before .before .before .before .before .before .before .before .before .args .x) k (rw (c .before .before .before .before .before .before .before .before .before .at .given .1) at (c .before .before .before .before .before .before .before .before .before .before .before .pass .ensures)) t (comes _ inside _ _ (t .inside) (c .before .before .before .lex .ensures))
+    (c .before .before .truth-in .ensures) (c .before .if1 .taken) (c .refuse .ensures)
+
+sub-word : tie.Need-sub-word
+sub-word c = search needs
+
+mul-word : tie.Need-mul-word
+mul-word c = search needs
+
+add-word : tie.Need-add-word
+add-word c = search needs
+
+add-word-2 : tie.Need-add-word-2
+add-word-2 c = search needs
+
+add-word-3 : tie.Need-add-word-3
+add-word-3 c = search needs
+
+cast-word : tie.Need-cast-word
+cast-word c = search needs
+
+put-named-requires : tie.Need-put-named-requires
+put-named-requires c κs = search needs
+
+returns-4 : tie.Need-returns-4
+returns-4 c =
+    λ k e.
+    let t = rw (c .before .before .before .before .before .before .before .at2 .given .1) at (c .before .before .before .before .before .before .before .before .before .pass2 .ensures) in
+    let p = c .before .before .before .before .before .before .before .before .before .before .before .before .before .before .before .pre in
+    end-reads _ _ (c .before .before .before .before .before .before .before .before .before .before .before .before .before .before .before .args .x) k (rw (c .before .before .before .before .before .before .before .before .before .before .before .at .given .1) at (c .before .before .before .before .before .before .before .before .before .before .before .before .before .pass .ensures)) t (comes _ inside _ _ (t .inside) (c .before .before .before .before .before .lex .ensures))
+    (c .before .before .before .before .truth-in .ensures) (p .0) (p .1) (p .2) e (c .before .before .before .if1 .left) refl (c .put-named .ensures)
+
+pub condition-end-spec : {M : Type 1} → statement M
+condition-end-spec =
+    tie.close
+    (tie.spec
+    pass-requires
+    enum-known-at
+    enum-known-fault
+    returns
+    pass-requires-2
+    enum-known-at-2
+    enum-known-fault-2
+    returns-2
+    lex-requires
+    truth-in-requires
+    refuse-requires
+    returns-3
+    sub-word
+    mul-word
+    add-word
+    add-word-2
+    add-word-3
+    cast-word
+    put-named-requires
+    returns-4)

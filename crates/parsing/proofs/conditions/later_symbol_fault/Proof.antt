@@ -1,0 +1,28 @@
+-- `reading::conditions::later_symbol_fault` meets its contract.
+use borrow.Author.Needs.{needs}
+use Rattle.parsing.proofs.conditions.later_symbol_fault.Statement.{statement}
+use Rattle.parsing.proofs.conditions.later_symbol_fault.Tie as tie
+use Rattle.parsing.proofs.conditions.later_symbol_fault.Reads as reads
+use Rattle.parsing.proofs.conditions.later_symbol_fault.Lts as lts
+use Rattle.parsing.proofs.names.find.Reads as find-reads
+use Rattle.parsing.proofs.Conditioned.{later-long, later-known, later-unknown}
+
+sub-if1 : tie.Need-sub-if1
+sub-if1 c = search needs
+
+returns : tie.Need-returns
+returns c = later-long (c .before .before .before .before .pre .0) (c .before .before .before .before .pre .1) (c .if1 .taken)
+
+find-requires : tie.Need-find-requires
+find-requires c κs = search needs
+
+returns-2 : tie.Need-returns-2
+returns-2 c =
+    later-known (c .before .before .before .before .before .before .pre .0) (c .before .before .before .before .before .before .pre .1) (c .before .before .if1 .left) _ (c .before .find .ensures) (c .if2 .taken)
+
+returns-3 : tie.Need-returns-3
+returns-3 c =
+    later-unknown (c .before .before .before .before .before .before .pre .0) (c .before .before .before .before .before .before .pre .1) (c .before .before .if1 .left) _ (c .before .find .ensures) (c .if2 .left)
+
+pub later-symbol-fault-spec : {M : Type 1} → statement M
+later-symbol-fault-spec = tie.close (tie.spec sub-if1 returns find-requires returns-2 returns-3)

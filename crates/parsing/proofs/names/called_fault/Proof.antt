@@ -1,0 +1,35 @@
+-- `reading::names::called_fault` meets its contract.
+use borrow.Author.Needs.{needs}
+use Rattle.parsing.proofs.names.called_fault.Statement.{statement}
+use Rattle.parsing.proofs.names.called_fault.Tie as tie
+use Rattle.parsing.proofs.names.called_fault.Reads as reads
+use Rattle.parsing.proofs.names.called_fault.Lts as lts
+use Rattle.parsing.proofs.names.class_named.Reads as class-named-reads
+use mathlib.Core.Path.{refl, ap}
+use Rattle.meaning.specs.Choice.{isSome}
+use Rattle.lexing.specs.View.{part}
+use Rattle.parsing.proofs.Naming.{a-predicate, no-predicate, called-long, called-is}
+
+sub-if1 : tie.Need-sub-if1
+sub-if1 c = c .before .before .pre .forward
+
+returns : tie.Need-returns
+returns c = called-long _ (c .before .before .before .args .x) (c .before .before .before .pre) (c .if1 .taken)
+
+class-named-requires : tie.Need-class-named-requires
+class-named-requires c κs = search needs
+
+returns-2 : tie.Need-returns-2
+returns-2 c =
+    let a = c .before .before .before .before .before .args in
+    called-is (a .text .now) (a .x) (c .before .before .before .before .before .pre) (c .before .before .if1 .left)
+    (a-predicate (part (a .text .now) (a .x)) _ (c .before .class-named .ensures .0) (c .if2 .taken))
+
+returns-3 : tie.Need-returns-3
+returns-3 c =
+    let a = c .before .before .before .before .before .args in
+    called-is (a .text .now) (a .x) (c .before .before .before .before .before .pre) (c .before .before .if1 .left)
+    (ap isSome (no-predicate (part (a .text .now) (a .x)) _ (c .before .class-named .ensures .0) (c .before .class-named .ensures .1) (c .if2 .left)))
+
+pub called-fault-spec : {M : Type 1} → statement M
+called-fault-spec = tie.close (tie.spec sub-if1 returns class-named-requires returns-2 returns-3)

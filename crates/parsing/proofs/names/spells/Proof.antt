@@ -1,0 +1,25 @@
+-- `reading::names::spells` meets its contract.
+use borrow.Author.Needs.{needs}
+use Rattle.parsing.proofs.names.spells.Statement.{statement}
+use Rattle.parsing.proofs.names.spells.Tie as tie
+use Rattle.parsing.proofs.names.spells.Reads as reads
+use Rattle.parsing.proofs.names.spells.Lts as lts
+use Rattle.parsing.proofs.names.begins_with.Reads as begins-with-reads
+use mathlib.Core.Path.{_∙_}
+use Rattle.parsing.proofs.Spelling.{spells-unlike, spells-same}
+
+sub-if1 : tie.Need-sub-if1
+sub-if1 c = c .before .before .before .pre .forward
+
+returns : tie.Need-returns
+returns c = spells-unlike _ _ (c .before .before .before .before .args .x) (c .before .before .before .before .pre) (c .if1 .taken)
+
+begins-with-requires : tie.Need-begins-with-requires
+begins-with-requires c κs = search needs
+
+returns-2 : tie.Need-returns-2
+returns-2 c =
+    c .begins-with .ensures ∙ spells-same _ _ (c .before .before .before .before .before .args .x) (c .before .before .before .before .before .pre) (c .before .if1 .left)
+
+pub spells-spec : {M : Type 1} → statement M
+spells-spec = tie.close (tie.spec sub-if1 returns begins-with-requires returns-2)

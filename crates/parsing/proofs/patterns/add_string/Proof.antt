@@ -1,0 +1,47 @@
+-- `reading::patterns::add_string` meets its contract.
+use borrow.Author.Needs.{needs}
+use Rattle.parsing.proofs.patterns.add_string.Statement.{statement}
+use Rattle.parsing.proofs.patterns.add_string.Tie as tie
+use Rattle.parsing.proofs.patterns.add_string.Reads as reads
+use Rattle.parsing.proofs.patterns.add_string.Lts as lts
+use Rattle.parsing.proofs.patterns.still_ending.Reads as still-ending-reads
+use Rattle.parsing.proofs.writing.put_characters.Reads as put-characters-reads
+use Rattle.parsing.proofs.Adding.{string-wrong, string-taken}
+use Rattle.parsing.proofs.Itemed.{string-ready}
+
+add-if1 : tie.Need-add-if1
+add-if1 c = search needs
+
+returns : tie.Need-returns
+returns c = record { gives = string-wrong (c .before .before .before .before .pre .0) (c .before .before .before .before .pre .1) (c .if1 .taken) }
+
+add-put-characters : tie.Need-add-put-characters
+add-put-characters c = search needs
+
+put-characters-requires : tie.Need-put-characters-requires
+put-characters-requires c κs = string-ready (c .before .before .before .before .before .pre .0 .ready) (c .before .before .before .before .before .pre .1)
+
+still-ending-requires : tie.Need-still-ending-requires
+still-ending-requires c κs = search needs
+
+add-t10 : tie.Need-add-t10
+add-t10 c = search needs
+
+returns-2 : tie.Need-returns-2
+returns-2 c =
+    record {
+      gives =
+          string-taken (c .before .before .before .before .before .before .before .before .pre .0) (c .before .before .before .before .before .before .before .before .pre .1) (c .before .before .before .before .if1 .left) _ _ _ _ (c .before .before .put-characters .ensures) (c .before .still-ending .ensures);
+    }
+
+pub add-string-spec : {M : Type 1} → statement M
+add-string-spec =
+    tie.close
+    (tie.spec
+    add-if1
+    returns
+    add-put-characters
+    put-characters-requires
+    still-ending-requires
+    add-t10
+    returns-2)

@@ -1,0 +1,61 @@
+-- `reading::patterns::part_fault` meets its contract: the tests in the order of their numbers.
+use borrow.Author.Needs.{needs}
+use Rattle.parsing.proofs.patterns.part_fault.Statement.{statement}
+use Rattle.parsing.proofs.patterns.part_fault.Tie as tie
+use Rattle.parsing.proofs.patterns.part_fault.Reads as reads
+use Rattle.parsing.proofs.patterns.part_fault.Lts as lts
+use Rattle.parsing.proofs.names.find.Reads as find-reads
+use Rattle.parsing.proofs.Patterning.{identifier-inside, part-third, part-long, part-symbol, part-twice, part-next, part-right}
+
+returns : tie.Need-returns
+returns c = part-third (c .before .before .before .before .pre .0) (c .before .before .before .before .pre .1) (c .if1 .taken)
+
+sub-if2 : tie.Need-sub-if2
+sub-if2 c = search needs
+
+returns-2 : tie.Need-returns-2
+returns-2 c =
+    part-long (c .before .before .before .before .before .before .pre .0) (c .before .before .before .before .before .before .pre .1) (c .before .before .if1 .left) (c .if2 .taken)
+
+find-requires : tie.Need-find-requires
+find-requires c κs = search needs
+
+returns-3 : tie.Need-returns-3
+returns-3 c =
+    part-symbol (c .before .before .before .before .before .before .before .before .before .pre .0) (c .before .before .before .before .before .before .before .before .before .pre .1) (c .before .before .before .before .before .if1 .left) (c .before .before .before .if2 .left) _ (c .before .before .find .ensures) (c .if3 .taken)
+
+add-parts : tie.Need-add-parts
+add-parts c = search needs
+
+find-requires-2 : tie.Need-find-requires-2
+find-requires-2 c κs = search needs
+
+returns-4 : tie.Need-returns-4
+returns-4 c =
+    let p = c .before .before .before .before .before .before .before .before .before .before .before .before .pre in
+    part-twice (p .0) (p .1) (c .before .before .before .before .before .before .before .before .if1 .left) (c .before .before .before .before .before .before .if2 .left) _ (c .before .before .before .before .before .find .ensures) (c .before .before .before .if3 .left) _ (c .before .find2 .ensures) (c .if4 .taken)
+
+returns-5 : tie.Need-returns-5
+returns-5 c =
+    let p = c .before .before .before .before .before .before .before .before .before .before .before .before .before .pre in
+    part-next (p .0) (p .1) (c .before .before .before .before .before .before .before .before .before .if1 .left) (c .before .before .before .before .before .before .before .if2 .left) _ (c .before .before .before .before .before .before .find .ensures) (c .before .before .before .before .if3 .left) _ (c .before .before .find2 .ensures) (c .before .if4 .left) (c .if5 .taken)
+
+returns-6 : tie.Need-returns-6
+returns-6 c =
+    let p = c .before .before .before .before .before .before .before .before .before .before .before .before .before .pre in
+    part-right (p .0) (p .1) (c .before .before .before .before .before .before .before .before .before .if1 .left) (c .before .before .before .before .before .before .before .if2 .left) _ (c .before .before .before .before .before .before .find .ensures) (c .before .before .before .before .if3 .left) _ (c .before .before .find2 .ensures) (c .before .if4 .left) (c .if5 .left)
+
+pub part-fault-spec : {M : Type 1} → statement M
+part-fault-spec =
+    tie.close
+    (tie.spec
+    returns
+    sub-if2
+    returns-2
+    find-requires
+    returns-3
+    add-parts
+    find-requires-2
+    returns-4
+    returns-5
+    returns-6)

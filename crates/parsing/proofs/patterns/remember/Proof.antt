@@ -1,0 +1,27 @@
+-- `reading::patterns::remember` meets its contract.
+use borrow.Author.Needs.{needs}
+use Rattle.parsing.proofs.patterns.remember.Statement.{statement}
+use Rattle.parsing.proofs.patterns.remember.Tie as tie
+use Rattle.parsing.proofs.patterns.remember.Reads as reads
+use Rattle.parsing.proofs.patterns.remember.Lts as lts
+use borrow.Author.Tests.{lt-ltb, le-ltb}
+
+returns : tie.Need-returns
+returns c =
+    (rw (lt-ltb (c .before .args .known) (c .before .args .symbols) (c .if1 .taken)), rw (lt-ltb (c .before .args .known) (c .before .args .symbols) (c .if1 .taken)))
+
+mul-table : tie.Need-mul-table
+mul-table c = search needs
+
+element-write-table : tie.Need-element-write-table
+element-write-table c = search needs
+
+add-result : tie.Need-add-result
+add-result c = search needs
+
+returns-2 : tie.Need-returns-2
+returns-2 c =
+    (rw (le-ltb (c .before .args .known) (c .before .args .symbols) (c .if1 .left)), rw (le-ltb (c .before .args .known) (c .before .args .symbols) (c .if1 .left)))
+
+pub remember-spec : {M : Type 1} → statement M
+remember-spec = tie.close (tie.spec returns mul-table element-write-table add-result returns-2)

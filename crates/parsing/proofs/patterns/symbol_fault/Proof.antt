@@ -1,0 +1,42 @@
+-- `reading::patterns::symbol_fault` meets its contract: the tests in the order of their numbers.
+use borrow.Author.Needs.{needs}
+use Rattle.parsing.proofs.patterns.symbol_fault.Statement.{statement}
+use Rattle.parsing.proofs.patterns.symbol_fault.Tie as tie
+use Rattle.parsing.proofs.patterns.symbol_fault.Reads as reads
+use Rattle.parsing.proofs.patterns.symbol_fault.Lts as lts
+use Rattle.parsing.proofs.names.find.Reads as find-reads
+use Rattle.parsing.proofs.Patterning.{identifier-inside, symbol-long, symbol-many, symbol-new, symbol-shared, symbol-right}
+
+sub-if1 : tie.Need-sub-if1
+sub-if1 c = search needs
+
+returns : tie.Need-returns
+returns c =
+    symbol-long (c .before .before .before .before .pre .0) (c .before .before .before .before .pre .1) _ (c .before .before .before .before .pre .2) (c .if1 .taken)
+
+returns-2 : tie.Need-returns-2
+returns-2 c =
+    symbol-many (c .before .before .before .before .before .before .pre .0) (c .before .before .before .before .before .before .pre .1) _ (c .before .before .before .before .before .before .pre .2) (c .before .before .if1 .left) (c .if2 .taken)
+
+returns-3 : tie.Need-returns-3
+returns-3 c =
+    symbol-new (c .before .before .before .before .before .before .before .pre .0) (c .before .before .before .before .before .before .before .pre .1) _ (c .before .before .before .before .before .before .before .pre .2) (c .before .before .before .if1 .left) (c .before .if2 .left) (c .if3 .taken)
+
+add-parts : tie.Need-add-parts
+add-parts c = search needs
+
+find-requires : tie.Need-find-requires
+find-requires c κs = search needs
+
+returns-4 : tie.Need-returns-4
+returns-4 c =
+    let p = c .before .before .before .before .before .before .before .before .before .before .pre in symbol-shared (p .0) (p .1) _ (p .2) (c .before .before .before .before .before .before .if1 .left) (c .before .before .before .before .if2 .left) _ (c .before .before .before .if3 .left) (c .before .find .ensures) (c .if4 .taken)
+
+returns-5 : tie.Need-returns-5
+returns-5 c =
+    let p = c .before .before .before .before .before .before .before .before .before .before .pre in symbol-right (p .0) (p .1) _ (p .2) (c .before .before .before .before .before .before .if1 .left) (c .before .before .before .before .if2 .left) _ (c .before .before .before .if3 .left) (c .before .find .ensures) (c .if4 .left)
+
+pub symbol-fault-spec : {M : Type 1} → statement M
+symbol-fault-spec =
+    tie.close
+    (tie.spec sub-if1 returns returns-2 returns-3 add-parts find-requires returns-4 returns-5)

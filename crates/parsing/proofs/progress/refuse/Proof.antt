@@ -1,0 +1,20 @@
+-- `reading::progress::refuse` meets its contract.
+use borrow.Author.Needs.{needs}
+use Rattle.parsing.proofs.progress.refuse.Statement.{statement}
+use Rattle.parsing.proofs.progress.refuse.Tie as tie
+use Rattle.parsing.proofs.progress.refuse.Reads as reads
+use Rattle.parsing.proofs.progress.refuse.Lts as lts
+use mathlib.Core.Path.{refl}
+use Rattle.parsing.proofs.Tags.{well-formed}
+
+enum-told : tie.Need-enum-told
+enum-told c = search needs
+
+returns : tie.Need-returns
+returns c = (rw (c .enum-told .given .1), refl)
+
+returns-2 : tie.Need-returns-2
+returns-2 c = (well-formed (c .before .args .t .token) (c .match .keys2), refl)
+
+pub refuse-spec : {M : Type 1} → statement M
+refuse-spec = tie.close (tie.spec enum-told returns returns-2)

@@ -1,0 +1,64 @@
+-- Conditions while they are read.
+use Prim.Native.Nat.{ℕ, _+_, _-_, _≤_, _<_}
+use mathlib.Core.Path.{_≡_}
+use mathlib.Core.Bool.{Bool, true, false}
+use mathlib.Core.List.{List}
+use mathlib.Core.Logic.{_⊎_}
+use mathlib.Core.Option.{Option, none, some}
+use lib.Dec.{T, eqb}
+use lib.ListN.{length}
+use Rattle.meaning.specs.Choice.{Bytes, Name, pick, every}
+use Rattle.meaning.specs.Classes.{Class}
+use Rattle.meaning.specs.Tree.{Condition}
+use Rattle.meaning.specs.Tape.{conditionTape, conditionsTape}
+use Rattle.meaning.specs.Tokens as Tokens
+use Rattle.meaning.specs.Reading.{Parsed, parsed, pass, passSymbol, truthOf, passTruth}
+use Rattle.lexing.specs.View.{Sound, stream}
+use Rattle.lexing.specs.declared.Span.{Span}
+use Rattle.lexing.specs.declared.Placed.{Placed}
+use Rattle.parsing.specs.declared.progress.Progress.{Progress}
+use Rattle.parsing.specs.Written.{isQuiet, Ready, Went}
+
+-- `condition` from its variable on, and after its variable
+abbrev pub conditionEnd : Class → Name → List Tokens.Placed → Parsed Condition
+conditionEnd class x ts =
+    pass 62 ts λ ts₁.
+    pass 58 ts₁ λ ts₂.
+    passTruth ts₂ λ truth rest.
+    parsed (record { predicate = class; variable = x; expected = truth }) rest
+
+abbrev pub conditionOn : List Name → Class → List Tokens.Placed → Parsed Condition
+conditionOn symbols class ts = passSymbol symbols ts λ x ts₁. conditionEnd class x ts₁
+
+-- the truth value of a closing string by its number on the tape; 1 stands for none
+abbrev pub truthAt : ℕ → Option Bool
+truthAt n = pick (eqb n 5) (some true) (pick (eqb n 0) (some false) none)
+
+pub record TruthIs (token : Tokens.Token) (three : Bool) (n : ℕ) : Type 0 where
+  pub same : truthOf token three ≡ truthAt n
+  pub known : (n ≡ 0) ⊎ ((n ≡ 1) ⊎ (n ≡ 5))
+  pub low : n ≤ 5
+
+-- a token that ends in the text
+pub record Standing (text : Bytes) (t : Placed) : Type 0 where
+  pub forward : t .place ≤ t .past
+  pub inside : t .past ≤ length text
+  pub sound : Sound text (t .token) (t .place) (t .past)
+
+-- a condition's variable stands before a place, and after as many bytes as the tape has words
+pub record Before (text : Bytes) (words at : ℕ) (x : Span) : Type 0 where
+  pub after : words < x .from
+  pub some : x .from < x .past
+  pub before : x .past ≤ at
+  pub short : x .past - x .from ≤ 8
+
+-- a condition and conditions were read
+pub record ConditionRead (text : Bytes) (at words : ℕ) (tape tape′ : List ℕ) (c : Condition) (rest : List Tokens.Placed) (s : Progress) : Type 0 where
+  pub tokens : rest ≡ stream text Tokens.inside (s .at)
+  pub went : Went text at words tape (s .at) (s .words) tape′ (conditionTape c)
+  pub quiet : T (every isQuiet (conditionTape c))
+
+pub record ConditionsRead (text : Bytes) (at words : ℕ) (tape tape′ : List ℕ) (cs : List Condition) (rest : List Tokens.Placed) (s : Progress) : Type 0 where
+  pub tokens : rest ≡ stream text Tokens.inside (s .at)
+  pub went : Went text at words tape (s .at) (s .words) tape′ (conditionsTape cs)
+  pub quiet : T (every isQuiet (conditionsTape cs))

@@ -1,0 +1,217 @@
+// The conditions' reader.
+use crate::Answer;
+use crate::names::LONGEST_NAME;
+use crate::names::class_named;
+use crate::names::find;
+use crate::progress::Fault;
+use crate::progress::Parsed;
+use crate::progress::Passed;
+use crate::progress::Progress;
+use crate::progress::is_accepted;
+use crate::progress::is_sign;
+use crate::progress::pass;
+use crate::progress::refuse;
+use crate::writing::put_named;
+use lexing::Mode;
+use lexing::Placed;
+use lexing::Span;
+use lexing::Token;
+use lexing::lex;
+ghost use mathlib.Core.Path.{_≡_};
+ghost use mathlib.Core.Option.{some};
+ghost use Prim.Native.Nat.{_+_, _≤_, _<_};
+ghost use lib.Dec.{eqb};
+ghost use lib.ListN.{length};
+ghost use Rattle.meaning.specs.Classes.{Class};
+ghost use Rattle.meaning.specs.Tokens as Tokens;
+ghost use Rattle.meaning.specs.Reading as Reading;
+ghost use Rattle.lexing.specs.View.{tokenOf, part, stream};
+ghost use Rattle.parsing.specs.Answered.{numberOf, Agrees};
+ghost use Rattle.parsing.specs.Tables.{Inside, Entries, classAt};
+ghost use Rattle.parsing.specs.Written.{Ready};
+ghost use Rattle.parsing.specs.Patterns.{symbolNames};
+ghost use Rattle.parsing.specs.Conditions.{conditionEnd, conditionOn, TruthIs, Standing, Before, ConditionRead, ConditionsRead};
+
+// What is wrong with an s-variable after the pattern.
+pub fn later_symbol_fault(text: &[u8], table: &[usize], symbols: usize, x: Span) -> Answer
+    requires { ⌜ Inside (now text) x × Entries (now text) (now table) 0 symbols ⌝ }
+    ensures { λ r. ⌜ numberOf r ≡ Reading.symbolFault (symbolNames (now (text .entry)) (now (table .entry)) symbols) (part (now (text .entry)) x) ⌝ }
+{
+    if 8 < x.past - x.from {
+        return Answer::OverLimit;
+    }
+    if find(text, table, 0, symbols, x) < symbols {
+        return Answer::Accepted;
+    }
+    Answer::WrongLaterVariable
+}
+
+// The closing string's truth value: 5 for 'T', 0 for 'F', and 1 for any other token.
+fn truth_in(text: &[u8], t: Placed) -> usize
+    requires { ⌜ Standing (now text) t ⌝ }
+    ensures { λ r. ⌜ TruthIs (tokenOf (now (text .entry)) (t .token) (t .place) (t .past)) (eqb (t .past) (t .place + 3)) r ⌝ }
+{
+    let token = t.token;
+    let Token::Quoted(_) = token else {
+        return 1;
+    };
+    let past = t.past;
+    let three = t.place + 3;
+    if past != three {
+        return 1;
+    }
+    let byte = text[t.place + 1];
+    if byte == 84 {
+        return 5;
+    }
+    if byte == 70 {
+        return 0;
+    }
+    1
+}
+
+// A condition after its variable: `>`, `:` and the closing string.
+fn condition_end(
+    text: &[u8],
+    tape: &mut [u32; 32768],
+    from: usize,
+    words: usize,
+    class: usize,
+    x: Span,
+) -> Parsed
+    requires { ⌜ Ready (now text) from words × Before (now text) words from x × (class < 5) ⌝ }
+    ensures { λ r. ⌜ ((c : Class) → classAt class ≡ some c → Agrees (ConditionRead (now (text .entry)) from words (now (tape .entry)) (now (tape .exit)))
+        (conditionEnd c (part (now (text .entry)) x) (stream (now (text .entry)) Tokens.inside from)) r) ⌝ }
+{
+    let close = match pass(text, from, Mode::Inside, 62) {
+        Passed::Past(at) => at,
+        Passed::Refused(fault) => return Parsed::Stopped(fault),
+    };
+    let colon = match pass(text, close, Mode::Inside, 58) {
+        Passed::Past(at) => at,
+        Passed::Refused(fault) => return Parsed::Stopped(fault),
+    };
+    let t = lex(text, colon, Mode::Inside);
+    let truth = truth_in(text, t);
+    if truth == 1 {
+        return Parsed::Stopped(refuse(t));
+    }
+    let word = (768 + (x.past - x.from) * 10 + truth + class) as u32;
+    let after = put_named(text, tape, words, word, x);
+    Parsed::Done(Progress {
+        at: t.past,
+        words: after,
+        count: 0,
+        parts: 0,
+    })
+}
+
+// A condition after its predicate. Inside a sentence a word that is no variable is refused with 3.
+fn condition_on(
+    text: &[u8],
+    tape: &mut [u32; 32768],
+    table: &[usize],
+    symbols: usize,
+    from: usize,
+    words: usize,
+    class: usize,
+) -> Parsed
+    requires { ⌜ Ready (now text) from words × Entries (now text) (now table) 0 symbols × (class < 5) ⌝ }
+    ensures { λ r. ⌜ ((c : Class) → classAt class ≡ some c → Agrees (ConditionRead (now (text .entry)) from words (now (tape .entry)) (now (tape .exit)))
+        (conditionOn (symbolNames (now (text .entry)) (now (table .entry)) symbols) c (stream (now (text .entry)) Tokens.inside from)) r) ⌝ }
+{
+    let t = lex(text, from, Mode::Inside);
+    let token = t.token;
+    let Token::Symbol(x) = token else {
+        return Parsed::Stopped(refuse(t));
+    };
+    let fault = later_symbol_fault(text, table, symbols, x);
+    if !is_accepted(fault) {
+        return Parsed::Stopped(Fault {
+            answer: fault,
+            place: t.place,
+        });
+    }
+    condition_end(text, tape, t.past, words, class, x)
+}
+
+// A condition after its `,`.
+fn condition(
+    text: &[u8],
+    tape: &mut [u32; 32768],
+    table: &[usize],
+    symbols: usize,
+    from: usize,
+    words: usize,
+) -> Parsed
+    requires { ⌜ Ready (now text) from words × Entries (now text) (now table) 0 symbols ⌝ }
+    ensures { λ r. ⌜ Agrees (ConditionRead (now (text .entry)) from words (now (tape .entry)) (now (tape .exit)))
+        (Reading.condition (symbolNames (now (text .entry)) (now (table .entry)) symbols) (stream (now (text .entry)) Tokens.inside from)) r ⌝ }
+{
+    let open = match pass(text, from, Mode::Inside, 60) {
+        Passed::Past(at) => at,
+        Passed::Refused(fault) => return Parsed::Stopped(fault),
+    };
+    let t = lex(text, open, Mode::Naming);
+    let token = t.token;
+    let Token::Name(name) = token else {
+        return Parsed::Stopped(refuse(t));
+    };
+    if LONGEST_NAME < name.past - name.from {
+        return Parsed::Stopped(Fault {
+            answer: Answer::OverLimit,
+            place: t.place,
+        });
+    }
+    let class = class_named(text, name);
+    if class == 5 {
+        return Parsed::Stopped(Fault {
+            answer: Answer::WrongName,
+            place: t.place,
+        });
+    }
+    condition_on(text, tape, table, symbols, t.past, words, class)
+}
+
+// Reads conditions, at most eight.
+pub fn conditions(
+    text: &[u8],
+    tape: &mut [u32; 32768],
+    table: &[usize],
+    symbols: usize,
+    from: usize,
+    words: usize,
+) -> Parsed
+    requires { ⌜ Ready (now text) from words × Entries (now text) (now table) 0 symbols ⌝ }
+    ensures { λ r. ⌜ Agrees (ConditionsRead (now (text .entry)) from words (now (tape .entry)) (now (tape .exit)))
+        (Reading.conditions 8 (symbolNames (now (text .entry)) (now (table .entry)) symbols) (stream (now (text .entry)) Tokens.inside from)) r ⌝ }
+{
+    let mut at = from;
+    let mut to = words;
+    let mut left: usize = 8;
+    loop {
+        let t = lex(text, at, Mode::Inside);
+        if !is_sign(t, 44) {
+            return Parsed::Done(Progress {
+                at: t.place,
+                words: to,
+                count: 0,
+                parts: 0,
+            });
+        }
+        if left == 0 {
+            return Parsed::Stopped(Fault {
+                answer: Answer::OverLimit,
+                place: t.place,
+            });
+        }
+        match condition(text, tape, table, symbols, t.past, to) {
+            Parsed::Stopped(fault) => return Parsed::Stopped(fault),
+            Parsed::Done(next) => {
+                at = next.at;
+                to = next.words;
+            }
+        }
+        left -= 1;
+    }
+}

@@ -1,0 +1,79 @@
+// Writing on the tape.
+use lexing::Character;
+use lexing::Span;
+use lexing::next_character;
+ghost use mathlib.Core.Path.{_≡_};
+ghost use mathlib.Core.List.{_∷_};
+ghost use Prim.Native.Nat.{_+_, _-_, _≤_, _<_};
+ghost use lib.Dec.{T};
+ghost use lib.ListN.{length, set};
+ghost use Rattle.meaning.specs.Choice.{every};
+ghost use Rattle.lexing.specs.View.{IsClosed, charactersIn, part};
+ghost use Rattle.parsing.specs.Tables.{Inside};
+ghost use Rattle.parsing.specs.Written.{cleared, isQuiet, Ready, Wrote, stringFrom};
+
+pub fn put(tape: &mut [u32; 32768], at: usize, word: u32)
+    requires { ⌜ at < 32768 ⌝ }
+    ensures { λ _. ⌜ now (tape .exit) ≡ set (now (tape .entry)) at word ⌝ }
+{
+    tape[at] = word;
+}
+
+fn fill(tape: &mut [u32], from: usize)
+    ensures { λ _. ⌜ now (tape .exit) ≡ cleared (length (now (tape .entry))) from (now (tape .entry)) ⌝ }
+{
+    let mut i = from;
+    while i < tape.len() {
+        tape[i] = 0;
+        i += 1;
+    }
+}
+
+// Zeros from a word on.
+pub fn clear(tape: &mut [u32; 32768], from: usize)
+    ensures { λ _. ⌜ now (tape .exit) ≡ cleared 32768 from (now (tape .entry)) ⌝ }
+{
+    fill(tape, from);
+}
+
+// A word, and the bytes of a part of the text after it.
+pub fn put_named(text: &[u8], tape: &mut [u32; 32768], at: usize, word: u32, x: Span) -> usize
+    requires { ⌜ Inside (now text) x × (at + 1 + (x .past - x .from) ≤ 32768) ⌝ }
+    ensures { λ r. ⌜ Wrote (now (tape .entry)) at (word ∷ part (now (text .entry)) x) r (now (tape .exit)) × T (every isQuiet (part (now (text .entry)) x)) ⌝ }
+{
+    put(tape, at, word);
+    let past = x.past;
+    let mut to = at + 1;
+    let mut i = x.from;
+    while i < past {
+        let byte = text[i];
+        put(tape, to, byte as u32);
+        to += 1;
+        i += 1;
+    }
+    to
+}
+
+// The characters of a string that is well formed, from the place after its opening quote.
+pub fn put_characters(text: &[u8], tape: &mut [u32; 32768], at: usize, from: usize) -> usize
+    requires { ⌜ Ready (now text) from at × IsClosed (stringFrom (now text) from) ⌝ }
+    ensures { λ r. ⌜ Wrote (now (tape .entry)) at (charactersIn (stringFrom (now (text .entry)) from)) r (now (tape .exit))
+        × T (every isQuiet (charactersIn (stringFrom (now (text .entry)) from))) ⌝ }
+{
+    let mut to = at;
+    let mut i = from;
+    loop {
+        match next_character(text, i) {
+            Character::Given(byte, past) => {
+                put(tape, to, byte as u32);
+                to += 1;
+                i = past;
+            }
+            Character::Nothing(past) => {
+                i = past;
+            }
+            Character::Closed(_) => return to,
+            Character::Broken(_) => return to,
+        }
+    }
+}

@@ -1,0 +1,146 @@
+-- What reading a text comes to: by what its functions' reader comes to, and by the calls of the table that it gives.
+use Prim.Native.Nat.{ℕ, _+_, _≤_, _<_}
+use mathlib.Core.Path.{_≡_, refl, sym, _∙_, ap}
+use mathlib.Core.List.{List, []}
+use mathlib.Core.Option.{Option, none, some}
+use native.Mathlib.Omega.{arith}
+use borrow.Author.Tests.{lt-leb, le-leb}
+use lib.ListN.{length, take, drop}
+use lib.Seq.{take-at, sets-eq, length-sets}
+use Rattle.meaning.specs.Choice.{Bytes}
+use Rattle.meaning.specs.Answers.{tableTooLong}
+use Rattle.meaning.specs.Tree.{Table}
+use Rattle.meaning.specs.Tape.{tape}
+use Rattle.meaning.specs.Tokens as Tokens
+use Rattle.meaning.specs.Reading.{Parsed, functions, unknownIn, accepted, refused, known, verdict, read}
+use Rattle.lexing.specs.View.{stream}
+use Rattle.parsing.specs.declared.Answer.{Answer}
+use Rattle.parsing.specs.declared.Answer.the-variants.{Accepted, TableTooLong, UndeclaredName}
+use Rattle.reading.specs.declared.Reading.{Reading}
+use Rattle.parsing.specs.declared.progress.Fault.{Fault}
+use Rattle.parsing.specs.declared.progress.Progress.{Progress}
+use Rattle.parsing.specs.declared.progress.Parsed.{Parsed as CodeParsed}
+use Rattle.parsing.specs.declared.progress.Parsed.the-variants.{Stopped, Done}
+use Rattle.reading.specs.declared.calls.Unknown.{Unknown}
+use Rattle.reading.specs.declared.calls.Unknown.the-variants.{At, Nowhere}
+use Rattle.parsing.specs.Answered.{numberOf, Agrees}
+use Rattle.parsing.specs.Written.{written, cleared, Went}
+use Rattle.parsing.specs.Tables.{tableNames, Entries}
+use Rattle.reading.specs.Sentences.{Each}
+use Rattle.reading.specs.Functions.{FunctionsRead}
+use Rattle.reading.specs.Calls.{unknownAs, CallWithin, Holds}
+use Rattle.reading.specs.Reads.{treeTape, tapeLeft, Reads, Begins, refusedWith}
+use Rattle.parsing.proofs.Going.{ReadAt, has-stopped, has-read}
+use Rattle.reading.proofs.Called.{table-within}
+
+-- THE TAPE
+
+module _ {text start tape′ words : List ℕ} {at count : ℕ} (w : Went text 0 0 start at count tape′ words) where
+  counts : count ≡ length words
+  counts = omega (arith, w .counted)
+
+  -- words written from the first on are the first words
+  begins : length tape′ ≡ 32768 → length text ≤ 32768 → take count tape′ ≡ words
+  unfolding written
+  begins room short =
+      let same : length tape′ ≡ length start = rw (w .wrote) (length-sets start 0 words) in
+      let fits : 0 + length words ≤ length start = omega (arith, counts, w .charged, w .inside) in
+      rw (counts, w .wrote, sets-eq words start 0 fits) (take-at words (drop (0 + length words) start) (length words) refl)
+
+-- THE TEXT
+
+abbrev acceptedWith : ℕ → ℕ → Reading
+acceptedWith count words = record { answer = Accepted; place = 0; functions = count; words = words }
+
+module _ (text : Bytes) where
+  read-long : 32768 < length text → read text ≡ refused tableTooLong 0
+  read-long h = rw (lt-leb (length text) 32768 h)
+
+  read-short : length text ≤ 32768 → read text ≡ verdict (functions 64 512 [] (stream text Tokens.outside 0))
+  unfolding stream
+  read-short h = rw (le-leb (length text) 32768 h)
+
+  -- a refusal, whatever is on the tape
+  refuses : (answer : Answer) (place : ℕ) (tape′ : List ℕ) (r : Reading) → r ≡ refusedWith answer place → read text ≡ refused (numberOf answer) place
+      → Begins text r tape′
+  refuses answer place tape′ r e f = record { answer = rw (e, f); words = rw (e, f); tape = rw (e, f) }
+
+  -- a table
+  accepts : (t : Table) (count words : ℕ) (tape′ : List ℕ) (r : Reading) → r ≡ acceptedWith count words → read text ≡ accepted t
+      → count ≡ length t → words ≡ length (tape t) → take words tape′ ≡ tape t
+      → Begins text r tape′
+  accepts t count words tape′ r e f c n h = record { answer = rw (e, f, c); words = rw (e, f) n; tape = rw (e, f) h }
+
+  pub too-long : (tape′ : List ℕ) (r : Reading) → 32768 < length text → r ≡ refusedWith TableTooLong 0 → Begins text r tape′
+  too-long tape′ r h e = refuses TableTooLong 0 tape′ r e (read-long h)
+
+  -- THE FUNCTIONS
+
+  module _ (h : length text ≤ 32768) (start tape′ names : List ℕ) where
+    abbrev Comes : Parsed Table → CodeParsed → Type 0
+    Comes p r = Agrees (FunctionsRead text start tape′ names) p r
+
+    abbrev table-of : Parsed Table
+    table-of = functions 64 512 [] (stream text Tokens.outside 0)
+
+    pub functions-stop : (fault : Fault) (r : Reading) → Comes table-of (Stopped fault) → r ≡ refusedWith (fault .answer) (fault .place) → Begins text r tape′
+    functions-stop fault r a e = refuses (fault .answer) (fault .place) tape′ r e (read-short h ∙ ap verdict (has-stopped _ fault a))
+
+    module _ (p : Progress) (a : Comes table-of (Done p)) (room : length tape′ ≡ 32768) where
+      abbrev came : ReadAt (FunctionsRead text start tape′ names) table-of p
+      came = has-read _ p a
+
+      abbrev table : Table
+      table = came .value
+
+      read-table : FunctionsRead text start tape′ names table (came .rest) p
+      read-table = came .how
+
+      on-tape : take (p .words) tape′ ≡ tape table
+      on-tape = begins (read-table .went) room h
+
+      pub held : Holds text (take (p .words) tape′) (tableNames text names 0 (p .count)) table
+      held = record { written = on-tape; declared = sym (read-table .names); stand = read-table .stand }
+
+      -- what the search for undeclared names requires
+      pub searchable : (p .words ≤ length tape′) × Each (CallWithin text) (take (p .words) tape′) × Entries text names 0 (p .count)
+      searchable = (let w = read-table .went in omega (arith, w .charged, w .inside), table-within _ _ _ table held, read-table .entries)
+
+      -- THE CALLS
+
+      module _ (found : Unknown)
+          (search : (t : Table) → Holds text (take (p .words) tape′) (tableNames text names 0 (p .count)) t → found ≡ unknownAs (unknownIn t t)) where
+        judged : read text ≡ known (unknownIn table table) table
+        judged = read-short h ∙ ap verdict (came .same)
+
+        pub call-unknown : (place : ℕ) (r : Reading) → found ≡ At place → r ≡ refusedWith UndeclaredName place → Begins text r tape′
+        call-unknown place r e k =
+            refuses UndeclaredName place tape′ r k (judged ∙ ap (λ o. known o table) (is-some (unknownIn table table) (sym (search table held) ∙ e)))
+          where
+            is-some : (o : Option ℕ) → unknownAs o ≡ At place → o ≡ some place
+            is-some none f = let z : _≡_ {A = ℕ} 0 1 = cc in absurd (omega arith)
+            is-some (some q) f = cc
+
+        pub calls-known : (r : Reading) → found ≡ Nowhere → r ≡ acceptedWith (p .count) (p .words) → Begins text r tape′
+        calls-known r e k =
+            accepts table (p .count) (p .words) tape′ r k
+            (judged ∙ ap (λ o. known o table) (is-none (unknownIn table table) (sym (search table held) ∙ e)))
+            (read-table .count) (counts (read-table .went)) on-tape
+          where
+            is-none : (o : Option ℕ) → unknownAs o ≡ Nowhere → o ≡ none
+            is-none none f = refl
+            is-none (some q) f = let z : _≡_ {A = ℕ} 0 1 = cc in absurd (omega arith)
+
+-- THE TAPE AFTERWARDS
+
+pub reads-all : {text : Bytes} {r : Reading} {tape′ after : List ℕ} → Begins text r tape′ → after ≡ cleared 32768 (r .words) tape′ → Reads text r after
+unfolding cleared tapeLeft
+reads-all b e = record { answer = b .answer; words = b .words; tape = e ∙ rw (b .tape) }
+
+-- the first words of the tape are those of an accepted table
+pub tree-words : {text : Bytes} {r : Reading} {tape′ : List ℕ} → Reads text r tape′ → take (r .words) tape′ ≡ treeTape (read text)
+unfolding tapeLeft
+tree-words {text} {r} a = rw (a .tape, a .words) (take-at (treeTape (read text)) _ (length (treeTape (read text))) refl)
+
+pub accepted-words : {text : Bytes} {r : Reading} {tape′ : List ℕ} (t : Table) → Reads text r tape′ → read text ≡ accepted t → take (r .words) tape′ ≡ tape t
+accepted-words t a e = tree-words a ∙ ap treeTape e

@@ -1,0 +1,35 @@
+-- `reading::calls::is_known` meets its contract.
+use mathlib.Core.Path.{refl}
+use native.Mathlib.Omega.{arith}
+use Rattle.parsing.proofs.Finding.{among}
+use Rattle.reading.proofs.Called.{no-call, calls-emission, calls-function}
+use Rattle.reading.proofs.calls.is_known.Statement.{statement}
+use Rattle.reading.proofs.calls.is_known.Tie as tie
+
+returns : tie.Need-returns
+returns c = no-call _ _ _ (c .if1 .taken)
+
+sub-place : tie.Need-sub-place
+sub-place c = omega arith
+
+add-past : tie.Need-add-past
+add-past c = omega arith
+
+is-emission-requires : tie.Need-is-emission-requires
+is-emission-requires c κs = record { forward = omega arith; inside = c .before .before .before .pre .0 (c .if1 .left) }
+
+returns-2 : tie.Need-returns-2
+returns-2 c = calls-emission _ _ _ (c .before .before .if1 .left) (c .before .is-emission .ensures) (c .if2 .taken)
+
+find-requires : tie.Need-find-requires
+find-requires c κs = (record { forward = omega arith; inside = c .before .before .before .before .before .pre .0 (c .before .before .if1 .left) }, c .before .before .before .before .before .pre .1)
+
+returns-3 : tie.Need-returns-3
+returns-3 c =
+    calls-function _ _ _ (c .before .before .before .if1 .left) (c .before .before .is-emission .ensures) (c .before .if2 .left)
+    (among _ _ _ _ (c .before .before .before .before .before .before .pre .1) _ _ (c .find .ensures) refl)
+
+pub is-known-spec : {M : Type 1} → statement M
+is-known-spec =
+    tie.close
+    (tie.spec returns sub-place add-past is-emission-requires returns-2 find-requires returns-3)

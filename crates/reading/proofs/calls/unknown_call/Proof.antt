@@ -1,0 +1,68 @@
+-- `reading::calls::unknown_call` meets its contract: the search from the start is that from here.
+use Prim.Native.Nat.{_-_}
+use mathlib.Core.Path.{sym, _∙_, ap}
+use native.Mathlib.Omega.{arith}
+use borrow.Author.Tests.{not-true, not-false}
+use Rattle.parsing.specs.Tables.{tableNames}
+use Rattle.reading.specs.Calls.{unknownAs}
+use Rattle.reading.proofs.Called.{Searching, search-starts, search-goes, search-finds, search-ends, searched-within, unknown-opens, table-found}
+use Rattle.reading.proofs.calls.unknown_call.Statement.{statement}
+use Rattle.reading.proofs.calls.unknown_call.Tie as tie
+
+abbrev Inv-loop : tie.InvT-loop
+Inv-loop text tape names functions words i₀ i = Searching text tape (tableNames text names 0 functions) words i
+
+abbrev μ-loop : tie.MeasureT-loop
+μ-loop text tape names functions words i₀ i = words - i
+
+loop-holds : tie.Need-loop-holds Inv-loop μ-loop
+loop-holds c = search-starts _ _ _ _ (c .before .before .pre .0) (c .before .before .pre .1)
+
+mul-word : tie.Need-mul-word Inv-loop μ-loop
+mul-word c = omega arith
+
+shared-slice-read-word : tie.Need-shared-slice-read-word Inv-loop μ-loop
+shared-slice-read-word c = omega arith
+
+cast-word : tie.Need-cast-word Inv-loop μ-loop
+cast-word c = omega (arith, c .shared-slice-known3 .given (c .before .before .loop .i))
+
+is-known-requires : tie.Need-is-known-requires Inv-loop μ-loop
+is-known-requires c κs = (searched-within _ _ _ _ _ (c .before .before .before .loop .inv) (c .before .before .loop-test .taken), c .before .before .before .before .before .before .pre .2)
+
+sub-place : tie.Need-sub-place Inv-loop μ-loop
+sub-place c = unknown-opens _ _ _ (sym (c .before .is-known .ensures) ∙ not-true _ (c .if1 .taken))
+
+returns : tie.Need-returns Inv-loop μ-loop
+returns c =
+    λ t h. ap unknownAs (sym (search-finds _ _ _ _ _ (c .before .before .before .before .before .loop .inv) (c .before .before .before .before .loop-test .taken) (sym (c .before .is-known .ensures) ∙ not-true _ (c .if1 .taken))) ∙ table-found _ _ _ t h)
+
+add-i : tie.Need-add-i Inv-loop μ-loop
+add-i c = omega arith
+
+loop-less : tie.Need-loop-less Inv-loop μ-loop
+loop-less c = omega arith
+
+loop-again : tie.Need-loop-again Inv-loop μ-loop
+loop-again c = search-goes _ _ _ _ _ (c .before .before .before .before .before .loop .inv) (c .before .before .before .before .loop-test .taken) (sym (c .before .is-known .ensures) ∙ not-false _ (c .if1 .left))
+
+returns-2 : tie.Need-returns-2 Inv-loop μ-loop
+returns-2 c = λ t h. ap unknownAs (sym (search-ends _ _ _ _ _ (c .before .loop .inv) (c .loop-test .left)) ∙ table-found _ _ _ t h)
+
+pub unknown-call-spec : {M : Type 1} → statement M
+unknown-call-spec =
+    tie.close
+    (tie.spec
+    Inv-loop
+    μ-loop
+    loop-holds
+    mul-word
+    shared-slice-read-word
+    cast-word
+    is-known-requires
+    sub-place
+    returns
+    add-i
+    loop-less
+    loop-again
+    returns-2)

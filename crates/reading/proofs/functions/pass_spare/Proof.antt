@@ -1,0 +1,30 @@
+-- `reading::functions::pass_spare` meets its contract.
+use borrow.Author.Needs.{needs}
+use Rattle.reading.proofs.functions.pass_spare.Statement.{statement}
+use Rattle.reading.proofs.functions.pass_spare.Tie as tie
+use Rattle.reading.proofs.functions.pass_spare.Reads as reads
+use Rattle.reading.proofs.functions.pass_spare.Lts as lts
+use Rattle.lexing.proofs.lex.Reads as lex-reads
+use Rattle.parsing.proofs.progress.is_sign.Reads as is-sign-reads
+use mathlib.Core.Path.{sym, _∙_}
+use Rattle.meaning.specs.Tokens.{outside}
+use Rattle.lexing.proofs.Stream.{comes}
+use Rattle.parsing.proofs.Tokening.{takes}
+use Rattle.reading.proofs.Functioned.{spare-passed, spare-none}
+
+lex-requires : tie.Need-lex-requires
+lex-requires c κs = search needs
+
+is-sign-requires : tie.Need-is-sign-requires
+is-sign-requires c κs = search needs
+
+returns : tie.Need-returns
+returns c =
+    spare-passed (takes _ outside _ 59 _ (comes _ outside _ _ (c .before .before .before .before .pre) (c .before .before .lex .ensures)) (sym (c .before .is-sign .ensures) ∙ c .if1 .taken))
+
+returns-2 : tie.Need-returns-2
+returns-2 c =
+    spare-none (comes _ outside _ _ (c .before .before .before .before .pre) (c .before .before .lex .ensures)) (sym (c .before .is-sign .ensures) ∙ c .if1 .left)
+
+pub pass-spare-spec : {M : Type 1} → statement M
+pass-spare-spec = tie.close (tie.spec lex-requires is-sign-requires returns returns-2)
