@@ -10,7 +10,7 @@ ghost use Rattle.meaning.specs.Outcome.{emittedLine};
 ghost use Rattle.meaning.specs.Packing.{emissionOf};
 ghost use Rattle.running.specs.Decoded.{isName};
 ghost use Rattle.running.specs.States.{memory, Acts};
-use crate::moving::copy_over;
+use crate::copying::copy_over;
 use crate::registers::Ending;
 use crate::registers::Next;
 use crate::registers::Registers;

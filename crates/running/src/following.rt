@@ -14,12 +14,12 @@ ghost use Rattle.running.specs.Leaving.{cells, Leaves, refusedWith, repo
 use crate::applying::apply;
 use crate::applying::call;
 use crate::applying::tail_call;
+use crate::copying::copy_over;
 use crate::decoding::Instruction;
 use crate::decoding::decode;
 use crate::emitting::emit;
 use crate::frames::leave;
 use crate::moving::begin_sequence;
-use crate::moving::copy_over;
 use crate::moving::shift;
 use crate::moving::use_sequence;
 use crate::moving::write;

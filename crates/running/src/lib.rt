@@ -3,6 +3,7 @@ ghost use Rattle.meaning.specs.Leaving.{leaving};
 ghost use Rattle.running.specs.Leaving.{cells, Leaves};
 
 mod applying;
+pub mod copying;
 mod decoding;
 mod emitting;
 mod following;

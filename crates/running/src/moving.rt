@@ -3,13 +3,13 @@ ghost use Prim.Native.Nat.{ℕ, _+_, _-_, _≤_, _<_, min};
 ghost use mathlib.Core.Path.{_≡_};
 ghost use mathlib.Core.List.{List};
 ghost use lib.ListN.{length};
-ghost use lib.Seq.{paste};
 ghost use Rattle.meaning.specs.Choice.{Bytes};
 ghost use Rattle.meaning.specs.Instructions.{out, outCharacter, outValue, beginSequence, useSequence};
 ghost use Rattle.running.specs.Decoded.{registerMeant, shiftMeant, writeMeant};
 ghost use Rattle.running.specs.States.{memory, frameWord, localAt, Acts};
 ghost use Rattle.running.specs.Spans.{withinCells, cellsOf, reachedBy};
 ghost use Rattle.running.specs.Copied.{MovedDown};
+use crate::copying::copy_over;
 use crate::decoding::Length;
 use crate::decoding::Shift;
 use crate::decoding::Span;
@@ -118,18 +118,6 @@ pub fn shift(g: Registers, what: Shift, input: &[u8], frames: &[usize]) -> Next
             next.q = to;
             Next::Onward(next)
         }
-    }
-}
-
-// Bytes copied over those from a place on.
-pub fn copy_over(to: &mut [u8], at: usize, from: &[u8])
-    requires { ⌜ at + length (now from) ≤ length (now to) ⌝ }
-    ensures { λ _. ⌜ now (to .exit) ≡ paste (now (to .entry)) at (now (from .entry)) (length (now (from .entry))) ⌝ }
-{
-    let mut i = 0;
-    while i < from.len() {
-        to[at + i] = from[i];
-        i += 1;
     }
 }
 

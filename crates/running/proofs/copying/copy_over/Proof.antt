@@ -1,12 +1,12 @@
--- `moving::copy_over` meets its contract. The loop's invariant: the bytes so far are pasted over.
+-- `copying::copy_over` meets its contract. The loop's invariant: the bytes so far are pasted over.
 use native.Mathlib.Omega.{arith}
 use Prim.Native.Nat.{_+_, _-_, _≤_}
 use mathlib.Core.Path.{_≡_, refl}
 use lib.ListN.{length, length-set}
 use lib.Seq.{paste, paste-zero}
 use Rattle.running.proofs.laws.Copying.{pasted-one}
-use Rattle.running.proofs.moving.copy_over.Statement.{statement}
-use Rattle.running.proofs.moving.copy_over.Tie as tie
+use Rattle.running.proofs.copying.copy_over.Statement.{statement}
+use Rattle.running.proofs.copying.copy_over.Tie as tie
 
 abbrev Inv-loop : tie.InvT-loop
 Inv-loop to₀ at from i₀ to i = (to ≡ paste to₀ at from i) × (i ≤ length from) × (length to ≡ length to₀)

@@ -1,0 +1,43 @@
+-- What is known of a read table: an accepted one is allowed, a refused one has a number above 0.
+use Prim.Native.Nat.{ℕ, suc}
+use native.Mathlib.Omega.{arith}
+use mathlib.Core.Path.{_≡_, refl}
+use mathlib.Core.Bool.{true}
+use mathlib.Core.List.{[], _∷_}
+use lib.Dec.{T}
+use mir.Val.{Fits}
+use mir.Syntax.{w8}
+use lib.ListN.{getD}
+use borrow.Author.Tests.{lt-ltb}
+use Rattle.meaning.specs.Choice.{Bytes, every}
+use Rattle.meaning.specs.Allowed.{isByte, allowed}
+use Rattle.meaning.specs.Reading.{Read, accepted, refused, read}
+use Rattle.meaning.proofs.agreement.Choosing.{true-passed}
+use Rattle.meaning.proofs.reading.Basics.{both-true}
+use Rattle.meaning.proofs.reading.Accepted.{accepted-allows}
+use Rattle.meaning.proofs.reading.Leftmost.{Refusal, tooLong, atToken, atCall, refusal}
+
+-- what is known of a lent slice of bytes
+abbrev pub AreBytes : Bytes → Type 0
+AreBytes text = (i : ℕ) → Fits w8 (getD text i 0)
+
+bytes-known : (text : Bytes) → AreBytes text → every isByte text ≡ true
+unfolding every
+bytes-known [] h = refl
+bytes-known (b ∷ text) h = both-true (lt-ltb b 256 (omega (arith, h 0))) (bytes-known text (λ i. h (suc i)))
+
+abbrev pub Known : Read → Type 0
+Known (accepted t) = T (allowed t)
+Known (refused number place) = number ≡ 0 → ⊥
+
+above-zero : {text : Bytes} {n k : ℕ} → Refusal text n k → n ≡ 0 → ⊥
+above-zero (tooLong long number place) e = omega arith
+above-zero (atToken low high) e = omega arith
+above-zero (atCall t derived unknown number) e = omega arith
+
+pub read-known : (text : Bytes) → AreBytes text → Known (read text)
+read-known text h = by (read text) refl
+  where
+    by : (x : Read) → read text ≡ x → Known x
+    by (accepted t) e = true-passed (allowed t) (accepted-allows text t (bytes-known text h) e .within)
+    by (refused number place) e = above-zero (refusal text (bytes-known text h) number place e)

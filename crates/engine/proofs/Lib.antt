@@ -1,0 +1,4 @@
+-- Laws that the entry points' proofs cite.
+pub mod Known
+pub mod Entries
+pub mod Runs

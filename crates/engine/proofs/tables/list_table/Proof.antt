@@ -1,0 +1,46 @@
+-- `engine::tables::list_table` meets its contract.
+use Rattle.engine.proofs.Entries.{refused-listed, accepted-listed}
+use borrow.Author.Needs.{needs}
+use Rattle.engine.proofs.tables.list_table.Statement.{statement}
+use Rattle.engine.proofs.tables.list_table.Tie as tie
+
+tape-room-requires : tie.Need-tape-room-requires
+tape-room-requires c κs = search needs
+
+read-requires : tie.Need-read-requires
+read-requires c κs = search needs
+
+number-requires : tie.Need-number-requires
+number-requires c κs = search needs
+
+tell-requires : tie.Need-tell-requires
+tell-requires c κs = search needs
+
+returns : tie.Need-returns
+returns c = rw (c .tell .ensures) (refused-listed (c .before .before .before .read .ensures) (c .before .before .number .ensures) (c .before .if1 .taken) _)
+
+list-requires : tie.Need-list-requires
+list-requires c κs = search needs
+
+tell-of-buffer-requires : tie.Need-tell-of-buffer-requires
+tell-of-buffer-requires c κs = search needs
+
+same-length : tie.Need-same-length
+same-length c = search needs
+
+returns-2 : tie.Need-returns-2
+returns-2 c = rw (c .tell-of-buffer .ensures) (accepted-listed (c .before .before .before .before .before .before .before .before .read .ensures) (c .before .before .before .before .before .before .before .number .ensures) (c .before .before .before .before .before .before .before .before .before .before .before .before .shared-slice-known .given) (c .before .before .before .before .before .before .if1 .left) (c .before .before .before .list .ensures))
+
+pub list-table-spec : {M : Type 1} → statement M
+list-table-spec =
+    tie.close
+    (tie.spec
+    tape-room-requires
+    read-requires
+    number-requires
+    tell-requires
+    returns
+    list-requires
+    tell-of-buffer-requires
+    same-length
+    returns-2)

@@ -1,0 +1,52 @@
+-- `engine::translate_and_run` meets its contract.
+use Rattle.meaning.specs.Reading.{read}
+use Rattle.engine.proofs.Known.{read-known}
+use Rattle.engine.proofs.Runs.{unrun-reports, run-reports}
+use borrow.Author.Needs.{needs}
+use Rattle.engine.proofs.translate_and_run.Statement.{statement}
+use Rattle.engine.proofs.translate_and_run.Tie as tie
+
+translate-table-requires : tie.Need-translate-table-requires
+translate-table-requires c κs = search needs
+
+same-length : tie.Need-same-length
+same-length c = search needs
+
+returns : tie.Need-returns
+returns c = unrun-reports _ _ _ _ _ (read (c .before .before .before .before .before .before .before .before .before .before .before .args .table .now)) (c .before .before .before .translate-table .ensures) (c .if1 .taken)
+
+run-requires : tie.Need-run-requires
+run-requires c κs = search needs
+
+ending-number-requires : tie.Need-ending-number-requires
+ending-number-requires c κs = search needs
+
+same-length-2 : tie.Need-same-length-2
+same-length-2 c = search needs
+
+same-length-3 : tie.Need-same-length-3
+same-length-3 c = search needs
+
+same-length-4 : tie.Need-same-length-4
+same-length-4 c = search needs
+
+same-length-5 : tie.Need-same-length-5
+same-length-5 c = search needs
+
+returns-2 : tie.Need-returns-2
+returns-2 c = run-reports _ _ _ _ _ (c .before .before .before .before .before .before .before .run .ensures) (c .ending-number .ensures) (c .before .before .before .before .before .before .before .before .before .before .before .before .if1 .left) (read (c .before .before .before .before .before .before .before .before .before .before .before .before .before .before .before .before .before .before .before .before .before .before .before .args .table .now)) (read-known (c .before .before .before .before .before .before .before .before .before .before .before .before .before .before .before .before .before .before .before .before .before .before .before .args .table .now) (c .before .before .before .before .before .before .before .before .before .before .before .before .before .before .before .before .before .before .before .before .before .before .shared-slice-known .given)) (c .before .before .before .before .before .before .before .before .before .before .before .before .before .before .before .translate-table .ensures)
+
+pub translate-and-run-spec : {M : Type 1} → statement M
+translate-and-run-spec =
+    tie.close
+    (tie.spec
+    translate-table-requires
+    same-length
+    returns
+    run-requires
+    ending-number-requires
+    same-length-2
+    same-length-3
+    same-length-4
+    same-length-5
+    returns-2)

@@ -1,0 +1,77 @@
+// What is asked of a table text: whether it is accepted, its listing, its code.
+ghost use mathlib.Core.Path.{_≡_};
+ghost use lib.ListN.{length};
+ghost use Rattle.meaning.specs.Reading.{read};
+ghost use Rattle.meaning.specs.Entries.{answered, readAnswer, written, listed, translated};
+ghost use Rattle.engine.specs.Told.{toldWords, bufferAnswer};
+
+// 01's number, the place of the fault, and what is counted: functions, bytes of the listing or words of code.
+pub struct Told {
+    pub number: u64,
+    pub place: usize,
+    pub count: usize,
+}
+
+// The tape, in a function of its own, so that no caller's facts hold its elements.
+fn tape_room() -> [u32; 32768] {
+    [0u32; 32768]
+}
+
+fn tell(number: u64, place: usize, count: usize) -> Told
+    ensures { λ r. ⌜ toldWords r ≡ answered number place count ⌝ }
+{
+    Told {
+        number,
+        place,
+        count,
+    }
+}
+
+// 17 where what should be written is longer than the lent buffer.
+fn tell_of_buffer(fits: bool, count: usize) -> Told
+    ensures { λ r. ⌜ toldWords r ≡ bufferAnswer fits count ⌝ }
+{
+    if fits {
+        return tell(0, 0, count);
+    }
+    tell(17, 0, 0)
+}
+
+pub fn read_table(table: &[u8]) -> Told
+    ensures { λ r. ⌜ toldWords r ≡ readAnswer (read (now (table .entry))) ⌝ }
+{
+    let mut tape = tape_room();
+    let reading = reading::read(table, &mut tape);
+    let answer = reading.answer;
+    tell(reading::number(answer), reading.place, reading.functions)
+}
+
+// After a refusal, and where the buffer is too short, the buffer is unchanged.
+pub fn list_table(table: &[u8], buffer: &mut [u8]) -> Told
+    ensures { λ r. ⌜ written (toldWords r) (now (buffer .exit)) ≡ listed (read (now (table .entry))) (now (buffer .entry)) ⌝ }
+{
+    let mut tape = tape_room();
+    let reading = reading::read(table, &mut tape);
+    let answer = reading.answer;
+    let number = reading::number(answer);
+    if number != 0 {
+        return tell(number, reading.place, 0);
+    }
+    let listed = listing::list(&tape, reading.words, buffer);
+    tell_of_buffer(listed.fits, listed.length)
+}
+
+// A refused table has an empty tape, whose code is a single 0: so its code buffer is left all zero.
+pub fn translate_table(table: &[u8], code: &mut [u32]) -> Told
+    ensures { λ r. ⌜ written (toldWords r) (now (code .exit)) ≡ translated (read (now (table .entry))) (length (now (code .entry))) ⌝ }
+{
+    let mut tape = tape_room();
+    let reading = reading::read(table, &mut tape);
+    let answer = reading.answer;
+    let number = reading::number(answer);
+    let translated = translating::translate(&tape, reading.words, code);
+    if number != 0 {
+        return tell(number, reading.place, 0);
+    }
+    tell_of_buffer(translated.fits, translated.words)
+}

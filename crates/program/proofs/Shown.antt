@@ -1,0 +1,99 @@
+-- A report with the cells that it counts is the text of the table's run.
+use Prim.Native.Nat.{ℕ, _≤_}
+use native.Mathlib.Omega.{arith}
+use mathlib.Core.Path.{_≡_, refl, ap}
+use mathlib.Core.Bool.{Bool, true, false}
+use lib.Dec.{leb}
+use lib.ListN.{length, take, length-take}
+use lib.Seq.{take-at}
+use Rattle.meaning.specs.Choice.{Bytes, pick}
+use Rattle.meaning.specs.Answers.{noSuchStart, textTooLong, bufferTooShort}
+use Rattle.meaning.specs.Outcome.{Result}
+use Rattle.meaning.specs.Demanded.{demanded}
+use Rattle.meaning.specs.Reading.{Read, accepted, refused, read}
+use Rattle.meaning.specs.Translation.{translate}
+use Rattle.meaning.specs.Packing.{Words, pack}
+use Rattle.meaning.specs.Leaving.{Cells, Leaving, left, roomOf}
+use Rattle.meaning.specs.Leaving.{refused as unrun}
+use Rattle.running.specs.Leaving.{cells}
+use Rattle.engine.specs.declared.Report.{Report}
+use Rattle.engine.specs.TableRuns.{TableRun, hasFunction, withoutCode, withCode, tableRun, Reports}
+use Rattle.program.specs.Printed.{isRefusal, refusalText, resultOf, resultText, runText, lentCells, Shows}
+
+-- the emissions stand at the front of the record, and the result at the front of out
+record Kept (leaving : Leaving) : Type 0 where
+  emissions : take (length (leaving .result .emissions)) (leaving .cells .journal) ≡ leaving .result .emissions
+  text : take (length (leaving .result .text)) (leaving .cells .stackOut) ≡ leaving .result .text
+
+kept-either : (b : Bool) {x y : Leaving} → Kept x → Kept y → Kept (pick b x y)
+kept-either true k l = k
+kept-either false k l = l
+
+kept-code : (b : Bool) (x y : TableRun) → Kept (x .leaving) → Kept (y .leaving) → Kept (pick b x y .leaving)
+kept-code true x y k l = k
+kept-code false x y k l = l
+
+kept-unrun : (number : ℕ) (lent : Cells) → Kept (unrun number lent)
+kept-unrun number lent = record { emissions = refl; text = refl }
+
+kept-left : (r : Result) (lent : Cells) → Kept (left r lent)
+kept-left r lent =
+    record { emissions = take-at (r .emissions) _ _ refl; text = take-at (r .text) _ _ refl }
+
+table-kept : (x : Read) (room start : ℕ) (text : Bytes) (lent : Cells) (allowance : ℕ) → Kept (tableRun x room start text lent allowance .leaving)
+table-kept (refused number place) room start text lent allowance = kept-unrun number lent
+table-kept (accepted t) room start text lent allowance =
+    kept-code (leb (length (pack (translate t))) room) (withCode t room start text lent allowance) (withoutCode bufferTooShort 0 room lent)
+    (kept-either (hasFunction t start)
+    (kept-either (leb (length text) (length (lent .stackIn)))
+    (kept-left (demanded (roomOf lent) t start text allowance) lent)
+    (kept-unrun textTooLong lent))
+    (kept-unrun noSuchStart lent))
+    (kept-unrun bufferTooShort lent)
+
+front-within : (front whole : Bytes) → take (length front) whole ≡ front → length front ≤ length whole
+front-within front whole e = omega (arith, length-take (length front) whole, ap length e)
+
+module _ {r : Report} {words : Words} {after : Cells} {run : TableRun} (reports : Reports r words after run) (kept : Kept (run .leaving)) where
+  journal : after .journal ≡ run .leaving .cells .journal
+  journal = ap (λ c. c .journal) (reports .cells)
+
+  out : after .stackOut ≡ run .leaving .cells .stackOut
+  out = ap (λ c. c .stackOut) (reports .cells)
+
+  answer : r .answer ≡ run .leaving .result .answer
+  answer = let told = reports .answer in cc
+
+  emissions : r .emissions ≡ length (run .leaving .result .emissions)
+  emissions = let told = reports .answer in cc
+
+  text : r .text ≡ length (run .leaving .result .text)
+  text = let told = reports .answer in cc
+
+  emissions-within : r .emissions ≤ length (after .journal)
+  emissions-within = rw (emissions, journal) (front-within _ _ (kept .emissions))
+
+  text-within : r .text ≤ length (after .stackOut)
+  text-within = rw (text, out) (front-within _ _ (kept .text))
+
+  refusal-shown : isRefusal (r .answer) ≡ true → runText run ≡ refusalText (r .answer) (r .place)
+  refusal-shown e = rw (← answer, e, ← (reports .place))
+
+  result-shown : isRefusal (r .answer) ≡ false
+      → runText run ≡ resultText (resultOf r (take (r .emissions) (after .journal)) (take (r .text) (after .stackOut)))
+  result-shown e =
+      let told = reports .answer in
+      let function : r .function ≡ run .leaving .result .function = cc in
+      let steps : r .steps ≡ run .leaving .result .steps = cc in
+      rw (← answer, e, ← function, ← steps, emissions, journal, kept .emissions, text, out, kept .text)
+
+pub shows : {table text : Bytes} {r : Report} {words : Words} {out journal stackIn : Bytes}
+    → Reports r words (cells stackIn out journal) (tableRun (read table) 16384 1 text lentCells 100000) → Shows table text r out journal
+shows {table} {text} reports =
+    let kept = table-kept (read table) 16384 1 text lentCells 100000 in
+    record {
+      emissions = emissions-within reports kept;
+      result = text-within reports kept;
+      refusal = refusal-shown reports kept;
+      run = result-shown reports kept;
+    }

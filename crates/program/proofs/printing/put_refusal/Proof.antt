@@ -1,0 +1,23 @@
+-- `program::printing::put_refusal` meets its contract.
+use native.Mathlib.Omega.{arith}
+use Rattle.listing.proofs.Writing.{put-then}
+use Rattle.program.proofs.Putting.{put-prints}
+use borrow.Author.Needs.{needs}
+use Rattle.program.proofs.printing.put_refusal.Statement.{statement}
+use Rattle.program.proofs.printing.put_refusal.Tie as tie
+
+put-number-requires : tie.Need-put-number-requires
+put-number-requires c κs = search needs
+
+put-number-requires-2 : tie.Need-put-number-requires-2
+put-number-requires-2 c κs = search needs
+
+same-length : tie.Need-same-length
+same-length c = search needs
+
+returns : tie.Need-returns
+returns c = put-prints (put-then (c .before .before .before .before .before .before .put-number .ensures .put) (c .before .before .put-number2 .ensures .put)) (omega (arith, c .before .before .before .before .before .before .put-number .ensures .near, c .before .before .put-number2 .ensures .near))
+
+pub put-refusal-spec : {M : Type 1} → statement M
+put-refusal-spec =
+    tie.close (tie.spec put-number-requires put-number-requires-2 same-length returns)

@@ -1,0 +1,52 @@
+-- `program::printing::put_result` meets its contract.
+use native.Mathlib.Omega.{arith}
+use Rattle.listing.proofs.Writing.{put-then}
+use Rattle.program.proofs.Putting.{put-prints}
+use borrow.Author.Needs.{needs}
+use Rattle.program.proofs.printing.put_result.Statement.{statement}
+use Rattle.program.proofs.printing.put_result.Tie as tie
+
+put-number-requires : tie.Need-put-number-requires
+put-number-requires c κs = search needs
+
+put-number-requires-2 : tie.Need-put-number-requires-2
+put-number-requires-2 c κs = search needs
+
+cast-put-number : tie.Need-cast-put-number
+cast-put-number c = search needs
+
+put-number-requires-3 : tie.Need-put-number-requires-3
+put-number-requires-3 c κs = search needs
+
+put-bytes-requires : tie.Need-put-bytes-requires
+put-bytes-requires c κs = search needs
+
+put-bytes-requires-2 : tie.Need-put-bytes-requires-2
+put-bytes-requires-2 c κs = search needs
+
+slice-aggregate-put-bytes : tie.Need-slice-aggregate-put-bytes
+slice-aggregate-put-bytes c = search needs
+
+put-bytes-requires-3 : tie.Need-put-bytes-requires-3
+put-bytes-requires-3 c κs = search needs
+
+same-length : tie.Need-same-length
+same-length c = search needs
+
+returns : tie.Need-returns
+returns c = put-prints (put-then (c .before .before .before .before .before .before .before .before .before .before .before .before .before .before .before .before .before .before .before .before .before .before .before .before .put-number .ensures .put) (put-then (c .before .before .before .before .before .before .before .before .before .before .before .before .before .before .before .before .before .before .before .before .put-number2 .ensures .put) (put-then (c .before .before .before .before .before .before .before .before .before .before .before .before .before .before .before .put-number3 .ensures .put) (put-then (c .before .before .before .before .before .before .before .before .before .before .before .put-bytes .ensures) (put-then (c .before .before .before .before .before .before .before .put-bytes2 .ensures) (c .before .before .put-bytes3 .ensures)))))) (omega (arith, c .before .before .before .before .before .before .before .before .before .before .before .before .before .before .before .before .before .before .before .before .before .before .before .before .before .before .before .before .before .pre, c .before .before .before .before .before .before .before .before .before .before .before .before .before .before .before .before .before .before .before .before .before .before .before .before .put-number .ensures .near, c .before .before .before .before .before .before .before .before .before .before .before .before .before .before .before .before .before .before .before .before .put-number2 .ensures .near, c .before .before .before .before .before .before .before .before .before .before .before .before .before .before .before .put-number3 .ensures .near, c .before .before .before .before .before .before .before .before .before .before .before .put-bytes .ensures .place, c .before .before .before .before .before .before .before .put-bytes2 .ensures .place, c .before .before .put-bytes3 .ensures .place))
+
+pub put-result-spec : {M : Type 1} → statement M
+put-result-spec =
+    tie.close
+    (tie.spec
+    put-number-requires
+    put-number-requires-2
+    cast-put-number
+    put-number-requires-3
+    put-bytes-requires
+    put-bytes-requires-2
+    slice-aggregate-put-bytes
+    put-bytes-requires-3
+    same-length
+    returns)

@@ -1,0 +1,68 @@
+-- `program::respond` meets its contract.
+use native.Mathlib.Omega.{arith}
+use mathlib.Core.Path.{sym, _∙_}
+use lib.Seq.{length-take-le}
+use borrow.Author.Needs.{needs}
+use Rattle.program.proofs.respond.Statement.{statement}
+use Rattle.program.proofs.respond.Tie as tie
+
+cell-room-requires : tie.Need-cell-room-requires
+cell-room-requires c κs = search needs
+
+cell-room-requires-2 : tie.Need-cell-room-requires-2
+cell-room-requires-2 c κs = search needs
+
+slice-aggregate-run-table : tie.Need-slice-aggregate-run-table
+slice-aggregate-run-table c = search needs
+
+slice-aggregate-run-table-2 : tie.Need-slice-aggregate-run-table-2
+slice-aggregate-run-table-2 c = search needs
+
+run-table-requires : tie.Need-run-table-requires
+run-table-requires c κs = search needs
+
+is-refusal-requires : tie.Need-is-refusal-requires
+is-refusal-requires c κs = search needs
+
+put-refusal-requires : tie.Need-put-refusal-requires
+put-refusal-requires c κs = search needs
+
+returns : tie.Need-returns
+returns c = rw (c .before .before .before .before .before .before .run-table .ensures .refusal (sym (c .before .before .before .is-refusal .ensures) ∙ c .before .before .if1 .taken)) (c .put-refusal .ensures)
+
+array-share-prefix-record : tie.Need-array-share-prefix-record
+array-share-prefix-record c = search needs
+
+slice-aggregate-put-result : tie.Need-slice-aggregate-put-result
+slice-aggregate-put-result c = sym (length-take-le _ _ (c .before .before .before .before .before .before .run-table .ensures .emissions))
+
+array-share-prefix-stack-out : tie.Need-array-share-prefix-stack-out
+array-share-prefix-stack-out c = search needs
+
+slice-aggregate-put-result-2 : tie.Need-slice-aggregate-put-result-2
+slice-aggregate-put-result-2 c = sym (length-take-le _ _ (c .before .before .before .before .before .before .before .run-table .ensures .result))
+
+put-result-requires : tie.Need-put-result-requires
+put-result-requires c κs = let told = c .before .before .before .before .before .before .before .run-table .ensures in rw (length-take-le _ _ (told .emissions), length-take-le _ _ (told .result)) (omega (arith, c .before .before .before .before .before .record2 .given, c .before .before .before .before .before .before .stack-out2 .given, c .before .before .put-result-arg .given .0 .1))
+
+returns-2 : tie.Need-returns-2
+returns-2 c = rw (c .before .before .before .before .before .before .before .before .run-table .ensures .run (sym (c .before .before .before .before .before .is-refusal .ensures) ∙ c .before .before .before .before .if1 .left)) (c .put-result .ensures)
+
+pub respond-spec : {M : Type 1} → statement M
+respond-spec =
+    tie.close
+    (tie.spec
+    cell-room-requires
+    cell-room-requires-2
+    slice-aggregate-run-table
+    slice-aggregate-run-table-2
+    run-table-requires
+    is-refusal-requires
+    put-refusal-requires
+    returns
+    array-share-prefix-record
+    slice-aggregate-put-result
+    array-share-prefix-stack-out
+    slice-aggregate-put-result-2
+    put-result-requires
+    returns-2)

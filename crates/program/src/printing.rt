@@ -1,0 +1,46 @@
+// Writing what is printed into lent cells.
+use engine::Report;
+use running::copying::copy_over;
+ghost use Prim.Native.Nat.{_+_, _≤_};
+ghost use lib.ListN.{length};
+ghost use Rattle.listing.specs.Put.{Put};
+ghost use Rattle.program.specs.Printed.{Prints, Counted, refusalText, resultText, resultOf};
+
+fn put_bytes(out: &mut [u8], at: usize, bytes: &[u8]) -> usize
+    requires { ⌜ at + length (now bytes) ≤ length (now out) ⌝ }
+    ensures { λ r. ⌜ Put at (now (out .entry)) (now (bytes .entry)) r (now (out .exit)) ⌝ }
+{
+    copy_over(out, at, bytes);
+    at + bytes.len()
+}
+
+// A number in decimal and the byte after it.
+fn put_number(out: &mut [u8], at: usize, n: u64, after: u8) -> usize
+    requires { ⌜ at + 21 ≤ length (now out) ⌝ }
+    ensures { λ r. ⌜ Counted n after at (now (out .entry)) r (now (out .exit)) ⌝ }
+{
+    let mut digits = [0u8; 20];
+    let count = io::decimal(n, &mut digits);
+    let next = put_bytes(out, at, &digits[..count]);
+    put_bytes(out, next, &[after])
+}
+
+pub fn put_refusal(out: &mut [u8], number: u64, place: usize) -> usize
+    requires { ⌜ 42 ≤ length (now out) ⌝ }
+    ensures { λ r. ⌜ Prints (refusalText number place) (now (out .entry)) r (now (out .exit)) ⌝ }
+{
+    let next = put_number(out, 0, number, b' ');
+    put_number(out, next, place as u64, b'\n')
+}
+
+pub fn put_result(out: &mut [u8], report: Report, emissions: &[u8], text: &[u8]) -> usize
+    requires { ⌜ 64 + length (now emissions) + length (now text) ≤ length (now out) ⌝ }
+    ensures { λ r. ⌜ Prints (resultText (resultOf report (now (emissions .entry)) (now (text .entry)))) (now (out .entry)) r (now (out .exit)) ⌝ }
+{
+    let function = put_number(out, 0, report.answer, b' ');
+    let steps = put_number(out, function, report.function as u64, b' ');
+    let line = put_number(out, steps, report.steps as u64, b'\n');
+    let result = put_bytes(out, line, emissions);
+    let end = put_bytes(out, result, text);
+    put_bytes(out, end, b"\n")
+}

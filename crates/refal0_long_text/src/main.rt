@@ -1,0 +1,4 @@
+// A text longer than stack in.
+fn main() {
+    program::run_program();
+}

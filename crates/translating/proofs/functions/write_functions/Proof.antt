@@ -1,0 +1,81 @@
+-- `functions::write_functions` meets its contract. The loop keeps what the entries and functions written and those still to come amount to.
+use Prim.Native.Nat.{_-_}
+use native.Mathlib.Omega.{arith}
+use mathlib.Core.Path.{_∙_}
+use Rattle.translating.proofs.laws.Declared.{FunctionsSoFar, functions-none, functions-go-on, functions-all}
+use Rattle.translating.proofs.functions.write_functions.Statement.{statement}
+use Rattle.translating.proofs.functions.write_functions.Tie as tie
+
+abbrev Inv-loop : tie.InvT-loop
+Inv-loop tape heads code₀ count at₀ k₀ code at k = FunctionsSoFar tape heads code₀ at₀ code at k
+
+abbrev μ-loop : tie.MeasureT-loop
+μ-loop tape heads code₀ count at₀ k₀ code at k = count - k
+
+put-requires : tie.Need-put-requires Inv-loop μ-loop
+put-requires c κs = omega arith
+
+add-at : tie.Need-add-at Inv-loop μ-loop
+add-at c = omega (arith, c .before .before .put .ensures .next)
+
+loop-holds : tie.Need-loop-holds Inv-loop μ-loop
+loop-holds c = functions-none _ _ _ _ (omega (arith, c .before .before .put .ensures .next)) (c .before .before .before .before .before .before .before .pre .0)
+
+add-lesser : tie.Need-add-lesser Inv-loop μ-loop
+add-lesser c = omega arith
+
+lesser-requires : tie.Need-lesser-requires Inv-loop μ-loop
+lesser-requires c κs = tt
+
+mul-write-entry : tie.Need-mul-write-entry Inv-loop μ-loop
+mul-write-entry c = omega (arith, c .lesser .ensures)
+
+sub-write-entry : tie.Need-sub-write-entry Inv-loop μ-loop
+sub-write-entry c = omega (arith, c .lesser .ensures)
+
+part-write-entry-start : tie.Need-part-write-entry-start Inv-loop μ-loop
+part-write-entry-start c = omega (arith, c .lesser .ensures)
+
+part-write-entry-end : tie.Need-part-write-entry-end Inv-loop μ-loop
+part-write-entry-end c = omega arith
+
+write-entry-requires : tie.Need-write-entry-requires Inv-loop μ-loop
+write-entry-requires c κs = let so-far = c .before .before .before .loop .inv in
+    (c .before .before .loop-test .taken, c .before .before .before .before .before .before .before .before .before .before .before .pre .0, c .before .before .before .before .before .before .before .before .before .before .before .pre .1, omega (arith, so-far .after), omega (arith, so-far .grown, so-far .few))
+
+add-k : tie.Need-add-k Inv-loop μ-loop
+add-k c = omega arith
+
+loop-less : tie.Need-loop-less Inv-loop μ-loop
+loop-less c = omega arith
+
+loop-again : tie.Need-loop-again Inv-loop μ-loop
+loop-again c = functions-go-on (c .before .before .before .before .before .before .loop .inv) (c .before .before .before .before .before .loop-test .taken) (c .before .before .before .before .lesser .ensures) (c .before .before .write-entry .ensures) (c .before .code2 .given .1)
+
+same-length : tie.Need-same-length Inv-loop μ-loop
+same-length c = c .before .loop .inv .size ∙ c .before .before .before .before .put .kept .0
+
+returns : tie.Need-returns Inv-loop μ-loop
+returns c = functions-all (c .before .before .before .before .put .ensures) (c .before .loop .inv) (c .loop-test .left)
+
+pub write-functions-spec : {M : Type 1} → statement M
+write-functions-spec =
+    tie.close
+    (tie.spec
+    Inv-loop
+    μ-loop
+    put-requires
+    add-at
+    loop-holds
+    add-lesser
+    lesser-requires
+    mul-write-entry
+    sub-write-entry
+    part-write-entry-start
+    part-write-entry-end
+    write-entry-requires
+    add-k
+    loop-less
+    loop-again
+    same-length
+    returns)

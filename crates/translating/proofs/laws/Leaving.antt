@@ -1,0 +1,85 @@
+-- Laws of what translating leaves: the code with zeros after it, or zeros.
+use Prim.Native.Nat.{ℕ, zero, suc, _+_, _-_, _≤_, _<_, min}
+use native.Mathlib.Omega.{arith}
+use native.Mathlib.Nat.{zero-add}
+use mathlib.Core.Path.{_≡_, sym, ap, _∙_}
+use mathlib.Core.Bool.{true, false}
+use mathlib.Core.List.{List, [], _∷_, _++_, append-assoc, append-nil}
+use borrow.Author.Tests.{le-leb, lt-leb}
+use lib.Dec.{leb}
+use lib.ListN.{length, take, drop, getD, set, replicate, length-take, length-append, length-replicate, take-append-drop, drop-of-length-le, replicate-append-replicate}
+use lib.Seq.{sets-eq, length-sets, length-take-le, set-at}
+use Rattle.meaning.specs.Leaving.{zeros}
+use Rattle.translating.specs.Writing.{clearedFrom, Wrote}
+use Rattle.translating.specs.Leaves.{Leaves}
+use Rattle.translating.proofs.laws.Lists.{take-again, drop-word}
+
+-- words past the end of the tape don't count
+pub take-counted : (tape : List ℕ) (words : ℕ) {count most : ℕ} → length tape ≡ most → count ≡ min words most → take count tape ≡ take words tape
+take-counted tape words long e = rw (e, ← long, ← (length-take words tape)) (take-again words tape)
+
+-- CLEARING
+
+-- the words from `start` up to `i` are 0
+abbrev pub clearedTo : List ℕ → ℕ → ℕ → List ℕ
+clearedTo l start i = take start l ++ (replicate (i - start) 0 ++ drop i l)
+
+pub cleared-none : (l : List ℕ) (start : ℕ) → l ≡ clearedTo l start start
+cleared-none l start =
+    let z : start - start ≡ 0 = omega arith in
+    rw z (sym (take-append-drop start l))
+
+pub cleared-one : (l : List ℕ) (start i : ℕ) → start ≤ i → i < length l → set (clearedTo l start i) i 0 ≡ clearedTo l start (i + 1)
+cleared-one l start i h k =
+    let front = take start l ++ replicate (i - start) 0 in
+    let more : i + 1 - start ≡ i - start + 1 = omega arith in
+    let size : length front ≡ i =
+    length-append (take start l) (replicate (i - start) 0)
+    ∙ omega (arith, length-take-le start l (omega arith), length-replicate {A = ℕ} (i - start) 0) in
+    ap (λ (r : List ℕ). set r i 0) (sym (append-assoc (take start l) (replicate (i - start) 0) (drop i l)) ∙ ap (λ (r : List ℕ). front ++ r) (drop-word l i k))
+    ∙ set-at front (getD l i 0) (drop (i + 1) l) 0 i size
+    ∙ append-assoc (take start l) (replicate (i - start) 0) (0 ∷ drop (i + 1) l)
+    ∙ ap (λ (r : List ℕ). take start l ++ r)
+    (sym (append-assoc (replicate (i - start) 0) (0 ∷ []) (drop (i + 1) l))
+    ∙ ap (λ (r : List ℕ). r ++ drop (i + 1) l) (replicate-append-replicate (i - start) 1 0 ∙ ap (λ (n : ℕ). replicate n 0) (sym more)))
+
+pub cleared-all : (l : List ℕ) (start i : ℕ) → start ≤ i → i - start ≤ length l - start → length l ≤ i → clearedTo l start i ≡ clearedFrom start l
+cleared-all l start i h g k =
+    let all : i - start ≡ length l - start = omega arith in
+    rw (drop-of-length-le l k, append-nil, all)
+
+pub cleared-whole : (l : List ℕ) → clearedFrom 0 l ≡ zeros (length l)
+cleared-whole l = let e : length l - 0 ≡ length l = omega arith in rw e
+
+-- WHAT IS LEFT
+
+drop-zeros : (n m : ℕ) → _≡_ {A = List ℕ} (drop n (zeros m)) (zeros (m - n))
+drop-zeros zero m = let e : m - 0 ≡ m = omega arith in rw e
+drop-zeros (suc n) zero = let e : 0 - suc n ≡ 0 = omega arith in rw e
+drop-zeros (suc n) (suc m) = let e : suc m - suc n ≡ m - n = omega arith in rw e (drop-zeros n m)
+
+module _ {words code₁ code₂ : List ℕ} {r : ℕ} (lent : List ℕ) (cleared : code₁ ≡ clearedFrom 0 lent) (wrote : Wrote code₁ 0 words code₂ r) where
+  empty : code₁ ≡ zeros (length lent)
+  empty = cleared ∙ cleared-whole lent
+
+  room : length code₁ ≡ length lent
+  room = ap length empty ∙ length-replicate (length lent) 0
+
+  same-room : length code₂ ≡ length lent
+  same-room = ap length (wrote .left) ∙ length-sets code₁ 0 words ∙ room
+
+  pub leaves-code : r ≤ length code₂ → Leaves words (length lent) (record { fits = true; words = r }) code₂
+  leaves-code h =
+      let fits : leb (length words) (length lent) ≡ true = le-leb (length words) (length lent) (omega (arith, same-room, wrote .next)) in
+      record {
+        fits = sym fits;
+        count = rw fits (omega (arith, wrote .next));
+        cells =
+            rw fits (wrote .left ∙ sets-eq words code₁ 0 (omega (arith, same-room, room, wrote .next))
+            ∙ rw (zero-add, empty) (ap (λ (l : List ℕ). words ++ l) (drop-zeros (length words) (length lent))));
+      }
+
+  pub leaves-nothing : {code₃ : List ℕ} → length code₂ < r → code₃ ≡ clearedFrom 0 code₂ → Leaves words (length lent) (record { fits = false; words = 0 }) code₃
+  leaves-nothing h e =
+      let short : leb (length words) (length lent) ≡ false = lt-leb (length words) (length lent) (omega (arith, same-room, wrote .next)) in
+      record { fits = sym short; count = rw short; cells = rw short (e ∙ cleared-whole code₂ ∙ rw same-room) }

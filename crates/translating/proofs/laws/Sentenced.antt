@@ -1,0 +1,256 @@
+-- Laws of writing a sentence: its metric's word, its tests, stores and actions, and its words as a whole.
+use Prim.Native.Nat.{ℕ, suc, _+_, _-_, _*_, _≤_, _<_, _^_}
+use native.Mathlib.Omega.{arith}
+use mathlib.Core.Path.{_≡_, refl, sym, ap, _∙_}
+use mathlib.Core.Bool.{Bool, true, false}
+use mathlib.Core.List.{List, [], _∷_, _++_, map, append-assoc, map-append, map-map}
+use lib.Dec.{leb}
+use borrow.Author.Tests.{leb-true, leb-false}
+use lib.ListN.{length, take, drop, getD, length-map, drop-of-length-le, List·getD-eq-default}
+use lib.Seq.{length-take-le, drop-drop}
+use Rattle.meaning.specs.Choice.{Name, pick}
+use Rattle.meaning.specs.Tree.{Function, Table}
+use Rattle.meaning.specs.Allowed.{namesOf, maxSentences}
+use Rattle.meaning.specs.Instructions.{store}
+use Rattle.meaning.specs.Translation.{Shape, fixed, open₁, open₂, Tested, conditionTest, metricOf, translatedSentences}
+use Rattle.meaning.specs.Packing.{Words, word, testWord, storeWord, packActions, metricWord, sentencesEnd, packSentences}
+use Rattle.translating.specs.declared.tape.Parts.{Parts}
+use Rattle.translating.specs.declared.tape.Parts.the-variants.{Zero, One, Two}
+use Rattle.translating.specs.declared.pattern.Lengths.{Lengths}
+use Rattle.translating.specs.declared.pattern.Pattern.{Pattern}
+use Rattle.translating.specs.declared.tests.Tests.{Tests}
+use Rattle.translating.specs.declared.conditions.Conditions.{Conditions}
+use Rattle.translating.specs.declared.expression.Walk.{Walk}
+use Rattle.translating.specs.declared.sentences.Body.{Body}
+use Rattle.translating.specs.declared.sentences.Sentences.{Sentences}
+use Rattle.translating.specs.Words.{headName, headNames, isNextWord}
+use Rattle.translating.specs.Trees.{patternAt, conditionsAt, conditionsIn, levelsAt, followedBy, sentencesIn}
+use Rattle.translating.specs.Writing.{Wrote, Same}
+use Rattle.translating.specs.Measuring.{lengthsOf, variableOf, MeasuresAll}
+use Rattle.translating.specs.Testing.{heldSites, held, storeOfSite, total, walk, startFrom, TestsAll}
+use Rattle.translating.specs.Conditioning.{conditionWords, ConditionsAll}
+use Rattle.translating.specs.Resuming.{Means, ItemsAll}
+use Rattle.translating.specs.Sentencing.{metricNumber, shapeAt, testedAt, testsAt, storesAt, actionsAt, bodyAt, sentenceAt, MatchAll, BodyAll, SentenceAll, nextAt, followsAt, sentenceDone, sentencesLeft, InSentences, SentencesOn, FunctionAll}
+use Rattle.translating.proofs.laws.Lists.{drop-word}
+use Rattle.translating.proofs.laws.Names.{by-place}
+use Rattle.translating.proofs.laws.Stores.{wrote-more, wrote-patched, same-refl, same-trans, same-words, same-wrote, same-end}
+use Rattle.translating.proofs.laws.Held.{held-names}
+use Rattle.translating.proofs.laws.Shapes.{walk-all}
+
+-- THE METRIC
+
+metric-small : (p : Parts) → metricNumber p ≤ 18
+metric-small Zero = omega arith
+metric-small One = omega arith
+metric-small Two = omega arith
+
+pub metric-fits : (l : Lengths) (number : ℕ) → number ≡ metricNumber (l .parts) → total l ≤ 64 → word number (l .first) (l .second) (l .third) < 2 ^ 32
+metric-fits l number e h = omega (arith, metric-small (l .parts))
+
+-- TESTS, CONDITIONS AND STORES
+
+-- the stores of the different s-variables, from the numbers that their cells are kept as
+stores-held : (ws ps ss : List ℕ) → length ps ≡ length ss → map (λ s. storeWord (store (s .value))) (heldSites ws ps ss) ≡ map storeOfSite ss
+unfolding heldSites
+stores-held ws [] [] h = refl
+stores-held ws [] (s ∷ ss) h = absurd (omega arith)
+stores-held ws (p ∷ ps) [] h = absurd (omega arith)
+stores-held ws (p ∷ ps) (s ∷ ss) h = ap (λ (r : Words). storeOfSite s ∷ r) (stores-held ws ps ss (omega arith))
+
+pub matched : {ws names sites code code₁ code₂ code₃ : List ℕ} {l : Lengths} {start at stored : ℕ} {t : Tests} {c : Conditions}
+    → l ≡ lengthsOf (shapeAt (drop start ws))
+    → TestsAll ws l start code at names sites code₁ t
+    → ConditionsAll ws (held ws names sites (t .symbols)) (t .next) code₁ (t .at) code₂ c
+    → Wrote code₂ (c .at) (map storeOfSite (take (t .symbols) sites)) code₃ stored
+    → MatchAll ws start code at names code₃ (record { tests = c .at - at; symbols = t .symbols; next = c .next; at = stored })
+matched {ws} {names} {sites} {code} {code₂ = code₂} {l = l} {start} {at} {t = t} {c} e tests conditions stores =
+    let l₀ = drop start ws in
+    let n = t .symbols in
+    let symbols : length (take n names) ≡ n = length-take-le n names (omega (arith, tests .within .symbols, tests .within .letters, tests .within .nameRoom)) in
+    let cells : length (take n sites) ≡ n = length-take-le n sites (omega (arith, tests .within .symbols, tests .within .letters, tests .within .siteRoom)) in
+    let walked : walk l Zero 0 (patternAt l₀ .value) (startFrom []) ≡ testedAt l₀ = rw e (walk-all l₀) in
+    let known : held ws names sites n ≡ testedAt l₀ .sites = tests .known ∙ ap (λ (d : Tested). d .sites) walked in
+    let cs = conditionsAt l₀ .value in
+    let asked : conditionWords (held ws names sites n) (conditionsIn 0 0 (drop (t .next) ws)) ≡ map testWord (map (conditionTest (testedAt l₀ .sites)) cs) = rw (known, tests .rest) in
+    let kept : map storeOfSite (take n sites) ≡ map storeWord (storesAt l₀) =
+    sym (stores-held ws (take n names) (take n sites) (symbols ∙ sym cells))
+    ∙ sym (map-map storeWord (λ s. store (s .value)) (held ws names sites n)) ∙ rw known in
+    let tested : Wrote code at (map testWord (testsAt l₀)) code₂ (c .at) =
+    rw (map-append testWord (testedAt l₀ .tests) (map (conditionTest (testedAt l₀ .sites)) cs), ← asked, ← walked) (wrote-more (tests .wrote) (conditions .wrote)) in
+    record {
+      wrote = rw (← kept) (wrote-more tested stores);
+      tests = omega (arith, tested .next, length-map (testsAt l₀) testWord);
+      stores = sym cells ∙ sym (length-map (take n sites) storeOfSite) ∙ ap length kept ∙ length-map (storesAt l₀) storeWord;
+      symbols = rw (← known) (held-names ws (take n names) (take n sites) (symbols ∙ sym cells));
+      rest = conditions .rest ∙ ap (λ (r : List ℕ). conditionsIn 0 0 r .rest) (tests .rest);
+      next = conditions .next;
+      few = (omega (arith, tests .grown, conditions .grown), omega (arith, tests .within .symbols, tests .within .letters));
+      grown = omega (arith, tests .grown, conditions .grown, stores .next, length-map (take n sites) storeOfSite, tests .within .symbols, tests .within .letters);
+    }
+
+-- AND ACTIONS
+
+same-variable : (x other : Name) (s : Shape) → x ≡ variableOf other s → x ≡ variableOf x s
+same-variable x other (fixed t) e = refl
+same-variable x other (open₁ h y t) e = e
+same-variable x other (open₂ h y m z t) e = e
+
+pub bodied : {ws heads names code code₁ code₂ : List ℕ} {start at : ℕ} {m : Pattern} {b : Body} {w : Walk}
+    → MeasuresAll ws start m
+    → MatchAll ws start code at names code₁ b
+    → ItemsAll ws heads (take (b .symbols) names) m (b .next + 1) code₁ (b .at) code₂ w
+    → BodyAll ws heads start code at code₂ (record { tests = b .tests; symbols = b .symbols; next = w .next; at = w .at })
+bodied {ws} {heads} {names} {code} {code₂ = code₂} {start} {at} {m} {b} {w} measured match items =
+    let l₀ = drop start ws in
+    let later : drop (b .next + 1) ws ≡ drop 1 (conditionsAt l₀ .rest) = sym (drop-drop 1 (b .next) ws) ∙ rw (match .rest) in
+    record {
+      wrote = λ t h.
+          let means : Means ws heads (take (b .symbols) names) m t (shapeAt l₀) (testedAt l₀ .sites) =
+          record {
+            functions = h;
+            symbols = match .symbols;
+            lengths = measured .lengths;
+            variable = same-variable _ (headName ws start) (shapeAt l₀) (measured .variable);
+          } in
+          rw (← (append-assoc (map testWord (testsAt l₀)) (map storeWord (storesAt l₀)) (packActions (actionsAt t l₀))), ← later)
+          (wrote-more (match .wrote) (items .wrote t (shapeAt l₀) (testedAt l₀ .sites) means));
+      tests = match .tests;
+      stores = match .stores;
+      rest = items .rest ∙ rw later;
+      next = items .next;
+      few = match .few;
+      grown = omega (arith, match .grown, items .grown);
+    }
+
+abbrev named : Name → Function
+named n = record { name = n; sentences = [] }
+
+-- the body is written from its place on: the names are those of some table
+pub body-ahead : {ws heads code code′ : List ℕ} {start at : ℕ} {r : Body} → BodyAll ws heads start code at code′ r → at ≤ r .at
+body-ahead {ws} {heads} b = omega (arith, b .wrote (map named (headNames ws heads)) (names-back (headNames ws heads)) .next)
+  where
+    names-back : (ns : List Name) → namesOf (map named ns) ≡ ns
+    names-back [] = refl
+    names-back (n ∷ ns) = ap (λ (r : List Name). n ∷ r) (names-back ns)
+
+-- THE WHOLE SENTENCE
+
+metric-word : (l : Lengths) (s : Shape) → l ≡ lengthsOf s → word (metricNumber (l .parts)) (l .first) (l .second) (l .third) ≡ metricWord (metricOf s)
+metric-word l s e = rw e (by-shape s)
+  where
+    by-shape : (s : Shape) → word (metricNumber (lengthsOf s .parts)) (lengthsOf s .first) (lengthsOf s .second) (lengthsOf s .third) ≡ metricWord (metricOf s)
+    by-shape (fixed t) = refl
+    by-shape (open₁ h x t) = refl
+    by-shape (open₂ h x m y t) = refl
+
+pub sentenced : {ws heads code code₁ code₂ code₃ : List ℕ} {start at counts next : ℕ} {m : Pattern} {b : Body}
+    → MeasuresAll ws start m
+    → Wrote code at (word (metricNumber (m .lengths .parts)) (m .lengths .first) (m .lengths .second) (m .lengths .third) ∷ []) code₁ counts
+    → BodyAll ws heads start code₁ (counts + 1) code₂ b
+    → Wrote code₂ counts ((b .tests + 256 * (b .symbols + 256 * (b .at - (counts + 1)))) ∷ []) code₃ next
+    → SentenceAll ws heads start code at code₃ b
+sentenced {ws} {start = start} {counts = counts} {m = m} {b} measured metric body patched =
+    let l₀ = drop start ws in
+    record {
+      wrote = λ t h.
+          let size : b .at - (counts + 1) ≡ length (bodyAt t l₀) = omega (arith, body .wrote t h .next) in
+          rw (← (metric-word (m .lengths) (shapeAt l₀) (measured .lengths)), ← (body .tests), ← (body .stores), ← size)
+          (wrote-patched metric (body .wrote t h) patched);
+      rest = body .rest;
+      next = body .next;
+      grown = omega (arith, metric .next, body .grown);
+    }
+
+-- ANOTHER SENTENCE
+
+pub next-word : (ws : List ℕ) (i : ℕ) → nextAt (drop i ws) ≡ isNextWord (getD ws i 0)
+next-word ws i = by-place ws i (λ k. rw (drop-word ws i k)) (λ k. rw (drop-of-length-le ws k, List·getD-eq-default ws 0 k))
+
+-- where one follows there is a word for it, and there were not 512
+follows-inside : (ws : List ℕ) (i : ℕ) (full : Bool) → followsAt full (drop i ws) ≡ true → (i < length ws) × (full ≡ false)
+follows-inside ws i true e = absurd (let z : _≡_ {A = ℕ} 0 1 = cc in omega arith)
+follows-inside ws i false e =
+    (by-place ws i (λ k. k) (λ k. absurd (let f : false ≡ true = rw (drop-of-length-le ws k) at e in let z : _≡_ {A = ℕ} 0 1 = cc in omega arith)), refl)
+
+module _ (t : Table) (ws : List ℕ) where
+  -- the words after a sentence, where the tape goes on at `i`
+  after-sentence : (i left : ℕ) (full more : Bool) → (full ≡ true → left ≡ 0) → followsAt full (drop i ws) ≡ more
+      → packSentences (translatedSentences t (followedBy (drop i ws) (λ r. sentencesIn left r)))
+      ≡ pick more (packSentences (translatedSentences t (sentencesIn left (drop (i + 1) ws)))) (sentencesEnd ∷ [])
+  unfolding packSentences translatedSentences sentencesIn
+  after-sentence i left full more h e = by-place ws i here there
+    where
+      by-word : (full more b : Bool) → (full ≡ true → left ≡ 0) → pick full false b ≡ more
+          → packSentences (translatedSentences t (pick b (sentencesIn left (drop (i + 1) ws)) []))
+          ≡ pick more (packSentences (translatedSentences t (sentencesIn left (drop (i + 1) ws)))) (sentencesEnd ∷ [])
+      by-word true more true h e = rw (← e, h refl)
+      by-word true more false h e = rw (← e)
+      by-word false more true h e = rw (← e)
+      by-word false more false h e = rw (← e)
+
+      here : i < length ws → packSentences (translatedSentences t (followedBy (drop i ws) (λ r. sentencesIn left r)))
+          ≡ pick more (packSentences (translatedSentences t (sentencesIn left (drop (i + 1) ws)))) (sentencesEnd ∷ [])
+      here k = rw (drop-word ws i k) (by-word full more (isNextWord (getD ws i 0)) h (rw (drop-word ws i k) at e))
+
+      there : length ws ≤ i → packSentences (translatedSentences t (followedBy (drop i ws) (λ r. sentencesIn left r)))
+          ≡ pick more (packSentences (translatedSentences t (sentencesIn left (drop (i + 1) ws)))) (sentencesEnd ∷ [])
+      there k = rw (drop-of-length-le ws k) (by-word full more false h (rw (drop-of-length-le ws k) at e))
+
+  -- all the words still to come are the next sentence's, and those after it
+  sentence-first : (s : Sentences) (b : Body) (more : Bool) → s .count < 512 → drop (b .next) ws ≡ levelsAt (drop (s .next) ws) .rest
+      → followsAt (leb 512 (s .count + 1)) (drop (b .next) ws) ≡ more
+      → sentencesLeft true t ws s ≡ sentenceAt t (drop (s .next) ws) ++ sentencesLeft more t ws (sentenceDone more s b)
+  unfolding packSentences translatedSentences sentencesIn
+  sentence-first s b more h rest e =
+      let left = 512 - (s .count + 1) in
+      let one : 512 - s .count ≡ suc left = omega arith in
+      rw (one, ← rest) (ap (λ (r : Words). sentenceAt t (drop (s .next) ws) ++ r)
+      (after-sentence (b .next) left (leb 512 (s .count + 1)) more (λ f. omega (arith, leb-true 512 (s .count + 1) f)) e ∙ by-more more))
+    where
+      by-more : (more : Bool) → pick more (packSentences (translatedSentences t (sentencesIn (512 - (s .count + 1)) (drop (b .next + 1) ws)))) (sentencesEnd ∷ [])
+          ≡ sentencesLeft more t ws (sentenceDone more s b)
+      by-more true = refl
+      by-more false = refl
+
+pub sentence-on : {ws heads code code′ : List ℕ} {s : Sentences} {b : Body} (more : Bool)
+    → s .count < 512 → SentenceAll ws heads (s .next) code (s .at) code′ b → followsAt (leb 512 (s .count + 1)) (drop (b .next) ws) ≡ more
+    → SentencesOn ws heads code s code′ (sentenceDone more s b)
+sentence-on {ws} {code = code} {s = s} {b} more h all e =
+    record {
+      same = λ t g. same-wrote _ (same-words (same-refl code (s .at) _) (sentence-first t ws s b more h (all .rest) e)) (all .wrote t g);
+      within = by-more more e;
+      ahead = refl;
+      grown = all .grown;
+    }
+  where
+    by-more : (more : Bool) → followsAt (leb 512 (s .count + 1)) (drop (b .next) ws) ≡ more → InSentences ws (sentenceDone more s b)
+    by-more true e =
+        let f = follows-inside ws (b .next) (leb 512 (s .count + 1)) e in
+        record { count = omega (arith, leb-false 512 (s .count + 1) (f .1)); next = omega (arith, f .0) }
+    by-more false e = record { count = omega arith; next = omega (arith, all .next) }
+
+-- ALL OF THEM
+
+-- what is written so far and what is still to be written are the whole function's words
+pub record SentencesSoFar (ws heads : List ℕ) (start : ℕ) (code₀ code : List ℕ) (s : Sentences) : Type 0 where
+  pub same : (t : Table) → namesOf t ≡ headNames ws heads
+      → Same code₀ 0 (packSentences (translatedSentences t (sentencesIn maxSentences (drop start ws)))) code (s .at) (sentencesLeft (s .more) t ws s)
+  pub within : InSentences ws s
+  pub grown : s .at ≤ 35000 * s .count
+
+pub sentences-go-on : {ws heads : List ℕ} {start : ℕ} {code₀ code code′ : List ℕ} {s r : Sentences}
+    → SentencesSoFar ws heads start code₀ code s → s .more ≡ true → SentencesOn ws heads code s code′ r → SentencesSoFar ws heads start code₀ code′ r
+sentences-go-on s e o =
+    record {
+      same = λ t h. same-trans (rw e at (s .same t h)) (o .same t h);
+      within = o .within;
+      grown = omega (arith, s .grown, o .grown, o .ahead);
+    }
+
+pub sentences-all : {ws heads : List ℕ} {start : ℕ} {code₀ code code′ : List ℕ} {s : Sentences} {r : ℕ}
+    → SentencesSoFar ws heads start code₀ code s → s .more ≡ false → Wrote code (s .at) (19 ∷ []) code′ r → FunctionAll ws heads start code₀ code′ r
+sentences-all s e w =
+    record {
+      wrote = λ t h. same-end (same-wrote [] (rw e at (s .same t h)) w);
+      grown = omega (arith, s .grown, s .within .count, w .next);
+    }

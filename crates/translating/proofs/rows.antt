@@ -1,0 +1,2 @@
+-- Worked rows of the definitions.
+pub mod Read

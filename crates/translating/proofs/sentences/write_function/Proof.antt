@@ -1,0 +1,53 @@
+-- `sentences::write_function` meets its contract. The loop keeps what the sentences written and those still to come amount to.
+use Prim.Native.Nat.{_-_}
+use native.Mathlib.Omega.{arith}
+use mathlib.Core.Path.{_≡_, refl, _∙_}
+use lib.ListN.{length}
+use Rattle.translating.proofs.laws.Stores.{same-refl}
+use Rattle.translating.proofs.laws.Sentenced.{SentencesSoFar, sentences-go-on, sentences-all}
+use Rattle.translating.proofs.sentences.write_function.Statement.{statement}
+use Rattle.translating.proofs.sentences.write_function.Tie as tie
+
+abbrev Inv-loop : tie.InvT-loop
+Inv-loop tape heads start code₀ s₀ code s = SentencesSoFar tape heads start code₀ code s × (length code ≡ length code₀)
+
+abbrev μ-loop : tie.MeasureT-loop
+μ-loop tape heads start code₀ s₀ code s = 512 - s .count
+
+loop-holds : tie.Need-loop-holds Inv-loop μ-loop
+loop-holds c = (record { same = λ t h. same-refl _ _ _; within = record { count = omega arith; next = omega arith }; grown = omega arith }, refl)
+
+next-sentence-requires : tie.Need-next-sentence-requires Inv-loop μ-loop
+next-sentence-requires c κs = let so-far = c .before .before .loop .inv .0 in
+    let within = rw (c .before .loop-test .taken) at (so-far .within) in
+    (c .before .before .before .before .before .before .pre .0, omega (arith, within .next), omega (arith, within .count), omega (arith, so-far .grown, so-far .within .count))
+
+loop-less : tie.Need-loop-less Inv-loop μ-loop
+loop-less c = let within = rw (c .before .before .before .before .loop-test .taken) at (c .before .before .before .before .before .loop .inv .0 .within) in
+    omega (arith, within .count, c .before .before .next-sentence .ensures .ahead)
+
+loop-again : tie.Need-loop-again Inv-loop μ-loop
+loop-again c = (sentences-go-on (c .before .before .before .before .before .loop .inv .0) (c .before .before .before .before .loop-test .taken) (c .before .before .next-sentence .ensures), c .before .before .next-sentence .kept .1 .1 .0 ∙ c .before .before .before .before .before .loop .inv .1)
+
+put-requires : tie.Need-put-requires Inv-loop μ-loop
+put-requires c κs = omega (arith, c .before .before .loop .inv .0 .grown, c .before .before .loop .inv .0 .within .count)
+
+same-length : tie.Need-same-length Inv-loop μ-loop
+same-length c = c .before .before .put .kept .0 ∙ c .before .before .before .before .before .loop .inv .1
+
+returns : tie.Need-returns Inv-loop μ-loop
+returns c = sentences-all (c .before .before .before .before .before .loop .inv .0) (c .before .before .before .before .loop-test .left) (c .before .before .put .ensures)
+
+pub write-function-spec : {M : Type 1} → statement M
+write-function-spec =
+    tie.close
+    (tie.spec
+    Inv-loop
+    μ-loop
+    loop-holds
+    next-sentence-requires
+    loop-less
+    loop-again
+    put-requires
+    same-length
+    returns)

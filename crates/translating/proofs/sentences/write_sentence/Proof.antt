@@ -1,0 +1,60 @@
+-- `sentences::write_sentence` meets its contract.
+use native.Mathlib.Omega.{arith}
+use Rattle.translating.proofs.laws.Sentenced.{body-ahead, sentenced}
+use borrow.Author.Needs.{needs}
+use Rattle.translating.proofs.sentences.write_sentence.Statement.{statement}
+use Rattle.translating.proofs.sentences.write_sentence.Tie as tie
+
+measure-requires : tie.Need-measure-requires
+measure-requires c κs = c .before .before .before .pre .1
+
+put-metric-requires : tie.Need-put-metric-requires
+put-metric-requires c κs = let m = c .before .before .measure .ensures .within in
+    (omega (arith, m .letters, m .most), omega (arith, c .before .before .before .before .before .before .pre .2))
+
+add-from : tie.Need-add-from
+add-from c = omega (arith, c .before .before .put-metric .ensures .next, c .before .before .before .before .before .before .before .before .before .pre .2)
+
+write-body-requires : tie.Need-write-body-requires
+write-body-requires c κs = (c .before .before .before .before .before .before .measure .ensures, c .before .before .before .before .before .before .before .before .before .before .pre .0, c .before .before .before .before .before .before .before .before .before .before .pre .1, omega (arith, c .before .before .before .put-metric .ensures .next, c .before .before .before .before .before .before .before .before .before .before .pre .2))
+
+sub-put : tie.Need-sub-put
+sub-put c = body-ahead (c .before .before .before .before .write-body .ensures)
+
+mul-put : tie.Need-mul-put
+mul-put c = omega (arith, c .before .before .before .before .write-body .ensures .grown)
+
+add-put : tie.Need-add-put
+add-put c = omega (arith, c .before .before .before .before .before .write-body .ensures .grown, c .before .before .before .before .before .write-body .ensures .few)
+
+mul-put-2 : tie.Need-mul-put-2
+mul-put-2 c = omega (arith, c .before .before .before .before .before .write-body .ensures .grown, c .before .before .before .before .before .write-body .ensures .few)
+
+add-put-2 : tie.Need-add-put-2
+add-put-2 c = omega (arith, c .before .before .before .before .before .before .write-body .ensures .grown, c .before .before .before .before .before .before .write-body .ensures .few)
+
+put-requires : tie.Need-put-requires
+put-requires c κs = (omega (arith, c .before .before .before .before .before .before .write-body .ensures .grown, c .before .before .before .before .before .before .write-body .ensures .few), omega (arith, c .before .before .before .before .before .before .before .before .before .before .put-metric .ensures .next, c .before .before .before .before .before .before .before .before .before .before .before .before .before .before .before .before .before .pre .2))
+
+same-length : tie.Need-same-length
+same-length c = search needs
+
+returns : tie.Need-returns
+returns c = sentenced (c .before .before .before .before .before .before .before .before .before .before .before .before .before .before .before .before .measure .ensures) (c .before .before .before .before .before .before .before .before .before .before .before .before .before .put-metric .ensures) (c .before .before .before .before .before .before .before .before .before .write-body .ensures) (c .before .before .put .ensures)
+
+pub write-sentence-spec : {M : Type 1} → statement M
+write-sentence-spec =
+    tie.close
+    (tie.spec
+    measure-requires
+    put-metric-requires
+    add-from
+    write-body-requires
+    sub-put
+    mul-put
+    add-put
+    mul-put-2
+    add-put-2
+    put-requires
+    same-length
+    returns)
