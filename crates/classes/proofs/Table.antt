@@ -56,7 +56,6 @@ module _ (class : ℕ) (h : testCount ≤ class) where
         apart 4 (omega arith),
         apart 5 (omega arith),
         apart 6 (omega arith),
-        apart 7 (omega arith),
       )
 
   noBit : (x : ℕ) → bitOf class x ≡ false

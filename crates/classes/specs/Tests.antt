@@ -6,12 +6,12 @@ use lib.ListN.{getD}
 use mathlib.Core.Bool.{Bool, true, false}
 use lib.Dec.{eqb, ltb}
 use Rattle.meaning.specs.Choice.{pick, both}
-use Rattle.meaning.specs.Classes.{inClass, digit, upper, lower, alphabetic, blank, isBlankByte}
+use Rattle.meaning.specs.Classes.{inClass, digit, upper, lower, alphabetic, blank}
 use Rattle.meaning.specs.Allowed.{wordByte, nameByte}
 
--- how many tests the table answers: the five classes of conditions by their `classNumber`, and three that reading asks
+-- how many tests the table answers: the five classes of conditions by their `classNumber`, and two that reading asks
 abbrev pub testCount : ℕ
-testCount = 8
+testCount = 7
 
 abbrev pub classTest : ℕ → ℕ → Bool
 classTest class b =
@@ -22,8 +22,7 @@ classTest class b =
     (pick (eqb class 4) (inClass blank b)
     (pick (eqb class 5) (wordByte b)
     (pick (eqb class 6) (nameByte b)
-    (pick (eqb class 7) (isBlankByte b)
-    false)))))))
+    false))))))
 
 -- a test's bit of an entry, the lowest being bit 0; there are no bits but those of the tests
 unfoldable pub bitOf : ℕ → ℕ → Bool

@@ -1,11 +1,9 @@
 // The byte classes: one constant table of 256 entries, a bit for each test.
 ghost use mathlib.Core.Path.{_≡_};
 ghost use Rattle.meaning.specs.Classes.{inClass, digit, alphabetic, isBlankByte};
-ghost use Rattle.meaning.specs.Allowed.{wordByte, nameByte};
 ghost use Rattle.classes.specs.Tests.{classTest, bitOf, Answers};
 
 // Bits 0 to 4: IsDigit, IsUpper, IsLower, IsLetter, IsBlank. Bit 5: letter or digit. Bit 6: a byte of a name after its first.
-// Bit 7: blank between tokens.
 const CLASSES: [u8; 256] = [
     0,
     0,
@@ -16,11 +14,8 @@ const CLASSES: [u8; 256] = [
     0,
     0,
     0,
-    144, // 9, tab
-    128, // 10, line end
-    0,
-    0,
-    128, // 13, carriage return
+    16, // 9, tab
+    0, // 10, line end
     0,
     0,
     0,
@@ -39,7 +34,10 @@ const CLASSES: [u8; 256] = [
     0,
     0,
     0,
-    144, // 32, blank
+    0,
+    0,
+    0,
+    16, // 32, blank
     0,
     0,
     0,
@@ -265,11 +263,11 @@ const CLASSES: [u8; 256] = [
     0,
 ];
 
-// A bit of an entry; there are eight.
+// A bit of an entry; there are seven.
 pub fn bit(entry: u8, class: u8) -> bool
     ensures { λ r. ⌜ r ≡ bitOf class entry ⌝ }
 {
-    if class < 8 {
+    if class < 7 {
         (entry >> class) % 2 == 1
     } else {
         false
@@ -281,6 +279,15 @@ pub fn class_table() -> [u8; 256]
     ensures { λ r. ⌜ Answers r ⌝ }
 {
     CLASSES
+}
+
+// The same test by a table that the caller has: naming the constant builds it anew each time.
+pub fn passes(table: &[u8; 256], byte: u8, class: u8) -> bool
+    requires { ⌜ Answers (now table) ⌝ }
+    ensures { λ r. ⌜ r ≡ classTest class byte ⌝ }
+{
+    let entry = table[byte as usize];
+    bit(entry, class)
 }
 
 // Whether a byte passes the test with a number.
@@ -303,20 +310,18 @@ pub fn is_letter(byte: u8) -> bool
     in_class(byte, 3)
 }
 
-pub fn is_word_byte(byte: u8) -> bool
-    ensures { λ r. ⌜ r ≡ wordByte byte ⌝ }
-{
-    in_class(byte, 5)
-}
-
-pub fn is_name_byte(byte: u8) -> bool
-    ensures { λ r. ⌜ r ≡ nameByte byte ⌝ }
-{
-    in_class(byte, 6)
-}
-
+// The blanks between tokens.
 pub fn is_blank(byte: u8) -> bool
     ensures { λ r. ⌜ r ≡ isBlankByte byte ⌝ }
 {
-    in_class(byte, 7)
+    if byte == 32 {
+        return true;
+    }
+    if byte == 9 {
+        return true;
+    }
+    if byte == 10 {
+        return true;
+    }
+    byte == 13
 }

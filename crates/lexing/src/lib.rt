@@ -1,15 +1,16 @@
 // The tokens of a table text.
-use classes::in_class;
+use classes::class_table;
 use classes::is_blank;
 use classes::is_digit;
 use classes::is_letter;
+use classes::passes;
 ghost use mathlib.Core.Path.{_≡_};
 ghost use mathlib.Core.List.{[]};
 ghost use Prim.Native.Nat.{suc, _+_, _≤_, _<_};
 ghost use lib.Dec.{eqb};
 ghost use lib.ListN.{length, getD, drop};
 ghost use lib.Seq.{slice};
-ghost use Rattle.classes.specs.Tests.{classTest};
+ghost use Rattle.classes.specs.Tests.{classTest, Answers};
 ghost use Rattle.meaning.specs.Classes.{inClass, alphabetic};
 ghost use Rattle.meaning.specs.Tokens as Tokens;
 ghost use Rattle.meaning.specs.Choice.{Bytes};
@@ -171,18 +172,26 @@ fn skip(text: &[u8], from: usize) -> Skipped
 }
 
 // The place after the bytes that pass a test of the class table, as long as they go.
-fn run_end(text: &[u8], from: usize, class: u8) -> usize
+fn run_past(table: &[u8; 256], text: &[u8], from: usize, class: u8) -> usize
+    requires { ⌜ Answers (now table) ⌝ }
     ensures { λ r. ⌜ RunsTo (now (text .entry)) (classTest class) from r ⌝ }
 {
     let mut at = from;
     while at < text.len() {
         let byte = text[at];
-        if !in_class(byte, class) {
+        if !passes(table, byte, class) {
             return at;
         }
         at += 1;
     }
     at
+}
+
+fn run_end(text: &[u8], from: usize, class: u8) -> usize
+    ensures { λ r. ⌜ RunsTo (now (text .entry)) (classTest class) from r ⌝ }
+{
+    let table = class_table();
+    run_past(&table, text, from, class)
 }
 
 // A variable is `s` or `e` and an identifier of at least one byte.

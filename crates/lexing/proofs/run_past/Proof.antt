@@ -1,9 +1,9 @@
--- `lexing::run_end` meets its contract: the run from the start is that from here.
-use Rattle.lexing.proofs.run_end.Statement.{statement}
-use Rattle.lexing.proofs.run_end.Tie as tie
-use Rattle.lexing.proofs.run_end.Reads as reads
-use Rattle.lexing.proofs.run_end.Lts as lts
-use Rattle.classes.proofs.in_class.Reads as in-class-reads
+-- `lexing::run_past` meets its contract: the run from the start is that from here.
+use Rattle.lexing.proofs.run_past.Statement.{statement}
+use Rattle.lexing.proofs.run_past.Tie as tie
+use Rattle.lexing.proofs.run_past.Reads as reads
+use Rattle.lexing.proofs.run_past.Lts as lts
+use Rattle.classes.proofs.passes.Reads as passes-reads
 use Prim.Native.Nat.{_-_}
 use mathlib.Core.Path.{sym, _∙_}
 use native.Mathlib.Omega.{arith}
@@ -14,10 +14,10 @@ use Rattle.classes.specs.Tests.{classTest}
 use Rattle.lexing.proofs.Words.{Running, run-starts, run-goes, run-stops, run-ends}
 
 abbrev Inv-loop : tie.InvT-loop
-Inv-loop text from class at₀ at = Running text (classTest class) from at
+Inv-loop table text from class at₀ at = Running text (classTest class) from at
 
 abbrev μ-loop : tie.MeasureT-loop
-μ-loop text from class at₀ at = length text - at
+μ-loop table text from class at₀ at = length text - at
 
 loop-holds : tie.Need-loop-holds Inv-loop μ-loop
 loop-holds c = run-starts _ _ _
@@ -25,12 +25,12 @@ loop-holds c = run-starts _ _ _
 shared-slice-read-byte : tie.Need-shared-slice-read-byte Inv-loop μ-loop
 shared-slice-read-byte c = omega arith
 
-in-class-requires : tie.Need-in-class-requires Inv-loop μ-loop
-in-class-requires c κs = search needs
+passes-requires : tie.Need-passes-requires Inv-loop μ-loop
+passes-requires c κs = search needs
 
 returns : tie.Need-returns Inv-loop μ-loop
 returns c =
-    run-stops _ _ _ _ (c .before .before .before .loop-test .taken) (sym (c .before .in-class .ensures) ∙ not-true _ (c .if1 .taken)) (c .before .before .before .before .loop .inv)
+    run-stops _ _ _ _ (c .before .before .before .loop-test .taken) (sym (c .before .passes .ensures) ∙ not-true _ (c .if1 .taken)) (c .before .before .before .before .loop .inv)
 
 add-at : tie.Need-add-at Inv-loop μ-loop
 add-at c = omega arith
@@ -40,20 +40,20 @@ loop-less c = omega arith
 
 loop-again : tie.Need-loop-again Inv-loop μ-loop
 loop-again c =
-    run-goes _ _ _ _ (c .before .before .before .loop-test .taken) (sym (c .before .in-class .ensures) ∙ not-false _ (c .if1 .left)) (c .before .before .before .before .loop .inv)
+    run-goes _ _ _ _ (c .before .before .before .loop-test .taken) (sym (c .before .passes .ensures) ∙ not-false _ (c .if1 .left)) (c .before .before .before .before .loop .inv)
 
 returns-2 : tie.Need-returns-2 Inv-loop μ-loop
 returns-2 c = run-ends _ _ _ _ (c .loop-test .left) (c .before .loop .inv)
 
-pub run-end-spec : {M : Type 1} → statement M
-run-end-spec =
+pub run-past-spec : {M : Type 1} → statement M
+run-past-spec =
     tie.close
     (tie.spec
     Inv-loop
     μ-loop
     loop-holds
     shared-slice-read-byte
-    in-class-requires
+    passes-requires
     returns
     add-at
     loop-less
