@@ -1,4 +1,6 @@
 // The tokens of a table text.
+pub mod reader;
+
 use classes::class_table;
 use classes::is_blank;
 use classes::is_digit;

@@ -10,6 +10,7 @@ pub mod Storing
 pub mod Waiting
 pub mod Reading
 pub mod Advancing
+pub mod Statuses
 pub mod Applying
 pub mod Calling
 pub mod Tables

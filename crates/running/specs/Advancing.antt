@@ -1,5 +1,6 @@
 -- What an instruction of a run keeps up, and what it leads to.
 use Prim.Native.Nat.{ℕ, suc, _+_, _-_, _≤_, _<_}
+use mathlib.Core.Bool.{Bool, true, false}
 use mathlib.Core.Path.{_≡_}
 use mathlib.Core.List.{List}
 use lib.ListN.{length, take, drop}
@@ -14,6 +15,8 @@ use Rattle.meaning.specs.Leaving.{maxFrames}
 use Rattle.running.specs.declared.registers.Registers.{Registers}
 use Rattle.running.specs.declared.registers.Next.{Next}
 use Rattle.running.specs.declared.registers.Next.the-variants.{Onward, Done, Stopped}
+use Rattle.running.specs.declared.registers.Status.{Status}
+use Rattle.running.specs.declared.registers.Status.the-variants as status
 use Rattle.running.specs.States.{Memory, frameWord, stacksOf, ledgerOf, roomOf, Outcomes}
 use Rattle.running.specs.Waiting.{functionsIn, entering, returning, comesTo, performing, leftBelow, leftToDo}
 
@@ -52,6 +55,22 @@ abbrev pub registersIn : Next → Registers
 registersIn (Onward g) = g
 registersIn (Done g) = g
 registersIn (Stopped ending function g) = g
+
+-- how a run goes on, apart from its registers, and both put together
+abbrev pub statusIn : Next → Status
+statusIn (Onward g) = status.Onward
+statusIn (Done g) = status.Done
+statusIn (Stopped ending function g) = status.Stopped ending function
+
+abbrev pub nextOf : Status → Registers → Next
+nextOf status.Onward g = Onward g
+nextOf status.Done g = Done g
+nextOf (status.Stopped ending function) g = Stopped ending function g
+
+abbrev pub onward : Status → Bool
+onward status.Onward = true
+onward status.Done = false
+onward (status.Stopped ending function) = false
 
 -- from registers and cells a run leads to others: what it comes to is what was to come, and the record past the emissions is as it was
 pub record Leads (words : Words) (allowance : ℕ) (tocome : Outcomes) (g : Registers) (m : Memory) (next : Next) (n : Memory) : Type 0 where

@@ -6,29 +6,23 @@ ghost use Rattle.classes.specs.Tests.{Answers};
 ghost use Rattle.meaning.specs.Outcome.{resultOf};
 ghost use Rattle.meaning.specs.Runs.{lent, textOf, from, runLent};
 ghost use Rattle.meaning.specs.Leaving.{roomOf as roomOfCells, left};
-ghost use Rattle.running.specs.declared.registers.Next.the-variants.{Onward};
-ghost use Rattle.running.specs.States.{memory, roomOf};
-ghost use Rattle.running.specs.Waiting.{countIn, soundIn, functionsIn, comesTo, leftToDo};
-ghost use Rattle.running.specs.Advancing.{Underway, Keeps, registersIn, Advances, Leads, Follows};
+ghost use Rattle.running.specs.States.{memory};
+ghost use Rattle.running.specs.Waiting.{countIn, soundIn, functionsIn};
+ghost use Rattle.running.specs.Advancing.{Keeps, Follows};
 ghost use Rattle.running.specs.Leaving.{cells, Leaves, refusedWith, reportedOf, clearedFrom, loadedWith};
 use crate::applying::apply;
-use crate::applying::call;
-use crate::applying::tail_call;
 use crate::copying::copy_over;
-use crate::decoding::Instruction;
-use crate::decoding::decode;
-use crate::emitting::emit;
-use crate::frames::leave;
-use crate::moving::begin_sequence;
-use crate::moving::shift;
-use crate::moving::use_sequence;
-use crate::moving::write;
 use crate::registers::Ending;
 use crate::registers::InCell;
 use crate::registers::Next;
 use crate::registers::OutCell;
 use crate::registers::Ran;
 use crate::registers::Registers;
+use crate::stepping::is_onward;
+use crate::stepping::next_of;
+use crate::stepping::registers_of;
+use crate::stepping::status_of;
+use crate::stepping::step;
 use matching::CodePlace;
 use matching::wide;
 
@@ -65,52 +59,7 @@ pub fn sound_table(code: &[u32]) -> bool
     true
 }
 
-// One instruction.
-fn advance(
-    g: Registers,
-    bits: &[u8; 256],
-    code: &[u32],
-    allowance: u32,
-    input: &mut [u8],
-    output: &mut [u8],
-    journal: &mut [u8],
-    frames: &mut [usize],
-    values: &mut [u8],
-) -> Next
-    requires { ⌜ Answers (now bits) ⌝ }
-    requires { ⌜ countIn (now code) < length (now code) ⌝ }
-    requires { ⌜ Underway allowance g (memory (now input) (now output) (now journal) (now frames) (now values)) ⌝ }
-    ensures { λ r. ⌜ Advances (now (code .entry)) allowance (comesTo (roomOf (memory (now (input .entry)) (now (output .entry)) (now (journal .entry)) (now (frames .entry)) (now (values .entry)))) allowance (now (code .entry)) (Onward g) (memory (now (input .entry)) (now (output .entry)) (now (journal .entry)) (now (frames .entry)) (now (values .entry)))) (leftToDo (length (now (code .entry))) allowance (Onward g) (memory (now (input .entry)) (now (output .entry)) (now (journal .entry)) (now (frames .entry)) (now (values .entry)))) g (memory (now (input .entry)) (now (output .entry)) (now (journal .entry)) (now (frames .entry)) (now (values .entry))) r (memory (now (input .exit)) (now (output .exit)) (now (journal .exit)) (now (frames .exit)) (now (values .exit))) ⌝ }
-{
-    let at = g.at.0;
-    if code.len() <= at {
-        return Next::Stopped(Ending::NoInstruction, 0, g);
-    }
-    let mut h = g;
-    let after = CodePlace(at + 1);
-    h.at = after;
-    match decode(code[at]) {
-        Instruction::Shift(what) => shift(h, what, input, frames),
-        Instruction::Write(what) => write(h, what, input, output, frames, values),
-        Instruction::Begin => begin_sequence(h, frames),
-        Instruction::Use => use_sequence(h, input, output, frames),
-        Instruction::Call(number) => call(h, bits, code, number, allowance, input, frames, values),
-        Instruction::TailCall(number) => tail_call(
-            h,
-            bits,
-            code,
-            number,
-            allowance,
-            input,
-            frames,
-            values,
-        ),
-        Instruction::Emit(length) => emit(h, code, length, input, journal),
-        Instruction::End => leave(h, frames),
-        Instruction::Unknown => Next::Stopped(Ending::NoInstruction, 0, h),
-    }
-}
-
+// The run from an answer on, instruction by instruction, to its end.
 fn follow(
     first: Next,
     bits: &[u8; 256],
@@ -127,10 +76,11 @@ fn follow(
     requires { ⌜ Keeps allowance first (memory (now input) (now output) (now journal) (now frames) (now values)) ⌝ }
     ensures { λ r. ⌜ Follows (now (code .entry)) allowance first (memory (now (input .entry)) (now (output .entry)) (now (journal .entry)) (now (frames .entry)) (now (values .entry))) r (memory (now (input .exit)) (now (output .exit)) (now (journal .exit)) (now (frames .exit)) (now (values .exit))) ⌝ }
 {
-    let mut next = first;
-    while let Next::Onward(g) = next {
-        next = advance(
-            g,
+    let mut g = registers_of(first);
+    let mut status = status_of(first);
+    while is_onward(status) {
+        status = step(
+            &mut g,
             bits,
             code,
             allowance,
@@ -141,7 +91,7 @@ fn follow(
             values,
         );
     }
-    next
+    next_of(status, g)
 }
 
 fn clear_from(cells: &mut [u8], start: usize)

@@ -10,6 +10,7 @@ mod following;
 mod frames;
 mod moving;
 pub mod registers;
+mod stepping;
 
 use crate::applying::declared;
 use crate::following::refused;

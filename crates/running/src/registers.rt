@@ -41,6 +41,13 @@ pub enum Next {
     Stopped(Ending, usize, Registers),
 }
 
+// The same, without the registers, which are then lent.
+pub enum Status {
+    Onward,
+    Done,
+    Stopped(Ending, usize),
+}
+
 // What a run answers: the ending, the function that fits nothing, the steps, and the lengths of the text on out and of the emissions.
 pub struct Ran {
     pub ending: Ending,

@@ -11,8 +11,6 @@ use lib.Dec.{leb}
 use lib.ListN.{length, getD, take, drop, set, replicate, length-append, length-drop, length-replicate, replicate-append-replicate, take-append-drop}
 use lib.Seq.{drop-cons, append-snoc, set-at, drop-at, length-take-le, take-length, drop-length, paste}
 use borrow.Author.Tests.{le-leb, lt-leb}
-use types.Run.{OneOf, miss}
-use denote.Enum.Declared.{tagOf}
 use Rattle.meaning.specs.Choice.{Bytes, pick}
 use Rattle.meaning.specs.Outcome.{fresh, Outcome, done, stop, pay, resultOf}
 use Rattle.meaning.specs.Machine.{Stacks, Ledger, isDeclared, ranPaid}
@@ -20,7 +18,6 @@ use Rattle.meaning.specs.Runs.{Room, lent, loaded, from, textOf, runLent}
 use Rattle.meaning.specs.Packing.{Words}
 use Rattle.meaning.specs.Leaving.{Cells, Leaving, zeros, refused, left, leaving}
 use Rattle.meaning.specs.Leaving.{roomOf as roomOfCells}
-use Rattle.running.proofs.registers.Next as next-declared
 use Rattle.running.specs.declared.registers.Registers.{Registers}
 use Rattle.running.specs.declared.registers.Ending.{Ending}
 use Rattle.running.specs.declared.registers.Next.{Next}
@@ -67,12 +64,6 @@ module _ (bytes : Bytes) (start : ℕ) (within : start ≤ length bytes) where
       rw (all, drop-length bytes, append-nil (take start bytes ++ zeros (length bytes - start)))
 
 -- THE END
-
--- the tags that are left tell that a run has ended
-pub is-over : (next : Next) → OneOf (1 ∷ 2 ∷ []) (tagOf next-declared.the-type next) → IsOver next
-is-over (Onward g) k = absurd (miss (1 ∷ 2 ∷ []) 0 tt k)
-is-over (Done g) k = tt
-is-over (Stopped ending function g) k = tt
 
 pub reported-within : (allowance : ℕ) (last : Next) (m : Memory) → IsOver last → Keeps allowance last m → reportedOf last .text ≤ length (m .output)
 reported-within allowance (Onward g) m o k = absurd o

@@ -1,4 +1,4 @@
--- `following::advance` meets its contract.
+-- `stepping::advance` meets its contract.
 use Prim.Native.Nat.{_+_}
 use native.Mathlib.Omega.{arith}
 use mathlib.Core.Path.{refl}
@@ -9,8 +9,8 @@ use Rattle.running.specs.States.{memory}
 use Rattle.running.proofs.laws.Reading.{actions-at, actions-none, actions-named}
 use Rattle.running.proofs.laws.Advancing.{stepped, advance-does, advance-acts, advance-unknown, advance-leaves}
 use borrow.Author.Needs.{needs}
-use Rattle.running.proofs.following.advance.Statement.{statement}
-use Rattle.running.proofs.following.advance.Tie as tie
+use Rattle.running.proofs.stepping.advance.Statement.{statement}
+use Rattle.running.proofs.stepping.advance.Tie as tie
 
 returns : tie.Need-returns
 returns c = let a = c .before .before .before .before .before .before .before .args in let u = c .before .before .before .before .before .before .before .pre .1 .1 in advance-unknown (a .code .now) (a .allowance) (a .g) (memory (a .input .now) (a .output .now) (a .journal .now) (a .frames .now) (a .values .now)) [] u (actions-none (a .code .now) (a .g .at .0) (c .if1 .taken)) (a .g) refl refl refl

@@ -1,0 +1,42 @@
+-- An answer and its two parts, the registers and how the run goes on.
+use Prim.Native.Nat.{ℕ}
+use mathlib.Core.Path.{_≡_, refl, sym, ap, subst, _∙_}
+use mathlib.Core.Bool.{true, false}
+use lib.Dec.{T, eqb}
+use denote.Enum.Declared.{tagOf}
+use Rattle.running.specs.declared.registers.Registers.{Registers}
+use Rattle.running.specs.declared.registers.Next.{Next}
+use Rattle.running.specs.declared.registers.Next.the-variants.{Onward, Done, Stopped}
+use Rattle.running.specs.declared.registers.Status.{Status}
+use Rattle.running.specs.declared.registers.Status.the-variants as status
+use Rattle.running.proofs.registers.Status as status-declared
+use Rattle.running.specs.Advancing.{registersIn, statusIn, nextOf, onward, IsOver}
+
+parts-join : (r : Next) → nextOf (statusIn r) (registersIn r) ≡ r
+parts-join (Onward g) = refl
+parts-join (Done g) = refl
+parts-join (Stopped ending function g) = refl
+
+pub rejoined : (r : Next) (x : Status) (g : Registers) → g ≡ registersIn r → x ≡ statusIn r → nextOf x g ≡ r
+rejoined r x g new how = ap (λ (y : Status). nextOf y g) how ∙ ap (nextOf (statusIn r)) new ∙ parts-join r
+
+pub goes-onward : (x : Status) (g : Registers) → onward x ≡ true → nextOf x g ≡ Onward g
+goes-onward status.Onward g e = refl
+goes-onward status.Done g e = absurd (subst T (sym e) tt)
+goes-onward (status.Stopped ending function) g e = absurd (subst T (sym e) tt)
+
+pub is-over : (x : Status) (g : Registers) → onward x ≡ false → IsOver (nextOf x g)
+is-over status.Onward g e = absurd (subst T e tt)
+is-over status.Done g e = tt
+is-over (status.Stopped ending function) g e = tt
+
+-- the tag tells how the run goes on
+pub onward-tagged : (x : Status) (g : Registers) → tagOf status-declared.the-type x ≡ 0 → Onward g ≡ nextOf x g
+onward-tagged status.Onward g e = refl
+onward-tagged status.Done g e = absurd (subst (λ (k : ℕ). T (eqb 1 k)) e tt)
+onward-tagged (status.Stopped ending function) g e = absurd (subst (λ (k : ℕ). T (eqb 2 k)) e tt)
+
+pub done-tagged : (x : Status) (g : Registers) → tagOf status-declared.the-type x ≡ 1 → Done g ≡ nextOf x g
+done-tagged status.Onward g e = absurd (subst (λ (k : ℕ). T (eqb 0 k)) e tt)
+done-tagged status.Done g e = refl
+done-tagged (status.Stopped ending function) g e = absurd (subst (λ (k : ℕ). T (eqb 2 k)) e tt)

@@ -1,0 +1,143 @@
+// One instruction of a run: on registers by value, and on registers that are lent.
+ghost use Prim.Native.Nat.{_<_};
+ghost use mathlib.Core.Path.{_≡_};
+ghost use lib.ListN.{length};
+ghost use Rattle.classes.specs.Tests.{Answers};
+ghost use Rattle.running.specs.declared.registers.Next.the-variants.{Onward};
+ghost use Rattle.running.specs.States.{memory, roomOf};
+ghost use Rattle.running.specs.Waiting.{countIn, comesTo, leftToDo};
+ghost use Rattle.running.specs.Advancing.{Underway, registersIn, statusIn, nextOf, onward, Advances};
+use crate::applying::call;
+use crate::applying::tail_call;
+use crate::decoding::Instruction;
+use crate::decoding::decode;
+use crate::emitting::emit;
+use crate::frames::leave;
+use crate::moving::begin_sequence;
+use crate::moving::shift;
+use crate::moving::use_sequence;
+use crate::moving::write;
+use crate::registers::Ending;
+use crate::registers::Next;
+use crate::registers::Registers;
+use crate::registers::Status;
+use matching::CodePlace;
+
+// One instruction.
+fn advance(
+    g: Registers,
+    bits: &[u8; 256],
+    code: &[u32],
+    allowance: u32,
+    input: &mut [u8],
+    output: &mut [u8],
+    journal: &mut [u8],
+    frames: &mut [usize],
+    values: &mut [u8],
+) -> Next
+    requires { ⌜ Answers (now bits) ⌝ }
+    requires { ⌜ countIn (now code) < length (now code) ⌝ }
+    requires { ⌜ Underway allowance g (memory (now input) (now output) (now journal) (now frames) (now values)) ⌝ }
+    ensures { λ r. ⌜ Advances (now (code .entry)) allowance (comesTo (roomOf (memory (now (input .entry)) (now (output .entry)) (now (journal .entry)) (now (frames .entry)) (now (values .entry)))) allowance (now (code .entry)) (Onward g) (memory (now (input .entry)) (now (output .entry)) (now (journal .entry)) (now (frames .entry)) (now (values .entry)))) (leftToDo (length (now (code .entry))) allowance (Onward g) (memory (now (input .entry)) (now (output .entry)) (now (journal .entry)) (now (frames .entry)) (now (values .entry)))) g (memory (now (input .entry)) (now (output .entry)) (now (journal .entry)) (now (frames .entry)) (now (values .entry))) r (memory (now (input .exit)) (now (output .exit)) (now (journal .exit)) (now (frames .exit)) (now (values .exit))) ⌝ }
+{
+    let at = g.at.0;
+    if code.len() <= at {
+        return Next::Stopped(Ending::NoInstruction, 0, g);
+    }
+    let mut h = g;
+    let after = CodePlace(at + 1);
+    h.at = after;
+    match decode(code[at]) {
+        Instruction::Shift(what) => shift(h, what, input, frames),
+        Instruction::Write(what) => write(h, what, input, output, frames, values),
+        Instruction::Begin => begin_sequence(h, frames),
+        Instruction::Use => use_sequence(h, input, output, frames),
+        Instruction::Call(number) => call(h, bits, code, number, allowance, input, frames, values),
+        Instruction::TailCall(number) => tail_call(
+            h,
+            bits,
+            code,
+            number,
+            allowance,
+            input,
+            frames,
+            values,
+        ),
+        Instruction::Emit(length) => emit(h, code, length, input, journal),
+        Instruction::End => leave(h, frames),
+        Instruction::Unknown => Next::Stopped(Ending::NoInstruction, 0, h),
+    }
+}
+
+// An answer's registers, how it says that the run goes on, and both put together.
+pub fn registers_of(next: Next) -> Registers
+    ensures { λ r. ⌜ r ≡ registersIn next ⌝ }
+{
+    match next {
+        Next::Onward(g) => g,
+        Next::Done(g) => g,
+        Next::Stopped(_, _, g) => g,
+    }
+}
+
+pub fn status_of(next: Next) -> Status
+    ensures { λ r. ⌜ r ≡ statusIn next ⌝ }
+{
+    match next {
+        Next::Onward(_) => Status::Onward,
+        Next::Done(_) => Status::Done,
+        Next::Stopped(ending, function, _) => Status::Stopped(ending, function),
+    }
+}
+
+pub fn next_of(status: Status, g: Registers) -> Next
+    ensures { λ r. ⌜ r ≡ nextOf status g ⌝ }
+{
+    match status {
+        Status::Onward => Next::Onward(g),
+        Status::Done => Next::Done(g),
+        Status::Stopped(ending, function) => Next::Stopped(ending, function, g),
+    }
+}
+
+pub fn is_onward(status: Status) -> bool
+    ensures { λ r. ⌜ r ≡ onward status ⌝ }
+{
+    match status {
+        Status::Onward => true,
+        Status::Done => false,
+        Status::Stopped(_, _) => false,
+    }
+}
+
+// One instruction: the new values are stored in the registers, and it is said how the run goes on.
+pub fn step(
+    g: &mut Registers,
+    bits: &[u8; 256],
+    code: &[u32],
+    allowance: u32,
+    input: &mut [u8],
+    output: &mut [u8],
+    journal: &mut [u8],
+    frames: &mut [usize],
+    values: &mut [u8],
+) -> Status
+    requires { ⌜ Answers (now bits) ⌝ }
+    requires { ⌜ countIn (now code) < length (now code) ⌝ }
+    requires { ⌜ Underway allowance (now g) (memory (now input) (now output) (now journal) (now frames) (now values)) ⌝ }
+    ensures { λ r. ⌜ Advances (now (code .entry)) allowance (comesTo (roomOf (memory (now (input .entry)) (now (output .entry)) (now (journal .entry)) (now (frames .entry)) (now (values .entry)))) allowance (now (code .entry)) (Onward (now (g .entry))) (memory (now (input .entry)) (now (output .entry)) (now (journal .entry)) (now (frames .entry)) (now (values .entry)))) (leftToDo (length (now (code .entry))) allowance (Onward (now (g .entry))) (memory (now (input .entry)) (now (output .entry)) (now (journal .entry)) (now (frames .entry)) (now (values .entry)))) (now (g .entry)) (memory (now (input .entry)) (now (output .entry)) (now (journal .entry)) (now (frames .entry)) (now (values .entry))) (nextOf r (now (g .exit))) (memory (now (input .exit)) (now (output .exit)) (now (journal .exit)) (now (frames .exit)) (now (values .exit))) ⌝ }
+{
+    let next = advance(
+        *g,
+        bits,
+        code,
+        allowance,
+        input,
+        output,
+        journal,
+        frames,
+        values,
+    );
+    *g = registers_of(next);
+    status_of(next)
+}
