@@ -7,6 +7,7 @@ mod sentences;
 use calls::Unknown;
 use calls::unknown_call;
 use functions::functions;
+use lexing::reader;
 use parsing::Answer;
 use parsing::names::function_room;
 use parsing::progress::Parsed;
@@ -77,11 +78,19 @@ fn read_on(text: &[u8], tape: &mut [u32; 32768]) -> Reading
     }
 }
 
+// Reads a text, and clears the tape after the words of its tree.
+fn read_text(bytes: &[u8], tape: &mut [u32; 32768]) -> Reading
+    ensures { λ r. ⌜ Reads (now (bytes .entry)) r (now (tape .exit)) ⌝ }
+{
+    let reading = read_on(bytes, tape);
+    clear(tape, reading.words);
+    reading
+}
+
 // Reads a table text. The tape of an accepted text holds its tree, with zeros after it; that of a refused one is all zero.
 pub fn read(text: &[u8], tape: &mut [u32; 32768]) -> Reading
     ensures { λ r. ⌜ Reads (now (text .entry)) r (now (tape .exit)) ⌝ }
 {
-    let reading = read_on(text, tape);
-    clear(tape, reading.words);
-    reading
+    let reader = reader::new(text);
+    read_text(reader::text(reader), tape)
 }
