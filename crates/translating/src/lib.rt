@@ -27,7 +27,7 @@ pub struct Translated {
 pub fn translate(tape: &[u32; 32768], words: usize, code: &mut [u32]) -> Translated
     ensures { λ r. ⌜ Leaves (codeOf (take words (now (tape .entry)))) (length (now (code .entry))) r (now (code .exit)) ⌝ }
 {
-    clear_from(code, 0);
+    clear_from(code, 0); // words after the code are zero
     let count = lesser(words, 32768);
     let written = write_table(tape, count, code);
     if code.len() < written {
