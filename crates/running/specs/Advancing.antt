@@ -49,23 +49,23 @@ pub record Ended (g : Registers) (m : Memory) : Type 0 where
 abbrev pub Keeps : ℕ → Next → Memory → Type 0
 Keeps allowance (Onward g) m = Underway allowance g m
 Keeps allowance (Done g) m = Ended g m
-Keeps allowance (Stopped ending function g) m = Ended g m
+Keeps allowance (Stopped g ending function) m = Ended g m
 
 abbrev pub registersIn : Next → Registers
 registersIn (Onward g) = g
 registersIn (Done g) = g
-registersIn (Stopped ending function g) = g
+registersIn (Stopped g ending function) = g
 
 -- how a run goes on, apart from its registers, and both put together
 abbrev pub statusIn : Next → Status
 statusIn (Onward g) = status.Onward
 statusIn (Done g) = status.Done
-statusIn (Stopped ending function g) = status.Stopped ending function
+statusIn (Stopped g ending function) = status.Stopped ending function
 
 abbrev pub nextOf : Status → Registers → Next
 nextOf status.Onward g = Onward g
 nextOf status.Done g = Done g
-nextOf (status.Stopped ending function) g = Stopped ending function g
+nextOf (status.Stopped ending function) g = Stopped g ending function
 
 abbrev pub onward : Status → Bool
 onward status.Onward = true
@@ -118,7 +118,7 @@ Starts words allowance at stores stored g m next n =
 abbrev pub IsOver : Next → Type 0
 IsOver (Onward g) = ⊥
 IsOver (Done g) = Unit {0}
-IsOver (Stopped ending function g) = Unit {0}
+IsOver (Stopped g ending function) = Unit {0}
 
 -- a run followed to its end
 pub record Follows (words : Words) (allowance : ℕ) (first : Next) (m : Memory) (last : Next) (n : Memory) : Type 0 where

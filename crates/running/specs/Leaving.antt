@@ -40,7 +40,7 @@ refusedWith ending = record { ending = ending; function = 0; steps = 0; text = 0
 abbrev pub reportedOf : Next → Ran
 reportedOf (Onward g) = record { ending = Finished; function = 0; steps = g .steps; text = g .r .0; emissions = g .emitted }
 reportedOf (Done g) = record { ending = Finished; function = 0; steps = g .steps; text = g .r .0; emissions = g .emitted }
-reportedOf (Stopped ending function g) = record { ending = ending; function = function; steps = g .steps; text = 0; emissions = g .emitted }
+reportedOf (Stopped g ending function) = record { ending = ending; function = function; steps = g .steps; text = 0; emissions = g .emitted }
 
 -- the cells up to a place, and zeros after it
 abbrev pub clearedFrom : ℕ → Bytes → Bytes

@@ -95,7 +95,7 @@ Going = Local → Stacks → Ledgers → Outcomes
 abbrev pub after : ℕ → (ℕ → Going) → Next → Memory → Outcomes
 after allowance k (Onward g) m = k (g .at .0) (localOf g m) (stacksOf g m) (ledgerOf allowance g m)
 after allowance k (Done g) m = done (stacksOf g m) (ledgerOf allowance g m)
-after allowance k (Stopped ending function g) m = stop (endingNumber ending) function (ledgerOf allowance g m)
+after allowance k (Stopped g ending function) m = stop (endingNumber ending) function (ledgerOf allowance g m)
 
 -- an instruction that goes on at a place, in the same frame and step, with all but its own cells as they were
 pub record Stayed (at : ℕ) (g : Registers) (m : Memory) (h : Registers) (n : Memory) : Type 0 where
@@ -111,7 +111,7 @@ pub record Stayed (at : ℕ) (g : Registers) (m : Memory) (h : Registers) (n : M
 abbrev pub Stays : ℕ → Registers → Memory → Next → Memory → Type 0
 Stays at g m (Onward h) n = Stayed at g m h n
 Stays at g m (Done h) n = ⊥
-Stays at g m (Stopped ending function h) n = (h ≡ g) × (n ≡ m)
+Stays at g m (Stopped h ending function) n = (h ≡ g) × (n ≡ m)
 
 -- an action's function does the machine's action, whatever is left to do, and goes on at a place
 pub record Acts (action : Action) (at : ℕ) (g : Registers) (m : Memory) (next : Next) (n : Memory) : Type 0 where

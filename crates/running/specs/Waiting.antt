@@ -49,7 +49,7 @@ module _ (room : Room) (allowance : ℕ) (words : Words) where
   abbrev pub comesTo : Next → Memory → Outcomes
   comesTo (Onward g) m = returning g m (going (g .frame) (g .at .0) (localOf g m) (stacksOf g m) (ledgerOf allowance g m))
   comesTo (Done g) m = done (stacksOf g m) (ledgerOf allowance g m)
-  comesTo (Stopped ending function g) m = stop (endingNumber ending) function (ledgerOf allowance g m)
+  comesTo (Stopped g ending function) m = stop (endingNumber ending) function (ledgerOf allowance g m)
 
 -- what one instruction comes to in its frame, which then goes on at a place
 abbrev pub performing : Room → ℕ → Words → Action → ℕ → Registers → Memory → Outcomes
@@ -71,7 +71,7 @@ leftBelow size allowance g m = (allowance - g .steps) * suc size + leftWaiting s
 abbrev pub leftToDo : ℕ → ℕ → Next → Memory → ℕ
 leftToDo size allowance (Onward g) m = suc (leftBelow size allowance g m + (size - g .at .0))
 leftToDo size allowance (Done g) m = 0
-leftToDo size allowance (Stopped ending function g) m = 0
+leftToDo size allowance (Stopped g ending function) m = 0
 
 -- THE END OF AN APPLICATION: the frame below goes on, or the run is done
 

@@ -124,14 +124,15 @@ fn start_sentence(
         values,
         frame,
     ) else {
-        return Next::Stopped(Ending::NoInstruction, 0, g);
+        return Next::Stopped(g, Ending::NoInstruction, 0);
     };
     begin_frame(frames, frame, q - p, place, stored);
-    let mut next = g;
     let none = g.p;
-    next.q = none;
-    next.at = actions;
-    Next::Onward(next)
+    Next::Onward(Registers {
+        q: none,
+        at: actions,
+        ..g
+    })
 }
 
 // One application in the frame of the registers: 12, or a step and the sentence chosen for the field.
@@ -158,10 +159,12 @@ pub fn apply(
 {
     let steps = g.steps;
     if allowance <= steps {
-        return Next::Stopped(Ending::AllowanceSpent, 0, g);
+        return Next::Stopped(g, Ending::AllowanceSpent, 0);
     }
-    let mut paid = g;
-    paid.steps = g.steps + 1;
+    let paid = Registers {
+        steps: g.steps + 1,
+        ..g
+    };
     let p = g.p.0;
     let q = g.q.0;
     let entry = CodePlace(wide(code[number]));
@@ -172,8 +175,8 @@ pub fn apply(
             stores,
             stored,
         } => start_sentence(paid, code, place, stores, stored, input, frames, values),
-        Choice::Nothing => Next::Stopped(Ending::NoSentenceFits, number, paid),
-        Choice::Wrong => Next::Stopped(Ending::NoInstruction, 0, paid),
+        Choice::Nothing => Next::Stopped(paid, Ending::NoSentenceFits, number),
+        Choice::Wrong => Next::Stopped(paid, Ending::NoInstruction, 0),
     }
 }
 
@@ -198,18 +201,20 @@ pub fn call(
     ensures { λ r. ⌜ ((output journal : Bytes) → Performs (now (code .entry)) allowance (calling number) (g .at .0) g (memory (now (input .entry)) output journal (now (frames .entry)) (now (values .entry))) r (memory (now (input .entry)) output journal (now (frames .exit)) (now (values .exit)))) ⌝ }
 {
     if !declared(code, number) {
-        return Next::Stopped(Ending::NoInstruction, 0, g);
+        return Next::Stopped(g, Ending::NoInstruction, 0);
     }
     if allowance <= g.steps {
-        return Next::Stopped(Ending::AllowanceSpent, 0, g);
+        return Next::Stopped(g, Ending::AllowanceSpent, 0);
     }
     let frame = g.frame;
     if 255 <= frame {
-        return Next::Stopped(Ending::FramesFull, 0, g);
+        return Next::Stopped(g, Ending::FramesFull, 0);
     }
     set_word(frames, frame, 0, g.at.0);
-    let mut next = g;
-    next.frame = frame + 1;
+    let next = Registers {
+        frame: frame + 1,
+        ..g
+    };
     apply(next, bits, code, number, allowance, input, frames, values)
 }
 
@@ -234,7 +239,7 @@ pub fn tail_call(
     ensures { λ r. ⌜ ((output journal : Bytes) → Performs (now (code .entry)) allowance (tailCall number) (g .at .0) g (memory (now (input .entry)) output journal (now (frames .entry)) (now (values .entry))) r (memory (now (input .entry)) output journal (now (frames .exit)) (now (values .exit)))) ⌝ }
 {
     if !declared(code, number) {
-        return Next::Stopped(Ending::NoInstruction, 0, g);
+        return Next::Stopped(g, Ending::NoInstruction, 0);
     }
     apply(g, bits, code, number, allowance, input, frames, values)
 }

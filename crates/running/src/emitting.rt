@@ -77,21 +77,21 @@ pub fn emit(g: Registers, code: &[u32], size: usize, input: &[u8], journal: &mut
     ensures { λ r. ⌜ ((output values : Bytes) (frames : List ℕ) → Acts (emissionOf size (drop (g .at .0) (now (code .entry)))) (g .at .0 + size) g (memory (now (input .entry)) output (now (journal .entry)) frames values) r (memory (now (input .entry)) output (now (journal .exit)) frames values)) ⌝ }
 {
     if !named(code, g.at, size) {
-        return Next::Stopped(Ending::NoInstruction, 0, g);
+        return Next::Stopped(g, Ending::NoInstruction, 0);
     }
     let p = g.p.0;
     let q = g.q.0;
     let emitted = g.emitted;
     let line = size + (q - p) + 2;
     if journal.len() - emitted < line {
-        return Next::Stopped(Ending::JournalFull, 0, g);
+        return Next::Stopped(g, Ending::JournalFull, 0);
     }
     write_line(journal, emitted, code, g.at, size, &input[p..q]);
-    let mut next = g;
     let to = g.q;
-    let after = CodePlace(g.at.0 + size);
-    next.p = to;
-    next.at = after;
-    next.emitted = emitted + line;
-    Next::Onward(next)
+    Next::Onward(Registers {
+        p: to,
+        at: CodePlace(g.at.0 + size),
+        emitted: emitted + line,
+        ..g
+    })
 }

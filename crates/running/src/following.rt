@@ -123,7 +123,7 @@ fn reported(next: Next) -> Ran
             text: g.r.0,
             emissions: g.emitted,
         },
-        Next::Stopped(ending, function, g) => Ran {
+        Next::Stopped(g, ending, function) => Ran {
             ending: ending,
             function: function,
             steps: g.steps,

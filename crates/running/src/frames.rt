@@ -52,10 +52,11 @@ pub fn leave(g: Registers, frames: &[usize]) -> Next
     }
     let frame = g.frame - 1;
     let back = CodePlace(word(frames, frame, 0));
-    let mut next = g;
-    let p = g.p;
-    next.q = p;
-    next.frame = frame;
-    next.at = back;
-    Next::Onward(next)
+    let none = g.p;
+    Next::Onward(Registers {
+        q: none,
+        frame: frame,
+        at: back,
+        ..g
+    })
 }

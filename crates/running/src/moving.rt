@@ -101,22 +101,18 @@ pub fn shift(g: Registers, what: Shift, input: &[u8], frames: &[usize]) -> Next
     requires { ⌜ length (now frames) ≡ 6144 ⌝ }
     ensures { λ r. ⌜ ((output journal values : Bytes) → Acts (shiftMeant what) (g .at .0) g (memory (now (input .entry)) output journal (now (frames .entry)) values) r (memory (now (input .entry)) output journal (now (frames .entry)) values)) ⌝ }
 {
-    let mut next = g;
     match what {
         Shift::Go(span) => {
             let Reached::At(to) = reach(g.p, span, g.frame, input, frames) else {
-                return Next::Stopped(Ending::NoInstruction, 0, g);
+                return Next::Stopped(g, Ending::NoInstruction, 0);
             };
-            next.p = to;
-            next.q = to;
-            Next::Onward(next)
+            Next::Onward(Registers { p: to, q: to, ..g })
         }
         Shift::Select(span) => {
             let Reached::At(to) = reach(g.q, span, g.frame, input, frames) else {
-                return Next::Stopped(Ending::NoInstruction, 0, g);
+                return Next::Stopped(g, Ending::NoInstruction, 0);
             };
-            next.q = to;
-            Next::Onward(next)
+            Next::Onward(Registers { q: to, ..g })
         }
     }
 }
@@ -131,15 +127,15 @@ fn write_part(g: Registers, input: &[u8], output: &mut [u8]) -> Next
     let q = g.q.0;
     let r = g.r.0;
     if output.len() - r < q - p {
-        return Next::Stopped(Ending::OutFull, 0, g);
+        return Next::Stopped(g, Ending::OutFull, 0);
     }
     copy_over(output, r, &input[p..q]);
-    let mut next = g;
     let to = g.q;
-    let top = OutCell(r + (q - p));
-    next.p = to;
-    next.r = top;
-    Next::Onward(next)
+    Next::Onward(Registers {
+        p: to,
+        r: OutCell(r + (q - p)),
+        ..g
+    })
 }
 
 fn write_byte(g: Registers, byte: u8, output: &mut [u8]) -> Next
@@ -148,13 +144,13 @@ fn write_byte(g: Registers, byte: u8, output: &mut [u8]) -> Next
 {
     let r = g.r.0;
     if output.len() <= r {
-        return Next::Stopped(Ending::OutFull, 0, g);
+        return Next::Stopped(g, Ending::OutFull, 0);
     }
     output[r] = byte;
-    let mut next = g;
-    let top = OutCell(r + 1);
-    next.r = top;
-    Next::Onward(next)
+    Next::Onward(Registers {
+        r: OutCell(r + 1),
+        ..g
+    })
 }
 
 fn write_value(
@@ -173,7 +169,7 @@ fn write_value(
 {
     let frame = g.frame;
     if word(frames, frame, 3) <= index {
-        return Next::Stopped(Ending::NoInstruction, 0, g);
+        return Next::Stopped(g, Ending::NoInstruction, 0);
     }
     write_byte(g, values[16 * frame + index], output)
 }
@@ -213,7 +209,7 @@ pub fn begin_sequence(g: Registers, frames: &mut [usize]) -> Next
     let frame = g.frame;
     let opened = word(frames, frame, 4);
     if 16 <= opened {
-        return Next::Stopped(Ending::NoInstruction, 0, g);
+        return Next::Stopped(g, Ending::NoInstruction, 0);
     }
     set_word(frames, frame, 23 - opened, g.r.0);
     set_word(frames, frame, 4, opened + 1);
@@ -258,18 +254,19 @@ pub fn use_sequence(g: Registers, input: &mut [u8], output: &[u8], frames: &mut 
     let frame = g.frame;
     let opened = word(frames, frame, 4);
     if opened == 0 {
-        return Next::Stopped(Ending::NoInstruction, 0, g);
+        return Next::Stopped(g, Ending::NoInstruction, 0);
     }
     let first = OutCell(lower(word(frames, frame, 24 - opened), g.r.0));
     if g.p.0 < g.r.0 - first.0 {
-        return Next::Stopped(Ending::InFull, 0, g);
+        return Next::Stopped(g, Ending::InFull, 0);
     }
     set_word(frames, frame, 4, opened - 1);
     let start = move_down(input, g.p, output, first, g.r);
-    let mut next = g;
     let end = g.p;
-    next.p = start;
-    next.q = end;
-    next.r = first;
-    Next::Onward(next)
+    Next::Onward(Registers {
+        p: start,
+        q: end,
+        r: first,
+        ..g
+    })
 }

@@ -38,7 +38,7 @@ pub enum Ending {
 pub enum Next {
     Onward(Registers),
     Done(Registers),
-    Stopped(Ending, usize, Registers),
+    Stopped(Registers, Ending, usize),
 }
 
 // The same, without the registers, which are then lent.

@@ -42,11 +42,12 @@ fn advance(
 {
     let at = g.at.0;
     if code.len() <= at {
-        return Next::Stopped(Ending::NoInstruction, 0, g);
+        return Next::Stopped(g, Ending::NoInstruction, 0);
     }
-    let mut h = g;
-    let after = CodePlace(at + 1);
-    h.at = after;
+    let h = Registers {
+        at: CodePlace(at + 1),
+        ..g
+    };
     match decode(code[at]) {
         Instruction::Shift(what) => shift(h, what, input, frames),
         Instruction::Write(what) => write(h, what, input, output, frames, values),
@@ -65,7 +66,7 @@ fn advance(
         ),
         Instruction::Emit(length) => emit(h, code, length, input, journal),
         Instruction::End => leave(h, frames),
-        Instruction::Unknown => Next::Stopped(Ending::NoInstruction, 0, h),
+        Instruction::Unknown => Next::Stopped(h, Ending::NoInstruction, 0),
     }
 }
 
@@ -76,7 +77,7 @@ pub fn registers_of(next: Next) -> Registers
     match next {
         Next::Onward(g) => g,
         Next::Done(g) => g,
-        Next::Stopped(_, _, g) => g,
+        Next::Stopped(g, _, _) => g,
     }
 }
 
@@ -86,7 +87,7 @@ pub fn status_of(next: Next) -> Status
     match next {
         Next::Onward(_) => Status::Onward,
         Next::Done(_) => Status::Done,
-        Next::Stopped(ending, function, _) => Status::Stopped(ending, function),
+        Next::Stopped(_, ending, function) => Status::Stopped(ending, function),
     }
 }
 
@@ -96,7 +97,7 @@ pub fn next_of(status: Status, g: Registers) -> Next
     match status {
         Status::Onward => Next::Onward(g),
         Status::Done => Next::Done(g),
-        Status::Stopped(ending, function) => Next::Stopped(ending, function, g),
+        Status::Stopped(ending, function) => Next::Stopped(g, ending, function),
     }
 }
 

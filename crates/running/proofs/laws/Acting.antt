@@ -56,7 +56,7 @@ module _ (g : Registers) (m : Memory) where
   pub stops : (action : Action) (at : ℕ) (ending : Ending) →
       ((allowance : ℕ) (code : Code) (enter : ℕ → ℕ → Stacks → Ledgers → Outcomes) (k : Going) →
       Performing action allowance code enter k ≡ stop (endingNumber ending) 0 (ledgerOf allowance g m)) →
-      Acts action at g m (Stopped ending 0 g) m
+      Acts action at g m (Stopped g ending 0) m
   stops action at ending h = record { same = h; stays = (refl, refl) }
 
   -- only p, q, r and cells of the stacks change
@@ -90,13 +90,13 @@ module _ (g : Registers) (m : Memory) where
     abbrev Spanned : Option Register → ℕ → Cells
     Spanned o from = cellsOf o add back (localOf g m) (length (m .input) - from)
 
-    go-none : (o : Option Register) → Wrong ≡ Spanned o (g .p .0) → Acts (spanAction go o add back) (g .at .0) g m (Stopped NoInstruction 0 g) m
+    go-none : (o : Option Register) → Wrong ≡ Spanned o (g .p .0) → Acts (spanAction go o add back) (g .at .0) g m (Stopped g NoInstruction 0) m
     go-none none e = stops _ _ NoInstruction (λ allowance code enter k. refl)
     go-none (some r) e =
         stops _ _ NoInstruction (λ allowance code enter k. rw (length-drop (g .p .0) (m .input), lt-leb _ (length (m .input) - g .p .0) (not-counted _ _ e)))
 
     pub go-wrong : (o : Option Register) → NotThere ≡ reachedBy (Spanned o (g .p .0)) (g .p .0) →
-        Acts (spanAction go o add back) (g .at .0) g m (Stopped NoInstruction 0 g) m
+        Acts (spanAction go o add back) (g .at .0) g m (Stopped g NoInstruction 0) m
     go-wrong o e = go-none o (not-led _ _ e)
 
     pub go-moved : (o : Option Register) (to : InCell) → At to ≡ reachedBy (Spanned o (g .p .0)) (g .p .0) →
@@ -118,7 +118,7 @@ module _ (g : Registers) (m : Memory) where
           stays = stayed _ _ _ (m .input) (m .output) (λ f. omega arith) (λ f. omega (arith, t .enough, l .sum)) (λ f. f .below);
         }
 
-    select-none : (o : Option Register) → Wrong ≡ Spanned o (g .q .0) → Acts (spanAction select o add back) (g .at .0) g m (Stopped NoInstruction 0 g) m
+    select-none : (o : Option Register) → Wrong ≡ Spanned o (g .q .0) → Acts (spanAction select o add back) (g .at .0) g m (Stopped g NoInstruction 0) m
     select-none none e = stops _ _ NoInstruction (λ allowance code enter k. refl)
     select-none (some r) e =
         let n = registerOf r (localOf g m) + add - back in
@@ -126,7 +126,7 @@ module _ (g : Registers) (m : Memory) where
         stops _ _ NoInstruction (λ allowance code enter k. rw (length-drop (g .p .0) (m .input), lt-leb _ _ short))
 
     pub select-wrong : (o : Option Register) → NotThere ≡ reachedBy (Spanned o (g .q .0)) (g .q .0) →
-        Acts (spanAction select o add back) (g .at .0) g m (Stopped NoInstruction 0 g) m
+        Acts (spanAction select o add back) (g .at .0) g m (Stopped g NoInstruction 0) m
     select-wrong o e = select-none o (not-led _ _ e)
 
     pub select-moved : (o : Option Register) (to : InCell) → At to ≡ reachedBy (Spanned o (g .q .0)) (g .q .0) →
@@ -144,7 +144,7 @@ module _ (g : Registers) (m : Memory) where
   -- OUT, OUTC, OUTV
 
   module _ (r≤out : g .r .0 ≤ length (m .output)) where
-    pub byte-full : (b : ℕ) → length (m .output) ≤ g .r .0 → Acts (outCharacter b) (g .at .0) g m (Stopped OutFull 0 g) m
+    pub byte-full : (b : ℕ) → length (m .output) ≤ g .r .0 → Acts (outCharacter b) (g .at .0) g m (Stopped g OutFull 0) m
     byte-full b h =
         let full : length (m .output) < suc (g .r .0) = omega arith in
         stops _ _ OutFull (λ allowance code enter k. rw (length-take-le (g .r .0) (m .output) r≤out, lt-ltb _ _ full))
@@ -164,7 +164,7 @@ module _ (g : Registers) (m : Memory) where
           stays = stayed _ _ _ (m .input) _ (λ f. f .ordered) (λ f. f .inside) (λ f. rw length-set (omega arith));
         }
 
-    pub part-full : length (m .output) - g .r .0 < g .q .0 - g .p .0 → Acts out (g .at .0) g m (Stopped OutFull 0 g) m
+    pub part-full : length (m .output) - g .r .0 < g .q .0 - g .p .0 → Acts out (g .at .0) g m (Stopped g OutFull 0) m
     part-full h =
         let full : length (m .output) < g .r .0 + (g .q .0 - g .p .0) = omega arith in
         stops _ _ OutFull (λ allowance code enter k. rw (length-take-le (g .r .0) (m .output) r≤out, lt-ltb _ _ full))
@@ -195,7 +195,7 @@ module _ (g : Registers) (m : Memory) where
         }
 
   -- a stored value is written as a character is
-  pub value-none : (k : ℕ) → frameWord (g .frame) 3 (m .frames) ≤ k → Acts (outValue k) (g .at .0) g m (Stopped NoInstruction 0 g) m
+  pub value-none : (k : ℕ) → frameWord (g .frame) 3 (m .frames) ≤ k → Acts (outValue k) (g .at .0) g m (Stopped g NoInstruction 0) m
   value-none k h = stops _ _ NoInstruction (λ allowance code enter next. rw (nth-out (localOf g m .values) k (rw length-take (omega arith))))
 
   pub value-written : (k : ℕ) (next : Next) (n : Memory) → k < frameWord (g .frame) 3 (m .frames) → frameWord (g .frame) 3 (m .frames) ≤ 16 → g .frame < 256 →

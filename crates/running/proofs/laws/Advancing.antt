@@ -81,7 +81,7 @@ module _ (words : Words) (allowance : ℕ) (action : Action) (at : ℕ) (g : Reg
         falls = less-stayed allowance at g m h n s u (length words) l;
       }
   acts-performs (Done h) a u = absurd (a .stays)
-  acts-performs (Stopped ending function h) a u =
+  acts-performs (Stopped h ending function) a u =
       let same : h ≡ g = a .stays .0 in
       let kept : n ≡ m = a .stays .1 in
       record {
@@ -149,7 +149,7 @@ module _ (words : Words) (allowance : ℕ) (g : Registers) (m : Memory) where
 
   -- words that are no instruction
   pub advance-unknown : (more : List Action) → Underway allowance g m → unpackActions 0 (drop (g .at .0) words) ≡ unknownAction ∷ more →
-      (h : Registers) → h .r ≡ g .r → h .steps ≡ g .steps → h .emitted ≡ g .emitted → Owed (Stopped NoInstruction 0 h) m
+      (h : Registers) → h .r ≡ g .r → h .steps ≡ g .steps → h .emitted ≡ g .emitted → Owed (Stopped h NoInstruction 0) m
   unfolding process
   advance-unknown more u e h r steps emitted =
       record {

@@ -79,7 +79,7 @@ module _ (words : Words) (allowance : ℕ) (g : Registers) (m n : Memory) (r : R
   pub stopping : (tocome : Outcomes) (bound : ℕ) (ending : Ending) (function : ℕ) (h : Registers) → 0 < bound →
       tocome ≡ stop (endingNumber ending) function (ledgerOf allowance h m) →
       h .r ≡ g .r → h .emitted ≡ g .emitted → n .input ≡ m .input → n .output ≡ m .output → n .journal ≡ m .journal →
-      Advances words allowance (returning (roomOf m) allowance words g m tocome) bound g m (Stopped ending function h) n
+      Advances words allowance (returning (roomOf m) allowance words g m tocome) bound g m (Stopped h ending function) n
   stopping tocome bound ending function h b e er ee ei eo ej =
       record {
         leads =
@@ -170,7 +170,7 @@ module _ (words : Words) (allowance place stores stored : ℕ) (g : Registers) (
   Kept = storedValues (unpackStores stored (drop stores words)) (take (g .q .0 - g .p .0) (drop (g .p .0) input)) place
 
   pub starts-wrong : Stores (16 * g .frame) stored (stores + stored) Kept values values′ Wrong →
-      Starts words allowance place stores stored g Before-start (Stopped NoInstruction 0 g) (memory input output journal frames values′)
+      Starts words allowance place stores stored g Before-start (Stopped g NoInstruction 0) (memory input output journal frames values′)
   starts-wrong s r =
       stopping words allowance g Before-start (memory input output journal frames values′) r _ _ NoInstruction 0 g (omega arith)
       (rw (← (s .same))) refl refl refl refl refl

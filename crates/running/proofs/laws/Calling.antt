@@ -36,7 +36,7 @@ paidOf g =
     record { p = g .p; q = g .q; r = g .r; frame = g .frame; at = g .at; steps = g .steps + 1; emitted = g .emitted }
 
 module _ (words : Words) (allowance number : ℕ) (g : Registers) (m : Memory) where
-  pub apply-spent : allowance ≤ g .steps → Applies words allowance number g m (Stopped AllowanceSpent 0 g) m
+  pub apply-spent : allowance ≤ g .steps → Applies words allowance number g m (Stopped g AllowanceSpent 0) m
   apply-spent h r =
       let e : allowance - g .steps ≡ 0 = omega arith in
       stopping words allowance g m m r _ _ AllowanceSpent 0 g (omega arith) (rw e) refl refl refl refl refl
@@ -55,10 +55,10 @@ module _ (words : Words) (allowance number : ℕ) (g : Registers) (m : Memory) w
         let one : allowance - g .steps ≡ suc (allowance - suc (g .steps)) = omega arith in
         rw (one, add-one (g .steps), e, code-at words counted number positive within)
 
-    pub apply-nothing : chosenNone ≡ Chosen → Applies words allowance number g m (Stopped NoSentenceFits number (paidOf g)) m
+    pub apply-nothing : chosenNone ≡ Chosen → Applies words allowance number g m (Stopped (paidOf g) NoSentenceFits number) m
     apply-nothing e r = stopping words allowance g m m r _ _ NoSentenceFits number (paidOf g) (omega arith) (paying chosenNone e) refl refl refl refl refl
 
-    pub apply-wrong : chosenWrong ≡ Chosen → Applies words allowance number g m (Stopped NoInstruction 0 (paidOf g)) m
+    pub apply-wrong : chosenWrong ≡ Chosen → Applies words allowance number g m (Stopped (paidOf g) NoInstruction 0) m
     apply-wrong e r = stopping words allowance g m m r _ _ NoInstruction 0 (paidOf g) (omega arith) (paying chosenWrong e) refl refl refl refl refl
 
     ready-paid : Ready allowance g m → Ready allowance (paidOf g) m
@@ -153,7 +153,7 @@ module _ (words : Words) (allowance number : ℕ) (g : Registers) (m : Memory) w
   calling true = tailCall number
   calling false = call number
 
-  pub undeclared : (tail : Bool) → isDeclared (functionsIn words) number ≡ false → Performs words allowance (calling tail) (g .at .0) g m (Stopped NoInstruction 0 g) m
+  pub undeclared : (tail : Bool) → isDeclared (functionsIn words) number ≡ false → Performs words allowance (calling tail) (g .at .0) g m (Stopped g NoInstruction 0) m
   undeclared tail e u = stopping words allowance g m m (u .ready) _ _ NoInstruction 0 g (omega arith) (stops tail) refl refl refl refl refl
     where
       stops : (tail : Bool) →
@@ -164,12 +164,12 @@ module _ (words : Words) (allowance number : ℕ) (g : Registers) (m : Memory) w
       stops false = rw e
 
   module _ (declared : isDeclared (functionsIn words) number ≡ true) where
-    pub call-spent : allowance ≤ g .steps → Performs words allowance (call number) (g .at .0) g m (Stopped AllowanceSpent 0 g) m
+    pub call-spent : allowance ≤ g .steps → Performs words allowance (call number) (g .at .0) g m (Stopped g AllowanceSpent 0) m
     call-spent h u =
         let e : allowance - g .steps ≡ 0 = omega arith in
         stopping words allowance g m m (u .ready) _ _ AllowanceSpent 0 g (omega arith) (rw (declared, e)) refl refl refl refl refl
 
-    pub call-full : g .steps < allowance → 255 ≤ g .frame → Performs words allowance (call number) (g .at .0) g m (Stopped FramesFull 0 g) m
+    pub call-full : g .steps < allowance → 255 ≤ g .frame → Performs words allowance (call number) (g .at .0) g m (Stopped g FramesFull 0) m
     call-full h l u =
         let one : allowance - g .steps ≡ suc (allowance - suc (g .steps)) = omega arith in
         stopping words allowance g m m (u .ready) _ _ FramesFull 0 g (omega arith)

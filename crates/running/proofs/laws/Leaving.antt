@@ -68,7 +68,7 @@ module _ (bytes : Bytes) (start : ℕ) (within : start ≤ length bytes) where
 pub reported-within : (allowance : ℕ) (last : Next) (m : Memory) → IsOver last → Keeps allowance last m → reportedOf last .text ≤ length (m .output)
 reported-within allowance (Onward g) m o k = absurd o
 reported-within allowance (Done g) m o k = k .below
-reported-within allowance (Stopped ending function g) m o k = omega arith
+reported-within allowance (Stopped g ending function) m o k = omega arith
 
 module _ (room : Room) (allowance : ℕ) (words : Words) (m : Memory) where
   tells-end : (last : Next) → IsOver last → Keeps allowance last m → Tells (reportedOf last) (resultOf (textOf (comesTo room allowance words last m)))
@@ -81,7 +81,7 @@ module _ (room : Room) (allowance : ℕ) (words : Words) (m : Memory) where
         text = sym (length-take-le (g .r .0) (m .output) (k .below));
         emissions = sym (length-take-le (g .emitted) (m .journal) (k .logged));
       }
-  tells-end (Stopped ending function g) o k =
+  tells-end (Stopped g ending function) o k =
       record {
         answer = refl;
         function = refl;
@@ -106,7 +106,7 @@ module _ (room : Room) (allowance : ℕ) (words : Words) (m : Memory) where
         ap (λ r. r .inCells) e,
         ap (λ r. r .outCells) e,
       )
-  cells-end (Stopped ending function g) before o k e beyond =
+  cells-end (Stopped g ending function) before o k e beyond =
       rw (
         length-take-le (g .emitted) (m .journal) (k .logged),
         ← beyond,

@@ -30,7 +30,7 @@ further : (a b : Bytes) (i n : ℕ) → drop i a ≡ drop i b → drop (i + n) a
 further a b i n e = sym (drop-drop n i a) ∙ rw e (drop-drop n i b)
 
 module _ (g : Registers) (m : Memory) (words : Words) (n : ℕ) where
-  pub emission-wrong : isName n (drop (g .at .0) words) ≡ false → Acts (emissionOf n (drop (g .at .0) words)) (g .at .0 + n) g m (Stopped NoInstruction 0 g) m
+  pub emission-wrong : isName n (drop (g .at .0) words) ≡ false → Acts (emissionOf n (drop (g .at .0) words)) (g .at .0 + n) g m (Stopped g NoInstruction 0) m
   emission-wrong e = stops g m _ _ NoInstruction (λ allowance code enter k. rw e)
 
   module _ (p≤q : g .p .0 ≤ g .q .0) (q≤in : g .q .0 ≤ length (m .input)) (logged : g .emitted ≤ length (m .journal))
@@ -50,7 +50,7 @@ module _ (g : Registers) (m : Memory) (words : Words) (n : ℕ) where
           part-long (m .input) (g .p .0) (g .q .0) q≤in,
         )
 
-    pub emission-full : length (m .journal) - g .emitted < size → Acts (emissionOf n (drop (g .at .0) words)) (g .at .0 + n) g m (Stopped JournalFull 0 g) m
+    pub emission-full : length (m .journal) - g .emitted < size → Acts (emissionOf n (drop (g .at .0) words)) (g .at .0 + n) g m (Stopped g JournalFull 0) m
     emission-full h =
         let full : length (m .journal) < g .emitted + size = omega arith in
         stops g m _ _ JournalFull (λ allowance code enter k.

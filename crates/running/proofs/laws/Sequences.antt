@@ -67,7 +67,7 @@ module _ (g : Registers) (m : Memory) (framed : g .frame < 256) (room : length (
   abbrev pub afterBegin : List ℕ
   afterBegin = set (set (m .frames) (24 * g .frame + (23 - count)) (g .r .0)) (24 * g .frame + 4) (count + 1)
 
-  pub begin-many : count ≤ 16 → 16 ≤ count → Acts beginSequence (g .at .0) g m (Stopped NoInstruction 0 g) m
+  pub begin-many : count ≤ 16 → 16 ≤ count → Acts beginSequence (g .at .0) g m (Stopped g NoInstruction 0) m
   begin-many few h =
       stops g m _ _ NoInstruction (λ allowance code enter k. rw (opened-count (m .frames) (g .frame) framed room count (omega arith), le-ltb count 16 h))
 
@@ -113,10 +113,10 @@ module _ (g : Registers) (m : Memory) (framed : g .frame < 256) (room : length (
     abbrev pub mark : ℕ
     mark = frameWord (g .frame) (24 - count) (m .frames)
 
-    pub use-none : count ≡ 0 → Acts useSequence (g .at .0) g m (Stopped NoInstruction 0 g) m
+    pub use-none : count ≡ 0 → Acts useSequence (g .at .0) g m (Stopped g NoInstruction 0) m
     use-none e = stops g m _ _ NoInstruction (λ allowance code enter k. rw (e, opened-none (m .frames) (g .frame) framed room))
 
-    pub use-full : (count ≡ 0 → ⊥) → g .p .0 < g .r .0 - min mark (g .r .0) → Acts useSequence (g .at .0) g m (Stopped InFull 0 g) m
+    pub use-full : (count ≡ 0 → ⊥) → g .p .0 < g .r .0 - min mark (g .r .0) → Acts useSequence (g .at .0) g m (Stopped g InFull 0) m
     use-full ne h =
         let full : length (m .input) < (g .r .0 - mark) + (length (m .input) - g .p .0) = omega arith in
         stops g m _ _ InFull (λ allowance code enter k.

@@ -15,7 +15,7 @@ use Rattle.running.specs.Advancing.{registersIn, statusIn, nextOf, onwar
 parts-join : (r : Next) → nextOf (statusIn r) (registersIn r) ≡ r
 parts-join (Onward g) = refl
 parts-join (Done g) = refl
-parts-join (Stopped ending function g) = refl
+parts-join (Stopped g ending function) = refl
 
 pub rejoined : (r : Next) (x : Status) (g : Registers) → g ≡ registersIn r → x ≡ statusIn r → nextOf x g ≡ r
 rejoined r x g new how = ap (λ (y : Status). nextOf y g) how ∙ ap (nextOf (statusIn r)) new ∙ parts-join r

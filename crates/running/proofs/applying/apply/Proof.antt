@@ -8,8 +8,8 @@ use Rattle.running.proofs.applying.apply.Tie as tie
 returns : tie.Need-returns
 returns c = let a = c .before .before .before .before .before .args in λ output journal. apply-spent (a .code .now) (a .allowance) (a .number) (a .g) (memory (a .input .now) output journal (a .frames .now) (a .values .now)) (c .if1 .taken)
 
-add-paid : tie.Need-add-paid
-add-paid c = search needs
+add-wide : tie.Need-add-wide
+add-wide c = search needs
 
 mul-wide : tie.Need-mul-wide
 mul-wide c = search needs
@@ -36,7 +36,7 @@ enum-known-place : tie.Need-enum-known-place
 enum-known-place c = search needs
 
 start-sentence-requires : tie.Need-start-sentence-requires
-start-sentence-requires c κs = let pre = c .before .before .before .before .before .before .before .before .before .before .before .before .before .before .before .pre in let few = rw (c .before .before .before .place .given .1) at (c .before .before .before .before .before .choose .ensures .few) in (pre .1 .1 .1 .1 .0, (pre .1 .1 .1 .1 .1 .0, (pre .1 .1 .1 .1 .1 .1 .0, (pre .1 .1 .1 .1 .1 .1 .1 .0, (pre .1 .1 .1 .1 .1 .1 .1 .1, few)))))
+start-sentence-requires c κs = let pre = c .before .before .before .before .before .before .before .before .before .before .before .before .before .before .before .before .before .before .before .pre in let few = rw (c .before .before .before .place .given .1) at (c .before .before .before .before .before .choose .ensures .few) in (pre .1 .1 .1 .1 .0, (pre .1 .1 .1 .1 .1 .0, (pre .1 .1 .1 .1 .1 .1 .0, (pre .1 .1 .1 .1 .1 .1 .1 .0, (pre .1 .1 .1 .1 .1 .1 .1 .1, few)))))
 
 enum-told : tie.Need-enum-told
 enum-told c = search needs
@@ -51,20 +51,20 @@ same-length-2 : tie.Need-same-length-2
 same-length-2 c = search needs
 
 returns-2 : tie.Need-returns-2
-returns-2 c = let a = c .before .before .before .before .before .before .before .before .before .before .before .before .before .before .before .before .before .before .before .before .args in let pre = c .before .before .before .before .before .before .before .before .before .before .before .before .before .before .before .before .before .before .before .before .pre in λ output journal. let v = c .before .before .before .before .before .before .before .before .place .given .0 in let chosen = rw (c .before .before .before .before .before .before .before .before .before .before .before .before .wide .ensures, c .before .before .before .before .before .before .before .before .place .given .1) at (c .before .before .before .before .before .before .before .before .before .before .choose .ensures) in apply-starts (a .code .now) (a .allowance) (a .number) (a .g) (memory (a .input .now) output journal (a .frames .now) (a .values .now)) (pre .1 .0) (pre .1 .1 .0) (pre .1 .1 .1 .0) (c .before .before .before .before .before .before .before .before .before .before .before .before .before .before .before .if1 .left) (v .0) (v .1 .0) (v .1 .1 .0 .0) (v .1 .1 .1 .0) _ _ (chosen .same) (c .before .before .before .before .start-sentence .ensures (a .allowance) output journal)
+returns-2 c = let a = c .before .before .before .before .before .before .before .before .before .before .before .before .before .before .before .before .before .before .before .before .before .before .before .before .args in let pre = c .before .before .before .before .before .before .before .before .before .before .before .before .before .before .before .before .before .before .before .before .before .before .before .before .pre in λ output journal. let v = c .before .before .before .before .before .before .before .before .place .given .0 in let chosen = rw (c .before .before .before .before .before .before .before .before .before .before .before .before .wide .ensures, c .before .before .before .before .before .before .before .before .place .given .1) at (c .before .before .before .before .before .before .before .before .before .before .choose .ensures) in apply-starts (a .code .now) (a .allowance) (a .number) (a .g) (memory (a .input .now) output journal (a .frames .now) (a .values .now)) (pre .1 .0) (pre .1 .1 .0) (pre .1 .1 .1 .0) (c .before .before .before .before .before .before .before .before .before .before .before .before .before .before .before .before .before .before .before .if1 .left) (v .0) (v .1 .0) (v .1 .1 .0 .0) (v .1 .1 .1 .0) _ _ (chosen .same) (c .before .before .before .before .start-sentence .ensures (a .allowance) output journal)
 
 returns-3 : tie.Need-returns-3
-returns-3 c = let a = c .before .before .before .before .before .before .before .before .before .before .before .before .args in let pre = c .before .before .before .before .before .before .before .before .before .before .before .before .pre in λ output journal. let chosen = rw (c .before .before .before .before .wide .ensures, c .enum-told .given .1) at (c .before .before .choose .ensures) in apply-nothing (a .code .now) (a .allowance) (a .number) (a .g) (memory (a .input .now) output journal (a .frames .now) (a .values .now)) (pre .1 .0) (pre .1 .1 .0) (pre .1 .1 .1 .0) (c .before .before .before .before .before .before .before .if1 .left) (chosen .same)
+returns-3 c = let a = c .before .before .before .before .before .before .before .before .before .before .before .before .before .before .before .before .args in let pre = c .before .before .before .before .before .before .before .before .before .before .before .before .before .before .before .before .pre in λ output journal. let chosen = rw (c .before .before .before .before .wide .ensures, c .enum-told .given .1) at (c .before .before .choose .ensures) in apply-nothing (a .code .now) (a .allowance) (a .number) (a .g) (memory (a .input .now) output journal (a .frames .now) (a .values .now)) (pre .1 .0) (pre .1 .1 .0) (pre .1 .1 .1 .0) (c .before .before .before .before .before .before .before .before .before .before .before .if1 .left) (chosen .same)
 
 returns-4 : tie.Need-returns-4
-returns-4 c = let a = c .before .before .before .before .before .before .before .before .before .before .before .before .args in let pre = c .before .before .before .before .before .before .before .before .before .before .before .before .pre in λ output journal. let chosen = rw (c .before .before .before .before .wide .ensures, c .enum-told2 .given .1) at (c .before .before .choose .ensures) in apply-wrong (a .code .now) (a .allowance) (a .number) (a .g) (memory (a .input .now) output journal (a .frames .now) (a .values .now)) (pre .1 .0) (pre .1 .1 .0) (pre .1 .1 .1 .0) (c .before .before .before .before .before .before .before .if1 .left) (chosen .same)
+returns-4 c = let a = c .before .before .before .before .before .before .before .before .before .before .before .before .before .before .before .before .args in let pre = c .before .before .before .before .before .before .before .before .before .before .before .before .before .before .before .before .pre in λ output journal. let chosen = rw (c .before .before .before .before .wide .ensures, c .enum-told2 .given .1) at (c .before .before .choose .ensures) in apply-wrong (a .code .now) (a .allowance) (a .number) (a .g) (memory (a .input .now) output journal (a .frames .now) (a .values .now)) (pre .1 .0) (pre .1 .1 .0) (pre .1 .1 .1 .0) (c .before .before .before .before .before .before .before .before .before .before .before .if1 .left) (chosen .same)
 
 pub apply-spec : {M : Type 1} → statement M
 apply-spec =
     tie.close
     (tie.spec
     returns
-    add-paid
+    add-wide
     mul-wide
     shared-slice-read-wide
     wide-requires

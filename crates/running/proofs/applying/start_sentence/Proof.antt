@@ -41,7 +41,7 @@ same-length-3 : tie.Need-same-length-3
 same-length-3 c = search needs
 
 returns-2 : tie.Need-returns-2
-returns-2 c = let a = c .before .before .before .before .before .before .before .before .before .before .before .before .before .before .before .before .before .args in λ allowance output journal. rw (c .before .before .before .begin-frame .ensures) (starts-right (a .code .now) allowance (a .place) (a .stores .0) (a .stored) (a .g) (a .input .now) output journal (a .frames .now) (a .values .now) (c .before .before .before .before .before .before .before .before .before .before .store-values .last .1 .1 .1 .1 .1 .0) (c .before .before .before .before .before .before .before .before .before .before .before .before .before .before .before .before .before .pre .1 .1 .1 .1 .1) (c .before .before .before .before .before .before .actions .given .0 .0) (c .before .before .before .before .before .before .before .before .before .before .store-values .kept .1 .1 .1 .1 .1 .0) (rw (c .before .before .before .before .before .before .actions .given .1) at (c .before .before .before .before .before .before .before .before .before .before .store-values .ensures)))
+returns-2 c = let a = c .before .before .before .before .before .before .before .before .before .before .before .before .before .before .before .before .before .before .before .args in λ allowance output journal. rw (c .before .before .before .before .before .begin-frame .ensures) (starts-right (a .code .now) allowance (a .place) (a .stores .0) (a .stored) (a .g) (a .input .now) output journal (a .frames .now) (a .values .now) (c .before .before .before .before .before .before .before .before .before .before .before .before .store-values .last .1 .1 .1 .1 .1 .0) (c .before .before .before .before .before .before .before .before .before .before .before .before .before .before .before .before .before .before .before .pre .1 .1 .1 .1 .1) (c .before .before .before .before .before .before .before .before .actions .given .0 .0) (c .before .before .before .before .before .before .before .before .before .before .before .before .store-values .kept .1 .1 .1 .1 .1 .0) (rw (c .before .before .before .before .before .before .before .before .actions .given .1) at (c .before .before .before .before .before .before .before .before .before .before .before .before .store-values .ensures)))
 
 pub start-sentence-spec : {M : Type 1} → statement M
 start-sentence-spec =

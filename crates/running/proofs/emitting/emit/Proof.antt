@@ -50,21 +50,21 @@ part-write-line-end c = search needs
 write-line-requires : tie.Need-write-line-requires
 write-line-requires c κs = (sym (c .before .before .before .before .named .ensures) ∙ not-false _ (c .before .before .before .if1 .left), simp (length-take, length-drop) (omega (arith, c .before .before .if2 .left, c .before .before .before .before .before .before .before .before .pre)))
 
-add-t17 : tie.Need-add-t17
-add-t17 c = search needs
+add-t15 : tie.Need-add-t15
+add-t15 c = search needs
 
-add-next : tie.Need-add-next
-add-next c = search needs
+add-t14 : tie.Need-add-t14
+add-t14 c = search needs
 
 same-length : tie.Need-same-length
 same-length c = search needs
 
 returns-3 : tie.Need-returns-3
-returns-3 c = let a = c .before .before .before .before .before .before .before .before .before .before .before .before .before .args in
-    let p = c .before .before .before .before .before .before .before .before .before .before .before .before .before .pre in
-    λ output values frames. rw (c .before .before .before .before .write-line .ensures, part-long (a .input .now) (a .g .p .0) (a .g .q .0) (p .1 .1 .0))
+returns-3 c = let a = c .before .before .before .before .before .before .before .before .before .before .before .before .before .before .before .args in
+    let p = c .before .before .before .before .before .before .before .before .before .before .before .before .before .before .before .pre in
+    λ output values frames. rw (c .before .before .before .before .before .before .write-line .ensures, part-long (a .input .now) (a .g .p .0) (a .g .q .0) (p .1 .1 .0))
     (emission-written (a .g) (memory (a .input .now) output (a .journal .now) frames values) (a .code .now) (a .size)
-    (p .1 .0) (p .1 .1 .0) (p .1 .1 .1) (sym (c .before .before .before .before .before .before .before .before .before .named .ensures) ∙ not-false _ (c .before .before .before .before .before .before .before .before .if1 .left)) (c .before .before .before .before .before .before .before .if2 .left))
+    (p .1 .0) (p .1 .1 .0) (p .1 .1 .1) (sym (c .before .before .before .before .before .before .before .before .before .before .before .named .ensures) ∙ not-false _ (c .before .before .before .before .before .before .before .before .before .before .if1 .left)) (c .before .before .before .before .before .before .before .before .before .if2 .left))
 
 pub emit-spec : {M : Type 1} → statement M
-emit-spec = tie.close (tie.spec named-requires returns sub-line add-line add-line-2 sub-if2 returns-2 sub-write-line part-write-line-start part-write-line-end write-line-requires add-t17 add-next same-length returns-3)
+emit-spec = tie.close (tie.spec named-requires returns sub-line add-line add-line-2 sub-if2 returns-2 sub-write-line part-write-line-start part-write-line-end write-line-requires add-t15 add-t14 same-length returns-3)

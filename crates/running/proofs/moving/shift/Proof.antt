@@ -46,18 +46,18 @@ returns-2 c = let a = c .before .before .before .before .before .before .before 
     (s .add) (s .back) (registerMeant (s .register)) (rw (c .enum-told2 .given .1) at (c .before .before .reach2 .ensures values)))
 
 returns-3 : tie.Need-returns-3
-returns-3 c = let a = c .before .before .before .before .before .before .before .before .before .args in
-    let s = c .before .before .before .before .before .what .given .0 .0 in
-    λ output journal values. rw (c .before .before .before .before .before .what .given .1)
-    (go-moved (a .g) (memory (a .input .now) output journal (a .frames .now) values) (c .before .before .before .before .before .before .before .before .before .pre .0) (c .before .before .before .before .before .before .before .before .before .pre .1 .0)
-    (s .add) (s .back) (registerMeant (s .register)) _ (rw (c .before .to .given .1) at (c .before .before .before .reach .ensures values)))
+returns-3 c = let a = c .before .before .before .before .before .before .before .before .before .before .before .args in
+    let s = c .before .before .before .before .before .before .before .what .given .0 .0 in
+    λ output journal values. rw (c .before .before .before .before .before .before .before .what .given .1)
+    (go-moved (a .g) (memory (a .input .now) output journal (a .frames .now) values) (c .before .before .before .before .before .before .before .before .before .before .before .pre .0) (c .before .before .before .before .before .before .before .before .before .before .before .pre .1 .0)
+    (s .add) (s .back) (registerMeant (s .register)) _ (rw (c .before .before .before .to .given .1) at (c .before .before .before .before .before .reach .ensures values)))
 
 returns-4 : tie.Need-returns-4
-returns-4 c = let a = c .before .before .before .before .before .before .before .before .before .args in
-    let s = c .before .before .before .before .before .what2 .given .0 .0 in
-    λ output journal values. rw (c .before .before .before .before .before .what2 .given .1)
-    (select-moved (a .g) (memory (a .input .now) output journal (a .frames .now) values) (c .before .before .before .before .before .before .before .before .before .pre .0) (c .before .before .before .before .before .before .before .before .before .pre .1 .0)
-    (s .add) (s .back) (registerMeant (s .register)) _ (rw (c .before .to2 .given .1) at (c .before .before .before .reach2 .ensures values)))
+returns-4 c = let a = c .before .before .before .before .before .before .before .before .before .before .before .before .args in
+    let s = c .before .before .before .before .before .before .before .before .what2 .given .0 .0 in
+    λ output journal values. rw (c .before .before .before .before .before .before .before .before .what2 .given .1)
+    (select-moved (a .g) (memory (a .input .now) output journal (a .frames .now) values) (c .before .before .before .before .before .before .before .before .before .before .before .before .pre .0) (c .before .before .before .before .before .before .before .before .before .before .before .before .pre .1 .0)
+    (s .add) (s .back) (registerMeant (s .register)) _ (rw (c .before .before .before .before .to2 .given .1) at (c .before .before .before .before .before .before .reach2 .ensures values)))
 
 pub shift-spec : {M : Type 1} → statement M
 shift-spec = tie.close (tie.spec enum-known-what reach-requires enum-known-to enum-told returns enum-known-what-2 reach-requires-2 enum-known-to-2 enum-told-2 returns-2 returns-3 returns-4)

@@ -27,20 +27,20 @@ part-copy-over-end c = search needs
 copy-over-requires : tie.Need-copy-over-requires
 copy-over-requires c κs = search needs
 
-sub-t11 : tie.Need-sub-t11
-sub-t11 c = search needs
+sub-t9 : tie.Need-sub-t9
+sub-t9 c = search needs
 
-add-t10 : tie.Need-add-t10
-add-t10 c = search needs
+add-t8 : tie.Need-add-t8
+add-t8 c = search needs
 
 same-length : tie.Need-same-length
 same-length c = search needs
 
 returns-2 : tie.Need-returns-2
-returns-2 c = let a = c .before .before .before .before .before .before .before .before .before .args in
-    let p = c .before .before .before .before .before .before .before .before .before .pre in
-    λ journal values frames. rw (c .before .before .before .copy-over .ensures)
-    (part-written (a .g) (memory (a .input .now) (a .output .now) journal frames values) (p .1 .1) (p .0) (p .1 .0) (c .before .before .before .before .before .before .if1 .left))
+returns-2 c = let a = c .before .before .before .before .before .before .before .before .before .before .before .args in
+    let p = c .before .before .before .before .before .before .before .before .before .before .before .pre in
+    λ journal values frames. rw (c .before .before .before .before .before .copy-over .ensures)
+    (part-written (a .g) (memory (a .input .now) (a .output .now) journal frames values) (p .1 .1) (p .0) (p .1 .0) (c .before .before .before .before .before .before .before .before .if1 .left))
 
 pub write-part-spec : {M : Type 1} → statement M
-write-part-spec = tie.close (tie.spec sub-if1 sub-if1-2 returns sub-copy-over part-copy-over-start part-copy-over-end copy-over-requires sub-t11 add-t10 same-length returns-2)
+write-part-spec = tie.close (tie.spec sub-if1 sub-if1-2 returns sub-copy-over part-copy-over-start part-copy-over-end copy-over-requires sub-t9 add-t8 same-length returns-2)

@@ -55,19 +55,19 @@ enum-known-number : tie.Need-enum-known-number
 enum-known-number c = search needs
 
 call-requires : tie.Need-call-requires
-call-requires c κs = let pre = c .before .before .before .before .before .before .before .before .before .before .before .before .before .before .before .pre in let r = pre .1 .1 .ready in (pre .0, (pre .1 .0, (r .ordered, (r .inside, (r .framed, (r .frameRoom, r .valueRoom))))))
+call-requires c κs = let pre = c .before .before .before .before .before .before .before .before .before .before .before .before .before .before .before .before .before .before .pre in let r = pre .1 .1 .ready in (pre .0, (pre .1 .0, (r .ordered, (r .inside, (r .framed, (r .frameRoom, r .valueRoom))))))
 
 enum-known-number-2 : tie.Need-enum-known-number-2
 enum-known-number-2 c = search needs
 
 tail-call-requires : tie.Need-tail-call-requires
-tail-call-requires c κs = let pre = c .before .before .before .before .before .before .before .before .before .before .before .before .before .before .before .pre in let r = pre .1 .1 .ready in (pre .0, (pre .1 .0, (r .ordered, (r .inside, (r .framed, (r .frameRoom, r .valueRoom))))))
+tail-call-requires c κs = let pre = c .before .before .before .before .before .before .before .before .before .before .before .before .before .before .before .before .before .before .pre in let r = pre .1 .1 .ready in (pre .0, (pre .1 .0, (r .ordered, (r .inside, (r .framed, (r .frameRoom, r .valueRoom))))))
 
 enum-known-length : tie.Need-enum-known-length
 enum-known-length c = search needs
 
 emit-requires : tie.Need-emit-requires
-emit-requires c κs = let r = c .before .before .before .before .before .before .before .before .before .before .before .before .before .before .pre .1 .1 .ready in (omega (arith, c .before .before .before .before .before .before .before .if1 .left), (r .ordered, (r .inside, r .logged)))
+emit-requires c κs = let r = c .before .before .before .before .before .before .before .before .before .before .before .before .before .before .before .before .before .pre .1 .1 .ready in (omega (arith, c .before .before .before .before .before .before .before .before .before .before .if1 .left), (r .ordered, (r .inside, r .logged)))
 
 enum-told-3 : tie.Need-enum-told-3
 enum-told-3 c = search needs
@@ -85,7 +85,7 @@ same-length-2 : tie.Need-same-length-2
 same-length-2 c = search needs
 
 returns-2 : tie.Need-returns-2
-returns-2 c = let a = c .before .before .before .before .before .before .before .before .before .before .before .before .before .before .before .args in let u = c .before .before .before .before .before .before .before .before .before .before .before .before .before .before .before .pre .1 .1 in advance-acts (a .code .now) (a .allowance) (a .g) (memory (a .input .now) (a .output .now) (a .journal .now) (a .frames .now) (a .values .now)) _ (a .g .at .0 + 1) _ _ (c .before .before .before .before .before .before .before .before .if1 .left) u (actions-at (a .code .now) (a .g .at .0) (Shifts (c .before .before .before .before .what .given .0 .0)) (rw (c .before .before .before .before .what .given .1) at (c .before .before .before .before .before .before .decode .ensures)) (c .before .before .before .before .before .before .before .before .if1 .left)) refl (omega arith) (c .shift .ensures (a .output .now) (a .journal .now) (a .values .now))
+returns-2 c = let a = c .before .before .before .before .before .before .before .before .before .before .before .before .before .before .before .before .before .before .args in let u = c .before .before .before .before .before .before .before .before .before .before .before .before .before .before .before .before .before .before .pre .1 .1 in advance-acts (a .code .now) (a .allowance) (a .g) (memory (a .input .now) (a .output .now) (a .journal .now) (a .frames .now) (a .values .now)) _ (a .g .at .0 + 1) _ _ (c .before .before .before .before .before .before .before .before .before .before .before .if1 .left) u (actions-at (a .code .now) (a .g .at .0) (Shifts (c .before .before .before .before .what .given .0 .0)) (rw (c .before .before .before .before .what .given .1) at (c .before .before .before .before .before .before .decode .ensures)) (c .before .before .before .before .before .before .before .before .before .before .before .if1 .left)) refl (omega arith) (c .shift .ensures (a .output .now) (a .journal .now) (a .values .now))
 
 same-length-3 : tie.Need-same-length-3
 same-length-3 c = search needs
@@ -100,13 +100,13 @@ same-length-6 : tie.Need-same-length-6
 same-length-6 c = search needs
 
 returns-3 : tie.Need-returns-3
-returns-3 c = let a = c .before .before .before .before .before .before .before .before .before .before .before .before .before .before .before .before .before .before .before .args in let u = c .before .before .before .before .before .before .before .before .before .before .before .before .before .before .before .before .before .before .before .pre .1 .1 in advance-acts (a .code .now) (a .allowance) (a .g) (memory (a .input .now) (a .output .now) (a .journal .now) (a .frames .now) (a .values .now)) _ (a .g .at .0 + 1) _ _ (c .before .before .before .before .before .before .before .before .before .before .before .before .if1 .left) u (actions-at (a .code .now) (a .g .at .0) (Writes (c .before .before .before .before .before .before .before .before .what2 .given .0 .0)) (rw (c .before .before .before .before .before .before .before .before .what2 .given .1) at (c .before .before .before .before .before .before .before .before .before .before .decode .ensures)) (c .before .before .before .before .before .before .before .before .before .before .before .before .if1 .left)) (rw (c .before .before .write .kept .1 .1 .1 .0)) (omega arith) (c .before .before .write .ensures (a .journal .now))
+returns-3 c = let a = c .before .before .before .before .before .before .before .before .before .before .before .before .before .before .before .before .before .before .before .before .before .before .args in let u = c .before .before .before .before .before .before .before .before .before .before .before .before .before .before .before .before .before .before .before .before .before .before .pre .1 .1 in advance-acts (a .code .now) (a .allowance) (a .g) (memory (a .input .now) (a .output .now) (a .journal .now) (a .frames .now) (a .values .now)) _ (a .g .at .0 + 1) _ _ (c .before .before .before .before .before .before .before .before .before .before .before .before .before .before .before .if1 .left) u (actions-at (a .code .now) (a .g .at .0) (Writes (c .before .before .before .before .before .before .before .before .what2 .given .0 .0)) (rw (c .before .before .before .before .before .before .before .before .what2 .given .1) at (c .before .before .before .before .before .before .before .before .before .before .decode .ensures)) (c .before .before .before .before .before .before .before .before .before .before .before .before .before .before .before .if1 .left)) (rw (c .before .before .write .kept .1 .1 .1 .0)) (omega arith) (c .before .before .write .ensures (a .journal .now))
 
 same-length-7 : tie.Need-same-length-7
 same-length-7 c = search needs
 
 returns-4 : tie.Need-returns-4
-returns-4 c = let a = c .before .before .before .before .before .before .before .before .before .before .before .before .before .before .before .args in let u = c .before .before .before .before .before .before .before .before .before .before .before .before .before .before .before .pre .1 .1 in advance-acts (a .code .now) (a .allowance) (a .g) (memory (a .input .now) (a .output .now) (a .journal .now) (a .frames .now) (a .values .now)) _ (a .g .at .0 + 1) _ _ (c .before .before .before .before .before .before .before .before .if1 .left) u (actions-at (a .code .now) (a .g .at .0) Begin (rw (c .before .before .before .before .enum-told .given .1) at (c .before .before .before .before .before .before .decode .ensures)) (c .before .before .before .before .before .before .before .before .if1 .left)) refl (omega arith) (c .before .before .begin-sequence .ensures (a .input .now) (a .output .now) (a .journal .now) (a .values .now) (u .ready .below))
+returns-4 c = let a = c .before .before .before .before .before .before .before .before .before .before .before .before .before .before .before .before .before .before .args in let u = c .before .before .before .before .before .before .before .before .before .before .before .before .before .before .before .before .before .before .pre .1 .1 in advance-acts (a .code .now) (a .allowance) (a .g) (memory (a .input .now) (a .output .now) (a .journal .now) (a .frames .now) (a .values .now)) _ (a .g .at .0 + 1) _ _ (c .before .before .before .before .before .before .before .before .before .before .before .if1 .left) u (actions-at (a .code .now) (a .g .at .0) Begin (rw (c .before .before .before .before .enum-told .given .1) at (c .before .before .before .before .before .before .decode .ensures)) (c .before .before .before .before .before .before .before .before .before .before .before .if1 .left)) refl (omega arith) (c .before .before .begin-sequence .ensures (a .input .now) (a .output .now) (a .journal .now) (a .values .now) (u .ready .below))
 
 same-length-8 : tie.Need-same-length-8
 same-length-8 c = search needs
@@ -118,7 +118,7 @@ same-length-10 : tie.Need-same-length-10
 same-length-10 c = search needs
 
 returns-5 : tie.Need-returns-5
-returns-5 c = let a = c .before .before .before .before .before .before .before .before .before .before .before .before .before .before .before .before .before .before .before .args in let u = c .before .before .before .before .before .before .before .before .before .before .before .before .before .before .before .before .before .before .before .pre .1 .1 in advance-acts (a .code .now) (a .allowance) (a .g) (memory (a .input .now) (a .output .now) (a .journal .now) (a .frames .now) (a .values .now)) _ (a .g .at .0 + 1) _ _ (c .before .before .before .before .before .before .before .before .before .before .before .before .if1 .left) u (actions-at (a .code .now) (a .g .at .0) Use (rw (c .before .before .before .before .before .before .before .before .enum-told2 .given .1) at (c .before .before .before .before .before .before .before .before .before .before .decode .ensures)) (c .before .before .before .before .before .before .before .before .before .before .before .before .if1 .left)) (rw (c .before .before .before .before .use-sequence .kept .1 .0)) (omega arith) (c .before .before .before .before .use-sequence .ensures (a .journal .now) (a .values .now))
+returns-5 c = let a = c .before .before .before .before .before .before .before .before .before .before .before .before .before .before .before .before .before .before .before .before .before .before .args in let u = c .before .before .before .before .before .before .before .before .before .before .before .before .before .before .before .before .before .before .before .before .before .before .pre .1 .1 in advance-acts (a .code .now) (a .allowance) (a .g) (memory (a .input .now) (a .output .now) (a .journal .now) (a .frames .now) (a .values .now)) _ (a .g .at .0 + 1) _ _ (c .before .before .before .before .before .before .before .before .before .before .before .before .before .before .before .if1 .left) u (actions-at (a .code .now) (a .g .at .0) Use (rw (c .before .before .before .before .before .before .before .before .enum-told2 .given .1) at (c .before .before .before .before .before .before .before .before .before .before .decode .ensures)) (c .before .before .before .before .before .before .before .before .before .before .before .before .before .before .before .if1 .left)) (rw (c .before .before .before .before .use-sequence .kept .1 .0)) (omega arith) (c .before .before .before .before .use-sequence .ensures (a .journal .now) (a .values .now))
 
 same-length-11 : tie.Need-same-length-11
 same-length-11 c = search needs
@@ -130,7 +130,7 @@ same-length-13 : tie.Need-same-length-13
 same-length-13 c = search needs
 
 returns-6 : tie.Need-returns-6
-returns-6 c = let a = c .before .before .before .before .before .before .before .before .before .before .before .before .before .before .before .before .before .before .before .before .args in let u = c .before .before .before .before .before .before .before .before .before .before .before .before .before .before .before .before .before .before .before .before .pre .1 .1 in advance-does (a .code .now) (a .allowance) (a .g) (memory (a .input .now) (a .output .now) (a .journal .now) (a .frames .now) (a .values .now)) (call (c .before .before .before .before .before .before .before .before .before .number .given .0 .0)) (a .g .at .0 + 1) _ _ (c .before .before .before .before .before .before .before .before .before .before .before .before .before .if1 .left) u (actions-at (a .code .now) (a .g .at .0) (Call (c .before .before .before .before .before .before .before .before .before .number .given .0 .0)) (rw (c .before .before .before .before .before .before .before .before .before .number .given .1) at (c .before .before .before .before .before .before .before .before .before .before .before .decode .ensures)) (c .before .before .before .before .before .before .before .before .before .before .before .before .before .if1 .left)) (c .before .before .before .before .call .ensures (a .output .now) (a .journal .now))
+returns-6 c = let a = c .before .before .before .before .before .before .before .before .before .before .before .before .before .before .before .before .before .before .before .before .before .before .before .args in let u = c .before .before .before .before .before .before .before .before .before .before .before .before .before .before .before .before .before .before .before .before .before .before .before .pre .1 .1 in advance-does (a .code .now) (a .allowance) (a .g) (memory (a .input .now) (a .output .now) (a .journal .now) (a .frames .now) (a .values .now)) (call (c .before .before .before .before .before .before .before .before .before .number .given .0 .0)) (a .g .at .0 + 1) _ _ (c .before .before .before .before .before .before .before .before .before .before .before .before .before .before .before .before .if1 .left) u (actions-at (a .code .now) (a .g .at .0) (Call (c .before .before .before .before .before .before .before .before .before .number .given .0 .0)) (rw (c .before .before .before .before .before .before .before .before .before .number .given .1) at (c .before .before .before .before .before .before .before .before .before .before .before .decode .ensures)) (c .before .before .before .before .before .before .before .before .before .before .before .before .before .before .before .before .if1 .left)) (c .before .before .before .before .call .ensures (a .output .now) (a .journal .now))
 
 same-length-14 : tie.Need-same-length-14
 same-length-14 c = search needs
@@ -142,7 +142,7 @@ same-length-16 : tie.Need-same-length-16
 same-length-16 c = search needs
 
 returns-7 : tie.Need-returns-7
-returns-7 c = let a = c .before .before .before .before .before .before .before .before .before .before .before .before .before .before .before .before .before .before .before .before .args in let u = c .before .before .before .before .before .before .before .before .before .before .before .before .before .before .before .before .before .before .before .before .pre .1 .1 in advance-does (a .code .now) (a .allowance) (a .g) (memory (a .input .now) (a .output .now) (a .journal .now) (a .frames .now) (a .values .now)) (tailCall (c .before .before .before .before .before .before .before .before .before .number2 .given .0 .0)) (a .g .at .0 + 1) _ _ (c .before .before .before .before .before .before .before .before .before .before .before .before .before .if1 .left) u (actions-at (a .code .now) (a .g .at .0) (TailCall (c .before .before .before .before .before .before .before .before .before .number2 .given .0 .0)) (rw (c .before .before .before .before .before .before .before .before .before .number2 .given .1) at (c .before .before .before .before .before .before .before .before .before .before .before .decode .ensures)) (c .before .before .before .before .before .before .before .before .before .before .before .before .before .if1 .left)) (c .before .before .before .before .tail-call .ensures (a .output .now) (a .journal .now))
+returns-7 c = let a = c .before .before .before .before .before .before .before .before .before .before .before .before .before .before .before .before .before .before .before .before .before .before .before .args in let u = c .before .before .before .before .before .before .before .before .before .before .before .before .before .before .before .before .before .before .before .before .before .before .before .pre .1 .1 in advance-does (a .code .now) (a .allowance) (a .g) (memory (a .input .now) (a .output .now) (a .journal .now) (a .frames .now) (a .values .now)) (tailCall (c .before .before .before .before .before .before .before .before .before .number2 .given .0 .0)) (a .g .at .0 + 1) _ _ (c .before .before .before .before .before .before .before .before .before .before .before .before .before .before .before .before .if1 .left) u (actions-at (a .code .now) (a .g .at .0) (TailCall (c .before .before .before .before .before .before .before .before .before .number2 .given .0 .0)) (rw (c .before .before .before .before .before .before .before .before .before .number2 .given .1) at (c .before .before .before .before .before .before .before .before .before .before .before .decode .ensures)) (c .before .before .before .before .before .before .before .before .before .before .before .before .before .before .before .before .if1 .left)) (c .before .before .before .before .tail-call .ensures (a .output .now) (a .journal .now))
 
 same-length-17 : tie.Need-same-length-17
 same-length-17 c = search needs
@@ -151,16 +151,16 @@ same-length-18 : tie.Need-same-length-18
 same-length-18 c = search needs
 
 returns-8 : tie.Need-returns-8
-returns-8 c = let a = c .before .before .before .before .before .before .before .before .before .before .before .before .before .before .before .before .before .args in let u = c .before .before .before .before .before .before .before .before .before .before .before .before .before .before .before .before .before .pre .1 .1 in let size = c .before .before .before .before .before .before .length .given .0 .0 in advance-acts (a .code .now) (a .allowance) (a .g) (memory (a .input .now) (a .output .now) (a .journal .now) (a .frames .now) (a .values .now)) _ (a .g .at .0 + 1 + size) _ _ (c .before .before .before .before .before .before .before .before .before .before .if1 .left) u (rw (actions-named (a .code .now) (a .g .at .0 + 1) size) at (actions-at (a .code .now) (a .g .at .0) (Emit size) (rw (c .before .before .before .before .before .before .length .given .1) at (c .before .before .before .before .before .before .before .before .decode .ensures)) (c .before .before .before .before .before .before .before .before .before .before .if1 .left))) (rw (c .before .before .emit .kept .1 .1 .1 .1 .0)) (omega arith) (c .before .before .emit .ensures (a .output .now) (a .values .now) (a .frames .now))
+returns-8 c = let a = c .before .before .before .before .before .before .before .before .before .before .before .before .before .before .before .before .before .before .before .before .args in let u = c .before .before .before .before .before .before .before .before .before .before .before .before .before .before .before .before .before .before .before .before .pre .1 .1 in let size = c .before .before .before .before .before .before .length .given .0 .0 in advance-acts (a .code .now) (a .allowance) (a .g) (memory (a .input .now) (a .output .now) (a .journal .now) (a .frames .now) (a .values .now)) _ (a .g .at .0 + 1 + size) _ _ (c .before .before .before .before .before .before .before .before .before .before .before .before .before .if1 .left) u (rw (actions-named (a .code .now) (a .g .at .0 + 1) size) at (actions-at (a .code .now) (a .g .at .0) (Emit size) (rw (c .before .before .before .before .before .before .length .given .1) at (c .before .before .before .before .before .before .before .before .decode .ensures)) (c .before .before .before .before .before .before .before .before .before .before .before .before .before .if1 .left))) (rw (c .before .before .emit .kept .1 .1 .1 .1 .0)) (omega arith) (c .before .before .emit .ensures (a .output .now) (a .values .now) (a .frames .now))
 
 same-length-19 : tie.Need-same-length-19
 same-length-19 c = search needs
 
 returns-9 : tie.Need-returns-9
-returns-9 c = let a = c .before .before .before .before .before .before .before .before .before .before .before .before .before .args in let u = c .before .before .before .before .before .before .before .before .before .before .before .before .before .pre .1 .1 in rw (c .leave .ensures) (advance-leaves (a .code .now) (a .allowance) (a .g) (memory (a .input .now) (a .output .now) (a .journal .now) (a .frames .now) (a .values .now)) (c .before .before .before .before .before .before .if1 .left) u (actions-at (a .code .now) (a .g .at .0) End (rw (c .before .before .enum-told3 .given .1) at (c .before .before .before .before .decode .ensures)) (c .before .before .before .before .before .before .if1 .left)))
+returns-9 c = let a = c .before .before .before .before .before .before .before .before .before .before .before .before .before .before .before .before .args in let u = c .before .before .before .before .before .before .before .before .before .before .before .before .before .before .before .before .pre .1 .1 in rw (c .leave .ensures) (advance-leaves (a .code .now) (a .allowance) (a .g) (memory (a .input .now) (a .output .now) (a .journal .now) (a .frames .now) (a .values .now)) (c .before .before .before .before .before .before .before .before .before .if1 .left) u (actions-at (a .code .now) (a .g .at .0) End (rw (c .before .before .enum-told3 .given .1) at (c .before .before .before .before .decode .ensures)) (c .before .before .before .before .before .before .before .before .before .if1 .left)))
 
 returns-10 : tie.Need-returns-10
-returns-10 c = let a = c .before .before .before .before .before .before .before .before .before .before .before .args in let u = c .before .before .before .before .before .before .before .before .before .before .before .pre .1 .1 in advance-unknown (a .code .now) (a .allowance) (a .g) (memory (a .input .now) (a .output .now) (a .journal .now) (a .frames .now) (a .values .now)) _ u (actions-at (a .code .now) (a .g .at .0) Unknown (rw (c .enum-told4 .given .1) at (c .before .before .decode .ensures)) (c .before .before .before .before .if1 .left)) (stepped (a .g)) refl refl refl
+returns-10 c = let a = c .before .before .before .before .before .before .before .before .before .before .before .before .before .before .args in let u = c .before .before .before .before .before .before .before .before .before .before .before .before .before .before .pre .1 .1 in advance-unknown (a .code .now) (a .allowance) (a .g) (memory (a .input .now) (a .output .now) (a .journal .now) (a .frames .now) (a .values .now)) _ u (actions-at (a .code .now) (a .g .at .0) Unknown (rw (c .enum-told4 .given .1) at (c .before .before .decode .ensures)) (c .before .before .before .before .before .before .before .if1 .left)) (stepped (a .g)) refl refl refl
 
 pub advance-spec : {M : Type 1} → statement M
 advance-spec =
