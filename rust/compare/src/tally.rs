@@ -39,15 +39,15 @@ impl Tally {
         };
         self.failed += 1;
         if self.failed <= PRINTED {
-            subject.print();
+            subject.print(self.count());
             println!("{difference}\n");
         }
     }
 }
 
 impl Subject<'_> {
-    fn print(&self) {
-        println!("DIFFERENCE in {}", self.origin);
+    fn print(&self, number: u64) {
+        println!("DIFFERENCE in case {number}, {}", self.origin);
         println!("table ({} bytes): {}", self.table.len(), escape(self.table));
         if let Some(lending) = self.lending {
             let Lending { start, text, allowance, rooms } = lending;
