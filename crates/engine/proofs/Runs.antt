@@ -18,8 +18,8 @@ use Rattle.meaning.specs.Leaving.{Cells, Leaving, zeros, padded, roomOf, leavin
 use Rattle.meaning.specs.Entries.{answered, written, translated, runAnswer}
 use Rattle.meaning.proofs.laws.Translated.{unpacked}
 use Rattle.meaning.proofs.Demand3.{as-demanded}
-use Rattle.running.specs.declared.registers.Ran.{Ran}
-use Rattle.running.specs.Endings.{endingNumber}
+use Rattle.acting.specs.declared.registers.Ran.{Ran}
+use Rattle.acting.specs.Endings.{endingNumber}
 use Rattle.running.specs.Leaving.{Tells, Leaves}
 use Rattle.engine.specs.declared.Report.{Report}
 use Rattle.engine.specs.Told.{Runs}

@@ -1,7 +1,7 @@
 // The public entry points over reading, listing, translating and running, and their exports for C and Rust.
 mod tables;
 
-use running::registers::ending_number;
+use acting::registers::ending_number;
 use tables::list_table;
 use tables::read_table;
 use tables::translate_table;

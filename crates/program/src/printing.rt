@@ -1,6 +1,6 @@
 // Writing what is printed into lent cells.
+use acting::copying::copy_over;
 use engine::Report;
-use running::copying::copy_over;
 ghost use Prim.Native.Nat.{_+_, _≤_};
 ghost use lib.ListN.{length};
 ghost use Rattle.listing.specs.Put.{Put};

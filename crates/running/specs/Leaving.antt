@@ -8,13 +8,13 @@ use Rattle.meaning.specs.Outcome.{Outcome, Result, resultOf}
 use Rattle.meaning.specs.Runs.{textOf}
 use Rattle.meaning.specs.Packing.{Words}
 use Rattle.meaning.specs.Leaving.{Cells, Leaving, leaving, zeros}
-use Rattle.running.specs.declared.registers.Ran.{Ran}
-use Rattle.running.specs.declared.registers.Registers.{Registers}
-use Rattle.running.specs.declared.registers.Next.{Next}
-use Rattle.running.specs.declared.registers.Next.the-variants.{Onward, Done, Stopped}
-use Rattle.running.specs.declared.registers.Ending.{Ending}
-use Rattle.running.specs.declared.registers.Ending.the-variants.{Finished}
-use Rattle.running.specs.Endings.{endingNumber}
+use Rattle.acting.specs.declared.registers.Ran.{Ran}
+use Rattle.acting.specs.declared.registers.Registers.{Registers}
+use Rattle.acting.specs.declared.registers.Next.{Next}
+use Rattle.acting.specs.declared.registers.Next.the-variants.{Onward, Done, Stopped}
+use Rattle.acting.specs.declared.registers.Ending.{Ending}
+use Rattle.acting.specs.declared.registers.Ending.the-variants.{Finished}
+use Rattle.acting.specs.Endings.{endingNumber}
 
 abbrev pub cells : Bytes → Bytes → Bytes → Cells
 cells stackIn stackOut journal = record { stackIn = stackIn; stackOut = stackOut; journal = journal }

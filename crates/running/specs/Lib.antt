@@ -1,10 +1,2 @@
--- The definitions that this crate's contracts cite, in the order in which they build on each other.
-pub mod Decoded
-pub mod Endings
-pub mod States
-pub mod Spans
-pub mod Copied
-pub mod Storing
-pub mod Waiting
-pub mod Advancing
+-- The definitions that this crate's contracts cite.
 pub mod Leaving

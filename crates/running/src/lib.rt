@@ -2,24 +2,17 @@
 ghost use Rattle.meaning.specs.Leaving.{leaving};
 ghost use Rattle.running.specs.Leaving.{cells, Leaves};
 
-mod applying;
-pub mod copying;
-mod decoding;
-mod emitting;
 mod following;
-mod frames;
-mod moving;
-pub mod registers;
 mod stepping;
 
-use crate::applying::declared;
 use crate::following::refused;
 use crate::following::run_lent;
 use crate::following::sound_table;
-use crate::frames::frame_room;
-use crate::frames::value_room;
-use crate::registers::Ending;
-use crate::registers::Ran;
+use acting::frames::frame_room;
+use acting::frames::value_room;
+use acting::registers::Ending;
+use acting::registers::Ran;
+use applying::declared;
 
 // A run of code words: what is answered, and what is left in the lent cells.
 pub fn run(

@@ -1,7 +1,7 @@
 // The rows of 01 on their packed code, and runs of words that are no code.
+use acting::registers::Ran;
+use acting::registers::ending_number;
 use libc::STDOUT_FILENO;
-use running::registers::Ran;
-use running::registers::ending_number;
 
 const TABLE_Z: [u32; 22] = [
     1,

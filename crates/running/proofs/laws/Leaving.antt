@@ -18,16 +18,16 @@ use Rattle.meaning.specs.Runs.{Room, lent, loaded, from, textOf, runLent}
 use Rattle.meaning.specs.Packing.{Words}
 use Rattle.meaning.specs.Leaving.{Cells, Leaving, zeros, refused, left, leaving}
 use Rattle.meaning.specs.Leaving.{roomOf as roomOfCells}
-use Rattle.running.specs.declared.registers.Registers.{Registers}
-use Rattle.running.specs.declared.registers.Ending.{Ending}
-use Rattle.running.specs.declared.registers.Next.{Next}
-use Rattle.running.specs.declared.registers.Next.the-variants.{Onward, Done, Stopped}
-use Rattle.running.specs.Endings.{endingNumber}
-use Rattle.running.specs.States.{Memory, memory, stacksOf, Ledgers, ledgerOf, roomOf, Outcomes}
-use Rattle.running.specs.Waiting.{countIn, soundIn, functionsIn, entering, waiting, comesTo}
-use Rattle.running.specs.Advancing.{Held, Ready, Ended, Keeps, registersIn, Leads, Advances, Applies, IsOver, Follows}
+use Rattle.acting.specs.declared.registers.Registers.{Registers}
+use Rattle.acting.specs.declared.registers.Ending.{Ending}
+use Rattle.acting.specs.declared.registers.Next.{Next}
+use Rattle.acting.specs.declared.registers.Next.the-variants.{Onward, Done, Stopped}
+use Rattle.acting.specs.Endings.{endingNumber}
+use Rattle.acting.specs.States.{Memory, memory, stacksOf, Ledgers, ledgerOf, roomOf, Outcomes}
+use Rattle.applying.specs.Waiting.{countIn, soundIn, functionsIn, entering, waiting, comesTo}
+use Rattle.applying.specs.Advancing.{Held, Ready, Ended, Keeps, registersIn, Leads, Advances, Applies, IsOver, Follows}
 use Rattle.running.specs.Leaving.{cells, Tells, Leaves, refusedWith, reportedOf, clearedFrom, loadedWith}
-use Rattle.running.proofs.laws.Waiting.{entering-paid}
+use Rattle.applying.proofs.laws.Waiting.{entering-paid}
 use Rattle.running.proofs.laws.Tables.{unpacked}
 
 -- CLEARING

@@ -4,13 +4,13 @@ use mathlib.Core.Path.{_≡_, refl, sym, ap, subst, _∙_}
 use mathlib.Core.Bool.{true, false}
 use lib.Dec.{T, eqb}
 use denote.Enum.Declared.{tagOf}
-use Rattle.running.specs.declared.registers.Registers.{Registers}
-use Rattle.running.specs.declared.registers.Next.{Next}
-use Rattle.running.specs.declared.registers.Next.the-variants.{Onward, Done, Stopped}
-use Rattle.running.specs.declared.registers.Status.{Status}
-use Rattle.running.specs.declared.registers.Status.the-variants as status
-use Rattle.running.proofs.registers.Status as status-declared
-use Rattle.running.specs.Advancing.{registersIn, statusIn, nextOf, onward, IsOver}
+use Rattle.acting.specs.declared.registers.Registers.{Registers}
+use Rattle.acting.specs.declared.registers.Next.{Next}
+use Rattle.acting.specs.declared.registers.Next.the-variants.{Onward, Done, Stopped}
+use Rattle.acting.specs.declared.registers.Status.{Status}
+use Rattle.acting.specs.declared.registers.Status.the-variants as status
+use Rattle.acting.proofs.registers.Status as status-declared
+use Rattle.applying.specs.Advancing.{registersIn, statusIn, nextOf, onward, IsOver}
 
 parts-join : (r : Next) → nextOf (statusIn r) (registersIn r) ≡ r
 parts-join (Onward g) = refl

@@ -11,7 +11,7 @@ use lib.ListN.{length, getD, take, drop}
 use borrow.Author.Tests.{lt-ltb, le-ltb, ltb-true, leb-true, leb-false}
 use Rattle.meaning.specs.Choice.{pick, both, every}
 use Rattle.meaning.specs.Packing.{Words, unpack}
-use Rattle.running.specs.Waiting.{countIn, soundIn, functionsIn}
+use Rattle.applying.specs.Waiting.{countIn, soundIn, functionsIn}
 use Rattle.matching.proofs.laws.Lists.{at-place}
 
 module _ (code : Words) where

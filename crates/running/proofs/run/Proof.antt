@@ -1,9 +1,9 @@
 -- `run` meets its contract.
 use mathlib.Core.Path.{sym, _∙_}
 use borrow.Author.Tests.{not-true, not-false}
-use Rattle.running.specs.declared.registers.Ending.the-variants.{NoSuchStart, TextTooLong, NoInstruction}
+use Rattle.acting.specs.declared.registers.Ending.the-variants.{NoSuchStart, TextTooLong, NoInstruction}
 use Rattle.running.specs.Leaving.{cells}
-use Rattle.running.proofs.laws.Applying.{is-declared}
+use Rattle.applying.proofs.laws.Applying.{is-declared}
 use Rattle.running.proofs.laws.Tables.{sound-counted}
 use Rattle.running.proofs.laws.Leaving.{refused-leaves, leaving-unsound, leaving-undeclared, leaving-long, leaving-runs}
 use borrow.Author.Needs.{needs}

@@ -29,14 +29,14 @@ use denote.Triple.Clauses.{ensured, lasts}
 use denote.Triple.Spec.{tripleOf}
 use denote.Triple.Statement.{Contract}
 use Rattle.walking.proofs.Answering.{clause}
-use Rattle.running.specs.declared.registers.Registers.{Registers}
-use Rattle.running.specs.declared.registers.Next.{Next}
-use Rattle.running.specs.declared.registers.Status.{Status}
-use Rattle.running.specs.Advancing.{registersIn, statusIn, nextOf, onward}
-use Rattle.running.proofs.registers.Registers as R
-use Rattle.running.proofs.registers.Registers.Laws as R′
-use Rattle.running.proofs.registers.Next as N
-use Rattle.running.proofs.registers.Status as S
+use Rattle.acting.specs.declared.registers.Registers.{Registers}
+use Rattle.acting.specs.declared.registers.Next.{Next}
+use Rattle.acting.specs.declared.registers.Status.{Status}
+use Rattle.applying.specs.Advancing.{registersIn, statusIn, nextOf, onward}
+use Rattle.acting.proofs.registers.Registers as R
+use Rattle.acting.proofs.registers.Registers.Laws as R′
+use Rattle.acting.proofs.registers.Next as N
+use Rattle.acting.proofs.registers.Status as S
 use Rattle.running.proofs.stepping.registers_of as registers-of
 use Rattle.running.proofs.stepping.status_of as status-of
 use Rattle.running.proofs.stepping.is_onward as is-onward

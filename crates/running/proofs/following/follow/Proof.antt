@@ -25,8 +25,8 @@ use denote.Triple.Spec.{Meets, tripleOf}
 use denote.Triple.Statement.{Triple}
 use denote.Triple.Table.{entered, cited}
 use denote.Triple.Walked.{goes-slice, Walks, walked, walk-meets}
-use Rattle.running.proofs.registers.Next as N
-use Rattle.running.proofs.registers.Next.Laws as N′
+use Rattle.acting.proofs.registers.Next as N
+use Rattle.acting.proofs.registers.Next.Laws as N′
 use Rattle.running.proofs.stepping.registers_of.Symbol as registers-of-def
 use Rattle.running.proofs.stepping.registers_of.Symbol.{name as #running·stepping·registers-of}
 use Rattle.running.proofs.stepping.registers_of.Met as registers-of-thm

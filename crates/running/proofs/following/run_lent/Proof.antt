@@ -1,7 +1,7 @@
 -- `following::run_lent` meets its contract.
 use mathlib.Core.Path.{_∙_}
-use Rattle.running.specs.States.{memory}
-use Rattle.running.proofs.laws.Advancing.{leads-on}
+use Rattle.acting.specs.States.{memory}
+use Rattle.applying.proofs.laws.Advancing.{leads-on}
 use Rattle.running.proofs.laws.Leaving.{starting, ending, reported-within}
 use native.Mathlib.Omega.{arith}
 use borrow.Author.Needs.{needs}

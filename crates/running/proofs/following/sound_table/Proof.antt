@@ -4,7 +4,7 @@ use native.Mathlib.Omega.{arith}
 use borrow.Author.Needs.{needs}
 use mathlib.Core.Path.{_≡_, refl}
 use lib.ListN.{length}
-use Rattle.running.specs.Waiting.{countIn}
+use Rattle.applying.specs.Waiting.{countIn}
 use Rattle.running.proofs.laws.Tables.{Entries, sound-short, sound-wrong, sound-next, sound-all}
 use Rattle.running.proofs.following.sound_table.Statement.{statement}
 use Rattle.running.proofs.following.sound_table.Tie as tie

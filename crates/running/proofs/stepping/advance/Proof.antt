@@ -4,10 +4,10 @@ use native.Mathlib.Omega.{arith}
 use mathlib.Core.Path.{refl}
 use mathlib.Core.List.{[]}
 use Rattle.meaning.specs.Instructions.{call, tailCall}
-use Rattle.running.specs.declared.decoding.Instruction.the-variants.{Shift as Shifts, Write as Writes, Begin, Use, Call, TailCall, Emit, End, Unknown}
-use Rattle.running.specs.States.{memory}
-use Rattle.running.proofs.laws.Reading.{actions-at, actions-none, actions-named}
-use Rattle.running.proofs.laws.Advancing.{stepped, advance-does, advance-acts, advance-unknown, advance-leaves}
+use Rattle.acting.specs.declared.decoding.Instruction.the-variants.{Shift as Shifts, Write as Writes, Begin, Use, Call, TailCall, Emit, End, Unknown}
+use Rattle.acting.specs.States.{memory}
+use Rattle.acting.proofs.laws.Reading.{actions-at, actions-none, actions-named}
+use Rattle.applying.proofs.laws.Advancing.{stepped, advance-does, advance-acts, advance-unknown, advance-leaves}
 use borrow.Author.Needs.{needs}
 use Rattle.running.proofs.stepping.advance.Statement.{statement}
 use Rattle.running.proofs.stepping.advance.Tie as tie

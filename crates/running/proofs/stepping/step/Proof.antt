@@ -43,24 +43,24 @@ use denote.Triple.Spec.{Meets, tripleOf}
 use denote.Triple.Statement.{Contract, Triple}
 use denote.Triple.Table.{entered, cited}
 use denote.Triple.Walked.{says, Stays, stay-ref, walkOf, goes-ref, Walks, ends-at, walked, walk-meets}
-use Rattle.running.specs.declared.registers.Registers.{Registers}
-use Rattle.running.specs.declared.registers.Next.{Next}
-use Rattle.running.specs.declared.registers.Next.the-variants.{Onward}
-use Rattle.running.specs.declared.registers.Status.{Status}
-use Rattle.running.specs.States.{Memory as Memories, memory, roomOf}
-use Rattle.running.specs.Waiting.{comesTo, leftToDo}
-use Rattle.running.specs.Advancing.{registersIn, statusIn, nextOf, Advances}
+use Rattle.acting.specs.declared.registers.Registers.{Registers}
+use Rattle.acting.specs.declared.registers.Next.{Next}
+use Rattle.acting.specs.declared.registers.Next.the-variants.{Onward}
+use Rattle.acting.specs.declared.registers.Status.{Status}
+use Rattle.acting.specs.States.{Memory as Memories, memory, roomOf}
+use Rattle.applying.specs.Waiting.{comesTo, leftToDo}
+use Rattle.applying.specs.Advancing.{registersIn, statusIn, nextOf, Advances}
 use Rattle.running.proofs.laws.Statuses.{rejoined}
 use Rattle.running.proofs.walks.Callees.{registers-vals, RegistersOf, StatusOf, registers-said, status-said, to-parts, goes-parts}
 use Rattle.walking.proofs.Answering.{answers}
 use Rattle.walking.proofs.Locals.{placed, holds, lays-out, frees-laid}
 use Rattle.walking.proofs.Handing.{all-handed, after-first, all-fit, all-go}
-use Rattle.running.proofs.registers.Registers as R
-use Rattle.running.proofs.registers.Registers.Laws as R′
-use Rattle.running.proofs.registers.Next as N
-use Rattle.running.proofs.registers.Next.Laws as N′
-use Rattle.running.proofs.registers.Status as S
-use Rattle.running.proofs.registers.Status.Laws as S′
+use Rattle.acting.proofs.registers.Registers as R
+use Rattle.acting.proofs.registers.Registers.Laws as R′
+use Rattle.acting.proofs.registers.Next as N
+use Rattle.acting.proofs.registers.Next.Laws as N′
+use Rattle.acting.proofs.registers.Status as S
+use Rattle.acting.proofs.registers.Status.Laws as S′
 use Rattle.running.proofs.stepping.advance as advance
 use Rattle.running.proofs.stepping.advance.Symbol as advance-def
 use Rattle.running.proofs.stepping.advance.Symbol.{name as #running·stepping·advance}

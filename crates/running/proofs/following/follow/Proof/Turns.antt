@@ -9,17 +9,17 @@ use lib.WfN.{Nat·lt-wfRel}
 use mir.Val.{Val}
 use denote.Laws.{Is}
 use Rattle.meaning.specs.Packing.{Words}
-use Rattle.running.specs.declared.registers.Registers.{Registers}
-use Rattle.running.specs.declared.registers.Next.{Next}
-use Rattle.running.specs.declared.registers.Next.the-variants.{Onward}
-use Rattle.running.specs.declared.registers.Status.{Status}
-use Rattle.running.specs.States.{Memory, memory, roomOf}
-use Rattle.running.specs.Waiting.{comesTo, leftToDo}
-use Rattle.running.specs.Advancing.{Underway, Keeps, registersIn, statusIn, nextOf, onward, Leads, Advances, Follows}
-use Rattle.running.proofs.laws.Advancing.{leads-start, leads-on}
+use Rattle.acting.specs.declared.registers.Registers.{Registers}
+use Rattle.acting.specs.declared.registers.Next.{Next}
+use Rattle.acting.specs.declared.registers.Next.the-variants.{Onward}
+use Rattle.acting.specs.declared.registers.Status.{Status}
+use Rattle.acting.specs.States.{Memory, memory, roomOf}
+use Rattle.applying.specs.Waiting.{comesTo, leftToDo}
+use Rattle.applying.specs.Advancing.{Underway, Keeps, registersIn, statusIn, nextOf, onward, Leads, Advances, Follows}
+use Rattle.applying.proofs.laws.Advancing.{leads-start, leads-on}
 use Rattle.running.proofs.laws.Statuses.{rejoined, goes-onward, is-over}
-use Rattle.running.proofs.registers.Registers as R
-use Rattle.running.proofs.registers.Status as S
+use Rattle.acting.proofs.registers.Registers as R
+use Rattle.acting.proofs.registers.Status as S
 use Rattle.running.proofs.walks.Callees.{registers-vals, spelled-out}
 
 -- what `step` leaves: the registers and the lists

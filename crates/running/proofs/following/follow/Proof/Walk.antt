@@ -40,17 +40,17 @@ use Rattle.walking.proofs.Answering.{answers}
 use Rattle.walking.proofs.Lending.{lent-at, Mine, Theirs, as-passed, lends-slice-again, slice-comes-back}
 use Rattle.walking.proofs.Locals.{Content, vacant, holds, placed, laid, lays-out, frees-laid}
 use Rattle.classes.specs.Tests.{Answers}
-use Rattle.running.specs.declared.registers.Next.{Next}
-use Rattle.running.specs.declared.registers.Status.{Status}
-use Rattle.running.specs.States.{memory}
-use Rattle.running.specs.Waiting.{countIn}
-use Rattle.running.specs.Advancing.{Underway, Keeps, registersIn, statusIn, nextOf, onward, Follows}
-use Rattle.running.proofs.registers.Registers as R
-use Rattle.running.proofs.registers.Registers.Laws as R′
-use Rattle.running.proofs.registers.Next as N
-use Rattle.running.proofs.registers.Next.Laws as N′
-use Rattle.running.proofs.registers.Status as S
-use Rattle.running.proofs.registers.Status.Laws as S′
+use Rattle.acting.specs.declared.registers.Next.{Next}
+use Rattle.acting.specs.declared.registers.Status.{Status}
+use Rattle.acting.specs.States.{memory}
+use Rattle.applying.specs.Waiting.{countIn}
+use Rattle.applying.specs.Advancing.{Underway, Keeps, registersIn, statusIn, nextOf, onward, Follows}
+use Rattle.acting.proofs.registers.Registers as R
+use Rattle.acting.proofs.registers.Registers.Laws as R′
+use Rattle.acting.proofs.registers.Next as N
+use Rattle.acting.proofs.registers.Next.Laws as N′
+use Rattle.acting.proofs.registers.Status as S
+use Rattle.acting.proofs.registers.Status.Laws as S′
 use Rattle.running.proofs.stepping.registers_of.Symbol.{name as #running·stepping·registers-of}
 use Rattle.running.proofs.stepping.status_of.Symbol.{name as #running·stepping·status-of}
 use Rattle.running.proofs.stepping.is_onward.Symbol.{name as #running·stepping·is-onward}

@@ -1,0 +1,45 @@
+-- `copying::copy_over` meets its contract. The loop's invariant: the bytes so far are pasted over.
+use native.Mathlib.Omega.{arith}
+use Prim.Native.Nat.{_+_, _-_, _≤_}
+use mathlib.Core.Path.{_≡_, refl}
+use lib.ListN.{length, length-set}
+use lib.Seq.{paste, paste-zero}
+use Rattle.acting.proofs.laws.Copying.{pasted-one}
+use Rattle.acting.proofs.copying.copy_over.Statement.{statement}
+use Rattle.acting.proofs.copying.copy_over.Tie as tie
+
+abbrev Inv-loop : tie.InvT-loop
+Inv-loop to₀ at from i₀ to i = (to ≡ paste to₀ at from i) × (i ≤ length from) × (length to ≡ length to₀)
+
+abbrev μ-loop : tie.MeasureT-loop
+μ-loop to₀ at from i₀ to i = length from - i
+
+loop-holds : tie.Need-loop-holds Inv-loop μ-loop
+loop-holds c = let a = c .args in (paste-zero (a .to .now) (a .at) (a .from .now), omega arith, refl)
+
+shared-slice-read-to : tie.Need-shared-slice-read-to Inv-loop μ-loop
+shared-slice-read-to c = omega arith
+
+add-to : tie.Need-add-to Inv-loop μ-loop
+add-to c = omega arith
+
+slice-write-to : tie.Need-slice-write-to Inv-loop μ-loop
+slice-write-to c = omega (arith, c .before .before .before .pre)
+
+add-i : tie.Need-add-i Inv-loop μ-loop
+add-i c = omega arith
+
+loop-less : tie.Need-loop-less Inv-loop μ-loop
+loop-less c = omega arith
+
+loop-again : tie.Need-loop-again Inv-loop μ-loop
+loop-again c = (pasted-one _ _ _ _ _ (c .before .before .loop .inv .0) (c .before .before .before .pre) (c .before .loop-test .taken), omega arith, rw length-set (c .before .before .loop .inv .2))
+
+same-length : tie.Need-same-length Inv-loop μ-loop
+same-length c = c .before .loop .inv .2
+
+returns : tie.Need-returns Inv-loop μ-loop
+returns c = let e : c .before .loop .i ≡ length (c .before .before .args .from .now) = omega arith in rw e at (c .before .loop .inv .0)
+
+pub copy-over-spec : {M : Type 1} → statement M
+copy-over-spec = tie.close (tie.spec Inv-loop μ-loop loop-holds shared-slice-read-to add-to slice-write-to add-i loop-less loop-again same-length returns)

@@ -1,0 +1,70 @@
+-- `emitting::emit` meets its contract.
+use borrow.Author.Needs.{needs}
+use native.Mathlib.Omega.{arith}
+use mathlib.Core.Path.{sym, _∙_}
+use lib.ListN.{length-take, length-drop}
+use borrow.Author.Tests.{not-true, not-false}
+use Rattle.acting.specs.States.{memory}
+use Rattle.acting.proofs.laws.Naming.{spelled}
+use Rattle.acting.proofs.laws.Lines.{part-long, emission-wrong, emission-full, emission-written}
+use Rattle.acting.proofs.emitting.emit.Statement.{statement}
+use Rattle.acting.proofs.emitting.emit.Tie as tie
+
+named-requires : tie.Need-named-requires
+named-requires c κs = search needs
+
+returns : tie.Need-returns
+returns c = let a = c .before .before .before .before .before .args in
+    λ output values frames. emission-wrong (a .g) (memory (a .input .now) output (a .journal .now) frames values) (a .code .now) (a .size)
+    (sym (c .before .named .ensures) ∙ not-true _ (c .if1 .taken))
+
+sub-line : tie.Need-sub-line
+sub-line c = search needs
+
+add-line : tie.Need-add-line
+add-line c = let a = c .before .before .before .before .before .args in
+    omega (arith, spelled (a .code .now) (a .g .at .0) (a .size) (sym (c .before .named .ensures) ∙ not-false _ (c .if1 .left)) .there)
+
+add-line-2 : tie.Need-add-line-2
+add-line-2 c = let a = c .before .before .before .before .before .args in
+    omega (arith, spelled (a .code .now) (a .g .at .0) (a .size) (sym (c .before .named .ensures) ∙ not-false _ (c .if1 .left)) .there)
+
+sub-if2 : tie.Need-sub-if2
+sub-if2 c = search needs
+
+returns-2 : tie.Need-returns-2
+returns-2 c = let a = c .before .before .before .before .before .before .args in
+    let p = c .before .before .before .before .before .before .pre in
+    λ output values frames. emission-full (a .g) (memory (a .input .now) output (a .journal .now) frames values) (a .code .now) (a .size)
+    (p .1 .0) (p .1 .1 .0) (p .1 .1 .1) (sym (c .before .before .named .ensures) ∙ not-false _ (c .before .if1 .left)) (c .if2 .taken)
+
+sub-write-line : tie.Need-sub-write-line
+sub-write-line c = search needs
+
+part-write-line-start : tie.Need-part-write-line-start
+part-write-line-start c = search needs
+
+part-write-line-end : tie.Need-part-write-line-end
+part-write-line-end c = search needs
+
+write-line-requires : tie.Need-write-line-requires
+write-line-requires c κs = (sym (c .before .before .before .before .named .ensures) ∙ not-false _ (c .before .before .before .if1 .left), simp (length-take, length-drop) (omega (arith, c .before .before .if2 .left, c .before .before .before .before .before .before .before .before .pre)))
+
+add-t15 : tie.Need-add-t15
+add-t15 c = search needs
+
+add-t14 : tie.Need-add-t14
+add-t14 c = search needs
+
+same-length : tie.Need-same-length
+same-length c = search needs
+
+returns-3 : tie.Need-returns-3
+returns-3 c = let a = c .before .before .before .before .before .before .before .before .before .before .before .before .before .before .before .args in
+    let p = c .before .before .before .before .before .before .before .before .before .before .before .before .before .before .before .pre in
+    λ output values frames. rw (c .before .before .before .before .before .before .write-line .ensures, part-long (a .input .now) (a .g .p .0) (a .g .q .0) (p .1 .1 .0))
+    (emission-written (a .g) (memory (a .input .now) output (a .journal .now) frames values) (a .code .now) (a .size)
+    (p .1 .0) (p .1 .1 .0) (p .1 .1 .1) (sym (c .before .before .before .before .before .before .before .before .before .before .before .named .ensures) ∙ not-false _ (c .before .before .before .before .before .before .before .before .before .before .if1 .left)) (c .before .before .before .before .before .before .before .before .before .if2 .left))
+
+pub emit-spec : {M : Type 1} → statement M
+emit-spec = tie.close (tie.spec named-requires returns sub-line add-line add-line-2 sub-if2 returns-2 sub-write-line part-write-line-start part-write-line-end write-line-requires add-t15 add-t14 same-length returns-3)

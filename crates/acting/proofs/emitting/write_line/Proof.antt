@@ -1,0 +1,43 @@
+-- `emitting::write_line` meets its contract.
+use borrow.Author.Needs.{needs}
+use native.Mathlib.Omega.{arith}
+use lib.ListN.{take, drop, length-set}
+use Rattle.acting.proofs.laws.Naming.{spelled, spelled-long, line-written}
+use Rattle.acting.proofs.emitting.write_line.Statement.{statement}
+use Rattle.acting.proofs.emitting.write_line.Tie as tie
+
+copy-name-requires : tie.Need-copy-name-requires
+copy-name-requires c κs = search needs
+
+add-gap : tie.Need-add-gap
+add-gap c = search needs
+
+slice-write-journal : tie.Need-slice-write-journal
+slice-write-journal c = search needs
+
+add-copy-over : tie.Need-add-copy-over
+add-copy-over c = search needs
+
+copy-over-requires : tie.Need-copy-over-requires
+copy-over-requires c κs = simp length-set (omega (arith, c .before .before .before .copy-name .kept .0, c .before .before .before .before .before .before .before .before .pre .1))
+
+add-end : tie.Need-add-end
+add-end c = search needs
+
+add-end-2 : tie.Need-add-end-2
+add-end-2 c = search needs
+
+slice-write-journal-2 : tie.Need-slice-write-journal-2
+slice-write-journal-2 c = omega (arith, c .before .before .copy-over .kept .0, simp length-set at (c .before .before .copy-over .kept .0), c .before .before .before .before .before .before .copy-name .kept .0, c .before .before .before .before .before .before .before .before .before .before .before .pre .1)
+
+same-length : tie.Need-same-length
+same-length c = simp length-set (omega (arith, simp length-set at (c .before .before .copy-over .kept .0), c .before .before .before .before .before .before .copy-name .kept .0))
+
+returns : tie.Need-returns
+returns c = let a = c .before .before .before .before .before .before .before .before .before .before .before .args in
+    let name = take (a .size) (drop (a .name .0) (a .code .now)) in
+    let long = spelled-long (a .code .now) (a .name .0) (a .size) (spelled (a .code .now) (a .name .0) (a .size) (c .before .before .before .before .before .before .before .before .before .before .before .pre .0)) in
+    rw (c .before .before .copy-over .ensures, c .before .before .before .before .before .before .copy-name .ensures) (line-written (a .journal .now) name (a .argument .now) (a .to) (a .size) long (c .before .before .before .before .before .before .before .before .before .before .before .pre .1))
+
+pub write-line-spec : {M : Type 1} → statement M
+write-line-spec = tie.close (tie.spec copy-name-requires add-gap slice-write-journal add-copy-over copy-over-requires add-end add-end-2 slice-write-journal-2 same-length returns)

@@ -1,0 +1,9 @@
+-- Laws over plain values.
+pub mod Copying
+pub mod Frames
+pub mod Spanning
+pub mod Acting
+pub mod Sequences
+pub mod Naming
+pub mod Lines
+pub mod Reading

@@ -1,0 +1,208 @@
+-- Each action on registers and cells does what the machine's action does: one law for each way that an action can go.
+use Prim.Native.Nat.{ℕ, zero, suc, _+_, _*_, _-_, _≤_, _<_}
+use native.Mathlib.Nat.{sub-self}
+use native.Mathlib.Numerals.{add-one}
+use native.Mathlib.Omega.{arith}
+use mathlib.Core.Path.{_≡_, refl, sym, ap, _∙_}
+use mathlib.Core.Bool.{Bool, true, false}
+use mathlib.Core.List.{List, [], _∷_, _++_}
+use mathlib.Core.Option.{Option, none, some}
+use lib.Dec.{leb, ltb}
+use lib.ListN.{length, getD, take, drop, set, length-drop, length-take, length-set}
+use lib.Seq.{drop-drop, length-take-le, take-suc-set, paste, take-paste, length-paste, take-take, getD-take, getD-drop}
+use borrow.Author.Tests.{le-leb, lt-leb, lt-ltb, le-ltb}
+use Rattle.meaning.specs.Choice.{Bytes, nth}
+use Rattle.meaning.specs.Instructions.{Action, go, select, out, outCharacter, outValue, Code}
+use Rattle.meaning.specs.Instructions.{Length as Register}
+use Rattle.meaning.specs.Machine.{Stacks, Local, registerOf, perform}
+use Rattle.meaning.specs.Outcome.{stop}
+use Rattle.meaning.specs.Runs.{lent}
+use Rattle.meaning.specs.Packing.{spanAction}
+use Rattle.acting.specs.declared.registers.Registers.{Registers}
+use Rattle.acting.specs.declared.registers.Ending.{Ending}
+use Rattle.acting.specs.declared.registers.Ending.the-variants.{NoInstruction, OutFull, InFull}
+use Rattle.acting.specs.declared.registers.Next.{Next}
+use Rattle.acting.specs.declared.registers.Next.the-variants.{Onward, Stopped}
+use Rattle.acting.specs.declared.registers.InCell.{InCell}
+use Rattle.acting.specs.declared.moving.Cells.{Cells}
+use Rattle.acting.specs.declared.moving.Cells.the-variants.{Wrong}
+use Rattle.acting.specs.declared.moving.Reached.the-variants.{At, Wrong as NotThere}
+use Rattle.acting.specs.Endings.{endingNumber}
+use Rattle.acting.specs.Spans.{cellsOf, reachedBy}
+use Rattle.acting.specs.States.{Memory, memory, frameWord, localOf, stacksOf, Ledgers, ledgerOf, roomOf, movedTo, Fits, Outcomes, Going, Stayed, Acts}
+use Rattle.matching.proofs.laws.Lists.{nth-in, nth-out}
+use Rattle.acting.proofs.laws.Spanning.{counted, not-counted, led, not-led}
+
+-- the value that a frame stored under a number
+stored-value : (frame k n : ℕ) (values : Bytes) → k < n → n ≤ 16 → frame < 256 → length values ≡ 4096 →
+    nth k (take n (drop (16 * frame) (take (16 * frame + 16) values))) ≡ some (getD values (16 * frame + k) 0)
+stored-value frame k n values h few framed room =
+    let within : k < length (take n (drop (16 * frame) (take (16 * frame + 16) values))) = simp (length-take, length-drop, room) (omega arith) in
+    let low : 16 * frame + k < 16 * frame + 16 = omega arith in
+    rw (
+      nth-in _ k within,
+      getD-take n (drop (16 * frame) (take (16 * frame + 16) values)) k 0 h,
+      getD-drop (16 * frame) (take (16 * frame + 16) values) k 0,
+      getD-take (16 * frame + 16) values (16 * frame + k) 0 low,
+    )
+
+module _ (g : Registers) (m : Memory) where
+  -- what the machine's action does here
+  abbrev pub Performing : Action → ℕ → Code → (ℕ → ℕ → Stacks → Ledgers → Outcomes) → Going → Outcomes
+  Performing action allowance code enter k =
+      perform (lent (roomOf m)) code enter k (suc (g .frame)) action (localOf g m) (stacksOf g m) (ledgerOf allowance g m)
+
+  -- an action that stops
+  pub stops : (action : Action) (at : ℕ) (ending : Ending) →
+      ((allowance : ℕ) (code : Code) (enter : ℕ → ℕ → Stacks → Ledgers → Outcomes) (k : Going) →
+      Performing action allowance code enter k ≡ stop (endingNumber ending) 0 (ledgerOf allowance g m)) →
+      Acts action at g m (Stopped g ending 0) m
+  stops action at ending h = record { same = h; stays = (refl, refl) }
+
+  -- only p, q, r and cells of the stacks change
+  stayed : (p q r : ℕ) (input output : Bytes) → (Fits g m → p ≤ q) → (Fits g m → q ≤ length input) → (Fits g m → r ≤ length output) →
+      Stayed (g .at .0) g m (movedTo g p q r) (memory input output (m .journal) (m .frames) (m .values))
+  stayed p q r input output o i b =
+      record {
+        fits = λ f. record {
+          ordered = o f;
+          inside = i f;
+          below = b f;
+          logged = f .logged;
+          framed = f .framed;
+          stored = f .stored;
+          opened = f .opened;
+          frameRoom = f .frameRoom;
+          valueRoom = f .valueRoom;
+        };
+        frame = refl;
+        place = refl;
+        steps = refl;
+        waiting = refl;
+        values = refl;
+        beyond = λ old e. e;
+      }
+
+  -- GO AND SELECT
+
+  module _ (p≤q : g .p .0 ≤ g .q .0) (q≤in : g .q .0 ≤ length (m .input)) (add back : ℕ) where
+    -- the cells from a cell on that a span counts
+    abbrev Spanned : Option Register → ℕ → Cells
+    Spanned o from = cellsOf o add back (localOf g m) (length (m .input) - from)
+
+    go-none : (o : Option Register) → Wrong ≡ Spanned o (g .p .0) → Acts (spanAction go o add back) (g .at .0) g m (Stopped g NoInstruction 0) m
+    go-none none e = stops _ _ NoInstruction (λ allowance code enter k. refl)
+    go-none (some r) e =
+        stops _ _ NoInstruction (λ allowance code enter k. rw (length-drop (g .p .0) (m .input), lt-leb _ (length (m .input) - g .p .0) (not-counted _ _ e)))
+
+    pub go-wrong : (o : Option Register) → NotThere ≡ reachedBy (Spanned o (g .p .0)) (g .p .0) →
+        Acts (spanAction go o add back) (g .at .0) g m (Stopped g NoInstruction 0) m
+    go-wrong o e = go-none o (not-led _ _ e)
+
+    pub go-moved : (o : Option Register) (to : InCell) → At to ≡ reachedBy (Spanned o (g .p .0)) (g .p .0) →
+        Acts (spanAction go o add back) (g .at .0) g m (Onward (movedTo g (to .0) (to .0) (g .r .0))) m
+    go-moved o to e =
+        let l = led _ _ to e in
+        let t = counted add back (localOf g m) _ o (l .on) (l .count) in
+        record {
+          same = λ allowance code enter k.
+              rw (
+                t .known,
+                t .amount,
+                length-drop (g .p .0) (m .input),
+                le-leb (l .on) (length (m .input) - g .p .0) (t .enough),
+                drop-drop (l .on) (g .p .0) (m .input),
+                ← (l .sum),
+                sub-self (to .0),
+              );
+          stays = stayed _ _ _ (m .input) (m .output) (λ f. omega arith) (λ f. omega (arith, t .enough, l .sum)) (λ f. f .below);
+        }
+
+    select-none : (o : Option Register) → Wrong ≡ Spanned o (g .q .0) → Acts (spanAction select o add back) (g .at .0) g m (Stopped g NoInstruction 0) m
+    select-none none e = stops _ _ NoInstruction (λ allowance code enter k. refl)
+    select-none (some r) e =
+        let n = registerOf r (localOf g m) + add - back in
+        let short : length (m .input) - g .p .0 < g .q .0 - g .p .0 + n = omega (arith, not-counted n _ e) in
+        stops _ _ NoInstruction (λ allowance code enter k. rw (length-drop (g .p .0) (m .input), lt-leb _ _ short))
+
+    pub select-wrong : (o : Option Register) → NotThere ≡ reachedBy (Spanned o (g .q .0)) (g .q .0) →
+        Acts (spanAction select o add back) (g .at .0) g m (Stopped g NoInstruction 0) m
+    select-wrong o e = select-none o (not-led _ _ e)
+
+    pub select-moved : (o : Option Register) (to : InCell) → At to ≡ reachedBy (Spanned o (g .q .0)) (g .q .0) →
+        Acts (spanAction select o add back) (g .at .0) g m (Onward (movedTo g (g .p .0) (to .0) (g .r .0))) m
+    select-moved o to e =
+        let l = led _ _ to e in
+        let t = counted add back (localOf g m) _ o (l .on) (l .count) in
+        let there : g .q .0 - g .p .0 + l .on ≤ length (m .input) - g .p .0 = omega (arith, t .enough) in
+        let moved : g .q .0 - g .p .0 + l .on ≡ to .0 - g .p .0 = omega (arith, l .sum) in
+        record {
+          same = λ allowance code enter k. rw (t .known, t .amount, length-drop (g .p .0) (m .input), le-leb _ _ there, moved);
+          stays = stayed _ _ _ (m .input) (m .output) (λ f. omega (arith, l .sum)) (λ f. omega (arith, t .enough, l .sum)) (λ f. f .below);
+        }
+
+  -- OUT, OUTC, OUTV
+
+  module _ (r≤out : g .r .0 ≤ length (m .output)) where
+    pub byte-full : (b : ℕ) → length (m .output) ≤ g .r .0 → Acts (outCharacter b) (g .at .0) g m (Stopped g OutFull 0) m
+    byte-full b h =
+        let full : length (m .output) < suc (g .r .0) = omega arith in
+        stops _ _ OutFull (λ allowance code enter k. rw (length-take-le (g .r .0) (m .output) r≤out, lt-ltb _ _ full))
+
+    pub byte-written : (b : ℕ) → g .r .0 < length (m .output) →
+        Acts (outCharacter b) (g .at .0) g m (Onward (movedTo g (g .p .0) (g .q .0) (g .r .0 + 1)))
+        (memory (m .input) (set (m .output) (g .r .0) b) (m .journal) (m .frames) (m .values))
+    byte-written b h =
+        record {
+          same = λ allowance code enter k.
+              rw (
+                length-take-le (g .r .0) (m .output) r≤out,
+                le-ltb (length (m .output)) (suc (g .r .0)) h,
+                add-one (g .r .0),
+                take-suc-set (m .output) (g .r .0) b h,
+              );
+          stays = stayed _ _ _ (m .input) _ (λ f. f .ordered) (λ f. f .inside) (λ f. rw length-set (omega arith));
+        }
+
+    pub part-full : length (m .output) - g .r .0 < g .q .0 - g .p .0 → Acts out (g .at .0) g m (Stopped g OutFull 0) m
+    part-full h =
+        let full : length (m .output) < g .r .0 + (g .q .0 - g .p .0) = omega arith in
+        stops _ _ OutFull (λ allowance code enter k. rw (length-take-le (g .r .0) (m .output) r≤out, lt-ltb _ _ full))
+
+    pub part-written : g .p .0 ≤ g .q .0 → g .q .0 ≤ length (m .input) → g .q .0 - g .p .0 ≤ length (m .output) - g .r .0 →
+        let part : Bytes = take (g .q .0 - g .p .0) (drop (g .p .0) (m .input)) in
+        Acts out (g .at .0) g m (Onward (movedTo g (g .q .0) (g .q .0) (g .r .0 + (g .q .0 - g .p .0))))
+        (memory (m .input) (paste (m .output) (g .r .0) part (length part)) (m .journal) (m .frames) (m .values))
+    part-written o i h =
+        let part = take (g .q .0 - g .p .0) (drop (g .p .0) (m .input)) in
+        let long : length part ≡ g .q .0 - g .p .0 = length-take-le _ _ (rw length-drop (omega arith)) in
+        let there : g .r .0 + (g .q .0 - g .p .0) ≤ length (m .output) = omega arith in
+        let end : g .p .0 + (g .q .0 - g .p .0) ≡ g .q .0 = omega arith in
+        record {
+          same = λ allowance code enter k.
+              rw (
+                length-take-le (g .r .0) (m .output) r≤out,
+                le-ltb (length (m .output)) _ there,
+                drop-drop (g .q .0 - g .p .0) (g .p .0) (m .input),
+                end,
+                sub-self (g .q .0),
+                long,
+                take-paste (m .output) (g .r .0) part (g .q .0 - g .p .0) r≤out (omega (arith, long)),
+                take-take (g .q .0 - g .p .0) (g .q .0 - g .p .0) (drop (g .p .0) (m .input)) (omega arith),
+              );
+          stays = stayed _ _ _ (m .input) _ (λ f. omega arith) (λ f. i)
+              (λ f. rw (long, length-paste (m .output) (g .r .0) part (g .q .0 - g .p .0) there (omega (arith, long))) there);
+        }
+
+  -- a stored value is written as a character is
+  pub value-none : (k : ℕ) → frameWord (g .frame) 3 (m .frames) ≤ k → Acts (outValue k) (g .at .0) g m (Stopped g NoInstruction 0) m
+  value-none k h = stops _ _ NoInstruction (λ allowance code enter next. rw (nth-out (localOf g m .values) k (rw length-take (omega arith))))
+
+  pub value-written : (k : ℕ) (next : Next) (n : Memory) → k < frameWord (g .frame) 3 (m .frames) → frameWord (g .frame) 3 (m .frames) ≤ 16 → g .frame < 256 →
+      length (m .values) ≡ 4096 → Acts (outCharacter (getD (m .values) (16 * g .frame + k) 0)) (g .at .0) g m next n →
+      Acts (outValue k) (g .at .0) g m next n
+  value-written k next n h few framed room a =
+      record {
+        same = λ allowance code enter k′. rw (stored-value (g .frame) k (frameWord (g .frame) 3 (m .frames)) (m .values) h few framed room) (a .same allowance code enter k′);
+        stays = a .stays;
+      }

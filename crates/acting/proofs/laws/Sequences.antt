@@ -1,0 +1,188 @@
+-- BeginSeq and UseSeq on registers and cells do what the machine's do.
+use Prim.Native.Nat.{ℕ, zero, suc, _+_, _*_, _-_, _≤_, _<_, min}
+use native.Mathlib.Nat.{sub-self}
+use native.Mathlib.Numerals.{add-one}
+use native.Mathlib.Omega.{arith}
+use mathlib.Core.Path.{_≡_, refl, sym, ap, _∙_}
+use mathlib.Core.List.{List, [], _∷_, _++_}
+use lib.Dec.{leb, ltb}
+use lib.ListN.{length, getD, take, drop, set, length-drop, length-take, length-set, length-append}
+use lib.Seq.{take-set-lt, drop-set-lt, length-take-le, drop-at, take-take}
+use borrow.Author.Tests.{lt-ltb, le-ltb}
+use Rattle.meaning.specs.Choice.{Bytes}
+use Rattle.meaning.specs.Instructions.{beginSequence, useSequence}
+use Rattle.meaning.specs.Machine.{Stacks, Local, withOpened, moved}
+use Rattle.acting.specs.declared.registers.Registers.{Registers}
+use Rattle.acting.specs.declared.registers.Ending.the-variants.{NoInstruction, InFull}
+use Rattle.acting.specs.declared.registers.Next.the-variants.{Onward, Stopped}
+use Rattle.acting.specs.States.{Memory, memory, frameWord, localAt, localOf, stacksOf, ledgerOf, movedTo, Fits, Stayed, Acts}
+use Rattle.acting.specs.Copied.{MovedDown}
+use Rattle.acting.proofs.laws.Frames.{drop-take, drop-min, take-min, drop-set-here, word-set, word-kept, openedOf, opened-count, opened-none, opened-next, waiting-kept}
+use Rattle.acting.proofs.laws.Acting.{stops}
+
+module _ (frames : List ℕ) (values : Bytes) (k : ℕ) (framed : k < 256) (room : length frames ≡ 6144) where
+  -- the number of open sequences stored anew
+  local-count : (n : ℕ) → n ≤ 16 →
+      localAt k (set frames (24 * k + 4) n) values ≡ withOpened (openedOf frames k framed room n) (localAt k frames values)
+  local-count n h =
+      let low : 24 * k + 4 < 24 * k + 24 = omega arith in
+      let apart : 24 * k + 4 < 24 * k + 24 - n = omega arith in
+      rw (
+        word-kept frames k 4 1 n (omega arith),
+        word-kept frames k 4 2 n (omega arith),
+        word-kept frames k 4 3 n (omega arith),
+        word-set frames k framed room 4 n (omega arith),
+        take-set-lt (24 * k + 24) frames (24 * k + 4) n low,
+        drop-set-lt (24 * k + 24 - n) (take (24 * k + 24) frames) (24 * k + 4) n apart,
+      )
+
+  opened-more : (n r : ℕ) → n < 16 → (room′ : length (set frames (24 * k + (23 - n)) r) ≡ 6144) →
+      openedOf (set frames (24 * k + (23 - n)) r) k framed room′ (n + 1) ≡ r ∷ openedOf frames k framed room n
+  opened-more n r h room′ =
+      let here : 24 * k + 24 - (n + 1) ≡ 24 * k + (23 - n) = omega arith in
+      let next : suc (24 * k + (23 - n)) ≡ 24 * k + 24 - n = omega arith in
+      let low : 24 * k + (23 - n) < 24 * k + 24 = omega arith in
+      let within : 24 * k + (23 - n) < length (take (24 * k + 24) frames) = rw (length-take, room) (omega arith) in
+      rw (here, take-set-lt (24 * k + 24) frames (24 * k + (23 - n)) r low, drop-set-here (take (24 * k + 24) frames) (24 * k + (23 - n)) r within, next)
+
+  -- a sequence opened at a cell of out
+  local-opened : (n r : ℕ) → n < 16 → (room′ : length (set frames (24 * k + (23 - n)) r) ≡ 6144) →
+      withOpened (openedOf (set frames (24 * k + (23 - n)) r) k framed room′ (n + 1)) (localAt k (set frames (24 * k + (23 - n)) r) values) ≡
+      withOpened (r ∷ openedOf frames k framed room n) (localAt k frames values)
+  local-opened n r h room′ =
+      rw (
+        opened-more n r h room′,
+        word-kept frames k (23 - n) 1 r (omega arith),
+        word-kept frames k (23 - n) 2 r (omega arith),
+        word-kept frames k (23 - n) 3 r (omega arith),
+      )
+
+module _ (g : Registers) (m : Memory) (framed : g .frame < 256) (room : length (m .frames) ≡ 6144) where
+  -- the number of sequences that are open
+  abbrev count : ℕ
+  count = frameWord (g .frame) 4 (m .frames)
+
+  -- BEGINSEQ
+
+  abbrev pub afterBegin : List ℕ
+  afterBegin = set (set (m .frames) (24 * g .frame + (23 - count)) (g .r .0)) (24 * g .frame + 4) (count + 1)
+
+  pub begin-many : count ≤ 16 → 16 ≤ count → Acts beginSequence (g .at .0) g m (Stopped g NoInstruction 0) m
+  begin-many few h =
+      stops g m _ _ NoInstruction (λ allowance code enter k. rw (opened-count (m .frames) (g .frame) framed room count (omega arith), le-ltb count 16 h))
+
+  pub begin-kept : g .r .0 ≤ length (m .output) → count < 16 →
+      Acts beginSequence (g .at .0) g m (Onward g) (memory (m .input) (m .output) (m .journal) afterBegin (m .values))
+  begin-kept r≤out h =
+      let frames₁ = set (m .frames) (24 * g .frame + (23 - count)) (g .r .0) in
+      let room₁ : length frames₁ ≡ 6144 = rw length-set room in
+      record {
+        same = λ allowance code enter k.
+            rw (
+              opened-count (m .frames) (g .frame) framed room count (omega arith),
+              lt-ltb count 16 h,
+              length-take-le (g .r .0) (m .output) r≤out,
+              local-count frames₁ (m .values) (g .frame) framed room₁ (count + 1) (omega arith),
+              local-opened (m .frames) (m .values) (g .frame) framed room count (g .r .0) h room₁,
+            );
+        stays = record {
+          fits = λ f. record {
+            ordered = f .ordered;
+            inside = f .inside;
+            below = f .below;
+            logged = f .logged;
+            framed = f .framed;
+            stored = rw (word-kept frames₁ (g .frame) 4 3 (count + 1) (omega arith), word-kept (m .frames) (g .frame) (23 - count) 3 (g .r .0) (omega arith)) (f .stored);
+            opened = rw (word-set frames₁ (g .frame) framed room₁ 4 (count + 1) (omega arith)) (omega arith);
+            frameRoom = rw length-set room₁;
+            valueRoom = f .valueRoom;
+          };
+          frame = refl;
+          place = refl;
+          steps = refl;
+          waiting = waiting-kept frames₁ (g .frame) 4 (count + 1) ∙ waiting-kept (m .frames) (g .frame) (23 - count) (g .r .0);
+          values = refl;
+          beyond = λ old e. e;
+        };
+      }
+
+  -- USESEQ
+
+  module _ (p≤q : g .p .0 ≤ g .q .0) (q≤in : g .q .0 ≤ length (m .input)) (r≤out : g .r .0 ≤ length (m .output)) (few : count ≤ 16) where
+    -- where the latest open sequence begins on out
+    abbrev pub mark : ℕ
+    mark = frameWord (g .frame) (24 - count) (m .frames)
+
+    pub use-none : count ≡ 0 → Acts useSequence (g .at .0) g m (Stopped g NoInstruction 0) m
+    use-none e = stops g m _ _ NoInstruction (λ allowance code enter k. rw (e, opened-none (m .frames) (g .frame) framed room))
+
+    pub use-full : (count ≡ 0 → ⊥) → g .p .0 < g .r .0 - min mark (g .r .0) → Acts useSequence (g .at .0) g m (Stopped g InFull 0) m
+    use-full ne h =
+        let full : length (m .input) < (g .r .0 - mark) + (length (m .input) - g .p .0) = omega arith in
+        stops g m _ _ InFull (λ allowance code enter k.
+        rw (
+          opened-next (m .frames) (g .frame) framed room count (omega arith) (omega arith),
+          length-drop mark (take (g .r .0) (m .output)),
+          length-take-le (g .r .0) (m .output) r≤out,
+          length-drop (g .p .0) (m .input),
+          lt-ltb _ _ full,
+        ))
+
+    -- the argument leaves out, and stands just below p
+    module _ (to : ℕ) (input : Bytes) (down : MovedDown (m .input) (g .p .0) (m .output) (min mark (g .r .0)) (g .r .0) to input) where
+      abbrev pub afterUse : Memory
+      afterUse = memory input (m .output) (m .journal) (set (m .frames) (24 * g .frame + 4) (count - 1)) (m .values)
+
+      -- out up to r, cut where the sequence begins
+      argument : drop mark (take (g .r .0) (m .output)) ≡ take (g .r .0 - min mark (g .r .0)) (drop (min mark (g .r .0)) (m .output))
+      argument =
+          sym (drop-min mark (take (g .r .0) (m .output))) ∙
+          rw (length-take-le (g .r .0) (m .output) r≤out) (drop-take (min mark (g .r .0)) (g .r .0) (m .output))
+
+      kept : take mark (take (g .r .0) (m .output)) ≡ take (min mark (g .r .0)) (m .output)
+      kept =
+          sym (take-min mark (take (g .r .0) (m .output))) ∙
+          rw (length-take-le (g .r .0) (m .output) r≤out) (take-take (min mark (g .r .0)) (g .r .0) (m .output) (omega arith))
+
+      below-p : drop to input ≡ take (g .r .0 - min mark (g .r .0)) (drop (min mark (g .r .0)) (m .output)) ++ drop (g .p .0) (m .input)
+      below-p = rw (down .cells) (drop-at (take to (m .input)) _ to (length-take-le to (m .input) (omega (arith, down .start))))
+
+      pub use-moved : (count ≡ 0 → ⊥) → length input ≡ length (m .input) → g .r .0 - min mark (g .r .0) ≤ g .p .0 →
+          Acts useSequence (g .at .0) g m (Onward (movedTo g to (g .p .0) (min mark (g .r .0)))) afterUse
+      use-moved ne long h =
+          let there : (g .r .0 - mark) + (length (m .input) - g .p .0) ≤ length (m .input) = omega arith in
+          let selected : g .r .0 - mark ≡ g .p .0 - to = omega (arith, down .start) in
+          record {
+            same = λ allowance code enter k.
+                rw (
+                  opened-next (m .frames) (g .frame) framed room count (omega arith) (omega arith),
+                  length-drop mark (take (g .r .0) (m .output)),
+                  length-take-le (g .r .0) (m .output) r≤out,
+                  length-drop (g .p .0) (m .input),
+                  le-ltb (length (m .input)) _ there,
+                  local-count (m .frames) (m .values) (g .frame) framed room (count - 1) (omega arith),
+                  argument,
+                  kept,
+                  below-p,
+                  selected,
+                );
+            stays = record {
+              fits = λ f. record {
+                ordered = omega (arith, down .start);
+                inside = rw long (omega arith);
+                below = omega arith;
+                logged = f .logged;
+                framed = f .framed;
+                stored = rw (word-kept (m .frames) (g .frame) 4 3 (count - 1) (omega arith)) (f .stored);
+                opened = rw (word-set (m .frames) (g .frame) framed room 4 (count - 1) (omega arith)) (omega arith);
+                frameRoom = rw length-set room;
+                valueRoom = f .valueRoom;
+              };
+              frame = refl;
+              place = refl;
+              steps = refl;
+              waiting = waiting-kept (m .frames) (g .frame) 4 (count - 1);
+              values = refl;
+              beyond = λ old e. e;
+            };
+          }

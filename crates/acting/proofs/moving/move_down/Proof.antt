@@ -1,0 +1,51 @@
+-- `moving::move_down` meets its contract. The loop's invariant, after each byte: the bytes moved stand in order just below the old p, the others are
+-- still on out, and no other cell of in has changed.
+use native.Mathlib.Omega.{arith}
+use Prim.Native.Nat.{_+_, _-_, _≤_}
+use mathlib.Core.Path.{_≡_, refl}
+use lib.ListN.{length, length-set}
+use Rattle.acting.specs.Copied.{MovedDown}
+use Rattle.acting.proofs.laws.Copying.{moved-none, moved-one}
+use Rattle.acting.proofs.moving.move_down.Statement.{statement}
+use Rattle.acting.proofs.moving.move_down.Tie as tie
+
+abbrev Inv-loop : tie.InvT-loop
+Inv-loop input₀ output to₀ from₀ stop input to from = MovedDown input₀ to₀ output from from₀ to input × (stop ≤ from) × (from ≤ from₀) × (length input ≡ length input₀)
+
+abbrev μ-loop : tie.MeasureT-loop
+μ-loop input₀ output to₀ from₀ stop input to from = from
+
+loop-holds : tie.Need-loop-holds Inv-loop μ-loop
+loop-holds c = (moved-none _ _ _ _, c .pre .0, omega arith, refl)
+
+sub-from : tie.Need-sub-from Inv-loop μ-loop
+sub-from c = omega arith
+
+sub-to : tie.Need-sub-to Inv-loop μ-loop
+sub-to c = omega arith
+
+shared-slice-read-input : tie.Need-shared-slice-read-input Inv-loop μ-loop
+shared-slice-read-input c = omega arith
+
+slice-write-input : tie.Need-slice-write-input Inv-loop μ-loop
+slice-write-input c = omega arith
+
+loop-less : tie.Need-loop-less Inv-loop μ-loop
+loop-less c = omega arith
+
+loop-again : tie.Need-loop-again Inv-loop μ-loop
+loop-again c = (
+  moved-one _ _ _ _ _ _ _ (c .before .before .loop .inv .0) (omega arith) (omega arith) (omega arith) (omega arith) (omega arith),
+  omega arith,
+  omega arith,
+  rw length-set (c .before .before .loop .inv .3),
+)
+
+same-length : tie.Need-same-length Inv-loop μ-loop
+same-length c = c .before .loop .inv .3
+
+returns : tie.Need-returns Inv-loop μ-loop
+returns c = let e : c .before .loop .from ≡ c .before .before .args .first .0 = omega arith in rw e at (c .before .loop .inv .0)
+
+pub move-down-spec : {M : Type 1} → statement M
+move-down-spec = tie.close (tie.spec Inv-loop μ-loop loop-holds sub-from sub-to shared-slice-read-input slice-write-input loop-less loop-again same-length returns)

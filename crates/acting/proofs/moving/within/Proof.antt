@@ -1,0 +1,34 @@
+-- `moving::within` meets its contract.
+use borrow.Author.Needs.{needs}
+use native.Mathlib.Omega.{arith}
+use Prim.Native.Nat.{_+_, _-_}
+use Rattle.acting.proofs.laws.Spanning.{fits-within, not-within}
+use Rattle.acting.proofs.moving.within.Statement.{statement}
+use Rattle.acting.proofs.moving.within.Tie as tie
+
+returns : tie.Need-returns
+returns c = let a = c .before .before .args in not-within (a .cells + a .add - a .back) (a .there) (omega arith)
+
+returns-2 : tie.Need-returns-2
+returns-2 c = let a = c .before .before .before .args in not-within (a .cells + a .add - a .back) (a .there) (omega arith)
+
+add-t9 : tie.Need-add-t9
+add-t9 c = search needs
+
+returns-3 : tie.Need-returns-3
+returns-3 c = let a = c .before .before .before .args in fits-within (a .cells + a .add - a .back) _ (a .there) (omega arith) (omega arith)
+
+sub-less : tie.Need-sub-less
+sub-less c = search needs
+
+less-requires : tie.Need-less-requires
+less-requires c κs = search needs
+
+returns-4 : tie.Need-returns-4
+returns-4 c = let a = c .before .before .before .args in not-within (a .cells + a .add - a .back) (a .there) (omega (arith, c .before .less .ensures))
+
+returns-5 : tie.Need-returns-5
+returns-5 c = let a = c .before .before .before .args in fits-within (a .cells + a .add - a .back) _ (a .there) (omega (arith, c .before .less .ensures)) (omega arith)
+
+pub within-spec : {M : Type 1} → statement M
+within-spec = tie.close (tie.spec returns returns-2 add-t9 returns-3 sub-less less-requires returns-4 returns-5)

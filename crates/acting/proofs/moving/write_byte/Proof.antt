@@ -1,0 +1,26 @@
+-- `moving::write_byte` meets its contract.
+use borrow.Author.Needs.{needs}
+use Rattle.acting.specs.States.{memory}
+use Rattle.acting.proofs.laws.Acting.{byte-full, byte-written}
+use Rattle.acting.proofs.moving.write_byte.Statement.{statement}
+use Rattle.acting.proofs.moving.write_byte.Tie as tie
+
+returns : tie.Need-returns
+returns c = let a = c .before .args in
+    λ input journal values frames. byte-full (a .g) (memory input (a .output .now) journal frames values) (c .before .pre) (a .byte) (c .if1 .taken)
+
+slice-write-output : tie.Need-slice-write-output
+slice-write-output c = search needs
+
+add-t5 : tie.Need-add-t5
+add-t5 c = search needs
+
+same-length : tie.Need-same-length
+same-length c = search needs
+
+returns-2 : tie.Need-returns-2
+returns-2 c = let a = c .before .before .before .before .args in
+    λ input journal values frames. byte-written (a .g) (memory input (a .output .now) journal frames values) (c .before .before .before .before .pre) (a .byte) (c .before .before .before .if1 .left)
+
+pub write-byte-spec : {M : Type 1} → statement M
+write-byte-spec = tie.close (tie.spec returns slice-write-output add-t5 same-length returns-2)

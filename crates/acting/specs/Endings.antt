@@ -1,0 +1,17 @@
+-- 01's number for each ending of a run.
+use Prim.Native.Nat.{ℕ}
+use Rattle.meaning.specs.Answers.{finished, noSuchStart, textTooLong, noSentenceFits, allowanceSpent, inFull, outFull, framesFull, recordFull, noInstruction}
+use Rattle.acting.specs.declared.registers.Ending.{Ending}
+use Rattle.acting.specs.declared.registers.Ending.the-variants.{Finished, NoSuchStart, TextTooLong, NoSentenceFits, AllowanceSpent, InFull, OutFull, FramesFull, JournalFull, NoInstruction}
+
+abbrev pub endingNumber : Ending → ℕ
+endingNumber Finished = finished
+endingNumber NoSuchStart = noSuchStart
+endingNumber TextTooLong = textTooLong
+endingNumber NoSentenceFits = noSentenceFits
+endingNumber AllowanceSpent = allowanceSpent
+endingNumber InFull = inFull
+endingNumber OutFull = outFull
+endingNumber FramesFull = framesFull
+endingNumber JournalFull = recordFull
+endingNumber NoInstruction = noInstruction

@@ -1,0 +1,121 @@
+-- The registers and the lent cells as the specification's state: stack in from p on, the selected cells, stack out up to r, what was counted, and what a frame keeps.
+use Prim.Native.Nat.{ℕ, suc, _+_, _*_, _-_, _≤_, _<_}
+use mathlib.Core.Path.{_≡_}
+use mathlib.Core.List.{List}
+use lib.ListN.{length, getD, take, drop}
+use Rattle.meaning.specs.Choice.{Bytes}
+use Rattle.meaning.specs.Outcome.{Outcome, done, stop}
+use Rattle.meaning.specs.Instructions.{Action, Code}
+use Rattle.meaning.specs.Machine.{Ledger, Stacks, Local, perform}
+use Rattle.meaning.specs.Runs.{Room, lent}
+use Rattle.meaning.specs.Leaving.{maxFrames}
+use Rattle.acting.specs.declared.registers.Registers.{Registers}
+use Rattle.acting.specs.declared.registers.Next.{Next}
+use Rattle.acting.specs.declared.registers.Next.the-variants.{Onward, Done, Stopped}
+use Rattle.acting.specs.Endings.{endingNumber}
+
+-- the stacks, the record, the frames' words and their stored values
+pub record Memory : Type 0 where
+  pub input : Bytes
+  pub output : Bytes
+  pub journal : Bytes
+  pub frames : List ℕ
+  pub values : Bytes
+
+abbrev pub memory : Bytes → Bytes → Bytes → List ℕ → Bytes → Memory
+memory input output journal frames values =
+    record { input = input; output = output; journal = journal; frames = frames; values = values }
+
+-- a frame's words: where its call returns to, d, dl, the number of values, the number of open sequences; and from the end back r at each BeginSeq
+abbrev pub frameWord : ℕ → ℕ → List ℕ → ℕ
+frameWord k i frames = getD frames (24 * k + i) 0
+
+abbrev pub localAt : ℕ → List ℕ → Bytes → Local
+localAt k frames values =
+    record {
+      field = frameWord k 1 frames;
+      place = frameWord k 2 frames;
+      values = take (frameWord k 3 frames) (drop (16 * k) (take (16 * k + 16) values));
+      opened = drop (24 * k + 24 - frameWord k 4 frames) (take (24 * k + 24) frames);
+    }
+
+abbrev pub localOf : Registers → Memory → Local
+localOf g m = localAt (g .frame) (m .frames) (m .values)
+
+abbrev pub stacksOf : Registers → Memory → Stacks
+stacksOf g m = record { input = drop (g .p .0) (m .input); selected = g .q .0 - g .p .0; output = take (g .r .0) (m .output) }
+
+abbrev pub Ledgers : Type 0
+Ledgers = Ledger (Unit {0})
+
+abbrev pub ledgerOf : ℕ → Registers → Memory → Ledgers
+ledgerOf allowance g m =
+    record {
+      tally = record { left = allowance - g .steps; steps = g .steps; emissions = take (g .emitted) (m .journal) };
+      mark = tt;
+    }
+
+abbrev pub roomOf : Memory → Room
+roomOf m =
+    record { inCells = length (m .input); outCells = length (m .output); recordBytes = length (m .journal); frames = maxFrames }
+
+-- the registers with p, q and r elsewhere
+abbrev pub movedTo : Registers → ℕ → ℕ → ℕ → Registers
+movedTo g p q r =
+    record {
+      p = record { 0 = p };
+      q = record { 0 = q };
+      r = record { 0 = r };
+      frame = g .frame;
+      at = g .at;
+      steps = g .steps;
+      emitted = g .emitted;
+    }
+
+-- the registers stay within what is lent
+pub record Fits (g : Registers) (m : Memory) : Type 0 where
+  pub ordered : g .p .0 ≤ g .q .0
+  pub inside : g .q .0 ≤ length (m .input)
+  pub below : g .r .0 ≤ length (m .output)
+  pub logged : g .emitted ≤ length (m .journal)
+  pub framed : g .frame < maxFrames
+  pub stored : frameWord (g .frame) 3 (m .frames) ≤ 16
+  pub opened : frameWord (g .frame) 4 (m .frames) ≤ 16
+  pub frameRoom : length (m .frames) ≡ 6144
+  pub valueRoom : length (m .values) ≡ 4096
+
+-- what a run comes to, and what is left to do in a frame
+abbrev pub Outcomes : Type 0
+Outcomes = Outcome Stacks Ledgers
+
+abbrev pub Going : Type 0
+Going = Local → Stacks → Ledgers → Outcomes
+
+-- how a run goes on, given what is left to do from a place of the code on
+abbrev pub after : ℕ → (ℕ → Going) → Next → Memory → Outcomes
+after allowance k (Onward g) m = k (g .at .0) (localOf g m) (stacksOf g m) (ledgerOf allowance g m)
+after allowance k (Done g) m = done (stacksOf g m) (ledgerOf allowance g m)
+after allowance k (Stopped g ending function) m = stop (endingNumber ending) function (ledgerOf allowance g m)
+
+-- an instruction that goes on at a place, in the same frame and step, with all but its own cells as they were
+pub record Stayed (at : ℕ) (g : Registers) (m : Memory) (h : Registers) (n : Memory) : Type 0 where
+  pub fits : Fits g m → Fits h n
+  pub frame : h .frame ≡ g .frame
+  pub place : h .at .0 ≡ at
+  pub steps : h .steps ≡ g .steps
+  pub waiting : take (24 * g .frame) (n .frames) ≡ take (24 * g .frame) (m .frames)
+  pub values : n .values ≡ m .values
+  pub beyond : (old : Bytes) → drop (g .emitted) (m .journal) ≡ drop (g .emitted) old → drop (h .emitted) (n .journal) ≡ drop (h .emitted) old
+
+-- an instruction that stops does nothing
+abbrev pub Stays : ℕ → Registers → Memory → Next → Memory → Type 0
+Stays at g m (Onward h) n = Stayed at g m h n
+Stays at g m (Done h) n = ⊥
+Stays at g m (Stopped h ending function) n = (h ≡ g) × (n ≡ m)
+
+-- an action's function does the machine's action, whatever is left to do, and goes on at a place
+pub record Acts (action : Action) (at : ℕ) (g : Registers) (m : Memory) (next : Next) (n : Memory) : Type 0 where
+  pub same : (allowance : ℕ) (code : Code) (enter : ℕ → ℕ → Stacks → Ledgers → Outcomes) (k : Going) →
+      perform (lent (roomOf m)) code enter k (suc (g .frame)) action (localOf g m) (stacksOf g m) (ledgerOf allowance g m) ≡
+      after allowance (λ place. k) next n
+  pub stays : Stays at g m next n

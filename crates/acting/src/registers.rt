@@ -1,0 +1,76 @@
+// The registers of one run, the three kinds of place that they count, and how a run goes on.
+use matching::CodePlace;
+ghost use mathlib.Core.Path.{_≡_};
+ghost use Rattle.acting.specs.Endings.{endingNumber};
+
+// A cell of in and a cell of out. A place in the code is matching's CodePlace.
+pub struct InCell(pub usize);
+
+pub struct OutCell(pub usize);
+
+// 000's p, q and r; the current frame, as the number of frames that wait below it; the next code word; the steps made and the length of
+// the emissions.
+pub struct Registers {
+    pub p: InCell,
+    pub q: InCell,
+    pub r: OutCell,
+    pub frame: usize,
+    pub at: CodePlace,
+    pub steps: u32,
+    pub emitted: usize,
+}
+
+// 01's answers to a run.
+pub enum Ending {
+    Finished,
+    NoSuchStart,
+    TextTooLong,
+    NoSentenceFits,
+    AllowanceSpent,
+    InFull,
+    OutFull,
+    FramesFull,
+    JournalFull,
+    NoInstruction,
+}
+
+// A run goes on, is done, or stops with an answer and a function number.
+pub enum Next {
+    Onward(Registers),
+    Done(Registers),
+    Stopped(Registers, Ending, usize),
+}
+
+// The same, without the registers, which are then lent.
+pub enum Status {
+    Onward,
+    Done,
+    Stopped(Ending, usize),
+}
+
+// What a run answers: the ending, the function that fits nothing, the steps, and the lengths of the text on out and of the emissions.
+pub struct Ran {
+    pub ending: Ending,
+    pub function: usize,
+    pub steps: u32,
+    pub text: usize,
+    pub emissions: usize,
+}
+
+// 01's number for an ending.
+pub fn ending_number(ending: Ending) -> u64
+    ensures { λ r. ⌜ r ≡ endingNumber ending ⌝ }
+{
+    match ending {
+        Ending::Finished => 0,
+        Ending::NoSuchStart => 9,
+        Ending::TextTooLong => 10,
+        Ending::NoSentenceFits => 11,
+        Ending::AllowanceSpent => 12,
+        Ending::InFull => 13,
+        Ending::OutFull => 14,
+        Ending::FramesFull => 15,
+        Ending::JournalFull => 16,
+        Ending::NoInstruction => 18,
+    }
+}

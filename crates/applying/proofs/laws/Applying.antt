@@ -1,0 +1,221 @@
+-- An application: the function table, the sentence begun in its frame, the step paid, a call and a tail call.
+use Prim.Native.Nat.{ℕ, zero, suc, pred, _+_, _*_, _-_, _≤_, _<_, min}
+use native.Mathlib.Nat.{sub-self, sub-zero, add-zero}
+use native.Mathlib.Numerals.{add-one}
+use native.Mathlib.Omega.{arith}
+use mathlib.Core.Path.{_≡_, refl, sym, ap, _∙_}
+use mathlib.Core.Bool.{Bool, true, false}
+use mathlib.Core.List.{List, [], _∷_, map}
+use mathlib.Core.Option.{Option, none, some}
+use lib.Dec.{leb, ltb}
+use lib.ListN.{length, getD, take, drop, set, length-take, length-drop, length-set, length-map}
+use lib.Seq.{getD-take, getD-drop, getD-set-same, getD-set-other, take-set-le, drop-set-lt, take-take, take-add, drop-at, length-take-le}
+use borrow.Author.Tests.{le-leb, lt-leb, lt-ltb, le-ltb, leb-true, ltb-true}
+use Rattle.meaning.specs.Choice.{Bytes, pick, both, nth}
+use Rattle.meaning.specs.Outcome.{Tally, pay, paidFrom, done, stop}
+use Rattle.meaning.specs.Instructions.{call, tailCall, Sentences}
+use Rattle.meaning.specs.Matching.{Choice, chosen, chosenNone, chosenWrong, chooseFrom, storedValues}
+use Rattle.meaning.specs.Machine.{Stacks, isDeclared, codeAt, functionOf, ranPaid, ranChoice, started}
+use Rattle.meaning.specs.Runs.{Room, lent}
+use Rattle.meaning.specs.Packing.{Words, unpackSentences, unpackStores, unpackActions}
+use Rattle.acting.specs.declared.registers.Registers.{Registers}
+use Rattle.acting.specs.declared.registers.Ending.{Ending}
+use Rattle.acting.specs.declared.registers.Ending.the-variants.{NoSentenceFits, AllowanceSpent, FramesFull, NoInstruction}
+use Rattle.acting.specs.declared.registers.Next.{Next}
+use Rattle.acting.specs.declared.registers.Next.the-variants.{Onward, Done, Stopped}
+use Rattle.matching.specs.declared.CodePlace.{CodePlace}
+use Rattle.applying.specs.declared.Stored.the-variants.{Before, Wrong}
+use Rattle.acting.specs.Endings.{endingNumber}
+use Rattle.acting.specs.States.{Memory, memory, frameWord, localAt, localOf, stacksOf, Ledgers, ledgerOf, roomOf, Outcomes}
+use Rattle.applying.specs.Storing.{Stores, begun}
+use Rattle.applying.specs.Waiting.{countIn, functionsIn, entering, going, waiting, returning, comesTo, performing, leftWaiting, leftBelow, leftToDo}
+use Rattle.applying.specs.Advancing.{Held, Ready, Underway, Ended, Leads, Advances, Performs, Applies, Starts}
+use Rattle.matching.proofs.laws.Lists.{past-end}
+use Rattle.applying.proofs.laws.Waiting.{left-same, held-same, waiting-same, waiting-stop, entering-paid}
+use Rattle.applying.proofs.laws.Advancing.{ended-of}
+
+-- THE FUNCTION TABLE
+
+module _ (words : Words) (counted : countIn words < length words) where
+  table-length : length (take (countIn words) (drop 1 words)) ≡ countIn words
+  table-length = length-take-le (countIn words) (drop 1 words) (rw (length-drop 1 words) (omega arith))
+
+  functions-length : length (functionsIn words) ≡ countIn words
+  functions-length = rw (length-map (take (countIn words) (drop 1 words)) (λ at. unpackSentences 0 (drop at words))) table-length
+
+  pub declared-none : isDeclared (functionsIn words) 0 ≡ false
+  declared-none = refl
+
+  pub declared-some : (number : ℕ) → (number ≡ 0 → ⊥) → isDeclared (functionsIn words) number ≡ leb number (countIn words)
+  declared-some zero h = absurd (h refl)
+  declared-some (suc n) h = rw (lt-ltb 0 (suc n) (omega arith), functions-length)
+
+  nth-map : (f : ℕ → Sentences) (l : List ℕ) (i : ℕ) → i < length l → nth i (map f l) ≡ some (f (getD l i 0))
+  unfolding nth
+  nth-map f [] i h = absurd (omega arith)
+  nth-map f (x ∷ l) zero h = refl
+  nth-map f (x ∷ l) (suc i) h = nth-map f l i (omega arith)
+
+  -- a function's sentences stand where its entry says
+  pub code-at : (number : ℕ) → 0 < number → number ≤ countIn words → codeAt (functionsIn words) number ≡ unpackSentences 0 (drop (getD words number 0) words)
+  code-at zero h l = absurd (omega arith)
+  code-at (suc n) h l =
+      let one : 1 + n ≡ suc n = omega arith in
+      rw (
+        nth-map (λ at. unpackSentences 0 (drop at words)) (take (countIn words) (drop 1 words)) n (rw table-length (omega arith)),
+        getD-take (countIn words) (drop 1 words) n 0 (omega arith),
+        getD-drop 1 words n 0,
+        one,
+      )
+
+  pub is-declared : (number : ℕ) → isDeclared (functionsIn words) number ≡ true → (0 < number) × (number ≤ countIn words)
+  is-declared zero e = let z : _≡_ {A = ℕ} 0 1 = cc in absurd (omega arith)
+  is-declared (suc n) e = (omega arith, leb-true (suc n) (countIn words) (rw (declared-some (suc n) (λ z. omega arith)) at e))
+
+-- AN INSTRUCTION THAT ENDS THE RUN
+
+module _ (words : Words) (allowance : ℕ) (g : Registers) (m n : Memory) (r : Ready allowance g m) where
+  -- the outcome in the frame is the run's; the values and frames may have changed
+  pub stopping : (tocome : Outcomes) (bound : ℕ) (ending : Ending) (function : ℕ) (h : Registers) → 0 < bound →
+      tocome ≡ stop (endingNumber ending) function (ledgerOf allowance h m) →
+      h .r ≡ g .r → h .emitted ≡ g .emitted → n .input ≡ m .input → n .output ≡ m .output → n .journal ≡ m .journal →
+      Advances words allowance (returning (roomOf m) allowance words g m tocome) bound g m (Stopped h ending function) n
+  stopping tocome bound ending function h b e er ee ei eo ej =
+      record {
+        leads =
+            record {
+              same = rw (e, ej) (waiting-stop (roomOf m) allowance words (g .frame) (m .frames) (m .values) _ _ _);
+              keeps = record { below = rw (er, eo) (r .below); logged = rw (ee, ej) (r .logged) };
+              room = rw (ei, eo, ej);
+              beyond = λ old b. rw (ee, ej) b;
+            };
+        falls = b;
+      }
+
+-- A SENTENCE BEGUN
+
+module _ (frames : List ℕ) (k field place stored : ℕ) (room : length frames ≡ 6144) (framed : k < 256) where
+  abbrev First : List ℕ
+  First = set frames (24 * k + 1) field
+
+  abbrev Second : List ℕ
+  Second = set First (24 * k + 2) place
+
+  abbrev Third : List ℕ
+  Third = set Second (24 * k + 3) stored
+
+  abbrev Begun : List ℕ
+  Begun = begun k field place stored frames
+
+  begun-length : length Begun ≡ length frames
+  begun-length = simp length-set
+
+  begun-below : take (24 * k) Begun ≡ take (24 * k) frames
+  begun-below =
+      rw (
+        take-set-le (24 * k) Third (24 * k + 4) 0 (omega arith),
+        take-set-le (24 * k) Second (24 * k + 3) stored (omega arith),
+        take-set-le (24 * k) First (24 * k + 2) place (omega arith),
+        take-set-le (24 * k) frames (24 * k + 1) field (omega arith),
+      )
+
+  word-1 : frameWord k 1 Begun ≡ field
+  word-1 =
+      rw (
+        getD-set-other Third (24 * k + 4) (24 * k + 1) 0 0 (λ e. omega arith),
+        getD-set-other Second (24 * k + 3) (24 * k + 1) stored 0 (λ e. omega arith),
+        getD-set-other First (24 * k + 2) (24 * k + 1) place 0 (λ e. omega arith),
+      ) (getD-set-same frames (24 * k + 1) field 0 (omega arith))
+
+  word-2 : frameWord k 2 Begun ≡ place
+  word-2 =
+      rw (
+        getD-set-other Third (24 * k + 4) (24 * k + 2) 0 0 (λ e. omega arith),
+        getD-set-other Second (24 * k + 3) (24 * k + 2) stored 0 (λ e. omega arith),
+      )
+      (getD-set-same First (24 * k + 2) place 0 (simp length-set (omega arith)))
+
+  word-3 : frameWord k 3 Begun ≡ stored
+  word-3 =
+      rw (getD-set-other Third (24 * k + 4) (24 * k + 3) 0 0 (λ e. omega arith))
+      (getD-set-same Second (24 * k + 3) stored 0 (simp length-set (omega arith)))
+
+  word-4 : frameWord k 4 Begun ≡ 0
+  word-4 = getD-set-same Third (24 * k + 4) 0 0 (simp length-set (omega arith))
+
+  -- the first values of a frame are the first from its place on
+  frame-values : (values : Bytes) → length values ≡ 4096 → stored ≤ 16 →
+      take stored (drop (16 * k) (take (16 * k + 16) values)) ≡ take stored (drop (16 * k) values)
+  frame-values values sized h =
+      rw (
+        take-add (16 * k) 16 values,
+        drop-at (take (16 * k) values) (take 16 (drop (16 * k) values)) (16 * k) (length-take-le (16 * k) values (omega arith)),
+      )
+      (take-take stored 16 (drop (16 * k) values) h)
+
+  begun-local : (values : Bytes) → length values ≡ 4096 → stored ≤ 16 →
+      localAt k Begun values ≡ record { field = field; place = place; values = take stored (drop (16 * k) values); opened = [] }
+  begun-local values sized h =
+      rw (word-1, word-2, word-3, word-4, frame-values values sized h)
+      (ap (λ rest. record { field = field; place = place; values = take stored (drop (16 * k) values); opened = rest })
+      (past-end (take (24 * k + 24) Begun) (24 * k + 24 - 0) (rw (length-take (24 * k + 24) Begun) (omega arith))))
+
+module _ (words : Words) (allowance place stores stored : ℕ) (g : Registers) (input output journal : Bytes) (frames : List ℕ) (values values′ : Bytes)
+    (few : stored ≤ 16) where
+  abbrev Before-start : Memory
+  Before-start = memory input output journal frames values
+
+  -- the values of the sentence's stores
+  abbrev Kept : Option Bytes
+  Kept = storedValues (unpackStores stored (drop stores words)) (take (g .q .0 - g .p .0) (drop (g .p .0) input)) place
+
+  pub starts-wrong : Stores (16 * g .frame) stored (stores + stored) Kept values values′ Wrong →
+      Starts words allowance place stores stored g Before-start (Stopped g NoInstruction 0) (memory input output journal frames values′)
+  starts-wrong s r =
+      stopping words allowance g Before-start (memory input output journal frames values′) r _ _ NoInstruction 0 g (omega arith)
+      (rw (← (s .same))) refl refl refl refl refl
+
+  -- the registers at a sentence's actions
+  abbrev pub startedAt : CodePlace → Registers
+  startedAt actions =
+      record { p = g .p; q = g .p; r = g .r; frame = g .frame; at = actions; steps = g .steps; emitted = g .emitted }
+
+  pub starts-right : (actions : CodePlace) → length values′ ≡ length values → Stores (16 * g .frame) stored (stores + stored) Kept values values′ (Before actions) →
+      Starts words allowance place stores stored g Before-start (Onward (startedAt actions))
+      (memory input output journal (begun (g .frame) (g .q .0 - g .p .0) place stored frames) values′)
+  starts-right actions sized s r =
+      let k = g .frame in
+      let d = g .q .0 - g .p .0 in
+      let frames′ = begun k d place stored frames in
+      let kept : take (24 * k) frames′ ≡ take (24 * k) frames = begun-below frames k d place stored (r .frameRoom) (r .framed) in
+      record {
+        leads =
+            record {
+              same =
+                  rw (← (s .same), s .ends, begun-local frames k d place stored (r .frameRoom) (r .framed) values′ (sized ∙ r .valueRoom) few, sub-self (g .p .0))
+                  (waiting-same (roomOf Before-start) allowance words frames frames′ values values′ k (sym kept) (sym (s .below)) _);
+              keeps =
+                  record {
+                    ready =
+                        record {
+                          ordered = omega arith;
+                          inside = omega (arith, r .ordered, r .inside);
+                          below = r .below;
+                          logged = r .logged;
+                          framed = r .framed;
+                          frameRoom = begun-length frames k d place stored (r .frameRoom) (r .framed) ∙ r .frameRoom;
+                          valueRoom = sized ∙ r .valueRoom;
+                          paid = r .paid;
+                          held = held-same frames frames′ k (sym kept) (r .held);
+                        };
+                    current =
+                        record {
+                          stored = rw (word-3 frames k d place stored (r .frameRoom) (r .framed)) few;
+                          opened = rw (word-4 frames k d place stored (r .frameRoom) (r .framed)) (omega arith);
+                        };
+                  };
+              room = refl;
+              beyond = λ old b. b;
+            };
+        falls = rw (left-same frames′ frames (length words) k kept) (omega arith);
+      }

@@ -1,0 +1,103 @@
+-- The frames that wait: what they depend on, and how they take up an outcome.
+use Prim.Native.Nat.{ℕ, zero, suc, _+_, _*_, _-_, _≤_, _<_}
+use native.Mathlib.Nat.{sub-self}
+use native.Mathlib.Omega.{arith}
+use mathlib.Core.Path.{_≡_, refl, sym, ap, _∙_}
+use mathlib.Core.List.{List, [], _∷_}
+use lib.ListN.{length, getD, take, drop, set}
+use lib.Seq.{getD-take, take-take}
+use Rattle.meaning.specs.Choice.{Bytes}
+use Rattle.meaning.specs.Outcome.{stop, done, pay}
+use Rattle.meaning.specs.Machine.{Stacks, Local, ranPaid, process}
+use Rattle.meaning.specs.Runs.{Room, lent}
+use Rattle.meaning.specs.Packing.{Words}
+use Rattle.meaning.proofs.laws.Depth.{enter-step}
+use Rattle.acting.specs.declared.registers.Registers.{Registers}
+use Rattle.acting.specs.declared.registers.Next.the-variants.{Onward}
+use Rattle.acting.specs.States.{Memory, frameWord, localAt, stacksOf, Ledgers, ledgerOf, Outcomes}
+use Rattle.applying.specs.Waiting.{functionsIn, entering, waiting, comesTo, leftWaiting, backIn, leftFrom, leftBy}
+use Rattle.applying.specs.Advancing.{Held}
+
+-- A FRAME DEPENDS ON ITS OWN WORDS AND VALUES ALONE
+
+module _ (frames : List ℕ) (n : ℕ) where
+  word-within : (k i : ℕ) → 24 * k + i < n → frameWord k i (take n frames) ≡ frameWord k i frames
+  word-within k i h = getD-take n frames (24 * k + i) 0 h
+
+  left-within : (size k : ℕ) → 24 * k ≤ n → leftWaiting size k (take n frames) ≡ leftWaiting size k frames
+  unfolding leftWaiting
+  left-within size zero h = refl
+  left-within size (suc k) h = rw (word-within k 0 (omega arith), left-within size k (omega arith))
+
+  held-within : (k : ℕ) → 24 * k + 24 ≤ n → Held k (take n frames) → Held k frames
+  held-within k h e =
+      record { stored = rw (word-within k 3 (omega arith)) at (e .stored); opened = rw (word-within k 4 (omega arith)) at (e .opened) }
+
+  within-held : (k : ℕ) → 24 * k + 24 ≤ n → Held k frames → Held k (take n frames)
+  within-held k h e =
+      record { stored = rw (word-within k 3 (omega arith)) (e .stored); opened = rw (word-within k 4 (omega arith)) (e .opened) }
+
+  module _ (values : Bytes) (m : ℕ) where
+    local-within : (k : ℕ) → 24 * k + 24 ≤ n → 16 * k + 16 ≤ m → localAt k (take n frames) (take m values) ≡ localAt k frames values
+    local-within k h h′ =
+        rw (
+          word-within k 1 (omega arith),
+          word-within k 2 (omega arith),
+          word-within k 3 (omega arith),
+          word-within k 4 (omega arith),
+          take-take (24 * k + 24) n frames h,
+          take-take (16 * k + 16) m values h′,
+        )
+
+    module _ (room : Room) (allowance : ℕ) (words : Words) where
+      waiting-within : (k : ℕ) → 24 * k ≤ n → 16 * k ≤ m → (o : Outcomes) →
+          waiting room allowance words k (take n frames) (take m values) o ≡ waiting room allowance words k frames values o
+      unfolding waiting
+      waiting-within zero h h′ o = refl
+      waiting-within (suc k) h h′ o =
+          rw (word-within k 0 (omega arith), local-within k (omega arith) (omega arith)) (waiting-within k (omega arith) (omega arith) _)
+
+pub left-same : (frames frames′ : List ℕ) (size k : ℕ) → take (24 * k) frames ≡ take (24 * k) frames′ → leftWaiting size k frames ≡ leftWaiting size k frames′
+left-same frames frames′ size k e =
+    sym (left-within frames (24 * k) size k (omega arith)) ∙ rw e (left-within frames′ (24 * k) size k (omega arith))
+
+pub held-same : (frames frames′ : List ℕ) (k : ℕ) → take (24 * k) frames ≡ take (24 * k) frames′ → ((i : ℕ) → i < k → Held i frames) → (i : ℕ) → i < k → Held i frames′
+held-same frames frames′ k e held i h =
+    held-within frames′ (24 * k) i (omega arith) (rw e at (within-held frames (24 * k) i (omega arith) (held i h)))
+
+module _ (room : Room) (allowance : ℕ) (words : Words) where
+  pub waiting-same : (frames frames′ : List ℕ) (values values′ : Bytes) (k : ℕ) → take (24 * k) frames ≡ take (24 * k) frames′ →
+      take (16 * k) values ≡ take (16 * k) values′ → (o : Outcomes) →
+      waiting room allowance words k frames values o ≡ waiting room allowance words k frames′ values′ o
+  waiting-same frames frames′ values values′ k e e′ o =
+      sym (waiting-within frames (24 * k) values (16 * k) room allowance words k (omega arith) (omega arith) o) ∙
+      rw (e, e′) (waiting-within frames′ (24 * k) values′ (16 * k) room allowance words k (omega arith) (omega arith) o)
+
+  -- a frame that waits is not asked where the one above it stops
+  pub waiting-stop : (k : ℕ) (frames : List ℕ) (values : Bytes) (answer function : ℕ) (l : Ledgers) →
+      waiting room allowance words k frames values (stop answer function l) ≡ stop answer function l
+  unfolding waiting
+  waiting-stop zero frames values answer function l = refl
+  waiting-stop (suc k) frames values answer function l = waiting-stop k frames values answer function l
+
+  -- an application is its one step
+  pub entering-paid : (frame f : ℕ) (s : Stacks) (l : Ledgers) → l .tally .left ≤ allowance →
+      entering room allowance words frame f s l ≡
+      ranPaid (lent room) (functionsIn words) (entering room allowance words) frame f s l (pay (l .tally))
+  entering-paid frame f s l h = enter-step (lent room) allowance allowance (functionsIn words) frame f s l h (omega arith)
+
+  -- the end of an application
+  pub waiting-done : (k : ℕ) (g : Registers) (m : Memory) →
+      waiting room allowance words k (m .frames) (m .values) (done (stacksOf g m) (ledgerOf allowance g m)) ≡
+      comesTo room allowance words (leftFrom k g (m .frames)) m
+  unfolding waiting
+  waiting-done zero g m = refl
+  waiting-done (suc k) g m = rw (sub-self (g .p .0))
+
+-- a frame that is not the lowest is left for the one below it
+pub left-back : (g : Registers) (frames : List ℕ) → (g .frame ≡ 0 → ⊥) → Onward (backIn (g .frame - 1) g frames) ≡ leftBy g frames
+left-back g frames h = by (g .frame) h
+  where
+    by : (n : ℕ) → (n ≡ 0 → ⊥) → Onward (backIn (n - 1) g frames) ≡ leftFrom n g frames
+    by zero h = absurd (h refl)
+    by (suc k) h = let e : suc k - 1 ≡ k = omega arith in rw e

@@ -1,0 +1,62 @@
+-- `applying::start_sentence` meets its contract.
+use Rattle.applying.proofs.laws.Applying.{starts-wrong, starts-right}
+use borrow.Author.Needs.{needs}
+use Rattle.applying.proofs.start_sentence.Statement.{statement}
+use Rattle.applying.proofs.start_sentence.Tie as tie
+
+sub-store-values : tie.Need-sub-store-values
+sub-store-values c = search needs
+
+part-store-values-start : tie.Need-part-store-values-start
+part-store-values-start c = search needs
+
+part-store-values-end : tie.Need-part-store-values-end
+part-store-values-end c = search needs
+
+store-values-requires : tie.Need-store-values-requires
+store-values-requires c κs = search needs
+
+enum-known-actions : tie.Need-enum-known-actions
+enum-known-actions c = search needs
+
+enum-told : tie.Need-enum-told
+enum-told c = search needs
+
+same-length : tie.Need-same-length
+same-length c = search needs
+
+returns : tie.Need-returns
+returns c = let a = c .before .before .before .before .before .before .before .before .before .before .before .args in λ allowance output journal. starts-wrong (a .code .now) allowance (a .place) (a .stores .0) (a .stored) (a .g) (a .input .now) output journal (a .frames .now) (a .values .now) (c .before .before .before .before .store-values .last .1 .1 .1 .1 .1 .0) (c .before .before .before .before .before .before .before .before .before .before .before .pre .1 .1 .1 .1 .1) (rw (c .enum-told .given .1) at (c .before .before .before .before .store-values .ensures))
+
+sub-begin-frame : tie.Need-sub-begin-frame
+sub-begin-frame c = search needs
+
+begin-frame-requires : tie.Need-begin-frame-requires
+begin-frame-requires c κs = search needs
+
+same-length-2 : tie.Need-same-length-2
+same-length-2 c = search needs
+
+same-length-3 : tie.Need-same-length-3
+same-length-3 c = search needs
+
+returns-2 : tie.Need-returns-2
+returns-2 c = let a = c .before .before .before .before .before .before .before .before .before .before .before .before .before .before .before .before .before .before .before .args in λ allowance output journal. rw (c .before .before .before .before .before .begin-frame .ensures) (starts-right (a .code .now) allowance (a .place) (a .stores .0) (a .stored) (a .g) (a .input .now) output journal (a .frames .now) (a .values .now) (c .before .before .before .before .before .before .before .before .before .before .before .before .store-values .last .1 .1 .1 .1 .1 .0) (c .before .before .before .before .before .before .before .before .before .before .before .before .before .before .before .before .before .before .before .pre .1 .1 .1 .1 .1) (c .before .before .before .before .before .before .before .before .actions .given .0 .0) (c .before .before .before .before .before .before .before .before .before .before .before .before .store-values .kept .1 .1 .1 .1 .1 .0) (rw (c .before .before .before .before .before .before .before .before .actions .given .1) at (c .before .before .before .before .before .before .before .before .before .before .before .before .store-values .ensures)))
+
+pub start-sentence-spec : {M : Type 1} → statement M
+start-sentence-spec =
+    tie.close
+    (tie.spec
+    sub-store-values
+    part-store-values-start
+    part-store-values-end
+    store-values-requires
+    enum-known-actions
+    enum-told
+    same-length
+    returns
+    sub-begin-frame
+    begin-frame-requires
+    same-length-2
+    same-length-3
+    returns-2)

@@ -1,0 +1,98 @@
+-- `applying::store_values` meets its contract. The loop's invariant: so many values are stored, and the stores that are left come next.
+-- The measure is how many are left.
+use Prim.Native.Nat.{_-_}
+use borrow.Author.Needs.{needs}
+use mathlib.Core.Path.{sym, _∙_, ap}
+use Rattle.matching.specs.Matched.{cellMeant}
+use Rattle.applying.proofs.laws.Storing.{Storing, storing-start, storing-cut, storing-wrong, storing-next, storing-done}
+use Rattle.applying.proofs.store_values.Statement.{statement}
+use Rattle.applying.proofs.store_values.Tie as tie
+
+abbrev Inv-loop : tie.InvT-loop
+Inv-loop code count field place values₀ frame base at₀ i₀ values at i = Storing code field place base count at₀ values₀ values at i
+
+abbrev μ-loop : tie.MeasureT-loop
+μ-loop code count field place values₀ frame base at₀ i₀ values at i = count - i
+
+mul-base : tie.Need-mul-base Inv-loop μ-loop
+mul-base c = search needs
+
+loop-holds : tie.Need-loop-holds Inv-loop μ-loop
+loop-holds c = storing-start _ _ _ _ _ _ _
+
+same-length : tie.Need-same-length Inv-loop μ-loop
+same-length c = c .before .before .loop .inv .sized
+
+returns : tie.Need-returns Inv-loop μ-loop
+returns c = storing-cut _ _ _ _ _ _ _ _ _ _ (c .before .before .loop .inv) (c .before .loop-test .taken) (c .if1 .taken)
+
+mul-stored-cell : tie.Need-mul-stored-cell Inv-loop μ-loop
+mul-stored-cell c = search needs
+
+shared-slice-read-stored-cell : tie.Need-shared-slice-read-stored-cell Inv-loop μ-loop
+shared-slice-read-stored-cell c = search needs
+
+stored-cell-requires : tie.Need-stored-cell-requires Inv-loop μ-loop
+stored-cell-requires c κs = search needs
+
+enum-known-byte : tie.Need-enum-known-byte Inv-loop μ-loop
+enum-known-byte c = search needs
+
+enum-told : tie.Need-enum-told Inv-loop μ-loop
+enum-told c = search needs
+
+same-length-2 : tie.Need-same-length-2 Inv-loop μ-loop
+same-length-2 c = c .before .before .before .before .before .before .loop .inv .sized
+
+returns-2 : tie.Need-returns-2 Inv-loop μ-loop
+returns-2 c = storing-wrong _ _ _ _ _ _ _ _ _ _ (c .before .before .before .before .before .before .loop .inv) (c .before .before .before .before .before .loop-test .taken) (c .before .before .before .before .if1 .left) (sym (c .before .before .stored-cell .ensures) ∙ ap cellMeant (c .enum-told .given .1))
+
+add-values : tie.Need-add-values Inv-loop μ-loop
+add-values c = search needs
+
+slice-write-values : tie.Need-slice-write-values Inv-loop μ-loop
+slice-write-values c = search needs
+
+add-at : tie.Need-add-at Inv-loop μ-loop
+add-at c = search needs
+
+add-i : tie.Need-add-i Inv-loop μ-loop
+add-i c = search needs
+
+loop-less : tie.Need-loop-less Inv-loop μ-loop
+loop-less c = search needs
+
+loop-again : tie.Need-loop-again Inv-loop μ-loop
+loop-again c = storing-next _ _ _ _ _ _ _ _ _ _ (c .before .before .before .before .before .before .before .loop .inv) _ (c .before .before .before .before .before .before .loop-test .taken) (c .before .before .before .before .before .before .before .before .before .before .before .pre) (c .before .before .before .before .before .if1 .left) (sym (c .before .before .before .stored-cell .ensures) ∙ ap cellMeant (c .before .byte .given .1))
+
+same-length-3 : tie.Need-same-length-3 Inv-loop μ-loop
+same-length-3 c = c .before .loop .inv .sized
+
+returns-3 : tie.Need-returns-3 Inv-loop μ-loop
+returns-3 c = storing-done _ _ _ _ _ _ _ _ _ _ (c .before .loop .inv) (c .loop-test .left)
+
+pub store-values-spec : {M : Type 1} → statement M
+store-values-spec =
+    tie.close
+    (tie.spec
+    Inv-loop
+    μ-loop
+    mul-base
+    loop-holds
+    same-length
+    returns
+    mul-stored-cell
+    shared-slice-read-stored-cell
+    stored-cell-requires
+    enum-known-byte
+    enum-told
+    same-length-2
+    returns-2
+    add-values
+    slice-write-values
+    add-at
+    add-i
+    loop-less
+    loop-again
+    same-length-3
+    returns-3)

@@ -1,0 +1,33 @@
+-- `applying::tail_call` meets its contract.
+use mathlib.Core.Path.{sym, _∙_}
+use mathlib.Core.Bool.{true}
+use borrow.Author.Tests.{not-true, not-false}
+use Rattle.acting.specs.States.{memory}
+use Rattle.applying.proofs.laws.Applying.{is-declared}
+use Rattle.applying.proofs.laws.Calling.{undeclared, tail-applies}
+use borrow.Author.Needs.{needs}
+use Rattle.applying.proofs.tail_call.Statement.{statement}
+use Rattle.applying.proofs.tail_call.Tie as tie
+
+declared-requires : tie.Need-declared-requires
+declared-requires c κs = search needs
+
+returns : tie.Need-returns
+returns c = let a = c .before .before .before .before .before .before .args in λ output journal. undeclared (a .code .now) (a .allowance) (a .number) (a .g) (memory (a .input .now) output journal (a .frames .now) (a .values .now)) true (sym (c .before .declared .ensures) ∙ not-true _ (c .if1 .taken))
+
+apply-requires : tie.Need-apply-requires
+apply-requires c κs = let a = c .before .before .before .before .before .before .before .before .args in let pre = c .before .before .before .before .before .before .before .before .pre in let d = is-declared (a .code .now) (pre .1 .0) (a .number) (sym (c .before .before .before .declared .ensures) ∙ not-false _ (c .before .before .if1 .left)) in (pre .0, (pre .1 .0, (d .0, (d .1, (pre .1 .1 .0, (pre .1 .1 .1 .0, (pre .1 .1 .1 .1 .0, (pre .1 .1 .1 .1 .1 .0, pre .1 .1 .1 .1 .1 .1))))))))
+
+same-length : tie.Need-same-length
+same-length c = search needs
+
+same-length-2 : tie.Need-same-length-2
+same-length-2 c = search needs
+
+returns-2 : tie.Need-returns-2
+returns-2 c = let a = c .before .before .before .before .before .before .before .before .before .before .before .before .before .args in λ output journal. tail-applies (a .code .now) (a .allowance) (a .number) (a .g) (memory (a .input .now) output journal (a .frames .now) (a .values .now)) (sym (c .before .before .before .before .before .before .before .before .declared .ensures) ∙ not-false _ (c .before .before .before .before .before .before .before .if1 .left)) _ _ (c .before .before .before .before .apply .ensures output journal)
+
+pub tail-call-spec : {M : Type 1} → statement M
+tail-call-spec =
+    tie.close
+    (tie.spec declared-requires returns apply-requires same-length same-length-2 returns-2)

@@ -1,0 +1,126 @@
+-- What an instruction of a run keeps up, and what it leads to.
+use Prim.Native.Nat.{ℕ, suc, _+_, _-_, _≤_, _<_}
+use mathlib.Core.Bool.{Bool, true, false}
+use mathlib.Core.Path.{_≡_}
+use mathlib.Core.List.{List}
+use lib.ListN.{length, take, drop}
+use Rattle.meaning.specs.Choice.{Bytes}
+use Rattle.meaning.specs.Outcome.{pay}
+use Rattle.meaning.specs.Instructions.{Action}
+use Rattle.meaning.specs.Matching.{storedValues}
+use Rattle.meaning.specs.Machine.{started, ranPaid}
+use Rattle.meaning.specs.Runs.{lent}
+use Rattle.meaning.specs.Packing.{Words, unpackStores, unpackActions}
+use Rattle.meaning.specs.Leaving.{maxFrames}
+use Rattle.acting.specs.declared.registers.Registers.{Registers}
+use Rattle.acting.specs.declared.registers.Next.{Next}
+use Rattle.acting.specs.declared.registers.Next.the-variants.{Onward, Done, Stopped}
+use Rattle.acting.specs.declared.registers.Status.{Status}
+use Rattle.acting.specs.declared.registers.Status.the-variants as status
+use Rattle.acting.specs.States.{Memory, frameWord, stacksOf, ledgerOf, roomOf, Outcomes}
+use Rattle.applying.specs.Waiting.{functionsIn, entering, returning, comesTo, performing, leftBelow, leftToDo}
+
+-- a frame keeps no more than it has room for
+pub record Held (k : ℕ) (frames : List ℕ) : Type 0 where
+  pub stored : frameWord k 3 frames ≤ 16
+  pub opened : frameWord k 4 frames ≤ 16
+
+-- the registers stay within what is lent and allowed, and so do the frames that wait: an application may begin
+pub record Ready (allowance : ℕ) (g : Registers) (m : Memory) : Type 0 where
+  pub ordered : g .p .0 ≤ g .q .0
+  pub inside : g .q .0 ≤ length (m .input)
+  pub below : g .r .0 ≤ length (m .output)
+  pub logged : g .emitted ≤ length (m .journal)
+  pub framed : g .frame < maxFrames
+  pub frameRoom : length (m .frames) ≡ 6144
+  pub valueRoom : length (m .values) ≡ 4096
+  pub paid : g .steps ≤ allowance
+  pub held : (k : ℕ) → k < g .frame → Held k (m .frames)
+
+-- and so does the current frame: an instruction may come next
+pub record Underway (allowance : ℕ) (g : Registers) (m : Memory) : Type 0 where
+  pub ready : Ready allowance g m
+  pub current : Held (g .frame) (m .frames)
+
+pub record Ended (g : Registers) (m : Memory) : Type 0 where
+  pub below : g .r .0 ≤ length (m .output)
+  pub logged : g .emitted ≤ length (m .journal)
+
+abbrev pub Keeps : ℕ → Next → Memory → Type 0
+Keeps allowance (Onward g) m = Underway allowance g m
+Keeps allowance (Done g) m = Ended g m
+Keeps allowance (Stopped g ending function) m = Ended g m
+
+abbrev pub registersIn : Next → Registers
+registersIn (Onward g) = g
+registersIn (Done g) = g
+registersIn (Stopped g ending function) = g
+
+-- how a run goes on, apart from its registers, and both put together
+abbrev pub statusIn : Next → Status
+statusIn (Onward g) = status.Onward
+statusIn (Done g) = status.Done
+statusIn (Stopped g ending function) = status.Stopped ending function
+
+abbrev pub nextOf : Status → Registers → Next
+nextOf status.Onward g = Onward g
+nextOf status.Done g = Done g
+nextOf (status.Stopped ending function) g = Stopped g ending function
+
+abbrev pub onward : Status → Bool
+onward status.Onward = true
+onward status.Done = false
+onward (status.Stopped ending function) = false
+
+-- from registers and cells a run leads to others: what it comes to is what was to come, and the record past the emissions is as it was
+pub record Leads (words : Words) (allowance : ℕ) (tocome : Outcomes) (g : Registers) (m : Memory) (next : Next) (n : Memory) : Type 0 where
+  pub same : tocome ≡ comesTo (roomOf m) allowance words next n
+  pub keeps : Keeps allowance next n
+  pub room : roomOf n ≡ roomOf m
+  pub beyond : (old : Bytes) → drop (g .emitted) (m .journal) ≡ drop (g .emitted) old →
+      drop (registersIn next .emitted) (n .journal) ≡ drop (registersIn next .emitted) old
+
+-- and less than a bound is left to do
+pub record Advances (words : Words) (allowance : ℕ) (tocome : Outcomes) (bound : ℕ) (g : Registers) (m : Memory) (next : Next) (n : Memory) : Type 0 where
+  pub leads : Leads words allowance tocome g m next n
+  pub falls : leftToDo (length words) allowance next n < bound
+
+-- an instruction does the machine's action, the registers being at the place after its word, and leads on to a place
+abbrev pub Performs : Words → ℕ → Action → ℕ → Registers → Memory → Next → Memory → Type 0
+Performs words allowance action at g m next n =
+    Underway allowance g m →
+    Advances words allowance (performing (roomOf m) allowance words action at g m) (suc (leftToDo (length words) allowance (Onward g) m)) g m next n
+
+-- an application of a function in the frame of the registers
+abbrev pub Applies : Words → ℕ → ℕ → Registers → Memory → Next → Memory → Type 0
+Applies words allowance number g m next n =
+    Ready allowance g m →
+    Advances words allowance
+    (returning (roomOf m) allowance words g m
+    (ranPaid (lent (roomOf m)) (functionsIn words) (entering (roomOf m) allowance words) (suc (g .frame)) number (stacksOf g m) (ledgerOf allowance g m)
+    (pay (ledgerOf allowance g m .tally))))
+    (suc (leftBelow (length words) allowance g m))
+    g m next n
+
+-- the actions of a sentence begun, with so many stores from a place of the code on and the middle template at a place of the field
+abbrev pub Starts : Words → ℕ → ℕ → ℕ → ℕ → Registers → Memory → Next → Memory → Type 0
+Starts words allowance at stores stored g m next n =
+    Ready allowance g m →
+    Advances words allowance
+    (returning (roomOf m) allowance words g m
+    (started (lent (roomOf m)) (functionsIn words) (entering (roomOf m) allowance words) (suc (g .frame)) (unpackActions 0 (drop (stores + stored) words)) at
+    (storedValues (unpackStores stored (drop stores words)) (take (g .q .0 - g .p .0) (drop (g .p .0) (m .input))) at)
+    (stacksOf g m) (ledgerOf allowance g m)))
+    (leftBelow (length words) allowance g m + suc (suc (length words)))
+    g m next n
+
+-- a run that has ended
+abbrev pub IsOver : Next → Type 0
+IsOver (Onward g) = ⊥
+IsOver (Done g) = Unit {0}
+IsOver (Stopped g ending function) = Unit {0}
+
+-- a run followed to its end
+pub record Follows (words : Words) (allowance : ℕ) (first : Next) (m : Memory) (last : Next) (n : Memory) : Type 0 where
+  pub leads : Leads words allowance (comesTo (roomOf m) allowance words first m) (registersIn first) m last n
+  pub over : IsOver last

@@ -1,0 +1,95 @@
+-- What a run under way will come to: what is left to do in the current frame, and then in each frame that waits for the one above it.
+use Prim.Native.Nat.{ℕ, zero, suc, _+_, _*_, _-_}
+use mathlib.Core.Bool.{Bool}
+use mathlib.Core.List.{List}
+use lib.Dec.{ltb}
+use lib.ListN.{length, getD, take, drop}
+use Rattle.meaning.specs.Choice.{Bytes, both, every}
+use Rattle.meaning.specs.Outcome.{done, stop, andThen}
+use Rattle.meaning.specs.Instructions.{Action, Code}
+use Rattle.meaning.specs.Machine.{Stacks, withSelected, perform, process, enter}
+use Rattle.meaning.specs.Runs.{Room, lent}
+use Rattle.meaning.specs.Packing.{Words, functionsAt, unpackActions}
+use Rattle.acting.specs.declared.registers.Registers.{Registers}
+use Rattle.acting.specs.declared.registers.Next.{Next}
+use Rattle.acting.specs.declared.registers.Next.the-variants.{Onward, Done, Stopped}
+use Rattle.acting.specs.Endings.{endingNumber}
+use Rattle.acting.specs.States.{Memory, frameWord, localAt, localOf, stacksOf, Ledgers, ledgerOf, Outcomes, Going}
+
+-- how many functions the table tells, and whether it is sound
+abbrev pub countIn : Words → ℕ
+countIn words = getD words 0 0
+
+abbrev pub soundIn : Words → Bool
+soundIn words = both (ltb (countIn words) (length words)) (every (λ at. ltb at (length words)) (take (countIn words) (drop 1 words)))
+
+-- the functions of a sound table
+abbrev pub functionsIn : Words → Code
+functionsIn words = functionsAt words (take (countIn words) (drop 1 words))
+
+module _ (room : Room) (allowance : ℕ) (words : Words) where
+  -- an application in a frame; the allowance is depth enough
+  abbrev pub entering : ℕ → ℕ → Stacks → Ledgers → Outcomes
+  entering = enter (lent room) allowance (functionsIn words)
+
+  -- what is left to do in a frame from a place of the code on, the frame being told by how many wait below it
+  abbrev pub going : ℕ → ℕ → Going
+  going k at = process (lent room) (functionsIn words) entering (suc k) (unpackActions 0 (drop at words))
+
+  -- the frames that wait, the uppermost first: each goes on where its call returns to, with q at p
+  unfoldable pub waiting : ℕ → List ℕ → Bytes → Outcomes → Outcomes
+  waiting zero frames values o = o
+  waiting (suc k) frames values o =
+      waiting k frames values (andThen o (λ s g. going k (frameWord k 0 frames) (localAt k frames values) (withSelected 0 s) g))
+
+  -- what comes of an outcome in the current frame
+  abbrev pub returning : Registers → Memory → Outcomes → Outcomes
+  returning g m o = waiting (g .frame) (m .frames) (m .values) o
+
+  abbrev pub comesTo : Next → Memory → Outcomes
+  comesTo (Onward g) m = returning g m (going (g .frame) (g .at .0) (localOf g m) (stacksOf g m) (ledgerOf allowance g m))
+  comesTo (Done g) m = done (stacksOf g m) (ledgerOf allowance g m)
+  comesTo (Stopped g ending function) m = stop (endingNumber ending) function (ledgerOf allowance g m)
+
+-- what one instruction comes to in its frame, which then goes on at a place
+abbrev pub performing : Room → ℕ → Words → Action → ℕ → Registers → Memory → Outcomes
+performing room allowance words action at g m =
+    returning room allowance words g m
+    (perform (lent room) (functionsIn words) (entering room allowance words) (going room allowance words (g .frame) at) (suc (g .frame)) action
+    (localOf g m) (stacksOf g m) (ledgerOf allowance g m))
+
+-- HOW MUCH IS LEFT TO DO: code words for each step that is left, and those left in the frames
+
+-- the words left in the frames that wait
+unfoldable pub leftWaiting : ℕ → ℕ → List ℕ → ℕ
+leftWaiting size zero frames = 0
+leftWaiting size (suc k) frames = size - frameWord k 0 frames + leftWaiting size k frames
+
+abbrev pub leftBelow : ℕ → ℕ → Registers → Memory → ℕ
+leftBelow size allowance g m = (allowance - g .steps) * suc size + leftWaiting size (g .frame) (m .frames)
+
+abbrev pub leftToDo : ℕ → ℕ → Next → Memory → ℕ
+leftToDo size allowance (Onward g) m = suc (leftBelow size allowance g m + (size - g .at .0))
+leftToDo size allowance (Done g) m = 0
+leftToDo size allowance (Stopped g ending function) m = 0
+
+-- THE END OF AN APPLICATION: the frame below goes on, or the run is done
+
+abbrev pub backIn : ℕ → Registers → List ℕ → Registers
+backIn k g frames =
+    record {
+      p = g .p;
+      q = g .p;
+      r = g .r;
+      frame = k;
+      at = record { 0 = frameWord k 0 frames };
+      steps = g .steps;
+      emitted = g .emitted;
+    }
+
+abbrev pub leftFrom : ℕ → Registers → List ℕ → Next
+leftFrom zero g frames = Done g
+leftFrom (suc k) g frames = Onward (backIn k g frames)
+
+abbrev pub leftBy : Registers → List ℕ → Next
+leftBy g frames = leftFrom (g .frame) g frames

@@ -1,0 +1,266 @@
+// An application of a function: the start, a call, a tail call, and its end.
+ghost use Prim.Native.Nat.{ℕ, _+_, _*_, _-_, _≤_, _<_};
+ghost use mathlib.Core.Path.{_≡_};
+ghost use lib.ListN.{length, drop, set, getD};
+ghost use Rattle.meaning.specs.Choice.{Bytes};
+ghost use Rattle.meaning.specs.Matching.{storedCell, storedValues};
+ghost use Rattle.meaning.specs.Machine.{isDeclared};
+ghost use Rattle.meaning.specs.Instructions.{call as calling, tailCall};
+ghost use Rattle.meaning.specs.Packing.{storeOf, unpackStores};
+ghost use Rattle.classes.specs.Tests.{Answers};
+ghost use Rattle.matching.specs.Matched.{cellMeant};
+ghost use Rattle.applying.specs.Storing.{Stores, begun};
+ghost use Rattle.acting.specs.States.{memory};
+ghost use Rattle.applying.specs.Waiting.{countIn, functionsIn, leftBy};
+ghost use Rattle.applying.specs.Advancing.{Performs, Applies, Starts};
+use acting::frames::set_word;
+use acting::frames::word;
+use acting::registers::Ending;
+use acting::registers::Next;
+use acting::registers::Registers;
+use matching::Cell;
+use matching::Choice;
+use matching::CodePlace;
+use matching::cell_at;
+use matching::choose;
+use matching::wide;
+
+pub fn declared(code: &[u32], number: usize) -> bool
+    requires { ⌜ countIn (now code) < length (now code) ⌝ }
+    ensures { λ r. ⌜ r ≡ isDeclared (functionsIn (now (code .entry))) number ⌝ }
+{
+    if number == 0 {
+        return false;
+    }
+    number <= wide(code[0])
+}
+
+// Where the words after a sentence's stores begin.
+pub enum Stored {
+    Before(CodePlace),
+    Wrong,
+}
+
+// The values of a sentence's stores, kept for a frame; Wrong where a store asks for a cell that isn't there.
+fn store_values(
+    code: &[u32],
+    stores: CodePlace,
+    count: usize,
+    field: &[u8],
+    place: usize,
+    values: &mut [u8],
+    frame: usize,
+) -> Stored
+    requires { ⌜ 16 * frame + count ≤ length (now values) ⌝ }
+    ensures { λ r. ⌜ Stores (16 * frame) count (stores .0 + count) (storedValues (unpackStores count (drop (stores .0) (now (code .entry)))) (now (field .entry)) place) (now (values .entry)) (now (values .exit)) r ⌝ }
+{
+    let base = 16 * frame;
+    let mut at = stores.0;
+    let mut i = 0;
+    while i < count {
+        if code.len() <= at {
+            return Stored::Wrong;
+        }
+        let Cell::Byte(byte) = stored_cell(field, place, code[at]) else {
+            return Stored::Wrong;
+        };
+        values[base + i] = byte;
+        at += 1;
+        i += 1;
+    }
+    Stored::Before(CodePlace(at))
+}
+
+// The cell that a store's word asks for.
+fn stored_cell(field: &[u8], place: usize, word: u32) -> Cell
+    ensures { λ r. ⌜ cellMeant r ≡ storedCell (storeOf word) (now (field .entry)) place ⌝ }
+{
+    if word % 256 == 4 {
+        cell_at(field, place, word / 256 % 256, word / 65536 % 256)
+    } else {
+        Cell::Nowhere
+    }
+}
+
+// A frame's own numbers as its application begins.
+fn begin_frame(frames: &mut [usize], frame: usize, field: usize, place: usize, stored: usize)
+    requires { ⌜ frame < 256 ⌝ }
+    requires { ⌜ length (now frames) ≡ 6144 ⌝ }
+    ensures { λ _. ⌜ now (frames .exit) ≡ begun frame field place stored (now (frames .entry)) ⌝ }
+{
+    set_word(frames, frame, 1, field);
+    set_word(frames, frame, 2, place);
+    set_word(frames, frame, 3, stored);
+    set_word(frames, frame, 4, 0);
+}
+
+// The actions of the sentence chosen for the field are next, in the frame of the registers.
+fn start_sentence(
+    g: Registers,
+    code: &[u32],
+    place: usize,
+    stores: CodePlace,
+    stored: usize,
+    input: &[u8],
+    frames: &mut [usize],
+    values: &mut [u8],
+) -> Next
+    requires { ⌜ g .p .0 ≤ g .q .0 ⌝ }
+    requires { ⌜ g .q .0 ≤ length (now input) ⌝ }
+    requires { ⌜ g .frame < 256 ⌝ }
+    requires { ⌜ length (now frames) ≡ 6144 ⌝ }
+    requires { ⌜ length (now values) ≡ 4096 ⌝ }
+    requires { ⌜ stored ≤ 16 ⌝ }
+    ensures { λ r. ⌜ ((allowance : ℕ) (output journal : Bytes) → Starts (now (code .entry)) allowance place (stores .0) stored g (memory (now (input .entry)) output journal (now (frames .entry)) (now (values .entry))) r (memory (now (input .entry)) output journal (now (frames .exit)) (now (values .exit)))) ⌝ }
+{
+    let p = g.p.0;
+    let q = g.q.0;
+    let frame = g.frame;
+    let Stored::Before(actions) = store_values(
+        code,
+        stores,
+        stored,
+        &input[p..q],
+        place,
+        values,
+        frame,
+    ) else {
+        return Next::Stopped(g, Ending::NoInstruction, 0);
+    };
+    begin_frame(frames, frame, q - p, place, stored);
+    let none = g.p;
+    Next::Onward(Registers {
+        q: none,
+        at: actions,
+        ..g
+    })
+}
+
+// One application in the frame of the registers: 12, or a step and the sentence chosen for the field.
+pub fn apply(
+    g: Registers,
+    bits: &[u8; 256],
+    code: &[u32],
+    number: usize,
+    allowance: u32,
+    input: &[u8],
+    frames: &mut [usize],
+    values: &mut [u8],
+) -> Next
+    requires { ⌜ Answers (now bits) ⌝ }
+    requires { ⌜ countIn (now code) < length (now code) ⌝ }
+    requires { ⌜ 0 < number ⌝ }
+    requires { ⌜ number ≤ countIn (now code) ⌝ }
+    requires { ⌜ g .p .0 ≤ g .q .0 ⌝ }
+    requires { ⌜ g .q .0 ≤ length (now input) ⌝ }
+    requires { ⌜ g .frame < 256 ⌝ }
+    requires { ⌜ length (now frames) ≡ 6144 ⌝ }
+    requires { ⌜ length (now values) ≡ 4096 ⌝ }
+    ensures { λ r. ⌜ ((output journal : Bytes) → Applies (now (code .entry)) allowance number g (memory (now (input .entry)) output journal (now (frames .entry)) (now (values .entry))) r (memory (now (input .entry)) output journal (now (frames .exit)) (now (values .exit)))) ⌝ }
+{
+    let steps = g.steps;
+    if allowance <= steps {
+        return Next::Stopped(g, Ending::AllowanceSpent, 0);
+    }
+    let paid = Registers {
+        steps: g.steps + 1,
+        ..g
+    };
+    let p = g.p.0;
+    let q = g.q.0;
+    let entry = CodePlace(wide(code[number]));
+    match choose(bits, code, entry, &input[p..q]) {
+        Choice::Sentence {
+            number: _,
+            place,
+            stores,
+            stored,
+        } => start_sentence(paid, code, place, stores, stored, input, frames, values),
+        Choice::Nothing => Next::Stopped(paid, Ending::NoSentenceFits, number),
+        Choice::Wrong => Next::Stopped(paid, Ending::NoInstruction, 0),
+    }
+}
+
+// A call adds a frame; the caller's waits for it.
+pub fn call(
+    g: Registers,
+    bits: &[u8; 256],
+    code: &[u32],
+    number: usize,
+    allowance: u32,
+    input: &[u8],
+    frames: &mut [usize],
+    values: &mut [u8],
+) -> Next
+    requires { ⌜ Answers (now bits) ⌝ }
+    requires { ⌜ countIn (now code) < length (now code) ⌝ }
+    requires { ⌜ g .p .0 ≤ g .q .0 ⌝ }
+    requires { ⌜ g .q .0 ≤ length (now input) ⌝ }
+    requires { ⌜ g .frame < 256 ⌝ }
+    requires { ⌜ length (now frames) ≡ 6144 ⌝ }
+    requires { ⌜ length (now values) ≡ 4096 ⌝ }
+    ensures { λ r. ⌜ ((output journal : Bytes) → Performs (now (code .entry)) allowance (calling number) (g .at .0) g (memory (now (input .entry)) output journal (now (frames .entry)) (now (values .entry))) r (memory (now (input .entry)) output journal (now (frames .exit)) (now (values .exit)))) ⌝ }
+{
+    if !declared(code, number) {
+        return Next::Stopped(g, Ending::NoInstruction, 0);
+    }
+    if allowance <= g.steps {
+        return Next::Stopped(g, Ending::AllowanceSpent, 0);
+    }
+    let frame = g.frame;
+    if 255 <= frame {
+        return Next::Stopped(g, Ending::FramesFull, 0);
+    }
+    set_word(frames, frame, 0, g.at.0);
+    let next = Registers {
+        frame: frame + 1,
+        ..g
+    };
+    apply(next, bits, code, number, allowance, input, frames, values)
+}
+
+// A tail call takes the caller's frame.
+pub fn tail_call(
+    g: Registers,
+    bits: &[u8; 256],
+    code: &[u32],
+    number: usize,
+    allowance: u32,
+    input: &[u8],
+    frames: &mut [usize],
+    values: &mut [u8],
+) -> Next
+    requires { ⌜ Answers (now bits) ⌝ }
+    requires { ⌜ countIn (now code) < length (now code) ⌝ }
+    requires { ⌜ g .p .0 ≤ g .q .0 ⌝ }
+    requires { ⌜ g .q .0 ≤ length (now input) ⌝ }
+    requires { ⌜ g .frame < 256 ⌝ }
+    requires { ⌜ length (now frames) ≡ 6144 ⌝ }
+    requires { ⌜ length (now values) ≡ 4096 ⌝ }
+    ensures { λ r. ⌜ ((output journal : Bytes) → Performs (now (code .entry)) allowance (tailCall number) (g .at .0) g (memory (now (input .entry)) output journal (now (frames .entry)) (now (values .entry))) r (memory (now (input .entry)) output journal (now (frames .exit)) (now (values .exit)))) ⌝ }
+{
+    if !declared(code, number) {
+        return Next::Stopped(g, Ending::NoInstruction, 0);
+    }
+    apply(g, bits, code, number, allowance, input, frames, values)
+}
+
+// The end of an application: the frame below goes on, or the run is done.
+pub fn leave(g: Registers, frames: &[usize]) -> Next
+    requires { ⌜ g .frame < 256 ⌝ }
+    requires { ⌜ length (now frames) ≡ 6144 ⌝ }
+    ensures { λ r. ⌜ r ≡ leftBy g (now (frames .entry)) ⌝ }
+{
+    if g.frame == 0 {
+        return Next::Done(g);
+    }
+    let frame = g.frame - 1;
+    let back = CodePlace(word(frames, frame, 0));
+    let none = g.p;
+    Next::Onward(Registers {
+        q: none,
+        frame: frame,
+        at: back,
+        ..g
+    })
+}
