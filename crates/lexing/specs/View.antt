@@ -17,10 +17,8 @@ use Rattle.lexing.specs.declared.Span.{Span}
 use Rattle.lexing.specs.declared.Token.{Token}
 use Rattle.lexing.specs.declared.Token.the-variants.{Name, Symbol, Part, Word, Quoted, Sign, End, Malformed}
 use Rattle.lexing.specs.declared.Placed.{Placed}
-use Rattle.lexing.specs.declared.Gap.{Gap}
-use Rattle.lexing.specs.declared.Gap.the-variants.{Between, Opening, Commented, Starred}
-use Rattle.lexing.specs.declared.Gapped.{Gapped}
-use Rattle.lexing.specs.declared.Gapped.the-variants.{Goes, Stays}
+use Rattle.lexing.specs.declared.Comment.{Comment}
+use Rattle.lexing.specs.declared.Comment.the-variants.{Ended, Endless}
 use Rattle.lexing.specs.declared.Skipped.{Skipped}
 use Rattle.lexing.specs.declared.Skipped.the-variants.{Found, Unclosed}
 use Rattle.lexing.specs.declared.Character.{Character}
@@ -33,19 +31,28 @@ modeOf Naming = Tokens.naming
 
 -- GAPS
 
-abbrev pub gapOf : Gap → Tokens.Gap
-gapOf Between = Tokens.between
-gapOf (Opening slash) = Tokens.opening slash
-gapOf (Commented slash) = Tokens.commented slash
-gapOf (Starred slash) = Tokens.starred slash
-
-abbrev pub gappedOf : Gapped → Option Tokens.Gap
-gappedOf (Goes gap) = some (gapOf gap)
-gappedOf Stays = none
-
 abbrev pub skippedOf : Bytes → Skipped → Tokens.Skipped
 skippedOf text (Found at) = Tokens.found at (drop at text)
 skippedOf text (Unclosed slash past) = Tokens.unclosed slash past
+
+-- inside a comment nothing changes from a place to another
+pub record Plain (text : Bytes) (from past : ℕ) : Type 0 where
+  pub same : (slash : ℕ) → Tokens.skip (Tokens.commented slash) from (drop from text) ≡ Tokens.skip (Tokens.commented slash) past (drop past text)
+  pub onward : from ≤ past
+
+-- what comes after the comment whose `/` stands at a place
+abbrev pub commentOf : Bytes → ℕ → Comment → Tokens.Skipped
+commentOf text slash (Ended past) = Tokens.skip Tokens.between past (drop past text)
+commentOf text slash (Endless past) = Tokens.unclosed slash past
+
+abbrev pub EndsAfter : ℕ → Comment → Type 0
+EndsAfter from (Ended past) = from ≤ past
+EndsAfter from (Endless past) = Unit {0}
+
+-- where the comment ends inside which a place is
+pub record Ends (text : Bytes) (from : ℕ) (comment : Comment) : Type 0 where
+  pub same : (slash : ℕ) → Tokens.skip (Tokens.commented slash) from (drop from text) ≡ commentOf text slash comment
+  pub after : EndsAfter from comment
 
 -- WORDS
 

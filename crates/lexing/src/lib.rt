@@ -7,17 +7,18 @@ use classes::is_digit;
 use classes::is_letter;
 use classes::passes;
 ghost use mathlib.Core.Path.{_≡_};
+ghost use mathlib.Core.Bool.{false};
 ghost use mathlib.Core.List.{[]};
 ghost use Prim.Native.Nat.{suc, _+_, _≤_, _<_};
 ghost use lib.Dec.{eqb};
-ghost use lib.ListN.{length, getD, drop};
+ghost use lib.ListN.{length, drop};
 ghost use lib.Seq.{slice};
 ghost use Rattle.classes.specs.Tests.{classTest, Answers};
 ghost use Rattle.meaning.specs.Classes.{inClass, alphabetic};
 ghost use Rattle.meaning.specs.Tokens as Tokens;
 ghost use Rattle.meaning.specs.Choice.{Bytes};
 ghost use Rattle.meaning.specs.Allowed.{wordByte, nameByte};
-ghost use Rattle.lexing.specs.View.{modeOf, gapOf, gappedOf, skippedOf, RunsTo, LetterAt, Stands, quotationAt, tokenOf, Sound, Shows};
+ghost use Rattle.lexing.specs.View.{modeOf, skippedOf, Plain, Ends, RunsTo, LetterAt, Stands, quotationAt, tokenOf, Sound, Shows};
 
 // How a word is read: outside sentences and directly after `<` by the rule of function names, inside a sentence by that of variables.
 pub enum Mode {
@@ -55,18 +56,10 @@ pub struct Placed {
     pub past: usize,
 }
 
-// Between tokens, or in the comment whose `/` stands at a place: its `*` comes next, inside it, inside it right after a `*`.
-enum Gap {
-    Between,
-    Opening(usize),
-    Commented(usize),
-    Starred(usize),
-}
-
-// Whether the byte at a place belongs to the gap.
-enum Gapped {
-    Goes(Gap),
-    Stays,
+// Where a comment ends: the place after its `*/`, or the end of the text where it has none.
+enum Comment {
+    Ended(usize),
+    Endless(usize),
 }
 
 // A token begins at a place, or the comment that begins at a place has no end in the text, which ends at another.
@@ -97,60 +90,54 @@ fn letter_ahead(text: &[u8], at: usize) -> bool
     }
 }
 
-// Between tokens blanks go on and `/*` opens a comment.
-fn gap_between(text: &[u8], at: usize) -> Gapped
-    requires { ⌜ at < length (now text) ⌝ }
-    ensures { λ r. ⌜ gappedOf r ≡ Tokens.gapAfter Tokens.between at (getD (now (text .entry)) at 0) (drop (suc at) (now (text .entry))) ⌝ }
+// Whether one of sixteen bytes is a `*`: no byte ends the loop early, so that all are compared at once.
+fn star_within(text: &[u8], from: usize) -> bool
+    requires { ⌜ from + 16 ≤ length (now text) ⌝ }
+    ensures { λ r. ⌜ (r ≡ false → Plain (now (text .entry)) from (from + 16)) ⌝ }
 {
-    let byte = text[at];
-    if is_blank(byte) {
-        return Gapped::Goes(Gap::Between);
+    let mut any = false;
+    let mut at = from;
+    while at < from + 16 {
+        let byte = text[at];
+        any = any | (byte == 42);
+        at += 1;
     }
-    if byte == 47 {
-        if byte_ahead(text, at + 1, 42) {
-            return Gapped::Goes(Gap::Opening(at));
-        }
-    }
-    Gapped::Stays
+    any
 }
 
-fn gap_after(gap: Gap, text: &[u8], at: usize) -> Gapped
-    requires { ⌜ at < length (now text) ⌝ }
-    ensures { λ r. ⌜ gappedOf r ≡ Tokens.gapAfter (gapOf gap) at (getD (now (text .entry)) at 0) (drop (suc at) (now (text .entry))) ⌝ }
+// The place after the bytes without a `*`, sixteen by sixteen.
+fn plain_past(text: &[u8], from: usize) -> usize
+    requires { ⌜ from ≤ length (now text) ⌝ }
+    ensures { λ r. ⌜ Plain (now (text .entry)) from r ⌝ }
 {
-    let byte = text[at];
-    match gap {
-        Gap::Between => gap_between(text, at),
-        Gap::Opening(slash) => Gapped::Goes(Gap::Commented(slash)),
-        Gap::Commented(slash) => {
-            if byte == 42 {
-                Gapped::Goes(Gap::Starred(slash))
-            } else {
-                Gapped::Goes(Gap::Commented(slash))
-            }
+    let mut at = from;
+    while 16 <= text.len() - at {
+        if star_within(text, at) {
+            return at;
         }
-        Gap::Starred(slash) => {
-            if byte == 47 {
-                Gapped::Goes(Gap::Between)
-            } else if byte == 42 {
-                Gapped::Goes(Gap::Starred(slash))
-            } else {
-                Gapped::Goes(Gap::Commented(slash))
-            }
-        }
+        at += 16;
     }
+    at
 }
 
-// Where the text ends in a gap.
-fn gap_end(gap: Gap, at: usize) -> Skipped
-    ensures { λ r. ⌜ ((text : Bytes) → length text ≤ at → skippedOf text r ≡ Tokens.skippedEnd (gapOf gap) at) ⌝ }
+// Passes a comment from the place after its `/*` on.
+fn comment_past(text: &[u8], from: usize) -> Comment
+    ensures { λ r. ⌜ Ends (now (text .entry)) from r ⌝ }
 {
-    match gap {
-        Gap::Between => Skipped::Found(at),
-        Gap::Opening(slash) => Skipped::Unclosed(slash, at),
-        Gap::Commented(slash) => Skipped::Unclosed(slash, at),
-        Gap::Starred(slash) => Skipped::Unclosed(slash, at),
+    let mut at = from;
+    while at < text.len() {
+        let byte = text[at];
+        if byte == 42 {
+            if byte_ahead(text, at + 1, 47) {
+                let past = at + 2;
+                return Comment::Ended(past);
+            }
+            at += 1;
+        } else {
+            at = plain_past(text, at + 1);
+        }
     }
+    Comment::Endless(at)
 }
 
 // Passes blanks and comments.
@@ -158,19 +145,24 @@ fn skip(text: &[u8], from: usize) -> Skipped
     ensures { λ r. ⌜ skippedOf (now (text .entry)) r ≡ Tokens.skip Tokens.between from (drop from (now (text .entry))) ⌝ }
 {
     let mut at = from;
-    let mut gap = Gap::Between;
     while at < text.len() {
-        match gap_after(gap, text, at) {
-            Gapped::Goes(next) => {
-                gap = next;
+        let byte = text[at];
+        if is_blank(byte) {
+            at += 1;
+        } else if byte == 47 && byte_ahead(text, at + 1, 42) {
+            match comment_past(text, at + 2) {
+                Comment::Ended(past) => {
+                    at = past;
+                }
+                Comment::Endless(past) => {
+                    return Skipped::Unclosed(at, past);
+                }
             }
-            Gapped::Stays => {
-                return Skipped::Found(at);
-            }
+        } else {
+            return Skipped::Found(at);
         }
-        at += 1;
     }
-    gap_end(gap, at)
+    Skipped::Found(at)
 }
 
 // The place after the bytes that pass a test of the class table, as long as they go.

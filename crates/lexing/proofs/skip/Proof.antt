@@ -3,42 +3,35 @@ use Rattle.lexing.proofs.skip.Statement.{statement}
 use Rattle.lexing.proofs.skip.Tie as tie
 use Rattle.lexing.proofs.skip.Reads as reads
 use Rattle.lexing.proofs.skip.Lts as lts
-use Rattle.lexing.proofs.gap_after.Reads as gap-after-reads
-use Rattle.lexing.proofs.gap_end.Reads as gap-end-reads
-use Prim.Native.Nat.{_-_}
-use mathlib.Core.Path.{_≡_, refl, sym, _∙_, ap}
-use native.Mathlib.Numerals.{add-one}
+use Rattle.classes.proofs.is_blank.Reads as is-blank-reads
+use Rattle.lexing.proofs.byte_ahead.Reads as byte-ahead-reads
+use Rattle.lexing.proofs.comment_past.Reads as comment-past-reads
+use Prim.Native.Nat.{_+_, _-_, _≤_}
+use mathlib.Core.Path.{_≡_, refl, sym, _∙_, ap, subst}
+use mathlib.Core.Logic.{⊎-elim}
 use native.Mathlib.Omega.{arith}
 use lib.ListN.{length, drop}
 use borrow.Author.Needs.{needs}
+use borrow.Author.Tests.{eq-eqb, ne-eqb}
 use Rattle.meaning.specs.Tokens as Tokens
-use Rattle.lexing.specs.View.{gapOf, gappedOf}
-use Rattle.lexing.proofs.Gaps.{skip-goes, skip-stays, skip-ends}
+use Rattle.lexing.specs.declared.Comment.{Comment}
+use Rattle.lexing.specs.View.{commentOf, EndsAfter}
+use Rattle.lexing.proofs.Gaps.{blank-passed, comment-passed, token-found, text-ends}
 
 abbrev Inv-loop : tie.InvT-loop
-Inv-loop text from at₀ gap₀ at gap = Tokens.skip Tokens.between from (drop from text) ≡ Tokens.skip (gapOf gap) at (drop at text)
+Inv-loop text from at₀ at = Tokens.skip Tokens.between from (drop from text) ≡ Tokens.skip Tokens.between at (drop at text)
 
 abbrev μ-loop : tie.MeasureT-loop
-μ-loop text from at₀ gap₀ at gap = length text - at
+μ-loop text from at₀ at = length text - at
 
 loop-holds : tie.Need-loop-holds Inv-loop μ-loop
 loop-holds c = refl
 
-gap-after-requires : tie.Need-gap-after-requires Inv-loop μ-loop
-gap-after-requires c κs = c .loop-test .taken
+shared-slice-read-byte : tie.Need-shared-slice-read-byte Inv-loop μ-loop
+shared-slice-read-byte c = omega arith
 
-enum-known-next : tie.Need-enum-known-next Inv-loop μ-loop
-enum-known-next c = search needs
-
-enum-told : tie.Need-enum-told Inv-loop μ-loop
-enum-told c = search needs
-
-returns : tie.Need-returns Inv-loop μ-loop
-returns c =
-    sym
-    (c .before .before .before .before .loop .inv
-    ∙ skip-stays (c .before .before .before .before .before .before .args .text .now) (gapOf (c .before .before .before .before .loop .gap)) (c .before .before .before .before .loop .at) (c .before .before .before .loop-test .taken)
-    (sym (c .before .before .gap-after .ensures) ∙ ap gappedOf (c .enum-told .given .1)))
+is-blank-requires : tie.Need-is-blank-requires Inv-loop μ-loop
+is-blank-requires c κs = search needs
 
 add-at : tie.Need-add-at Inv-loop μ-loop
 add-at c = omega arith
@@ -48,19 +41,60 @@ loop-less c = omega arith
 
 loop-again : tie.Need-loop-again Inv-loop μ-loop
 loop-again c =
-    rw add-one
-    (c .before .before .before .before .before .loop .inv
-    ∙ skip-goes (c .before .before .before .before .before .before .before .args .text .now) (gapOf (c .before .before .before .before .before .loop .gap)) (c .before .before .before .before .before .loop .at) (gapOf (c .before .next .given .0 .0)) (c .before .before .before .before .loop-test .taken)
-    (sym (c .before .before .before .gap-after .ensures) ∙ ap gappedOf (c .before .next .given .1)))
+    c .before .before .before .before .loop .inv ∙ blank-passed _ _ (c .before .before .before .loop-test .taken) (sym (c .before .is-blank .ensures) ∙ c .if1 .taken)
 
-gap-end-requires : tie.Need-gap-end-requires Inv-loop μ-loop
-gap-end-requires c κs = search needs
+add-byte-ahead : tie.Need-add-byte-ahead Inv-loop μ-loop
+add-byte-ahead c = omega arith
+
+byte-ahead-requires : tie.Need-byte-ahead-requires Inv-loop μ-loop
+byte-ahead-requires c κs = search needs
+
+add-comment-past : tie.Need-add-comment-past Inv-loop μ-loop
+add-comment-past c = omega arith
+
+comment-past-requires : tie.Need-comment-past-requires Inv-loop μ-loop
+comment-past-requires c κs = search needs
+
+enum-known-past : tie.Need-enum-known-past Inv-loop μ-loop
+enum-known-past c = search needs
+
+enum-known-past-2 : tie.Need-enum-known-past-2 Inv-loop μ-loop
+enum-known-past-2 c = search needs
+
+-- after the comment, whether it has an end or not
+comment-done : (c : lts.After-comment-past (is-blank-reads.Asked, is-blank-reads.Learnt, byte-ahead-reads.Asked, byte-ahead-reads.Learnt, comment-past-reads.Asked, comment-past-reads.Learnt) reads.Pre reads.Post Inv-loop μ-loop)
+    (comment : Comment)
+    → c .comment-past .result ≡ comment
+    → Tokens.skip Tokens.between (c .before .before .before .before .before .before .before .before .before .before .args .from) (drop (c .before .before .before .before .before .before .before .before .before .before .args .from) (c .before .before .before .before .before .before .before .before .before .before .args .text .now))
+    ≡ commentOf (c .before .before .before .before .before .before .before .before .before .before .args .text .now) (c .before .before .before .before .before .before .before .before .loop .at) comment
+comment-done c comment e =
+    c .before .before .before .before .before .before .before .before .loop .inv
+    ∙ comment-passed _ _ _ (c .before .before .before .before .before .before .before .loop-test .taken) (sym (c .before .before .before .before .before .is-blank .ensures) ∙ c .before .before .before .before .if1 .left) (eq-eqb _ 47 (c .before .before .before .if2 .taken)) (sym (c .before .before .byte-ahead .ensures) ∙ c .before .if3 .taken) (c .comment-past .ensures)
+    ∙ ap (commentOf (c .before .before .before .before .before .before .before .before .before .before .args .text .now) (c .before .before .before .before .before .before .before .before .loop .at)) e
+
+returns : tie.Need-returns Inv-loop μ-loop
+returns c = sym (comment-done (c .before .before .before) _ (c .before .past2 .given .1))
+
+loop-less-2 : tie.Need-loop-less-2 Inv-loop μ-loop
+loop-less-2 c =
+    let onward : c .before .before .before .before .before .before .before .before .before .before .before .loop .at + 2 ≤ c .before .past .given .0 .0
+    = subst (EndsAfter _) (c .before .past .given .1) (c .before .before .before .comment-past .ensures .after)
+    in
+    omega arith
+
+loop-again-2 : tie.Need-loop-again-2 Inv-loop μ-loop
+loop-again-2 c = comment-done (c .before .before .before) _ (c .before .past .given .1)
 
 returns-2 : tie.Need-returns-2 Inv-loop μ-loop
 returns-2 c =
-    let text = c .before .before .before .before .args .text .now in
-    c .gap-end .ensures text (c .before .loop-test .left)
-    ∙ sym (c .before .before .loop .inv ∙ skip-ends text (gapOf (c .before .before .loop .gap)) (c .before .before .loop .at) (c .before .loop-test .left))
+    let l = c .before .before .before .before .before .loop in
+    sym
+    (l .inv
+    ∙ token-found _ _ (c .before .before .before .before .loop-test .taken) (sym (c .before .before .is-blank .ensures) ∙ c .before .if1 .left)
+    (⊎-elim (λ w. rw (eq-eqb _ 47 (w .0 .taken)) (sym (w .1 .ensures) ∙ w .2 .left)) (λ w. rw (ne-eqb _ 47 (w .left))) (c .if2 .came)))
+
+returns-3 : tie.Need-returns-3 Inv-loop μ-loop
+returns-3 c = sym (c .before .loop .inv ∙ text-ends _ _ (c .loop-test .left))
 
 pub skip-spec : {M : Type 1} → statement M
 skip-spec =
@@ -69,12 +103,19 @@ skip-spec =
     Inv-loop
     μ-loop
     loop-holds
-    gap-after-requires
-    enum-known-next
-    enum-told
-    returns
+    shared-slice-read-byte
+    is-blank-requires
     add-at
     loop-less
     loop-again
-    gap-end-requires
-    returns-2)
+    add-byte-ahead
+    byte-ahead-requires
+    add-comment-past
+    comment-past-requires
+    enum-known-past
+    enum-known-past-2
+    returns
+    loop-less-2
+    loop-again-2
+    returns-2
+    returns-3)

@@ -1,0 +1,54 @@
+-- `lexing::star_within` meets its contract.
+use Rattle.lexing.proofs.star_within.Statement.{statement}
+use Rattle.lexing.proofs.star_within.Tie as tie
+use Rattle.lexing.proofs.star_within.Reads as reads
+use Rattle.lexing.proofs.star_within.Lts as lts
+use Prim.Native.Nat.{_+_, _-_, _≤_}
+use mathlib.Core.Path.{_≡_, sym}
+use mathlib.Core.Bool.{false}
+use native.Mathlib.Omega.{arith}
+use Rattle.lexing.specs.View.{Plain}
+use Rattle.lexing.proofs.Gaps.{plain-starts, plain-still}
+
+abbrev Inv-loop : tie.InvT-loop
+Inv-loop text from any₀ at₀ any at = (at ≤ from + 16) × (any ≡ false → Plain text from at)
+
+abbrev μ-loop : tie.MeasureT-loop
+μ-loop text from any₀ at₀ any at = from + 16 - at
+
+loop-holds : tie.Need-loop-holds Inv-loop μ-loop
+loop-holds c = (omega arith, λ e. plain-starts _ _)
+
+add-loop : tie.Need-add-loop Inv-loop μ-loop
+add-loop c = omega arith
+
+shared-slice-read-byte : tie.Need-shared-slice-read-byte Inv-loop μ-loop
+shared-slice-read-byte c = omega arith
+
+add-at : tie.Need-add-at Inv-loop μ-loop
+add-at c = omega arith
+
+loop-less : tie.Need-loop-less Inv-loop μ-loop
+loop-less c = omega arith
+
+loop-again : tie.Need-loop-again Inv-loop μ-loop
+loop-again c = (omega arith, plain-still _ _ _ (c .before .before .loop .any) (omega arith) (c .before .before .loop .inv .1))
+
+returns : tie.Need-returns Inv-loop μ-loop
+returns c =
+    let e : c .before .loop .at ≡ c .before .before .args .from + 16 = omega arith in
+    rw (sym e) (c .before .loop .inv .1)
+
+pub star-within-spec : {M : Type 1} → statement M
+star-within-spec =
+    tie.close
+    (tie.spec
+    Inv-loop
+    μ-loop
+    loop-holds
+    add-loop
+    shared-slice-read-byte
+    add-at
+    loop-less
+    loop-again
+    returns)
