@@ -26,28 +26,24 @@ impl Rooms {
 
 /// The run without end, stopped before the first instruction that passes a lent room; with the most it needed.
 pub fn run(program: &Program, start: usize, text: &[u8], allowance: u32, rooms: Rooms) -> (Outcome, Rooms) {
-    let need = Rooms { stack_in: text.len(), stack_out: 0, record: 0, frames: 0 };
+    let mut machine = Machine::on(program, text, allowance, rooms);
     if start == 0 || start > program.functions.len() {
-        return (Outcome::refused(9), need);
+        return (Outcome::refused(9), machine.need);
     }
     if text.len() > rooms.stack_in {
-        return (Outcome::refused(10), need);
+        return (Outcome::refused(10), machine.need);
     }
-    let mut machine = Machine {
-        program,
-        rooms,
-        need,
-        allowance: u64::from(allowance),
-        steps: 0,
-        stack_in: text.iter().rev().copied().collect(),
-        stack_out: Vec::new(),
-        record: Vec::new(),
-        sequences: Vec::new(),
-        frames: Vec::new(),
-    };
     let end = machine.finish(start - 1, text.len());
     let text = std::mem::take(&mut machine.stack_out);
     (Outcome::of(end.map(|()| text), machine.steps, machine.record), machine.need)
+}
+
+/// How many actions the run without end performs; the start is declared.
+pub fn actions(program: &Program, start: usize, text: &[u8], allowance: u32) -> u64 {
+    let mut machine = Machine::on(program, text, allowance, Rooms::WITHOUT_END);
+    // a run that stops early has performed actions too
+    let _ = machine.finish(start - 1, text.len());
+    machine.performed
 }
 
 struct Machine<'c> {
@@ -56,6 +52,7 @@ struct Machine<'c> {
     need: Rooms,
     allowance: u64,
     steps: u64,
+    performed: u64,
     /// Stack in from its right end to p: the cell at p is the last one here.
     stack_in: Vec<u8>,
     stack_out: Vec<u8>,
@@ -112,12 +109,29 @@ fn note(most: &mut usize, need: usize, room: usize, answer: u64) -> Result<(), S
 }
 
 impl<'c> Machine<'c> {
+    fn on(program: &'c Program, text: &[u8], allowance: u32, rooms: Rooms) -> Machine<'c> {
+        Machine {
+            program,
+            rooms,
+            need: Rooms { stack_in: text.len(), stack_out: 0, record: 0, frames: 0 },
+            allowance: u64::from(allowance),
+            steps: 0,
+            performed: 0,
+            stack_in: text.iter().rev().copied().collect(),
+            stack_out: Vec::new(),
+            record: Vec::new(),
+            sequences: Vec::new(),
+            frames: Vec::new(),
+        }
+    }
+
     fn finish(&mut self, start: usize, length: usize) -> Result<(), Stop> {
         self.apply(start, length)?;
         while let Some(frame) = self.frames.last_mut() {
             match frame.actions.get(frame.next) {
                 Some(&action) => {
                     frame.next += 1;
+                    self.performed += 1;
                     self.perform(action)?;
                 }
                 None => drop(self.frames.pop()),

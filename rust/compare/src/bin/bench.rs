@@ -13,8 +13,8 @@ const LONG: usize = 30_000;
 const ROUNDS: usize = 7;
 
 fn main() {
-    println!("| what | engine | Rust | engine : Rust | |");
-    println!("|---|---|---|---|---|");
+    println!("| what | engine | Rust | engine : Rust | Rust's machine | engine : machine | |");
+    println!("|---|---|---|---|---|---|---|");
     let table = near_the_limit();
     reading(&format!("reading a table of {} bytes", table.len()), &table);
     translating(&table);
@@ -43,8 +43,10 @@ fn best(mut call: impl FnMut()) -> f64 {
     (0..ROUNDS).map(round).fold(f64::INFINITY, f64::min)
 }
 
-fn row(what: &str, engine: f64, rust: f64, remark: &str) {
-    println!("| {what} | {:.1} µs | {:.1} µs | {:.2} | {remark} |", engine / 1e3, rust / 1e3, engine / rust);
+/// A row of the table; `machine` is there for runs.
+fn row(what: &str, engine: f64, rust: f64, machine: Option<f64>, remark: &str) {
+    let beside = machine.map_or("| |".into(), |time| format!("{:.1} µs | {:.2} |", time / 1e3, engine / time));
+    println!("| {what} | {:.1} µs | {:.1} µs | {:.2} | {beside} {remark} |", engine / 1e3, rust / 1e3, engine / rust);
 }
 
 fn reading(what: &str, table: &[u8]) {
@@ -54,7 +56,7 @@ fn reading(what: &str, table: &[u8]) {
     let number = read(table).map_or_else(|refusal| refusal.number, |_| 0);
     assert_eq!(answer[0], number, "{what}");
     let remark = format!("answer {number}; engine {:.2} ns a byte", engine / table.len() as f64);
-    row(what, engine, rust, &remark);
+    row(what, engine, rust, None, &remark);
 }
 
 fn translating(table: &[u8]) {
@@ -64,13 +66,14 @@ fn translating(table: &[u8]) {
     code.truncate(answer[2] as usize);
     let engine = best(|| exports::translate(black_box(table), &mut code, &mut answer));
     let rust = best(|| drop(black_box(translate(&read(black_box(table)).expect("the table is sound")))));
-    row("reading and translating it", engine, rust, &format!("{} words of code", answer[2]));
+    row("reading and translating it", engine, rust, None, &format!("{} words of code", answer[2]));
 }
 
 /// The engine's time for a run, on the rooms that the run needs.
 fn running(what: &str, table: &[u8], text: &[u8], allowance: u32) -> f64 {
     let tree = read(table).expect("the table is sound");
-    let (outcome, need) = machine::run(&translate(&tree), 1, text, allowance, Rooms::WITHOUT_END);
+    let program = translate(&tree);
+    let (outcome, need) = machine::run(&program, 1, text, allowance, Rooms::WITHOUT_END);
     let mut code = vec![0; CODE_WORDS];
     let mut words = [0; 3];
     exports::translate(table, &mut code, &mut words);
@@ -83,10 +86,16 @@ fn running(what: &str, table: &[u8], text: &[u8], allowance: u32) -> f64 {
         exports::run(black_box(&code), 1, black_box(text), cells, allowance, &mut answer);
     });
     let rust = best(|| drop(black_box(rewrite(&tree, 1, black_box(text), allowance))));
+    let apart = best(|| drop(black_box(machine::run(&program, 1, black_box(text), allowance, Rooms::WITHOUT_END))));
     assert_eq!((answer[0], answer[2]), (outcome.answer, outcome.steps), "{what}");
-    let (unit, count) = if outcome.steps > 1 { ("step", outcome.steps) } else { ("byte", text.len() as u64) };
-    let remark = format!("answer {}; engine {:.2} ns a {unit}", outcome.answer, engine / count as f64);
-    row(what, engine, rust, &remark);
+    let actions = machine::actions(&program, 1, text, allowance) as f64;
+    let remark = if outcome.steps > 1 {
+        let step = engine / outcome.steps as f64;
+        format!("answer {}; engine {step:.2} ns a step, {:.2} ns an instruction", outcome.answer, engine / actions)
+    } else {
+        format!("answer {}; engine {:.2} ns a byte", outcome.answer, engine / text.len() as f64)
+    };
+    row(what, engine, rust, Some(apart), &remark);
     engine
 }
 
@@ -101,7 +110,7 @@ fn moving(engine: f64, calls: u32) {
         }
     });
     let ratio = engine / time;
-    println!("| the same bytes by memmove, both ways | | {:.1} µs | {ratio:.2} | |", time / 1e3);
+    println!("| the same bytes by memmove, both ways | | {:.1} µs | {ratio:.2} | | | |", time / 1e3);
 }
 
 fn comment() -> Vec<u8> {
