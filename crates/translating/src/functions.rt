@@ -1,15 +1,15 @@
 // The functions of a tape, and the table of their places before them.
 use crate::sentences::write_function;
-use crate::tape::lesser;
-use crate::tape::name_size;
-use crate::tape::room;
-use crate::tape::word_at;
-use crate::writing::put;
+use templates::tape::lesser;
+use templates::tape::name_size;
+use templates::tape::room;
+use templates::tape::word_at;
+use templates::writing::put;
 ghost use mathlib.Core.Path.{_≡_};
 ghost use Prim.Native.Nat.{_+_, _≤_, _<_, _^_};
 ghost use lib.ListN.{length, take};
-ghost use Rattle.translating.specs.Words.{isFunctionWord};
-ghost use Rattle.translating.specs.Writing.{Wrote};
+ghost use Rattle.translating.specs.Trees.{isFunctionWord};
+ghost use Rattle.templates.specs.Writing.{Wrote};
 ghost use Rattle.translating.specs.Leaves.{codeOf};
 ghost use Rattle.translating.specs.Declaring.{Inside, HeadsOn, HeadsAll, EntryAll, FunctionsAll};
 

@@ -1,19 +1,10 @@
 // From the tape of a table to packed code words.
-mod conditions;
-mod expression;
 mod functions;
-mod names;
-mod pattern;
 mod sentences;
-mod spans;
-mod symbols;
-mod tape;
-mod tests;
-mod writing;
 
 use functions::write_table;
-use tape::lesser;
-use writing::clear_from;
+use templates::tape::lesser;
+use templates::writing::clear_from;
 ghost use lib.ListN.{length, take};
 ghost use Rattle.translating.specs.Leaves.{codeOf, Leaves};
 

@@ -1,25 +1,25 @@
 // A sentence's words, and a function's.
-use crate::conditions::write_conditions;
-use crate::expression::write_expression;
-use crate::pattern::Lengths;
-use crate::pattern::Pattern;
-use crate::pattern::measure;
-use crate::tape::Parts;
-use crate::tape::room;
-use crate::tape::word_at;
-use crate::tests::write_stores;
-use crate::tests::write_tests;
-use crate::writing::put;
-use crate::writing::put_operands;
+use expressions::expression::write_expression;
+use templates::conditions::write_conditions;
+use templates::pattern::Lengths;
+use templates::pattern::Pattern;
+use templates::pattern::measure;
+use templates::tape::Parts;
+use templates::tape::room;
+use templates::tape::word_at;
+use templates::tests::write_stores;
+use templates::tests::write_tests;
+use templates::writing::put;
+use templates::writing::put_operands;
 ghost use mathlib.Core.Path.{_≡_};
 ghost use mathlib.Core.List.{[], _∷_};
 ghost use Prim.Native.Nat.{_+_, _≤_, _<_, _^_};
 ghost use lib.Dec.{leb};
 ghost use lib.ListN.{length, drop};
 ghost use Rattle.meaning.specs.Packing.{word};
-ghost use Rattle.translating.specs.Writing.{Wrote};
-ghost use Rattle.translating.specs.Measuring.{lengthsOf, MeasuresAll};
-ghost use Rattle.translating.specs.Testing.{total, AllSites};
+ghost use Rattle.templates.specs.Writing.{Wrote};
+ghost use Rattle.templates.specs.Measuring.{lengthsOf, MeasuresAll};
+ghost use Rattle.templates.specs.Testing.{total, AllSites};
 ghost use Rattle.translating.specs.Sentencing.{metricNumber, shapeAt, followsAt, MatchAll, BodyAll, SentenceAll, SentencesOn, FunctionAll};
 
 // What was written of a sentence: how many tests, how many stores, the tape's next word, and the code's.

@@ -1,52 +1,22 @@
 -- Laws of what translating leaves: the code with zeros after it, or zeros.
-use Prim.Native.Nat.{ℕ, zero, suc, _+_, _-_, _≤_, _<_, min}
+use Prim.Native.Nat.{ℕ, zero, suc, _-_, _≤_, _<_, min}
 use native.Mathlib.Omega.{arith}
 use native.Mathlib.Nat.{zero-add}
 use mathlib.Core.Path.{_≡_, sym, ap, _∙_}
 use mathlib.Core.Bool.{true, false}
-use mathlib.Core.List.{List, [], _∷_, _++_, append-assoc, append-nil}
+use mathlib.Core.List.{List, _++_}
 use borrow.Author.Tests.{le-leb, lt-leb}
 use lib.Dec.{leb}
-use lib.ListN.{length, take, drop, getD, set, replicate, length-take, length-append, length-replicate, take-append-drop, drop-of-length-le, replicate-append-replicate}
-use lib.Seq.{sets-eq, length-sets, length-take-le, set-at}
+use lib.ListN.{length, take, drop, length-take, length-replicate}
+use lib.Seq.{sets-eq, length-sets}
 use Rattle.meaning.specs.Leaving.{zeros}
-use Rattle.translating.specs.Writing.{clearedFrom, Wrote}
+use Rattle.templates.specs.Writing.{clearedFrom, Wrote}
 use Rattle.translating.specs.Leaves.{Leaves}
-use Rattle.translating.proofs.laws.Lists.{take-again, drop-word}
+use Rattle.templates.proofs.laws.Lists.{take-again}
 
 -- words past the end of the tape don't count
 pub take-counted : (tape : List ℕ) (words : ℕ) {count most : ℕ} → length tape ≡ most → count ≡ min words most → take count tape ≡ take words tape
 take-counted tape words long e = rw (e, ← long, ← (length-take words tape)) (take-again words tape)
-
--- CLEARING
-
--- the words from `start` up to `i` are 0
-abbrev pub clearedTo : List ℕ → ℕ → ℕ → List ℕ
-clearedTo l start i = take start l ++ (replicate (i - start) 0 ++ drop i l)
-
-pub cleared-none : (l : List ℕ) (start : ℕ) → l ≡ clearedTo l start start
-cleared-none l start =
-    let z : start - start ≡ 0 = omega arith in
-    rw z (sym (take-append-drop start l))
-
-pub cleared-one : (l : List ℕ) (start i : ℕ) → start ≤ i → i < length l → set (clearedTo l start i) i 0 ≡ clearedTo l start (i + 1)
-cleared-one l start i h k =
-    let front = take start l ++ replicate (i - start) 0 in
-    let more : i + 1 - start ≡ i - start + 1 = omega arith in
-    let size : length front ≡ i =
-    length-append (take start l) (replicate (i - start) 0)
-    ∙ omega (arith, length-take-le start l (omega arith), length-replicate {A = ℕ} (i - start) 0) in
-    ap (λ (r : List ℕ). set r i 0) (sym (append-assoc (take start l) (replicate (i - start) 0) (drop i l)) ∙ ap (λ (r : List ℕ). front ++ r) (drop-word l i k))
-    ∙ set-at front (getD l i 0) (drop (i + 1) l) 0 i size
-    ∙ append-assoc (take start l) (replicate (i - start) 0) (0 ∷ drop (i + 1) l)
-    ∙ ap (λ (r : List ℕ). take start l ++ r)
-    (sym (append-assoc (replicate (i - start) 0) (0 ∷ []) (drop (i + 1) l))
-    ∙ ap (λ (r : List ℕ). r ++ drop (i + 1) l) (replicate-append-replicate (i - start) 1 0 ∙ ap (λ (n : ℕ). replicate n 0) (sym more)))
-
-pub cleared-all : (l : List ℕ) (start i : ℕ) → start ≤ i → i - start ≤ length l - start → length l ≤ i → clearedTo l start i ≡ clearedFrom start l
-cleared-all l start i h g k =
-    let all : i - start ≡ length l - start = omega arith in
-    rw (drop-of-length-le l k, append-nil, all)
 
 pub cleared-whole : (l : List ℕ) → clearedFrom 0 l ≡ zeros (length l)
 cleared-whole l = let e : length l - 0 ≡ length l = omega arith in rw e

@@ -16,12 +16,17 @@ use Rattle.meaning.specs.Tree.{character, symbol, Element, letter, part, Condit
 use Rattle.meaning.specs.Allowed.{maxFunctions, maxSentences, maxLetters, maxItems, maxIdentifier, member, distinct, parted, symbolsOf, spelledItems, comingAfterAll, allowedPattern, allowedConditions, allowedExpression, allowedSentence, allowedFunction, namesOf, allowed, isByte, wordByte, spelledName, spelledIdentifier, spelledElement, lettersIn, partsOf, itemsIn, nesting, someSentence}
 use Rattle.meaning.specs.Allowed.{sentencesIn as sentencesOf}
 use Rattle.meaning.specs.Tape.{tapeWord, named, symbolKind, partKind, conditionKind, equalsKind, closeKind, nextKind, endKind, functionKind, callKind, truthNumber, patternTape, conditionsTape, expressionTape, sentenceTape, sentencesTape, functionTape, tape}
-use Rattle.translating.specs.declared.tape.Parts.{Parts}
-use Rattle.translating.specs.declared.tape.Parts.the-variants.{Zero, One, Two}
-use Rattle.translating.specs.declared.tape.Piece.the-variants.{EVariable}
-use Rattle.translating.specs.declared.tape.Item.the-variants.{Byte, Symbol, Part, Call, Close, Stop}
-use Rattle.translating.specs.Words.{carried, pieceOf, classIn, openingOf, itemOf, placeIn, isFunctionWord}
-use Rattle.translating.specs.Trees.{scanned, andThen, oneMore, patternIn, conditionBy, conditionsIn, Levels, stopped, onCurrent, opened, itemBy, levelsIn, patternAt, conditionsAt, levelsAt, sentenceIn, sentencesIn, functionsIn, functionIn, treeOf}
+use Rattle.templates.specs.declared.tape.Parts.{Parts}
+use Rattle.templates.specs.declared.tape.Parts.the-variants.{Zero, One, Two}
+use Rattle.templates.specs.declared.tape.Piece.the-variants.{EVariable}
+use Rattle.templates.specs.declared.tape.Item.the-variants.{Byte, Symbol, Part, Call, Close, Stop}
+use Rattle.templates.specs.Words.{carried, pieceOf, classIn, openingOf, itemOf}
+use Rattle.expressions.specs.Levels.{placeIn, Levels, stopped, onCurrent, opened, itemBy, levelsIn}
+use Rattle.translating.specs.Trees.{isFunctionWord, conditionsAt, levelsAt, sentenceIn, sentencesIn, functionsIn, functionIn, treeOf}
+use Rattle.templates.specs.Scans.{scanned, andThen, oneMore, patternIn, conditionBy, conditionsIn, patternAt}
+use Rattle.templates.proofs.laws.Scanning.{pattern-skip}
+use Rattle.templates.proofs.laws.Conditioned.{conditions-skip}
+use Rattle.expressions.proofs.laws.Items.{levels-skip}
 use Rattle.meaning.proofs.reading.Basics.{both-left, both-right}
 use Rattle.meaning.proofs.agreement.Choosing.{passed-true, true-passed}
 use Rattle.meaning.proofs.laws.Spelling.{name-short, name-bytes}
@@ -63,12 +68,6 @@ Short (thenCharacter c e) = (c < 256) × Short e
 Short (thenSymbol x e) = (length x < 256) × Short e
 Short (thenPart x e) = (length x < 256) × Short e
 Short (thenCall place n a e) = (length n < 256) × Short a × Short e
-
--- skipped words are passed over
-pub levels-skip : (depth items : ℕ) (n : Name) (ws : List ℕ) → levelsIn depth items (length n) (n ++ ws) ≡ levelsIn depth items 0 ws
-unfolding levelsIn
-levels-skip depth items [] ws = refl
-levels-skip depth items (b ∷ n) ws = levels-skip depth items n ws
 
 -- ITEMS OF WORDS
 module _ (depth items : ℕ) (low : items < 128) where
@@ -119,7 +118,8 @@ levels-expression (thenSymbol x e) depth items ws s h k =
       carried-back symbolKind (length x) (s .0),
       append-assoc x (expressionTape e) ws,
       take-append-seam x (expressionTape e ++ ws),
-      levels-skip depth (items + 1) x (expressionTape e ++ ws),
+      levels-skip depth (items + 1) (length x) (x ++ (expressionTape e ++ ws)),
+      drop-append-seam x (expressionTape e ++ ws),
       sum,
     )
     (ap (onCurrent (thenSymbol x)) ih)
@@ -131,7 +131,8 @@ levels-expression (thenPart x e) depth items ws s h k =
       carried-back partKind (length x) (s .0),
       append-assoc x (expressionTape e) ws,
       take-append-seam x (expressionTape e ++ ws),
-      levels-skip depth (items + 1) x (expressionTape e ++ ws),
+      levels-skip depth (items + 1) (length x) (x ++ (expressionTape e ++ ws)),
+      drop-append-seam x (expressionTape e ++ ws),
       sum,
     )
     (ap (onCurrent (thenPart x)) ih)
@@ -147,7 +148,8 @@ levels-expression (thenCall place n a e) depth items ws s h k =
       append-assoc n (expressionTape a ++ tapeWord closeKind 0 ∷ expressionTape e) ws,
       append-assoc (expressionTape a) (tapeWord closeKind 0 ∷ expressionTape e) ws,
       take-append-seam n (expressionTape a ++ more),
-      levels-skip (depth + 1) (items + 1) n (expressionTape a ++ more),
+      levels-skip (depth + 1) (items + 1) (length n) (n ++ (expressionTape a ++ more)),
+      drop-append-seam n (expressionTape a ++ more),
       sum,
     )
     (ap (opened place n) inner ∙ call-closed place n a e depth (items + 1 + itemsIn a) (expressionTape e ++ ws) (levelsIn depth (items + 1 + itemsIn a + itemsIn e) 0 ws) outer)
@@ -192,11 +194,6 @@ ends-at : (w : ℕ) (ws : List ℕ) → 768 ≤ w → PatternEnds (w ∷ ws)
 unfolding patternIn
 ends-at w ws h letters parts = rw (le-leb 768 w h)
 
-pattern-skips : (letters : ℕ) (parts : Parts) (n : Name) (ws : List ℕ) → patternIn letters parts (length n) (n ++ ws) ≡ patternIn letters parts 0 ws
-unfolding patternIn
-pattern-skips letters parts [] ws = refl
-pattern-skips letters parts (b ∷ n) ws = pattern-skips letters parts n ws
-
 part-piece : (n letters : ℕ) (parts : Parts) → n < 256 → 0 < partsLeft parts → pieceOf (tapeWord partKind n) letters parts ≡ EVariable
 part-piece n letters Zero h k = rw (lt-leb 768 (tapeWord partKind n) (omega arith), le-leb 512 (tapeWord partKind n) (omega arith))
 part-piece n letters One h k = rw (lt-leb 768 (tapeWord partKind n) (omega arith), le-leb 512 (tapeWord partKind n) (omega arith))
@@ -227,7 +224,8 @@ pattern-back (letter (symbol x) ∷ p) letters parts ws s h k ends =
       carried-back symbolKind (length x) (omega arith),
       append-assoc x (patternTape p) ws,
       take-append-seam x (patternTape p ++ ws),
-      pattern-skips (letters + 1) parts x (patternTape p ++ ws),
+      pattern-skip (letters + 1) parts (length x) (x ++ (patternTape p ++ ws)),
+      drop-append-seam x (patternTape p ++ ws),
     )
     (ap (andThen (letter (symbol x))) ih)
 pattern-back (part x ∷ p) letters parts ws s h k ends =
@@ -238,16 +236,12 @@ pattern-back (part x ∷ p) letters parts ws s h k ends =
       carried-back partKind (length x) (omega arith),
       append-assoc x (patternTape p) ws,
       take-append-seam x (patternTape p ++ ws),
-      pattern-skips letters (oneMore parts) x (patternTape p ++ ws),
+      pattern-skip letters (oneMore parts) (length x) (x ++ (patternTape p ++ ws)),
+      drop-append-seam x (patternTape p ++ ws),
     )
     (ap (andThen (part x)) ih)
 
 -- CONDITIONS
-
-condition-skips : (count : ℕ) (n : Name) (ws : List ℕ) → conditionsIn count (length n) (n ++ ws) ≡ conditionsIn count 0 ws
-unfolding conditionsIn
-condition-skips count [] ws = refl
-condition-skips count (b ∷ n) ws = condition-skips count n ws
 
 class-back : (c : Class) → classIn (classNumber c) ≡ c
 class-back digit = refl
@@ -310,7 +304,8 @@ conditions-back (c ∷ cs) count w ws s h k =
       truth-back (length x) (classNumber (c .predicate)) (c .expected) few,
       append-assoc x (conditionsTape cs) (w ∷ ws),
       take-append-seam x (conditionsTape cs ++ (w ∷ ws)),
-      condition-skips (count + 1) x (conditionsTape cs ++ (w ∷ ws)),
+      conditions-skip (count + 1) (length x) (x ++ (conditionsTape cs ++ (w ∷ ws))),
+      drop-append-seam x (conditionsTape cs ++ (w ∷ ws)),
     )
     (ap (andThen c) ih)
 

@@ -1,12 +1,12 @@
 -- Laws of writing a sentence: its metric's word, its tests, stores and actions, and its words as a whole.
-use Prim.Native.Nat.{ℕ, suc, _+_, _-_, _*_, _≤_, _<_, _^_}
+use Prim.Native.Nat.{ℕ, zero, suc, _+_, _-_, _*_, _≤_, _<_, _^_}
 use native.Mathlib.Omega.{arith}
 use mathlib.Core.Path.{_≡_, refl, sym, ap, _∙_}
 use mathlib.Core.Bool.{Bool, true, false}
 use mathlib.Core.List.{List, [], _∷_, _++_, map, append-assoc, map-append, map-map}
 use lib.Dec.{leb}
 use borrow.Author.Tests.{leb-true, leb-false}
-use lib.ListN.{length, take, drop, getD, length-map, drop-of-length-le, List·getD-eq-default}
+use lib.ListN.{length, take, drop, getD, replicate, length-map, drop-of-length-le, List·getD-eq-default}
 use lib.Seq.{length-take-le, drop-drop}
 use Rattle.meaning.specs.Choice.{Name, pick}
 use Rattle.meaning.specs.Tree.{Function, Table}
@@ -14,27 +14,28 @@ use Rattle.meaning.specs.Allowed.{namesOf, maxSentences}
 use Rattle.meaning.specs.Instructions.{store}
 use Rattle.meaning.specs.Translation.{Shape, fixed, open₁, open₂, Tested, conditionTest, metricOf, translatedSentences}
 use Rattle.meaning.specs.Packing.{Words, word, testWord, storeWord, packActions, metricWord, sentencesEnd, packSentences}
-use Rattle.translating.specs.declared.tape.Parts.{Parts}
-use Rattle.translating.specs.declared.tape.Parts.the-variants.{Zero, One, Two}
-use Rattle.translating.specs.declared.pattern.Lengths.{Lengths}
-use Rattle.translating.specs.declared.pattern.Pattern.{Pattern}
-use Rattle.translating.specs.declared.tests.Tests.{Tests}
-use Rattle.translating.specs.declared.conditions.Conditions.{Conditions}
-use Rattle.translating.specs.declared.expression.Walk.{Walk}
+use Rattle.templates.specs.declared.tape.Parts.{Parts}
+use Rattle.templates.specs.declared.tape.Parts.the-variants.{Zero, One, Two}
+use Rattle.templates.specs.declared.pattern.Lengths.{Lengths}
+use Rattle.templates.specs.declared.pattern.Pattern.{Pattern}
+use Rattle.templates.specs.declared.tests.Tests.{Tests}
+use Rattle.templates.specs.declared.conditions.Conditions.{Conditions}
+use Rattle.expressions.specs.declared.expression.Walk.{Walk}
 use Rattle.translating.specs.declared.sentences.Body.{Body}
 use Rattle.translating.specs.declared.sentences.Sentences.{Sentences}
-use Rattle.translating.specs.Words.{headName, headNames, isNextWord}
-use Rattle.translating.specs.Trees.{patternAt, conditionsAt, conditionsIn, levelsAt, followedBy, sentencesIn}
-use Rattle.translating.specs.Writing.{Wrote, Same}
-use Rattle.translating.specs.Measuring.{lengthsOf, variableOf, MeasuresAll}
-use Rattle.translating.specs.Testing.{heldSites, held, storeOfSite, total, walk, startFrom, TestsAll}
-use Rattle.translating.specs.Conditioning.{conditionWords, ConditionsAll}
-use Rattle.translating.specs.Resuming.{Means, ItemsAll}
+use Rattle.templates.specs.Words.{headName, headNames}
+use Rattle.translating.specs.Trees.{isNextWord, conditionsAt, levelsAt, followedBy, sentencesIn}
+use Rattle.templates.specs.Scans.{patternAt, conditionsIn}
+use Rattle.templates.specs.Writing.{Wrote, Same}
+use Rattle.templates.specs.Measuring.{lengthsOf, variableOf, MeasuresAll}
+use Rattle.templates.specs.Testing.{AllSites, heldSites, held, storeOfSite, total, walk, startFrom, TestsAll}
+use Rattle.templates.specs.Conditioning.{conditionWords, ConditionsAll}
+use Rattle.expressions.specs.Resuming.{Means, ItemsAll}
 use Rattle.translating.specs.Sentencing.{metricNumber, shapeAt, testedAt, testsAt, storesAt, actionsAt, bodyAt, sentenceAt, MatchAll, BodyAll, SentenceAll, nextAt, followsAt, sentenceDone, sentencesLeft, InSentences, SentencesOn, FunctionAll}
-use Rattle.translating.proofs.laws.Lists.{drop-word}
-use Rattle.translating.proofs.laws.Names.{by-place}
-use Rattle.translating.proofs.laws.Stores.{wrote-more, wrote-patched, same-refl, same-trans, same-words, same-wrote, same-end}
-use Rattle.translating.proofs.laws.Held.{held-names}
+use Rattle.templates.proofs.laws.Lists.{drop-word}
+use Rattle.templates.proofs.laws.Names.{by-place}
+use Rattle.templates.proofs.laws.Stores.{wrote-more, same-refl, same-trans, same-words, same-wrote, same-end}
+use Rattle.translating.proofs.laws.Patching.{wrote-patched}
 use Rattle.translating.proofs.laws.Shapes.{walk-all}
 
 -- THE METRIC
@@ -49,6 +50,13 @@ metric-fits l number e h = omega (arith, metric-small (l .parts))
 
 -- TESTS, CONDITIONS AND STORES
 
+-- the names of the different s-variables are those at the places that are kept
+held-names : (ws ps ss : List ℕ) → length ps ≡ length ss → map (λ s. s .name) (heldSites ws ps ss) ≡ headNames ws ps
+unfolding heldSites
+held-names ws [] ss h = refl
+held-names ws (p ∷ ps) [] h = absurd (omega arith)
+held-names ws (p ∷ ps) (s ∷ ss) h = ap (λ (r : List Name). headName ws p ∷ r) (held-names ws ps ss (omega arith))
+
 -- the stores of the different s-variables, from the numbers that their cells are kept as
 stores-held : (ws ps ss : List ℕ) → length ps ≡ length ss → map (λ s. storeWord (store (s .value))) (heldSites ws ps ss) ≡ map storeOfSite ss
 unfolding heldSites
@@ -56,6 +64,15 @@ stores-held ws [] [] h = refl
 stores-held ws [] (s ∷ ss) h = absurd (omega arith)
 stores-held ws (p ∷ ps) [] h = absurd (omega arith)
 stores-held ws (p ∷ ps) (s ∷ ss) h = ap (λ (r : Words). storeOfSite s ∷ r) (stores-held ws ps ss (omega arith))
+
+-- zeros are the cell at p
+pub all-zero : (n : ℕ) → AllSites (replicate n 0)
+all-zero n k = rw (zero-at n k) (record { same = refl; small = omega arith })
+  where
+    zero-at : (m j : ℕ) → _≡_ {A = ℕ} (getD (replicate m 0) j 0) 0
+    zero-at zero j = refl
+    zero-at (suc m) zero = refl
+    zero-at (suc m) (suc j) = zero-at m j
 
 pub matched : {ws names sites code code₁ code₂ code₃ : List ℕ} {l : Lengths} {start at stored : ℕ} {t : Tests} {c : Conditions}
     → l ≡ lengthsOf (shapeAt (drop start ws))

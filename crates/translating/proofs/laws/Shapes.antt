@@ -6,13 +6,13 @@ use mathlib.Core.List.{List, [], _∷_}
 use Rattle.meaning.specs.Choice.{Name}
 use Rattle.meaning.specs.Tree.{Letter, Element, letter, part}
 use Rattle.meaning.specs.Translation.{Shape, fixed, open₁, open₂, withLetter, cutAt, shapeOf, Tested, testedLetter, testedTemplate, untested, testedShape}
-use Rattle.translating.specs.declared.tape.Parts.{Parts}
-use Rattle.translating.specs.declared.tape.Parts.the-variants.{Zero, One, Two}
-use Rattle.translating.specs.declared.pattern.Lengths.{Lengths}
-use Rattle.translating.specs.Trees.{oneMore, patternAt}
-use Rattle.translating.specs.Measuring.{lengthsOf}
-use Rattle.translating.specs.Testing.{siteAt, walk, startFrom}
-use Rattle.translating.proofs.laws.Scanning.{Fits, AtMost, at-most-later, pattern-at-most, at-most-fits}
+use Rattle.templates.specs.declared.tape.Parts.{Parts}
+use Rattle.templates.specs.declared.tape.Parts.the-variants.{Zero, One, Two}
+use Rattle.templates.specs.declared.pattern.Lengths.{Lengths}
+use Rattle.templates.specs.Scans.{oneMore, patternAt}
+use Rattle.templates.specs.Measuring.{lengthsOf}
+use Rattle.templates.specs.Testing.{siteAt, walk, startFrom}
+use Rattle.templates.proofs.laws.Scanning.{Fits, AtMost, at-most-later, pattern-at-most, at-most-fits}
 
 module _ (l : Lengths) where
   abbrev walkShape : Parts → ℕ → Shape → Tested → Tested

@@ -4,7 +4,9 @@ use mathlib.Core.List.{List, [], _∷_}
 use Rattle.meaning.specs.Tree.{Table}
 use Rattle.meaning.specs.Tape.{tape, patternTape, conditionsTape, expressionTape, sentencesTape}
 use Rattle.meaning.proofs.rows.Tables.{tableZ, tableR, tableH, tableK, tableP, tableM}
-use Rattle.translating.specs.Trees.{treeOf, patternIn, conditionsIn, levelsIn, sentencesIn, functionsIn}
+use Rattle.translating.specs.Trees.{treeOf, sentencesIn, functionsIn}
+use Rattle.templates.specs.Scans.{patternIn, conditionsIn}
+use Rattle.expressions.specs.Levels.{levelsIn}
 
 abbrev Back : List Table → Type 0
 Back [] = Unit {0}

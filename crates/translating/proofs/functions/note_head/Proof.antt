@@ -1,6 +1,6 @@
 -- `functions::note_head` meets its contract.
 use mathlib.Core.Path.{sym, ap, _∙_}
-use Rattle.translating.specs.Words.{isFunctionWord}
+use Rattle.translating.specs.Trees.{isFunctionWord}
 use Rattle.translating.proofs.laws.Declared.{heads-full, head-noted, head-none}
 use borrow.Author.Needs.{needs}
 use Rattle.translating.proofs.functions.note_head.Statement.{statement}

@@ -1,6 +1,6 @@
 -- `functions::write_entry` meets its contract.
 use native.Mathlib.Omega.{arith}
-use Rattle.translating.proofs.laws.Names.{name-fits-here}
+use Rattle.templates.proofs.laws.Names.{name-fits-here}
 use Rattle.translating.proofs.laws.Declared.{entry-written}
 use borrow.Author.Needs.{needs}
 use Rattle.translating.proofs.functions.write_entry.Statement.{statement}

@@ -3,8 +3,7 @@ use native.Mathlib.Omega.{arith}
 use mathlib.Core.Path.{sym, ap}
 use lib.ListN.{length, length-take}
 use lib.Seq.{length-take-le}
-use Rattle.translating.proofs.laws.Held.{all-zero}
-use Rattle.translating.proofs.laws.Sentenced.{bodied}
+use Rattle.translating.proofs.laws.Sentenced.{all-zero, bodied}
 use borrow.Author.Needs.{needs}
 use Rattle.translating.proofs.sentences.write_body.Statement.{statement}
 use Rattle.translating.proofs.sentences.write_body.Tie as tie

@@ -1,0 +1,21 @@
+-- `expression::argument_ready` meets its contract.
+use Rattle.templates.proofs.laws.Stores.{wrote-more}
+use borrow.Author.Needs.{needs}
+use Rattle.expressions.proofs.expression.argument_ready.Statement.{statement}
+use Rattle.expressions.proofs.expression.argument_ready.Tie as tie
+
+put-operands-requires : tie.Need-put-operands-requires
+put-operands-requires c κs = search needs
+
+put-operands-requires-2 : tie.Need-put-operands-requires-2
+put-operands-requires-2 c κs = search needs
+
+same-length : tie.Need-same-length
+same-length c = search needs
+
+returns : tie.Need-returns
+returns c = wrote-more (c .before .before .before .before .before .before .put-operands .ensures) (c .before .before .put-operands2 .ensures)
+
+pub argument-ready-spec : {M : Type 1} → statement M
+argument-ready-spec =
+    tie.close (tie.spec put-operands-requires put-operands-requires-2 same-length returns)

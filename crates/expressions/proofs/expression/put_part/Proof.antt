@@ -1,0 +1,42 @@
+-- `expression::put_part` meets its contract.
+use native.Mathlib.Omega.{arith}
+use Rattle.expressions.proofs.laws.Spanned.{gap-small, piece-small, span-fits}
+use Rattle.templates.proofs.laws.Stores.{wrote-more}
+use borrow.Author.Needs.{needs}
+use Rattle.expressions.proofs.expression.put_part.Statement.{statement}
+use Rattle.expressions.proofs.expression.put_part.Tie as tie
+
+gap-of-requires : tie.Need-gap-of-requires
+gap-of-requires c κs = search needs
+
+put-span-requires : tie.Need-put-span-requires
+put-span-requires c κs = let a = c .before .before .before .args in
+    (span-fits _ _ _ (omega arith) (c .gap-of .ensures) (gap-small (a .lengths) (c .before .before .before .pre .0) (a .lengths .parts) (a .first) (a .stand)), omega arith)
+
+piece-span-requires : tie.Need-piece-span-requires
+piece-span-requires c κs = search needs
+
+put-span-requires-2 : tie.Need-put-span-requires-2
+put-span-requires-2 c κs = let a = c .before .before .before .before .before .before .before .before .args in
+    (span-fits _ _ _ (omega arith) (c .piece-span .ensures) (piece-small (a .lengths) (c .before .before .before .before .before .before .before .before .pre .0) (a .lengths .parts) (a .first)), omega (arith, c .before .before .before .before .put-span .ensures .next))
+
+put-operands-requires : tie.Need-put-operands-requires
+put-operands-requires c κs = search needs
+
+same-length : tie.Need-same-length
+same-length c = search needs
+
+returns : tie.Need-returns
+returns c = rw (← (c .before .before .before .before .before .before .before .before .before .before .before .before .gap-of .ensures), ← (c .before .before .before .before .before .before .before .piece-span .ensures)) (wrote-more (wrote-more (c .before .before .before .before .before .before .before .before .before .before .before .put-span .ensures) (c .before .before .before .before .before .before .put-span2 .ensures)) (c .before .before .put-operands .ensures))
+
+pub put-part-spec : {M : Type 1} → statement M
+put-part-spec =
+    tie.close
+    (tie.spec
+    gap-of-requires
+    put-span-requires
+    piece-span-requires
+    put-span-requires-2
+    put-operands-requires
+    same-length
+    returns)

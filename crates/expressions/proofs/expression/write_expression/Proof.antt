@@ -1,0 +1,72 @@
+-- `expression::write_expression` meets its contract. The loop keeps what the actions written and those still to come amount to.
+use Rattle.expressions.specs.Resuming.{resume, openNames, toGo}
+use native.Mathlib.Omega.{arith}
+use mathlib.Core.Path.{_≡_, refl, sym, _∙_}
+use lib.ListN.{length}
+use Rattle.templates.proofs.laws.Stores.{same-refl}
+use Rattle.expressions.proofs.laws.Itemised.{ItemsSoFar, items-go-on, items-all}
+use Rattle.expressions.proofs.expression.write_expression.Statement.{statement}
+use Rattle.expressions.proofs.expression.write_expression.Tie as tie
+
+abbrev Inv-loop : tie.InvT-loop
+Inv-loop tape heads names m start code₀ at calls₀ walk₀ code calls walk = ItemsSoFar tape heads names m start at code₀ calls code walk × (length code ≡ length code₀)
+
+abbrev μ-loop : tie.MeasureT-loop
+μ-loop tape heads names m start code₀ at calls₀ walk₀ code calls walk = toGo tape walk
+
+loop-holds : tie.Need-loop-holds Inv-loop μ-loop
+unfolding resume openNames
+loop-holds c = (
+  record {
+    same = λ t s ss means. same-refl _ _ _;
+    rest = refl;
+    within =
+        record {
+          room = refl;
+          opened = λ k h. absurd (omega arith);
+          depth = omega arith;
+          items = omega arith;
+          next = c .before .before .before .before .pre .3;
+        };
+    grown = omega arith;
+  },
+  refl,
+)
+
+slice-aggregate-write-item : tie.Need-slice-aggregate-write-item Inv-loop μ-loop
+slice-aggregate-write-item c = sym (c .before .before .loop .inv .0 .within .room)
+
+write-item-requires : tie.Need-write-item-requires Inv-loop μ-loop
+write-item-requires c κs = (
+  c .before .before .before .before .before .before .before .before .pre .0,
+  c .before .before .before .before .before .before .before .before .pre .1,
+  c .before .before .before .before .before .before .before .before .pre .2,
+  c .before .before .before .loop .inv .0 .within,
+  omega (arith, c .before .before .before .loop .inv .0 .grown, c .before .before .before .loop .inv .0 .within .items, c .before .before .before .before .before .before .before .before .pre .4),
+)
+
+loop-less : tie.Need-loop-less Inv-loop μ-loop
+loop-less c = rw (c .before .before .before .before .before .before .loop-test .taken) (c .before .before .before .write-item .ensures .ahead)
+
+loop-again : tie.Need-loop-again Inv-loop μ-loop
+loop-again c = (items-go-on (c .before .before .before .before .before .before .before .loop .inv .0) (c .before .before .before .before .before .before .loop-test .taken) (c .before .before .before .write-item .ensures), c .before .before .before .write-item .kept .1 .1 .1 .1 .1 .0 ∙ c .before .before .before .before .before .before .before .loop .inv .1)
+
+same-length : tie.Need-same-length Inv-loop μ-loop
+same-length c = c .before .loop .inv .1
+
+returns : tie.Need-returns Inv-loop μ-loop
+returns c = items-all (c .before .loop .inv .0) (c .loop-test .left)
+
+pub write-expression-spec : {M : Type 1} → statement M
+write-expression-spec =
+    tie.close
+    (tie.spec
+    Inv-loop
+    μ-loop
+    loop-holds
+    slice-aggregate-write-item
+    write-item-requires
+    loop-less
+    loop-again
+    same-length
+    returns)

@@ -1,0 +1,50 @@
+-- `expression::write_tail_call` meets its contract.
+use native.Mathlib.Omega.{arith}
+use Rattle.templates.proofs.laws.Stores.{wrote-more}
+use Rattle.expressions.proofs.laws.Spanned.{rest-small, span-fits}
+use borrow.Author.Needs.{needs}
+use Rattle.expressions.proofs.expression.write_tail_call.Statement.{statement}
+use Rattle.expressions.proofs.expression.write_tail_call.Tie as tie
+
+rest-of-requires : tie.Need-rest-of-requires
+rest-of-requires c κs = search needs
+
+put-span-requires : tie.Need-put-span-requires
+put-span-requires c κs = let a = c .before .before .before .args in
+    (span-fits _ _ _ (omega arith) (c .rest-of .ensures) (rest-small (a .lengths) (c .before .before .before .pre .0) (a .lengths .parts) (a .stand)), omega arith)
+
+argument-ready-requires : tie.Need-argument-ready-requires
+argument-ready-requires c κs = omega (arith, c .before .before .before .put-span .ensures .next)
+
+mul-put : tie.Need-mul-put
+mul-put c = search needs
+
+add-put : tie.Need-add-put
+add-put c = search needs
+
+put-requires : tie.Need-put-requires
+put-requires c κs = search needs
+
+put-requires-2 : tie.Need-put-requires-2
+put-requires-2 c κs = search needs
+
+same-length : tie.Need-same-length
+same-length c = search needs
+
+returns : tie.Need-returns
+returns c = rw (← (c .before .before .before .before .before .before .before .before .before .before .before .before .before .before .before .rest-of .ensures))
+    (wrote-more (wrote-more (wrote-more (c .before .before .before .before .before .before .before .before .before .before .before .before .before .before .put-span .ensures) (c .before .before .before .before .before .before .before .before .before .before .argument-ready .ensures)) (c .before .before .before .before .before .before .put .ensures)) (c .before .before .put2 .ensures))
+
+pub write-tail-call-spec : {M : Type 1} → statement M
+write-tail-call-spec =
+    tie.close
+    (tie.spec
+    rest-of-requires
+    put-span-requires
+    argument-ready-requires
+    mul-put
+    add-put
+    put-requires
+    put-requires-2
+    same-length
+    returns)

@@ -1,0 +1,6 @@
+-- Laws over plain values that the functions' proofs cite.
+pub mod Naming
+pub mod Items
+pub mod Spanned
+pub mod Resumed
+pub mod Itemised

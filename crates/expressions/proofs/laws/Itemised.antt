@@ -1,0 +1,402 @@
+-- Laws of writing an expression's actions: each step keeps what the actions come to.
+use Prim.Native.Nat.{ℕ, _+_, _-_, _*_, _≤_, _<_}
+use native.Mathlib.Omega.{arith}
+use mathlib.Core.Path.{_≡_, refl, sym, ap, ap₂, _∙_}
+use mathlib.Core.Bool.{Bool, true, false}
+use mathlib.Core.List.{List, [], _∷_, _++_}
+use borrow.Author.Tests.{eqb-true}
+use lib.Dec.{eqb}
+use lib.ListN.{length, drop, getD, set, length-set}
+use lib.Seq.{getD-set-same, getD-set-other}
+use native.Mathlib.Decide.{ℕ-discrete}
+use Rattle.meaning.specs.Choice.{Name, pick, Named, sameBytes}
+use Rattle.meaning.specs.Tree.{Expression, end, thenCharacter, thenSymbol, thenPart, Table}
+use Rattle.meaning.specs.Names.{isEmission, numberOf}
+use Rattle.meaning.specs.Instructions.{Site, Action, go, select, out}
+use Rattle.meaning.specs.Translation.{Shape, Manner as MeantManner, emits, replaces, nests, passage, restOf, valueNumber, isLast, mannerOf, calling, actionsOf}
+use Rattle.meaning.specs.Packing.{Words, word, spanWord, packActions}
+use Rattle.templates.specs.declared.tape.Item.{Item}
+use Rattle.templates.specs.declared.tape.Item.the-variants.{Byte, Symbol, Part, Call, Pass, Close, Unclosed, Stop}
+use Rattle.templates.specs.declared.pattern.Lengths.{Lengths}
+use Rattle.templates.specs.declared.pattern.Pattern.{Pattern}
+use Rattle.expressions.specs.declared.spans.Stand.{Stand}
+use Rattle.expressions.specs.declared.expression.Walk.{Walk}
+use Rattle.expressions.specs.declared.expression.Manner.{Manner}
+use Rattle.expressions.specs.declared.expression.Manner.the-variants.{Emits, Replaces, Nests}
+use Rattle.templates.specs.Words.{headName, headNames, itemAt}
+use Rattle.expressions.specs.Levels.{placeIn, Levels, stopped, onCurrent, firstOf, othersOf, opened, levelsIn}
+use Rattle.templates.specs.Writing.{Wrote, Same}
+use Rattle.templates.specs.Finding.{numberAmong}
+use Rattle.templates.specs.Measuring.{flag, variableOf}
+use Rattle.expressions.specs.Spanning.{meantStand, spanNumbers, gapBy, pieceSpan, standAfter}
+use Rattle.expressions.specs.Resuming.{isNil, resume, openNames, levelsNow, remaining, restNow, itemDone, wordDone, callDone, spanWords, partWords, restWord, callWords, isStop, lastCall, mannerBy, mannerNow, goesOn, endingWords, Means, InItems, ItemsOn, ItemsAll}
+use Rattle.templates.proofs.laws.Names.{name-here, name-fits-here}
+use Rattle.expressions.proofs.laws.Naming.{name-short, value-among, number-among}
+use Rattle.templates.proofs.laws.Stores.{same-refl, same-trans, same-words, same-wrote, same-end}
+use Rattle.expressions.proofs.laws.Spanned.{rest-span, passage-spans}
+use Rattle.expressions.proofs.laws.Items.{isEnding, isDeep, stops, item-inside, item-room, call-room, deep-depth, stop-depth, levels-at, levels-past, levels-stop, stops-below, last-item}
+use Rattle.expressions.proofs.laws.Resumed.{resume-character, resume-symbol, resume-part, resume-call, resume-end, resume-last, open-more, open-less, open-none}
+
+module _ (ws heads names : List ℕ) (m : Pattern) (calls : List ℕ) (w : Walk) (within : InItems ws calls w) where
+  abbrev At : Item → Type 0
+  At it = itemAt (drop (w .next) ws) (w .depth) (w .items) ≡ it
+
+  abbrev size : ℕ
+  size = length (headName ws (w .next))
+
+  abbrev name : Name
+  name = headName ws (w .next)
+
+  -- the rest of the argument after an item that opens no call
+  abbrev after : ℕ → Levels
+  after n = levelsIn (w .depth) (w .items + 1) 0 (drop (w .next + 1 + n) ws)
+
+  -- bounds after an item of so many words
+  item-within : (n at depth : ℕ) (stand : Stand) (calls′ : List ℕ) → w .items < 128 → w .next + 1 + n ≤ length ws → length calls′ ≡ 16
+      → ((k : ℕ) → k < depth → getD calls′ k 0 < length ws) → depth ≤ 16 → InItems ws calls′ (itemDone w n at depth stand)
+  item-within n at depth stand calls′ room fits long known deep =
+      record {
+        room = long;
+        opened = known;
+        depth = deep;
+        items = omega arith;
+        next = omega arith;
+      }
+
+  pub character-on : (code code′ : List ℕ) (at : ℕ) → At Byte → Wrote code (w .at) (word 8 (getD ws (w .next) 0) 0 0 ∷ []) code′ at
+      → ItemsOn ws heads names m calls code w calls code′ (itemDone w 0 at (w .depth) (w .stand))
+  unfolding packActions
+  character-on code code′ at e wrote =
+      let inside = item-inside ws (w .next) (w .depth) (w .items) (ap stops e) in
+      let room = item-room ws (w .next) (w .depth) (w .items) (ap isEnding e) in
+      let z : w .next + 1 + 0 ≡ w .next + 1 = omega arith in
+      let now : levelsNow ws w ≡ onCurrent (thenCharacter (getD ws (w .next) 0)) (after 0) = levels-at ws (w .next) (w .depth) (w .items) Byte inside e ∙ rw z in
+      record {
+        same = λ t s ss means. same-wrote _
+            (same-words (same-refl code (w .at) _)
+            (rw now (ap packActions (resume-character t s ss (openNames ws calls (w .depth)) (getD ws (w .next) 0) (after 0 .current) (after 0 .outer) (meantStand (w .stand)))))) wrote;
+        rest = sym (ap (λ (l : Levels). l .rest) now);
+        within = item-within 0 at (w .depth) (w .stand) calls room (omega arith) (within .room) (within .opened) (within .depth);
+        ahead = omega arith;
+        grown = omega (arith, wrote .next);
+      }
+
+  pub value-on : (code code′ : List ℕ) (at : ℕ) → At Symbol → Wrote code (w .at) (word 9 (numberAmong 0 (headNames ws names) name - 1) 0 0 ∷ []) code′ at
+      → ItemsOn ws heads names m calls code w calls code′ (itemDone w size at (w .depth) (w .stand))
+  unfolding packActions
+  value-on code code′ at e wrote =
+      let inside = item-inside ws (w .next) (w .depth) (w .items) (ap stops e) in
+      let room = item-room ws (w .next) (w .depth) (w .items) (ap isEnding e) in
+      let now : levelsNow ws w ≡ onCurrent (thenSymbol name) (after size) =
+      levels-at ws (w .next) (w .depth) (w .items) Symbol inside e
+      ∙ rw (levels-past (w .depth) (w .items + 1) ws (w .next) inside, ← (name-here ws (w .next) inside)) in
+      record {
+        same = λ t s ss means.
+            let value : valueNumber ss name ≡ numberAmong 0 (headNames ws names) name - 1 =
+            value-among 0 ss name ∙ ap (λ (l : List Name). numberAmong 0 l name - 1) (means .symbols) in
+            same-wrote _
+            (same-words (same-refl code (w .at) _)
+            (rw now (ap packActions (resume-symbol t s ss (openNames ws calls (w .depth)) name (after size .current) (after size .outer) (meantStand (w .stand)))
+            ∙ ap (λ (v : ℕ). word 9 v 0 0 ∷ packActions (resume t s ss (openNames ws calls (w .depth)) (after size .current) (after size .outer) (meantStand (w .stand)))) value)))
+            wrote;
+        rest = sym (ap (λ (l : Levels). l .rest) now);
+        within =
+            item-within size at (w .depth) (w .stand) calls room (name-fits-here ws (w .next) inside) (within .room) (within .opened) (within .depth);
+        ahead = omega (arith, name-fits-here ws (w .next) inside);
+        grown = omega (arith, wrote .next);
+      }
+
+  abbrev first : Bool
+  first = sameBytes name (headName ws (m .variable))
+
+  pub part-on : (code code′ : List ℕ) (at : ℕ) → At Part → Wrote code (w .at) (partWords (m .lengths) first (w .stand)) code′ at
+      → ItemsOn ws heads names m calls code w calls code′ (itemDone w size at (w .depth) (standAfter (m .lengths .parts) first (w .stand)))
+  unfolding packActions
+  part-on code code′ at e wrote =
+      let inside = item-inside ws (w .next) (w .depth) (w .items) (ap stops e) in
+      let room = item-room ws (w .next) (w .depth) (w .items) (ap isEnding e) in
+      let now : levelsNow ws w ≡ onCurrent (thenPart name) (after size) =
+      levels-at ws (w .next) (w .depth) (w .items) Part inside e
+      ∙ rw (levels-past (w .depth) (w .items + 1) ws (w .next) inside, ← (name-here ws (w .next) inside)) in
+      record {
+        same = λ t s ss means.
+            same-wrote _
+            (same-words (same-refl code (w .at) _)
+            (rw now (ap packActions (resume-part t s ss (openNames ws calls (w .depth)) name (after size .current) (after size .outer) (meantStand (w .stand)))
+            ∙ part-words t s ss means)))
+            wrote;
+        rest = sym (ap (λ (l : Levels). l .rest) now);
+        within =
+            item-within size at (w .depth) _ calls room (name-fits-here ws (w .next) inside) (within .room) (within .opened) (within .depth);
+        ahead = omega (arith, name-fits-here ws (w .next) inside);
+        grown = omega (arith, wrote .next);
+      }
+    where
+      part-words : (t : Table) (s : Shape) (ss : List (Named Site)) → Means ws heads names m t s ss
+          → packActions (go (passage s name (meantStand (w .stand)) .gap) ∷ select (passage s name (meantStand (w .stand)) .piece) ∷ out ∷
+          resume t s ss (openNames ws calls (w .depth)) (after size .current) (after size .outer) (passage s name (meantStand (w .stand)) .after))
+          ≡ partWords (m .lengths) first (w .stand) ++ packActions
+          (resume t s ss (openNames ws calls (w .depth)) (after size .current) (after size .outer) (meantStand (standAfter (m .lengths .parts) first (w .stand))))
+      part-words t s ss means =
+          let st = w .stand in
+          let h = headName ws (m .variable) in
+          let f : first ≡ sameBytes name (variableOf h s) = ap (sameBytes name) (means .variable) in
+          let spans = passage-spans s name h st in
+          let gap : gapBy (m .lengths .parts) (m .lengths) first st ≡ spanNumbers (passage s name (meantStand st) .gap) =
+          ap₂ (λ (l : Lengths) (b : Bool). gapBy (l .parts) l b st) (means .lengths) f ∙ spans .0 in
+          let piece : pieceSpan (m .lengths .parts) (m .lengths) first ≡ spanNumbers (passage s name (meantStand st) .piece) =
+          ap₂ (λ (l : Lengths) (b : Bool). pieceSpan (l .parts) l b) (means .lengths) f ∙ spans .1 in
+          let then : meantStand (standAfter (m .lengths .parts) first st) ≡ passage s name (meantStand st) .after =
+          ap₂ (λ (l : Lengths) (b : Bool). meantStand (standAfter (l .parts) b st)) (means .lengths) f ∙ spans .2 in
+          rw (gap, piece, then)
+
+  pub open-on : (code code′ : List ℕ) (at : ℕ) → At Call → Wrote code (w .at) (word 10 0 0 0 ∷ []) code′ at
+      → ItemsOn ws heads names m calls code w (set calls (w .depth) (w .next)) code′ (itemDone w size at (w .depth + 1) (w .stand))
+  unfolding packActions
+  open-on code code′ at e wrote =
+      let inside = item-inside ws (w .next) (w .depth) (w .items) (ap stops e) in
+      let room = item-room ws (w .next) (w .depth) (w .items) (ap isEnding e) in
+      let deep = call-room ws (w .next) (w .depth) (w .items) e in
+      let later = levelsIn (w .depth + 1) (w .items + 1) 0 (drop (w .next + 1 + size) ws) in
+      let now : levelsNow ws w ≡ opened (placeIn (getD ws (w .next) 0)) name later =
+      levels-at ws (w .next) (w .depth) (w .items) Call inside e
+      ∙ rw (levels-past (w .depth + 1) (w .items + 1) ws (w .next) inside, ← (name-here ws (w .next) inside)) in
+      record {
+        same = λ t s ss means.
+            same-wrote _
+            (same-words (same-refl code (w .at) _)
+            (rw (now, open-more ws calls (w .depth) (w .next) (omega (arith, within .room)))
+            (ap packActions (resume-call t s ss (openNames ws calls (w .depth)) (placeIn (getD ws (w .next) 0)) name (later .current) (later .outer) (meantStand (w .stand))))))
+            wrote;
+        rest = sym (ap (λ (l : Levels). l .rest) now);
+        within =
+            item-within size at (w .depth + 1) (w .stand) (set calls (w .depth) (w .next)) room (name-fits-here ws (w .next) inside)
+            (length-set calls (w .depth) (w .next) ∙ within .room) (still deep inside) (omega arith);
+        ahead = omega (arith, name-fits-here ws (w .next) inside);
+        grown = omega (arith, wrote .next);
+      }
+    where
+      still : w .depth < 16 → w .next < length ws → (k : ℕ) → k < w .depth + 1 → getD (set calls (w .depth) (w .next)) k 0 < length ws
+      still deep inside k h = elim (ℕ-discrete k (w .depth)) [
+        | yes e ↦ rw (e, getD-set-same calls (w .depth) (w .next) 0 (omega (arith, within .room))) inside
+        | no e ↦ rw (getD-set-other calls (w .depth) k (w .next) 0 e) (within .opened k (omega arith))
+      ]
+
+  rest-word : (t : Table) (s : Shape) (ss : List (Named Site)) → Means ws heads names m t s ss
+      → restWord (m .lengths) (w .stand) ≡ spanWord 5 (restOf s (meantStand (w .stand)))
+  rest-word t s ss means = ap (λ (l : Lengths). restWord l (w .stand)) (means .lengths) ∙ ap (spanWords 5) (rest-span s (w .stand))
+
+  pub pass-on : (code : List ℕ) → At Pass → ItemsOn ws heads names m calls code w calls code (wordDone w)
+  pass-on code e =
+      let inside = item-inside ws (w .next) (w .depth) (w .items) (ap stops e) in
+      let now : levelsNow ws w ≡ levelsIn (w .depth) (w .items) 0 (drop (w .next + 1) ws) = levels-at ws (w .next) (w .depth) (w .items) Pass inside e in
+      record {
+        same = λ t s ss means. same-words (same-refl code (w .at) _)
+            (ap (λ (l : Levels). packActions (resume t s ss (openNames ws calls (w .depth)) (l .current) (l .outer) (meantStand (w .stand)))) now);
+        rest = sym (ap (λ (l : Levels). l .rest) now);
+        within =
+            record { room = within .room; opened = within .opened; depth = within .depth; items = within .items; next = omega arith };
+        ahead = omega arith;
+        grown = omega arith;
+      }
+
+  pub end-on : (code code′ : List ℕ) (at : ℕ) → At Stop → Wrote code (w .at) (restWord (m .lengths) (w .stand) ∷ 15 ∷ []) code′ at
+      → ItemsOn ws heads names m calls code w calls code′ (callDone w (w .next) at false)
+  unfolding packActions openNames
+  end-on code code′ at e wrote =
+      let none = stop-depth ws (w .next) (w .depth) (w .items) e in
+      let now : levelsNow ws w ≡ stopped (drop (w .next) ws) = levels-stop ws (w .next) (w .depth) (w .items) (ap stops e) in
+      record {
+        same = λ t s ss means. same-wrote []
+            (same-words (same-refl code (w .at) _)
+            (rw (now, none) (ap packActions (resume-last t s ss [] (meantStand (w .stand)))
+            ∙ ap (λ (v : ℕ). v ∷ 15 ∷ []) (sym (rest-word t s ss means)))))
+            wrote;
+        rest = sym (ap (λ (l : Levels). l .rest) now);
+        within =
+            record {
+              room = within .room;
+              opened = λ k h. within .opened k (omega arith);
+              depth = omega (arith, within .depth);
+              items = within .items;
+              next = within .next;
+            };
+        ahead = omega arith;
+        grown = omega (arith, wrote .next);
+      }
+
+  -- A CALL ENDS
+
+  abbrev under : ℕ
+  under = w .depth - 1
+
+  abbrev called : Name
+  called = headName ws (getD calls under 0)
+
+  module _ (next : ℕ) (deep : 0 < w .depth) (outer : List Expression) where
+    -- what is read from there on with one call less open
+    abbrev later : Levels
+    later = levelsIn under (w .items) 0 (drop next ws)
+
+    abbrev manner : Manner
+    manner = mannerNow ws calls next w
+
+    abbrev last : Bool
+    last = lastCall under (drop next ws) (w .items)
+
+    last-same : (b : Bool) → eqb under 0 ≡ b → firstOf outer ≡ later .current → isLast b (firstOf outer) ≡ pick b (isStop (itemAt (drop next ws) 0 (w .items))) false
+    last-same true e h =
+        rw h (rw (eqb-true under 0 e) (last-item ws next (w .items)))
+    last-same false e h = refl
+
+    meant : Manner → MeantManner
+    meant Emits = emits
+    meant Replaces = replaces
+    meant Nests = nests
+
+    manner-same : firstOf outer ≡ later .current → mannerOf (isNil (openNames ws calls under)) (firstOf outer) called ≡ meant manner
+    unfolding meant
+    manner-same h =
+        rw (open-none ws calls under, last-same (eqb under 0) refl h) (by-tests (isEmission called) last)
+      where
+        by-tests : (a b : Bool) → pick a emits (pick b replaces nests) ≡ meant (mannerBy a b)
+        by-tests true b = refl
+        by-tests false true = refl
+        by-tests false false = refl
+
+    -- its words, and what comes after them
+    calling-words : (t : Table) (s : Shape) (ss : List (Named Site)) → Means ws heads names m t s ss → (k : Manner) (number : ℕ) (more : List Action)
+        → packActions (calling s (meant k) number called (meantStand (w .stand)) more)
+        ≡ callWords k (m .lengths) (w .stand) number called ++ pick (goesOn k) (packActions more) []
+    unfolding meant packActions
+    calling-words t s ss means Emits number more = refl
+    calling-words t s ss means Replaces number more = rw (rest-word t s ss means)
+    calling-words t s ss means Nests number more = refl
+
+    -- they are not many
+    words-short : (k : Manner) (number : ℕ) → length (callWords k (m .lengths) (w .stand) number called) ≤ 260
+    words-short Emits number = omega (arith, name-short ws (getD calls under 0))
+    words-short Replaces number = omega arith
+    words-short Nests number = omega arith
+
+    -- a tail call leaves nothing to be read
+    replaces-last : (a b : Bool) → mannerBy a b ≡ Replaces → b ≡ true
+    replaces-last true b e = absurd (let z : _≡_ {A = ℕ} 0 1 = cc in omega arith)
+    replaces-last false true e = refl
+    replaces-last false false e = absurd (let z : _≡_ {A = ℕ} 0 1 = cc in omega arith)
+
+    last-stops : (b c : Bool) → pick b c false ≡ true → (b ≡ true) × (c ≡ true)
+    last-stops true c e = (refl, e)
+    last-stops false c e = absurd (let z : _≡_ {A = ℕ} 0 1 = cc in omega arith)
+
+    stop-stops : (it : Item) → isStop it ≡ true → stops it ≡ true
+    stop-stops Byte e = absurd (let z : _≡_ {A = ℕ} 0 1 = cc in omega arith)
+    stop-stops Symbol e = absurd (let z : _≡_ {A = ℕ} 0 1 = cc in omega arith)
+    stop-stops Part e = absurd (let z : _≡_ {A = ℕ} 0 1 = cc in omega arith)
+    stop-stops Call e = absurd (let z : _≡_ {A = ℕ} 0 1 = cc in omega arith)
+    stop-stops Pass e = absurd (let z : _≡_ {A = ℕ} 0 1 = cc in omega arith)
+    stop-stops Close e = absurd (let z : _≡_ {A = ℕ} 0 1 = cc in omega arith)
+    stop-stops Unclosed e = absurd (let z : _≡_ {A = ℕ} 0 1 = cc in omega arith)
+    stop-stops Stop e = refl
+
+    rest-same : (k : Manner) (at : ℕ) → manner ≡ k → restNow (goesOn k) ws (callDone w next at (goesOn k)) ≡ later .rest
+    rest-same Emits at e = refl
+    rest-same Nests at e = refl
+    rest-same Replaces at e =
+        let tests = last-stops (eqb under 0) (isStop (itemAt (drop next ws) 0 (w .items))) (replaces-last (isEmission called) last e) in
+        let none : later ≡ stopped (drop next ws) =
+        rw (eqb-true under 0 (tests .0)) (levels-stop ws next 0 (w .items) (stop-stops (itemAt (drop next ws) 0 (w .items)) (tests .1))) in
+        sym (ap (λ (l : Levels). l .rest) none)
+
+    -- what is still to come once it is done
+    more-same : (t : Table) (s : Shape) (ss : List (Named Site)) (b : Bool) (at : ℕ) → firstOf outer ≡ later .current → othersOf outer ≡ later .outer
+        → pick b (packActions (resume t s ss (openNames ws calls under) (firstOf outer) (othersOf outer) (meantStand (w .stand)))) []
+        ≡ remaining b t s ss ws calls (callDone w next at b)
+    more-same t s ss true at h g = rw (h, g)
+    more-same t s ss false at h g = refl
+
+    close-on : (code code′ : List ℕ) (at : ℕ) → levelsNow ws w ≡ record { current = end; outer = outer; rest = later .rest }
+        → firstOf outer ≡ later .current → othersOf outer ≡ later .outer → w .next ≤ next → next ≤ length ws + 1
+        → Wrote code (w .at) (endingWords ws heads (m .lengths) calls next w) code′ at
+        → ItemsOn ws heads names m calls code w calls code′ (callDone w next at (goesOn manner))
+    close-on code code′ at now h g forward fits wrote =
+        record {
+          same = λ t s ss means.
+              let number : numberOf t called ≡ numberAmong 0 (headNames ws heads) called =
+              number-among 0 t called ∙ ap (λ (l : List Name). numberAmong 0 l called) (means .functions) in
+              let st = meantStand (w .stand) in
+              let more = resume t s ss (openNames ws calls under) (firstOf outer) (othersOf outer) st in
+              same-wrote _
+              (same-words (same-refl code (w .at) _)
+              (rw (now, open-less ws calls (w .depth) deep)
+              (ap packActions (resume-end t s ss called (openNames ws calls under) outer st)
+              ∙ ap₂ (λ (k : MeantManner) (f : ℕ). packActions (calling s k f called st more)) (manner-same h) number
+              ∙ calling-words t s ss means manner (numberAmong 0 (headNames ws heads) called) more
+              ∙ ap (λ (r : Words). endingWords ws heads (m .lengths) calls next w ++ r) (more-same t s ss (goesOn manner) at h g))))
+              wrote;
+          rest = rest-same manner at refl ∙ sym (ap (λ (l : Levels). l .rest) now);
+          within =
+              record {
+                room = within .room;
+                opened = λ k i. within .opened k (omega arith);
+                depth = omega (arith, within .depth);
+                items = within .items;
+                next = fits;
+              };
+          ahead = omega (arith, flag-small (goesOn manner));
+          grown = omega (arith, wrote .next, words-short manner (numberAmong 0 (headNames ws heads) called));
+        }
+      where
+        flag-small : (b : Bool) → flag b ≤ 1
+        flag-small true = omega arith
+        flag-small false = omega arith
+
+  pub closed-on : (code code′ : List ℕ) (at : ℕ) → At Close → Wrote code (w .at) (endingWords ws heads (m .lengths) calls (w .next + 1) w) code′ at
+      → ItemsOn ws heads names m calls code w calls code′ (callDone w (w .next + 1) at (goesOn (mannerNow ws calls (w .next + 1) w)))
+  closed-on code code′ at e wrote =
+      let inside = item-inside ws (w .next) (w .depth) (w .items) (ap stops e) in
+      let deep = deep-depth ws (w .next) (w .depth) (w .items) (ap isDeep e) in
+      let l = levelsIn under (w .items) 0 (drop (w .next + 1) ws) in
+      close-on (w .next + 1) deep (l .current ∷ l .outer) code code′ at
+      (levels-at ws (w .next) (w .depth) (w .items) Close inside e) refl refl (omega arith) (omega arith) wrote
+
+  pub unclosed-on : (code code′ : List ℕ) (at : ℕ) → At Unclosed → Wrote code (w .at) (endingWords ws heads (m .lengths) calls (w .next) w) code′ at
+      → ItemsOn ws heads names m calls code w calls code′ (callDone w (w .next) at (goesOn (mannerNow ws calls (w .next) w)))
+  unclosed-on code code′ at e wrote =
+      let deep = deep-depth ws (w .next) (w .depth) (w .items) (ap isDeep e) in
+      let below : levelsIn under (w .items) 0 (drop (w .next) ws) ≡ stopped (drop (w .next) ws) =
+      levels-stop ws (w .next) under (w .items) (stops-below ws (w .next) (w .depth) (w .items) e) in
+      close-on (w .next) deep [] code code′ at
+      (levels-stop ws (w .next) (w .depth) (w .items) (ap stops e) ∙ ap (λ (r : List ℕ). stopped r) (sym (ap (λ (l : Levels). l .rest) below)))
+      (sym (ap (λ (l : Levels). l .current) below)) (sym (ap (λ (l : Levels). l .outer) below)) (omega arith) (within .next) wrote
+
+-- ALL OF THEM
+
+-- what is written so far and what is still to be written are the whole expression's actions
+pub record ItemsSoFar (ws heads names : List ℕ) (m : Pattern) (start at : ℕ) (code₀ calls code : List ℕ) (w : Walk) : Type 0 where
+  pub same : (t : Table) (s : Shape) (ss : List (Named Site)) → Means ws heads names m t s ss
+      → Same code₀ at (packActions (actionsOf t s ss (levelsIn 0 0 0 (drop start ws) .current))) code (w .at) (remaining (w .more) t s ss ws calls w)
+  pub rest : restNow (w .more) ws w ≡ levelsIn 0 0 0 (drop start ws) .rest
+  pub within : InItems ws calls w
+  pub grown : w .at + 260 * w .depth ≤ at + 270 * w .items + 2 * (1 - flag (w .more))
+
+pub items-go-on : {ws heads names : List ℕ} {m : Pattern} {start at : ℕ} {code₀ calls code calls′ code′ : List ℕ} {w r : Walk}
+    → ItemsSoFar ws heads names m start at code₀ calls code w → w .more ≡ true → ItemsOn ws heads names m calls code w calls′ code′ r
+    → ItemsSoFar ws heads names m start at code₀ calls′ code′ r
+items-go-on s e o =
+    record {
+      same = λ t sh ss means. same-trans (rw e at (s .same t sh ss means)) (o .same t sh ss means);
+      rest = o .rest ∙ (rw e at (s .rest));
+      within = o .within;
+      grown = omega (arith, rw e at (s .grown), o .grown);
+    }
+
+pub items-all : {ws heads names : List ℕ} {m : Pattern} {start at : ℕ} {code₀ calls code : List ℕ} {w : Walk}
+    → ItemsSoFar ws heads names m start at code₀ calls code w → w .more ≡ false → ItemsAll ws heads names m start code₀ at code w
+items-all s e =
+    record {
+      wrote = λ t sh ss means. same-end (rw e at (s .same t sh ss means));
+      rest = rw e at (s .rest);
+      next = s .within .next;
+      grown = omega (arith, rw e at (s .grown), s .within .items);
+    }

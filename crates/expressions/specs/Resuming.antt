@@ -1,0 +1,165 @@
+-- A sentence's expression as actions, as they are written item by item: what is still to be written from where the writing stands.
+use Prim.Native.Nat.{ℕ, zero, suc, _+_, _-_, _*_, _≤_, _<_}
+use mathlib.Core.Path.{_≡_}
+use mathlib.Core.Bool.{Bool, true, false}
+use mathlib.Core.List.{List, [], _∷_, map}
+use lib.Dec.{eqb}
+use lib.ListN.{length, drop, getD}
+use Rattle.meaning.specs.Choice.{Name, pick, Named}
+use Rattle.meaning.specs.Tree.{Expression, Table}
+use Rattle.meaning.specs.Names.{isEmission, numberOf}
+use Rattle.meaning.specs.Allowed.{namesOf}
+use Rattle.meaning.specs.Instructions.{Site, Action}
+use Rattle.meaning.specs.Translation.{Shape, Stand as MeantStand, mannerOf, calling, items, passesRest, actionsOf}
+use Rattle.meaning.specs.Packing.{Words, word, packActions}
+use Rattle.templates.specs.declared.tape.Item.{Item}
+use Rattle.templates.specs.declared.tape.Item.the-variants.{Byte, Symbol, Part, Call, Pass, Close, Unclosed, Stop}
+use Rattle.templates.specs.declared.pattern.Lengths.{Lengths}
+use Rattle.templates.specs.declared.pattern.Pattern.{Pattern}
+use Rattle.expressions.specs.declared.spans.Stand.{Stand}
+use Rattle.expressions.specs.declared.spans.Span.{Span}
+use Rattle.expressions.specs.declared.expression.Walk.{Walk}
+use Rattle.expressions.specs.declared.expression.Manner.{Manner}
+use Rattle.expressions.specs.declared.expression.Manner.the-variants.{Emits, Replaces, Nests}
+use Rattle.templates.specs.Words.{headName, headNames, itemAt}
+use Rattle.expressions.specs.Levels.{Levels, firstOf, othersOf, levelsIn}
+use Rattle.templates.specs.Writing.{Wrote, Same}
+use Rattle.templates.specs.Finding.{numberAmong}
+use Rattle.templates.specs.Measuring.{flag, lengthsOf, variableOf}
+use Rattle.expressions.specs.Spanning.{meantStand, gapBy, pieceSpan, restBy}
+
+-- WHAT IS STILL TO COME
+
+abbrev pub isNil : List Name → Bool
+isNil [] = true
+isNil (n ∷ ns) = false
+
+-- the actions still to come: the rest of the innermost open call's argument, then that call, what comes after it, and so on outwards
+unfoldable pub resume : Table → Shape → List (Named Site) → List Name → Expression → List Expression → MeantStand → List Action
+resume t s ss [] e outer w = items t s ss true e w (passesRest s)
+resume t s ss (n ∷ ns) e outer w =
+    items t s ss false e w
+    (λ w₁.
+    let more = resume t s ss ns (firstOf outer) (othersOf outer) w₁ in
+    calling s (mannerOf (isNil ns) (firstOf outer) n) (numberOf t n) n w₁ more)
+
+-- the names of the open calls, the innermost first
+unfoldable pub openNames : List ℕ → List ℕ → ℕ → List Name
+openNames ws calls zero = []
+openNames ws calls (suc depth) = headName ws (getD calls depth 0) ∷ openNames ws calls depth
+
+abbrev pub levelsNow : List ℕ → Walk → Levels
+levelsNow ws w = levelsIn (w .depth) (w .items) 0 (drop (w .next) ws)
+
+abbrev pub remaining : Bool → Table → Shape → List (Named Site) → List ℕ → List ℕ → Walk → Words
+remaining true t s ss ws calls w =
+    packActions (resume t s ss (openNames ws calls (w .depth)) (levelsNow ws w .current) (levelsNow ws w .outer) (meantStand (w .stand)))
+remaining false t s ss ws calls w = []
+
+abbrev pub restNow : Bool → List ℕ → Walk → List ℕ
+restNow true ws w = levelsNow ws w .rest
+restNow false ws w = drop (w .next) ws
+
+-- THE STEPS
+
+abbrev pub itemDone : Walk → ℕ → ℕ → ℕ → Stand → Walk
+itemDone w size at depth stand =
+    record { next = w .next + 1 + size; at = at; items = w .items + 1; depth = depth; stand = stand; more = true }
+
+abbrev pub wordDone : Walk → Walk
+wordDone w = record { next = w .next + 1; at = w .at; items = w .items; depth = w .depth; stand = w .stand; more = true }
+
+abbrev pub callDone : Walk → ℕ → ℕ → Bool → Walk
+callDone w next at more =
+    record { next = next; at = at; items = w .items; depth = w .depth - 1; stand = w .stand; more = more }
+
+abbrev pub spanWords : ℕ → Span → ℕ
+spanWords number s = word number (s .register) (s .add) (s .back)
+
+-- an e-variable's three words: Go to it, Select it, Out of it
+abbrev pub partWords : Lengths → Bool → Stand → Words
+partWords l first w =
+    spanWords 5 (gapBy (l .parts) l first w) ∷ spanWords 6 (pieceSpan (l .parts) l first) ∷ word 7 0 0 0 ∷ []
+
+abbrev pub restWord : Lengths → Stand → ℕ
+restWord l w = spanWords 5 (restBy (l .parts) l w)
+
+-- UseSeq, and Select of nothing more
+abbrev pub readyWords : Words → Words
+readyWords more = word 11 0 0 0 ∷ word 6 0 0 0 ∷ more
+
+-- what follows a call's argument
+abbrev pub callWords : Manner → Lengths → Stand → ℕ → Name → Words
+callWords Emits l w number n = readyWords (word 14 (length n) 0 0 ∷ n)
+callWords Replaces l w number n = restWord l w ∷ readyWords ((13 + 256 * number) ∷ 15 ∷ [])
+callWords Nests l w number n = readyWords ((12 + 256 * number) ∷ [])
+
+abbrev pub isStop : Item → Bool
+isStop Byte = false
+isStop Symbol = false
+isStop Part = false
+isStop Call = false
+isStop Pass = false
+isStop Close = false
+isStop Unclosed = false
+isStop Stop = true
+
+-- the call that ends is the last item outermost: none is open round it, and no item follows
+abbrev pub lastCall : ℕ → List ℕ → ℕ → Bool
+lastCall depth ws items = pick (eqb depth 0) (isStop (itemAt ws 0 items)) false
+
+abbrev pub mannerBy : Bool → Bool → Manner
+mannerBy emission last = pick emission Emits (pick last Replaces Nests)
+
+-- how the innermost open call is done, where the tape goes on at `next`
+abbrev pub mannerNow : List ℕ → List ℕ → ℕ → Walk → Manner
+mannerNow ws calls next w =
+    mannerBy (isEmission (headName ws (getD calls (w .depth - 1) 0))) (lastCall (w .depth - 1) (drop next ws) (w .items))
+
+abbrev pub goesOn : Manner → Bool
+goesOn Emits = true
+goesOn Replaces = false
+goesOn Nests = true
+
+-- what follows the argument of the innermost open call
+abbrev pub endingWords : List ℕ → List ℕ → Lengths → List ℕ → ℕ → Walk → Words
+endingWords ws heads l calls next w =
+    let n = headName ws (getD calls (w .depth - 1) 0) in
+    callWords (mannerNow ws calls next w) l (w .stand) (numberAmong 0 (headNames ws heads) n) n
+
+-- THEIR CONTRACT
+
+-- the heads are those of a table's functions, the names those of a sentence's different s-variables, and the measure that of its pattern's shape
+pub record Means (ws heads names : List ℕ) (m : Pattern) (t : Table) (s : Shape) (ss : List (Named Site)) : Type 0 where
+  pub functions : namesOf t ≡ headNames ws heads
+  pub symbols : map (λ x. x .name) ss ≡ headNames ws names
+  pub lengths : m .lengths ≡ lengthsOf s
+  pub variable : headName ws (m .variable) ≡ variableOf (headName ws (m .variable)) s
+
+pub record InItems (ws calls : List ℕ) (w : Walk) : Type 0 where
+  pub room : length calls ≡ 16
+  pub opened : (k : ℕ) → k < w .depth → getD calls k 0 < length ws
+  pub depth : w .depth ≤ 16
+  pub items : w .items ≤ 128
+  pub next : w .next ≤ length ws + 1
+
+-- what is left to be done
+abbrev pub toGo : List ℕ → Walk → ℕ
+toGo ws w = 2 * (length ws + 1 - w .next) + w .depth + flag (w .more)
+
+-- a step keeps what the actions come to, and goes on
+pub record ItemsOn (ws heads names : List ℕ) (m : Pattern) (calls code : List ℕ) (w : Walk) (calls′ code′ : List ℕ) (r : Walk) : Type 0 where
+  pub same : (t : Table) (s : Shape) (ss : List (Named Site)) → Means ws heads names m t s ss
+      → Same code (w .at) (remaining true t s ss ws calls w) code′ (r .at) (remaining (r .more) t s ss ws calls′ r)
+  pub rest : restNow (r .more) ws r ≡ restNow true ws w
+  pub within : InItems ws calls′ r
+  pub ahead : toGo ws r < 2 * (length ws + 1 - w .next) + w .depth + 1
+  pub grown : r .at + 260 * r .depth + 270 * w .items ≤ w .at + 260 * w .depth + 270 * r .items + 2 * (1 - flag (r .more))
+
+-- the whole expression is written
+pub record ItemsAll (ws heads names : List ℕ) (m : Pattern) (start : ℕ) (code : List ℕ) (at : ℕ) (code′ : List ℕ) (r : Walk) : Type 0 where
+  pub wrote : (t : Table) (s : Shape) (ss : List (Named Site)) → Means ws heads names m t s ss
+      → Wrote code at (packActions (actionsOf t s ss (levelsIn 0 0 0 (drop start ws) .current))) code′ (r .at)
+  pub rest : drop (r .next) ws ≡ levelsIn 0 0 0 (drop start ws) .rest
+  pub next : r .next ≤ length ws + 1
+  pub grown : r .at ≤ at + 34600

@@ -1,0 +1,366 @@
+// A sentence's expression as actions: item by item, with the open calls in an array.
+use crate::spans::Span;
+use crate::spans::Stand;
+use crate::spans::gap_of;
+use crate::spans::piece_span;
+use crate::spans::rest_of;
+use crate::spans::stand_after;
+use templates::names::find;
+use templates::names::is_emission;
+use templates::names::name_is;
+use templates::pattern::Lengths;
+use templates::pattern::Pattern;
+use templates::tape::Item;
+use templates::tape::item_at;
+use templates::tape::less;
+use templates::tape::name_size;
+use templates::tape::word_at;
+use templates::writing::put;
+use templates::writing::put_name;
+use templates::writing::put_operands;
+ghost use mathlib.Core.Path.{_≡_};
+ghost use mathlib.Core.Bool.{true, false};
+ghost use mathlib.Core.List.{[], _∷_};
+ghost use Prim.Native.Nat.{_+_, _-_, _*_, _≤_, _<_, _^_};
+ghost use lib.ListN.{length, take, drop, getD, set};
+ghost use Rattle.meaning.specs.Choice.{sameBytes};
+ghost use Rattle.meaning.specs.Packing.{word};
+ghost use Rattle.templates.specs.Words.{headName, headNames};
+ghost use Rattle.templates.specs.Writing.{Wrote};
+ghost use Rattle.templates.specs.Finding.{numberAmong};
+ghost use Rattle.templates.specs.Testing.{total};
+ghost use Rattle.expressions.specs.Spanning.{standAfter};
+ghost use Rattle.expressions.specs.Resuming.{itemDone, wordDone, callDone, spanWords, partWords, restWord, readyWords, callWords, isStop, lastCall, mannerBy, mannerNow, goesOn, endingWords, InItems, ItemsOn, ItemsAll};
+
+// Where the writing of an expression stands: the tape's next word, the code's, the items so far, the open calls, and where p stands.
+pub struct Walk {
+    pub next: usize,
+    pub at: usize,
+    pub items: usize,
+    pub depth: usize,
+    pub stand: Stand,
+    pub more: bool,
+}
+
+// How a call is done: as an emission, as a tail call, or in a frame of its own.
+pub enum Manner {
+    Emits,
+    Replaces,
+    Nests,
+}
+
+fn put_span(code: &mut [u32], at: usize, number: usize, span: Span) -> usize
+    requires { ⌜ (spanWords number span < 2 ^ 32) × (at < 2 ^ 62) ⌝ }
+    ensures { λ r. ⌜ Wrote (now (code .entry)) at (spanWords number span ∷ []) (now (code .exit)) r ⌝ }
+{
+    put_operands(code, at, number, span.register, span.add, span.back)
+}
+
+// Past an item.
+fn past_item(walk: Walk, size: usize, at: usize, depth: usize, stand: Stand) -> Walk
+    requires { ⌜ (walk .next + 1 + size < 2 ^ 62) × (walk .items < 2 ^ 62) ⌝ }
+    ensures { λ r. ⌜ r ≡ itemDone walk size at depth stand ⌝ }
+{
+    Walk {
+        next: walk.next + 1 + size,
+        at,
+        items: walk.items + 1,
+        depth,
+        stand,
+        more: true,
+    }
+}
+
+fn write_character(tape: &[u32], code: &mut [u32], walk: Walk) -> Walk
+    requires { ⌜ (getD (now tape) (walk .next) 0 < 256) × (walk .next < length (now tape)) × (walk .items < 128) × (walk .at < 2 ^ 61) ⌝ }
+    ensures { λ r. ⌜ Wrote (now (code .entry)) (walk .at) (word 8 (getD (now (tape .entry)) (walk .next) 0) 0 0 ∷ []) (now (code .exit)) (r .at) ⌝ }
+    ensures { λ r. ⌜ r ≡ itemDone walk 0 (r .at) (walk .depth) (walk .stand) ⌝ }
+{
+    let at = put_operands(code, walk.at, 8, word_at(tape, walk.next), 0, 0);
+    let stand = walk.stand;
+    past_item(walk, 0, at, walk.depth, stand)
+}
+
+fn write_value(tape: &[u32], names: &[usize], code: &mut [u32], walk: Walk) -> Walk
+    requires { ⌜ (walk .next < length (now tape)) × (walk .items < 128) × (walk .at < 2 ^ 61) × (length (now names) ≤ 64) ⌝ }
+    ensures { λ r. ⌜ Wrote (now (code .entry)) (walk .at) (word 9 (numberAmong 0 (headNames (now (tape .entry)) (now (names .entry))) (headName (now (tape .entry)) (walk .next)) - 1) 0 0 ∷ []) (now (code .exit)) (r .at) ⌝ }
+    ensures { λ r. ⌜ r ≡ itemDone walk (length (headName (now (tape .entry)) (walk .next))) (r .at) (walk .depth) (walk .stand) ⌝ }
+{
+    let size = name_size(tape, walk.next);
+    let value = less(find(tape, names, names.len(), walk.next + 1, size), 1);
+    let at = put_operands(code, walk.at, 9, value, 0, 0);
+    let stand = walk.stand;
+    past_item(walk, size, at, walk.depth, stand)
+}
+
+// Go to an e-variable, Select it, Out of it.
+fn put_part(lengths: Lengths, first: bool, stand: Stand, code: &mut [u32], at: usize) -> usize
+    requires { ⌜ (total lengths ≤ 64) × (at < 2 ^ 61) ⌝ }
+    ensures { λ r. ⌜ Wrote (now (code .entry)) at (partWords lengths first stand) (now (code .exit)) r ⌝ }
+{
+    let gone = put_span(code, at, 5, gap_of(lengths, first, stand));
+    let selected = put_span(code, gone, 6, piece_span(lengths, first));
+    put_operands(code, selected, 7, 0, 0, 0)
+}
+
+fn write_part(tape: &[u32], m: Pattern, code: &mut [u32], walk: Walk) -> Walk
+    requires { ⌜ (total (m .lengths) ≤ 64) × (walk .next < length (now tape)) × (walk .items < 128) × (walk .at < 2 ^ 61) ⌝ }
+    ensures { λ r. ⌜ Wrote (now (code .entry)) (walk .at) (partWords (m .lengths) (sameBytes (headName (now (tape .entry)) (walk .next)) (headName (now (tape .entry)) (m .variable))) (walk .stand)) (now (code .exit)) (r .at) ⌝ }
+    ensures { λ r. ⌜ r ≡ itemDone walk (length (headName (now (tape .entry)) (walk .next))) (r .at) (walk .depth) (standAfter (m .lengths .parts) (sameBytes (headName (now (tape .entry)) (walk .next)) (headName (now (tape .entry)) (m .variable))) (walk .stand)) ⌝ }
+{
+    let size = name_size(tape, walk.next);
+    let first = name_is(tape, m.variable, walk.next + 1, size);
+    let lengths = m.lengths;
+    let parts = lengths.parts;
+    let stand = walk.stand;
+    let at = put_part(lengths, first, stand, code, walk.at);
+    past_item(walk, size, at, walk.depth, stand_after(parts, first, stand))
+}
+
+fn open_call(tape: &[u32], calls: &mut [usize], code: &mut [u32], walk: Walk) -> Walk
+    requires { ⌜ (walk .depth < length (now calls)) × (walk .next < length (now tape)) × (walk .items < 128) × (walk .at < 2 ^ 61) ⌝ }
+    ensures { λ r. ⌜ Wrote (now (code .entry)) (walk .at) (word 10 0 0 0 ∷ []) (now (code .exit)) (r .at) ⌝ }
+    ensures { λ r. ⌜ r ≡ itemDone walk (length (headName (now (tape .entry)) (walk .next))) (r .at) (walk .depth + 1) (walk .stand) ⌝ }
+    ensures { λ r. ⌜ now (calls .exit) ≡ set (now (calls .entry)) (walk .depth) (walk .next) ⌝ }
+{
+    let depth = walk.depth;
+    calls[depth] = walk.next;
+    let at = put_operands(code, walk.at, 10, 0, 0, 0);
+    let size = name_size(tape, walk.next);
+    let stand = walk.stand;
+    past_item(walk, size, at, depth + 1, stand)
+}
+
+fn past_word(walk: Walk) -> Walk
+    requires { ⌜ walk .next < 2 ^ 62 ⌝ }
+    ensures { λ r. ⌜ r ≡ wordDone walk ⌝ }
+{
+    let stand = walk.stand;
+    Walk {
+        next: walk.next + 1,
+        at: walk.at,
+        items: walk.items,
+        depth: walk.depth,
+        stand,
+        more: true,
+    }
+}
+
+fn is_stop(item: Item) -> bool
+    ensures { λ r. ⌜ r ≡ isStop item ⌝ }
+{
+    match item {
+        Item::Byte => false,
+        Item::Symbol => false,
+        Item::Part => false,
+        Item::Call => false,
+        Item::Pass => false,
+        Item::Close => false,
+        Item::Unclosed => false,
+        Item::Stop => true,
+    }
+}
+
+// The call that ends is the last item outermost: none is open round it, and no item follows.
+fn is_last(tape: &[u32], next: usize, depth: usize, items: usize) -> bool
+    ensures { λ r. ⌜ r ≡ lastCall depth (drop next (now (tape .entry))) items ⌝ }
+{
+    if depth != 0 {
+        return false;
+    }
+    is_stop(item_at(tape, next, 0, items))
+}
+
+fn manner_of(emission: bool, last: bool) -> Manner
+    ensures { λ r. ⌜ r ≡ mannerBy emission last ⌝ }
+{
+    if emission {
+        return Manner::Emits;
+    }
+    if last {
+        Manner::Replaces
+    } else {
+        Manner::Nests
+    }
+}
+
+// UseSeq, and Select of nothing more.
+fn argument_ready(code: &mut [u32], at: usize) -> usize
+    requires { ⌜ at < 2 ^ 61 + 8 ⌝ }
+    ensures { λ r. ⌜ Wrote (now (code .entry)) at (readyWords []) (now (code .exit)) r ⌝ }
+{
+    let used = put_operands(code, at, 11, 0, 0, 0);
+    put_operands(code, used, 6, 0, 0, 0)
+}
+
+fn write_emission(tape: &[u32], from: usize, size: usize, code: &mut [u32], at: usize) -> usize
+    requires { ⌜ (from + size ≤ length (now tape)) × (size < 256) × (at < 2 ^ 61) ⌝ }
+    ensures { λ r. ⌜ Wrote (now (code .entry)) at (readyWords (word 14 size 0 0 ∷ take size (drop from (now (tape .entry))))) (now (code .exit)) r ⌝ }
+{
+    let ready = argument_ready(code, at);
+    let named = put_operands(code, ready, 14, size, 0, 0);
+    put_name(tape, from, size, code, named)
+}
+
+fn write_tail_call(
+    lengths: Lengths,
+    stand: Stand,
+    number: usize,
+    code: &mut [u32],
+    at: usize,
+) -> usize
+    requires { ⌜ (total lengths ≤ 64) × (number ≤ 64) × (at < 2 ^ 61) ⌝ }
+    ensures { λ r. ⌜ Wrote (now (code .entry)) at (restWord lengths stand ∷ readyWords ((13 + 256 * number) ∷ 15 ∷ [])) (now (code .exit)) r ⌝ }
+{
+    let gone = put_span(code, at, 5, rest_of(lengths, stand));
+    let ready = argument_ready(code, gone);
+    let called = put(code, ready, 13 + 256 * number);
+    put(code, called, 15)
+}
+
+fn write_call(number: usize, code: &mut [u32], at: usize) -> usize
+    requires { ⌜ (number ≤ 64) × (at < 2 ^ 61) ⌝ }
+    ensures { λ r. ⌜ Wrote (now (code .entry)) at (readyWords ((12 + 256 * number) ∷ [])) (now (code .exit)) r ⌝ }
+{
+    let ready = argument_ready(code, at);
+    put(code, ready, 12 + 256 * number)
+}
+
+// Past the end of a call, or past all actions.
+fn past_call(walk: Walk, next: usize, at: usize, more: bool) -> Walk
+    ensures { λ r. ⌜ r ≡ callDone walk next at more ⌝ }
+{
+    let stand = walk.stand;
+    Walk {
+        next,
+        at,
+        items: walk.items,
+        depth: less(walk.depth, 1),
+        stand,
+        more,
+    }
+}
+
+// Go passes the rest of the field, and the actions end.
+fn end_actions(lengths: Lengths, code: &mut [u32], walk: Walk) -> Walk
+    requires { ⌜ (total lengths ≤ 64) × (walk .at < 2 ^ 61) ⌝ }
+    ensures { λ r. ⌜ Wrote (now (code .entry)) (walk .at) (restWord lengths (walk .stand) ∷ 15 ∷ []) (now (code .exit)) (r .at) ⌝ }
+    ensures { λ r. ⌜ r ≡ callDone walk (walk .next) (r .at) false ⌝ }
+{
+    let stand = walk.stand;
+    let gone = put_span(code, walk.at, 5, rest_of(lengths, stand));
+    let at = put(code, gone, 15);
+    past_call(walk, walk.next, at, false)
+}
+
+fn goes_on(manner: Manner) -> bool
+    ensures { λ r. ⌜ r ≡ goesOn manner ⌝ }
+{
+    match manner {
+        Manner::Emits => true,
+        Manner::Replaces => false,
+        Manner::Nests => true,
+    }
+}
+
+// What follows the argument of the call whose word stands at `head`.
+fn write_ending(
+    tape: &[u32],
+    heads: &[usize],
+    lengths: Lengths,
+    head: usize,
+    manner: Manner,
+    stand: Stand,
+    code: &mut [u32],
+    at: usize,
+) -> usize
+    requires { ⌜ (head < length (now tape)) × (length (now heads) ≤ 64) × (total lengths ≤ 64) × (at < 2 ^ 61) ⌝ }
+    ensures { λ r. ⌜ Wrote (now (code .entry)) at (callWords manner lengths stand (numberAmong 0 (headNames (now (tape .entry)) (now (heads .entry))) (headName (now (tape .entry)) head)) (headName (now (tape .entry)) head)) (now (code .exit)) r ⌝ }
+{
+    let from = head + 1;
+    let size = name_size(tape, head);
+    let number = find(tape, heads, heads.len(), from, size);
+    match manner {
+        Manner::Emits => write_emission(tape, from, size, code, at),
+        Manner::Replaces => write_tail_call(lengths, stand, number, code, at),
+        Manner::Nests => write_call(number, code, at),
+    }
+}
+
+// The innermost open call ends, and the tape goes on at `next`.
+fn close_call(
+    tape: &[u32],
+    heads: &[usize],
+    lengths: Lengths,
+    calls: &[usize],
+    next: usize,
+    code: &mut [u32],
+    walk: Walk,
+) -> Walk
+    requires { ⌜ (1 ≤ walk .depth) × (walk .depth ≤ length (now calls)) × (getD (now calls) (walk .depth - 1) 0 < length (now tape)) ⌝ }
+    requires { ⌜ (length (now heads) ≤ 64) × (total lengths ≤ 64) × (walk .at < 2 ^ 61) ⌝ }
+    ensures { λ r. ⌜ Wrote (now (code .entry)) (walk .at) (endingWords (now (tape .entry)) (now (heads .entry)) lengths (now (calls .entry)) next walk) (now (code .exit)) (r .at) ⌝ }
+    ensures { λ r. ⌜ r ≡ callDone walk next (r .at) (goesOn (mannerNow (now (tape .entry)) (now (calls .entry)) next walk)) ⌝ }
+{
+    let depth = walk.depth - 1;
+    let head = calls[depth];
+    let size = name_size(tape, head);
+    let emission = is_emission(tape, head + 1, size);
+    let manner = manner_of(emission, is_last(tape, next, depth, walk.items));
+    let stand = walk.stand;
+    let at = write_ending(tape, heads, lengths, head, manner, stand, code, walk.at);
+    past_call(walk, next, at, goes_on(manner))
+}
+
+fn write_item(
+    tape: &[u32],
+    heads: &[usize],
+    names: &[usize],
+    m: Pattern,
+    calls: &mut [usize],
+    code: &mut [u32],
+    walk: Walk,
+) -> Walk
+    requires { ⌜ (length (now heads) ≤ 64) × (length (now names) ≤ 64) × (total (m .lengths) ≤ 64) × InItems (now tape) (now calls) walk × (walk .at < 2 ^ 61) ⌝ }
+    ensures { λ r. ⌜ ItemsOn (now (tape .entry)) (now (heads .entry)) (now (names .entry)) m (now (calls .entry)) (now (code .entry)) walk (now (calls .exit)) (now (code .exit)) r ⌝ }
+{
+    let item = item_at(tape, walk.next, walk.depth, walk.items);
+    let lengths = m.lengths;
+    match item {
+        Item::Byte => write_character(tape, code, walk),
+        Item::Symbol => write_value(tape, names, code, walk),
+        Item::Part => write_part(tape, m, code, walk),
+        Item::Call => open_call(tape, calls, code, walk),
+        Item::Pass => past_word(walk),
+        Item::Close => close_call(tape, heads, lengths, calls, walk.next + 1, code, walk),
+        Item::Unclosed => close_call(tape, heads, lengths, calls, walk.next, code, walk),
+        Item::Stop => end_actions(lengths, code, walk),
+    }
+}
+
+pub fn write_expression(
+    tape: &[u32],
+    heads: &[usize],
+    names: &[usize],
+    m: Pattern,
+    start: usize,
+    code: &mut [u32],
+    at: usize,
+) -> Walk
+    requires { ⌜ (length (now heads) ≤ 64) × (length (now names) ≤ 64) × (total (m .lengths) ≤ 64) × (start ≤ length (now tape) + 1) × (at < 2 ^ 60) ⌝ }
+    ensures { λ r. ⌜ ItemsAll (now (tape .entry)) (now (heads .entry)) (now (names .entry)) m start (now (code .entry)) at (now (code .exit)) r ⌝ }
+{
+    let mut calls = [0usize; 16];
+    let mut walk = Walk {
+        next: start,
+        at,
+        items: 0,
+        depth: 0,
+        stand: Stand::AtStart,
+        more: true,
+    };
+    while walk.more {
+        walk = write_item(tape, heads, names, m, &mut calls, code, walk);
+    }
+    walk
+}

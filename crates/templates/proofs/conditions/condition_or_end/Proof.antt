@@ -1,0 +1,35 @@
+-- `conditions::condition_or_end` meets its contract.
+use mathlib.Core.Path.{sym, _∙_}
+use Rattle.templates.proofs.laws.Conditioned.{conditions-over}
+use borrow.Author.Needs.{needs}
+use Rattle.templates.proofs.conditions.condition_or_end.Statement.{statement}
+use Rattle.templates.proofs.conditions.condition_or_end.Tie as tie
+
+is-condition-requires : tie.Need-is-condition-requires
+is-condition-requires c κs = search needs
+
+write-condition-requires : tie.Need-write-condition-requires
+write-condition-requires c κs = (c .before .before .before .before .before .before .before .pre, sym (c .before .before .is-condition .ensures) ∙ c .before .if1 .taken)
+
+conditions-end-requires : tie.Need-conditions-end-requires
+conditions-end-requires c κs = search needs
+
+same-length : tie.Need-same-length
+same-length c = search needs
+
+returns : tie.Need-returns
+returns c = search needs
+
+returns-2 : tie.Need-returns-2
+returns-2 c = rw (c .conditions-end .ensures) (conditions-over (c .before .before .before .before .before .before .before .args .tape .now) (c .before .before .before .before .before .before .before .args .names .now) (c .before .before .before .before .before .before .before .args .sites .now) (c .before .before .before .before .before .before .before .args .symbols) (c .before .before .before .before .before .before .before .pre .0) (c .before .before .before .before .before .before .before .pre .1) (c .before .before .before .before .before .before .before .pre .2) (c .before .before .before .before .before .before .before .args .c) (c .before .before .before .before .before .before .before .pre .3) (c .before .before .before .before .before .before .before .args .code .now) (sym (c .before .before .is-condition .ensures) ∙ c .before .if1 .left))
+
+pub condition-or-end-spec : {M : Type 1} → statement M
+condition-or-end-spec =
+    tie.close
+    (tie.spec
+    is-condition-requires
+    write-condition-requires
+    conditions-end-requires
+    same-length
+    returns
+    returns-2)

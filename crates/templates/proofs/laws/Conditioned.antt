@@ -1,0 +1,195 @@
+-- Laws of writing conditions, and of the stores: each step keeps what the words come to.
+use Prim.Native.Nat.{ℕ, zero, suc, _+_, _-_, _*_, _/_, _%_, _≤_, _<_}
+use native.Mathlib.Omega.{arith}
+use mathlib.Core.Path.{_≡_, refl, sym, ap, _∙_}
+use mathlib.Core.Bool.{Bool, true, false}
+use mathlib.Core.List.{List, [], _∷_}
+use lib.Dec.{eqb, leb, ltb}
+use lib.ListN.{length, take, drop, getD, drop-of-length-le, List·getD-eq-default}
+use lib.Seq.{drop-drop}
+use borrow.Author.Tests.{eq-eqb, ne-eqb, le-leb, lt-leb, leb-false}
+use native.Mathlib.Decide.{ℕ-discrete}
+use Rattle.meaning.specs.Choice.{Name, pick, Named, lookup}
+use Rattle.meaning.specs.Classes.{classNumber}
+use Rattle.meaning.specs.Tree.{Condition}
+use Rattle.meaning.specs.Instructions.{Site, predicate}
+use Rattle.meaning.specs.Translation.{siteOr}
+use Rattle.meaning.specs.Packing.{truthBit, testWord}
+use Rattle.templates.specs.declared.conditions.Conditions.{Conditions}
+use Rattle.templates.specs.Words.{carried, headNames, isConditionWord, classIn}
+use Rattle.templates.specs.Scans.{Scan, scanned, andThen, conditionIn, conditionBy, conditionsIn}
+use Rattle.templates.specs.Writing.{Wrote, Same}
+use Rattle.templates.specs.Finding.{numberAmong}
+use Rattle.templates.specs.Testing.{siteNumber, IsSite, AllSites, storeOfSite, foundSite, held}
+use Rattle.templates.specs.Conditioning.{conditionAt, coming, conditionWords, conditionWord, conditionDone, conditionsDone, InConditions, ConditionsOn, ConditionsAll}
+use Rattle.templates.proofs.laws.Lists.{drop-word, drop-again, reached, take-again}
+use Rattle.templates.proofs.laws.Names.{by-place}
+use Rattle.templates.proofs.laws.Stores.{same-refl, same-trans, same-words, same-wrote, same-end}
+use Rattle.templates.proofs.laws.Held.{lookup-none, lookup-some}
+
+-- READING
+
+pub conditions-at : (ws : List ℕ) (i count : ℕ) (b : Bool) → i < length ws → conditionAt count (drop i ws) ≡ b
+    → conditionsIn count 0 (drop i ws) ≡ conditionBy b count (getD ws i 0) (drop (i + 1) ws) (λ n skip. conditionsIn n skip (drop (i + 1) ws))
+unfolding conditionsIn
+conditions-at ws i count b h e =
+    let f : isConditionWord count (getD ws i 0) ≡ b = rw (drop-word ws i h) at e in
+    rw (drop-word ws i h, f)
+
+pub conditions-end : (ws : List ℕ) (i count : ℕ) → conditionAt count (drop i ws) ≡ false → conditionsIn count 0 (drop i ws) ≡ scanned [] (drop i ws)
+unfolding conditionsIn
+conditions-end ws i count e =
+    by-place ws i (λ h. conditions-at ws i count false h e ∙ rw (drop-word ws i h)) (λ h. rw (drop-of-length-le ws h))
+
+pub conditions-skip : (count skip : ℕ) (ws : List ℕ) → conditionsIn count skip ws ≡ conditionsIn count 0 (drop skip ws)
+unfolding conditionsIn
+conditions-skip count zero ws = refl
+conditions-skip count (suc skip) [] = refl
+conditions-skip count (suc skip) (w ∷ ws) = conditions-skip count skip ws
+
+pub condition-inside : (ws : List ℕ) (i count : ℕ) → conditionAt count (drop i ws) ≡ true → i < length ws
+condition-inside ws i count e =
+    by-place ws i (λ h. h) (λ h. absurd (let f : false ≡ true = rw (drop-of-length-le ws h) at e in let z : _≡_ {A = ℕ} 0 1 = cc in omega arith))
+
+-- there was room for one more
+pub condition-room : (ws : List ℕ) (i count : ℕ) → conditionAt count (drop i ws) ≡ true → count < 8
+condition-room ws i count e =
+    let w = getD ws i 0 in
+    let f : isConditionWord count w ≡ true = rw (drop-word ws i (condition-inside ws i count e)) at e in
+    leb-false 8 count (by-test (leb 8 count) (pick (ltb w 768) false (ltb w 1024)) f)
+  where
+    by-test : (a b : Bool) → pick a false b ≡ true → a ≡ false
+    by-test true b g = absurd (let z : _≡_ {A = ℕ} 0 1 = cc in omega arith)
+    by-test false b g = refl
+
+pub conditions-full : (count : ℕ) (l : List ℕ) → 8 ≤ count → conditionAt count l ≡ false
+conditions-full count [] h = refl
+conditions-full count (w ∷ l) h = rw (le-leb 8 count h)
+
+pub condition-by-word : (ws : List ℕ) (i count : ℕ) → count < 8 → conditionAt count (drop i ws) ≡ pick (ltb (getD ws i 0) 768) false (ltb (getD ws i 0) 1024)
+condition-by-word ws i count h =
+    by-place ws i (λ k. rw (drop-word ws i k, lt-leb 8 count h)) (λ k. rw (drop-of-length-le ws k, List·getD-eq-default ws 0 k))
+
+-- ITS WORD
+
+class-number : (n : ℕ) → n < 5 → classNumber (classIn n) ≡ n
+class-number zero h = refl
+class-number (suc zero) h = refl
+class-number (suc (suc zero)) h = refl
+class-number (suc (suc (suc zero))) h = refl
+class-number (suc (suc (suc (suc zero)))) h = refl
+class-number (suc (suc (suc (suc (suc n))))) h = absurd (omega arith)
+
+truth-bit : (n : ℕ) → n < 2 → truthBit (eqb n 1) ≡ n
+truth-bit zero h = refl
+truth-bit (suc zero) h = refl
+truth-bit (suc (suc n)) h = absurd (omega arith)
+
+module _ (ws names sites : List ℕ) (symbols : ℕ) (hn : symbols ≤ length names) (hs : symbols ≤ length sites) (good : AllSites sites) (x : Name) where
+  abbrev found : ℕ
+  found = numberAmong 0 (headNames ws (take symbols names)) x
+
+  -- the cell of a condition's variable, by the number that it is kept as
+  found-number : found ≤ symbols → siteNumber (siteOr (lookup x (held ws names sites symbols))) ≡ foundSite found sites
+  found-number h = elim (ℕ-discrete found 0) [
+    | yes e ↦ rw (lookup-none ws names sites symbols x hn hs e, eq-eqb found 0 e)
+    | no e ↦ rw (lookup-some ws names sites symbols x hn hs e h, ne-eqb found 0 e) (good (found - 1) .same)
+  ]
+
+  condition-word : (w : ℕ) → found ≤ symbols
+      → testWord (predicate (siteOr (lookup x (held ws names sites symbols))) (classIn (carried w % 5)) (eqb (carried w / 5 % 2) 1)) ≡ conditionWord (foundSite found sites) w
+  condition-word w h =
+      omega (arith, found-number h, class-number (carried w % 5) (omega arith), truth-bit (carried w / 5 % 2) (omega arith))
+
+-- THE STEPS
+
+module _ (ws names sites : List ℕ) (symbols : ℕ) (hn : symbols ≤ length names) (hs : symbols ≤ length sites) (good : AllSites sites) (c : Conditions) (within : InConditions ws c) where
+  abbrev known : List (Named Site)
+  known = held ws names sites symbols
+
+  abbrev word : ℕ
+  word = getD ws (c .next) 0
+
+  abbrev name : Name
+  name = take (carried word / 10) (drop (c .next + 1) ws)
+
+  pub condition-on : (code code′ : List ℕ) (at : ℕ) → conditionAt (c .count) (drop (c .next) ws) ≡ true
+      → numberAmong 0 (headNames ws (take symbols names)) name ≤ symbols
+      → Wrote code (c .at) (conditionWord (foundSite (numberAmong 0 (headNames ws (take symbols names)) name) sites) word ∷ []) code′ at
+      → ConditionsOn ws known code c code′ (conditionDone c (length name) at)
+  condition-on code code′ at e h wrote =
+      let inside = condition-inside ws (c .next) (c .count) e in
+      let room = condition-room ws (c .next) (c .count) e in
+      let fits : c .next + 1 + length name ≤ length ws = omega (arith, reached (carried word / 10) (c .next + 1) ws) in
+      let after : drop (carried word / 10) (drop (c .next + 1) ws) ≡ drop (c .next + 1 + length name) ws =
+      sym (drop-again (carried word / 10) (drop (c .next + 1) ws)) ∙ drop-drop (length name) (c .next + 1) ws in
+      let now : coming true ws c ≡ andThen (conditionIn word (drop (c .next + 1) ws)) (coming true ws (conditionDone c (length name) at)) =
+      conditions-at ws (c .next) (c .count) true inside e
+      ∙ rw (conditions-skip (c .count + 1) (carried word / 10) (drop (c .next + 1) ws), after) in
+      record {
+        same =
+            same-wrote _
+            (same-words (same-refl code (c .at) _) (ap (conditionWords known) now
+            ∙ ap (λ (w : ℕ). w ∷ conditionWords known (coming true ws (conditionDone c (length name) at))) (condition-word ws names sites symbols hn hs good name word h)))
+            wrote;
+        rest = sym (ap (λ (s : Scan (List Condition)). s .rest) now);
+        within = record { count = omega arith; next = fits; at = omega (arith, wrote .next, within .at) };
+        ahead = omega arith;
+        grown = omega (arith, wrote .next);
+      }
+
+  -- the same from what the code worked out
+  pub condition-written : (code code′ : List ℕ) (at w size number site : ℕ) → conditionAt (c .count) (drop (c .next) ws) ≡ true → w ≡ word
+      → size ≡ length (take (carried w / 10) (drop (c .next + 1) ws))
+      → number ≡ numberAmong 0 (headNames ws (take symbols names)) (take size (drop (c .next + 1) ws)) → number ≤ symbols → site ≡ foundSite number sites
+      → Wrote code (c .at) (conditionWord site w ∷ []) code′ at → ConditionsOn ws known code c code′ (conditionDone c size at)
+  condition-written code code′ at w size number site e ew es en h ef wrote =
+      let long : size ≡ length name = es ∙ ap (λ (v : ℕ). length (take (carried v / 10) (drop (c .next + 1) ws))) ew in
+      let named : take size (drop (c .next + 1) ws) ≡ name =
+      ap (λ (k : ℕ). take k (drop (c .next + 1) ws)) long ∙ take-again (carried word / 10) (drop (c .next + 1) ws) in
+      let same : number ≡ numberAmong 0 (headNames ws (take symbols names)) name = en ∙ ap (numberAmong 0 (headNames ws (take symbols names))) named in
+      rw long (condition-on code code′ at e (rw (← same) h) (rw (← same, ← ef, ← ew) wrote))
+
+  pub conditions-over : (code : List ℕ) → conditionAt (c .count) (drop (c .next) ws) ≡ false → ConditionsOn ws known code c code (conditionsDone c)
+  conditions-over code e =
+      let later : coming true ws c ≡ coming false ws (conditionsDone c) = conditions-end ws (c .next) (c .count) e in
+      record {
+        same = same-words (same-refl code (c .at) _) (ap (conditionWords known) later);
+        rest = sym (ap (λ (s : Scan (List Condition)). s .rest) later);
+        within = record { count = within .count; next = within .next; at = within .at };
+        ahead = omega arith;
+        grown = omega arith;
+      }
+
+-- ALL OF THEM
+
+pub record ConditionsSoFar (ws : List ℕ) (known : List (Named Site)) (start at : ℕ) (code₀ code : List ℕ) (c : Conditions) : Type 0 where
+  pub same : Same code₀ at (conditionWords known (conditionsIn 0 0 (drop start ws))) code (c .at) (conditionWords known (coming (c .more) ws c))
+  pub rest : coming (c .more) ws c .rest ≡ conditionsIn 0 0 (drop start ws) .rest
+  pub within : InConditions ws c
+  pub grown : c .at ≤ at + c .count
+
+pub conditions-go-on : {ws : List ℕ} {known : List (Named Site)} {start at : ℕ} {code₀ code code′ : List ℕ} {c r : Conditions}
+    → ConditionsSoFar ws known start at code₀ code c → c .more ≡ true → ConditionsOn ws known code c code′ r → ConditionsSoFar ws known start at code₀ code′ r
+conditions-go-on s e o =
+    record {
+      same = same-trans (rw e at (s .same)) (o .same);
+      rest = o .rest ∙ (rw e at (s .rest));
+      within = o .within;
+      grown = omega (arith, s .grown, o .grown);
+    }
+
+pub conditions-all : {ws : List ℕ} {known : List (Named Site)} {start at : ℕ} {code₀ code : List ℕ} {c : Conditions}
+    → ConditionsSoFar ws known start at code₀ code c → c .more ≡ false → ConditionsAll ws known start code₀ at code c
+conditions-all s e =
+    record {
+      wrote = same-end (rw e at (s .same));
+      rest = rw e at (s .rest);
+      next = s .within .next;
+      grown = omega (arith, s .grown, s .within .count);
+    }
+
+-- THE STORES
+
+pub store-word : (n : ℕ) → IsSite n → storeOfSite n ≡ 4 + 256 * n
+store-word n h = omega (arith, h .same)

@@ -1,0 +1,303 @@
+-- Laws of writing a pattern's tests: each step keeps what the tests come to.
+use Prim.Native.Nat.{ℕ, _+_, _*_, _≤_}
+use native.Mathlib.Omega.{arith}
+use mathlib.Core.Path.{_≡_, sym, ap, _∙_}
+use mathlib.Core.Bool.{true, false}
+use mathlib.Core.Option.{Option, none, some}
+use mathlib.Core.List.{List, [], _∷_, _++_, map, append-assoc, append-nil}
+use lib.ListN.{length, take, drop, getD, set, length-set}
+use Rattle.meaning.specs.Choice.{Name, Named, lookup}
+use Rattle.meaning.specs.Tree.{character, symbol, Element, letter, part}
+use Rattle.meaning.specs.Instructions.{Site, Test, look, compare}
+use Rattle.meaning.specs.Packing.{siteRegister, siteOffset, testWord}
+use Rattle.meaning.specs.Translation.{Tested, testedSymbol}
+use Rattle.templates.specs.declared.tape.Parts.{Parts}
+use Rattle.templates.specs.declared.tape.Parts.the-variants.{Zero}
+use Rattle.templates.specs.declared.tape.Piece.{Piece}
+use Rattle.templates.specs.declared.tape.Piece.the-variants.{Character, SVariable, EVariable, PatternEnd}
+use Rattle.templates.specs.declared.pattern.Lengths.{Lengths}
+use Rattle.templates.specs.declared.tests.Tests.{Tests}
+use Rattle.templates.specs.Words.{headName, headNames, pieceAt}
+use Rattle.templates.specs.Scans.{Scan, scanned, andThen, oneMore, patternIn, patternAt}
+use Rattle.templates.specs.Writing.{Wrote, Same}
+use Rattle.templates.specs.Finding.{numberAmong}
+use Rattle.templates.specs.Testing.{siteAt, siteNumber, siteIn, AllSites, foundSite, held, walk, startFrom, testing, testWords, InTests, TestsOn, letterDone, partDone, testsDone, TestsAll, total}
+use Rattle.templates.proofs.laws.Names.{name-here, name-fits-here, name-part}
+use Rattle.templates.proofs.laws.Stores.{same-refl, same-trans, same-words, same-wrote, same-end}
+use Rattle.templates.proofs.laws.Scanning.{pattern-at, pattern-end, pattern-past, character-inside, variable-inside, part-inside, character-room, variable-room}
+use Rattle.templates.proofs.laws.Held.{site-back, site-number, found-good, site-small, all-set, lookup-none, lookup-some, held-more}
+
+-- TESTS SO FAR STAY IN FRONT
+
+abbrev prefixed : List Test → Tested → Tested
+prefixed ts d = record { tests = ts ++ d .tests; sites = d .sites }
+
+abbrev tested : List Test → List (Named Site) → Tested
+tested ts ss = record { tests = ts; sites = ss }
+
+module _ (l : Lengths) where
+  abbrev Prefixes : List Element → Type 0
+  Prefixes es = (k : Parts) (o : ℕ) (ts : List Test) (ss : List (Named Site)) → walk l k o es (tested ts ss) ≡ prefixed ts (walk l k o es (startFrom ss))
+
+  -- a test at the end of those so far
+  prefix-one : (es : List Element) → Prefixes es → (k : Parts) (o : ℕ) (t : Test) (ts : List Test) (ss : List (Named Site))
+      → walk l k o es (tested (ts ++ t ∷ []) ss) ≡ prefixed ts (walk l k o es (tested (t ∷ []) ss))
+  prefix-one es h k o t ts ss =
+      h k o (ts ++ t ∷ []) ss ∙ sym (ap (prefixed ts) (h k o (t ∷ []) ss)
+      ∙ ap (λ (r : List Test). tested r (walk l k o es (startFrom ss) .sites)) (sym (append-assoc ts (t ∷ []) (walk l k o es (startFrom ss) .tests))))
+
+  prefix-symbol : (es : List Element) → Prefixes es → (k : Parts) (o : ℕ) (known : Option Site) (x : Name) (s : Site) (ts : List Test) (ss : List (Named Site))
+      → walk l k o es (testedSymbol known x s (tested ts ss)) ≡ prefixed ts (walk l k o es (testedSymbol known x s (startFrom ss)))
+  prefix-symbol es h k o none x s ts ss = h k o ts (ss ++ record { name = x; value = s } ∷ [])
+  prefix-symbol es h k o (some first) x s ts ss = prefix-one es h k o (compare first s) ts ss
+
+  walk-prefix : (es : List Element) → Prefixes es
+  unfolding walk
+  walk-prefix [] k o ts ss = ap (λ (r : List Test). tested r ss) (sym (append-nil ts))
+  walk-prefix (letter (character c) ∷ es) k o ts ss = prefix-one es (walk-prefix es) k (o + 1) (look (siteAt l k o) c) ts ss
+  walk-prefix (letter (symbol x) ∷ es) k o ts ss = prefix-symbol es (walk-prefix es) k (o + 1) (lookup x ss) x (siteAt l k o) ts ss
+  walk-prefix (part x ∷ es) k o ts ss = walk-prefix es (oneMore k) 0 ts ss
+
+-- THE STEPS
+
+-- the word of a comparison, from the number that the first cell is kept as
+compare-word : (a : ℕ) (s : Site) → siteNumber (siteIn a) ≡ a
+    → testWord (compare (siteIn a) s) ≡ 2 + 256 * a + 1024 * siteRegister s + 16777216 * siteOffset s
+compare-word a s e = omega (arith, e)
+
+module _ (ws : List ℕ) (l : Lengths) (names sites : List ℕ) (t : Tests) (within : InTests ws names sites t) where
+  abbrev here : Scan (List Element)
+  here = patternIn (t .letters) (t .parts) 0 (drop (t .next) ws)
+
+  abbrev known : List (Named Site)
+  known = held ws names sites (t .symbols)
+
+  abbrev site : Site
+  site = siteAt l (t .parts) (t .offset)
+
+  abbrev afterLetter : ℕ → Scan (List Element)
+  afterLetter size = patternIn (t .letters + 1) (t .parts) 0 (drop (t .next + 1 + size) ws)
+
+  abbrev walked : ℕ → List (Named Site) → Tested
+  walked size ss = walk l (t .parts) (t .offset + 1) (afterLetter size .value) (startFrom ss)
+
+  abbrev At : Piece → Type 0
+  At p = pieceAt (drop (t .next) ws) (t .letters) (t .parts) ≡ p
+
+  character-now : At Character → here ≡ andThen (letter (character (getD ws (t .next) 0))) (afterLetter 0)
+  character-now e =
+      let z : t .next + 1 + 0 ≡ t .next + 1 = omega arith in
+      pattern-at ws (t .next) (t .letters) (t .parts) Character (character-inside ws (t .next) (t .letters) (t .parts) e) e ∙ rw z
+
+  variable-now : At SVariable → here ≡ andThen (letter (symbol (headName ws (t .next)))) (afterLetter (length (headName ws (t .next))))
+  variable-now e =
+      let inside = variable-inside ws (t .next) (t .letters) (t .parts) e in
+      pattern-at ws (t .next) (t .letters) (t .parts) SVariable inside e
+      ∙ rw (pattern-past (t .letters + 1) (t .parts) ws (t .next) inside, ← (name-here ws (t .next) inside))
+
+  pub character-on : (code code′ : List ℕ) (at : ℕ) → At Character → Wrote code (t .at) (testWord (look site (getD ws (t .next) 0)) ∷ []) code′ at
+      → TestsOn ws l names sites code t names sites code′ (letterDone t (t .symbols) 0 at)
+  unfolding walk
+  character-on code code′ at e wrote =
+      let c = getD ws (t .next) 0 in
+      let inside = character-inside ws (t .next) (t .letters) (t .parts) e in
+      let room = character-room ws (t .next) (t .letters) (t .parts) e in
+      let now : testing true ws l names sites t ≡ scanned (prefixed (look site c ∷ []) (walked 0 known)) (afterLetter 0 .rest) =
+      rw (character-now e, walk-prefix l (afterLetter 0 .value) (t .parts) (t .offset + 1) (look site c ∷ []) known) in
+      record {
+        same = same-wrote _ (same-words (same-refl code (t .at) _) (ap testWords now)) wrote;
+        known = sym (ap (λ (s : Scan Tested). s .value .sites) now);
+        rest = sym (ap (λ (s : Scan Tested). s .rest) now);
+        within =
+            record {
+              nameRoom = within .nameRoom;
+              siteRoom = within .siteRoom;
+              good = within .good;
+              letters = omega arith;
+              offset = omega (arith, within .offset);
+              symbols = omega (arith, within .symbols);
+              next = omega arith;
+              at = omega (arith, wrote .next, within .at);
+            };
+        ahead = omega arith;
+        grown = omega (arith, wrote .next);
+      }
+
+  -- bounds after an s-variable
+  variable-within : (names′ sites′ : List ℕ) (symbols at : ℕ) → At SVariable → length names′ ≡ 64 → length sites′ ≡ 64 → AllSites sites′
+      → symbols ≤ t .symbols + 1 → at ≤ t .at + 1 → InTests ws names′ sites′ (letterDone t symbols (length (headName ws (t .next))) at)
+  variable-within names′ sites′ symbols at e hn hs good h g =
+      let room = variable-room ws (t .next) (t .letters) (t .parts) e in
+      record {
+        nameRoom = hn;
+        siteRoom = hs;
+        good = good;
+        letters = omega arith;
+        offset = omega (arith, within .offset);
+        symbols = omega (arith, within .symbols);
+        next = name-fits-here ws (t .next) (variable-inside ws (t .next) (t .letters) (t .parts) e);
+        at = omega (arith, within .at);
+      }
+
+  abbrev found : ℕ
+  found = numberAmong 0 (headNames ws (take (t .symbols) names)) (headName ws (t .next))
+
+  abbrev size : ℕ
+  size = length (headName ws (t .next))
+
+  symbols-fit : t .symbols ≤ 64
+  symbols-fit = omega (arith, within .symbols, within .letters)
+
+  -- after an s-variable, by what is known of it
+  abbrev afterSymbol : Option Site → Scan Tested
+  afterSymbol o =
+      scanned (walk l (t .parts) (t .offset + 1) (afterLetter size .value) (testedSymbol o (headName ws (t .next)) site (startFrom known))) (afterLetter size .rest)
+
+  symbol-now : (o : Option Site) → At SVariable → lookup (headName ws (t .next)) known ≡ o → testing true ws l names sites t ≡ afterSymbol o
+  unfolding walk
+  symbol-now o e h = base ∙ ap afterSymbol h
+    where
+      base : testing true ws l names sites t ≡ afterSymbol (lookup (headName ws (t .next)) known)
+      base = rw (variable-now e)
+
+  pub equal-on : (code code′ : List ℕ) (at : ℕ) → At SVariable → (found ≡ 0 → ⊥) → found ≤ t .symbols
+      → Wrote code (t .at) ((2 + 256 * foundSite found sites + 1024 * siteRegister site + 16777216 * siteOffset site) ∷ []) code′ at
+      → TestsOn ws l names sites code t names sites code′ (letterDone t (t .symbols) size at)
+  equal-on code code′ at e h g wrote =
+      let x = headName ws (t .next) in
+      let first = siteIn (foundSite found sites) in
+      let inside = variable-inside ws (t .next) (t .letters) (t .parts) e in
+      let known-now : lookup x known ≡ some first =
+      lookup-some ws names sites (t .symbols) x (omega (arith, symbols-fit, within .nameRoom)) (omega (arith, symbols-fit, within .siteRoom)) h g in
+      let now : testing true ws l names sites t ≡ scanned (prefixed (compare first site ∷ []) (walked size known)) (afterLetter size .rest) =
+      symbol-now (some first) e known-now
+      ∙ ap (λ (d : Tested). scanned d (afterLetter size .rest)) (walk-prefix l (afterLetter size .value) (t .parts) (t .offset + 1) (compare first site ∷ []) known) in
+      record {
+        same =
+            same-wrote _
+            (same-words (same-refl code (t .at) _) (ap testWords now ∙ ap (λ (w : ℕ). w ∷ map testWord (walked size known .tests))
+            (compare-word (foundSite found sites) site (found-good sites (within .good) found .same))))
+            wrote;
+        known = sym (ap (λ (s : Scan Tested). s .value .sites) now);
+        rest = sym (ap (λ (s : Scan Tested). s .rest) now);
+        within = variable-within names sites (t .symbols) at e (within .nameRoom) (within .siteRoom) (within .good) (omega arith) (omega (arith, wrote .next));
+        ahead = omega (arith, name-fits-here ws (t .next) inside);
+        grown = omega (arith, wrote .next);
+      }
+
+  pub new-on : (code : List ℕ) → At SVariable → total l ≤ 64 → found ≡ 0
+      → TestsOn ws l names sites code t (set names (t .symbols) (t .next)) (set sites (t .symbols) (siteNumber site)) code (letterDone t (t .symbols + 1) size (t .at))
+  new-on code e small h =
+      let x = headName ws (t .next) in
+      let inside = variable-inside ws (t .next) (t .letters) (t .parts) e in
+      let room = variable-room ws (t .next) (t .letters) (t .parts) e in
+      let known-now : lookup x known ≡ none =
+      lookup-none ws names sites (t .symbols) x (omega (arith, symbols-fit, within .nameRoom)) (omega (arith, symbols-fit, within .siteRoom)) h in
+      let more : held ws (set names (t .symbols) (t .next)) (set sites (t .symbols) (siteNumber site)) (t .symbols + 1) ≡ known ++ record { name = x; value = site } ∷ [] =
+      held-more ws names sites (t .symbols) (t .next) (siteNumber site) (omega (arith, within .symbols, within .nameRoom)) (omega (arith, within .symbols, within .siteRoom))
+      ∙ ap (λ (s : Site). known ++ record { name = x; value = s } ∷ []) (site-back site) in
+      let now : testing true ws l names sites t ≡ scanned (walked size (known ++ record { name = x; value = site } ∷ [])) (afterLetter size .rest) =
+      symbol-now none e known-now in
+      let later : testing true ws l names sites t
+      ≡ testing true ws l (set names (t .symbols) (t .next)) (set sites (t .symbols) (siteNumber site)) (letterDone t (t .symbols + 1) size (t .at)) =
+      now ∙ rw more in
+      record {
+        same = same-words (same-refl code (t .at) _) (ap testWords later);
+        known = sym (ap (λ (s : Scan Tested). s .value .sites) later);
+        rest = sym (ap (λ (s : Scan Tested). s .rest) later);
+        within =
+            variable-within _ _ (t .symbols + 1) (t .at) e (length-set names (t .symbols) (t .next) ∙ within .nameRoom)
+            (length-set sites (t .symbols) (siteNumber site) ∙ within .siteRoom)
+            (all-set sites (t .symbols) (siteNumber site) (within .good) (site-number site (site-small l (t .parts) (t .offset) small (omega (arith, within .offset, within .letters)) .1)))
+            (omega arith) (omega arith);
+        ahead = omega (arith, name-fits-here ws (t .next) inside);
+        grown = omega arith;
+      }
+
+  pub part-on : (code : List ℕ) → At EVariable → TestsOn ws l names sites code t names sites code (partDone t size)
+  unfolding walk
+  part-on code e =
+      let inside = part-inside ws (t .next) (t .letters) (t .parts) e in
+      let now : here ≡ andThen (part (headName ws (t .next))) (patternIn (t .letters) (oneMore (t .parts)) 0 (drop (t .next + 1 + size) ws)) =
+      pattern-at ws (t .next) (t .letters) (t .parts) EVariable inside e
+      ∙ rw (pattern-past (t .letters) (oneMore (t .parts)) ws (t .next) inside, ← (name-here ws (t .next) inside)) in
+      let later : testing true ws l names sites t ≡ testing true ws l names sites (partDone t size) = rw now in
+      record {
+        same = same-words (same-refl code (t .at) _) (ap testWords later);
+        known = sym (ap (λ (s : Scan Tested). s .value .sites) later);
+        rest = sym (ap (λ (s : Scan Tested). s .rest) later);
+        within =
+            record {
+              nameRoom = within .nameRoom;
+              siteRoom = within .siteRoom;
+              good = within .good;
+              letters = within .letters;
+              offset = omega arith;
+              symbols = within .symbols;
+              next = name-fits-here ws (t .next) inside;
+              at = within .at;
+            };
+        ahead = omega (arith, name-fits-here ws (t .next) inside);
+        grown = omega arith;
+      }
+
+  pub end-on : (code : List ℕ) → At PatternEnd → TestsOn ws l names sites code t names sites code (testsDone t)
+  unfolding walk
+  end-on code e =
+      let later : testing true ws l names sites t ≡ testing false ws l names sites (testsDone t) = rw (pattern-end ws (t .next) (t .letters) (t .parts) e) in
+      record {
+        same = same-words (same-refl code (t .at) _) (ap testWords later);
+        known = sym (ap (λ (s : Scan Tested). s .value .sites) later);
+        rest = sym (ap (λ (s : Scan Tested). s .rest) later);
+        within =
+            record {
+              nameRoom = within .nameRoom;
+              siteRoom = within .siteRoom;
+              good = within .good;
+              letters = within .letters;
+              offset = within .offset;
+              symbols = within .symbols;
+              next = within .next;
+              at = within .at;
+            };
+        ahead = omega arith;
+        grown = omega arith;
+      }
+
+-- the name that is looked for, by its words
+pub name-found : (ws names : List ℕ) (n p size : ℕ) → size ≡ length (headName ws p)
+    → numberAmong 0 (headNames ws (take n names)) (take size (drop (p + 1) ws)) ≡ numberAmong 0 (headNames ws (take n names)) (headName ws p)
+name-found ws names n p size e = ap (numberAmong 0 (headNames ws (take n names))) (rw e (sym (name-part ws p)))
+
+-- ALL OF THEM
+
+-- what is written so far and what is still to be written are the whole pattern's tests
+pub record TestsSoFar (ws : List ℕ) (l : Lengths) (start at : ℕ) (code₀ names sites code : List ℕ) (t : Tests) : Type 0 where
+  pub same : Same code₀ at (map testWord (walk l Zero 0 (patternAt (drop start ws) .value) (startFrom []) .tests)) code (t .at) (testWords (testing (t .more) ws l names sites t))
+  pub known : testing (t .more) ws l names sites t .value .sites ≡ walk l Zero 0 (patternAt (drop start ws) .value) (startFrom []) .sites
+  pub rest : testing (t .more) ws l names sites t .rest ≡ patternAt (drop start ws) .rest
+  pub within : InTests ws names sites t
+  pub grown : t .at ≤ at + t .letters
+
+pub tests-go-on : {ws : List ℕ} {l : Lengths} {start at : ℕ} {code₀ names sites code names′ sites′ code′ : List ℕ} {t r : Tests}
+    → TestsSoFar ws l start at code₀ names sites code t → t .more ≡ true → TestsOn ws l names sites code t names′ sites′ code′ r
+    → TestsSoFar ws l start at code₀ names′ sites′ code′ r
+tests-go-on {ws} {l} {start} {at} {code₀} {names} {sites} {code} {t = t} s e o =
+    record {
+      same = same-trans (rw e at (s .same)) (o .same);
+      known = o .known ∙ (rw e at (s .known));
+      rest = o .rest ∙ (rw e at (s .rest));
+      within = o .within;
+      grown = omega (arith, s .grown, o .grown);
+    }
+
+pub tests-all : {ws : List ℕ} {l : Lengths} {start at : ℕ} {code₀ names sites code : List ℕ} {t : Tests}
+    → TestsSoFar ws l start at code₀ names sites code t → t .more ≡ false → TestsAll ws l start code₀ at names sites code t
+tests-all s e =
+    record {
+      wrote = same-end (rw e at (s .same));
+      known = rw e at (s .known);
+      rest = rw e at (s .rest);
+      within = s .within;
+      grown = omega (arith, s .grown, s .within .letters);
+    }

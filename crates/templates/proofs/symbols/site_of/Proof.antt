@@ -1,0 +1,66 @@
+-- `symbols::site_of` meets its contract.
+use mathlib.Core.Path.{_∙_}
+use borrow.Author.Needs.{needs}
+use Rattle.templates.proofs.symbols.site_of.Statement.{statement}
+use Rattle.templates.proofs.symbols.site_of.Tie as tie
+
+enum-told : tie.Need-enum-told
+enum-told c = search needs
+
+enum-told-2 : tie.Need-enum-told-2
+enum-told-2 c = search needs
+
+enum-told-3 : tie.Need-enum-told-3
+enum-told-3 c = search needs
+
+from-end-requires : tie.Need-from-end-requires
+from-end-requires c κs = search needs
+
+enum-told-4 : tie.Need-enum-told-4
+enum-told-4 c = search needs
+
+from-end-requires-2 : tie.Need-from-end-requires-2
+from-end-requires-2 c κs = search needs
+
+enum-told-5 : tie.Need-enum-told-5
+enum-told-5 c = search needs
+
+enum-told-6 : tie.Need-enum-told-6
+enum-told-6 c = search needs
+
+from-end-requires-3 : tie.Need-from-end-requires-3
+from-end-requires-3 c κs = search needs
+
+returns : tie.Need-returns
+returns c = rw (c .enum-told .given .1)
+
+returns-2 : tie.Need-returns-2
+returns-2 c = c .from-end .ensures ∙ rw (c .before .before .before .enum-told2 .given .1, c .before .enum-told3 .given .1)
+
+returns-3 : tie.Need-returns-3
+returns-3 c = c .from-end2 .ensures ∙ rw (c .before .before .before .enum-told2 .given .1, c .before .enum-told4 .given .1)
+
+returns-4 : tie.Need-returns-4
+returns-4 c = rw (c .before .before .enum-told2 .given .1, c .enum-told5 .given .1)
+
+returns-5 : tie.Need-returns-5
+returns-5 c = c .from-end3 .ensures ∙ rw (c .before .enum-told6 .given .1)
+
+pub site-of-spec : {M : Type 1} → statement M
+site-of-spec =
+    tie.close
+    (tie.spec
+    enum-told
+    enum-told-2
+    enum-told-3
+    from-end-requires
+    enum-told-4
+    from-end-requires-2
+    enum-told-5
+    enum-told-6
+    from-end-requires-3
+    returns
+    returns-2
+    returns-3
+    returns-4
+    returns-5)

@@ -1,0 +1,55 @@
+-- `tests::equal_symbol` meets its contract.
+use native.Mathlib.Omega.{arith}
+use mathlib.Core.Path.{refl}
+use borrow.Author.Needs.{needs}
+use Rattle.templates.proofs.tests.equal_symbol.Statement.{statement}
+use Rattle.templates.proofs.tests.equal_symbol.Tie as tie
+
+found-site-requires : tie.Need-found-site-requires
+found-site-requires c κs = c .before .before .pre .0 .0
+
+mul-put : tie.Need-mul-put
+mul-put c = omega (arith, c .before .found-site .ensures, c .before .before .before .before .pre)
+
+add-put : tie.Need-add-put
+add-put c = omega (arith, c .before .found-site .ensures, c .before .before .before .before .pre)
+
+mul-put-2 : tie.Need-mul-put-2
+mul-put-2 c = omega (arith, c .before .before .found-site .ensures, c .before .before .before .before .before .pre)
+
+add-put-2 : tie.Need-add-put-2
+add-put-2 c = omega (arith, c .before .before .found-site .ensures, c .before .before .before .before .before .pre)
+
+mul-put-3 : tie.Need-mul-put-3
+mul-put-3 c = omega (arith, c .before .before .before .found-site .ensures, c .before .before .before .before .before .before .pre)
+
+add-put-3 : tie.Need-add-put-3
+add-put-3 c = omega (arith, c .before .before .before .found-site .ensures, c .before .before .before .before .before .before .pre)
+
+put-requires : tie.Need-put-requires
+put-requires c κs = omega (arith, c .before .before .before .found-site .ensures, c .before .before .before .before .before .before .pre)
+
+past-letter-requires : tie.Need-past-letter-requires
+past-letter-requires c κs = c .before .before .before .before .before .before .before .before .before .pre .1
+
+same-length : tie.Need-same-length
+same-length c = search needs
+
+returns : tie.Need-returns
+returns c = rw (c .past-letter .ensures, ← (c .before .before .before .before .before .before .before .found-site .ensures)) (c .before .before .before .put .ensures, refl)
+
+pub equal-symbol-spec : {M : Type 1} → statement M
+equal-symbol-spec =
+    tie.close
+    (tie.spec
+    found-site-requires
+    mul-put
+    add-put
+    mul-put-2
+    add-put-2
+    mul-put-3
+    add-put-3
+    put-requires
+    past-letter-requires
+    same-length
+    returns)

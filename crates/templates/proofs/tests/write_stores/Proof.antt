@@ -1,0 +1,78 @@
+-- `tests::write_stores` meets its contract. The loop keeps what the stores written and those still to come amount to.
+use native.Mathlib.Omega.{arith}
+use mathlib.Core.Path.{_≡_, sym, ap, _∙_}
+use Prim.Native.Nat.{_≤_, _-_, _+_}
+use mathlib.Core.List.{_∷_, map}
+use lib.ListN.{take}
+use Rattle.templates.specs.Writing.{Same}
+use Rattle.templates.specs.Testing.{storeOfSite}
+use Rattle.templates.proofs.laws.Lists.{frontFrom, front-whole, front-cons, front-none}
+use Rattle.templates.proofs.laws.Stores.{same-refl, same-words, same-wrote, same-end, same-size}
+use Rattle.templates.proofs.laws.Conditioned.{store-word}
+use Rattle.templates.proofs.tests.write_stores.Statement.{statement}
+use Rattle.templates.proofs.tests.write_stores.Tie as tie
+
+abbrev Inv-loop : tie.InvT-loop
+Inv-loop sites symbols code₀ at place₀ k₀ code place k = (k ≤ symbols) × (place ≡ at + k) × Same code₀ at (map storeOfSite (take symbols sites)) code place (map storeOfSite (frontFrom sites symbols k))
+
+abbrev μ-loop : tie.MeasureT-loop
+μ-loop sites symbols code₀ at place₀ k₀ code place k = symbols - k
+
+loop-holds : tie.Need-loop-holds Inv-loop μ-loop
+loop-holds c = (omega arith, omega arith, same-words (same-refl _ _ _) (ap (map storeOfSite) (sym (front-whole (c .before .before .args .sites .now) (c .before .before .args .symbols)))))
+
+mul-put : tie.Need-mul-put Inv-loop μ-loop
+mul-put c = omega arith
+
+shared-slice-read-put : tie.Need-shared-slice-read-put Inv-loop μ-loop
+shared-slice-read-put c = omega arith
+
+mul-put-2 : tie.Need-mul-put-2 Inv-loop μ-loop
+mul-put-2 c = omega (arith, c .before .before .before .before .before .before .pre .1 (c .before .before .before .loop .k))
+
+add-put : tie.Need-add-put Inv-loop μ-loop
+add-put c = omega (arith, c .before .before .before .before .before .before .pre .1 (c .before .before .before .loop .k))
+
+put-requires : tie.Need-put-requires Inv-loop μ-loop
+put-requires c κs = omega (arith, c .before .before .before .before .before .before .pre .1 (c .before .before .before .loop .k))
+
+add-k : tie.Need-add-k Inv-loop μ-loop
+add-k c = omega arith
+
+loop-less : tie.Need-loop-less Inv-loop μ-loop
+loop-less c = omega arith
+
+loop-again : tie.Need-loop-again Inv-loop μ-loop
+loop-again c = (
+  omega arith,
+  omega (arith, c .before .before .put .ensures .next),
+  same-wrote _
+      (same-words (c .before .before .before .before .before .before .loop .inv .2)
+      (ap (map storeOfSite) (front-cons (c .before .before .before .before .before .before .before .before .before .args .sites .now) (c .before .before .before .before .before .before .before .before .before .args .symbols) (c .before .before .before .before .before .before .loop .k) (c .before .before .before .before .before .loop-test .taken) (c .before .before .before .before .before .before .before .before .before .pre .0))
+      ∙ ap (λ w. w ∷ map storeOfSite (frontFrom (c .before .before .before .before .before .before .before .before .before .args .sites .now) (c .before .before .before .before .before .before .before .before .before .args .symbols) (c .before .before .before .before .before .before .loop .k + 1))) (store-word _ (c .before .before .before .before .before .before .before .before .before .pre .1 (c .before .before .before .before .before .before .loop .k)))))
+      (c .before .before .put .ensures),
+)
+
+same-length : tie.Need-same-length Inv-loop μ-loop
+same-length c = same-size (c .before .loop .inv .2)
+
+returns : tie.Need-returns Inv-loop μ-loop
+returns c = same-end (same-words (c .before .loop .inv .2) (ap (map storeOfSite) (front-none (c .before .before .before .before .args .sites .now) (c .before .before .before .before .args .symbols) (c .before .loop .k) (c .loop-test .left))))
+
+pub write-stores-spec : {M : Type 1} → statement M
+write-stores-spec =
+    tie.close
+    (tie.spec
+    Inv-loop
+    μ-loop
+    loop-holds
+    mul-put
+    shared-slice-read-put
+    mul-put-2
+    add-put
+    put-requires
+    add-k
+    loop-less
+    loop-again
+    same-length
+    returns)

@@ -1,0 +1,73 @@
+-- `tests::write_tests` meets its contract. The loop keeps what the tests written and those still to come amount to.
+use mathlib.Core.Path.{refl, sym, _∙_}
+use Rattle.templates.specs.Testing.{heldSites}
+use Prim.Native.Nat.{_+_, _-_}
+use Rattle.templates.proofs.laws.Stores.{same-refl, same-size}
+use Rattle.templates.proofs.laws.Tested.{TestsSoFar, tests-go-on, tests-all}
+use native.Mathlib.Omega.{arith}
+use lib.ListN.{length}
+use Rattle.templates.specs.Measuring.{flag}
+use Rattle.templates.proofs.tests.write_tests.Statement.{statement}
+use Rattle.templates.proofs.tests.write_tests.Tie as tie
+
+abbrev Inv-loop : tie.InvT-loop
+Inv-loop tape lengths names₀ sites₀ start code₀ at t₀ names sites code t = TestsSoFar tape lengths start at code₀ names sites code t
+
+abbrev μ-loop : tie.MeasureT-loop
+μ-loop tape lengths names₀ sites₀ start code₀ at t₀ names sites code t = length tape - t .next + flag (t .more)
+
+loop-holds : tie.Need-loop-holds Inv-loop μ-loop
+unfolding heldSites
+loop-holds c = record {
+  same = same-refl _ _ _;
+  known = refl;
+  rest = refl;
+  within =
+      record {
+        nameRoom = c .before .before .before .before .pre .0 .0;
+        siteRoom = c .before .before .before .before .pre .0 .1;
+        good = c .before .before .before .before .pre .0 .2;
+        letters = omega arith;
+        offset = omega arith;
+        symbols = omega arith;
+        next = c .before .before .before .before .pre .1 .1;
+        at = omega arith;
+      };
+  grown = omega arith;
+}
+
+test-piece-requires : tie.Need-test-piece-requires Inv-loop μ-loop
+test-piece-requires c κs = (c .before .before .before .before .loop .inv .within, c .before .before .before .before .before .before .before .before .before .pre .1 .0)
+
+loop-less : tie.Need-loop-less Inv-loop μ-loop
+loop-less c = rw (c .before .before .before .before .before .before .before .before .before .before .loop-test .taken) (c .before .before .before .before .before .before .test-piece .ensures .ahead)
+
+loop-again : tie.Need-loop-again Inv-loop μ-loop
+loop-again c = tests-go-on (c .before .before .before .before .before .before .before .before .before .before .before .loop .inv) (c .before .before .before .before .before .before .before .before .before .before .loop-test .taken) (c .before .before .before .before .before .before .test-piece .ensures)
+
+same-length : tie.Need-same-length Inv-loop μ-loop
+same-length c = c .before .loop .inv .within .nameRoom ∙ sym (c .before .before .before .before .before .before .pre .0 .0)
+
+same-length-2 : tie.Need-same-length-2 Inv-loop μ-loop
+same-length-2 c = c .before .loop .inv .within .siteRoom ∙ sym (c .before .before .before .before .before .before .pre .0 .1)
+
+same-length-3 : tie.Need-same-length-3 Inv-loop μ-loop
+same-length-3 c = same-size (c .before .loop .inv .same)
+
+returns : tie.Need-returns Inv-loop μ-loop
+returns c = tests-all (c .before .loop .inv) (c .loop-test .left)
+
+pub write-tests-spec : {M : Type 1} → statement M
+write-tests-spec =
+    tie.close
+    (tie.spec
+    Inv-loop
+    μ-loop
+    loop-holds
+    test-piece-requires
+    loop-less
+    loop-again
+    same-length
+    same-length-2
+    same-length-3
+    returns)
