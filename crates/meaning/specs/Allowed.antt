@@ -1,13 +1,13 @@
 -- Which trees a table may have: 01 'Table text' with its limits, name rules and variable rules, as tests on the tree.
-use Prim.Native.Nat.{ℕ, zero, suc, _+_, max}
+use Prim.Native.Nat.{ℕ, suc, _+_, max}
 use mathlib.Core.Bool.{Bool, true, false, not}
 use mathlib.Core.List.{List, [], _∷_, _++_, map}
 use mathlib.Core.Option.{Option, none, some}
 use lib.Dec.{leb, ltb, eqb}
 use lib.ListN.{length}
-use Rattle.meaning.specs.Choice.{Bytes, Name, pick, both, either, isSome, every, sameBytes}
+use Rattle.meaning.specs.Choice.{Name, pick, both, either, isSome, every, sameBytes}
 use Rattle.meaning.specs.Classes.{inClass, digit, alphabetic}
-use Rattle.meaning.specs.Tree.{Letter, character, symbol, Element, letter, part, Condition, Expression, end, thenCharacter, thenSymbol, thenPart, thenCall, Sentence, Function, Table}
+use Rattle.meaning.specs.Tree.{character, symbol, Element, letter, part, Condition, Expression, end, thenCharacter, thenSymbol, thenPart, thenCall, Sentence, Function, Table}
 use Rattle.meaning.specs.Names.{isEmission, isPredicate, isReserved, numberOf}
 
 -- "table 32,768 bytes; 64 functions; 512 sentences in all; name 24 bytes; identifier after s or e 8; pattern 64 characters and s-variables, of

@@ -1,7 +1,7 @@
 -- The five byte classes that conditions ask about: 01 'Table text', "Predicates: IsDigit (48 to 57), IsUpper (65 to 90),
 -- IsLower (97 to 122), IsLetter (the two before), IsBlank (32, 9)". In 000 section 2.2 they are the host program's.
 use Prim.Native.Nat.{ℕ}
-use mathlib.Core.Bool.{Bool, true, false}
+use mathlib.Core.Bool.{Bool}
 use mathlib.Core.List.{List, [], _∷_}
 use lib.Dec.{leb, eqb}
 use Rattle.meaning.specs.Choice.{Name, both, either}

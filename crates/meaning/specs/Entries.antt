@@ -6,7 +6,6 @@ use lib.Dec.{leb}
 use lib.ListN.{length}
 use Rattle.meaning.specs.Choice.{Bytes, pick}
 use Rattle.meaning.specs.Answers.{finished, bufferTooShort}
-use Rattle.meaning.specs.Tree.{Table}
 use Rattle.meaning.specs.Reading.{Read, accepted, refused}
 use Rattle.meaning.specs.Listing.{listing}
 use Rattle.meaning.specs.Translation.{translate}

@@ -7,10 +7,10 @@ use mathlib.Core.List.{List, [], _∷_, _++_}
 use mathlib.Core.Option.{Option, none, some}
 use lib.Dec.{leb, ltb}
 use lib.ListN.{length, take, drop}
-use Rattle.meaning.specs.Choice.{Bytes, Name, pick, both, nth}
+use Rattle.meaning.specs.Choice.{Bytes, both, nth}
 use Rattle.meaning.specs.Answers.{noSentenceFits, allowanceSpent, noInstruction}
 use Rattle.meaning.specs.Outcome.{Tally, pay, emitted, emittedLine, Outcome, done, stop, andThen}
-use Rattle.meaning.specs.Instructions.{Length, null, whole, left, right, Span, Store, Action, go, select, out, outCharacter, outValue, beginSequence, useSequence, call, tailCall, emission, unknownAction, Sentences, noMore, Code}
+use Rattle.meaning.specs.Instructions.{Length, null, whole, left, right, Span, Action, go, select, out, outCharacter, outValue, beginSequence, useSequence, call, tailCall, emission, unknownAction, Sentences, noMore, Code}
 use Rattle.meaning.specs.Matching.{Choice, chosen, chosenNone, chosenWrong, chooseFrom, storedValues}
 
 -- what an instruction needs to be there after it: cells of in from p to the right end, cells of out, bytes of the record, frames

@@ -1,7 +1,7 @@
 -- Which function a name means: 01 'Table text', "Names that begin with Emit are emission. Neither kind may be declared", and the number
 -- of a declared function, counted from 1 in the order of the table.
-use Prim.Native.Nat.{ℕ, zero, suc}
-use mathlib.Core.Bool.{Bool, true, false}
+use Prim.Native.Nat.{ℕ, suc}
+use mathlib.Core.Bool.{Bool}
 use mathlib.Core.List.{List, [], _∷_}
 use mathlib.Core.Option.{Option, none, some}
 use Rattle.meaning.specs.Choice.{Name, pick, either, isSome, sameBytes, startsWith}

@@ -2,7 +2,7 @@
 -- function is one step"; "Emission adds name, byte 32, argument, byte 10 to the record". Demand 3: "Outcome means answer, text, emissions, steps
 -- and failing function".
 use Prim.Native.Nat.{ℕ, zero, suc}
-use mathlib.Core.List.{List, [], _∷_, _++_}
+use mathlib.Core.List.{[], _∷_, _++_}
 use mathlib.Core.Option.{Option, none, some}
 use Rattle.meaning.specs.Choice.{Bytes, Name}
 use Rattle.meaning.specs.Answers.{finished}

@@ -6,7 +6,7 @@ use mathlib.Core.List.{List, [], _∷_, _++_, map}
 use mathlib.Core.Option.{Option, none, some}
 use lib.Dec.{leb, ltb, eqb}
 use lib.ListN.{length, take, drop}
-use Rattle.meaning.specs.Choice.{Name, pick, both, every}
+use Rattle.meaning.specs.Choice.{pick, both, every}
 use Rattle.meaning.specs.Classes.{Class, digit, upper, lower, alphabetic, blank, classNumber}
 use Rattle.meaning.specs.Allowed.{isByte}
 use Rattle.meaning.specs.Instructions.{Site, fromStart, fromEnd, fromPlace, Test, look, compare, predicate, unknownTest, Store, store, unknownStore, Length, null, whole, left, right, Span, Action, go, select, out, outCharacter, outValue, beginSequence, useSequence, call, tailCall, emission, unknownAction, Metric, exactly, ends, middle, Sentences, noMore, sentence, unknownSentence, Code}

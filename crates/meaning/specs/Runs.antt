@@ -1,7 +1,7 @@
 -- The three runs of demand 3, each the machine under another watch: without end, on lent cells, and the run without end watched for what it passes first. 01 'Machine'.
 use Prim.Native.Nat.{ℕ}
 use mathlib.Core.Bool.{Bool, true, false}
-use mathlib.Core.List.{List, [], _∷_}
+use mathlib.Core.List.{[]}
 use mathlib.Core.Option.{Option, none, some}
 use lib.Dec.{ltb}
 use lib.ListN.{length}
@@ -9,7 +9,7 @@ use Rattle.meaning.specs.Choice.{Bytes, pick}
 use Rattle.meaning.specs.Answers.{inFull, outFull, framesFull, recordFull}
 use Rattle.meaning.specs.Outcome.{Tally, fresh, Outcome, done, stop, Result, resultOf}
 use Rattle.meaning.specs.Instructions.{Code}
-use Rattle.meaning.specs.Machine.{Need, inCells, outCells, recordBytes, frames, Noted, onward, halt, Watch, Ledger, Stacks, Ran, enter}
+use Rattle.meaning.specs.Machine.{Need, inCells, outCells, recordBytes, frames, onward, halt, Watch, Ledger, Stacks, Ran, enter}
 
 -- what is lent
 pub record Room : Type 0 where

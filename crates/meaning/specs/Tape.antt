@@ -5,7 +5,7 @@ use mathlib.Core.Bool.{Bool, true, false}
 use mathlib.Core.List.{List, [], _∷_, _++_}
 use lib.ListN.{length}
 use Rattle.meaning.specs.Choice.{Name}
-use Rattle.meaning.specs.Classes.{Class, classNumber}
+use Rattle.meaning.specs.Classes.{classNumber}
 use Rattle.meaning.specs.Tree.{Letter, character, symbol, Element, letter, part, Condition, Expression, end, thenCharacter, thenSymbol, thenPart, thenCall, Sentence, Function, Table}
 
 -- what a word is: its number of 256, and above that what it carries

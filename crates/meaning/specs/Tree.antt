@@ -3,7 +3,7 @@
 -- An expression carries its own tail, since a call holds an expression and an expression holds calls.
 use Prim.Native.Nat.{ℕ}
 use mathlib.Core.Bool.{Bool}
-use mathlib.Core.List.{List, [], _∷_, map}
+use mathlib.Core.List.{List, map}
 use Rattle.meaning.specs.Choice.{Name}
 use Rattle.meaning.specs.Classes.{Class}
 

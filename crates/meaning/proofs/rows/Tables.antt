@@ -1,10 +1,10 @@
 -- The trees of 01's 'Runs to hold on to'.
 use Prim.Native.Nat.{ℕ}
-use mathlib.Core.Bool.{true, false}
+use mathlib.Core.Bool.{true}
 use mathlib.Core.List.{List, [], _∷_}
-use Rattle.meaning.specs.Choice.{Bytes, Name}
+use Rattle.meaning.specs.Choice.{Name}
 use Rattle.meaning.specs.Classes.{digit}
-use Rattle.meaning.specs.Tree.{character, symbol, Element, letter, part, Condition, Expression, end, thenCharacter, thenSymbol, thenPart, thenCall, Sentence, Function, Table}
+use Rattle.meaning.specs.Tree.{character, symbol, Element, letter, part, Expression, end, thenCharacter, thenSymbol, thenPart, thenCall, Sentence, Function, Table}
 
 abbrev pub x1 : Name
 x1 = 49 ∷ []
