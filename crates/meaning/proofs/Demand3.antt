@@ -11,18 +11,18 @@ use borrow.Author.Tests.{le-leb}
 use Rattle.meaning.specs.Choice.{Bytes}
 use Rattle.meaning.specs.Answers.{noInstruction}
 use Rattle.meaning.specs.Tree.{Table}
-use Rattle.meaning.specs.Outcome.{Tally, fresh, done, Result}
+use Rattle.meaning.specs.Outcome.{Tally, fresh, done}
 use Rattle.meaning.specs.Rewriting.{apply, rewrite}
 use Rattle.meaning.specs.Allowed.{allowed}
 use Rattle.meaning.specs.Machine.{isDeclared}
-use Rattle.meaning.specs.Runs.{Room, answerTo, endless, Passed, from, runEndless, runLent, passedFirst}
+use Rattle.meaning.specs.Runs.{Room, endless, Passed, from, runEndless, runLent, passedFirst}
 use Rattle.meaning.specs.Translation.{translate}
 use Rattle.meaning.specs.Packing.{Words, pack}
 use Rattle.meaning.specs.Leaving.{Cells, left, roomOf, leaving}
 use Rattle.meaning.specs.Demanded.{stoppedAt, unlessPassed, demanded}
 use Rattle.meaning.proofs.agreement.Agree.{agree-done, agree-result, agree-steps}
 use Rattle.meaning.proofs.agreement.Choosing.{passed-true}
-use Rattle.meaning.proofs.laws.Room.{lent-equal, lent-passed, lent-differs}
+use Rattle.meaning.proofs.laws.Room.{lent-equal, lent-passed, lent-exactly}
 use Rattle.meaning.proofs.laws.Known.{Agrees, equal, passing, leaving-known}
 use Rattle.meaning.proofs.laws.Translated.{unpacked}
 
@@ -55,13 +55,7 @@ module _ (table : Table) (ok : T (allowed table)) (start : ℕ) (text : Bytes) (
   pub exactly-when : (room : Room) →
       (runLent room (translate table) start text allowance ≡ rewrite table start text allowance) ↔
       (passedFirst room (translate table) start text allowance ≡ none)
-  exactly-when room = (λ same. nothing (passedFirst room (translate table) start text allowance) refl same, kept-within room)
-    where
-      nothing : (o : Option Passed) → passedFirst room (translate table) start text allowance ≡ o →
-          runLent room (translate table) start text allowance ≡ rewrite table start text allowance →
-          passedFirst room (translate table) start text allowance ≡ none
-      nothing none e same = e
-      nothing (some p) e same = absurd (lent-differs room (translate table) start text allowance p e (same ∙ sym without-end))
+  exactly-when room = (λ same. lent-exactly room (translate table) start text allowance (same ∙ sym without-end), kept-within room)
 
   -- both cases in one equation
   pub as-demanded : (room : Room) → runLent room (translate table) start text allowance ≡ demanded room table start text allowance

@@ -61,10 +61,6 @@ module _ (table : Table) (ok : T (allowed table)) where
       from endless (translate table) start text allowance tt ≡ done (stacks [] 0 result) (ledger t)
   agree-done start text allowance result t e = agree start text allowance ∙ ap (carried [] []) e
 
-  pub agree-stop : (start : ℕ) (text : Bytes) (allowance answer function : ℕ) (t : Tally) → apply allowance table start text (fresh allowance) ≡ stop answer function t →
-      from endless (translate table) start text allowance tt ≡ stop answer function (ledger t)
-  agree-stop start text allowance answer function t e = agree start text allowance ∙ ap (carried [] []) e
-
   -- the outcome as 01 tells it
   pub agree-result : (start : ℕ) (text : Bytes) (allowance : ℕ) → runEndless (translate table) start text allowance ≡ rewrite table start text allowance
   agree-result start text allowance = rw (agree start text allowance) (told (apply allowance table start text (fresh allowance)))

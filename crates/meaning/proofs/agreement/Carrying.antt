@@ -7,13 +7,13 @@ use mathlib.Core.List.{List, [], _∷_, _++_, append-assoc}
 use mathlib.Core.Option.{some}
 use lib.ListN.{length, length-append}
 use lib.Seq.{take-append-seam, drop-append-seam}
+use borrow.Author.Tests.{le-leb}
 use Rattle.meaning.specs.Choice.{Bytes, nth}
 use Rattle.meaning.specs.Outcome.{Tally, pay, emitted, Outcome, done, stop, andThen}
 use Rattle.meaning.specs.Rewriting.{before}
 use Rattle.meaning.specs.Instructions.{Length, null, whole, left, right, Span, Action, go, select, out, outCharacter, outValue, beginSequence, useSequence, call, tailCall, emission, Code}
 use Rattle.meaning.specs.Machine.{Ledger, Stacks, Local, Ran, registerOf, spanOf, isDeclared, withSelected, withOpened, maxOpened, wherePayable, process}
 use Rattle.meaning.specs.Runs.{endless}
-use Rattle.meaning.proofs.agreement.Choosing.{le-leb}
 
 abbrev pub Endless : Type 0
 Endless = Ran endless

@@ -4,12 +4,12 @@ use native.Mathlib.Omega.{arith}
 use mathlib.Core.Path.{_≡_, refl}
 use mathlib.Core.List.{[], _∷_, _++_}
 use lib.ListN.{length, length-append}
+use borrow.Author.Tests.{le-leb}
 use Rattle.meaning.specs.Choice.{Bytes, nth}
 use Rattle.meaning.specs.Instructions.{Site, fromStart, fromEnd, fromPlace}
 use Rattle.meaning.specs.Matching.{cellAt}
 use Rattle.meaning.specs.Translation.{beforeEnd}
 use Rattle.meaning.specs.Packing.{siteOffset}
-use Rattle.meaning.proofs.agreement.Choosing.{le-leb}
 
 -- what `template-tested` asks of the sites
 abbrev pub Shows : Bytes → ℕ → (ℕ → Site) → Bytes → Type 0

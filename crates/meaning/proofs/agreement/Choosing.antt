@@ -1,27 +1,16 @@
 -- Small laws of the tests and choices that the definitions are written with.
-use Prim.Native.Nat.{ℕ, zero, suc, _≤_, _<_}
+use Prim.Native.Nat.{ℕ, zero, suc}
 use mathlib.Core.Path.{_≡_, refl, sym}
-use mathlib.Core.Logic.{_≢_}
-use mathlib.Core.Bool.{Bool, true, false}
+use mathlib.Core.Bool.{Bool, true}
 use mathlib.Core.List.{List, [], _∷_}
 use mathlib.Core.Option.{Option, none, some, Option·none-ne-some, Option·some-injective}
-use lib.Dec.{T, leb, eqb, le→leb, nleb→lt, eqb-refl, eqb→eq}
-use Rattle.meaning.specs.Choice.{Name, both, isSome, every, sameBytes, nth}
+use lib.Dec.{T}
+use Rattle.meaning.specs.Choice.{both, isSome, every, nth}
 use Rattle.meaning.specs.Allowed.{whereSome}
 pub use Rattle.meaning.proofs.laws.Passing.{both-left, both-right, passed as passed-true}
 
 pub true-passed : (b : Bool) → b ≡ true → T b
 true-passed b e = rw e tt
-
-pub le-leb : (m n : ℕ) → m ≤ n → leb m n ≡ true
-le-leb m n h = passed-true (leb m n) (le→leb m n h)
-
--- a failed test says the contrary
-pub leb-lt : (m n : ℕ) → leb m n ≡ false → n < m
-leb-lt m n e = nleb→lt m n (rw e tt)
-
-pub eqb-other : (m n : ℕ) → eqb m n ≡ false → m ≢ n
-eqb-other m n e same = let t : T (eqb m n) = rw same (eqb-refl n) in rw e at t
 
 pub both-pair : (a b : Bool) → T (both a b) → T a × T b
 both-pair a b t = (both-left a b t, both-right a b t)
@@ -73,11 +62,3 @@ unfolding every nth
 every-nth p [] i x t e = absurd (Option·none-ne-some x e)
 every-nth p (y ∷ ys) zero x t e = rw (Option·some-injective y x e) at (both-left (p y) (every p ys) t)
 every-nth p (y ∷ ys) (suc i) x t e = every-nth p ys i x (both-right (p y) (every p ys) t) e
-
--- two names that pass the test are one
-pub same-name : (x y : Name) → T (sameBytes x y) → x ≡ y
-unfolding sameBytes
-same-name [] [] t = refl
-same-name [] (b ∷ y) t = absurd t
-same-name (a ∷ x) [] t = absurd t
-same-name (a ∷ x) (b ∷ y) t = rw (eqb→eq a b (both-left (eqb a b) (sameBytes x y) t), same-name x y (both-right (eqb a b) (sameBytes x y) t))

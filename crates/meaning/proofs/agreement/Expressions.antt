@@ -7,9 +7,10 @@ use mathlib.Core.List.{List, [], _∷_, _++_, append-nil, append-assoc}
 use mathlib.Core.Option.{Option, none, some}
 use lib.Dec.{T, ltb}
 use lib.ListN.{length, length-map}
-use Rattle.meaning.specs.Choice.{Bytes, Name, Named, pick, either, sameBytes, lookup}
+use borrow.Author.Tests.{le-leb}
+use Rattle.meaning.specs.Choice.{Bytes, Name, Named, pick, either, lookup}
 use Rattle.meaning.specs.Tree.{Expression, end, thenCharacter, thenSymbol, thenPart, thenCall, Table}
-use Rattle.meaning.specs.Names.{isEmission, numberFrom, numberOf}
+use Rattle.meaning.specs.Names.{isEmission, numberOf}
 use Rattle.meaning.specs.Answers.{allowanceSpent}
 use Rattle.meaning.specs.Outcome.{Tally, pay, emitted, Outcome, done, stop, andThen}
 use Rattle.meaning.specs.Rewriting.{Bindings, before, evaluate, callNamed}
@@ -18,7 +19,8 @@ use Rattle.meaning.specs.Instructions.{Site, Action, go, select, out, ca
 use Rattle.meaning.specs.Machine.{Stacks, Local, isDeclared, withSelected, withOpened, maxOpened, wherePayable, process}
 use Rattle.meaning.specs.Runs.{endless}
 use Rattle.meaning.specs.Translation.{Shape, Stand, atStart, passage, restOf, nowhere, emits, replaces, nests, isLast, mannerOf, valueNumber, argumentReady, calling, items, passesRest, translatedSentences, translate}
-use Rattle.meaning.proofs.agreement.Choosing.{passed-true, le-leb}
+use Rattle.meaning.proofs.agreement.Choosing.{passed-true}
+use Rattle.meaning.proofs.laws.Translated.{number-low}
 use Rattle.meaning.proofs.agreement.Carrying.{Endless, ledger, stacks, into, carried, carried-andThen, into-andThen, into-written, into-same, Applying, doing, span-opened, go-law, select-law, out-law, character-law, value-law, begin-law, use-law, emission-law, call-law, tail-law}
 use Rattle.meaning.proofs.agreement.Standing.{Move, Standing}
 use Rattle.meaning.proofs.agreement.Sound.{Sound, theEnd, aCharacter, aSymbol, aPart, aCall}
@@ -34,21 +36,11 @@ abbrev pub Ending : Shape → Bool → (Stand → List Action) → Type 0
 Ending shape true k = (w : Stand) → k w ≡ passesRest shape w
 Ending shape false k = Unit {0}
 
--- a name's number is no greater than the number of functions
-number-fits : (count : ℕ) (table : Table) (n : Name) → numberFrom count table n ≤ count + length table
-unfolding numberFrom
-number-fits count [] n = omega arith
-number-fits count (f ∷ table) n = named (sameBytes n (f .name)) (number-fits (suc count) table n)
-  where
-    named : (q : Bool) → numberFrom (suc count) table n ≤ suc count + length table → pick q (suc count) (numberFrom (suc count) table n) ≤ count + suc (length table)
-    named true h = omega arith
-    named false h = omega arith
-
 -- so a name with a number names a function of the code
 numbered : (table : Table) (n : Name) → T (ltb 0 (numberOf table n)) → isDeclared (translate table) (numberOf table n) ≡ true
 numbered table n d =
     rw (passed-true (ltb 0 (numberOf table n)) d, length-map table (λ f. translatedSentences table (f .sentences)))
-    (le-leb (numberOf table n) (length table) (omega (arith, number-fits 0 table n)))
+    (le-leb (numberOf table n) (length table) (omega (arith, number-low 0 table n)))
 
 module _ (table : Table) (shape : Shape) (sites : List (Named Site)) (bound : Bindings) (l : Local) (standing : Standing shape sites bound l)
     (below : Bytes) (frame : ℕ) (enter : Applying) (apply : ℕ → Bytes → Tally → Outcome Bytes Tally) (callee : Callee enter apply) where

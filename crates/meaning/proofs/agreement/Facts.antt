@@ -12,9 +12,9 @@ use Rattle.meaning.specs.Rewriting.{sentencesOf, functionAt}
 use Rattle.meaning.specs.Allowed.{maxNesting, member, added, symbolsFrom, symbolsOf, partsOf, distinct, nesting, spelledItems, comingAfterAll, allowedSentence, allowedFunction, callsKnown, allowed}
 use Rattle.meaning.specs.Instructions.{Site, fromStart, fromPlace}
 use Rattle.meaning.specs.Translation.{Shape, fixed, open₁, open₂, shapeOf, Tested, testedSymbol, testedLetter, testedTemplate, beforeEnd, untested, testedShape, atStart}
-use Rattle.meaning.proofs.agreement.Choosing.{both-left, both-right, both-pair, true-passed, there, every-nth, same-name}
-use Rattle.meaning.proofs.agreement.Standing.{namesIn, comingAt}
-use Rattle.meaning.proofs.agreement.Templates.{named-sites}
+use Rattle.meaning.proofs.laws.Choosing.{same-bytes, namesIn, names-append, member-bound, distinct-second}
+use Rattle.meaning.proofs.agreement.Choosing.{both-left, both-right, both-pair, passed-true, true-passed, there, every-nth}
+use Rattle.meaning.proofs.agreement.Standing.{comingAt}
 use Rattle.meaning.proofs.agreement.Patterns.{templated, elementsOf, parts-shape, elements-shape}
 use Rattle.meaning.proofs.agreement.Fitting.{NamedApart, Asks}
 
@@ -38,13 +38,9 @@ pub data Allowables (table : Table) : List Sentence → Type 0 where
   noSentence : Allowables table []
   sentences : {s : Sentence} {ss : List Sentence} → Allowable table s → Allowables table ss → Allowables table (s ∷ ss)
 
-names-more : (sites : List (Named Site)) (x : Name) (s : Site) → namesIn (sites ++ record { name = x; value = s } ∷ []) ≡ namesIn sites ++ x ∷ []
-names-more [] x s = refl
-names-more (y ∷ sites) x s = rw (names-more sites x s)
-
 names-symbol : (x : Name) (s : Site) (d : Tested) (o : Option Site) → lookup x (d .sites) ≡ o → added x (namesIn (d .sites)) ≡ namesIn (testedSymbol o x s d .sites)
-names-symbol x s d none e = rw (← (named-sites x (d .sites)), e, names-more)
-names-symbol x s d (some r) e = rw (← (named-sites x (d .sites)), e)
+names-symbol x s d none e = rw (member-bound x (d .sites), e, names-append)
+names-symbol x s d (some r) e = rw (member-bound x (d .sites), e)
 
 -- the sites are named as the pattern names its s-variables
 names-template : (at : ℕ → Site) (from : ℕ) (ls : List Letter) (d : Tested) (es : List Element) →
@@ -66,17 +62,12 @@ names-shape (open₂ h x m y t) =
     names-template (beforeEnd (length t)) 0 t (testedTemplate fromPlace 0 m (testedTemplate fromStart 0 h untested)) []
 
 -- the pattern's names being distinct, two e-variables are named apart
-distinct-back : (xs ys : List Name) → T (distinct (xs ++ ys)) → T (distinct ys)
-unfolding distinct
-distinct-back [] ys t = t
-distinct-back (x ∷ xs) ys t = distinct-back xs ys (both-right (not (member x (xs ++ ys))) (distinct (xs ++ ys)) t)
-
 named-apart : (shape : Shape) → T (distinct (comingAt shape atStart)) → NamedApart shape
 unfolding distinct member
 named-apart (fixed t) d = tt
 named-apart (open₁ h x t) d = tt
 named-apart (open₂ h x m y t) d = λ z zx zy.
-    let same : sameBytes x y ≡ true = rw (same-name z x (true-passed (sameBytes z x) zx)) at zy in
+    let same : sameBytes x y ≡ true = rw (same-bytes z x zx) at zy in
     rw same at (both-left (not (member x (y ∷ []))) (distinct (y ∷ [])) d)
 
 allowable : (table : Table) (s : Sentence) → T (allowedSentence s) → T (callsKnown table (s .expression)) → Allowable table s
@@ -93,7 +84,7 @@ allowable table s a calls =
     let l = there (comingAfterAll (s .expression) (partsOf (s .pattern))) order in
     record {
       pattern = p;
-      apart = named-apart (shapeOf (s .pattern)) (rw (← parts) (distinct-back (symbolsOf (s .pattern)) (partsOf (s .pattern)) names));
+      apart = named-apart (shapeOf (s .pattern)) (rw (← parts) (true-passed (distinct (partsOf (s .pattern))) (distinct-second (symbolsOf (s .pattern)) (partsOf (s .pattern)) (passed-true _ names))));
       asks = rw (← symbols) conditions;
       spelled = rw (← symbols) items;
       later = l .it;

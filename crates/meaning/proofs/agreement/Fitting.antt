@@ -9,6 +9,7 @@ use mathlib.Core.Option.{Option, none, some}
 use lib.Dec.{T, leb, leb→le, eqb, eqb→eq}
 use lib.ListN.{length, take, drop, length-append, length-drop, take-append-drop}
 use lib.Seq.{length-take-le}
+use borrow.Author.Tests.{eqb-false, leb-false}
 use Rattle.meaning.specs.Choice.{Bytes, Name, Named, pick, guard, every, sameBytes}
 use Rattle.meaning.specs.Tree.{Letter, part, Condition}
 use Rattle.meaning.specs.Rewriting.{Bindings, unbound, hold, shortest, withSymbols, withPart, match}
@@ -16,8 +17,9 @@ use Rattle.meaning.specs.Allowed.{whereSome, member}
 use Rattle.meaning.specs.Instructions.{Site, fromStart, fromPlace}
 use Rattle.meaning.specs.Matching.{Checked, wherePassed, checkAll, search, placesOf, firstPlace, place, storedValues}
 use Rattle.meaning.specs.Translation.{Shape, fixed, open₁, open₂, metricOf, Tested, testedTemplate, beforeEnd, untested, testedShape, conditionTest, testsOf, atStart}
-use Rattle.meaning.proofs.agreement.Choosing.{true-passed, leb-lt, eqb-other, where-same, where-none, where-strict}
-use Rattle.meaning.proofs.agreement.Standing.{namesIn, Standing}
+use Rattle.meaning.proofs.laws.Choosing.{namesIn}
+use Rattle.meaning.proofs.agreement.Choosing.{true-passed, where-same, where-none, where-strict}
+use Rattle.meaning.proofs.agreement.Standing.{Standing}
 use Rattle.meaning.proofs.agreement.Templates.{templateMatch, Known, nothing, Tried, fails, passes, next, checkAll-append, template-tested, conditions-tested}
 use Rattle.meaning.proofs.agreement.Patterns.{templated, elementsOf, letters-templated, letters-part, match-short, match-exact, match-template, shortest-none, shortest-one}
 use Rattle.meaning.proofs.agreement.Places.{Trial, unfit, fit, Agreeing, neither, only, search-shortest}
@@ -166,7 +168,7 @@ module _ (cs : List Condition) where
           (trial (laid-fixed t field)
           (all-tested field 0 cs (testedShape (fixed t)) asks
           (template-tested field 0 fromStart 0 t field untested size (start-shows field [] field [] 0 (rw append-nil) refl) (passes nothing)))))
-      sized false e = rw (match-exact t cs field unbound (eqb-other (length field) (length t) e)) neither
+      sized false e = rw (match-exact t cs field unbound (eqb-false (length field) (length t) e)) neither
 
   -- the field is the templates' bytes round the part
   fits-open₁ : (h : List Letter) (x : Name) (t : List Letter) (hs p ts : Bytes) → length hs ≡ length h → length ts ≡ length t → Asks (open₁ h x t) →
@@ -197,7 +199,7 @@ module _ (cs : List Condition) where
       sized true e =
           let a = setApart (length h) (length t) field (leb→le _ _ (true-passed _ e)) in
           rw (a .whole) (fits-open₁ h x t (a .first) (a .middle) (a .last) (a .firstSize) (a .lastSize) asks)
-      sized false e = rw (match-short (elementsOf (open₁ h x t)) cs field unbound (rw letters-part (leb-lt _ _ e))) neither
+      sized false e = rw (match-short (elementsOf (open₁ h x t)) cs field unbound (rw letters-part (leb-false _ _ e))) neither
 
   module _ (h : List Letter) (x : Name) (m : List Letter) (y : Name) (t : List Letter) (apart : NamedApart (open₂ h x m y t))
       (asks : Asks (open₂ h x m y t)) where

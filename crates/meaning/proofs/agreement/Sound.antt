@@ -14,8 +14,9 @@ use Rattle.meaning.specs.Allowed.{isByte, member, spelledName, spelledIt
 use Rattle.meaning.specs.Instructions.{Site}
 use Rattle.meaning.specs.Machine.{Local}
 use Rattle.meaning.specs.Translation.{Shape, Stand, passage}
+use Rattle.meaning.proofs.laws.Choosing.{namesIn}
 use Rattle.meaning.proofs.agreement.Choosing.{both-left, both-right, both-pair, both-some}
-use Rattle.meaning.proofs.agreement.Standing.{namesIn, comingAt, Move, Valued, Standing}
+use Rattle.meaning.proofs.agreement.Standing.{comingAt, Move, Valued, Standing}
 
 module _ (table : Table) (shape : Shape) (sites : List (Named Site)) (bound : Bindings) (l : Local) (standing : Standing shape sites bound l) where
   -- an expression from where p stands, and where p stands after it

@@ -2,7 +2,7 @@
 -- The proofs about expressions know of a match only what stands here.
 use Prim.Native.Nat.{ℕ}
 use mathlib.Core.Path.{_≡_}
-use mathlib.Core.List.{List, [], _∷_, _++_, map}
+use mathlib.Core.List.{List, [], _∷_, _++_}
 use mathlib.Core.Option.{Option, some}
 use lib.Dec.{T}
 use lib.ListN.{length}
@@ -12,9 +12,7 @@ use Rattle.meaning.specs.Allowed.{member, comingAfter}
 use Rattle.meaning.specs.Instructions.{Site}
 use Rattle.meaning.specs.Machine.{Local, spanOf}
 use Rattle.meaning.specs.Translation.{Shape, fixed, open₁, open₂, Stand, atStart, afterFirst, afterSecond, Passage, passage, restOf, valueNumber}
-
-abbrev pub namesIn : List (Named Site) → List Name
-namesIn sites = map (λ s. s .name) sites
+use Rattle.meaning.proofs.laws.Choosing.{namesIn}
 
 -- the e-variables that may still come where p stands
 abbrev pub comingAt : Shape → Stand → List Name

@@ -12,7 +12,8 @@ use Rattle.meaning.specs.Allowed.{member}
 use Rattle.meaning.specs.Instructions.{Site, Store, store}
 use Rattle.meaning.specs.Matching.{storedValues}
 use Rattle.meaning.specs.Translation.{valueFrom}
-use Rattle.meaning.proofs.agreement.Standing.{namesIn, Valued}
+use Rattle.meaning.proofs.laws.Choosing.{namesIn}
+use Rattle.meaning.proofs.agreement.Standing.{Valued}
 use Rattle.meaning.proofs.agreement.Templates.{Known, nothing, knows, shown}
 use Rattle.meaning.proofs.agreement.Layout.{bindings, locals}
 

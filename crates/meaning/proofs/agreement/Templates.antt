@@ -9,16 +9,16 @@ use mathlib.Core.List.{List, [], _∷_, _++_, map}
 use mathlib.Core.Option.{Option, none, some}
 use lib.Dec.{T, eqb}
 use lib.ListN.{length}
-use Rattle.meaning.specs.Choice.{Bytes, Name, Named, pick, both, either, guard, isSome, lookup, nth, every, sameBytes}
+use Rattle.meaning.specs.Choice.{Bytes, Name, Named, pick, both, guard, isSome, lookup, nth, every, sameBytes}
 use Rattle.meaning.specs.Classes.{inClass}
 use Rattle.meaning.specs.Tree.{Letter, character, symbol, Condition}
 use Rattle.meaning.specs.Rewriting.{takeSymbol, sameTruth, hold}
 use Rattle.meaning.specs.Allowed.{whereSome, member}
-use Rattle.meaning.specs.Instructions.{Site, Test, look, compare, predicate}
+use Rattle.meaning.specs.Instructions.{Site, Test, look, compare}
 use Rattle.meaning.specs.Matching.{cellAt, Checked, passed, failed, wrong, checked, check, wherePassed, checkAll}
 use Rattle.meaning.specs.Translation.{Tested, testedSymbol, testedLetter, testedTemplate, conditionTest}
+use Rattle.meaning.proofs.laws.Choosing.{namesIn, member-bound}
 use Rattle.meaning.proofs.agreement.Choosing.{both-left, both-right, where-last, where-again}
-use Rattle.meaning.proofs.agreement.Standing.{namesIn}
 
 -- one letter against one byte, and a template's letters against as many bytes
 abbrev pub letterMatch : Letter → ℕ → List (Named ℕ) → Option (List (Named ℕ))
@@ -29,16 +29,6 @@ unfoldable pub templateMatch : List Letter → Bytes → List (Named ℕ) → Op
 templateMatch [] bytes known = some known
 templateMatch (l ∷ ls) [] known = none
 templateMatch (l ∷ ls) (b ∷ bytes) known = whereSome (letterMatch l b known) (templateMatch ls bytes)
-
--- the variables that have a site are those named
-pub named-sites : (x : Name) (sites : List (Named Site)) → isSome (lookup x sites) ≡ member x (namesIn sites)
-unfolding lookup member
-named-sites x [] = refl
-named-sites x (s ∷ sites) = here (sameBytes x (s .name)) (named-sites x sites)
-  where
-    here : (q : Bool) → isSome (lookup x sites) ≡ member x (namesIn sites) → isSome (pick q (some (s .value)) (lookup x sites)) ≡ either q (member x (namesIn sites))
-    here true later = refl
-    here false later = later
 
 module _ (field : Bytes) (place : ℕ) where
   -- each different s-variable has the byte at its site: the invariant of matching
@@ -157,7 +147,7 @@ module _ (field : Bytes) (place : ℕ) where
     pub found : Found site (lookup x known)
 
   pub shown : {sites : List (Named Site)} {known : List (Named ℕ)} → Known sites known → (x : Name) → T (member x (namesIn sites)) → Shown sites known x
-  shown {sites} {known} k x m = sited (lookup x sites) refl (rw (named-sites x sites) m)
+  shown {sites} {known} k x m = sited (lookup x sites) refl (rw (← (member-bound x sites)) m)
     where
       sited : (o : Option Site) → lookup x sites ≡ o → T (isSome o) → Shown sites known x
       sited none e t = absurd t

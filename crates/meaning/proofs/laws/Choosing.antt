@@ -1,14 +1,14 @@
 -- Laws of choosing by a test and of finding a value by its name.
 use Prim.Native.Nat.{ℕ}
-use mathlib.Core.Path.{_≡_, refl}
-use mathlib.Core.Bool.{Bool, true, false}
+use mathlib.Core.Path.{_≡_, refl, ap}
+use mathlib.Core.Bool.{Bool, true, false, not}
 use mathlib.Core.List.{List, [], _∷_, _++_, map}
 use mathlib.Core.Option.{Option, none, some}
 use native.Mathlib.Omega.{arith}
 use borrow.Author.Tests.{eqb-true, eq-eqb}
 use lib.Dec.{eqb}
 use Rattle.meaning.specs.Choice.{Bytes, Name, pick, both, either, guard, orElse, isSome, Named, sameBytes, lookup}
-use Rattle.meaning.specs.Allowed.{member}
+use Rattle.meaning.specs.Allowed.{member, distinct}
 
 pub not-both : {b : Bool} → b ≡ true → b ≡ false → ⊥
 not-both p q = let z : _≡_ {A = ℕ} 0 1 = cc in omega arith
@@ -32,19 +32,19 @@ pub guard-some : {A : Type 0} {a : A} (b : Bool) (o : Option A) → guard b o �
 guard-some true o h = (refl, h)
 guard-some false o h = absurd (some-none h refl)
 
-pub sameBytes-refl : (x : Bytes) → sameBytes x x ≡ true
+pub same-itself : (x : Bytes) → sameBytes x x ≡ true
 unfolding sameBytes
-sameBytes-refl [] = refl
-sameBytes-refl (b ∷ x) = rw (eq-eqb b b refl) (sameBytes-refl x)
+same-itself [] = refl
+same-itself (b ∷ x) = rw (eq-eqb b b refl) (same-itself x)
 
-pub sameBytes-true : (x y : Bytes) → sameBytes x y ≡ true → x ≡ y
+pub same-bytes : (x y : Bytes) → sameBytes x y ≡ true → x ≡ y
 unfolding sameBytes
-sameBytes-true [] [] h = refl
-sameBytes-true [] (c ∷ y) h = absurd (not-both h refl)
-sameBytes-true (b ∷ x) [] h = absurd (not-both h refl)
-sameBytes-true (b ∷ x) (c ∷ y) h =
+same-bytes [] [] h = refl
+same-bytes [] (c ∷ y) h = absurd (not-both h refl)
+same-bytes (b ∷ x) [] h = absurd (not-both h refl)
+same-bytes (b ∷ x) (c ∷ y) h =
     let t = both-true (eqb b c) (sameBytes x y) h in
-    cc (eqb-true b c (t .0), sameBytes-true x y (t .1))
+    cc (eqb-true b c (t .0), same-bytes x y (t .1))
 
 -- what is bound behind counts only where nothing is bound before
 pub lookup-append : {A : Type 0} (x : Name) (known more : List (Named A)) → lookup x (known ++ more) ≡ orElse (lookup x known) (lookup x more)
@@ -59,11 +59,15 @@ lookup-append x (n ∷ known) more = go (sameBytes x (n .name)) (lookup-append x
 
 pub lookup-one : {A : Type 0} (x : Name) (v : A) → lookup x (record { name = x; value = v } ∷ []) ≡ some v
 unfolding lookup
-lookup-one x v = rw (sameBytes-refl x)
+lookup-one x v = rw (same-itself x)
 
 -- the names that are bound
 abbrev pub namesIn : {A : Type 0} → List (Named A) → List Name
 namesIn known = map (λ n. n .name) known
+
+pub names-append : {A : Type 0} (known : List (Named A)) (n : Named A) → namesIn (known ++ n ∷ []) ≡ namesIn known ++ n .name ∷ []
+names-append [] n = refl
+names-append (k ∷ known) n = ap (λ l. k .name ∷ l) (names-append known n)
 
 pub member-bound : {A : Type 0} (x : Name) (known : List (Named A)) → member x (namesIn known) ≡ isSome (lookup x known)
 unfolding lookup member
@@ -74,3 +78,9 @@ member-bound x (n ∷ known) = go (sameBytes x (n .name)) (member-bound x known)
         either b (member x (namesIn known)) ≡ isSome (pick b (some (n .value)) (lookup x known))
     go true later = refl
     go false later = later
+
+-- the last of more different names are different
+pub distinct-second : (xs ys : List Name) → distinct (xs ++ ys) ≡ true → distinct ys ≡ true
+unfolding distinct
+distinct-second [] ys h = h
+distinct-second (x ∷ xs) ys h = distinct-second xs ys (both-true (not (member x (xs ++ ys))) (distinct (xs ++ ys)) h .1)

@@ -4,7 +4,7 @@ use Prim.Native.Nat.{ℕ, zero, suc, _+_, _≤_}
 use native.Mathlib.Omega.{arith}
 use mathlib.Core.Path.{_≡_, refl, sym}
 use mathlib.Core.Bool.{Bool, true, false}
-use mathlib.Core.List.{List, [], _∷_}
+use mathlib.Core.List.{[], _∷_}
 use mathlib.Core.Option.{Option, none, some}
 use lib.ListN.{take}
 use Rattle.meaning.specs.Choice.{Bytes, Name, pick, lookup}
@@ -12,11 +12,11 @@ use Rattle.meaning.specs.Outcome.{Tally, fresh, pay, emitted, Outcome, d
 use Rattle.meaning.specs.Tree.{Expression, end, thenCharacter, thenSymbol, thenPart, thenCall, Table}
 use Rattle.meaning.specs.Names.{isEmission, numberOf}
 use Rattle.meaning.specs.Rewriting.{Bindings, symbolText, partText, before, evaluate, Fit, choose, functionAt, callNamed, rewritten, applied, apply}
-use Rattle.meaning.specs.Instructions.{Action, Code}
+use Rattle.meaning.specs.Instructions.{Code}
 use Rattle.meaning.specs.Matching.{chooseFrom}
-use Rattle.meaning.specs.Machine.{Noted, onward, halt, Watch, Ledger, Stacks, Local, withTally, afterNote, wherePayable, process, ranPaid, enter, codeAt}
+use Rattle.meaning.specs.Machine.{Noted, onward, halt, Watch, Ledger, Stacks, withTally, afterNote, wherePayable, ranPaid, enter, codeAt}
 use Rattle.meaning.specs.Runs.{loaded, from}
-use Rattle.meaning.proofs.laws.Related.{Computation, Closed, chooses, processes}
+use Rattle.meaning.proofs.laws.Related.{Computation, Closed, chooses}
 
 -- what may come after a tally: no more steps left, and the same sum of steps and steps left
 pub record Spent (t u : Tally) : Type 0 where
@@ -160,20 +160,6 @@ module _ (W : Watch) where
   unfolding enter
   enter-step depth depth′ code frame f s g h h′ = enter-depth depth (suc depth′) code frame f s g h h′
 
-  -- Actions, too, are the same over applications at any depth that is great enough.
-  pub process-depth : (depth depth′ : ℕ) (code : Code) (frame : ℕ) (actions : List Action) (l : Local) (s : Stacks) (g : Ledger (W .Mark)) →
-      g .tally .left ≤ depth → g .tally .left ≤ depth′ →
-      process W code (enter W depth code) frame actions l s g ≡ process W code (enter W depth′ code) frame actions l s g
-  process-depth depth depth′ code frame actions l s g h h′ =
-      processes W W (Alike depth depth′) (alike-closed depth depth′) code (enter W depth code) (enter W depth′ code)
-      (alike-enter depth depth′ code) frame actions l s g (deep h h′) .same
-
-  pub process-spent : (depth : ℕ) (code : Code) (frame : ℕ) (actions : List Action) (l : Local) (s : Stacks) (g : Ledger (W .Mark)) →
-      Spent (g .tally) (countedOf (process W code (enter W depth code) frame actions l s g) .tally)
-  process-spent depth code frame actions l s g =
-      processes W W (Alike depth depth) (alike-closed depth depth) code (enter W depth code) (enter W depth code)
-      (alike-enter depth depth code) frame actions l s g (level refl) .spent
-
   -- From the start of a run, steps and steps left come to the allowance.
   pub from-spent : (code : Code) (start : ℕ) (text : Bytes) (allowance : ℕ) (m : W .Mark) →
       let t : Tally = countedOf (from W code start text allowance m) .tally in
@@ -250,12 +236,6 @@ apply-depth depth depth′ table number text t h h′ = apply-alike depth depth�
 -- At any depth an application never wins steps back, and steps and steps left keep their sum.
 pub apply-spent : (depth : ℕ) (table : Table) (number : ℕ) (text : Bytes) (t : Tally) → Spent t (countedOf (apply depth table number text t))
 apply-spent depth table number text t = apply-alike depth depth table number text t (level refl) .spent
-
--- An application is its one step over applications at any depth that is great enough.
-pub apply-step : (depth depth′ : ℕ) (table : Table) (number : ℕ) (text : Bytes) (t : Tally) → t .left ≤ depth → t .left ≤ suc depth′ →
-    apply depth table number text t ≡ applied table (apply depth′ table) number text t (pay t)
-unfolding apply
-apply-step depth depth′ table number text t h h′ = apply-depth depth (suc depth′) table number text t h h′
 
 pub rewriting-spent : (table : Table) (start : ℕ) (text : Bytes) (allowance : ℕ) →
     let t : Tally = countedOf (apply allowance table start text (fresh allowance)) in

@@ -13,7 +13,7 @@ use Rattle.meaning.specs.Tree.{Letter, character, symbol, Element, lette
 use Rattle.meaning.specs.Rewriting.{Bindings, unbound, agreed, takeSymbol, holdsFor, hold, shortest, withSymbols, withPart, matchRest, match, partText}
 use Rattle.meaning.specs.Fits.{oneByte, standsFor, joined, filled, Fits}
 use Rattle.meaning.specs.Allowed.{member, added, symbolsFrom, symbolsOf, partsOf, parted, distinct, spelledElement, allowedPattern, allowedConditions}
-use Rattle.meaning.proofs.laws.Choosing.{not-both, is-false, either-second, some-none, both-true, guard-some, sameBytes-refl, sameBytes-true, lookup-append, lookup-one, namesIn, member-bound}
+use Rattle.meaning.proofs.laws.Choosing.{not-both, is-false, either-second, some-none, both-true, guard-some, same-itself, same-bytes, lookup-append, lookup-one, namesIn, names-append, member-bound, distinct-second}
 use Rattle.meaning.proofs.laws.Cuts.{Cut, Given, shortest-cut, shortest-given}
 
 nil-cons : {A : Type 0} {x : A} {xs : List A} → _≡_ {A = List A} [] (x ∷ xs) → ⊥
@@ -43,10 +43,6 @@ record Took (x : Name) (b : ℕ) (known later : List (Named ℕ)) : Type 0 where
   bound : lookup x later ≡ some b
   keeps : Extends known later
   names : namesIn later ≡ added x (namesIn known)
-
-names-append : {A : Type 0} (known : List (Named A)) (n : Named A) → namesIn (known ++ n ∷ []) ≡ namesIn known ++ n .name ∷ []
-names-append [] n = refl
-names-append (k ∷ known) n = ap (λ l. k .name ∷ l) (names-append known n)
 
 took : (x : Name) (b : ℕ) (known later : List (Named ℕ)) (o : Option ℕ) → lookup x known ≡ o → agreed o x b known ≡ some later → Took x b known later
 took x b known later none e h =
@@ -84,7 +80,7 @@ unfolding lookup member
 fresh-after x piece names known apart fresh y h = rw (lookup-append, fresh y (either-second (sameBytes y x) h), differs)
   where
     differs : sameBytes y x ≡ false
-    differs = is-false (sameBytes y x) (λ same. let e = sameBytes-true y x same in not-both h (rw e apart))
+    differs = is-false (sameBytes y x) (λ same. let e = same-bytes y x same in not-both h (rw e apart))
 
 -- one element more before what fits
 fits-step : (e : Element) (a : Bytes) (p : List Element) (cs : List Condition) (text : Bytes) (bound : Bindings) → standsFor bound e ≡ some a →
@@ -123,7 +119,7 @@ part-step x p cs text bound later fresh apart h after =
     let f = after (c .front) (c .back) (fresh-after x (c .front) (partsOf p) (bound .parts) apart fresh) (c .found) in
     record {
       cut = c;
-      taken = f .parts x (c .front) (append-fresh (bound .parts) x (c .front) (fresh x (rw (sameBytes-refl x))));
+      taken = f .parts x (c .front) (append-fresh (bound .parts) x (c .front) (fresh x (rw (same-itself x))));
       found = f;
     }
 
@@ -194,7 +190,7 @@ unfolding lookup
 takes-new x b known later h extends y v g = go (lookup y known) refl (rw lookup-append at g)
   where
     mine : (t : Bool) → sameBytes y x ≡ t → pick t (some b) none ≡ some v → lookup y later ≡ some v
-    mine true e m = let same = sameBytes-true y x e in cc
+    mine true e m = let same = same-bytes y x e in cc
     mine false e m = absurd (some-none m refl)
 
     go : (o : Option ℕ) → lookup y known ≡ o → orElse o (lookup y (record { name = x; value = b } ∷ [])) ≡ some v → lookup y later ≡ some v
@@ -358,11 +354,6 @@ match-shortest p cs text later fit x more d on e h f =
     rw same at (b .least x more e)
 
 -- AN ALLOWED SENTENCE
-
-distinct-second : (xs ys : List Name) → distinct (xs ++ ys) ≡ true → distinct ys ≡ true
-unfolding distinct
-distinct-second [] ys h = h
-distinct-second (x ∷ xs) ys h = distinct-second xs ys (both-true (not (member x (xs ++ ys))) (distinct (xs ++ ys)) h .1)
 
 -- what the laws above ask of a sentence, all of which 01 asks of an allowed one
 pub record Regular (p : List Element) (cs : List Condition) : Type 0 where

@@ -27,7 +27,7 @@ test-back (compare s r) f = compare-held _ s r
     (omega (arith, register-below s, register-below r)) (f .0) (f .1))
 test-back (predicate s k e) f =
     predicate-held _ s k e (word-holds 3 (siteRegister s + 4 * truthBit e) (siteOffset s) (classNumber k) (omega arith)
-    (omega (arith, register-below s, truth-below e)) f (class-below k))
+    (omega (arith, register-below s, truth-below e)) f (omega (arith, class-below k)))
 test-back unknownTest f = absurd f
 
 tests-back : {tests : List Test} → All FitsTest tests → (rest : Words) → unpackTests (length tests) (map testWord tests ++ rest) ≡ tests

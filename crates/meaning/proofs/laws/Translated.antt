@@ -99,7 +99,8 @@ unfolding valueFrom
 value-low from x [] = omega arith
 value-low from x (s ∷ ss) = pick-low (sameBytes x (s .name)) from (valueFrom (suc from) x ss) _ (omega arith) (omega (arith, value-low (suc from) x ss))
 
-number-low : (count : ℕ) (table : Table) (n : Name) → numberFrom count table n ≤ count + length table
+-- a name's number is no greater than the number of functions
+pub number-low : (count : ℕ) (table : Table) (n : Name) → numberFrom count table n ≤ count + length table
 unfolding numberFrom
 number-low count [] n = omega arith
 number-low count (f ∷ fs) n = pick-low (sameBytes n (f .name)) (suc count) (numberFrom (suc count) fs n) _ (omega arith) (omega (arith, number-low (suc count) fs n))

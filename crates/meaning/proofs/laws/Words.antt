@@ -2,7 +2,7 @@
 use mathlib.Core.Path.{_≡_, refl}
 use mathlib.Core.Bool.{Bool, true, false}
 use mathlib.Core.Option.{some}
-use Prim.Native.Nat.{ℕ, _+_, _*_, _/_, _%_, _^_, _<_}
+use Prim.Native.Nat.{ℕ, _+_, _*_, _/_, _%_, _<_}
 use native.Mathlib.Omega.{arith}
 use lib.Dec.{eqb}
 use Rattle.meaning.specs.Classes.{Class, digit, upper, lower, alphabetic, blank, classNumber}
@@ -21,9 +21,6 @@ pub record Holds (w n a b c : ℕ) : Type 0 where
 module _ (n a b c : ℕ) (hn : n < 256) (ha : a < 256) (hb : b < 256) (hc : c < 256) where
   pub word-holds : Holds (word n a b c) n a b c
   word-holds = omega arith
-
-  pub word-below : word n a b c < 2 ^ 32
-  word-below = omega arith
 
 -- REGISTERS, CLASSES AND TRUTH VALUES
 
@@ -56,7 +53,7 @@ class-back lower = refl
 class-back alphabetic = refl
 class-back blank = refl
 
-pub class-below : (k : Class) → classNumber k < 256
+pub class-below : (k : Class) → classNumber k < 5
 class-below digit = omega arith
 class-below upper = omega arith
 class-below lower = omega arith

@@ -1,6 +1,6 @@
 -- Reading a text gives a tree exactly when the grammar derives it and it is allowed.
 use Prim.Native.Nat.{ℕ, suc, _≤_}
-use mathlib.Core.Path.{_≡_, refl, ap}
+use mathlib.Core.Path.{_≡_, refl, sym, ap, _∙_}
 use mathlib.Core.Bool.{Bool, true, false}
 use mathlib.Core.List.{List, [], _∷_}
 use mathlib.Core.Option.{Option, none, some}
@@ -15,44 +15,38 @@ use Rattle.meaning.specs.Allowed.{isByte, allowed, allowedFunction, call
 use Rattle.meaning.specs.Tokens.{outside, Placed, tokens}
 use Rattle.meaning.specs.Grammar.{IsProgram}
 use Rattle.meaning.specs.Reading.{Parsed, stopped, parsed, functions, unknownCall, unknownInSentences, unknownIn, known, verdict, accepted, refused, read}
-use Rattle.meaning.proofs.reading.Basics.{both-left, both-right, both-true}
+use Rattle.meaning.proofs.reading.Basics.{both-left, both-right, both-true, impossible}
 use Rattle.meaning.proofs.reading.TokensSound.{tokens-sound}
 use Rattle.meaning.proofs.reading.Tables.{functions-sound, functions-complete}
 
--- CALLED NAMES
+-- CALLED NAMES: the test of a tree passes exactly where no unknown call is found
 
-neither : {A : Type 0} (o p : Option A) → orElse o p ≡ none → (o ≡ none) × (p ≡ none)
-neither none p e = (refl, e)
-neither (some a) p e = let z : _≡_ {A = ℕ} 0 1 = cc in absurd (omega arith)
+abbrev isNone : {A : Type 0} → Option A → Bool
+isNone none = true
+isNone (some a) = false
 
--- a call is known where no unknown one is found, for the test of its name and for what stands in it and after it
-call-known : (b : Bool) (place : ℕ) (o p : Option ℕ) → pick b (orElse o p) (some place) ≡ none → (b ≡ true) × (o ≡ none) × (p ≡ none)
-call-known true place o p e = let (x, y) = neither o p e in (refl, x, y)
-call-known false place o p e = let z : _≡_ {A = ℕ} 0 1 = cc in absurd (omega arith)
+none-found : {A : Type 0} (o : Option A) → isNone o ≡ true → o ≡ none
+none-found none e = refl
+none-found (some a) e = impossible e
 
-calls-known : (t : Table) (e : Expression) → unknownCall t e ≡ none → callsKnown t e ≡ true
+neither : {A : Type 0} (o p : Option A) → both (isNone o) (isNone p) ≡ isNone (orElse o p)
+neither none p = refl
+neither (some a) p = refl
+
+-- for the test of a call's name and for what stands in the call and after it
+call-known : (b : Bool) (place : ℕ) (o p : Option ℕ) → both b (both (isNone o) (isNone p)) ≡ isNone (pick b (orElse o p) (some place))
+call-known true place o p = neither o p
+call-known false place o p = refl
+
+calls-known : (t : Table) (e : Expression) → callsKnown t e ≡ isNone (unknownCall t e)
 unfolding unknownCall callsKnown
-calls-known t end n = refl
-calls-known t (thenCharacter c e) n = calls-known t e n
-calls-known t (thenSymbol x e) n = calls-known t e n
-calls-known t (thenPart x e) n = calls-known t e n
-calls-known t (thenCall place f a e) n =
-    let k = call-known (either (isEmission f) (ltb 0 (numberOf t f))) place (unknownCall t a) (unknownCall t e) n in
-    both-true (k .0) (both-true (calls-known t a (k .1)) (calls-known t e (k .2)))
-
-none-unknown : (t : Table) (e : Expression) → callsKnown t e ≡ true → unknownCall t e ≡ none
-unfolding unknownCall callsKnown
-none-unknown t end k = refl
-none-unknown t (thenCharacter c e) k = none-unknown t e k
-none-unknown t (thenSymbol x e) k = none-unknown t e k
-none-unknown t (thenPart x e) k = none-unknown t e k
-none-unknown t (thenCall place f a e) k =
-    let inside = both-right (either (isEmission f) (ltb 0 (numberOf t f))) (both (callsKnown t a) (callsKnown t e)) k in
-    rw (
-      both-left (either (isEmission f) (ltb 0 (numberOf t f))) _ k,
-      none-unknown t a (both-left (callsKnown t a) (callsKnown t e) inside),
-      none-unknown t e (both-right (callsKnown t a) (callsKnown t e) inside),
-    )
+calls-known t end = refl
+calls-known t (thenCharacter c e) = calls-known t e
+calls-known t (thenSymbol x e) = calls-known t e
+calls-known t (thenPart x e) = calls-known t e
+calls-known t (thenCall place f a e) =
+    rw (calls-known t a, calls-known t e)
+    (call-known (either (isEmission f) (ltb 0 (numberOf t f))) place (unknownCall t a) (unknownCall t e))
 
 abbrev sentencesKnown : Table → List Sentence → Bool
 sentencesKnown t ss = every (λ s. callsKnown t (s .expression)) ss
@@ -60,33 +54,17 @@ sentencesKnown t ss = every (λ s. callsKnown t (s .expression)) ss
 abbrev functionsKnown : Table → List Function → Bool
 functionsKnown t fs = every (λ f. sentencesKnown t (f .sentences)) fs
 
-sentences-known : (t : Table) (ss : List Sentence) → unknownInSentences t ss ≡ none → sentencesKnown t ss ≡ true
+sentences-known : (t : Table) (ss : List Sentence) → sentencesKnown t ss ≡ isNone (unknownInSentences t ss)
 unfolding unknownInSentences every
-sentences-known t [] n = refl
-sentences-known t (s ∷ ss) n =
-    let k = neither (unknownCall t (s .expression)) (unknownInSentences t ss) n in
-    both-true (calls-known t (s .expression) (k .0)) (sentences-known t ss (k .1))
+sentences-known t [] = refl
+sentences-known t (s ∷ ss) =
+    rw (calls-known t (s .expression), sentences-known t ss) (neither (unknownCall t (s .expression)) (unknownInSentences t ss))
 
-none-in-sentences : (t : Table) (ss : List Sentence) → sentencesKnown t ss ≡ true → unknownInSentences t ss ≡ none
-unfolding unknownInSentences every
-none-in-sentences t [] k = refl
-none-in-sentences t (s ∷ ss) k =
-    rw (none-unknown t (s .expression) (both-left (callsKnown t (s .expression)) (sentencesKnown t ss) k))
-    (none-in-sentences t ss (both-right (callsKnown t (s .expression)) (sentencesKnown t ss) k))
-
-functions-known : (t : Table) (fs : List Function) → unknownIn t fs ≡ none → functionsKnown t fs ≡ true
+functions-known : (t : Table) (fs : List Function) → functionsKnown t fs ≡ isNone (unknownIn t fs)
 unfolding unknownIn every
-functions-known t [] n = refl
-functions-known t (f ∷ fs) n =
-    let k = neither (unknownInSentences t (f .sentences)) (unknownIn t fs) n in
-    both-true (sentences-known t (f .sentences) (k .0)) (functions-known t fs (k .1))
-
-none-in-functions : (t : Table) (fs : List Function) → functionsKnown t fs ≡ true → unknownIn t fs ≡ none
-unfolding unknownIn every
-none-in-functions t [] k = refl
-none-in-functions t (f ∷ fs) k =
-    rw (none-in-sentences t (f .sentences) (both-left (sentencesKnown t (f .sentences)) (functionsKnown t fs) k))
-    (none-in-functions t fs (both-right (sentencesKnown t (f .sentences)) (functionsKnown t fs) k))
+functions-known t [] = refl
+functions-known t (f ∷ fs) =
+    rw (sentences-known t (f .sentences), functions-known t fs) (neither (unknownInSentences t (f .sentences)) (unknownIn t fs))
 
 -- THE TEXT
 
@@ -114,7 +92,7 @@ verdict-accepted (parsed t rest) u e =
 allowed-parts : (t : Table) → every allowedFunction t ≡ true → distinct (namesOf t) ≡ true → length t ≤ maxFunctions → sentencesIn t ≤ maxSentences
     → unknownIn t t ≡ none → allowed t ≡ true
 allowed-parts t a d l s n =
-    both-true a (both-true d (both-true (le-leb (length t) maxFunctions l) (both-true (le-leb (sentencesIn t) maxSentences s) (functions-known t t n))))
+    both-true a (both-true d (both-true (le-leb (length t) maxFunctions l) (both-true (le-leb (sentencesIn t) maxSentences s) (functions-known t t ∙ ap isNone n))))
 
 -- the tree that reading finds is derived and allowed
 functions-allow : (text : Bytes) (t : Table) (rest : List Placed) → every isByte text ≡ true → length text ≤ maxTable
@@ -153,5 +131,5 @@ allows-accepted text t a =
           (both-left (distinct (namesOf t)) _ a₁)
           (leb-true (length t) maxFunctions (both-left (leb (length t) maxFunctions) _ a₂))
           (leb-true (sentencesIn t) maxSentences (both-left (leb (sentencesIn t) maxSentences) (functionsKnown t t) a₃)),
-      none-in-functions t t (both-right (leb (sentencesIn t) maxSentences) (functionsKnown t t) a₃),
+      none-found (unknownIn t t) (sym (functions-known t t) ∙ both-right (leb (sentencesIn t) maxSentences) (functionsKnown t t) a₃),
     )

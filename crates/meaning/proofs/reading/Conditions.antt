@@ -17,7 +17,8 @@ use Rattle.meaning.specs.Tokens.{Token, functionName, word, quoted, sign
 use Rattle.meaning.specs.Grammar.{standing, symbolWord, truthByte, truthString, IsCondition, isCondition, IsConditions, noConditions, conditionThen}
 use Rattle.meaning.specs.Reading.{Parsed, stopped, parsed, follow, isSign, passSymbol, symbolFault, passTruth, truthOn, truthOf, truthIn, withClass, condition, atComma, conditions, pass, passName, lengthFault}
 use Rattle.meaning.proofs.reading.Basics.{both-left, both-right, both-true, impossible, no-value, never-both, check-zero, check-later, passed, passed-on, Followed, follow-parsed, Passed, pass-parsed, NamePassed, name-parsed, TokenView, aString, aSymbol, aPart, another, view, sign-of, standing-as}
-use Rattle.meaning.proofs.reading.Lists.{same-bytes, member-every}
+use Rattle.meaning.proofs.laws.Choosing.{same-bytes}
+use Rattle.meaning.proofs.reading.Lists.{member-every}
 use Rattle.meaning.proofs.reading.Sound.{soundTokens, sound-rest, spelled-identifier-short}
 
 pub record SymbolPassed (A : Type 0) (symbols : List Name) (ts : List Placed) (next : Name → List Placed → Parsed A) (v : A) (rest : List Placed) : Type 0 where

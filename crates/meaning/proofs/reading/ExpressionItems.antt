@@ -15,7 +15,8 @@ use Rattle.meaning.specs.Allowed.{isByte, member, itemsIn, nesting, spel
 use Rattle.meaning.specs.Grammar.{written}
 use Rattle.meaning.specs.Reading.{Item, characters, symbolItem, partItem, noItem, isItem, Progress, itemCount, comingPast, comingOr, pastItem, itemFault, thenItem}
 use Rattle.meaning.proofs.reading.Basics.{both-left, both-right, both-true, impossible, passed, passed-on}
-use Rattle.meaning.proofs.reading.Lists.{both-assoc, same-bytes, member-every}
+use Rattle.meaning.proofs.laws.Choosing.{same-bytes}
+use Rattle.meaning.proofs.reading.Lists.{both-assoc, member-every}
 use Rattle.meaning.proofs.reading.Sound.{soundItem, spelled-identifier-short}
 
 -- an expression with so many calls round it leads from one progress to another within the limits
@@ -33,7 +34,7 @@ unfolding written itemsIn
 written-items [] e = sym (zero-add (itemsIn e))
 written-items (c ∷ text) e = rw (written-items text e) (sym (suc-add (length text) (itemsIn e)))
 
-written-nesting : (text : Bytes) (e : Expression) → nesting (written text e) ≡ nesting e
+pub written-nesting : (text : Bytes) (e : Expression) → nesting (written text e) ≡ nesting e
 unfolding written nesting
 written-nesting [] e = refl
 written-nesting (c ∷ text) e = written-nesting text e

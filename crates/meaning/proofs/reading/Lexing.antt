@@ -1,6 +1,6 @@
 -- Laws of lexing: places go forward, every token but the last eats a byte, so the tokens of a text come to an end and their bound never shows.
 use Prim.Native.Nat.{ℕ, zero, suc, _≤_, _<_}
-use mathlib.Core.Path.{_≡_, refl, sym, ap, _∙_}
+use mathlib.Core.Path.{_≡_, refl, sym, ap}
 use mathlib.Core.Bool.{Bool, true, false}
 use mathlib.Core.List.{List, [], _∷_, _++_}
 use mathlib.Core.Option.{Option, none, some}
@@ -167,11 +167,3 @@ tokens-bound (suc b) (suc c) mode at bytes l m =
     (λ e.
     let s = lex-eats mode at bytes .eaten e in
     tokens-bound b c (modeAfter mode (x .first .token)) (x .first .past) (x .rest) (omega arith) (omega arith))
-
--- one token after another, at any bound above the number of bytes
-pub tokens-next : (b : ℕ) (mode : Mode) (at : ℕ) (bytes : Bytes) → length bytes < b
-    → tokensFrom b mode at bytes
-    ≡ lex mode at bytes .first
-    ∷ pick (isLast (lex mode at bytes .first .token)) []
-    (tokensFrom b (modeAfter mode (lex mode at bytes .first .token)) (lex mode at bytes .first .past) (lex mode at bytes .rest))
-tokens-next b mode at bytes l = tokens-bound b (suc b) mode at bytes l (omega arith) ∙ unfold tokensFrom in refl

@@ -2,10 +2,10 @@
 use mathlib.Core.Path.{_≡_, refl, sym, ap, _∙_, subst}
 use mathlib.Core.Bool.{Bool, true, false, not}
 use mathlib.Core.List.{List, [], _∷_, _++_}
-use borrow.Author.Tests.{eqb-true, eq-eqb, not-true}
-use lib.Dec.{eqb}
+use borrow.Author.Tests.{not-true}
 use Rattle.meaning.specs.Choice.{Bytes, Name, both, either, every, sameBytes}
 use Rattle.meaning.specs.Allowed.{member, distinct}
+use Rattle.meaning.proofs.laws.Choosing.{same-bytes, same-itself}
 use Rattle.meaning.proofs.reading.Basics.{both-left, both-right, both-true, impossible}
 
 pub both-assoc : (a b c : Bool) → both (both a b) c ≡ both a (both b c)
@@ -18,21 +18,6 @@ every-append f [] ys = refl
 every-append f (x ∷ xs) ys = rw (every-append f xs ys) (sym (both-assoc (f x) (every f xs) (every f ys)))
 
 -- EQUAL BYTES
-
-pub same-bytes : (x y : Bytes) → sameBytes x y ≡ true → x ≡ y
-unfolding sameBytes
-same-bytes [] [] e = refl
-same-bytes [] (c ∷ y) e = impossible e
-same-bytes (b ∷ x) [] e = impossible e
-same-bytes (b ∷ x) (c ∷ y) e =
-    let head : b ≡ c = eqb-true b c (both-left (eqb b c) (sameBytes x y) e) in
-    let tail : x ≡ y = same-bytes x y (both-right (eqb b c) (sameBytes x y) e) in
-    cc
-
-pub same-itself : (x : Bytes) → sameBytes x x ≡ true
-unfolding sameBytes
-same-itself [] = refl
-same-itself (b ∷ x) = both-true (eq-eqb b b refl) (same-itself x)
 
 -- two tests agree where each leads to the other
 pub agree : (a b : Bool) → (a ≡ true → b ≡ true) → (b ≡ true → a ≡ true) → a ≡ b

@@ -12,6 +12,7 @@ use Rattle.meaning.specs.Grammar.{standing, symbolWord, partWord, charac
 use Rattle.meaning.specs.Listing.{Quoted, unquoted, closeQuote, quotedCharacter, afterCharacter, symbolText, partText, patternText, expressionText}
 use Rattle.meaning.proofs.reading.Basics.{both-left, both-right, both-true}
 use Rattle.meaning.proofs.reading.PatternFacts.{pattern-facts}
+use Rattle.meaning.proofs.reading.ExpressionItems.{written-nesting}
 use Rattle.meaning.proofs.reading.Patterns.{IsItems, noMore, itemThen, items-pattern}
 use Rattle.meaning.proofs.roundtrip.Remaining.{remaining}
 use Rattle.meaning.proofs.roundtrip.Words.{Parted}
@@ -67,11 +68,6 @@ unfolding elementsIn written
 elements-written [] e = refl
 elements-written (c ∷ text) e = ap (λ z. letter (character c) ∷ z) (elements-written text e)
 
-nesting-written : (text : Bytes) (e : Expression) → nesting (written text e) ≡ nesting e
-unfolding nesting written
-nesting-written [] e = refl
-nesting-written (c ∷ text) e = nesting-written text e
-
 elements-back : (es : List Element) → elementsIn (asExpression es) ≡ es
 unfolding elementsIn asExpression
 elements-back [] = refl
@@ -92,7 +88,7 @@ unfolding elementsIn nesting
 expression-items noItems none = noMore
 expression-items (stringThen {place = place} {past = past} {text = text} {e = e} d) none =
     rw (elements-written text e)
-    (itemThen {t = standing (quoted text) place past} refl (expression-items d (sym (nesting-written text e) ∙ none)))
+    (itemThen {t = standing (quoted text) place past} refl (expression-items d (sym (written-nesting text e) ∙ none)))
 expression-items (symbolThen {place = place} {past = past} {b = b} {x = x} d) none =
     itemThen {t = standing (symbolWord b x) place past} refl (expression-items d none)
 expression-items (partThen {place = place} {past = past} {b = b} {x = x} d) none =
