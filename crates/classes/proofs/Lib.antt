@@ -1,3 +1,2 @@
--- The laws of the class table and of class numbers.
+-- The laws of the class table.
 pub mod Table
-pub mod Numbers

@@ -3,7 +3,7 @@ use Prim.Native.Nat.{ℕ, _+_, _≤_}
 use mathlib.Core.Path.{_≡_}
 use mathlib.Core.Option.{Option, none, some}
 use lib.Dec.{leb}
-use lib.ListN.{length, drop}
+use lib.ListN.{drop}
 use Rattle.meaning.specs.Choice.{Bytes, pick}
 use Rattle.meaning.specs.Instructions.{Site, Metric}
 use Rattle.meaning.specs.Matching.{cellAt, passed, failed, wrong, foundAt, foundNone, foundWrong, chosen, chosenNone, chosenWrong, place, placesOf, firstPlace}

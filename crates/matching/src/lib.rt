@@ -1,7 +1,7 @@
 // Choosing a function's sentence for a field, read-only: the sentence and where its middle template lies.
-ghost use Prim.Native.Nat.{ℕ, suc, _+_, _-_, _≤_, _<_, _%_, _/_, _^_};
+ghost use Prim.Native.Nat.{suc, _+_, _-_, _≤_, _<_, _%_, _/_, _^_};
 ghost use mathlib.Core.Path.{_≡_};
-ghost use lib.Dec.{leb, eqb};
+ghost use lib.Dec.{eqb};
 ghost use lib.ListN.{length, drop};
 ghost use Rattle.meaning.specs.Choice.{nth, pick};
 ghost use Rattle.meaning.specs.Instructions.{fromEnd};

@@ -1,5 +1,4 @@
 -- `classes::class_table` meets its contract: the table's rule is one test over all of its entries, which antt computes.
-use borrow.Author.Needs.{needs}
 use mathlib.Core.Path.{refl}
 use Rattle.classes.specs.Tests.{bitOf}
 use Rattle.classes.proofs.Table.{answering}

@@ -1,5 +1,4 @@
 -- `classes::is_blank` meets its contract.
-use borrow.Author.Needs.{needs}
 use borrow.Author.Tests.{eq-eqb, ne-eqb}
 use Rattle.classes.proofs.is_blank.Statement.{statement}
 use Rattle.classes.proofs.is_blank.Tie as tie

@@ -1,7 +1,6 @@
 -- `check_all` meets its contract. The loop's invariant: the tests from here on say what those from the first on say.
 use borrow.Author.Needs.{needs}
 use native.Mathlib.Omega.{arith}
-use Prim.Native.Nat.{_≤_}
 use mathlib.Core.Path.{_≡_, refl}
 use Rattle.matching.proofs.laws.Testing.{testing, no-tests, tests-run-out, next-test}
 use Rattle.matching.proofs.check_all.Statement.{statement}

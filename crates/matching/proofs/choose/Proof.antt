@@ -2,7 +2,7 @@
 use borrow.Author.Needs.{needs}
 use native.Mathlib.Omega.{arith}
 use Prim.Native.Nat.{_+_, _-_, _≤_}
-use mathlib.Core.Path.{_≡_, refl, sym, _∙_}
+use mathlib.Core.Path.{_≡_, refl}
 use lib.ListN.{length, getD, drop}
 use Rattle.meaning.specs.Packing.{metricIn}
 use Rattle.matching.proofs.laws.Sentences.{choosing, choosing-past, choosing-end, choosing-cut, choosing-next, tried-few}

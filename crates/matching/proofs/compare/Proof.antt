@@ -1,6 +1,6 @@
 -- `compare` meets its contract.
 use borrow.Author.Needs.{needs}
-use mathlib.Core.Path.{sym, _∙_}
+use mathlib.Core.Path.{sym}
 use Prim.Native.Nat.{_/_, _%_}
 use Rattle.meaning.specs.Packing.{siteOf, firstIn, secondIn, thirdIn}
 use Rattle.matching.proofs.laws.Fields.{compare-asks}

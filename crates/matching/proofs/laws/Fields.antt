@@ -1,21 +1,19 @@
 -- The cells of a field and the tests on them, as matching asks for them.
-use Prim.Native.Nat.{ℕ, zero, suc, _+_, _-_, _≤_, _<_}
+use Prim.Native.Nat.{ℕ, zero, suc, _≤_, _<_}
 use native.Mathlib.Omega.{arith}
-use mathlib.Core.Path.{_≡_, refl, sym, _∙_}
-use mathlib.Core.Bool.{Bool, true, false}
+use mathlib.Core.Path.{_≡_, refl}
+use mathlib.Core.Bool.{Bool}
 use mathlib.Core.Option.{Option, none, some}
-use lib.Dec.{leb, eqb}
-use lib.ListN.{length, getD}
-use borrow.Author.Tests.{le-leb, lt-leb, ne-eqb}
-use Rattle.meaning.specs.Choice.{Bytes, pick, guard, nth}
+use lib.Dec.{eqb}
+use borrow.Author.Tests.{ne-eqb}
+use Rattle.meaning.specs.Choice.{Bytes}
 use Rattle.meaning.specs.Classes.{Class, digit, upper, lower, alphabetic, blank, inClass}
 use Rattle.meaning.specs.Rewriting.{sameTruth}
-use Rattle.meaning.specs.Instructions.{Site, fromEnd, unknownTest}
-use Rattle.meaning.specs.Matching.{Checked, checked, asked, wrong, check, cellAt}
+use Rattle.meaning.specs.Instructions.{Site, unknownTest}
+use Rattle.meaning.specs.Matching.{checked, asked, wrong, check}
 use Rattle.meaning.specs.Packing.{numberIn, classOf, siteOf, lookOf, compareOf, predicateFor, testOf, metricIn}
 use Rattle.classes.specs.Tests.{classTest}
 use Rattle.matching.specs.Matched.{siteCell}
-use Rattle.matching.proofs.laws.Lists.{nth-in}
 
 -- a test asks for the cell at its site
 pub look-asks : (o : Option Site) (c : ℕ) (field : Bytes) (place : ℕ) (a : Option ℕ) → a ≡ siteCell o field place →
@@ -59,13 +57,6 @@ class-known (suc (suc zero)) h = record { class = lower; numbered = refl; asks =
 class-known (suc (suc (suc zero))) h = record { class = alphabetic; numbered = refl; asks = λ b. refl }
 class-known (suc (suc (suc (suc zero)))) h = record { class = blank; numbered = refl; asks = λ b. refl }
 class-known (suc (suc (suc (suc (suc n))))) h = absurd (omega arith)
-
--- the cell counted back from the end
-pub from-end : (field : Bytes) (k : ℕ) → k ≤ length field → cellAt (fromEnd k) field 0 ≡ nth (length field - k) field
-from-end field k h = rw (le-leb k (length field) h)
-
-pub before-start : (field : Bytes) (k : ℕ) → length field < k → cellAt (fromEnd k) field 0 ≡ none
-before-start field k h = rw (lt-leb k (length field) h)
 
 -- the three registers have the numbers 0 to 2
 pub site-unknown : (register k : ℕ) → (register ≡ 0 → ⊥) → (register ≡ 1 → ⊥) → (register ≡ 2 → ⊥) → siteOf register k ≡ none

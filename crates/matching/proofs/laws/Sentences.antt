@@ -3,18 +3,18 @@ use Prim.Native.Nat.{ℕ, zero, suc, _+_, _-_, _≤_, _<_}
 use native.Mathlib.Nat.{add-assoc}
 use native.Mathlib.Numerals.{add-one}
 use native.Mathlib.Omega.{arith}
-use mathlib.Core.Path.{_≡_, refl, sym, ap, _∙_}
+use mathlib.Core.Path.{_≡_, refl, _∙_}
 use mathlib.Core.Bool.{Bool, true, false}
 use mathlib.Core.List.{List, [], _∷_}
 use mathlib.Core.Option.{Option, none, some}
 use lib.Dec.{leb, eqb}
 use lib.ListN.{length, getD, drop}
 use lib.Seq.{drop-drop}
-use borrow.Author.Tests.{le-leb, lt-leb, leb-true, eq-eqb, ne-eqb}
+use borrow.Author.Tests.{le-leb, lt-leb, leb-true, ne-eqb}
 use Rattle.meaning.specs.Choice.{Bytes, pick}
 use Rattle.meaning.specs.Instructions.{Metric, exactly, ends, middle, Sentences, sentence, unknownSentence, Test, Store, Action}
-use Rattle.meaning.specs.Matching.{Found, foundAt, foundNone, foundWrong, checkAll, search, Choice, chosenNone, chosenWrong, choiceOf, chooseFrom, place, placesOf, firstPlace}
-use Rattle.meaning.specs.Packing.{Words, numberIn, firstIn, testsIn, storesIn, bodyIn, maxStored, metricIn, sentencesEnd, unpackTests, unpackStores, unpackActions, unpackSentences, headed, sentenceOf, skipOver}
+use Rattle.meaning.specs.Matching.{Found, foundAt, foundWrong, checkAll, search, Choice, chosenNone, chosenWrong, choiceOf, chooseFrom, place, placesOf, firstPlace}
+use Rattle.meaning.specs.Packing.{Words, numberIn, firstIn, testsIn, storesIn, bodyIn, maxStored, metricIn, sentencesEnd, unpackTests, unpackStores, unpackActions, unpackSentences, sentenceOf}
 use Rattle.matching.specs.declared.Places.the-variants.{From, Unknown}
 use Rattle.matching.specs.Matched.{placesFor, tried}
 use Rattle.matching.proofs.laws.Lists.{at-place, past-end}

@@ -1,13 +1,11 @@
 -- A sentence's tests and the search for its middle template's place, read off the code words.
-use Prim.Native.Nat.{ℕ, zero, suc, pred, _+_, _-_, _≤_, _<_}
+use Prim.Native.Nat.{ℕ, zero, suc, _+_, _-_, _≤_, _<_}
 use native.Mathlib.Nat.{not-suc-le-zero}
 use native.Mathlib.Numerals.{add-one, sub-one}
-use native.Mathlib.Omega.{arith}
-use mathlib.Core.Path.{_≡_, refl, sym, _∙_}
-use mathlib.Core.List.{List, [], _∷_}
+use mathlib.Core.Path.{_≡_, refl}
 use lib.ListN.{length, getD, drop}
 use Rattle.meaning.specs.Choice.{Bytes}
-use Rattle.meaning.specs.Matching.{Checked, passed, wrong, wherePassed, check, checkAll, Found, foundNone, settled, search}
+use Rattle.meaning.specs.Matching.{Checked, passed, wrong, wherePassed, check, checkAll, foundNone, settled, search}
 use Rattle.meaning.specs.Packing.{Words, testOf, unpackTests}
 use Rattle.matching.proofs.laws.Lists.{at-place, past-end}
 

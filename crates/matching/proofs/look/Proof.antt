@@ -1,7 +1,7 @@
 -- `look` meets its contract.
 use borrow.Author.Needs.{needs}
 use mathlib.Core.Path.{sym, _∙_}
-use Rattle.meaning.specs.Packing.{siteOf, firstIn, secondIn, thirdIn}
+use Rattle.meaning.specs.Packing.{siteOf, firstIn, secondIn}
 use Rattle.matching.proofs.laws.Fields.{look-asks}
 use Rattle.matching.proofs.look.Statement.{statement}
 use Rattle.matching.proofs.look.Tie as tie

@@ -1,12 +1,9 @@
 -- `predicate` meets its contract: the class table answers each test.
 use borrow.Author.Needs.{needs}
-use native.Mathlib.Omega.{arith}
-use mathlib.Core.Path.{_≡_, sym, _∙_}
-use mathlib.Core.Bool.{Bool, true, false, not}
-use Prim.Native.Nat.{ℕ, _/_, _%_, _≤_, _<_}
+use mathlib.Core.Path.{sym}
+use mathlib.Core.Bool.{true, false}
+use Prim.Native.Nat.{_%_}
 use borrow.Author.Tests.{eq-eqb, ne-eqb}
-use Rattle.meaning.specs.Matching.{checked}
-use Rattle.meaning.specs.Rewriting.{sameTruth}
 use Rattle.meaning.specs.Packing.{siteOf, firstIn, secondIn, thirdIn}
 use Rattle.matching.proofs.laws.Fields.{class-unknown, predicate-unknown, predicate-none, predicate-told}
 use Rattle.matching.proofs.predicate.Statement.{statement}

@@ -1,7 +1,7 @@
 -- `try_sentence` meets its contract.
 use borrow.Author.Needs.{needs}
 use native.Mathlib.Omega.{arith}
-use mathlib.Core.Path.{_≡_, sym, _∙_}
+use mathlib.Core.Path.{sym}
 use Rattle.meaning.specs.Packing.{metricIn}
 use Rattle.matching.proofs.laws.Sentences.{places-few, tried-unknown, tried-many, tried-places}
 use Rattle.matching.proofs.try_sentence.Statement.{statement}
