@@ -1,34 +1,30 @@
 -- The pattern's reader: a string, an s-variable and an e-variable taken into the pattern.
-use Prim.Native.Nat.{ℕ, zero, suc, _+_, _-_, _*_, _≤_, _<_}
-use mathlib.Core.Path.{_≡_, refl, sym, _∙_, ap}
-use mathlib.Core.Bool.{Bool, true, false, not}
-use mathlib.Core.List.{List, [], _∷_, _++_}
-use native.Mathlib.Numerals.{add-one}
+use Prim.Native.Nat.{ℕ, _+_, _-_, _*_, _≤_, _<_}
+use mathlib.Core.Path.{_≡_, refl, sym, _∙_}
+use mathlib.Core.Bool.{Bool, true, false}
+use mathlib.Core.List.{List, _∷_}
 use native.Mathlib.Omega.{arith}
-use lib.Dec.{T, leb, ltb, eqb, lt→ltb, leb→le, ltb→lt}
+use lib.Dec.{T, leb, ltb, eqb}
 use lib.ListN.{length, set, length-set}
-use lib.Seq.{length-slice}
 use borrow.Author.Tests.{lt-leb, le-leb, leb-true, ltb-true, ltb-false}
 use Rattle.meaning.specs.Choice.{Bytes, Name, pick, both, every}
-use Rattle.meaning.specs.Tree.{Element, letter, symbol, part}
 use Rattle.meaning.specs.Allowed.{added, member}
-use Rattle.meaning.specs.Tape.{named, symbolKind, partKind, patternTape}
-use Rattle.meaning.specs.Reading.{Item, characters, symbolItem, partItem, elementsOf, patternFault}
-use Rattle.meaning.proofs.laws.Passing.{both-left, both-right, both-pass}
+use Rattle.meaning.specs.Reading.{characters, symbolItem, partItem}
+use Rattle.meaning.proofs.reading.Basics.{both-left, both-right}
 use Rattle.lexing.specs.View as View
-use Rattle.lexing.specs.View.{IsClosed, charactersIn, quotationAt}
+use Rattle.lexing.specs.View.{charactersIn, quotationAt}
 use Rattle.lexing.specs.declared.Span.{Span}
 use Rattle.parsing.specs.declared.Answer.{Answer}
 use Rattle.parsing.specs.declared.Answer.the-variants.{OverLimit}
 use Rattle.parsing.specs.declared.patterns.Counts.{Counts}
-use Rattle.parsing.specs.Tables.{Inside, nameIn, tableNames, Entries, position}
+use Rattle.parsing.specs.Tables.{position}
 use Rattle.parsing.specs.Answered.{numberOf}
-use Rattle.parsing.specs.Written.{written, Wrote, stringFrom, isQuiet, Ready, Went}
-use Rattle.parsing.specs.Patterns.{Variables, symbolNames, partNames, Identifier, StringAt, Held, Seen, patternSymbolFault, patternPartFault, TakenIn, WrongIn}
+use Rattle.parsing.specs.Written.{Wrote, stringFrom, isQuiet}
+use Rattle.parsing.specs.Patterns.{Variables, symbolNames, partNames, Identifier, StringAt, Held, patternSymbolFault, patternPartFault, TakenIn, WrongIn}
 use Rattle.parsing.proofs.Finding.{position-member}
-use Rattle.parsing.proofs.Choosing.{holds, no-fault}
-use Rattle.parsing.proofs.Faults.{position-low, added-room}
-use Rattle.parsing.proofs.Tabling.{Kept, Grown, kept-above, kept-below, grown, entry-name, entry-inside, every-one}
+use Rattle.parsing.proofs.Choosing.{no-fault}
+use Rattle.parsing.proofs.Faults.{within, position-low, added-room}
+use Rattle.parsing.proofs.Tabling.{kept-above, kept-below, grown, entry-name, entry-inside}
 use Rattle.parsing.proofs.Elements.{letters-string, letters-symbol, letters-part, symbols-string, symbols-symbol, symbols-part, parts-string, parts-symbol, parts-part, ends-string, ends-symbol, ends-part, tape-string, tape-symbol, tape-part}
 use Rattle.parsing.proofs.Itemed.{string-went, string-quiet, identifier-length, variable-went, variable-quiet}
 use Rattle.parsing.proofs.Patterning.{identifier-inside, symbol-count, part-count}
@@ -143,15 +139,15 @@ module _ {text : Bytes} {table : List ℕ} {p : Counts} {x : Span} (h : Held tex
         let a = leb (length name) 8 in
         let b = leb (p .letters + 1) 64 in
         let c = leb (length (added name (symbolNames text table (p .symbols)))) 16 in
-        let t : T (both a (both b c)) = holds (no-fault (both a (both b c)) 3 _ f .0) in
-        let u : T (both b c) = both-right a (both b c) t in
+        let t = no-fault (both a (both b c)) 3 _ f .0 in
+        let u = both-right a (both b c) t in
         let e : c ≡ ltb known 16 =
         added-room name (symbolNames text table (p .symbols)) 16 (rw (symbol-count (h .variables)) (h .variables .fewSymbols)) ∙ rw (← known-place)
         in
         record {
-          short = rw (identifier-length (h .ready) i) at (leb→le (length name) 8 (both-left a (both b c) t));
-          few = leb→le (p .letters + 1) 64 (both-left b c u);
-          room = ltb→lt known 16 (rw e at (both-right b c u));
+          short = rw (identifier-length (h .ready) i) at (leb-true (length name) 8 (both-left a (both b c) t));
+          few = leb-true (p .letters + 1) 64 (both-left b c u);
+          room = ltb-true known 16 (sym e ∙ both-right b c u);
         }
 
     pub symbol-taken : fault ≡ 0 → (word : ℕ) (tape tape′ table′ : List ℕ) (words symbols′ : ℕ)
@@ -197,13 +193,10 @@ module _ {text : Bytes} {table : List ℕ} {p : Counts} {x : Span} (h : Held tex
   pub part-few : partFault ≡ 0 → p .parts < 2
   part-few f =
       rw (part-count (h .variables)) at
-      (ltb→lt (length (partNames text table (p .parts))) 2 (holds (no-fault (ltb (length (partNames text table (p .parts))) 2) 2 _ f .0)))
+      (ltb-true (length (partNames text table (p .parts))) 2 (no-fault (ltb (length (partNames text table (p .parts))) 2) 2 _ f .0))
 
   part-short : partFault ≡ 0 → x .past - x .from ≤ 8
-  part-short f =
-      rw (identifier-length (h .ready) i) at
-      (leb→le (length name) 8
-      (holds (no-fault (leb (length name) 8) 3 _ (no-fault (ltb (length (partNames text table (p .parts))) 2) 2 _ f .1) .0)))
+  part-short f = within text x (identifier-inside i) 8 3 _ (no-fault (ltb (length (partNames text table (p .parts))) 2) 2 _ f .1)
 
   pub part-taken : partFault ≡ 0 → (word : ℕ) (tape tape′ : List ℕ) (words : ℕ)
       → word ≡ 512 + (x .past - x .from)

@@ -6,16 +6,16 @@ use mathlib.Core.List.{List, [], _∷_, _++_, append-nil, append-assoc}
 use mathlib.Core.Logic.{_⊎_, inl, inr, ⊎-elim}
 use mathlib.Core.Option.{Option, none, some}
 use native.Mathlib.Omega.{arith}
-use lib.Dec.{T, leb, ltb, eqb, lt→ltb, leb→le}
+use lib.Dec.{T, eqb, lt→ltb}
 use lib.ListN.{length, getD}
 use lib.Seq.{length-slice}
 use types.Run.{OneOf, miss}
 use denote.Enum.Declared.{tagOf}
-use borrow.Author.Tests.{lt-ltb, le-ltb, lt-leb, le-leb, eq-eqb, ne-eqb}
+use borrow.Author.Tests.{lt-ltb, le-ltb, eq-eqb, ne-eqb}
 use Rattle.meaning.specs.Choice.{Bytes, Name, pick, both, every, sameBytes}
 use Rattle.meaning.specs.Classes.{Class, digit, upper, lower, alphabetic, blank, classNumber}
 use Rattle.meaning.specs.Tree.{Condition}
-use Rattle.meaning.specs.Answers.{overLimit, wrongName, wrongLaterVariable}
+use Rattle.meaning.specs.Answers.{overLimit, wrongLaterVariable}
 use Rattle.meaning.specs.Names.{predicateOf}
 use Rattle.meaning.specs.Tape.{truthNumber, conditionTape, conditionsTape}
 use Rattle.meaning.specs.Tokens as Tokens
@@ -26,7 +26,7 @@ use Rattle.meaning.proofs.laws.Passing.{both-pass}
 use Rattle.lexing.proofs.Token as token
 use Rattle.lexing.proofs.Shortest.{three-bytes}
 use Rattle.lexing.specs.View as View
-use Rattle.lexing.specs.View.{charactersIn, quotationAt, tokenOf, placedOf, Sound, stream, Comes}
+use Rattle.lexing.specs.View.{tokenOf, placedOf, Sound, stream, Comes}
 use Rattle.lexing.specs.declared.Span.{Span}
 use Rattle.lexing.specs.declared.Token.{Token}
 use Rattle.lexing.specs.declared.Token.the-variants.{Name as NameToken, Symbol, Part, Word, Quoted, Sign, End, Malformed}
@@ -43,9 +43,10 @@ use Rattle.parsing.specs.Written.{Wrote, isQuiet, Ready, Went}
 use Rattle.parsing.specs.Tokened.{tokenFault, signIs, Taken, Barred}
 use Rattle.parsing.specs.Patterns.{symbolNames, itemAt}
 use Rattle.parsing.specs.Conditions.{conditionEnd, conditionOn, truthAt, TruthIs, Standing, Before, ConditionRead, ConditionsRead}
-use Rattle.parsing.proofs.Choosing.{holds, none≢some, no-fault}
+use Rattle.meaning.proofs.reading.Basics.{no-value}
 use Rattle.parsing.proofs.Finding.{among}
-use Rattle.parsing.proofs.Faults.{too-long, not-too-long, later-fault-is}
+use Rattle.parsing.proofs.Faults.{too-long, short-enough, within, later-fault-is}
+use Rattle.parsing.proofs.Patterning.{identifier-inside}
 use Rattle.parsing.proofs.Going.{check-wrong, stops, reads, has-stopped, has-read, follow-alone, makes, behind, behind-more, went-none, went-from, went-on, went-then}
 use Rattle.parsing.proofs.Items.{symbol-at, symbol-past, item-symbol, item-then}
 use Rattle.parsing.proofs.Tabling.{every-append}
@@ -58,17 +59,17 @@ module _ {text : Bytes} {table : List ℕ} {symbols : ℕ} {x : Span} (p : Insid
   Later number = number ≡ symbolFault (symbolNames text table symbols) (View.part text x)
 
   pub later-long : 8 < x .past - x .from → Later overLimit
-  later-long l = later-fault-is (symbolNames text table symbols) (View.part text x) (too-long text x p l) refl
+  later-long l = later-fault-is (symbolNames text table symbols) (View.part text x) (too-long text x p 8 l) refl
 
   module _ (l : x .past - x .from ≤ 8) (r : ℕ) (f : r ≡ 0 + position (View.part text x) (symbolNames text table symbols)) where
     pub later-known : r < symbols → Later 0
     later-known h =
-        later-fault-is (symbolNames text table symbols) (View.part text x) (not-too-long text x p l)
+        later-fault-is (symbolNames text table symbols) (View.part text x) (short-enough text x p 8 l)
         (among text table 0 symbols e (View.part text x) r f (lt-ltb r symbols h))
 
     pub later-unknown : symbols ≤ r → Later wrongLaterVariable
     later-unknown h =
-        later-fault-is (symbolNames text table symbols) (View.part text x) (not-too-long text x p l)
+        later-fault-is (symbolNames text table symbols) (View.part text x) (short-enough text x p 8 l)
         (among text table 0 symbols e (View.part text x) r f (le-ltb r symbols h))
 
 -- THE CLOSING STRING
@@ -164,14 +165,14 @@ withTruth c x truth rest = parsed (record { predicate = c; variable = x; expecte
 goes-on : (text : Bytes) (k′ : Token) (place past : ℕ) {truth : Bool} (is : Bool) → Reading.truthOf (tokenOf text k′ place past) is ≡ some truth
     → pick (Tokens.isLast (tokenOf text k′ place past)) [] (stream text (Tokens.modeAfter Tokens.inside (tokenOf text k′ place past)) past)
     ≡ stream text Tokens.inside past
-goes-on text (NameToken n) place past is e = absurd (none≢some e)
-goes-on text (Symbol y) place past is e = absurd (none≢some e)
-goes-on text (Part y) place past is e = absurd (none≢some e)
-goes-on text Word place past is e = absurd (none≢some e)
+goes-on text (NameToken n) place past is e = no-value e
+goes-on text (Symbol y) place past is e = no-value e
+goes-on text (Part y) place past is e = no-value e
+goes-on text Word place past is e = no-value e
 goes-on text (Quoted n) place past is e = refl
-goes-on text (Sign s) place past is e = absurd (none≢some e)
-goes-on text End place past is e = absurd (none≢some e)
-goes-on text Malformed place past is e = absurd (none≢some e)
+goes-on text (Sign s) place past is e = no-value e
+goes-on text End place past is e = no-value e
+goes-on text Malformed place past is e = no-value e
 
 module _ (text : Bytes) (from : ℕ) (x : Span) (c : Class) where
   pub end-no-close : {words : ℕ} {tape tape′ : List ℕ} {fault : Fault} → Barred text Tokens.inside 62 from fault → EndAgrees text from words tape tape′ x c (Stopped fault)
@@ -241,15 +242,11 @@ symbol-not text Malformed place past s o names t next = refl
 pub on-before : {text : Bytes} {from words : ℕ} {t : Code.Placed} {x : Span} → Comes text Tokens.inside from t → t .token ≡ Symbol x → (names : List Name) → Ready text from words → symbolFault names (View.part text x) ≡ 0 → Before text words (t .past) x
 on-before {text} {x = x} k e names r f =
     let i = symbol-at k e in
-    let short =
-    rw (length-slice (x .from) (x .past) text (i .inside)) at
-    (leb→le (length (View.part text x)) 8 (holds (no-fault (leb (length (View.part text x)) 8) 3 _ f .0)))
-    in
     record {
       after = omega (arith, r .charged, i .after);
       some = i .some;
       before = omega (arith, symbol-past k e);
-      short = short;
+      short = within text x (identifier-inside i) 8 3 _ f;
     }
 
 abbrev OnAgrees : Bytes → List ℕ → ℕ → ℕ → ℕ → List ℕ → List ℕ → Class → CodeParsed → Type 0
@@ -328,18 +325,15 @@ module _ (text table : List ℕ) (symbols from : ℕ) where
       abbrev here : NameFirst text Tokens.naming start t n
       here = name-first k e
 
-      name-length : length (View.part text n) ≡ n .past - n .from
-      name-length = length-slice (n .from) (n .past) text (here .inside .inside)
-
       pub name-long : {words : ℕ} {tape tape′ : List ℕ} → 24 < n .past - n .from
           → ConditionAgrees text table symbols from words tape tape′ (Stopped (record { answer = OverLimit; place = t .place }))
       name-long l =
-          stops _ _ _ (at-name ∙ rw (here .unrolled, lt-leb (length (View.part text n)) 24 (rw name-length l))) refl refl
+          stops _ _ _ (at-name ∙ rw (here .unrolled, too-long text n (here .inside) 24 l)) refl refl
 
       module _ (l : n .past - n .from ≤ 24) where
         at-class : Reading.condition (symbolNames text table symbols) (stream text Tokens.inside from)
             ≡ withName (symbolNames text table symbols) (t .place) (View.part text n) (stream text Tokens.inside (t .past))
-        at-class = at-name ∙ rw (here .unrolled, le-leb (length (View.part text n)) 24 (rw name-length l))
+        at-class = at-name ∙ rw (here .unrolled, short-enough text n (here .inside) 24 l)
 
         pub class-not : {words : ℕ} {tape tape′ : List ℕ} → predicateOf (View.part text n) ≡ none
             → ConditionAgrees text table symbols from words tape tape′ (Stopped (record { answer = WrongName; place = t .place }))

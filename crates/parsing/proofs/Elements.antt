@@ -1,35 +1,24 @@
 -- What is counted of a pattern when elements are added at its end.
-use Prim.Native.Nat.{ℕ, zero, suc, _+_}
+use Prim.Native.Nat.{ℕ, _+_}
 use mathlib.Core.Path.{_≡_, refl, sym, _∙_, ap}
 use mathlib.Core.Bool.{Bool, true, false}
-use mathlib.Core.List.{List, [], _∷_, _++_, map, append-assoc, append-nil}
-use native.Mathlib.Nat.{zero-add, suc-add}
+use mathlib.Core.List.{List, [], _∷_, _++_, append-assoc, append-nil}
 use native.Mathlib.Omega.{arith}
 use lib.Dec.{eqb, eqb·suc-zero}
 use lib.ListN.{length}
 use Rattle.meaning.specs.Choice.{Bytes, Name, both}
-use Rattle.meaning.specs.Tree.{Letter, character, symbol, Element, letter, part}
+use Rattle.meaning.specs.Tree.{character, symbol, Element, letter, part}
 use Rattle.meaning.specs.Allowed.{added, symbolsFrom, symbolsOf, partsOf, lettersIn}
 use Rattle.meaning.specs.Grammar.{charactersOf}
 use Rattle.meaning.specs.Tape.{named, symbolKind, partKind, elementTape, patternTape}
 use Rattle.meaning.specs.Reading.{endsInPart}
+use Rattle.meaning.proofs.reading.PatternFacts.{parts-append, letters-append, symbols-append, characters-parts, characters-letters, characters-symbols}
 use Rattle.parsing.proofs.Choosing.{both-true, both-false}
 
 -- LETTERS
 
-letters-append : (a b : List Element) → lettersIn (a ++ b) ≡ lettersIn a + lettersIn b
-unfolding lettersIn
-letters-append [] b = sym (zero-add (lettersIn b))
-letters-append (letter l ∷ a) b = ap suc (letters-append a b) ∙ sym (suc-add (lettersIn a) (lettersIn b))
-letters-append (part x ∷ a) b = letters-append a b
-
-letters-characters : (cs : Bytes) → lettersIn (charactersOf cs) ≡ length cs
-unfolding lettersIn
-letters-characters [] = refl
-letters-characters (c ∷ cs) = ap suc (letters-characters cs)
-
 pub letters-string : (a : List Element) (cs : Bytes) → lettersIn (a ++ charactersOf cs) ≡ lettersIn a + length cs
-letters-string a cs = letters-append a (charactersOf cs) ∙ rw (letters-characters cs)
+letters-string a cs = letters-append a (charactersOf cs) ∙ rw (characters-letters cs)
 
 pub letters-symbol : (a : List Element) (x : Name) → lettersIn (a ++ letter (symbol x) ∷ []) ≡ lettersIn a + 1
 unfolding lettersIn
@@ -41,44 +30,21 @@ letters-part a x = letters-append a (part x ∷ []) ∙ omega arith
 
 -- S-VARIABLES
 
-symbols-append : (a b : List Element) (known : List Name) → symbolsFrom known (a ++ b) ≡ symbolsFrom (symbolsFrom known a) b
-unfolding symbolsFrom
-symbols-append [] b known = refl
-symbols-append (letter (character c) ∷ a) b known = symbols-append a b known
-symbols-append (letter (symbol x) ∷ a) b known = symbols-append a b (added x known)
-symbols-append (part x ∷ a) b known = symbols-append a b known
-
-symbols-characters : (cs : Bytes) (known : List Name) → symbolsFrom known (charactersOf cs) ≡ known
-unfolding symbolsFrom
-symbols-characters [] known = refl
-symbols-characters (c ∷ cs) known = symbols-characters cs known
-
 pub symbols-string : (a : List Element) (cs : Bytes) → symbolsOf (a ++ charactersOf cs) ≡ symbolsOf a
-symbols-string a cs = symbols-append a (charactersOf cs) [] ∙ symbols-characters cs (symbolsOf a)
+symbols-string a cs = symbols-append [] a (charactersOf cs) ∙ characters-symbols (symbolsOf a) cs
 
 pub symbols-symbol : (a : List Element) (x : Name) → symbolsOf (a ++ letter (symbol x) ∷ []) ≡ added x (symbolsOf a)
 unfolding symbolsFrom
-symbols-symbol a x = symbols-append a (letter (symbol x) ∷ []) []
+symbols-symbol a x = symbols-append [] a (letter (symbol x) ∷ [])
 
 pub symbols-part : (a : List Element) (x : Name) → symbolsOf (a ++ part x ∷ []) ≡ symbolsOf a
 unfolding symbolsFrom
-symbols-part a x = symbols-append a (part x ∷ []) []
+symbols-part a x = symbols-append [] a (part x ∷ [])
 
 -- E-VARIABLES
 
-parts-append : (a b : List Element) → partsOf (a ++ b) ≡ partsOf a ++ partsOf b
-unfolding partsOf
-parts-append [] b = refl
-parts-append (letter l ∷ a) b = parts-append a b
-parts-append (part x ∷ a) b = ap {B = List Name} (λ (r : List Name). x ∷ r) (parts-append a b)
-
-parts-characters : (cs : Bytes) → partsOf (charactersOf cs) ≡ []
-unfolding partsOf
-parts-characters [] = refl
-parts-characters (c ∷ cs) = parts-characters cs
-
 pub parts-string : (a : List Element) (cs : Bytes) → partsOf (a ++ charactersOf cs) ≡ partsOf a
-parts-string a cs = parts-append a (charactersOf cs) ∙ rw (parts-characters cs) (append-nil (partsOf a))
+parts-string a cs = parts-append a (charactersOf cs) ∙ rw (characters-parts cs) (append-nil (partsOf a))
 
 pub parts-symbol : (a : List Element) (x : Name) → partsOf (a ++ letter (symbol x) ∷ []) ≡ partsOf a
 unfolding partsOf

@@ -1,9 +1,9 @@
 -- Finding a name in a table.
-use Prim.Native.Nat.{ℕ, zero, suc, _+_, _-_, _/_, _%_, _≤_, _<_}
+use Prim.Native.Nat.{ℕ, suc, _+_, _-_, _/_, _%_, _≤_, _<_}
 use mathlib.Core.Path.{_≡_, refl, sym, _∙_, ap}
 use mathlib.Core.Bool.{Bool, true, false}
 use mathlib.Core.List.{List, [], _∷_}
-use mathlib.Core.Option.{Option, none, some}
+use mathlib.Core.Option.{none, some}
 use native.Mathlib.Nat.{add-zero}
 use native.Mathlib.Omega.{arith}
 use lib.Dec.{T, ltb, leb→le, leb·suc-suc}
@@ -13,9 +13,7 @@ use lib.Seq.{slice, slice-cons, slice-empty, length-slice}
 use Rattle.meaning.specs.Choice.{Bytes, Name, pick, either, every, sameBytes}
 use Rattle.meaning.specs.Allowed.{member, comingAfter}
 use Rattle.meaning.proofs.laws.Passing.{every-head, every-tail}
-use Rattle.lexing.specs.View.{part}
-use Rattle.lexing.specs.declared.Span.{Span}
-use Rattle.parsing.specs.Tables.{Inside, nameIn, namesIn, inText, tableNames, Entries, position}
+use Rattle.parsing.specs.Tables.{nameIn, namesIn, inText, tableNames, Entries, position}
 
 -- the search from the start is that from here
 pub record Finding (text : Bytes) (table : List ℕ) (from to : ℕ) (x : Name) (i : ℕ) : Type 0 where

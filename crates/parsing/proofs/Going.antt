@@ -3,20 +3,18 @@ use Prim.Native.Nat.{ℕ, zero, suc, _+_, _≤_, _<_}
 use mathlib.Core.Path.{_≡_, refl, sym, _∙_, ap}
 use mathlib.Core.Bool.{Bool, true, false, true≢false}
 use mathlib.Core.List.{List, [], _∷_, _++_, append-assoc}
-use native.Mathlib.Nat.{add-zero}
 use native.Mathlib.Omega.{arith}
 use lib.Dec.{eqb}
 use lib.ListN.{length, set, length-append}
 use Rattle.meaning.specs.Choice.{Bytes}
 use Rattle.meaning.specs.Tokens.{Placed}
-use Rattle.meaning.specs.Reading.{Parsed, stopped, parsed, follow, whether, isSign, pass, check, refuse}
-use Rattle.parsing.specs.declared.Answer.{Answer}
+use Rattle.meaning.specs.Reading.{Parsed, stopped, parsed, follow, whether, isSign, pass, check}
 use Rattle.parsing.specs.declared.progress.Fault.{Fault}
 use Rattle.parsing.specs.declared.progress.Progress.{Progress}
 use Rattle.parsing.specs.declared.progress.Parsed.{Parsed as CodeParsed}
 use Rattle.parsing.specs.declared.progress.Parsed.the-variants.{Stopped, Done}
 use Rattle.parsing.specs.Answered.{numberOf, Comes, Agrees}
-use Rattle.parsing.specs.Written.{written, Ready, Went}
+use Rattle.parsing.specs.Written.{Ready, Went}
 use Rattle.parsing.proofs.Words.{written-none, written-one, written-append}
 
 -- STOPPING

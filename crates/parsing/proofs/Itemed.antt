@@ -1,19 +1,19 @@
 -- Items on the tape: the characters of a string, and a variable's word and identifier.
-use Prim.Native.Nat.{ℕ, suc, _+_, _-_, _*_, _≤_, _<_}
-use mathlib.Core.Path.{_≡_, refl, sym, _∙_}
+use Prim.Native.Nat.{ℕ, _+_, _-_, _*_, _<_}
+use mathlib.Core.Path.{_≡_}
 use mathlib.Core.List.{List, _∷_}
 use native.Mathlib.Numerals.{add-one}
 use native.Mathlib.Omega.{arith}
 use lib.Dec.{T, lt→ltb}
 use lib.ListN.{length}
 use lib.Seq.{length-slice}
-use Rattle.meaning.specs.Choice.{Bytes, Name, every}
+use Rattle.meaning.specs.Choice.{Bytes, every}
 use Rattle.meaning.specs.Tape.{named}
 use Rattle.meaning.proofs.laws.Passing.{both-pass}
 use Rattle.lexing.specs.View as View
 use Rattle.lexing.specs.View.{IsClosed, charactersIn, quotationAt}
 use Rattle.lexing.specs.declared.Span.{Span}
-use Rattle.parsing.specs.Written.{written, Wrote, stringFrom, isQuiet, Ready, Went}
+use Rattle.parsing.specs.Written.{Wrote, stringFrom, isQuiet, Ready, Went}
 use Rattle.parsing.specs.Patterns.{Identifier, StringAt}
 
 -- a string

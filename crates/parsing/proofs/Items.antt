@@ -1,17 +1,17 @@
 -- Tokens that are items: strings, s-variables and e-variables.
-use Prim.Native.Nat.{ℕ, suc, _+_, _≤_, _<_}
-use mathlib.Core.Path.{_≡_, refl, sym, _∙_, ap}
-use mathlib.Core.Bool.{Bool, true, false, not, false≢true}
+use Prim.Native.Nat.{ℕ, suc, _<_}
+use mathlib.Core.Path.{_≡_, refl, _∙_, ap}
+use mathlib.Core.Bool.{true, false, not, false≢true}
 use lib.Dec.{T}
 use mathlib.Core.List.{List, [], _∷_}
 use native.Mathlib.Omega.{arith}
-use lib.ListN.{length, getD}
+use lib.ListN.{getD}
 use lib.Seq.{slice, slice-cons}
 use types.Run.{OneOf, miss}
 use denote.Enum.Declared.{tagOf}
 use Rattle.meaning.specs.Choice.{Bytes, pick}
 use Rattle.meaning.specs.Tokens as Tokens
-use Rattle.meaning.specs.Reading.{Item, characters, symbolItem, partItem, noItem, variableOf, itemOf, isItem}
+use Rattle.meaning.specs.Reading.{Item, characters, symbolItem, partItem, variableOf, itemOf, isItem}
 use Rattle.lexing.proofs.Token as token
 use Rattle.lexing.specs.View as View
 use Rattle.lexing.specs.View.{charactersIn, quotationAt, tokenOf, placedOf, Sound, stream, Comes}

@@ -1,25 +1,20 @@
 -- What a name is: a predicate, an emission, declared, too long.
-use Prim.Native.Nat.{ℕ, zero, suc, _+_, _-_, _≤_, _<_}
-use mathlib.Core.Path.{_≡_, refl, sym, _∙_, ap}
-use mathlib.Core.Bool.{Bool, true, false, not}
-use mathlib.Core.List.{List, [], _∷_}
-use mathlib.Core.Option.{Option, none, some}
+use Prim.Native.Nat.{ℕ, zero, suc, _-_, _≤_, _<_}
+use mathlib.Core.Path.{_≡_, refl, _∙_}
+use mathlib.Core.Bool.{Bool, true, not}
+use mathlib.Core.List.{List}
+use mathlib.Core.Option.{none, some}
 use native.Mathlib.Omega.{arith}
-use lib.Dec.{leb, ltb, leb→le}
-use lib.ListN.{length}
-use lib.Seq.{slice, length-slice}
-use borrow.Author.Tests.{lt-leb, le-leb, lt-ltb, le-ltb}
 use Rattle.meaning.specs.Choice.{Bytes, Name, pick, both, either, isSome, sameBytes}
-use Rattle.meaning.specs.Classes.{Class, digit, upper, lower, alphabetic, blank, className, classes}
+use Rattle.meaning.specs.Classes.{digit, upper, lower, alphabetic, blank, className}
 use Rattle.meaning.specs.Names.{classNamed, predicateOf, isPredicate, isEmission}
 use Rattle.meaning.specs.Answers.{overLimit, wrongName}
 use Rattle.meaning.specs.Allowed.{member}
-use Rattle.meaning.specs.Reading.{faultUnless, lengthFault, calledFault}
+use Rattle.meaning.specs.Reading.{faultUnless, calledFault}
 use Rattle.lexing.specs.View.{part}
 use Rattle.lexing.specs.declared.Span.{Span}
-use Rattle.parsing.specs.Tables.{Inside, tableNames, position, classAt, declaredFaultIn}
-use Rattle.parsing.proofs.Choosing.{holds, no-fault}
-use Rattle.parsing.proofs.Finding.{position-member}
+use Rattle.parsing.specs.Tables.{Inside, classAt, declaredFaultIn}
+use Rattle.parsing.proofs.Faults.{too-long, short-enough}
 
 -- the five names, asked in order
 pub predicate-is : (n : Name) {d u l a b : Bool}
@@ -51,31 +46,17 @@ module _ (n : Name) (r : ℕ) (e : predicateOf n ≡ classAt r) where
 -- FAULTS OF NAMES
 
 module _ (text : Bytes) (x : Span) (p : Inside text x) where
-  pub part-length : length (part text x) ≡ x .past - x .from
-  part-length = length-slice (x .from) (x .past) text (p .inside)
-
-  long-name : (limit : ℕ) → limit < x .past - x .from → leb (length (part text x)) limit ≡ false
-  long-name limit h = lt-leb (length (part text x)) limit (rw part-length h)
-
-  short-name : (limit : ℕ) → x .past - x .from ≤ limit → leb (length (part text x)) limit ≡ true
-  short-name limit h = le-leb (length (part text x)) limit (rw part-length h)
-
-  -- a name without a fault is not too long
-  pub name-fits : (later : ℕ) → lengthFault (part text x) later ≡ 0 → x .past - x .from ≤ 24
-  name-fits later f =
-      rw part-length at (leb→le (length (part text x)) 24 (holds (no-fault (leb (length (part text x)) 24) 3 later f .0)))
-
   pub called-long : 24 < x .past - x .from → overLimit ≡ calledFault (part text x)
-  called-long h = rw (long-name 24 h)
+  called-long h = rw (too-long text x p 24 h)
 
   pub called-is : x .past - x .from ≤ 24 → {is : Bool} → isPredicate (part text x) ≡ is → faultUnless (not is) wrongName 0 ≡ calledFault (part text x)
-  called-is h e = rw (short-name 24 h, e)
+  called-is h e = rw (short-enough text x p 24 h, e)
 
   module _ (names : List Name) where
     pub declared-long : 24 < x .past - x .from → overLimit ≡ declaredFaultIn names (part text x)
-    declared-long h = rw (long-name 24 h)
+    declared-long h = rw (too-long text x p 24 h)
 
     pub declared-is : x .past - x .from ≤ 24 → {predicate emission known : Bool} → isPredicate (part text x) ≡ predicate → isEmission (part text x) ≡ emission
         → member (part text x) names ≡ known
         → faultUnless (both (not (either predicate emission)) (not known)) wrongName 0 ≡ declaredFaultIn names (part text x)
-    declared-is h e f g = rw (short-name 24 h, e, f, g)
+    declared-is h e f g = rw (short-enough text x p 24 h, e, f, g)

@@ -1,17 +1,17 @@
 -- The pattern's reader: the loop over its tokens.
-use Prim.Native.Nat.{ℕ, zero, suc, _+_, _≤_, _<_}
-use mathlib.Core.Path.{_≡_, refl, sym, _∙_, ap}
-use mathlib.Core.Bool.{Bool, true, false}
-use mathlib.Core.List.{List, [], _∷_, _++_}
+use Prim.Native.Nat.{ℕ, _≤_, _<_}
+use mathlib.Core.Path.{_≡_, refl, sym, _∙_}
+use mathlib.Core.Bool.{false}
+use mathlib.Core.List.{List, [], _++_}
 use native.Mathlib.Omega.{arith}
 use lib.Dec.{T}
 use lib.ListN.{length}
-use Rattle.meaning.specs.Choice.{Bytes, every}
+use Rattle.meaning.specs.Choice.{every}
 use Rattle.meaning.specs.Tree.{Element}
 use Rattle.meaning.specs.Allowed.{symbolsFrom, partsOf, lettersIn}
 use Rattle.meaning.specs.Tape.{patternTape}
-use Rattle.meaning.specs.Tokens.{Placed, inside}
-use Rattle.meaning.specs.Reading.{Parsed, stopped, parsed, endsInPart, elementsOf, pattern}
+use Rattle.meaning.specs.Tokens.{inside}
+use Rattle.meaning.specs.Reading.{endsInPart, elementsOf, pattern}
 use Rattle.lexing.specs.View.{stream, Comes}
 use Rattle.lexing.specs.declared.Placed as Code
 use Rattle.parsing.specs.declared.Answer.{Answer}
@@ -21,7 +21,7 @@ use Rattle.parsing.specs.declared.patterns.Added.{Added}
 use Rattle.parsing.specs.declared.patterns.Added.the-variants.{Taken, Wrong, Other}
 use Rattle.parsing.specs.Answered.{Agrees}
 use Rattle.parsing.specs.Written.{isQuiet, Ready, Went}
-use Rattle.parsing.specs.Patterns.{Variables, Held, Seen, TokenGives, AddsToken, PatternRead, itemAt}
+use Rattle.parsing.specs.Patterns.{Held, Seen, TokenGives, AddsToken, PatternRead, itemAt}
 use Rattle.parsing.proofs.Tabling.{none-yet, no-names, every-append}
 use Rattle.parsing.proofs.Elements.{tape-append}
 use Rattle.parsing.proofs.Items.{item-then}

@@ -1,24 +1,23 @@
 -- The pattern's reader: what an item adds.
-use Prim.Native.Nat.{ℕ, zero, suc, _+_, _-_, _≤_, _<_}
-use mathlib.Core.Path.{_≡_, refl, sym, _∙_, ap}
+use Prim.Native.Nat.{ℕ, _+_, _-_, _≤_, _<_}
+use mathlib.Core.Path.{_≡_, refl, _∙_}
 use mathlib.Core.Bool.{Bool, true, false, not}
-use mathlib.Core.List.{List, [], _∷_, _++_, append-nil}
+use mathlib.Core.List.{List}
 use native.Mathlib.Omega.{arith}
-use lib.Dec.{T, leb, ltb, eqb}
-use lib.ListN.{length, set}
+use lib.Dec.{leb, ltb}
+use lib.ListN.{length}
 use borrow.Author.Tests.{lt-leb, le-leb, lt-ltb, le-ltb}
-use Rattle.meaning.specs.Choice.{Bytes, Name, pick, both, either, every}
-use Rattle.meaning.specs.Tree.{Element}
+use Rattle.meaning.specs.Choice.{Bytes, both, either}
 use Rattle.meaning.specs.Answers.{notAllowedHere, overLimit, wrongPatternVariable}
-use Rattle.meaning.specs.Allowed.{maxIdentifier, maxSymbols, added, member}
+use Rattle.meaning.specs.Allowed.{maxIdentifier, maxSymbols, added}
 use Rattle.meaning.specs.Reading.{faultUnless}
 use Rattle.lexing.specs.View.{part}
 use Rattle.lexing.specs.declared.Span.{Span}
-use Rattle.parsing.specs.Tables.{Inside, tableNames, Entries, position}
+use Rattle.parsing.specs.Tables.{Inside, position}
 use Rattle.parsing.specs.declared.patterns.Counts.{Counts}
 use Rattle.parsing.specs.Patterns.{Variables, symbolNames, partNames, Identifier, Held, patternSymbolFault, patternPartFault}
 use Rattle.parsing.proofs.Finding.{table-length, among}
-use Rattle.parsing.proofs.Faults.{too-long, not-too-long, added-room, symbol-fault-is, part-fault-is}
+use Rattle.parsing.proofs.Faults.{too-long, short-enough, added-room, symbol-fault-is, part-fault-is}
 
 pub identifier-inside : {text : Bytes} {at : ℕ} {x : Span} → Identifier text at x → Inside text x
 identifier-inside i = record { forward = omega (arith, i .some); inside = i .inside }
@@ -56,11 +55,11 @@ module _ {text : Bytes} {table : List ℕ} {p : Counts} {x : Span} (h : Held tex
         added-room (part text x) (symbolNames text table (p .symbols)) 16 (rw (symbol-count (h .variables)) (h .variables .fewSymbols)) ∙ rw (← k) e
 
     pub symbol-long : 8 < x .past - x .from → Symbol overLimit
-    symbol-long l = symbol-fault-is (p .letters) (symbolNames text table (p .symbols)) (partNames text table (p .parts)) (part text x) (too-long text x inside l) refl refl refl
+    symbol-long l = symbol-fault-is (p .letters) (symbolNames text table (p .symbols)) (partNames text table (p .parts)) (part text x) (too-long text x inside 8 l) refl refl refl
 
     module _ (l : x .past - x .from ≤ 8) where
       abbrev short : leb (length (part text x)) maxIdentifier ≡ true
-      short = not-too-long text x inside l
+      short = short-enough text x inside 8 l
 
       pub symbol-many : 64 ≤ p .letters → Symbol overLimit
       symbol-many m =
@@ -104,7 +103,7 @@ module _ {text : Bytes} {table : List ℕ} {p : Counts} {x : Span} (h : Held tex
     pub part-long : 8 < x .past - x .from → Part overLimit
     part-long l =
         part-fault-is (symbolNames text table (p .symbols)) (partNames text table (p .parts)) (p .ending) (part text x) room
-        (too-long text x inside l) refl refl refl
+        (too-long text x inside 8 l) refl refl refl
 
     module _ (l : x .past - x .from ≤ 8) where
       part-is : {symbol shared ends : Bool} (r q : ℕ) → SymbolAt r → ltb r (p .symbols) ≡ symbol → PartAt q → ltb q (16 + p .parts) ≡ shared
@@ -112,7 +111,7 @@ module _ {text : Bytes} {table : List ℕ} {p : Counts} {x : Span} (h : Held tex
           → Part (faultUnless (both (not (either symbol shared)) (not ends)) wrongPatternVariable 0)
       part-is r q f d g e n =
           part-fault-is (symbolNames text table (p .symbols)) (partNames text table (p .parts)) (p .ending) (part text x) room
-          (not-too-long text x inside l)
+          (short-enough text x inside 8 l)
           (among text table 0 (p .symbols) (h .variables .symbolEntries) (part text x) r f d)
           (among text table 16 (16 + p .parts) (h .variables .partEntries) (part text x) q g e)
           n

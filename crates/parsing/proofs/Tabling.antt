@@ -1,14 +1,14 @@
 -- Tables of names: one entry more, and entries that a store leaves as they were.
 use Prim.Native.Nat.{ℕ, zero, suc, _+_, _-_, _*_, _/_, _%_, _≤_, _<_}
 use mathlib.Core.Path.{_≡_, refl, sym, _∙_, ap}
-use mathlib.Core.Bool.{Bool, true, false}
+use mathlib.Core.Bool.{Bool, true}
 use mathlib.Core.List.{List, [], _∷_, _++_}
 use native.Mathlib.Numerals.{add-one}
 use native.Mathlib.Omega.{arith}
 use lib.Dec.{T, le→leb}
 use lib.ListN.{length, take, drop, set, length-set}
 use lib.Seq.{slice, slice-empty, take-suc-set, take-set-le, take-set-lt, drop-set-lt, drop-append-le, length-take-le, drop-drop}
-use Rattle.meaning.specs.Choice.{Bytes, Name, both, every}
+use Rattle.meaning.specs.Choice.{Bytes, Name, every}
 use Rattle.meaning.proofs.laws.Passing.{both-left, both-right, both-pass}
 use Rattle.lexing.specs.View.{part}
 use Rattle.lexing.specs.declared.Span.{Span}
@@ -99,9 +99,6 @@ module _ (text : Bytes) (x : Span) (p : Inside text x) (short : x .past - x .fro
 
   place-of : entry / 32 ≡ x .from
   place-of = omega arith
-
-  length-of : entry % 32 ≡ x .past - x .from
-  length-of = omega arith
 
   ends-at : entry / 32 + entry % 32 ≡ x .past
   ends-at = omega (arith, p .forward)

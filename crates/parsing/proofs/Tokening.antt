@@ -1,16 +1,14 @@
 -- The first token from a place on, as the readers look at it.
-use Prim.Native.Nat.{ℕ, suc, _+_, _≤_, _<_}
-use mathlib.Core.Path.{_≡_, refl, sym, _∙_, ap}
+use Prim.Native.Nat.{ℕ, _<_}
+use mathlib.Core.Path.{_≡_, refl, sym, _∙_}
 use mathlib.Core.Bool.{Bool, true, false, false≢true}
 use mathlib.Core.List.{List, [], _∷_}
 use mathlib.Core.Option.{none}
 use native.Mathlib.Omega.{arith}
-use lib.Dec.{eqb}
-use lib.ListN.{length}
 use borrow.Author.Tests.{eqb-true, eq-eqb}
 use types.Run.{OneOf, miss}
 use denote.Enum.Declared.{tagOf}
-use Rattle.meaning.specs.Choice.{Bytes, pick}
+use Rattle.meaning.specs.Choice.{Bytes}
 use Rattle.meaning.specs.Tokens as Tokens
 use Rattle.meaning.specs.Grammar.{standing}
 use Rattle.meaning.specs.Reading as Reading

@@ -1,16 +1,16 @@
 -- Words written on the tape, one after the other.
-use Prim.Native.Nat.{ℕ, zero, suc, _+_, _-_, _≤_, _<_}
-use mathlib.Core.Path.{_≡_, refl, sym, _∙_, ap}
+use Prim.Native.Nat.{ℕ, suc, _+_, _-_, _≤_, _<_}
+use mathlib.Core.Path.{_≡_, refl, sym, _∙_}
 use mathlib.Core.List.{List, [], _∷_, _++_, append-assoc, append-nil}
 use native.Mathlib.Nat.{add-zero}
 use native.Mathlib.Numerals.{add-one}
 use native.Mathlib.Omega.{arith}
 use lib.Dec.{T, lt→ltb}
 use lib.ListN.{length, getD, set, take, drop, replicate, length-append, length-set}
-use lib.Seq.{sets, slice, slice-empty, length-slice, take-suc-set, take-all, length-take-le}
+use lib.Seq.{slice, slice-empty, length-slice, take-suc-set, take-all, length-take-le}
 use Rattle.meaning.specs.Choice.{Bytes, every}
 use Rattle.meaning.specs.Tokens as Tokens
-use Rattle.lexing.specs.View.{IsClosed, charactersIn, part, Stands}
+use Rattle.lexing.specs.View.{IsClosed, charactersIn, Stands}
 use Rattle.lexing.specs.declared.Character.{Character}
 use Rattle.lexing.specs.declared.Character.the-variants.{Given, Nothing, Closed, Broken}
 use Rattle.lexing.specs.declared.Span.{Span}

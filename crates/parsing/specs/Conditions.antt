@@ -1,5 +1,5 @@
 -- Conditions while they are read.
-use Prim.Native.Nat.{ℕ, _+_, _-_, _≤_, _<_}
+use Prim.Native.Nat.{ℕ, _-_, _≤_, _<_}
 use mathlib.Core.Path.{_≡_}
 use mathlib.Core.Bool.{Bool, true, false}
 use mathlib.Core.List.{List}
@@ -17,7 +17,7 @@ use Rattle.lexing.specs.View.{Sound, stream}
 use Rattle.lexing.specs.declared.Span.{Span}
 use Rattle.lexing.specs.declared.Placed.{Placed}
 use Rattle.parsing.specs.declared.progress.Progress.{Progress}
-use Rattle.parsing.specs.Written.{isQuiet, Ready, Went}
+use Rattle.parsing.specs.Written.{isQuiet, Went}
 
 -- `condition` from its variable on, and after its variable
 abbrev pub conditionEnd : Class → Name → List Tokens.Placed → Parsed Condition

@@ -2,7 +2,7 @@
 use Prim.Native.Nat.{ℕ, _+_, _≤_, _<_}
 use mathlib.Core.Path.{_≡_}
 use mathlib.Core.Bool.{Bool, true, false, not}
-use mathlib.Core.List.{List, [], _∷_, _++_}
+use mathlib.Core.List.{List, _++_}
 use lib.Dec.{T, leb, ltb, eqb}
 use lib.ListN.{length}
 use Rattle.meaning.specs.Choice.{Bytes, Name, both, every}
@@ -20,9 +20,9 @@ use Rattle.parsing.specs.declared.progress.Progress.{Progress}
 use Rattle.parsing.specs.declared.patterns.Counts.{Counts}
 use Rattle.parsing.specs.declared.patterns.Added.{Added}
 use Rattle.parsing.specs.declared.patterns.Added.the-variants.{Taken, Wrong, Other}
-use Rattle.parsing.specs.Tables.{Inside, tableNames, Entries}
+use Rattle.parsing.specs.Tables.{tableNames, Entries}
 use Rattle.parsing.specs.Answered.{numberOf}
-use Rattle.parsing.specs.Written.{written, isQuiet, Ready, Went}
+use Rattle.parsing.specs.Written.{isQuiet, Ready, Went}
 
 -- a table of variables: s-variables from entry 0, at most 16, and e-variables from entry 16, at most 2
 pub record Variables (text : Bytes) (table : List ℕ) (symbols parts : ℕ) : Type 0 where

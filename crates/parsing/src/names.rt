@@ -4,7 +4,6 @@ use lexing::Span;
 ghost use mathlib.Core.Path.{_≡_};
 ghost use mathlib.Core.Bool.{true};
 ghost use Prim.Native.Nat.{_+_, _-_, _*_, _≤_, _<_};
-ghost use lib.Dec.{ltb};
 ghost use lib.ListN.{length};
 ghost use Rattle.meaning.specs.Choice.{sameBytes, startsWith};
 ghost use Rattle.meaning.specs.Names.{isEmission, predicateOf};

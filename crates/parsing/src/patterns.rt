@@ -15,17 +15,17 @@ use lexing::Token;
 use lexing::lex;
 ghost use mathlib.Core.Path.{_≡_};
 ghost use mathlib.Core.List.{[]};
-ghost use Prim.Native.Nat.{_+_, _≤_, _<_};
+ghost use Prim.Native.Nat.{_+_, _<_};
 ghost use lib.Dec.{ltb, eqb};
 ghost use lib.ListN.{length, set};
 ghost use Rattle.meaning.specs.Choice.{pick, both};
 ghost use Rattle.meaning.specs.Tokens as Tokens;
 ghost use Rattle.meaning.specs.Reading as Reading;
-ghost use Rattle.lexing.specs.View.{IsClosed, charactersIn, quotationAt, part, stream, Comes};
+ghost use Rattle.lexing.specs.View.{charactersIn, quotationAt, part, stream, Comes};
 ghost use Rattle.parsing.specs.Answered.{numberOf, Agrees};
-ghost use Rattle.parsing.specs.Tables.{Inside, tableNames, position};
+ghost use Rattle.parsing.specs.Tables.{Inside, position};
 ghost use Rattle.parsing.specs.Written.{Ready};
-ghost use Rattle.parsing.specs.Patterns.{Variables, symbolNames, partNames, Identifier, Held, StringAt, patternSymbolFault, patternPartFault, AddsItem, AddsToken, PatternRead};
+ghost use Rattle.parsing.specs.Patterns.{symbolNames, partNames, Identifier, Held, StringAt, patternSymbolFault, patternPartFault, AddsItem, AddsToken, PatternRead};
 
 // A pattern so far: the place in the text and the words on the tape, its letters, its different s-variables, its e-variables, and whether it ends in one.
 pub struct Counts {

@@ -1,19 +1,10 @@
--- `reading::conditions::condition` meets its contract.
+-- `parsing::conditions::condition` meets its contract.
 use borrow.Author.Needs.{needs}
 use Rattle.parsing.proofs.conditions.condition.Statement.{statement}
 use Rattle.parsing.proofs.conditions.condition.Tie as tie
-use Rattle.parsing.proofs.conditions.condition.Reads as reads
-use Rattle.parsing.proofs.conditions.condition.Lts as lts
-use Rattle.lexing.proofs.lex.Reads as lex-reads
-use Rattle.parsing.proofs.conditions.condition_on.Reads as condition-on-reads
-use Rattle.parsing.proofs.names.class_named.Reads as class-named-reads
-use Rattle.parsing.proofs.progress.pass.Reads as pass-reads
-use Rattle.parsing.proofs.progress.refuse.Reads as refuse-reads
 use native.Mathlib.Omega.{arith}
-use Rattle.meaning.specs.Tokens.{inside, naming}
-use Rattle.lexing.specs.View.{part}
+use Rattle.meaning.specs.Tokens.{naming}
 use Rattle.lexing.proofs.Stream.{comes}
-use Rattle.parsing.proofs.Naming.{no-predicate}
 use Rattle.parsing.proofs.Tokening.{name-first, ready-taken, ready-past}
 use Rattle.parsing.proofs.Conditioned.{open-not, name-not, name-long, class-not, class-reads}
 

@@ -1,16 +1,8 @@
--- `reading::conditions::condition_end` meets its contract.
+-- `parsing::conditions::condition_end` meets its contract.
 use borrow.Author.Needs.{needs}
 use Rattle.parsing.proofs.conditions.condition_end.Statement.{statement}
 use Rattle.parsing.proofs.conditions.condition_end.Tie as tie
-use Rattle.parsing.proofs.conditions.condition_end.Reads as reads
-use Rattle.parsing.proofs.conditions.condition_end.Lts as lts
-use Rattle.lexing.proofs.lex.Reads as lex-reads
-use Rattle.parsing.proofs.conditions.truth_in.Reads as truth-in-reads
-use Rattle.parsing.proofs.progress.pass.Reads as pass-reads
-use Rattle.parsing.proofs.progress.refuse.Reads as refuse-reads
-use Rattle.parsing.proofs.writing.put_named.Reads as put-named-reads
 use mathlib.Core.Path.{refl}
-use native.Mathlib.Omega.{arith}
 use Rattle.meaning.specs.Tokens.{inside}
 use Rattle.lexing.proofs.Stream.{comes}
 use Rattle.parsing.proofs.Conditioned.{end-no-close, end-no-colon, end-no-truth, end-reads}

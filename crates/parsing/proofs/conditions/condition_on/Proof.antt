@@ -1,14 +1,7 @@
--- `reading::conditions::condition_on` meets its contract.
+-- `parsing::conditions::condition_on` meets its contract.
 use borrow.Author.Needs.{needs}
 use Rattle.parsing.proofs.conditions.condition_on.Statement.{statement}
 use Rattle.parsing.proofs.conditions.condition_on.Tie as tie
-use Rattle.parsing.proofs.conditions.condition_on.Reads as reads
-use Rattle.parsing.proofs.conditions.condition_on.Lts as lts
-use Rattle.lexing.proofs.lex.Reads as lex-reads
-use Rattle.parsing.proofs.conditions.condition_end.Reads as condition-end-reads
-use Rattle.parsing.proofs.conditions.later_symbol_fault.Reads as later-symbol-fault-reads
-use Rattle.parsing.proofs.progress.is_accepted.Reads as is-accepted-reads
-use Rattle.parsing.proofs.progress.refuse.Reads as refuse-reads
 use Rattle.meaning.specs.Tokens.{inside}
 use Rattle.lexing.proofs.Stream.{comes}
 use Rattle.parsing.proofs.Choosing.{no-fault-here, a-fault-here}

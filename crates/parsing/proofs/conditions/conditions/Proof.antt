@@ -1,12 +1,6 @@
--- `reading::conditions::conditions` meets its contract: the conditions from the start are those from here.
+-- `parsing::conditions::conditions` meets its contract: the conditions from the start are those from here.
 use Rattle.parsing.proofs.conditions.conditions.Statement.{statement}
 use Rattle.parsing.proofs.conditions.conditions.Tie as tie
-use Rattle.parsing.proofs.conditions.conditions.Reads as reads
-use Rattle.parsing.proofs.conditions.conditions.Lts as lts
-use Rattle.lexing.proofs.lex.Reads as lex-reads
-use Rattle.parsing.proofs.conditions.condition.Reads as condition-reads
-use Rattle.parsing.proofs.progress.is_sign.Reads as is-sign-reads
-use Prim.Native.Nat.{_-_}
 use mathlib.Core.Path.{sym, _∙_}
 use native.Mathlib.Omega.{arith}
 use borrow.Author.Needs.{needs}

@@ -1,10 +1,7 @@
--- `reading::conditions::later_symbol_fault` meets its contract.
+-- `parsing::conditions::later_symbol_fault` meets its contract.
 use borrow.Author.Needs.{needs}
 use Rattle.parsing.proofs.conditions.later_symbol_fault.Statement.{statement}
 use Rattle.parsing.proofs.conditions.later_symbol_fault.Tie as tie
-use Rattle.parsing.proofs.conditions.later_symbol_fault.Reads as reads
-use Rattle.parsing.proofs.conditions.later_symbol_fault.Lts as lts
-use Rattle.parsing.proofs.names.find.Reads as find-reads
 use Rattle.parsing.proofs.Conditioned.{later-long, later-known, later-unknown}
 
 sub-if1 : tie.Need-sub-if1

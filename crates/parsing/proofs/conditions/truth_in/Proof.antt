@@ -1,9 +1,7 @@
--- `reading::conditions::truth_in` meets its contract.
+-- `parsing::conditions::truth_in` meets its contract.
 use borrow.Author.Needs.{needs}
 use Rattle.parsing.proofs.conditions.truth_in.Statement.{statement}
 use Rattle.parsing.proofs.conditions.truth_in.Tie as tie
-use Rattle.parsing.proofs.conditions.truth_in.Reads as reads
-use Rattle.parsing.proofs.conditions.truth_in.Lts as lts
 use native.Mathlib.Omega.{arith}
 use Rattle.parsing.proofs.Conditioned.{truth-none, truth-long, truth-true, truth-false, truth-neither}
 

@@ -1,8 +1,6 @@
--- `reading::names::begins_with` meets its contract: the part begins with the bytes so far.
+-- `parsing::names::begins_with` meets its contract: the part begins with the bytes so far.
 use Rattle.parsing.proofs.names.begins_with.Statement.{statement}
 use Rattle.parsing.proofs.names.begins_with.Tie as tie
-use Rattle.parsing.proofs.names.begins_with.Reads as reads
-use Rattle.parsing.proofs.names.begins_with.Lts as lts
 use Prim.Native.Nat.{_-_}
 use native.Mathlib.Omega.{arith}
 use lib.ListN.{length}

@@ -1,11 +1,8 @@
--- `reading::names::called_fault` meets its contract.
+-- `parsing::names::called_fault` meets its contract.
 use borrow.Author.Needs.{needs}
 use Rattle.parsing.proofs.names.called_fault.Statement.{statement}
 use Rattle.parsing.proofs.names.called_fault.Tie as tie
-use Rattle.parsing.proofs.names.called_fault.Reads as reads
-use Rattle.parsing.proofs.names.called_fault.Lts as lts
-use Rattle.parsing.proofs.names.class_named.Reads as class-named-reads
-use mathlib.Core.Path.{refl, ap}
+use mathlib.Core.Path.{ap}
 use Rattle.meaning.specs.Choice.{isSome}
 use Rattle.lexing.specs.View.{part}
 use Rattle.parsing.proofs.Naming.{a-predicate, no-predicate, called-long, called-is}

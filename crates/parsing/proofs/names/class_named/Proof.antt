@@ -1,10 +1,7 @@
--- `reading::names::class_named` meets its contract: the five names, asked in order.
+-- `parsing::names::class_named` meets its contract: the five names, asked in order.
 use borrow.Author.Needs.{needs}
 use Rattle.parsing.proofs.names.class_named.Statement.{statement}
 use Rattle.parsing.proofs.names.class_named.Tie as tie
-use Rattle.parsing.proofs.names.class_named.Reads as reads
-use Rattle.parsing.proofs.names.class_named.Lts as lts
-use Rattle.parsing.proofs.names.spells.Reads as spells-reads
 use mathlib.Core.Path.{refl, sym, _∙_}
 use native.Mathlib.Omega.{arith}
 use Rattle.lexing.specs.View.{part}

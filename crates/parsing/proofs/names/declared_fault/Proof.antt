@@ -1,12 +1,6 @@
--- `reading::names::declared_fault` meets its contract.
-use borrow.Author.Needs.{needs}
+-- `parsing::names::declared_fault` meets its contract.
 use Rattle.parsing.proofs.names.declared_fault.Statement.{statement}
 use Rattle.parsing.proofs.names.declared_fault.Tie as tie
-use Rattle.parsing.proofs.names.declared_fault.Reads as reads
-use Rattle.parsing.proofs.names.declared_fault.Lts as lts
-use Rattle.parsing.proofs.names.class_named.Reads as class-named-reads
-use Rattle.parsing.proofs.names.find.Reads as find-reads
-use Rattle.parsing.proofs.names.is_emission.Reads as is-emission-reads
 use mathlib.Core.Path.{refl, sym, _∙_, ap}
 use Rattle.meaning.specs.Choice.{isSome}
 use Rattle.lexing.specs.View.{part}

@@ -1,9 +1,6 @@
--- `reading::names::find` meets its contract: the search from the start is that from here.
+-- `parsing::names::find` meets its contract: the search from the start is that from here.
 use Rattle.parsing.proofs.names.find.Statement.{statement}
 use Rattle.parsing.proofs.names.find.Tie as tie
-use Rattle.parsing.proofs.names.find.Reads as reads
-use Rattle.parsing.proofs.names.find.Lts as lts
-use Rattle.parsing.proofs.names.same.Reads as same-reads
 use Prim.Native.Nat.{_-_}
 use mathlib.Core.Path.{sym, _∙_}
 use native.Mathlib.Omega.{arith}

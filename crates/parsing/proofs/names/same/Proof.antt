@@ -1,9 +1,7 @@
--- `reading::names::same` meets its contract: the parts agree so far.
+-- `parsing::names::same` meets its contract: the parts agree so far.
 use Rattle.parsing.proofs.names.same.Statement.{statement}
 use Rattle.parsing.proofs.names.same.Tie as tie
-use Rattle.parsing.proofs.names.same.Reads as reads
-use Rattle.parsing.proofs.names.same.Lts as lts
-use Prim.Native.Nat.{_-_, _≤_}
+use Prim.Native.Nat.{_-_}
 use mathlib.Core.Path.{refl}
 use native.Mathlib.Omega.{arith}
 use Rattle.parsing.proofs.Spelling.{Matching, same-unlike, same-starts, same-ends, same-parts-ways, same-goes}

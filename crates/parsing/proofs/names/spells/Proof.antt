@@ -1,10 +1,7 @@
--- `reading::names::spells` meets its contract.
+-- `parsing::names::spells` meets its contract.
 use borrow.Author.Needs.{needs}
 use Rattle.parsing.proofs.names.spells.Statement.{statement}
 use Rattle.parsing.proofs.names.spells.Tie as tie
-use Rattle.parsing.proofs.names.spells.Reads as reads
-use Rattle.parsing.proofs.names.spells.Lts as lts
-use Rattle.parsing.proofs.names.begins_with.Reads as begins-with-reads
 use mathlib.Core.Path.{_∙_}
 use Rattle.parsing.proofs.Spelling.{spells-unlike, spells-same}
 

@@ -1,12 +1,7 @@
--- `reading::patterns::add` meets its contract: a token by the item that it is.
+-- `parsing::patterns::add` meets its contract: a token by the item that it is.
 use borrow.Author.Needs.{needs}
 use Rattle.parsing.proofs.patterns.add.Statement.{statement}
 use Rattle.parsing.proofs.patterns.add.Tie as tie
-use Rattle.parsing.proofs.patterns.add.Reads as reads
-use Rattle.parsing.proofs.patterns.add.Lts as lts
-use Rattle.parsing.proofs.patterns.add_part.Reads as add-part-reads
-use Rattle.parsing.proofs.patterns.add_string.Reads as add-string-reads
-use Rattle.parsing.proofs.patterns.add_symbol.Reads as add-symbol-reads
 use mathlib.Core.Path.{refl}
 use Rattle.parsing.proofs.Items.{string-at, symbol-at, part-at, symbol-past, part-past, item-string, item-symbol, item-part, item-other, adds}
 

@@ -1,13 +1,7 @@
--- `reading::patterns::add_part` meets its contract.
+-- `parsing::patterns::add_part` meets its contract.
 use borrow.Author.Needs.{needs}
 use Rattle.parsing.proofs.patterns.add_part.Statement.{statement}
 use Rattle.parsing.proofs.patterns.add_part.Tie as tie
-use Rattle.parsing.proofs.patterns.add_part.Reads as reads
-use Rattle.parsing.proofs.patterns.add_part.Lts as lts
-use Rattle.parsing.proofs.names.entry.Reads as entry-reads
-use Rattle.parsing.proofs.patterns.part_fault.Reads as part-fault-reads
-use Rattle.parsing.proofs.progress.is_accepted.Reads as is-accepted-reads
-use Rattle.parsing.proofs.writing.put_named.Reads as put-named-reads
 use mathlib.Core.Path.{refl}
 use native.Mathlib.Omega.{arith}
 use Rattle.parsing.proofs.Choosing.{no-fault-here, a-fault-here}

@@ -1,11 +1,7 @@
--- `reading::patterns::add_string` meets its contract.
+-- `parsing::patterns::add_string` meets its contract.
 use borrow.Author.Needs.{needs}
 use Rattle.parsing.proofs.patterns.add_string.Statement.{statement}
 use Rattle.parsing.proofs.patterns.add_string.Tie as tie
-use Rattle.parsing.proofs.patterns.add_string.Reads as reads
-use Rattle.parsing.proofs.patterns.add_string.Lts as lts
-use Rattle.parsing.proofs.patterns.still_ending.Reads as still-ending-reads
-use Rattle.parsing.proofs.writing.put_characters.Reads as put-characters-reads
 use Rattle.parsing.proofs.Adding.{string-wrong, string-taken}
 use Rattle.parsing.proofs.Itemed.{string-ready}
 

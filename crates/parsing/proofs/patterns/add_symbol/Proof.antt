@@ -1,15 +1,7 @@
--- `reading::patterns::add_symbol` meets its contract.
+-- `parsing::patterns::add_symbol` meets its contract.
 use borrow.Author.Needs.{needs}
 use Rattle.parsing.proofs.patterns.add_symbol.Statement.{statement}
 use Rattle.parsing.proofs.patterns.add_symbol.Tie as tie
-use Rattle.parsing.proofs.patterns.add_symbol.Reads as reads
-use Rattle.parsing.proofs.patterns.add_symbol.Lts as lts
-use Rattle.parsing.proofs.names.entry.Reads as entry-reads
-use Rattle.parsing.proofs.names.find.Reads as find-reads
-use Rattle.parsing.proofs.patterns.remember.Reads as remember-reads
-use Rattle.parsing.proofs.patterns.symbol_fault.Reads as symbol-fault-reads
-use Rattle.parsing.proofs.progress.is_accepted.Reads as is-accepted-reads
-use Rattle.parsing.proofs.writing.put_named.Reads as put-named-reads
 use mathlib.Core.Path.{refl}
 use native.Mathlib.Omega.{arith}
 use Rattle.parsing.proofs.Choosing.{no-fault-here, a-fault-here}

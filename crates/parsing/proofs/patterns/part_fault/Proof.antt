@@ -1,11 +1,8 @@
--- `reading::patterns::part_fault` meets its contract: the tests in the order of their numbers.
+-- `parsing::patterns::part_fault` meets its contract: the tests in the order of their numbers.
 use borrow.Author.Needs.{needs}
 use Rattle.parsing.proofs.patterns.part_fault.Statement.{statement}
 use Rattle.parsing.proofs.patterns.part_fault.Tie as tie
-use Rattle.parsing.proofs.patterns.part_fault.Reads as reads
-use Rattle.parsing.proofs.patterns.part_fault.Lts as lts
-use Rattle.parsing.proofs.names.find.Reads as find-reads
-use Rattle.parsing.proofs.Patterning.{identifier-inside, part-third, part-long, part-symbol, part-twice, part-next, part-right}
+use Rattle.parsing.proofs.Patterning.{part-third, part-long, part-symbol, part-twice, part-next, part-right}
 
 returns : tie.Need-returns
 returns c = part-third (c .before .before .before .before .pre .0) (c .before .before .before .before .pre .1) (c .if1 .taken)

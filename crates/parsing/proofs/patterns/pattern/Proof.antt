@@ -1,10 +1,6 @@
--- `reading::patterns::pattern` meets its contract: the pattern from the start is that from here.
+-- `parsing::patterns::pattern` meets its contract: the pattern from the start is that from here.
 use Rattle.parsing.proofs.patterns.pattern.Statement.{statement}
 use Rattle.parsing.proofs.patterns.pattern.Tie as tie
-use Rattle.parsing.proofs.patterns.pattern.Reads as reads
-use Rattle.parsing.proofs.patterns.pattern.Lts as lts
-use Rattle.lexing.proofs.lex.Reads as lex-reads
-use Rattle.parsing.proofs.patterns.add.Reads as add-reads
 use Prim.Native.Nat.{_-_}
 use native.Mathlib.Omega.{arith}
 use lib.ListN.{length}

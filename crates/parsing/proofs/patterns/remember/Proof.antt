@@ -1,9 +1,7 @@
--- `reading::patterns::remember` meets its contract.
+-- `parsing::patterns::remember` meets its contract.
 use borrow.Author.Needs.{needs}
 use Rattle.parsing.proofs.patterns.remember.Statement.{statement}
 use Rattle.parsing.proofs.patterns.remember.Tie as tie
-use Rattle.parsing.proofs.patterns.remember.Reads as reads
-use Rattle.parsing.proofs.patterns.remember.Lts as lts
 use borrow.Author.Tests.{lt-ltb, le-ltb}
 
 returns : tie.Need-returns

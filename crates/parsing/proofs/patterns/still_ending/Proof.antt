@@ -1,8 +1,6 @@
--- `reading::patterns::still_ending` meets its contract.
+-- `parsing::patterns::still_ending` meets its contract.
 use Rattle.parsing.proofs.patterns.still_ending.Statement.{statement}
 use Rattle.parsing.proofs.patterns.still_ending.Tie as tie
-use Rattle.parsing.proofs.patterns.still_ending.Reads as reads
-use Rattle.parsing.proofs.patterns.still_ending.Lts as lts
 use mathlib.Core.Path.{refl}
 use borrow.Author.Tests.{eq-eqb, ne-eqb}
 use Rattle.parsing.proofs.Choosing.{both-true, both-false}

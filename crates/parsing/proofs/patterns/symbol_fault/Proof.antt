@@ -1,11 +1,8 @@
--- `reading::patterns::symbol_fault` meets its contract: the tests in the order of their numbers.
+-- `parsing::patterns::symbol_fault` meets its contract: the tests in the order of their numbers.
 use borrow.Author.Needs.{needs}
 use Rattle.parsing.proofs.patterns.symbol_fault.Statement.{statement}
 use Rattle.parsing.proofs.patterns.symbol_fault.Tie as tie
-use Rattle.parsing.proofs.patterns.symbol_fault.Reads as reads
-use Rattle.parsing.proofs.patterns.symbol_fault.Lts as lts
-use Rattle.parsing.proofs.names.find.Reads as find-reads
-use Rattle.parsing.proofs.Patterning.{identifier-inside, symbol-long, symbol-many, symbol-new, symbol-shared, symbol-right}
+use Rattle.parsing.proofs.Patterning.{symbol-long, symbol-many, symbol-new, symbol-shared, symbol-right}
 
 sub-if1 : tie.Need-sub-if1
 sub-if1 c = search needs

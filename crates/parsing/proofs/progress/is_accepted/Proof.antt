@@ -1,9 +1,7 @@
--- `reading::progress::is_accepted` meets its contract.
+-- `parsing::progress::is_accepted` meets its contract.
 use borrow.Author.Needs.{needs}
 use Rattle.parsing.proofs.progress.is_accepted.Statement.{statement}
 use Rattle.parsing.proofs.progress.is_accepted.Tie as tie
-use Rattle.parsing.proofs.progress.is_accepted.Reads as reads
-use Rattle.parsing.proofs.progress.is_accepted.Lts as lts
 use Rattle.parsing.proofs.Tags.{not-accepted}
 
 enum-told : tie.Need-enum-told

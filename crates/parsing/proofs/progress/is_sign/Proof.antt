@@ -1,9 +1,7 @@
--- `reading::progress::is_sign` meets its contract.
+-- `parsing::progress::is_sign` meets its contract.
 use borrow.Author.Needs.{needs}
 use Rattle.parsing.proofs.progress.is_sign.Statement.{statement}
 use Rattle.parsing.proofs.progress.is_sign.Tie as tie
-use Rattle.parsing.proofs.progress.is_sign.Reads as reads
-use Rattle.parsing.proofs.progress.is_sign.Lts as lts
 use Rattle.parsing.proofs.Tags.{no-sign}
 
 enum-known-token : tie.Need-enum-known-token

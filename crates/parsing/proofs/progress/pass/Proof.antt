@@ -1,12 +1,7 @@
--- `reading::progress::pass` meets its contract.
+-- `parsing::progress::pass` meets its contract.
 use borrow.Author.Needs.{needs}
 use Rattle.parsing.proofs.progress.pass.Statement.{statement}
 use Rattle.parsing.proofs.progress.pass.Tie as tie
-use Rattle.parsing.proofs.progress.pass.Reads as reads
-use Rattle.parsing.proofs.progress.pass.Lts as lts
-use Rattle.lexing.proofs.lex.Reads as lex-reads
-use Rattle.parsing.proofs.progress.is_sign.Reads as is-sign-reads
-use Rattle.parsing.proofs.progress.refuse.Reads as refuse-reads
 use mathlib.Core.Path.{sym, _∙_}
 use Rattle.lexing.specs.View.{modeOf}
 use Rattle.lexing.proofs.Stream.{comes}

@@ -1,9 +1,7 @@
--- `reading::progress::refuse` meets its contract.
+-- `parsing::progress::refuse` meets its contract.
 use borrow.Author.Needs.{needs}
 use Rattle.parsing.proofs.progress.refuse.Statement.{statement}
 use Rattle.parsing.proofs.progress.refuse.Tie as tie
-use Rattle.parsing.proofs.progress.refuse.Reads as reads
-use Rattle.parsing.proofs.progress.refuse.Lts as lts
 use mathlib.Core.Path.{refl}
 use Rattle.parsing.proofs.Tags.{well-formed}
 

@@ -1,10 +1,7 @@
--- `reading::writing::clear` meets its contract.
+-- `parsing::writing::clear` meets its contract.
 use borrow.Author.Needs.{needs}
 use Rattle.parsing.proofs.writing.clear.Statement.{statement}
 use Rattle.parsing.proofs.writing.clear.Tie as tie
-use Rattle.parsing.proofs.writing.clear.Reads as reads
-use Rattle.parsing.proofs.writing.clear.Lts as lts
-use Rattle.parsing.proofs.writing.fill.Reads as fill-reads
 use mathlib.Core.Path.{_≡_}
 use lib.ListN.{length}
 

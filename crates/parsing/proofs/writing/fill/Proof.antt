@@ -1,8 +1,6 @@
--- `reading::writing::fill` meets its contract: clearing from here is clearing from the start.
+-- `parsing::writing::fill` meets its contract: clearing from here is clearing from the start.
 use Rattle.parsing.proofs.writing.fill.Statement.{statement}
 use Rattle.parsing.proofs.writing.fill.Tie as tie
-use Rattle.parsing.proofs.writing.fill.Reads as reads
-use Rattle.parsing.proofs.writing.fill.Lts as lts
 use Prim.Native.Nat.{_-_}
 use native.Mathlib.Omega.{arith}
 use lib.ListN.{length}

@@ -1,10 +1,6 @@
--- `reading::writing::put_characters` meets its contract: the characters so far are written.
+-- `parsing::writing::put_characters` meets its contract: the characters so far are written.
 use Rattle.parsing.proofs.writing.put_characters.Statement.{statement}
 use Rattle.parsing.proofs.writing.put_characters.Tie as tie
-use Rattle.parsing.proofs.writing.put_characters.Reads as reads
-use Rattle.parsing.proofs.writing.put_characters.Lts as lts
-use Rattle.lexing.proofs.next_character.Reads as next-character-reads
-use Rattle.parsing.proofs.writing.put.Reads as put-reads
 use Prim.Native.Nat.{_-_}
 use native.Mathlib.Omega.{arith}
 use lib.ListN.{length}

@@ -1,12 +1,8 @@
--- `reading::writing::put_named` meets its contract: the word and the bytes so far are written.
+-- `parsing::writing::put_named` meets its contract: the word and the bytes so far are written.
 use Rattle.parsing.proofs.writing.put_named.Statement.{statement}
 use Rattle.parsing.proofs.writing.put_named.Tie as tie
-use Rattle.parsing.proofs.writing.put_named.Reads as reads
-use Rattle.parsing.proofs.writing.put_named.Lts as lts
-use Rattle.parsing.proofs.writing.put.Reads as put-reads
 use Prim.Native.Nat.{_-_}
 use native.Mathlib.Omega.{arith}
-use borrow.Author.Needs.{needs}
 use Rattle.parsing.proofs.Words.{Copied, copy-starts, copy-goes, copy-ends, wrote-after}
 
 abbrev Inv-loop : tie.InvT-loop
