@@ -1,10 +1,10 @@
 -- The conditions' reader.
 use Prim.Native.Nat.{ℕ, zero, suc, _+_, _-_, _*_, _≤_, _<_}
-use mathlib.Core.Path.{_≡_, refl, sym, _∙_, ap}
+use mathlib.Core.Path.{_≡_, refl, sym, _∙_}
 use mathlib.Core.Bool.{Bool, true, false}
 use mathlib.Core.List.{List, [], _∷_, _++_, append-nil, append-assoc}
 use mathlib.Core.Logic.{_⊎_, inl, inr, ⊎-elim}
-use mathlib.Core.Option.{Option, none, some}
+use mathlib.Core.Option.{none, some}
 use native.Mathlib.Omega.{arith}
 use lib.Dec.{T, eqb, lt→ltb}
 use lib.ListN.{length, getD}
@@ -13,7 +13,7 @@ use types.Run.{OneOf, miss}
 use denote.Enum.Declared.{tagOf}
 use borrow.Author.Tests.{lt-ltb, le-ltb, eq-eqb, ne-eqb}
 use Rattle.meaning.specs.Choice.{Bytes, Name, pick, both, every, sameBytes}
-use Rattle.meaning.specs.Classes.{Class, digit, upper, lower, alphabetic, blank, classNumber}
+use Rattle.meaning.specs.Classes.{Class, classNumber}
 use Rattle.meaning.specs.Tree.{Condition}
 use Rattle.meaning.specs.Answers.{overLimit, wrongLaterVariable}
 use Rattle.meaning.specs.Names.{predicateOf}
@@ -23,6 +23,7 @@ use Rattle.meaning.specs.Grammar.{standing}
 use Rattle.meaning.specs.Reading as Reading
 use Rattle.meaning.specs.Reading.{Parsed, stopped, parsed, follow, symbolFault, itemOf, symbolOn}
 use Rattle.meaning.proofs.laws.Passing.{both-pass}
+use Rattle.meaning.specs.Packing.{classOf}
 use Rattle.lexing.proofs.Token as token
 use Rattle.lexing.proofs.Shortest.{three-bytes}
 use Rattle.lexing.specs.View as View
@@ -37,7 +38,7 @@ use Rattle.parsing.specs.declared.progress.Fault.{Fault}
 use Rattle.parsing.specs.declared.progress.Progress.{Progress}
 use Rattle.parsing.specs.declared.progress.Parsed.{Parsed as CodeParsed}
 use Rattle.parsing.specs.declared.progress.Parsed.the-variants.{Stopped, Done}
-use Rattle.parsing.specs.Tables.{Inside, Entries, position, classAt}
+use Rattle.parsing.specs.Tables.{Inside, Entries, position}
 use Rattle.parsing.specs.Answered.{numberOf, Agrees}
 use Rattle.parsing.specs.Written.{Wrote, isQuiet, Ready, Went}
 use Rattle.parsing.specs.Tokened.{tokenFault, signIs, Taken, Barred}
@@ -45,6 +46,7 @@ use Rattle.parsing.specs.Patterns.{symbolNames, itemAt}
 use Rattle.parsing.specs.Conditions.{conditionEnd, conditionOn, truthAt, TruthIs, Standing, Before, ConditionRead, ConditionsRead}
 use Rattle.meaning.proofs.reading.Basics.{no-value}
 use Rattle.parsing.proofs.Finding.{among}
+use Rattle.parsing.proofs.Naming.{classed, class-number}
 use Rattle.parsing.proofs.Faults.{too-long, short-enough, within, later-fault-is}
 use Rattle.parsing.proofs.Patterning.{identifier-inside}
 use Rattle.parsing.proofs.Going.{check-wrong, stops, reads, has-stopped, has-read, follow-alone, makes, behind, behind-more, went-none, went-from, went-on, went-then}
@@ -131,19 +133,6 @@ value-of n k d =
     (λ l. ⊎-elim (λ e. absurd (d e)) (λ e. record { truth = true; same = rw e; number = sym e }) l)
     k
 
--- the number of a class that a number names
-abbrev numberIn : Option Class → ℕ
-numberIn none = 0
-numberIn (some c) = classNumber c
-
-pub class-number : (n : ℕ) (c : Class) → n < 5 → classAt n ≡ some c → classNumber c ≡ n
-class-number zero c h e = sym (ap numberIn e)
-class-number (suc zero) c h e = sym (ap numberIn e)
-class-number (suc (suc zero)) c h e = sym (ap numberIn e)
-class-number (suc (suc (suc zero))) c h e = sym (ap numberIn e)
-class-number (suc (suc (suc (suc zero)))) c h e = sym (ap numberIn e)
-class-number (suc (suc (suc (suc (suc n))))) c h e = absurd (omega arith)
-
 -- a condition that is read from a later place on is read from here
 earlier : {text : Bytes} {at from words : ℕ} {tape tape′ : List ℕ} {p q : Parsed Condition} {r : CodeParsed} → at ≤ from → p ≡ q
     → Agrees (ConditionRead text from words tape tape′) q r
@@ -191,7 +180,7 @@ module _ (text : Bytes) (from : ℕ) (x : Span) (c : Class) where
           → EndAgrees text from words tape tape′ x c (Stopped fault)
       end-no-truth e f = refused k (at-truth ∙ rw (k .unrolled, v .same, e)) f
 
-      pub end-reads : {words : ℕ} {tape tape′ : List ℕ} → Ready text from words → Before text words from x → {class word after : ℕ} → class < 5 → classAt class ≡ some c → (n ≡ 1 → ⊥)
+      pub end-reads : {words : ℕ} {tape tape′ : List ℕ} → Ready text from words → Before text words from x → {class word after : ℕ} → class < 5 → classOf class ≡ some c → (n ≡ 1 → ⊥)
           → word ≡ 768 + (x .past - x .from) * 10 + n + class
           → Wrote tape words (word ∷ View.part text x) after tape′ × T (every isQuiet (View.part text x))
           → EndAgrees text from words tape tape′ x c (Done (record { at = t .past; words = after; count = 0; parts = 0 }))
@@ -284,19 +273,6 @@ module _ (text table : List ℕ) (symbols from : ℕ) (c : Class) {t : Code.Plac
 
 -- A CONDITION AFTER ITS `,`
 
--- the class that a number below 5 names
-pub record Classed (n : ℕ) : Type 0 where
-  pub class : Class
-  pub same : classAt n ≡ some class
-
-pub classed : (n : ℕ) → n < 5 → Classed n
-classed zero h = record { class = digit; same = refl }
-classed (suc zero) h = record { class = upper; same = refl }
-classed (suc (suc zero)) h = record { class = lower; same = refl }
-classed (suc (suc (suc zero))) h = record { class = alphabetic; same = refl }
-classed (suc (suc (suc (suc zero)))) h = record { class = blank; same = refl }
-classed (suc (suc (suc (suc (suc n))))) h = absurd (omega arith)
-
 abbrev ConditionAgrees : Bytes → List ℕ → ℕ → ℕ → ℕ → List ℕ → List ℕ → CodeParsed → Type 0
 ConditionAgrees text table symbols from words tape tape′ r =
     Agrees (ConditionRead text from words tape tape′) (Reading.condition (symbolNames text table symbols) (stream text Tokens.inside from)) r
@@ -339,8 +315,8 @@ module _ (text table : List ℕ) (symbols from : ℕ) where
             → ConditionAgrees text table symbols from words tape tape′ (Stopped (record { answer = WrongName; place = t .place }))
         class-not p = stops _ _ _ (at-class ∙ rw p) refl refl
 
-        pub class-reads : {words : ℕ} {tape tape′ : List ℕ} {r : CodeParsed} (class : ℕ) → class < 5 → predicateOf (View.part text n) ≡ classAt class
-            → ((c : Class) → classAt class ≡ some c → OnAgrees text table symbols (t .past) words tape tape′ c r)
+        pub class-reads : {words : ℕ} {tape tape′ : List ℕ} {r : CodeParsed} (class : ℕ) → class < 5 → predicateOf (View.part text n) ≡ classOf class
+            → ((c : Class) → classOf class ≡ some c → OnAgrees text table symbols (t .past) words tape tape′ c r)
             → ConditionAgrees text table symbols from words tape tape′ r
         class-reads class low p a =
             let c = classed class low in

@@ -34,23 +34,19 @@ module _ {text : Bytes} {mode : Tokens.Mode} {at : ℕ} {t : Placed} (c : Comes 
       let s = known e in
       record { after = c .onward; closed = rw (s .0) tt; counted = s .1; charged = s .2; inside = c .inside }
 
-  pub symbol-at : {x : Span} → t .token ≡ Symbol x → Identifier text at x
-  symbol-at e =
-      let s = known e in
+  identified : {x : Span} → Sound text (Symbol x) (t .place) (t .past) → Identifier text at x
+  identified s =
       record {
         after = omega (arith, s .0, c .onward);
         some = omega (arith, s .0, s .1, s .2);
         inside = omega (arith, s .1, c .inside);
       }
 
+  pub symbol-at : {x : Span} → t .token ≡ Symbol x → Identifier text at x
+  symbol-at e = identified (known e)
+
   pub part-at : {x : Span} → t .token ≡ Part x → Identifier text at x
-  part-at e =
-      let s = known e in
-      record {
-        after = omega (arith, s .0, c .onward);
-        some = omega (arith, s .0, s .1, s .2);
-        inside = omega (arith, s .1, c .inside);
-      }
+  part-at e = identified (known e)
 
   pub symbol-past : {x : Span} → t .token ≡ Symbol x → x .past ≡ t .past
   symbol-past e = known e .1

@@ -5,15 +5,16 @@ use mathlib.Core.Bool.{Bool, true, not}
 use mathlib.Core.List.{List}
 use mathlib.Core.Option.{none, some}
 use native.Mathlib.Omega.{arith}
-use Rattle.meaning.specs.Choice.{Bytes, Name, pick, both, either, isSome, sameBytes}
-use Rattle.meaning.specs.Classes.{digit, upper, lower, alphabetic, blank, className}
+use Rattle.meaning.specs.Choice.{Bytes, Name, pick, both, either, sameBytes}
+use Rattle.meaning.specs.Classes.{Class, digit, upper, lower, alphabetic, blank, className, classNumber}
 use Rattle.meaning.specs.Names.{classNamed, predicateOf, isPredicate, isEmission}
 use Rattle.meaning.specs.Answers.{overLimit, wrongName}
 use Rattle.meaning.specs.Allowed.{member}
 use Rattle.meaning.specs.Reading.{faultUnless, calledFault}
+use Rattle.meaning.specs.Packing.{classOf}
 use Rattle.lexing.specs.View.{part}
 use Rattle.lexing.specs.declared.Span.{Span}
-use Rattle.parsing.specs.Tables.{Inside, classAt, declaredFaultIn}
+use Rattle.parsing.specs.Tables.{Inside, declaredFaultIn}
 use Rattle.parsing.proofs.Faults.{too-long, short-enough}
 
 -- the five names, asked in order
@@ -27,18 +28,29 @@ pub predicate-is : (n : Name) {d u l a b : Bool}
 unfolding classNamed
 predicate-is n p q r s t = rw (p, q, r, s, t)
 
--- a number below 5 names a class, 5 names none
-class-some : (r : ℕ) → r < 5 → isSome (classAt r) ≡ true
-class-some zero h = refl
-class-some (suc zero) h = refl
-class-some (suc (suc zero)) h = refl
-class-some (suc (suc (suc zero))) h = refl
-class-some (suc (suc (suc (suc zero)))) h = refl
-class-some (suc (suc (suc (suc (suc r))))) h = absurd (omega arith)
+-- the class that a number below 5 names; 5 names none
+pub record Classed (n : ℕ) : Type 0 where
+  pub class : Class
+  pub same : classOf n ≡ some class
+  pub number : classNumber class ≡ n
 
-module _ (n : Name) (r : ℕ) (e : predicateOf n ≡ classAt r) where
+pub classed : (n : ℕ) → n < 5 → Classed n
+classed zero h = record { class = digit; same = refl; number = refl }
+classed (suc zero) h = record { class = upper; same = refl; number = refl }
+classed (suc (suc zero)) h = record { class = lower; same = refl; number = refl }
+classed (suc (suc (suc zero))) h = record { class = alphabetic; same = refl; number = refl }
+classed (suc (suc (suc (suc zero)))) h = record { class = blank; same = refl; number = refl }
+classed (suc (suc (suc (suc (suc n))))) h = absurd (omega arith)
+
+pub class-number : (n : ℕ) (c : Class) → n < 5 → classOf n ≡ some c → classNumber c ≡ n
+class-number n c h e =
+    let k = classed n h in
+    let same : k .class ≡ c = cc in
+    rw (← same) (k .number)
+
+module _ (n : Name) (r : ℕ) (e : predicateOf n ≡ classOf r) where
   pub a-predicate : r < 5 → isPredicate n ≡ true
-  a-predicate h = rw e (class-some r h)
+  a-predicate h = rw (e, classed r h .same)
 
   pub no-predicate : r ≤ 5 → 5 ≤ r → predicateOf n ≡ none
   no-predicate low high = let w : r ≡ 5 = omega arith in e ∙ rw w

@@ -2,12 +2,10 @@
 use Prim.Native.Nat.{ℕ, suc, _+_, _/_, _%_, _≤_}
 use mathlib.Core.Bool.{Bool, not}
 use mathlib.Core.List.{List, [], _∷_}
-use mathlib.Core.Option.{Option, none, some}
-use lib.Dec.{T, leb, eqb}
+use lib.Dec.{T, leb}
 use lib.ListN.{length}
 use lib.Seq.{slice}
 use Rattle.meaning.specs.Choice.{Bytes, Name, pick, both, every, sameBytes}
-use Rattle.meaning.specs.Classes.{Class, digit, upper, lower, alphabetic, blank}
 use Rattle.meaning.specs.Names.{isReserved}
 use Rattle.meaning.specs.Answers.{wrongName}
 use Rattle.meaning.specs.Allowed.{member}
@@ -44,16 +42,6 @@ pub record Entries (text : Bytes) (table : List ℕ) (from to : ℕ) : Type 0 wh
 unfoldable pub position : Name → List Name → ℕ
 position x [] = 0
 position x (y ∷ ys) = let later = suc (position x ys) in pick (sameBytes x y) 0 later
-
--- a class by its number, and none by any other number
-abbrev pub classAt : ℕ → Option Class
-classAt n =
-    pick (eqb n 0) (some digit)
-    (pick (eqb n 1) (some upper)
-    (pick (eqb n 2) (some lower)
-    (pick (eqb n 3) (some alphabetic)
-    (pick (eqb n 4) (some blank)
-    none))))
 
 -- `declaredFault`, by the names declared before
 abbrev pub declaredFaultIn : List Name → Name → ℕ

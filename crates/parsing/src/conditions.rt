@@ -24,9 +24,10 @@ ghost use lib.Dec.{eqb};
 ghost use Rattle.meaning.specs.Classes.{Class};
 ghost use Rattle.meaning.specs.Tokens as Tokens;
 ghost use Rattle.meaning.specs.Reading as Reading;
+ghost use Rattle.meaning.specs.Packing.{classOf};
 ghost use Rattle.lexing.specs.View.{tokenOf, part, stream};
 ghost use Rattle.parsing.specs.Answered.{numberOf, Agrees};
-ghost use Rattle.parsing.specs.Tables.{Inside, Entries, classAt};
+ghost use Rattle.parsing.specs.Tables.{Inside, Entries};
 ghost use Rattle.parsing.specs.Written.{Ready};
 ghost use Rattle.parsing.specs.Patterns.{symbolNames};
 ghost use Rattle.parsing.specs.Conditions.{conditionEnd, conditionOn, TruthIs, Standing, Before, ConditionRead, ConditionsRead};
@@ -79,7 +80,7 @@ fn condition_end(
     x: Span,
 ) -> Parsed
     requires { ⌜ Ready (now text) from words × Before (now text) words from x × (class < 5) ⌝ }
-    ensures { λ r. ⌜ ((c : Class) → classAt class ≡ some c → Agrees (ConditionRead (now (text .entry)) from words (now (tape .entry)) (now (tape .exit)))
+    ensures { λ r. ⌜ ((c : Class) → classOf class ≡ some c → Agrees (ConditionRead (now (text .entry)) from words (now (tape .entry)) (now (tape .exit)))
         (conditionEnd c (part (now (text .entry)) x) (stream (now (text .entry)) Tokens.inside from)) r) ⌝ }
 {
     let close = match pass(text, from, Mode::Inside, 62) {
@@ -116,7 +117,7 @@ fn condition_on(
     class: usize,
 ) -> Parsed
     requires { ⌜ Ready (now text) from words × Entries (now text) (now table) 0 symbols × (class < 5) ⌝ }
-    ensures { λ r. ⌜ ((c : Class) → classAt class ≡ some c → Agrees (ConditionRead (now (text .entry)) from words (now (tape .entry)) (now (tape .exit)))
+    ensures { λ r. ⌜ ((c : Class) → classOf class ≡ some c → Agrees (ConditionRead (now (text .entry)) from words (now (tape .entry)) (now (tape .exit)))
         (conditionOn (symbolNames (now (text .entry)) (now (table .entry)) symbols) c (stream (now (text .entry)) Tokens.inside from)) r) ⌝ }
 {
     let t = lex(text, from, Mode::Inside);

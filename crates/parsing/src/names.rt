@@ -8,9 +8,10 @@ ghost use lib.ListN.{length};
 ghost use Rattle.meaning.specs.Choice.{sameBytes, startsWith};
 ghost use Rattle.meaning.specs.Names.{isEmission, predicateOf};
 ghost use Rattle.meaning.specs.Reading.{calledFault};
+ghost use Rattle.meaning.specs.Packing.{classOf};
 ghost use Rattle.lexing.specs.View.{part};
 ghost use Rattle.parsing.specs.Answered.{numberOf};
-ghost use Rattle.parsing.specs.Tables.{Inside, tableNames, Entries, position, classAt, declaredFaultIn};
+ghost use Rattle.parsing.specs.Tables.{Inside, tableNames, Entries, position, declaredFaultIn};
 
 // In bytes.
 pub const LONGEST_NAME: usize = 24;
@@ -112,7 +113,7 @@ pub fn find(text: &[u8], table: &[usize], from: usize, to: usize, x: Span) -> us
 // The class of a predicate by its number, or 5 where the name is no predicate's.
 pub fn class_named(text: &[u8], x: Span) -> usize
     requires { ⌜ Inside (now text) x ⌝ }
-    ensures { λ r. ⌜ (predicateOf (part (now (text .entry)) x) ≡ classAt r) × (r ≤ 5) ⌝ }
+    ensures { λ r. ⌜ (predicateOf (part (now (text .entry)) x) ≡ classOf r) × (r ≤ 5) ⌝ }
 {
     if spells(text, x, b"IsDigit") {
         return 0;

@@ -1,8 +1,8 @@
 -- The call's reader.
-use Prim.Native.Nat.{ℕ, zero, suc, _+_, _-_, _*_, _≤_, _<_}
-use mathlib.Core.Path.{_≡_, refl, sym, _∙_, ap}
-use mathlib.Core.Bool.{Bool, true, false, not}
-use mathlib.Core.List.{List, [], _∷_, _++_}
+use Prim.Native.Nat.{ℕ, suc, _+_, _-_, _*_, _≤_, _<_}
+use mathlib.Core.Path.{_≡_, refl, sym, _∙_}
+use mathlib.Core.Bool.{Bool, false}
+use mathlib.Core.List.{List, [], _∷_}
 use native.Mathlib.Numerals.{add-one}
 use native.Mathlib.Omega.{arith}
 use lib.Dec.{T, leb, ltb, eqb}
@@ -11,11 +11,11 @@ use types.Run.{OneOf}
 use denote.Enum.Declared.{tagOf}
 use borrow.Author.Tests.{lt-leb, le-leb, lt-ltb, le-ltb}
 use Rattle.meaning.specs.Choice.{Bytes, Name, both, every}
-use Rattle.meaning.specs.Tape.{tapeWord, named, callKind, closeKind, expressionTape}
+use Rattle.meaning.specs.Tape.{tapeWord, named, callKind, closeKind}
 use Rattle.meaning.specs.Tokens as Tokens
 use Rattle.meaning.specs.Grammar.{standing}
 use Rattle.meaning.specs.Reading as Reading
-use Rattle.meaning.specs.Reading.{Parsed, stopped, parsed, follow}
+use Rattle.meaning.specs.Reading.{Parsed, parsed, follow}
 use Rattle.lexing.proofs.Token as token
 use Rattle.lexing.specs.View as View
 use Rattle.lexing.specs.View.{stream, Comes}
@@ -33,10 +33,10 @@ use Rattle.parsing.specs.Answered.{numberOf, Agrees}
 use Rattle.parsing.specs.Written.{Wrote, isQuiet, Ready, Went}
 use Rattle.parsing.specs.Tokened.{tokenFault, Taken, Barred}
 use Rattle.parsing.specs.Patterns.{symbolNames}
-use Rattle.reading.specs.Expressions.{progressAt, Going, CallStands, ExpressionRead, callTape, CallRead, CloseGives, Closes}
+use Rattle.reading.specs.Expressions.{progressAt, Going, CallStands, ExpressionRead, CallRead, CloseGives, Closes}
 use Rattle.parsing.proofs.Choosing.{both-false}
-use Rattle.parsing.proofs.Naming.{part-length, name-fits}
-use Rattle.parsing.proofs.Going.{check-wrong, stops, reads, ReadAt, has-stopped, has-read, went-then, word-went}
+use Rattle.parsing.proofs.Faults.{part-length, within}
+use Rattle.parsing.proofs.Going.{check-wrong, stops, reads, has-stopped, has-read, went-then, word-went}
 use Rattle.parsing.proofs.Tokening.{NameFirst, passes-on, passes-not, name-first, names-not, refused}
 
 -- what the definition reads of a call after its `<`
@@ -114,7 +114,7 @@ module _ (text table : List ℕ) (symbols parts bound depth : ℕ) (s : Progress
         name-length = part-length text n (here .inside)
 
         pub name-short : n .past - n .from ≤ 24
-        name-short = name-fits text n (here .inside) _ f
+        name-short = within text n (here .inside) 24 3 _ f
 
         at-argument : callAt text table symbols parts bound depth s place
             ≡ afterName (Reading.expression bound (symbolNames text table symbols)) (depth + 1) (progressAt text table parts s) (t .place) (View.part text n)

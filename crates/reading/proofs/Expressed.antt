@@ -1,14 +1,14 @@
 -- The expression's reader: the loop over its items and calls.
-use Prim.Native.Nat.{ℕ, zero, suc, _+_, _-_, _≤_, _<_}
+use Prim.Native.Nat.{ℕ, suc, _+_, _-_, _≤_, _<_}
 use mathlib.Core.Path.{_≡_, refl, sym, _∙_, ap}
-use mathlib.Core.Bool.{Bool, true, false}
+use mathlib.Core.Bool.{true, false}
 use mathlib.Core.List.{List, [], _∷_, _++_, append-assoc, append-nil}
 use native.Mathlib.Omega.{arith}
-use lib.Dec.{T, eqb}
+use lib.Dec.{T}
 use lib.ListN.{length}
 use Rattle.meaning.specs.Choice.{Bytes, Name, every}
-use Rattle.meaning.specs.Tree.{Expression, end, thenCharacter, thenSymbol, thenPart, thenCall}
-use Rattle.meaning.specs.Tape.{named, symbolKind, partKind, callKind, closeKind, tapeWord, expressionTape}
+use Rattle.meaning.specs.Tree.{Expression, end, thenCall}
+use Rattle.meaning.specs.Tape.{named, callKind, closeKind, tapeWord, expressionTape}
 use Rattle.meaning.specs.Tokens as Tokens
 use Rattle.meaning.specs.Grammar.{standing, written}
 use Rattle.meaning.specs.Reading as Reading
@@ -24,7 +24,7 @@ use Rattle.parsing.specs.declared.progress.Parsed.the-variants.{Stopped, Done}
 use Rattle.reading.specs.declared.expressions.Joined.{Joined}
 use Rattle.reading.specs.declared.expressions.Joined.the-variants.{Taken, Wrong, Other}
 use Rattle.parsing.specs.Answered.{numberOf, Agrees}
-use Rattle.parsing.specs.Written.{isQuiet, Ready, Went}
+use Rattle.parsing.specs.Written.{isQuiet, Went}
 use Rattle.parsing.specs.Tokened.{signIs}
 use Rattle.parsing.specs.Patterns.{symbolNames, itemAt}
 use Rattle.reading.specs.Expressions.{progressAt, Going, CallStands, Stands, itemTape, TakenIn, TokenGives, JoinsToken, ExpressionRead, callTape, CallRead}

@@ -38,7 +38,7 @@ use Rattle.parsing.specs.Written.{Wrote, isQuiet, Ready, Went}
 use Rattle.parsing.specs.Tokened.{tokenFault, signIs, Taken, Barred}
 use Rattle.reading.specs.Sentences.{Each, SentencesRead}
 use Rattle.reading.specs.Functions.{FunctionStands, fromBrace, declared, Declarable, BodyRead, Opening, nameFault, DeclaredRead, SpareTo, isEnd, FunctionsRead}
-use Rattle.parsing.proofs.Naming.{part-length, name-fits}
+use Rattle.parsing.proofs.Faults.{part-length, within}
 use Rattle.parsing.proofs.Tabling.{Grown, grown, entry-name, entry-inside, none-yet, no-names}
 use Rattle.parsing.proofs.Going.{check-wrong, stops, reads, ReadAt, has-stopped, pass-follow, follow-alone, makes, went-none, went-from, went-on, went-then}
 use Rattle.parsing.proofs.Tokening.{NameFirst, sign-shown, passes-on, passes-not, name-first, names-not, refused, ready-place}
@@ -131,7 +131,7 @@ module _ {text names : List ℕ} {functions words : ℕ} {t : Code.Placed} (limi
             record {
               after = omega (arith, o .ready .charged, named-here .from);
               inside = named-here .inside;
-              brief = name-fits text n (named-here .inside) _ f;
+              brief = within text n (named-here .inside) 24 3 _ f;
               short = o .ready .short;
             }
 

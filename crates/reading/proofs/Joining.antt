@@ -1,20 +1,17 @@
 -- The expression's reader: a string, an s-variable and an e-variable joined to the expression.
-use Prim.Native.Nat.{ℕ, zero, suc, _+_, _-_, _*_, _≤_, _<_}
-use mathlib.Core.Path.{_≡_, refl, sym, _∙_, ap}
+use Prim.Native.Nat.{ℕ, suc, _+_, _-_, _≤_, _<_}
+use mathlib.Core.Path.{_≡_, refl, sym, _∙_}
 use mathlib.Core.Bool.{Bool, true, false}
-use mathlib.Core.List.{List, [], _∷_, _++_}
-use mathlib.Core.Option.{Option, none, some}
+use mathlib.Core.List.{List, _∷_}
+use mathlib.Core.Option.{none, some}
 use native.Mathlib.Omega.{arith}
-use lib.Dec.{T, leb, ltb, eqb, leb→le}
-use lib.ListN.{length, drop, take}
-use lib.Seq.{slice, drop-drop}
+use lib.Dec.{T, leb, eqb}
+use lib.ListN.{length, drop}
 use borrow.Author.Tests.{lt-leb, le-leb, lt-ltb, le-ltb}
-use Rattle.meaning.specs.Choice.{Bytes, Name, pick, both, every, isSome}
-use Rattle.meaning.specs.Answers.{overLimit, wrongLaterVariable}
-use Rattle.meaning.specs.Allowed.{maxIdentifier, comingAfter, member}
-use Rattle.meaning.specs.Tape.{named}
+use Rattle.meaning.specs.Choice.{Bytes, Name, both, every}
+use Rattle.meaning.specs.Allowed.{maxIdentifier, comingAfter}
 use Rattle.meaning.specs.Reading as Reading
-use Rattle.meaning.specs.Reading.{Item, characters, symbolItem, partItem, isItem, faultUnless, symbolFault}
+use Rattle.meaning.specs.Reading.{Item, characters, symbolItem, partItem, isItem, symbolFault}
 use Rattle.lexing.specs.View as View
 use Rattle.lexing.specs.View.{charactersIn, quotationAt}
 use Rattle.lexing.specs.declared.Span.{Span}
@@ -24,16 +21,15 @@ use Rattle.parsing.specs.declared.Answer.the-variants.{OverLimit, WrongLaterVar
 use Rattle.parsing.specs.declared.progress.Progress.{Progress}
 use Rattle.reading.specs.declared.expressions.Joined.{Joined}
 use Rattle.reading.specs.declared.expressions.Joined.the-variants.{Taken, Wrong, Other}
-use Rattle.parsing.specs.Tables.{Inside, namesIn, tableNames, Entries, position, inText}
+use Rattle.parsing.specs.Tables.{tableNames, Entries, position}
 use Rattle.parsing.specs.Answered.{numberOf}
-use Rattle.parsing.specs.Written.{Wrote, stringFrom, isQuiet, Ready, Went}
-use Rattle.parsing.specs.Patterns.{Variables, symbolNames, Identifier, StringAt, itemAt}
+use Rattle.parsing.specs.Written.{Wrote, stringFrom, isQuiet}
+use Rattle.parsing.specs.Patterns.{symbolNames, Identifier, StringAt, itemAt}
 use Rattle.reading.specs.Expressions.{progressAt, Going, TakenIn, WrongIn, ItemGives, JoinsItem, TokenGives, JoinsToken}
-use Rattle.parsing.proofs.Choosing.{holds, no-fault}
 use Rattle.parsing.proofs.Finding.{position-coming, table-length}
 use Rattle.parsing.proofs.Tabling.{entries-later, names-later}
-use Rattle.parsing.proofs.Faults.{too-long, not-too-long}
-use Rattle.parsing.proofs.Itemed.{string-went, string-quiet, identifier-length, variable-went, variable-quiet}
+use Rattle.parsing.proofs.Faults.{too-long, short-enough, within}
+use Rattle.parsing.proofs.Itemed.{string-went, string-quiet, variable-went, variable-quiet}
 use Rattle.parsing.proofs.Patterning.{identifier-inside}
 
 -- STRINGS
@@ -83,7 +79,7 @@ module _ {text : Bytes} {table : List ℕ} {symbols parts : ℕ} {s : Progress} 
   part-many m = record { wrong = refl; fault = rw (many refl m) }
 
   pub part-long : 8 < x .past - x .from → WrongIn text table symbols parts s (partItem name) OverLimit
-  part-long l = record { wrong = refl; fault = rw (too-long text x (identifier-inside i) l) }
+  part-long l = record { wrong = refl; fault = rw (too-long text x (identifier-inside i) 8 l) }
 
   few-items : s .count < 128 → leb (s .count + 1) 128 ≡ true
   few-items m = le-leb (s .count + 1) 128 (omega arith)
@@ -116,9 +112,7 @@ module _ {text : Bytes} {table : List ℕ} {symbols parts : ℕ} {s : Progress} 
         (record { at = x .past; words = words; count = s .count + 1; parts = s .parts })
     symbol-joined f e w =
         let o = variable-went (g .ready) i 1 e (w .0) in
-        let short : x .past - x .from ≤ 8 =
-        rw (identifier-length (g .ready) i) at (leb→le (length name) 8 (holds (no-fault (leb (length name) 8) 3 _ f .0)))
-        in
+        let short = within text x (identifier-inside i) 8 3 _ f in
         record {
           going = next-going (g .passed) (o .charged);
           at = refl;
@@ -149,7 +143,7 @@ module _ {text : Bytes} {table : List ℕ} {symbols parts : ℕ} {s : Progress} 
         unknown h = position-coming name coming ∙ rw (le-ltb (position name coming) (length coming) (rw count-of (omega (arith, g .passed))))
 
         pub part-unknown : 16 + parts ≤ r → WrongIn text table symbols parts s (partItem name) WrongLaterVariable
-        part-unknown h = record { wrong = refl; fault = rw (not-too-long text x (identifier-inside i) l, few-items m, unknown h) }
+        part-unknown h = record { wrong = refl; fault = rw (short-enough text x (identifier-inside i) 8 l, few-items m, unknown h) }
 
         pub part-joined : r < 16 + parts → {word : ℕ} {tape tape′ : List ℕ} {words : ℕ}
             → word ≡ 512 + (x .past - x .from)
@@ -164,7 +158,7 @@ module _ {text : Bytes} {table : List ℕ} {symbols parts : ℕ} {s : Progress} 
               at = refl;
               went = o;
               quiet = variable-quiet (g .ready) i 2 (omega arith) (w .1);
-              fault = rw (not-too-long text x (identifier-inside i) l, few-items m, known h);
+              fault = rw (short-enough text x (identifier-inside i) 8 l, few-items m, known h);
               progress = rw (known h, n, names-later text table (16 + s .parts) (16 + parts) (suc (position name coming)));
             }
 

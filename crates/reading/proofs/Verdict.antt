@@ -141,6 +141,3 @@ reads-all b e = record { answer = b .answer; words = b .words; tape = e ∙ rw (
 pub tree-words : {text : Bytes} {r : Reading} {tape′ : List ℕ} → Reads text r tape′ → take (r .words) tape′ ≡ treeTape (read text)
 unfolding tapeLeft
 tree-words {text} {r} a = rw (a .tape, a .words) (take-at (treeTape (read text)) _ (length (treeTape (read text))) refl)
-
-pub accepted-words : {text : Bytes} {r : Reading} {tape′ : List ℕ} (t : Table) → Reads text r tape′ → read text ≡ accepted t → take (r .words) tape′ ≡ tape t
-accepted-words t a e = tree-words a ∙ ap treeTape e

@@ -2,10 +2,6 @@
 use borrow.Author.Needs.{needs}
 use Rattle.reading.proofs.expressions.close_call.Statement.{statement}
 use Rattle.reading.proofs.expressions.close_call.Tie as tie
-use Rattle.reading.proofs.expressions.close_call.Reads as reads
-use Rattle.reading.proofs.expressions.close_call.Lts as lts
-use Rattle.parsing.proofs.progress.pass.Reads as pass-reads
-use Rattle.parsing.proofs.writing.put.Reads as put-reads
 use mathlib.Core.Path.{refl}
 use native.Mathlib.Omega.{arith}
 

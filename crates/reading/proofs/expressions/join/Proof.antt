@@ -2,11 +2,6 @@
 use borrow.Author.Needs.{needs}
 use Rattle.reading.proofs.expressions.join.Statement.{statement}
 use Rattle.reading.proofs.expressions.join.Tie as tie
-use Rattle.reading.proofs.expressions.join.Reads as reads
-use Rattle.reading.proofs.expressions.join.Lts as lts
-use Rattle.reading.proofs.expressions.join_part.Reads as join-part-reads
-use Rattle.reading.proofs.expressions.join_string.Reads as join-string-reads
-use Rattle.reading.proofs.expressions.join_symbol.Reads as join-symbol-reads
 use mathlib.Core.Path.{refl}
 use Rattle.parsing.proofs.Items.{string-at, symbol-at, part-at, symbol-past, part-past, item-string, item-symbol, item-part, item-other}
 use Rattle.reading.proofs.Joining.{joins}

@@ -2,10 +2,6 @@
 use borrow.Author.Needs.{needs}
 use Rattle.reading.proofs.expressions.join_part.Statement.{statement}
 use Rattle.reading.proofs.expressions.join_part.Tie as tie
-use Rattle.reading.proofs.expressions.join_part.Reads as reads
-use Rattle.reading.proofs.expressions.join_part.Lts as lts
-use Rattle.parsing.proofs.names.find.Reads as find-reads
-use Rattle.parsing.proofs.writing.put_named.Reads as put-named-reads
 use mathlib.Core.Path.{refl}
 use Rattle.parsing.proofs.Patterning.{identifier-inside}
 use Rattle.reading.proofs.Joining.{part-long, part-many, coming-entries, part-unknown, part-joined}

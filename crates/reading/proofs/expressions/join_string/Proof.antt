@@ -2,9 +2,6 @@
 use borrow.Author.Needs.{needs}
 use Rattle.reading.proofs.expressions.join_string.Statement.{statement}
 use Rattle.reading.proofs.expressions.join_string.Tie as tie
-use Rattle.reading.proofs.expressions.join_string.Reads as reads
-use Rattle.reading.proofs.expressions.join_string.Lts as lts
-use Rattle.parsing.proofs.writing.put_characters.Reads as put-characters-reads
 use Rattle.parsing.proofs.Itemed.{string-ready}
 use Rattle.reading.proofs.Joining.{string-many, string-joined}
 

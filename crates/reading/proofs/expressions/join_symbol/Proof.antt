@@ -2,11 +2,6 @@
 use borrow.Author.Needs.{needs}
 use Rattle.reading.proofs.expressions.join_symbol.Statement.{statement}
 use Rattle.reading.proofs.expressions.join_symbol.Tie as tie
-use Rattle.reading.proofs.expressions.join_symbol.Reads as reads
-use Rattle.reading.proofs.expressions.join_symbol.Lts as lts
-use Rattle.parsing.proofs.conditions.later_symbol_fault.Reads as later-symbol-fault-reads
-use Rattle.parsing.proofs.progress.is_accepted.Reads as is-accepted-reads
-use Rattle.parsing.proofs.writing.put_named.Reads as put-named-reads
 use mathlib.Core.Path.{refl}
 use Rattle.parsing.proofs.Choosing.{no-fault-here, a-fault-here}
 use Rattle.reading.proofs.Joining.{symbol-many, symbol-bad, symbol-joined}

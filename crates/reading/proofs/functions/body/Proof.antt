@@ -2,11 +2,6 @@
 use borrow.Author.Needs.{needs}
 use Rattle.reading.proofs.functions.body.Statement.{statement}
 use Rattle.reading.proofs.functions.body.Tie as tie
-use Rattle.reading.proofs.functions.body.Reads as reads
-use Rattle.reading.proofs.functions.body.Lts as lts
-use Rattle.parsing.proofs.progress.pass.Reads as pass-reads
-use Rattle.reading.proofs.sentences.sentences.Reads as sentences-reads
-use Rattle.parsing.proofs.writing.put_named.Reads as put-named-reads
 use mathlib.Core.Path.{refl}
 use native.Mathlib.Omega.{arith}
 use Rattle.reading.proofs.Functioned.{brace-not, name-room, body-ready, body-reads}

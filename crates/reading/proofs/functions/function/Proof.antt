@@ -2,13 +2,6 @@
 use borrow.Author.Needs.{needs}
 use Rattle.reading.proofs.functions.function.Statement.{statement}
 use Rattle.reading.proofs.functions.function.Tie as tie
-use Rattle.reading.proofs.functions.function.Reads as reads
-use Rattle.reading.proofs.functions.function.Lts as lts
-use Rattle.reading.proofs.functions.body.Reads as body-reads
-use Rattle.parsing.proofs.names.declared_fault.Reads as declared-fault-reads
-use Rattle.parsing.proofs.names.entry.Reads as entry-reads
-use Rattle.parsing.proofs.progress.is_accepted.Reads as is-accepted-reads
-use Rattle.parsing.proofs.progress.refuse.Reads as refuse-reads
 use mathlib.Core.Path.{refl}
 use native.Mathlib.Omega.{arith}
 use Rattle.parsing.proofs.Choosing.{no-fault-here, a-fault-here}

@@ -1,12 +1,6 @@
 -- `reading::functions::functions` meets its contract: the functions from the start are those from here.
 use Rattle.reading.proofs.functions.functions.Statement.{statement}
 use Rattle.reading.proofs.functions.functions.Tie as tie
-use Rattle.reading.proofs.functions.functions.Reads as reads
-use Rattle.reading.proofs.functions.functions.Lts as lts
-use Rattle.lexing.proofs.lex.Reads as lex-reads
-use Rattle.reading.proofs.functions.function.Reads as function-reads
-use Rattle.reading.proofs.functions.is_end.Reads as is-end-reads
-use Rattle.reading.proofs.functions.pass_spare.Reads as pass-spare-reads
 use Prim.Native.Nat.{_-_}
 use mathlib.Core.Path.{sym, _∙_}
 use native.Mathlib.Omega.{arith}

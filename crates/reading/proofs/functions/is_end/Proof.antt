@@ -2,8 +2,6 @@
 use borrow.Author.Needs.{needs}
 use Rattle.reading.proofs.functions.is_end.Statement.{statement}
 use Rattle.reading.proofs.functions.is_end.Tie as tie
-use Rattle.reading.proofs.functions.is_end.Reads as reads
-use Rattle.reading.proofs.functions.is_end.Lts as lts
 use Rattle.reading.proofs.Functioned.{no-end}
 
 enum-told : tie.Need-enum-told

@@ -2,10 +2,6 @@
 use borrow.Author.Needs.{needs}
 use Rattle.reading.proofs.functions.pass_spare.Statement.{statement}
 use Rattle.reading.proofs.functions.pass_spare.Tie as tie
-use Rattle.reading.proofs.functions.pass_spare.Reads as reads
-use Rattle.reading.proofs.functions.pass_spare.Lts as lts
-use Rattle.lexing.proofs.lex.Reads as lex-reads
-use Rattle.parsing.proofs.progress.is_sign.Reads as is-sign-reads
 use mathlib.Core.Path.{sym, _∙_}
 use Rattle.meaning.specs.Tokens.{outside}
 use Rattle.lexing.proofs.Stream.{comes}

@@ -2,11 +2,6 @@
 use borrow.Author.Needs.{needs}
 use Rattle.reading.proofs.sentences.after_sentence.Statement.{statement}
 use Rattle.reading.proofs.sentences.after_sentence.Tie as tie
-use Rattle.reading.proofs.sentences.after_sentence.Reads as reads
-use Rattle.reading.proofs.sentences.after_sentence.Lts as lts
-use Rattle.lexing.proofs.lex.Reads as lex-reads
-use Rattle.parsing.proofs.progress.is_sign.Reads as is-sign-reads
-use Rattle.parsing.proofs.progress.refuse.Reads as refuse-reads
 use mathlib.Core.Path.{sym, _∙_}
 use borrow.Author.Tests.{not-true, not-false}
 use Rattle.meaning.specs.Tokens.{inside}

@@ -2,8 +2,6 @@
 use borrow.Author.Needs.{needs}
 use Rattle.reading.proofs.sentences.begins.Statement.{statement}
 use Rattle.reading.proofs.sentences.begins.Tie as tie
-use Rattle.reading.proofs.sentences.begins.Reads as reads
-use Rattle.reading.proofs.sentences.begins.Lts as lts
 use Rattle.reading.proofs.Sentenced.{begins-sign, begins-other}
 
 enum-told : tie.Need-enum-told

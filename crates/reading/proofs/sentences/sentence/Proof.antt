@@ -1,12 +1,6 @@
 -- `reading::sentences::sentence` meets its contract.
 use Rattle.reading.proofs.sentences.sentence.Statement.{statement}
 use Rattle.reading.proofs.sentences.sentence.Tie as tie
-use Rattle.reading.proofs.sentences.sentence.Reads as reads
-use Rattle.reading.proofs.sentences.sentence.Lts as lts
-use Rattle.parsing.proofs.conditions.conditions.Reads as conditions-reads
-use Rattle.parsing.proofs.names.variable_room.Reads as variable-room-reads
-use Rattle.parsing.proofs.patterns.pattern.Reads as pattern-reads
-use Rattle.reading.proofs.sentences.sentence_end.Reads as sentence-end-reads
 use borrow.Author.Needs.{needs}
 use Rattle.reading.proofs.Sentenced.{pattern-stops, pattern-done, pattern-ready, conditions-stop, conditions-done, conditions-ready, sentence-reads}
 use mathlib.Core.Path.{sym}

@@ -1,11 +1,6 @@
 -- `reading::sentences::sentence_end` meets its contract.
 use Rattle.reading.proofs.sentences.sentence_end.Statement.{statement}
 use Rattle.reading.proofs.sentences.sentence_end.Tie as tie
-use Rattle.reading.proofs.sentences.sentence_end.Reads as reads
-use Rattle.reading.proofs.sentences.sentence_end.Lts as lts
-use Rattle.reading.proofs.expressions.expression.Reads as expression-reads
-use Rattle.parsing.proofs.progress.pass.Reads as pass-reads
-use Rattle.parsing.proofs.writing.put.Reads as put-reads
 use borrow.Author.Needs.{needs}
 use native.Mathlib.Omega.{arith}
 use Rattle.reading.proofs.Sentenced.{equals-not, equals-room, equals-going, equals-reads}

@@ -1,14 +1,6 @@
 -- `reading::sentences::sentences` meets its contract: the sentences from the start are those from here.
 use Rattle.reading.proofs.sentences.sentences.Statement.{statement}
 use Rattle.reading.proofs.sentences.sentences.Tie as tie
-use Rattle.reading.proofs.sentences.sentences.Reads as reads
-use Rattle.reading.proofs.sentences.sentences.Lts as lts
-use Rattle.lexing.proofs.lex.Reads as lex-reads
-use Rattle.parsing.proofs.progress.refuse.Reads as refuse-reads
-use Rattle.reading.proofs.sentences.after_sentence.Reads as after-sentence-reads
-use Rattle.reading.proofs.sentences.begins.Reads as begins-reads
-use Rattle.reading.proofs.sentences.sentence.Reads as sentence-reads
-use Rattle.parsing.proofs.writing.put.Reads as put-reads
 use mathlib.Core.Path.{sym, _∙_}
 use native.Mathlib.Omega.{arith}
 use borrow.Author.Needs.{needs}
