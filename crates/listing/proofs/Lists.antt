@@ -8,18 +8,20 @@ use mathlib.Core.List.{List, [], _∷_, _++_, append-assoc}
 use borrow.Author.Tests.{lt-ltb, le-ltb, lt-leb, ne-eqb}
 use lib.Dec.{T, ltb, leb, eqb, ltb→lt}
 use lib.ListN.{length, length-append}
-use Rattle.meaning.specs.Choice.{Bytes, Name, pick, every}
+use Rattle.meaning.specs.Choice.{Bytes, Name, pick, both, every}
 use Rattle.meaning.specs.Classes.{Class, classNumber, className, digit, upper, lower, alphabetic, blank}
-use Rattle.meaning.specs.Tree.{character, symbol, Element, letter, part, Condition, Expression, Sentence, Function, Table}
-use Rattle.meaning.specs.Allowed.{maxName, isByte, spelledIdentifier, spelledElement, allowedSentence, someSentence, allowedFunction, allowed}
+use Rattle.meaning.specs.Tree.{character, symbol, Element, letter, part, Condition, Expression, end, thenCharacter, thenSymbol, thenPart, thenCall, Sentence, Function, Table}
+use Rattle.meaning.specs.Allowed.{maxName, isByte, spelledName, spelledIdentifier, spelledElement, allowedSentence, someSentence, allowedFunction, allowed}
 use Rattle.meaning.specs.Tape.{tapeWord, symbolKind, partKind, conditionKind, equalsKind, closeKind, nextKind, endKind, functionKind, callKind, named, patternTape, truthNumber, conditionTape, conditionsTape, expressionTape, sentenceTape, sentencesTape, functionTape, tape}
 use Rattle.meaning.specs.Grammar.{truthByte}
 use Rattle.meaning.specs.Listing.{Quoted, unquoted, inString, afterCode, closeQuote, isCoded, afterCharacter, quotedCharacter, symbolText, partText, patternText, conditionText, conditionsText, expressionText, withoutBlank, sentenceText, sentencesText, functionText, listing}
 use Rattle.meaning.proofs.laws.Passing.{both-left, both-right, every-head, every-tail}
+use Rattle.meaning.proofs.laws.Words.{class-below}
+use Rattle.meaning.proofs.roundtrip.Legible.{legible}
 use Rattle.listing.specs.declared.State.{State}
 use Rattle.listing.specs.declared.State.the-variants.{Start, Plain, InString, AfterCode, Name as NameLeft, Condition as ConditionLeft, Header}
 use Rattle.listing.specs.Steps.{Step, step, ending, parting, characterStep, classText, truthText, partedStep, endedStep, kindStep, itemStep, copyStep, wordStep, listFrom}
-use Rattle.listing.proofs.Spelled.{Short, short-identifier, Spelled, spelledEnd, spelledCharacter, spelledSymbol, spelledPart, spelledCall, Shorts, noCondition, oneMore, Written, sentence-written, short-name}
+use Rattle.listing.proofs.Spelled.{Short, short-name, short-identifier, spelledVariable, Written, sentence-written}
 
 -- ONE WORD
 
@@ -174,21 +176,28 @@ pattern-listed (part x ∷ es) t {rest} {after} f q =
     (pattern-listed es (both-right (spelledIdentifier x) (every spelledElement es) t) f unquoted) q
 
 -- an expression, and what follows it
-expression-listed : {e : Expression} → Spelled e → {rest : List ℕ} {after : Bytes} → Follows rest after → (q : Quoted) →
+expression-listed : (e : Expression) → T (legible e) → {rest : List ℕ} {after : Bytes} → Follows rest after → (q : Quoted) →
     listFrom (standing q) (expressionTape e ++ rest) ≡ expressionText q e ++ after
-unfolding expressionTape expressionText
-expression-listed spelledEnd f q = f .at q
-expression-listed (spelledCharacter {c = c} {e = e} h d) {rest} {after} f q =
-    character-then (expressionTape e) rest (expressionText (afterCharacter q c) e) after c h q (expression-listed d f (afterCharacter q c))
-expression-listed (spelledSymbol {x = x} {e = e} h d) {rest} {after} f q =
-    item-then (expressionTape e) rest (expressionText unquoted e) after (named symbolKind x) (symbolText x) (named-follows symbol-begins h) (expression-listed d f unquoted) q
-expression-listed (spelledPart {x = x} {e = e} h d) {rest} {after} f q =
-    item-then (expressionTape e) rest (expressionText unquoted e) after (named partKind x) (partText x) (named-follows part-begins h) (expression-listed d f unquoted) q
-expression-listed (spelledCall {place = place} {n = n} {a = a} {e = e} h da de) {rest} {after} f q =
+unfolding expressionTape expressionText legible
+expression-listed end t f q = f .at q
+expression-listed (thenCharacter c e) t {rest} {after} f q =
+    character-then (expressionTape e) rest (expressionText (afterCharacter q c) e) after c (ltb→lt c 256 (both-left (isByte c) (legible e) t)) q
+    (expression-listed e (both-right (isByte c) (legible e) t) f (afterCharacter q c))
+expression-listed (thenSymbol x e) t {rest} {after} f q =
+    item-then (expressionTape e) rest (expressionText unquoted e) after (named symbolKind x) (symbolText x)
+    (named-follows symbol-begins (short-identifier x (both-left (spelledIdentifier x) (legible e) t)))
+    (expression-listed e (both-right (spelledIdentifier x) (legible e) t) f unquoted) q
+expression-listed (thenPart x e) t {rest} {after} f q =
+    item-then (expressionTape e) rest (expressionText unquoted e) after (named partKind x) (partText x)
+    (named-follows part-begins (short-identifier x (both-left (spelledIdentifier x) (legible e) t)))
+    (expression-listed e (both-right (spelledIdentifier x) (legible e) t) f unquoted) q
+expression-listed (thenCall place n a e) t {rest} {after} f q =
+    let inner = both-right (spelledName n) (both (legible a) (legible e)) t in
     item-then (expressionTape a ++ tapeWord closeKind 0 ∷ expressionTape e) rest (expressionText unquoted a ++ 62 ∷ expressionText unquoted e) after
-    (named (callKind + place) n) (32 ∷ 60 ∷ n) (named-follows (call-begins place) h)
+    (named (callKind + place) n) (32 ∷ 60 ∷ n) (named-follows (call-begins place) (short-name n (both-left (spelledName n) (both (legible a) (legible e)) t)))
     (rw (append-assoc (expressionTape a) (tapeWord closeKind 0 ∷ expressionTape e) rest)
-    (expression-listed da (close-follows (expressionTape e ++ rest)) unquoted ∙ rw (expression-listed de f unquoted) (simp append-assoc))) q
+    (expression-listed a (both-left (legible a) (legible e) inner) (close-follows (expressionTape e ++ rest)) unquoted
+    ∙ rw (expression-listed e (both-right (legible a) (legible e) inner) f unquoted) (simp append-assoc))) q
 
 -- CONDITIONS
 
@@ -198,13 +207,6 @@ class-named upper = refl
 class-named lower = refl
 class-named alphabetic = refl
 class-named blank = refl
-
-class-below : (k : Class) → classNumber k < 5
-class-below digit = omega arith
-class-below upper = omega arith
-class-below lower = omega arith
-class-below alphabetic = omega arith
-class-below blank = omega arith
 
 -- what a condition's word carries is read off it
 record Carries (count class : ℕ) (expected : Bool) (carried : ℕ) : Type 0 where
@@ -253,12 +255,13 @@ condition-follows c d ws =
     (ap (λ (l : Bytes). 44 ∷ 32 ∷ 60 ∷ l) (regrouped (className (c .predicate)) x tail (listFrom Plain ws))) in
     rw (← spelled) (ended-follows (tapeWord conditionKind (carriedBy c)) opening (ConditionLeft (length x) truth) (condition-word c d) (x ++ ws))
 
-conditions-follow : {cs : List Condition} → Shorts cs → {rest : List ℕ} {after : Bytes} → Follows rest after → Follows (conditionsTape cs ++ rest) (conditionsText cs ++ after)
+conditions-follow : (cs : List Condition) → T (every spelledVariable cs) → {rest : List ℕ} {after : Bytes} → Follows rest after →
+    Follows (conditionsTape cs ++ rest) (conditionsText cs ++ after)
 unfolding conditionsTape conditionsText
-conditions-follow noCondition f = f
-conditions-follow (oneMore {c = c} {cs = cs} d ds) {rest} {after} f =
-    rw (append-assoc (conditionTape c) (conditionsTape cs) rest, append-assoc (conditionText c) (conditionsText cs) after, ← (conditions-follow ds f .at unquoted))
-    (condition-follows c d (conditionsTape cs ++ rest))
+conditions-follow [] t f = f
+conditions-follow (c ∷ cs) t {rest} {after} f =
+    rw (append-assoc (conditionTape c) (conditionsTape cs) rest, append-assoc (conditionText c) (conditionsText cs) after, ← (conditions-follow cs (every-tail spelledVariable c cs t) f .at unquoted))
+    (condition-follows c (short-identifier (c .variable) (every-head spelledVariable c cs t)) (conditionsTape cs ++ rest))
 
 -- SENTENCES
 
@@ -271,9 +274,9 @@ sentence-listed {s} d {rest} f =
     rw (
       append-assoc (patternTape (s .pattern)) (conditionsTape (s .conditions) ++ tail) rest,
       append-assoc (conditionsTape (s .conditions)) tail rest,
-      ← (expression-listed (d .expression) f unquoted),
+      ← (expression-listed (s .expression) (d .expression) f unquoted),
     )
-    (pattern-listed (s .pattern) (d .pattern) (conditions-follow (d .conditions) (equals-follows (expressionTape (s .expression) ++ rest))) unquoted)
+    (pattern-listed (s .pattern) (d .pattern) (conditions-follow (s .conditions) (d .conditions) (equals-follows (expressionTape (s .expression) ++ rest))) unquoted)
 
 -- no blank stands before a line's first item
 abbrev Leads : ℕ → Type 0
@@ -288,18 +291,19 @@ named-leads {kind} k x t =
     let d = short-identifier x t in
     leads (tapeWord kind (length x)) (named-item k d Start) (named-item k d Plain) (λ l. refl)
 
-line-start : (p : List Element) → T (every spelledElement p) → {cs : List Condition} → Shorts cs → (tail rest : List ℕ) →
+line-start : (p : List Element) → T (every spelledElement p) → (cs : List Condition) → T (every spelledVariable cs) → (tail rest : List ℕ) →
     let line = (patternTape p ++ (conditionsTape cs ++ tapeWord equalsKind 0 ∷ tail)) ++ rest in
     listFrom Start line ≡ withoutBlank (listFrom Plain line)
 unfolding patternTape conditionsTape every
-line-start [] t noCondition tail rest = leads (tapeWord equalsKind 0) refl refl (λ l. refl) (tail ++ rest)
-line-start [] t (oneMore {c = c} d ds) tail rest =
+line-start [] t [] u tail rest = leads (tapeWord equalsKind 0) refl refl (λ l. refl) (tail ++ rest)
+line-start [] t (c ∷ cs) u tail rest =
+    let d = short-identifier (c .variable) (every-head spelledVariable c cs u) in
     leads (tapeWord conditionKind (carriedBy c)) (condition-word c d Start) (condition-word c d Plain) (λ l. refl) _
-line-start (letter (character c) ∷ es) t ds tail rest =
+line-start (letter (character c) ∷ es) t cs u tail rest =
     let h = ltb→lt c 256 (both-left (isByte c) (every spelledElement es) t) in
     leads c (character-item Start c h) (character-item Plain c h) (λ l. refl) _
-line-start (letter (symbol x) ∷ es) t ds tail rest = named-leads symbol-begins x (both-left (spelledIdentifier x) (every spelledElement es) t) _
-line-start (part x ∷ es) t ds tail rest = named-leads part-begins x (both-left (spelledIdentifier x) (every spelledElement es) t) _
+line-start (letter (symbol x) ∷ es) t cs u tail rest = named-leads symbol-begins x (both-left (spelledIdentifier x) (every spelledElement es) t) _
+line-start (part x ∷ es) t cs u tail rest = named-leads part-begins x (both-left (spelledIdentifier x) (every spelledElement es) t) _
 
 -- where a line begins with a byte, dropping its blank leaves what comes after it alone
 withoutBlank-append : (line rest : Bytes) → 0 < length line → withoutBlank (line ++ rest) ≡ withoutBlank line ++ rest
@@ -321,7 +325,7 @@ line-append p c e after =
 line-listed : {s : Sentence} → Written s → {rest : List ℕ} {after : Bytes} → Follows rest (59 ∷ 10 ∷ after) →
     listFrom Start (sentenceTape s ++ rest) ≡ sentenceText s ++ after
 line-listed {s} d {rest} {after} f =
-    line-start (s .pattern) (d .pattern) (d .conditions) (expressionTape (s .expression)) rest
+    line-start (s .pattern) (d .pattern) (s .conditions) (d .conditions) (expressionTape (s .expression)) rest
     ∙ ap withoutBlank (sentence-listed d f)
     ∙ line-append (patternText unquoted (s .pattern)) (conditionsText (s .conditions)) (expressionText unquoted (s .expression)) after
 
