@@ -11,6 +11,7 @@ ghost use Rattle.meaning.specs.Listing.{decimal, isAfterCode, isCoded, isEscape
 ghost use Rattle.listing.specs.Put.{Put, farthest};
 ghost use Rattle.listing.specs.Steps.{quotedIn, isQuoted, isStart, ending, gap, parting, quoting, characterStep, classText, truthText, conditionStep, partedStep, endedStep, Wrote};
 
+// Whether a string is open.
 pub fn is_quoted(state: State) -> bool
     ensures { λ r. ⌜ r ≡ isQuoted state ⌝ }
 {
@@ -25,6 +26,7 @@ pub fn is_quoted(state: State) -> bool
     }
 }
 
+// Whether a line begins.
 pub fn is_start(state: State) -> bool
     ensures { λ r. ⌜ r ≡ isStart state ⌝ }
 {
@@ -39,6 +41,7 @@ pub fn is_start(state: State) -> bool
     }
 }
 
+// Whether a digit that came next would be read as part of a code.
 pub fn is_after_code(state: State) -> bool
     ensures { λ r. ⌜ r ≡ isAfterCode (quotedIn state) ⌝ }
 {
@@ -75,6 +78,7 @@ pub fn is_coded(state: State, character: u8) -> bool
     false
 }
 
+// Whether a character has a backslash before it.
 pub fn is_escaped(character: u8) -> bool
     ensures { λ r. ⌜ r ≡ isEscaped character ⌝ }
 {
@@ -109,6 +113,7 @@ pub fn put_gap(state: State, out: &mut [u8], at: usize) -> usize
     put(out, at, b' ')
 }
 
+// What stands between two items.
 pub fn put_parting(state: State, out: &mut [u8], at: usize) -> usize
     requires { ⌜ at + 1 < farthest ⌝ }
     ensures { λ r. ⌜ Put at (now (out .entry)) (parting state) r (now (out .exit)) ⌝ }
@@ -154,6 +159,7 @@ pub fn put_escape(byte: u8, out: &mut [u8], at: usize) -> usize
     put(out, next, byte)
 }
 
+// A character inside a string.
 pub fn put_character(state: State, character: u8, out: &mut [u8], at: usize) -> usize
     requires { ⌜ at + 3 < farthest ⌝ }
     ensures { λ r. ⌜ Put at (now (out .entry)) (characterText (quotedIn state) character) r (now (out .exit)) ⌝ }

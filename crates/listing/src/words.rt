@@ -84,6 +84,7 @@ pub fn one_less(n: usize) -> usize
     n - 1
 }
 
+// One word: an item, or a byte of a name that is being copied.
 pub fn list_word(state: State, word: u32, out: &mut [u8], at: usize) -> Stepped
     requires { ⌜ at + 20 < farthest ⌝ }
     ensures { λ r. ⌜ Wrote at (now (out .entry)) (wordStep state word) r (now (out .exit)) ⌝ }

@@ -52,12 +52,14 @@ pub enum Places {
     Unknown,
 }
 
+// A word's number as a place or a count.
 pub fn wide(word: u32) -> usize
     ensures { λ r. ⌜ r ≡ word ⌝ }
 {
     word as usize
 }
 
+// The cell so far from the beginning of the field.
 fn byte_at(field: &[u8], index: usize) -> Cell
     ensures { λ r. ⌜ cellMeant r ≡ nth index (now (field .entry)) ⌝ }
 {
@@ -68,6 +70,7 @@ fn byte_at(field: &[u8], index: usize) -> Cell
     }
 }
 
+// The cell so far back from the end; 1 is the last.
 fn byte_before_end(field: &[u8], back: usize) -> Cell
     ensures { λ r. ⌜ cellMeant r ≡ cellAt (fromEnd back) (now (field .entry)) 0 ⌝ }
 {
@@ -78,6 +81,7 @@ fn byte_before_end(field: &[u8], back: usize) -> Cell
     }
 }
 
+// The cell so far from a place, which may lie past the end.
 fn byte_after(field: &[u8], place: usize, offset: usize) -> Cell
     ensures { λ r. ⌜ cellMeant r ≡ nth (place + offset) (now (field .entry)) ⌝ }
 {
@@ -107,6 +111,7 @@ fn told(ok: bool) -> Checked
     if ok { Checked::Passed } else { Checked::Failed }
 }
 
+// The byte at a site is the one that is asked for.
 fn look(field: &[u8], place: usize, word: u32) -> Checked
     ensures { λ r. ⌜ checkedMeant r ≡ tested (lookOf (siteOf (firstIn word) (secondIn word)) (thirdIn word)) (now (field .entry)) place ⌝ }
 {
@@ -116,6 +121,7 @@ fn look(field: &[u8], place: usize, word: u32) -> Checked
     told((word / 16777216 % 256) as u8 == b)
 }
 
+// The bytes at two sites are equal.
 fn compare(field: &[u8], place: usize, word: u32) -> Checked
     ensures { λ r. ⌜ checkedMeant r ≡ tested (compareOf (siteOf (firstIn word % 4) (secondIn word)) (siteOf (firstIn word / 4) (thirdIn word))) (now (field .entry)) place ⌝ }
 {
@@ -129,6 +135,7 @@ fn compare(field: &[u8], place: usize, word: u32) -> Checked
     told(b == a)
 }
 
+// The byte at a site is in a class, or is not, as the condition has it.
 fn predicate(bits: &[u8; 256], field: &[u8], place: usize, word: u32) -> Checked
     requires { ⌜ Answers (now bits) ⌝ }
     ensures { λ r. ⌜ checkedMeant r ≡ tested (predicateFor (siteOf (firstIn word % 4) (secondIn word)) (classOf (thirdIn word)) (eqb (firstIn word / 4) 1)) (now (field .entry)) place ⌝ }
@@ -150,6 +157,7 @@ fn predicate(bits: &[u8; 256], field: &[u8], place: usize, word: u32) -> Checked
     }
 }
 
+// One test at a place, by its number.
 fn check(bits: &[u8; 256], field: &[u8], place: usize, word: u32) -> Checked
     requires { ⌜ Answers (now bits) ⌝ }
     ensures { λ r. ⌜ checkedMeant r ≡ tested (testOf word) (now (field .entry)) place ⌝ }

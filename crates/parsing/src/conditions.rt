@@ -11,6 +11,7 @@ use crate::progress::is_accepted;
 use crate::progress::is_sign;
 use crate::progress::pass;
 use crate::progress::refuse;
+use crate::writing::CONDITION_WORD;
 use crate::writing::put_named;
 use lexing::Mode;
 use lexing::Placed;
@@ -61,10 +62,10 @@ fn truth_in(text: &[u8], t: Placed) -> usize
         return 1;
     }
     let byte = text[t.place + 1];
-    if byte == 84 {
+    if byte == b'T' {
         return 5;
     }
-    if byte == 70 {
+    if byte == b'F' {
         return 0;
     }
     1
@@ -83,11 +84,11 @@ fn condition_end(
     ensures { λ r. ⌜ ((c : Class) → classOf class ≡ some c → Agrees (ConditionRead (now (text .entry)) from words (now (tape .entry)) (now (tape .exit)))
         (conditionEnd c (part (now (text .entry)) x) (stream (now (text .entry)) Tokens.inside from)) r) ⌝ }
 {
-    let close = match pass(text, from, Mode::Inside, 62) {
+    let close = match pass(text, from, Mode::Inside, b'>') {
         Passed::Past(at) => at,
         Passed::Refused(fault) => return Parsed::Stopped(fault),
     };
-    let colon = match pass(text, close, Mode::Inside, 58) {
+    let colon = match pass(text, close, Mode::Inside, b':') {
         Passed::Past(at) => at,
         Passed::Refused(fault) => return Parsed::Stopped(fault),
     };
@@ -96,7 +97,7 @@ fn condition_end(
     if truth == 1 {
         return Parsed::Stopped(refuse(t));
     }
-    let word = (768 + (x.past - x.from) * 10 + truth + class) as u32;
+    let word = (CONDITION_WORD + (x.past - x.from) * 10 + truth + class) as u32;
     let after = put_named(text, tape, words, word, x);
     Parsed::Done(Progress {
         at: t.past,
@@ -148,7 +149,7 @@ fn condition(
     ensures { λ r. ⌜ Agrees (ConditionRead (now (text .entry)) from words (now (tape .entry)) (now (tape .exit)))
         (Reading.condition (symbolNames (now (text .entry)) (now (table .entry)) symbols) (stream (now (text .entry)) Tokens.inside from)) r ⌝ }
 {
-    let open = match pass(text, from, Mode::Inside, 60) {
+    let open = match pass(text, from, Mode::Inside, b'<') {
         Passed::Past(at) => at,
         Passed::Refused(fault) => return Parsed::Stopped(fault),
     };
@@ -191,7 +192,7 @@ pub fn conditions(
     let mut left: usize = 8;
     loop {
         let t = lex(text, at, Mode::Inside);
-        if !is_sign(t, 44) {
+        if !is_sign(t, b',') {
             return Parsed::Done(Progress {
                 at: t.place,
                 words: to,

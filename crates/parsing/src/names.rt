@@ -30,6 +30,7 @@ pub fn variable_room() -> [usize; 18]
     [0; 18]
 }
 
+// A name's entry in a table.
 pub fn entry(name: Span) -> usize
     requires { ⌜ (name .from ≤ name .past) × (name .past ≤ 32768) ⌝ }
     ensures { λ r. ⌜ r ≡ name .from * 32 + (name .past - name .from) ⌝ }
@@ -133,6 +134,7 @@ pub fn class_named(text: &[u8], x: Span) -> usize
     5
 }
 
+// Names that begin with `Emit` are emission.
 pub fn is_emission(text: &[u8], x: Span) -> bool
     requires { ⌜ Inside (now text) x ⌝ }
     ensures { λ r. ⌜ r ≡ isEmission (part (now (text .entry)) x) ⌝ }

@@ -6,6 +6,8 @@ use crate::progress::Fault;
 use crate::progress::Parsed;
 use crate::progress::Progress;
 use crate::progress::is_accepted;
+use crate::writing::PART_WORD;
+use crate::writing::SYMBOL_WORD;
 use crate::writing::put_characters;
 use crate::writing::put_named;
 use lexing::Mode;
@@ -51,6 +53,7 @@ fn still_ending(ending: bool, count: usize) -> bool
     if count == 0 { ending } else { false }
 }
 
+// A string added to a pattern.
 fn add_string(
     text: &[u8],
     tape: &mut [u32; 32768],
@@ -114,6 +117,7 @@ fn remember(table: &mut [usize; 18], known: usize, symbols: usize, name: usize) 
     known + 1
 }
 
+// An s-variable added to a pattern, and to the table if it is new there.
 fn add_symbol(
     text: &[u8],
     tape: &mut [u32; 32768],
@@ -131,7 +135,7 @@ fn add_symbol(
         return Added::Wrong(fault);
     }
     let symbols = remember(table, known, p.symbols, entry(x));
-    let word = (256 + (x.past - x.from)) as u32;
+    let word = (SYMBOL_WORD + (x.past - x.from)) as u32;
     let words = put_named(text, tape, p.words, word, x);
     Added::Taken(Counts {
         at: x.past,
@@ -143,6 +147,7 @@ fn add_symbol(
     })
 }
 
+// What is wrong with an e-variable of a pattern.
 fn part_fault(text: &[u8], table: &[usize], p: Counts, x: Span) -> Answer
     requires { ⌜ Held (now text) (now table) p × Identifier (now text) (p .at) x ⌝ }
     ensures { λ r. ⌜ numberOf r ≡ patternPartFault (symbolNames (now (text .entry)) (now (table .entry)) (p .symbols))
@@ -167,6 +172,7 @@ fn part_fault(text: &[u8], table: &[usize], p: Counts, x: Span) -> Answer
     Answer::Accepted
 }
 
+// An e-variable added to a pattern and to the table.
 fn add_part(
     text: &[u8],
     tape: &mut [u32; 32768],
@@ -185,7 +191,7 @@ fn add_part(
     let parts = p.parts;
     let last = 16 + parts;
     table[last] = entry(x);
-    let word = (512 + (x.past - x.from)) as u32;
+    let word = (PART_WORD + (x.past - x.from)) as u32;
     let words = put_named(text, tape, p.words, word, x);
     Added::Taken(Counts {
         at: x.past,
@@ -197,6 +203,7 @@ fn add_part(
     })
 }
 
+// A token added to a pattern, by the item that it is.
 fn add(text: &[u8], tape: &mut [u32; 32768], table: &mut [usize; 18], p: Counts, t: Placed) -> Added
     requires { ⌜ Held (now text) (now table) p × Comes (now text) Tokens.inside (p .at) t ⌝ }
     ensures { λ r. ⌜ AddsToken (now (text .entry)) (now (table .entry)) p (now (tape .entry)) t (now (table .exit)) (now (tape .exit)) r ⌝ }

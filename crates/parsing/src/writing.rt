@@ -12,6 +12,26 @@ ghost use Rattle.lexing.specs.View.{IsClosed, charactersIn, part};
 ghost use Rattle.parsing.specs.Tables.{Inside};
 ghost use Rattle.parsing.specs.Written.{cleared, isQuiet, Ready, Wrote, stringFrom};
 
+// Words of the tape: a kind times 256, to which what the word carries is added.
+pub const SYMBOL_WORD: usize = 256;
+
+pub const PART_WORD: usize = 512;
+
+pub const CONDITION_WORD: usize = 768;
+
+pub const EQUALS_WORD: u32 = 1024;
+
+pub const CLOSE_WORD: u32 = 1280;
+
+pub const NEXT_WORD: u32 = 1536;
+
+pub const END_WORD: u32 = 1792;
+
+pub const FUNCTION_WORD: usize = 2048;
+
+// A call's kind is this and the place of its name.
+pub const CALL_KIND: usize = 9;
+
 pub fn put(tape: &mut [u32; 32768], at: usize, word: u32)
     requires { ⌜ at < 32768 ⌝ }
     ensures { λ _. ⌜ now (tape .exit) ≡ set (now (tape .entry)) at word ⌝ }

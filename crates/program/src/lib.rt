@@ -38,6 +38,7 @@ fn output_room() -> [u8; 65600]
     [0u8; 65600]
 }
 
+// 1 to 8 and 17 are answered before any run.
 fn is_refusal(number: u64) -> bool
     ensures { λ r. ⌜ r ≡ isRefusal number ⌝ }
 {

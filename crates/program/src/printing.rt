@@ -25,6 +25,7 @@ fn put_number(out: &mut [u8], at: usize, n: u64, after: u8) -> usize
     put_bytes(out, next, &[after])
 }
 
+// Number and place.
 pub fn put_refusal(out: &mut [u8], number: u64, place: usize) -> usize
     requires { ⌜ 42 ≤ length (now out) ⌝ }
     ensures { λ r. ⌜ Prints (refusalText number place) (now (out .entry)) r (now (out .exit)) ⌝ }
@@ -33,6 +34,7 @@ pub fn put_refusal(out: &mut [u8], number: u64, place: usize) -> usize
     put_number(out, next, place as u64, b'\n')
 }
 
+// Answer, function and steps, the emissions, the result.
 pub fn put_result(out: &mut [u8], report: Report, emissions: &[u8], text: &[u8]) -> usize
     requires { ⌜ 64 + length (now emissions) + length (now text) ≤ length (now out) ⌝ }
     ensures { λ r. ⌜ Prints (resultText (resultOf report (now (emissions .entry)) (now (text .entry)))) (now (out .entry)) r (now (out .exit)) ⌝ }

@@ -24,6 +24,7 @@ use Rattle.reading.specs.Expressions.{CallStands, Stands}
 use Rattle.reading.specs.Sentences.{Each, SentenceStands}
 use Rattle.reading.specs.Functions.{FunctionStands}
 use Rattle.reading.specs.Calls.{calledPlace, calledSpan, CallWithin, wordKnown, Holds}
+use Rattle.reading.proofs.Sentencing.{each-append}
 
 -- the first word that opens a call of an undeclared name, by the name's place
 unfoldable pub unknownFrom : Bytes → List Name → List ℕ → Option ℕ
@@ -54,11 +55,6 @@ pub record Scans (text : Bytes) (names : List Name) (words : List ℕ) (found : 
 pick-or : (b : Bool) (place : ℕ) (o p : Option ℕ) → pick b (orElse o p) (some place) ≡ orElse (pick b o (some place)) p
 pick-or true place o p = refl
 pick-or false place o p = refl
-
-each-append : {A : Type 0} (holds : A → Type 0) (xs ys : List A) → Each holds xs → Each holds ys → Each holds (xs ++ ys)
-unfolding Each
-each-append holds [] ys h k = k
-each-append holds (x ∷ xs) ys h k = (h .0, each-append holds xs ys (h .1) k)
 
 module _ (text : Bytes) (t : Table) where
   abbrev names : List Name

@@ -28,15 +28,19 @@ use Rattle.parsing.proofs.Going.{stops, reads, ReadAt, has-stopped, follow-alon
 use Rattle.parsing.proofs.Tokening.{refused, ready-place}
 use Rattle.reading.proofs.Sentenced.{begins-same}
 
--- it holds of each, and of one more
+-- it holds of none, of these and those, and of one more
 pub each-none : {A : Type 0} (holds : A → Type 0) → Each holds []
 unfolding Each
 each-none holds = tt
 
+pub each-append : {A : Type 0} (holds : A → Type 0) (xs ys : List A) → Each holds xs → Each holds ys → Each holds (xs ++ ys)
+unfolding Each
+each-append holds [] ys h k = k
+each-append holds (x ∷ xs) ys h k = (h .0, each-append holds xs ys (h .1) k)
+
 pub each-more : {A : Type 0} (holds : A → Type 0) (xs : List A) (x : A) → Each holds xs → holds x → Each holds (xs ++ x ∷ [])
 unfolding Each
-each-more holds [] x e h = (h, tt)
-each-more holds (y ∷ xs) x e h = (e .0, each-more holds xs x (e .1) h)
+each-more holds xs x e h = each-append holds xs (x ∷ []) e (h, tt)
 
 -- THE DEFINITION
 

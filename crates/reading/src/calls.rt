@@ -2,6 +2,7 @@
 use lexing::Span;
 use parsing::names::find;
 use parsing::names::is_emission;
+use parsing::writing::CALL_KIND;
 ghost use mathlib.Core.Path.{_≡_};
 ghost use Prim.Native.Nat.{_≤_};
 ghost use lib.ListN.{length, take};
@@ -25,7 +26,7 @@ fn is_known(text: &[u8], names: &[usize], functions: usize, word: usize) -> bool
     if word < 2304 {
         return true;
     }
-    let place = word / 256 - 9;
+    let place = word / 256 - CALL_KIND;
     let past = place + word % 256;
     let name = Span {
         from: place,
@@ -53,7 +54,7 @@ pub fn unknown_call(
     while i < words {
         let word = tape[i] as usize;
         if !is_known(text, names, functions, word) {
-            let place = word / 256 - 9;
+            let place = word / 256 - CALL_KIND;
             return Unknown::At(place);
         }
         i += 1;

@@ -16,6 +16,10 @@ use parsing::progress::is_accepted;
 use parsing::progress::is_sign;
 use parsing::progress::pass;
 use parsing::progress::refuse;
+use parsing::writing::CALL_KIND;
+use parsing::writing::CLOSE_WORD;
+use parsing::writing::PART_WORD;
+use parsing::writing::SYMBOL_WORD;
 use parsing::writing::put;
 use parsing::writing::put_characters;
 use parsing::writing::put_named;
@@ -41,6 +45,7 @@ pub enum Joined {
     Other,
 }
 
+// A string joined to an expression.
 fn join_string(
     text: &[u8],
     tape: &mut [u32; 32768],
@@ -68,6 +73,7 @@ fn join_string(
     })
 }
 
+// An s-variable joined to an expression.
 fn join_symbol(
     text: &[u8],
     tape: &mut [u32; 32768],
@@ -88,7 +94,7 @@ fn join_symbol(
     if !is_accepted(fault) {
         return Joined::Wrong(fault);
     }
-    let word = (256 + (x.past - x.from)) as u32;
+    let word = (SYMBOL_WORD + (x.past - x.from)) as u32;
     let words = put_named(text, tape, s.words, word, x);
     Joined::Taken(Progress {
         at: x.past,
@@ -98,6 +104,7 @@ fn join_symbol(
     })
 }
 
+// An e-variable joined to an expression: those of the pattern that came before it can't come any more.
 fn join_part(
     text: &[u8],
     tape: &mut [u32; 32768],
@@ -123,7 +130,7 @@ fn join_part(
     if end <= found {
         return Joined::Wrong(Answer::WrongLaterVariable);
     }
-    let word = (512 + (x.past - x.from)) as u32;
+    let word = (PART_WORD + (x.past - x.from)) as u32;
     let words = put_named(text, tape, s.words, word, x);
     Joined::Taken(Progress {
         at: x.past,
@@ -133,6 +140,7 @@ fn join_part(
     })
 }
 
+// A token joined to an expression, by the item that it is.
 fn join(
     text: &[u8],
     tape: &mut [u32; 32768],
@@ -170,7 +178,7 @@ fn put_call(text: &[u8], tape: &mut [u32; 32768], words: usize, place: usize, na
     ensures { λ r. ⌜ Wrote (now (tape .entry)) words (((9 + place) * 256 + (name .past - name .from)) ∷ part (now (text .entry)) name) r (now (tape .exit))
         × T (every isQuiet (part (now (text .entry)) name)) ⌝ }
 {
-    let word = ((9 + place) * 256 + (name.past - name.from)) as u32;
+    let word = ((CALL_KIND + place) * 256 + (name.past - name.from)) as u32;
     put_named(text, tape, words, word, name)
 }
 
@@ -179,9 +187,9 @@ fn close_call(text: &[u8], tape: &mut [u32; 32768], s: Progress) -> Parsed
     requires { ⌜ Ready (now text) (s .at) (s .words) ⌝ }
     ensures { λ r. ⌜ Closes (now (text .entry)) s (now (tape .entry)) (now (tape .exit)) r ⌝ }
 {
-    match pass(text, s.at, Mode::Inside, 62) {
+    match pass(text, s.at, Mode::Inside, b'>') {
         Passed::Past(at) => {
-            put(tape, s.words, 1280);
+            put(tape, s.words, CLOSE_WORD);
             Parsed::Done(Progress {
                 at: at,
                 words: s.words + 1,
@@ -278,7 +286,7 @@ pub fn expression(
                 });
             }
             Joined::Other => {
-                if !is_sign(t, 60) {
+                if !is_sign(t, b'<') {
                     return Parsed::Done(Progress {
                         at: t.place,
                         words: s.words,

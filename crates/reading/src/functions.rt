@@ -16,6 +16,7 @@ use parsing::progress::is_accepted;
 use parsing::progress::is_sign;
 use parsing::progress::pass;
 use parsing::progress::refuse;
+use parsing::writing::FUNCTION_WORD;
 use parsing::writing::put_named;
 ghost use mathlib.Core.Path.{_≡_};
 ghost use mathlib.Core.List.{[]};
@@ -34,11 +35,11 @@ fn body(text: &[u8], tape: &mut [u32; 32768], name: Span, limit: usize, words: u
     ensures { λ r. ⌜ Agrees (BodyRead (now (text .entry)) limit (name .from) words (part (now (text .entry)) name) (now (tape .entry)) (now (tape .exit)))
         (fromBrace limit (stream (now (text .entry)) Tokens.outside (name .past))) r ⌝ }
 {
-    let at = match pass(text, name.past, Mode::Outside, 123) {
+    let at = match pass(text, name.past, Mode::Outside, b'{') {
         Passed::Past(at) => at,
         Passed::Refused(fault) => return Parsed::Stopped(fault),
     };
-    let word = (2048 + (name.past - name.from)) as u32;
+    let word = (FUNCTION_WORD + (name.past - name.from)) as u32;
     let to = put_named(text, tape, words, word, name);
     sentences(text, tape, limit, at, to)
 }
@@ -85,7 +86,7 @@ fn pass_spare(text: &[u8], at: usize) -> usize
     ensures { λ r. ⌜ SpareTo (now (text .entry)) at r ⌝ }
 {
     let t = lex(text, at, Mode::Outside);
-    if is_sign(t, 59) { t.past } else { t.place }
+    if is_sign(t, b';') { t.past } else { t.place }
 }
 
 fn is_end(t: Placed) -> bool

@@ -15,6 +15,9 @@ use parsing::progress::Progress;
 use parsing::progress::is_sign;
 use parsing::progress::pass;
 use parsing::progress::refuse;
+use parsing::writing::END_WORD;
+use parsing::writing::EQUALS_WORD;
+use parsing::writing::NEXT_WORD;
 use parsing::writing::put;
 ghost use mathlib.Core.Path.{_≡_};
 ghost use Prim.Native.Nat.{_≤_};
@@ -42,10 +45,10 @@ fn sentence_end(
         (fromEquals (symbolNames (now (text .entry)) (now (table .entry)) symbols) (partNames (now (text .entry)) (now (table .entry)) parts)
         (stream (now (text .entry)) Tokens.inside from)) r ⌝ }
 {
-    match pass(text, from, Mode::Inside, 61) {
+    match pass(text, from, Mode::Inside, b'=') {
         Passed::Refused(fault) => Parsed::Stopped(fault),
         Passed::Past(at) => {
-            put(tape, words, 1024);
+            put(tape, words, EQUALS_WORD);
             let start = Progress {
                 at: at,
                 words: words + 1,
@@ -57,6 +60,7 @@ fn sentence_end(
     }
 }
 
+// A sentence: pattern, conditions, `=` and expression. The table of its variables is its own.
 fn sentence(text: &[u8], tape: &mut [u32; 32768], from: usize, words: usize) -> Parsed
     requires { ⌜ Ready (now text) from words ⌝ }
     ensures { λ r. ⌜ Agrees (SentenceRead (now (text .entry)) from words (now (tape .entry)) (now (tape .exit)))
@@ -83,7 +87,7 @@ fn begins(t: Placed) -> bool
         Token::Quoted(_) => true,
         Token::Symbol(_) => true,
         Token::Part(_) => true,
-        Token::Sign(byte) => byte == 44 || byte == 61,
+        Token::Sign(byte) => byte == b',' || byte == b'=',
         _ => false,
     }
 }
@@ -100,14 +104,14 @@ fn after_sentence(text: &[u8], from: usize) -> Sequel
     ensures { λ r. ⌜ Follows (now (text .entry)) from r ⌝ }
 {
     let t = lex(text, from, Mode::Inside);
-    if is_sign(t, 125) {
+    if is_sign(t, b'}') {
         return Sequel::Ends(t.past);
     }
-    if !is_sign(t, 59) {
+    if !is_sign(t, b';') {
         return Sequel::Refused(refuse(t));
     }
     let next = lex(text, t.past, Mode::Inside);
-    if is_sign(next, 125) {
+    if is_sign(next, b'}') {
         return Sequel::Ends(next.past);
     }
     Sequel::Another(next.place)
@@ -147,7 +151,7 @@ pub fn sentences(
         to = s.words + 1;
         match after_sentence(text, s.at) {
             Sequel::Ends(past) => {
-                put(tape, s.words, 1792);
+                put(tape, s.words, END_WORD);
                 return Parsed::Done(Progress {
                     at: past,
                     words: to,
@@ -156,7 +160,7 @@ pub fn sentences(
                 });
             }
             Sequel::Another(place) => {
-                put(tape, s.words, 1536);
+                put(tape, s.words, NEXT_WORD);
                 at = place;
             }
             Sequel::Refused(fault) => return Parsed::Stopped(fault),
