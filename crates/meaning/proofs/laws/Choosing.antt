@@ -24,9 +24,9 @@ pub either-second : (a : Bool) {b : Bool} → b ≡ true → either a b ≡ true
 either-second true h = refl
 either-second false h = h
 
-pub both-true : (a b : Bool) → both a b ≡ true → (a ≡ true) × (b ≡ true)
-both-true true b h = (refl, h)
-both-true false b h = absurd (not-both h refl)
+pub both-parts : (a b : Bool) → both a b ≡ true → (a ≡ true) × (b ≡ true)
+both-parts true b h = (refl, h)
+both-parts false b h = absurd (not-both h refl)
 
 pub guard-some : {A : Type 0} {a : A} (b : Bool) (o : Option A) → guard b o ≡ some a → (b ≡ true) × (o ≡ some a)
 guard-some true o h = (refl, h)
@@ -43,7 +43,7 @@ same-bytes [] [] h = refl
 same-bytes [] (c ∷ y) h = absurd (not-both h refl)
 same-bytes (b ∷ x) [] h = absurd (not-both h refl)
 same-bytes (b ∷ x) (c ∷ y) h =
-    let t = both-true (eqb b c) (sameBytes x y) h in
+    let t = both-parts (eqb b c) (sameBytes x y) h in
     cc (eqb-true b c (t .0), same-bytes x y (t .1))
 
 -- what is bound behind counts only where nothing is bound before
@@ -83,4 +83,4 @@ member-bound x (n ∷ known) = go (sameBytes x (n .name)) (member-bound x known)
 pub distinct-second : (xs ys : List Name) → distinct (xs ++ ys) ≡ true → distinct ys ≡ true
 unfolding distinct
 distinct-second [] ys h = h
-distinct-second (x ∷ xs) ys h = distinct-second xs ys (both-true (not (member x (xs ++ ys))) (distinct (xs ++ ys)) h .1)
+distinct-second (x ∷ xs) ys h = distinct-second xs ys (both-parts (not (member x (xs ++ ys))) (distinct (xs ++ ys)) h .1)

@@ -13,7 +13,7 @@ use Rattle.meaning.specs.Tree.{Letter, character, symbol, Element, lette
 use Rattle.meaning.specs.Rewriting.{Bindings, unbound, agreed, takeSymbol, holdsFor, hold, shortest, withSymbols, withPart, matchRest, match, partText}
 use Rattle.meaning.specs.Fits.{oneByte, standsFor, joined, filled, Fits}
 use Rattle.meaning.specs.Allowed.{member, added, symbolsFrom, symbolsOf, partsOf, parted, distinct, spelledElement, allowedPattern, allowedConditions}
-use Rattle.meaning.proofs.laws.Choosing.{not-both, is-false, either-second, some-none, both-true, guard-some, same-itself, same-bytes, lookup-append, lookup-one, namesIn, names-append, member-bound, distinct-second}
+use Rattle.meaning.proofs.laws.Choosing.{not-both, is-false, either-second, some-none, both-parts, guard-some, same-itself, same-bytes, lookup-append, lookup-one, namesIn, names-append, member-bound, distinct-second}
 use Rattle.meaning.proofs.laws.Cuts.{Cut, Given, shortest-cut, shortest-given}
 
 nil-cons : {A : Type 0} {x : A} {xs : List A} → _≡_ {A = List A} [] (x ∷ xs) → ⊥
@@ -155,7 +155,7 @@ sound (letter (symbol x) ∷ p) cs (b ∷ text) bound later d fresh h =
     symbol-step x b p cs text bound later (takeSymbol x b (bound .symbols)) refl h
     (λ known. sound p cs text (withSymbols bound known) later d fresh)
 sound (part x ∷ p) cs text bound later d fresh h =
-    let t = both-true (not (member x (partsOf p))) (distinct (partsOf p)) d in
+    let t = both-parts (not (member x (partsOf p))) (distinct (partsOf p)) d in
     part-fits x p cs text bound later
     (part-step x p cs text bound later fresh (not-true _ (t .0)) h (λ piece rest. sound p cs rest (withPart bound x piece) later (t .1)))
 
@@ -216,8 +216,8 @@ hold-kept : (cs : List Condition) (known later : List (Named ℕ)) → every (λ
 unfolding hold every
 hold-kept [] known later bound extends h = refl
 hold-kept (c ∷ cs) known later bound extends h =
-    let m = both-true (member (c .variable) (namesIn known)) (every (λ c. member (c .variable) (namesIn known)) cs) bound in
-    let t = both-true (holdsFor c (lookup (c .variable) later)) (hold cs later) h in
+    let m = both-parts (member (c .variable) (namesIn known)) (every (λ c. member (c .variable) (namesIn known)) cs) bound in
+    let t = both-parts (holdsFor c (lookup (c .variable) later)) (hold cs later) h in
     let mine = condition-kept c known later (lookup (c .variable) known) refl (rw member-bound at (m .0)) extends (t .0) in
     rw (mine, hold-kept cs known later (m .1) extends (t .1))
 
@@ -313,7 +313,7 @@ best-piece : (x : Name) (p : List Element) (cs : List Condition) (text : Bytes) 
     Best (part x ∷ p) cs text bound fit
 unfolding distinct filled
 best-piece x p cs text bound fit d fresh f after =
-    let t = both-true (not (member x (partsOf p))) (distinct (partsOf p)) d in
+    let t = both-parts (not (member x (partsOf p))) (distinct (partsOf p)) d in
     let s = split (lookup x (fit .parts)) (filled fit p) text (f .whole) in
     let apart = not-true (member x (partsOf p)) (t .0) in
     rw (s .whole)
@@ -363,11 +363,11 @@ pub record Regular (p : List Element) (cs : List Condition) : Type 0 where
 
 pub allowed-regular : (p : List Element) (cs : List Condition) → allowedPattern p ≡ true → allowedConditions (symbolsOf p) cs ≡ true → Regular p cs
 allowed-regular p cs h g =
-    let a = both-true (every spelledElement p) _ h .1 in
-    let b = both-true (leb (length (partsOf p)) 2) _ a in
-    let c = both-true (parted p) _ (b .1) .1 in
+    let a = both-parts (every spelledElement p) _ h .1 in
+    let b = both-parts (leb (length (partsOf p)) 2) _ a in
+    let c = both-parts (parted p) _ (b .1) .1 in
     record {
-      apart = distinct-second (symbolsOf p) (partsOf p) (both-true (distinct (symbolsOf p ++ partsOf p)) _ c .0);
+      apart = distinct-second (symbolsOf p) (partsOf p) (both-parts (distinct (symbolsOf p ++ partsOf p)) _ c .0);
       few = leb-true _ 2 (b .0);
-      onPattern = both-true (every (λ c. member (c .variable) (symbolsOf p)) cs) _ g .0;
+      onPattern = both-parts (every (λ c. member (c .variable) (symbolsOf p)) cs) _ g .0;
     }
