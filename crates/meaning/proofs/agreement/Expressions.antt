@@ -36,7 +36,7 @@ abbrev pub Ending : Shape → Bool → (Stand → List Action) → Type 0
 Ending shape true k = (w : Stand) → k w ≡ passesRest shape w
 Ending shape false k = Unit {0}
 
--- so a name with a number names a function of the code
+-- a name with a number names a function of the code
 numbered : (table : Table) (n : Name) → T (ltb 0 (numberOf table n)) → isDeclared (translate table) (numberOf table n) ≡ true
 numbered table n d =
     rw (passed-true (ltb 0 (numberOf table n)) d, length-map table (λ f. translatedSentences table (f .sentences)))

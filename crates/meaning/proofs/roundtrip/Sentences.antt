@@ -19,6 +19,7 @@ use Rattle.meaning.specs.Listing.{unquoted, patternText, conditionsText,
 use Rattle.meaning.proofs.reading.Basics.{both-left, both-right, impossible}
 use Rattle.meaning.proofs.reading.Lists.{member-every}
 use Rattle.meaning.proofs.reading.PatternFacts.{pattern-facts}
+use Rattle.meaning.proofs.reading.Conditions.{allKnown}
 use Rattle.meaning.proofs.reading.Sentences.{symbols-spelled, parts-spelled}
 use Rattle.meaning.proofs.roundtrip.Remaining.{remaining, remaining-token}
 use Rattle.meaning.proofs.roundtrip.Words.{Begins, Parted, blank-passed, after-blank, sign-begins, call-begins, name-begins, variable-begins}
@@ -93,10 +94,7 @@ condition-regroup n x truth cs rest =
     append-assoc (n ++ 32 ∷ 115 ∷ (x ++ truth)) cs rest
     ∙ (append-assoc n (32 ∷ 115 ∷ (x ++ truth)) (cs ++ rest) ∙ ap (λ z. n ++ 32 ∷ 115 ∷ z) (append-assoc x truth (cs ++ rest)))
 
-abbrev allMembers : List Name → List Condition → Bool
-allMembers symbols cs = every (λ c. member (c .variable) symbols) cs
-
-conditions-listed : (symbols : List Name) → every spelledIdentifier symbols ≡ true → (cs : List Condition) → allMembers symbols cs ≡ true → (rest : Bytes) (at : ℕ) →
+conditions-listed : (symbols : List Name) → every spelledIdentifier symbols ≡ true → (cs : List Condition) → allKnown symbols cs ≡ true → (rest : Bytes) (at : ℕ) →
     ConditionsListed at (conditionsText cs ++ rest) cs rest
 unfolding conditionsText every
 conditions-listed symbols known [] members rest at = record { past = at; derived = noConditions }
@@ -187,7 +185,7 @@ module _ (s : Sentence) (more : Bytes) (at : ℕ) where
       let spelled = pattern-facts p (both-left (allowedPattern p) _ allows) .spelled in
       let symbols = symbols-spelled [] p refl spelled in
       let known = both-left (allowedConditions (symbolsOf p) (s .conditions)) _ others in
-      let members = both-left (allMembers (symbolsOf p) (s .conditions)) (leb (length (s .conditions)) maxConditions) known in
+      let members = both-left (allKnown (symbolsOf p) (s .conditions)) (leb (length (s .conditions)) maxConditions) known in
       let legible =
       allowed-legible (symbolsOf p) (partsOf p) (s .expression) symbols (parts-spelled p spelled)
       (both-right (allowedConditions (symbolsOf p) (s .conditions)) _ others)
