@@ -170,13 +170,17 @@ struct Lent {
     allowance: u32,
 }
 
-fn ample() -> Lent {
+fn allowed(allowance: u32) -> Lent {
     Lent {
         input: 1000,
         output: 1000,
         journal: 1000,
-        allowance: 4294967295,
+        allowance: allowance,
     }
+}
+
+fn ample() -> Lent {
+    allowed(4294967295)
 }
 
 fn cells(input: usize, output: usize) -> Lent {
@@ -284,31 +288,18 @@ fn row(code: &[u32], text: &[u8], lent: Lent) {
     row_from(code, 1, text, lent, 0);
 }
 
-fn main() {
+// A tail call, its allowance, and out one cell short.
+fn zeros() {
     row(&TABLE_Z, b"0060", ample());
     row(&TABLE_Z, b"", ample());
-    row(
-        &TABLE_Z,
-        b"0060",
-        Lent {
-            input: 1000,
-            output: 1000,
-            journal: 1000,
-            allowance: 2,
-        },
-    );
-    row(
-        &TABLE_Z,
-        b"0060",
-        Lent {
-            input: 1000,
-            output: 1000,
-            journal: 1000,
-            allowance: 3,
-        },
-    );
+    row(&TABLE_Z, b"0060", allowed(2));
+    row(&TABLE_Z, b"0060", allowed(3));
     row(&TABLE_Z, b"0060", cells(4, 3));
     row(&TABLE_Z, b"0060", cells(4, 2));
+}
+
+// Frames, conditions, two e-variables.
+fn matches() {
     row(&TABLE_R, b"abc", cells(3, 3));
     row(&TABLE_R, b"abc", cells(3, 2));
     row(&TABLE_H, b"ab7c9", ample());
@@ -316,6 +307,10 @@ fn main() {
     row(&TABLE_K, b"abcab", ample());
     row(&TABLE_K, b"aa", ample());
     row(&TABLE_K, b"ab", ample());
+}
+
+// In one cell short, emissions, and a record that is too short for the second line.
+fn emissions() {
     row(&TABLE_P, b"c", cells(3, 3));
     row(&TABLE_P, b"c", cells(2, 3));
     row(&TABLE_M, b"q", ample());
@@ -329,6 +324,10 @@ fn main() {
             allowance: 2,
         },
     );
+}
+
+// What is refused before the run, and words that are no code.
+fn refusals() {
     row_from(&TABLE_P, 0, b"c", ample(), 7);
     row_from(&TABLE_P, 3, b"c", ample(), 7);
     row_from(&TABLE_P, 2, b"cccc", cells(3, 3), 7);
@@ -336,4 +335,11 @@ fn main() {
     row(&UNKNOWN, b"c", ample());
     row(&CALL_PAST, b"c", ample());
     row(&UNOPENED, b"c", ample());
+}
+
+fn main() {
+    zeros();
+    matches();
+    emissions();
+    refusals();
 }
