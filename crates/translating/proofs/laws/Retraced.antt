@@ -101,6 +101,20 @@ call-closed place n a e depth items ws l ih =
     let back : depth + 1 - 1 ≡ depth = omega arith in
     rw (close-item depth items, back, ih, followed-end a)
 
+-- a variable's identifier is read back, and what comes after it is read on
+variable-back : (variable : Name → Expression → Expression) (kind : ℕ) (x : Name) (e : Expression) (depth items : ℕ) (ws : List ℕ) (l : Levels) → length x < 256 →
+    levelsIn depth items 0 (expressionTape e ++ ws) ≡ l →
+    onCurrent (variable (take (carried (tapeWord kind (length x))) ((x ++ expressionTape e) ++ ws))) (levelsIn depth items (carried (tapeWord kind (length x))) ((x ++ expressionTape e) ++ ws)) ≡ onCurrent (variable x) l
+variable-back variable kind x e depth items ws l h ih =
+    rw (
+      carried-back kind (length x) h,
+      append-assoc x (expressionTape e) ws,
+      take-append-seam x (expressionTape e ++ ws),
+      levels-skip depth items (length x) (x ++ (expressionTape e ++ ws)),
+      drop-append-seam x (expressionTape e ++ ws),
+    )
+    (ap (onCurrent (variable x)) ih)
+
 -- an expression's words are read as it, and then what comes after it is read on
 pub levels-expression : (e : Expression) (depth items : ℕ) (ws : List ℕ) → Short e → items + itemsIn e ≤ 128 → depth + nesting e ≤ 16 →
     levelsIn depth items 0 (expressionTape e ++ ws) ≡ onCurrent (followed e) (levelsIn depth (items + itemsIn e) 0 ws)
@@ -113,29 +127,11 @@ levels-expression (thenCharacter c e) depth items ws s h k =
 levels-expression (thenSymbol x e) depth items ws s h k =
     let ih = levels-expression e depth (items + 1) ws (s .1) (omega arith) k in
     let sum : items + suc (itemsIn e) ≡ items + 1 + itemsIn e = omega arith in
-    rw (
-      symbol-item depth items (omega arith) (length x) (s .0),
-      carried-back symbolKind (length x) (s .0),
-      append-assoc x (expressionTape e) ws,
-      take-append-seam x (expressionTape e ++ ws),
-      levels-skip depth (items + 1) (length x) (x ++ (expressionTape e ++ ws)),
-      drop-append-seam x (expressionTape e ++ ws),
-      sum,
-    )
-    (ap (onCurrent (thenSymbol x)) ih)
+    rw (symbol-item depth items (omega arith) (length x) (s .0), sum) (variable-back thenSymbol symbolKind x e depth (items + 1) ws _ (s .0) ih)
 levels-expression (thenPart x e) depth items ws s h k =
     let ih = levels-expression e depth (items + 1) ws (s .1) (omega arith) k in
     let sum : items + suc (itemsIn e) ≡ items + 1 + itemsIn e = omega arith in
-    rw (
-      part-item depth items (omega arith) (length x) (s .0),
-      carried-back partKind (length x) (s .0),
-      append-assoc x (expressionTape e) ws,
-      take-append-seam x (expressionTape e ++ ws),
-      levels-skip depth (items + 1) (length x) (x ++ (expressionTape e ++ ws)),
-      drop-append-seam x (expressionTape e ++ ws),
-      sum,
-    )
-    (ap (onCurrent (thenPart x)) ih)
+    rw (part-item depth items (omega arith) (length x) (s .0), sum) (variable-back thenPart partKind x e depth (items + 1) ws _ (s .0) ih)
 levels-expression (thenCall place n a e) depth items ws s h k =
     let more = tapeWord closeKind 0 ∷ (expressionTape e ++ ws) in
     let inner = levels-expression a (depth + 1) (items + 1) more (s .1) (omega arith) (omega arith) in
