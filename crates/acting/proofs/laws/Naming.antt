@@ -15,19 +15,16 @@ use Rattle.meaning.specs.Outcome.{emittedLine}
 use Rattle.meaning.specs.Allowed.{isByte}
 use Rattle.meaning.specs.Packing.{Words}
 use Rattle.acting.specs.Decoded.{isName}
+use Rattle.meaning.proofs.laws.Choosing.{both-parts}
 use Rattle.matching.proofs.laws.Lists.{at-place}
 
 -- WORDS THAT ARE BYTES
 
-both-true : (a b : Bool) → both a b ≡ true → (a ≡ true) × (b ≡ true)
-both-true true b e = (refl, e)
-both-true false b e = let z : _≡_ {A = ℕ} 0 1 = cc in absurd (omega arith)
-
 every-at : (l : Words) (i : ℕ) → every isByte l ≡ true → i < length l → getD l i 0 < 256
 unfolding every
 every-at [] i e h = absurd (not-suc-le-zero h)
-every-at (x ∷ l) zero e h = ltb-true x 256 (both-true (isByte x) (every isByte l) e .0)
-every-at (x ∷ l) (suc i) e h = every-at l i (both-true (isByte x) (every isByte l) e .1) (le-of-suc-le-suc h)
+every-at (x ∷ l) zero e h = ltb-true x 256 (both-parts (isByte x) (every isByte l) e .0)
+every-at (x ∷ l) (suc i) e h = every-at l i (both-parts (isByte x) (every isByte l) e .1) (le-of-suc-le-suc h)
 
 module _ (words : Words) (at : ℕ) where
   -- so many words from one on are bytes
@@ -67,7 +64,7 @@ module _ (words : Words) (at : ℕ) where
 
   pub spelled : (n : ℕ) → isName n (drop at words) ≡ true → Spelled n
   spelled n e =
-      let t = both-true (leb n (length (drop at words))) (every isByte (take n (drop at words))) e in
+      let t = both-parts (leb n (length (drop at words))) (every isByte (take n (drop at words))) e in
       record { there = rw length-drop at (leb-true n (length (drop at words)) (t .0)); bytes = t .1 }
 
   pub spelled-long : (n : ℕ) → Spelled n → length (take n (drop at words)) ≡ n

@@ -12,6 +12,7 @@ use Rattle.meaning.specs.Tree.{Letter, character, symbol, Element, lette
 use Rattle.meaning.specs.Allowed.{member, added, symbolsFrom, symbolsOf, lettersIn, spelledElement, maxLetters}
 use Rattle.meaning.specs.Instructions.{Site, fromStart, fromPlace, look, compare}
 use Rattle.meaning.specs.Translation.{Shape, fixed, open₁, open₂, withLetter, cutAt, shapeOf, Tested, testedSymbol, testedLetter, testedTemplate, beforeEnd, untested, testedShape}
+use Rattle.meaning.proofs.laws.Choosing.{namesIn, member-bound}
 use Rattle.meaning.proofs.laws.Passing.{every-head, every-tail}
 use Rattle.meaning.proofs.laws.Packable.{All, nil, cons, FitsSite, FitsTest, all-append}
 
@@ -84,35 +85,22 @@ symbols-append known [] rs = refl
 symbols-append known (character c ∷ ls) rs = symbols-append known ls rs
 symbols-append known (symbol x ∷ ls) rs = symbols-append (added x known) ls rs
 
-abbrev pub names : {A : Type 0} → List (Named A) → List Name
-names xs = map (λ x. x .name) xs
-
-found-by : {A : Type 0} (same : Bool) (a : A) (later : Option A) (known : Bool) → isSome later ≡ known → isSome (pick same (some a) later) ≡ either same known
-found-by true a later known h = refl
-found-by false a later known h = h
-
--- a name is found where it is a member
-pub found : {A : Type 0} (x : Name) (xs : List (Named A)) → isSome (lookup x xs) ≡ member x (names xs)
-unfolding lookup member
-found x [] = refl
-found x (y ∷ ys) = found-by (sameBytes x (y .name)) (y .value) (lookup x ys) (member x (names ys)) (found x ys)
-
 -- THE TESTS AND SITES
 
 named-by : (o : Option Site) (known : Bool) (x : Name) (s : Site) (d : Tested) → isSome o ≡ known →
-    names (testedSymbol o x s d .sites) ≡ pick known (names (d .sites)) (names (d .sites) ++ x ∷ [])
+    namesIn (testedSymbol o x s d .sites) ≡ pick known (namesIn (d .sites)) (namesIn (d .sites) ++ x ∷ [])
 named-by none known x s d h = rw (← h) (map-append (λ (y : Named Site). y .name) (d .sites) (record { name = x; value = s } ∷ []))
 named-by (some first) known x s d h = rw (← h)
 
-template-names : (at : ℕ → Site) (from : ℕ) (ls : List Letter) (d : Tested) → names (testedTemplate at from ls d .sites) ≡ symbolsIn (names (d .sites)) ls
+template-names : (at : ℕ → Site) (from : ℕ) (ls : List Letter) (d : Tested) → namesIn (testedTemplate at from ls d .sites) ≡ symbolsIn (namesIn (d .sites)) ls
 unfolding testedTemplate symbolsIn
 template-names at from [] d = refl
 template-names at from (character c ∷ ls) d = template-names at (suc from) ls (testedLetter (character c) (at from) d)
 template-names at from (symbol x ∷ ls) d =
     template-names at (suc from) ls (testedLetter (symbol x) (at from) d) ∙ ap (λ (known : List Name). symbolsIn known ls)
-    (named-by (lookup x (d .sites)) (member x (names (d .sites))) x (at from) d (found x (d .sites)))
+    (named-by (lookup x (d .sites)) (member x (namesIn (d .sites))) x (at from) d (sym (member-bound x (d .sites))))
 
-shape-names : (s : Shape) → names (testedShape s .sites) ≡ symbolsIn [] (shapeLetters s)
+shape-names : (s : Shape) → namesIn (testedShape s .sites) ≡ symbolsIn [] (shapeLetters s)
 shape-names (fixed t) = template-names fromStart 0 t untested
 shape-names (open₁ h x t) = simp (template-names, symbols-append)
 shape-names (open₂ h x m y t) = simp (template-names, symbols-append)
