@@ -1,7 +1,7 @@
 -- What moving bytes leaves in the cells.
 use Prim.Native.Nat.{ℕ, _+_, _-_}
 use mathlib.Core.Path.{_≡_}
-use mathlib.Core.List.{List, _++_}
+use mathlib.Core.List.{_++_}
 use lib.ListN.{take, drop}
 use Rattle.meaning.specs.Choice.{Bytes}
 

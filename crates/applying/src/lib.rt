@@ -1,7 +1,7 @@
 // An application of a function: the start, a call, a tail call, and its end.
 ghost use Prim.Native.Nat.{ℕ, _+_, _*_, _-_, _≤_, _<_};
 ghost use mathlib.Core.Path.{_≡_};
-ghost use lib.ListN.{length, drop, set, getD};
+ghost use lib.ListN.{length, drop};
 ghost use Rattle.meaning.specs.Choice.{Bytes};
 ghost use Rattle.meaning.specs.Matching.{storedCell, storedValues};
 ghost use Rattle.meaning.specs.Machine.{isDeclared};

@@ -1,19 +1,18 @@
 -- Where tokens end: every token but the last passes a byte, and reading again at a token's place gives that token.
-use Prim.Native.Nat.{ℕ, zero, suc, _+_, _-_, _≤_, _<_}
-use mathlib.Core.Path.{_≡_, refl, sym, _∙_, ap}
+use Prim.Native.Nat.{ℕ, suc, _≤_, _<_}
+use mathlib.Core.Path.{_≡_, refl, _∙_, ap}
 use mathlib.Core.Bool.{Bool, true, false, not}
-use mathlib.Core.List.{List, [], _∷_, _++_}
-use mathlib.Core.Option.{Option, none, some}
-use native.Mathlib.Nat.{zero-add}
+use mathlib.Core.List.{[], _∷_, _++_}
+use mathlib.Core.Option.{none, some}
 use native.Mathlib.Numerals.{add-one}
 use native.Mathlib.Omega.{arith}
 use lib.Dec.{T, eqb}
-use lib.ListN.{length, getD, drop, length-drop}
+use lib.ListN.{length, drop, length-drop}
 use lib.Seq.{drop-drop}
 use Rattle.meaning.specs.Choice.{Bytes, pick, both}
 use Rattle.meaning.specs.Classes.{inClass, alphabetic, isBlankByte}
 use Rattle.meaning.specs.Allowed.{wordByte, nameByte}
-use Rattle.meaning.specs.Tokens.{Mode, outside, inside, naming, Token, sign, textEnd, Lexed, lexed, Gap, between, opening, commented, starred, Skipped, found, unclosed, ahead, gapAfter, skip, skipOn, Run, run, Turn, goesOn, closes, breaks, Quoting, plain, Quotation, closed, broken, turn, quotation, quoteOn, wordAt, quotedAt, bracketAt, tokenAt, tokenPast, lex, isLast}
+use Rattle.meaning.specs.Tokens.{Mode, outside, inside, naming, Token, sign, textEnd, Lexed, lexed, Gap, between, opening, commented, starred, Skipped, found, unclosed, ahead, skip, skipOn, Run, run, Turn, goesOn, closes, breaks, Quoting, plain, Quotation, closed, broken, turn, quotation, quoteOn, wordAt, quotedAt, bracketAt, tokenAt, tokenPast, lex, isLast}
 
 -- PLACES
 

@@ -1,6 +1,6 @@
 -- The tokens from a place on: the first, and those from its end on.
-use Prim.Native.Nat.{ℕ, zero, suc, _+_, _-_, _≤_, _<_}
-use mathlib.Core.Path.{_≡_, refl, sym, _∙_, ap, subst}
+use Prim.Native.Nat.{ℕ, zero, suc, _-_, _≤_, _<_}
+use mathlib.Core.Path.{_≡_, refl, sym, ap, subst}
 use mathlib.Core.Bool.{Bool, true, false, not}
 use mathlib.Core.List.{List, [], _∷_}
 use native.Mathlib.Omega.{arith}
@@ -10,7 +10,7 @@ use Rattle.meaning.specs.Choice.{Bytes, pick}
 use Rattle.meaning.specs.Tokens as Tokens
 use Rattle.lexing.specs.declared.Placed.{Placed}
 use Rattle.lexing.specs.View.{placedOf, Shows, stream, Comes}
-use Rattle.lexing.proofs.Onward.{Ends, LexEnds, lex-ends}
+use Rattle.lexing.proofs.Onward.{lex-ends}
 
 -- what comes after a token that is not the last
 picked : {A : Type 0} (is : Bool) (x y z : A) → (T (not is) → y ≡ z) → pick is x y ≡ pick is x z
@@ -86,7 +86,3 @@ module _ (text : Bytes) where
         moves = f .moves;
         sound = s .sound;
       }
-
-pub stream-start : (text : Bytes) → Tokens.tokens text ≡ stream text Tokens.outside 0
-unfolding stream
-stream-start text = refl

@@ -1,15 +1,15 @@
 -- Strings: what stands at a place of one.
-use Prim.Native.Nat.{ℕ, suc, _+_, _-_, _*_, _≤_, _<_}
-use mathlib.Core.Path.{_≡_, refl, sym, _∙_, ap}
+use Prim.Native.Nat.{ℕ, _+_, _-_, _*_, _≤_, _<_}
+use mathlib.Core.Path.{_≡_, refl, _∙_}
 use mathlib.Core.Bool.{Bool, true, false}
-use mathlib.Core.List.{List, [], _∷_, _++_}
+use mathlib.Core.List.{[], _∷_, _++_}
 use mathlib.Core.Logic.{_⊎_, inl, inr, ⊎-elim}
 use native.Mathlib.Numerals.{add-one}
 use native.Mathlib.Omega.{arith}
-use lib.Dec.{T, leb, ltb}
+use lib.Dec.{T, leb}
 use lib.ListN.{length, getD, drop, length-append}
 use borrow.Author.Tests.{lt-ltb, le-ltb, leb-true, ne-eqb}
-use Rattle.meaning.specs.Choice.{Bytes, pick, both}
+use Rattle.meaning.specs.Choice.{Bytes, pick}
 use Rattle.meaning.specs.Classes.{inClass, digit}
 use Rattle.meaning.specs.Tokens.{Quoting, plain, escaped, coded, goesOn, closes, breaks, digitValue, codeTurn, turn, quoteOn, closed, quotation, quotedAt}
 use Rattle.meaning.proofs.laws.Passing.{both-left, both-right, passed}

@@ -1,8 +1,7 @@
 -- The tokens of the code as those of the definitions: what a scanner hands back, seen in the text.
-use Prim.Native.Nat.{ℕ, zero, suc, _+_, _≤_, _<_}
+use Prim.Native.Nat.{ℕ, suc, _+_, _≤_, _<_}
 use mathlib.Core.Path.{_≡_}
 use mathlib.Core.List.{List, [], _∷_, _++_}
-use mathlib.Core.Option.{Option, none, some}
 use lib.ListN.{length, getD, drop}
 use mathlib.Core.Bool.{Bool, true, not}
 use lib.Dec.{T}

@@ -16,7 +16,6 @@ ghost use lib.Seq.{slice};
 ghost use Rattle.classes.specs.Tests.{classTest, Answers};
 ghost use Rattle.meaning.specs.Classes.{inClass, alphabetic};
 ghost use Rattle.meaning.specs.Tokens as Tokens;
-ghost use Rattle.meaning.specs.Choice.{Bytes};
 ghost use Rattle.meaning.specs.Allowed.{wordByte, nameByte};
 ghost use Rattle.lexing.specs.View.{modeOf, skippedOf, Plain, Ends, RunsTo, LetterAt, Stands, quotationAt, tokenOf, Sound, Shows};
 

@@ -1,13 +1,11 @@
 -- What a run answers and leaves, in the terms of meaning's Leaving.
-use Prim.Native.Nat.{ℕ, _-_, _≤_}
+use Prim.Native.Nat.{ℕ, _-_}
 use mathlib.Core.Path.{_≡_}
 use mathlib.Core.List.{_++_}
 use lib.ListN.{length, take}
 use Rattle.meaning.specs.Choice.{Bytes}
-use Rattle.meaning.specs.Outcome.{Outcome, Result, resultOf}
-use Rattle.meaning.specs.Runs.{textOf}
-use Rattle.meaning.specs.Packing.{Words}
-use Rattle.meaning.specs.Leaving.{Cells, Leaving, leaving, zeros}
+use Rattle.meaning.specs.Outcome.{Result}
+use Rattle.meaning.specs.Leaving.{Cells, Leaving, zeros}
 use Rattle.acting.specs.declared.registers.Ran.{Ran}
 use Rattle.acting.specs.declared.registers.Registers.{Registers}
 use Rattle.acting.specs.declared.registers.Next.{Next}

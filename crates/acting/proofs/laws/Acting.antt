@@ -1,26 +1,23 @@
 -- Each action on registers and cells does what the machine's action does: one law for each way that an action can go.
-use Prim.Native.Nat.{ℕ, zero, suc, _+_, _*_, _-_, _≤_, _<_}
+use Prim.Native.Nat.{ℕ, suc, _+_, _*_, _-_, _≤_, _<_}
 use native.Mathlib.Nat.{sub-self}
 use native.Mathlib.Numerals.{add-one}
 use native.Mathlib.Omega.{arith}
-use mathlib.Core.Path.{_≡_, refl, sym, ap, _∙_}
-use mathlib.Core.Bool.{Bool, true, false}
-use mathlib.Core.List.{List, [], _∷_, _++_}
+use mathlib.Core.Path.{_≡_, refl}
 use mathlib.Core.Option.{Option, none, some}
-use lib.Dec.{leb, ltb}
 use lib.ListN.{length, getD, take, drop, set, length-drop, length-take, length-set}
 use lib.Seq.{drop-drop, length-take-le, take-suc-set, paste, take-paste, length-paste, take-take, getD-take, getD-drop}
 use borrow.Author.Tests.{le-leb, lt-leb, lt-ltb, le-ltb}
 use Rattle.meaning.specs.Choice.{Bytes, nth}
 use Rattle.meaning.specs.Instructions.{Action, go, select, out, outCharacter, outValue, Code}
 use Rattle.meaning.specs.Instructions.{Length as Register}
-use Rattle.meaning.specs.Machine.{Stacks, Local, registerOf, perform}
+use Rattle.meaning.specs.Machine.{Stacks, registerOf, perform}
 use Rattle.meaning.specs.Outcome.{stop}
 use Rattle.meaning.specs.Runs.{lent}
 use Rattle.meaning.specs.Packing.{spanAction}
 use Rattle.acting.specs.declared.registers.Registers.{Registers}
 use Rattle.acting.specs.declared.registers.Ending.{Ending}
-use Rattle.acting.specs.declared.registers.Ending.the-variants.{NoInstruction, OutFull, InFull}
+use Rattle.acting.specs.declared.registers.Ending.the-variants.{NoInstruction, OutFull}
 use Rattle.acting.specs.declared.registers.Next.{Next}
 use Rattle.acting.specs.declared.registers.Next.the-variants.{Onward, Stopped}
 use Rattle.acting.specs.declared.registers.InCell.{InCell}

@@ -1,10 +1,10 @@
 -- Bytes copied and moved one by one.
-use Prim.Native.Nat.{ℕ, zero, suc, _+_, _-_, _≤_, _<_}
+use Prim.Native.Nat.{ℕ, suc, _+_, _-_, _≤_, _<_}
 use native.Mathlib.Nat.{sub-self, add-zero}
 use native.Mathlib.Numerals.{add-one}
 use native.Mathlib.Omega.{arith}
-use mathlib.Core.Path.{_≡_, refl, sym, ap, _∙_}
-use mathlib.Core.List.{List, [], _∷_, _++_, append-assoc}
+use mathlib.Core.Path.{_≡_, sym}
+use mathlib.Core.List.{_++_}
 use lib.ListN.{length, getD, take, drop, set, take-append-drop}
 use lib.Seq.{paste, paste-suc, take-suc, drop-cons, append-snoc, set-at, length-take-le}
 use Rattle.meaning.specs.Choice.{Bytes}

@@ -2,13 +2,11 @@
 use Prim.Native.Nat.{ℕ, zero, suc, _+_, _*_, _-_, _≤_, _<_, min}
 use native.Mathlib.Nat.{min-eq-left, min-eq-right, sub-zero, zero-sub, suc-sub-suc}
 use native.Mathlib.Decide.{decLe}
-use native.Mathlib.Numerals.{add-one}
 use native.Mathlib.Omega.{arith}
-use mathlib.Core.Path.{_≡_, refl, sym, ap, _∙_}
-use mathlib.Core.List.{List, [], _∷_, _++_}
-use lib.ListN.{length, getD, take, drop, set, length-drop, length-take, length-set, drop-of-length-le}
-use lib.Seq.{getD-set-same, getD-set-other, getD-take, drop-cons, take-set-lt, take-set-le, drop-set-lt, set-split, drop-at, length-take-le, take-all, take-nil, take-length, drop-length}
-use Rattle.meaning.specs.Choice.{Bytes}
+use mathlib.Core.Path.{_≡_, sym}
+use mathlib.Core.List.{List, [], _∷_}
+use lib.ListN.{length, take, drop, set, length-drop, length-take, drop-of-length-le}
+use lib.Seq.{getD-set-same, getD-set-other, getD-take, drop-cons, take-set-le, set-split, drop-at, length-take-le, take-all, take-nil, take-length, drop-length}
 use Rattle.acting.specs.States.{frameWord}
 
 -- LISTS

@@ -1,25 +1,22 @@
 -- The emission on registers and cells does what the machine's does.
-use Prim.Native.Nat.{ℕ, suc, _+_, _*_, _-_, _≤_, _<_}
+use Prim.Native.Nat.{ℕ, _+_, _-_, _≤_, _<_}
 use native.Mathlib.Nat.{sub-self}
 use native.Mathlib.Omega.{arith}
 use mathlib.Core.Path.{_≡_, refl, sym, _∙_}
-use mathlib.Core.Bool.{Bool, true, false}
-use mathlib.Core.List.{List, [], _∷_, _++_}
-use lib.Dec.{ltb}
+use mathlib.Core.Bool.{true, false}
 use lib.ListN.{length, take, drop, length-drop}
 use lib.Seq.{drop-drop, length-take-le, paste, take-paste, drop-paste, length-paste, take-all}
 use borrow.Author.Tests.{lt-ltb, le-ltb}
 use Rattle.meaning.specs.Choice.{Bytes}
 use Rattle.meaning.specs.Outcome.{emittedLine}
-use Rattle.meaning.specs.Instructions.{emission}
 use Rattle.meaning.specs.Packing.{Words, emissionOf}
 use Rattle.acting.specs.declared.registers.Registers.{Registers}
 use Rattle.acting.specs.declared.registers.Ending.the-variants.{NoInstruction, JournalFull}
 use Rattle.acting.specs.declared.registers.Next.the-variants.{Onward, Stopped}
 use Rattle.acting.specs.Decoded.{isName}
-use Rattle.acting.specs.States.{Memory, memory, Fits, Acts}
+use Rattle.acting.specs.States.{Memory, memory, Acts}
 use Rattle.acting.proofs.laws.Acting.{stops}
-use Rattle.acting.proofs.laws.Naming.{Spelled, spelled, spelled-long, length-line}
+use Rattle.acting.proofs.laws.Naming.{spelled, spelled-long, length-line}
 
 -- the cells from one to another
 pub part-long : (l : Bytes) (p q : ℕ) → q ≤ length l → length (take (q - p) (drop p l)) ≡ q - p

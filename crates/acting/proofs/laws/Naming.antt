@@ -3,14 +3,14 @@ use Prim.Native.Nat.{ℕ, zero, suc, _+_, _-_, _%_, _≤_, _<_}
 use native.Mathlib.Nat.{not-suc-le-zero, le-of-suc-le-suc, mod-eq-of-lt, add-assoc, add-zero, sub-zero}
 use native.Mathlib.Numerals.{add-one}
 use native.Mathlib.Omega.{arith}
-use mathlib.Core.Path.{_≡_, refl, sym, ap, _∙_}
+use mathlib.Core.Path.{_≡_, refl, sym, _∙_}
 use mathlib.Core.Bool.{Bool, true, false}
-use mathlib.Core.List.{List, [], _∷_, _++_, append-assoc}
-use lib.Dec.{leb, ltb}
-use lib.ListN.{length, getD, take, drop, set, length-drop, length-take, length-append}
-use lib.Seq.{getD-take, getD-drop, drop-drop, take-at, drop-at, length-take-le, set-split, paste, take-paste, drop-paste, take-length, length-paste, append-snoc}
+use mathlib.Core.List.{[], _∷_, _++_, append-assoc}
+use lib.Dec.{leb}
+use lib.ListN.{length, getD, take, drop, set, length-drop, length-append}
+use lib.Seq.{getD-take, getD-drop, drop-drop, length-take-le, set-split, paste, take-paste, drop-paste, take-length, length-paste, append-snoc}
 use borrow.Author.Tests.{le-leb, lt-leb, leb-true, lt-ltb, le-ltb, ltb-true}
-use Rattle.meaning.specs.Choice.{Bytes, Name, both, every}
+use Rattle.meaning.specs.Choice.{Bytes, every}
 use Rattle.meaning.specs.Outcome.{emittedLine}
 use Rattle.meaning.specs.Allowed.{isByte}
 use Rattle.meaning.specs.Packing.{Words}

@@ -1,21 +1,18 @@
 -- BeginSeq and UseSeq on registers and cells do what the machine's do.
-use Prim.Native.Nat.{ℕ, zero, suc, _+_, _*_, _-_, _≤_, _<_, min}
-use native.Mathlib.Nat.{sub-self}
-use native.Mathlib.Numerals.{add-one}
+use Prim.Native.Nat.{ℕ, suc, _+_, _*_, _-_, _≤_, _<_, min}
 use native.Mathlib.Omega.{arith}
-use mathlib.Core.Path.{_≡_, refl, sym, ap, _∙_}
-use mathlib.Core.List.{List, [], _∷_, _++_}
-use lib.Dec.{leb, ltb}
-use lib.ListN.{length, getD, take, drop, set, length-drop, length-take, length-set, length-append}
+use mathlib.Core.Path.{_≡_, refl, sym, _∙_}
+use mathlib.Core.List.{List, _∷_, _++_}
+use lib.ListN.{length, take, drop, set, length-drop, length-take, length-set}
 use lib.Seq.{take-set-lt, drop-set-lt, length-take-le, drop-at, take-take}
 use borrow.Author.Tests.{lt-ltb, le-ltb}
 use Rattle.meaning.specs.Choice.{Bytes}
 use Rattle.meaning.specs.Instructions.{beginSequence, useSequence}
-use Rattle.meaning.specs.Machine.{Stacks, Local, withOpened, moved}
+use Rattle.meaning.specs.Machine.{withOpened}
 use Rattle.acting.specs.declared.registers.Registers.{Registers}
 use Rattle.acting.specs.declared.registers.Ending.the-variants.{NoInstruction, InFull}
 use Rattle.acting.specs.declared.registers.Next.the-variants.{Onward, Stopped}
-use Rattle.acting.specs.States.{Memory, memory, frameWord, localAt, localOf, stacksOf, ledgerOf, movedTo, Fits, Stayed, Acts}
+use Rattle.acting.specs.States.{Memory, memory, frameWord, localAt, movedTo, Acts}
 use Rattle.acting.specs.Copied.{MovedDown}
 use Rattle.acting.proofs.laws.Frames.{drop-take, drop-min, take-min, drop-set-here, word-set, word-kept, openedOf, opened-count, opened-none, opened-next, waiting-kept}
 use Rattle.acting.proofs.laws.Acting.{stops}

@@ -1,9 +1,9 @@
 -- One instruction of a run: what it leads to, from what its function does.
-use Prim.Native.Nat.{ℕ, zero, suc, _+_, _*_, _-_, _≤_, _<_}
+use Prim.Native.Nat.{ℕ, zero, suc, _+_, _≤_, _<_}
 use native.Mathlib.Omega.{arith}
 use mathlib.Core.Path.{_≡_, refl, sym, ap, _∙_}
 use mathlib.Core.List.{List, [], _∷_}
-use lib.ListN.{length, take, drop}
+use lib.ListN.{length, drop}
 use Rattle.meaning.specs.Instructions.{Action, unknownAction}
 use Rattle.meaning.specs.Machine.{process}
 use Rattle.meaning.specs.Packing.{Words, unpackActions}
@@ -13,7 +13,7 @@ use Rattle.acting.specs.declared.registers.Next.{Next}
 use Rattle.acting.specs.declared.registers.Next.the-variants.{Onward, Done, Stopped}
 use Rattle.acting.specs.States.{Memory, roomOf, Outcomes, Fits, Stayed, Acts}
 use Rattle.applying.specs.Waiting.{functionsIn, entering, going, returning, comesTo, leftWaiting, leftToDo, leftFrom, leftBy}
-use Rattle.applying.specs.Advancing.{Held, Ready, Underway, Ended, Keeps, registersIn, Leads, Advances, Performs}
+use Rattle.applying.specs.Advancing.{Ready, Underway, Ended, Keeps, registersIn, Leads, Advances, Performs}
 use Rattle.applying.proofs.laws.Waiting.{left-same, held-same, waiting-same, waiting-stop, waiting-done}
 
 -- WHAT AN INSTRUCTION KEEPS UP

@@ -1,38 +1,34 @@
 -- An application: the function table, the sentence begun in its frame, the step paid, a call and a tail call.
-use Prim.Native.Nat.{ℕ, zero, suc, pred, _+_, _*_, _-_, _≤_, _<_, min}
-use native.Mathlib.Nat.{sub-self, sub-zero, add-zero}
-use native.Mathlib.Numerals.{add-one}
+use Prim.Native.Nat.{ℕ, zero, suc, _+_, _*_, _-_, _≤_, _<_}
+use native.Mathlib.Nat.{sub-self}
 use native.Mathlib.Omega.{arith}
 use mathlib.Core.Path.{_≡_, refl, sym, ap, _∙_}
-use mathlib.Core.Bool.{Bool, true, false}
+use mathlib.Core.Bool.{true}
 use mathlib.Core.List.{List, [], _∷_, map}
-use mathlib.Core.Option.{Option, none, some}
-use lib.Dec.{leb, ltb}
+use mathlib.Core.Option.{Option, some}
+use lib.Dec.{leb}
 use lib.ListN.{length, getD, take, drop, set, length-take, length-drop, length-set, length-map}
-use lib.Seq.{getD-take, getD-drop, getD-set-same, getD-set-other, take-set-le, drop-set-lt, take-take, take-add, drop-at, length-take-le}
-use borrow.Author.Tests.{le-leb, lt-leb, lt-ltb, le-ltb, leb-true, ltb-true}
-use Rattle.meaning.specs.Choice.{Bytes, pick, both, nth}
-use Rattle.meaning.specs.Outcome.{Tally, pay, paidFrom, done, stop}
-use Rattle.meaning.specs.Instructions.{call, tailCall, Sentences}
-use Rattle.meaning.specs.Matching.{Choice, chosen, chosenNone, chosenWrong, chooseFrom, storedValues}
-use Rattle.meaning.specs.Machine.{Stacks, isDeclared, codeAt, functionOf, ranPaid, ranChoice, started}
-use Rattle.meaning.specs.Runs.{Room, lent}
-use Rattle.meaning.specs.Packing.{Words, unpackSentences, unpackStores, unpackActions}
+use lib.Seq.{getD-take, getD-drop, getD-set-same, getD-set-other, take-set-le, take-take, take-add, drop-at, length-take-le}
+use borrow.Author.Tests.{lt-ltb, leb-true}
+use Rattle.meaning.specs.Choice.{Bytes, nth}
+use Rattle.meaning.specs.Outcome.{stop}
+use Rattle.meaning.specs.Instructions.{Sentences}
+use Rattle.meaning.specs.Matching.{storedValues}
+use Rattle.meaning.specs.Machine.{isDeclared, codeAt}
+use Rattle.meaning.specs.Packing.{Words, unpackSentences, unpackStores}
 use Rattle.acting.specs.declared.registers.Registers.{Registers}
 use Rattle.acting.specs.declared.registers.Ending.{Ending}
-use Rattle.acting.specs.declared.registers.Ending.the-variants.{NoSentenceFits, AllowanceSpent, FramesFull, NoInstruction}
-use Rattle.acting.specs.declared.registers.Next.{Next}
-use Rattle.acting.specs.declared.registers.Next.the-variants.{Onward, Done, Stopped}
+use Rattle.acting.specs.declared.registers.Ending.the-variants.{NoInstruction}
+use Rattle.acting.specs.declared.registers.Next.the-variants.{Onward, Stopped}
 use Rattle.matching.specs.declared.CodePlace.{CodePlace}
 use Rattle.applying.specs.declared.Stored.the-variants.{Before, Wrong}
 use Rattle.acting.specs.Endings.{endingNumber}
-use Rattle.acting.specs.States.{Memory, memory, frameWord, localAt, localOf, stacksOf, Ledgers, ledgerOf, roomOf, Outcomes}
+use Rattle.acting.specs.States.{Memory, memory, frameWord, localAt, ledgerOf, roomOf, Outcomes}
 use Rattle.applying.specs.Storing.{Stores, begun}
-use Rattle.applying.specs.Waiting.{countIn, functionsIn, entering, going, waiting, returning, comesTo, performing, leftWaiting, leftBelow, leftToDo}
-use Rattle.applying.specs.Advancing.{Held, Ready, Underway, Ended, Leads, Advances, Performs, Applies, Starts}
+use Rattle.applying.specs.Waiting.{countIn, functionsIn, returning}
+use Rattle.applying.specs.Advancing.{Ready, Advances, Starts}
 use Rattle.matching.proofs.laws.Lists.{past-end}
-use Rattle.applying.proofs.laws.Waiting.{left-same, held-same, waiting-same, waiting-stop, entering-paid}
-use Rattle.applying.proofs.laws.Advancing.{ended-of}
+use Rattle.applying.proofs.laws.Waiting.{left-same, held-same, waiting-same, waiting-stop}
 
 -- THE FUNCTION TABLE
 
@@ -42,9 +38,6 @@ module _ (words : Words) (counted : countIn words < length words) where
 
   functions-length : length (functionsIn words) ≡ countIn words
   functions-length = rw (length-map (take (countIn words) (drop 1 words)) (λ at. unpackSentences 0 (drop at words))) table-length
-
-  pub declared-none : isDeclared (functionsIn words) 0 ≡ false
-  declared-none = refl
 
   pub declared-some : (number : ℕ) → (number ≡ 0 → ⊥) → isDeclared (functionsIn words) number ≡ leb number (countIn words)
   declared-some zero h = absurd (h refl)

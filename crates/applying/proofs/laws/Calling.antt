@@ -1,11 +1,11 @@
 -- The step of an application paid, a call with its frame, and a tail call.
-use Prim.Native.Nat.{ℕ, zero, suc, _+_, _*_, _-_, _≤_, _<_}
-use native.Mathlib.Nat.{suc-mul, add-zero}
+use Prim.Native.Nat.{ℕ, suc, _+_, _*_, _-_, _≤_, _<_}
+use native.Mathlib.Nat.{suc-mul}
 use native.Mathlib.Numerals.{add-one}
 use native.Mathlib.Omega.{arith}
 use mathlib.Core.Path.{_≡_, refl, sym, ap, _∙_}
 use mathlib.Core.Bool.{Bool, true, false}
-use mathlib.Core.List.{List, [], _∷_}
+use mathlib.Core.List.{List}
 use lib.Dec.{ltb}
 use lib.ListN.{length, getD, take, drop, set, length-set}
 use lib.Seq.{getD-set-same, getD-set-other, take-set-le, take-set-lt, drop-set-lt}
@@ -21,10 +21,10 @@ use Rattle.meaning.specs.Packing.{Words, unpackSentences, unpackStores, unpackA
 use Rattle.acting.specs.declared.registers.Registers.{Registers}
 use Rattle.acting.specs.declared.registers.Ending.the-variants.{NoSentenceFits, AllowanceSpent, FramesFull, NoInstruction}
 use Rattle.acting.specs.declared.registers.Next.{Next}
-use Rattle.acting.specs.declared.registers.Next.the-variants.{Onward, Done, Stopped}
+use Rattle.acting.specs.declared.registers.Next.the-variants.{Stopped}
 use Rattle.acting.specs.States.{Memory, memory, frameWord, localAt, localOf, stacksOf, ledgerOf, roomOf, Outcomes}
-use Rattle.applying.specs.Waiting.{countIn, functionsIn, entering, going, waiting, performing, leftWaiting, leftBelow, leftToDo}
-use Rattle.applying.specs.Advancing.{Held, Ready, Underway, Leads, Advances, Performs, Applies, Starts}
+use Rattle.applying.specs.Waiting.{countIn, functionsIn, entering, going, waiting, performing, leftWaiting}
+use Rattle.applying.specs.Advancing.{Held, Ready, Underway, Performs, Applies, Starts}
 use Rattle.applying.proofs.laws.Waiting.{left-same, held-same, waiting-same, entering-paid}
 use Rattle.applying.proofs.laws.Applying.{code-at, stopping}
 

@@ -2,13 +2,13 @@
 use Prim.Native.Nat.{ℕ, zero, suc, _+_, _*_, _-_, _≤_, _<_}
 use native.Mathlib.Nat.{sub-self}
 use native.Mathlib.Omega.{arith}
-use mathlib.Core.Path.{_≡_, refl, sym, ap, _∙_}
-use mathlib.Core.List.{List, [], _∷_}
-use lib.ListN.{length, getD, take, drop, set}
+use mathlib.Core.Path.{_≡_, refl, sym, _∙_}
+use mathlib.Core.List.{List}
+use lib.ListN.{take}
 use lib.Seq.{getD-take, take-take}
 use Rattle.meaning.specs.Choice.{Bytes}
 use Rattle.meaning.specs.Outcome.{stop, done, pay}
-use Rattle.meaning.specs.Machine.{Stacks, Local, ranPaid, process}
+use Rattle.meaning.specs.Machine.{Stacks, ranPaid}
 use Rattle.meaning.specs.Runs.{Room, lent}
 use Rattle.meaning.specs.Packing.{Words}
 use Rattle.meaning.proofs.laws.Depth.{enter-step}

@@ -2,11 +2,7 @@
 use borrow.Author.Needs.{needs}
 use Rattle.lexing.proofs.bracket_at.Statement.{statement}
 use Rattle.lexing.proofs.bracket_at.Tie as tie
-use Rattle.lexing.proofs.bracket_at.Reads as reads
-use Rattle.lexing.proofs.bracket_at.Lts as lts
-use Rattle.lexing.proofs.letter_ahead.Reads as letter-ahead-reads
 use mathlib.Core.Path.{sym, _∙_}
-use native.Mathlib.Omega.{arith}
 use native.Mathlib.Numerals.{add-one}
 use Rattle.lexing.proofs.Showing.{shows-bracket, shows-no-bracket}
 

@@ -2,8 +2,6 @@
 use borrow.Author.Needs.{needs}
 use Rattle.lexing.proofs.byte_ahead.Statement.{statement}
 use Rattle.lexing.proofs.byte_ahead.Tie as tie
-use Rattle.lexing.proofs.byte_ahead.Reads as reads
-use Rattle.lexing.proofs.byte_ahead.Lts as lts
 use Rattle.lexing.proofs.Places.{ahead-here, ahead-nothing}
 
 shared-slice-read-next : tie.Need-shared-slice-read-next

@@ -1,10 +1,7 @@
 -- `lexing::code` meets its contract: the code from the start on is that from here.
 use Rattle.lexing.proofs.code.Statement.{statement}
 use Rattle.lexing.proofs.code.Tie as tie
-use Rattle.lexing.proofs.code.Reads as reads
-use Rattle.lexing.proofs.code.Lts as lts
-use Rattle.classes.proofs.is_digit.Reads as is-digit-reads
-use Prim.Native.Nat.{_-_, _≤_}
+use Prim.Native.Nat.{_-_}
 use mathlib.Core.Path.{refl, sym, _∙_}
 use native.Mathlib.Omega.{arith}
 use borrow.Author.Needs.{needs}

@@ -1,10 +1,6 @@
 -- `lexing::comment_past` meets its contract.
 use Rattle.lexing.proofs.comment_past.Statement.{statement}
 use Rattle.lexing.proofs.comment_past.Tie as tie
-use Rattle.lexing.proofs.comment_past.Reads as reads
-use Rattle.lexing.proofs.comment_past.Lts as lts
-use Rattle.lexing.proofs.byte_ahead.Reads as byte-ahead-reads
-use Rattle.lexing.proofs.plain_past.Reads as plain-past-reads
 use Prim.Native.Nat.{_-_}
 use mathlib.Core.Path.{sym, _∙_}
 use native.Mathlib.Omega.{arith}

@@ -2,10 +2,6 @@
 use borrow.Author.Needs.{needs}
 use Rattle.lexing.proofs.escape.Statement.{statement}
 use Rattle.lexing.proofs.escape.Tie as tie
-use Rattle.lexing.proofs.escape.Reads as reads
-use Rattle.lexing.proofs.escape.Lts as lts
-use Rattle.classes.proofs.is_digit.Reads as is-digit-reads
-use Rattle.lexing.proofs.code.Reads as code-reads
 use mathlib.Core.Path.{sym, _∙_}
 use native.Mathlib.Omega.{arith}
 use lib.ListN.{getD}

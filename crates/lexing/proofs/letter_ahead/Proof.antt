@@ -2,9 +2,6 @@
 use borrow.Author.Needs.{needs}
 use Rattle.lexing.proofs.letter_ahead.Statement.{statement}
 use Rattle.lexing.proofs.letter_ahead.Tie as tie
-use Rattle.lexing.proofs.letter_ahead.Reads as reads
-use Rattle.lexing.proofs.letter_ahead.Lts as lts
-use Rattle.classes.proofs.is_letter.Reads as is-letter-reads
 use Rattle.lexing.proofs.Places.{ahead-here, ahead-nothing}
 use mathlib.Core.Path.{_∙_}
 

@@ -2,11 +2,7 @@
 use borrow.Author.Needs.{needs}
 use Rattle.lexing.proofs.lex.Statement.{statement}
 use Rattle.lexing.proofs.lex.Tie as tie
-use Rattle.lexing.proofs.lex.Reads as reads
-use Rattle.lexing.proofs.lex.Lts as lts
-use Rattle.lexing.proofs.skip.Reads as skip-reads
-use Rattle.lexing.proofs.token_at.Reads as token-at-reads
-use mathlib.Core.Path.{refl, sym, _∙_, ap}
+use mathlib.Core.Path.{sym, _∙_, ap}
 use Rattle.lexing.specs.View.{modeOf, skippedOf}
 use Rattle.lexing.proofs.Showing.{lex-found, lex-unclosed}
 

@@ -2,9 +2,6 @@
 use borrow.Author.Needs.{needs}
 use Rattle.lexing.proofs.name_at.Statement.{statement}
 use Rattle.lexing.proofs.name_at.Tie as tie
-use Rattle.lexing.proofs.name_at.Reads as reads
-use Rattle.lexing.proofs.name_at.Lts as lts
-use Rattle.lexing.proofs.run_end.Reads as run-end-reads
 use Rattle.lexing.proofs.Showing.{shows-name}
 
 run-end-requires : tie.Need-run-end-requires

@@ -2,9 +2,6 @@
 use borrow.Author.Needs.{needs}
 use Rattle.lexing.proofs.next_character.Statement.{statement}
 use Rattle.lexing.proofs.next_character.Tie as tie
-use Rattle.lexing.proofs.next_character.Reads as reads
-use Rattle.lexing.proofs.next_character.Lts as lts
-use Rattle.lexing.proofs.escape.Reads as escape-reads
 use native.Mathlib.Omega.{arith}
 use borrow.Author.Tests.{ne-eqb}
 use Rattle.meaning.specs.Tokens.{escaped}

@@ -1,9 +1,6 @@
 -- `lexing::plain_past` meets its contract.
 use Rattle.lexing.proofs.plain_past.Statement.{statement}
 use Rattle.lexing.proofs.plain_past.Tie as tie
-use Rattle.lexing.proofs.plain_past.Reads as reads
-use Rattle.lexing.proofs.plain_past.Lts as lts
-use Rattle.lexing.proofs.star_within.Reads as star-within-reads
 use Prim.Native.Nat.{_-_, _≤_}
 use native.Mathlib.Omega.{arith}
 use lib.ListN.{length}

@@ -1,9 +1,6 @@
 -- `lexing::quoted_at` meets its contract: the string goes on from here with the characters so far.
 use Rattle.lexing.proofs.quoted_at.Statement.{statement}
 use Rattle.lexing.proofs.quoted_at.Tie as tie
-use Rattle.lexing.proofs.quoted_at.Reads as reads
-use Rattle.lexing.proofs.quoted_at.Lts as lts
-use Rattle.lexing.proofs.next_character.Reads as next-character-reads
 use Prim.Native.Nat.{_-_}
 use native.Mathlib.Omega.{arith}
 use lib.ListN.{length}

@@ -1,9 +1,6 @@
 -- `lexing::run_past` meets its contract: the run from the start is that from here.
 use Rattle.lexing.proofs.run_past.Statement.{statement}
 use Rattle.lexing.proofs.run_past.Tie as tie
-use Rattle.lexing.proofs.run_past.Reads as reads
-use Rattle.lexing.proofs.run_past.Lts as lts
-use Rattle.classes.proofs.passes.Reads as passes-reads
 use Prim.Native.Nat.{_-_}
 use mathlib.Core.Path.{sym, _∙_}
 use native.Mathlib.Omega.{arith}

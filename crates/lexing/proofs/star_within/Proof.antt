@@ -1,8 +1,6 @@
 -- `lexing::star_within` meets its contract.
 use Rattle.lexing.proofs.star_within.Statement.{statement}
 use Rattle.lexing.proofs.star_within.Tie as tie
-use Rattle.lexing.proofs.star_within.Reads as reads
-use Rattle.lexing.proofs.star_within.Lts as lts
 use Prim.Native.Nat.{_+_, _-_, _≤_}
 use mathlib.Core.Path.{_≡_, sym}
 use mathlib.Core.Bool.{false}

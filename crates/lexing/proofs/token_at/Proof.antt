@@ -2,13 +2,7 @@
 use borrow.Author.Needs.{needs}
 use Rattle.lexing.proofs.token_at.Statement.{statement}
 use Rattle.lexing.proofs.token_at.Tie as tie
-use Rattle.lexing.proofs.token_at.Reads as reads
-use Rattle.lexing.proofs.token_at.Lts as lts
-use Rattle.classes.proofs.is_letter.Reads as is-letter-reads
-use Rattle.lexing.proofs.bracket_at.Reads as bracket-at-reads
-use Rattle.lexing.proofs.quoted_at.Reads as quoted-at-reads
-use Rattle.lexing.proofs.word_at.Reads as word-at-reads
-use mathlib.Core.Path.{refl, sym, _∙_}
+use mathlib.Core.Path.{sym, _∙_}
 use native.Mathlib.Numerals.{add-one}
 use Rattle.lexing.specs.View.{modeOf}
 use Rattle.lexing.proofs.Showing.{at-end, at-letter, at-quote, at-bracket, at-sign}

@@ -2,10 +2,6 @@
 use borrow.Author.Needs.{needs}
 use Rattle.lexing.proofs.variable_at.Statement.{statement}
 use Rattle.lexing.proofs.variable_at.Tie as tie
-use Rattle.lexing.proofs.variable_at.Reads as reads
-use Rattle.lexing.proofs.variable_at.Lts as lts
-use Rattle.lexing.proofs.run_end.Reads as run-end-reads
-use Rattle.lexing.proofs.word_token.Reads as word-token-reads
 use native.Mathlib.Omega.{arith}
 use Rattle.lexing.proofs.Showing.{shows-word, word-some}
 

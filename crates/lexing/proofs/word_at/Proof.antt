@@ -2,10 +2,6 @@
 use borrow.Author.Needs.{needs}
 use Rattle.lexing.proofs.word_at.Statement.{statement}
 use Rattle.lexing.proofs.word_at.Tie as tie
-use Rattle.lexing.proofs.word_at.Reads as reads
-use Rattle.lexing.proofs.word_at.Lts as lts
-use Rattle.lexing.proofs.name_at.Reads as name-at-reads
-use Rattle.lexing.proofs.variable_at.Reads as variable-at-reads
 
 enum-told : tie.Need-enum-told
 enum-told c = search needs

@@ -1,12 +1,8 @@
 -- `lexing::word_token` meets its contract.
-use borrow.Author.Needs.{needs}
 use Rattle.lexing.proofs.word_token.Statement.{statement}
 use Rattle.lexing.proofs.word_token.Tie as tie
-use Rattle.lexing.proofs.word_token.Reads as reads
-use Rattle.lexing.proofs.word_token.Lts as lts
-use mathlib.Core.Path.{refl, ap}
+use mathlib.Core.Path.{refl}
 use native.Mathlib.Omega.{arith}
-use Rattle.meaning.specs.Tokens.{word}
 use Rattle.lexing.proofs.Words.{variable-word, letter-alone, other-word}
 
 shared-slice-read-byte : tie.Need-shared-slice-read-byte

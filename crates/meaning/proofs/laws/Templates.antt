@@ -1,13 +1,13 @@
 -- A pattern's templates hold its letters in order; their tests and sites fit, and there is one of either for each letter.
 use mathlib.Core.Path.{_≡_, refl, ap, sym, _∙_}
 use mathlib.Core.Bool.{Bool, true, false}
-use mathlib.Core.List.{List, [], _∷_, _++_, map, map-append}
+use mathlib.Core.List.{List, [], _∷_, _++_, map-append}
 use mathlib.Core.Option.{Option, none, some}
 use Prim.Native.Nat.{ℕ, suc, _+_, _<_, _≤_}
 use native.Mathlib.Omega.{arith}
 use lib.Dec.{T, ltb→lt}
 use lib.ListN.{length, length-append, length-map}
-use Rattle.meaning.specs.Choice.{Name, Named, pick, either, lookup, sameBytes, every, isSome}
+use Rattle.meaning.specs.Choice.{Name, Named, pick, lookup, sameBytes, every, isSome}
 use Rattle.meaning.specs.Tree.{Letter, character, symbol, Element, letter, part}
 use Rattle.meaning.specs.Allowed.{member, added, symbolsFrom, symbolsOf, lettersIn, spelledElement, maxLetters}
 use Rattle.meaning.specs.Instructions.{Site, fromStart, fromPlace, look, compare}

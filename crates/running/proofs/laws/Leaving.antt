@@ -1,31 +1,29 @@
 -- What a run begins with, and what its end leaves in the lent cells.
-use Prim.Native.Nat.{ℕ, zero, suc, _+_, _-_, _≤_, _<_}
+use Prim.Native.Nat.{ℕ, suc, _+_, _-_, _≤_, _<_}
 use native.Mathlib.Nat.{sub-zero}
 use native.Mathlib.Numerals.{add-one}
 use native.Mathlib.Omega.{arith}
 use mathlib.Core.Path.{_≡_, refl, sym, ap, _∙_}
-use mathlib.Core.Bool.{Bool, true, false}
+use mathlib.Core.Bool.{true, false}
 use mathlib.Core.List.{List, [], _∷_, _++_, append-assoc, append-nil}
-use mathlib.Core.Option.{Option, none, some}
-use lib.Dec.{leb}
-use lib.ListN.{length, getD, take, drop, set, replicate, length-append, length-drop, length-replicate, replicate-append-replicate, take-append-drop}
+use lib.ListN.{length, getD, take, drop, set, length-append, length-replicate, replicate-append-replicate, take-append-drop}
 use lib.Seq.{drop-cons, append-snoc, set-at, drop-at, length-take-le, take-length, drop-length, paste}
 use borrow.Author.Tests.{le-leb, lt-leb}
-use Rattle.meaning.specs.Choice.{Bytes, pick}
-use Rattle.meaning.specs.Outcome.{fresh, Outcome, done, stop, pay, resultOf}
-use Rattle.meaning.specs.Machine.{Stacks, Ledger, isDeclared, ranPaid}
+use Rattle.meaning.specs.Choice.{Bytes}
+use Rattle.meaning.specs.Outcome.{fresh, resultOf}
+use Rattle.meaning.specs.Machine.{isDeclared}
 use Rattle.meaning.specs.Runs.{Room, lent, loaded, from, textOf, runLent}
 use Rattle.meaning.specs.Packing.{Words}
-use Rattle.meaning.specs.Leaving.{Cells, Leaving, zeros, refused, left, leaving}
+use Rattle.meaning.specs.Leaving.{Cells, zeros, refused, left, leaving}
 use Rattle.meaning.specs.Leaving.{roomOf as roomOfCells}
 use Rattle.acting.specs.declared.registers.Registers.{Registers}
 use Rattle.acting.specs.declared.registers.Ending.{Ending}
 use Rattle.acting.specs.declared.registers.Next.{Next}
 use Rattle.acting.specs.declared.registers.Next.the-variants.{Onward, Done, Stopped}
 use Rattle.acting.specs.Endings.{endingNumber}
-use Rattle.acting.specs.States.{Memory, memory, stacksOf, Ledgers, ledgerOf, roomOf, Outcomes}
-use Rattle.applying.specs.Waiting.{countIn, soundIn, functionsIn, entering, waiting, comesTo}
-use Rattle.applying.specs.Advancing.{Held, Ready, Ended, Keeps, registersIn, Leads, Advances, Applies, IsOver, Follows}
+use Rattle.acting.specs.States.{Memory, memory, stacksOf, roomOf, Outcomes}
+use Rattle.applying.specs.Waiting.{soundIn, functionsIn, waiting, comesTo}
+use Rattle.applying.specs.Advancing.{Ready, Keeps, registersIn, Leads, Applies, IsOver}
 use Rattle.running.specs.Leaving.{cells, Tells, Leaves, refusedWith, reportedOf, clearedFrom, loadedWith}
 use Rattle.applying.proofs.laws.Waiting.{entering-paid}
 use Rattle.running.proofs.laws.Tables.{unpacked}

@@ -1,7 +1,6 @@
 -- `emitting::copy_name` meets its contract. The loop's invariant: the bytes so far are pasted over.
 use native.Mathlib.Omega.{arith}
-use borrow.Author.Needs.{needs}
-use Prim.Native.Nat.{_+_, _-_, _≤_}
+use Prim.Native.Nat.{_-_, _≤_}
 use mathlib.Core.Path.{_≡_, refl}
 use lib.ListN.{length, take, drop, length-set}
 use lib.Seq.{paste, paste-zero}

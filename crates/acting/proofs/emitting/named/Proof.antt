@@ -1,9 +1,9 @@
 -- `emitting::named` meets its contract. The loop's invariant: the words from here on are bytes exactly if all are.
 use native.Mathlib.Omega.{arith}
 use borrow.Author.Needs.{needs}
-use Prim.Native.Nat.{_+_, _-_, _≤_}
+use Prim.Native.Nat.{_-_, _≤_}
 use mathlib.Core.Path.{_≡_, sym, _∙_}
-use lib.ListN.{length, drop}
+use lib.ListN.{drop}
 use Rattle.acting.specs.Decoded.{isName}
 use Rattle.acting.proofs.laws.Naming.{naming, naming-none, naming-wide, naming-next, naming-all, no-name}
 use Rattle.acting.proofs.emitting.named.Statement.{statement}

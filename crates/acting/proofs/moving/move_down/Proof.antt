@@ -1,7 +1,7 @@
 -- `moving::move_down` meets its contract. The loop's invariant, after each byte: the bytes moved stand in order just below the old p, the others are
 -- still on out, and no other cell of in has changed.
 use native.Mathlib.Omega.{arith}
-use Prim.Native.Nat.{_+_, _-_, _≤_}
+use Prim.Native.Nat.{_≤_}
 use mathlib.Core.Path.{_≡_, refl}
 use lib.ListN.{length, length-set}
 use Rattle.acting.specs.Copied.{MovedDown}

@@ -1,6 +1,5 @@
 -- `moving::shift` meets its contract.
 use borrow.Author.Needs.{needs}
-use native.Mathlib.Omega.{arith}
 use Rattle.acting.specs.Decoded.{registerMeant}
 use Rattle.acting.specs.States.{memory}
 use Rattle.acting.proofs.laws.Acting.{go-wrong, go-moved, select-wrong, select-moved}

@@ -1,5 +1,5 @@
 -- `following::clear_from` meets its contract. The loop's invariant: the cells from the start on are zero up to here.
-use Prim.Native.Nat.{_+_, _-_, _≤_}
+use Prim.Native.Nat.{_-_, _≤_}
 use native.Mathlib.Omega.{arith}
 use borrow.Author.Needs.{needs}
 use mathlib.Core.Path.{_≡_, refl, _∙_}

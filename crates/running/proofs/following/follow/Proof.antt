@@ -19,7 +19,7 @@ use denote.Array.{Array}
 use denote.Ref.{ptr-vals, shr-tells}
 use denote.Signature.{plain}
 use denote.Slice.{slice-vals, shr-slice-tells, mut-slice-tells}
-use denote.Steps.{facts, heard}
+use denote.Steps.{heard}
 use denote.Enum.Laws as EL
 use denote.Triple.Spec.{Meets, tripleOf}
 use denote.Triple.Statement.{Triple}
