@@ -1,13 +1,12 @@
 -- Worked rows at the edges of 01: the allowance, the middle place, full stacks, a full record, the frames, and what comes before what.
 use Prim.Native.Nat.{ℕ}
-use mathlib.Core.Path.{_≡_, refl}
+use mathlib.Core.Path.{refl}
 use mathlib.Core.List.{[], _∷_}
-use lib.ListN.{replicate, take}
+use lib.ListN.{take}
 use Rattle.meaning.specs.Choice.{Bytes}
 use Rattle.meaning.specs.Tree.{character, symbol, letter, part, end, thenCharacter, thenSymbol, thenPart, thenCall, Table}
 use Rattle.meaning.specs.Outcome.{Result}
-use Rattle.meaning.specs.Runs.{Room, runLent}
-use Rattle.meaning.specs.Translation.{translate}
+use Rattle.meaning.specs.Runs.{Room}
 use Rattle.meaning.proofs.rows.Tables.{x1, x2, all1, plain, function, tableZ, tableR, tableP, tableM}
 use Rattle.meaning.proofs.rows.Starred.{Row, Holds, ample, cells, most, result, same, short, sixty, abc, lines}
 use Rattle.meaning.proofs.rows.Computing.{computing}
@@ -37,22 +36,18 @@ tableW = function (87 ∷ []) (plain [] (thenCall 7 (69 ∷ 109 ∷ 105 ∷ 116 
 
 -- ROOMS AND ROWS
 
--- so replicate bytes of the record, and ample else
+-- so many bytes of the record, and ample else
 abbrev recording : ℕ → Room
 recording bytes = record { inCells = 1000; outCells = 1000; recordBytes = bytes; frames = 256 }
 
--- so replicate frames, and ample else
-abbrev framed : ℕ → Room
+-- so many frames, and ample else
+abbrev pub framed : ℕ → Room
 framed n = record { inCells = 1000; outCells = 1000; recordBytes = 1000; frames = n }
 
--- with so replicate steps, a row whose code stops for want of room where rewriting says something else
+-- with so many steps, a row whose code stops for want of room where rewriting says something else
 abbrev sooner : Table → Bytes → ℕ → Room → Result → Result → Row
 sooner table text allowance room r stopped =
     record { table = table; text = text; allowance = allowance; room = room; rewritten = r; ran = stopped }
-
--- what the code gives on a long text, with so replicate frames; rewriting would try every cut of it
-abbrev Runs : Table → Bytes → ℕ → ℕ → Result → Type 0
-Runs table text allowance frames r = runLent (framed frames) (translate table) 1 text allowance ≡ r
 
 -- THE ALLOWANCE
 
@@ -109,26 +104,6 @@ frames-enough = (refl, refl, refl, refl)
 pub frames-short : Holds (short tableR (97 ∷ []) (framed 1) (result 0 0 2 (97 ∷ []) []) (result 15 0 1 [] []))
 unfolding computing
 frames-short = (refl, refl, refl, refl)
-
--- 255 bytes reach frame 256
-pub last-frame : Runs tableR (replicate 255 97) most 256 (result 0 0 256 (replicate 255 97) [])
-unfolding computing
-last-frame = refl
-
--- 256 bytes need frame 257
-pub no-frame-left : Runs tableR (replicate 256 97) most 256 (result 15 0 256 [] [])
-unfolding computing
-no-frame-left = refl
-
--- 12 comes before 15
-pub spent-before-frame : Runs tableR (replicate 256 97) 256 256 (result 12 0 256 [] [])
-unfolding computing
-spent-before-frame = refl
-
--- a tail call takes its caller's frame
-pub tail-call : Runs tableZ (replicate 300 48) most 1 (result 0 0 301 [] [])
-unfolding computing
-tail-call = refl
 
 -- WHAT COMES FIRST
 

@@ -14,7 +14,7 @@ use Rattle.meaning.specs.Allowed.{member, symbolsFrom, partsOf, lettersI
 use Rattle.meaning.specs.Tokens.{skip, run, quotation, lex, tokensFrom}
 use Rattle.meaning.specs.Grammar.{written}
 use Rattle.meaning.specs.Reading.{Read, accepted, refused, read, endsInPart, pattern, condition, conditions, expression, sentence, sentences, functions, unknownCall, unknownInSentences, unknownIn}
-use Rattle.meaning.specs.Listing.{decimal, patternText, conditionsText, expressionText, sentencesText, listing}
+use Rattle.meaning.specs.Listing.{patternText, conditionsText, expressionText, sentencesText, listing}
 
 -- THE TEXTS
 
@@ -23,33 +23,28 @@ bytes String.[] = []
 bytes (String._∷_ c s) = code c ∷ bytes s
 
 -- so many times
-abbrev again : ℕ → String → Bytes
+abbrev pub again : ℕ → String → Bytes
 again zero s = []
 again (suc n) s = bytes s ++ again n s
 
--- so many functions with different names, A and the numbers from one on
-abbrev manyFunctions : ℕ → ℕ → Bytes
-manyFunctions zero i = []
-manyFunctions (suc n) i = 65 ∷ (decimal i ++ (bytes "{=}" ++ manyFunctions n (suc i)))
-
 -- READING: number and place, 0 and 0 where the text is accepted
 
-record Row : Type 0 where
-  text : Bytes
-  number : ℕ
-  place : ℕ
+pub record Row : Type 0 where
+  pub text : Bytes
+  pub number : ℕ
+  pub place : ℕ
 
-abbrev row : Bytes → ℕ → ℕ → Row
+abbrev pub row : Bytes → ℕ → ℕ → Row
 row text number place = record { text = text; number = number; place = place }
 
 abbrev says : String → ℕ → ℕ → Row
 says text number place = row (bytes text) number place
 
-abbrev answered : Read → ℕ → ℕ → Bool
+abbrev pub answered : Read → ℕ → ℕ → Bool
 answered (accepted t) number place = both (eqb 0 number) (eqb 0 place)
 answered (refused n k) number place = both (eqb n number) (eqb k place)
 
-hold : List Row → Bool
+unfoldable pub hold : List Row → Bool
 unfolding every sameBytes startsWith classNamed numberFrom member symbolsFrom partsOf lettersIn comingAfter skip run quotation lex tokensFrom written endsInPart pattern condition conditions expression sentence sentences functions unknownCall unknownInSentences unknownIn
 hold rows = every (λ r. answered (read (r .text)) (r .number) (r .place)) rows
 
@@ -76,17 +71,7 @@ rows-of-01 = refl
 -- limits stand at the token that passes them
 limits :
     hold
-    (row (bytes "F{" ++ (again 512 "=;" ++ bytes "}")) 0 0
-    ∷ row (bytes "F{" ++ (again 512 "=;" ++ bytes "=}")) 4 1026
-    ∷ row (bytes "F{" ++ (again 512 "=;" ++ bytes ";}")) 3 1026
-    ∷ row (bytes "F{" ++ (again 512 "=;" ++ bytes "x=}")) 3 1026
-    ∷ row (bytes "F{" ++ (again 512 "=;" ++ bytes "'a")) 2 1026
-    ∷ row (bytes "F{" ++ (again 256 "=;" ++ (bytes "}G{" ++ (again 256 "=;" ++ bytes "}")))) 0 0
-    ∷ row (bytes "F{" ++ (again 256 "=;" ++ (bytes "}G{" ++ (again 256 "=;" ++ bytes ",}")))) 4 1029
-    ∷ row (manyFunctions 64 0) 0 0
-    ∷ row (manyFunctions 64 0 ++ bytes "A") 4 374
-    ∷ row (manyFunctions 64 0 ++ bytes "{") 3 374
-    ∷ row (bytes "F{s1" ++ (again 8 ",<IsDigit s1>:'T'" ++ bytes "=}")) 0 0
+    (row (bytes "F{s1" ++ (again 8 ",<IsDigit s1>:'T'" ++ bytes "=}")) 0 0
     ∷ row (bytes "F{s1" ++ (again 9 ",<IsDigit s1>:'T'" ++ bytes "=}")) 4 140
     ∷ row (bytes "F{=" ++ (again 16 "<F" ++ (again 16 ">" ++ bytes "}"))) 0 0
     ∷ row (bytes "F{=" ++ (again 17 "<F" ++ (again 17 ">" ++ bytes "}"))) 4 35
@@ -260,11 +245,6 @@ names :
     ≡ true
 unfolding hold
 names = refl
-
--- "table over 32,768 bytes; place 0"
-longest : hold (row (again 32768 " ") 0 0 ∷ row (again 32769 " ") 1 0 ∷ row (again 32769 "'") 1 0 ∷ []) ≡ true
-unfolding hold
-longest = refl
 
 -- TREES
 

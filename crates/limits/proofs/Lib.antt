@@ -1,0 +1,3 @@
+-- Worked rows at 01's limits.
+pub mod Reading
+pub mod Running
