@@ -373,9 +373,9 @@ conditions-start text start names from words r =
 
 module _ {text start : List ℕ} {names : List Name} {from words : ℕ} {tape : List ℕ} {at to left : ℕ} {t : Code.Placed}
     (k : Conditioned text start names from words tape at to left) (c : Comes text Tokens.inside at t) where
-  pub conditions-done : signIs 44 (t .token) ≡ false
+  pub conditions-done : {count parts : ℕ} → signIs 44 (t .token) ≡ false
       → Agrees (ConditionsRead text from words start tape) (Reading.conditions 8 names (stream text Tokens.inside from))
-      (Done (record { at = t .place; words = to; count = 0; parts = 0 }))
+      (Done (record { at = t .place; words = to; count = count; parts = parts }))
   conditions-done e =
       let i : Reading.isSign 44 (tokenOf text (t .token) (t .place) (t .past)) ≡ false = sign-shown text t 44 e in
       reads (k .before) (stream text Tokens.inside at)

@@ -187,18 +187,17 @@ pub fn conditions(
     ensures { λ r. ⌜ Agrees (ConditionsRead (now (text .entry)) from words (now (tape .entry)) (now (tape .exit)))
         (Reading.conditions 8 (symbolNames (now (text .entry)) (now (table .entry)) symbols) (stream (now (text .entry)) Tokens.inside from)) r ⌝ }
 {
-    let mut at = from;
-    let mut to = words;
+    let mut s = Progress {
+        at: from,
+        words: words,
+        count: 0,
+        parts: 0,
+    };
     let mut left: usize = 8;
     loop {
-        let t = lex(text, at, Mode::Inside);
+        let t = lex(text, s.at, Mode::Inside);
         if !is_sign(t, b',') {
-            return Parsed::Done(Progress {
-                at: t.place,
-                words: to,
-                count: 0,
-                parts: 0,
-            });
+            return Parsed::Done(Progress { at: t.place, ..s });
         }
         if left == 0 {
             return Parsed::Stopped(Fault {
@@ -206,12 +205,9 @@ pub fn conditions(
                 place: t.place,
             });
         }
-        match condition(text, tape, table, symbols, t.past, to) {
+        match condition(text, tape, table, symbols, t.past, s.words) {
             Parsed::Stopped(fault) => return Parsed::Stopped(fault),
-            Parsed::Done(next) => {
-                at = next.at;
-                to = next.words;
-            }
+            Parsed::Done(next) => s = next,
         }
         left -= 1;
     }

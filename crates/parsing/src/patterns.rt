@@ -240,9 +240,7 @@ pub fn pattern(
     loop {
         let t = lex(text, p.at, Mode::Inside);
         match add(text, tape, table, p, t) {
-            Added::Taken(next) => {
-                p = next;
-            }
+            Added::Taken(next) => p = next,
             Added::Wrong(answer) => {
                 return Parsed::Stopped(Fault {
                     answer: answer,

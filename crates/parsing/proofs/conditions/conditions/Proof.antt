@@ -12,11 +12,11 @@ use Rattle.parsing.proofs.Tokening.{ready-past}
 use Rattle.parsing.proofs.Conditioned.{Conditioned, conditions-ready, conditions-start, conditions-done, conditions-many, condition-stops, condition-goes}
 
 abbrev Inv-loop : tie.InvT-loop
-Inv-loop text tape₀ table symbols from words at₀ to₀ left₀ tape at to left =
-    Conditioned text tape₀ (symbolNames text table symbols) from words tape at to left
+Inv-loop text tape₀ table symbols from words s₀ left₀ tape s left =
+    Conditioned text tape₀ (symbolNames text table symbols) from words tape (s .at) (s .words) left
 
 abbrev μ-loop : tie.MeasureT-loop
-μ-loop text tape₀ table symbols from words at₀ to₀ left₀ tape at to left = left
+μ-loop text tape₀ table symbols from words s₀ left₀ tape s left = left
 
 loop-holds : tie.Need-loop-holds Inv-loop μ-loop
 loop-holds c = conditions-start _ _ _ _ _ (c .before .before .pre .0)
