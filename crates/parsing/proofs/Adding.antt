@@ -1,68 +1,123 @@
--- The pattern's reader: a string, an s-variable and an e-variable taken into the pattern.
+-- The pattern's reader: what an item without a fault adds, and one with a fault.
 use Prim.Native.Nat.{ℕ, _+_, _-_, _*_, _≤_, _<_}
 use mathlib.Core.Path.{_≡_, refl, sym, _∙_}
-use mathlib.Core.Bool.{Bool, true, false}
-use mathlib.Core.List.{List, _∷_}
+use mathlib.Core.Bool.{Bool, true, false, not}
+use mathlib.Core.List.{List, [], _∷_, _++_, append-nil}
+use native.Mathlib.Nat.{add-zero}
 use native.Mathlib.Omega.{arith}
 use lib.Dec.{T, leb, ltb, eqb}
 use lib.ListN.{length, set, length-set}
-use borrow.Author.Tests.{lt-leb, le-leb, leb-true, ltb-true, ltb-false}
+use borrow.Author.Tests.{lt-leb, le-leb, leb-true, ltb-true, ltb-false, not-true}
 use Rattle.meaning.specs.Choice.{Bytes, Name, pick, both, every}
-use Rattle.meaning.specs.Allowed.{added, member}
-use Rattle.meaning.specs.Reading.{characters, symbolItem, partItem}
+use Rattle.meaning.specs.Tree.{symbol, Element, letter, part}
+use Rattle.meaning.specs.Answers.{overLimit}
+use Rattle.meaning.specs.Allowed.{added, member, symbolsFrom, partsOf, lettersIn}
+use Rattle.meaning.specs.Grammar.{charactersOf}
+use Rattle.meaning.specs.Tape.{named, elementTape, patternTape}
+use Rattle.meaning.specs.Reading.{Item, characters, symbolItem, partItem, elementsOf, endsInPart, faultUnless, patternFault}
 use Rattle.meaning.proofs.reading.Basics.{both-left, both-right}
+use Rattle.meaning.proofs.reading.PatternFacts.{parts-append, letters-append, symbols-append, characters-parts, characters-letters, characters-symbols}
 use Rattle.lexing.specs.View as View
 use Rattle.lexing.specs.View.{charactersIn, quotationAt}
 use Rattle.lexing.specs.declared.Span.{Span}
 use Rattle.parsing.specs.declared.Answer.{Answer}
 use Rattle.parsing.specs.declared.Answer.the-variants.{OverLimit}
 use Rattle.parsing.specs.declared.patterns.Counts.{Counts}
+use Rattle.parsing.specs.declared.patterns.Added.the-variants.{Taken, Wrong}
 use Rattle.parsing.specs.Tables.{position}
 use Rattle.parsing.specs.Answered.{numberOf}
-use Rattle.parsing.specs.Written.{Wrote, stringFrom, isQuiet}
-use Rattle.parsing.specs.Patterns.{Variables, symbolNames, partNames, Identifier, StringAt, Held, patternSymbolFault, patternPartFault, TakenIn, WrongIn}
+use Rattle.parsing.specs.Written.{Wrote, stringFrom, isQuiet, Went}
+use Rattle.parsing.specs.Patterns.{Variables, symbolNames, partNames, Identifier, StringAt, Held, Seen, patternSymbolFault, patternPartFault, AddsItem}
 use Rattle.parsing.proofs.Finding.{position-member}
 use Rattle.parsing.proofs.Choosing.{no-fault}
 use Rattle.parsing.proofs.Faults.{within, position-low, added-room}
 use Rattle.parsing.proofs.Tabling.{kept-above, kept-below, grown, entry-name, entry-inside}
-use Rattle.parsing.proofs.Elements.{letters-string, letters-symbol, letters-part, symbols-string, symbols-symbol, symbols-part, parts-string, parts-symbol, parts-part, ends-string, ends-symbol, ends-part, tape-string, tape-symbol, tape-part}
+use Rattle.parsing.proofs.Elements.{ends-with, ends-string, tape-string, tape-one}
 use Rattle.parsing.proofs.Itemed.{string-went, string-quiet, identifier-length, variable-went, variable-quiet}
 use Rattle.parsing.proofs.Patterning.{identifier-inside, symbol-count, part-count}
+
+-- ITEMS
+
+-- the item's fault after elements of which this is counted
+abbrev Faulted : Bytes → List ℕ → Counts → Item → ℕ → Type 0
+Faulted text table p item number = (before : List Element) → Seen text table p before → patternFault before item ≡ number
+
+-- what is counted with these elements added
+record Counting (text : Bytes) (table : List ℕ) (p : Counts) (es : List Element) (table′ : List ℕ) (next : Counts) : Type 0 where
+  variables : Variables text table′ (next .symbols) (next .parts)
+  few : next .letters ≤ 64
+  letters : p .letters + lettersIn es ≡ next .letters
+  symbols : symbolsFrom (symbolNames text table (p .symbols)) es ≡ symbolNames text table′ (next .symbols)
+  parts : partNames text table (p .parts) ++ partsOf es ≡ partNames text table′ (next .parts)
+  ending : (before : List Element) → endsInPart before ≡ p .ending → endsInPart (before ++ es) ≡ next .ending
+
+module _ {text : Bytes} {table : List ℕ} {p : Counts} {tape : List ℕ} {item : Item} {table′ tape′ : List ℕ} where
+  pub item-wrong : {number past : ℕ} {answer : Answer} {is : Bool} → Faulted text table p item number → numberOf answer ≡ number
+      → is ≡ eqb (numberOf answer) 0
+      → not is ≡ true
+      → AddsItem text table p tape item past table′ tape′ (Wrong answer)
+  item-wrong {is = is} f e q n = record { gives = record { wrong = sym q ∙ not-true is n; fault = λ before s. f before s ∙ sym e } }
+
+  item-taken : {next : Counts} {words : List ℕ} → Held text table p → patternTape (elementsOf item) ≡ words → Faulted text table p item 0
+      → Counting text table p (elementsOf item) table′ next
+      → Went text (p .at) (p .words) tape (next .at) (next .words) tape′ words
+      → T (every isQuiet words)
+      → AddsItem text table p tape item (next .at) table′ tape′ (Taken next)
+  item-taken h e f k g q =
+      record {
+        gives =
+            record {
+              held =
+                  record {
+                    variables = k .variables;
+                    fewLetters = k .few;
+                    ready = record { inside = g .inside; charged = g .charged; short = h .ready .short };
+                  };
+              at = refl;
+              went = rw e g;
+              quiet = rw e q;
+              fault = f;
+              seen =
+                  λ before s.
+                  record {
+                    letters = letters-append before (elementsOf item) ∙ rw (s .letters) (k .letters);
+                    symbols = symbols-append [] before (elementsOf item) ∙ rw (s .symbols) (k .symbols);
+                    parts = parts-append before (elementsOf item) ∙ rw (s .parts) (k .parts);
+                    ending = k .ending before (s .ending);
+                  };
+            };
+      }
 
 -- STRINGS
 
 module _ {text : Bytes} {table : List ℕ} {p : Counts} {place past count : ℕ} (h : Held text table p) (a : StringAt text (p .at) place past count) where
-  pub string-wrong : 64 < p .letters + count → WrongIn text table p (characters (charactersIn (quotationAt text place))) OverLimit
-  string-wrong w =
-      record { wrong = refl; fault = λ before s. rw (s .letters, a .counted, lt-leb (p .letters + count) 64 w) }
+  abbrev string : Bytes
+  string = charactersIn (quotationAt text place)
+
+  string-faulted : {is : Bool} → leb (p .letters + count) 64 ≡ is → Faulted text table p (characters string) (faultUnless is overLimit 0)
+  string-faulted e before s = rw (s .letters, a .counted, e)
+
+  pub string-wrong : {tape table′ tape′ : List ℕ} → 64 < p .letters + count
+      → AddsItem text table p tape (characters string) past table′ tape′ (Wrong OverLimit)
+  string-wrong w = item-wrong {is = false} (string-faulted (lt-leb (p .letters + count) 64 w)) refl refl refl
 
   pub string-taken : p .letters + count ≤ 64 → (tape tape′ : List ℕ) (words : ℕ) (ending : Bool)
       → Wrote tape (p .words) (charactersIn (stringFrom text (place + 1))) words tape′ × T (every isQuiet (charactersIn (stringFrom text (place + 1))))
       → ending ≡ both (p .ending) (eqb count 0)
-      → TakenIn text table p tape (characters (charactersIn (quotationAt text place))) past table tape′
-      (record { at = past; words = words; letters = p .letters + count; symbols = p .symbols; parts = p .parts; ending = ending })
+      → AddsItem text table p tape (characters string) past table tape′
+      (Taken (record { at = past; words = words; letters = p .letters + count; symbols = p .symbols; parts = p .parts; ending = ending }))
   string-taken few tape tape′ words ending w e =
-      let g = string-went (h .ready) a (w .0) in
-      record {
-        held =
-            record {
-              variables = h .variables;
-              fewLetters = few;
-              ready = record { inside = a .inside; charged = g .charged; short = h .ready .short };
-            };
-        at = refl;
-        went = rw (tape-string (charactersIn (quotationAt text place))) g;
-        quiet = rw (tape-string (charactersIn (quotationAt text place))) (string-quiet (h .ready) a (w .1));
-        fault = λ before s. rw (s .letters, a .counted, le-leb (p .letters + count) 64 few);
-        seen =
-            λ before s.
-            record {
-              letters = letters-string before (charactersIn (quotationAt text place)) ∙ rw (s .letters, a .counted);
-              symbols = symbols-string before (charactersIn (quotationAt text place)) ∙ s .symbols;
-              parts = parts-string before (charactersIn (quotationAt text place)) ∙ s .parts;
-              ending = ends-string before (charactersIn (quotationAt text place)) ∙ rw (s .ending, a .counted) (sym e);
-            };
-      }
+      item-taken h (tape-string string) (string-faulted (le-leb (p .letters + count) 64 few))
+      (record {
+        variables = h .variables;
+        few = few;
+        letters = rw (characters-letters string, a .counted);
+        symbols = characters-symbols (symbolNames text table (p .symbols)) string;
+        parts = rw (characters-parts string) (append-nil (partNames text table (p .parts)));
+        ending = λ before s. ends-string before string ∙ rw (s, a .counted) (sym e);
+      })
+      (string-went (h .ready) a (w .0))
+      (string-quiet (h .ready) a (w .1))
 
 -- VARIABLES
 
@@ -76,7 +131,24 @@ module _ {text : Bytes} {table : List ℕ} {p : Counts} {x : Span} (h : Held tex
   abbrev name : Name
   name = View.part text x
 
+  -- a variable of a kind, whose word is written with it
+  variable-taken : {tape : List ℕ} {item : Item} {table′ tape′ : List ℕ} {next : Counts} (kind : ℕ) → kind ≤ 2 → x .past - x .from ≤ 8
+      → patternTape (elementsOf item) ≡ named kind name
+      → Faulted text table p item 0
+      → Counting text table p (elementsOf item) table′ next
+      → next .at ≡ x .past
+      → Wrote tape (p .words) ((kind * 256 + (x .past - x .from)) ∷ name) (next .words) tape′ × T (every isQuiet name)
+      → AddsItem text table p tape item (next .at) table′ tape′ (Taken next)
+  variable-taken kind k s e f c r w =
+      item-taken h e f c (rw r (variable-went (h .ready) i kind refl (w .0))) (variable-quiet (h .ready) i kind (omega arith) (w .1))
+
   -- AN S-VARIABLE
+
+  abbrev fault : ℕ
+  fault = patternSymbolFault (p .letters) (symbolNames text table (p .symbols)) (partNames text table (p .parts)) name
+
+  pub symbol-faulted : Faulted text table p (symbolItem name) fault
+  symbol-faulted before s = rw (s .letters, s .symbols, s .parts)
 
   module _ (known : ℕ) (k : known ≡ 0 + position name (symbolNames text table (p .symbols))) where
     -- it is found at most at the end
@@ -88,12 +160,6 @@ module _ {text : Bytes} {table : List ℕ} {p : Counts} {x : Span} (h : Held tex
 
     pub known-place : known ≡ position name (symbolNames text table (p .symbols))
     known-place = k ∙ omega arith
-
-    abbrev fault : ℕ
-    fault = patternSymbolFault (p .letters) (symbolNames text table (p .symbols)) (partNames text table (p .parts)) name
-
-    pub symbol-wrong : (answer : Answer) → numberOf answer ≡ fault → eqb (numberOf answer) 0 ≡ false → WrongIn text table p (symbolItem name) answer
-    symbol-wrong answer e w = record { wrong = w; fault = λ before s. rw (s .letters, s .symbols, s .parts) (sym e) }
 
     is-member : {is : Bool} → ltb known (p .symbols) ≡ is → member name (symbolNames text table (p .symbols)) ≡ is
     is-member e = rw (← (position-member name (symbolNames text table (p .symbols))), symbol-count (h .variables), ← known-place) e
@@ -150,45 +216,35 @@ module _ {text : Bytes} {table : List ℕ} {p : Counts} {x : Span} (h : Held tex
           room = ltb-true known 16 (sym e ∙ both-right b c u);
         }
 
-    pub symbol-taken : fault ≡ 0 → (word : ℕ) (tape tape′ table′ : List ℕ) (words symbols′ : ℕ)
-        → word ≡ 256 + (x .past - x .from)
-        → Wrote tape (p .words) (word ∷ name) words tape′ × T (every isQuiet name)
+    pub symbol-taken : fault ≡ 0 → {tape tape′ table′ : List ℕ} {words symbols′ : ℕ}
+        → Wrote tape (p .words) ((256 + (x .past - x .from)) ∷ name) words tape′ × T (every isQuiet name)
         → (symbols′ ≡ pick (ltb known (p .symbols)) (p .symbols) (known + 1))
         × (table′ ≡ pick (ltb known (p .symbols)) table (set table known (x .from * 32 + (x .past - x .from))))
-        → TakenIn text table p tape (symbolItem name) (x .past) table′ tape′
-        (record { at = x .past; words = words; letters = p .letters + 1; symbols = symbols′; parts = p .parts; ending = false })
-    symbol-taken f word tape tape′ table′ words symbols′ e w r =
+        → AddsItem text table p tape (symbolItem name) (x .past) table′ tape′
+        (Taken (record { at = x .past; words = words; letters = p .letters + 1; symbols = symbols′; parts = p .parts; ending = false }))
+    unfolding lettersIn symbolsFrom partsOf
+    symbol-taken f {table′ = table′} {symbols′ = symbols′} w r =
         let t = fitting f in
         let m : Remembered text table p name table′ symbols′ = rw (r .0, r .1) (remembered (t .short) (t .room) (ltb known (p .symbols)) refl) in
-        let g = variable-went (h .ready) i 1 e (w .0) in
-        record {
-          held =
-              record {
-                variables = m .variables;
-                fewLetters = t .few;
-                ready = record { inside = i .inside; charged = g .charged; short = h .ready .short };
-              };
-          at = refl;
-          went = rw (tape-symbol name) g;
-          quiet = rw (tape-symbol name) (variable-quiet (h .ready) i 1 (let s = t .short in omega arith) (w .1));
-          fault = λ before s. rw (s .letters, s .symbols, s .parts) f;
-          seen =
-              λ before s.
-              record {
-                letters = letters-symbol before name ∙ rw (s .letters);
-                symbols = symbols-symbol before name ∙ rw (s .symbols) (m .symbols);
-                parts = parts-symbol before name ∙ s .parts ∙ m .parts;
-                ending = ends-symbol before name;
-              };
-        }
+        variable-taken 1 (omega arith) (t .short) (tape-one (letter (symbol name))) (λ before s. symbol-faulted before s ∙ f)
+        (record {
+          variables = m .variables;
+          few = t .few;
+          letters = refl;
+          symbols = m .symbols;
+          parts = append-nil (partNames text table (p .parts)) ∙ m .parts;
+          ending = λ before s. ends-with before (letter (symbol name));
+        })
+        refl
+        w
 
   -- AN E-VARIABLE
 
   abbrev partFault : ℕ
   partFault = patternPartFault (symbolNames text table (p .symbols)) (partNames text table (p .parts)) (p .ending) name
 
-  pub part-wrong : (answer : Answer) → numberOf answer ≡ partFault → eqb (numberOf answer) 0 ≡ false → WrongIn text table p (partItem name) answer
-  part-wrong answer e w = record { wrong = w; fault = λ before s. rw (s .symbols, s .parts, s .ending) (sym e) }
+  pub part-faulted : Faulted text table p (partItem name) partFault
+  part-faulted before s = rw (s .symbols, s .parts, s .ending)
 
   pub part-few : partFault ≡ 0 → p .parts < 2
   part-few f =
@@ -198,48 +254,36 @@ module _ {text : Bytes} {table : List ℕ} {p : Counts} {x : Span} (h : Held tex
   part-short : partFault ≡ 0 → x .past - x .from ≤ 8
   part-short f = within text x (identifier-inside i) 8 3 _ (no-fault (ltb (length (partNames text table (p .parts))) 2) 2 _ f .1)
 
-  pub part-taken : partFault ≡ 0 → (word : ℕ) (tape tape′ : List ℕ) (words : ℕ)
-      → word ≡ 512 + (x .past - x .from)
-      → Wrote tape (p .words) (word ∷ name) words tape′ × T (every isQuiet name)
-      → TakenIn text table p tape (partItem name) (x .past) (set table (16 + p .parts) (x .from * 32 + (x .past - x .from))) tape′
-      (record { at = x .past; words = words; letters = p .letters; symbols = p .symbols; parts = p .parts + 1; ending = true })
-  part-taken f word tape tape′ words e w =
+  pub part-taken : partFault ≡ 0 → {tape tape′ : List ℕ} {words : ℕ}
+      → Wrote tape (p .words) ((512 + (x .past - x .from)) ∷ name) words tape′ × T (every isQuiet name)
+      → AddsItem text table p tape (partItem name) (x .past) (set table (16 + p .parts) (x .from * 32 + (x .past - x .from))) tape′
+      (Taken (record { at = x .past; words = words; letters = p .letters; symbols = p .symbols; parts = p .parts + 1; ending = true }))
+  unfolding lettersIn symbolsFrom partsOf
+  part-taken f w =
       let v = h .variables in
       let few = part-few f in
       let short = part-short f in
       let entry = x .from * 32 + (x .past - x .from) in
-      let g = variable-went (h .ready) i 2 e (w .0) in
       let o =
       grown text table 16 (16 + p .parts) (v .partEntries) entry (omega (arith, v .long)) (entry-inside text x (identifier-inside i) (omega arith))
       in
       let k = kept-below text table 0 (p .symbols) (v .symbolEntries) (16 + p .parts) entry (omega (arith, v .fewSymbols)) in
       let a : 16 + (p .parts + 1) ≡ 16 + p .parts + 1 = omega arith in
-      record {
-        held =
+      variable-taken 2 (omega arith) short (tape-one (part name)) (λ before s. part-faulted before s ∙ f)
+      (record {
+        variables =
             record {
-              variables =
-                  record {
-                    symbolEntries = k .entries;
-                    partEntries = rw a (o .entries);
-                    fewSymbols = v .fewSymbols;
-                    fewParts = omega arith;
-                    long = length-set table (16 + p .parts) entry ∙ v .long;
-                  };
-              fewLetters = h .fewLetters;
-              ready = record { inside = i .inside; charged = g .charged; short = h .ready .short };
+              symbolEntries = k .entries;
+              partEntries = rw a (o .entries);
+              fewSymbols = v .fewSymbols;
+              fewParts = omega arith;
+              long = length-set table (16 + p .parts) entry ∙ v .long;
             };
-        at = refl;
-        went = rw (tape-part name) g;
-        quiet = rw (tape-part name) (variable-quiet (h .ready) i 2 (omega arith) (w .1));
-        fault = λ before s. rw (s .symbols, s .parts, s .ending) f;
-        seen =
-            λ before s.
-            record {
-              letters = letters-part before name ∙ s .letters;
-              symbols = symbols-part before name ∙ s .symbols ∙ sym (k .names);
-              parts =
-                  parts-part before name
-                  ∙ rw (s .parts, a) (sym (o .names ∙ rw (entry-name text x (identifier-inside i) (omega arith))));
-              ending = ends-part before name;
-            };
-      }
+        few = h .fewLetters;
+        letters = add-zero (p .letters);
+        symbols = sym (k .names);
+        parts = rw a (sym (o .names ∙ rw (entry-name text x (identifier-inside i) (omega arith))));
+        ending = λ before s. ends-with before (part name);
+      })
+      refl
+      w

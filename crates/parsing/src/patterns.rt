@@ -9,7 +9,7 @@ use crate::progress::is_accepted;
 use crate::writing::PART_WORD;
 use crate::writing::SYMBOL_WORD;
 use crate::writing::put_characters;
-use crate::writing::put_named;
+use crate::writing::put_name;
 use lexing::Mode;
 use lexing::Placed;
 use lexing::Span;
@@ -135,8 +135,7 @@ fn add_symbol(
         return Added::Wrong(fault);
     }
     let symbols = remember(table, known, p.symbols, entry(x));
-    let word = (SYMBOL_WORD + (x.past - x.from)) as u32;
-    let words = put_named(text, tape, p.words, word, x);
+    let words = put_name(text, tape, p.words, SYMBOL_WORD, x);
     Added::Taken(Counts {
         at: x.past,
         words: words,
@@ -191,8 +190,7 @@ fn add_part(
     let parts = p.parts;
     let last = 16 + parts;
     table[last] = entry(x);
-    let word = (PART_WORD + (x.past - x.from)) as u32;
-    let words = put_named(text, tape, p.words, word, x);
+    let words = put_name(text, tape, p.words, PART_WORD, x);
     Added::Taken(Counts {
         at: x.past,
         words: words,

@@ -74,6 +74,16 @@ pub fn put_named(text: &[u8], tape: &mut [u32; 32768], at: usize, word: u32, x: 
     to
 }
 
+// A word of a kind and a name's length, and the name's bytes after it.
+pub fn put_name(text: &[u8], tape: &mut [u32; 32768], at: usize, kind: usize, x: Span) -> usize
+    requires { ⌜ Inside (now text) x × (at + 1 + (x .past - x .from) ≤ 32768) × (kind ≤ 2048) ⌝ }
+    ensures { λ r. ⌜ Wrote (now (tape .entry)) at ((kind + (x .past - x .from)) ∷ part (now (text .entry)) x) r (now (tape .exit))
+        × T (every isQuiet (part (now (text .entry)) x)) ⌝ }
+{
+    let word = (kind + (x.past - x.from)) as u32;
+    put_named(text, tape, at, word, x)
+}
+
 // The characters of a string that is well formed, from the place after its opening quote.
 pub fn put_characters(text: &[u8], tape: &mut [u32; 32768], at: usize, from: usize) -> usize
     requires { ⌜ Ready (now text) from at × IsClosed (stringFrom (now text) from) ⌝ }

@@ -2,10 +2,9 @@
 use borrow.Author.Needs.{needs}
 use Rattle.parsing.proofs.patterns.add_part.Statement.{statement}
 use Rattle.parsing.proofs.patterns.add_part.Tie as tie
-use mathlib.Core.Path.{refl}
 use native.Mathlib.Omega.{arith}
-use Rattle.parsing.proofs.Choosing.{no-fault-here, a-fault-here}
-use Rattle.parsing.proofs.Adding.{part-few, part-wrong, part-taken}
+use Rattle.parsing.proofs.Choosing.{no-fault-here}
+use Rattle.parsing.proofs.Adding.{item-wrong, part-faulted, part-few, part-taken}
 
 part-fault-requires : tie.Need-part-fault-requires
 part-fault-requires c κs = search needs
@@ -15,8 +14,8 @@ is-accepted-requires c κs = search needs
 
 returns : tie.Need-returns
 returns c =
-    let f = c .before .before .part-fault .ensures in
-    record { gives = part-wrong (c .before .before .before .before .before .before .pre .0) (c .before .before .before .before .before .before .pre .1) _ f (a-fault-here f (c .before .is-accepted .ensures) (c .if1 .taken)) }
+    let p = c .before .before .before .before .before .before .pre in
+    item-wrong (part-faulted (p .0) (p .1)) (c .before .before .part-fault .ensures) (c .before .is-accepted .ensures) (c .if1 .taken)
 
 add-last : tie.Need-add-last
 add-last c = search needs
@@ -33,26 +32,17 @@ element-write-table c =
     let f = part-few (p .0) (p .1) (no-fault-here (c .before .before .before .part-fault .ensures) (c .before .before .is-accepted .ensures) (c .before .if1 .left)) in
     omega arith
 
-sub-word : tie.Need-sub-word
-sub-word c = search needs
+put-name-requires : tie.Need-put-name-requires
+put-name-requires c κs = search needs
 
-add-word : tie.Need-add-word
-add-word c = search needs
-
-cast-word : tie.Need-cast-word
-cast-word c = search needs
-
-put-named-requires : tie.Need-put-named-requires
-put-named-requires c κs = search needs
-
-add-t15 : tie.Need-add-t15
-add-t15 c = search needs
+add-t14 : tie.Need-add-t14
+add-t14 c = search needs
 
 returns-2 : tie.Need-returns-2
 returns-2 c =
-    let p = c .before .before .before .before .before .before .before .before .before .before .pre in
-    let f = no-fault-here (c .before .before .before .before .before .before .part-fault .ensures) (c .before .before .before .before .before .is-accepted .ensures) (c .before .before .before .before .if1 .left) in
-    record { gives = rw (c .before .before .before .entry .ensures) (part-taken (p .0) (p .1) f _ _ _ _ refl (c .put-named .ensures)) }
+    let p = c .before .before .before .before .before .before .before .before .before .pre in
+    let f = no-fault-here (c .before .before .before .before .before .part-fault .ensures) (c .before .before .before .before .is-accepted .ensures) (c .before .before .before .if1 .left) in
+    rw (c .before .before .entry .ensures) (part-taken (p .0) (p .1) f (c .put-name .ensures))
 
 pub add-part-spec : {M : Type 1} → statement M
 add-part-spec =
@@ -65,9 +55,6 @@ add-part-spec =
     entry-requires
     mul-table
     element-write-table
-    sub-word
-    add-word
-    cast-word
-    put-named-requires
-    add-t15
+    put-name-requires
+    add-t14
     returns-2)

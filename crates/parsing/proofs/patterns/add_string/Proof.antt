@@ -9,7 +9,7 @@ add-if1 : tie.Need-add-if1
 add-if1 c = search needs
 
 returns : tie.Need-returns
-returns c = record { gives = string-wrong (c .before .before .before .before .pre .0) (c .before .before .before .before .pre .1) (c .if1 .taken) }
+returns c = string-wrong (c .before .before .before .before .pre .0) (c .before .before .before .before .pre .1) (c .if1 .taken)
 
 add-put-characters : tie.Need-add-put-characters
 add-put-characters c = search needs
@@ -25,10 +25,7 @@ add-t10 c = search needs
 
 returns-2 : tie.Need-returns-2
 returns-2 c =
-    record {
-      gives =
-          string-taken (c .before .before .before .before .before .before .before .before .pre .0) (c .before .before .before .before .before .before .before .before .pre .1) (c .before .before .before .before .if1 .left) _ _ _ _ (c .before .before .put-characters .ensures) (c .before .still-ending .ensures);
-    }
+    string-taken (c .before .before .before .before .before .before .before .before .pre .0) (c .before .before .before .before .before .before .before .before .pre .1) (c .before .before .before .before .if1 .left) _ _ _ _ (c .before .before .put-characters .ensures) (c .before .still-ending .ensures)
 
 pub add-string-spec : {M : Type 1} → statement M
 add-string-spec =
