@@ -6,12 +6,12 @@ use mathlib.Core.List.{List, [], _∷_, _++_, append-nil, append-assoc}
 use mathlib.Core.Logic.{_⊎_, inl, inr, ⊎-elim}
 use mathlib.Core.Option.{none, some}
 use native.Mathlib.Omega.{arith}
-use lib.Dec.{T, eqb, lt→ltb}
+use lib.Dec.{T, ltb, eqb, lt→ltb}
 use lib.ListN.{length, getD}
 use lib.Seq.{length-slice}
 use types.Run.{OneOf, miss}
 use denote.Enum.Declared.{tagOf}
-use borrow.Author.Tests.{lt-ltb, le-ltb, eq-eqb, ne-eqb}
+use borrow.Author.Tests.{eq-eqb, ne-eqb}
 use Rattle.meaning.specs.Choice.{Bytes, Name, pick, both, every, sameBytes}
 use Rattle.meaning.specs.Classes.{Class, classNumber}
 use Rattle.meaning.specs.Tree.{Condition}
@@ -21,7 +21,7 @@ use Rattle.meaning.specs.Tape.{truthNumber, conditionTape, conditionsTape}
 use Rattle.meaning.specs.Tokens as Tokens
 use Rattle.meaning.specs.Grammar.{standing}
 use Rattle.meaning.specs.Reading as Reading
-use Rattle.meaning.specs.Reading.{Parsed, stopped, parsed, follow, symbolFault, itemOf, symbolOn}
+use Rattle.meaning.specs.Reading.{Parsed, stopped, parsed, follow, faultUnless, symbolFault, itemOf, symbolOn}
 use Rattle.meaning.proofs.laws.Passing.{both-pass}
 use Rattle.meaning.specs.Packing.{classOf}
 use Rattle.lexing.proofs.Token as token
@@ -63,16 +63,11 @@ module _ {text : Bytes} {table : List ℕ} {symbols : ℕ} {x : Span} (p : Insid
   pub later-long : 8 < x .past - x .from → Later overLimit
   later-long l = later-fault-is (symbolNames text table symbols) (View.part text x) (too-long text x p 8 l) refl
 
-  module _ (l : x .past - x .from ≤ 8) (r : ℕ) (f : r ≡ 0 + position (View.part text x) (symbolNames text table symbols)) where
-    pub later-known : r < symbols → Later 0
-    later-known h =
-        later-fault-is (symbolNames text table symbols) (View.part text x) (short-enough text x p 8 l)
-        (among text table 0 symbols e (View.part text x) r f (lt-ltb r symbols h))
-
-    pub later-unknown : symbols ≤ r → Later wrongLaterVariable
-    later-unknown h =
-        later-fault-is (symbolNames text table symbols) (View.part text x) (short-enough text x p 8 l)
-        (among text table 0 symbols e (View.part text x) r f (le-ltb r symbols h))
+  pub later-is : x .past - x .from ≤ 8 → (r : ℕ) → r ≡ 0 + position (View.part text x) (symbolNames text table symbols) → {known : Bool} → ltb r symbols ≡ known
+      → Later (faultUnless known wrongLaterVariable 0)
+  later-is l r f h =
+      later-fault-is (symbolNames text table symbols) (View.part text x) (short-enough text x p 8 l)
+      (among text table 0 symbols e (View.part text x) r f h)
 
 -- THE CLOSING STRING
 
@@ -93,12 +88,16 @@ no-string text Malformed place past three o = refl
 abbrev Truth : Bytes → Code.Placed → ℕ → Type 0
 Truth text t n = TruthIs (tokenOf text (t .token) (t .place) (t .past)) (eqb (t .past) (t .place + 3)) n
 
+-- what is no truth value has the number 1
+neither : {token : Tokens.Token} {three : Bool} → Reading.truthOf token three ≡ none → TruthIs token three 1
+neither e = record { same = e; known = inr (inl refl); low = omega arith }
+
 pub truth-none : (text : Bytes) (t : Code.Placed) → OneOf allButQuoted (tagOf token.the-type (t .token)) → Truth text t 1
-truth-none text t o = record { same = no-string text (t .token) (t .place) (t .past) _ o; known = inr (inl refl); low = omega arith }
+truth-none text t o = neither (no-string text (t .token) (t .place) (t .past) _ o)
 
 module _ (text : Bytes) (t : Code.Placed) (count : ℕ) (e : t .token ≡ Quoted count) where
   pub truth-long : (t .past ≡ t .place + 3 → ⊥) → Truth text t 1
-  truth-long d = record { same = rw (e, ne-eqb (t .past) (t .place + 3) d); known = inr (inl refl); low = omega arith }
+  truth-long d = neither (rw (e, ne-eqb (t .past) (t .place + 3) d))
 
   module _ (s : Standing text t) (d : t .past ≡ t .place + 3) where
     abbrev middle : ℕ
@@ -118,7 +117,7 @@ module _ (text : Bytes) (t : Code.Placed) (count : ℕ) (e : t .token ≡ Quoted
     truth-false b = record { same = three ∙ rw b; known = inl refl; low = omega arith }
 
     pub truth-neither : (middle ≡ 84 → ⊥) → (middle ≡ 70 → ⊥) → Truth text t 1
-    truth-neither a b = record { same = three ∙ rw (ne-eqb middle 84 a, ne-eqb middle 70 b); known = inr (inl refl); low = omega arith }
+    truth-neither a b = neither (three ∙ rw (ne-eqb middle 84 a, ne-eqb middle 70 b))
 
 -- a number other than 1 is that of a truth value
 pub record Value (n : ℕ) : Type 0 where

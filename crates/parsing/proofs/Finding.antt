@@ -96,10 +96,10 @@ module _ (text : Bytes) (table : List ℕ) (from to : ℕ) (e : Entries text tab
   table-length = names-length text (slice from to table) ∙ length-slice from to table (e .inside)
 
   module _ (x : Name) (r : ℕ) (f : r ≡ from + position x (tableNames text table from to)) where
-    pub found-member : r < to → member x (tableNames text table from to) ≡ true
+    found-member : r < to → member x (tableNames text table from to) ≡ true
     found-member h = sym (position-member x (tableNames text table from to)) ∙ lt-ltb (position x (tableNames text table from to)) (length (tableNames text table from to)) (rw table-length (omega (arith, e .ordered)))
 
-    pub found-none : to ≤ r → member x (tableNames text table from to) ≡ false
+    found-none : to ≤ r → member x (tableNames text table from to) ≡ false
     found-none h = sym (position-member x (tableNames text table from to)) ∙ le-ltb (position x (tableNames text table from to)) (length (tableNames text table from to)) (rw table-length (omega (arith, e .ordered)))
 
     -- a test on the place says whether it is among them

@@ -1,12 +1,15 @@
 -- What a name is: a predicate, an emission, declared, too long.
-use Prim.Native.Nat.{ℕ, zero, suc, _-_, _≤_, _<_}
+use Prim.Native.Nat.{ℕ, zero, suc, _+_, _-_, _≤_, _<_}
 use mathlib.Core.Path.{_≡_, refl, _∙_}
-use mathlib.Core.Bool.{Bool, true, not}
-use mathlib.Core.List.{List}
+use mathlib.Core.Bool.{Bool, true, false, not, true≢false}
+use mathlib.Core.List.{List, _∷_}
 use mathlib.Core.Option.{none, some}
+use native.Mathlib.Numerals.{add-one}
 use native.Mathlib.Omega.{arith}
+use lib.Dec.{leb, eqb}
+use lib.ListN.{length, drop}
 use Rattle.meaning.specs.Choice.{Bytes, Name, pick, both, either, sameBytes}
-use Rattle.meaning.specs.Classes.{Class, digit, upper, lower, alphabetic, blank, className, classNumber}
+use Rattle.meaning.specs.Classes.{Class, digit, upper, lower, alphabetic, blank, className, classNumber, classes}
 use Rattle.meaning.specs.Names.{classNamed, predicateOf, isPredicate, isEmission}
 use Rattle.meaning.specs.Answers.{overLimit, wrongName}
 use Rattle.meaning.specs.Allowed.{member}
@@ -14,32 +17,23 @@ use Rattle.meaning.specs.Reading.{faultUnless, calledFault}
 use Rattle.meaning.specs.Packing.{classOf}
 use Rattle.lexing.specs.View.{part}
 use Rattle.lexing.specs.declared.Span.{Span}
-use Rattle.parsing.specs.Tables.{Inside, declaredFaultIn}
+use Rattle.parsing.specs.Tables.{Inside, Entries, tableNames, declaredFaultIn}
+use Rattle.parsing.proofs.Choosing.{no-fault-here, a-fault-here}
 use Rattle.parsing.proofs.Faults.{too-long, short-enough}
 
--- the five names, asked in order
-pub predicate-is : (n : Name) {d u l a b : Bool}
-    → d ≡ sameBytes n (className digit)
-    → u ≡ sameBytes n (className upper)
-    → l ≡ sameBytes n (className lower)
-    → a ≡ sameBytes n (className alphabetic)
-    → b ≡ sameBytes n (className blank)
-    → predicateOf n ≡ pick d (some digit) (pick u (some upper) (pick l (some lower) (pick a (some alphabetic) (pick b (some blank) none))))
-unfolding classNamed
-predicate-is n p q r s t = rw (p, q, r, s, t)
-
--- the class that a number below 5 names; 5 names none
+-- the class that a number below 5 names, and those asked after it; 5 names none
 pub record Classed (n : ℕ) : Type 0 where
   pub class : Class
   pub same : classOf n ≡ some class
   pub number : classNumber class ≡ n
+  pub listed : drop n classes ≡ class ∷ drop (suc n) classes
 
 pub classed : (n : ℕ) → n < 5 → Classed n
-classed zero h = record { class = digit; same = refl; number = refl }
-classed (suc zero) h = record { class = upper; same = refl; number = refl }
-classed (suc (suc zero)) h = record { class = lower; same = refl; number = refl }
-classed (suc (suc (suc zero))) h = record { class = alphabetic; same = refl; number = refl }
-classed (suc (suc (suc (suc zero)))) h = record { class = blank; same = refl; number = refl }
+classed zero h = record { class = digit; same = refl; number = refl; listed = refl }
+classed (suc zero) h = record { class = upper; same = refl; number = refl; listed = refl }
+classed (suc (suc zero)) h = record { class = lower; same = refl; number = refl; listed = refl }
+classed (suc (suc (suc zero))) h = record { class = alphabetic; same = refl; number = refl; listed = refl }
+classed (suc (suc (suc (suc zero)))) h = record { class = blank; same = refl; number = refl; listed = refl }
 classed (suc (suc (suc (suc (suc n))))) h = absurd (omega arith)
 
 pub class-number : (n : ℕ) (c : Class) → n < 5 → classOf n ≡ some c → classNumber c ≡ n
@@ -48,12 +42,44 @@ class-number n c h e =
     let same : k .class ≡ c = cc in
     rw (← same) (k .number)
 
+-- a name that was compared with that of one class was compared with that of every class of its number
+pub class-word : {n : ℕ} (name : Name) {is : Bool} (m : ℕ) (d : Class) → n ≡ m → classOf m ≡ some d → is ≡ sameBytes name (className d)
+    → (c : Class) → classOf n ≡ some c → is ≡ sameBytes name (className c)
+class-word name m d e f s c g = let same : c ≡ d = cc in rw same s
+
+-- the classes from the start are those from here
+pub record Asked (name : Name) (class : ℕ) : Type 0 where
+  pub low : class ≤ 5
+  pub same : predicateOf name ≡ classNamed (drop class classes) name
+
+pub asked-none : (name : Name) → Asked name 0
+asked-none name = record { low = omega arith; same = refl }
+
+module _ {name : Name} {class : ℕ} (a : Asked name class) where
+  -- all were asked
+  pub asked-all : 5 ≤ class → predicateOf name ≡ none
+  unfolding classNamed
+  asked-all h = let w : class ≡ 5 = omega (arith, a .low) in a .same ∙ rw w
+
+  module _ (h : class < 5) {is : Bool} (s : (c : Class) → classOf class ≡ some c → is ≡ sameBytes name (className c)) where
+    asked : predicateOf name ≡ pick is (classOf class) (classNamed (drop (suc class) classes) name)
+    unfolding classNamed
+    asked = let k = classed class h in a .same ∙ rw (k .listed, ← (s (k .class) (k .same)), k .same)
+
+    pub asked-is : is ≡ true → predicateOf name ≡ classOf class
+    asked-is e = rw e at asked
+
+    pub asked-not : is ≡ false → Asked name (class + 1)
+    asked-not e =
+        let n : predicateOf name ≡ classNamed (drop (suc class) classes) name = rw e at asked in
+        record { low = omega arith; same = rw add-one n }
+
 module _ (n : Name) (r : ℕ) (e : predicateOf n ≡ classOf r) where
   pub a-predicate : r < 5 → isPredicate n ≡ true
   a-predicate h = rw (e, classed r h .same)
 
-  pub no-predicate : r ≤ 5 → 5 ≤ r → predicateOf n ≡ none
-  no-predicate low high = let w : r ≡ 5 = omega arith in e ∙ rw w
+  pub no-predicate : r ≤ 5 → 5 ≤ r → isPredicate n ≡ false
+  no-predicate low high = let w : r ≡ 5 = omega arith in rw (e, w)
 
 -- FAULTS OF NAMES
 
@@ -64,11 +90,32 @@ module _ (text : Bytes) (x : Span) (p : Inside text x) where
   pub called-is : x .past - x .from ≤ 24 → {is : Bool} → isPredicate (part text x) ≡ is → faultUnless (not is) wrongName 0 ≡ calledFault (part text x)
   called-is h e = rw (short-enough text x p 24 h, e)
 
-  module _ (names : List Name) where
-    pub declared-long : 24 < x .past - x .from → overLimit ≡ declaredFaultIn names (part text x)
-    declared-long h = rw (too-long text x p 24 h)
+-- a declared name, by what is wrong with it where it is called
+module _ {text : Bytes} {x : Span} {table : List ℕ} {functions : ℕ} (p : Inside text x) (k : Entries text table 0 functions) {number : ℕ} {is : Bool}
+    (e : number ≡ calledFault (part text x)) (q : is ≡ eqb number 0) where
+  abbrev n : Name
+  n = part text x
 
-    pub declared-is : x .past - x .from ≤ 24 → {predicate emission known : Bool} → isPredicate (part text x) ≡ predicate → isEmission (part text x) ≡ emission
-        → member (part text x) names ≡ known
-        → faultUnless (both (not (either predicate emission)) (not known)) wrongName 0 ≡ declaredFaultIn names (part text x)
-    declared-is h e f g = rw (short-enough text x p 24 h, e, f, g)
+  abbrev names : List Name
+  names = tableNames text table 0 functions
+
+  pub declared-wrong : not is ≡ true → number ≡ declaredFaultIn names n
+  declared-wrong w = e ∙ wrong (leb (length n) 24) (isPredicate n) (rw e at (a-fault-here e q w))
+    where
+      wrong : (short predicate : Bool) → eqb (faultUnless short overLimit (faultUnless (not predicate) wrongName 0)) 0 ≡ false
+          → faultUnless short overLimit (faultUnless (not predicate) wrongName 0)
+          ≡ faultUnless short overLimit (faultUnless (both (not (either predicate (isEmission n))) (not (member n names))) wrongName 0)
+      wrong false predicate w′ = refl
+      wrong true true w′ = refl
+      wrong true false w′ = absurd (true≢false w′)
+
+  pub declared-is : not is ≡ false → {emission known : Bool} → isEmission n ≡ emission → member n names ≡ known
+      → faultUnless (both (not emission) (not known)) wrongName 0 ≡ declaredFaultIn names n
+  declared-is w {emission} {known} f g = right (leb (length n) 24) (isPredicate n) (no-fault-here e q w)
+    where
+      right : (short predicate : Bool) → faultUnless short overLimit (faultUnless (not predicate) wrongName 0) ≡ 0
+          → faultUnless (both (not emission) (not known)) wrongName 0
+          ≡ faultUnless short overLimit (faultUnless (both (not (either predicate (isEmission n))) (not (member n names))) wrongName 0)
+      right true false z = rw (f, g)
+      right true true z = absurd (omega arith)
+      right false predicate z = absurd (omega arith)

@@ -1,7 +1,7 @@
 -- The pattern's reader: what an item adds.
 use Prim.Native.Nat.{ℕ, _+_, _-_, _≤_, _<_}
 use mathlib.Core.Path.{_≡_, refl, _∙_}
-use mathlib.Core.Bool.{Bool, true, false, not}
+use mathlib.Core.Bool.{Bool, true, not}
 use mathlib.Core.List.{List}
 use native.Mathlib.Omega.{arith}
 use lib.Dec.{leb, ltb}
@@ -75,17 +75,11 @@ module _ {text : Bytes} {table : List ℕ} {p : Counts} {x : Span} (h : Held tex
             symbol-fault-is (p .letters) (symbolNames text table (p .symbols)) (partNames text table (p .parts)) (part text x) short few
             (room-is (le-ltb known 16 n)) refl
 
-        symbol-is : {is : Bool} (r : ℕ) → known < 16 → PartAt r → ltb r (16 + p .parts) ≡ is → Symbol (faultUnless (not is) wrongPatternVariable 0)
+        pub symbol-is : {is : Bool} (r : ℕ) → known < 16 → PartAt r → ltb r (16 + p .parts) ≡ is → Symbol (faultUnless (not is) wrongPatternVariable 0)
         symbol-is r n f e =
             symbol-fault-is (p .letters) (symbolNames text table (p .symbols)) (partNames text table (p .parts)) (part text x) short few
             (room-is (lt-ltb known 16 n))
             (among text table 16 (16 + p .parts) (h .variables .partEntries) (part text x) r f e)
-
-        pub symbol-shared : (r : ℕ) → known < 16 → PartAt r → r < 16 + p .parts → Symbol wrongPatternVariable
-        symbol-shared r n f e = symbol-is r n f (lt-ltb r (16 + p .parts) e)
-
-        pub symbol-right : (r : ℕ) → known < 16 → PartAt r → 16 + p .parts ≤ r → Symbol 0
-        symbol-right r n f e = symbol-is r n f (le-ltb r (16 + p .parts) e)
 
   -- an e-variable
   abbrev Part : ℕ → Type 0
@@ -106,7 +100,7 @@ module _ {text : Bytes} {table : List ℕ} {p : Counts} {x : Span} (h : Held tex
         (too-long text x inside 8 l) refl refl refl
 
     module _ (l : x .past - x .from ≤ 8) where
-      part-is : {symbol shared ends : Bool} (r q : ℕ) → SymbolAt r → ltb r (p .symbols) ≡ symbol → PartAt q → ltb q (16 + p .parts) ≡ shared
+      pub part-is : {symbol shared ends : Bool} (r q : ℕ) → SymbolAt r → ltb r (p .symbols) ≡ symbol → PartAt q → ltb q (16 + p .parts) ≡ shared
           → p .ending ≡ ends
           → Part (faultUnless (both (not (either symbol shared)) (not ends)) wrongPatternVariable 0)
       part-is r q f d g e n =
@@ -115,17 +109,3 @@ module _ {text : Bytes} {table : List ℕ} {p : Counts} {x : Span} (h : Held tex
           (among text table 0 (p .symbols) (h .variables .symbolEntries) (part text x) r f d)
           (among text table 16 (16 + p .parts) (h .variables .partEntries) (part text x) q g e)
           n
-
-      pub part-symbol : (r : ℕ) → SymbolAt r → r < p .symbols → Part wrongPatternVariable
-      part-symbol r f d = part-is r _ f (lt-ltb r (p .symbols) d) refl refl refl
-
-      module _ (r : ℕ) (f : SymbolAt r) (d : p .symbols ≤ r) (q : ℕ) (g : PartAt q) where
-        pub part-twice : q < 16 + p .parts → Part wrongPatternVariable
-        part-twice e = part-is r q f (le-ltb r (p .symbols) d) g (lt-ltb q (16 + p .parts) e) refl
-
-        module _ (e : 16 + p .parts ≤ q) where
-          pub part-next : p .ending ≡ true → Part wrongPatternVariable
-          part-next n = part-is r q f (le-ltb r (p .symbols) d) g (le-ltb q (16 + p .parts) e) n
-
-          pub part-right : p .ending ≡ false → Part 0
-          part-right n = part-is r q f (le-ltb r (p .symbols) d) g (le-ltb q (16 + p .parts) e) n

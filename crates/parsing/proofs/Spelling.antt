@@ -1,14 +1,14 @@
--- Comparing parts of the text, byte by byte.
-use Prim.Native.Nat.{ℕ, suc, _+_, _-_, _≤_, _<_}
+-- Comparing a part of the text with a word, byte by byte.
+use Prim.Native.Nat.{ℕ, zero, suc, _+_, _-_, _≤_, _<_}
 use mathlib.Core.Path.{_≡_, refl, sym, _∙_, ap, ap₂}
 use mathlib.Core.Bool.{Bool, true, false}
 use mathlib.Core.List.{[], _∷_}
-use native.Mathlib.Nat.{add-zero}
+use native.Mathlib.Nat.{add-zero, sub-zero, zero-sub, suc-sub-suc}
 use native.Mathlib.Numerals.{add-one}
 use native.Mathlib.Omega.{arith}
 use lib.Dec.{eqb}
-use lib.ListN.{length, getD, drop, drop-of-length-le}
-use lib.Seq.{slice, slice-cons, slice-empty, length-slice, drop-cons}
+use lib.ListN.{length, getD, take, drop, drop-of-length-le}
+use lib.Seq.{slice, slice-cons, length-slice, drop-cons, take-nil}
 use borrow.Author.Tests.{eq-eqb, ne-eqb, eqb-true, eqb-false}
 use Rattle.meaning.specs.Choice.{Bytes, Name, both, sameBytes, startsWith}
 use Rattle.lexing.specs.View.{part}
@@ -16,7 +16,12 @@ use Rattle.lexing.specs.declared.Span.{Span}
 use Rattle.parsing.specs.Tables.{Inside}
 use Rattle.parsing.proofs.Choosing.{both-false}
 
--- EQUAL PARTS
+-- a part of the text as it is lent on
+pub lent-part : (from past : ℕ) (text : Bytes) → take (past - from) (drop from text) ≡ slice from past text
+lent-part zero past text = rw sub-zero
+lent-part (suc from) zero text = rw zero-sub
+lent-part (suc from) (suc past) [] = take-nil (suc past - suc from)
+lent-part (suc from) (suc past) (b ∷ text) = rw suc-sub-suc (lent-part from past text)
 
 -- names of different lengths are different
 lengths-differ : (xs ys : Name) → (length xs ≡ length ys → ⊥) → false ≡ sameBytes xs ys
@@ -25,65 +30,6 @@ lengths-differ [] [] d = absurd (d refl)
 lengths-differ [] (y ∷ ys) d = refl
 lengths-differ (x ∷ xs) [] d = refl
 lengths-differ (x ∷ xs) (y ∷ ys) d = both-false (eqb x y) (lengths-differ xs ys (λ e. d (ap suc e)))
-
--- two parts of so many bytes agree so far
-pub record Matching (text : Bytes) (a b n i : ℕ) : Type 0 where
-  pub low : i ≤ n
-  pub left : a + n ≤ length text
-  pub right : b + n ≤ length text
-  pub same : sameBytes (slice a (a + n) text) (slice b (b + n) text) ≡ sameBytes (slice (a + i) (a + n) text) (slice (b + i) (b + n) text)
-
-module _ (text : Bytes) (x y : Span) (p : Inside text x) (q : Inside text y) where
-  length-of : (s : Span) → Inside text s → length (part text s) ≡ s .past - s .from
-  length-of s k = length-slice (s .from) (s .past) text (k .inside)
-
-  pub same-unlike : (x .past - x .from ≡ y .past - y .from → ⊥) → false ≡ sameBytes (part text x) (part text y)
-  same-unlike d = lengths-differ (part text x) (part text y) (λ e. d (sym (length-of x p) ∙ e ∙ length-of y q))
-
-  -- the parts by their lengths
-  spread : (s : Span) (n : ℕ) → Inside text s → n ≡ s .past - s .from → part text s ≡ slice (s .from) (s .from + n) text
-  spread s n k e = let w : s .from + n ≡ s .past = omega (arith, k .forward) in rw w
-
-  module _ (n : ℕ) (e : n ≡ x .past - x .from) (f : n ≡ y .past - y .from) where
-    pub same-starts : Matching text (x .from) (y .from) n 0
-    same-starts =
-        record {
-          low = omega arith;
-          left = omega (arith, p .inside, p .forward);
-          right = omega (arith, q .inside, q .forward);
-          same = rw (add-zero (x .from), add-zero (y .from));
-        }
-
-    parts-same : {is : Bool} → is ≡ sameBytes (slice (x .from) (x .from + n) text) (slice (y .from) (y .from + n) text) → is ≡ sameBytes (part text x) (part text y)
-    parts-same w = rw (spread x n p e, spread y n q f) w
-
-    module _ (i : ℕ) (m : Matching text (x .from) (y .from) n i) where
-      pub same-ends : n ≤ i → true ≡ sameBytes (part text x) (part text y)
-      unfolding sameBytes
-      same-ends h =
-          let w : i ≡ n = omega (arith, m .low) in
-          parts-same (sym (m .same ∙ rw (w, slice-empty (x .from + n) text, slice-empty (y .from + n) text)))
-
-      module _ (h : i < n) where
-        unrolled : sameBytes (slice (x .from) (x .from + n) text) (slice (y .from) (y .from + n) text)
-            ≡ both (eqb (getD text (x .from + i) 0) (getD text (y .from + i) 0))
-            (sameBytes (slice (suc (x .from + i)) (x .from + n) text) (slice (suc (y .from + i)) (y .from + n) text))
-        unfolding sameBytes
-        unrolled =
-            m .same
-            ∙ rw (
-              slice-cons (x .from + i) (x .from + n) text 0 (omega arith) (m .left),
-              slice-cons (y .from + i) (y .from + n) text 0 (omega arith) (m .right),
-            )
-
-        pub same-parts-ways : (getD text (x .from + i) 0 ≡ getD text (y .from + i) 0 → ⊥) → false ≡ sameBytes (part text x) (part text y)
-        same-parts-ways d = parts-same (sym (unrolled ∙ rw (ne-eqb _ _ d)))
-
-        pub same-goes : getD text (x .from + i) 0 ≡ getD text (y .from + i) 0 → Matching text (x .from) (y .from) n (i + 1)
-        same-goes d =
-            let u : suc (x .from + i) ≡ x .from + (i + 1) = omega arith in
-            let v : suc (y .from + i) ≡ y .from + (i + 1) = omega arith in
-            record { low = omega arith; left = m .left; right = m .right; same = rw (← u, ← v) (unrolled ∙ rw (eq-eqb _ _ d)) }
 
 -- BEGINNINGS
 

@@ -1,11 +1,13 @@
 // Names and identifiers: parts of the text, and tables of them. An entry of a table is 32 times the place of a name and its length.
 use crate::Answer;
+use crate::progress::is_accepted;
 use lexing::Span;
 ghost use mathlib.Core.Path.{_≡_};
-ghost use mathlib.Core.Bool.{true};
+ghost use mathlib.Core.Option.{some};
 ghost use Prim.Native.Nat.{_+_, _-_, _*_, _≤_, _<_};
 ghost use lib.ListN.{length};
 ghost use Rattle.meaning.specs.Choice.{sameBytes, startsWith};
+ghost use Rattle.meaning.specs.Classes.{Class, className};
 ghost use Rattle.meaning.specs.Names.{isEmission, predicateOf};
 ghost use Rattle.meaning.specs.Reading.{calledFault};
 ghost use Rattle.meaning.specs.Packing.{classOf};
@@ -43,20 +45,9 @@ pub fn same(text: &[u8], x: Span, y: Span) -> bool
     requires { ⌜ Inside (now text) x × Inside (now text) y ⌝ }
     ensures { λ r. ⌜ r ≡ sameBytes (part (now (text .entry)) x) (part (now (text .entry)) y) ⌝ }
 {
-    let from = x.from;
-    let other = y.from;
-    let length = x.past - from;
-    if length != y.past - other {
-        return false;
-    }
-    let mut i = 0;
-    while i < length {
-        if text[from + i] != text[other + i] {
-            return false;
-        }
-        i += 1;
-    }
-    true
+    let from = y.from;
+    let past = y.past;
+    spells(text, x, &text[from..past])
 }
 
 // Whether a part of the text begins with a word.
@@ -111,25 +102,31 @@ pub fn find(text: &[u8], table: &[usize], from: usize, to: usize, x: Span) -> us
     to
 }
 
+// Whether a part of the text is the name of the class with a number.
+fn names_class(text: &[u8], x: Span, class: usize) -> bool
+    requires { ⌜ Inside (now text) x × (class < 5) ⌝ }
+    ensures { λ r. ⌜ ((c : Class) → classOf class ≡ some c → r ≡ sameBytes (part (now (text .entry)) x) (className c)) ⌝ }
+{
+    match class {
+        0 => spells(text, x, b"IsDigit"),
+        1 => spells(text, x, b"IsUpper"),
+        2 => spells(text, x, b"IsLower"),
+        3 => spells(text, x, b"IsLetter"),
+        _ => spells(text, x, b"IsBlank"),
+    }
+}
+
 // The class of a predicate by its number, or 5 where the name is no predicate's.
 pub fn class_named(text: &[u8], x: Span) -> usize
     requires { ⌜ Inside (now text) x ⌝ }
     ensures { λ r. ⌜ (predicateOf (part (now (text .entry)) x) ≡ classOf r) × (r ≤ 5) ⌝ }
 {
-    if spells(text, x, b"IsDigit") {
-        return 0;
-    }
-    if spells(text, x, b"IsUpper") {
-        return 1;
-    }
-    if spells(text, x, b"IsLower") {
-        return 2;
-    }
-    if spells(text, x, b"IsLetter") {
-        return 3;
-    }
-    if spells(text, x, b"IsBlank") {
-        return 4;
+    let mut class = 0;
+    while class < 5 {
+        if names_class(text, x, class) {
+            return class;
+        }
+        class += 1;
     }
     5
 }
@@ -161,11 +158,9 @@ pub fn declared_fault(text: &[u8], names: &[usize], functions: usize, x: Span) -
     requires { ⌜ Inside (now text) x × Entries (now text) (now names) 0 functions ⌝ }
     ensures { λ r. ⌜ numberOf r ≡ declaredFaultIn (tableNames (now (text .entry)) (now (names .entry)) 0 functions) (part (now (text .entry)) x) ⌝ }
 {
-    if LONGEST_NAME < x.past - x.from {
-        return Answer::OverLimit;
-    }
-    if class_named(text, x) < 5 {
-        return Answer::WrongName;
+    let fault = called_fault(text, x);
+    if !is_accepted(fault) {
+        return fault;
     }
     if is_emission(text, x) {
         return Answer::WrongName;

@@ -2,8 +2,6 @@
 use borrow.Author.Needs.{needs}
 use Rattle.parsing.proofs.names.called_fault.Statement.{statement}
 use Rattle.parsing.proofs.names.called_fault.Tie as tie
-use mathlib.Core.Path.{ap}
-use Rattle.meaning.specs.Choice.{isSome}
 use Rattle.lexing.specs.View.{part}
 use Rattle.parsing.proofs.Naming.{a-predicate, no-predicate, called-long, called-is}
 
@@ -26,7 +24,7 @@ returns-3 : tie.Need-returns-3
 returns-3 c =
     let a = c .before .before .before .before .before .args in
     called-is (a .text .now) (a .x) (c .before .before .before .before .before .pre) (c .before .before .if1 .left)
-    (ap isSome (no-predicate (part (a .text .now) (a .x)) _ (c .before .class-named .ensures .0) (c .before .class-named .ensures .1) (c .if2 .left)))
+    (no-predicate (part (a .text .now) (a .x)) _ (c .before .class-named .ensures .0) (c .before .class-named .ensures .1) (c .if2 .left))
 
 pub called-fault-spec : {M : Type 1} → statement M
 called-fault-spec = tie.close (tie.spec sub-if1 returns class-named-requires returns-2 returns-3)

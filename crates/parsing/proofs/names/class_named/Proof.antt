@@ -1,103 +1,48 @@
--- `parsing::names::class_named` meets its contract: the five names, asked in order.
-use borrow.Author.Needs.{needs}
+-- `parsing::names::class_named` meets its contract: the classes from the start are those from here.
 use Rattle.parsing.proofs.names.class_named.Statement.{statement}
 use Rattle.parsing.proofs.names.class_named.Tie as tie
-use mathlib.Core.Path.{refl, sym, _∙_}
+use Prim.Native.Nat.{_-_}
 use native.Mathlib.Omega.{arith}
 use Rattle.lexing.specs.View.{part}
-use Rattle.parsing.proofs.Naming.{predicate-is}
+use Rattle.parsing.proofs.Naming.{Asked, asked-none, asked-all, asked-is, asked-not}
 
-slice-aggregate-spells : tie.Need-slice-aggregate-spells
-slice-aggregate-spells c = search needs
+abbrev Inv-loop : tie.InvT-loop
+Inv-loop text x class₀ class = Asked (part text x) class
 
-spells-requires : tie.Need-spells-requires
-spells-requires c κs = search needs
+abbrev μ-loop : tie.MeasureT-loop
+μ-loop text x class₀ class = 5 - class
 
-returns : tie.Need-returns
-returns c =
-    let a = c .before .before .before .before .args in
-    (predicate-is (part (a .text .now) (a .x)) (sym (c .if1 .taken) ∙ c .before .spells .ensures) refl refl refl refl, omega arith)
+loop-holds : tie.Need-loop-holds Inv-loop μ-loop
+loop-holds c = asked-none _
 
-slice-aggregate-spells-2 : tie.Need-slice-aggregate-spells-2
-slice-aggregate-spells-2 c = search needs
+names-class-requires : tie.Need-names-class-requires Inv-loop μ-loop
+names-class-requires c κs = (c .before .before .before .pre, c .loop-test .taken)
 
-spells-requires-2 : tie.Need-spells-requires-2
-spells-requires-2 c κs = search needs
+returns : tie.Need-returns Inv-loop μ-loop
+returns c = (asked-is (c .before .before .before .loop .inv) (c .before .before .loop-test .taken) (c .before .names-class .ensures) (c .if1 .taken), omega (arith, c .before .before .before .loop .inv .low))
 
-returns-2 : tie.Need-returns-2
-returns-2 c =
-    let a = c .before .before .before .before .before .before .before .args in (
-      predicate-is (part (a .text .now) (a .x)) (sym (c .before .before .before .if1 .left) ∙ c .before .before .before .before .spells .ensures) (sym (c .if2 .taken) ∙ c .before .spells2 .ensures) refl refl refl,
-      omega arith,
-    )
+add-class : tie.Need-add-class Inv-loop μ-loop
+add-class c = omega arith
 
-slice-aggregate-spells-3 : tie.Need-slice-aggregate-spells-3
-slice-aggregate-spells-3 c = search needs
+loop-less : tie.Need-loop-less Inv-loop μ-loop
+loop-less c = omega arith
 
-spells-requires-3 : tie.Need-spells-requires-3
-spells-requires-3 c κs = search needs
+loop-again : tie.Need-loop-again Inv-loop μ-loop
+loop-again c = asked-not (c .before .before .before .loop .inv) (c .before .before .loop-test .taken) (c .before .names-class .ensures) (c .if1 .left)
 
-returns-3 : tie.Need-returns-3
-returns-3 c =
-    let a = c .before .before .before .before .before .before .before .before .before .before .args in (
-      predicate-is (part (a .text .now) (a .x)) (sym (c .before .before .before .before .before .before .if1 .left) ∙ c .before .before .before .before .before .before .before .spells .ensures) (sym (c .before .before .before .if2 .left) ∙ c .before .before .before .before .spells2 .ensures)
-          (sym (c .if3 .taken) ∙ c .before .spells3 .ensures) refl refl,
-      omega arith,
-    )
-
-slice-aggregate-spells-4 : tie.Need-slice-aggregate-spells-4
-slice-aggregate-spells-4 c = search needs
-
-spells-requires-4 : tie.Need-spells-requires-4
-spells-requires-4 c κs = search needs
-
-returns-4 : tie.Need-returns-4
-returns-4 c =
-    let a = c .before .before .before .before .before .before .before .before .before .before .before .before .before .args in (
-      predicate-is (part (a .text .now) (a .x)) (sym (c .before .before .before .before .before .before .before .before .before .if1 .left) ∙ c .before .before .before .before .before .before .before .before .before .before .spells .ensures) (sym (c .before .before .before .before .before .before .if2 .left) ∙ c .before .before .before .before .before .before .before .spells2 .ensures)
-          (sym (c .before .before .before .if3 .left) ∙ c .before .before .before .before .spells3 .ensures) (sym (c .if4 .taken) ∙ c .before .spells4 .ensures) refl,
-      omega arith,
-    )
-
-slice-aggregate-spells-5 : tie.Need-slice-aggregate-spells-5
-slice-aggregate-spells-5 c = search needs
-
-spells-requires-5 : tie.Need-spells-requires-5
-spells-requires-5 c κs = search needs
-
-returns-5 : tie.Need-returns-5
-returns-5 c =
-    let a = c .before .before .before .before .before .before .before .before .before .before .before .before .before .before .before .before .args in (
-      predicate-is (part (a .text .now) (a .x)) (sym (c .before .before .before .before .before .before .before .before .before .before .before .before .if1 .left) ∙ c .before .before .before .before .before .before .before .before .before .before .before .before .before .spells .ensures) (sym (c .before .before .before .before .before .before .before .before .before .if2 .left) ∙ c .before .before .before .before .before .before .before .before .before .before .spells2 .ensures)
-          (sym (c .before .before .before .before .before .before .if3 .left) ∙ c .before .before .before .before .before .before .before .spells3 .ensures) (sym (c .before .before .before .if4 .left) ∙ c .before .before .before .before .spells4 .ensures) (sym (c .if5 .taken) ∙ c .before .spells5 .ensures),
-      omega arith,
-    )
-
-returns-6 : tie.Need-returns-6
-returns-6 c =
-    let a = c .before .before .before .before .before .before .before .before .before .before .before .before .before .before .before .before .args in (
-      predicate-is (part (a .text .now) (a .x)) (sym (c .before .before .before .before .before .before .before .before .before .before .before .before .if1 .left) ∙ c .before .before .before .before .before .before .before .before .before .before .before .before .before .spells .ensures) (sym (c .before .before .before .before .before .before .before .before .before .if2 .left) ∙ c .before .before .before .before .before .before .before .before .before .before .spells2 .ensures)
-          (sym (c .before .before .before .before .before .before .if3 .left) ∙ c .before .before .before .before .before .before .before .spells3 .ensures) (sym (c .before .before .before .if4 .left) ∙ c .before .before .before .before .spells4 .ensures) (sym (c .if5 .left) ∙ c .before .spells5 .ensures),
-      omega arith,
-    )
+returns-2 : tie.Need-returns-2 Inv-loop μ-loop
+returns-2 c = (asked-all (c .before .loop .inv) (c .loop-test .left), omega arith)
 
 pub class-named-spec : {M : Type 1} → statement M
 class-named-spec =
     tie.close
     (tie.spec
-    slice-aggregate-spells
-    spells-requires
+    Inv-loop
+    μ-loop
+    loop-holds
+    names-class-requires
     returns
-    slice-aggregate-spells-2
-    spells-requires-2
-    returns-2
-    slice-aggregate-spells-3
-    spells-requires-3
-    returns-3
-    slice-aggregate-spells-4
-    spells-requires-4
-    returns-4
-    slice-aggregate-spells-5
-    spells-requires-5
-    returns-5
-    returns-6)
+    add-class
+    loop-less
+    loop-again
+    returns-2)

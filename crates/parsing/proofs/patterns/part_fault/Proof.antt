@@ -1,8 +1,10 @@
 -- `parsing::patterns::part_fault` meets its contract: the tests in the order of their numbers.
 use borrow.Author.Needs.{needs}
+use borrow.Author.Tests.{lt-ltb, le-ltb}
 use Rattle.parsing.proofs.patterns.part_fault.Statement.{statement}
 use Rattle.parsing.proofs.patterns.part_fault.Tie as tie
-use Rattle.parsing.proofs.Patterning.{part-third, part-long, part-symbol, part-twice, part-next, part-right}
+use mathlib.Core.Path.{refl}
+use Rattle.parsing.proofs.Patterning.{part-third, part-long, part-is}
 
 returns : tie.Need-returns
 returns c = part-third (c .before .before .before .before .pre .0) (c .before .before .before .before .pre .1) (c .if1 .taken)
@@ -19,7 +21,8 @@ find-requires c κs = search needs
 
 returns-3 : tie.Need-returns-3
 returns-3 c =
-    part-symbol (c .before .before .before .before .before .before .before .before .before .pre .0) (c .before .before .before .before .before .before .before .before .before .pre .1) (c .before .before .before .before .before .if1 .left) (c .before .before .before .if2 .left) _ (c .before .before .find .ensures) (c .if3 .taken)
+    let p = c .before .before .before .before .before .before .before .before .before .pre in
+    part-is (p .0) (p .1) (c .before .before .before .before .before .if1 .left) (c .before .before .before .if2 .left) _ _ (c .before .before .find .ensures) (lt-ltb _ _ (c .if3 .taken)) refl refl refl
 
 add-parts : tie.Need-add-parts
 add-parts c = search needs
@@ -30,17 +33,17 @@ find-requires-2 c κs = search needs
 returns-4 : tie.Need-returns-4
 returns-4 c =
     let p = c .before .before .before .before .before .before .before .before .before .before .before .before .pre in
-    part-twice (p .0) (p .1) (c .before .before .before .before .before .before .before .before .if1 .left) (c .before .before .before .before .before .before .if2 .left) _ (c .before .before .before .before .before .find .ensures) (c .before .before .before .if3 .left) _ (c .before .find2 .ensures) (c .if4 .taken)
+    part-is (p .0) (p .1) (c .before .before .before .before .before .before .before .before .if1 .left) (c .before .before .before .before .before .before .if2 .left) _ _ (c .before .before .before .before .before .find .ensures) (le-ltb _ _ (c .before .before .before .if3 .left)) (c .before .find2 .ensures) (lt-ltb _ _ (c .if4 .taken)) refl
 
 returns-5 : tie.Need-returns-5
 returns-5 c =
     let p = c .before .before .before .before .before .before .before .before .before .before .before .before .before .pre in
-    part-next (p .0) (p .1) (c .before .before .before .before .before .before .before .before .before .if1 .left) (c .before .before .before .before .before .before .before .if2 .left) _ (c .before .before .before .before .before .before .find .ensures) (c .before .before .before .before .if3 .left) _ (c .before .before .find2 .ensures) (c .before .if4 .left) (c .if5 .taken)
+    part-is (p .0) (p .1) (c .before .before .before .before .before .before .before .before .before .if1 .left) (c .before .before .before .before .before .before .before .if2 .left) _ _ (c .before .before .before .before .before .before .find .ensures) (le-ltb _ _ (c .before .before .before .before .if3 .left)) (c .before .before .find2 .ensures) (le-ltb _ _ (c .before .if4 .left)) (c .if5 .taken)
 
 returns-6 : tie.Need-returns-6
 returns-6 c =
     let p = c .before .before .before .before .before .before .before .before .before .before .before .before .before .pre in
-    part-right (p .0) (p .1) (c .before .before .before .before .before .before .before .before .before .if1 .left) (c .before .before .before .before .before .before .before .if2 .left) _ (c .before .before .before .before .before .before .find .ensures) (c .before .before .before .before .if3 .left) _ (c .before .before .find2 .ensures) (c .before .if4 .left) (c .if5 .left)
+    part-is (p .0) (p .1) (c .before .before .before .before .before .before .before .before .before .if1 .left) (c .before .before .before .before .before .before .before .if2 .left) _ _ (c .before .before .before .before .before .before .find .ensures) (le-ltb _ _ (c .before .before .before .before .if3 .left)) (c .before .before .find2 .ensures) (le-ltb _ _ (c .before .if4 .left)) (c .if5 .left)
 
 pub part-fault-spec : {M : Type 1} → statement M
 part-fault-spec =

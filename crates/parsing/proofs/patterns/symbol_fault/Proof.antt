@@ -1,8 +1,9 @@
 -- `parsing::patterns::symbol_fault` meets its contract: the tests in the order of their numbers.
 use borrow.Author.Needs.{needs}
+use borrow.Author.Tests.{lt-ltb, le-ltb}
 use Rattle.parsing.proofs.patterns.symbol_fault.Statement.{statement}
 use Rattle.parsing.proofs.patterns.symbol_fault.Tie as tie
-use Rattle.parsing.proofs.Patterning.{symbol-long, symbol-many, symbol-new, symbol-shared, symbol-right}
+use Rattle.parsing.proofs.Patterning.{symbol-long, symbol-many, symbol-new, symbol-is}
 
 sub-if1 : tie.Need-sub-if1
 sub-if1 c = search needs
@@ -27,11 +28,11 @@ find-requires c κs = search needs
 
 returns-4 : tie.Need-returns-4
 returns-4 c =
-    let p = c .before .before .before .before .before .before .before .before .before .before .pre in symbol-shared (p .0) (p .1) _ (p .2) (c .before .before .before .before .before .before .if1 .left) (c .before .before .before .before .if2 .left) _ (c .before .before .before .if3 .left) (c .before .find .ensures) (c .if4 .taken)
+    let p = c .before .before .before .before .before .before .before .before .before .before .pre in symbol-is (p .0) (p .1) _ (p .2) (c .before .before .before .before .before .before .if1 .left) (c .before .before .before .before .if2 .left) _ (c .before .before .before .if3 .left) (c .before .find .ensures) (lt-ltb _ _ (c .if4 .taken))
 
 returns-5 : tie.Need-returns-5
 returns-5 c =
-    let p = c .before .before .before .before .before .before .before .before .before .before .pre in symbol-right (p .0) (p .1) _ (p .2) (c .before .before .before .before .before .before .if1 .left) (c .before .before .before .before .if2 .left) _ (c .before .before .before .if3 .left) (c .before .find .ensures) (c .if4 .left)
+    let p = c .before .before .before .before .before .before .before .before .before .before .pre in symbol-is (p .0) (p .1) _ (p .2) (c .before .before .before .before .before .before .if1 .left) (c .before .before .before .before .if2 .left) _ (c .before .before .before .if3 .left) (c .before .find .ensures) (le-ltb _ _ (c .if4 .left))
 
 pub symbol-fault-spec : {M : Type 1} → statement M
 symbol-fault-spec =
