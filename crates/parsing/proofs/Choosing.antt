@@ -5,7 +5,7 @@ use mathlib.Core.Bool.{Bool, true, false, not}
 use native.Mathlib.Omega.{arith}
 use lib.Dec.{eqb}
 use borrow.Author.Tests.{eqb-true, not-true, not-false}
-use Rattle.meaning.specs.Choice.{both}
+use Rattle.meaning.specs.Choice.{pick, both}
 use Rattle.meaning.specs.Reading.{faultUnless}
 
 pub both-true : (b : Bool) → b ≡ both b true
@@ -15,6 +15,15 @@ both-true false = refl
 pub both-false : (b : Bool) {c : Bool} → false ≡ c → false ≡ both b c
 both-false true e = e
 both-false false e = refl
+
+-- an answer where a test holds, and where it doesn't
+pub fault-if : (wrong : Bool) (number : ℕ) → pick wrong number 0 ≡ faultUnless (not wrong) number 0
+fault-if true number = refl
+fault-if false number = refl
+
+pub fault-if-not : (right : Bool) (number : ℕ) → pick (not right) number 0 ≡ faultUnless right number 0
+fault-if-not true number = refl
+fault-if-not false number = refl
 
 -- an answer that was asked whether it is 0
 pub no-fault-here : {number fault : ℕ} {is : Bool} → number ≡ fault → is ≡ eqb number 0 → not is ≡ false → fault ≡ 0

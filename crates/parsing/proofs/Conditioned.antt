@@ -1,7 +1,7 @@
 -- The conditions' reader.
 use Prim.Native.Nat.{ℕ, zero, suc, _+_, _-_, _*_, _≤_, _<_}
 use mathlib.Core.Path.{_≡_, refl, sym, _∙_}
-use mathlib.Core.Bool.{Bool, true, false}
+use mathlib.Core.Bool.{Bool, true, false, not}
 use mathlib.Core.List.{List, [], _∷_, _++_, append-nil, append-assoc}
 use mathlib.Core.Logic.{_⊎_, inl, inr, ⊎-elim}
 use mathlib.Core.Option.{none, some}
@@ -21,7 +21,7 @@ use Rattle.meaning.specs.Tape.{truthNumber, conditionTape, conditionsTape}
 use Rattle.meaning.specs.Tokens as Tokens
 use Rattle.meaning.specs.Grammar.{standing}
 use Rattle.meaning.specs.Reading as Reading
-use Rattle.meaning.specs.Reading.{Parsed, stopped, parsed, follow, faultUnless, symbolFault, itemOf, symbolOn}
+use Rattle.meaning.specs.Reading.{Parsed, stopped, parsed, follow, symbolFault, itemOf, symbolOn}
 use Rattle.meaning.proofs.laws.Passing.{both-pass}
 use Rattle.meaning.specs.Packing.{classOf}
 use Rattle.lexing.proofs.Token as token
@@ -45,6 +45,7 @@ use Rattle.parsing.specs.Tokened.{tokenFault, signIs, Taken, Barred}
 use Rattle.parsing.specs.Patterns.{symbolNames, itemAt}
 use Rattle.parsing.specs.Conditions.{conditionEnd, conditionOn, truthAt, TruthIs, Standing, Before, ConditionRead, ConditionsRead}
 use Rattle.meaning.proofs.reading.Basics.{no-value}
+use Rattle.parsing.proofs.Choosing.{fault-if-not}
 use Rattle.parsing.proofs.Finding.{among}
 use Rattle.parsing.proofs.Naming.{classed, class-number}
 use Rattle.parsing.proofs.Faults.{too-long, short-enough, within, later-fault-is}
@@ -64,9 +65,10 @@ module _ {text : Bytes} {table : List ℕ} {symbols : ℕ} {x : Span} (p : Insid
   later-long l = later-fault-is (symbolNames text table symbols) (View.part text x) (too-long text x p 8 l) refl
 
   pub later-is : x .past - x .from ≤ 8 → (r : ℕ) → r ≡ 0 + position (View.part text x) (symbolNames text table symbols) → {known : Bool} → ltb r symbols ≡ known
-      → Later (faultUnless known wrongLaterVariable 0)
-  later-is l r f h =
-      later-fault-is (symbolNames text table symbols) (View.part text x) (short-enough text x p 8 l)
+      → Later (pick (not known) wrongLaterVariable 0)
+  later-is l r f {known} h =
+      fault-if-not known wrongLaterVariable
+      ∙ later-fault-is (symbolNames text table symbols) (View.part text x) (short-enough text x p 8 l)
       (among text table 0 symbols e (View.part text x) r f h)
 
 -- THE CLOSING STRING

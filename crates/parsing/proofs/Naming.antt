@@ -6,8 +6,9 @@ use mathlib.Core.List.{List, _∷_}
 use mathlib.Core.Option.{none, some}
 use native.Mathlib.Numerals.{add-one}
 use native.Mathlib.Omega.{arith}
-use lib.Dec.{leb, eqb}
+use lib.Dec.{leb, ltb, eqb}
 use lib.ListN.{length, drop}
+use borrow.Author.Tests.{ltb-true, ltb-false}
 use Rattle.meaning.specs.Choice.{Bytes, Name, pick, both, either, sameBytes}
 use Rattle.meaning.specs.Classes.{Class, digit, upper, lower, alphabetic, blank, className, classNumber, classes}
 use Rattle.meaning.specs.Names.{classNamed, predicateOf, isPredicate, isEmission}
@@ -18,7 +19,7 @@ use Rattle.meaning.specs.Packing.{classOf}
 use Rattle.lexing.specs.View.{part}
 use Rattle.lexing.specs.declared.Span.{Span}
 use Rattle.parsing.specs.Tables.{Inside, Entries, tableNames, declaredFaultIn}
-use Rattle.parsing.proofs.Choosing.{no-fault-here, a-fault-here}
+use Rattle.parsing.proofs.Choosing.{fault-if, no-fault-here, a-fault-here}
 use Rattle.parsing.proofs.Faults.{too-long, short-enough}
 
 -- the class that a number below 5 names, and those asked after it; 5 names none
@@ -74,12 +75,13 @@ module _ {name : Name} {class : ℕ} (a : Asked name class) where
         let n : predicateOf name ≡ classNamed (drop (suc class) classes) name = rw e at asked in
         record { low = omega arith; same = rw add-one n }
 
-module _ (n : Name) (r : ℕ) (e : predicateOf n ≡ classOf r) where
-  pub a-predicate : r < 5 → isPredicate n ≡ true
-  a-predicate h = rw (e, classed r h .same)
-
-  pub no-predicate : r ≤ 5 → 5 ≤ r → isPredicate n ≡ false
-  no-predicate low high = let w : r ≡ 5 = omega arith in rw (e, w)
+-- a number below 5 is a predicate's
+pub a-predicate : (n : Name) (r : ℕ) → predicateOf n ≡ classOf r → r ≤ 5 → isPredicate n ≡ ltb r 5
+a-predicate n r e low = told (ltb r 5) refl
+  where
+    told : (is : Bool) → ltb r 5 ≡ is → isPredicate n ≡ is
+    told true h = rw (e, classed r (ltb-true r 5 h) .same)
+    told false h = let w : r ≡ 5 = omega (arith, low, ltb-false r 5 h) in rw (e, w)
 
 -- FAULTS OF NAMES
 
@@ -87,8 +89,8 @@ module _ (text : Bytes) (x : Span) (p : Inside text x) where
   pub called-long : 24 < x .past - x .from → overLimit ≡ calledFault (part text x)
   called-long h = rw (too-long text x p 24 h)
 
-  pub called-is : x .past - x .from ≤ 24 → {is : Bool} → isPredicate (part text x) ≡ is → faultUnless (not is) wrongName 0 ≡ calledFault (part text x)
-  called-is h e = rw (short-enough text x p 24 h, e)
+  pub called-is : x .past - x .from ≤ 24 → {is : Bool} → isPredicate (part text x) ≡ is → pick is wrongName 0 ≡ calledFault (part text x)
+  called-is h {is} e = rw (short-enough text x p 24 h, e) (fault-if is wrongName)
 
 -- a declared name, by what is wrong with it where it is called
 module _ {text : Bytes} {x : Span} {table : List ℕ} {functions : ℕ} (p : Inside text x) (k : Entries text table 0 functions) {number : ℕ} {is : Bool}
@@ -119,3 +121,6 @@ module _ {text : Bytes} {x : Span} {table : List ℕ} {functions : ℕ} (p : Ins
       right true false z = rw (f, g)
       right true true z = absurd (omega arith)
       right false predicate z = absurd (omega arith)
+
+  pub declared-known : not is ≡ false → isEmission n ≡ false → {known : Bool} → member n names ≡ known → pick known wrongName 0 ≡ declaredFaultIn names n
+  declared-known w f {known} g = fault-if known wrongName ∙ declared-is w f g

@@ -7,7 +7,7 @@ use native.Mathlib.Omega.{arith}
 use lib.Dec.{leb, ltb}
 use lib.ListN.{length}
 use borrow.Author.Tests.{lt-leb, le-leb, lt-ltb, le-ltb}
-use Rattle.meaning.specs.Choice.{Bytes, both, either}
+use Rattle.meaning.specs.Choice.{Bytes, pick, both, either}
 use Rattle.meaning.specs.Answers.{notAllowedHere, overLimit, wrongPatternVariable}
 use Rattle.meaning.specs.Allowed.{maxIdentifier, maxSymbols, added}
 use Rattle.meaning.specs.Reading.{faultUnless}
@@ -17,6 +17,7 @@ use Rattle.parsing.specs.Tables.{Inside, position}
 use Rattle.parsing.specs.declared.patterns.Counts.{Counts}
 use Rattle.parsing.specs.Patterns.{Variables, symbolNames, partNames, Identifier, Held, patternSymbolFault, patternPartFault}
 use Rattle.parsing.proofs.Finding.{table-length, among}
+use Rattle.parsing.proofs.Choosing.{fault-if}
 use Rattle.parsing.proofs.Faults.{too-long, short-enough, added-room, symbol-fault-is, part-fault-is}
 
 pub identifier-inside : {text : Bytes} {at : ℕ} {x : Span} → Identifier text at x → Inside text x
@@ -75,9 +76,10 @@ module _ {text : Bytes} {table : List ℕ} {p : Counts} {x : Span} (h : Held tex
             symbol-fault-is (p .letters) (symbolNames text table (p .symbols)) (partNames text table (p .parts)) (part text x) short few
             (room-is (le-ltb known 16 n)) refl
 
-        pub symbol-is : {is : Bool} (r : ℕ) → known < 16 → PartAt r → ltb r (16 + p .parts) ≡ is → Symbol (faultUnless (not is) wrongPatternVariable 0)
-        symbol-is r n f e =
-            symbol-fault-is (p .letters) (symbolNames text table (p .symbols)) (partNames text table (p .parts)) (part text x) short few
+        pub symbol-is : {is : Bool} (r : ℕ) → known < 16 → PartAt r → ltb r (16 + p .parts) ≡ is → Symbol (pick is wrongPatternVariable 0)
+        symbol-is {is} r n f e =
+            fault-if is wrongPatternVariable
+            ∙ symbol-fault-is (p .letters) (symbolNames text table (p .symbols)) (partNames text table (p .parts)) (part text x) short few
             (room-is (lt-ltb known 16 n))
             (among text table 16 (16 + p .parts) (h .variables .partEntries) (part text x) r f e)
 
@@ -109,3 +111,7 @@ module _ {text : Bytes} {table : List ℕ} {p : Counts} {x : Span} (h : Held tex
           (among text table 0 (p .symbols) (h .variables .symbolEntries) (part text x) r f d)
           (among text table 16 (16 + p .parts) (h .variables .partEntries) (part text x) q g e)
           n
+
+      pub part-ending : (r q : ℕ) → SymbolAt r → p .symbols ≤ r → PartAt q → 16 + p .parts ≤ q → Part (pick (p .ending) wrongPatternVariable 0)
+      part-ending r q f d g e =
+          fault-if (p .ending) wrongPatternVariable ∙ part-is r q f (le-ltb r (p .symbols) d) g (le-ltb q (16 + p .parts) e) refl

@@ -7,6 +7,7 @@ use crate::progress::Fault;
 use crate::progress::Parsed;
 use crate::progress::Passed;
 use crate::progress::Progress;
+use crate::progress::fault_if;
 use crate::progress::is_accepted;
 use crate::progress::is_sign;
 use crate::progress::pass;
@@ -41,10 +42,8 @@ pub fn later_symbol_fault(text: &[u8], table: &[usize], symbols: usize, x: Span)
     if 8 < x.past - x.from {
         return Answer::OverLimit;
     }
-    if find(text, table, 0, symbols, x) < symbols {
-        return Answer::Accepted;
-    }
-    Answer::WrongLaterVariable
+    let known = find(text, table, 0, symbols, x) < symbols;
+    fault_if(!known, Answer::WrongLaterVariable)
 }
 
 // The closing string's truth value: 5 for 'T', 0 for 'F', and 1 for any other token.

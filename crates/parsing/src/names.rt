@@ -1,5 +1,6 @@
 // Names and identifiers: parts of the text, and tables of them. An entry of a table is 32 times the place of a name and its length.
 use crate::Answer;
+use crate::progress::fault_if;
 use crate::progress::is_accepted;
 use lexing::Span;
 ghost use mathlib.Core.Path.{_≡_};
@@ -147,10 +148,7 @@ pub fn called_fault(text: &[u8], x: Span) -> Answer
     if LONGEST_NAME < x.past - x.from {
         return Answer::OverLimit;
     }
-    if class_named(text, x) < 5 {
-        return Answer::WrongName;
-    }
-    Answer::Accepted
+    fault_if(class_named(text, x) < 5, Answer::WrongName)
 }
 
 // What is wrong with a declared name, after those of a table.
@@ -165,8 +163,8 @@ pub fn declared_fault(text: &[u8], names: &[usize], functions: usize, x: Span) -
     if is_emission(text, x) {
         return Answer::WrongName;
     }
-    if find(text, names, 0, functions, x) < functions {
-        return Answer::WrongName;
-    }
-    Answer::Accepted
+    fault_if(
+        find(text, names, 0, functions, x) < functions,
+        Answer::WrongName,
+    )
 }

@@ -5,6 +5,7 @@ use crate::names::find;
 use crate::progress::Fault;
 use crate::progress::Parsed;
 use crate::progress::Progress;
+use crate::progress::fault_if;
 use crate::progress::is_accepted;
 use crate::writing::PART_WORD;
 use crate::writing::SYMBOL_WORD;
@@ -98,10 +99,10 @@ fn symbol_fault(text: &[u8], table: &[usize], p: Counts, x: Span, known: usize) 
         return Answer::OverLimit;
     }
     let parts = 16 + p.parts;
-    if find(text, table, 16, parts, x) < parts {
-        return Answer::WrongPatternVariable;
-    }
-    Answer::Accepted
+    fault_if(
+        find(text, table, 16, parts, x) < parts,
+        Answer::WrongPatternVariable,
+    )
 }
 
 // Adds a name to the table unless it was found before the end; how many there are then.
@@ -165,10 +166,7 @@ fn part_fault(text: &[u8], table: &[usize], p: Counts, x: Span) -> Answer
     if find(text, table, 16, parts, x) < parts {
         return Answer::WrongPatternVariable;
     }
-    if p.ending {
-        return Answer::WrongPatternVariable;
-    }
-    Answer::Accepted
+    fault_if(p.ending, Answer::WrongPatternVariable)
 }
 
 // An e-variable added to a pattern and to the table.

@@ -8,6 +8,7 @@ ghost use mathlib.Core.Path.{_≡_};
 ghost use Prim.Native.Nat.{_≤_};
 ghost use lib.Dec.{eqb};
 ghost use lib.ListN.{length};
+ghost use Rattle.meaning.specs.Choice.{pick};
 ghost use Rattle.lexing.specs.View.{modeOf};
 ghost use Rattle.parsing.specs.Answered.{numberOf};
 ghost use Rattle.parsing.specs.Tokened.{tokenFault, signIs, Passes};
@@ -41,6 +42,13 @@ pub fn is_accepted(answer: Answer) -> bool
     } else {
         false
     }
+}
+
+// An answer where something is wrong, and else that nothing is.
+pub fn fault_if(wrong: bool, answer: Answer) -> Answer
+    ensures { λ r. ⌜ numberOf r ≡ pick wrong (numberOf answer) 0 ⌝ }
+{
+    if wrong { answer } else { Answer::Accepted }
 }
 
 // A token that may not stand here, or is malformed.

@@ -1,8 +1,8 @@
 -- `parsing::conditions::later_symbol_fault` meets its contract.
 use borrow.Author.Needs.{needs}
-use borrow.Author.Tests.{lt-ltb, le-ltb}
 use Rattle.parsing.proofs.conditions.later_symbol_fault.Statement.{statement}
 use Rattle.parsing.proofs.conditions.later_symbol_fault.Tie as tie
+use mathlib.Core.Path.{refl, _∙_}
 use Rattle.parsing.proofs.Conditioned.{later-long, later-is}
 
 sub-if1 : tie.Need-sub-if1
@@ -14,13 +14,13 @@ returns c = later-long (c .before .before .before .before .pre .0) (c .before .b
 find-requires : tie.Need-find-requires
 find-requires c κs = search needs
 
+fault-if-requires : tie.Need-fault-if-requires
+fault-if-requires c κs = search needs
+
 returns-2 : tie.Need-returns-2
 returns-2 c =
-    later-is (c .before .before .before .before .before .before .pre .0) (c .before .before .before .before .before .before .pre .1) (c .before .before .if1 .left) _ (c .before .find .ensures) (lt-ltb _ _ (c .if2 .taken))
-
-returns-3 : tie.Need-returns-3
-returns-3 c =
-    later-is (c .before .before .before .before .before .before .pre .0) (c .before .before .before .before .before .before .pre .1) (c .before .before .if1 .left) _ (c .before .find .ensures) (le-ltb _ _ (c .if2 .left))
+    let p = c .before .before .before .before .before .before .pre in
+    c .fault-if .ensures ∙ later-is (p .0) (p .1) (c .before .before .if1 .left) _ (c .before .find .ensures) refl
 
 pub later-symbol-fault-spec : {M : Type 1} → statement M
-later-symbol-fault-spec = tie.close (tie.spec sub-if1 returns find-requires returns-2 returns-3)
+later-symbol-fault-spec = tie.close (tie.spec sub-if1 returns find-requires fault-if-requires returns-2)

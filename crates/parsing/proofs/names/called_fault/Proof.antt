@@ -2,8 +2,8 @@
 use borrow.Author.Needs.{needs}
 use Rattle.parsing.proofs.names.called_fault.Statement.{statement}
 use Rattle.parsing.proofs.names.called_fault.Tie as tie
-use Rattle.lexing.specs.View.{part}
-use Rattle.parsing.proofs.Naming.{a-predicate, no-predicate, called-long, called-is}
+use mathlib.Core.Path.{_∙_}
+use Rattle.parsing.proofs.Naming.{a-predicate, called-long, called-is}
 
 sub-if1 : tie.Need-sub-if1
 sub-if1 c = c .before .before .pre .forward
@@ -14,17 +14,12 @@ returns c = called-long _ (c .before .before .before .args .x) (c .before .befor
 class-named-requires : tie.Need-class-named-requires
 class-named-requires c κs = search needs
 
+fault-if-requires : tie.Need-fault-if-requires
+fault-if-requires c κs = search needs
+
 returns-2 : tie.Need-returns-2
 returns-2 c =
-    let a = c .before .before .before .before .before .args in
-    called-is (a .text .now) (a .x) (c .before .before .before .before .before .pre) (c .before .before .if1 .left)
-    (a-predicate (part (a .text .now) (a .x)) _ (c .before .class-named .ensures .0) (c .if2 .taken))
-
-returns-3 : tie.Need-returns-3
-returns-3 c =
-    let a = c .before .before .before .before .before .args in
-    called-is (a .text .now) (a .x) (c .before .before .before .before .before .pre) (c .before .before .if1 .left)
-    (no-predicate (part (a .text .now) (a .x)) _ (c .before .class-named .ensures .0) (c .before .class-named .ensures .1) (c .if2 .left))
+    c .fault-if .ensures ∙ called-is _ (c .before .before .before .before .before .args .x) (c .before .before .before .before .before .pre) (c .before .before .if1 .left) (a-predicate _ _ (c .before .class-named .ensures .0) (c .before .class-named .ensures .1))
 
 pub called-fault-spec : {M : Type 1} → statement M
-called-fault-spec = tie.close (tie.spec sub-if1 returns class-named-requires returns-2 returns-3)
+called-fault-spec = tie.close (tie.spec sub-if1 returns class-named-requires fault-if-requires returns-2)

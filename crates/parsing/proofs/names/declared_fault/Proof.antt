@@ -3,9 +3,8 @@ use borrow.Author.Needs.{needs}
 use Rattle.parsing.proofs.names.declared_fault.Statement.{statement}
 use Rattle.parsing.proofs.names.declared_fault.Tie as tie
 use mathlib.Core.Path.{refl, sym, _∙_}
-use borrow.Author.Tests.{lt-ltb, le-ltb}
 use Rattle.parsing.proofs.Finding.{among}
-use Rattle.parsing.proofs.Naming.{declared-wrong, declared-is}
+use Rattle.parsing.proofs.Naming.{declared-wrong, declared-is, declared-known}
 
 called-fault-requires : tie.Need-called-fault-requires
 called-fault-requires c κs = search needs
@@ -25,15 +24,14 @@ returns-2 c = declared-is (c .before .before .before .before .before .before .be
 find-requires : tie.Need-find-requires
 find-requires c κs = search needs
 
+fault-if-requires : tie.Need-fault-if-requires
+fault-if-requires c κs = search needs
+
 returns-3 : tie.Need-returns-3
 returns-3 c =
-    declared-is (c .before .before .before .before .before .before .before .before .before .pre .0) (c .before .before .before .before .before .before .before .before .before .pre .1) (c .before .before .before .before .before .before .called-fault .ensures) (c .before .before .before .before .before .is-accepted .ensures) (c .before .before .before .before .if1 .left) (sym (c .before .before .before .is-emission .ensures) ∙ c .before .before .if2 .left)
-    (among _ _ 0 _ (c .before .before .before .before .before .before .before .before .before .pre .1) _ _ (c .before .find .ensures) (lt-ltb _ _ (c .if3 .taken)))
-
-returns-4 : tie.Need-returns-4
-returns-4 c =
-    declared-is (c .before .before .before .before .before .before .before .before .before .pre .0) (c .before .before .before .before .before .before .before .before .before .pre .1) (c .before .before .before .before .before .before .called-fault .ensures) (c .before .before .before .before .before .is-accepted .ensures) (c .before .before .before .before .if1 .left) (sym (c .before .before .before .is-emission .ensures) ∙ c .before .before .if2 .left)
-    (among _ _ 0 _ (c .before .before .before .before .before .before .before .before .before .pre .1) _ _ (c .before .find .ensures) (le-ltb _ _ (c .if3 .left)))
+    let p = c .before .before .before .before .before .before .before .before .before .pre in
+    c .fault-if .ensures ∙ declared-known (p .0) (p .1) (c .before .before .before .before .before .before .called-fault .ensures) (c .before .before .before .before .before .is-accepted .ensures) (c .before .before .before .before .if1 .left) (sym (c .before .before .before .is-emission .ensures) ∙ c .before .before .if2 .left)
+    (among _ _ 0 _ (p .1) _ _ (c .before .find .ensures) refl)
 
 pub declared-fault-spec : {M : Type 1} → statement M
 declared-fault-spec =
@@ -45,5 +43,5 @@ declared-fault-spec =
     is-emission-requires
     returns-2
     find-requires
-    returns-3
-    returns-4)
+    fault-if-requires
+    returns-3)

@@ -3,8 +3,8 @@ use borrow.Author.Needs.{needs}
 use borrow.Author.Tests.{lt-ltb, le-ltb}
 use Rattle.parsing.proofs.patterns.part_fault.Statement.{statement}
 use Rattle.parsing.proofs.patterns.part_fault.Tie as tie
-use mathlib.Core.Path.{refl}
-use Rattle.parsing.proofs.Patterning.{part-third, part-long, part-is}
+use mathlib.Core.Path.{refl, _∙_}
+use Rattle.parsing.proofs.Patterning.{part-third, part-long, part-is, part-ending}
 
 returns : tie.Need-returns
 returns c = part-third (c .before .before .before .before .pre .0) (c .before .before .before .before .pre .1) (c .if1 .taken)
@@ -35,15 +35,13 @@ returns-4 c =
     let p = c .before .before .before .before .before .before .before .before .before .before .before .before .pre in
     part-is (p .0) (p .1) (c .before .before .before .before .before .before .before .before .if1 .left) (c .before .before .before .before .before .before .if2 .left) _ _ (c .before .before .before .before .before .find .ensures) (le-ltb _ _ (c .before .before .before .if3 .left)) (c .before .find2 .ensures) (lt-ltb _ _ (c .if4 .taken)) refl
 
+fault-if-requires : tie.Need-fault-if-requires
+fault-if-requires c κs = search needs
+
 returns-5 : tie.Need-returns-5
 returns-5 c =
     let p = c .before .before .before .before .before .before .before .before .before .before .before .before .before .pre in
-    part-is (p .0) (p .1) (c .before .before .before .before .before .before .before .before .before .if1 .left) (c .before .before .before .before .before .before .before .if2 .left) _ _ (c .before .before .before .before .before .before .find .ensures) (le-ltb _ _ (c .before .before .before .before .if3 .left)) (c .before .before .find2 .ensures) (le-ltb _ _ (c .before .if4 .left)) (c .if5 .taken)
-
-returns-6 : tie.Need-returns-6
-returns-6 c =
-    let p = c .before .before .before .before .before .before .before .before .before .before .before .before .before .pre in
-    part-is (p .0) (p .1) (c .before .before .before .before .before .before .before .before .before .if1 .left) (c .before .before .before .before .before .before .before .if2 .left) _ _ (c .before .before .before .before .before .before .find .ensures) (le-ltb _ _ (c .before .before .before .before .if3 .left)) (c .before .before .find2 .ensures) (le-ltb _ _ (c .before .if4 .left)) (c .if5 .left)
+    c .fault-if .ensures ∙ part-ending (p .0) (p .1) (c .before .before .before .before .before .before .before .before .before .if1 .left) (c .before .before .before .before .before .before .before .if2 .left) _ _ (c .before .before .before .before .before .before .find .ensures) (c .before .before .before .before .if3 .left) (c .before .before .find2 .ensures) (c .before .if4 .left)
 
 pub part-fault-spec : {M : Type 1} → statement M
 part-fault-spec =
@@ -57,5 +55,5 @@ part-fault-spec =
     add-parts
     find-requires-2
     returns-4
-    returns-5
-    returns-6)
+    fault-if-requires
+    returns-5)

@@ -1,8 +1,8 @@
 -- `parsing::patterns::symbol_fault` meets its contract: the tests in the order of their numbers.
 use borrow.Author.Needs.{needs}
-use borrow.Author.Tests.{lt-ltb, le-ltb}
 use Rattle.parsing.proofs.patterns.symbol_fault.Statement.{statement}
 use Rattle.parsing.proofs.patterns.symbol_fault.Tie as tie
+use mathlib.Core.Path.{refl, _∙_}
 use Rattle.parsing.proofs.Patterning.{symbol-long, symbol-many, symbol-new, symbol-is}
 
 sub-if1 : tie.Need-sub-if1
@@ -26,15 +26,15 @@ add-parts c = search needs
 find-requires : tie.Need-find-requires
 find-requires c κs = search needs
 
+fault-if-requires : tie.Need-fault-if-requires
+fault-if-requires c κs = search needs
+
 returns-4 : tie.Need-returns-4
 returns-4 c =
-    let p = c .before .before .before .before .before .before .before .before .before .before .pre in symbol-is (p .0) (p .1) _ (p .2) (c .before .before .before .before .before .before .if1 .left) (c .before .before .before .before .if2 .left) _ (c .before .before .before .if3 .left) (c .before .find .ensures) (lt-ltb _ _ (c .if4 .taken))
-
-returns-5 : tie.Need-returns-5
-returns-5 c =
-    let p = c .before .before .before .before .before .before .before .before .before .before .pre in symbol-is (p .0) (p .1) _ (p .2) (c .before .before .before .before .before .before .if1 .left) (c .before .before .before .before .if2 .left) _ (c .before .before .before .if3 .left) (c .before .find .ensures) (le-ltb _ _ (c .if4 .left))
+    let p = c .before .before .before .before .before .before .before .before .before .before .pre in
+    c .fault-if .ensures ∙ symbol-is (p .0) (p .1) _ (p .2) (c .before .before .before .before .before .before .if1 .left) (c .before .before .before .before .if2 .left) _ (c .before .before .before .if3 .left) (c .before .find .ensures) refl
 
 pub symbol-fault-spec : {M : Type 1} → statement M
 symbol-fault-spec =
     tie.close
-    (tie.spec sub-if1 returns returns-2 returns-3 add-parts find-requires returns-4 returns-5)
+    (tie.spec sub-if1 returns returns-2 returns-3 add-parts find-requires fault-if-requires returns-4)
