@@ -7,7 +7,7 @@ use mathlib.Core.Logic.{_⊎_, inl, inr, ⊎-elim}
 use mathlib.Core.Option.{none, some}
 use native.Mathlib.Omega.{arith}
 use lib.Dec.{T, ltb, eqb, lt→ltb}
-use lib.ListN.{length, getD}
+use lib.ListN.{length, getD, drop}
 use lib.Seq.{length-slice}
 use types.Run.{OneOf, miss}
 use denote.Enum.Declared.{tagOf}
@@ -26,8 +26,9 @@ use Rattle.meaning.proofs.laws.Passing.{both-pass}
 use Rattle.meaning.specs.Packing.{classOf}
 use Rattle.lexing.proofs.Token as token
 use Rattle.lexing.proofs.Shortest.{three-bytes}
+use Rattle.lexing.proofs.Stream.{comes}
 use Rattle.lexing.specs.View as View
-use Rattle.lexing.specs.View.{tokenOf, placedOf, Sound, stream, Comes}
+use Rattle.lexing.specs.View.{tokenOf, placedOf, Sound, stream, Shows, Comes}
 use Rattle.lexing.specs.declared.Span.{Span}
 use Rattle.lexing.specs.declared.Token.{Token}
 use Rattle.lexing.specs.declared.Token.the-variants.{Name as NameToken, Symbol, Part, Word, Quoted, Sign, End, Malformed}
@@ -53,7 +54,7 @@ use Rattle.parsing.proofs.Patterning.{identifier-inside}
 use Rattle.parsing.proofs.Going.{check-wrong, stops, reads, has-stopped, has-read, follow-alone, makes, behind, behind-more, went-none, went-from, went-on, went-then}
 use Rattle.parsing.proofs.Items.{symbol-at, symbol-past, item-symbol, item-then}
 use Rattle.parsing.proofs.Tabling.{every-append}
-use Rattle.parsing.proofs.Tokening.{NameFirst, sign-shown, takes, passes-on, passes-not, name-first, names-not, refused}
+use Rattle.parsing.proofs.Tokening.{NameFirst, sign-shown, takes, passes-on, passes-not, name-first, names-not, refused, ready-past}
 
 -- A LATER S-VARIABLE
 
@@ -373,7 +374,14 @@ conditions-start text start names from words r =
     }
 
 module _ {text start : List ℕ} {names : List Name} {from words : ℕ} {tape : List ℕ} {at to left : ℕ} {t : Code.Placed}
-    (k : Conditioned text start names from words tape at to left) (c : Comes text Tokens.inside at t) where
+    (k : Conditioned text start names from words tape at to left) (l : Shows text t (Tokens.lex Tokens.inside at (drop at text) .first)) where
+  c : Comes text Tokens.inside at t
+  c = comes text Tokens.inside at t (k .went .inside) l
+
+  -- the condition after its `,`
+  pub condition-ready : Ready text (t .past) to
+  condition-ready = ready-past (conditions-ready k) c
+
   pub conditions-done : {count parts : ℕ} → signIs 44 (t .token) ≡ false
       → Agrees (ConditionsRead text from words start tape) (Reading.conditions 8 names (stream text Tokens.inside from))
       (Done (record { at = t .place; words = to; count = count; parts = parts }))

@@ -5,15 +5,17 @@ use mathlib.Core.Bool.{false}
 use mathlib.Core.List.{List, [], _++_}
 use native.Mathlib.Omega.{arith}
 use lib.Dec.{T}
-use lib.ListN.{length}
+use lib.ListN.{length, drop}
 use Rattle.meaning.specs.Choice.{every}
 use Rattle.meaning.specs.Tree.{Element}
 use Rattle.meaning.specs.Allowed.{symbolsFrom, partsOf, lettersIn}
 use Rattle.meaning.specs.Tape.{patternTape}
+use Rattle.meaning.specs.Tokens as Tokens
 use Rattle.meaning.specs.Tokens.{inside}
 use Rattle.meaning.specs.Reading.{endsInPart, elementsOf, pattern}
-use Rattle.lexing.specs.View.{stream, Comes}
+use Rattle.lexing.specs.View.{stream, Shows, Comes}
 use Rattle.lexing.specs.declared.Placed as Code
+use Rattle.lexing.proofs.Stream.{comes}
 use Rattle.parsing.specs.declared.Answer.{Answer}
 use Rattle.parsing.specs.declared.progress.Parsed.the-variants.{Stopped, Done}
 use Rattle.parsing.specs.declared.patterns.Counts.{Counts}
@@ -63,8 +65,11 @@ pattern-starts text start table at words r l =
 
 module _ {text start : List ℕ} {at words : ℕ} {tape table : List ℕ} {p : Counts} {t : Code.Placed} {table′ tape′ : List ℕ} {r : Added}
     (k : Patterned text start at words tape table p)
-    (c : Comes text inside (p .at) t)
+    (l : Shows text t (Tokens.lex inside (p .at) (drop (p .at) text) .first))
     (a : AddsToken text table p tape t table′ tape′ r) where
+  c : Comes text inside (p .at) t
+  c = comes text inside (p .at) t (k .held .ready .inside) l
+
   given : {r′ : Added} → r ≡ r′ → TokenGives text table p tape t table′ tape′ r′
   given e = rw e at (a .gives)
 

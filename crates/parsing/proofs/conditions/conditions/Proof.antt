@@ -5,11 +5,8 @@ use mathlib.Core.Path.{sym, _∙_}
 use native.Mathlib.Omega.{arith}
 use borrow.Author.Needs.{needs}
 use borrow.Author.Tests.{not-true, not-false}
-use Rattle.meaning.specs.Tokens.{inside}
-use Rattle.lexing.proofs.Stream.{comes}
 use Rattle.parsing.specs.Patterns.{symbolNames}
-use Rattle.parsing.proofs.Tokening.{ready-past}
-use Rattle.parsing.proofs.Conditioned.{Conditioned, conditions-ready, conditions-start, conditions-done, conditions-many, condition-stops, condition-goes}
+use Rattle.parsing.proofs.Conditioned.{Conditioned, condition-ready, conditions-start, conditions-done, conditions-many, condition-stops, condition-goes}
 
 abbrev Inv-loop : tie.InvT-loop
 Inv-loop text tape₀ table symbols from words s₀ left₀ tape s left =
@@ -30,17 +27,15 @@ is-sign-requires c κs = search needs
 returns : tie.Need-returns Inv-loop μ-loop
 returns c =
     let k = c .before .before .before .loop .inv in
-    conditions-done k (comes _ inside _ _ (k .went .inside) (c .before .before .lex .ensures)) (sym (c .before .is-sign .ensures) ∙ not-true _ (c .if1 .taken))
+    conditions-done k (c .before .before .lex .ensures) (sym (c .before .is-sign .ensures) ∙ not-true _ (c .if1 .taken))
 
 returns-2 : tie.Need-returns-2 Inv-loop μ-loop
 returns-2 c =
     let k = c .before .before .before .before .loop .inv in
-    conditions-many k (comes _ inside _ _ (k .went .inside) (c .before .before .before .lex .ensures)) (sym (c .before .before .is-sign .ensures) ∙ not-false _ (c .before .if1 .left)) (c .if2 .taken)
+    conditions-many k (c .before .before .before .lex .ensures) (sym (c .before .before .is-sign .ensures) ∙ not-false _ (c .before .if1 .left)) (c .if2 .taken)
 
 condition-requires : tie.Need-condition-requires Inv-loop μ-loop
-condition-requires c κs =
-    let k = c .before .before .before .before .before .loop .inv in
-    (ready-past (conditions-ready k) (comes _ inside _ _ (k .went .inside) (c .before .before .before .before .lex .ensures)), c .before .before .before .before .before .before .before .before .pre .1)
+condition-requires c κs = (condition-ready (c .before .before .before .before .before .loop .inv) (c .before .before .before .before .lex .ensures), c .before .before .before .before .before .before .before .before .pre .1)
 
 enum-known-fault : tie.Need-enum-known-fault Inv-loop μ-loop
 enum-known-fault c = search needs
@@ -48,7 +43,7 @@ enum-known-fault c = search needs
 returns-3 : tie.Need-returns-3 Inv-loop μ-loop
 returns-3 c =
     let k = c .before .before .before .before .before .before .before .before .before .loop .inv in
-    condition-stops k (comes _ inside _ _ (k .went .inside) (c .before .before .before .before .before .before .before .before .lex .ensures)) (sym (c .before .before .before .before .before .before .before .is-sign .ensures) ∙ not-false _ (c .before .before .before .before .before .before .if1 .left)) (c .before .before .before .before .before .if2 .left)
+    condition-stops k (c .before .before .before .before .before .before .before .before .lex .ensures) (sym (c .before .before .before .before .before .before .before .is-sign .ensures) ∙ not-false _ (c .before .before .before .before .before .before .if1 .left)) (c .before .before .before .before .before .if2 .left)
     (rw (c .before .fault .given .1) at (c .before .before .before .condition .ensures))
 
 enum-known-next : tie.Need-enum-known-next Inv-loop μ-loop
@@ -63,7 +58,7 @@ loop-less c = let z = c .before .before .before .before .before .if2 .left in om
 loop-again : tie.Need-loop-again Inv-loop μ-loop
 loop-again c =
     let k = c .before .before .before .before .before .before .before .before .before .loop .inv in
-    condition-goes k (comes _ inside _ _ (k .went .inside) (c .before .before .before .before .before .before .before .before .lex .ensures)) (sym (c .before .before .before .before .before .before .before .is-sign .ensures) ∙ not-false _ (c .before .before .before .before .before .before .if1 .left)) (c .before .before .before .before .before .if2 .left)
+    condition-goes k (c .before .before .before .before .before .before .before .before .lex .ensures) (sym (c .before .before .before .before .before .before .before .is-sign .ensures) ∙ not-false _ (c .before .before .before .before .before .before .if1 .left)) (c .before .before .before .before .before .if2 .left)
     (rw (c .before .next .given .1) at (c .before .before .before .condition .ensures))
 
 pub conditions-spec : {M : Type 1} → statement M

@@ -32,13 +32,13 @@ enum-known-next c = search needs
 loop-less : tie.Need-loop-less Inv-loop μ-loop
 loop-less c =
     let k = c .before .before .before .before .before .before .before .loop .inv in
-    let m = pattern-moves k (comes _ inside _ _ (k .held .ready .inside) (c .before .before .before .before .before .before .lex .ensures)) (c .before .before .before .add .ensures) (c .before .next .given .1) in
+    let m = pattern-moves k (c .before .before .before .before .before .before .lex .ensures) (c .before .before .before .add .ensures) (c .before .next .given .1) in
     omega arith
 
 loop-again : tie.Need-loop-again Inv-loop μ-loop
 loop-again c =
     let k = c .before .before .before .before .before .before .before .loop .inv in
-    pattern-takes k (comes _ inside _ _ (k .held .ready .inside) (c .before .before .before .before .before .before .lex .ensures)) (c .before .before .before .add .ensures) (c .before .next .given .1)
+    pattern-takes k (c .before .before .before .before .before .before .lex .ensures) (c .before .before .before .add .ensures) (c .before .next .given .1)
 
 enum-known-answer : tie.Need-enum-known-answer Inv-loop μ-loop
 enum-known-answer c = search needs
@@ -46,7 +46,7 @@ enum-known-answer c = search needs
 returns : tie.Need-returns Inv-loop μ-loop
 returns c =
     let k = c .before .before .before .before .before .before .before .loop .inv in
-    pattern-stops k (comes _ inside _ _ (k .held .ready .inside) (c .before .before .before .before .before .before .lex .ensures)) (c .before .before .before .add .ensures) (c .before .answer .given .1)
+    pattern-stops k (c .before .before .before .before .before .before .lex .ensures) (c .before .before .before .add .ensures) (c .before .answer .given .1)
 
 enum-told : tie.Need-enum-told Inv-loop μ-loop
 enum-told c = search needs
@@ -54,7 +54,7 @@ enum-told c = search needs
 returns-2 : tie.Need-returns-2 Inv-loop μ-loop
 returns-2 c =
     let k = c .before .before .before .before .before .before .loop .inv in
-    pattern-ends k (comes _ inside _ _ (k .held .ready .inside) (c .before .before .before .before .before .lex .ensures)) (c .before .before .add .ensures) (c .enum-told .given .1)
+    pattern-ends k (c .before .before .before .before .before .lex .ensures) (c .before .before .add .ensures) (c .enum-told .given .1)
 
 pub pattern-spec : {M : Type 1} → statement M
 pattern-spec =
