@@ -42,11 +42,13 @@ use Rattle.parsing.specs.declared.progress.Parsed.the-variants.{Stopped,
 use Rattle.parsing.specs.Tables.{Inside, Entries, position}
 use Rattle.parsing.specs.Answered.{numberOf, Agrees}
 use Rattle.parsing.specs.Written.{Wrote, isQuiet, Ready, Went}
-use Rattle.parsing.specs.Tokened.{tokenFault, signIs, Taken, Barred}
+use Rattle.parsing.specs.declared.progress.Passed.{Passed}
+use Rattle.parsing.specs.declared.progress.Passed.the-variants.{Past, Refused}
+use Rattle.parsing.specs.Tokened.{tokenFault, signIs, Taken, Barred, Passes}
 use Rattle.parsing.specs.Patterns.{symbolNames, itemAt}
 use Rattle.parsing.specs.Conditions.{conditionEnd, conditionOn, truthAt, TruthIs, Standing, Before, ConditionRead, ConditionsRead}
 use Rattle.meaning.proofs.reading.Basics.{no-value}
-use Rattle.parsing.proofs.Choosing.{fault-if-not}
+use Rattle.parsing.proofs.Choosing.{fault-if-not, no-fault-here, a-fault-here}
 use Rattle.parsing.proofs.Finding.{among}
 use Rattle.parsing.proofs.Naming.{classed, class-number}
 use Rattle.parsing.proofs.Faults.{too-long, short-enough, within, later-fault-is}
@@ -54,7 +56,7 @@ use Rattle.parsing.proofs.Patterning.{identifier-inside}
 use Rattle.parsing.proofs.Going.{check-wrong, stops, reads, has-stopped, has-read, follow-alone, makes, behind, behind-more, went-none, went-from, went-on, went-then}
 use Rattle.parsing.proofs.Items.{symbol-at, symbol-past, item-symbol, item-then}
 use Rattle.parsing.proofs.Tabling.{every-append}
-use Rattle.parsing.proofs.Tokening.{NameFirst, sign-shown, takes, passes-on, passes-not, name-first, names-not, refused, ready-past}
+use Rattle.parsing.proofs.Tokening.{NameFirst, sign-shown, takes, passes-on, passes-not, name-first, names-not, refused, ready-past, ready-taken}
 
 -- A LATER S-VARIABLE
 
@@ -230,48 +232,62 @@ symbol-not text (Sign b) place past s o names t next = refl
 symbol-not text End place past s o names t next = refl
 symbol-not text Malformed place past s o names t next = refl
 
-pub on-before : {text : Bytes} {from words : ℕ} {t : Code.Placed} {x : Span} → Comes text Tokens.inside from t → t .token ≡ Symbol x → (names : List Name) → Ready text from words → symbolFault names (View.part text x) ≡ 0 → Before text words (t .past) x
-on-before {text} {x = x} k e names r f =
-    let i = symbol-at k e in
-    record {
-      after = omega (arith, r .charged, i .after);
-      some = i .some;
-      before = omega (arith, symbol-past k e);
-      short = within text x (identifier-inside i) 8 3 _ f;
-    }
-
 abbrev OnAgrees : Bytes → List ℕ → ℕ → ℕ → ℕ → List ℕ → List ℕ → Class → CodeParsed → Type 0
 OnAgrees text table symbols from words tape tape′ c r =
     Agrees (ConditionRead text from words tape tape′) (conditionOn (symbolNames text table symbols) c (stream text Tokens.inside from)) r
 
-module _ (text table : List ℕ) (symbols from : ℕ) (c : Class) {t : Code.Placed} (k : Comes text Tokens.inside from t) where
-  pub on-no-symbol : {words : ℕ} {tape tape′ : List ℕ} {fault : Fault} → OneOf allButSymbol (tagOf token.the-type (t .token))
+module _ {text table : List ℕ} {symbols from words : ℕ} {t : Code.Placed} (known : Entries text table 0 symbols) (ready : Ready text from words)
+    (shown : Shows text t (Tokens.lex Tokens.inside from (drop from text) .first)) where
+  k : Comes text Tokens.inside from t
+  k = comes text Tokens.inside from t (ready .inside) shown
+
+  pub on-no-symbol : (c : Class) {tape tape′ : List ℕ} {fault : Fault} → OneOf allButSymbol (tagOf token.the-type (t .token))
       → (numberOf (fault .answer) ≡ tokenFault (t .token)) × (fault .place ≡ t .place)
       → OnAgrees text table symbols from words tape tape′ c (Stopped fault)
-  on-no-symbol o f =
+  on-no-symbol c o f =
       refused k
       (rw (k .unrolled) (symbol-not text (t .token) (t .place) (t .past) (k .sound) o (symbolNames text table symbols) (placedOf text t) _))
       f
 
   module _ {x : Span} (e : t .token ≡ Symbol x) where
-    at-symbol : conditionOn (symbolNames text table symbols) c (stream text Tokens.inside from)
+    pub on-inside : Inside text x
+    on-inside = identifier-inside (symbol-at k e)
+
+    at-symbol : (c : Class) → conditionOn (symbolNames text table symbols) c (stream text Tokens.inside from)
         ≡ Reading.check (symbolFault (symbolNames text table symbols) (View.part text x)) (placedOf text t)
         (conditionEnd c (View.part text x) (stream text Tokens.inside (t .past)))
-    at-symbol =
+    at-symbol c =
         let i : Reading.isItem (itemAt text t) ≡ true = rw (item-symbol k e) in
         rw (item-then k i .unrolled, item-symbol k e)
 
-    pub on-wrong : {words : ℕ} {tape tape′ : List ℕ} {answer : Answer} → numberOf answer ≡ symbolFault (symbolNames text table symbols) (View.part text x)
-        → eqb (numberOf answer) 0 ≡ false
+    pub on-wrong : (c : Class) {tape tape′ : List ℕ} {answer : Answer} {is : Bool}
+        → numberOf answer ≡ symbolFault (symbolNames text table symbols) (View.part text x)
+        → is ≡ eqb (numberOf answer) 0
+        → not is ≡ true
         → OnAgrees text table symbols from words tape tape′ c (Stopped (record { answer = answer; place = t .place }))
-    on-wrong {answer = answer} n w =
-        stops _ _ _ (at-symbol ∙ rw (← n) (check-wrong (numberOf answer) (placedOf text t) _ w)) refl refl
+    on-wrong c {answer = answer} n q w =
+        stops _ _ _ (at-symbol c ∙ rw (← n) (check-wrong (numberOf answer) (placedOf text t) _ (a-fault-here n q w))) refl refl
 
-    -- what is read from a later place on is read from here
-    pub on-reads : {words : ℕ} {tape tape′ : List ℕ} {r : CodeParsed} → symbolFault (symbolNames text table symbols) (View.part text x) ≡ 0
-        → EndAgrees text (t .past) words tape tape′ x c r
-        → OnAgrees text table symbols from words tape tape′ c r
-    on-reads f a = earlier (omega (arith, k .onward, k .forward)) (at-symbol ∙ rw f) a
+    module _ {number : ℕ} {is : Bool} (n : number ≡ symbolFault (symbolNames text table symbols) (View.part text x)) (q : is ≡ eqb number 0) (w : not is ≡ false) where
+      right : symbolFault (symbolNames text table symbols) (View.part text x) ≡ 0
+      right = no-fault-here n q w
+
+      pub on-before : Ready text (t .past) words × Before text words (t .past) x
+      on-before =
+          let i = symbol-at k e in (
+            ready-past ready k,
+            record {
+              after = omega (arith, ready .charged, i .after);
+              some = i .some;
+              before = omega (arith, symbol-past k e);
+              short = within text x (identifier-inside i) 8 3 _ right;
+            },
+          )
+
+      -- what is read from a later place on is read from here
+      pub on-reads : (c : Class) {tape tape′ : List ℕ} {r : CodeParsed} → EndAgrees text (t .past) words tape tape′ x c r
+          → OnAgrees text table symbols from words tape tape′ c r
+      on-reads c a = earlier (omega (arith, k .onward, k .forward)) (at-symbol c ∙ rw right) a
 
 -- A CONDITION AFTER ITS `,`
 
@@ -282,28 +298,40 @@ ConditionAgrees text table symbols from words tape tape′ r =
 abbrev withName : List Name → ℕ → Name → List Tokens.Placed → Parsed Condition
 withName names place n ts = Reading.withClass (predicateOf n) place λ class. conditionOn names class ts
 
-module _ (text table : List ℕ) (symbols from : ℕ) where
-  pub open-not : {words : ℕ} {tape tape′ : List ℕ} {fault : Fault} → Barred text Tokens.inside 60 from fault
+module _ {text table : List ℕ} {symbols : ℕ} (known : Entries text table 0 symbols) {from words : ℕ} (ready : Ready text from words) {p : Passed} (w : Passes text Tokens.inside 60 from p) where
+  pub open-not : {tape tape′ : List ℕ} {fault : Fault} → p ≡ Refused fault
       → ConditionAgrees text table symbols from words tape tape′ (Stopped fault)
   unfolding Reading.condition
-  open-not k = stops _ _ _ (passes-not _ k) refl refl
+  open-not e = let b = rw e at w in stops _ _ _ (passes-not _ b) refl refl
 
-  module _ {start : ℕ} {t : Code.Placed} (o : Taken text Tokens.inside 60 from start) (k : Comes text Tokens.naming start t) where
+  module _ {start : ℕ} {t : Code.Placed} (g : p ≡ Past start) (shown : Shows text t (Tokens.lex Tokens.naming start (drop start text) .first)) where
+    o : Taken text Tokens.inside 60 from start
+    o = rw g at w
+
+    first : Comes text Tokens.naming start t
+    first = comes text Tokens.naming start t (o .inside) shown
+
     at-name : Reading.condition (symbolNames text table symbols) (stream text Tokens.inside from)
         ≡ Reading.passName (λ n. Reading.lengthFault n 0) (stream text Tokens.naming start) (withName (symbolNames text table symbols))
     unfolding Reading.condition
     at-name = passes-on _ o
 
-    pub name-not : {words : ℕ} {tape tape′ : List ℕ} {fault : Fault} → OneOf (1 ∷ 2 ∷ 3 ∷ 4 ∷ 5 ∷ 6 ∷ 7 ∷ []) (tagOf token.the-type (t .token))
+    pub name-not : {tape tape′ : List ℕ} {fault : Fault} → OneOf (1 ∷ 2 ∷ 3 ∷ 4 ∷ 5 ∷ 6 ∷ 7 ∷ []) (tagOf token.the-type (t .token))
         → (numberOf (fault .answer) ≡ tokenFault (t .token)) × (fault .place ≡ t .place)
         → ConditionAgrees text table symbols from words tape tape′ (Stopped fault)
-    name-not n f = refused k (at-name ∙ names-not k _ _ n) f
+    name-not n f = refused first (at-name ∙ names-not first _ _ n) f
 
     module _ {n : Span} (e : t .token ≡ NameToken n) where
       abbrev here : NameFirst text Tokens.naming start t n
-      here = name-first k e
+      here = name-first first e
 
-      pub name-long : {words : ℕ} {tape tape′ : List ℕ} → 24 < n .past - n .from
+      pub name-inside : Inside text n
+      name-inside = here .inside
+
+      pub name-ready : Ready text (t .past) words
+      name-ready = ready-past (ready-taken ready o) first
+
+      pub name-long : {tape tape′ : List ℕ} → 24 < n .past - n .from
           → ConditionAgrees text table symbols from words tape tape′ (Stopped (record { answer = OverLimit; place = t .place }))
       name-long l =
           stops _ _ _ (at-name ∙ rw (here .unrolled, too-long text n (here .inside) 24 l)) refl refl
@@ -313,16 +341,16 @@ module _ (text table : List ℕ) (symbols from : ℕ) where
             ≡ withName (symbolNames text table symbols) (t .place) (View.part text n) (stream text Tokens.inside (t .past))
         at-class = at-name ∙ rw (here .unrolled, short-enough text n (here .inside) 24 l)
 
-        pub class-not : {words : ℕ} {tape tape′ : List ℕ} → predicateOf (View.part text n) ≡ none
+        pub class-not : {tape tape′ : List ℕ} → predicateOf (View.part text n) ≡ none
             → ConditionAgrees text table symbols from words tape tape′ (Stopped (record { answer = WrongName; place = t .place }))
-        class-not p = stops _ _ _ (at-class ∙ rw p) refl refl
+        class-not d = stops _ _ _ (at-class ∙ rw d) refl refl
 
-        pub class-reads : {words : ℕ} {tape tape′ : List ℕ} {r : CodeParsed} (class : ℕ) → class < 5 → predicateOf (View.part text n) ≡ classOf class
+        pub class-reads : {tape tape′ : List ℕ} {r : CodeParsed} (class : ℕ) → class < 5 → predicateOf (View.part text n) ≡ classOf class
             → ((c : Class) → classOf class ≡ some c → OnAgrees text table symbols (t .past) words tape tape′ c r)
             → ConditionAgrees text table symbols from words tape tape′ r
-        class-reads class low p a =
+        class-reads class low d a =
             let c = classed class low in
-            earlier (omega (arith, o .onward, k .onward, k .forward)) (at-class ∙ rw (p, c .same)) (a (c .class) (c .same))
+            earlier (omega (arith, o .onward, first .onward, first .forward)) (at-class ∙ rw (d, c .same)) (a (c .class) (c .same))
 
 -- CONDITIONS
 

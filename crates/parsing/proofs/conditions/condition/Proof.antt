@@ -3,10 +3,7 @@ use borrow.Author.Needs.{needs}
 use Rattle.parsing.proofs.conditions.condition.Statement.{statement}
 use Rattle.parsing.proofs.conditions.condition.Tie as tie
 use native.Mathlib.Omega.{arith}
-use Rattle.meaning.specs.Tokens.{naming}
-use Rattle.lexing.proofs.Stream.{comes}
-use Rattle.parsing.proofs.Tokening.{name-first, ready-taken, ready-past}
-use Rattle.parsing.proofs.Conditioned.{open-not, name-not, name-long, class-not, class-reads}
+use Rattle.parsing.proofs.Conditioned.{open-not, name-not, name-inside, name-ready, name-long, class-not, class-reads}
 
 pass-requires : tie.Need-pass-requires
 pass-requires c κs = search needs
@@ -19,7 +16,8 @@ enum-known-fault c = search needs
 
 returns : tie.Need-returns
 returns c =
-    open-not _ (c .before .before .before .before .before .before .args .table .now) (c .before .before .before .before .before .before .args .symbols) _ (rw (c .before .fault .given .1) at (c .before .before .before .pass .ensures))
+    let p = c .before .before .before .before .before .before .pre in
+    open-not (p .1) (p .0) (c .before .before .before .pass .ensures) (c .before .fault .given .1)
 
 lex-requires : tie.Need-lex-requires
 lex-requires c κs = search needs
@@ -32,49 +30,42 @@ refuse-requires c κs = search needs
 
 returns-2 : tie.Need-returns-2
 returns-2 c =
-    let o = rw (c .before .before .before .before .at .given .1) at (c .before .before .before .before .before .before .pass .ensures) in
-    name-not _ (c .before .before .before .before .before .before .before .before .before .args .table .now) (c .before .before .before .before .before .before .before .before .before .args .symbols) _ o (comes _ naming _ _ (o .inside) (c .before .before .lex .ensures)) (c .before .match2 .keys2) (c .refuse .ensures)
+    let p = c .before .before .before .before .before .before .before .before .before .pre in
+    name-not (p .1) (p .0) (c .before .before .before .before .before .before .pass .ensures) (c .before .before .before .before .at .given .1) (c .before .before .lex .ensures) (c .before .match2 .keys2) (c .refuse .ensures)
 
 sub-if1 : tie.Need-sub-if1
 sub-if1 c =
-    let o = rw (c .before .before .before .before .before .before .at .given .1) at (c .before .before .before .before .before .before .before .before .pass .ensures) in
-    name-first (comes _ naming _ _ (o .inside) (c .before .before .before .before .lex .ensures)) (c .before .before .token .given .1) .inside .forward
+    let p = c .before .before .before .before .before .before .before .before .before .before .before .pre in
+    name-inside (p .1) (p .0) (c .before .before .before .before .before .before .before .before .pass .ensures) (c .before .before .before .before .before .before .at .given .1) (c .before .before .before .before .lex .ensures) (c .before .before .token .given .1) .forward
 
 returns-3 : tie.Need-returns-3
 returns-3 c =
-    let o = rw (c .before .before .before .before .before .before .before .at .given .1) at (c .before .before .before .before .before .before .before .before .before .pass .ensures) in
-    let k = comes _ naming _ _ (o .inside) (c .before .before .before .before .before .lex .ensures) in
-    name-long _ (c .before .before .before .before .before .before .before .before .before .before .before .before .args .table .now) (c .before .before .before .before .before .before .before .before .before .before .before .before .args .symbols) _ o k (c .before .before .before .token .given .1) (c .if1 .taken)
+    let p = c .before .before .before .before .before .before .before .before .before .before .before .before .pre in
+    name-long (p .1) (p .0) (c .before .before .before .before .before .before .before .before .before .pass .ensures) (c .before .before .before .before .before .before .before .at .given .1) (c .before .before .before .before .before .lex .ensures) (c .before .before .before .token .given .1) (c .if1 .taken)
 
 class-named-requires : tie.Need-class-named-requires
 class-named-requires c κs =
-    let o = rw (c .before .before .before .before .before .before .before .at .given .1) at (c .before .before .before .before .before .before .before .before .before .pass .ensures) in
-    name-first (comes _ naming _ _ (o .inside) (c .before .before .before .before .before .lex .ensures)) (c .before .before .before .token .given .1) .inside
+    let p = c .before .before .before .before .before .before .before .before .before .before .before .before .pre in
+    name-inside (p .1) (p .0) (c .before .before .before .before .before .before .before .before .before .pass .ensures) (c .before .before .before .before .before .before .before .at .given .1) (c .before .before .before .before .before .lex .ensures) (c .before .before .before .token .given .1)
 
 returns-4 : tie.Need-returns-4
 returns-4 c =
-    let o = rw (c .before .before .before .before .before .before .before .before .before .at .given .1) at (c .before .before .before .before .before .before .before .before .before .before .before .pass .ensures) in
-    let k = comes _ naming _ _ (o .inside) (c .before .before .before .before .before .before .before .lex .ensures) in
-    class-not _ (c .before .before .before .before .before .before .before .before .before .before .before .before .before .before .args .table .now) (c .before .before .before .before .before .before .before .before .before .before .before .before .before .before .args .symbols) _ o k (c .before .before .before .before .before .token .given .1) (c .before .before .if1 .left)
-    (rw (c .if2 .taken) at (c .before .class-named .ensures .0))
+    let p = c .before .before .before .before .before .before .before .before .before .before .before .before .before .before .pre in
+    class-not (p .1) (p .0) (c .before .before .before .before .before .before .before .before .before .before .before .pass .ensures) (c .before .before .before .before .before .before .before .before .before .at .given .1) (c .before .before .before .before .before .before .before .lex .ensures) (c .before .before .before .before .before .token .given .1) (c .before .before .if1 .left) (rw (c .if2 .taken) at (c .before .class-named .ensures .0))
 
 condition-on-requires : tie.Need-condition-on-requires
 condition-on-requires c κs =
     let p = c .before .before .before .before .before .before .before .before .before .before .before .before .before .before .before .pre in
-    let o = rw (c .before .before .before .before .before .before .before .before .before .before .at .given .1) at (c .before .before .before .before .before .before .before .before .before .before .before .before .pass .ensures) in
-    let k = comes _ naming _ _ (o .inside) (c .before .before .before .before .before .before .before .before .lex .ensures) in
     let l = c .before .before .class-named .ensures .1 in
     let d = c .before .if2 .left in
-    (ready-past (ready-taken (p .0) o) k, p .1, omega arith)
+    (name-ready (p .1) (p .0) (c .before .before .before .before .before .before .before .before .before .before .before .before .pass .ensures) (c .before .before .before .before .before .before .before .before .before .before .at .given .1) (c .before .before .before .before .before .before .before .before .lex .ensures) (c .before .before .before .before .before .before .token .given .1), p .1, omega arith)
 
 returns-5 : tie.Need-returns-5
 returns-5 c =
-    let o = rw (c .before .before .before .before .before .before .before .before .before .before .before .at .given .1) at (c .before .before .before .before .before .before .before .before .before .before .before .before .before .pass .ensures) in
-    let k = comes _ naming _ _ (o .inside) (c .before .before .before .before .before .before .before .before .before .lex .ensures) in
+    let p = c .before .before .before .before .before .before .before .before .before .before .before .before .before .before .before .before .pre in
     let l = c .before .before .before .class-named .ensures .1 in
     let d = c .before .before .if2 .left in
-    class-reads _ (c .before .before .before .before .before .before .before .before .before .before .before .before .before .before .before .before .args .table .now) (c .before .before .before .before .before .before .before .before .before .before .before .before .before .before .before .before .args .symbols) _ o k (c .before .before .before .before .before .before .before .token .given .1) (c .before .before .before .before .if1 .left) (c .before .before .before .class-named .result) (omega arith)
-    (c .before .before .before .class-named .ensures .0) (c .condition-on .ensures)
+    class-reads (p .1) (p .0) (c .before .before .before .before .before .before .before .before .before .before .before .before .before .pass .ensures) (c .before .before .before .before .before .before .before .before .before .before .before .at .given .1) (c .before .before .before .before .before .before .before .before .before .lex .ensures) (c .before .before .before .before .before .before .before .token .given .1) (c .before .before .before .before .if1 .left) (c .before .before .before .class-named .result) (omega arith) (c .before .before .before .class-named .ensures .0) (c .condition-on .ensures)
 
 pub condition-spec : {M : Type 1} → statement M
 condition-spec =

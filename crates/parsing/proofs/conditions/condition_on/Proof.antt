@@ -2,14 +2,7 @@
 use borrow.Author.Needs.{needs}
 use Rattle.parsing.proofs.conditions.condition_on.Statement.{statement}
 use Rattle.parsing.proofs.conditions.condition_on.Tie as tie
-use Rattle.meaning.specs.Tokens.{inside}
-use Rattle.lexing.proofs.Stream.{comes}
-use Rattle.parsing.proofs.Choosing.{no-fault-here, a-fault-here}
-use Rattle.parsing.proofs.Patterning.{identifier-inside}
-use Rattle.parsing.proofs.Items.{symbol-at}
-use Rattle.parsing.proofs.Conditioned.{on-no-symbol, on-wrong, on-before, on-reads}
-use Rattle.parsing.proofs.Tokening.{ready-past}
-use Rattle.parsing.specs.Patterns.{symbolNames}
+use Rattle.parsing.proofs.Conditioned.{on-no-symbol, on-inside, on-wrong, on-before, on-reads}
 
 lex-requires : tie.Need-lex-requires
 lex-requires c κs = search needs
@@ -22,39 +15,32 @@ refuse-requires c κs = search needs
 
 returns : tie.Need-returns
 returns c =
-    λ k e.
-    on-no-symbol _ (c .before .before .before .before .before .args .table .now) (c .before .before .before .before .before .args .symbols) _ k (comes _ inside _ _ (c .before .before .before .before .before .pre .0 .inside) (c .before .before .lex .ensures)) (c .before .match .keys2) (c .refuse .ensures)
+    let p = c .before .before .before .before .before .pre in
+    λ k e. on-no-symbol (p .1) (p .0) (c .before .before .lex .ensures) k (c .before .match .keys2) (c .refuse .ensures)
 
 later-symbol-fault-requires : tie.Need-later-symbol-fault-requires
 later-symbol-fault-requires c κs =
     let p = c .before .before .before .before .before .before .pre in
-    let m = comes _ inside _ _ (p .0 .inside) (c .before .before .before .lex .ensures) in
-    (identifier-inside (symbol-at m (c .before .token .given .1)), p .1)
+    (on-inside (p .1) (p .0) (c .before .before .before .lex .ensures) (c .before .token .given .1), p .1)
 
 is-accepted-requires : tie.Need-is-accepted-requires
 is-accepted-requires c κs = search needs
 
 returns-2 : tie.Need-returns-2
 returns-2 c =
-    λ k e.
-    let m = comes _ inside _ _ (c .before .before .before .before .before .before .before .before .before .pre .0 .inside) (c .before .before .before .before .before .before .lex .ensures) in
-    let f = c .before .before .later-symbol-fault .ensures in
-    on-wrong _ (c .before .before .before .before .before .before .before .before .before .args .table .now) (c .before .before .before .before .before .before .before .before .before .args .symbols) _ k m (c .before .before .before .before .token .given .1) f (a-fault-here f (c .before .is-accepted .ensures) (c .if1 .taken))
+    let p = c .before .before .before .before .before .before .before .before .before .pre in
+    λ k e. on-wrong (p .1) (p .0) (c .before .before .before .before .before .before .lex .ensures) (c .before .before .before .before .token .given .1) k (c .before .before .later-symbol-fault .ensures) (c .before .is-accepted .ensures) (c .if1 .taken)
 
 condition-end-requires : tie.Need-condition-end-requires
 condition-end-requires c κs =
     let p = c .before .before .before .before .before .before .before .before .before .before .pre in
-    let a = c .before .before .before .before .before .before .before .before .before .before .args in
-    let m = comes _ inside _ _ (p .0 .inside) (c .before .before .before .before .before .before .before .lex .ensures) in
-    let f = no-fault-here (c .before .before .before .later-symbol-fault .ensures) (c .before .before .is-accepted .ensures) (c .before .if1 .left) in
-    (ready-past (p .0) m, on-before m (c .before .before .before .before .before .token .given .1) (symbolNames (a .text .now) (a .table .now) (a .symbols)) (p .0) f, p .2)
+    let b = on-before (p .1) (p .0) (c .before .before .before .before .before .before .before .lex .ensures) (c .before .before .before .before .before .token .given .1) (c .before .before .before .later-symbol-fault .ensures) (c .before .before .is-accepted .ensures) (c .before .if1 .left) in
+    (b .0, b .1, p .2)
 
 returns-3 : tie.Need-returns-3
 returns-3 c =
-    λ k e.
-    let m = comes _ inside _ _ (c .before .before .before .before .before .before .before .before .before .before .before .pre .0 .inside) (c .before .before .before .before .before .before .before .before .lex .ensures) in
-    let f = no-fault-here (c .before .before .before .before .later-symbol-fault .ensures) (c .before .before .before .is-accepted .ensures) (c .before .before .if1 .left) in
-    on-reads _ (c .before .before .before .before .before .before .before .before .before .before .before .args .table .now) (c .before .before .before .before .before .before .before .before .before .before .before .args .symbols) _ k m (c .before .before .before .before .before .before .token .given .1) f (c .condition-end .ensures k e)
+    let p = c .before .before .before .before .before .before .before .before .before .before .before .pre in
+    λ k e. on-reads (p .1) (p .0) (c .before .before .before .before .before .before .before .before .lex .ensures) (c .before .before .before .before .before .before .token .given .1) (c .before .before .before .before .later-symbol-fault .ensures) (c .before .before .before .is-accepted .ensures) (c .before .before .if1 .left) k (c .condition-end .ensures k e)
 
 pub condition-on-spec : {M : Type 1} → statement M
 condition-on-spec =
