@@ -51,12 +51,14 @@ record Counting (text : Bytes) (table : List ℕ) (p : Counts) (es : List Elemen
   ending : (before : List Element) → endsInPart before ≡ p .ending → endsInPart (before ++ es) ≡ next .ending
 
 module _ {text : Bytes} {table : List ℕ} {p : Counts} {tape : List ℕ} {item : Item} {table′ tape′ : List ℕ} where
+  -- an item with a fault
   pub item-wrong : {number past : ℕ} {answer : Answer} {is : Bool} → Faulted text table p item number → numberOf answer ≡ number
       → is ≡ eqb (numberOf answer) 0
       → not is ≡ true
       → AddsItem text table p tape item past table′ tape′ (Wrong answer)
   item-wrong {is = is} f e q n = record { gives = record { wrong = sym q ∙ not-true is n; fault = λ before s. f before s ∙ sym e } }
 
+  -- an item without one, the words of whose elements are written
   item-taken : {next : Counts} {words : List ℕ} → Held text table p → patternTape (elementsOf item) ≡ words → Faulted text table p item 0
       → Counting text table p (elementsOf item) table′ next
       → Went text (p .at) (p .words) tape (next .at) (next .words) tape′ words

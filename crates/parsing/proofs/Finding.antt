@@ -96,13 +96,13 @@ module _ (text : Bytes) (table : List ℕ) (from to : ℕ) (e : Entries text tab
   table-length = names-length text (slice from to table) ∙ length-slice from to table (e .inside)
 
   module _ (x : Name) (r : ℕ) (f : r ≡ from + position x (tableNames text table from to)) where
-    found-member : r < to → member x (tableNames text table from to) ≡ true
-    found-member h = sym (position-member x (tableNames text table from to)) ∙ lt-ltb (position x (tableNames text table from to)) (length (tableNames text table from to)) (rw table-length (omega (arith, e .ordered)))
-
-    found-none : to ≤ r → member x (tableNames text table from to) ≡ false
-    found-none h = sym (position-member x (tableNames text table from to)) ∙ le-ltb (position x (tableNames text table from to)) (length (tableNames text table from to)) (rw table-length (omega (arith, e .ordered)))
+    abbrev names : List Name
+    names = tableNames text table from to
 
     -- a test on the place says whether it is among them
-    pub among : {is : Bool} → ltb r to ≡ is → member x (tableNames text table from to) ≡ is
-    among {is = true} h = found-member (ltb-true r to h)
-    among {is = false} h = found-none (ltb-false r to h)
+    pub among : {is : Bool} → ltb r to ≡ is → member x names ≡ is
+    among {is} h = sym (position-member x names) ∙ rw table-length (before is h)
+      where
+        before : (is′ : Bool) → ltb r to ≡ is′ → ltb (position x names) (to - from) ≡ is′
+        before true h′ = lt-ltb (position x names) (to - from) (omega (arith, f, e .ordered, ltb-true r to h′))
+        before false h′ = le-ltb (position x names) (to - from) (omega (arith, f, e .ordered, ltb-false r to h′))
