@@ -4,7 +4,7 @@ use mathlib.Core.Path.{_≡_, refl, sym, _∙_}
 use mathlib.Core.Bool.{Bool, true, false, not}
 use mathlib.Core.List.{List, [], _∷_, _++_, append-nil, append-assoc}
 use mathlib.Core.Logic.{_⊎_, inl, inr, ⊎-elim}
-use mathlib.Core.Option.{none, some}
+use mathlib.Core.Option.{Option, none, some}
 use native.Mathlib.Omega.{arith}
 use lib.Dec.{T, ltb, eqb, lt→ltb}
 use lib.ListN.{length, getD, drop}
@@ -46,9 +46,9 @@ use Rattle.parsing.specs.declared.progress.Passed.{Passed}
 use Rattle.parsing.specs.declared.progress.Passed.the-variants.{Past, Refused}
 use Rattle.parsing.specs.Tokened.{tokenFault, signIs, Taken, Barred, Passes}
 use Rattle.parsing.specs.Patterns.{symbolNames, itemAt}
-use Rattle.parsing.specs.Conditions.{conditionEnd, conditionOn, truthAt, TruthIs, Standing, Before, ConditionRead, ConditionsRead}
+use Rattle.parsing.specs.Conditions.{conditionEnd, conditionOn, truthAt, TruthNumber, TruthIs, truthBetween, Standing, Before, ConditionRead, ConditionsRead}
 use Rattle.meaning.proofs.reading.Basics.{no-value}
-use Rattle.parsing.proofs.Choosing.{fault-if-not, no-fault-here, a-fault-here}
+use Rattle.parsing.proofs.Choosing.{both-true, fault-if-not, no-fault-here, a-fault-here}
 use Rattle.parsing.proofs.Finding.{among}
 use Rattle.parsing.proofs.Naming.{classed, class-number}
 use Rattle.parsing.proofs.Faults.{too-long, short-enough, within, later-fault-is}
@@ -94,15 +94,21 @@ abbrev Truth : Bytes → Code.Placed → ℕ → Type 0
 Truth text t n = TruthIs (tokenOf text (t .token) (t .place) (t .past)) (eqb (t .past) (t .place + 3)) n
 
 -- what is no truth value has the number 1
-neither : {token : Tokens.Token} {three : Bool} → Reading.truthOf token three ≡ none → TruthIs token three 1
-neither e = record { same = e; known = inr (inl refl); low = omega arith }
+pub number-none : {value : Option Bool} → value ≡ none → TruthNumber value 1
+number-none e = record { same = e; known = inr (inl refl); low = omega arith }
+
+pub number-true : {value : Option Bool} → value ≡ some true → TruthNumber value 5
+number-true e = record { same = e; known = inr (inr refl); low = omega arith }
+
+pub number-false : {value : Option Bool} → value ≡ some false → TruthNumber value 0
+number-false e = record { same = e; known = inl refl; low = omega arith }
 
 pub truth-none : (text : Bytes) (t : Code.Placed) → OneOf allButQuoted (tagOf token.the-type (t .token)) → Truth text t 1
-truth-none text t o = neither (no-string text (t .token) (t .place) (t .past) _ o)
+truth-none text t o = number-none (no-string text (t .token) (t .place) (t .past) _ o)
 
 module _ (text : Bytes) (t : Code.Placed) (count : ℕ) (e : t .token ≡ Quoted count) where
   pub truth-long : (t .past ≡ t .place + 3 → ⊥) → Truth text t 1
-  truth-long d = neither (rw (e, ne-eqb (t .past) (t .place + 3) d))
+  truth-long d = number-none (rw (e, ne-eqb (t .past) (t .place + 3) d))
 
   module _ (s : Standing text t) (d : t .past ≡ t .place + 3) where
     abbrev middle : ℕ
@@ -115,14 +121,9 @@ module _ (text : Bytes) (t : Code.Placed) (count : ℕ) (e : t .token ≡ Quoted
         let q = rw e at (s .sound) in
         rw (e, eq-eqb (t .past) (t .place + 3) d, three-bytes text (t .place) (t .past) d (s .inside) (q .0))
 
-    pub truth-true : middle ≡ 84 → Truth text t 5
-    truth-true b = record { same = three ∙ rw b; known = inr (inr refl); low = omega arith }
-
-    pub truth-false : middle ≡ 70 → Truth text t 0
-    truth-false b = record { same = three ∙ rw b; known = inl refl; low = omega arith }
-
-    pub truth-neither : (middle ≡ 84 → ⊥) → (middle ≡ 70 → ⊥) → Truth text t 1
-    truth-neither a b = neither (three ∙ rw (ne-eqb middle 84 a, ne-eqb middle 70 b))
+    pub truth-three : {n : ℕ} → TruthNumber (truthBetween middle) n → Truth text t n
+    truth-three v =
+        record { same = three ∙ rw (← (both-true (eqb middle 84)), ← (both-true (eqb middle 70))) (v .same); known = v .known; low = v .low }
 
 -- a number other than 1 is that of a truth value
 pub record Value (n : ℕ) : Type 0 where

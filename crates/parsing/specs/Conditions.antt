@@ -34,10 +34,18 @@ conditionOn symbols class ts = passSymbol symbols ts λ x ts₁. conditionEnd cl
 abbrev pub truthAt : ℕ → Option Bool
 truthAt n = pick (eqb n 5) (some true) (pick (eqb n 0) (some false) none)
 
-pub record TruthIs (token : Tokens.Token) (three : Bool) (n : ℕ) : Type 0 where
-  pub same : truthOf token three ≡ truthAt n
+-- this is its number
+pub record TruthNumber (value : Option Bool) (n : ℕ) : Type 0 where
+  pub same : value ≡ truthAt n
   pub known : (n ≡ 0) ⊎ ((n ≡ 1) ⊎ (n ≡ 5))
   pub low : n ≤ 5
+
+abbrev pub TruthIs : Tokens.Token → Bool → ℕ → Type 0
+TruthIs token three n = TruthNumber (truthOf token three) n
+
+-- that of the byte between a closing string's quotes
+abbrev pub truthBetween : ℕ → Option Bool
+truthBetween byte = pick (eqb byte 84) (some true) (pick (eqb byte 70) (some false) none)
 
 -- a token that ends in the text
 pub record Standing (text : Bytes) (t : Placed) : Type 0 where

@@ -32,7 +32,7 @@ ghost use Rattle.parsing.specs.Answered.{numberOf, Agrees};
 ghost use Rattle.parsing.specs.Tables.{Inside, Entries};
 ghost use Rattle.parsing.specs.Written.{Ready};
 ghost use Rattle.parsing.specs.Patterns.{symbolNames};
-ghost use Rattle.parsing.specs.Conditions.{conditionEnd, conditionOn, TruthIs, Standing, Before, ConditionRead, ConditionsRead};
+ghost use Rattle.parsing.specs.Conditions.{conditionEnd, conditionOn, truthBetween, TruthNumber, TruthIs, Standing, Before, ConditionRead, ConditionsRead};
 
 // What is wrong with an s-variable after the pattern.
 pub fn later_symbol_fault(text: &[u8], table: &[usize], symbols: usize, x: Span) -> Answer
@@ -46,7 +46,20 @@ pub fn later_symbol_fault(text: &[u8], table: &[usize], symbols: usize, x: Span)
     fault_if(!known, Answer::WrongLaterVariable)
 }
 
-// The closing string's truth value: 5 for 'T', 0 for 'F', and 1 for any other token.
+// The truth value of the byte between a closing string's quotes: 5 for T, 0 for F, and 1 for any other.
+fn truth_between(byte: u8) -> usize
+    ensures { λ r. ⌜ TruthNumber (truthBetween byte) r ⌝ }
+{
+    if byte == b'T' {
+        return 5;
+    }
+    if byte == b'F' {
+        return 0;
+    }
+    1
+}
+
+// The closing string's truth value by the same numbers; 1 for any other token.
 fn truth_in(text: &[u8], t: Placed) -> usize
     requires { ⌜ Standing (now text) t ⌝ }
     ensures { λ r. ⌜ TruthIs (tokenOf (now (text .entry)) (t .token) (t .place) (t .past)) (eqb (t .past) (t .place + 3)) r ⌝ }
@@ -60,14 +73,7 @@ fn truth_in(text: &[u8], t: Placed) -> usize
     if past != three {
         return 1;
     }
-    let byte = text[t.place + 1];
-    if byte == b'T' {
-        return 5;
-    }
-    if byte == b'F' {
-        return 0;
-    }
-    1
+    truth_between(text[t.place + 1])
 }
 
 // A condition after its variable: `>`, `:` and the closing string.
