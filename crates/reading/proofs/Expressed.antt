@@ -27,7 +27,7 @@ use Rattle.parsing.specs.Answered.{numberOf, Agrees}
 use Rattle.parsing.specs.Written.{isQuiet, Went}
 use Rattle.parsing.specs.Tokened.{signIs}
 use Rattle.parsing.specs.Patterns.{symbolNames, itemAt}
-use Rattle.reading.specs.Expressions.{progressAt, Going, CallStands, Stands, itemTape, TakenIn, TokenGives, JoinsToken, ExpressionRead, callTape, CallRead}
+use Rattle.reading.specs.Expressions.{progressAt, Going, CallStands, Stands, itemTape, TakenIn, TokenGives, JoinsToken, stoppedWith, ExpressionRead, callTape, CallRead}
 use Rattle.parsing.proofs.Items.{item-then}
 use Rattle.parsing.proofs.Going.{check-wrong, stops, reads, ReadAt, has-stopped, has-read, went-none, went-from, went-on, went-then}
 use Rattle.parsing.proofs.Tokening.{sign-shown, sign-first, takes, ready-place, ready-past}
@@ -201,7 +201,7 @@ module _ {text table : List ℕ} {symbols parts depth : ℕ} {start : Progress} 
       }
 
   pub item-wrong : {answer : Answer} {bound : ℕ} → r ≡ Wrong answer → length (stream text Tokens.inside (start .at)) ≤ bound
-      → ExpressionAgrees text table symbols parts bound depth start tape₀ tape′ (Stopped (record { answer = answer; place = t .place }))
+      → ExpressionAgrees text table symbols parts bound depth start tape₀ tape′ (stoppedWith answer (t .place))
   item-wrong {answer} {bound} e h =
       let g = given e in
       let b = k .behind bound h in

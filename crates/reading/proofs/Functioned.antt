@@ -36,6 +36,7 @@ use Rattle.parsing.specs.Tables.{Inside, nameIn, inText, tableNames, Entries, d
 use Rattle.parsing.specs.Answered.{numberOf, Agrees}
 use Rattle.parsing.specs.Written.{Wrote, isQuiet, Ready, Went}
 use Rattle.parsing.specs.Tokened.{tokenFault, signIs, Taken, Barred}
+use Rattle.reading.specs.Expressions.{stoppedWith}
 use Rattle.reading.specs.Sentences.{Each, SentencesRead}
 use Rattle.reading.specs.Functions.{FunctionStands, fromBrace, declared, Declarable, BodyRead, Opening, nameFault, DeclaredRead, SpareTo, isEnd, FunctionsRead}
 use Rattle.parsing.proofs.Faults.{part-length, within}
@@ -113,14 +114,14 @@ module _ {text names : List ℕ} {functions words : ℕ} {t : Code.Placed} (limi
     pub named-here : NameFirst text Tokens.outside (t .place) t n
     named-here = name-first (o .comes) e
 
-    pub function-many : {tape tape′ names′ : List ℕ} → 64 ≤ functions → FunctionAgrees tape tape′ names′ (Stopped (record { answer = OverLimit; place = t .place }))
+    pub function-many : {tape tape′ names′ : List ℕ} → 64 ≤ functions → FunctionAgrees tape tape′ names′ (stoppedWith OverLimit (t .place))
     function-many h = stops _ _ _ (rw (named-here .unrolled, le-ltb functions 64 h)) refl refl
 
     module _ (few : functions < 64) where
       pub function-misnamed : {tape tape′ names′ : List ℕ} {answer : Answer}
           → numberOf answer ≡ declaredFaultIn (tableNames text names 0 functions) (View.part text n)
           → eqb (numberOf answer) 0 ≡ false
-          → FunctionAgrees tape tape′ names′ (Stopped (record { answer = answer; place = t .place }))
+          → FunctionAgrees tape tape′ names′ (stoppedWith answer (t .place))
       function-misnamed {answer = answer} f w =
           stops _ _ _ (rw (named-here .unrolled, lt-ltb functions 64 few, ← f) (check-wrong (numberOf answer) _ _ w)) refl refl
 

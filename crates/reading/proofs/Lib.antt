@@ -1,5 +1,6 @@
 -- Laws of reading.
 pub mod Joining
+pub mod Opened
 pub mod Calling
 pub mod Expressed
 pub mod Sentenced

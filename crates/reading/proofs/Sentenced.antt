@@ -1,7 +1,7 @@
 -- The sentence's reader, and what comes before and after a sentence.
-use Prim.Native.Nat.{ℕ, _+_, _≤_, _<_}
+use Prim.Native.Nat.{ℕ, zero, suc, _+_, _≤_, _<_}
 use mathlib.Core.Path.{_≡_, refl, _∙_}
-use mathlib.Core.Bool.{false}
+use mathlib.Core.Bool.{true, false}
 use mathlib.Core.List.{List, [], _∷_}
 use native.Mathlib.Omega.{arith}
 use lib.Dec.{eqb}
@@ -16,10 +16,11 @@ use Rattle.meaning.specs.Tokens as Tokens
 use Rattle.meaning.specs.Reading as Reading
 use Rattle.meaning.specs.Reading.{Parsed, parsed, follow}
 use Rattle.lexing.proofs.Token as token
-use Rattle.lexing.specs.View.{tokenOf, stream, Comes}
+use Rattle.lexing.specs.View.{tokenOf, placedOf, stream, Comes}
 use Rattle.lexing.specs.declared.Token.{Token}
 use Rattle.lexing.specs.declared.Token.the-variants.{Name as NameToken, Symbol, Part, Word, Quoted, Sign, End, Malformed}
 use Rattle.lexing.specs.declared.Placed as Code
+use Rattle.parsing.specs.declared.Answer.the-variants.{OverLimit}
 use Rattle.parsing.specs.declared.progress.Fault.{Fault}
 use Rattle.parsing.specs.declared.progress.Progress.{Progress}
 use Rattle.parsing.specs.declared.progress.Parsed.{Parsed as CodeParsed}
@@ -30,11 +31,11 @@ use Rattle.parsing.specs.Written.{Ready}
 use Rattle.parsing.specs.Tokened.{tokenFault, signIs, Taken, Barred}
 use Rattle.parsing.specs.Patterns.{Variables, symbolNames, partNames, PatternRead}
 use Rattle.parsing.specs.Conditions.{ConditionsRead}
-use Rattle.reading.specs.Expressions.{progressAt, Going, ExpressionRead}
-use Rattle.reading.specs.Sentences.{fromEquals, EqualsRead, SentenceRead, beginsSentence, Follows}
+use Rattle.reading.specs.Expressions.{progressAt, Going, stoppedWith, ExpressionRead}
+use Rattle.reading.specs.Sentences.{fromEquals, EqualsRead, SentenceRead, beginsSentence, sentenceOf, firstSentence, FirstRead, Follows}
 use Rattle.parsing.proofs.Items.{symbol-at, part-at, symbol-variable, part-variable}
-use Rattle.parsing.proofs.Going.{stops, ReadAt, has-stopped, has-read, follow-same, pass-follow, follow-alone, makes, went-then, word-went}
-use Rattle.parsing.proofs.Tokening.{fault-same, sign-shown, passes-on, passes-not}
+use Rattle.parsing.proofs.Going.{stops, ReadAt, has-stopped, has-read, follow-same, pass-follow, follow-alone, makes, went-from, went-then, word-went}
+use Rattle.parsing.proofs.Tokening.{fault-same, sign-shown, passes-on, passes-not, refused}
 
 -- WHERE A SENTENCE BEGINS
 
@@ -218,3 +219,33 @@ module _ {text : Bytes} {from words : ℕ} where
           })
           (at-conditions ∙ rw (l .same, l .how .tokens))
           a
+
+-- THE NEXT SENTENCE
+
+sentence-of : (left : ℕ) (t : Tokens.Placed) (ts : List Tokens.Placed) → (left ≡ 0 → ⊥) → sentenceOf left t ts ≡ Reading.sentence (t ∷ ts)
+sentence-of zero t ts h = absurd (h refl)
+sentence-of (suc left) t ts h = refl
+
+abbrev FirstAgrees : Bytes → ℕ → ℕ → ℕ → List ℕ → List ℕ → CodeParsed → Type 0
+FirstAgrees text left from words tape tape′ r =
+    Agrees (FirstRead text left from words tape tape′) (firstSentence left (stream text Tokens.inside from)) r
+
+module _ (left words : ℕ) {text : Bytes} {from : ℕ} {t : Code.Placed} (c : Comes text Tokens.inside from t) where
+  pub first-refused : {tape tape′ : List ℕ} {fault : Fault} → beginsSentence (t .token) ≡ false → (numberOf (fault .answer) ≡ tokenFault (t .token)) × (fault .place ≡ t .place)
+      → FirstAgrees text left from words tape tape′ (Stopped fault)
+  first-refused e f = refused c (rw (c .unrolled, begins-same c ∙ e)) f
+
+  module _ (e : beginsSentence (t .token) ≡ true) where
+    pub first-many : {tape tape′ : List ℕ} → left ≡ 0 → FirstAgrees text left from words tape tape′ (stoppedWith OverLimit (t .place))
+    first-many z = stops _ _ _ (rw (c .unrolled, begins-same c ∙ e, z)) refl refl
+
+    pub first-reads : (left ≡ 0 → ⊥) → {tape tape′ : List ℕ} {r : CodeParsed} → SentenceAgrees text (t .place) words tape tape′ r
+        → FirstAgrees text left from words tape tape′ r
+    first-reads z a =
+        makes (λ s. s) _
+        (λ s rest p h. record {
+          read = record { tokens = h .tokens; went = went-from (c .onward) (h .went); stands = h .stands };
+          some = omega arith;
+        })
+        (rw (c .again, c .unrolled, begins-same c ∙ e, sentence-of left (placedOf text t) _ z) (follow-alone _))
+        a

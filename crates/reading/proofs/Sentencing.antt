@@ -1,32 +1,26 @@
 -- The loop over a function's sentences.
 use Prim.Native.Nat.{ℕ, zero, suc, _+_, _-_, _≤_, _<_}
 use mathlib.Core.Path.{_≡_, refl, sym, _∙_}
-use mathlib.Core.Bool.{true, false}
+use mathlib.Core.Bool.{Bool, true, false}
 use mathlib.Core.List.{List, [], _∷_, _++_, append-assoc, append-nil}
 use native.Mathlib.Omega.{arith}
 use lib.ListN.{length, set, length-append}
 use Rattle.meaning.specs.Choice.{Bytes}
 use Rattle.meaning.specs.Tree.{Sentence}
-use Rattle.meaning.specs.Answers.{overLimit}
 use Rattle.meaning.specs.Tape.{tapeWord, nextKind, endKind, sentenceTape, sentencesTape}
 use Rattle.meaning.specs.Tokens as Tokens
 use Rattle.meaning.specs.Reading as Reading
-use Rattle.meaning.specs.Reading.{stopped, follow, afterSentence}
-use Rattle.lexing.specs.View.{placedOf, stream, Comes}
-use Rattle.lexing.specs.declared.Placed as Code
-use Rattle.parsing.specs.declared.Answer.the-variants.{OverLimit}
+use Rattle.meaning.specs.Reading.{Parsed, follow, whether, afterSentence}
+use Rattle.lexing.specs.View.{stream}
 use Rattle.parsing.specs.declared.progress.Fault.{Fault}
 use Rattle.parsing.specs.declared.progress.Progress.{Progress}
 use Rattle.parsing.specs.declared.progress.Parsed.{Parsed as CodeParsed}
 use Rattle.parsing.specs.declared.progress.Parsed.the-variants.{Stopped, Done}
 use Rattle.reading.specs.declared.sentences.Sequel.the-variants.{Ends, Another, Refused}
-use Rattle.parsing.specs.Answered.{numberOf, Agrees}
+use Rattle.parsing.specs.Answered.{Agrees}
 use Rattle.parsing.specs.Written.{Ready, Went}
-use Rattle.parsing.specs.Tokened.{tokenFault}
-use Rattle.reading.specs.Sentences.{Each, SentenceStands, SentenceRead, beginsSentence, Follows, SentencesRead}
-use Rattle.parsing.proofs.Going.{stops, reads, ReadAt, has-stopped, follow-alone, behind, behind-more, went-none, went-from, went-then, word-went}
-use Rattle.parsing.proofs.Tokening.{refused, ready-place}
-use Rattle.reading.proofs.Sentenced.{begins-same}
+use Rattle.reading.specs.Sentences.{Each, SentenceStands, sentenceOf, firstSentence, FirstRead, Follows, SentencesRead}
+use Rattle.parsing.proofs.Going.{stops, reads, ReadAt, has-stopped, follow-alone, behind, behind-more, went-none, went-then, word-went}
 
 -- it holds of none, of these and those, and of one more
 pub each-none : {A : Type 0} (holds : A → Type 0) → Each holds []
@@ -44,20 +38,21 @@ each-more holds xs x e h = each-append holds xs (x ∷ []) e (h, tt)
 
 -- THE DEFINITION
 
-module _ (t : Tokens.Placed) (ts : List Tokens.Placed) where
-  sentences-not : (left : ℕ) → Reading.begins (t .token) ≡ false → Reading.sentences left (t ∷ ts) ≡ Reading.refuse t
-  unfolding Reading.sentences
-  sentences-not zero e = rw e
-  sentences-not (suc left) e = rw e
+whether-follow : {A B : Type 0} (is : Bool) (t : Tokens.Placed) (p : Parsed A) (next : A → List Tokens.Placed → Parsed B)
+    → whether is t (follow p next) ≡ follow (whether is t p) next
+whether-follow true t p next = refl
+whether-follow false t p next = refl
 
-  sentences-full : Reading.begins (t .token) ≡ true → Reading.sentences 0 (t ∷ ts) ≡ stopped overLimit (t .place)
-  unfolding Reading.sentences
-  sentences-full e = rw e
-
-  sentences-next : (more left : ℕ) → more ≡ suc left → Reading.begins (t .token) ≡ true
-      → Reading.sentences more (t ∷ ts) ≡ follow (Reading.sentence (t ∷ ts)) (λ s rest. afterSentence (Reading.sentences left) s rest)
-  unfolding Reading.sentences
-  sentences-next more left n e = rw (n, e)
+-- the first, and what comes after it
+sentences-are : (left : ℕ) (ts : List Tokens.Placed)
+    → Reading.sentences left ts ≡ follow (firstSentence left ts) (λ s rest. afterSentence (Reading.sentences (left - 1)) s rest)
+unfolding Reading.sentences
+sentences-are zero [] = refl
+sentences-are zero (t ∷ ts) = whether-follow (Reading.begins (t .token)) t (sentenceOf zero t ts) _
+sentences-are (suc left) [] = refl
+sentences-are (suc left) (t ∷ ts) =
+    let e : suc left - 1 ≡ left = omega arith in
+    rw e (whether-follow (Reading.begins (t .token)) t (sentenceOf (suc left) t ts) _)
 
 -- THE TAPE
 
@@ -118,81 +113,71 @@ sentences-start text start limit from words r =
       short = r .short;
     }
 
-module _ {text start : List ℕ} {limit from words : ℕ} {tape : List ℕ} {at to left : ℕ} {t : Code.Placed}
-    (k : Sentenced text start limit from words tape at to left) (c : Comes text Tokens.inside at t) where
-  pub sentence-ready : Ready text (t .place) to
-  sentence-ready = ready-place (record { inside = k .went .inside; charged = k .went .charged; short = k .short }) c
+module _ {text start : List ℕ} {limit from words : ℕ} {tape : List ℕ} {at to left : ℕ} (k : Sentenced text start limit from words tape at to left) where
+  pub next-ready : Ready text at to
+  next-ready = record { inside = k .went .inside; charged = k .went .charged; short = k .short }
 
-  pub sentences-refused : {fault : Fault} → beginsSentence (t .token) ≡ false → (numberOf (fault .answer) ≡ tokenFault (t .token)) × (fault .place ≡ t .place)
-      → SentencesAgree text limit from words start tape (Stopped fault)
-  sentences-refused e f =
-      refused c (k .same ∙ rw (c .unrolled, sentences-not (placedOf text t) _ left (begins-same c ∙ e))) f
+  at-sentence : Reading.sentences limit (stream text Tokens.inside from)
+      ≡ follow
+      (follow (firstSentence left (stream text Tokens.inside at)) (λ s rest. afterSentence (Reading.sentences (left - 1)) s rest))
+      (behind (k .before))
+  at-sentence = k .same ∙ rw (sentences-are left (stream text Tokens.inside at))
 
-  module _ (e : beginsSentence (t .token) ≡ true) where
-    pub sentences-many : left ≡ 0 → SentencesAgree text limit from words start tape (Stopped (record { answer = OverLimit; place = t .place }))
-    sentences-many z =
-        stops _ _ _ (k .same ∙ rw (c .unrolled, z, sentences-full (placedOf text t) _ (begins-same c ∙ e))) refl refl
+  pub sentence-stops : {tape′ : List ℕ} {fault : Fault}
+      → Agrees (FirstRead text left at to tape tape′) (firstSentence left (stream text Tokens.inside at)) (Stopped fault)
+      → SentencesAgree text limit from words start tape′ (Stopped fault)
+  sentence-stops {fault = fault} a = stops fault _ _ (at-sentence ∙ rw (has-stopped _ fault a)) refl refl
 
-    module _ (z : left ≡ 0 → ⊥) where
-      at-sentence : Reading.sentences limit (stream text Tokens.inside from)
-          ≡ follow
-          (follow (Reading.sentence (stream text Tokens.inside (t .place))) (λ s rest. afterSentence (Reading.sentences (left - 1)) s rest))
-          (behind (k .before))
-      at-sentence =
-          k .same
-          ∙ rw (c .again, c .unrolled, sentences-next (placedOf text t) _ left (left - 1) (omega arith) (begins-same c ∙ e))
+  -- a sentence was read
+  module _ {tape₁ : List ℕ} {s : Progress}
+      (r : ReadAt (FirstRead text left at to tape tape₁) (firstSentence left (stream text Tokens.inside at)) s) where
+    at-sequel : Reading.sentences limit (stream text Tokens.inside from)
+        ≡ follow (afterSentence (Reading.sentences (left - 1)) (r .value) (stream text Tokens.inside (s .at))) (behind (k .before))
+    at-sequel = at-sentence ∙ rw (r .same, r .how .read .tokens)
 
-      pub sentence-stops : {tape′ : List ℕ} {fault : Fault}
-          → Agrees (SentenceRead text (t .place) to tape tape′) (Reading.sentence (stream text Tokens.inside (t .place))) (Stopped fault)
-          → SentencesAgree text limit from words start tape′ (Stopped fault)
-      sentence-stops {fault = fault} a = stops fault _ _ (at-sentence ∙ rw (has-stopped _ fault a)) refl refl
+    pub sequel-refused : {tape′ : List ℕ} {fault : Fault} → Follows text (s .at) (Refused fault) → SentencesAgree text limit from words start tape′ (Stopped fault)
+    sequel-refused {fault = fault} f = stops fault _ _ (at-sequel ∙ rw (f .gives (Reading.sentences (left - 1)) (r .value))) refl refl
 
-      -- a sentence was read
-      module _ {tape₁ : List ℕ} {s : Progress}
-          (r : ReadAt (SentenceRead text (t .place) to tape tape₁) (Reading.sentence (stream text Tokens.inside (t .place))) s) where
-        at-sequel : Reading.sentences limit (stream text Tokens.inside from)
-            ≡ follow (afterSentence (Reading.sentences (left - 1)) (r .value) (stream text Tokens.inside (s .at))) (behind (k .before))
-        at-sequel = at-sentence ∙ rw (r .same, r .how .tokens)
+    -- the tape has room for the word after the sentence
+    pub sequel-room : {further : ℕ} → s .at < further → further ≤ length text → s .words < 32768
+    sequel-room h i = omega (arith, r .how .read .went .charged, k .short)
 
-        pub sequel-refused : {tape′ : List ℕ} {fault : Fault} → Follows text (s .at) (Refused fault) → SentencesAgree text limit from words start tape′ (Stopped fault)
-        sequel-refused {fault = fault} f = stops fault _ _ (at-sequel ∙ rw (f .gives (Reading.sentences (left - 1)) (r .value))) refl refl
+    -- with the word after the sentence
+    sentence-went : (word : ℕ) {tape′ : List ℕ} {further : ℕ} → s .at < further → further ≤ length text → tape′ ≡ set tape₁ (s .words) word
+        → Went text from words start further (s .words + 1) tape′ (partedTape (k .before) ++ (sentenceTape (r .value) ++ word ∷ []))
+    sentence-went word h i w =
+        let ready : Ready text (s .at) (s .words) = record { inside = r .how .read .went .inside; charged = r .how .read .went .charged; short = k .short } in
+        went-then (k .went) (went-then (r .how .read .went) (word-went ready h i w))
 
-        -- with the word after the sentence
-        sentence-went : (word : ℕ) {tape′ : List ℕ} {further : ℕ} → s .at < further → further ≤ length text → tape′ ≡ set tape₁ (s .words) word
-            → Went text from words start further (s .words + 1) tape′ (partedTape (k .before) ++ (sentenceTape (r .value) ++ word ∷ []))
-        sentence-went word h i w =
-            let ready : Ready text (s .at) (s .words) = record { inside = r .how .went .inside; charged = r .how .went .charged; short = k .short } in
-            went-then (k .went) (went-from (c .onward) (went-then (r .how .went) (word-went ready h i w)))
+    counted-more : left - 1 + length (k .before ++ r .value ∷ []) ≡ limit
+    counted-more = rw (length-append (k .before) (r .value ∷ [])) (omega (arith, k .counted, r .how .some))
 
-        counted-more : left - 1 + length (k .before ++ r .value ∷ []) ≡ limit
-        counted-more = rw (length-append (k .before) (r .value ∷ [])) (omega (arith, k .counted))
+    stand-more : Each (SentenceStands text) (k .before ++ r .value ∷ [])
+    stand-more = each-more (SentenceStands text) (k .before) (r .value) (k .stand) (r .how .read .stands)
 
-        stand-more : Each (SentenceStands text) (k .before ++ r .value ∷ [])
-        stand-more = each-more (SentenceStands text) (k .before) (r .value) (k .stand) (r .how .stands)
+    pub sequel-ends : {tape′ : List ℕ} {past : ℕ} → Follows text (s .at) (Ends past) → tape′ ≡ set tape₁ (s .words) 1792
+        → SentencesAgree text limit from words start tape′ (Done (record { at = past; words = s .words + 1; count = left - 1; parts = 0 }))
+    sequel-ends {past = past} f w =
+        reads (k .before ++ r .value ∷ []) (stream text Tokens.outside past)
+        (at-sequel ∙ rw (f .gives .0 (Reading.sentences (left - 1)) (r .value)))
+        (record {
+          tokens = refl;
+          went = rw (parted-last (k .before) (r .value)) (sentence-went (tapeWord endKind 0) (f .gives .1) (f .gives .2) w);
+          left = counted-more;
+          stand = stand-more;
+        })
 
-        pub sequel-ends : {tape′ : List ℕ} {past : ℕ} → Follows text (s .at) (Ends past) → tape′ ≡ set tape₁ (s .words) 1792
-            → SentencesAgree text limit from words start tape′ (Done (record { at = past; words = s .words + 1; count = left - 1; parts = 0 }))
-        sequel-ends {past = past} f w =
-            reads (k .before ++ r .value ∷ []) (stream text Tokens.outside past)
-            (at-sequel ∙ rw (f .gives .0 (Reading.sentences (left - 1)) (r .value)))
-            (record {
-              tokens = refl;
-              went = rw (parted-last (k .before) (r .value)) (sentence-went (tapeWord endKind 0) (f .gives .1) (f .gives .2) w);
-              left = counted-more;
-              stand = stand-more;
-            })
-
-        pub sequel-goes : {tape′ : List ℕ} {place : ℕ} → Follows text (s .at) (Another place) → tape′ ≡ set tape₁ (s .words) 1536
-            → Sentenced text start limit from words tape′ place (s .words + 1) (left - 1)
-        sequel-goes {place = place} f w =
-            record {
-              before = k .before ++ r .value ∷ [];
-              same =
-                  at-sequel
-                  ∙ rw (f .gives .0 (Reading.sentences (left - 1)) (r .value))
-                  (behind-more (k .before) (r .value) (Reading.sentences (left - 1) (stream text Tokens.inside place)));
-              went = rw (parted-more (k .before) (r .value)) (sentence-went (tapeWord nextKind 0) (f .gives .1) (f .gives .2) w);
-              counted = counted-more;
-              stand = stand-more;
-              short = k .short;
-            }
+    pub sequel-goes : {tape′ : List ℕ} {place : ℕ} → Follows text (s .at) (Another place) → tape′ ≡ set tape₁ (s .words) 1536
+        → Sentenced text start limit from words tape′ place (s .words + 1) (left - 1)
+    sequel-goes {place = place} f w =
+        record {
+          before = k .before ++ r .value ∷ [];
+          same =
+              at-sequel
+              ∙ rw (f .gives .0 (Reading.sentences (left - 1)) (r .value))
+              (behind-more (k .before) (r .value) (Reading.sentences (left - 1) (stream text Tokens.inside place)));
+          went = rw (parted-more (k .before) (r .value)) (sentence-went (tapeWord nextKind 0) (f .gives .1) (f .gives .2) w);
+          counted = counted-more;
+          stand = stand-more;
+          short = k .short;
+        }

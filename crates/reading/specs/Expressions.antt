@@ -1,5 +1,5 @@
 -- Expressions and calls while they are read.
-use Prim.Native.Nat.{ℕ, _+_, _≤_}
+use Prim.Native.Nat.{ℕ, _+_, _≤_, _<_}
 use mathlib.Core.Path.{_≡_}
 use mathlib.Core.Bool.{true, false}
 use mathlib.Core.List.{List, [], _∷_, _++_}
@@ -11,7 +11,7 @@ use Rattle.meaning.specs.Tree.{Expression, end, thenCharacter, thenSymbol, then
 use Rattle.meaning.specs.Tape.{tapeWord, named, symbolKind, partKind, callKind, closeKind, expressionTape}
 use Rattle.meaning.specs.Tokens as Tokens
 use Rattle.meaning.specs.Reading as Reading
-use Rattle.meaning.specs.Reading.{Item, characters, symbolItem, partItem, noItem, isItem}
+use Rattle.meaning.specs.Reading.{parsed, Item, characters, symbolItem, partItem, noItem, isItem}
 use Rattle.lexing.specs.View.{stream}
 use Rattle.lexing.specs.declared.Placed.{Placed}
 use Rattle.parsing.specs.declared.Answer.{Answer}
@@ -98,6 +98,10 @@ pub record JoinsToken (text : Bytes) (table : List ℕ) (symbols parts : ℕ) (s
 
 -- EXPRESSIONS AND CALLS
 
+-- a refusal
+abbrev pub stoppedWith : Answer → ℕ → Parsed
+stoppedWith answer place = Stopped (record { answer = answer; place = place })
+
 -- an expression was read
 pub record ExpressionRead (text : Bytes) (table : List ℕ) (symbols parts : ℕ) (start : Progress) (tape tape′ : List ℕ) (i : Reading.Items) (rest : List Tokens.Placed) (s : Progress) : Type 0 where
   pub tokens : rest ≡ stream text Tokens.inside (s .at)
@@ -106,6 +110,30 @@ pub record ExpressionRead (text : Bytes) (table : List ℕ) (symbols parts : ℕ
   pub progress : i .progress ≡ progressAt text table parts s
   pub going : Going text table symbols parts s
   pub stands : Stands text (i .expression)
+
+-- a called name with its place
+pub record CalledName : Type 0 where
+  pub place : ℕ
+  pub name : Name
+
+-- `call` up to its argument, with so many items before it
+abbrev pub opening : ℕ → ℕ → Tokens.Placed → List Tokens.Placed → Reading.Parsed CalledName
+opening depth items t ts =
+    let later : Reading.Parsed CalledName =
+    Reading.passName Reading.calledFault ts λ place n rest. parsed (record { place = place; name = n }) rest
+    in
+    Reading.check (Reading.callFault depth (record { items = items; coming = [] })) t later
+
+-- a call was read up to its argument, which may begin here
+pub record OpeningRead (text : Bytes) (depth : ℕ) (s : Progress) (tape tape′ : List ℕ) (n : CalledName) (rest : List Tokens.Placed) (start : Progress) : Type 0 where
+  pub tokens : rest ≡ stream text Tokens.inside (start .at)
+  pub shorter : length rest ≤ length (stream text Tokens.naming (s .at))
+  pub went : Went text (s .at) (s .words) tape (start .at) (start .words) tape′ (named (callKind + n .place) (n .name))
+  pub shallow : depth < 16
+  pub few : s .count < 128
+  pub counted : start .count ≡ s .count + 1
+  pub passed : start .parts ≡ s .parts
+  pub stands : CallStands text (n .place) (n .name)
 
 abbrev pub callTape : Reading.Called → List ℕ
 callTape c = named (callKind + c .place) (c .name) ++ (expressionTape (c .argument) ++ tapeWord closeKind 0 ∷ [])

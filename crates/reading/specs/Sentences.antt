@@ -1,16 +1,17 @@
 -- Sentences while they are read.
-use Prim.Native.Nat.{ℕ, _+_, _≤_, _<_}
+use Prim.Native.Nat.{ℕ, zero, suc, _+_, _≤_, _<_}
 use mathlib.Core.Path.{_≡_}
 use mathlib.Core.Bool.{Bool, true, false}
 use mathlib.Core.List.{List, [], _∷_}
 use lib.Dec.{T, eqb}
 use lib.ListN.{length}
 use Rattle.meaning.specs.Choice.{Bytes, Name, either, every}
+use Rattle.meaning.specs.Answers.{overLimit}
 use Rattle.meaning.specs.Tree.{Sentence}
 use Rattle.meaning.specs.Tape.{tapeWord, equalsKind, patternTape, conditionsTape, expressionTape, sentenceTape, sentencesTape}
 use Rattle.meaning.specs.Tokens as Tokens
 use Rattle.meaning.specs.Reading as Reading
-use Rattle.meaning.specs.Reading.{Parsed, stopped, parsed, follow, pass, afterSentence}
+use Rattle.meaning.specs.Reading.{Parsed, stopped, parsed, follow, pass, whether, cutShort, afterSentence}
 use Rattle.lexing.specs.View.{stream}
 use Rattle.lexing.specs.declared.Token.{Token}
 use Rattle.lexing.specs.declared.Token.the-variants.{Name as NameToken, Symbol, Part, Word, Quoted, Sign, End, Malformed}
@@ -59,6 +60,21 @@ beginsSentence (Quoted count) = true
 beginsSentence (Sign byte) = either (eqb byte 44) (eqb byte 61)
 beginsSentence End = false
 beginsSentence Malformed = false
+
+-- the first of so many sentences, or none
+abbrev pub sentenceOf : ℕ → Tokens.Placed → List Tokens.Placed → Parsed Sentence
+sentenceOf zero t ts = stopped overLimit (t .place)
+sentenceOf (suc left) t ts = Reading.sentence (t ∷ ts)
+
+-- `sentences` up to what comes after the first
+abbrev pub firstSentence : ℕ → List Tokens.Placed → Parsed Sentence
+firstSentence left [] = cutShort
+firstSentence left (t ∷ ts) = let later = sentenceOf left t ts in whether (Reading.begins (t .token)) t later
+
+-- the first of so many sentences was read
+pub record FirstRead (text : Bytes) (left at words : ℕ) (tape tape′ : List ℕ) (s : Sentence) (rest : List Tokens.Placed) (p : Progress) : Type 0 where
+  pub read : SentenceRead text at words tape tape′ s rest p
+  pub some : 0 < left
 
 -- what comes after a sentence
 abbrev pub SequelGives : Bytes → ℕ → Sequel → Type 0

@@ -23,6 +23,7 @@ use parsing::writing::SYMBOL_WORD;
 use parsing::writing::put;
 use parsing::writing::put_characters;
 use parsing::writing::put_named;
+ghost use mathlib.Core.Path.{_≡_};
 ghost use Prim.Native.Nat.{ℕ, _+_, _-_, _*_, _≤_, _<_};
 ghost use lib.Dec.{T};
 ghost use lib.ListN.{length};
@@ -36,7 +37,7 @@ ghost use Rattle.parsing.specs.Answered.{Agrees};
 ghost use Rattle.parsing.specs.Tables.{Inside};
 ghost use Rattle.parsing.specs.Written.{Wrote, isQuiet, Ready};
 ghost use Rattle.parsing.specs.Patterns.{symbolNames, Identifier, StringAt};
-ghost use Rattle.reading.specs.Expressions.{progressAt, Going, JoinsItem, JoinsToken, ExpressionRead, CallRead, Closes};
+ghost use Rattle.reading.specs.Expressions.{progressAt, Going, JoinsItem, JoinsToken, stoppedWith, ExpressionRead, opening, OpeningRead, CallRead, Closes};
 
 // An expression with a token joined to it, what is wrong with the token, or that it is no item.
 pub enum Joined {
@@ -201,6 +202,49 @@ fn close_call(text: &[u8], tape: &mut [u32; 32768], s: Progress) -> Parsed
     }
 }
 
+// A refusal at a place.
+pub fn stopped(answer: Answer, place: usize) -> Parsed
+    ensures { λ r. ⌜ r ≡ stoppedWith answer place ⌝ }
+{
+    Parsed::Stopped(Fault {
+        answer: answer,
+        place: place,
+    })
+}
+
+// What comes before a call's argument, after its `<`, which stands at a place: its name, and the word for it.
+fn open_call(
+    text: &[u8],
+    tape: &mut [u32; 32768],
+    depth: usize,
+    s: Progress,
+    place: usize,
+) -> Parsed
+    requires { ⌜ Ready (now text) (s .at) (s .words) × (s .words < s .at) ⌝ }
+    ensures { λ r. ⌜ Agrees (OpeningRead (now (text .entry)) depth s (now (tape .entry)) (now (tape .exit)))
+        (opening depth (s .count) (standing (Tokens.sign 60) place (s .at)) (stream (now (text .entry)) Tokens.naming (s .at))) r ⌝ }
+{
+    if 16 <= depth || 128 <= s.count {
+        return stopped(Answer::OverLimit, place);
+    }
+    let t = lex(text, s.at, Mode::Naming);
+    let token = t.token;
+    let Token::Name(name) = token else {
+        return Parsed::Stopped(refuse(t));
+    };
+    let fault = called_fault(text, name);
+    if !is_accepted(fault) {
+        return stopped(fault, t.place);
+    }
+    let words = put_call(text, tape, s.words, t.place, name);
+    Parsed::Done(Progress {
+        at: t.past,
+        words: words,
+        count: s.count + 1,
+        ..s
+    })
+}
+
 // A call that so many calls stand round, after its `<`, which stands at a place.
 fn call(
     text: &[u8],
@@ -219,36 +263,9 @@ fn call(
         (progressAt (now (text .entry)) (now (table .entry)) parts s) (standing (Tokens.sign 60) place (s .at))
         (stream (now (text .entry)) Tokens.naming (s .at))) r) ⌝ }
 {
-    if 16 <= depth {
-        return Parsed::Stopped(Fault {
-            answer: Answer::OverLimit,
-            place: place,
-        });
-    }
-    if 128 <= s.count {
-        return Parsed::Stopped(Fault {
-            answer: Answer::OverLimit,
-            place: place,
-        });
-    }
-    let t = lex(text, s.at, Mode::Naming);
-    let token = t.token;
-    let Token::Name(name) = token else {
-        return Parsed::Stopped(refuse(t));
-    };
-    let fault = called_fault(text, name);
-    if !is_accepted(fault) {
-        return Parsed::Stopped(Fault {
-            answer: fault,
-            place: t.place,
-        });
-    }
-    let words = put_call(text, tape, s.words, t.place, name);
-    let start = Progress {
-        at: t.past,
-        words: words,
-        count: s.count + 1,
-        parts: s.parts,
+    let start = match open_call(text, tape, depth, s, place) {
+        Parsed::Stopped(fault) => return Parsed::Stopped(fault),
+        Parsed::Done(start) => start,
     };
     match expression(text, tape, table, symbols, parts, depth + 1, start) {
         Parsed::Stopped(fault) => Parsed::Stopped(fault),
@@ -279,27 +296,12 @@ pub fn expression(
             Joined::Taken(next) => {
                 s = next;
             }
-            Joined::Wrong(answer) => {
-                return Parsed::Stopped(Fault {
-                    answer: answer,
-                    place: t.place,
-                });
-            }
+            Joined::Wrong(answer) => return stopped(answer, t.place),
             Joined::Other => {
                 if !is_sign(t, b'<') {
-                    return Parsed::Done(Progress {
-                        at: t.place,
-                        words: s.words,
-                        count: s.count,
-                        parts: s.parts,
-                    });
+                    return Parsed::Done(Progress { at: t.place, ..s });
                 }
-                let opened = Progress {
-                    at: t.past,
-                    words: s.words,
-                    count: s.count,
-                    parts: s.parts,
-                };
+                let opened = Progress { at: t.past, ..s };
                 match call(text, tape, table, symbols, parts, depth, opened, t.place) {
                     Parsed::Stopped(fault) => return Parsed::Stopped(fault),
                     Parsed::Done(next) => {

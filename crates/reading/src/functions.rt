@@ -1,4 +1,5 @@
 // The readers of a function and of a table's functions.
+use crate::expressions::stopped;
 use crate::sentences::sentences;
 use lexing::Mode;
 use lexing::Placed;
@@ -8,7 +9,6 @@ use lexing::lex;
 use parsing::Answer;
 use parsing::names::declared_fault;
 use parsing::names::entry;
-use parsing::progress::Fault;
 use parsing::progress::Parsed;
 use parsing::progress::Passed;
 use parsing::progress::Progress;
@@ -64,17 +64,11 @@ fn function(
         return Parsed::Stopped(refuse(t));
     };
     if 64 <= functions {
-        return Parsed::Stopped(Fault {
-            answer: Answer::OverLimit,
-            place: t.place,
-        });
+        return stopped(Answer::OverLimit, t.place);
     }
     let fault = declared_fault(text, names, functions, name);
     if !is_accepted(fault) {
-        return Parsed::Stopped(Fault {
-            answer: fault,
-            place: t.place,
-        });
+        return stopped(fault, t.place);
     }
     names[functions] = entry(name);
     body(text, tape, name, limit, words)

@@ -1,5 +1,6 @@
 // The readers of a sentence and of a function's sentences.
 use crate::expressions::expression;
+use crate::expressions::stopped;
 use lexing::Mode;
 use lexing::Placed;
 use lexing::Token;
@@ -28,7 +29,7 @@ ghost use Rattle.lexing.specs.View.{stream};
 ghost use Rattle.parsing.specs.Answered.{Agrees};
 ghost use Rattle.parsing.specs.Written.{Ready};
 ghost use Rattle.parsing.specs.Patterns.{Variables, symbolNames, partNames};
-ghost use Rattle.reading.specs.Sentences.{fromEquals, EqualsRead, SentenceRead, beginsSentence, Follows, SentencesRead};
+ghost use Rattle.reading.specs.Sentences.{fromEquals, EqualsRead, SentenceRead, beginsSentence, firstSentence, FirstRead, Follows, SentencesRead};
 
 // A sentence from its `=` on.
 fn sentence_end(
@@ -92,6 +93,28 @@ fn begins(t: Placed) -> bool
     }
 }
 
+// The next sentence of a function, of which so many may still come.
+fn next_sentence(
+    text: &[u8],
+    tape: &mut [u32; 32768],
+    left: usize,
+    from: usize,
+    words: usize,
+) -> Parsed
+    requires { ⌜ Ready (now text) from words ⌝ }
+    ensures { λ r. ⌜ Agrees (FirstRead (now (text .entry)) left from words (now (tape .entry)) (now (tape .exit)))
+        (firstSentence left (stream (now (text .entry)) Tokens.inside from)) r ⌝ }
+{
+    let t = lex(text, from, Mode::Inside);
+    if !begins(t) {
+        return Parsed::Stopped(refuse(t));
+    }
+    if left == 0 {
+        return stopped(Answer::OverLimit, t.place);
+    }
+    sentence(text, tape, t.place, words)
+}
+
 // What comes after a sentence: `}` with a spare `;` before it or not, or another sentence.
 pub enum Sequel {
     Ends(usize),
@@ -133,17 +156,7 @@ pub fn sentences(
     let mut to = words;
     let mut left = limit;
     loop {
-        let t = lex(text, at, Mode::Inside);
-        if !begins(t) {
-            return Parsed::Stopped(refuse(t));
-        }
-        if left == 0 {
-            return Parsed::Stopped(Fault {
-                answer: Answer::OverLimit,
-                place: t.place,
-            });
-        }
-        let s = match sentence(text, tape, t.place, to) {
+        let s = match next_sentence(text, tape, left, at, to) {
             Parsed::Stopped(fault) => return Parsed::Stopped(fault),
             Parsed::Done(s) => s,
         };

@@ -1,6 +1,5 @@
 -- The expression's reader and the call's reader, which call each other, meet their contracts. The measure of both is the text that remains and the nesting
 -- that is left: a call's reader begins after its `<`, an argument's after the name and one call deeper.
-use Prim.Native.Nat.{ℕ, _<_}
 use borrow.Fn.Kinds.{In}
 use borrow.Fn.PlainCycle.{Measures, is, falls, and}
 use Rattle.reading.proofs.expressions.call.Reads as call
@@ -10,13 +9,11 @@ use Rattle.reading.proofs.expressions.expression.Reads as expression
 use Rattle.reading.proofs.expressions.expression.Kinds as expression-kinds
 use Rattle.reading.proofs.expressions.+call+expression.Lts-expression as expression-lts
 use Rattle.lexing.proofs.lex.Reads as lex-reads
+use Rattle.parsing.proofs.progress.is_sign.Reads as is-sign-reads
 use Rattle.reading.proofs.expressions.close_call.Reads as close-call-reads
 use Rattle.reading.proofs.expressions.join.Reads as join-reads
-use Rattle.reading.proofs.expressions.put_call.Reads as put-call-reads
-use Rattle.parsing.proofs.names.called_fault.Reads as called-fault-reads
-use Rattle.parsing.proofs.progress.is_accepted.Reads as is-accepted-reads
-use Rattle.parsing.proofs.progress.is_sign.Reads as is-sign-reads
-use Rattle.parsing.proofs.progress.refuse.Reads as refuse-reads
+use Rattle.reading.proofs.expressions.open_call.Reads as open-call-reads
+use Rattle.reading.proofs.expressions.stopped.Reads as stopped-reads
 use Rattle.reading.proofs.expressions.+call+expression.{statement}
 use Rattle.reading.proofs.expressions.+call+expression.Tie.{close}
 use Prim.Native.Nat.{ℕ, _+_, _-_, _<_}
@@ -27,9 +24,8 @@ use borrow.Author.Tests.{not-true, not-false}
 use lib.ListN.{length}
 use Rattle.meaning.specs.Tokens as Tokens
 use Rattle.lexing.proofs.Stream.{comes}
-use Rattle.parsing.proofs.Choosing.{no-fault-here, a-fault-here}
-use Rattle.parsing.proofs.Tokening.{name-first}
-use Rattle.reading.proofs.Calling.{call-deep, call-many, call-nameless, call-misnamed, name-room, argument-enough, argument-going, argument-stops, argument-ready, call-closes}
+use Rattle.parsing.proofs.Going.{has-read}
+use Rattle.reading.proofs.Calling.{argument-ready, call-unopened, argument-enough, argument-going, argument-stops, call-closes}
 use Rattle.reading.proofs.Expressed.{Expressed, expression-starts, item-moves, item-taken, item-wrong, expression-ends, call-ready, call-stopped, call-read}
 
 abbrev μ-call : Measures 3 call-kinds.ps ℕ
@@ -54,16 +50,8 @@ expression-below t =
 
 abbrev call-claims : ℕ → call-lts.Claims
 call-claims t = (
-  lex-reads.Asked,
-  lex-reads.Learnt,
-  refuse-reads.Asked,
-  refuse-reads.Learnt,
-  called-fault-reads.Asked,
-  called-fault-reads.Learnt,
-  is-accepted-reads.Asked,
-  is-accepted-reads.Learnt,
-  put-call-reads.Asked,
-  put-call-reads.Learnt,
+  open-call-reads.Asked,
+  open-call-reads.Learnt,
   expression-below t,
   expression.Post,
   close-call-reads.Asked,
@@ -76,109 +64,66 @@ expression-claims t = (
   lex-reads.Learnt,
   join-reads.Asked,
   join-reads.Learnt,
+  stopped-reads.Asked,
+  stopped-reads.Learnt,
   is-sign-reads.Asked,
   is-sign-reads.Learnt,
   call-below t,
   call.Post,
 )
 
-call-returns : (t : ℕ) → call-lts.Need-returns (call-claims t) (call-at t) call.Post
-call-returns t c =
-    let a = c .before .before .before .args in
-    λ bound h. call-deep (a .text .now) (a .table .now) (a .symbols) (a .parts) bound (a .depth) (a .s) (a .place) (c .if1 .taken)
-
-call-returns-2 : (t : ℕ) → call-lts.Need-returns-2 (call-claims t) (call-at t) call.Post
-call-returns-2 t c =
-    let a = c .before .before .before .before .before .args in
-    λ bound h. call-many (a .text .now) (a .table .now) (a .symbols) (a .parts) bound (a .depth) (a .s) (a .place) (c .if2 .taken)
-
-call-lex-requires : (t : ℕ) → call-lts.Need-lex-requires (call-claims t) (call-at t) call.Post
-call-lex-requires t c κs = search needs
-
-call-enum-known-token : (t : ℕ) → call-lts.Need-enum-known-token (call-claims t) (call-at t) call.Post
-call-enum-known-token t c = search needs
-
-call-refuse-requires : (t : ℕ) → call-lts.Need-refuse-requires (call-claims t) (call-at t) call.Post
-call-refuse-requires t c κs = search needs
-
-call-returns-3 : (t : ℕ) → call-lts.Need-returns-3 (call-claims t) (call-at t) call.Post
-call-returns-3 t c =
-    let a = c .before .before .before .before .before .before .before .before .args in
-    let k = comes _ Tokens.naming _ _ (c .before .before .before .before .before .before .before .before .pre .1 .0 .ready .inside) (c .before .before .lex .ensures) in
-    λ bound h.
-    call-nameless (a .text .now) (a .table .now) (a .symbols) (a .parts) bound (a .depth) (a .s) (a .place) (c .before .before .before .before .before .if1 .left) (c .before .before .before .if2 .left) k (c .before .match .keys2) (c .refuse .ensures)
-
-call-called-fault-requires : (t : ℕ) → call-lts.Need-called-fault-requires (call-claims t) (call-at t) call.Post
-call-called-fault-requires t c κs =
-    name-first (comes _ Tokens.naming _ _ (c .before .before .before .before .before .before .before .before .before .pre .1 .0 .ready .inside) (c .before .before .before .lex .ensures)) (c .before .token .given .1) .inside
-
-call-is-accepted-requires : (t : ℕ) → call-lts.Need-is-accepted-requires (call-claims t) (call-at t) call.Post
-call-is-accepted-requires t c κs = search needs
-
-call-returns-4 : (t : ℕ) → call-lts.Need-returns-4 (call-claims t) (call-at t) call.Post
-call-returns-4 t c =
-    let a = c .before .before .before .before .before .before .before .before .before .before .before .before .args in
-    let k = comes _ Tokens.naming _ _ (c .before .before .before .before .before .before .before .before .before .before .before .before .pre .1 .0 .ready .inside) (c .before .before .before .before .before .before .lex .ensures) in
-    λ bound h.
-    call-misnamed (a .text .now) (a .table .now) (a .symbols) (a .parts) bound (a .depth) (a .s) (a .place) (c .before .before .before .before .before .before .before .before .before .if1 .left) (c .before .before .before .before .before .before .before .if2 .left) k (c .before .before .before .before .token .given .1) (c .before .before .called-fault .ensures)
-    (a-fault-here (c .before .before .called-fault .ensures) (c .before .is-accepted .ensures) (c .if3 .taken))
-
-call-put-call-requires : (t : ℕ) → call-lts.Need-put-call-requires (call-claims t) (call-at t) call.Post
-call-put-call-requires t c κs =
-    let a = c .before .before .before .before .before .before .before .before .before .before .before .before .before .args in
-    let k = comes _ Tokens.naming _ _ (c .before .before .before .before .before .before .before .before .before .before .before .before .before .pre .1 .0 .ready .inside) (c .before .before .before .before .before .before .before .lex .ensures) in
-    name-room (a .text .now) (a .table .now) (a .symbols) (a .parts) 0 (a .depth) (a .s) (a .place) (c .before .before .before .before .before .before .before .before .before .before .if1 .left) (c .before .before .before .before .before .before .before .before .if2 .left) k (c .before .before .before .before .before .token .given .1)
-    (no-fault-here (c .before .before .before .called-fault .ensures) (c .before .before .is-accepted .ensures) (c .before .if3 .left)) (c .before .before .before .before .before .before .before .before .before .before .before .before .before .pre .1 .0) (c .before .before .before .before .before .before .before .before .before .before .before .before .before .pre .1 .1)
-
-call-add-expression : (t : ℕ) → call-lts.Need-add-expression (call-claims t) (call-at t) call.Post
-call-add-expression t c = let m = c .before .before .before .before .before .before .before .before .before .before .if2 .left in omega arith
-
-call-add-expression-2 : (t : ℕ) → call-lts.Need-add-expression-2 (call-claims t) (call-at t) call.Post
-call-add-expression-2 t c =
-    let m = c .before .before .before .before .before .before .before .before .before .before .before .before .before .if1 .left in omega arith
-
-call-expression-requires : (t : ℕ) → call-lts.Need-expression-requires (call-claims t) (call-at t) call.Post
-call-expression-requires t c κs =
-    let a = c .before .before .before .before .before .before .before .before .before .before .before .before .before .before .before .before .args in
-    let k = comes _ Tokens.naming _ _ (c .before .before .before .before .before .before .before .before .before .before .before .before .before .before .before .before .pre .1 .0 .ready .inside) (c .before .before .before .before .before .before .before .before .before .before .lex .ensures) in
-    let g =
-    argument-going (a .text .now) (a .table .now) (a .symbols) (a .parts) 0 (a .depth) (a .s) (a .place) (c .before .before .before .before .before .before .before .before .before .before .before .before .before .if1 .left) (c .before .before .before .before .before .before .before .before .before .before .before .if2 .left) k (c .before .before .before .before .before .before .before .before .token .given .1)
-    (no-fault-here (c .before .before .before .before .before .before .called-fault .ensures) (c .before .before .before .before .before .is-accepted .ensures) (c .before .before .before .before .if3 .left)) (c .before .before .before .before .before .before .before .before .before .before .before .before .before .before .before .before .pre .1 .0) (c .before .before .before .before .before .before .before .before .before .before .before .before .before .before .before .before .pre .1 .1) (c .before .before .put-call .ensures .0)
-    in
-    let m = c .before .before .before .before .before .before .before .before .before .before .before .before .before .before .before .before .pre .0 in
-    let d = c .before .before .before .before .before .before .before .before .before .before .before .before .before .if1 .left in
-    (omega (arith, k .onward, k .forward, k .inside), g)
+call-open-call-requires : (t : ℕ) → call-lts.Need-open-call-requires (call-claims t) (call-at t) call.Post
+call-open-call-requires t c κs = (c .before .before .before .pre .1 .0 .ready, c .before .before .before .pre .1 .1)
 
 call-enum-known-fault : (t : ℕ) → call-lts.Need-enum-known-fault (call-claims t) (call-at t) call.Post
 call-enum-known-fault t c = search needs
+
+call-returns : (t : ℕ) → call-lts.Need-returns (call-claims t) (call-at t) call.Post
+call-returns t c =
+    let a = c .before .before .before .before .before .before .before .args in
+    λ bound h. call-unopened (a .text .now) (a .table .now) (a .symbols) (a .parts) bound (a .depth) (a .s) (a .place) (rw (c .before .fault .given .1) at (c .before .before .before .open-call .ensures))
+
+call-enum-known-start : (t : ℕ) → call-lts.Need-enum-known-start (call-claims t) (call-at t) call.Post
+call-enum-known-start t c = search needs
+
+call-add-expression : (t : ℕ) → call-lts.Need-add-expression (call-claims t) (call-at t) call.Post
+call-add-expression t c =
+    let o = has-read _ _ (rw (c .before .before .start .given .1) at (c .before .before .before .before .open-call .ensures)) in
+    omega (arith, o .how .shallow)
+
+call-expression-requires : (t : ℕ) → call-lts.Need-expression-requires (call-claims t) (call-at t) call.Post
+call-expression-requires t c κs =
+    let a = c .before .before .before .before .before .before .before .before .args in
+    let o = has-read _ _ (rw (c .before .before .start .given .1) at (c .before .before .before .before .open-call .ensures)) in
+    let m = c .before .before .before .before .before .before .before .before .pre .0 in (
+      omega (arith, o .how .shallow, o .how .went .onward, o .how .went .inside),
+      argument-going (a .text .now) (a .table .now) (a .symbols) (a .parts) 0 (a .depth) (a .s) (a .place) o (c .before .before .before .before .before .before .before .before .pre .1 .0),
+    )
+
+call-enum-known-fault-2 : (t : ℕ) → call-lts.Need-enum-known-fault-2 (call-claims t) (call-at t) call.Post
+call-enum-known-fault-2 t c = search needs
 
 call-enum-known-argument : (t : ℕ) → call-lts.Need-enum-known-argument (call-claims t) (call-at t) call.Post
 call-enum-known-argument t c = search needs
 
 call-close-call-requires : (t : ℕ) → call-lts.Need-close-call-requires (call-claims t) (call-at t) call.Post
-call-close-call-requires t c κs =
-    argument-ready (c .before .before .before .before .before .before .before .before .before .before .before .before .before .before .before .before .before .before .before .before .before .args .depth + 1) (rw (c .before .before .argument .given .1) at (c .before .before .before .before .expression .ensures))
+call-close-call-requires t c κs = argument-ready (c .before .before .before .before .before .before .before .before .before .before .before .before .before .args .depth) (rw (c .before .before .argument .given .1) at (c .before .before .before .before .expression .ensures))
 
-call-returns-5 : (t : ℕ) → call-lts.Need-returns-5 (call-claims t) (call-at t) call.Post
-call-returns-5 t c =
-    let a = c .before .before .before .before .before .before .before .before .before .before .before .before .before .before .before .before .before .before .before .before .args in
-    let k = comes _ Tokens.naming _ _ (c .before .before .before .before .before .before .before .before .before .before .before .before .before .before .before .before .before .before .before .before .pre .1 .0 .ready .inside) (c .before .before .before .before .before .before .before .before .before .before .before .before .before .before .lex .ensures) in
-    let f = no-fault-here (c .before .before .before .before .before .before .before .before .before .before .called-fault .ensures) (c .before .before .before .before .before .before .before .before .before .is-accepted .ensures) (c .before .before .before .before .before .before .before .before .if3 .left) in
+call-returns-2 : (t : ℕ) → call-lts.Need-returns-2 (call-claims t) (call-at t) call.Post
+call-returns-2 t c =
+    let a = c .before .before .before .before .before .before .before .before .before .before .before .before .args in
+    let o = has-read _ _ (rw (c .before .before .before .before .before .before .start .given .1) at (c .before .before .before .before .before .before .before .before .open-call .ensures)) in
     λ bound h.
-    argument-stops (a .text .now) (a .table .now) (a .symbols) (a .parts) bound (a .depth) (a .s) (a .place) (c .before .before .before .before .before .before .before .before .before .before .before .before .before .before .before .before .before .if1 .left) (c .before .before .before .before .before .before .before .before .before .before .before .before .before .before .before .if2 .left) k (c .before .before .before .before .before .before .before .before .before .before .before .before .token .given .1) f
-    (rw (c .before .fault .given .1) at (c .before .before .before .expression .ensures bound
-    (argument-enough (a .text .now) (a .table .now) (a .symbols) (a .parts) bound (a .depth) (a .s) (a .place) (c .before .before .before .before .before .before .before .before .before .before .before .before .before .before .before .before .before .if1 .left) (c .before .before .before .before .before .before .before .before .before .before .before .before .before .before .before .if2 .left) k (c .before .before .before .before .before .before .before .before .before .before .before .before .token .given .1) f h)))
+    argument-stops (a .text .now) (a .table .now) (a .symbols) (a .parts) bound (a .depth) (a .s) (a .place) o
+    (rw (c .before .fault2 .given .1) at (c .before .before .before .expression .ensures bound (argument-enough (a .text .now) (a .table .now) (a .symbols) (a .parts) bound (a .depth) (a .s) (a .place) o h)))
 
-call-returns-6 : (t : ℕ) → call-lts.Need-returns-6 (call-claims t) (call-at t) call.Post
-call-returns-6 t c =
-    let a = c .before .before .before .before .before .before .before .before .before .before .before .before .before .before .before .before .before .before .before .before .before .before .args in
-    let k = comes _ Tokens.naming _ _ (c .before .before .before .before .before .before .before .before .before .before .before .before .before .before .before .before .before .before .before .before .before .before .pre .1 .0 .ready .inside) (c .before .before .before .before .before .before .before .before .before .before .before .before .before .before .before .before .lex .ensures) in
-    let f = no-fault-here (c .before .before .before .before .before .before .before .before .before .before .before .before .called-fault .ensures) (c .before .before .before .before .before .before .before .before .before .before .before .is-accepted .ensures) (c .before .before .before .before .before .before .before .before .before .before .if3 .left) in
+call-returns-3 : (t : ℕ) → call-lts.Need-returns-3 (call-claims t) (call-at t) call.Post
+call-returns-3 t c =
+    let a = c .before .before .before .before .before .before .before .before .before .before .before .before .before .before .args in
+    let o = has-read _ _ (rw (c .before .before .before .before .before .before .before .before .start .given .1) at (c .before .before .before .before .before .before .before .before .before .before .open-call .ensures)) in
     λ bound h.
-    call-closes (a .text .now) (a .table .now) (a .symbols) (a .parts) bound (a .depth) (a .s) (a .place) (c .before .before .before .before .before .before .before .before .before .before .before .before .before .before .before .before .before .before .before .if1 .left) (c .before .before .before .before .before .before .before .before .before .before .before .before .before .before .before .before .before .if2 .left) k (c .before .before .before .before .before .before .before .before .before .before .before .before .before .before .token .given .1) f
-    (c .before .before .before .before .before .before .before .before .before .before .before .before .before .before .before .before .before .before .before .before .before .before .pre .1 .0) (c .before .before .before .before .before .before .before .before .before .before .before .before .before .before .before .before .before .before .before .before .before .before .pre .1 .1) (c .before .before .before .before .before .before .before .before .put-call .ensures)
-    (rw (c .before .before .before .argument .given .1) at (c .before .before .before .before .before .expression .ensures bound
-    (argument-enough (a .text .now) (a .table .now) (a .symbols) (a .parts) bound (a .depth) (a .s) (a .place) (c .before .before .before .before .before .before .before .before .before .before .before .before .before .before .before .before .before .before .before .if1 .left) (c .before .before .before .before .before .before .before .before .before .before .before .before .before .before .before .before .before .if2 .left) k (c .before .before .before .before .before .before .before .before .before .before .before .before .before .before .token .given .1) f h)))
+    call-closes (a .text .now) (a .table .now) (a .symbols) (a .parts) bound (a .depth) (a .s) (a .place) o
+    (rw (c .before .before .before .argument .given .1) at (c .before .before .before .before .before .expression .ensures bound (argument-enough (a .text .now) (a .table .now) (a .symbols) (a .parts) bound (a .depth) (a .s) (a .place) o h)))
     (c .close-call .ensures)
 
 abbrev expression-Inv-loop : expression-lts.InvT-loop
@@ -215,10 +160,13 @@ expression-loop-again t c =
 expression-enum-known-answer : (t : ℕ) → expression-lts.Need-enum-known-answer (expression-claims t) (expression-at t) expression.Post expression-Inv-loop expression-μ-loop
 expression-enum-known-answer t c = search needs
 
+expression-stopped-requires : (t : ℕ) → expression-lts.Need-stopped-requires (expression-claims t) (expression-at t) expression.Post expression-Inv-loop expression-μ-loop
+expression-stopped-requires t c κs = search needs
+
 expression-returns : (t : ℕ) → expression-lts.Need-returns (expression-claims t) (expression-at t) expression.Post expression-Inv-loop expression-μ-loop
 expression-returns t c =
-    let k = c .before .before .before .before .before .before .loop .inv in
-    λ bound h. item-wrong k (comes _ Tokens.inside _ _ (k .going .ready .inside) (c .before .before .before .before .before .lex .ensures)) (c .before .before .before .join .ensures) (c .before .answer .given .1) h
+    let k = c .before .before .before .before .before .before .before .loop .inv in
+    λ bound h. rw (c .stopped .ensures) (item-wrong k (comes _ Tokens.inside _ _ (k .going .ready .inside) (c .before .before .before .before .before .before .lex .ensures)) (c .before .before .before .before .join .ensures) (c .before .before .answer .given .1) h)
 
 expression-enum-told : (t : ℕ) → expression-lts.Need-enum-told (expression-claims t) (expression-at t) expression.Post expression-Inv-loop expression-μ-loop
 expression-enum-told t c = search needs
@@ -275,24 +223,17 @@ pub +call+expression-spec : {M : Type 1} → statement M
 +call+expression-spec = close μ-call μ-expression (λ t. call-lts.spec (call-claims t)
     (call-at t)
     call.Post
-    (call-returns t)
-    (call-returns-2 t)
-    (call-lex-requires t)
-    (call-enum-known-token t)
-    (call-refuse-requires t)
-    (call-returns-3 t)
-    (call-called-fault-requires t)
-    (call-is-accepted-requires t)
-    (call-returns-4 t)
-    (call-put-call-requires t)
-    (call-add-expression t)
-    (call-add-expression-2 t)
-    (call-expression-requires t)
+    (call-open-call-requires t)
     (call-enum-known-fault t)
+    (call-returns t)
+    (call-enum-known-start t)
+    (call-add-expression t)
+    (call-expression-requires t)
+    (call-enum-known-fault-2 t)
     (call-enum-known-argument t)
     (call-close-call-requires t)
-    (call-returns-5 t)
-    (call-returns-6 t))
+    (call-returns-2 t)
+    (call-returns-3 t))
     λ t. expression-lts.spec (expression-claims t)
     (expression-at t)
     expression.Post
@@ -305,6 +246,7 @@ pub +call+expression-spec : {M : Type 1} → statement M
     (expression-loop-less t)
     (expression-loop-again t)
     (expression-enum-known-answer t)
+    (expression-stopped-requires t)
     (expression-returns t)
     (expression-enum-told t)
     (expression-is-sign-requires t)

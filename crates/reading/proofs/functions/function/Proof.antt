@@ -16,9 +16,11 @@ refuse-requires c κs = search needs
 returns : tie.Need-returns
 returns c = function-nameless _ (c .before .before .before .pre) (c .before .match .keys2) (c .refuse .ensures)
 
+stopped-requires : tie.Need-stopped-requires
+stopped-requires c κs = search needs
+
 returns-2 : tie.Need-returns-2
-returns-2 c =
-    function-many _ (c .before .before .before .before .before .pre) (c .before .before .token .given .1) (c .if1 .taken)
+returns-2 c = rw (c .stopped .ensures) (function-many _ (c .before .before .before .before .before .before .pre) (c .before .before .before .token .given .1) (c .before .if1 .taken))
 
 declared-fault-requires : tie.Need-declared-fault-requires
 declared-fault-requires c κs =
@@ -27,9 +29,13 @@ declared-fault-requires c κs =
 is-accepted-requires : tie.Need-is-accepted-requires
 is-accepted-requires c κs = search needs
 
+stopped-requires-2 : tie.Need-stopped-requires-2
+stopped-requires-2 c κs = search needs
+
 returns-3 : tie.Need-returns-3
 returns-3 c =
-    function-misnamed _ (c .before .before .before .before .before .before .before .before .before .before .pre) (c .before .before .before .before .before .before .before .token .given .1) (c .before .before .before .before .before .if1 .left) (c .before .before .declared-fault .ensures) (a-fault-here (c .before .before .declared-fault .ensures) (c .before .is-accepted .ensures) (c .if2 .taken))
+    let f = c .before .before .before .declared-fault .ensures in
+    rw (c .stopped2 .ensures) (function-misnamed _ (c .before .before .before .before .before .before .before .before .before .before .before .pre) (c .before .before .before .before .before .before .before .before .token .given .1) (c .before .before .before .before .before .before .if1 .left) f (a-fault-here f (c .before .before .is-accepted .ensures) (c .before .if2 .taken)))
 
 entry-requires : tie.Need-entry-requires
 entry-requires c κs =
@@ -57,9 +63,11 @@ function-spec =
     enum-known-token
     refuse-requires
     returns
+    stopped-requires
     returns-2
     declared-fault-requires
     is-accepted-requires
+    stopped-requires-2
     returns-3
     entry-requires
     mul-names
