@@ -20,11 +20,11 @@ use Rattle.meaning.proofs.laws.Passing.{every-head, every-tail}
 use Rattle.meaning.proofs.reading.Lists.{either-left-false}
 use Rattle.lexing.specs.View as View
 use Rattle.parsing.specs.Written.{isQuiet}
-use Rattle.reading.specs.Expressions.{CallStands, Stands}
-use Rattle.reading.specs.Sentences.{Each, SentenceStands}
-use Rattle.reading.specs.Functions.{FunctionStands}
+use Rattle.declarations.specs.Expressions.{CallStands, Stands}
+use Rattle.declarations.specs.Sentences.{Each, SentenceStands}
+use Rattle.declarations.specs.Functions.{FunctionStands}
 use Rattle.reading.specs.Calls.{calledPlace, calledSpan, CallWithin, wordKnown, Holds}
-use Rattle.reading.proofs.Sentencing.{each-append}
+use Rattle.declarations.proofs.Sentencing.{each-append}
 
 -- the first word that opens a call of an undeclared name, by the name's place
 unfoldable pub unknownFrom : Bytes → List Name → List ℕ → Option ℕ

@@ -1,10 +1,3 @@
 -- Laws of reading.
-pub mod Joining
-pub mod Opened
-pub mod Calling
-pub mod Expressed
-pub mod Sentenced
-pub mod Sentencing
-pub mod Functioned
 pub mod Called
 pub mod Verdict

@@ -26,8 +26,8 @@ use Rattle.reading.specs.declared.calls.Unknown.the-variants.{At, Nowher
 use Rattle.parsing.specs.Answered.{numberOf, Agrees}
 use Rattle.parsing.specs.Written.{written, cleared, Went}
 use Rattle.parsing.specs.Tables.{tableNames, Entries}
-use Rattle.reading.specs.Sentences.{Each}
-use Rattle.reading.specs.Functions.{FunctionsRead}
+use Rattle.declarations.specs.Sentences.{Each}
+use Rattle.declarations.specs.Functions.{FunctionsRead}
 use Rattle.reading.specs.Calls.{unknownAs, CallWithin, Holds}
 use Rattle.reading.specs.Reads.{treeTape, tapeLeft, Reads, Begins, refusedWith}
 use Rattle.parsing.proofs.Going.{ReadAt, has-stopped, has-read}

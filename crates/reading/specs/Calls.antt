@@ -15,8 +15,8 @@ use Rattle.lexing.specs.declared.Span.{Span}
 use Rattle.reading.specs.declared.calls.Unknown.{Unknown}
 use Rattle.reading.specs.declared.calls.Unknown.the-variants.{At, Nowhere}
 use Rattle.parsing.specs.Written.{isQuiet}
-use Rattle.reading.specs.Sentences.{Each}
-use Rattle.reading.specs.Functions.{FunctionStands}
+use Rattle.declarations.specs.Sentences.{Each}
+use Rattle.declarations.specs.Functions.{FunctionStands}
 
 -- "first called name that is undeclared", by its place, as the code says it
 abbrev pub unknownAs : Option ℕ → Unknown

@@ -1,6 +1,3 @@
 -- The definitions that this crate's contracts cite.
-pub mod Expressions
-pub mod Sentences
-pub mod Functions
 pub mod Calls
 pub mod Reads

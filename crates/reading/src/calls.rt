@@ -9,7 +9,7 @@ ghost use lib.ListN.{length, take};
 ghost use Rattle.meaning.specs.Tree.{Table};
 ghost use Rattle.meaning.specs.Reading.{unknownIn};
 ghost use Rattle.parsing.specs.Tables.{tableNames, Entries};
-ghost use Rattle.reading.specs.Sentences.{Each};
+ghost use Rattle.declarations.specs.Sentences.{Each};
 ghost use Rattle.reading.specs.Calls.{unknownAs, CallWithin, wordKnown, Holds};
 
 // The place of the first called name that is neither declared nor emission, if there is one.

@@ -1,12 +1,9 @@
 // Reading a table text: its tree as a tape, or the number and place of its fault.
 mod calls;
-mod expressions;
-mod functions;
-mod sentences;
 
 use calls::Unknown;
 use calls::unknown_call;
-use functions::functions;
+use declarations::functions::functions;
 use lexing::reader;
 use parsing::Answer;
 use parsing::names::function_room;

@@ -1,0 +1,166 @@
+-- The call's reader.
+use Prim.Native.Nat.{ℕ, zero, suc, _+_, _≤_}
+use mathlib.Core.Path.{_≡_, refl, _∙_}
+use mathlib.Core.List.{List, [], _∷_}
+use mathlib.Core.Option.{Option, none, some}
+use native.Mathlib.Numerals.{add-one}
+use native.Mathlib.Omega.{arith}
+use lib.ListN.{length, set}
+use Rattle.meaning.specs.Choice.{Bytes, Name}
+use Rattle.meaning.specs.Tape.{tapeWord, closeKind}
+use Rattle.meaning.specs.Tokens as Tokens
+use Rattle.meaning.specs.Grammar.{standing}
+use Rattle.meaning.specs.Reading as Reading
+use Rattle.meaning.specs.Reading.{Parsed, parsed, follow, check, nameOn, passName}
+use Rattle.lexing.specs.View.{stream}
+use Rattle.parsing.specs.declared.progress.Fault.{Fault}
+use Rattle.parsing.specs.declared.progress.Progress.{Progress}
+use Rattle.parsing.specs.declared.progress.Parsed.{Parsed as CodeParsed}
+use Rattle.parsing.specs.declared.progress.Parsed.the-variants.{Stopped, Done}
+use Rattle.parsing.specs.Answered.{Agrees}
+use Rattle.parsing.specs.Written.{Ready, Went}
+use Rattle.parsing.specs.Tokened.{Taken, Barred}
+use Rattle.parsing.specs.Patterns.{symbolNames}
+use Rattle.declarations.specs.Expressions.{progressAt, Going, ExpressionRead, CalledName, opening, OpeningRead, CallRead, CloseGives, Closes}
+use Rattle.parsing.proofs.Going.{stops, reads, ReadAt, has-stopped, has-read, went-then, word-went}
+use Rattle.parsing.proofs.Tokening.{passes-on, passes-not}
+use Rattle.declarations.proofs.Opened.{openingAt, OpeningAgrees}
+
+-- THE DEFINITION
+
+-- what follows a token without a fault, or a name without one, follows all that begins with it
+check-follow : {A B : Type 0} (number : ℕ) (t : Tokens.Placed) (p : Parsed A) (next : A → List Tokens.Placed → Parsed B)
+    → check number t (follow p next) ≡ follow (check number t p) next
+check-follow zero t p next = refl
+check-follow (suc number) t p next = refl
+
+name-follow : {A B : Type 0} (fault : Name → ℕ) (ts : List Tokens.Placed) (first : ℕ → Name → List Tokens.Placed → Parsed A) (next : A → List Tokens.Placed → Parsed B)
+    → passName fault ts (λ place n rest. follow (first place n rest) next) ≡ follow (passName fault ts first) next
+name-follow fault [] first next = refl
+name-follow {A} {B} fault (t ∷ ts) first next = chosen (Reading.nameOf (t .token))
+  where
+    chosen : (o : Option Name) → nameOn o fault t (λ n. follow (first (t .place) n ts) next) ≡ follow (nameOn o fault t (λ n. first (t .place) n ts)) next
+    chosen none = refl
+    chosen (some n) = check-follow (fault n) t (first (t .place) n ts) next
+
+-- a call after its name
+abbrev afterName : (ℕ → Reading.Progress → List Tokens.Placed → Parsed Reading.Items) → ℕ → Reading.Progress → CalledName → List Tokens.Placed → Parsed Reading.Called
+afterName argument deeper so n ts =
+    follow (argument deeper (Reading.pastCall so) ts) λ given ts₁.
+    Reading.pass 62 ts₁ λ rest.
+    parsed (record { place = n .place; name = n .name; argument = given .expression; progress = given .progress }) rest
+
+call-is : (argument : ℕ → Reading.Progress → List Tokens.Placed → Parsed Reading.Items) (depth : ℕ) (so : Reading.Progress) (t : Tokens.Placed) (ts : List Tokens.Placed)
+    → Reading.call argument depth so t ts ≡ follow (opening depth (so .items) t ts) (afterName argument (suc depth) so)
+call-is argument depth so t ts =
+    rw (name-follow Reading.calledFault ts (λ place n rest. parsed (record { place = place; name = n }) rest) (afterName argument (suc depth) so))
+    (check-follow (Reading.callFault depth so) t (passName Reading.calledFault ts (λ place n rest. parsed (record { place = place; name = n }) rest)) (afterName argument (suc depth) so))
+
+-- THE READER
+
+-- what the definition reads of a call after its `<`
+abbrev callAt : Bytes → List ℕ → ℕ → ℕ → ℕ → ℕ → Progress → ℕ → Parsed Reading.Called
+callAt text table symbols parts bound depth s place =
+    Reading.call (Reading.expression bound (symbolNames text table symbols)) depth (progressAt text table parts s) (standing (Tokens.sign 60) place (s .at))
+    (stream text Tokens.naming (s .at))
+
+abbrev CallAgrees : Bytes → List ℕ → ℕ → ℕ → ℕ → ℕ → Progress → ℕ → List ℕ → List ℕ → CodeParsed → Type 0
+CallAgrees text table symbols parts bound depth s place tape tape′ r =
+    Agrees (CallRead text table symbols parts s tape tape′) (callAt text table symbols parts bound depth s place) r
+
+-- what the definition reads of a call's argument
+abbrev argumentAt : Bytes → List ℕ → ℕ → ℕ → ℕ → ℕ → Progress → Parsed Reading.Items
+argumentAt text table symbols parts bound depth start =
+    Reading.expression bound (symbolNames text table symbols) (depth + 1) (progressAt text table parts start) (stream text Tokens.inside (start .at))
+
+-- the argument was read
+pub argument-ready : {text : Bytes} {table : List ℕ} {symbols parts : ℕ} {start : Progress} {tape tape′ : List ℕ} {argument : Progress} (depth : ℕ)
+    → ((bound : ℕ) → length (stream text Tokens.inside (start .at)) ≤ bound
+    → Agrees (ExpressionRead text table symbols parts start tape tape′) (argumentAt text table symbols parts bound depth start) (Done argument))
+    → Ready text (argument .at) (argument .words)
+argument-ready {text} {start = start} {argument = argument} depth a =
+    has-read _ argument (a (length (stream text Tokens.inside (start .at))) (omega arith)) .how .going .ready
+
+module _ (text table : List ℕ) (symbols parts bound depth : ℕ) (s : Progress) (place : ℕ) where
+  at-opening : callAt text table symbols parts bound depth s place
+      ≡ follow (openingAt text depth s place) (afterName (Reading.expression bound (symbolNames text table symbols)) (suc depth) (progressAt text table parts s))
+  at-opening =
+      call-is (Reading.expression bound (symbolNames text table symbols)) depth (progressAt text table parts s) (standing (Tokens.sign 60) place (s .at)) (stream text Tokens.naming (s .at))
+
+  pub call-unopened : {tape tape′ : List ℕ} {fault : Fault} → OpeningAgrees text depth s place tape tape′ (Stopped fault)
+      → CallAgrees text table symbols parts bound depth s place tape tape′ (Stopped fault)
+  call-unopened {fault = fault} a = stops fault _ _ (at-opening ∙ rw (has-stopped _ fault a)) refl refl
+
+  -- the call is open
+  module _ {tape tape₁ : List ℕ} {start : Progress} (o : ReadAt (OpeningRead text depth s tape tape₁) (openingAt text depth s place) start) where
+    pub argument-enough : length (stream text Tokens.naming (s .at)) ≤ bound → length (stream text Tokens.inside (start .at)) ≤ bound
+    argument-enough h =
+        let l : length (stream text Tokens.inside (start .at)) ≤ length (stream text Tokens.naming (s .at)) = rw (o .how .tokens) at (o .how .shorter) in
+        omega arith
+
+    pub argument-going : Going text table symbols parts s → Going text table symbols parts start
+    argument-going g =
+        record {
+          variables = g .variables;
+          passed = rw (o .how .passed) (g .passed);
+          few = omega (arith, o .how .counted, o .how .few);
+          ready = record { inside = o .how .went .inside; charged = o .how .went .charged; short = g .ready .short };
+        }
+
+    at-argument : callAt text table symbols parts bound depth s place
+        ≡ follow (argumentAt text table symbols parts bound depth start) (λ given ts.
+        Reading.pass 62 ts λ rest.
+        parsed (record { place = o .value .place; name = o .value .name; argument = given .expression; progress = given .progress }) rest)
+    at-argument = at-opening ∙ rw (o .same, o .how .tokens, o .how .counted, o .how .passed, add-one depth)
+
+    pub argument-stops : {tape₂ : List ℕ} {fault : Fault}
+        → Agrees (ExpressionRead text table symbols parts start tape₁ tape₂) (argumentAt text table symbols parts bound depth start) (Stopped fault)
+        → CallAgrees text table symbols parts bound depth s place tape tape₂ (Stopped fault)
+    argument-stops {fault = fault} x = stops fault _ _ (at-argument ∙ rw (has-stopped _ fault x)) refl refl
+
+    -- the argument is read
+    module _ {tape₂ tape₃ : List ℕ} {argument : Progress}
+        (h : ReadAt (ExpressionRead text table symbols parts start tape₁ tape₂) (argumentAt text table symbols parts bound depth start) argument) where
+      close-barred : {fault : Fault} → Barred text Tokens.inside 62 (argument .at) fault
+          → CallAgrees text table symbols parts bound depth s place tape tape₃ (Stopped fault)
+      close-barred x = stops _ _ _ (at-argument ∙ rw (h .same, h .how .tokens) (passes-not _ x)) refl refl
+
+      close-done : {at : ℕ} → Taken text Tokens.inside 62 (argument .at) at
+          → tape₃ ≡ set tape₂ (argument .words) (tapeWord closeKind 0)
+          → CallAgrees text table symbols parts bound depth s place tape tape₃
+          (Done (record { at = at; words = argument .words + 1; count = argument .count; parts = argument .parts }))
+      close-done {at} x y =
+          let w : Went text (argument .at) (argument .words) tape₂ at (argument .words + 1) tape₃ (tapeWord closeKind 0 ∷ []) =
+          word-went (h .how .going .ready) (x .onward) (x .inside) y
+          in
+          let short : suc (length (stream text Tokens.inside at)) ≤ length (stream text Tokens.inside (start .at)) =
+          rw (h .how .tokens, x .unrolled) at (h .how .shorter)
+          in
+          let shorter : length (stream text Tokens.inside (start .at)) ≤ length (stream text Tokens.naming (s .at)) = rw (o .how .tokens) at (o .how .shorter) in
+          reads _ (stream text Tokens.inside at) (at-argument ∙ rw (h .same, h .how .tokens) (passes-on _ x))
+          (record {
+            tokens = refl;
+            shorter = omega arith;
+            went = went-then (o .how .went) (went-then (h .how .went) w);
+            progress = h .how .progress;
+            going =
+                record {
+                  variables = h .how .going .variables;
+                  passed = h .how .going .passed;
+                  few = h .how .going .few;
+                  ready = record { inside = w .inside; charged = w .charged; short = h .how .going .ready .short };
+                };
+            named = o .how .stands;
+            stands = h .how .stands;
+          })
+
+      -- what comes of the `>`
+      close-with : (r : CodeParsed) → CloseGives text argument tape₂ tape₃ r → CallAgrees text table symbols parts bound depth s place tape tape₃ r
+      close-with (Stopped fault) x = close-barred x
+      close-with (Done next) x = rw (x .1) (close-done (x .0) (x .2))
+
+    pub call-closes : {tape₂ tape₃ : List ℕ} {argument : Progress} {r : CodeParsed}
+        → Agrees (ExpressionRead text table symbols parts start tape₁ tape₂) (argumentAt text table symbols parts bound depth start) (Done argument)
+        → Closes text argument tape₂ tape₃ r
+        → CallAgrees text table symbols parts bound depth s place tape tape₃ r
+    call-closes {argument = argument} {r} a x = close-with (has-read _ argument a) r (x .gives)

@@ -1,0 +1,373 @@
+-- The expression's reader: the loop over its items and calls.
+use Prim.Native.Nat.{ℕ, suc, _+_, _-_, _≤_, _<_}
+use mathlib.Core.Path.{_≡_, refl, sym, _∙_, ap}
+use mathlib.Core.Bool.{true, false}
+use mathlib.Core.List.{List, [], _∷_, _++_, append-assoc, append-nil}
+use native.Mathlib.Omega.{arith}
+use lib.Dec.{T}
+use lib.ListN.{length}
+use Rattle.meaning.specs.Choice.{Bytes, Name, every}
+use Rattle.meaning.specs.Tree.{Expression, end, thenCall}
+use Rattle.meaning.specs.Tape.{named, callKind, closeKind, tapeWord, expressionTape}
+use Rattle.meaning.specs.Tokens as Tokens
+use Rattle.meaning.specs.Grammar.{standing, written}
+use Rattle.meaning.specs.Reading as Reading
+use Rattle.meaning.specs.Reading.{Parsed, stopped, parsed, follow, withFirst, Item, characters, symbolItem, partItem, noItem, isItem, thenItem}
+use Rattle.meaning.proofs.laws.Passing.{every-head, every-tail}
+use Rattle.lexing.specs.View.{placedOf, tokenOf, stream, Comes}
+use Rattle.lexing.specs.declared.Placed as Code
+use Rattle.parsing.specs.declared.Answer.{Answer}
+use Rattle.parsing.specs.declared.progress.Fault.{Fault}
+use Rattle.parsing.specs.declared.progress.Progress.{Progress}
+use Rattle.parsing.specs.declared.progress.Parsed.{Parsed as CodeParsed}
+use Rattle.parsing.specs.declared.progress.Parsed.the-variants.{Stopped, Done}
+use Rattle.declarations.specs.declared.expressions.Joined.{Joined}
+use Rattle.declarations.specs.declared.expressions.Joined.the-variants.{Taken, Wrong, Other}
+use Rattle.parsing.specs.Answered.{numberOf, Agrees}
+use Rattle.parsing.specs.Written.{isQuiet, Went}
+use Rattle.parsing.specs.Tokened.{signIs}
+use Rattle.parsing.specs.Patterns.{symbolNames, itemAt}
+use Rattle.declarations.specs.Expressions.{progressAt, Going, CallStands, Stands, itemTape, TakenIn, TokenGives, JoinsToken, stoppedWith, ExpressionRead, callTape, CallRead}
+use Rattle.parsing.proofs.Items.{item-then}
+use Rattle.parsing.proofs.Going.{check-wrong, stops, reads, ReadAt, has-stopped, has-read, went-none, went-from, went-on, went-then}
+use Rattle.parsing.proofs.Tokening.{sign-shown, sign-first, takes, ready-place, ready-past}
+
+-- ITEMS AND CALLS BEFORE AN EXPRESSION
+
+tape-characters : (cs : Bytes) (e : Expression) → expressionTape (written cs e) ≡ cs ++ expressionTape e
+unfolding expressionTape written
+tape-characters [] e = refl
+tape-characters (c ∷ cs) e = ap (λ (ws : List ℕ). c ∷ ws) (tape-characters cs e)
+
+tape-item : (item : Item) (e : Expression) → expressionTape (thenItem item e) ≡ itemTape item ++ expressionTape e
+unfolding expressionTape
+tape-item (characters cs) e = tape-characters cs e
+tape-item (symbolItem x) e = refl
+tape-item (partItem x) e = refl
+tape-item noItem e = refl
+
+tape-call : (place : ℕ) (n : Name) (a e : Expression)
+    → expressionTape (thenCall place n a e) ≡ (named (callKind + place) n ++ (expressionTape a ++ tapeWord closeKind 0 ∷ [])) ++ expressionTape e
+unfolding expressionTape
+tape-call place n a e =
+    ap (λ (ws : List ℕ). named (callKind + place) n ++ ws) (sym (append-assoc (expressionTape a) (tapeWord closeKind 0 ∷ []) (expressionTape e)))
+    ∙ sym (append-assoc (named (callKind + place) n) (expressionTape a ++ tapeWord closeKind 0 ∷ []) (expressionTape e))
+
+module _ (text : Bytes) where
+  stands-characters : (cs : Bytes) (e : Expression) → T (every isQuiet cs) → Stands text e → Stands text (written cs e)
+  unfolding Stands written
+  stands-characters [] e q h = h
+  stands-characters (c ∷ cs) e q h = (every-head isQuiet c cs q, stands-characters cs e (every-tail isQuiet c cs q) h)
+
+  stands-item : (item : Item) (e : Expression) → T (every isQuiet (itemTape item)) → Stands text e → Stands text (thenItem item e)
+  unfolding Stands
+  stands-item (characters cs) e q h = stands-characters cs e q h
+  stands-item (symbolItem x) e q h = (q, h)
+  stands-item (partItem x) e q h = (q, h)
+  stands-item noItem e q h = h
+
+  stands-call : {place : ℕ} {n : Name} (a e : Expression) → CallStands text place n → Stands text a → Stands text e
+      → Stands text (thenCall place n a e)
+  unfolding Stands
+  stands-call a e s g h = (s, g, h)
+
+  stands-end : Stands text end
+  unfolding Stands
+  stands-end = tt
+
+tape-end : expressionTape end ≡ []
+unfolding expressionTape
+tape-end = refl
+
+first-none : (p : Parsed Reading.Items) → p ≡ withFirst (λ (e : Expression). e) p
+first-none (stopped number place) = refl
+first-none (parsed i rest) = refl
+
+first-first : (f g : Expression → Expression) (p : Parsed Reading.Items) → withFirst f (withFirst g p) ≡ withFirst (λ (e : Expression). f (g e)) p
+first-first f g (stopped number place) = refl
+first-first f g (parsed i rest) = refl
+
+expression-step : (more left : ℕ) (names : List Name) (depth : ℕ) (so : Reading.Progress) (t : Tokens.Placed) (ts : List Tokens.Placed) → more ≡ suc left
+    → Reading.expression more names depth so (t ∷ ts) ≡ Reading.expressionFrom (Reading.expression left names) names depth so t ts
+unfolding Reading.expression
+expression-step more left names depth so t ts n = rw n
+
+-- THE LOOP
+
+-- with a bound: the expression from the start is that from here with these items and calls first
+pub record Behind (text table : List ℕ) (symbols parts depth : ℕ) (start : Progress) (tape₀ tape : List ℕ) (s : Progress) (bound : ℕ) : Type 0 where
+  pub first : Expression → Expression
+  pub left : ℕ
+  pub words : List ℕ
+  pub same : Reading.expression bound (symbolNames text table symbols) depth (progressAt text table parts start) (stream text Tokens.inside (start .at))
+      ≡ withFirst first
+      (Reading.expression left (symbolNames text table symbols) depth (progressAt text table parts s) (stream text Tokens.inside (s .at)))
+  pub enough : length (stream text Tokens.inside (s .at)) ≤ left
+  pub shorter : length (stream text Tokens.inside (s .at)) ≤ length (stream text Tokens.inside (start .at))
+  pub tapes : (e : Expression) → expressionTape (first e) ≡ words ++ expressionTape e
+  pub stand : (e : Expression) → Stands text e → Stands text (first e)
+  pub went : Went text (start .at) (start .words) tape₀ (s .at) (s .words) tape words
+
+pub record Expressed (text table : List ℕ) (symbols parts depth : ℕ) (start : Progress) (tape₀ tape : List ℕ) (s : Progress) : Type 0 where
+  pub going : Going text table symbols parts s
+  pub onward : start .at ≤ s .at
+  pub behind : (bound : ℕ) → length (stream text Tokens.inside (start .at)) ≤ bound → Behind text table symbols parts depth start tape₀ tape s bound
+
+-- what the definition and the code read
+abbrev expressionAt : Bytes → List ℕ → ℕ → ℕ → ℕ → ℕ → Progress → Parsed Reading.Items
+expressionAt text table symbols parts bound depth start =
+    Reading.expression bound (symbolNames text table symbols) depth (progressAt text table parts start) (stream text Tokens.inside (start .at))
+
+abbrev ExpressionAgrees : Bytes → List ℕ → ℕ → ℕ → ℕ → ℕ → Progress → List ℕ → List ℕ → CodeParsed → Type 0
+ExpressionAgrees text table symbols parts bound depth start tape tape′ r =
+    Agrees (ExpressionRead text table symbols parts start tape tape′) (expressionAt text table symbols parts bound depth start) r
+
+pub expression-starts : (text table : List ℕ) (symbols parts depth : ℕ) (start : Progress) (tape : List ℕ) → Going text table symbols parts start
+    → Expressed text table symbols parts depth start tape tape start
+expression-starts text table symbols parts depth start tape g =
+    record {
+      going = g;
+      onward = omega arith;
+      behind =
+          λ bound h.
+          record {
+            first = λ e. e;
+            left = bound;
+            words = [];
+            same = first-none (expressionAt text table symbols parts bound depth start);
+            enough = h;
+            shorter = omega arith;
+            tapes = λ e. refl;
+            stand = λ e s. s;
+            went = went-none text (start .at) (start .words) tape (g .ready);
+          };
+    }
+
+module _ {text table : List ℕ} {symbols parts depth : ℕ} {start : Progress} {tape₀ tape : List ℕ} {s : Progress} {t : Code.Placed} {tape′ : List ℕ} {r : Joined}
+    (k : Expressed text table symbols parts depth start tape₀ tape s)
+    (c : Comes text Tokens.inside (s .at) t)
+    (j : JoinsToken text table symbols parts s tape t tape′ r) where
+  given : {r′ : Joined} → r ≡ r′ → TokenGives text table symbols parts s tape t tape′ r′
+  given e = rw e at (j .gives)
+
+  -- AN ITEM
+
+  pub item-moves : {next : Progress} → r ≡ Taken next → (s .at < next .at) × (next .at ≤ length text)
+  item-moves e =
+      let g = given e in
+      (omega (arith, g .0 .at, item-then c (g .1) .moves), g .0 .going .ready .inside)
+
+  item-behind : {next : Progress} (bound : ℕ) → TakenIn text table symbols parts s tape (itemAt text t) (t .past) tape′ next → isItem (itemAt text t) ≡ true
+      → Behind text table symbols parts depth start tape₀ tape s bound
+      → Behind text table symbols parts depth start tape₀ tape′ next bound
+  item-behind {next} bound g q b =
+      let i = item-then c q in
+      let item = itemAt text t in
+      let names = symbolNames text table symbols in
+      let long : suc (length (stream text Tokens.inside (t .past))) ≤ b .left = rw (i .unrolled) at (b .enough) in
+      let longer : suc (length (stream text Tokens.inside (t .past))) ≤ length (stream text Tokens.inside (start .at)) = rw (i .unrolled) at (b .shorter) in
+      record {
+        first = λ e. b .first (thenItem item e);
+        left = b .left - 1;
+        words = b .words ++ itemTape item;
+        same =
+            b .same
+            ∙ rw (
+              i .unrolled,
+              expression-step (b .left) (b .left - 1) names depth (progressAt text table parts s) (placedOf text t) (stream text Tokens.inside (t .past)) (omega arith),
+              q,
+              g .fault,
+              g .progress,
+              g .at,
+            )
+            (first-first (b .first) (thenItem item) (Reading.expression (b .left - 1) names depth (progressAt text table parts next) (stream text Tokens.inside (t .past))));
+        enough = rw (g .at) (omega arith);
+        shorter = rw (g .at) (omega arith);
+        tapes =
+            λ e.
+            b .tapes (thenItem item e)
+            ∙ rw (tape-item item e) (sym (append-assoc (b .words) (itemTape item) (expressionTape e)));
+        stand = λ e h. b .stand (thenItem item e) (stands-item text item e (g .quiet) h);
+        went = went-then (b .went) (g .went);
+      }
+
+  pub item-taken : {next : Progress} → r ≡ Taken next → Expressed text table symbols parts depth start tape₀ tape′ next
+  item-taken e =
+      let g = given e in
+      record {
+        going = g .0 .going;
+        onward = omega (arith, k .onward, item-moves e .0);
+        behind = λ bound h. item-behind bound (g .0) (g .1) (k .behind bound h);
+      }
+
+  pub item-wrong : {answer : Answer} {bound : ℕ} → r ≡ Wrong answer → length (stream text Tokens.inside (start .at)) ≤ bound
+      → ExpressionAgrees text table symbols parts bound depth start tape₀ tape′ (stoppedWith answer (t .place))
+  item-wrong {answer} {bound} e h =
+      let g = given e in
+      let b = k .behind bound h in
+      let i = item-then c (g .1) in
+      let names = symbolNames text table symbols in
+      let long : suc (length (stream text Tokens.inside (t .past))) ≤ b .left = rw (i .unrolled) at (b .enough) in
+      stops _ _ _
+      (b .same
+      ∙ rw (
+        i .unrolled,
+        expression-step (b .left) (b .left - 1) names depth (progressAt text table parts s) (placedOf text t) (stream text Tokens.inside (t .past)) (omega arith),
+        g .1,
+        g .0 .fault,
+        check-wrong (numberOf answer) (placedOf text t)
+            (withFirst (thenItem (itemAt text t)) (Reading.expression (b .left - 1) names depth (Reading.pastItem (itemAt text t) (progressAt text table parts s)) (stream text Tokens.inside (t .past))))
+            (g .0 .wrong),
+      ))
+      refl
+      refl
+
+  -- THE END
+
+  end-with : {bound : ℕ} (ts : List Tokens.Placed) → Behind text table symbols parts depth start tape₀ tape s bound
+      → stream text Tokens.inside (s .at) ≡ placedOf text t ∷ ts
+      → isItem (itemAt text t) ≡ false
+      → Reading.isSign 60 (tokenOf text (t .token) (t .place) (t .past)) ≡ false
+      → tape′ ≡ tape
+      → ExpressionAgrees text table symbols parts bound depth start tape₀ tape′
+      (Done (record { at = t .place; words = s .words; count = s .count; parts = s .parts }))
+  end-with {bound} ts b u i n e =
+      let names = symbolNames text table symbols in
+      let long : suc (length ts) ≤ b .left = rw u at (b .enough) in
+      reads (record { expression = b .first end; progress = progressAt text table parts s }) (stream text Tokens.inside (s .at))
+      (b .same
+      ∙ rw (
+        u,
+        expression-step (b .left) (b .left - 1) names depth (progressAt text table parts s) (placedOf text t) ts (omega arith),
+        i,
+        n,
+      ))
+      (record {
+        tokens = sym (c .again);
+        shorter = b .shorter;
+        went =
+            rw (b .tapes end, tape-end, append-nil (b .words), e)
+            (went-on (t .place) (b .went) (c .onward) (omega (arith, c .forward, c .inside)));
+        progress = refl;
+        going =
+            record {
+              variables = k .going .variables;
+              passed = k .going .passed;
+              few = k .going .few;
+              ready = ready-place (k .going .ready) c;
+            };
+        stands = b .stand end (stands-end text);
+      })
+
+  pub expression-ends : {bound : ℕ} → r ≡ Other → signIs 60 (t .token) ≡ false → length (stream text Tokens.inside (start .at)) ≤ bound
+      → ExpressionAgrees text table symbols parts bound depth start tape₀ tape′
+      (Done (record { at = t .place; words = s .words; count = s .count; parts = s .parts }))
+  expression-ends {bound} e n h =
+      let g = given e in
+      end-with _ (k .behind bound h) (c .unrolled) (g .0) (sign-shown text t 60 n) (g .1)
+
+  -- A CALL
+
+  abbrev opened : Progress
+  opened = record { at = t .past; words = s .words; count = s .count; parts = s .parts }
+
+  abbrev callAt : ℕ → Parsed Reading.Called
+  callAt left =
+      Reading.call (Reading.expression left (symbolNames text table symbols)) depth (progressAt text table parts s) (standing (Tokens.sign 60) (t .place) (t .past))
+      (stream text Tokens.naming (t .past))
+
+  abbrev CallAgrees : List ℕ → CodeParsed → Type 0
+  CallAgrees tape″ p =
+      (left : ℕ) → length (stream text Tokens.naming (t .past)) ≤ left
+      → Agrees (CallRead text table symbols parts opened tape′ tape″) (callAt left) p
+
+  module _ (e : r ≡ Other) (n : signIs 60 (t .token) ≡ true) where
+    angle : stream text Tokens.inside (s .at) ≡ standing (Tokens.sign 60) (t .place) (t .past) ∷ stream text Tokens.naming (t .past)
+    angle = sign-first text Tokens.inside (s .at) c n
+
+    pub call-ready : Going text table symbols parts opened × (s .words < t .past) × (s .at < t .past)
+    call-ready =
+        let o = takes text Tokens.inside (s .at) 60 t c n .onward in (
+          record {
+            variables = k .going .variables;
+            passed = k .going .passed;
+            few = k .going .few;
+            ready = ready-past (k .going .ready) c;
+          },
+          omega (arith, k .going .ready .charged, o),
+          o,
+        )
+
+    -- the definition reads a call
+    at-call : {bound : ℕ} (b : Behind text table symbols parts depth start tape₀ tape s bound) → length (stream text Tokens.naming (t .past)) ≤ b .left - 1
+        → expressionAt text table symbols parts bound depth start
+        ≡ withFirst (b .first)
+        (follow (callAt (b .left - 1)) λ d rest.
+        withFirst (thenCall (d .place) (d .name) (d .argument)) (Reading.expression (b .left - 1) (symbolNames text table symbols) depth (d .progress) rest))
+    at-call b h =
+        let long : suc (length (stream text Tokens.naming (t .past))) ≤ b .left = rw angle at (b .enough) in
+        b .same
+        ∙ rw (
+          angle,
+          expression-step (b .left) (b .left - 1) (symbolNames text table symbols) depth (progressAt text table parts s) (standing (Tokens.sign 60) (t .place) (t .past)) (stream text Tokens.naming (t .past)) (omega arith),
+        )
+
+    left-enough : {bound : ℕ} (b : Behind text table symbols parts depth start tape₀ tape s bound) → length (stream text Tokens.naming (t .past)) ≤ b .left - 1
+    left-enough b = let long : suc (length (stream text Tokens.naming (t .past))) ≤ b .left = rw angle at (b .enough) in omega arith
+
+    pub call-stopped : {tape″ : List ℕ} {fault : Fault} {bound : ℕ} → CallAgrees tape″ (Stopped fault) → length (stream text Tokens.inside (start .at)) ≤ bound
+        → ExpressionAgrees text table symbols parts bound depth start tape₀ tape″ (Stopped fault)
+    call-stopped {fault = fault} {bound} a h =
+        let b = k .behind bound h in
+        stops fault _ _ (at-call b (left-enough b) ∙ rw (has-stopped _ fault (a (b .left - 1) (left-enough b)))) refl refl
+
+    call-behind : {tape″ : List ℕ} {next : Progress} {bound : ℕ} (b : Behind text table symbols parts depth start tape₀ tape s bound) (d : Reading.Called) (rest : List Tokens.Placed)
+        → callAt (b .left - 1) ≡ parsed d rest
+        → CallRead text table symbols parts opened tape′ tape″ d rest next
+        → tape′ ≡ tape
+        → Behind text table symbols parts depth start tape₀ tape″ next bound
+    call-behind {tape″} {next} b d rest q h same =
+        let names = symbolNames text table symbols in
+        let long : suc (length (stream text Tokens.naming (t .past))) ≤ b .left = rw angle at (b .enough) in
+        let longer : suc (length (stream text Tokens.naming (t .past))) ≤ length (stream text Tokens.inside (start .at)) = rw angle at (b .shorter) in
+        let short : length (stream text Tokens.inside (next .at)) ≤ length (stream text Tokens.naming (t .past)) = rw (h .tokens) at (h .shorter) in
+        record {
+          first = λ e. b .first (thenCall (d .place) (d .name) (d .argument) e);
+          left = b .left - 1;
+          words = b .words ++ callTape d;
+          same =
+              at-call b (left-enough b)
+              ∙ rw (q, h .progress, h .tokens)
+              (first-first (b .first) (thenCall (d .place) (d .name) (d .argument)) (Reading.expression (b .left - 1) names depth (progressAt text table parts next) (stream text Tokens.inside (next .at))));
+          enough = omega arith;
+          shorter = omega arith;
+          tapes =
+              λ e.
+              b .tapes (thenCall (d .place) (d .name) (d .argument) e)
+              ∙ rw (tape-call (d .place) (d .name) (d .argument) e) (sym (append-assoc (b .words) (callTape d) (expressionTape e)));
+          stand = λ e g. b .stand (thenCall (d .place) (d .name) (d .argument) e) (stands-call text (d .argument) e (h .named) (h .stands) g);
+          went = went-then (b .went) (went-from (omega (arith, c .onward, c .forward)) (rw same at (h .went)));
+        }
+
+    behind-call : {tape″ : List ℕ} {next : Progress} {bound : ℕ} (b : Behind text table symbols parts depth start tape₀ tape s bound)
+        → ReadAt (CallRead text table symbols parts opened tape′ tape″) (callAt (b .left - 1)) next
+        → tape′ ≡ tape
+        → Behind text table symbols parts depth start tape₀ tape″ next bound
+    behind-call b h same = call-behind b (h .value) (h .rest) (h .same) (h .how) same
+
+    pub call-read : {tape″ : List ℕ} {next : Progress} → CallAgrees tape″ (Done next)
+        → Expressed text table symbols parts depth start tape₀ tape″ next × (s .at < next .at)
+    call-read {tape″} {next} a =
+        let m = length (stream text Tokens.naming (t .past)) in
+        let h = has-read _ next (a m (omega arith)) in
+        let o = takes text Tokens.inside (s .at) 60 t c n .onward in (
+          record {
+            going = h .how .going;
+            onward = omega (arith, k .onward, h .how .went .onward, o);
+            behind =
+                λ bound l.
+                let b = k .behind bound l in
+                behind-call b (has-read _ next (a (b .left - 1) (left-enough b))) (given e .1);
+          },
+          omega (arith, h .how .went .onward, o),
+        )

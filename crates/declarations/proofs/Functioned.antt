@@ -1,0 +1,366 @@
+-- The readers of a function and of a table's functions.
+use Prim.Native.Nat.{ℕ, zero, suc, _+_, _-_, _*_, _≤_, _<_}
+use mathlib.Core.Path.{_≡_, refl, sym, _∙_, ap}
+use mathlib.Core.Bool.{Bool, true, false}
+use mathlib.Core.List.{List, [], _∷_, _++_, append-assoc, append-nil, map-append}
+use native.Mathlib.Omega.{arith}
+use lib.Dec.{T, ltb, eqb, lt→ltb}
+use lib.ListN.{length, set, length-append, length-set}
+use types.Run.{OneOf, miss}
+use denote.Enum.Declared.{tagOf}
+use borrow.Author.Tests.{lt-ltb, le-ltb}
+use Rattle.meaning.specs.Choice.{Bytes, Name, pick, every}
+use Rattle.meaning.specs.Answers.{overLimit}
+use Rattle.meaning.specs.Tree.{Function, Table}
+use Rattle.meaning.specs.Allowed.{namesOf}
+use Rattle.meaning.specs.Tape as Tape
+use Rattle.meaning.specs.Tape.{tapeWord, named, functionKind, functionTape}
+use Rattle.meaning.specs.Tokens as Tokens
+use Rattle.meaning.specs.Reading as Reading
+use Rattle.meaning.specs.Reading.{Parsed, stopped, parsed, follow}
+use Rattle.meaning.proofs.laws.Passing.{both-pass}
+use Rattle.lexing.proofs.Token as token
+use Rattle.lexing.specs.View as View
+use Rattle.lexing.specs.View.{tokenOf, placedOf, stream, Comes}
+use Rattle.lexing.specs.declared.Span.{Span}
+use Rattle.lexing.specs.declared.Token.{Token}
+use Rattle.lexing.specs.declared.Token.the-variants.{Name as NameToken, Symbol, Part, Word, Quoted, Sign, End, Malformed}
+use Rattle.lexing.specs.declared.Placed as Code
+use Rattle.parsing.specs.declared.Answer.{Answer}
+use Rattle.parsing.specs.declared.Answer.the-variants.{OverLimit}
+use Rattle.parsing.specs.declared.progress.Fault.{Fault}
+use Rattle.parsing.specs.declared.progress.Progress.{Progress}
+use Rattle.parsing.specs.declared.progress.Parsed.{Parsed as CodeParsed}
+use Rattle.parsing.specs.declared.progress.Parsed.the-variants.{Stopped, Done}
+use Rattle.parsing.specs.Tables.{Inside, nameIn, inText, tableNames, Entries, declaredFaultIn}
+use Rattle.parsing.specs.Answered.{numberOf, Agrees}
+use Rattle.parsing.specs.Written.{Wrote, isQuiet, Ready, Went}
+use Rattle.parsing.specs.Tokened.{tokenFault, signIs, Taken, Barred}
+use Rattle.declarations.specs.Expressions.{stoppedWith}
+use Rattle.declarations.specs.Sentences.{Each, SentencesRead}
+use Rattle.declarations.specs.Functions.{FunctionStands, fromBrace, declared, Declarable, BodyRead, Opening, nameFault, DeclaredRead, SpareTo, isEnd, FunctionsRead}
+use Rattle.parsing.proofs.Faults.{part-length, within}
+use Rattle.parsing.proofs.Tabling.{Grown, grown, entry-name, entry-inside, none-yet, no-names}
+use Rattle.parsing.proofs.Going.{check-wrong, stops, reads, ReadAt, has-stopped, pass-follow, follow-alone, makes, went-none, went-from, went-on, went-then}
+use Rattle.parsing.proofs.Tokening.{NameFirst, sign-shown, passes-on, passes-not, name-first, names-not, refused, ready-place}
+use Rattle.declarations.proofs.Sentencing.{each-none, each-more}
+
+-- A FUNCTION AFTER ITS NAME
+
+module _ {text : Bytes} {words : ℕ} {n : Span} (limit : ℕ) (d : Declarable text words n) where
+  abbrev BodyAgrees : List ℕ → List ℕ → CodeParsed → Type 0
+  BodyAgrees tape tape′ r =
+      Agrees (BodyRead text limit (n .from) words (View.part text n) tape tape′) (fromBrace limit (stream text Tokens.outside (n .past))) r
+
+  pub brace-not : {tape tape′ : List ℕ} {fault : Fault} → Barred text Tokens.outside 123 (n .past) fault → BodyAgrees tape tape′ (Stopped fault)
+  brace-not k = stops _ _ _ (passes-not _ k) refl refl
+
+  module _ {at : ℕ} (k : Taken text Tokens.outside 123 (n .past) at) where
+    pub name-room : Inside text n × (words + 1 + (n .past - n .from) ≤ 32768)
+    name-room = (d .inside, omega (arith, d .after, d .short, d .inside .forward, k .onward, k .inside))
+
+    module _ {tape tape₁ : List ℕ} {word to : ℕ} (e : word ≡ 2048 + (n .past - n .from))
+        (w : Wrote tape words (word ∷ View.part text n) to tape₁ × T (every isQuiet (View.part text n))) where
+      word-is : tapeWord functionKind (length (View.part text n)) ≡ word
+      word-is = rw (part-length text n (d .inside), e)
+
+      name-went : Went text (n .from) words tape at to tape₁ (named functionKind (View.part text n))
+      name-went =
+          let l = part-length text n (d .inside) in
+          record {
+            onward = omega (arith, d .inside .forward, k .onward);
+            inside = k .inside;
+            charged = omega (arith, w .0 .reached, d .after, d .inside .forward, k .onward);
+            counted = w .0 .reached;
+            wrote = rw word-is (w .0 .same);
+          }
+
+      name-quiet : T (every isQuiet (named functionKind (View.part text n)))
+      unfolding every
+      name-quiet =
+          rw word-is (both-pass (isQuiet word) (every isQuiet (View.part text n)) (lt→ltb word 2304 (omega (arith, d .brief))) (w .1))
+
+      pub body-ready : Ready text at to
+      body-ready = record { inside = k .inside; charged = name-went .charged; short = d .short }
+
+      pub body-reads : {tape′ : List ℕ} {r : CodeParsed}
+          → Agrees (SentencesRead text limit at to tape₁ tape′) (Reading.sentences limit (stream text Tokens.inside at)) r
+          → BodyAgrees tape tape′ r
+      body-reads a =
+          makes (λ ss. ss) _
+          (λ ss rest s h. record {
+            tokens = h .tokens;
+            went = went-then name-went (h .went);
+            left = h .left;
+            stands = record { name = name-quiet; sentences = h .stand };
+          })
+          (passes-on _ k ∙ follow-alone _)
+          a
+
+-- A FUNCTION
+
+module _ {text names : List ℕ} {functions words : ℕ} {t : Code.Placed} (limit : ℕ) (o : Opening text names functions words t) where
+  abbrev FunctionAgrees : List ℕ → List ℕ → List ℕ → CodeParsed → Type 0
+  FunctionAgrees tape tape′ names′ r =
+      Agrees (DeclaredRead text limit (t .place) words functions tape tape′ names names′)
+      (Reading.function (nameFault functions (tableNames text names 0 functions)) limit (stream text Tokens.outside (t .place))) r
+
+  pub function-nameless : {tape tape′ names′ : List ℕ} {fault : Fault} → OneOf (1 ∷ 2 ∷ 3 ∷ 4 ∷ 5 ∷ 6 ∷ 7 ∷ []) (tagOf token.the-type (t .token))
+      → (numberOf (fault .answer) ≡ tokenFault (t .token)) × (fault .place ≡ t .place)
+      → FunctionAgrees tape tape′ names′ (Stopped fault)
+  function-nameless n f = refused (o .comes) (names-not (o .comes) _ _ n) f
+
+  module _ {n : Span} (e : t .token ≡ NameToken n) where
+    pub named-here : NameFirst text Tokens.outside (t .place) t n
+    named-here = name-first (o .comes) e
+
+    pub function-many : {tape tape′ names′ : List ℕ} → 64 ≤ functions → FunctionAgrees tape tape′ names′ (stoppedWith OverLimit (t .place))
+    function-many h = stops _ _ _ (rw (named-here .unrolled, le-ltb functions 64 h)) refl refl
+
+    module _ (few : functions < 64) where
+      pub function-misnamed : {tape tape′ names′ : List ℕ} {answer : Answer}
+          → numberOf answer ≡ declaredFaultIn (tableNames text names 0 functions) (View.part text n)
+          → eqb (numberOf answer) 0 ≡ false
+          → FunctionAgrees tape tape′ names′ (stoppedWith answer (t .place))
+      function-misnamed {answer = answer} f w =
+          stops _ _ _ (rw (named-here .unrolled, lt-ltb functions 64 few, ← f) (check-wrong (numberOf answer) _ _ w)) refl refl
+
+      -- a name without a fault
+      module _ (f : declaredFaultIn (tableNames text names 0 functions) (View.part text n) ≡ 0) where
+        pub declarable : Declarable text words n
+        declarable =
+            record {
+              after = omega (arith, o .ready .charged, named-here .from);
+              inside = named-here .inside;
+              brief = within text n (named-here .inside) 24 3 _ f;
+              short = o .ready .short;
+            }
+
+        pub function-reads : {tape tape′ names′ : List ℕ} {entry : ℕ} {r : CodeParsed}
+            → entry ≡ n .from * 32 + (n .past - n .from)
+            → names′ ≡ set names functions entry
+            → BodyAgrees limit declarable tape tape′ r
+            → FunctionAgrees tape tape′ names′ r
+        function-reads {names′ = names′} {entry = entry} x w a =
+            let brief : n .past - n .from < 32 = omega (arith, declarable .brief) in
+            let inside : T (inText text entry) = rw x (entry-inside text n (named-here .inside) brief) in
+            let name : nameIn text entry ≡ View.part text n = rw x (entry-name text n (named-here .inside) brief) in
+            let g : Grown text names names′ 0 functions (View.part text n) =
+            rw (w, ← name) (grown text names 0 functions (o .entries) entry (rw (o .long) few) inside)
+            in
+            makes (declared (View.part text n)) _
+            (λ ss rest s h. record {
+              read =
+                  record {
+                    tokens = h .tokens;
+                    went = went-from (omega (arith, named-here .from)) (h .went);
+                    left = h .left;
+                    stands = h .stands;
+                  };
+              entries = g .entries;
+              names = g .names;
+              long = rw w (length-set names functions entry ∙ o .long);
+            })
+            (rw (named-here .unrolled, lt-ltb functions 64 few, f, ← named-here .past)
+            (pass-follow 123 (stream text Tokens.outside (n .past)) (λ ts. Reading.sentences limit ts) (λ ss rest. parsed (declared (View.part text n) ss) rest)))
+            a
+
+-- A SPARE `;`
+
+pub spare-passed : {text : Bytes} {at past : ℕ} → Taken text Tokens.outside 59 at past → SpareTo text at past
+spare-passed k = record { tokens = rw (k .unrolled); onward = omega (arith, k .onward); inside = k .inside }
+
+pub spare-none : {text : Bytes} {at : ℕ} {t : Code.Placed} → Comes text Tokens.outside at t → signIs 59 (t .token) ≡ false → SpareTo text at (t .place)
+spare-none {text} {t = t} c e =
+    let i : Reading.isSign 59 (tokenOf text (t .token) (t .place) (t .past)) ≡ false = sign-shown text t 59 e in
+    record { tokens = c .again ∙ rw (c .unrolled, i); onward = c .onward; inside = omega (arith, c .forward, c .inside) }
+
+-- THE END
+
+abbrev allButEnd : List ℕ
+allButEnd = 0 ∷ 1 ∷ 2 ∷ 3 ∷ 4 ∷ 5 ∷ 7 ∷ []
+
+pub no-end : (t : Token) → OneOf allButEnd (tagOf token.the-type t) → false ≡ isEnd t
+no-end (NameToken n) o = refl
+no-end (Symbol x) o = refl
+no-end (Part x) o = refl
+no-end Word o = refl
+no-end (Quoted n) o = refl
+no-end (Sign b) o = refl
+no-end End o = absurd (miss allButEnd 6 tt o)
+no-end Malformed o = refl
+
+end-same : (text : Bytes) (place past : ℕ) (t : Token) → Reading.isTextEnd (tokenOf text t place past) ≡ isEnd t
+end-same text place past (NameToken n) = refl
+end-same text place past (Symbol x) = refl
+end-same text place past (Part x) = refl
+end-same text place past Word = refl
+end-same text place past (Quoted n) = refl
+end-same text place past (Sign b) = refl
+end-same text place past End = refl
+end-same text place past Malformed = refl
+
+-- THE DEFINITION
+
+module _ (limit : ℕ) (before : Table) (t : Tokens.Placed) (ts : List Tokens.Placed) where
+  functions-end : (room : ℕ) → Reading.isTextEnd (t .token) ≡ true → Reading.functions room limit before (t ∷ ts) ≡ parsed before ts
+  unfolding Reading.functions
+  functions-end zero e = rw e
+  functions-end (suc room) e = rw e
+
+  functions-next : (more room : ℕ) → more ≡ suc room → Reading.isTextEnd (t .token) ≡ false
+      → Reading.functions more limit before (t ∷ ts)
+      ≡ follow (Reading.function (Reading.declaredFault before) limit (t ∷ ts))
+      (λ f rest. Reading.functions room (limit - length (f .sentences)) (before ++ f ∷ []) (Reading.passSpare rest))
+  unfolding Reading.functions
+  functions-next more room n e = rw (n, e)
+
+  -- the faults of a name before the last function and after it
+  fault-is : (count : ℕ) {room : Bool} → ltb count 64 ≡ room
+      → Reading.function (λ n. pick room (declaredFaultIn (namesOf before) n) overLimit) limit (t ∷ ts)
+      ≡ Reading.function (nameFault count (namesOf before)) limit (t ∷ ts)
+  fault-is count e = ap (λ (room : Bool). Reading.function (λ n. pick room (declaredFaultIn (namesOf before) n) overLimit) limit (t ∷ ts)) (sym e)
+
+  -- what stops a function stops the functions
+  functions-stop : (room count : ℕ) {number place : ℕ} → count + room ≡ 64 → Reading.isTextEnd (t .token) ≡ false
+      → Reading.function (nameFault count (namesOf before)) limit (t ∷ ts) ≡ stopped number place
+      → Reading.functions room limit before (t ∷ ts) ≡ stopped number place
+  unfolding Reading.functions
+  functions-stop zero count n e h = rw (e, fault-is count (le-ltb count 64 (omega arith)) ∙ h)
+  functions-stop (suc room) count n e h = rw (e, fault-is count (lt-ltb count 64 (omega arith)) ∙ h)
+
+-- one function more
+tape-more : (fs : Table) (f : Function) → Tape.tape (fs ++ f ∷ []) ≡ Tape.tape fs ++ functionTape f
+unfolding Tape.tape
+tape-more [] f = append-nil (functionTape f)
+tape-more (g ∷ fs) f = rw (tape-more fs f) (sym (append-assoc (functionTape g) (Tape.tape fs) (functionTape f)))
+
+tape-none : Tape.tape [] ≡ []
+unfolding Tape.tape
+tape-none = refl
+
+-- THE LOOP
+
+-- the functions from the start are those from here after these
+pub record Functioned (text start tape table : List ℕ) (at words count left : ℕ) : Type 0 where
+  pub before : Table
+  pub same : Reading.functions 64 512 [] (stream text Tokens.outside 0) ≡ Reading.functions (64 - count) left before (stream text Tokens.outside at)
+  pub went : Went text 0 0 start at words tape (Tape.tape before)
+  pub entries : Entries text table 0 count
+  pub names : namesOf before ≡ tableNames text table 0 count
+  pub counted : count ≡ length before
+  pub long : length table ≡ 64
+  pub stand : Each (FunctionStands text) before
+  pub short : length text ≤ 32768
+
+abbrev FunctionsAgree : Bytes → List ℕ → List ℕ → List ℕ → CodeParsed → Type 0
+FunctionsAgree text start tape names r =
+    Agrees (FunctionsRead text start tape names) (Reading.functions 64 512 [] (stream text Tokens.outside 0)) r
+
+pub functions-start : (text start names : List ℕ) → length text ≤ 32768 → length names ≡ 64 → Functioned text start start names 0 0 0 512
+functions-start text start names h l =
+    record {
+      before = [];
+      same = refl;
+      went = rw tape-none (went-none text 0 0 start (record { inside = omega arith; charged = omega arith; short = h }));
+      entries = none-yet text names 0 (omega arith);
+      names = no-names text names 0;
+      counted = refl;
+      long = l;
+      stand = each-none (FunctionStands text);
+      short = h;
+    }
+
+-- a token is read again at its place
+comes-again : {text : Bytes} {mode : Tokens.Mode} {at : ℕ} {t : Code.Placed} → Comes text mode at t → Comes text mode (t .place) t
+comes-again c =
+    record {
+      unrolled = c .again ∙ c .unrolled;
+      again = refl;
+      onward = omega arith;
+      forward = c .forward;
+      inside = c .inside;
+      moves = c .moves;
+      sound = c .sound;
+    }
+
+module _ {text start tape names : List ℕ} {at words count left : ℕ} {t : Code.Placed}
+    (k : Functioned text start tape names at words count left) (c : Comes text Tokens.outside at t) where
+  -- the tokens after it
+  abbrev following : List Tokens.Placed
+  following =
+      pick (Tokens.isLast (tokenOf text (t .token) (t .place) (t .past))) []
+      (stream text (Tokens.modeAfter Tokens.outside (tokenOf text (t .token) (t .place) (t .past))) (t .past))
+
+  few : count ≤ 64
+  few = omega (arith, k .entries .inside, k .long)
+
+  pub functions-done : isEnd (t .token) ≡ true → FunctionsAgree text start tape names (Done (record { at = at; words = words; count = count; parts = 0 }))
+  functions-done e =
+      reads (k .before) following
+      (k .same ∙ rw (c .unrolled) (functions-end left (k .before) (placedOf text t) following (64 - count) (end-same text (t .place) (t .past) (t .token) ∙ e)))
+      (record { went = k .went; entries = k .entries; names = k .names; count = k .counted; stand = k .stand })
+
+  pub opening : Opening text names count words t
+  opening =
+      record {
+        comes = comes-again c;
+        ready = ready-place (record { inside = k .went .inside; charged = k .went .charged; short = k .short }) c;
+        entries = k .entries;
+        long = k .long;
+      }
+
+  -- the function that comes next, by the names before it
+  abbrev nextFunction : Parsed Function
+  nextFunction = Reading.function (nameFault count (tableNames text names 0 count)) left (stream text Tokens.outside (t .place))
+
+  next-is : Reading.function (nameFault count (namesOf (k .before))) left (stream text Tokens.outside at) ≡ nextFunction
+  next-is =
+      ap (λ (ts : List Tokens.Placed). Reading.function (nameFault count (namesOf (k .before))) left ts) (sym (c .again))
+      ∙ ap (λ (known : List Name). Reading.function (nameFault count known) left (stream text Tokens.outside (t .place))) (k .names)
+
+  module _ (e : isEnd (t .token) ≡ false) where
+    not-end : Reading.isTextEnd (tokenOf text (t .token) (t .place) (t .past)) ≡ false
+    not-end = end-same text (t .place) (t .past) (t .token) ∙ e
+
+    pub function-stops : {tape′ names′ : List ℕ} {fault : Fault} → FunctionAgrees left opening tape tape′ names′ (Stopped fault)
+        → FunctionsAgree text start tape′ names′ (Stopped fault)
+    function-stops {fault = fault} a =
+        let h = rw (c .unrolled) at (next-is ∙ has-stopped _ fault a) in
+        stops fault _ _
+        (k .same
+        ∙ rw (c .unrolled) (functions-stop left (k .before) (placedOf text t) following (64 - count) count (omega (arith, few)) not-end h))
+        refl refl
+
+    -- a function was read
+    module _ {tape₁ names₁ : List ℕ} {p : Progress} (r : ReadAt (DeclaredRead text left (t .place) words count tape tape₁ names names₁) nextFunction p) where
+      pub one-more : count < 64
+      one-more = omega (arith, r .how .entries .inside, r .how .long)
+
+      at-next : Reading.functions 64 512 [] (stream text Tokens.outside 0)
+          ≡ Reading.functions (64 - (count + 1)) (p .count) (k .before ++ r .value ∷ []) (Reading.passSpare (stream text Tokens.outside (p .at)))
+      at-next =
+          let q : Reading.function (Reading.declaredFault (k .before)) left (placedOf text t ∷ following) ≡ parsed (r .value) (r .rest) =
+          fault-is left (k .before) (placedOf text t) following count (lt-ltb count 64 one-more) ∙ (rw (c .unrolled) at (next-is ∙ r .same))
+          in
+          let n : 64 - count ≡ suc (64 - (count + 1)) = omega (arith, one-more) in
+          let l : left - length (r .value .sentences) ≡ p .count = omega (arith, r .how .read .left) in
+          k .same
+          ∙ rw (c .unrolled)
+          (functions-next left (k .before) (placedOf text t) following (64 - count) (64 - (count + 1)) n not-end ∙ rw (q, r .how .read .tokens, l))
+
+      pub function-goes : {at′ : ℕ} → SpareTo text (p .at) at′ → Functioned text start tape₁ names₁ at′ (p .words) (count + 1) (p .count)
+      function-goes {at′} s =
+          record {
+            before = k .before ++ r .value ∷ [];
+            same = at-next ∙ rw (s .tokens);
+            went =
+                rw (tape-more (k .before) (r .value))
+                (went-then (k .went) (went-on at′ (went-from (c .onward) (r .how .read .went)) (s .onward) (s .inside)));
+            entries = r .how .entries;
+            names = map-append (λ (f : Function). f .name) (k .before) (r .value ∷ []) ∙ rw (k .names) (sym (r .how .names));
+            counted = rw (length-append (k .before) (r .value ∷ [])) (omega (arith, k .counted));
+            long = r .how .long;
+            stand = each-more (FunctionStands text) (k .before) (r .value) (k .stand) (r .how .read .stands);
+            short = k .short;
+          }

@@ -1,0 +1,174 @@
+-- The expression's reader: a string, an s-variable and an e-variable joined to the expression.
+use Prim.Native.Nat.{ℕ, suc, _+_, _-_, _≤_, _<_}
+use mathlib.Core.Path.{_≡_, refl, sym, _∙_}
+use mathlib.Core.Bool.{Bool, true, false}
+use mathlib.Core.List.{List, _∷_}
+use mathlib.Core.Option.{none, some}
+use native.Mathlib.Omega.{arith}
+use lib.Dec.{T, leb, eqb}
+use lib.ListN.{length, drop}
+use borrow.Author.Tests.{lt-leb, le-leb, lt-ltb, le-ltb}
+use Rattle.meaning.specs.Choice.{Bytes, Name, both, every}
+use Rattle.meaning.specs.Allowed.{maxIdentifier, comingAfter}
+use Rattle.meaning.specs.Reading as Reading
+use Rattle.meaning.specs.Reading.{Item, characters, symbolItem, partItem, isItem, symbolFault}
+use Rattle.lexing.specs.View as View
+use Rattle.lexing.specs.View.{charactersIn, quotationAt}
+use Rattle.lexing.specs.declared.Span.{Span}
+use Rattle.lexing.specs.declared.Placed.{Placed}
+use Rattle.parsing.specs.declared.Answer.{Answer}
+use Rattle.parsing.specs.declared.Answer.the-variants.{OverLimit, WrongLaterVariable}
+use Rattle.parsing.specs.declared.progress.Progress.{Progress}
+use Rattle.declarations.specs.declared.expressions.Joined.{Joined}
+use Rattle.declarations.specs.declared.expressions.Joined.the-variants.{Taken, Wrong, Other}
+use Rattle.parsing.specs.Tables.{tableNames, Entries, position}
+use Rattle.parsing.specs.Answered.{numberOf}
+use Rattle.parsing.specs.Written.{Wrote, stringFrom, isQuiet}
+use Rattle.parsing.specs.Patterns.{symbolNames, Identifier, StringAt, itemAt}
+use Rattle.declarations.specs.Expressions.{progressAt, Going, TakenIn, WrongIn, ItemGives, JoinsItem, TokenGives, JoinsToken}
+use Rattle.parsing.proofs.Finding.{position-coming, table-length}
+use Rattle.parsing.proofs.Tabling.{entries-later, names-later}
+use Rattle.parsing.proofs.Faults.{too-long, short-enough, within}
+use Rattle.parsing.proofs.Itemed.{string-went, string-quiet, variable-went, variable-quiet}
+use Rattle.parsing.proofs.Patterning.{identifier-inside}
+
+-- STRINGS
+
+module _ {text : Bytes} {table : List ℕ} {symbols parts : ℕ} {s : Progress} {place past count : ℕ}
+    (g : Going text table symbols parts s) (a : StringAt text (s .at) place past count) where
+  pub string-many : 128 < s .count + count → WrongIn text table symbols parts s (characters (charactersIn (quotationAt text place))) OverLimit
+  string-many w = record { wrong = refl; fault = rw (a .counted, lt-leb (s .count + count) 128 w) }
+
+  pub string-joined : s .count + count ≤ 128 → {tape tape′ : List ℕ} {words : ℕ}
+      → Wrote tape (s .words) (charactersIn (stringFrom text (place + 1))) words tape′ × T (every isQuiet (charactersIn (stringFrom text (place + 1))))
+      → TakenIn text table symbols parts s tape (characters (charactersIn (quotationAt text place))) past tape′
+      (record { at = past; words = words; count = s .count + count; parts = s .parts })
+  string-joined few w =
+      let o = string-went (g .ready) a (w .0) in
+      record {
+        going =
+            record {
+              variables = g .variables;
+              passed = g .passed;
+              few = few;
+              ready = record { inside = a .inside; charged = o .charged; short = g .ready .short };
+            };
+        at = refl;
+        went = o;
+        quiet = string-quiet (g .ready) a (w .1);
+        fault = rw (a .counted, le-leb (s .count + count) 128 few);
+        progress = rw (a .counted);
+      }
+
+-- VARIABLES
+
+module _ {text : Bytes} {table : List ℕ} {symbols parts : ℕ} {s : Progress} {x : Span}
+    (g : Going text table symbols parts s) (i : Identifier text (s .at) x) where
+  abbrev name : Name
+  name = View.part text x
+
+  -- too many items, whatever else
+  many : {short : Bool} → leb (length name) maxIdentifier ≡ short → 128 ≤ s .count → both (leb (length name) maxIdentifier) (leb (s .count + 1) 128) ≡ false
+  many {short = true} e m = rw (e, lt-leb (s .count + 1) 128 (omega arith))
+  many {short = false} e m = rw e
+
+  pub symbol-many : 128 ≤ s .count → WrongIn text table symbols parts s (symbolItem name) OverLimit
+  symbol-many m = record { wrong = refl; fault = rw (many refl m) }
+
+  pub part-many : 128 ≤ s .count → WrongIn text table symbols parts s (partItem name) OverLimit
+  part-many m = record { wrong = refl; fault = rw (many refl m) }
+
+  pub part-long : 8 < x .past - x .from → WrongIn text table symbols parts s (partItem name) OverLimit
+  part-long l = record { wrong = refl; fault = rw (too-long text x (identifier-inside i) 8 l) }
+
+  few-items : s .count < 128 → leb (s .count + 1) 128 ≡ true
+  few-items m = le-leb (s .count + 1) 128 (omega arith)
+
+  -- an s-variable that has room: what is wrong with it later is wrong with it here
+  symbol-like : (m : s .count < 128) → {short : Bool} → leb (length name) maxIdentifier ≡ short
+      → Reading.itemFault (symbolNames text table symbols) (progressAt text table parts s) (symbolItem name) ≡ symbolFault (symbolNames text table symbols) name
+  symbol-like m {short = true} e = rw (e, few-items m)
+  symbol-like m {short = false} e = rw e
+
+  pub symbol-bad : s .count < 128 → {answer : Answer} → numberOf answer ≡ symbolFault (symbolNames text table symbols) name → eqb (numberOf answer) 0 ≡ false
+      → WrongIn text table symbols parts s (symbolItem name) answer
+  symbol-bad m e w = record { wrong = w; fault = symbol-like m refl ∙ sym e }
+
+  module _ (m : s .count < 128) where
+    next-going : {words passed : ℕ} → passed ≤ parts → words ≤ x .past
+        → Going text table symbols parts (record { at = x .past; words = words; count = s .count + 1; parts = passed })
+    next-going p w =
+        record {
+          variables = g .variables;
+          passed = p;
+          few = omega arith;
+          ready = record { inside = i .inside; charged = w; short = g .ready .short };
+        }
+
+    pub symbol-joined : symbolFault (symbolNames text table symbols) name ≡ 0 → {word : ℕ} {tape tape′ : List ℕ} {words : ℕ}
+        → word ≡ 256 + (x .past - x .from)
+        → Wrote tape (s .words) (word ∷ name) words tape′ × T (every isQuiet name)
+        → TakenIn text table symbols parts s tape (symbolItem name) (x .past) tape′
+        (record { at = x .past; words = words; count = s .count + 1; parts = s .parts })
+    symbol-joined f e w =
+        let o = variable-went (g .ready) i 1 e (w .0) in
+        let short = within text x (identifier-inside i) 8 3 _ f in
+        record {
+          going = next-going (g .passed) (o .charged);
+          at = refl;
+          went = o;
+          quiet = variable-quiet (g .ready) i 1 (omega arith) (w .1);
+          fault = symbol-like m refl ∙ f;
+          progress = refl;
+        }
+
+    -- AN E-VARIABLE
+
+    module _ (l : x .past - x .from ≤ 8) where
+      abbrev coming : List Name
+      coming = tableNames text table (16 + s .parts) (16 + parts)
+
+      -- the entries that may still come
+      pub coming-entries : Entries text table (16 + s .parts) (16 + parts)
+      coming-entries = entries-later text table 16 (16 + parts) (g .variables .partEntries) (s .parts) (omega (arith, g .passed))
+
+      module _ (r : ℕ) (f : r ≡ 16 + s .parts + position name coming) where
+        count-of : length coming ≡ parts - s .parts
+        count-of = table-length text table (16 + s .parts) (16 + parts) coming-entries ∙ omega (arith, g .passed)
+
+        known : r < 16 + parts → comingAfter name coming ≡ some (drop (suc (position name coming)) coming)
+        known h = position-coming name coming ∙ rw (lt-ltb (position name coming) (length coming) (rw count-of (omega (arith, g .passed))))
+
+        unknown : 16 + parts ≤ r → comingAfter name coming ≡ none
+        unknown h = position-coming name coming ∙ rw (le-ltb (position name coming) (length coming) (rw count-of (omega (arith, g .passed))))
+
+        pub part-unknown : 16 + parts ≤ r → WrongIn text table symbols parts s (partItem name) WrongLaterVariable
+        part-unknown h = record { wrong = refl; fault = rw (short-enough text x (identifier-inside i) 8 l, few-items m, unknown h) }
+
+        pub part-joined : r < 16 + parts → {word : ℕ} {tape tape′ : List ℕ} {words : ℕ}
+            → word ≡ 512 + (x .past - x .from)
+            → Wrote tape (s .words) (word ∷ name) words tape′ × T (every isQuiet name)
+            → TakenIn text table symbols parts s tape (partItem name) (x .past) tape′
+            (record { at = x .past; words = words; count = s .count + 1; parts = r - 15 })
+        part-joined h e w =
+            let o = variable-went (g .ready) i 2 e (w .0) in
+            let n : 16 + (r - 15) ≡ 16 + s .parts + suc (position name coming) = omega arith in
+            record {
+              going = next-going (omega arith) (o .charged);
+              at = refl;
+              went = o;
+              quiet = variable-quiet (g .ready) i 2 (omega arith) (w .1);
+              fault = rw (short-enough text x (identifier-inside i) 8 l, few-items m, known h);
+              progress = rw (known h, n, names-later text table (16 + s .parts) (16 + parts) (suc (position name coming)));
+            }
+
+-- what comes of the item comes of the token
+pub joins : {text : Bytes} {table : List ℕ} {symbols parts : ℕ} {s : Progress} {tape : List ℕ} {item : Item} {past : ℕ} {tape′ : List ℕ} {r : Joined} (t : Placed)
+    → itemAt text t ≡ item → isItem item ≡ true → past ≡ t .past → JoinsItem text table symbols parts s tape item past tape′ r
+    → JoinsToken text table symbols parts s tape t tape′ r
+joins {text} {table} {symbols} {parts} {s} {tape} {item} {past} {tape′} {r} t e i w a = record { gives = gives r (a .gives) }
+  where
+    gives : (r′ : Joined) → ItemGives text table symbols parts s tape item past tape′ r′ → TokenGives text table symbols parts s tape t tape′ r′
+    gives (Taken next) g = (rw (e, ← w) g, rw e i)
+    gives (Wrong answer) g = (rw e g, rw e i)
+    gives Other g = absurd g

@@ -1,0 +1,123 @@
+-- The opening of a call: its name, which has no fault, and the word for it.
+use Prim.Native.Nat.{ℕ, _+_, _-_, _*_, _≤_, _<_}
+use mathlib.Core.Path.{_≡_, refl, sym, _∙_}
+use mathlib.Core.Bool.{Bool, false}
+use mathlib.Core.List.{List, [], _∷_}
+use native.Mathlib.Omega.{arith}
+use lib.Dec.{T, leb, ltb, eqb}
+use lib.ListN.{length}
+use types.Run.{OneOf}
+use denote.Enum.Declared.{tagOf}
+use borrow.Author.Tests.{lt-leb, le-leb, lt-ltb, le-ltb}
+use Rattle.meaning.specs.Choice.{Bytes, both, every}
+use Rattle.meaning.specs.Tokens as Tokens
+use Rattle.meaning.specs.Grammar.{standing}
+use Rattle.meaning.specs.Reading as Reading
+use Rattle.meaning.specs.Reading.{Parsed, parsed}
+use Rattle.lexing.proofs.Token as token
+use Rattle.lexing.specs.View as View
+use Rattle.lexing.specs.View.{stream, Comes}
+use Rattle.lexing.specs.declared.Span.{Span}
+use Rattle.lexing.specs.declared.Token.the-variants.{Name as NameToken}
+use Rattle.lexing.specs.declared.Placed as Code
+use Rattle.parsing.specs.declared.Answer.{Answer}
+use Rattle.parsing.specs.declared.Answer.the-variants.{OverLimit}
+use Rattle.parsing.specs.declared.progress.Fault.{Fault}
+use Rattle.parsing.specs.declared.progress.Progress.{Progress}
+use Rattle.parsing.specs.declared.progress.Parsed.{Parsed as CodeParsed}
+use Rattle.parsing.specs.declared.progress.Parsed.the-variants.{Stopped, Done}
+use Rattle.parsing.specs.Tables.{Inside}
+use Rattle.parsing.specs.Answered.{numberOf, Agrees}
+use Rattle.parsing.specs.Written.{Wrote, isQuiet, Ready}
+use Rattle.parsing.specs.Tokened.{tokenFault}
+use Rattle.declarations.specs.Expressions.{CallStands, stoppedWith, CalledName, opening, OpeningRead}
+use Rattle.parsing.proofs.Choosing.{both-false}
+use Rattle.parsing.proofs.Faults.{part-length, within}
+use Rattle.parsing.proofs.Going.{check-wrong, stops, reads}
+use Rattle.parsing.proofs.Tokening.{NameFirst, name-first, names-not, refused}
+
+-- what the definition reads of a call after its `<`, up to its argument
+abbrev pub openingAt : Bytes → ℕ → Progress → ℕ → Parsed CalledName
+openingAt text depth s place = opening depth (s .count) (standing (Tokens.sign 60) place (s .at)) (stream text Tokens.naming (s .at))
+
+abbrev pub OpeningAgrees : Bytes → ℕ → Progress → ℕ → List ℕ → List ℕ → CodeParsed → Type 0
+OpeningAgrees text depth s place tape tape′ r = Agrees (OpeningRead text depth s tape tape′) (openingAt text depth s place) r
+
+module _ (text : Bytes) (depth : ℕ) (s : Progress) (place : ℕ) where
+  full : {deep : Bool} → ltb depth 16 ≡ deep → 128 ≤ s .count → both (ltb depth 16) (leb (s .count + 1) 128) ≡ false
+  full {deep} e m = rw (e, lt-leb (s .count + 1) 128 (omega arith)) (sym (both-false deep refl))
+
+  pub call-deep : {tape tape′ : List ℕ} → 16 ≤ depth → OpeningAgrees text depth s place tape tape′ (stoppedWith OverLimit place)
+  call-deep h = stops _ _ _ (rw (le-ltb depth 16 h)) refl refl
+
+  pub call-many : {tape tape′ : List ℕ} → 128 ≤ s .count → OpeningAgrees text depth s place tape tape′ (stoppedWith OverLimit place)
+  call-many h = stops _ _ _ (rw (full refl h)) refl refl
+
+  module _ (d : depth < 16) (m : s .count < 128) {t : Code.Placed} (k : Comes text Tokens.naming (s .at) t) where
+    at-name : openingAt text depth s place
+        ≡ Reading.passName Reading.calledFault (stream text Tokens.naming (s .at)) (λ at n rest. parsed (record { place = at; name = n }) rest)
+    at-name = rw (lt-ltb depth 16 d, le-leb (s .count + 1) 128 (omega arith))
+
+    pub call-nameless : {tape tape′ : List ℕ} {fault : Fault} → OneOf (1 ∷ 2 ∷ 3 ∷ 4 ∷ 5 ∷ 6 ∷ 7 ∷ []) (tagOf token.the-type (t .token))
+        → (numberOf (fault .answer) ≡ tokenFault (t .token)) × (fault .place ≡ t .place)
+        → OpeningAgrees text depth s place tape tape′ (Stopped fault)
+    call-nameless n f = refused k (at-name ∙ names-not k _ _ n) f
+
+    module _ {n : Span} (e : t .token ≡ NameToken n) where
+      abbrev here : NameFirst text Tokens.naming (s .at) t n
+      here = name-first k e
+
+      pub call-misnamed : {tape tape′ : List ℕ} {answer : Answer} → numberOf answer ≡ Reading.calledFault (View.part text n) → eqb (numberOf answer) 0 ≡ false
+          → OpeningAgrees text depth s place tape tape′ (stoppedWith answer (t .place))
+      call-misnamed {answer = answer} f w =
+          stops _ _ _ (at-name ∙ rw (here .unrolled, ← f) (check-wrong (numberOf answer) _ _ w)) refl refl
+
+      -- a name without a fault
+      module _ (f : Reading.calledFault (View.part text n) ≡ 0) (g : Ready text (s .at) (s .words)) (a : s .words < s .at) where
+        name-length : length (View.part text n) ≡ n .past - n .from
+        name-length = part-length text n (here .inside)
+
+        name-short : n .past - n .from ≤ 24
+        name-short = within text n (here .inside) 24 3 _ f
+
+        pub name-room : Inside text n × (s .words + 1 + (n .past - n .from) ≤ 32768) × (n .past - n .from ≤ 24) × (t .place ≤ 32768)
+        name-room = (
+          here .inside,
+          omega (arith, a, g .short, k .onward, here .from, here .inside .forward, here .inside .inside),
+          name-short,
+          omega (arith, g .short, k .forward, k .inside),
+        )
+
+        -- the name stands in the text
+        name-stands : T (every isQuiet (View.part text n)) → CallStands text (t .place) (View.part text n)
+        name-stands q =
+            let e : n .from + (n .past - n .from) ≡ n .past = omega (arith, here .inside .forward) in
+            record {
+              same = rw (name-length, ← here .from, e);
+              inside = rw name-length (omega (arith, here .from, here .inside .forward, here .inside .inside));
+              short = rw name-length name-short;
+              quiet = q;
+            }
+
+        pub call-opens : {tape tape′ : List ℕ} {words : ℕ}
+            → Wrote tape (s .words) (((9 + t .place) * 256 + (n .past - n .from)) ∷ View.part text n) words tape′ × T (every isQuiet (View.part text n))
+            → OpeningAgrees text depth s place tape tape′ (Done (record { at = t .past; words = words; count = s .count + 1; parts = s .parts }))
+        call-opens w =
+            reads (record { place = t .place; name = View.part text n }) (stream text Tokens.inside (t .past)) (at-name ∙ rw (here .unrolled, f))
+            (record {
+              tokens = refl;
+              shorter = rw (here .unrolled) (omega arith);
+              went =
+                  record {
+                    onward = omega (arith, k .onward, k .forward);
+                    inside = k .inside;
+                    charged = omega (arith, w .0 .reached, name-length, a, k .onward, here .from, here .past, here .some);
+                    counted = w .0 .reached;
+                    wrote = rw name-length (w .0 .same);
+                  };
+              shallow = d;
+              few = m;
+              counted = refl;
+              passed = refl;
+              stands = name-stands (w .1);
+            })

@@ -1,0 +1,251 @@
+-- The sentence's reader, and what comes before and after a sentence.
+use Prim.Native.Nat.{ℕ, zero, suc, _+_, _≤_, _<_}
+use mathlib.Core.Path.{_≡_, refl, _∙_}
+use mathlib.Core.Bool.{true, false}
+use mathlib.Core.List.{List, [], _∷_}
+use native.Mathlib.Omega.{arith}
+use lib.Dec.{eqb}
+use lib.ListN.{length, set}
+use types.Run.{OneOf, miss}
+use denote.Enum.Declared.{tagOf}
+use borrow.Author.Tests.{ne-eqb}
+use Rattle.meaning.specs.Choice.{Bytes}
+use Rattle.meaning.specs.Tree.{Element, Condition, Sentence}
+use Rattle.meaning.specs.Allowed.{symbolsOf, partsOf}
+use Rattle.meaning.specs.Tokens as Tokens
+use Rattle.meaning.specs.Reading as Reading
+use Rattle.meaning.specs.Reading.{Parsed, parsed, follow}
+use Rattle.lexing.proofs.Token as token
+use Rattle.lexing.specs.View.{tokenOf, placedOf, stream, Comes}
+use Rattle.lexing.specs.declared.Token.{Token}
+use Rattle.lexing.specs.declared.Token.the-variants.{Name as NameToken, Symbol, Part, Word, Quoted, Sign, End, Malformed}
+use Rattle.lexing.specs.declared.Placed as Code
+use Rattle.parsing.specs.declared.Answer.the-variants.{OverLimit}
+use Rattle.parsing.specs.declared.progress.Fault.{Fault}
+use Rattle.parsing.specs.declared.progress.Progress.{Progress}
+use Rattle.parsing.specs.declared.progress.Parsed.{Parsed as CodeParsed}
+use Rattle.parsing.specs.declared.progress.Parsed.the-variants.{Stopped, Done}
+use Rattle.declarations.specs.declared.sentences.Sequel.the-variants.{Ends, Another, Refused}
+use Rattle.parsing.specs.Answered.{numberOf, Agrees}
+use Rattle.parsing.specs.Written.{Ready}
+use Rattle.parsing.specs.Tokened.{tokenFault, signIs, Taken, Barred}
+use Rattle.parsing.specs.Patterns.{Variables, symbolNames, partNames, PatternRead}
+use Rattle.parsing.specs.Conditions.{ConditionsRead}
+use Rattle.declarations.specs.Expressions.{progressAt, Going, stoppedWith, ExpressionRead}
+use Rattle.declarations.specs.Sentences.{fromEquals, EqualsRead, SentenceRead, beginsSentence, sentenceOf, firstSentence, FirstRead, Follows}
+use Rattle.parsing.proofs.Items.{symbol-at, part-at, symbol-variable, part-variable}
+use Rattle.parsing.proofs.Going.{stops, ReadAt, has-stopped, has-read, follow-same, pass-follow, follow-alone, makes, went-from, went-then, word-went}
+use Rattle.parsing.proofs.Tokening.{fault-same, sign-shown, passes-on, passes-not, refused}
+
+-- WHERE A SENTENCE BEGINS
+
+pub begins-sign : {t : Token} {b : ℕ} → t ≡ Sign b → (b ≡ 44 → ⊥) → eqb b 61 ≡ beginsSentence t
+begins-sign {b = b} e d = rw (e, ne-eqb b 44 d)
+
+abbrev noBeginning : List ℕ
+noBeginning = 0 ∷ 3 ∷ 6 ∷ 7 ∷ []
+
+pub begins-other : (t : Token) → OneOf noBeginning (tagOf token.the-type t) → false ≡ beginsSentence t
+begins-other (NameToken n) o = refl
+begins-other (Symbol x) o = absurd (miss noBeginning 1 tt o)
+begins-other (Part x) o = absurd (miss noBeginning 2 tt o)
+begins-other Word o = refl
+begins-other (Quoted n) o = absurd (miss noBeginning 4 tt o)
+begins-other (Sign b) o = absurd (miss noBeginning 5 tt o)
+begins-other End o = refl
+begins-other Malformed o = refl
+
+pub begins-same : {text : Bytes} {mode : Tokens.Mode} {at : ℕ} {t : Code.Placed} → Comes text mode at t
+    → Reading.begins (tokenOf text (t .token) (t .place) (t .past)) ≡ beginsSentence (t .token)
+begins-same {text} {t = t} c = same (t .token) refl
+  where
+    same : (k : Token) → t .token ≡ k → Reading.begins (tokenOf text k (t .place) (t .past)) ≡ beginsSentence k
+    same (NameToken n) e = refl
+    same (Symbol x) e = rw (symbol-variable (symbol-at c e))
+    same (Part x) e = rw (part-variable (part-at c e))
+    same Word e = rw (rw e at (c .sound))
+    same (Quoted n) e = refl
+    same (Sign b) e = refl
+    same End e = refl
+    same Malformed e = refl
+
+-- WHAT COMES AFTER A SENTENCE
+
+module _ {text : Bytes} {from : ℕ} where
+  pub ends-at-once : {past : ℕ} → Taken text Tokens.inside 125 from past → Follows text from (Ends past)
+  ends-at-once k = record { gives = (λ more s. rw (k .unrolled), k .onward, k .inside) }
+
+  pub follows-nothing : {t : Code.Placed} {fault : Fault} → Comes text Tokens.inside from t → signIs 125 (t .token) ≡ false → signIs 59 (t .token) ≡ false
+      → (numberOf (fault .answer) ≡ tokenFault (t .token)) × (fault .place ≡ t .place)
+      → Follows text from (Refused fault)
+  follows-nothing {t} {fault} c e d f =
+      let i : Reading.isSign 125 (tokenOf text (t .token) (t .place) (t .past)) ≡ false = sign-shown text t 125 e in
+      let j : Reading.isSign 59 (tokenOf text (t .token) (t .place) (t .past)) ≡ false = sign-shown text t 59 d in
+      let n : numberOf (fault .answer) ≡ Reading.faultOf (tokenOf text (t .token) (t .place) (t .past)) = f .0 ∙ fault-same text (t .place) (t .past) (t .token) in
+      record { gives = λ more s. rw (c .unrolled, i, j, n, f .1) }
+
+  module _ {next : ℕ} (k : Taken text Tokens.inside 59 from next) where
+    pub ends-after : {past : ℕ} → Taken text Tokens.inside 125 next past → Follows text from (Ends past)
+    ends-after l = record { gives = (λ more s. rw (k .unrolled, l .unrolled), omega (arith, k .onward, l .onward), l .inside) }
+
+    pub goes-after : {t : Code.Placed} → Comes text Tokens.inside next t → signIs 125 (t .token) ≡ false → Follows text from (Another (t .place))
+    goes-after {t} c e =
+        let i : Reading.isSign 125 (tokenOf text (t .token) (t .place) (t .past)) ≡ false = sign-shown text t 125 e in
+        record {
+          gives = (
+            λ more s. rw (k .unrolled, c .again, c .unrolled, i),
+            omega (arith, k .onward, c .onward),
+            omega (arith, c .forward, c .inside),
+          );
+        }
+
+-- A SENTENCE FROM ITS `=` ON
+
+abbrev expressionStart : ℕ → ℕ → Progress
+expressionStart at words = record { at = at; words = words + 1; count = 0; parts = 0 }
+
+module _ (text table : List ℕ) (symbols parts from words : ℕ) where
+  abbrev EqualsAgrees : List ℕ → List ℕ → CodeParsed → Type 0
+  EqualsAgrees tape tape′ r =
+      Agrees (EqualsRead text from words tape tape′)
+      (fromEquals (symbolNames text table symbols) (partNames text table parts) (stream text Tokens.inside from)) r
+
+  pub equals-not : {tape tape′ : List ℕ} {fault : Fault} → Barred text Tokens.inside 61 from fault → EqualsAgrees tape tape′ (Stopped fault)
+  equals-not k = stops _ _ _ (passes-not _ k) refl refl
+
+  module _ {at : ℕ} (k : Taken text Tokens.inside 61 from at) (ready : Ready text from words) where
+    pub equals-room : words < 32768
+    equals-room = omega (arith, ready .charged, ready .short, k .onward, k .inside)
+
+    pub equals-going : Variables text table symbols parts → Going text table symbols parts (expressionStart at words)
+    equals-going v =
+        record {
+          variables = v;
+          passed = omega arith;
+          few = omega arith;
+          ready = record { inside = k .inside; charged = omega (arith, ready .charged, k .onward); short = ready .short };
+        }
+
+    pub equals-reads : {tape tape₁ tape′ : List ℕ} {r : CodeParsed} → tape₁ ≡ set tape words 1024
+        → ((bound : ℕ) → length (stream text Tokens.inside at) ≤ bound
+        → Agrees (ExpressionRead text table symbols parts (expressionStart at words) tape₁ tape′)
+        (Reading.expression bound (symbolNames text table symbols) 0 (progressAt text table parts (expressionStart at words)) (stream text Tokens.inside at))
+        r)
+        → EqualsAgrees tape tape′ r
+    equals-reads {tape} {tape₁} {tape′} e a =
+        makes (λ i. i) _
+        (λ i rest s h. record { tokens = h .tokens; went = went-then (word-went ready (k .onward) (k .inside) e) (h .went); stands = h .stands })
+        (passes-on _ k ∙ follow-alone _)
+        (a (length (stream text Tokens.inside at)) (omega arith))
+
+-- A SENTENCE
+
+abbrev SentenceAgrees : Bytes → ℕ → ℕ → List ℕ → List ℕ → CodeParsed → Type 0
+SentenceAgrees text from words tape tape′ r =
+    Agrees (SentenceRead text from words tape tape′) (Reading.sentence (stream text Tokens.inside from)) r
+
+-- after its pattern, and after its conditions
+abbrev withExpression : List Element → List Condition → Reading.Items → Sentence
+withExpression p cs i = record { pattern = p; conditions = cs; expression = i .expression }
+
+abbrev afterPattern : List Element → List Tokens.Placed → Parsed Sentence
+afterPattern p ts =
+    follow (Reading.conditions 8 (symbolsOf p) ts) λ cs ts₁.
+    Reading.pass 61 ts₁ λ ts₂.
+    follow (Reading.expression (length ts₂) (symbolsOf p) 0 (record { items = 0; coming = partsOf p }) ts₂) λ i rest.
+    parsed (withExpression p cs i) rest
+
+sentence-is : (ts : List Tokens.Placed) → Reading.sentence ts ≡ follow (Reading.pattern [] ts) afterPattern
+unfolding Reading.sentence
+sentence-is ts = refl
+
+-- the pattern was read, and the conditions
+abbrev PatternDone : Bytes → ℕ → ℕ → List ℕ → List ℕ → List ℕ → Progress → Type 0
+PatternDone text from words tape table tape₁ p =
+    ReadAt (PatternRead text from words tape table tape₁) (Reading.pattern [] (stream text Tokens.inside from)) p
+
+abbrev conditionsAt : Bytes → List ℕ → Progress → Parsed (List Condition)
+conditionsAt text table p = Reading.conditions 8 (symbolNames text table (p .count)) (stream text Tokens.inside (p .at))
+
+abbrev ConditionsDone : Bytes → List ℕ → Progress → List ℕ → List ℕ → Progress → Type 0
+ConditionsDone text table p tape₁ tape₂ c = ReadAt (ConditionsRead text (p .at) (p .words) tape₁ tape₂) (conditionsAt text table p) c
+
+module _ {text : Bytes} {from words : ℕ} where
+  pub pattern-stops : {tape tape′ table : List ℕ} {fault : Fault}
+      → Agrees (PatternRead text from words tape table tape′) (Reading.pattern [] (stream text Tokens.inside from)) (Stopped fault)
+      → SentenceAgrees text from words tape tape′ (Stopped fault)
+  pattern-stops {fault = fault} a = stops fault _ _ (sentence-is _ ∙ rw (has-stopped _ fault a)) refl refl
+
+  pub pattern-done : {tape table tape₁ : List ℕ} {p : Progress}
+      → Agrees (PatternRead text from words tape table tape₁) (Reading.pattern [] (stream text Tokens.inside from)) (Done p)
+      → PatternDone text from words tape table tape₁ p
+  pattern-done {p = p} a = has-read _ p a
+
+  module _ (ready : Ready text from words) {tape table tape₁ : List ℕ} {p : Progress} (k : PatternDone text from words tape table tape₁ p) where
+    pub pattern-ready : Ready text (p .at) (p .words)
+    pattern-ready = record { inside = k .how .went .inside; charged = k .how .went .charged; short = ready .short }
+
+    at-conditions : Reading.sentence (stream text Tokens.inside from)
+        ≡ follow (conditionsAt text table p) (λ cs ts. follow (fromEquals (symbolNames text table (p .count)) (partNames text table (p .parts)) ts)
+        (λ i rest. parsed (withExpression (k .value) cs i) rest))
+    at-conditions =
+        sentence-is _
+        ∙ rw (k .same, k .how .tokens, k .how .symbols, k .how .parts)
+        (follow-same (conditionsAt text table p) (λ cs ts. pass-follow 61 ts _ _))
+
+    pub conditions-stop : {tape′ : List ℕ} {fault : Fault}
+        → Agrees (ConditionsRead text (p .at) (p .words) tape₁ tape′) (conditionsAt text table p) (Stopped fault)
+        → SentenceAgrees text from words tape tape′ (Stopped fault)
+    conditions-stop {fault = fault} a = stops fault _ _ (at-conditions ∙ rw (has-stopped _ fault a)) refl refl
+
+    pub conditions-done : {tape₂ : List ℕ} {c : Progress}
+        → Agrees (ConditionsRead text (p .at) (p .words) tape₁ tape₂) (conditionsAt text table p) (Done c)
+        → ConditionsDone text table p tape₁ tape₂ c
+    conditions-done {c = c} a = has-read _ c a
+
+    module _ {tape₂ : List ℕ} {c : Progress} (l : ConditionsDone text table p tape₁ tape₂ c) where
+      pub conditions-ready : Ready text (c .at) (c .words)
+      conditions-ready = record { inside = l .how .went .inside; charged = l .how .went .charged; short = ready .short }
+
+      pub sentence-reads : {tape′ : List ℕ} {r : CodeParsed}
+          → EqualsAgrees text table (p .count) (p .parts) (c .at) (c .words) tape₂ tape′ r
+          → SentenceAgrees text from words tape tape′ r
+      sentence-reads a =
+          makes (withExpression (k .value) (l .value)) _
+          (λ i rest s h. record {
+            tokens = h .tokens;
+            went = went-then (k .how .went) (went-then (l .how .went) (h .went));
+            stands = record { pattern = k .how .quiet; conditions = l .how .quiet; expression = h .stands };
+          })
+          (at-conditions ∙ rw (l .same, l .how .tokens))
+          a
+
+-- THE NEXT SENTENCE
+
+sentence-of : (left : ℕ) (t : Tokens.Placed) (ts : List Tokens.Placed) → (left ≡ 0 → ⊥) → sentenceOf left t ts ≡ Reading.sentence (t ∷ ts)
+sentence-of zero t ts h = absurd (h refl)
+sentence-of (suc left) t ts h = refl
+
+abbrev FirstAgrees : Bytes → ℕ → ℕ → ℕ → List ℕ → List ℕ → CodeParsed → Type 0
+FirstAgrees text left from words tape tape′ r =
+    Agrees (FirstRead text left from words tape tape′) (firstSentence left (stream text Tokens.inside from)) r
+
+module _ (left words : ℕ) {text : Bytes} {from : ℕ} {t : Code.Placed} (c : Comes text Tokens.inside from t) where
+  pub first-refused : {tape tape′ : List ℕ} {fault : Fault} → beginsSentence (t .token) ≡ false → (numberOf (fault .answer) ≡ tokenFault (t .token)) × (fault .place ≡ t .place)
+      → FirstAgrees text left from words tape tape′ (Stopped fault)
+  first-refused e f = refused c (rw (c .unrolled, begins-same c ∙ e)) f
+
+  module _ (e : beginsSentence (t .token) ≡ true) where
+    pub first-many : {tape tape′ : List ℕ} → left ≡ 0 → FirstAgrees text left from words tape tape′ (stoppedWith OverLimit (t .place))
+    first-many z = stops _ _ _ (rw (c .unrolled, begins-same c ∙ e, z)) refl refl
+
+    pub first-reads : (left ≡ 0 → ⊥) → {tape tape′ : List ℕ} {r : CodeParsed} → SentenceAgrees text (t .place) words tape tape′ r
+        → FirstAgrees text left from words tape tape′ r
+    first-reads z a =
+        makes (λ s. s) _
+        (λ s rest p h. record {
+          read = record { tokens = h .tokens; went = went-from (c .onward) (h .went); stands = h .stands };
+          some = omega arith;
+        })
+        (rw (c .again, c .unrolled, begins-same c ∙ e, sentence-of left (placedOf text t) _ z) (follow-alone _))
+        a

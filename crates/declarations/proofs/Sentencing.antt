@@ -1,0 +1,183 @@
+-- The loop over a function's sentences.
+use Prim.Native.Nat.{ℕ, zero, suc, _+_, _-_, _≤_, _<_}
+use mathlib.Core.Path.{_≡_, refl, sym, _∙_}
+use mathlib.Core.Bool.{Bool, true, false}
+use mathlib.Core.List.{List, [], _∷_, _++_, append-assoc, append-nil}
+use native.Mathlib.Omega.{arith}
+use lib.ListN.{length, set, length-append}
+use Rattle.meaning.specs.Choice.{Bytes}
+use Rattle.meaning.specs.Tree.{Sentence}
+use Rattle.meaning.specs.Tape.{tapeWord, nextKind, endKind, sentenceTape, sentencesTape}
+use Rattle.meaning.specs.Tokens as Tokens
+use Rattle.meaning.specs.Reading as Reading
+use Rattle.meaning.specs.Reading.{Parsed, follow, whether, afterSentence}
+use Rattle.lexing.specs.View.{stream}
+use Rattle.parsing.specs.declared.progress.Fault.{Fault}
+use Rattle.parsing.specs.declared.progress.Progress.{Progress}
+use Rattle.parsing.specs.declared.progress.Parsed.{Parsed as CodeParsed}
+use Rattle.parsing.specs.declared.progress.Parsed.the-variants.{Stopped, Done}
+use Rattle.declarations.specs.declared.sentences.Sequel.the-variants.{Ends, Another, Refused}
+use Rattle.parsing.specs.Answered.{Agrees}
+use Rattle.parsing.specs.Written.{Ready, Went}
+use Rattle.declarations.specs.Sentences.{Each, SentenceStands, sentenceOf, firstSentence, FirstRead, Follows, SentencesRead}
+use Rattle.parsing.proofs.Going.{stops, reads, ReadAt, has-stopped, follow-alone, behind, behind-more, went-none, went-then, word-went}
+
+-- it holds of none, of these and those, and of one more
+pub each-none : {A : Type 0} (holds : A → Type 0) → Each holds []
+unfolding Each
+each-none holds = tt
+
+pub each-append : {A : Type 0} (holds : A → Type 0) (xs ys : List A) → Each holds xs → Each holds ys → Each holds (xs ++ ys)
+unfolding Each
+each-append holds [] ys h k = k
+each-append holds (x ∷ xs) ys h k = (h .0, each-append holds xs ys (h .1) k)
+
+pub each-more : {A : Type 0} (holds : A → Type 0) (xs : List A) (x : A) → Each holds xs → holds x → Each holds (xs ++ x ∷ [])
+unfolding Each
+each-more holds xs x e h = each-append holds xs (x ∷ []) e (h, tt)
+
+-- THE DEFINITION
+
+whether-follow : {A B : Type 0} (is : Bool) (t : Tokens.Placed) (p : Parsed A) (next : A → List Tokens.Placed → Parsed B)
+    → whether is t (follow p next) ≡ follow (whether is t p) next
+whether-follow true t p next = refl
+whether-follow false t p next = refl
+
+-- the first, and what comes after it
+sentences-are : (left : ℕ) (ts : List Tokens.Placed)
+    → Reading.sentences left ts ≡ follow (firstSentence left ts) (λ s rest. afterSentence (Reading.sentences (left - 1)) s rest)
+unfolding Reading.sentences
+sentences-are zero [] = refl
+sentences-are zero (t ∷ ts) = whether-follow (Reading.begins (t .token)) t (sentenceOf zero t ts) _
+sentences-are (suc left) [] = refl
+sentences-are (suc left) (t ∷ ts) =
+    let e : suc left - 1 ≡ left = omega arith in
+    rw e (whether-follow (Reading.begins (t .token)) t (sentenceOf (suc left) t ts) _)
+
+-- THE TAPE
+
+-- sentences that others follow
+unfoldable pub partedTape : List Sentence → List ℕ
+partedTape [] = []
+partedTape (s ∷ ss) = (sentenceTape s ++ tapeWord nextKind 0 ∷ []) ++ partedTape ss
+
+parted-more : (ss : List Sentence) (s : Sentence) → partedTape (ss ++ s ∷ []) ≡ partedTape ss ++ (sentenceTape s ++ tapeWord nextKind 0 ∷ [])
+unfolding partedTape
+parted-more [] s = append-nil (sentenceTape s ++ tapeWord nextKind 0 ∷ [])
+parted-more (r ∷ ss) s =
+    rw (parted-more ss s)
+    (sym (append-assoc (sentenceTape r ++ tapeWord nextKind 0 ∷ []) (partedTape ss) (sentenceTape s ++ tapeWord nextKind 0 ∷ [])))
+
+-- a sentence before others
+sentences-before : (r : Sentence) (ss : List Sentence) (s : Sentence)
+    → sentencesTape (r ∷ (ss ++ s ∷ [])) ≡ (sentenceTape r ++ tapeWord nextKind 0 ∷ []) ++ sentencesTape (ss ++ s ∷ [])
+unfolding sentencesTape
+sentences-before r [] s = sym (append-assoc (sentenceTape r) (tapeWord nextKind 0 ∷ []) _)
+sentences-before r (q ∷ ss) s = sym (append-assoc (sentenceTape r) (tapeWord nextKind 0 ∷ []) _)
+
+parted-last : (ss : List Sentence) (s : Sentence) → sentencesTape (ss ++ s ∷ []) ≡ partedTape ss ++ (sentenceTape s ++ tapeWord endKind 0 ∷ [])
+unfolding partedTape sentencesTape
+parted-last [] s = refl
+parted-last (r ∷ ss) s =
+    sentences-before r ss s
+    ∙ rw (parted-last ss s)
+    (sym (append-assoc (sentenceTape r ++ tapeWord nextKind 0 ∷ []) (partedTape ss) (sentenceTape s ++ tapeWord endKind 0 ∷ [])))
+
+parted-none : partedTape [] ≡ []
+unfolding partedTape
+parted-none = refl
+
+-- THE LOOP
+
+-- the sentences from the start are those from here with these before them
+pub record Sentenced (text start : List ℕ) (limit from words : ℕ) (tape : List ℕ) (at to left : ℕ) : Type 0 where
+  pub before : List Sentence
+  pub same : Reading.sentences limit (stream text Tokens.inside from) ≡ follow (Reading.sentences left (stream text Tokens.inside at)) (behind before)
+  pub went : Went text from words start at to tape (partedTape before)
+  pub counted : left + length before ≡ limit
+  pub stand : Each (SentenceStands text) before
+  pub short : length text ≤ 32768
+
+abbrev SentencesAgree : Bytes → ℕ → ℕ → ℕ → List ℕ → List ℕ → CodeParsed → Type 0
+SentencesAgree text limit from words start tape r =
+    Agrees (SentencesRead text limit from words start tape) (Reading.sentences limit (stream text Tokens.inside from)) r
+
+pub sentences-start : (text start : List ℕ) (limit from words : ℕ) → Ready text from words → Sentenced text start limit from words start from words limit
+sentences-start text start limit from words r =
+    record {
+      before = [];
+      same = follow-alone (Reading.sentences limit (stream text Tokens.inside from));
+      went = rw parted-none (went-none text from words start r);
+      counted = omega arith;
+      stand = each-none (SentenceStands text);
+      short = r .short;
+    }
+
+module _ {text start : List ℕ} {limit from words : ℕ} {tape : List ℕ} {at to left : ℕ} (k : Sentenced text start limit from words tape at to left) where
+  pub next-ready : Ready text at to
+  next-ready = record { inside = k .went .inside; charged = k .went .charged; short = k .short }
+
+  at-sentence : Reading.sentences limit (stream text Tokens.inside from)
+      ≡ follow
+      (follow (firstSentence left (stream text Tokens.inside at)) (λ s rest. afterSentence (Reading.sentences (left - 1)) s rest))
+      (behind (k .before))
+  at-sentence = k .same ∙ rw (sentences-are left (stream text Tokens.inside at))
+
+  pub sentence-stops : {tape′ : List ℕ} {fault : Fault}
+      → Agrees (FirstRead text left at to tape tape′) (firstSentence left (stream text Tokens.inside at)) (Stopped fault)
+      → SentencesAgree text limit from words start tape′ (Stopped fault)
+  sentence-stops {fault = fault} a = stops fault _ _ (at-sentence ∙ rw (has-stopped _ fault a)) refl refl
+
+  -- a sentence was read
+  module _ {tape₁ : List ℕ} {s : Progress}
+      (r : ReadAt (FirstRead text left at to tape tape₁) (firstSentence left (stream text Tokens.inside at)) s) where
+    at-sequel : Reading.sentences limit (stream text Tokens.inside from)
+        ≡ follow (afterSentence (Reading.sentences (left - 1)) (r .value) (stream text Tokens.inside (s .at))) (behind (k .before))
+    at-sequel = at-sentence ∙ rw (r .same, r .how .read .tokens)
+
+    pub sequel-refused : {tape′ : List ℕ} {fault : Fault} → Follows text (s .at) (Refused fault) → SentencesAgree text limit from words start tape′ (Stopped fault)
+    sequel-refused {fault = fault} f = stops fault _ _ (at-sequel ∙ rw (f .gives (Reading.sentences (left - 1)) (r .value))) refl refl
+
+    -- the tape has room for the word after the sentence
+    pub sequel-room : {further : ℕ} → s .at < further → further ≤ length text → s .words < 32768
+    sequel-room h i = omega (arith, r .how .read .went .charged, k .short)
+
+    -- with the word after the sentence
+    sentence-went : (word : ℕ) {tape′ : List ℕ} {further : ℕ} → s .at < further → further ≤ length text → tape′ ≡ set tape₁ (s .words) word
+        → Went text from words start further (s .words + 1) tape′ (partedTape (k .before) ++ (sentenceTape (r .value) ++ word ∷ []))
+    sentence-went word h i w =
+        let ready : Ready text (s .at) (s .words) = record { inside = r .how .read .went .inside; charged = r .how .read .went .charged; short = k .short } in
+        went-then (k .went) (went-then (r .how .read .went) (word-went ready h i w))
+
+    counted-more : left - 1 + length (k .before ++ r .value ∷ []) ≡ limit
+    counted-more = rw (length-append (k .before) (r .value ∷ [])) (omega (arith, k .counted, r .how .some))
+
+    stand-more : Each (SentenceStands text) (k .before ++ r .value ∷ [])
+    stand-more = each-more (SentenceStands text) (k .before) (r .value) (k .stand) (r .how .read .stands)
+
+    pub sequel-ends : {tape′ : List ℕ} {past : ℕ} → Follows text (s .at) (Ends past) → tape′ ≡ set tape₁ (s .words) 1792
+        → SentencesAgree text limit from words start tape′ (Done (record { at = past; words = s .words + 1; count = left - 1; parts = 0 }))
+    sequel-ends {past = past} f w =
+        reads (k .before ++ r .value ∷ []) (stream text Tokens.outside past)
+        (at-sequel ∙ rw (f .gives .0 (Reading.sentences (left - 1)) (r .value)))
+        (record {
+          tokens = refl;
+          went = rw (parted-last (k .before) (r .value)) (sentence-went (tapeWord endKind 0) (f .gives .1) (f .gives .2) w);
+          left = counted-more;
+          stand = stand-more;
+        })
+
+    pub sequel-goes : {tape′ : List ℕ} {place : ℕ} → Follows text (s .at) (Another place) → tape′ ≡ set tape₁ (s .words) 1536
+        → Sentenced text start limit from words tape′ place (s .words + 1) (left - 1)
+    sequel-goes {place = place} f w =
+        record {
+          before = k .before ++ r .value ∷ [];
+          same =
+              at-sequel
+              ∙ rw (f .gives .0 (Reading.sentences (left - 1)) (r .value))
+              (behind-more (k .before) (r .value) (Reading.sentences (left - 1) (stream text Tokens.inside place)));
+          went = rw (parted-more (k .before) (r .value)) (sentence-went (tapeWord nextKind 0) (f .gives .1) (f .gives .2) w);
+          counted = counted-more;
+          stand = stand-more;
+          short = k .short;
+        }

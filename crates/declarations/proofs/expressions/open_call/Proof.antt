@@ -1,0 +1,90 @@
+-- `declarations::expressions::open_call` meets its contract.
+use borrow.Author.Needs.{needs}
+use Rattle.declarations.proofs.expressions.open_call.Statement.{statement}
+use Rattle.declarations.proofs.expressions.open_call.Tie as tie
+use mathlib.Core.Logic.{⊎-elim}
+use native.Mathlib.Omega.{arith}
+use borrow.Author.Tests.{leb-true, leb-false}
+use Rattle.meaning.specs.Tokens as Tokens
+use Rattle.lexing.proofs.Stream.{comes}
+use Rattle.parsing.proofs.Choosing.{no-fault-here, a-fault-here}
+use Rattle.parsing.proofs.Tokening.{name-first}
+use Rattle.declarations.proofs.Opened.{call-deep, call-many, call-nameless, call-misnamed, name-room, call-opens}
+
+stopped-requires : tie.Need-stopped-requires
+stopped-requires c κs = search needs
+
+returns : tie.Need-returns
+returns c =
+    let a = c .before .before .before .args in
+    rw (c .stopped .ensures)
+    (⊎-elim (λ w. call-deep (a .text .now) (a .depth) (a .s) (a .place) (w .taken)) (λ w. call-many (a .text .now) (a .depth) (a .s) (a .place) (leb-true 128 _ (w .2 .taken))) (c .before .if1 .came))
+
+lex-requires : tie.Need-lex-requires
+lex-requires c κs = search needs
+
+enum-known-token : tie.Need-enum-known-token
+enum-known-token c = search needs
+
+refuse-requires : tie.Need-refuse-requires
+refuse-requires c κs = search needs
+
+returns-2 : tie.Need-returns-2
+returns-2 c =
+    let a = c .before .before .before .before .before .before .before .args in
+    let k = comes _ Tokens.naming _ _ (c .before .before .before .before .before .before .before .pre .0 .inside) (c .before .before .lex .ensures) in
+    call-nameless (a .text .now) (a .depth) (a .s) (a .place) (c .before .before .before .before .before .if1 .left) (leb-false 128 _ (c .before .before .before .if2 .left)) k (c .before .match .keys2) (c .refuse .ensures)
+
+called-fault-requires : tie.Need-called-fault-requires
+called-fault-requires c κs = name-first (comes _ Tokens.naming _ _ (c .before .before .before .before .before .before .before .before .pre .0 .inside) (c .before .before .before .lex .ensures)) (c .before .token .given .1) .inside
+
+is-accepted-requires : tie.Need-is-accepted-requires
+is-accepted-requires c κs = search needs
+
+stopped-requires-2 : tie.Need-stopped-requires-2
+stopped-requires-2 c κs = search needs
+
+returns-3 : tie.Need-returns-3
+returns-3 c =
+    let a = c .before .before .before .before .before .before .before .before .before .before .before .before .args in
+    let k = comes _ Tokens.naming _ _ (c .before .before .before .before .before .before .before .before .before .before .before .before .pre .0 .inside) (c .before .before .before .before .before .before .before .lex .ensures) in
+    let f = c .before .before .before .called-fault .ensures in
+    rw (c .stopped2 .ensures)
+    (call-misnamed (a .text .now) (a .depth) (a .s) (a .place) (c .before .before .before .before .before .before .before .before .before .before .if1 .left) (leb-false 128 _ (c .before .before .before .before .before .before .before .before .if2 .left)) k (c .before .before .before .before .before .token .given .1) f (a-fault-here f (c .before .before .is-accepted .ensures) (c .before .if3 .taken)))
+
+put-call-requires : tie.Need-put-call-requires
+put-call-requires c κs =
+    let a = c .before .before .before .before .before .before .before .before .before .before .before .before .args in
+    let k = comes _ Tokens.naming _ _ (c .before .before .before .before .before .before .before .before .before .before .before .before .pre .0 .inside) (c .before .before .before .before .before .before .before .lex .ensures) in
+    let f = no-fault-here (c .before .before .before .called-fault .ensures) (c .before .before .is-accepted .ensures) (c .before .if3 .left) in
+    name-room (a .text .now) (a .depth) (a .s) (a .place) (c .before .before .before .before .before .before .before .before .before .before .if1 .left) (leb-false 128 _ (c .before .before .before .before .before .before .before .before .if2 .left)) k (c .before .before .before .before .before .token .given .1) f (c .before .before .before .before .before .before .before .before .before .before .before .before .pre .0) (c .before .before .before .before .before .before .before .before .before .before .before .before .pre .1)
+
+add-t19 : tie.Need-add-t19
+add-t19 c =
+    let m = leb-false 128 (c .before .before .before .before .before .before .before .before .before .before .before .before .before .before .args .s .count) (c .before .before .before .before .before .before .before .before .before .before .if2 .left) in
+    omega arith
+
+returns-4 : tie.Need-returns-4
+returns-4 c =
+    let a = c .before .before .before .before .before .before .before .before .before .before .before .before .before .before .args in
+    let k = comes _ Tokens.naming _ _ (c .before .before .before .before .before .before .before .before .before .before .before .before .before .before .pre .0 .inside) (c .before .before .before .before .before .before .before .before .before .lex .ensures) in
+    let f = no-fault-here (c .before .before .before .before .before .called-fault .ensures) (c .before .before .before .before .is-accepted .ensures) (c .before .before .before .if3 .left) in
+    call-opens (a .text .now) (a .depth) (a .s) (a .place) (c .before .before .before .before .before .before .before .before .before .before .before .before .if1 .left) (leb-false 128 _ (c .before .before .before .before .before .before .before .before .before .before .if2 .left)) k (c .before .before .before .before .before .before .before .token .given .1) f (c .before .before .before .before .before .before .before .before .before .before .before .before .before .before .pre .0) (c .before .before .before .before .before .before .before .before .before .before .before .before .before .before .pre .1) (c .before .put-call .ensures)
+
+pub open-call-spec : {M : Type 1} → statement M
+open-call-spec =
+    tie.close
+    (tie.spec
+    stopped-requires
+    returns
+    lex-requires
+    enum-known-token
+    refuse-requires
+    returns-2
+    called-fault-requires
+    is-accepted-requires
+    stopped-requires-2
+    returns-3
+    put-call-requires
+    add-t19
+    returns-4)

@@ -1,0 +1,20 @@
+// The readers of a table's functions, of their sentences and of expressions.
+pub mod expressions;
+pub mod functions;
+pub mod sentences;
+
+use parsing::Answer;
+use parsing::progress::Fault;
+use parsing::progress::Parsed;
+ghost use mathlib.Core.Path.{_≡_};
+ghost use Rattle.declarations.specs.Expressions.{stoppedWith};
+
+// A refusal at a place.
+pub fn stopped(answer: Answer, place: usize) -> Parsed
+    ensures { λ r. ⌜ r ≡ stoppedWith answer place ⌝ }
+{
+    Parsed::Stopped(Fault {
+        answer: answer,
+        place: place,
+    })
+}
