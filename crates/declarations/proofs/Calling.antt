@@ -24,6 +24,7 @@ use Rattle.parsing.specs.Patterns.{symbolNames}
 use Rattle.declarations.specs.Expressions.{progressAt, Going, ExpressionRead, CalledName, opening, OpeningRead, CallRead, CloseGives, Closes}
 use Rattle.parsing.proofs.Going.{stops, reads, ReadAt, has-stopped, has-read, went-then, word-went}
 use Rattle.parsing.proofs.Tokening.{passes-on, passes-not}
+use Rattle.declarations.proofs.Onward.{ready-after, going-on}
 use Rattle.declarations.proofs.Opened.{openingAt, OpeningAgrees}
 
 -- THE DEFINITION
@@ -59,24 +60,28 @@ call-is argument depth so t ts =
 -- THE READER
 
 -- what the definition reads of a call after its `<`
-abbrev callAt : Bytes → List ℕ → ℕ → ℕ → ℕ → ℕ → Progress → ℕ → Parsed Reading.Called
+abbrev pub callAt : Bytes → List ℕ → ℕ → ℕ → ℕ → ℕ → Progress → ℕ → Parsed Reading.Called
 callAt text table symbols parts bound depth s place =
     Reading.call (Reading.expression bound (symbolNames text table symbols)) depth (progressAt text table parts s) (standing (Tokens.sign 60) place (s .at))
     (stream text Tokens.naming (s .at))
 
-abbrev CallAgrees : Bytes → List ℕ → ℕ → ℕ → ℕ → ℕ → Progress → ℕ → List ℕ → List ℕ → CodeParsed → Type 0
+abbrev pub CallAgrees : Bytes → List ℕ → ℕ → ℕ → ℕ → ℕ → Progress → ℕ → List ℕ → List ℕ → CodeParsed → Type 0
 CallAgrees text table symbols parts bound depth s place tape tape′ r =
     Agrees (CallRead text table symbols parts s tape tape′) (callAt text table symbols parts bound depth s place) r
 
--- what the definition reads of a call's argument
-abbrev argumentAt : Bytes → List ℕ → ℕ → ℕ → ℕ → ℕ → Progress → Parsed Reading.Items
-argumentAt text table symbols parts bound depth start =
-    Reading.expression bound (symbolNames text table symbols) (depth + 1) (progressAt text table parts start) (stream text Tokens.inside (start .at))
+-- what it reads of an expression
+abbrev pub expressionAt : Bytes → List ℕ → ℕ → ℕ → ℕ → ℕ → Progress → Parsed Reading.Items
+expressionAt text table symbols parts bound depth start =
+    Reading.expression bound (symbolNames text table symbols) depth (progressAt text table parts start) (stream text Tokens.inside (start .at))
+
+abbrev pub ExpressionAgrees : Bytes → List ℕ → ℕ → ℕ → ℕ → ℕ → Progress → List ℕ → List ℕ → CodeParsed → Type 0
+ExpressionAgrees text table symbols parts bound depth start tape tape′ r =
+    Agrees (ExpressionRead text table symbols parts start tape tape′) (expressionAt text table symbols parts bound depth start) r
 
 -- the argument was read
 pub argument-ready : {text : Bytes} {table : List ℕ} {symbols parts : ℕ} {start : Progress} {tape tape′ : List ℕ} {argument : Progress} (depth : ℕ)
     → ((bound : ℕ) → length (stream text Tokens.inside (start .at)) ≤ bound
-    → Agrees (ExpressionRead text table symbols parts start tape tape′) (argumentAt text table symbols parts bound depth start) (Done argument))
+    → ExpressionAgrees text table symbols parts bound depth start tape tape′ (Done argument))
     → Ready text (argument .at) (argument .words)
 argument-ready {text} {start = start} {argument = argument} depth a =
     has-read _ argument (a (length (stream text Tokens.inside (start .at))) (omega arith)) .how .going .ready
@@ -104,23 +109,23 @@ module _ (text table : List ℕ) (symbols parts bound depth : ℕ) (s : Progress
           variables = g .variables;
           passed = rw (o .how .passed) (g .passed);
           few = omega (arith, o .how .counted, o .how .few);
-          ready = record { inside = o .how .went .inside; charged = o .how .went .charged; short = g .ready .short };
+          ready = ready-after (g .ready .short) (o .how .went);
         }
 
     at-argument : callAt text table symbols parts bound depth s place
-        ≡ follow (argumentAt text table symbols parts bound depth start) (λ given ts.
+        ≡ follow (expressionAt text table symbols parts bound (depth + 1) start) (λ given ts.
         Reading.pass 62 ts λ rest.
         parsed (record { place = o .value .place; name = o .value .name; argument = given .expression; progress = given .progress }) rest)
     at-argument = at-opening ∙ rw (o .same, o .how .tokens, o .how .counted, o .how .passed, add-one depth)
 
     pub argument-stops : {tape₂ : List ℕ} {fault : Fault}
-        → Agrees (ExpressionRead text table symbols parts start tape₁ tape₂) (argumentAt text table symbols parts bound depth start) (Stopped fault)
+        → ExpressionAgrees text table symbols parts bound (depth + 1) start tape₁ tape₂ (Stopped fault)
         → CallAgrees text table symbols parts bound depth s place tape tape₂ (Stopped fault)
     argument-stops {fault = fault} x = stops fault _ _ (at-argument ∙ rw (has-stopped _ fault x)) refl refl
 
     -- the argument is read
     module _ {tape₂ tape₃ : List ℕ} {argument : Progress}
-        (h : ReadAt (ExpressionRead text table symbols parts start tape₁ tape₂) (argumentAt text table symbols parts bound depth start) argument) where
+        (h : ReadAt (ExpressionRead text table symbols parts start tape₁ tape₂) (expressionAt text table symbols parts bound (depth + 1) start) argument) where
       close-barred : {fault : Fault} → Barred text Tokens.inside 62 (argument .at) fault
           → CallAgrees text table symbols parts bound depth s place tape tape₃ (Stopped fault)
       close-barred x = stops _ _ _ (at-argument ∙ rw (h .same, h .how .tokens) (passes-not _ x)) refl refl
@@ -143,13 +148,7 @@ module _ (text table : List ℕ) (symbols parts bound depth : ℕ) (s : Progress
             shorter = omega arith;
             went = went-then (o .how .went) (went-then (h .how .went) w);
             progress = h .how .progress;
-            going =
-                record {
-                  variables = h .how .going .variables;
-                  passed = h .how .going .passed;
-                  few = h .how .going .few;
-                  ready = record { inside = w .inside; charged = w .charged; short = h .how .going .ready .short };
-                };
+            going = going-on (h .how .going) (ready-after (h .how .going .ready .short) w);
             named = o .how .stands;
             stands = h .how .stands;
           })
@@ -160,7 +159,7 @@ module _ (text table : List ℕ) (symbols parts bound depth : ℕ) (s : Progress
       close-with (Done next) x = rw (x .1) (close-done (x .0) (x .2))
 
     pub call-closes : {tape₂ tape₃ : List ℕ} {argument : Progress} {r : CodeParsed}
-        → Agrees (ExpressionRead text table symbols parts start tape₁ tape₂) (argumentAt text table symbols parts bound depth start) (Done argument)
+        → ExpressionAgrees text table symbols parts bound (depth + 1) start tape₁ tape₂ (Done argument)
         → Closes text argument tape₂ tape₃ r
         → CallAgrees text table symbols parts bound depth s place tape tape₃ r
     call-closes {argument = argument} {r} a x = close-with (has-read _ argument a) r (x .gives)

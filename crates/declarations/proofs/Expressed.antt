@@ -23,14 +23,16 @@ use Rattle.parsing.specs.declared.progress.Parsed.{Parsed as CodeParsed}
 use Rattle.parsing.specs.declared.progress.Parsed.the-variants.{Stopped, Done}
 use Rattle.declarations.specs.declared.expressions.Joined.{Joined}
 use Rattle.declarations.specs.declared.expressions.Joined.the-variants.{Taken, Wrong, Other}
-use Rattle.parsing.specs.Answered.{numberOf, Agrees}
+use Rattle.parsing.specs.Answered.{numberOf}
 use Rattle.parsing.specs.Written.{isQuiet, Went}
 use Rattle.parsing.specs.Tokened.{signIs}
 use Rattle.parsing.specs.Patterns.{symbolNames, itemAt}
-use Rattle.declarations.specs.Expressions.{progressAt, Going, CallStands, Stands, itemTape, TakenIn, TokenGives, JoinsToken, stoppedWith, ExpressionRead, callTape, CallRead}
+use Rattle.declarations.specs.Expressions.{progressAt, Going, CallStands, Stands, itemTape, TakenIn, TokenGives, JoinsToken, stoppedWith, callTape, CallRead}
 use Rattle.parsing.proofs.Items.{item-then}
 use Rattle.parsing.proofs.Going.{check-wrong, stops, reads, ReadAt, has-stopped, has-read, went-none, went-from, went-on, went-then}
 use Rattle.parsing.proofs.Tokening.{sign-shown, sign-first, takes, ready-place, ready-past}
+use Rattle.declarations.proofs.Onward.{going-on}
+use Rattle.declarations.proofs.Calling.{callAt, CallAgrees, expressionAt, ExpressionAgrees}
 
 -- ITEMS AND CALLS BEFORE AN EXPRESSION
 
@@ -113,15 +115,6 @@ pub record Expressed (text table : List ℕ) (symbols parts depth : ℕ) (start 
   pub onward : start .at ≤ s .at
   pub behind : (bound : ℕ) → length (stream text Tokens.inside (start .at)) ≤ bound → Behind text table symbols parts depth start tape₀ tape s bound
 
--- what the definition and the code read
-abbrev expressionAt : Bytes → List ℕ → ℕ → ℕ → ℕ → ℕ → Progress → Parsed Reading.Items
-expressionAt text table symbols parts bound depth start =
-    Reading.expression bound (symbolNames text table symbols) depth (progressAt text table parts start) (stream text Tokens.inside (start .at))
-
-abbrev ExpressionAgrees : Bytes → List ℕ → ℕ → ℕ → ℕ → ℕ → Progress → List ℕ → List ℕ → CodeParsed → Type 0
-ExpressionAgrees text table symbols parts bound depth start tape tape′ r =
-    Agrees (ExpressionRead text table symbols parts start tape tape′) (expressionAt text table symbols parts bound depth start) r
-
 pub expression-starts : (text table : List ℕ) (symbols parts depth : ℕ) (start : Progress) (tape : List ℕ) → Going text table symbols parts start
     → Expressed text table symbols parts depth start tape tape start
 expression-starts text table symbols parts depth start tape g =
@@ -143,6 +136,23 @@ expression-starts text table symbols parts depth start tape g =
           };
     }
 
+-- the definition's step at the first token
+module _ {text table : List ℕ} {symbols parts depth : ℕ} {start : Progress} {tape₀ tape : List ℕ} {s : Progress} {bound : ℕ} {t : Tokens.Placed} {ts : List Tokens.Placed}
+    (b : Behind text table symbols parts depth start tape₀ tape s bound)
+    (u : stream text Tokens.inside (s .at) ≡ t ∷ ts) where
+  step-enough : suc (length ts) ≤ b .left
+  step-enough = rw u at (b .enough)
+
+  step-shorter : suc (length ts) ≤ length (stream text Tokens.inside (start .at))
+  step-shorter = rw u at (b .shorter)
+
+  at-step : expressionAt text table symbols parts bound depth start
+      ≡ withFirst (b .first)
+      (Reading.expressionFrom (Reading.expression (b .left - 1) (symbolNames text table symbols)) (symbolNames text table symbols) depth (progressAt text table parts s) t ts)
+  at-step =
+      b .same
+      ∙ rw (u, expression-step (b .left) (b .left - 1) (symbolNames text table symbols) depth (progressAt text table parts s) t ts (omega (arith, step-enough)))
+
 module _ {text table : List ℕ} {symbols parts depth : ℕ} {start : Progress} {tape₀ tape : List ℕ} {s : Progress} {t : Code.Placed} {tape′ : List ℕ} {r : Joined}
     (k : Expressed text table symbols parts depth start tape₀ tape s)
     (c : Comes text Tokens.inside (s .at) t)
@@ -163,26 +173,15 @@ module _ {text table : List ℕ} {symbols parts depth : ℕ} {start : Progress} 
   item-behind {next} bound g q b =
       let i = item-then c q in
       let item = itemAt text t in
-      let names = symbolNames text table symbols in
-      let long : suc (length (stream text Tokens.inside (t .past))) ≤ b .left = rw (i .unrolled) at (b .enough) in
-      let longer : suc (length (stream text Tokens.inside (t .past))) ≤ length (stream text Tokens.inside (start .at)) = rw (i .unrolled) at (b .shorter) in
+      let rest = Reading.expression (b .left - 1) (symbolNames text table symbols) depth (progressAt text table parts next) (stream text Tokens.inside (t .past)) in
       record {
         first = λ e. b .first (thenItem item e);
         left = b .left - 1;
         words = b .words ++ itemTape item;
         same =
-            b .same
-            ∙ rw (
-              i .unrolled,
-              expression-step (b .left) (b .left - 1) names depth (progressAt text table parts s) (placedOf text t) (stream text Tokens.inside (t .past)) (omega arith),
-              q,
-              g .fault,
-              g .progress,
-              g .at,
-            )
-            (first-first (b .first) (thenItem item) (Reading.expression (b .left - 1) names depth (progressAt text table parts next) (stream text Tokens.inside (t .past))));
-        enough = rw (g .at) (omega arith);
-        shorter = rw (g .at) (omega arith);
+            at-step b (i .unrolled) ∙ rw (q, g .fault, g .progress, g .at) (first-first (b .first) (thenItem item) rest);
+        enough = rw (g .at) (omega (arith, step-enough b (i .unrolled)));
+        shorter = rw (g .at) (omega (arith, step-shorter b (i .unrolled)));
         tapes =
             λ e.
             b .tapes (thenItem item e)
@@ -206,19 +205,11 @@ module _ {text table : List ℕ} {symbols parts depth : ℕ} {start : Progress} 
       let g = given e in
       let b = k .behind bound h in
       let i = item-then c (g .1) in
-      let names = symbolNames text table symbols in
-      let long : suc (length (stream text Tokens.inside (t .past))) ≤ b .left = rw (i .unrolled) at (b .enough) in
+      let item = itemAt text t in
+      let rest = Reading.expression (b .left - 1) (symbolNames text table symbols) depth (Reading.pastItem item (progressAt text table parts s)) (stream text Tokens.inside (t .past)) in
       stops _ _ _
-      (b .same
-      ∙ rw (
-        i .unrolled,
-        expression-step (b .left) (b .left - 1) names depth (progressAt text table parts s) (placedOf text t) (stream text Tokens.inside (t .past)) (omega arith),
-        g .1,
-        g .0 .fault,
-        check-wrong (numberOf answer) (placedOf text t)
-            (withFirst (thenItem (itemAt text t)) (Reading.expression (b .left - 1) names depth (Reading.pastItem (itemAt text t) (progressAt text table parts s)) (stream text Tokens.inside (t .past))))
-            (g .0 .wrong),
-      ))
+      (at-step b (i .unrolled)
+      ∙ rw (g .1, g .0 .fault, check-wrong (numberOf answer) (placedOf text t) (withFirst (thenItem item) rest) (g .0 .wrong)))
       refl
       refl
 
@@ -232,16 +223,8 @@ module _ {text table : List ℕ} {symbols parts depth : ℕ} {start : Progress} 
       → ExpressionAgrees text table symbols parts bound depth start tape₀ tape′
       (Done (record { at = t .place; words = s .words; count = s .count; parts = s .parts }))
   end-with {bound} ts b u i n e =
-      let names = symbolNames text table symbols in
-      let long : suc (length ts) ≤ b .left = rw u at (b .enough) in
       reads (record { expression = b .first end; progress = progressAt text table parts s }) (stream text Tokens.inside (s .at))
-      (b .same
-      ∙ rw (
-        u,
-        expression-step (b .left) (b .left - 1) names depth (progressAt text table parts s) (placedOf text t) ts (omega arith),
-        i,
-        n,
-      ))
+      (at-step b u ∙ rw (u, i, n))
       (record {
         tokens = sym (c .again);
         shorter = b .shorter;
@@ -249,13 +232,7 @@ module _ {text table : List ℕ} {symbols parts depth : ℕ} {start : Progress} 
             rw (b .tapes end, tape-end, append-nil (b .words), e)
             (went-on (t .place) (b .went) (c .onward) (omega (arith, c .forward, c .inside)));
         progress = refl;
-        going =
-            record {
-              variables = k .going .variables;
-              passed = k .going .passed;
-              few = k .going .few;
-              ready = ready-place (k .going .ready) c;
-            };
+        going = going-on (k .going) (ready-place (k .going .ready) c);
         stands = b .stand end (stands-end text);
       })
 
@@ -271,15 +248,14 @@ module _ {text table : List ℕ} {symbols parts depth : ℕ} {start : Progress} 
   abbrev opened : Progress
   opened = record { at = t .past; words = s .words; count = s .count; parts = s .parts }
 
-  abbrev callAt : ℕ → Parsed Reading.Called
-  callAt left =
-      Reading.call (Reading.expression left (symbolNames text table symbols)) depth (progressAt text table parts s) (standing (Tokens.sign 60) (t .place) (t .past))
-      (stream text Tokens.naming (t .past))
+  abbrev calledAt : ℕ → Parsed Reading.Called
+  calledAt left = callAt text table symbols parts left depth opened (t .place)
 
-  abbrev CallAgrees : List ℕ → CodeParsed → Type 0
-  CallAgrees tape″ p =
+  -- with every bound that is large enough
+  abbrev CallsAgree : List ℕ → CodeParsed → Type 0
+  CallsAgree tape″ p =
       (left : ℕ) → length (stream text Tokens.naming (t .past)) ≤ left
-      → Agrees (CallRead text table symbols parts opened tape′ tape″) (callAt left) p
+      → CallAgrees text table symbols parts left depth opened (t .place) tape′ tape″ p
 
   module _ (e : r ≡ Other) (n : signIs 60 (t .token) ≡ true) where
     angle : stream text Tokens.inside (s .at) ≡ standing (Tokens.sign 60) (t .place) (t .past) ∷ stream text Tokens.naming (t .past)
@@ -288,59 +264,45 @@ module _ {text table : List ℕ} {symbols parts depth : ℕ} {start : Progress} 
     pub call-ready : Going text table symbols parts opened × (s .words < t .past) × (s .at < t .past)
     call-ready =
         let o = takes text Tokens.inside (s .at) 60 t c n .onward in (
-          record {
-            variables = k .going .variables;
-            passed = k .going .passed;
-            few = k .going .few;
-            ready = ready-past (k .going .ready) c;
-          },
+          going-on (k .going) (ready-past (k .going .ready) c),
           omega (arith, k .going .ready .charged, o),
           o,
         )
 
     -- the definition reads a call
-    at-call : {bound : ℕ} (b : Behind text table symbols parts depth start tape₀ tape s bound) → length (stream text Tokens.naming (t .past)) ≤ b .left - 1
+    at-call : {bound : ℕ} (b : Behind text table symbols parts depth start tape₀ tape s bound)
         → expressionAt text table symbols parts bound depth start
         ≡ withFirst (b .first)
-        (follow (callAt (b .left - 1)) λ d rest.
+        (follow (calledAt (b .left - 1)) λ d rest.
         withFirst (thenCall (d .place) (d .name) (d .argument)) (Reading.expression (b .left - 1) (symbolNames text table symbols) depth (d .progress) rest))
-    at-call b h =
-        let long : suc (length (stream text Tokens.naming (t .past))) ≤ b .left = rw angle at (b .enough) in
-        b .same
-        ∙ rw (
-          angle,
-          expression-step (b .left) (b .left - 1) (symbolNames text table symbols) depth (progressAt text table parts s) (standing (Tokens.sign 60) (t .place) (t .past)) (stream text Tokens.naming (t .past)) (omega arith),
-        )
+    at-call b = at-step b angle
 
     left-enough : {bound : ℕ} (b : Behind text table symbols parts depth start tape₀ tape s bound) → length (stream text Tokens.naming (t .past)) ≤ b .left - 1
-    left-enough b = let long : suc (length (stream text Tokens.naming (t .past))) ≤ b .left = rw angle at (b .enough) in omega arith
+    left-enough b = omega (arith, step-enough b angle)
 
-    pub call-stopped : {tape″ : List ℕ} {fault : Fault} {bound : ℕ} → CallAgrees tape″ (Stopped fault) → length (stream text Tokens.inside (start .at)) ≤ bound
+    pub call-stopped : {tape″ : List ℕ} {fault : Fault} {bound : ℕ} → CallsAgree tape″ (Stopped fault) → length (stream text Tokens.inside (start .at)) ≤ bound
         → ExpressionAgrees text table symbols parts bound depth start tape₀ tape″ (Stopped fault)
     call-stopped {fault = fault} {bound} a h =
         let b = k .behind bound h in
-        stops fault _ _ (at-call b (left-enough b) ∙ rw (has-stopped _ fault (a (b .left - 1) (left-enough b)))) refl refl
+        stops fault _ _ (at-call b ∙ rw (has-stopped _ fault (a (b .left - 1) (left-enough b)))) refl refl
 
     call-behind : {tape″ : List ℕ} {next : Progress} {bound : ℕ} (b : Behind text table symbols parts depth start tape₀ tape s bound) (d : Reading.Called) (rest : List Tokens.Placed)
-        → callAt (b .left - 1) ≡ parsed d rest
+        → calledAt (b .left - 1) ≡ parsed d rest
         → CallRead text table symbols parts opened tape′ tape″ d rest next
         → tape′ ≡ tape
         → Behind text table symbols parts depth start tape₀ tape″ next bound
     call-behind {tape″} {next} b d rest q h same =
-        let names = symbolNames text table symbols in
-        let long : suc (length (stream text Tokens.naming (t .past))) ≤ b .left = rw angle at (b .enough) in
-        let longer : suc (length (stream text Tokens.naming (t .past))) ≤ length (stream text Tokens.inside (start .at)) = rw angle at (b .shorter) in
+        let after = Reading.expression (b .left - 1) (symbolNames text table symbols) depth (progressAt text table parts next) (stream text Tokens.inside (next .at)) in
         let short : length (stream text Tokens.inside (next .at)) ≤ length (stream text Tokens.naming (t .past)) = rw (h .tokens) at (h .shorter) in
         record {
           first = λ e. b .first (thenCall (d .place) (d .name) (d .argument) e);
           left = b .left - 1;
           words = b .words ++ callTape d;
           same =
-              at-call b (left-enough b)
-              ∙ rw (q, h .progress, h .tokens)
-              (first-first (b .first) (thenCall (d .place) (d .name) (d .argument)) (Reading.expression (b .left - 1) names depth (progressAt text table parts next) (stream text Tokens.inside (next .at))));
-          enough = omega arith;
-          shorter = omega arith;
+              at-call b
+              ∙ rw (q, h .progress, h .tokens) (first-first (b .first) (thenCall (d .place) (d .name) (d .argument)) after);
+          enough = omega (arith, left-enough b);
+          shorter = omega (arith, step-shorter b angle);
           tapes =
               λ e.
               b .tapes (thenCall (d .place) (d .name) (d .argument) e)
@@ -350,12 +312,12 @@ module _ {text table : List ℕ} {symbols parts depth : ℕ} {start : Progress} 
         }
 
     behind-call : {tape″ : List ℕ} {next : Progress} {bound : ℕ} (b : Behind text table symbols parts depth start tape₀ tape s bound)
-        → ReadAt (CallRead text table symbols parts opened tape′ tape″) (callAt (b .left - 1)) next
+        → ReadAt (CallRead text table symbols parts opened tape′ tape″) (calledAt (b .left - 1)) next
         → tape′ ≡ tape
         → Behind text table symbols parts depth start tape₀ tape″ next bound
     behind-call b h same = call-behind b (h .value) (h .rest) (h .same) (h .how) same
 
-    pub call-read : {tape″ : List ℕ} {next : Progress} → CallAgrees tape″ (Done next)
+    pub call-read : {tape″ : List ℕ} {next : Progress} → CallsAgree tape″ (Done next)
         → Expressed text table symbols parts depth start tape₀ tape″ next × (s .at < next .at)
     call-read {tape″} {next} a =
         let m = length (stream text Tokens.naming (t .past)) in

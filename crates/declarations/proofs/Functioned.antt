@@ -43,6 +43,7 @@ use Rattle.parsing.proofs.Faults.{part-length, within}
 use Rattle.parsing.proofs.Tabling.{Grown, grown, entry-name, entry-inside, none-yet, no-names}
 use Rattle.parsing.proofs.Going.{check-wrong, stops, reads, ReadAt, has-stopped, pass-follow, follow-alone, makes, went-none, went-from, went-on, went-then}
 use Rattle.parsing.proofs.Tokening.{NameFirst, sign-shown, passes-on, passes-not, name-first, names-not, refused, ready-place}
+use Rattle.declarations.proofs.Onward.{ready-after, name-went}
 use Rattle.declarations.proofs.Sentencing.{each-none, each-more}
 
 -- A FUNCTION AFTER ITS NAME
@@ -64,16 +65,10 @@ module _ {text : Bytes} {words : ℕ} {n : Span} (limit : ℕ) (d : Declarable t
       word-is : tapeWord functionKind (length (View.part text n)) ≡ word
       word-is = rw (part-length text n (d .inside), e)
 
-      name-went : Went text (n .from) words tape at to tape₁ (named functionKind (View.part text n))
-      name-went =
-          let l = part-length text n (d .inside) in
-          record {
-            onward = omega (arith, d .inside .forward, k .onward);
-            inside = k .inside;
-            charged = omega (arith, w .0 .reached, d .after, d .inside .forward, k .onward);
-            counted = w .0 .reached;
-            wrote = rw word-is (w .0 .same);
-          }
+      named-went : Went text (n .from) words tape at to tape₁ (named functionKind (View.part text n))
+      named-went =
+          name-went functionKind (d .inside) (omega (arith, d .inside .forward, k .onward)) (k .inside)
+          (omega (arith, d .after, d .inside .forward, k .onward)) e (w .0)
 
       name-quiet : T (every isQuiet (named functionKind (View.part text n)))
       unfolding every
@@ -81,7 +76,7 @@ module _ {text : Bytes} {words : ℕ} {n : Span} (limit : ℕ) (d : Declarable t
           rw word-is (both-pass (isQuiet word) (every isQuiet (View.part text n)) (lt→ltb word 2304 (omega (arith, d .brief))) (w .1))
 
       pub body-ready : Ready text at to
-      body-ready = record { inside = k .inside; charged = name-went .charged; short = d .short }
+      body-ready = ready-after (d .short) named-went
 
       pub body-reads : {tape′ : List ℕ} {r : CodeParsed}
           → Agrees (SentencesRead text limit at to tape₁ tape′) (Reading.sentences limit (stream text Tokens.inside at)) r
@@ -90,7 +85,7 @@ module _ {text : Bytes} {words : ℕ} {n : Span} (limit : ℕ) (d : Declarable t
           makes (λ ss. ss) _
           (λ ss rest s h. record {
             tokens = h .tokens;
-            went = went-then name-went (h .went);
+            went = went-then named-went (h .went);
             left = h .left;
             stands = record { name = name-quiet; sentences = h .stand };
           })
@@ -164,6 +159,11 @@ module _ {text names : List ℕ} {functions words : ℕ} {t : Code.Placed} (limi
             (rw (named-here .unrolled, lt-ltb functions 64 few, f, ← named-here .past)
             (pass-follow 123 (stream text Tokens.outside (n .past)) (λ ts. Reading.sentences limit ts) (λ ss rest. parsed (declared (View.part text n) ss) rest)))
             a
+
+-- it was one of at most 64
+pub one-more : {text : Bytes} {limit at words functions : ℕ} {tape tape′ table table′ : List ℕ} {f : Function} {rest : List Tokens.Placed} {p : Progress}
+    → DeclaredRead text limit at words functions tape tape′ table table′ f rest p → functions < 64
+one-more r = omega (arith, r .entries .inside, r .long)
 
 -- A SPARE `;`
 
@@ -305,7 +305,7 @@ module _ {text start tape names : List ℕ} {at words count left : ℕ} {t : Cod
   opening =
       record {
         comes = comes-again c;
-        ready = ready-place (record { inside = k .went .inside; charged = k .went .charged; short = k .short }) c;
+        ready = ready-place (ready-after (k .short) (k .went)) c;
         entries = k .entries;
         long = k .long;
       }
@@ -334,16 +334,13 @@ module _ {text start tape names : List ℕ} {at words count left : ℕ} {t : Cod
 
     -- a function was read
     module _ {tape₁ names₁ : List ℕ} {p : Progress} (r : ReadAt (DeclaredRead text left (t .place) words count tape tape₁ names names₁) nextFunction p) where
-      pub one-more : count < 64
-      one-more = omega (arith, r .how .entries .inside, r .how .long)
-
       at-next : Reading.functions 64 512 [] (stream text Tokens.outside 0)
           ≡ Reading.functions (64 - (count + 1)) (p .count) (k .before ++ r .value ∷ []) (Reading.passSpare (stream text Tokens.outside (p .at)))
       at-next =
           let q : Reading.function (Reading.declaredFault (k .before)) left (placedOf text t ∷ following) ≡ parsed (r .value) (r .rest) =
-          fault-is left (k .before) (placedOf text t) following count (lt-ltb count 64 one-more) ∙ (rw (c .unrolled) at (next-is ∙ r .same))
+          fault-is left (k .before) (placedOf text t) following count (lt-ltb count 64 (one-more (r .how))) ∙ (rw (c .unrolled) at (next-is ∙ r .same))
           in
-          let n : 64 - count ≡ suc (64 - (count + 1)) = omega (arith, one-more) in
+          let n : 64 - count ≡ suc (64 - (count + 1)) = omega (arith, one-more (r .how)) in
           let l : left - length (r .value .sentences) ≡ p .count = omega (arith, r .how .read .left) in
           k .same
           ∙ rw (c .unrolled)

@@ -1,15 +1,16 @@
 -- The expression's reader: a string, an s-variable and an e-variable joined to the expression.
-use Prim.Native.Nat.{ℕ, suc, _+_, _-_, _≤_, _<_}
+use Prim.Native.Nat.{ℕ, suc, _+_, _-_, _*_, _≤_, _<_}
 use mathlib.Core.Path.{_≡_, refl, sym, _∙_}
 use mathlib.Core.Bool.{Bool, true, false}
-use mathlib.Core.List.{List, _∷_}
+use mathlib.Core.List.{List}
 use mathlib.Core.Option.{none, some}
 use native.Mathlib.Omega.{arith}
-use lib.Dec.{T, leb, eqb}
+use lib.Dec.{T, leb, ltb, eqb}
 use lib.ListN.{length, drop}
 use borrow.Author.Tests.{lt-leb, le-leb, lt-ltb, le-ltb}
-use Rattle.meaning.specs.Choice.{Bytes, Name, both, every}
+use Rattle.meaning.specs.Choice.{Bytes, Name, pick, both, every}
 use Rattle.meaning.specs.Allowed.{maxIdentifier, comingAfter}
+use Rattle.meaning.specs.Tape.{named}
 use Rattle.meaning.specs.Reading as Reading
 use Rattle.meaning.specs.Reading.{Item, characters, symbolItem, partItem, isItem, symbolFault}
 use Rattle.lexing.specs.View as View
@@ -23,14 +24,15 @@ use Rattle.declarations.specs.declared.expressions.Joined.{Joined}
 use Rattle.declarations.specs.declared.expressions.Joined.the-variants.{Taken, Wrong, Other}
 use Rattle.parsing.specs.Tables.{tableNames, Entries, position}
 use Rattle.parsing.specs.Answered.{numberOf}
-use Rattle.parsing.specs.Written.{Wrote, stringFrom, isQuiet}
+use Rattle.parsing.specs.Written.{Wrote, stringFrom, isQuiet, Went}
 use Rattle.parsing.specs.Patterns.{symbolNames, Identifier, StringAt, itemAt}
-use Rattle.declarations.specs.Expressions.{progressAt, Going, TakenIn, WrongIn, ItemGives, JoinsItem, TokenGives, JoinsToken}
+use Rattle.declarations.specs.Expressions.{progressAt, Going, itemTape, VariableTaken, TakenIn, WrongIn, ItemGives, JoinsItem, TokenGives, JoinsToken}
 use Rattle.parsing.proofs.Finding.{position-coming, table-length}
 use Rattle.parsing.proofs.Tabling.{entries-later, names-later}
 use Rattle.parsing.proofs.Faults.{too-long, short-enough, within}
 use Rattle.parsing.proofs.Itemed.{string-went, string-quiet, variable-went, variable-quiet}
 use Rattle.parsing.proofs.Patterning.{identifier-inside}
+use Rattle.declarations.proofs.Onward.{ready-after}
 
 -- STRINGS
 
@@ -51,7 +53,7 @@ module _ {text : Bytes} {table : List ℕ} {symbols parts : ℕ} {s : Progress} 
               variables = g .variables;
               passed = g .passed;
               few = few;
-              ready = record { inside = a .inside; charged = o .charged; short = g .ready .short };
+              ready = ready-after (g .ready .short) o;
             };
         at = refl;
         went = o;
@@ -95,32 +97,35 @@ module _ {text : Bytes} {table : List ℕ} {symbols parts : ℕ} {s : Progress} 
   symbol-bad m e w = record { wrong = w; fault = symbol-like m refl ∙ sym e }
 
   module _ (m : s .count < 128) where
-    next-going : {words passed : ℕ} → passed ≤ parts → words ≤ x .past
-        → Going text table symbols parts (record { at = x .past; words = words; count = s .count + 1; parts = passed })
-    next-going p w =
-        record {
-          variables = g .variables;
-          passed = p;
-          few = omega arith;
-          ready = record { inside = i .inside; charged = w; short = g .ready .short };
-        }
-
-    pub symbol-joined : symbolFault (symbolNames text table symbols) name ≡ 0 → {word : ℕ} {tape tape′ : List ℕ} {words : ℕ}
-        → word ≡ 256 + (x .past - x .from)
-        → Wrote tape (s .words) (word ∷ name) words tape′ × T (every isQuiet name)
-        → TakenIn text table symbols parts s tape (symbolItem name) (x .past) tape′
-        (record { at = x .past; words = words; count = s .count + 1; parts = s .parts })
-    symbol-joined f e w =
-        let o = variable-went (g .ready) i 1 e (w .0) in
-        let short = within text x (identifier-inside i) 8 3 _ f in
-        record {
-          going = next-going (g .passed) (o .charged);
+    -- a variable that has no fault, as an item of a kind
+    variable-joined : (item : Item) (kind : ℕ) → itemTape item ≡ named kind name → kind ≤ 2 → x .past - x .from ≤ 8 → {passed : ℕ} → passed ≤ parts
+        → Reading.itemFault (symbolNames text table symbols) (progressAt text table parts s) item ≡ 0
+        → Reading.pastItem item (progressAt text table parts s) ≡ record { items = s .count + 1; coming = tableNames text table (16 + passed) (16 + parts) }
+        → {tape tape′ : List ℕ} {next : Progress} → VariableTaken text s x (kind * 256) passed tape tape′ next
+        → TakenIn text table symbols parts s tape item (x .past) tape′ next
+    variable-joined item kind q low short p f e {tape} {tape′} {next} v =
+        let o : Went text (s .at) (s .words) tape (x .past) (next .words) tape′ (itemTape item) = rw q (variable-went (g .ready) i kind refl (v .wrote)) in
+        rw (v .same)
+        (record {
+          going =
+              record {
+                variables = g .variables;
+                passed = p;
+                few = omega arith;
+                ready = ready-after (g .ready .short) o;
+              };
           at = refl;
           went = o;
-          quiet = variable-quiet (g .ready) i 1 (omega arith) (w .1);
-          fault = symbol-like m refl ∙ f;
-          progress = refl;
-        }
+          quiet = rw q (variable-quiet (g .ready) i kind (omega arith) (v .quiet));
+          fault = f;
+          progress = e;
+        })
+
+    pub symbol-joined : symbolFault (symbolNames text table symbols) name ≡ 0 → {tape tape′ : List ℕ} {next : Progress}
+        → VariableTaken text s x 256 (s .parts) tape tape′ next
+        → TakenIn text table symbols parts s tape (symbolItem name) (x .past) tape′ next
+    symbol-joined f v =
+        variable-joined (symbolItem name) 1 refl (omega arith) (within text x (identifier-inside i) 8 3 _ f) (g .passed) (symbol-like m refl ∙ f) refl v
 
     -- AN E-VARIABLE
 
@@ -136,31 +141,26 @@ module _ {text : Bytes} {table : List ℕ} {symbols parts : ℕ} {s : Progress} 
         count-of : length coming ≡ parts - s .parts
         count-of = table-length text table (16 + s .parts) (16 + parts) coming-entries ∙ omega (arith, g .passed)
 
+        after-it : comingAfter name coming ≡ pick (ltb (position name coming) (parts - s .parts)) (some (drop (suc (position name coming)) coming)) none
+        after-it = position-coming name coming ∙ rw count-of
+
         known : r < 16 + parts → comingAfter name coming ≡ some (drop (suc (position name coming)) coming)
-        known h = position-coming name coming ∙ rw (lt-ltb (position name coming) (length coming) (rw count-of (omega (arith, g .passed))))
+        known h = after-it ∙ rw (lt-ltb (position name coming) (parts - s .parts) (omega (arith, g .passed)))
 
         unknown : 16 + parts ≤ r → comingAfter name coming ≡ none
-        unknown h = position-coming name coming ∙ rw (le-ltb (position name coming) (length coming) (rw count-of (omega (arith, g .passed))))
+        unknown h = after-it ∙ rw (le-ltb (position name coming) (parts - s .parts) (omega (arith, g .passed)))
 
         pub part-unknown : 16 + parts ≤ r → WrongIn text table symbols parts s (partItem name) WrongLaterVariable
         part-unknown h = record { wrong = refl; fault = rw (short-enough text x (identifier-inside i) 8 l, few-items m, unknown h) }
 
-        pub part-joined : r < 16 + parts → {word : ℕ} {tape tape′ : List ℕ} {words : ℕ}
-            → word ≡ 512 + (x .past - x .from)
-            → Wrote tape (s .words) (word ∷ name) words tape′ × T (every isQuiet name)
-            → TakenIn text table symbols parts s tape (partItem name) (x .past) tape′
-            (record { at = x .past; words = words; count = s .count + 1; parts = r - 15 })
-        part-joined h e w =
-            let o = variable-went (g .ready) i 2 e (w .0) in
+        pub part-joined : r < 16 + parts → {tape tape′ : List ℕ} {next : Progress} → VariableTaken text s x 512 (r - 15) tape tape′ next
+            → TakenIn text table symbols parts s tape (partItem name) (x .past) tape′ next
+        part-joined h v =
             let n : 16 + (r - 15) ≡ 16 + s .parts + suc (position name coming) = omega arith in
-            record {
-              going = next-going (omega arith) (o .charged);
-              at = refl;
-              went = o;
-              quiet = variable-quiet (g .ready) i 2 (omega arith) (w .1);
-              fault = rw (short-enough text x (identifier-inside i) 8 l, few-items m, known h);
-              progress = rw (known h, n, names-later text table (16 + s .parts) (16 + parts) (suc (position name coming)));
-            }
+            variable-joined (partItem name) 2 refl (omega arith) l (omega arith)
+            (rw (short-enough text x (identifier-inside i) 8 l, few-items m, known h))
+            (rw (known h, n, names-later text table (16 + s .parts) (16 + parts) (suc (position name coming))))
+            v
 
 -- what comes of the item comes of the token
 pub joins : {text : Bytes} {table : List ℕ} {symbols parts : ℕ} {s : Progress} {tape : List ℕ} {item : Item} {past : ℕ} {tape′ : List ℕ} {r : Joined} (t : Placed)

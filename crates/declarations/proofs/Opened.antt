@@ -1,7 +1,7 @@
 -- The opening of a call: its name, which has no fault, and the word for it.
 use Prim.Native.Nat.{ℕ, _+_, _-_, _*_, _≤_, _<_}
 use mathlib.Core.Path.{_≡_, refl, sym, _∙_}
-use mathlib.Core.Bool.{Bool, false}
+use mathlib.Core.Bool.{false}
 use mathlib.Core.List.{List, [], _∷_}
 use native.Mathlib.Omega.{arith}
 use lib.Dec.{T, leb, ltb, eqb}
@@ -10,6 +10,7 @@ use types.Run.{OneOf}
 use denote.Enum.Declared.{tagOf}
 use borrow.Author.Tests.{lt-leb, le-leb, lt-ltb, le-ltb}
 use Rattle.meaning.specs.Choice.{Bytes, both, every}
+use Rattle.meaning.specs.Tape.{callKind}
 use Rattle.meaning.specs.Tokens as Tokens
 use Rattle.meaning.specs.Grammar.{standing}
 use Rattle.meaning.specs.Reading as Reading
@@ -35,6 +36,7 @@ use Rattle.parsing.proofs.Choosing.{both-false}
 use Rattle.parsing.proofs.Faults.{part-length, within}
 use Rattle.parsing.proofs.Going.{check-wrong, stops, reads}
 use Rattle.parsing.proofs.Tokening.{NameFirst, name-first, names-not, refused}
+use Rattle.declarations.proofs.Onward.{name-went}
 
 -- what the definition reads of a call after its `<`, up to its argument
 abbrev pub openingAt : Bytes → ℕ → Progress → ℕ → Parsed CalledName
@@ -43,15 +45,18 @@ openingAt text depth s place = opening depth (s .count) (standing (Tokens.sign 6
 abbrev pub OpeningAgrees : Bytes → ℕ → Progress → ℕ → List ℕ → List ℕ → CodeParsed → Type 0
 OpeningAgrees text depth s place tape tape′ r = Agrees (OpeningRead text depth s tape tape′) (openingAt text depth s place) r
 
+-- one call too deep, one item too many
+module _ (depth items : ℕ) where
+  pub too-deep : 16 ≤ depth → both (ltb depth 16) (leb (items + 1) 128) ≡ false
+  too-deep h = rw (le-ltb depth 16 h)
+
+  pub too-many : 128 ≤ items → both (ltb depth 16) (leb (items + 1) 128) ≡ false
+  too-many h = rw (lt-leb (items + 1) 128 (omega arith)) (sym (both-false (ltb depth 16) refl))
+
 module _ (text : Bytes) (depth : ℕ) (s : Progress) (place : ℕ) where
-  full : {deep : Bool} → ltb depth 16 ≡ deep → 128 ≤ s .count → both (ltb depth 16) (leb (s .count + 1) 128) ≡ false
-  full {deep} e m = rw (e, lt-leb (s .count + 1) 128 (omega arith)) (sym (both-false deep refl))
-
-  pub call-deep : {tape tape′ : List ℕ} → 16 ≤ depth → OpeningAgrees text depth s place tape tape′ (stoppedWith OverLimit place)
-  call-deep h = stops _ _ _ (rw (le-ltb depth 16 h)) refl refl
-
-  pub call-many : {tape tape′ : List ℕ} → 128 ≤ s .count → OpeningAgrees text depth s place tape tape′ (stoppedWith OverLimit place)
-  call-many h = stops _ _ _ (rw (full refl h)) refl refl
+  pub call-limited : {tape tape′ : List ℕ} → both (ltb depth 16) (leb (s .count + 1) 128) ≡ false
+      → OpeningAgrees text depth s place tape tape′ (stoppedWith OverLimit place)
+  call-limited e = stops _ _ _ (rw e) refl refl
 
   module _ (d : depth < 16) (m : s .count < 128) {t : Code.Placed} (k : Comes text Tokens.naming (s .at) t) where
     at-name : openingAt text depth s place
@@ -108,13 +113,8 @@ module _ (text : Bytes) (depth : ℕ) (s : Progress) (place : ℕ) where
               tokens = refl;
               shorter = rw (here .unrolled) (omega arith);
               went =
-                  record {
-                    onward = omega (arith, k .onward, k .forward);
-                    inside = k .inside;
-                    charged = omega (arith, w .0 .reached, name-length, a, k .onward, here .from, here .past, here .some);
-                    counted = w .0 .reached;
-                    wrote = rw name-length (w .0 .same);
-                  };
+                  name-went (callKind + t .place) (here .inside) (omega (arith, k .onward, k .forward)) (k .inside)
+                  (omega (arith, a, k .onward, here .from, here .past, here .some)) refl (w .0);
               shallow = d;
               few = m;
               counted = refl;

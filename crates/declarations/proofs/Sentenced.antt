@@ -31,11 +31,13 @@ use Rattle.parsing.specs.Written.{Ready}
 use Rattle.parsing.specs.Tokened.{tokenFault, signIs, Taken, Barred}
 use Rattle.parsing.specs.Patterns.{Variables, symbolNames, partNames, PatternRead}
 use Rattle.parsing.specs.Conditions.{ConditionsRead}
-use Rattle.declarations.specs.Expressions.{progressAt, Going, stoppedWith, ExpressionRead}
+use Rattle.declarations.specs.Expressions.{Going, stoppedWith}
 use Rattle.declarations.specs.Sentences.{fromEquals, EqualsRead, SentenceRead, beginsSentence, sentenceOf, firstSentence, FirstRead, Follows}
 use Rattle.parsing.proofs.Items.{symbol-at, part-at, symbol-variable, part-variable}
 use Rattle.parsing.proofs.Going.{stops, ReadAt, has-stopped, has-read, follow-same, pass-follow, follow-alone, makes, went-from, went-then, word-went}
 use Rattle.parsing.proofs.Tokening.{fault-same, sign-shown, passes-on, passes-not, refused}
+use Rattle.declarations.proofs.Onward.{ready-after}
+use Rattle.declarations.proofs.Calling.{ExpressionAgrees}
 
 -- WHERE A SENTENCE BEGINS
 
@@ -128,9 +130,7 @@ module _ (text table : List ℕ) (symbols parts from words : ℕ) where
 
     pub equals-reads : {tape tape₁ tape′ : List ℕ} {r : CodeParsed} → tape₁ ≡ set tape words 1024
         → ((bound : ℕ) → length (stream text Tokens.inside at) ≤ bound
-        → Agrees (ExpressionRead text table symbols parts (expressionStart at words) tape₁ tape′)
-        (Reading.expression bound (symbolNames text table symbols) 0 (progressAt text table parts (expressionStart at words)) (stream text Tokens.inside at))
-        r)
+        → ExpressionAgrees text table symbols parts bound 0 (expressionStart at words) tape₁ tape′ r)
         → EqualsAgrees tape tape′ r
     equals-reads {tape} {tape₁} {tape′} e a =
         makes (λ i. i) _
@@ -183,7 +183,7 @@ module _ {text : Bytes} {from words : ℕ} where
 
   module _ (ready : Ready text from words) {tape table tape₁ : List ℕ} {p : Progress} (k : PatternDone text from words tape table tape₁ p) where
     pub pattern-ready : Ready text (p .at) (p .words)
-    pattern-ready = record { inside = k .how .went .inside; charged = k .how .went .charged; short = ready .short }
+    pattern-ready = ready-after (ready .short) (k .how .went)
 
     at-conditions : Reading.sentence (stream text Tokens.inside from)
         ≡ follow (conditionsAt text table p) (λ cs ts. follow (fromEquals (symbolNames text table (p .count)) (partNames text table (p .parts)) ts)
@@ -205,7 +205,7 @@ module _ {text : Bytes} {from words : ℕ} where
 
     module _ {tape₂ : List ℕ} {c : Progress} (l : ConditionsDone text table p tape₁ tape₂ c) where
       pub conditions-ready : Ready text (c .at) (c .words)
-      conditions-ready = record { inside = l .how .went .inside; charged = l .how .went .charged; short = ready .short }
+      conditions-ready = ready-after (ready .short) (l .how .went)
 
       pub sentence-reads : {tape′ : List ℕ} {r : CodeParsed}
           → EqualsAgrees text table (p .count) (p .parts) (c .at) (c .words) tape₂ tape′ r

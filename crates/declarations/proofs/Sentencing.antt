@@ -21,6 +21,7 @@ use Rattle.parsing.specs.Answered.{Agrees}
 use Rattle.parsing.specs.Written.{Ready, Went}
 use Rattle.declarations.specs.Sentences.{Each, SentenceStands, sentenceOf, firstSentence, FirstRead, Follows, SentencesRead}
 use Rattle.parsing.proofs.Going.{stops, reads, ReadAt, has-stopped, follow-alone, behind, behind-more, went-none, went-then, word-went}
+use Rattle.declarations.proofs.Onward.{ready-after}
 
 -- it holds of none, of these and those, and of one more
 pub each-none : {A : Type 0} (holds : A → Type 0) → Each holds []
@@ -115,7 +116,7 @@ sentences-start text start limit from words r =
 
 module _ {text start : List ℕ} {limit from words : ℕ} {tape : List ℕ} {at to left : ℕ} (k : Sentenced text start limit from words tape at to left) where
   pub next-ready : Ready text at to
-  next-ready = record { inside = k .went .inside; charged = k .went .charged; short = k .short }
+  next-ready = ready-after (k .short) (k .went)
 
   at-sentence : Reading.sentences limit (stream text Tokens.inside from)
       ≡ follow
@@ -146,8 +147,7 @@ module _ {text start : List ℕ} {limit from words : ℕ} {tape : List ℕ} {at 
     sentence-went : (word : ℕ) {tape′ : List ℕ} {further : ℕ} → s .at < further → further ≤ length text → tape′ ≡ set tape₁ (s .words) word
         → Went text from words start further (s .words + 1) tape′ (partedTape (k .before) ++ (sentenceTape (r .value) ++ word ∷ []))
     sentence-went word h i w =
-        let ready : Ready text (s .at) (s .words) = record { inside = r .how .read .went .inside; charged = r .how .read .went .charged; short = k .short } in
-        went-then (k .went) (went-then (r .how .read .went) (word-went ready h i w))
+        went-then (k .went) (went-then (r .how .read .went) (word-went (ready-after (k .short) (r .how .read .went)) h i w))
 
     counted-more : left - 1 + length (k .before ++ r .value ∷ []) ≡ limit
     counted-more = rw (length-append (k .before) (r .value ∷ [])) (omega (arith, k .counted, r .how .some))

@@ -1,5 +1,5 @@
 -- Expressions and calls while they are read.
-use Prim.Native.Nat.{ℕ, _+_, _≤_, _<_}
+use Prim.Native.Nat.{ℕ, _+_, _-_, _≤_, _<_}
 use mathlib.Core.Path.{_≡_}
 use mathlib.Core.Bool.{true, false}
 use mathlib.Core.List.{List, [], _∷_, _++_}
@@ -12,7 +12,8 @@ use Rattle.meaning.specs.Tape.{tapeWord, named, symbolKind, partKind, callKind,
 use Rattle.meaning.specs.Tokens as Tokens
 use Rattle.meaning.specs.Reading as Reading
 use Rattle.meaning.specs.Reading.{parsed, Item, characters, symbolItem, partItem, noItem, isItem}
-use Rattle.lexing.specs.View.{stream}
+use Rattle.lexing.specs.View.{part, stream}
+use Rattle.lexing.specs.declared.Span.{Span}
 use Rattle.lexing.specs.declared.Placed.{Placed}
 use Rattle.parsing.specs.declared.Answer.{Answer}
 use Rattle.parsing.specs.declared.progress.Progress.{Progress}
@@ -23,7 +24,7 @@ use Rattle.parsing.specs.declared.progress.Parsed.{Parsed}
 use Rattle.parsing.specs.declared.progress.Parsed.the-variants.{Stopped, Done}
 use Rattle.parsing.specs.Answered.{numberOf}
 use Rattle.parsing.specs.Tokened.{Taken, Barred}
-use Rattle.parsing.specs.Written.{isQuiet, Ready, Went}
+use Rattle.parsing.specs.Written.{Wrote, isQuiet, Ready, Went}
 use Rattle.parsing.specs.Patterns.{Variables, symbolNames, itemAt}
 
 -- how far an expression is: its items, and the e-variables of the table that may still come
@@ -61,6 +62,12 @@ itemTape (characters cs) = cs
 itemTape (symbolItem x) = named symbolKind x
 itemTape (partItem x) = named partKind x
 itemTape noItem = []
+
+-- a variable is taken in: a word that is a base and its identifier's length, and the identifier; so many e-variables have passed then
+pub record VariableTaken (text : Bytes) (s : Progress) (x : Span) (base parts : ℕ) (tape tape′ : List ℕ) (next : Progress) : Type 0 where
+  pub wrote : Wrote tape (s .words) ((base + (x .past - x .from)) ∷ part text x) (next .words) tape′
+  pub quiet : T (every isQuiet (part text x))
+  pub same : next ≡ record { at = x .past; words = next .words; count = s .count + 1; parts = parts }
 
 -- an item is taken into an expression
 pub record TakenIn (text : Bytes) (table : List ℕ) (symbols parts : ℕ) (s : Progress) (tape : List ℕ) (item : Item) (past : ℕ) (tape′ : List ℕ) (next : Progress) : Type 0 where

@@ -36,7 +36,7 @@ ghost use Rattle.parsing.specs.Answered.{Agrees};
 ghost use Rattle.parsing.specs.Tables.{Inside};
 ghost use Rattle.parsing.specs.Written.{Wrote, isQuiet, Ready};
 ghost use Rattle.parsing.specs.Patterns.{symbolNames, Identifier, StringAt};
-ghost use Rattle.declarations.specs.Expressions.{progressAt, Going, JoinsItem, JoinsToken, ExpressionRead, opening, OpeningRead, CallRead, Closes};
+ghost use Rattle.declarations.specs.Expressions.{progressAt, Going, VariableTaken, JoinsItem, JoinsToken, ExpressionRead, opening, OpeningRead, CallRead, Closes};
 
 // An expression with a token joined to it, what is wrong with the token, or that it is no item.
 pub enum Joined {
@@ -73,6 +73,28 @@ fn join_string(
     })
 }
 
+// A variable taken into an expression: a word that is a base and the identifier's length, then the identifier. So many e-variables have passed then.
+fn take_variable(
+    text: &[u8],
+    tape: &mut [u32; 32768],
+    s: Progress,
+    x: Span,
+    base: usize,
+    parts: usize,
+) -> Progress
+    requires { ⌜ Ready (now text) (s .at) (s .words) × Identifier (now text) (s .at) x × (s .count < 128) × (base ≤ 512) ⌝ }
+    ensures { λ r. ⌜ VariableTaken (now (text .entry)) s x base parts (now (tape .entry)) (now (tape .exit)) r ⌝ }
+{
+    let word = (base + (x.past - x.from)) as u32;
+    let words = put_named(text, tape, s.words, word, x);
+    Progress {
+        at: x.past,
+        words: words,
+        count: s.count + 1,
+        parts: parts,
+    }
+}
+
 // An s-variable joined to an expression.
 fn join_symbol(
     text: &[u8],
@@ -94,14 +116,7 @@ fn join_symbol(
     if !is_accepted(fault) {
         return Joined::Wrong(fault);
     }
-    let word = (SYMBOL_WORD + (x.past - x.from)) as u32;
-    let words = put_named(text, tape, s.words, word, x);
-    Joined::Taken(Progress {
-        at: x.past,
-        words: words,
-        count: s.count + 1,
-        parts: s.parts,
-    })
+    Joined::Taken(take_variable(text, tape, s, x, SYMBOL_WORD, s.parts))
 }
 
 // An e-variable joined to an expression: those of the pattern that came before it can't come any more.
@@ -130,14 +145,8 @@ fn join_part(
     if end <= found {
         return Joined::Wrong(Answer::WrongLaterVariable);
     }
-    let word = (PART_WORD + (x.past - x.from)) as u32;
-    let words = put_named(text, tape, s.words, word, x);
-    Joined::Taken(Progress {
-        at: x.past,
-        words: words,
-        count: s.count + 1,
-        parts: found - 15,
-    })
+    let passed = found - 15;
+    Joined::Taken(take_variable(text, tape, s, x, PART_WORD, passed))
 }
 
 // A token joined to an expression, by the item that it is.

@@ -107,7 +107,7 @@ call-enum-known-argument : (t : ℕ) → call-lts.Need-enum-known-argument (call
 call-enum-known-argument t c = search needs
 
 call-close-call-requires : (t : ℕ) → call-lts.Need-close-call-requires (call-claims t) (call-at t) call.Post
-call-close-call-requires t c κs = argument-ready (c .before .before .before .before .before .before .before .before .before .before .before .before .before .args .depth) (rw (c .before .before .argument .given .1) at (c .before .before .before .before .expression .ensures))
+call-close-call-requires t c κs = argument-ready (c .before .before .before .before .before .before .before .before .before .before .before .before .before .args .depth + 1) (rw (c .before .before .argument .given .1) at (c .before .before .before .before .expression .ensures))
 
 call-returns-2 : (t : ℕ) → call-lts.Need-returns-2 (call-claims t) (call-at t) call.Post
 call-returns-2 t c =

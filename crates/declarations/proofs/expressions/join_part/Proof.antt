@@ -2,7 +2,7 @@
 use borrow.Author.Needs.{needs}
 use Rattle.declarations.proofs.expressions.join_part.Statement.{statement}
 use Rattle.declarations.proofs.expressions.join_part.Tie as tie
-use mathlib.Core.Path.{refl}
+use native.Mathlib.Omega.{arith}
 use Rattle.parsing.proofs.Patterning.{identifier-inside}
 use Rattle.declarations.proofs.Joining.{part-long, part-many, coming-entries, part-unknown, part-joined}
 
@@ -31,28 +31,16 @@ returns-3 c =
     let p = c .before .before .before .before .before .before .before .before .before .pre in
     record { gives = part-unknown (p .0) (p .1) (c .before .before .before .if2 .left) (c .before .before .before .before .before .if1 .left) _ (c .before .find .ensures) (c .if3 .taken) }
 
-sub-word : tie.Need-sub-word
-sub-word c = search needs
+sub-passed : tie.Need-sub-passed
+sub-passed c = search needs
 
-add-word : tie.Need-add-word
-add-word c = search needs
-
-cast-word : tie.Need-cast-word
-cast-word c = search needs
-
-put-named-requires : tie.Need-put-named-requires
-put-named-requires c κs = search needs
-
-add-t13 : tie.Need-add-t13
-add-t13 c = search needs
-
-sub-t18 : tie.Need-sub-t18
-sub-t18 c = search needs
+take-variable-requires : tie.Need-take-variable-requires
+take-variable-requires c κs = (c .before .before .before .before .before .before .before .before .before .before .pre .0 .ready, c .before .before .before .before .before .before .before .before .before .before .pre .1, c .before .before .before .before .if2 .left, omega arith)
 
 returns-4 : tie.Need-returns-4
 returns-4 c =
-    let p = c .before .before .before .before .before .before .before .before .before .before .before .before .before .pre in
-    record { gives = part-joined (p .0) (p .1) (c .before .before .before .before .before .before .before .if2 .left) (c .before .before .before .before .before .before .before .before .before .if1 .left) _ (c .before .before .before .before .before .find .ensures) (c .before .before .before .before .if3 .left) refl (c .before .put-named .ensures) }
+    let p = c .before .before .before .before .before .before .before .before .before .before .before .pre in
+    record { gives = part-joined (p .0) (p .1) (c .before .before .before .before .before .if2 .left) (c .before .before .before .before .before .before .before .if1 .left) _ (c .before .before .before .find .ensures) (c .before .before .if3 .left) (c .take-variable .ensures) }
 
 pub join-part-spec : {M : Type 1} → statement M
 join-part-spec =
@@ -65,10 +53,6 @@ join-part-spec =
     add-end
     find-requires
     returns-3
-    sub-word
-    add-word
-    cast-word
-    put-named-requires
-    add-t13
-    sub-t18
+    sub-passed
+    take-variable-requires
     returns-4)

@@ -2,7 +2,7 @@
 use borrow.Author.Needs.{needs}
 use Rattle.declarations.proofs.expressions.join_symbol.Statement.{statement}
 use Rattle.declarations.proofs.expressions.join_symbol.Tie as tie
-use mathlib.Core.Path.{refl}
+use native.Mathlib.Omega.{arith}
 use Rattle.parsing.proofs.Choosing.{no-fault-here, a-fault-here}
 use Rattle.declarations.proofs.Joining.{symbol-many, symbol-bad, symbol-joined}
 
@@ -20,26 +20,14 @@ returns-2 c =
     let f = c .before .before .later-symbol-fault .ensures in
     record { gives = symbol-bad (c .before .before .before .before .before .before .before .pre .0) (c .before .before .before .before .before .before .before .pre .1) (c .before .before .before .if1 .left) f (a-fault-here f (c .before .is-accepted .ensures) (c .if2 .taken)) }
 
-sub-word : tie.Need-sub-word
-sub-word c = search needs
-
-add-word : tie.Need-add-word
-add-word c = search needs
-
-cast-word : tie.Need-cast-word
-cast-word c = search needs
-
-put-named-requires : tie.Need-put-named-requires
-put-named-requires c κs = search needs
-
-add-t14 : tie.Need-add-t14
-add-t14 c = search needs
+take-variable-requires : tie.Need-take-variable-requires
+take-variable-requires c κs = (c .before .before .before .before .before .before .before .before .pre .0 .ready, c .before .before .before .before .before .before .before .before .pre .1, c .before .before .before .before .if1 .left, omega arith)
 
 returns-3 : tie.Need-returns-3
 returns-3 c =
-    let p = c .before .before .before .before .before .before .before .before .before .before .before .pre in
-    let f = no-fault-here (c .before .before .before .before .before .before .later-symbol-fault .ensures) (c .before .before .before .before .before .is-accepted .ensures) (c .before .before .before .before .if2 .left) in
-    record { gives = symbol-joined (p .0) (p .1) (c .before .before .before .before .before .before .before .if1 .left) f refl (c .before .put-named .ensures) }
+    let p = c .before .before .before .before .before .before .before .before .before .pre in
+    let f = no-fault-here (c .before .before .before .before .later-symbol-fault .ensures) (c .before .before .before .is-accepted .ensures) (c .before .before .if2 .left) in
+    record { gives = symbol-joined (p .0) (p .1) (c .before .before .before .before .before .if1 .left) f (c .take-variable .ensures) }
 
 pub join-symbol-spec : {M : Type 1} → statement M
 join-symbol-spec =
@@ -49,9 +37,5 @@ join-symbol-spec =
     later-symbol-fault-requires
     is-accepted-requires
     returns-2
-    sub-word
-    add-word
-    cast-word
-    put-named-requires
-    add-t14
+    take-variable-requires
     returns-3)

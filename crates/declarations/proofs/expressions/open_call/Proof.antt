@@ -9,7 +9,7 @@ use Rattle.meaning.specs.Tokens as Tokens
 use Rattle.lexing.proofs.Stream.{comes}
 use Rattle.parsing.proofs.Choosing.{no-fault-here, a-fault-here}
 use Rattle.parsing.proofs.Tokening.{name-first}
-use Rattle.declarations.proofs.Opened.{call-deep, call-many, call-nameless, call-misnamed, name-room, call-opens}
+use Rattle.declarations.proofs.Opened.{too-deep, too-many, call-limited, call-nameless, call-misnamed, name-room, call-opens}
 
 stopped-requires : tie.Need-stopped-requires
 stopped-requires c κs = search needs
@@ -18,7 +18,8 @@ returns : tie.Need-returns
 returns c =
     let a = c .before .before .before .args in
     rw (c .stopped .ensures)
-    (⊎-elim (λ w. call-deep (a .text .now) (a .depth) (a .s) (a .place) (w .taken)) (λ w. call-many (a .text .now) (a .depth) (a .s) (a .place) (leb-true 128 _ (w .2 .taken))) (c .before .if1 .came))
+    (call-limited (a .text .now) (a .depth) (a .s) (a .place)
+    (⊎-elim (λ w. too-deep (a .depth) (a .s .count) (w .taken)) (λ w. too-many (a .depth) (a .s .count) (leb-true 128 _ (w .2 .taken))) (c .before .if1 .came)))
 
 lex-requires : tie.Need-lex-requires
 lex-requires c κs = search needs

@@ -53,15 +53,13 @@ pass-spare-requires c κs =
 
 add-count : tie.Need-add-count Inv-loop μ-loop
 add-count c =
-    let k = c .before .before .before .before .before .before .before .before .before .before .loop .inv in
     let r = has-read _ _ (rw (c .before .before .f .given .1) at (c .before .before .before .before .function .ensures)) in
-    let m = one-more k (comes _ outside _ _ (k .went .inside) (c .before .before .before .before .before .before .before .before .before .lex .ensures)) (sym (c .before .before .before .before .before .before .before .before .is-end .ensures) ∙ c .before .before .before .before .before .before .before .if1 .left) r in omega arith
+    omega (arith, one-more (r .how))
 
 loop-less : tie.Need-loop-less Inv-loop μ-loop
 loop-less c =
-    let k = c .before .before .before .before .before .before .before .before .before .before .loop .inv in
     let r = has-read _ _ (rw (c .before .before .f .given .1) at (c .before .before .before .before .function .ensures)) in
-    let m = one-more k (comes _ outside _ _ (k .went .inside) (c .before .before .before .before .before .before .before .before .before .lex .ensures)) (sym (c .before .before .before .before .before .before .before .before .is-end .ensures) ∙ c .before .before .before .before .before .before .before .if1 .left) r in omega arith
+    omega (arith, one-more (r .how))
 
 loop-again : tie.Need-loop-again Inv-loop μ-loop
 loop-again c =
