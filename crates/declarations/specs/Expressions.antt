@@ -63,7 +63,7 @@ itemTape (symbolItem x) = named symbolKind x
 itemTape (partItem x) = named partKind x
 itemTape noItem = []
 
--- a variable is taken in: a word that is a base and its identifier's length, and the identifier; so many e-variables have passed then
+-- a variable is taken in: its word, a base plus the identifier's length, and the identifier; so many e-variables have passed then
 pub record VariableTaken (text : Bytes) (s : Progress) (x : Span) (base parts : ℕ) (tape tape′ : List ℕ) (next : Progress) : Type 0 where
   pub wrote : Wrote tape (s .words) ((base + (x .past - x .from)) ∷ part text x) (next .words) tape′
   pub quiet : T (every isQuiet (part text x))

@@ -61,7 +61,7 @@ beginsSentence (Sign byte) = either (eqb byte 44) (eqb byte 61)
 beginsSentence End = false
 beginsSentence Malformed = false
 
--- the first of so many sentences, or none
+-- a sentence, if one may still come
 abbrev pub sentenceOf : ℕ → Tokens.Placed → List Tokens.Placed → Parsed Sentence
 sentenceOf zero t ts = stopped overLimit (t .place)
 sentenceOf (suc left) t ts = Reading.sentence (t ∷ ts)

@@ -73,7 +73,7 @@ fn join_string(
     })
 }
 
-// A variable taken into an expression: a word that is a base and the identifier's length, then the identifier. So many e-variables have passed then.
+// A variable taken into an expression: its word, a base plus the identifier's length, and the identifier. So many e-variables have passed then.
 fn take_variable(
     text: &[u8],
     tape: &mut [u32; 32768],
