@@ -13,17 +13,17 @@ use Rattle.meaning.specs.Grammar.{standing}
 use Rattle.meaning.specs.Reading as Reading
 use Rattle.meaning.specs.Reading.{Parsed, parsed, follow, check, nameOn, passName}
 use Rattle.lexing.specs.View.{stream}
-use Rattle.parsing.specs.declared.progress.Fault.{Fault}
-use Rattle.parsing.specs.declared.progress.Progress.{Progress}
-use Rattle.parsing.specs.declared.progress.Parsed.{Parsed as CodeParsed}
-use Rattle.parsing.specs.declared.progress.Parsed.the-variants.{Stopped, Done}
-use Rattle.parsing.specs.Answered.{Agrees}
-use Rattle.parsing.specs.Written.{Ready, Went}
-use Rattle.parsing.specs.Tokened.{Taken, Barred}
+use Rattle.bookkeeping.specs.declared.progress.Fault.{Fault}
+use Rattle.bookkeeping.specs.declared.progress.Progress.{Progress}
+use Rattle.bookkeeping.specs.declared.progress.Parsed.{Parsed as CodeParsed}
+use Rattle.bookkeeping.specs.declared.progress.Parsed.the-variants.{Stopped, Done}
+use Rattle.bookkeeping.specs.Answered.{Agrees}
+use Rattle.bookkeeping.specs.Written.{Ready, Went}
+use Rattle.bookkeeping.specs.Tokened.{Taken, Barred}
 use Rattle.parsing.specs.Patterns.{symbolNames}
 use Rattle.declarations.specs.Expressions.{progressAt, Going, ExpressionRead, CalledName, opening, OpeningRead, CallRead, CloseGives, Closes}
-use Rattle.parsing.proofs.Going.{stops, reads, ReadAt, has-stopped, has-read, went-then, word-went}
-use Rattle.parsing.proofs.Tokening.{passes-on, passes-not}
+use Rattle.bookkeeping.proofs.Going.{stops, reads, ReadAt, has-stopped, has-read, went-then, word-went}
+use Rattle.bookkeeping.proofs.Tokening.{passes-on, passes-not}
 use Rattle.declarations.proofs.Onward.{ready-after, going-on}
 use Rattle.declarations.proofs.Opened.{openingAt, OpeningAgrees}
 

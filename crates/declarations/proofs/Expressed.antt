@@ -16,21 +16,21 @@ use Rattle.meaning.specs.Reading.{Parsed, stopped, parsed, follow, withFirst, I
 use Rattle.meaning.proofs.laws.Passing.{every-head, every-tail}
 use Rattle.lexing.specs.View.{placedOf, tokenOf, stream, Comes}
 use Rattle.lexing.specs.declared.Placed as Code
-use Rattle.parsing.specs.declared.Answer.{Answer}
-use Rattle.parsing.specs.declared.progress.Fault.{Fault}
-use Rattle.parsing.specs.declared.progress.Progress.{Progress}
-use Rattle.parsing.specs.declared.progress.Parsed.{Parsed as CodeParsed}
-use Rattle.parsing.specs.declared.progress.Parsed.the-variants.{Stopped, Done}
+use Rattle.bookkeeping.specs.declared.Answer.{Answer}
+use Rattle.bookkeeping.specs.declared.progress.Fault.{Fault}
+use Rattle.bookkeeping.specs.declared.progress.Progress.{Progress}
+use Rattle.bookkeeping.specs.declared.progress.Parsed.{Parsed as CodeParsed}
+use Rattle.bookkeeping.specs.declared.progress.Parsed.the-variants.{Stopped, Done}
 use Rattle.declarations.specs.declared.expressions.Joined.{Joined}
 use Rattle.declarations.specs.declared.expressions.Joined.the-variants.{Taken, Wrong, Other}
-use Rattle.parsing.specs.Answered.{numberOf}
-use Rattle.parsing.specs.Written.{isQuiet, Went}
-use Rattle.parsing.specs.Tokened.{signIs}
+use Rattle.bookkeeping.specs.Answered.{numberOf}
+use Rattle.bookkeeping.specs.Written.{isQuiet, Went}
+use Rattle.bookkeeping.specs.Tokened.{signIs}
 use Rattle.parsing.specs.Patterns.{symbolNames, itemAt}
 use Rattle.declarations.specs.Expressions.{progressAt, Going, CallStands, Stands, itemTape, TakenIn, TokenGives, JoinsToken, stoppedWith, callTape, CallRead}
 use Rattle.parsing.proofs.Items.{item-then}
-use Rattle.parsing.proofs.Going.{check-wrong, stops, reads, ReadAt, has-stopped, has-read, went-none, went-from, went-on, went-then}
-use Rattle.parsing.proofs.Tokening.{sign-shown, sign-first, takes, ready-place, ready-past}
+use Rattle.bookkeeping.proofs.Going.{check-wrong, stops, reads, ReadAt, has-stopped, has-read, went-none, went-from, went-on, went-then}
+use Rattle.bookkeeping.proofs.Tokening.{sign-shown, sign-first, takes, ready-place, ready-past}
 use Rattle.declarations.proofs.Onward.{going-on}
 use Rattle.declarations.proofs.Calling.{callAt, CallAgrees, expressionAt, ExpressionAgrees}
 

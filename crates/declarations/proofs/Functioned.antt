@@ -26,23 +26,23 @@ use Rattle.lexing.specs.declared.Span.{Span}
 use Rattle.lexing.specs.declared.Token.{Token}
 use Rattle.lexing.specs.declared.Token.the-variants.{Name as NameToken, Symbol, Part, Word, Quoted, Sign, End, Malformed}
 use Rattle.lexing.specs.declared.Placed as Code
-use Rattle.parsing.specs.declared.Answer.{Answer}
-use Rattle.parsing.specs.declared.Answer.the-variants.{OverLimit}
-use Rattle.parsing.specs.declared.progress.Fault.{Fault}
-use Rattle.parsing.specs.declared.progress.Progress.{Progress}
-use Rattle.parsing.specs.declared.progress.Parsed.{Parsed as CodeParsed}
-use Rattle.parsing.specs.declared.progress.Parsed.the-variants.{Stopped, Done}
-use Rattle.parsing.specs.Tables.{Inside, nameIn, inText, tableNames, Entries, declaredFaultIn}
-use Rattle.parsing.specs.Answered.{numberOf, Agrees}
-use Rattle.parsing.specs.Written.{Wrote, isQuiet, Ready, Went}
-use Rattle.parsing.specs.Tokened.{tokenFault, signIs, Taken, Barred}
+use Rattle.bookkeeping.specs.declared.Answer.{Answer}
+use Rattle.bookkeeping.specs.declared.Answer.the-variants.{OverLimit}
+use Rattle.bookkeeping.specs.declared.progress.Fault.{Fault}
+use Rattle.bookkeeping.specs.declared.progress.Progress.{Progress}
+use Rattle.bookkeeping.specs.declared.progress.Parsed.{Parsed as CodeParsed}
+use Rattle.bookkeeping.specs.declared.progress.Parsed.the-variants.{Stopped, Done}
+use Rattle.bookkeeping.specs.Tables.{Inside, nameIn, inText, tableNames, Entries, declaredFaultIn}
+use Rattle.bookkeeping.specs.Answered.{numberOf, Agrees}
+use Rattle.bookkeeping.specs.Written.{Wrote, isQuiet, Ready, Went}
+use Rattle.bookkeeping.specs.Tokened.{tokenFault, signIs, Taken, Barred}
 use Rattle.declarations.specs.Expressions.{stoppedWith}
 use Rattle.declarations.specs.Sentences.{Each, SentencesRead}
 use Rattle.declarations.specs.Functions.{FunctionStands, fromBrace, declared, Declarable, BodyRead, Opening, nameFault, DeclaredRead, SpareTo, isEnd, FunctionsRead}
-use Rattle.parsing.proofs.Faults.{part-length, within}
-use Rattle.parsing.proofs.Tabling.{Grown, grown, entry-name, entry-inside, none-yet, no-names}
-use Rattle.parsing.proofs.Going.{check-wrong, stops, reads, ReadAt, has-stopped, pass-follow, follow-alone, makes, went-none, went-from, went-on, went-then}
-use Rattle.parsing.proofs.Tokening.{NameFirst, sign-shown, passes-on, passes-not, name-first, names-not, refused, ready-place}
+use Rattle.bookkeeping.proofs.Lengths.{part-length, within}
+use Rattle.bookkeeping.proofs.Tabling.{Grown, grown, entry-name, entry-inside, none-yet, no-names}
+use Rattle.bookkeeping.proofs.Going.{check-wrong, stops, reads, ReadAt, has-stopped, pass-follow, follow-alone, makes, went-none, went-from, went-on, went-then}
+use Rattle.bookkeeping.proofs.Tokening.{NameFirst, sign-shown, passes-on, passes-not, name-first, names-not, refused, ready-place}
 use Rattle.declarations.proofs.Onward.{ready-after, name-went}
 use Rattle.declarations.proofs.Sentencing.{each-none, each-more}
 

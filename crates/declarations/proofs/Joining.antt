@@ -17,19 +17,19 @@ use Rattle.lexing.specs.View as View
 use Rattle.lexing.specs.View.{charactersIn, quotationAt}
 use Rattle.lexing.specs.declared.Span.{Span}
 use Rattle.lexing.specs.declared.Placed.{Placed}
-use Rattle.parsing.specs.declared.Answer.{Answer}
-use Rattle.parsing.specs.declared.Answer.the-variants.{OverLimit, WrongLaterVariable}
-use Rattle.parsing.specs.declared.progress.Progress.{Progress}
+use Rattle.bookkeeping.specs.declared.Answer.{Answer}
+use Rattle.bookkeeping.specs.declared.Answer.the-variants.{OverLimit, WrongLaterVariable}
+use Rattle.bookkeeping.specs.declared.progress.Progress.{Progress}
 use Rattle.declarations.specs.declared.expressions.Joined.{Joined}
 use Rattle.declarations.specs.declared.expressions.Joined.the-variants.{Taken, Wrong, Other}
-use Rattle.parsing.specs.Tables.{tableNames, Entries, position}
-use Rattle.parsing.specs.Answered.{numberOf}
-use Rattle.parsing.specs.Written.{Wrote, stringFrom, isQuiet, Went}
+use Rattle.bookkeeping.specs.Tables.{tableNames, Entries, position}
+use Rattle.bookkeeping.specs.Answered.{numberOf}
+use Rattle.bookkeeping.specs.Written.{Wrote, stringFrom, isQuiet, Went}
 use Rattle.parsing.specs.Patterns.{symbolNames, Identifier, StringAt, itemAt}
 use Rattle.declarations.specs.Expressions.{progressAt, Going, itemTape, VariableTaken, TakenIn, WrongIn, ItemGives, JoinsItem, TokenGives, JoinsToken}
-use Rattle.parsing.proofs.Finding.{position-coming, table-length}
-use Rattle.parsing.proofs.Tabling.{entries-later, names-later}
-use Rattle.parsing.proofs.Faults.{too-long, short-enough, within}
+use Rattle.bookkeeping.proofs.Finding.{position-coming, table-length}
+use Rattle.bookkeeping.proofs.Tabling.{entries-later, names-later}
+use Rattle.bookkeeping.proofs.Lengths.{too-long, short-enough, within}
 use Rattle.parsing.proofs.Itemed.{string-went, string-quiet, variable-went, variable-quiet}
 use Rattle.parsing.proofs.Patterning.{identifier-inside}
 use Rattle.declarations.proofs.Onward.{ready-after}

@@ -8,11 +8,11 @@ use Rattle.meaning.specs.Choice.{Bytes}
 use Rattle.meaning.specs.Tape.{named}
 use Rattle.lexing.specs.View.{part}
 use Rattle.lexing.specs.declared.Span.{Span}
-use Rattle.parsing.specs.declared.progress.Progress.{Progress}
-use Rattle.parsing.specs.Tables.{Inside}
-use Rattle.parsing.specs.Written.{Wrote, Ready, Went}
+use Rattle.bookkeeping.specs.declared.progress.Progress.{Progress}
+use Rattle.bookkeeping.specs.Tables.{Inside}
+use Rattle.bookkeeping.specs.Written.{Wrote, Ready, Went}
 use Rattle.declarations.specs.Expressions.{Going}
-use Rattle.parsing.proofs.Faults.{part-length}
+use Rattle.bookkeeping.proofs.Lengths.{part-length}
 
 pub ready-after : {text : Bytes} {at words : ℕ} {tape : List ℕ} {at′ words′ : ℕ} {tape′ added : List ℕ} → length text ≤ 32768
     → Went text at words tape at′ words′ tape′ added → Ready text at′ words′

@@ -21,21 +21,21 @@ use Rattle.lexing.specs.View.{stream, Comes}
 use Rattle.lexing.specs.declared.Span.{Span}
 use Rattle.lexing.specs.declared.Token.the-variants.{Name as NameToken}
 use Rattle.lexing.specs.declared.Placed as Code
-use Rattle.parsing.specs.declared.Answer.{Answer}
-use Rattle.parsing.specs.declared.Answer.the-variants.{OverLimit}
-use Rattle.parsing.specs.declared.progress.Fault.{Fault}
-use Rattle.parsing.specs.declared.progress.Progress.{Progress}
-use Rattle.parsing.specs.declared.progress.Parsed.{Parsed as CodeParsed}
-use Rattle.parsing.specs.declared.progress.Parsed.the-variants.{Stopped, Done}
-use Rattle.parsing.specs.Tables.{Inside}
-use Rattle.parsing.specs.Answered.{numberOf, Agrees}
-use Rattle.parsing.specs.Written.{Wrote, isQuiet, Ready}
-use Rattle.parsing.specs.Tokened.{tokenFault}
+use Rattle.bookkeeping.specs.declared.Answer.{Answer}
+use Rattle.bookkeeping.specs.declared.Answer.the-variants.{OverLimit}
+use Rattle.bookkeeping.specs.declared.progress.Fault.{Fault}
+use Rattle.bookkeeping.specs.declared.progress.Progress.{Progress}
+use Rattle.bookkeeping.specs.declared.progress.Parsed.{Parsed as CodeParsed}
+use Rattle.bookkeeping.specs.declared.progress.Parsed.the-variants.{Stopped, Done}
+use Rattle.bookkeeping.specs.Tables.{Inside}
+use Rattle.bookkeeping.specs.Answered.{numberOf, Agrees}
+use Rattle.bookkeeping.specs.Written.{Wrote, isQuiet, Ready}
+use Rattle.bookkeeping.specs.Tokened.{tokenFault}
 use Rattle.declarations.specs.Expressions.{CallStands, stoppedWith, CalledName, opening, OpeningRead}
-use Rattle.parsing.proofs.Choosing.{both-false}
-use Rattle.parsing.proofs.Faults.{part-length, within}
-use Rattle.parsing.proofs.Going.{check-wrong, stops, reads}
-use Rattle.parsing.proofs.Tokening.{NameFirst, name-first, names-not, refused}
+use Rattle.bookkeeping.proofs.Choosing.{both-false}
+use Rattle.bookkeeping.proofs.Lengths.{part-length, within}
+use Rattle.bookkeeping.proofs.Going.{check-wrong, stops, reads}
+use Rattle.bookkeeping.proofs.Tokening.{NameFirst, name-first, names-not, refused}
 use Rattle.declarations.proofs.Onward.{name-went}
 
 -- what the definition reads of a call after its `<`, up to its argument

@@ -20,22 +20,22 @@ use Rattle.lexing.specs.View.{tokenOf, placedOf, stream, Comes}
 use Rattle.lexing.specs.declared.Token.{Token}
 use Rattle.lexing.specs.declared.Token.the-variants.{Name as NameToken, Symbol, Part, Word, Quoted, Sign, End, Malformed}
 use Rattle.lexing.specs.declared.Placed as Code
-use Rattle.parsing.specs.declared.Answer.the-variants.{OverLimit}
-use Rattle.parsing.specs.declared.progress.Fault.{Fault}
-use Rattle.parsing.specs.declared.progress.Progress.{Progress}
-use Rattle.parsing.specs.declared.progress.Parsed.{Parsed as CodeParsed}
-use Rattle.parsing.specs.declared.progress.Parsed.the-variants.{Stopped, Done}
+use Rattle.bookkeeping.specs.declared.Answer.the-variants.{OverLimit}
+use Rattle.bookkeeping.specs.declared.progress.Fault.{Fault}
+use Rattle.bookkeeping.specs.declared.progress.Progress.{Progress}
+use Rattle.bookkeeping.specs.declared.progress.Parsed.{Parsed as CodeParsed}
+use Rattle.bookkeeping.specs.declared.progress.Parsed.the-variants.{Stopped, Done}
 use Rattle.declarations.specs.declared.sentences.Sequel.the-variants.{Ends, Another, Refused}
-use Rattle.parsing.specs.Answered.{numberOf, Agrees}
-use Rattle.parsing.specs.Written.{Ready}
-use Rattle.parsing.specs.Tokened.{tokenFault, signIs, Taken, Barred}
+use Rattle.bookkeeping.specs.Answered.{numberOf, Agrees}
+use Rattle.bookkeeping.specs.Written.{Ready}
+use Rattle.bookkeeping.specs.Tokened.{tokenFault, signIs, Taken, Barred}
 use Rattle.parsing.specs.Patterns.{Variables, symbolNames, partNames, PatternRead}
 use Rattle.parsing.specs.Conditions.{ConditionsRead}
 use Rattle.declarations.specs.Expressions.{Going, stoppedWith}
 use Rattle.declarations.specs.Sentences.{fromEquals, EqualsRead, SentenceRead, beginsSentence, sentenceOf, firstSentence, FirstRead, Follows}
 use Rattle.parsing.proofs.Items.{symbol-at, part-at, symbol-variable, part-variable}
-use Rattle.parsing.proofs.Going.{stops, ReadAt, has-stopped, has-read, follow-same, pass-follow, follow-alone, makes, went-from, went-then, word-went}
-use Rattle.parsing.proofs.Tokening.{fault-same, sign-shown, passes-on, passes-not, refused}
+use Rattle.bookkeeping.proofs.Going.{stops, ReadAt, has-stopped, has-read, follow-same, pass-follow, follow-alone, makes, went-from, went-then, word-went}
+use Rattle.bookkeeping.proofs.Tokening.{fault-same, sign-shown, passes-on, passes-not, refused}
 use Rattle.declarations.proofs.Onward.{ready-after}
 use Rattle.declarations.proofs.Calling.{ExpressionAgrees}
 

@@ -12,15 +12,15 @@ use Rattle.meaning.specs.Tokens as Tokens
 use Rattle.meaning.specs.Reading as Reading
 use Rattle.meaning.specs.Reading.{Parsed, follow, whether, afterSentence}
 use Rattle.lexing.specs.View.{stream}
-use Rattle.parsing.specs.declared.progress.Fault.{Fault}
-use Rattle.parsing.specs.declared.progress.Progress.{Progress}
-use Rattle.parsing.specs.declared.progress.Parsed.{Parsed as CodeParsed}
-use Rattle.parsing.specs.declared.progress.Parsed.the-variants.{Stopped, Done}
+use Rattle.bookkeeping.specs.declared.progress.Fault.{Fault}
+use Rattle.bookkeeping.specs.declared.progress.Progress.{Progress}
+use Rattle.bookkeeping.specs.declared.progress.Parsed.{Parsed as CodeParsed}
+use Rattle.bookkeeping.specs.declared.progress.Parsed.the-variants.{Stopped, Done}
 use Rattle.declarations.specs.declared.sentences.Sequel.the-variants.{Ends, Another, Refused}
-use Rattle.parsing.specs.Answered.{Agrees}
-use Rattle.parsing.specs.Written.{Ready, Went}
+use Rattle.bookkeeping.specs.Answered.{Agrees}
+use Rattle.bookkeeping.specs.Written.{Ready, Went}
 use Rattle.declarations.specs.Sentences.{Each, SentenceStands, sentenceOf, firstSentence, FirstRead, Follows, SentencesRead}
-use Rattle.parsing.proofs.Going.{stops, reads, ReadAt, has-stopped, follow-alone, behind, behind-more, went-none, went-then, word-went}
+use Rattle.bookkeeping.proofs.Going.{stops, reads, ReadAt, has-stopped, follow-alone, behind, behind-more, went-none, went-then, word-went}
 use Rattle.declarations.proofs.Onward.{ready-after}
 
 -- it holds of none, of these and those, and of one more

@@ -15,16 +15,16 @@ use Rattle.meaning.specs.Reading.{parsed, Item, characters, symbolItem, partIte
 use Rattle.lexing.specs.View.{part, stream}
 use Rattle.lexing.specs.declared.Span.{Span}
 use Rattle.lexing.specs.declared.Placed.{Placed}
-use Rattle.parsing.specs.declared.Answer.{Answer}
-use Rattle.parsing.specs.declared.progress.Progress.{Progress}
+use Rattle.bookkeeping.specs.declared.Answer.{Answer}
+use Rattle.bookkeeping.specs.declared.progress.Progress.{Progress}
 use Rattle.declarations.specs.declared.expressions.Joined.{Joined}
 use Rattle.declarations.specs.declared.expressions.Joined.the-variants.{Taken as Takes, Wrong, Other}
-use Rattle.parsing.specs.Tables.{tableNames}
-use Rattle.parsing.specs.declared.progress.Parsed.{Parsed}
-use Rattle.parsing.specs.declared.progress.Parsed.the-variants.{Stopped, Done}
-use Rattle.parsing.specs.Answered.{numberOf}
-use Rattle.parsing.specs.Tokened.{Taken, Barred}
-use Rattle.parsing.specs.Written.{Wrote, isQuiet, Ready, Went}
+use Rattle.bookkeeping.specs.Tables.{tableNames}
+use Rattle.bookkeeping.specs.declared.progress.Parsed.{Parsed}
+use Rattle.bookkeeping.specs.declared.progress.Parsed.the-variants.{Stopped, Done}
+use Rattle.bookkeeping.specs.Answered.{numberOf}
+use Rattle.bookkeeping.specs.Tokened.{Taken, Barred}
+use Rattle.bookkeeping.specs.Written.{Wrote, isQuiet, Ready, Went}
 use Rattle.parsing.specs.Patterns.{Variables, symbolNames, itemAt}
 
 -- how far an expression is: its items, and the e-variables of the table that may still come

@@ -19,9 +19,9 @@ use Rattle.lexing.specs.declared.Span.{Span}
 use Rattle.lexing.specs.declared.Token.{Token}
 use Rattle.lexing.specs.declared.Token.the-variants.{Name as NameToken, Symbol, Part, Word, Quoted, Sign, End, Malformed}
 use Rattle.lexing.specs.declared.Placed.{Placed}
-use Rattle.parsing.specs.declared.progress.Progress.{Progress}
-use Rattle.parsing.specs.Tables.{Inside, tableNames, Entries, declaredFaultIn}
-use Rattle.parsing.specs.Written.{isQuiet, Ready, Went}
+use Rattle.bookkeeping.specs.declared.progress.Progress.{Progress}
+use Rattle.bookkeeping.specs.Tables.{Inside, tableNames, Entries, declaredFaultIn}
+use Rattle.bookkeeping.specs.Written.{isQuiet, Ready, Went}
 use Rattle.declarations.specs.Sentences.{Each, SentenceStands}
 
 -- every called name of a function stands at its place, and no other word opens a call

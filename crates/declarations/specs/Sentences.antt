@@ -15,11 +15,11 @@ use Rattle.meaning.specs.Reading.{Parsed, stopped, parsed, follow, pass, whethe
 use Rattle.lexing.specs.View.{stream}
 use Rattle.lexing.specs.declared.Token.{Token}
 use Rattle.lexing.specs.declared.Token.the-variants.{Name as NameToken, Symbol, Part, Word, Quoted, Sign, End, Malformed}
-use Rattle.parsing.specs.declared.progress.Progress.{Progress}
+use Rattle.bookkeeping.specs.declared.progress.Progress.{Progress}
 use Rattle.declarations.specs.declared.sentences.Sequel.{Sequel}
 use Rattle.declarations.specs.declared.sentences.Sequel.the-variants.{Ends, Another, Refused}
-use Rattle.parsing.specs.Answered.{numberOf}
-use Rattle.parsing.specs.Written.{isQuiet, Went}
+use Rattle.bookkeeping.specs.Answered.{numberOf}
+use Rattle.bookkeeping.specs.Written.{isQuiet, Went}
 use Rattle.declarations.specs.Expressions.{Stands}
 
 -- it holds of each element

@@ -1,23 +1,23 @@
 // The readers of a function and of a table's functions.
 use crate::sentences::sentences;
 use crate::stopped;
+use bookkeeping::Answer;
+use bookkeeping::names::declared_fault;
+use bookkeeping::names::entry;
+use bookkeeping::progress::Parsed;
+use bookkeeping::progress::Passed;
+use bookkeeping::progress::Progress;
+use bookkeeping::progress::is_accepted;
+use bookkeeping::progress::is_sign;
+use bookkeeping::progress::pass;
+use bookkeeping::progress::refuse;
+use bookkeeping::writing::FUNCTION_WORD;
+use bookkeeping::writing::put_named;
 use lexing::Mode;
 use lexing::Placed;
 use lexing::Span;
 use lexing::Token;
 use lexing::lex;
-use parsing::Answer;
-use parsing::names::declared_fault;
-use parsing::names::entry;
-use parsing::progress::Parsed;
-use parsing::progress::Passed;
-use parsing::progress::Progress;
-use parsing::progress::is_accepted;
-use parsing::progress::is_sign;
-use parsing::progress::pass;
-use parsing::progress::refuse;
-use parsing::writing::FUNCTION_WORD;
-use parsing::writing::put_named;
 ghost use mathlib.Core.Path.{_≡_};
 ghost use mathlib.Core.List.{[]};
 ghost use Prim.Native.Nat.{_≤_};
@@ -25,8 +25,8 @@ ghost use lib.ListN.{length};
 ghost use Rattle.meaning.specs.Tokens as Tokens;
 ghost use Rattle.meaning.specs.Reading as Reading;
 ghost use Rattle.lexing.specs.View.{part, stream};
-ghost use Rattle.parsing.specs.Answered.{Agrees};
-ghost use Rattle.parsing.specs.Tables.{tableNames};
+ghost use Rattle.bookkeeping.specs.Answered.{Agrees};
+ghost use Rattle.bookkeeping.specs.Tables.{tableNames};
 ghost use Rattle.declarations.specs.Functions.{fromBrace, Declarable, BodyRead, Opening, nameFault, DeclaredRead, SpareTo, isEnd, FunctionsRead};
 
 // A function after its name: `{`, sentences, of which so many may still come, and `}`.

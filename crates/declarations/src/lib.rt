@@ -3,9 +3,9 @@ pub mod expressions;
 pub mod functions;
 pub mod sentences;
 
-use parsing::Answer;
-use parsing::progress::Fault;
-use parsing::progress::Parsed;
+use bookkeeping::Answer;
+use bookkeeping::progress::Fault;
+use bookkeeping::progress::Parsed;
 ghost use mathlib.Core.Path.{_≡_};
 ghost use Rattle.declarations.specs.Expressions.{stoppedWith};
 

@@ -18,7 +18,7 @@ use Rattle.meaning.specs.Packing.{pack, placesFrom, packFunctions}
 use Rattle.meaning.specs.Leaving.{zeros, padded, over}
 use Rattle.meaning.specs.Entries.{answered, readAnswer, written, listed, translated}
 use Rattle.reading.specs.declared.Reading.{Reading}
-use Rattle.parsing.specs.Answered.{numberOf}
+use Rattle.bookkeeping.specs.Answered.{numberOf}
 use Rattle.reading.specs.Reads.{Reads, treeTape}
 use Rattle.reading.proofs.Verdict.{tree-words}
 use Rattle.listing.specs.declared.State.the-variants.{Start}

@@ -19,18 +19,19 @@ use Rattle.meaning.proofs.reading.PatternFacts.{parts-append, letters-append, s
 use Rattle.lexing.specs.View as View
 use Rattle.lexing.specs.View.{charactersIn, quotationAt}
 use Rattle.lexing.specs.declared.Span.{Span}
-use Rattle.parsing.specs.declared.Answer.{Answer}
-use Rattle.parsing.specs.declared.Answer.the-variants.{OverLimit}
+use Rattle.bookkeeping.specs.declared.Answer.{Answer}
+use Rattle.bookkeeping.specs.declared.Answer.the-variants.{OverLimit}
 use Rattle.parsing.specs.declared.patterns.Counts.{Counts}
 use Rattle.parsing.specs.declared.patterns.Added.the-variants.{Taken, Wrong}
-use Rattle.parsing.specs.Tables.{position}
-use Rattle.parsing.specs.Answered.{numberOf}
-use Rattle.parsing.specs.Written.{Wrote, stringFrom, isQuiet, Went}
+use Rattle.bookkeeping.specs.Tables.{position}
+use Rattle.bookkeeping.specs.Answered.{numberOf}
+use Rattle.bookkeeping.specs.Written.{Wrote, stringFrom, isQuiet, Went}
 use Rattle.parsing.specs.Patterns.{Variables, symbolNames, partNames, Identifier, StringAt, Held, Seen, patternSymbolFault, patternPartFault, AddsItem}
-use Rattle.parsing.proofs.Finding.{position-member}
-use Rattle.parsing.proofs.Choosing.{no-fault}
-use Rattle.parsing.proofs.Faults.{within, position-low, added-room}
-use Rattle.parsing.proofs.Tabling.{kept-above, kept-below, grown, entry-name, entry-inside}
+use Rattle.bookkeeping.proofs.Finding.{position-member}
+use Rattle.bookkeeping.proofs.Choosing.{no-fault}
+use Rattle.parsing.proofs.Faults.{position-low, added-room}
+use Rattle.bookkeeping.proofs.Lengths.{within}
+use Rattle.bookkeeping.proofs.Tabling.{kept-above, kept-below, grown, entry-name, entry-inside}
 use Rattle.parsing.proofs.Elements.{ends-with, ends-string, tape-string, tape-one}
 use Rattle.parsing.proofs.Itemed.{string-went, string-quiet, identifier-length, variable-went, variable-quiet}
 use Rattle.parsing.proofs.Patterning.{identifier-inside, symbol-count, part-count}

@@ -33,30 +33,31 @@ use Rattle.lexing.specs.declared.Span.{Span}
 use Rattle.lexing.specs.declared.Token.{Token}
 use Rattle.lexing.specs.declared.Token.the-variants.{Name as NameToken, Symbol, Part, Word, Quoted, Sign, End, Malformed}
 use Rattle.lexing.specs.declared.Placed as Code
-use Rattle.parsing.specs.declared.Answer.{Answer}
-use Rattle.parsing.specs.declared.Answer.the-variants.{OverLimit, WrongName}
-use Rattle.parsing.specs.declared.progress.Fault.{Fault}
-use Rattle.parsing.specs.declared.progress.Progress.{Progress}
-use Rattle.parsing.specs.declared.progress.Parsed.{Parsed as CodeParsed}
-use Rattle.parsing.specs.declared.progress.Parsed.the-variants.{Stopped, Done}
-use Rattle.parsing.specs.Tables.{Inside, Entries, position}
-use Rattle.parsing.specs.Answered.{numberOf, Agrees}
-use Rattle.parsing.specs.Written.{Wrote, isQuiet, Ready, Went}
-use Rattle.parsing.specs.declared.progress.Passed.{Passed}
-use Rattle.parsing.specs.declared.progress.Passed.the-variants.{Past, Refused}
-use Rattle.parsing.specs.Tokened.{tokenFault, signIs, Taken, Barred, Passes}
+use Rattle.bookkeeping.specs.declared.Answer.{Answer}
+use Rattle.bookkeeping.specs.declared.Answer.the-variants.{OverLimit, WrongName}
+use Rattle.bookkeeping.specs.declared.progress.Fault.{Fault}
+use Rattle.bookkeeping.specs.declared.progress.Progress.{Progress}
+use Rattle.bookkeeping.specs.declared.progress.Parsed.{Parsed as CodeParsed}
+use Rattle.bookkeeping.specs.declared.progress.Parsed.the-variants.{Stopped, Done}
+use Rattle.bookkeeping.specs.Tables.{Inside, Entries, position}
+use Rattle.bookkeeping.specs.Answered.{numberOf, Agrees}
+use Rattle.bookkeeping.specs.Written.{Wrote, isQuiet, Ready, Went}
+use Rattle.bookkeeping.specs.declared.progress.Passed.{Passed}
+use Rattle.bookkeeping.specs.declared.progress.Passed.the-variants.{Past, Refused}
+use Rattle.bookkeeping.specs.Tokened.{tokenFault, signIs, Taken, Barred, Passes}
 use Rattle.parsing.specs.Patterns.{symbolNames, itemAt}
 use Rattle.parsing.specs.Conditions.{conditionEnd, conditionOn, truthAt, TruthNumber, TruthIs, truthBetween, Standing, Before, ConditionRead, ConditionsRead}
 use Rattle.meaning.proofs.reading.Basics.{no-value}
-use Rattle.parsing.proofs.Choosing.{both-true, fault-if-not, no-fault-here, a-fault-here}
-use Rattle.parsing.proofs.Finding.{among}
-use Rattle.parsing.proofs.Naming.{classed, class-number}
-use Rattle.parsing.proofs.Faults.{too-long, short-enough, within, later-fault-is}
+use Rattle.bookkeeping.proofs.Choosing.{both-true, fault-if-not, no-fault-here, a-fault-here}
+use Rattle.bookkeeping.proofs.Finding.{among}
+use Rattle.bookkeeping.proofs.Naming.{classed, class-number}
+use Rattle.parsing.proofs.Faults.{later-fault-is}
+use Rattle.bookkeeping.proofs.Lengths.{too-long, short-enough, within}
 use Rattle.parsing.proofs.Patterning.{identifier-inside}
-use Rattle.parsing.proofs.Going.{check-wrong, stops, reads, has-stopped, has-read, follow-alone, makes, behind, behind-more, went-none, went-from, went-on, went-then}
+use Rattle.bookkeeping.proofs.Going.{check-wrong, stops, reads, has-stopped, has-read, follow-alone, makes, behind, behind-more, went-none, went-from, went-on, went-then}
 use Rattle.parsing.proofs.Items.{symbol-at, symbol-past, item-symbol, item-then}
-use Rattle.parsing.proofs.Tabling.{every-append}
-use Rattle.parsing.proofs.Tokening.{NameFirst, sign-shown, takes, passes-on, passes-not, name-first, names-not, refused, ready-past, ready-taken}
+use Rattle.bookkeeping.proofs.Tabling.{every-append}
+use Rattle.bookkeeping.proofs.Tokening.{NameFirst, sign-shown, takes, passes-on, passes-not, name-first, names-not, refused, ready-past, ready-taken}
 
 -- A LATER S-VARIABLE
 

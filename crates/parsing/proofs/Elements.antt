@@ -10,7 +10,7 @@ use Rattle.meaning.specs.Tree.{character, Element, letter, part}
 use Rattle.meaning.specs.Grammar.{charactersOf}
 use Rattle.meaning.specs.Tape.{elementTape, patternTape}
 use Rattle.meaning.specs.Reading.{endsInPart}
-use Rattle.parsing.proofs.Choosing.{both-true, both-false}
+use Rattle.bookkeeping.proofs.Choosing.{both-true, both-false}
 
 -- THE END
 

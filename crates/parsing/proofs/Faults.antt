@@ -1,42 +1,20 @@
 -- Faults of variables, by the tests that the code makes.
-use Prim.Native.Nat.{ℕ, suc, _+_, _-_, _≤_, _<_}
+use Prim.Native.Nat.{ℕ, suc, _+_, _≤_}
 use mathlib.Core.Path.{_≡_, refl, sym, _∙_}
 use mathlib.Core.Bool.{Bool, true, false, not}
 use mathlib.Core.List.{List, [], _∷_, _++_}
 use native.Mathlib.Omega.{arith}
 use lib.Dec.{leb, ltb}
 use lib.ListN.{length, length-append}
-use lib.Seq.{length-slice}
-use borrow.Author.Tests.{lt-leb, le-leb, leb-true, lt-ltb, ltb-true, ltb-false}
-use Rattle.meaning.specs.Choice.{Bytes, Name, pick, both, either, sameBytes}
+use borrow.Author.Tests.{lt-leb, le-leb, lt-ltb, ltb-true, ltb-false}
+use Rattle.meaning.specs.Choice.{Name, pick, both, either, sameBytes}
 use Rattle.meaning.specs.Answers.{notAllowedHere, overLimit, wrongPatternVariable, wrongLaterVariable}
 use Rattle.meaning.specs.Allowed.{member, added, maxIdentifier, maxSymbols}
 use Rattle.meaning.specs.Reading.{faultUnless, symbolFault}
-use Rattle.lexing.specs.View.{part}
-use Rattle.lexing.specs.declared.Span.{Span}
-use Rattle.parsing.specs.Tables.{Inside, position}
+use Rattle.bookkeeping.specs.Tables.{position}
 use Rattle.parsing.specs.Patterns.{patternSymbolFault, patternPartFault}
 use Rattle.meaning.proofs.reading.Lists.{member-append}
-use Rattle.parsing.proofs.Choosing.{no-fault}
-use Rattle.parsing.proofs.Finding.{position-member}
-
--- THE LENGTH OF A PART OF THE TEXT
-
-module _ (text : Bytes) (x : Span) (p : Inside text x) where
-  pub part-length : length (part text x) ≡ x .past - x .from
-  part-length = length-slice (x .from) (x .past) text (p .inside)
-
-  pub too-long : (limit : ℕ) → limit < x .past - x .from → leb (length (part text x)) limit ≡ false
-  too-long limit h = lt-leb (length (part text x)) limit (rw part-length h)
-
-  pub short-enough : (limit : ℕ) → x .past - x .from ≤ limit → leb (length (part text x)) limit ≡ true
-  short-enough limit h = le-leb (length (part text x)) limit (rw part-length h)
-
-  -- where there is no fault of its length
-  pub within : (limit number later : ℕ) → faultUnless (leb (length (part text x)) limit) (suc number) later ≡ 0 → x .past - x .from ≤ limit
-  within limit number later f = rw part-length at (leb-true (length (part text x)) limit (no-fault _ number later f .0))
-
--- FAULTS
+use Rattle.bookkeeping.proofs.Finding.{position-member}
 
 -- there is room for a name where its position leaves some
 pub position-low : (x : Name) (ys : List Name) → position x ys ≤ length ys

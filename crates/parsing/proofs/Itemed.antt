@@ -13,7 +13,7 @@ use Rattle.meaning.proofs.laws.Passing.{both-pass}
 use Rattle.lexing.specs.View as View
 use Rattle.lexing.specs.View.{IsClosed, charactersIn, quotationAt}
 use Rattle.lexing.specs.declared.Span.{Span}
-use Rattle.parsing.specs.Written.{Wrote, stringFrom, isQuiet, Ready, Went}
+use Rattle.bookkeeping.specs.Written.{Wrote, stringFrom, isQuiet, Ready, Went}
 use Rattle.parsing.specs.Patterns.{Identifier, StringAt}
 
 -- a string

@@ -16,18 +16,18 @@ use Rattle.meaning.specs.Reading.{endsInPart, elementsOf, pattern}
 use Rattle.lexing.specs.View.{stream, Shows, Comes}
 use Rattle.lexing.specs.declared.Placed as Code
 use Rattle.lexing.proofs.Stream.{comes}
-use Rattle.parsing.specs.declared.Answer.{Answer}
-use Rattle.parsing.specs.declared.progress.Parsed.the-variants.{Stopped, Done}
+use Rattle.bookkeeping.specs.declared.Answer.{Answer}
+use Rattle.bookkeeping.specs.declared.progress.Parsed.the-variants.{Stopped, Done}
 use Rattle.parsing.specs.declared.patterns.Counts.{Counts}
 use Rattle.parsing.specs.declared.patterns.Added.{Added}
 use Rattle.parsing.specs.declared.patterns.Added.the-variants.{Taken, Wrong, Other}
-use Rattle.parsing.specs.Answered.{Agrees}
-use Rattle.parsing.specs.Written.{isQuiet, Ready, Went}
+use Rattle.bookkeeping.specs.Answered.{Agrees}
+use Rattle.bookkeeping.specs.Written.{isQuiet, Ready, Went}
 use Rattle.parsing.specs.Patterns.{Held, Seen, TokenGives, AddsToken, PatternRead, itemAt}
-use Rattle.parsing.proofs.Tabling.{none-yet, no-names, every-append}
+use Rattle.bookkeeping.proofs.Tabling.{none-yet, no-names, every-append}
 use Rattle.parsing.proofs.Elements.{tape-append}
 use Rattle.parsing.proofs.Items.{item-then}
-use Rattle.parsing.proofs.Going.{check-wrong, stops, reads, went-none, went-on, went-then}
+use Rattle.bookkeeping.proofs.Going.{check-wrong, stops, reads, went-none, went-on, went-then}
 
 -- the pattern from the start is that from here with these elements before it
 pub record Patterned (text start : List ℕ) (at words : ℕ) (tape table : List ℕ) (p : Counts) : Type 0 where

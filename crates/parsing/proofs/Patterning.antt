@@ -13,12 +13,13 @@ use Rattle.meaning.specs.Allowed.{maxIdentifier, maxSymbols, added}
 use Rattle.meaning.specs.Reading.{faultUnless}
 use Rattle.lexing.specs.View.{part}
 use Rattle.lexing.specs.declared.Span.{Span}
-use Rattle.parsing.specs.Tables.{Inside, position}
+use Rattle.bookkeeping.specs.Tables.{Inside, position}
 use Rattle.parsing.specs.declared.patterns.Counts.{Counts}
 use Rattle.parsing.specs.Patterns.{Variables, symbolNames, partNames, Identifier, Held, patternSymbolFault, patternPartFault}
-use Rattle.parsing.proofs.Finding.{table-length, among}
-use Rattle.parsing.proofs.Choosing.{fault-if}
-use Rattle.parsing.proofs.Faults.{too-long, short-enough, added-room, symbol-fault-is, part-fault-is}
+use Rattle.bookkeeping.proofs.Finding.{table-length, among}
+use Rattle.bookkeeping.proofs.Choosing.{fault-if}
+use Rattle.parsing.proofs.Faults.{added-room, symbol-fault-is, part-fault-is}
+use Rattle.bookkeeping.proofs.Lengths.{too-long, short-enough}
 
 pub identifier-inside : {text : Bytes} {at : ℕ} {x : Span} → Identifier text at x → Inside text x
 identifier-inside i = record { forward = omega (arith, i .some); inside = i .inside }

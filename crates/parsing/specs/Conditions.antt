@@ -16,8 +16,8 @@ use Rattle.meaning.specs.Reading.{Parsed, parsed, pass, passSymbol, truthOf, pa
 use Rattle.lexing.specs.View.{Sound, stream}
 use Rattle.lexing.specs.declared.Span.{Span}
 use Rattle.lexing.specs.declared.Placed.{Placed}
-use Rattle.parsing.specs.declared.progress.Progress.{Progress}
-use Rattle.parsing.specs.Written.{isQuiet, Went}
+use Rattle.bookkeeping.specs.declared.progress.Progress.{Progress}
+use Rattle.bookkeeping.specs.Written.{isQuiet, Went}
 
 -- `condition` from its variable on, and after its variable
 abbrev pub conditionEnd : Class → Name → List Tokens.Placed → Parsed Condition

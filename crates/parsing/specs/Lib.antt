@@ -1,7 +1,3 @@
 -- The definitions that this crate's contracts cite.
-pub mod Tables
-pub mod Answered
-pub mod Written
-pub mod Tokened
 pub mod Patterns
 pub mod Conditions

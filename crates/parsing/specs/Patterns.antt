@@ -15,14 +15,14 @@ use Rattle.meaning.specs.Reading.{Item, isItem, itemOf, elementsOf, endsInPart,
 use Rattle.lexing.specs.View.{IsClosed, charactersIn, quotationAt, tokenOf, stream}
 use Rattle.lexing.specs.declared.Span.{Span}
 use Rattle.lexing.specs.declared.Placed.{Placed}
-use Rattle.parsing.specs.declared.Answer.{Answer}
-use Rattle.parsing.specs.declared.progress.Progress.{Progress}
+use Rattle.bookkeeping.specs.declared.Answer.{Answer}
+use Rattle.bookkeeping.specs.declared.progress.Progress.{Progress}
 use Rattle.parsing.specs.declared.patterns.Counts.{Counts}
 use Rattle.parsing.specs.declared.patterns.Added.{Added}
 use Rattle.parsing.specs.declared.patterns.Added.the-variants.{Taken, Wrong, Other}
-use Rattle.parsing.specs.Tables.{tableNames, Entries}
-use Rattle.parsing.specs.Answered.{numberOf}
-use Rattle.parsing.specs.Written.{isQuiet, Ready, Went}
+use Rattle.bookkeeping.specs.Tables.{tableNames, Entries}
+use Rattle.bookkeeping.specs.Answered.{numberOf}
+use Rattle.bookkeeping.specs.Written.{isQuiet, Ready, Went}
 
 -- a table of variables: s-variables from entry 0, at most 16, and e-variables from entry 16, at most 2
 pub record Variables (text : Bytes) (table : List ℕ) (symbols parts : ℕ) : Type 0 where

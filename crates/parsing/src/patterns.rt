@@ -1,16 +1,16 @@
 // The pattern's reader.
-use crate::Answer;
-use crate::names::entry;
-use crate::names::find;
-use crate::progress::Fault;
-use crate::progress::Parsed;
-use crate::progress::Progress;
-use crate::progress::fault_if;
-use crate::progress::is_accepted;
-use crate::writing::PART_WORD;
-use crate::writing::SYMBOL_WORD;
-use crate::writing::put_characters;
-use crate::writing::put_name;
+use bookkeeping::Answer;
+use bookkeeping::names::entry;
+use bookkeeping::names::find;
+use bookkeeping::progress::Fault;
+use bookkeeping::progress::Parsed;
+use bookkeeping::progress::Progress;
+use bookkeeping::progress::fault_if;
+use bookkeeping::progress::is_accepted;
+use bookkeeping::writing::PART_WORD;
+use bookkeeping::writing::SYMBOL_WORD;
+use bookkeeping::writing::put_characters;
+use bookkeeping::writing::put_name;
 use lexing::Mode;
 use lexing::Placed;
 use lexing::Span;
@@ -25,9 +25,9 @@ ghost use Rattle.meaning.specs.Choice.{pick, both};
 ghost use Rattle.meaning.specs.Tokens as Tokens;
 ghost use Rattle.meaning.specs.Reading as Reading;
 ghost use Rattle.lexing.specs.View.{charactersIn, quotationAt, part, stream, Comes};
-ghost use Rattle.parsing.specs.Answered.{numberOf, Agrees};
-ghost use Rattle.parsing.specs.Tables.{Inside, position};
-ghost use Rattle.parsing.specs.Written.{Ready};
+ghost use Rattle.bookkeeping.specs.Answered.{numberOf, Agrees};
+ghost use Rattle.bookkeeping.specs.Tables.{Inside, position};
+ghost use Rattle.bookkeeping.specs.Written.{Ready};
 ghost use Rattle.parsing.specs.Patterns.{symbolNames, partNames, Identifier, Held, StringAt, patternSymbolFault, patternPartFault, AddsItem, AddsToken, PatternRead};
 
 // A pattern so far: the place in the text and the words on the tape, its letters, its different s-variables, its e-variables, and whether it ends in one.

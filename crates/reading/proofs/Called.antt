@@ -19,7 +19,7 @@ use Rattle.meaning.specs.Reading.{unknownCall, unknownInSentences, unknownIn}
 use Rattle.meaning.proofs.laws.Passing.{every-head, every-tail}
 use Rattle.meaning.proofs.reading.Lists.{either-left-false}
 use Rattle.lexing.specs.View as View
-use Rattle.parsing.specs.Written.{isQuiet}
+use Rattle.bookkeeping.specs.Written.{isQuiet}
 use Rattle.declarations.specs.Expressions.{CallStands, Stands}
 use Rattle.declarations.specs.Sentences.{Each, SentenceStands}
 use Rattle.declarations.specs.Functions.{FunctionStands}

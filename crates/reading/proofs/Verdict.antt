@@ -14,23 +14,23 @@ use Rattle.meaning.specs.Tape.{tape}
 use Rattle.meaning.specs.Tokens as Tokens
 use Rattle.meaning.specs.Reading.{Parsed, functions, unknownIn, accepted, refused, known, verdict, read}
 use Rattle.lexing.specs.View.{stream}
-use Rattle.parsing.specs.declared.Answer.{Answer}
-use Rattle.parsing.specs.declared.Answer.the-variants.{Accepted, TableTooLong, UndeclaredName}
+use Rattle.bookkeeping.specs.declared.Answer.{Answer}
+use Rattle.bookkeeping.specs.declared.Answer.the-variants.{Accepted, TableTooLong, UndeclaredName}
 use Rattle.reading.specs.declared.Reading.{Reading}
-use Rattle.parsing.specs.declared.progress.Fault.{Fault}
-use Rattle.parsing.specs.declared.progress.Progress.{Progress}
-use Rattle.parsing.specs.declared.progress.Parsed.{Parsed as CodeParsed}
-use Rattle.parsing.specs.declared.progress.Parsed.the-variants.{Stopped, Done}
+use Rattle.bookkeeping.specs.declared.progress.Fault.{Fault}
+use Rattle.bookkeeping.specs.declared.progress.Progress.{Progress}
+use Rattle.bookkeeping.specs.declared.progress.Parsed.{Parsed as CodeParsed}
+use Rattle.bookkeeping.specs.declared.progress.Parsed.the-variants.{Stopped, Done}
 use Rattle.reading.specs.declared.calls.Unknown.{Unknown}
 use Rattle.reading.specs.declared.calls.Unknown.the-variants.{At, Nowhere}
-use Rattle.parsing.specs.Answered.{numberOf, Agrees}
-use Rattle.parsing.specs.Written.{written, cleared, Went}
-use Rattle.parsing.specs.Tables.{tableNames, Entries}
+use Rattle.bookkeeping.specs.Answered.{numberOf, Agrees}
+use Rattle.bookkeeping.specs.Written.{written, cleared, Went}
+use Rattle.bookkeeping.specs.Tables.{tableNames, Entries}
 use Rattle.declarations.specs.Sentences.{Each}
 use Rattle.declarations.specs.Functions.{FunctionsRead}
 use Rattle.reading.specs.Calls.{unknownAs, CallWithin, Holds}
 use Rattle.reading.specs.Reads.{treeTape, tapeLeft, Reads, Begins, refusedWith}
-use Rattle.parsing.proofs.Going.{ReadAt, has-stopped, has-read}
+use Rattle.bookkeeping.proofs.Going.{ReadAt, has-stopped, has-read}
 use Rattle.reading.proofs.Called.{table-within}
 
 -- THE TAPE

@@ -14,7 +14,7 @@ use Rattle.lexing.specs.View.{part}
 use Rattle.lexing.specs.declared.Span.{Span}
 use Rattle.reading.specs.declared.calls.Unknown.{Unknown}
 use Rattle.reading.specs.declared.calls.Unknown.the-variants.{At, Nowhere}
-use Rattle.parsing.specs.Written.{isQuiet}
+use Rattle.bookkeeping.specs.Written.{isQuiet}
 use Rattle.declarations.specs.Sentences.{Each}
 use Rattle.declarations.specs.Functions.{FunctionStands}
 

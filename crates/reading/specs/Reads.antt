@@ -8,9 +8,9 @@ use Rattle.meaning.specs.Tape.{tape}
 use Rattle.meaning.specs.Reading.{Read, accepted, refused, read}
 use Rattle.meaning.specs.Leaving.{padded}
 use Rattle.meaning.specs.Entries.{answered, readAnswer}
-use Rattle.parsing.specs.declared.Answer.{Answer}
+use Rattle.bookkeeping.specs.declared.Answer.{Answer}
 use Rattle.reading.specs.declared.Reading.{Reading}
-use Rattle.parsing.specs.Answered.{numberOf}
+use Rattle.bookkeeping.specs.Answered.{numberOf}
 
 -- the words of an accepted table; a refused one has none
 abbrev pub treeTape : Read → List ℕ

@@ -1,14 +1,14 @@
 // The called names of a table, once it is read.
+use bookkeeping::names::find;
+use bookkeeping::names::is_emission;
+use bookkeeping::writing::CALL_KIND;
 use lexing::Span;
-use parsing::names::find;
-use parsing::names::is_emission;
-use parsing::writing::CALL_KIND;
 ghost use mathlib.Core.Path.{_≡_};
 ghost use Prim.Native.Nat.{_≤_};
 ghost use lib.ListN.{length, take};
 ghost use Rattle.meaning.specs.Tree.{Table};
 ghost use Rattle.meaning.specs.Reading.{unknownIn};
-ghost use Rattle.parsing.specs.Tables.{tableNames, Entries};
+ghost use Rattle.bookkeeping.specs.Tables.{tableNames, Entries};
 ghost use Rattle.declarations.specs.Sentences.{Each};
 ghost use Rattle.reading.specs.Calls.{unknownAs, CallWithin, wordKnown, Holds};
 

@@ -1,16 +1,16 @@
 // Reading a table text: its tree as a tape, or the number and place of its fault.
 mod calls;
 
+use bookkeeping::Answer;
+use bookkeeping::names::function_room;
+use bookkeeping::progress::Parsed;
+use bookkeeping::writing::clear;
 use calls::Unknown;
 use calls::unknown_call;
 use declarations::functions::functions;
 use lexing::reader;
-use parsing::Answer;
-use parsing::names::function_room;
-use parsing::progress::Parsed;
-use parsing::writing::clear;
 ghost use mathlib.Core.Path.{_≡_};
-ghost use Rattle.parsing.specs.Answered.{numberOf};
+ghost use Rattle.bookkeeping.specs.Answered.{numberOf};
 ghost use Rattle.reading.specs.Reads.{Reads, Begins, refusedWith};
 
 // An answer and its place; of an accepted table how many functions it has, and how many words its tape.

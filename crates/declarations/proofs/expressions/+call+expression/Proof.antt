@@ -9,7 +9,7 @@ use Rattle.declarations.proofs.expressions.expression.Reads as expressi
 use Rattle.declarations.proofs.expressions.expression.Kinds as expression-kinds
 use Rattle.declarations.proofs.expressions.+call+expression.Lts-expression as expression-lts
 use Rattle.lexing.proofs.lex.Reads as lex-reads
-use Rattle.parsing.proofs.progress.is_sign.Reads as is-sign-reads
+use Rattle.bookkeeping.proofs.progress.is_sign.Reads as is-sign-reads
 use Rattle.declarations.proofs.expressions.close_call.Reads as close-call-reads
 use Rattle.declarations.proofs.expressions.join.Reads as join-reads
 use Rattle.declarations.proofs.expressions.open_call.Reads as open-call-reads
@@ -24,7 +24,7 @@ use borrow.Author.Tests.{not-true, not-false}
 use lib.ListN.{length}
 use Rattle.meaning.specs.Tokens as Tokens
 use Rattle.lexing.proofs.Stream.{comes}
-use Rattle.parsing.proofs.Going.{has-read}
+use Rattle.bookkeeping.proofs.Going.{has-read}
 use Rattle.declarations.proofs.Calling.{argument-ready, call-unopened, argument-enough, argument-going, argument-stops, call-closes}
 use Rattle.declarations.proofs.Expressed.{Expressed, expression-starts, item-moves, item-taken, item-wrong, expression-ends, call-ready, call-stopped, call-read}
 

@@ -3,7 +3,7 @@ use borrow.Author.Needs.{needs}
 use Rattle.declarations.proofs.expressions.join_symbol.Statement.{statement}
 use Rattle.declarations.proofs.expressions.join_symbol.Tie as tie
 use native.Mathlib.Omega.{arith}
-use Rattle.parsing.proofs.Choosing.{no-fault-here, a-fault-here}
+use Rattle.bookkeeping.proofs.Choosing.{no-fault-here, a-fault-here}
 use Rattle.declarations.proofs.Joining.{symbol-many, symbol-bad, symbol-joined}
 
 returns : tie.Need-returns

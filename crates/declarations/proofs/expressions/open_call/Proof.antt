@@ -7,8 +7,8 @@ use native.Mathlib.Omega.{arith}
 use borrow.Author.Tests.{leb-true, leb-false}
 use Rattle.meaning.specs.Tokens as Tokens
 use Rattle.lexing.proofs.Stream.{comes}
-use Rattle.parsing.proofs.Choosing.{no-fault-here, a-fault-here}
-use Rattle.parsing.proofs.Tokening.{name-first}
+use Rattle.bookkeeping.proofs.Choosing.{no-fault-here, a-fault-here}
+use Rattle.bookkeeping.proofs.Tokening.{name-first}
 use Rattle.declarations.proofs.Opened.{too-deep, too-many, call-limited, call-nameless, call-misnamed, name-room, call-opens}
 
 stopped-requires : tie.Need-stopped-requires

@@ -4,7 +4,7 @@ use Rattle.declarations.proofs.functions.function.Statement.{statement}
 use Rattle.declarations.proofs.functions.function.Tie as tie
 use mathlib.Core.Path.{refl}
 use native.Mathlib.Omega.{arith}
-use Rattle.parsing.proofs.Choosing.{no-fault-here, a-fault-here}
+use Rattle.bookkeeping.proofs.Choosing.{no-fault-here, a-fault-here}
 use Rattle.declarations.proofs.Functioned.{function-nameless, named-here, function-many, function-misnamed, declarable, function-reads}
 
 enum-known-token : tie.Need-enum-known-token

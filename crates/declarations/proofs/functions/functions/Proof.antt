@@ -7,7 +7,7 @@ use native.Mathlib.Omega.{arith}
 use borrow.Author.Needs.{needs}
 use Rattle.meaning.specs.Tokens.{outside}
 use Rattle.lexing.proofs.Stream.{comes}
-use Rattle.parsing.proofs.Going.{has-read}
+use Rattle.bookkeeping.proofs.Going.{has-read}
 use Rattle.declarations.proofs.Functioned.{Functioned, functions-start, functions-done, opening, function-stops, one-more, function-goes}
 
 abbrev Inv-loop : tie.InvT-loop

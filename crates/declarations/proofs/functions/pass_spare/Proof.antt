@@ -5,7 +5,7 @@ use Rattle.declarations.proofs.functions.pass_spare.Tie as tie
 use mathlib.Core.Path.{sym, _∙_}
 use Rattle.meaning.specs.Tokens.{outside}
 use Rattle.lexing.proofs.Stream.{comes}
-use Rattle.parsing.proofs.Tokening.{takes}
+use Rattle.bookkeeping.proofs.Tokening.{takes}
 use Rattle.declarations.proofs.Functioned.{spare-passed, spare-none}
 
 lex-requires : tie.Need-lex-requires

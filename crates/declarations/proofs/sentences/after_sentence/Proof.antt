@@ -6,7 +6,7 @@ use mathlib.Core.Path.{sym, _∙_}
 use borrow.Author.Tests.{not-true, not-false}
 use Rattle.meaning.specs.Tokens.{inside}
 use Rattle.lexing.proofs.Stream.{comes}
-use Rattle.parsing.proofs.Tokening.{takes}
+use Rattle.bookkeeping.proofs.Tokening.{takes}
 use Rattle.declarations.proofs.Sentenced.{ends-at-once, follows-nothing, ends-after, goes-after}
 
 lex-requires : tie.Need-lex-requires

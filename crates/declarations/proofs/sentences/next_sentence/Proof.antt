@@ -6,7 +6,7 @@ use mathlib.Core.Path.{sym, _∙_}
 use borrow.Author.Tests.{not-true, not-false}
 use Rattle.meaning.specs.Tokens.{inside}
 use Rattle.lexing.proofs.Stream.{comes}
-use Rattle.parsing.proofs.Tokening.{ready-place}
+use Rattle.bookkeeping.proofs.Tokening.{ready-place}
 use Rattle.declarations.proofs.Sentenced.{first-refused, first-many, first-reads}
 
 lex-requires : tie.Need-lex-requires

@@ -3,7 +3,7 @@ use Rattle.declarations.proofs.sentences.sentences.Statement.{statement
 use Rattle.declarations.proofs.sentences.sentences.Tie as tie
 use native.Mathlib.Omega.{arith}
 use borrow.Author.Needs.{needs}
-use Rattle.parsing.proofs.Going.{has-read}
+use Rattle.bookkeeping.proofs.Going.{has-read}
 use Rattle.declarations.proofs.Sentencing.{Sentenced, sentences-start, next-ready, sentence-stops, sequel-refused, sequel-room, sequel-ends, sequel-goes}
 
 abbrev Inv-loop : tie.InvT-loop

@@ -3,7 +3,7 @@ use borrow.Author.Needs.{needs}
 use Rattle.parsing.proofs.patterns.add_part.Statement.{statement}
 use Rattle.parsing.proofs.patterns.add_part.Tie as tie
 use native.Mathlib.Omega.{arith}
-use Rattle.parsing.proofs.Choosing.{no-fault-here}
+use Rattle.bookkeeping.proofs.Choosing.{no-fault-here}
 use Rattle.parsing.proofs.Adding.{item-wrong, part-faulted, part-few, part-taken}
 
 part-fault-requires : tie.Need-part-fault-requires

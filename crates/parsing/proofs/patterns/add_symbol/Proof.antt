@@ -3,7 +3,7 @@ use borrow.Author.Needs.{needs}
 use Rattle.parsing.proofs.patterns.add_symbol.Statement.{statement}
 use Rattle.parsing.proofs.patterns.add_symbol.Tie as tie
 use native.Mathlib.Omega.{arith}
-use Rattle.parsing.proofs.Choosing.{no-fault-here}
+use Rattle.bookkeeping.proofs.Choosing.{no-fault-here}
 use Rattle.parsing.proofs.Patterning.{identifier-inside}
 use Rattle.parsing.proofs.Adding.{item-wrong, known-low, known-place, symbol-faulted, symbol-taken}
 

@@ -3,7 +3,7 @@ use Rattle.parsing.proofs.patterns.still_ending.Statement.{statement}
 use Rattle.parsing.proofs.patterns.still_ending.Tie as tie
 use mathlib.Core.Path.{refl}
 use borrow.Author.Tests.{eq-eqb, ne-eqb}
-use Rattle.parsing.proofs.Choosing.{both-true, both-false}
+use Rattle.bookkeeping.proofs.Choosing.{both-true, both-false}
 
 returns : tie.Need-returns
 returns c = rw (eq-eqb _ 0 (c .if1 .taken)) (both-true (c .before .args .ending))

@@ -1,7 +1,7 @@
 -- `reading::calls::is_known` meets its contract.
 use mathlib.Core.Path.{refl}
 use native.Mathlib.Omega.{arith}
-use Rattle.parsing.proofs.Finding.{among}
+use Rattle.bookkeeping.proofs.Finding.{among}
 use Rattle.reading.proofs.Called.{no-call, calls-emission, calls-function}
 use Rattle.reading.proofs.calls.is_known.Statement.{statement}
 use Rattle.reading.proofs.calls.is_known.Tie as tie

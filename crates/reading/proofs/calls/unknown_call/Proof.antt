@@ -3,7 +3,7 @@ use Prim.Native.Nat.{_-_}
 use mathlib.Core.Path.{sym, _∙_, ap}
 use native.Mathlib.Omega.{arith}
 use borrow.Author.Tests.{not-true, not-false}
-use Rattle.parsing.specs.Tables.{tableNames}
+use Rattle.bookkeeping.specs.Tables.{tableNames}
 use Rattle.reading.specs.Calls.{unknownAs}
 use Rattle.reading.proofs.Called.{Searching, search-starts, search-goes, search-finds, search-ends, searched-within, unknown-opens, table-found}
 use Rattle.reading.proofs.calls.unknown_call.Statement.{statement}

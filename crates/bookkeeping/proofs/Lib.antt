@@ -1,0 +1,11 @@
+-- Laws of what the readers share.
+pub mod Choosing
+pub mod Tags
+pub mod Tokening
+pub mod Spelling
+pub mod Finding
+pub mod Lengths
+pub mod Naming
+pub mod Words
+pub mod Tabling
+pub mod Going

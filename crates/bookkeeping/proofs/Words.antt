@@ -1,0 +1,220 @@
+-- Words written on the tape, one after the other.
+use Prim.Native.Nat.{ℕ, suc, _+_, _-_, _≤_, _<_}
+use mathlib.Core.Path.{_≡_, refl, sym, _∙_}
+use mathlib.Core.List.{List, [], _∷_, _++_, append-assoc, append-nil}
+use native.Mathlib.Nat.{add-zero}
+use native.Mathlib.Numerals.{add-one}
+use native.Mathlib.Omega.{arith}
+use lib.Dec.{T, lt→ltb}
+use lib.ListN.{length, getD, set, take, drop, replicate, length-append, length-set}
+use lib.Seq.{slice, slice-empty, length-slice, take-suc-set, take-all, length-take-le}
+use Rattle.meaning.specs.Choice.{Bytes, every}
+use Rattle.meaning.specs.Tokens as Tokens
+use Rattle.lexing.specs.View.{IsClosed, charactersIn, Stands}
+use Rattle.lexing.specs.declared.Character.{Character}
+use Rattle.lexing.specs.declared.Character.the-variants.{Given, Nothing, Closed, Broken}
+use Rattle.lexing.specs.declared.Span.{Span}
+use Rattle.lexing.proofs.Places.{slice-suc}
+use Rattle.bookkeeping.specs.Tables.{Inside}
+use Rattle.bookkeeping.specs.Written.{written, Wrote, stringFrom, cleared, isQuiet, Ready}
+use Rattle.bookkeeping.proofs.Tabling.{every-append, every-one}
+
+-- ON THE TAPE
+
+pub written-none : (tape : List ℕ) (at : ℕ) → written tape at [] ≡ tape
+unfolding written
+written-none tape at = refl
+
+pub written-one : (tape : List ℕ) (at w : ℕ) → set tape at w ≡ written tape at (w ∷ [])
+unfolding written
+written-one tape at w = refl
+
+pub written-snoc : (ws tape : List ℕ) (at w : ℕ) → set (written tape at ws) (at + length ws) w ≡ written tape at (ws ++ w ∷ [])
+unfolding written
+written-snoc [] tape at w = rw (add-zero at)
+written-snoc (v ∷ ws) tape at w =
+    let e : at + suc (length ws) ≡ suc at + length ws = omega arith in
+    rw e (written-snoc ws (set tape at v) (suc at) w)
+
+pub written-append : (a b tape : List ℕ) (at : ℕ) → written (written tape at a) (at + length a) b ≡ written tape at (a ++ b)
+unfolding written
+written-append [] b tape at = rw (add-zero at)
+written-append (v ∷ a) b tape at =
+    let e : at + suc (length a) ≡ suc at + length a = omega arith in
+    rw e (written-append a b (set tape at v) (suc at))
+
+-- ZEROS
+
+-- clearing from here is clearing from the start
+pub record Clearing (start : List ℕ) (from : ℕ) (tape : List ℕ) (i : ℕ) : Type 0 where
+  pub long : length tape ≡ length start
+  pub same : cleared (length start) i tape ≡ cleared (length start) from start
+
+pub clear-starts : (tape : List ℕ) (from : ℕ) → Clearing tape from tape from
+clear-starts tape from = record { long = refl; same = refl }
+
+module _ (start : List ℕ) (from : ℕ) (tape : List ℕ) (i : ℕ) (c : Clearing start from tape i) where
+  -- one zero more in front of the zeros
+  one-more : (size : ℕ) → i < length tape → length tape ≡ size → cleared size (suc i) (set tape i 0) ≡ cleared size i tape
+  unfolding cleared
+  one-more size h l =
+      let short : length (take i tape) ≡ i = length-take-le i tape (omega arith) in
+      let longer : length (take i tape ++ 0 ∷ []) ≡ suc i = length-append (take i tape) (0 ∷ []) ∙ omega arith in
+      let one : size - i ≡ suc (size - suc i) = omega arith in
+      rw (take-suc-set tape i 0 h, longer, short, one) (append-assoc (take i tape) (0 ∷ []) (replicate (size - suc i) 0))
+
+  pub clear-goes : i < length tape → Clearing start from (set tape i 0) (i + 1)
+  clear-goes h = record { long = length-set tape i 0 ∙ c .long; same = rw add-one (one-more (length start) h (c .long)) ∙ c .same }
+
+  none-left : (size : ℕ) → length tape ≤ i → length tape ≡ size → cleared size i tape ≡ tape
+  unfolding cleared
+  none-left size h l =
+      let none : size - length tape ≡ 0 = omega arith in
+      rw (take-all i tape h, none) (append-nil tape)
+
+  pub clear-ends : length tape ≤ i → tape ≡ cleared (length start) from start
+  clear-ends h = sym (none-left (length start) h (c .long)) ∙ c .same
+
+-- A NAME AFTER A WORD
+
+-- the bytes of a part so far are copied to the tape from a place on
+pub record Copied (text : Bytes) (start : List ℕ) (first from past : ℕ) (tape : List ℕ) (to i : ℕ) : Type 0 where
+  pub onward : from ≤ i
+  pub low : i ≤ past
+  pub inside : past ≤ length text
+  pub room : first + (past - from) ≤ 32768
+  pub reached : to ≡ first + (i - from)
+  pub same : tape ≡ written start first (slice from i text)
+  pub quiet : T (every isQuiet (slice from i text))
+
+pub copy-starts : (text : Bytes) (start : List ℕ) (first : ℕ) (x : Span) → Inside text x → first + (x .past - x .from) ≤ 32768
+    → Copied text start first (x .from) (x .past) start first (x .from)
+unfolding every
+copy-starts text start first x p h =
+    record {
+      onward = omega arith;
+      low = p .forward;
+      inside = p .inside;
+      room = h;
+      reached = omega arith;
+      same = rw (slice-empty (x .from) text) (sym (written-none start first));
+      quiet = rw (slice-empty (x .from) text) tt;
+    }
+
+module _ (text : Bytes) (start : List ℕ) (first from past : ℕ) (tape : List ℕ) (to i : ℕ) (n : Copied text start first from past tape to i) where
+  pub copy-goes : (next : List ℕ) → i < past → getD text i 0 < 256 → next ≡ set tape to (getD text i 0) → Copied text start first from past next (to + 1) (i + 1)
+  copy-goes next h b e =
+      let w : to ≡ first + length (slice from i text) =
+      n .reached ∙ rw (length-slice from i text (omega (arith, n .inside)))
+      in
+      record {
+        onward = omega (arith, n .onward);
+        low = omega arith;
+        inside = n .inside;
+        room = n .room;
+        reached = omega (arith, n .reached, n .onward);
+        same =
+            e
+            ∙ rw (n .same, w, add-one, slice-suc text from i (n .onward) (omega (arith, n .inside)))
+            (written-snoc (slice from i text) start first (getD text i 0));
+        quiet =
+            rw (add-one, slice-suc text from i (n .onward) (omega (arith, n .inside)))
+            (every-append isQuiet (slice from i text) (getD text i 0 ∷ []) (n .quiet) (every-one isQuiet (getD text i 0) (lt→ltb (getD text i 0) 2304 (omega arith))));
+      }
+
+  pub copy-ends : past ≤ i → Wrote start first (slice from past text) to tape × T (every isQuiet (slice from past text))
+  copy-ends h =
+      let e : i ≡ past = omega (arith, n .low) in (
+        record {
+          reached = n .reached ∙ rw (length-slice from past text (n .inside), e);
+          same = rw (← e) (n .same);
+        },
+        rw (← e) (n .quiet),
+      )
+
+-- the word before them
+pub wrote-after : (start tape after : List ℕ) (at word to : ℕ) (ws : List ℕ) → tape ≡ set start at word → Wrote tape (at + 1) ws to after
+    → Wrote start at (word ∷ ws) to after
+unfolding written
+wrote-after start tape after at word to ws e w = record { reached = omega (arith, w .reached); same = w .same ∙ rw (e, add-one) }
+
+-- THE CHARACTERS OF A STRING
+
+-- the characters so far are written
+pub record Spelled-to (text : Bytes) (start : List ℕ) (at from : ℕ) (tape : List ℕ) (to i : ℕ) : Type 0 where
+  pub characters : Bytes
+  pub string : stringFrom text from ≡ Tokens.quotation Tokens.plain characters i (drop i text)
+  pub reached : to ≡ at + length characters
+  pub same : tape ≡ written start at characters
+  pub quiet : T (every isQuiet characters)
+  pub charged : to ≤ i
+  pub inside : i ≤ length text
+  pub short : length text ≤ 32768
+
+module _ (text : Bytes) (start : List ℕ) (at from : ℕ) where
+  pub spelling-starts : Ready text from at → Spelled-to text start at from start at from
+  unfolding every
+  spelling-starts r =
+      record {
+        characters = [];
+        string = refl;
+        reached = omega arith;
+        same = sym (written-none start at);
+        quiet = tt;
+        charged = r .charged;
+        inside = r .inside;
+        short = r .short;
+      }
+
+  module _ (tape : List ℕ) (to i : ℕ) (s : Spelled-to text start at from tape to i) (r : Character) (stood : Stands text Tokens.plain i (i + 1) r) where
+    at-character : {r′ : Character} → r ≡ r′ → Stands text Tokens.plain i (i + 1) r′
+    at-character e = rw e at stood
+
+    pub given-room : (b past : ℕ) → r ≡ Given b past → (i < past) × (past ≤ length text) × (to < 32768)
+    given-room b past e =
+        let p = at-character e .passes in
+        let k = s .charged in
+        let m = s .short in
+        omega arith
+
+    pub nothing-room : (past : ℕ) → r ≡ Nothing past → (i < past) × (past ≤ length text)
+    nothing-room past e = let p = at-character e .passes in omega arith
+
+    pub spelling-given : (b past : ℕ) → r ≡ Given b past → b < 256 → (next : List ℕ) → next ≡ set tape to b → Spelled-to text start at from next (to + 1) past
+    spelling-given b past e small next w =
+        let p = at-character e .passes in
+        record {
+          characters = s .characters ++ b ∷ [];
+          string = s .string ∙ at-character e .same (s .characters);
+          reached = rw (length-append (s .characters) (b ∷ [])) (omega (arith, s .reached));
+          same = w ∙ rw (s .same, s .reached) (written-snoc (s .characters) start at b);
+          quiet = every-append isQuiet (s .characters) (b ∷ []) (s .quiet) (every-one isQuiet b (lt→ltb b 2304 (omega arith)));
+          charged = omega (arith, s .charged);
+          inside = p .1;
+          short = s .short;
+        }
+
+    pub spelling-nothing : (past : ℕ) → r ≡ Nothing past → Spelled-to text start at from tape to past
+    spelling-nothing past e =
+        let p = at-character e .passes in
+        record {
+          characters = s .characters;
+          string = s .string ∙ at-character e .same (s .characters);
+          reached = s .reached;
+          same = s .same;
+          quiet = s .quiet;
+          charged = omega (arith, s .charged);
+          inside = p .1;
+          short = s .short;
+        }
+
+    pub spelling-closed : (past : ℕ) → r ≡ Closed past
+        → Wrote start at (charactersIn (stringFrom text from)) to tape × T (every isQuiet (charactersIn (stringFrom text from)))
+    spelling-closed past e =
+        let w : stringFrom text from ≡ Tokens.closed (s .characters) past (drop past text) = s .string ∙ at-character e .same (s .characters) in
+        (record { reached = rw w (s .reached); same = rw w (s .same) }, rw w (s .quiet))
+
+    pub spelling-broken : (past : ℕ) → r ≡ Broken past → IsClosed (stringFrom text from) → ⊥
+    spelling-broken past e k =
+        let w : stringFrom text from ≡ Tokens.broken past (drop past text) = s .string ∙ at-character e .same (s .characters) in
+        rw w at k

@@ -1,0 +1,76 @@
+-- `bookkeeping::names::names_class` meets its contract: the class of each number.
+use borrow.Author.Needs.{needs}
+use Rattle.bookkeeping.proofs.names.names_class.Statement.{statement}
+use Rattle.bookkeeping.proofs.names.names_class.Tie as tie
+use mathlib.Core.Path.{_≡_, refl}
+use native.Mathlib.Omega.{arith}
+use Rattle.meaning.specs.Classes.{digit, upper, lower, alphabetic, blank}
+use Rattle.bookkeeping.proofs.Naming.{class-word}
+
+slice-aggregate-spells : tie.Need-slice-aggregate-spells
+slice-aggregate-spells c = search needs
+
+spells-requires : tie.Need-spells-requires
+spells-requires c κs = search needs
+
+slice-aggregate-spells-2 : tie.Need-slice-aggregate-spells-2
+slice-aggregate-spells-2 c = search needs
+
+spells-requires-2 : tie.Need-spells-requires-2
+spells-requires-2 c κs = search needs
+
+slice-aggregate-spells-3 : tie.Need-slice-aggregate-spells-3
+slice-aggregate-spells-3 c = search needs
+
+spells-requires-3 : tie.Need-spells-requires-3
+spells-requires-3 c κs = search needs
+
+slice-aggregate-spells-4 : tie.Need-slice-aggregate-spells-4
+slice-aggregate-spells-4 c = search needs
+
+spells-requires-4 : tie.Need-spells-requires-4
+spells-requires-4 c κs = search needs
+
+slice-aggregate-spells-5 : tie.Need-slice-aggregate-spells-5
+slice-aggregate-spells-5 c = search needs
+
+spells-requires-5 : tie.Need-spells-requires-5
+spells-requires-5 c κs = search needs
+
+returns : tie.Need-returns
+returns c = class-word _ 0 digit (c .before .before .match .keys1) refl (c .spells .ensures)
+
+returns-2 : tie.Need-returns-2
+returns-2 c = class-word _ 1 upper (c .before .before .match .keys2) refl (c .spells2 .ensures)
+
+returns-3 : tie.Need-returns-3
+returns-3 c = class-word _ 2 lower (c .before .before .match .keys3) refl (c .spells3 .ensures)
+
+returns-4 : tie.Need-returns-4
+returns-4 c = class-word _ 3 alphabetic (c .before .before .match .keys4) refl (c .spells4 .ensures)
+
+returns-5 : tie.Need-returns-5
+returns-5 c =
+    let r = c .before .before .match .rest in
+    let e : c .before .before .before .before .args .class ≡ 4 = omega (arith, r, c .before .before .before .before .pre .1) in
+    class-word _ 4 blank e refl (c .spells5 .ensures)
+
+pub names-class-spec : {M : Type 1} → statement M
+names-class-spec =
+    tie.close
+    (tie.spec
+    slice-aggregate-spells
+    spells-requires
+    slice-aggregate-spells-2
+    spells-requires-2
+    slice-aggregate-spells-3
+    spells-requires-3
+    slice-aggregate-spells-4
+    spells-requires-4
+    slice-aggregate-spells-5
+    spells-requires-5
+    returns
+    returns-2
+    returns-3
+    returns-4
+    returns-5)

@@ -1,0 +1,66 @@
+-- `bookkeeping::writing::put_named` meets its contract: the word and the bytes so far are written.
+use Rattle.bookkeeping.proofs.writing.put_named.Statement.{statement}
+use Rattle.bookkeeping.proofs.writing.put_named.Tie as tie
+use Prim.Native.Nat.{_-_}
+use native.Mathlib.Omega.{arith}
+use Rattle.bookkeeping.proofs.Words.{Copied, copy-starts, copy-goes, copy-ends, wrote-after}
+
+abbrev Inv-loop : tie.InvT-loop
+Inv-loop text tape₀ at word past to₀ i₀ tape to i = Copied text tape₀ to₀ i₀ past tape to i
+
+abbrev μ-loop : tie.MeasureT-loop
+μ-loop text tape₀ at word past to₀ i₀ tape to i = past - i
+
+put-requires : tie.Need-put-requires Inv-loop μ-loop
+put-requires c κs = let p = c .before .before .pre .1 in omega arith
+
+add-to : tie.Need-add-to Inv-loop μ-loop
+add-to c = let p = c .before .before .before .pre .1 in omega arith
+
+loop-holds : tie.Need-loop-holds Inv-loop μ-loop
+loop-holds c = copy-starts _ _ _ (c .before .before .before .args .x) (c .before .before .before .pre .0) (c .before .before .before .pre .1)
+
+shared-slice-read-byte : tie.Need-shared-slice-read-byte Inv-loop μ-loop
+shared-slice-read-byte c = let n = c .before .before .loop .inv in omega arith
+
+cast-put : tie.Need-cast-put Inv-loop μ-loop
+cast-put c = omega (arith, c .before .shared-slice-known2 .given (c .before .before .before .loop .i))
+
+put-requires-2 : tie.Need-put-requires-2 Inv-loop μ-loop
+put-requires-2 c κs = let n = c .before .before .before .loop .inv in omega arith
+
+add-to-2 : tie.Need-add-to-2 Inv-loop μ-loop
+add-to-2 c = let n = c .before .before .before .before .loop .inv in omega arith
+
+add-i : tie.Need-add-i Inv-loop μ-loop
+add-i c = let n = c .before .before .before .before .loop .inv in omega arith
+
+loop-less : tie.Need-loop-less Inv-loop μ-loop
+loop-less c = omega arith
+
+loop-again : tie.Need-loop-again Inv-loop μ-loop
+loop-again c =
+    copy-goes _ _ _ _ _ _ _ _ (c .before .before .before .before .loop .inv) _ (c .before .before .before .loop-test .taken) (omega (arith, c .before .before .shared-slice-known2 .given (c .before .before .before .before .loop .i))) (c .put2 .ensures)
+
+returns : tie.Need-returns Inv-loop μ-loop
+returns c =
+    let e = copy-ends _ _ _ _ _ _ _ _ (c .before .loop .inv) (c .loop-test .left) in
+    (wrote-after _ _ _ _ _ _ _ (c .before .before .put .ensures) (e .0), e .1)
+
+pub put-named-spec : {M : Type 1} → statement M
+put-named-spec =
+    tie.close
+    (tie.spec
+    Inv-loop
+    μ-loop
+    put-requires
+    add-to
+    loop-holds
+    shared-slice-read-byte
+    cast-put
+    put-requires-2
+    add-to-2
+    add-i
+    loop-less
+    loop-again
+    returns)

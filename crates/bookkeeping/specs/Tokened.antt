@@ -1,0 +1,59 @@
+-- Single tokens of the code: their faults, the bytes that stand for themselves, and passing one.
+use Prim.Native.Nat.{ℕ, _≤_, _<_}
+use mathlib.Core.Path.{_≡_}
+use mathlib.Core.Bool.{Bool, false}
+use mathlib.Core.List.{List, _∷_}
+use lib.Dec.{eqb}
+use lib.ListN.{length}
+use Rattle.meaning.specs.Choice.{Bytes}
+use Rattle.meaning.specs.Answers.{malformedToken, notAllowedHere}
+use Rattle.meaning.specs.Tokens as Tokens
+use Rattle.meaning.specs.Grammar.{standing}
+use Rattle.meaning.specs.Reading.{faultOf, isSign}
+use Rattle.lexing.specs.View.{stream}
+use Rattle.lexing.specs.declared.Token.{Token}
+use Rattle.lexing.specs.declared.Token.the-variants.{Name, Symbol, Part, Word, Quoted, Sign, End, Malformed}
+use Rattle.bookkeeping.specs.declared.progress.Fault.{Fault}
+use Rattle.bookkeeping.specs.declared.progress.Passed.{Passed}
+use Rattle.bookkeeping.specs.declared.progress.Passed.the-variants.{Past, Refused}
+use Rattle.bookkeeping.specs.Answered.{numberOf}
+
+abbrev pub tokenFault : Token → ℕ
+tokenFault (Name name) = notAllowedHere
+tokenFault (Symbol identifier) = notAllowedHere
+tokenFault (Part identifier) = notAllowedHere
+tokenFault Word = notAllowedHere
+tokenFault (Quoted count) = notAllowedHere
+tokenFault (Sign b) = notAllowedHere
+tokenFault End = notAllowedHere
+tokenFault Malformed = malformedToken
+
+abbrev pub signIs : ℕ → Token → Bool
+signIs byte (Name name) = false
+signIs byte (Symbol identifier) = false
+signIs byte (Part identifier) = false
+signIs byte Word = false
+signIs byte (Quoted count) = false
+signIs byte (Sign b) = eqb b byte
+signIs byte End = false
+signIs byte Malformed = false
+
+-- the first token from a place on is this byte, and the next come from another place on
+pub record Taken (text : Bytes) (mode : Tokens.Mode) (byte at past : ℕ) : Type 0 where
+  pub place : ℕ
+  pub unrolled : stream text mode at ≡ standing (Tokens.sign byte) place past ∷ stream text (Tokens.modeAfter mode (Tokens.sign byte)) past
+  pub onward : at < past
+  pub inside : past ≤ length text
+
+-- the first token from a place on is another, and this is its fault
+pub record Barred (text : Bytes) (mode : Tokens.Mode) (byte at : ℕ) (fault : Fault) : Type 0 where
+  pub token : Tokens.Placed
+  pub rest : List Tokens.Placed
+  pub unrolled : stream text mode at ≡ token ∷ rest
+  pub other : isSign byte (token .token) ≡ false
+  pub number : numberOf (fault .answer) ≡ faultOf (token .token)
+  pub place : fault .place ≡ token .place
+
+abbrev pub Passes : Bytes → Tokens.Mode → ℕ → ℕ → Passed → Type 0
+Passes text mode byte at (Past past) = Taken text mode byte at past
+Passes text mode byte at (Refused fault) = Barred text mode byte at fault
