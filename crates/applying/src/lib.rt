@@ -162,14 +162,11 @@ pub fn apply(
     if allowance <= steps {
         return Next::Stopped(g, Ending::AllowanceSpent, 0);
     }
-    let paid = Registers {
-        steps: g.steps + 1,
-        ..g
-    };
+    let next = steps + 1;
+    let paid = Registers { steps: next, ..g };
     let p = g.p.0;
     let q = g.q.0;
-    let entry = CodePlace(wide(code[number]));
-    match choose(bits, code, entry, &input[p..q]) {
+    match choose(bits, code, CodePlace(wide(code[number])), &input[p..q]) {
         Choice::Sentence {
             number: _,
             place,

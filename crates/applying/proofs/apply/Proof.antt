@@ -8,8 +8,8 @@ use Rattle.applying.proofs.apply.Tie as tie
 returns : tie.Need-returns
 returns c = let a = c .before .before .before .before .before .args in λ output journal. apply-spent (a .code .now) (a .allowance) (a .number) (a .g) (memory (a .input .now) output journal (a .frames .now) (a .values .now)) (c .if1 .taken)
 
-add-wide : tie.Need-add-wide
-add-wide c = search needs
+add-next : tie.Need-add-next
+add-next c = search needs
 
 mul-wide : tie.Need-mul-wide
 mul-wide c = search needs
@@ -36,7 +36,13 @@ enum-known-place : tie.Need-enum-known-place
 enum-known-place c = search needs
 
 start-sentence-requires : tie.Need-start-sentence-requires
-start-sentence-requires c κs = let pre = c .before .before .before .before .before .before .before .before .before .before .before .before .before .before .before .before .before .before .before .pre in let few = rw (c .before .before .before .place .given .1) at (c .before .before .before .before .before .choose .ensures .few) in (pre .1 .1 .1 .1 .0, (pre .1 .1 .1 .1 .1 .0, (pre .1 .1 .1 .1 .1 .1 .0, (pre .1 .1 .1 .1 .1 .1 .1 .0, (pre .1 .1 .1 .1 .1 .1 .1 .1, few)))))
+start-sentence-requires c κs =
+    let at-place = c .before .before .before in
+    let at-choose = at-place .before .before in
+    let entry = at-choose .before .before .before .before .before .before .before .before .before .before .before .before .before in
+    let pre = entry .pre in
+    let few = rw (at-place .place .given .1) at (at-choose .choose .ensures .few) in
+    (pre .1 .1 .1 .1 .0, (pre .1 .1 .1 .1 .1 .0, (pre .1 .1 .1 .1 .1 .1 .0, (pre .1 .1 .1 .1 .1 .1 .1 .0, (pre .1 .1 .1 .1 .1 .1 .1 .1, few)))))
 
 enum-told : tie.Need-enum-told
 enum-told c = search needs
@@ -51,20 +57,43 @@ same-length-2 : tie.Need-same-length-2
 same-length-2 c = search needs
 
 returns-2 : tie.Need-returns-2
-returns-2 c = let a = c .before .before .before .before .before .before .before .before .before .before .before .before .before .before .before .before .before .before .before .before .before .before .before .before .args in let pre = c .before .before .before .before .before .before .before .before .before .before .before .before .before .before .before .before .before .before .before .before .before .before .before .before .pre in λ output journal. let v = c .before .before .before .before .before .before .before .before .place .given .0 in let chosen = rw (c .before .before .before .before .before .before .before .before .before .before .before .before .wide .ensures, c .before .before .before .before .before .before .before .before .place .given .1) at (c .before .before .before .before .before .before .before .before .before .before .choose .ensures) in apply-starts (a .code .now) (a .allowance) (a .number) (a .g) (memory (a .input .now) output journal (a .frames .now) (a .values .now)) (pre .1 .0) (pre .1 .1 .0) (pre .1 .1 .1 .0) (c .before .before .before .before .before .before .before .before .before .before .before .before .before .before .before .before .before .before .before .if1 .left) (v .0) (v .1 .0) (v .1 .1 .0 .0) (v .1 .1 .1 .0) _ _ (chosen .same) (c .before .before .before .before .start-sentence .ensures (a .allowance) output journal)
+returns-2 c =
+    let at-start-sentence = c .before .before .before .before in
+    let at-place = at-start-sentence .before .before .before .before in
+    let at-choose = at-place .before .before in
+    let at-wide = at-choose .before .before in
+    let at-if1 = at-wide .before .before .before .before .before .before in
+    let entry = at-if1 .before .before .before .before .before in
+    let a = entry .args in
+    let pre = entry .pre in
+    λ output journal. let v = at-place .place .given .0 in let chosen = rw (at-wide .wide .ensures, at-place .place .given .1) at (at-choose .choose .ensures) in apply-starts (a .code .now) (a .allowance) (a .number) (a .g) (memory (a .input .now) output journal (a .frames .now) (a .values .now)) (pre .1 .0) (pre .1 .1 .0) (pre .1 .1 .1 .0) (at-if1 .if1 .left) (v .0) (v .1 .0) (v .1 .1 .0 .0) (v .1 .1 .1 .0) _ _ (chosen .same) (at-start-sentence .start-sentence .ensures (a .allowance) output journal)
 
 returns-3 : tie.Need-returns-3
-returns-3 c = let a = c .before .before .before .before .before .before .before .before .before .before .before .before .before .before .before .before .args in let pre = c .before .before .before .before .before .before .before .before .before .before .before .before .before .before .before .before .pre in λ output journal. let chosen = rw (c .before .before .before .before .wide .ensures, c .enum-told .given .1) at (c .before .before .choose .ensures) in apply-nothing (a .code .now) (a .allowance) (a .number) (a .g) (memory (a .input .now) output journal (a .frames .now) (a .values .now)) (pre .1 .0) (pre .1 .1 .0) (pre .1 .1 .1 .0) (c .before .before .before .before .before .before .before .before .before .before .before .if1 .left) (chosen .same)
+returns-3 c =
+    let at-choose = c .before .before in
+    let at-wide = at-choose .before .before in
+    let at-if1 = at-wide .before .before .before .before .before .before in
+    let entry = at-if1 .before .before .before .before .before in
+    let a = entry .args in
+    let pre = entry .pre in
+    λ output journal. let chosen = rw (at-wide .wide .ensures, c .enum-told .given .1) at (at-choose .choose .ensures) in apply-nothing (a .code .now) (a .allowance) (a .number) (a .g) (memory (a .input .now) output journal (a .frames .now) (a .values .now)) (pre .1 .0) (pre .1 .1 .0) (pre .1 .1 .1 .0) (at-if1 .if1 .left) (chosen .same)
 
 returns-4 : tie.Need-returns-4
-returns-4 c = let a = c .before .before .before .before .before .before .before .before .before .before .before .before .before .before .before .before .args in let pre = c .before .before .before .before .before .before .before .before .before .before .before .before .before .before .before .before .pre in λ output journal. let chosen = rw (c .before .before .before .before .wide .ensures, c .enum-told2 .given .1) at (c .before .before .choose .ensures) in apply-wrong (a .code .now) (a .allowance) (a .number) (a .g) (memory (a .input .now) output journal (a .frames .now) (a .values .now)) (pre .1 .0) (pre .1 .1 .0) (pre .1 .1 .1 .0) (c .before .before .before .before .before .before .before .before .before .before .before .if1 .left) (chosen .same)
+returns-4 c =
+    let at-choose = c .before .before in
+    let at-wide = at-choose .before .before in
+    let at-if1 = at-wide .before .before .before .before .before .before in
+    let entry = at-if1 .before .before .before .before .before in
+    let a = entry .args in
+    let pre = entry .pre in
+    λ output journal. let chosen = rw (at-wide .wide .ensures, c .enum-told2 .given .1) at (at-choose .choose .ensures) in apply-wrong (a .code .now) (a .allowance) (a .number) (a .g) (memory (a .input .now) output journal (a .frames .now) (a .values .now)) (pre .1 .0) (pre .1 .1 .0) (pre .1 .1 .1 .0) (at-if1 .if1 .left) (chosen .same)
 
 pub apply-spec : {M : Type 1} → statement M
 apply-spec =
     tie.close
     (tie.spec
     returns
-    add-wide
+    add-next
     mul-wide
     shared-slice-read-wide
     wide-requires

@@ -19,7 +19,12 @@ same-length : tie.Need-same-length
 same-length c = search needs
 
 returns : tie.Need-returns
-returns c = rw (c .before .before .set-word4 .ensures, c .before .before .before .before .before .before .set-word3 .ensures, c .before .before .before .before .before .before .before .before .before .before .set-word2 .ensures, c .before .before .before .before .before .before .before .before .before .before .before .before .before .before .set-word .ensures)
+returns c =
+    let at-set-word4 = c .before .before in
+    let at-set-word3 = at-set-word4 .before .before .before .before in
+    let at-set-word2 = at-set-word3 .before .before .before .before in
+    let at-set-word = at-set-word2 .before .before .before .before in
+    rw (at-set-word4 .set-word4 .ensures, at-set-word3 .set-word3 .ensures, at-set-word2 .set-word2 .ensures, at-set-word .set-word .ensures)
 
 pub begin-frame-spec : {M : Type 1} → statement M
 begin-frame-spec =

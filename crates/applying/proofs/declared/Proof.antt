@@ -15,7 +15,11 @@ wide-requires : tie.Need-wide-requires
 wide-requires c κs = search needs
 
 returns-2 : tie.Need-returns-2
-returns-2 c = let a = c .before .before .before .before .args in rw (c .wide .ensures) (sym (declared-some (a .code .now) (c .before .before .before .before .pre) (a .number) (c .before .before .if1 .left)))
+returns-2 c =
+    let at-if1 = c .before .before in
+    let entry = at-if1 .before .before in
+    let a = entry .args in
+    rw (c .wide .ensures) (sym (declared-some (a .code .now) (entry .pre) (a .number) (at-if1 .if1 .left)))
 
 pub declared-spec : {M : Type 1} → statement M
 declared-spec = tie.close (tie.spec returns shared-slice-read-wide wide-requires returns-2)

@@ -14,7 +14,11 @@ word-requires : tie.Need-word-requires
 word-requires c κs = search needs
 
 returns-2 : tie.Need-returns-2
-returns-2 c = rw (c .before .before .before .word .ensures) (left-back (c .before .before .before .before .before .before .before .before .args .g) _ (c .before .before .before .before .before .if1 .left))
+returns-2 c =
+    let at-word = c .before .before .before in
+    let at-if1 = at-word .before .before in
+    let entry = at-if1 .before .before .before in
+    rw (at-word .word .ensures) (left-back (entry .args .g) _ (at-if1 .if1 .left))
 
 pub leave-spec : {M : Type 1} → statement M
 leave-spec = tie.close (tie.spec returns sub-frame word-requires returns-2)

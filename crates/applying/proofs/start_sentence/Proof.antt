@@ -26,7 +26,11 @@ same-length : tie.Need-same-length
 same-length c = search needs
 
 returns : tie.Need-returns
-returns c = let a = c .before .before .before .before .before .before .before .before .before .before .before .args in λ allowance output journal. starts-wrong (a .code .now) allowance (a .place) (a .stores .0) (a .stored) (a .g) (a .input .now) output journal (a .frames .now) (a .values .now) (c .before .before .before .before .store-values .last .1 .1 .1 .1 .1 .0) (c .before .before .before .before .before .before .before .before .before .before .before .pre .1 .1 .1 .1 .1) (rw (c .enum-told .given .1) at (c .before .before .before .before .store-values .ensures))
+returns c =
+    let at-store-values = c .before .before .before .before in
+    let entry = at-store-values .before .before .before .before .before .before .before in
+    let a = entry .args in
+    λ allowance output journal. starts-wrong (a .code .now) allowance (a .place) (a .stores .0) (a .stored) (a .g) (a .input .now) output journal (a .frames .now) (a .values .now) (at-store-values .store-values .last .1 .1 .1 .1 .1 .0) (entry .pre .1 .1 .1 .1 .1) (rw (c .enum-told .given .1) at (at-store-values .store-values .ensures))
 
 sub-begin-frame : tie.Need-sub-begin-frame
 sub-begin-frame c = search needs
@@ -41,7 +45,13 @@ same-length-3 : tie.Need-same-length-3
 same-length-3 c = search needs
 
 returns-2 : tie.Need-returns-2
-returns-2 c = let a = c .before .before .before .before .before .before .before .before .before .before .before .before .before .before .before .before .before .before .before .args in λ allowance output journal. rw (c .before .before .before .before .before .begin-frame .ensures) (starts-right (a .code .now) allowance (a .place) (a .stores .0) (a .stored) (a .g) (a .input .now) output journal (a .frames .now) (a .values .now) (c .before .before .before .before .before .before .before .before .before .before .before .before .store-values .last .1 .1 .1 .1 .1 .0) (c .before .before .before .before .before .before .before .before .before .before .before .before .before .before .before .before .before .before .before .pre .1 .1 .1 .1 .1) (c .before .before .before .before .before .before .before .before .actions .given .0 .0) (c .before .before .before .before .before .before .before .before .before .before .before .before .store-values .kept .1 .1 .1 .1 .1 .0) (rw (c .before .before .before .before .before .before .before .before .actions .given .1) at (c .before .before .before .before .before .before .before .before .before .before .before .before .store-values .ensures)))
+returns-2 c =
+    let at-begin-frame = c .before .before .before .before .before in
+    let at-actions = at-begin-frame .before .before .before in
+    let at-store-values = at-actions .before .before .before .before in
+    let entry = at-store-values .before .before .before .before .before .before .before in
+    let a = entry .args in
+    λ allowance output journal. rw (at-begin-frame .begin-frame .ensures) (starts-right (a .code .now) allowance (a .place) (a .stores .0) (a .stored) (a .g) (a .input .now) output journal (a .frames .now) (a .values .now) (at-store-values .store-values .last .1 .1 .1 .1 .1 .0) (entry .pre .1 .1 .1 .1 .1) (at-actions .actions .given .0 .0) (at-store-values .store-values .kept .1 .1 .1 .1 .1 .0) (rw (at-actions .actions .given .1) at (at-store-values .store-values .ensures)))
 
 pub start-sentence-spec : {M : Type 1} → statement M
 start-sentence-spec =

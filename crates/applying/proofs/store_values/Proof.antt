@@ -45,7 +45,12 @@ same-length-2 : tie.Need-same-length-2 Inv-loop μ-loop
 same-length-2 c = c .before .before .before .before .before .before .loop .inv .sized
 
 returns-2 : tie.Need-returns-2 Inv-loop μ-loop
-returns-2 c = storing-wrong _ _ _ _ _ _ _ _ _ _ (c .before .before .before .before .before .before .loop .inv) (c .before .before .before .before .before .loop-test .taken) (c .before .before .before .before .if1 .left) (sym (c .before .before .stored-cell .ensures) ∙ ap cellMeant (c .enum-told .given .1))
+returns-2 c =
+    let at-stored-cell = c .before .before in
+    let at-if1 = at-stored-cell .before .before in
+    let at-loop-test = at-if1 .before in
+    let at-loop = at-loop-test .before in
+    storing-wrong _ _ _ _ _ _ _ _ _ _ (at-loop .loop .inv) (at-loop-test .loop-test .taken) (at-if1 .if1 .left) (sym (at-stored-cell .stored-cell .ensures) ∙ ap cellMeant (c .enum-told .given .1))
 
 add-values : tie.Need-add-values Inv-loop μ-loop
 add-values c = search needs
@@ -63,7 +68,13 @@ loop-less : tie.Need-loop-less Inv-loop μ-loop
 loop-less c = search needs
 
 loop-again : tie.Need-loop-again Inv-loop μ-loop
-loop-again c = storing-next _ _ _ _ _ _ _ _ _ _ (c .before .before .before .before .before .before .before .loop .inv) _ (c .before .before .before .before .before .before .loop-test .taken) (c .before .before .before .before .before .before .before .before .before .before .before .pre) (c .before .before .before .before .before .if1 .left) (sym (c .before .before .before .stored-cell .ensures) ∙ ap cellMeant (c .before .byte .given .1))
+loop-again c =
+    let at-stored-cell = c .before .before .before in
+    let at-if1 = at-stored-cell .before .before in
+    let at-loop-test = at-if1 .before in
+    let at-loop = at-loop-test .before in
+    let entry = at-loop .before .before .before .before in
+    storing-next _ _ _ _ _ _ _ _ _ _ (at-loop .loop .inv) _ (at-loop-test .loop-test .taken) (entry .pre) (at-if1 .if1 .left) (sym (at-stored-cell .stored-cell .ensures) ∙ ap cellMeant (c .before .byte .given .1))
 
 same-length-3 : tie.Need-same-length-3 Inv-loop μ-loop
 same-length-3 c = c .before .loop .inv .sized

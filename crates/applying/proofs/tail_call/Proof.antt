@@ -13,10 +13,20 @@ declared-requires : tie.Need-declared-requires
 declared-requires c κs = search needs
 
 returns : tie.Need-returns
-returns c = let a = c .before .before .before .before .before .before .args in λ output journal. undeclared (a .code .now) (a .allowance) (a .number) (a .g) (memory (a .input .now) output journal (a .frames .now) (a .values .now)) true (sym (c .before .declared .ensures) ∙ not-true _ (c .if1 .taken))
+returns c =
+    let entry = c .before .before .before .before .before .before in
+    let a = entry .args in
+    λ output journal. undeclared (a .code .now) (a .allowance) (a .number) (a .g) (memory (a .input .now) output journal (a .frames .now) (a .values .now)) true (sym (c .before .declared .ensures) ∙ not-true _ (c .if1 .taken))
 
 apply-requires : tie.Need-apply-requires
-apply-requires c κs = let a = c .before .before .before .before .before .before .before .before .args in let pre = c .before .before .before .before .before .before .before .before .pre in let d = is-declared (a .code .now) (pre .1 .0) (a .number) (sym (c .before .before .before .declared .ensures) ∙ not-false _ (c .before .before .if1 .left)) in (pre .0, (pre .1 .0, (d .0, (d .1, (pre .1 .1 .0, (pre .1 .1 .1 .0, (pre .1 .1 .1 .1 .0, (pre .1 .1 .1 .1 .1 .0, pre .1 .1 .1 .1 .1 .1))))))))
+apply-requires c κs =
+    let at-if1 = c .before .before in
+    let at-declared = at-if1 .before in
+    let entry = at-declared .before .before .before .before .before in
+    let a = entry .args in
+    let pre = entry .pre in
+    let d = is-declared (a .code .now) (pre .1 .0) (a .number) (sym (at-declared .declared .ensures) ∙ not-false _ (at-if1 .if1 .left)) in
+    (pre .0, (pre .1 .0, (d .0, (d .1, (pre .1 .1 .0, (pre .1 .1 .1 .0, (pre .1 .1 .1 .1 .0, (pre .1 .1 .1 .1 .1 .0, pre .1 .1 .1 .1 .1 .1))))))))
 
 same-length : tie.Need-same-length
 same-length c = search needs
@@ -25,7 +35,13 @@ same-length-2 : tie.Need-same-length-2
 same-length-2 c = search needs
 
 returns-2 : tie.Need-returns-2
-returns-2 c = let a = c .before .before .before .before .before .before .before .before .before .before .before .before .before .args in λ output journal. tail-applies (a .code .now) (a .allowance) (a .number) (a .g) (memory (a .input .now) output journal (a .frames .now) (a .values .now)) (sym (c .before .before .before .before .before .before .before .before .declared .ensures) ∙ not-false _ (c .before .before .before .before .before .before .before .if1 .left)) _ _ (c .before .before .before .before .apply .ensures output journal)
+returns-2 c =
+    let at-apply = c .before .before .before .before in
+    let at-if1 = at-apply .before .before .before in
+    let at-declared = at-if1 .before in
+    let entry = at-declared .before .before .before .before .before in
+    let a = entry .args in
+    λ output journal. tail-applies (a .code .now) (a .allowance) (a .number) (a .g) (memory (a .input .now) output journal (a .frames .now) (a .values .now)) (sym (at-declared .declared .ensures) ∙ not-false _ (at-if1 .if1 .left)) _ _ (at-apply .apply .ensures output journal)
 
 pub tail-call-spec : {M : Type 1} → statement M
 tail-call-spec =

@@ -33,7 +33,10 @@ loop-less : tie.Need-loop-less Inv-loop μ-loop
 loop-less c = omega arith
 
 loop-again : tie.Need-loop-again Inv-loop μ-loop
-loop-again c = (pasted-one _ _ _ _ _ (c .before .before .loop .inv .0) (c .before .before .before .pre) (c .before .loop-test .taken), omega arith, rw length-set (c .before .before .loop .inv .2))
+loop-again c =
+    let at-loop = c .before .before in
+    let entry = at-loop .before in
+    (pasted-one _ _ _ _ _ (at-loop .loop .inv .0) (entry .pre) (c .before .loop-test .taken), omega arith, rw length-set (at-loop .loop .inv .2))
 
 same-length : tie.Need-same-length Inv-loop μ-loop
 same-length c = c .before .loop .inv .2

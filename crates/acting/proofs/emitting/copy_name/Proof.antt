@@ -48,16 +48,13 @@ loop-less : tie.Need-loop-less Inv-loop μ-loop
 loop-less c = omega arith
 
 loop-again : tie.Need-loop-again Inv-loop μ-loop
-loop-again c = let a = c .before .before .before .args in
-    let s = c .before .before .loop .inv .3 in
-    let long = spelled-long (a .code .now) (a .name .0) (a .size) s in (
-      rw (spelled-byte (a .code .now) (a .name .0) (a .size) (c .before .before .loop .i) s (c .before .loop-test .taken))
-          (pasted-one (c .before .before .loop .journal) (a .journal .now) (take (a .size) (drop (a .name .0) (a .code .now))) (a .to) (c .before .before .loop .i) (c .before .before .loop .inv .0)
-          (rw long (c .before .before .before .pre .1)) (rw long (c .before .loop-test .taken))),
-      omega arith,
-      rw length-set (c .before .before .loop .inv .2),
-      s,
-    )
+loop-again c =
+    let at-loop = c .before .before in
+    let entry = at-loop .before in
+    let a = entry .args in
+    let s = at-loop .loop .inv .3 in
+    let long = spelled-long (a .code .now) (a .name .0) (a .size) s in
+    (rw (spelled-byte (a .code .now) (a .name .0) (a .size) (at-loop .loop .i) s (c .before .loop-test .taken)) (pasted-one (at-loop .loop .journal) (a .journal .now) (take (a .size) (drop (a .name .0) (a .code .now))) (a .to) (at-loop .loop .i) (at-loop .loop .inv .0) (rw long (entry .pre .1)) (rw long (c .before .loop-test .taken))), omega arith, rw length-set (at-loop .loop .inv .2), s)
 
 same-length : tie.Need-same-length Inv-loop μ-loop
 same-length c = c .before .loop .inv .2

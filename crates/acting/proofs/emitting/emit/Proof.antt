@@ -33,10 +33,12 @@ sub-if2 : tie.Need-sub-if2
 sub-if2 c = search needs
 
 returns-2 : tie.Need-returns-2
-returns-2 c = let a = c .before .before .before .before .before .before .args in
-    let p = c .before .before .before .before .before .before .pre in
-    λ output values frames. emission-full (a .g) (memory (a .input .now) output (a .journal .now) frames values) (a .code .now) (a .size)
-    (p .1 .0) (p .1 .1 .0) (p .1 .1 .1) (sym (c .before .before .named .ensures) ∙ not-false _ (c .before .if1 .left)) (c .if2 .taken)
+returns-2 c =
+    let at-named = c .before .before in
+    let entry = at-named .before .before .before .before in
+    let a = entry .args in
+    let p = entry .pre in
+    λ output values frames. emission-full (a .g) (memory (a .input .now) output (a .journal .now) frames values) (a .code .now) (a .size) (p .1 .0) (p .1 .1 .0) (p .1 .1 .1) (sym (at-named .named .ensures) ∙ not-false _ (c .before .if1 .left)) (c .if2 .taken)
 
 sub-write-line : tie.Need-sub-write-line
 sub-write-line c = search needs
@@ -48,7 +50,12 @@ part-write-line-end : tie.Need-part-write-line-end
 part-write-line-end c = search needs
 
 write-line-requires : tie.Need-write-line-requires
-write-line-requires c κs = (sym (c .before .before .before .before .named .ensures) ∙ not-false _ (c .before .before .before .if1 .left), simp (length-take, length-drop) (omega (arith, c .before .before .if2 .left, c .before .before .before .before .before .before .before .before .pre)))
+write-line-requires c κs =
+    let at-if2 = c .before .before in
+    let at-if1 = at-if2 .before in
+    let at-named = at-if1 .before in
+    let entry = at-named .before .before .before .before in
+    (sym (at-named .named .ensures) ∙ not-false _ (at-if1 .if1 .left), simp (length-take, length-drop) (omega (arith, at-if2 .if2 .left, entry .pre)))
 
 add-t15 : tie.Need-add-t15
 add-t15 c = search needs
@@ -60,11 +67,15 @@ same-length : tie.Need-same-length
 same-length c = search needs
 
 returns-3 : tie.Need-returns-3
-returns-3 c = let a = c .before .before .before .before .before .before .before .before .before .before .before .before .before .before .before .args in
-    let p = c .before .before .before .before .before .before .before .before .before .before .before .before .before .before .before .pre in
-    λ output values frames. rw (c .before .before .before .before .before .before .write-line .ensures, part-long (a .input .now) (a .g .p .0) (a .g .q .0) (p .1 .1 .0))
-    (emission-written (a .g) (memory (a .input .now) output (a .journal .now) frames values) (a .code .now) (a .size)
-    (p .1 .0) (p .1 .1 .0) (p .1 .1 .1) (sym (c .before .before .before .before .before .before .before .before .before .before .before .named .ensures) ∙ not-false _ (c .before .before .before .before .before .before .before .before .before .before .if1 .left)) (c .before .before .before .before .before .before .before .before .before .if2 .left))
+returns-3 c =
+    let at-write-line = c .before .before .before .before .before .before in
+    let at-if2 = at-write-line .before .before .before in
+    let at-if1 = at-if2 .before in
+    let at-named = at-if1 .before in
+    let entry = at-named .before .before .before .before in
+    let a = entry .args in
+    let p = entry .pre in
+    λ output values frames. rw (at-write-line .write-line .ensures, part-long (a .input .now) (a .g .p .0) (a .g .q .0) (p .1 .1 .0)) (emission-written (a .g) (memory (a .input .now) output (a .journal .now) frames values) (a .code .now) (a .size) (p .1 .0) (p .1 .1 .0) (p .1 .1 .1) (sym (at-named .named .ensures) ∙ not-false _ (at-if1 .if1 .left)) (at-if2 .if2 .left))
 
 pub emit-spec : {M : Type 1} → statement M
 emit-spec = tie.close (tie.spec named-requires returns sub-line add-line add-line-2 sub-if2 returns-2 sub-write-line part-write-line-start part-write-line-end write-line-requires add-t15 add-t14 same-length returns-3)

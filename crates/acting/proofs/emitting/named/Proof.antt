@@ -34,8 +34,11 @@ shared-slice-read-if2 : tie.Need-shared-slice-read-if2 Inv-loop μ-loop
 shared-slice-read-if2 c = omega arith
 
 returns-2 : tie.Need-returns-2 Inv-loop μ-loop
-returns-2 c = let a = c .before .before .before .before .before .args in
-    sym (naming-wide (a .code .now) (a .name .0) (c .before .before .before .loop .i) (a .size - c .before .before .before .loop .i) (omega arith) (omega arith) (c .if2 .taken)) ∙ c .before .before .before .loop .inv .0
+returns-2 c =
+    let at-loop = c .before .before .before in
+    let entry = at-loop .before .before in
+    let a = entry .args in
+    sym (naming-wide (a .code .now) (a .name .0) (at-loop .loop .i) (a .size - at-loop .loop .i) (omega arith) (omega arith) (c .if2 .taken)) ∙ at-loop .loop .inv .0
 
 add-i : tie.Need-add-i Inv-loop μ-loop
 add-i c = omega arith
@@ -44,8 +47,12 @@ loop-less : tie.Need-loop-less Inv-loop μ-loop
 loop-less c = omega arith
 
 loop-again : tie.Need-loop-again Inv-loop μ-loop
-loop-again c = let a = c .before .before .before .before .before .args in
-    (sym (naming-next (a .code .now) (a .name .0) (c .before .before .before .loop .i) (a .size) (c .before .before .loop-test .taken) (omega arith) (c .if2 .left)) ∙ c .before .before .before .loop .inv .0, omega arith)
+loop-again c =
+    let at-loop-test = c .before .before in
+    let at-loop = at-loop-test .before in
+    let entry = at-loop .before .before in
+    let a = entry .args in
+    (sym (naming-next (a .code .now) (a .name .0) (at-loop .loop .i) (a .size) (at-loop-test .loop-test .taken) (omega arith) (c .if2 .left)) ∙ at-loop .loop .inv .0, omega arith)
 
 returns-3 : tie.Need-returns-3 Inv-loop μ-loop
 returns-3 c = let a = c .before .before .before .args in

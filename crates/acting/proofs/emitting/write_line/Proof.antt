@@ -19,7 +19,10 @@ add-copy-over : tie.Need-add-copy-over
 add-copy-over c = search needs
 
 copy-over-requires : tie.Need-copy-over-requires
-copy-over-requires c κs = simp length-set (omega (arith, c .before .before .before .copy-name .kept .0, c .before .before .before .before .before .before .before .before .pre .1))
+copy-over-requires c κs =
+    let at-copy-name = c .before .before .before in
+    let entry = at-copy-name .before .before .before .before .before in
+    simp length-set (omega (arith, at-copy-name .copy-name .kept .0, entry .pre .1))
 
 add-end : tie.Need-add-end
 add-end c = search needs
@@ -28,16 +31,27 @@ add-end-2 : tie.Need-add-end-2
 add-end-2 c = search needs
 
 slice-write-journal-2 : tie.Need-slice-write-journal-2
-slice-write-journal-2 c = omega (arith, c .before .before .copy-over .kept .0, simp length-set at (c .before .before .copy-over .kept .0), c .before .before .before .before .before .before .copy-name .kept .0, c .before .before .before .before .before .before .before .before .before .before .before .pre .1)
+slice-write-journal-2 c =
+    let at-copy-over = c .before .before in
+    let at-copy-name = at-copy-over .before .before .before .before in
+    let entry = at-copy-name .before .before .before .before .before in
+    omega (arith, at-copy-over .copy-over .kept .0, simp length-set at (at-copy-over .copy-over .kept .0), at-copy-name .copy-name .kept .0, entry .pre .1)
 
 same-length : tie.Need-same-length
-same-length c = simp length-set (omega (arith, simp length-set at (c .before .before .copy-over .kept .0), c .before .before .before .before .before .before .copy-name .kept .0))
+same-length c =
+    let at-copy-over = c .before .before in
+    let at-copy-name = at-copy-over .before .before .before .before in
+    simp length-set (omega (arith, simp length-set at (at-copy-over .copy-over .kept .0), at-copy-name .copy-name .kept .0))
 
 returns : tie.Need-returns
-returns c = let a = c .before .before .before .before .before .before .before .before .before .before .before .args in
+returns c =
+    let at-copy-over = c .before .before in
+    let at-copy-name = at-copy-over .before .before .before .before in
+    let entry = at-copy-name .before .before .before .before .before in
+    let a = entry .args in
     let name = take (a .size) (drop (a .name .0) (a .code .now)) in
-    let long = spelled-long (a .code .now) (a .name .0) (a .size) (spelled (a .code .now) (a .name .0) (a .size) (c .before .before .before .before .before .before .before .before .before .before .before .pre .0)) in
-    rw (c .before .before .copy-over .ensures, c .before .before .before .before .before .before .copy-name .ensures) (line-written (a .journal .now) name (a .argument .now) (a .to) (a .size) long (c .before .before .before .before .before .before .before .before .before .before .before .pre .1))
+    let long = spelled-long (a .code .now) (a .name .0) (a .size) (spelled (a .code .now) (a .name .0) (a .size) (entry .pre .0)) in
+    rw (at-copy-over .copy-over .ensures, at-copy-name .copy-name .ensures) (line-written (a .journal .now) name (a .argument .now) (a .to) (a .size) long (entry .pre .1))
 
 pub write-line-spec : {M : Type 1} → statement M
 write-line-spec = tie.close (tie.spec copy-name-requires add-gap slice-write-journal add-copy-over copy-over-requires add-end add-end-2 slice-write-journal-2 same-length returns)

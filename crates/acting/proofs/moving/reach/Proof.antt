@@ -20,12 +20,11 @@ enum-known-n : tie.Need-enum-known-n
 enum-known-n c = search needs
 
 add-t12 : tie.Need-add-t12
-add-t12 c = let a = c .before .before .before .before .before .before .args in
-    omega (
-      arith,
-      counted (a .span .add) (a .span .back) (localAt (a .frame) (a .frames .now) []) (length (a .input .now) - a .from .0)
-          (registerMeant (a .span .register)) _ (rw (c .before .n .given .1) at (c .before .before .before .span-cells .ensures [])) .enough,
-    )
+add-t12 c =
+    let at-span-cells = c .before .before .before in
+    let entry = at-span-cells .before .before .before in
+    let a = entry .args in
+    omega (arith, counted (a .span .add) (a .span .back) (localAt (a .frame) (a .frames .now) []) (length (a .input .now) - a .from .0) (registerMeant (a .span .register)) _ (rw (c .before .n .given .1) at (at-span-cells .span-cells .ensures [])) .enough)
 
 enum-told : tie.Need-enum-told
 enum-told c = search needs

@@ -49,7 +49,11 @@ returns-3 : tie.Need-returns-3
 returns-3 c = λ values. rw (c .before .enum-told3 .given .1, ← (c .before .before .before .word2 .ensures)) (c .within3 .ensures)
 
 returns-4 : tie.Need-returns-4
-returns-4 c = λ values. rw (c .before .before .enum-told4 .given .1, ← (c .before .before .before .before .before .word .ensures), ← (c .before .before .before .before .word2 .ensures), ← (c .before .less .ensures)) (c .within4 .ensures)
+returns-4 c =
+    let at-enum-told4 = c .before .before in
+    let at-word2 = at-enum-told4 .before .before in
+    let at-word = at-word2 .before in
+    λ values. rw (at-enum-told4 .enum-told4 .given .1, ← (at-word .word .ensures), ← (at-word2 .word2 .ensures), ← (c .before .less .ensures)) (c .within4 .ensures)
 
 returns-5 : tie.Need-returns-5
 returns-5 c = λ values. rw (c .enum-told5 .given .1)

@@ -13,10 +13,11 @@ same-length : tie.Need-same-length
 same-length c = search needs
 
 returns : tie.Need-returns
-returns c = let a = c .before .before .before .before .before .before .args in
-    let p = c .before .before .before .before .before .before .pre in
-    λ journal values. use-none (a .g) (memory (a .input .now) (a .output .now) journal (a .frames .now) values) (p .1 .1 .1 .0) (p .1 .1 .1 .1 .0)
-    (p .0) (p .1 .0) (p .1 .1 .0) (p .1 .1 .1 .1 .1) (rw (c .before .word .ensures) at (c .if1 .taken))
+returns c =
+    let entry = c .before .before .before .before .before .before in
+    let a = entry .args in
+    let p = entry .pre in
+    λ journal values. use-none (a .g) (memory (a .input .now) (a .output .now) journal (a .frames .now) values) (p .1 .1 .1 .0) (p .1 .1 .1 .1 .0) (p .0) (p .1 .0) (p .1 .1 .0) (p .1 .1 .1 .1 .1) (rw (c .before .word .ensures) at (c .if1 .taken))
 
 sub-word : tie.Need-sub-word
 sub-word c = search needs
@@ -34,11 +35,15 @@ same-length-2 : tie.Need-same-length-2
 same-length-2 c = search needs
 
 returns-2 : tie.Need-returns-2
-returns-2 c = let a = c .before .before .before .before .before .before .before .before .before .before .before .before .before .args in
-    let p = c .before .before .before .before .before .before .before .before .before .before .before .before .before .pre in
-    λ journal values. use-full (a .g) (memory (a .input .now) (a .output .now) journal (a .frames .now) values) (p .1 .1 .1 .0) (p .1 .1 .1 .1 .0)
-    (p .0) (p .1 .0) (p .1 .1 .0) (p .1 .1 .1 .1 .1) (rw (c .before .before .before .before .before .before .before .before .word .ensures) at (c .before .before .before .before .before .before .before .if1 .left))
-    (rw (c .before .before .before .before .lower .ensures, c .before .before .before .before .before .word2 .ensures, c .before .before .before .before .before .before .before .before .word .ensures) at (c .if2 .taken))
+returns-2 c =
+    let at-lower = c .before .before .before .before in
+    let at-word2 = at-lower .before in
+    let at-if1 = at-word2 .before .before in
+    let at-word = at-if1 .before in
+    let entry = at-word .before .before .before .before .before in
+    let a = entry .args in
+    let p = entry .pre in
+    λ journal values. use-full (a .g) (memory (a .input .now) (a .output .now) journal (a .frames .now) values) (p .1 .1 .1 .0) (p .1 .1 .1 .1 .0) (p .0) (p .1 .0) (p .1 .1 .0) (p .1 .1 .1 .1 .1) (rw (at-word .word .ensures) at (at-if1 .if1 .left)) (rw (at-lower .lower .ensures, at-word2 .word2 .ensures, at-word .word .ensures) at (c .if2 .taken))
 
 sub-set-word : tie.Need-sub-set-word
 sub-set-word c = search needs
@@ -47,7 +52,12 @@ set-word-requires : tie.Need-set-word-requires
 set-word-requires c κs = search needs
 
 move-down-requires : tie.Need-move-down-requires
-move-down-requires c κs = let p = c .before .before .before .before .before .before .before .before .before .before .before .before .before .before .before .before .before .before .pre in omega (arith, c .before .before .before .before .before .before .before .before .before .lower .ensures, p, c .before .before .before .before .before .if2 .left)
+move-down-requires c κs =
+    let at-if2 = c .before .before .before .before .before in
+    let at-lower = at-if2 .before .before .before .before in
+    let entry = at-lower .before .before .before .before .before .before .before .before .before in
+    let p = entry .pre in
+    omega (arith, at-lower .lower .ensures, p, at-if2 .if2 .left)
 
 same-length-3 : tie.Need-same-length-3
 same-length-3 c = search needs
@@ -56,12 +66,18 @@ same-length-4 : tie.Need-same-length-4
 same-length-4 c = search needs
 
 returns-3 : tie.Need-returns-3
-returns-3 c = let a = c .before .before .before .before .before .before .before .before .before .before .before .before .before .before .before .before .before .before .before .before .before .before .before .args in
-    let p = c .before .before .before .before .before .before .before .before .before .before .before .before .before .before .before .before .before .before .before .before .before .before .before .pre in
-    λ journal values. rw (c .before .before .before .before .before .before .before .before .set-word .ensures, c .before .before .before .before .before .before .before .before .before .before .before .before .before .before .lower .ensures, c .before .before .before .before .before .before .before .before .before .before .before .before .before .before .before .word2 .ensures, c .before .before .before .before .before .before .before .before .before .before .before .before .before .before .before .before .before .before .word .ensures)
-    (use-moved (a .g) (memory (a .input .now) (a .output .now) journal (a .frames .now) values) (p .1 .1 .1 .0) (p .1 .1 .1 .1 .0)
-    (p .0) (p .1 .0) (p .1 .1 .0) (p .1 .1 .1 .1 .1) _ _ (rw (c .before .before .before .before .before .before .before .before .before .before .before .before .before .before .lower .ensures, c .before .before .before .before .before .before .before .before .before .before .before .before .before .before .before .word2 .ensures, c .before .before .before .before .before .before .before .before .before .before .before .before .before .before .before .before .before .before .word .ensures) at (c .before .before .before .before .move-down .ensures))
-    (rw (c .before .before .before .before .before .before .before .before .before .before .before .before .before .before .before .before .before .before .word .ensures) at (c .before .before .before .before .before .before .before .before .before .before .before .before .before .before .before .before .before .if1 .left)) (c .before .before .before .before .move-down .kept .0) (rw (c .before .before .before .before .before .before .before .before .before .before .before .before .before .before .lower .ensures, c .before .before .before .before .before .before .before .before .before .before .before .before .before .before .before .word2 .ensures, c .before .before .before .before .before .before .before .before .before .before .before .before .before .before .before .before .before .before .word .ensures) at (c .before .before .before .before .before .before .before .before .before .before .if2 .left)))
+returns-3 c =
+    let at-move-down = c .before .before .before .before in
+    let at-set-word = at-move-down .before .before .before .before in
+    let at-if2 = at-set-word .before .before in
+    let at-lower = at-if2 .before .before .before .before in
+    let at-word2 = at-lower .before in
+    let at-if1 = at-word2 .before .before in
+    let at-word = at-if1 .before in
+    let entry = at-word .before .before .before .before .before in
+    let a = entry .args in
+    let p = entry .pre in
+    λ journal values. rw (at-set-word .set-word .ensures, at-lower .lower .ensures, at-word2 .word2 .ensures, at-word .word .ensures) (use-moved (a .g) (memory (a .input .now) (a .output .now) journal (a .frames .now) values) (p .1 .1 .1 .0) (p .1 .1 .1 .1 .0) (p .0) (p .1 .0) (p .1 .1 .0) (p .1 .1 .1 .1 .1) _ _ (rw (at-lower .lower .ensures, at-word2 .word2 .ensures, at-word .word .ensures) at (at-move-down .move-down .ensures)) (rw (at-word .word .ensures) at (at-if1 .if1 .left)) (at-move-down .move-down .kept .0) (rw (at-lower .lower .ensures, at-word2 .word2 .ensures, at-word .word .ensures) at (at-if2 .if2 .left)))
 
 pub use-sequence-spec : {M : Type 1} → statement M
 use-sequence-spec = tie.close (tie.spec word-requires same-length returns sub-word word-requires-2 lower-requires sub-if2 same-length-2 returns-2 sub-set-word set-word-requires move-down-requires same-length-3 same-length-4 returns-3)

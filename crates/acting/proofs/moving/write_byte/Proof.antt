@@ -19,8 +19,11 @@ same-length : tie.Need-same-length
 same-length c = search needs
 
 returns-2 : tie.Need-returns-2
-returns-2 c = let a = c .before .before .before .before .args in
-    λ input journal values frames. byte-written (a .g) (memory input (a .output .now) journal frames values) (c .before .before .before .before .pre) (a .byte) (c .before .before .before .if1 .left)
+returns-2 c =
+    let at-if1 = c .before .before .before in
+    let entry = at-if1 .before in
+    let a = entry .args in
+    λ input journal values frames. byte-written (a .g) (memory input (a .output .now) journal frames values) (entry .pre) (a .byte) (at-if1 .if1 .left)
 
 pub write-byte-spec : {M : Type 1} → statement M
 write-byte-spec = tie.close (tie.spec returns slice-write-output add-t5 same-length returns-2)

@@ -37,10 +37,13 @@ same-length : tie.Need-same-length
 same-length c = search needs
 
 returns-2 : tie.Need-returns-2
-returns-2 c = let a = c .before .before .before .before .before .before .before .before .before .before .before .args in
-    let p = c .before .before .before .before .before .before .before .before .before .before .before .pre in
-    λ journal values frames. rw (c .before .before .before .before .before .copy-over .ensures)
-    (part-written (a .g) (memory (a .input .now) (a .output .now) journal frames values) (p .1 .1) (p .0) (p .1 .0) (c .before .before .before .before .before .before .before .before .if1 .left))
+returns-2 c =
+    let at-copy-over = c .before .before .before .before .before in
+    let at-if1 = at-copy-over .before .before .before in
+    let entry = at-if1 .before .before .before in
+    let a = entry .args in
+    let p = entry .pre in
+    λ journal values frames. rw (at-copy-over .copy-over .ensures) (part-written (a .g) (memory (a .input .now) (a .output .now) journal frames values) (p .1 .1) (p .0) (p .1 .0) (at-if1 .if1 .left))
 
 pub write-part-spec : {M : Type 1} → statement M
 write-part-spec = tie.close (tie.spec sub-if1 sub-if1-2 returns sub-copy-over part-copy-over-start part-copy-over-end copy-over-requires sub-t9 add-t8 same-length returns-2)

@@ -28,10 +28,14 @@ same-length : tie.Need-same-length
 same-length c = search needs
 
 returns-2 : tie.Need-returns-2
-returns-2 c = let a = c .before .before .before .before .before .before .before .before .before .before .args in
-    let p = c .before .before .before .before .before .before .before .before .before .before .pre in
-    λ input journal. value-written (a .g) (memory input (a .output .now) journal (a .frames .now) (a .values .now)) (a .index) _ _
-    (rw (c .before .before .before .before .before .before .word .ensures) at (c .before .before .before .before .before .if1 .left)) (p .1 .1 .1 .0) (p .1 .0) (p .1 .1 .1 .1) (c .before .before .write-byte .ensures input journal (a .values .now) (a .frames .now))
+returns-2 c =
+    let at-write-byte = c .before .before in
+    let at-if1 = at-write-byte .before .before .before in
+    let at-word = at-if1 .before in
+    let entry = at-word .before .before .before .before in
+    let a = entry .args in
+    let p = entry .pre in
+    λ input journal. value-written (a .g) (memory input (a .output .now) journal (a .frames .now) (a .values .now)) (a .index) _ _ (rw (at-word .word .ensures) at (at-if1 .if1 .left)) (p .1 .1 .1 .0) (p .1 .0) (p .1 .1 .1 .1) (at-write-byte .write-byte .ensures input journal (a .values .now) (a .frames .now))
 
 pub write-value-spec : {M : Type 1} → statement M
 write-value-spec = tie.close (tie.spec word-requires returns mul-write-byte add-write-byte shared-slice-read-write-byte write-byte-requires same-length returns-2)

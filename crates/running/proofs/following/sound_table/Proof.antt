@@ -46,7 +46,12 @@ wide-requires-2 : tie.Need-wide-requires-2 Inv-loop μ-loop
 wide-requires-2 c κs = search needs
 
 returns-3 : tie.Need-returns-3 Inv-loop μ-loop
-returns-3 c = let v = c .before .before .before .before .loop .inv in sound-wrong (c .before .before .before .before .before .before .before .before .before .before .args .code .now) (v .1) (c .before .before .before .before .loop .i) (omega (arith, v .0, c .before .before .before .loop-test .taken)) (v .3) (omega (arith, c .if3 .taken, c .before .wide2 .ensures))
+returns-3 c =
+    let at-loop-test = c .before .before .before in
+    let at-loop = at-loop-test .before in
+    let entry = at-loop .before .before .before .before .before .before in
+    let v = at-loop .loop .inv in
+    sound-wrong (entry .args .code .now) (v .1) (at-loop .loop .i) (omega (arith, v .0, at-loop-test .loop-test .taken)) (v .3) (omega (arith, c .if3 .taken, c .before .wide2 .ensures))
 
 add-i : tie.Need-add-i Inv-loop μ-loop
 add-i c = omega arith
@@ -55,10 +60,18 @@ loop-less : tie.Need-loop-less Inv-loop μ-loop
 loop-less c = omega arith
 
 loop-again : tie.Need-loop-again Inv-loop μ-loop
-loop-again c = let v = c .before .before .before .before .loop .inv in (v .0, v .1, omega arith, sound-next (c .before .before .before .before .before .before .before .before .before .before .args .code .now) (v .1) (c .before .before .before .before .loop .i) (omega (arith, v .0, c .before .before .before .loop-test .taken)) (v .3) (omega (arith, c .if3 .left, c .before .wide2 .ensures)))
+loop-again c =
+    let at-loop-test = c .before .before .before in
+    let at-loop = at-loop-test .before in
+    let entry = at-loop .before .before .before .before .before .before in
+    let v = at-loop .loop .inv in
+    (v .0, v .1, omega arith, sound-next (entry .args .code .now) (v .1) (at-loop .loop .i) (omega (arith, v .0, at-loop-test .loop-test .taken)) (v .3) (omega (arith, c .if3 .left, c .before .wide2 .ensures)))
 
 returns-4 : tie.Need-returns-4 Inv-loop μ-loop
-returns-4 c = let v = c .before .loop .inv in sound-all (c .before .before .before .before .before .before .before .args .code .now) (v .1) (c .before .loop .i) (omega (arith, v .0, c .loop-test .left)) (v .3)
+returns-4 c =
+    let entry = c .before .before .before .before .before .before .before in
+    let v = c .before .loop .inv in
+    sound-all (entry .args .code .now) (v .1) (c .before .loop .i) (omega (arith, v .0, c .loop-test .left)) (v .3)
 
 pub sound-table-spec : {M : Type 1} → statement M
 sound-table-spec =

@@ -13,7 +13,11 @@ use Rattle.running.proofs.stepping.advance.Statement.{statement}
 use Rattle.running.proofs.stepping.advance.Tie as tie
 
 returns : tie.Need-returns
-returns c = let a = c .before .before .before .before .before .before .before .args in let u = c .before .before .before .before .before .before .before .pre .1 .1 in advance-unknown (a .code .now) (a .allowance) (a .g) (memory (a .input .now) (a .output .now) (a .journal .now) (a .frames .now) (a .values .now)) [] u (actions-none (a .code .now) (a .g .at .0) (c .if1 .taken)) (a .g) refl refl refl
+returns c =
+    let entry = c .before .before .before .before .before .before .before in
+    let a = entry .args in
+    let u = entry .pre .1 .1 in
+    advance-unknown (a .code .now) (a .allowance) (a .g) (memory (a .input .now) (a .output .now) (a .journal .now) (a .frames .now) (a .values .now)) [] u (actions-none (a .code .now) (a .g .at .0) (c .if1 .taken)) (a .g) refl refl refl
 
 add-decode : tie.Need-add-decode
 add-decode c = search needs
@@ -51,14 +55,14 @@ enum-told-2 c = search needs
 use-sequence-requires : tie.Need-use-sequence-requires
 use-sequence-requires c κs = search needs
 
-enum-known-number : tie.Need-enum-known-number
-enum-known-number c = search needs
+enum-known-to : tie.Need-enum-known-to
+enum-known-to c = search needs
 
 call-requires : tie.Need-call-requires
 call-requires c κs = let pre = c .before .before .before .before .before .before .before .before .before .before .before .before .before .before .before .before .before .before .pre in let r = pre .1 .1 .ready in (pre .0, (pre .1 .0, (r .ordered, (r .inside, (r .framed, (r .frameRoom, r .valueRoom))))))
 
-enum-known-number-2 : tie.Need-enum-known-number-2
-enum-known-number-2 c = search needs
+enum-known-to-2 : tie.Need-enum-known-to-2
+enum-known-to-2 c = search needs
 
 tail-call-requires : tie.Need-tail-call-requires
 tail-call-requires c κs = let pre = c .before .before .before .before .before .before .before .before .before .before .before .before .before .before .before .before .before .before .pre in let r = pre .1 .1 .ready in (pre .0, (pre .1 .0, (r .ordered, (r .inside, (r .framed, (r .frameRoom, r .valueRoom))))))
@@ -67,7 +71,11 @@ enum-known-length : tie.Need-enum-known-length
 enum-known-length c = search needs
 
 emit-requires : tie.Need-emit-requires
-emit-requires c κs = let r = c .before .before .before .before .before .before .before .before .before .before .before .before .before .before .before .before .before .pre .1 .1 .ready in (omega (arith, c .before .before .before .before .before .before .before .before .before .before .if1 .left), (r .ordered, (r .inside, r .logged)))
+emit-requires c κs =
+    let at-if1 = c .before .before .before .before .before .before .before .before .before .before in
+    let entry = at-if1 .before .before .before .before .before .before .before in
+    let r = entry .pre .1 .1 .ready in
+    (omega (arith, at-if1 .if1 .left), (r .ordered, (r .inside, r .logged)))
 
 enum-told-3 : tie.Need-enum-told-3
 enum-told-3 c = search needs
@@ -85,7 +93,14 @@ same-length-2 : tie.Need-same-length-2
 same-length-2 c = search needs
 
 returns-2 : tie.Need-returns-2
-returns-2 c = let a = c .before .before .before .before .before .before .before .before .before .before .before .before .before .before .before .before .before .before .args in let u = c .before .before .before .before .before .before .before .before .before .before .before .before .before .before .before .before .before .before .pre .1 .1 in advance-acts (a .code .now) (a .allowance) (a .g) (memory (a .input .now) (a .output .now) (a .journal .now) (a .frames .now) (a .values .now)) _ (a .g .at .0 + 1) _ _ (c .before .before .before .before .before .before .before .before .before .before .before .if1 .left) u (actions-at (a .code .now) (a .g .at .0) (Shifts (c .before .before .before .before .what .given .0 .0)) (rw (c .before .before .before .before .what .given .1) at (c .before .before .before .before .before .before .decode .ensures)) (c .before .before .before .before .before .before .before .before .before .before .before .if1 .left)) refl (omega arith) (c .shift .ensures (a .output .now) (a .journal .now) (a .values .now))
+returns-2 c =
+    let at-what = c .before .before .before .before in
+    let at-decode = at-what .before .before in
+    let at-if1 = at-decode .before .before .before .before .before in
+    let entry = at-if1 .before .before .before .before .before .before .before in
+    let a = entry .args in
+    let u = entry .pre .1 .1 in
+    advance-acts (a .code .now) (a .allowance) (a .g) (memory (a .input .now) (a .output .now) (a .journal .now) (a .frames .now) (a .values .now)) _ (a .g .at .0 + 1) _ _ (at-if1 .if1 .left) u (actions-at (a .code .now) (a .g .at .0) (Shifts (at-what .what .given .0 .0)) (rw (at-what .what .given .1) at (at-decode .decode .ensures)) (at-if1 .if1 .left)) refl (omega arith) (c .shift .ensures (a .output .now) (a .journal .now) (a .values .now))
 
 same-length-3 : tie.Need-same-length-3
 same-length-3 c = search needs
@@ -100,13 +115,29 @@ same-length-6 : tie.Need-same-length-6
 same-length-6 c = search needs
 
 returns-3 : tie.Need-returns-3
-returns-3 c = let a = c .before .before .before .before .before .before .before .before .before .before .before .before .before .before .before .before .before .before .before .before .before .before .args in let u = c .before .before .before .before .before .before .before .before .before .before .before .before .before .before .before .before .before .before .before .before .before .before .pre .1 .1 in advance-acts (a .code .now) (a .allowance) (a .g) (memory (a .input .now) (a .output .now) (a .journal .now) (a .frames .now) (a .values .now)) _ (a .g .at .0 + 1) _ _ (c .before .before .before .before .before .before .before .before .before .before .before .before .before .before .before .if1 .left) u (actions-at (a .code .now) (a .g .at .0) (Writes (c .before .before .before .before .before .before .before .before .what2 .given .0 .0)) (rw (c .before .before .before .before .before .before .before .before .what2 .given .1) at (c .before .before .before .before .before .before .before .before .before .before .decode .ensures)) (c .before .before .before .before .before .before .before .before .before .before .before .before .before .before .before .if1 .left)) (rw (c .before .before .write .kept .1 .1 .1 .0)) (omega arith) (c .before .before .write .ensures (a .journal .now))
+returns-3 c =
+    let at-write = c .before .before in
+    let at-what2 = at-write .before .before .before .before .before .before in
+    let at-decode = at-what2 .before .before in
+    let at-if1 = at-decode .before .before .before .before .before in
+    let entry = at-if1 .before .before .before .before .before .before .before in
+    let a = entry .args in
+    let u = entry .pre .1 .1 in
+    advance-acts (a .code .now) (a .allowance) (a .g) (memory (a .input .now) (a .output .now) (a .journal .now) (a .frames .now) (a .values .now)) _ (a .g .at .0 + 1) _ _ (at-if1 .if1 .left) u (actions-at (a .code .now) (a .g .at .0) (Writes (at-what2 .what2 .given .0 .0)) (rw (at-what2 .what2 .given .1) at (at-decode .decode .ensures)) (at-if1 .if1 .left)) (rw (at-write .write .kept .1 .1 .1 .0)) (omega arith) (at-write .write .ensures (a .journal .now))
 
 same-length-7 : tie.Need-same-length-7
 same-length-7 c = search needs
 
 returns-4 : tie.Need-returns-4
-returns-4 c = let a = c .before .before .before .before .before .before .before .before .before .before .before .before .before .before .before .before .before .before .args in let u = c .before .before .before .before .before .before .before .before .before .before .before .before .before .before .before .before .before .before .pre .1 .1 in advance-acts (a .code .now) (a .allowance) (a .g) (memory (a .input .now) (a .output .now) (a .journal .now) (a .frames .now) (a .values .now)) _ (a .g .at .0 + 1) _ _ (c .before .before .before .before .before .before .before .before .before .before .before .if1 .left) u (actions-at (a .code .now) (a .g .at .0) Begin (rw (c .before .before .before .before .enum-told .given .1) at (c .before .before .before .before .before .before .decode .ensures)) (c .before .before .before .before .before .before .before .before .before .before .before .if1 .left)) refl (omega arith) (c .before .before .begin-sequence .ensures (a .input .now) (a .output .now) (a .journal .now) (a .values .now) (u .ready .below))
+returns-4 c =
+    let at-begin-sequence = c .before .before in
+    let at-enum-told = at-begin-sequence .before .before in
+    let at-decode = at-enum-told .before .before in
+    let at-if1 = at-decode .before .before .before .before .before in
+    let entry = at-if1 .before .before .before .before .before .before .before in
+    let a = entry .args in
+    let u = entry .pre .1 .1 in
+    advance-acts (a .code .now) (a .allowance) (a .g) (memory (a .input .now) (a .output .now) (a .journal .now) (a .frames .now) (a .values .now)) _ (a .g .at .0 + 1) _ _ (at-if1 .if1 .left) u (actions-at (a .code .now) (a .g .at .0) Begin (rw (at-enum-told .enum-told .given .1) at (at-decode .decode .ensures)) (at-if1 .if1 .left)) refl (omega arith) (at-begin-sequence .begin-sequence .ensures (a .input .now) (a .output .now) (a .journal .now) (a .values .now) (u .ready .below))
 
 same-length-8 : tie.Need-same-length-8
 same-length-8 c = search needs
@@ -118,7 +149,15 @@ same-length-10 : tie.Need-same-length-10
 same-length-10 c = search needs
 
 returns-5 : tie.Need-returns-5
-returns-5 c = let a = c .before .before .before .before .before .before .before .before .before .before .before .before .before .before .before .before .before .before .before .before .before .before .args in let u = c .before .before .before .before .before .before .before .before .before .before .before .before .before .before .before .before .before .before .before .before .before .before .pre .1 .1 in advance-acts (a .code .now) (a .allowance) (a .g) (memory (a .input .now) (a .output .now) (a .journal .now) (a .frames .now) (a .values .now)) _ (a .g .at .0 + 1) _ _ (c .before .before .before .before .before .before .before .before .before .before .before .before .before .before .before .if1 .left) u (actions-at (a .code .now) (a .g .at .0) Use (rw (c .before .before .before .before .before .before .before .before .enum-told2 .given .1) at (c .before .before .before .before .before .before .before .before .before .before .decode .ensures)) (c .before .before .before .before .before .before .before .before .before .before .before .before .before .before .before .if1 .left)) (rw (c .before .before .before .before .use-sequence .kept .1 .0)) (omega arith) (c .before .before .before .before .use-sequence .ensures (a .journal .now) (a .values .now))
+returns-5 c =
+    let at-use-sequence = c .before .before .before .before in
+    let at-enum-told2 = at-use-sequence .before .before .before .before in
+    let at-decode = at-enum-told2 .before .before in
+    let at-if1 = at-decode .before .before .before .before .before in
+    let entry = at-if1 .before .before .before .before .before .before .before in
+    let a = entry .args in
+    let u = entry .pre .1 .1 in
+    advance-acts (a .code .now) (a .allowance) (a .g) (memory (a .input .now) (a .output .now) (a .journal .now) (a .frames .now) (a .values .now)) _ (a .g .at .0 + 1) _ _ (at-if1 .if1 .left) u (actions-at (a .code .now) (a .g .at .0) Use (rw (at-enum-told2 .enum-told2 .given .1) at (at-decode .decode .ensures)) (at-if1 .if1 .left)) (rw (at-use-sequence .use-sequence .kept .1 .0)) (omega arith) (at-use-sequence .use-sequence .ensures (a .journal .now) (a .values .now))
 
 same-length-11 : tie.Need-same-length-11
 same-length-11 c = search needs
@@ -130,7 +169,15 @@ same-length-13 : tie.Need-same-length-13
 same-length-13 c = search needs
 
 returns-6 : tie.Need-returns-6
-returns-6 c = let a = c .before .before .before .before .before .before .before .before .before .before .before .before .before .before .before .before .before .before .before .before .before .before .before .args in let u = c .before .before .before .before .before .before .before .before .before .before .before .before .before .before .before .before .before .before .before .before .before .before .before .pre .1 .1 in advance-does (a .code .now) (a .allowance) (a .g) (memory (a .input .now) (a .output .now) (a .journal .now) (a .frames .now) (a .values .now)) (call (c .before .before .before .before .before .before .before .before .before .number .given .0 .0)) (a .g .at .0 + 1) _ _ (c .before .before .before .before .before .before .before .before .before .before .before .before .before .before .before .before .if1 .left) u (actions-at (a .code .now) (a .g .at .0) (Call (c .before .before .before .before .before .before .before .before .before .number .given .0 .0)) (rw (c .before .before .before .before .before .before .before .before .before .number .given .1) at (c .before .before .before .before .before .before .before .before .before .before .before .decode .ensures)) (c .before .before .before .before .before .before .before .before .before .before .before .before .before .before .before .before .if1 .left)) (c .before .before .before .before .call .ensures (a .output .now) (a .journal .now))
+returns-6 c =
+    let at-call = c .before .before .before .before in
+    let at-to = at-call .before .before .before .before .before in
+    let at-decode = at-to .before .before in
+    let at-if1 = at-decode .before .before .before .before .before in
+    let entry = at-if1 .before .before .before .before .before .before .before in
+    let a = entry .args in
+    let u = entry .pre .1 .1 in
+    advance-does (a .code .now) (a .allowance) (a .g) (memory (a .input .now) (a .output .now) (a .journal .now) (a .frames .now) (a .values .now)) (call (at-to .to .given .0 .0)) (a .g .at .0 + 1) _ _ (at-if1 .if1 .left) u (actions-at (a .code .now) (a .g .at .0) (Call (at-to .to .given .0 .0)) (rw (at-to .to .given .1) at (at-decode .decode .ensures)) (at-if1 .if1 .left)) (at-call .call .ensures (a .output .now) (a .journal .now))
 
 same-length-14 : tie.Need-same-length-14
 same-length-14 c = search needs
@@ -142,7 +189,15 @@ same-length-16 : tie.Need-same-length-16
 same-length-16 c = search needs
 
 returns-7 : tie.Need-returns-7
-returns-7 c = let a = c .before .before .before .before .before .before .before .before .before .before .before .before .before .before .before .before .before .before .before .before .before .before .before .args in let u = c .before .before .before .before .before .before .before .before .before .before .before .before .before .before .before .before .before .before .before .before .before .before .before .pre .1 .1 in advance-does (a .code .now) (a .allowance) (a .g) (memory (a .input .now) (a .output .now) (a .journal .now) (a .frames .now) (a .values .now)) (tailCall (c .before .before .before .before .before .before .before .before .before .number2 .given .0 .0)) (a .g .at .0 + 1) _ _ (c .before .before .before .before .before .before .before .before .before .before .before .before .before .before .before .before .if1 .left) u (actions-at (a .code .now) (a .g .at .0) (TailCall (c .before .before .before .before .before .before .before .before .before .number2 .given .0 .0)) (rw (c .before .before .before .before .before .before .before .before .before .number2 .given .1) at (c .before .before .before .before .before .before .before .before .before .before .before .decode .ensures)) (c .before .before .before .before .before .before .before .before .before .before .before .before .before .before .before .before .if1 .left)) (c .before .before .before .before .tail-call .ensures (a .output .now) (a .journal .now))
+returns-7 c =
+    let at-tail-call = c .before .before .before .before in
+    let at-to2 = at-tail-call .before .before .before .before .before in
+    let at-decode = at-to2 .before .before in
+    let at-if1 = at-decode .before .before .before .before .before in
+    let entry = at-if1 .before .before .before .before .before .before .before in
+    let a = entry .args in
+    let u = entry .pre .1 .1 in
+    advance-does (a .code .now) (a .allowance) (a .g) (memory (a .input .now) (a .output .now) (a .journal .now) (a .frames .now) (a .values .now)) (tailCall (at-to2 .to2 .given .0 .0)) (a .g .at .0 + 1) _ _ (at-if1 .if1 .left) u (actions-at (a .code .now) (a .g .at .0) (TailCall (at-to2 .to2 .given .0 .0)) (rw (at-to2 .to2 .given .1) at (at-decode .decode .ensures)) (at-if1 .if1 .left)) (at-tail-call .tail-call .ensures (a .output .now) (a .journal .now))
 
 same-length-17 : tie.Need-same-length-17
 same-length-17 c = search needs
@@ -151,16 +206,38 @@ same-length-18 : tie.Need-same-length-18
 same-length-18 c = search needs
 
 returns-8 : tie.Need-returns-8
-returns-8 c = let a = c .before .before .before .before .before .before .before .before .before .before .before .before .before .before .before .before .before .before .before .before .args in let u = c .before .before .before .before .before .before .before .before .before .before .before .before .before .before .before .before .before .before .before .before .pre .1 .1 in let size = c .before .before .before .before .before .before .length .given .0 .0 in advance-acts (a .code .now) (a .allowance) (a .g) (memory (a .input .now) (a .output .now) (a .journal .now) (a .frames .now) (a .values .now)) _ (a .g .at .0 + 1 + size) _ _ (c .before .before .before .before .before .before .before .before .before .before .before .before .before .if1 .left) u (rw (actions-named (a .code .now) (a .g .at .0 + 1) size) at (actions-at (a .code .now) (a .g .at .0) (Emit size) (rw (c .before .before .before .before .before .before .length .given .1) at (c .before .before .before .before .before .before .before .before .decode .ensures)) (c .before .before .before .before .before .before .before .before .before .before .before .before .before .if1 .left))) (rw (c .before .before .emit .kept .1 .1 .1 .1 .0)) (omega arith) (c .before .before .emit .ensures (a .output .now) (a .values .now) (a .frames .now))
+returns-8 c =
+    let at-emit = c .before .before in
+    let at-length = at-emit .before .before .before .before in
+    let at-decode = at-length .before .before in
+    let at-if1 = at-decode .before .before .before .before .before in
+    let entry = at-if1 .before .before .before .before .before .before .before in
+    let a = entry .args in
+    let u = entry .pre .1 .1 in
+    let size = at-length .length .given .0 .0 in
+    advance-acts (a .code .now) (a .allowance) (a .g) (memory (a .input .now) (a .output .now) (a .journal .now) (a .frames .now) (a .values .now)) _ (a .g .at .0 + 1 + size) _ _ (at-if1 .if1 .left) u (rw (actions-named (a .code .now) (a .g .at .0 + 1) size) at (actions-at (a .code .now) (a .g .at .0) (Emit size) (rw (at-length .length .given .1) at (at-decode .decode .ensures)) (at-if1 .if1 .left))) (rw (at-emit .emit .kept .1 .1 .1 .1 .0)) (omega arith) (at-emit .emit .ensures (a .output .now) (a .values .now) (a .frames .now))
 
 same-length-19 : tie.Need-same-length-19
 same-length-19 c = search needs
 
 returns-9 : tie.Need-returns-9
-returns-9 c = let a = c .before .before .before .before .before .before .before .before .before .before .before .before .before .before .before .before .args in let u = c .before .before .before .before .before .before .before .before .before .before .before .before .before .before .before .before .pre .1 .1 in rw (c .leave .ensures) (advance-leaves (a .code .now) (a .allowance) (a .g) (memory (a .input .now) (a .output .now) (a .journal .now) (a .frames .now) (a .values .now)) (c .before .before .before .before .before .before .before .before .before .if1 .left) u (actions-at (a .code .now) (a .g .at .0) End (rw (c .before .before .enum-told3 .given .1) at (c .before .before .before .before .decode .ensures)) (c .before .before .before .before .before .before .before .before .before .if1 .left)))
+returns-9 c =
+    let at-enum-told3 = c .before .before in
+    let at-decode = at-enum-told3 .before .before in
+    let at-if1 = at-decode .before .before .before .before .before in
+    let entry = at-if1 .before .before .before .before .before .before .before in
+    let a = entry .args in
+    let u = entry .pre .1 .1 in
+    rw (c .leave .ensures) (advance-leaves (a .code .now) (a .allowance) (a .g) (memory (a .input .now) (a .output .now) (a .journal .now) (a .frames .now) (a .values .now)) (at-if1 .if1 .left) u (actions-at (a .code .now) (a .g .at .0) End (rw (at-enum-told3 .enum-told3 .given .1) at (at-decode .decode .ensures)) (at-if1 .if1 .left)))
 
 returns-10 : tie.Need-returns-10
-returns-10 c = let a = c .before .before .before .before .before .before .before .before .before .before .before .before .before .before .args in let u = c .before .before .before .before .before .before .before .before .before .before .before .before .before .before .pre .1 .1 in advance-unknown (a .code .now) (a .allowance) (a .g) (memory (a .input .now) (a .output .now) (a .journal .now) (a .frames .now) (a .values .now)) _ u (actions-at (a .code .now) (a .g .at .0) Unknown (rw (c .enum-told4 .given .1) at (c .before .before .decode .ensures)) (c .before .before .before .before .before .before .before .if1 .left)) (stepped (a .g)) refl refl refl
+returns-10 c =
+    let at-decode = c .before .before in
+    let at-if1 = at-decode .before .before .before .before .before in
+    let entry = at-if1 .before .before .before .before .before .before .before in
+    let a = entry .args in
+    let u = entry .pre .1 .1 in
+    advance-unknown (a .code .now) (a .allowance) (a .g) (memory (a .input .now) (a .output .now) (a .journal .now) (a .frames .now) (a .values .now)) _ u (actions-at (a .code .now) (a .g .at .0) Unknown (rw (c .enum-told4 .given .1) at (at-decode .decode .ensures)) (at-if1 .if1 .left)) (stepped (a .g)) refl refl refl
 
 pub advance-spec : {M : Type 1} → statement M
 advance-spec =
@@ -179,9 +256,9 @@ advance-spec =
     begin-sequence-requires
     enum-told-2
     use-sequence-requires
-    enum-known-number
+    enum-known-to
     call-requires
-    enum-known-number-2
+    enum-known-to-2
     tail-call-requires
     enum-known-length
     emit-requires
