@@ -2,7 +2,7 @@
 use Prim.Native.Nat.{ℕ, _/_}
 use mathlib.Core.List.{List, [], _∷_}
 use mathlib.Core.Option.{Option, none, some}
-use mathlib.Core.Bool.{Bool}
+use mathlib.Core.Bool.{Bool, true, false}
 use lib.Dec.{leb, eqb}
 use lib.ListN.{length, take}
 use Rattle.meaning.specs.Choice.{pick, both, every}
@@ -15,16 +15,20 @@ use Rattle.acting.specs.declared.decoding.Length.the-variants.{Null, Who
 use Rattle.acting.specs.declared.decoding.Span.{Span}
 use Rattle.acting.specs.declared.decoding.Shift.{Shift}
 use Rattle.acting.specs.declared.decoding.Shift.the-variants.{Go, Select}
+use Rattle.acting.specs.declared.decoding.Call.{Call}
 use Rattle.acting.specs.declared.decoding.Write.{Write}
 use Rattle.acting.specs.declared.decoding.Write.the-variants.{Part, Character, Value}
 use Rattle.acting.specs.declared.decoding.Instruction.{Instruction}
-use Rattle.acting.specs.declared.decoding.Instruction.the-variants.{Shift as Shifts, Write as Writes, Begin, Use, Call, TailCall, Emit, End, Unknown}
+use Rattle.acting.specs.declared.decoding.Instruction.the-variants.{Shift as Shifts, Write as Writes, Begin, Use, Call as Calls, Emit, End, Unknown}
 
 abbrev pub lengthIn : ℕ → Length
 lengthIn n = pick (eqb n 0) Null (pick (eqb n 1) Whole (pick (eqb n 2) Left (pick (eqb n 3) Right UnknownLength)))
 
 abbrev pub spanIn : ℕ → Span
 spanIn w = record { register = lengthIn (firstIn w); add = secondIn w; back = thirdIn w }
+
+abbrev pub callIn : Bool → ℕ → Call
+callIn tail w = record { tail = tail; function = w / 256 }
 
 abbrev pub instructionIn : ℕ → Instruction
 instructionIn w =
@@ -37,8 +41,8 @@ instructionIn w =
     (pick (eqb (numberIn w) 9) (Writes (Value (firstIn w)))
     (pick (eqb (numberIn w) 10) Begin
     (pick (eqb (numberIn w) 11) Use
-    (pick (eqb (numberIn w) 12) (Call (w / 256))
-    (pick (eqb (numberIn w) 13) (TailCall (w / 256))
+    (pick (eqb (numberIn w) 12) (Calls (callIn false w))
+    (pick (eqb (numberIn w) 13) (Calls (callIn true w))
     Unknown))))))))))
 
 -- WHAT AN INSTRUCTION MEANS
@@ -59,14 +63,16 @@ writeMeant Part = out
 writeMeant (Character c) = outCharacter c
 writeMeant (Value k) = outValue k
 
+abbrev pub callMeant : Call → Action
+callMeant c = pick (c .tail) (tailCall (c .function)) (call (c .function))
+
 -- the actions from an instruction on, given the words after its first
 abbrev pub actionsMeant : Instruction → Words → List Action
 actionsMeant (Shifts s) ws = shiftMeant s ∷ unpackActions 0 ws
 actionsMeant (Writes x) ws = writeMeant x ∷ unpackActions 0 ws
 actionsMeant Begin ws = beginSequence ∷ unpackActions 0 ws
 actionsMeant Use ws = useSequence ∷ unpackActions 0 ws
-actionsMeant (Call f) ws = call f ∷ unpackActions 0 ws
-actionsMeant (TailCall f) ws = tailCall f ∷ unpackActions 0 ws
+actionsMeant (Calls x) ws = callMeant x ∷ unpackActions 0 ws
 actionsMeant (Emit n) ws = emissionOf n ws ∷ unpackActions n ws
 actionsMeant End ws = []
 actionsMeant Unknown ws = unknownAction ∷ unpackActions 0 ws

@@ -1,7 +1,7 @@
 // Code words as instructions.
 use matching::wide;
 ghost use mathlib.Core.Path.{_≡_};
-ghost use Rattle.acting.specs.Decoded.{lengthIn, spanIn, instructionIn};
+ghost use Rattle.acting.specs.Decoded.{lengthIn, spanIn, callIn, instructionIn};
 
 // A register of the Process part; Unknown stands for a number that is none.
 pub enum Length {
@@ -32,14 +32,19 @@ pub enum Write {
     Value(usize),
 }
 
-// An instruction of the Process part. A call holds a function's number, an emission the length of its name.
+// A call of a function by its number. A tail call takes its caller's frame, any other adds one.
+pub struct Call {
+    pub tail: bool,
+    pub function: usize,
+}
+
+// An instruction of the Process part. An emission holds the length of its name.
 pub enum Instruction {
     Shift(Shift),
     Write(Write),
     Begin,
     Use,
-    Call(usize),
-    TailCall(usize),
+    Call(Call),
     Emit(usize),
     End,
     Unknown,
@@ -67,13 +72,21 @@ fn span_of(word: u32) -> Span
     }
 }
 
+fn call_of(tail: bool, word: u32) -> Call
+    ensures { λ r. ⌜ r ≡ callIn tail word ⌝ }
+{
+    Call {
+        tail: tail,
+        function: wide(word / 256),
+    }
+}
+
 // The instruction of a word; an emission's name stands in the words after it.
 pub fn decode(word: u32) -> Instruction
     ensures { λ r. ⌜ r ≡ instructionIn word ⌝ }
 {
     let number = word % 256;
     let first = wide(word / 256 % 256);
-    let function = wide(word / 256);
     match number {
         5 => Instruction::Shift(Shift::Go(span_of(word))),
         6 => Instruction::Shift(Shift::Select(span_of(word))),
@@ -82,8 +95,8 @@ pub fn decode(word: u32) -> Instruction
         9 => Instruction::Write(Write::Value(first)),
         10 => Instruction::Begin,
         11 => Instruction::Use,
-        12 => Instruction::Call(function),
-        13 => Instruction::TailCall(function),
+        12 => Instruction::Call(call_of(false, word)),
+        13 => Instruction::Call(call_of(true, word)),
         14 => Instruction::Emit(first),
         15 => Instruction::End,
         _ => Instruction::Unknown,

@@ -1,18 +1,21 @@
 // An application of a function: the start, a call, a tail call, and its end.
 ghost use Prim.Native.Nat.{ℕ, _+_, _*_, _-_, _≤_, _<_};
 ghost use mathlib.Core.Path.{_≡_};
+ghost use mathlib.Core.Bool.{true};
 ghost use lib.ListN.{length, drop};
 ghost use Rattle.meaning.specs.Choice.{Bytes};
 ghost use Rattle.meaning.specs.Matching.{storedCell, storedValues};
 ghost use Rattle.meaning.specs.Machine.{isDeclared};
-ghost use Rattle.meaning.specs.Instructions.{call as calling, tailCall};
+ghost use Rattle.meaning.specs.Instructions.{call as calling};
 ghost use Rattle.meaning.specs.Packing.{storeOf, unpackStores};
 ghost use Rattle.classes.specs.Tests.{Answers};
 ghost use Rattle.matching.specs.Matched.{cellMeant};
 ghost use Rattle.applying.specs.Storing.{Stores, begun};
+ghost use Rattle.acting.specs.Decoded.{callMeant};
 ghost use Rattle.acting.specs.States.{memory};
 ghost use Rattle.applying.specs.Waiting.{countIn, functionsIn, leftBy};
 ghost use Rattle.applying.specs.Advancing.{Performs, Applies, Starts};
+use acting::decoding::Call;
 use acting::frames::set_word;
 use acting::frames::word;
 use acting::registers::Ending;
@@ -178,8 +181,8 @@ pub fn apply(
     }
 }
 
-// A call adds a frame; the caller's waits for it.
-pub fn call(
+// A call that adds a frame; the caller's waits for it.
+fn framed_call(
     g: Registers,
     bits: &[u8; 256],
     code: &[u32],
@@ -191,6 +194,7 @@ pub fn call(
 ) -> Next
     requires { ⌜ Answers (now bits) ⌝ }
     requires { ⌜ countIn (now code) < length (now code) ⌝ }
+    requires { ⌜ isDeclared (functionsIn (now code)) number ≡ true ⌝ }
     requires { ⌜ g .p .0 ≤ g .q .0 ⌝ }
     requires { ⌜ g .q .0 ≤ length (now input) ⌝ }
     requires { ⌜ g .frame < 256 ⌝ }
@@ -198,9 +202,6 @@ pub fn call(
     requires { ⌜ length (now values) ≡ 4096 ⌝ }
     ensures { λ r. ⌜ ((output journal : Bytes) → Performs (now (code .entry)) allowance (calling number) (g .at .0) g (memory (now (input .entry)) output journal (now (frames .entry)) (now (values .entry))) r (memory (now (input .entry)) output journal (now (frames .exit)) (now (values .exit)))) ⌝ }
 {
-    if !declared(code, number) {
-        return Next::Stopped(g, Ending::NoInstruction, 0);
-    }
     if allowance <= g.steps {
         return Next::Stopped(g, Ending::AllowanceSpent, 0);
     }
@@ -216,12 +217,12 @@ pub fn call(
     apply(next, bits, code, number, allowance, input, frames, values)
 }
 
-// A tail call takes the caller's frame.
-pub fn tail_call(
+// A call, or a tail call, which takes the caller's frame.
+pub fn call(
     g: Registers,
     bits: &[u8; 256],
     code: &[u32],
-    number: usize,
+    what: Call,
     allowance: u32,
     input: &[u8],
     frames: &mut [usize],
@@ -234,12 +235,16 @@ pub fn tail_call(
     requires { ⌜ g .frame < 256 ⌝ }
     requires { ⌜ length (now frames) ≡ 6144 ⌝ }
     requires { ⌜ length (now values) ≡ 4096 ⌝ }
-    ensures { λ r. ⌜ ((output journal : Bytes) → Performs (now (code .entry)) allowance (tailCall number) (g .at .0) g (memory (now (input .entry)) output journal (now (frames .entry)) (now (values .entry))) r (memory (now (input .entry)) output journal (now (frames .exit)) (now (values .exit)))) ⌝ }
+    ensures { λ r. ⌜ ((output journal : Bytes) → Performs (now (code .entry)) allowance (callMeant what) (g .at .0) g (memory (now (input .entry)) output journal (now (frames .entry)) (now (values .entry))) r (memory (now (input .entry)) output journal (now (frames .exit)) (now (values .exit)))) ⌝ }
 {
+    let number = what.function;
     if !declared(code, number) {
         return Next::Stopped(g, Ending::NoInstruction, 0);
     }
-    apply(g, bits, code, number, allowance, input, frames, values)
+    if what.tail {
+        return apply(g, bits, code, number, allowance, input, frames, values);
+    }
+    framed_call(g, bits, code, number, allowance, input, frames, values)
 }
 
 // The end of an application: the frame below goes on, or the run is done.

@@ -20,7 +20,6 @@ use acting::registers::Registers;
 use acting::registers::Status;
 use applying::call;
 use applying::leave;
-use applying::tail_call;
 use matching::CodePlace;
 
 // One instruction.
@@ -53,8 +52,7 @@ fn advance(
         Instruction::Write(what) => write(h, what, input, output, frames, values),
         Instruction::Begin => begin_sequence(h, frames),
         Instruction::Use => use_sequence(h, input, output, frames),
-        Instruction::Call(to) => call(h, bits, code, to, allowance, input, frames, values),
-        Instruction::TailCall(to) => tail_call(h, bits, code, to, allowance, input, frames, values),
+        Instruction::Call(what) => call(h, bits, code, what, allowance, input, frames, values),
         Instruction::Emit(length) => emit(h, code, length, input, journal),
         Instruction::End => leave(h, frames),
         Instruction::Unknown => Next::Stopped(h, Ending::NoInstruction, 0),

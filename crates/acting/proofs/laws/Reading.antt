@@ -14,8 +14,8 @@ use Rattle.acting.specs.declared.decoding.Length.the-variants.{Null, Who
 use Rattle.acting.specs.declared.decoding.Instruction.{Instruction}
 use Rattle.acting.specs.declared.decoding.Shift.the-variants.{Go, Select}
 use Rattle.acting.specs.declared.decoding.Write.the-variants.{Part, Character, Value}
-use Rattle.acting.specs.declared.decoding.Instruction.the-variants.{Shift as Shifts, Write as Writes, Begin, Use, Call, TailCall, Emit, End, Unknown}
-use Rattle.acting.specs.Decoded.{spanIn, instructionIn, registerMeant, lengthIn, actionsMeant}
+use Rattle.acting.specs.declared.decoding.Instruction.the-variants.{Shift as Shifts, Write as Writes, Begin, Use, Call as Calls, Emit, End, Unknown}
+use Rattle.acting.specs.Decoded.{spanIn, callIn, instructionIn, registerMeant, lengthIn, actionsMeant}
 use Rattle.matching.proofs.laws.Lists.{at-place, past-end}
 
 module _ (a b c d : Bool) where
@@ -57,7 +57,7 @@ module _ (w : ℕ) (ws : Words) where
       (pick b₇ (Writes Part)
       (pick b₈ (Writes (Character (firstIn w)))
       (pick b₉ (Writes (Value (firstIn w)))
-      (pick b₁₀ Begin (pick b₁₁ Use (pick b₁₂ (Call (w / 256)) (pick b₁₃ (TailCall (w / 256)) Unknown))))))))))
+      (pick b₁₀ Begin (pick b₁₁ Use (pick b₁₂ (Calls (callIn false w)) (pick b₁₃ (Calls (callIn true w)) Unknown))))))))))
       )
       ws
   asked true b₁₄ b₅ b₆ b₇ b₈ b₉ b₁₀ b₁₁ b₁₂ b₁₃ = refl

@@ -10,10 +10,10 @@ use lib.Dec.{ltb}
 use lib.ListN.{length, getD, take, drop, set, length-set}
 use lib.Seq.{getD-set-same, getD-set-other, take-set-le, take-set-lt, drop-set-lt}
 use borrow.Author.Tests.{lt-ltb, le-ltb, ltb-true, ltb-false}
-use Rattle.meaning.specs.Choice.{Bytes}
+use Rattle.meaning.specs.Choice.{Bytes, pick}
 use Rattle.meaning.specs.Answers.{noInstruction}
 use Rattle.meaning.specs.Outcome.{pay, stop, andThen}
-use Rattle.meaning.specs.Instructions.{Action, call, tailCall}
+use Rattle.meaning.specs.Instructions.{call, tailCall}
 use Rattle.meaning.specs.Matching.{Choice, chosen, chosenNone, chosenWrong, chooseFrom}
 use Rattle.meaning.specs.Machine.{perform, isDeclared, withSelected, ranPaid, ranChoice}
 use Rattle.meaning.specs.Runs.{Room, lent}
@@ -148,17 +148,13 @@ module _ (frames : List ℕ) (k at : ℕ) (room : length frames ≡ 6144) (frame
         (waiting-same roomy allowance words frames Calling values values k (sym called-below) refl _)
 
 module _ (words : Words) (allowance number : ℕ) (g : Registers) (m : Memory) where
-  -- a call or a tail call
-  abbrev pub calling : Bool → Action
-  calling true = tailCall number
-  calling false = call number
-
-  pub undeclared : (tail : Bool) → isDeclared (functionsIn words) number ≡ false → Performs words allowance (calling tail) (g .at .0) g m (Stopped g NoInstruction 0) m
+  pub undeclared : (tail : Bool) → isDeclared (functionsIn words) number ≡ false →
+      Performs words allowance (pick tail (tailCall number) (call number)) (g .at .0) g m (Stopped g NoInstruction 0) m
   undeclared tail e u = stopping words allowance g m m (u .ready) _ _ NoInstruction 0 g (omega arith) (stops tail) refl refl refl refl refl
     where
       stops : (tail : Bool) →
           perform (lent (roomOf m)) (functionsIn words) (entering (roomOf m) allowance words) (going (roomOf m) allowance words (g .frame) (g .at .0)) (suc (g .frame))
-          (calling tail) (localOf g m) (stacksOf g m) (ledgerOf allowance g m) ≡
+          (pick tail (tailCall number) (call number)) (localOf g m) (stacksOf g m) (ledgerOf allowance g m) ≡
           stop noInstruction 0 (ledgerOf allowance g m)
       stops true = rw e
       stops false = rw e

@@ -7,17 +7,20 @@ use Rattle.acting.proofs.decoding.decode.Tie as tie
 wide-requires : tie.Need-wide-requires
 wide-requires c κs = search needs
 
-wide-requires-2 : tie.Need-wide-requires-2
-wide-requires-2 c κs = search needs
-
 span-of-requires : tie.Need-span-of-requires
 span-of-requires c κs = search needs
 
 span-of-requires-2 : tie.Need-span-of-requires-2
 span-of-requires-2 c κs = search needs
 
-cast-t15 : tie.Need-cast-t15
-cast-t15 c = search needs
+cast-t14 : tie.Need-cast-t14
+cast-t14 c = search needs
+
+call-of-requires : tie.Need-call-of-requires
+call-of-requires c κs = search needs
+
+call-of-requires-2 : tie.Need-call-of-requires-2
+call-of-requires-2 c κs = search needs
 
 returns : tie.Need-returns
 returns c = rw (c .before .match .keys1, c .span-of .ensures)
@@ -32,7 +35,7 @@ returns-4 : tie.Need-returns-4
 returns-4 c = rw (c .match .keys4)
 
 returns-5 : tie.Need-returns-5
-returns-5 c = rw (c .match .keys5, c .before .before .wide .ensures)
+returns-5 c = rw (c .match .keys5, c .before .wide .ensures)
 
 returns-6 : tie.Need-returns-6
 returns-6 c = rw (c .match .keys6)
@@ -41,13 +44,13 @@ returns-7 : tie.Need-returns-7
 returns-7 c = rw (c .match .keys7)
 
 returns-8 : tie.Need-returns-8
-returns-8 c = rw (c .match .keys8, c .before .wide2 .ensures)
+returns-8 c = rw (c .before .match .keys8, c .call-of .ensures)
 
 returns-9 : tie.Need-returns-9
-returns-9 c = rw (c .match .keys9, c .before .wide2 .ensures)
+returns-9 c = rw (c .before .match .keys9, c .call-of2 .ensures)
 
 returns-10 : tie.Need-returns-10
-returns-10 c = rw (c .match .keys10, c .before .before .wide .ensures)
+returns-10 c = rw (c .match .keys10, c .before .wide .ensures)
 
 returns-11 : tie.Need-returns-11
 returns-11 c = rw (c .match .keys11)
@@ -59,4 +62,4 @@ returns-12 c =
 
 pub decode-spec : {M : Type 1} → statement M
 decode-spec =
-    tie.close (tie.spec wide-requires wide-requires-2 span-of-requires span-of-requires-2 cast-t15 returns returns-2 returns-3 returns-4 returns-5 returns-6 returns-7 returns-8 returns-9 returns-10 returns-11 returns-12)
+    tie.close (tie.spec wide-requires span-of-requires span-of-requires-2 cast-t14 call-of-requires call-of-requires-2 returns returns-2 returns-3 returns-4 returns-5 returns-6 returns-7 returns-8 returns-9 returns-10 returns-11 returns-12)

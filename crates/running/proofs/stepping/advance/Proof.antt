@@ -3,8 +3,8 @@ use Prim.Native.Nat.{_+_}
 use native.Mathlib.Omega.{arith}
 use mathlib.Core.Path.{refl}
 use mathlib.Core.List.{[]}
-use Rattle.meaning.specs.Instructions.{call, tailCall}
-use Rattle.acting.specs.declared.decoding.Instruction.the-variants.{Shift as Shifts, Write as Writes, Begin, Use, Call, TailCall, Emit, End, Unknown}
+use Rattle.acting.specs.declared.decoding.Instruction.the-variants.{Shift as Shifts, Write as Writes, Begin, Use, Call as Calls, Emit, End, Unknown}
+use Rattle.acting.specs.Decoded.{callMeant}
 use Rattle.acting.specs.States.{memory}
 use Rattle.acting.proofs.laws.Reading.{actions-at, actions-none, actions-named}
 use Rattle.applying.proofs.laws.Advancing.{stepped, advance-does, advance-acts, advance-unknown, advance-leaves}
@@ -55,17 +55,11 @@ enum-told-2 c = search needs
 use-sequence-requires : tie.Need-use-sequence-requires
 use-sequence-requires c κs = search needs
 
-enum-known-to : tie.Need-enum-known-to
-enum-known-to c = search needs
+enum-known-what-3 : tie.Need-enum-known-what-3
+enum-known-what-3 c = search needs
 
 call-requires : tie.Need-call-requires
 call-requires c κs = let pre = c .before .before .before .before .before .before .before .before .before .before .before .before .before .before .before .before .before .before .pre in let r = pre .1 .1 .ready in (pre .0, (pre .1 .0, (r .ordered, (r .inside, (r .framed, (r .frameRoom, r .valueRoom))))))
-
-enum-known-to-2 : tie.Need-enum-known-to-2
-enum-known-to-2 c = search needs
-
-tail-call-requires : tie.Need-tail-call-requires
-tail-call-requires c κs = let pre = c .before .before .before .before .before .before .before .before .before .before .before .before .before .before .before .before .before .before .pre in let r = pre .1 .1 .ready in (pre .0, (pre .1 .0, (r .ordered, (r .inside, (r .framed, (r .frameRoom, r .valueRoom))))))
 
 enum-known-length : tie.Need-enum-known-length
 enum-known-length c = search needs
@@ -171,13 +165,13 @@ same-length-13 c = search needs
 returns-6 : tie.Need-returns-6
 returns-6 c =
     let at-call = c .before .before .before .before in
-    let at-to = at-call .before .before .before .before .before in
-    let at-decode = at-to .before .before in
+    let at-what3 = at-call .before .before .before .before .before in
+    let at-decode = at-what3 .before .before in
     let at-if1 = at-decode .before .before .before .before .before in
     let entry = at-if1 .before .before .before .before .before .before .before in
     let a = entry .args in
     let u = entry .pre .1 .1 in
-    advance-does (a .code .now) (a .allowance) (a .g) (memory (a .input .now) (a .output .now) (a .journal .now) (a .frames .now) (a .values .now)) (call (at-to .to .given .0 .0)) (a .g .at .0 + 1) _ _ (at-if1 .if1 .left) u (actions-at (a .code .now) (a .g .at .0) (Call (at-to .to .given .0 .0)) (rw (at-to .to .given .1) at (at-decode .decode .ensures)) (at-if1 .if1 .left)) (at-call .call .ensures (a .output .now) (a .journal .now))
+    advance-does (a .code .now) (a .allowance) (a .g) (memory (a .input .now) (a .output .now) (a .journal .now) (a .frames .now) (a .values .now)) (callMeant (at-what3 .what3 .given .0 .0)) (a .g .at .0 + 1) _ _ (at-if1 .if1 .left) u (actions-at (a .code .now) (a .g .at .0) (Calls (at-what3 .what3 .given .0 .0)) (rw (at-what3 .what3 .given .1) at (at-decode .decode .ensures)) (at-if1 .if1 .left)) (at-call .call .ensures (a .output .now) (a .journal .now))
 
 same-length-14 : tie.Need-same-length-14
 same-length-14 c = search needs
@@ -185,28 +179,8 @@ same-length-14 c = search needs
 same-length-15 : tie.Need-same-length-15
 same-length-15 c = search needs
 
-same-length-16 : tie.Need-same-length-16
-same-length-16 c = search needs
-
 returns-7 : tie.Need-returns-7
 returns-7 c =
-    let at-tail-call = c .before .before .before .before in
-    let at-to2 = at-tail-call .before .before .before .before .before in
-    let at-decode = at-to2 .before .before in
-    let at-if1 = at-decode .before .before .before .before .before in
-    let entry = at-if1 .before .before .before .before .before .before .before in
-    let a = entry .args in
-    let u = entry .pre .1 .1 in
-    advance-does (a .code .now) (a .allowance) (a .g) (memory (a .input .now) (a .output .now) (a .journal .now) (a .frames .now) (a .values .now)) (tailCall (at-to2 .to2 .given .0 .0)) (a .g .at .0 + 1) _ _ (at-if1 .if1 .left) u (actions-at (a .code .now) (a .g .at .0) (TailCall (at-to2 .to2 .given .0 .0)) (rw (at-to2 .to2 .given .1) at (at-decode .decode .ensures)) (at-if1 .if1 .left)) (at-tail-call .tail-call .ensures (a .output .now) (a .journal .now))
-
-same-length-17 : tie.Need-same-length-17
-same-length-17 c = search needs
-
-same-length-18 : tie.Need-same-length-18
-same-length-18 c = search needs
-
-returns-8 : tie.Need-returns-8
-returns-8 c =
     let at-emit = c .before .before in
     let at-length = at-emit .before .before .before .before in
     let at-decode = at-length .before .before in
@@ -217,11 +191,11 @@ returns-8 c =
     let size = at-length .length .given .0 .0 in
     advance-acts (a .code .now) (a .allowance) (a .g) (memory (a .input .now) (a .output .now) (a .journal .now) (a .frames .now) (a .values .now)) _ (a .g .at .0 + 1 + size) _ _ (at-if1 .if1 .left) u (rw (actions-named (a .code .now) (a .g .at .0 + 1) size) at (actions-at (a .code .now) (a .g .at .0) (Emit size) (rw (at-length .length .given .1) at (at-decode .decode .ensures)) (at-if1 .if1 .left))) (rw (at-emit .emit .kept .1 .1 .1 .1 .0)) (omega arith) (at-emit .emit .ensures (a .output .now) (a .values .now) (a .frames .now))
 
-same-length-19 : tie.Need-same-length-19
-same-length-19 c = search needs
+same-length-16 : tie.Need-same-length-16
+same-length-16 c = search needs
 
-returns-9 : tie.Need-returns-9
-returns-9 c =
+returns-8 : tie.Need-returns-8
+returns-8 c =
     let at-enum-told3 = c .before .before in
     let at-decode = at-enum-told3 .before .before in
     let at-if1 = at-decode .before .before .before .before .before in
@@ -230,8 +204,8 @@ returns-9 c =
     let u = entry .pre .1 .1 in
     rw (c .leave .ensures) (advance-leaves (a .code .now) (a .allowance) (a .g) (memory (a .input .now) (a .output .now) (a .journal .now) (a .frames .now) (a .values .now)) (at-if1 .if1 .left) u (actions-at (a .code .now) (a .g .at .0) End (rw (at-enum-told3 .enum-told3 .given .1) at (at-decode .decode .ensures)) (at-if1 .if1 .left)))
 
-returns-10 : tie.Need-returns-10
-returns-10 c =
+returns-9 : tie.Need-returns-9
+returns-9 c =
     let at-decode = c .before .before in
     let at-if1 = at-decode .before .before .before .before .before in
     let entry = at-if1 .before .before .before .before .before .before .before in
@@ -256,10 +230,8 @@ advance-spec =
     begin-sequence-requires
     enum-told-2
     use-sequence-requires
-    enum-known-to
+    enum-known-what-3
     call-requires
-    enum-known-to-2
-    tail-call-requires
     enum-known-length
     emit-requires
     enum-told-3
@@ -285,11 +257,7 @@ advance-spec =
     returns-6
     same-length-14
     same-length-15
-    same-length-16
     returns-7
-    same-length-17
-    same-length-18
+    same-length-16
     returns-8
-    same-length-19
-    returns-9
-    returns-10)
+    returns-9)
