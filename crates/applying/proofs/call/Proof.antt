@@ -15,7 +15,7 @@ returns : tie.Need-returns
 returns c =
     let entry = c .before .before .before .before .before .before in
     let a = entry .args in
-    λ output journal. undeclared (a .code .now) (a .allowance) (a .what .function) (a .g) (memory (a .input .now) output journal (a .frames .now) (a .values .now)) (a .what .tail) (sym (c .before .declared .ensures) ∙ not-true _ (c .if1 .taken))
+    λ output journal. undeclared _ _ _ _ _ (a .what .tail) (sym (c .before .declared .ensures) ∙ not-true _ (c .if1 .taken))
 
 apply-requires : tie.Need-apply-requires
 apply-requires c κs =
@@ -39,9 +39,7 @@ returns-2 c =
     let at-if2 = at-apply .before .before .before in
     let at-if1 = at-if2 .before in
     let at-declared = at-if1 .before in
-    let entry = at-declared .before .before .before .before .before in
-    let a = entry .args in
-    λ output journal. rw (at-if2 .if2 .taken) (tail-applies (a .code .now) (a .allowance) (a .what .function) (a .g) (memory (a .input .now) output journal (a .frames .now) (a .values .now)) (sym (at-declared .declared .ensures) ∙ not-false _ (at-if1 .if1 .left)) _ _ (at-apply .apply .ensures output journal))
+    λ output journal. rw (at-if2 .if2 .taken) (tail-applies _ _ _ _ _ (sym (at-declared .declared .ensures) ∙ not-false _ (at-if1 .if1 .left)) _ _ (at-apply .apply .ensures output journal))
 
 framed-call-requires : tie.Need-framed-call-requires
 framed-call-requires c κs =

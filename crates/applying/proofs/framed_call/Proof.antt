@@ -11,14 +11,12 @@ use Rattle.applying.proofs.framed_call.Tie as tie
 returns : tie.Need-returns
 returns c =
     let entry = c .before .before .before .before .before .before in
-    let a = entry .args in
-    λ output journal. call-spent (a .code .now) (a .allowance) (a .number) (a .g) (memory (a .input .now) output journal (a .frames .now) (a .values .now)) (entry .pre .1 .1 .0) (c .if1 .taken)
+    λ output journal. call-spent _ _ (entry .args .number) _ _ (entry .pre .1 .1 .0) (c .if1 .taken)
 
 returns-2 : tie.Need-returns-2
 returns-2 c =
     let entry = c .before .before .before .before .before .before .before in
-    let a = entry .args in
-    λ output journal. call-full (a .code .now) (a .allowance) (a .number) (a .g) (memory (a .input .now) output journal (a .frames .now) (a .values .now)) (entry .pre .1 .1 .0) (c .before .if1 .left) (c .if2 .taken)
+    λ output journal. call-full _ _ (entry .args .number) _ _ (entry .pre .1 .1 .0) (c .before .if1 .left) (c .if2 .taken)
 
 set-word-requires : tie.Need-set-word-requires
 set-word-requires c κs = search needs

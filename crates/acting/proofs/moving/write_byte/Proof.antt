@@ -7,7 +7,7 @@ use Rattle.acting.proofs.moving.write_byte.Tie as tie
 
 returns : tie.Need-returns
 returns c = let a = c .before .args in
-    λ input journal values frames. byte-full (a .g) (memory input (a .output .now) journal frames values) (c .before .pre) (a .byte) (c .if1 .taken)
+    λ input journal values frames. byte-full _ _ (c .before .pre) (a .byte) (c .if1 .taken)
 
 slice-write-output : tie.Need-slice-write-output
 slice-write-output c = search needs
@@ -23,7 +23,7 @@ returns-2 c =
     let at-if1 = c .before .before .before in
     let entry = at-if1 .before in
     let a = entry .args in
-    λ input journal values frames. byte-written (a .g) (memory input (a .output .now) journal frames values) (entry .pre) (a .byte) (at-if1 .if1 .left)
+    λ input journal values frames. byte-written _ _ (entry .pre) (a .byte) (at-if1 .if1 .left)
 
 pub write-byte-spec : {M : Type 1} → statement M
 write-byte-spec = tie.close (tie.spec returns slice-write-output add-t5 same-length returns-2)

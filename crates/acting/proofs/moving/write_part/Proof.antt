@@ -12,8 +12,7 @@ sub-if1-2 : tie.Need-sub-if1-2
 sub-if1-2 c = search needs
 
 returns : tie.Need-returns
-returns c = let a = c .before .before .before .args in
-    λ journal values frames. part-full (a .g) (memory (a .input .now) (a .output .now) journal frames values) (c .before .before .before .pre .1 .1) (c .if1 .taken)
+returns c = λ journal values frames. part-full _ _ (c .before .before .before .pre .1 .1) (c .if1 .taken)
 
 sub-copy-over : tie.Need-sub-copy-over
 sub-copy-over c = search needs
@@ -41,9 +40,8 @@ returns-2 c =
     let at-copy-over = c .before .before .before .before .before in
     let at-if1 = at-copy-over .before .before .before in
     let entry = at-if1 .before .before .before in
-    let a = entry .args in
     let p = entry .pre in
-    λ journal values frames. rw (at-copy-over .copy-over .ensures) (part-written (a .g) (memory (a .input .now) (a .output .now) journal frames values) (p .1 .1) (p .0) (p .1 .0) (at-if1 .if1 .left))
+    λ journal values frames. rw (at-copy-over .copy-over .ensures) (part-written _ _ (p .1 .1) (p .0) (p .1 .0) (at-if1 .if1 .left))
 
 pub write-part-spec : {M : Type 1} → statement M
 write-part-spec = tie.close (tie.spec sub-if1 sub-if1-2 returns sub-copy-over part-copy-over-start part-copy-over-end copy-over-requires sub-t9 add-t8 same-length returns-2)

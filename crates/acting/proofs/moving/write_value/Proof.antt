@@ -10,7 +10,7 @@ word-requires c κs = search needs
 
 returns : tie.Need-returns
 returns c = let a = c .before .before .before .before .before .args in
-    λ input journal. value-none (a .g) (memory input (a .output .now) journal (a .frames .now) (a .values .now)) (a .index) (rw (c .before .word .ensures) at (c .if1 .taken))
+    λ input journal. value-none _ _ (a .index) (rw (c .before .word .ensures) at (c .if1 .taken))
 
 mul-write-byte : tie.Need-mul-write-byte
 mul-write-byte c = search needs
@@ -35,7 +35,7 @@ returns-2 c =
     let entry = at-word .before .before .before .before in
     let a = entry .args in
     let p = entry .pre in
-    λ input journal. value-written (a .g) (memory input (a .output .now) journal (a .frames .now) (a .values .now)) (a .index) _ _ (rw (at-word .word .ensures) at (at-if1 .if1 .left)) (p .1 .1 .1 .0) (p .1 .0) (p .1 .1 .1 .1) (at-write-byte .write-byte .ensures input journal (a .values .now) (a .frames .now))
+    λ input journal. value-written _ _ (a .index) _ _ (rw (at-word .word .ensures) at (at-if1 .if1 .left)) (p .1 .1 .1 .0) (p .1 .0) (p .1 .1 .1 .1) (at-write-byte .write-byte .ensures input journal (a .values .now) (a .frames .now))
 
 pub write-value-spec : {M : Type 1} → statement M
 write-value-spec = tie.close (tie.spec word-requires returns mul-write-byte add-write-byte shared-slice-read-write-byte write-byte-requires same-length returns-2)
