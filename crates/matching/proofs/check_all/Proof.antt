@@ -31,13 +31,23 @@ enum-told : tie.Need-enum-told Inv-loop μ-loop
 enum-told c = search needs
 
 returns-2 : tie.Need-returns-2 Inv-loop μ-loop
-returns-2 c = rw (next-test _ _ _ _ _ (c .before .before .before .before .before .loop-test .taken) (c .before .before .before .before .if1 .left), ← (c .before .before .check .ensures), c .enum-told .given .1) at (c .before .before .before .before .before .before .loop .inv)
+returns-2 c =
+    let at-check = c .before .before in
+    let at-if1 = at-check .before .before in
+    let at-loop-test = at-if1 .before in
+    let at-loop = at-loop-test .before in
+    rw (next-test _ _ _ _ _ (at-loop-test .loop-test .taken) (at-if1 .if1 .left), ← (at-check .check .ensures), c .enum-told .given .1) at (at-loop .loop .inv)
 
 enum-told-2 : tie.Need-enum-told-2 Inv-loop μ-loop
 enum-told-2 c = search needs
 
 returns-3 : tie.Need-returns-3 Inv-loop μ-loop
-returns-3 c = rw (next-test _ _ _ _ _ (c .before .before .before .before .before .loop-test .taken) (c .before .before .before .before .if1 .left), ← (c .before .before .check .ensures), c .enum-told2 .given .1) at (c .before .before .before .before .before .before .loop .inv)
+returns-3 c =
+    let at-check = c .before .before in
+    let at-if1 = at-check .before .before in
+    let at-loop-test = at-if1 .before in
+    let at-loop = at-loop-test .before in
+    rw (next-test _ _ _ _ _ (at-loop-test .loop-test .taken) (at-if1 .if1 .left), ← (at-check .check .ensures), c .enum-told2 .given .1) at (at-loop .loop .inv)
 
 enum-told-3 : tie.Need-enum-told-3 Inv-loop μ-loop
 enum-told-3 c = search needs
@@ -52,7 +62,12 @@ loop-less : tie.Need-loop-less Inv-loop μ-loop
 loop-less c = omega arith
 
 loop-again : tie.Need-loop-again Inv-loop μ-loop
-loop-again c = rw (next-test _ _ _ _ _ (c .before .before .before .before .before .loop-test .taken) (c .before .before .before .before .if1 .left), ← (c .before .before .check .ensures), c .enum-told3 .given .1) at (c .before .before .before .before .before .before .loop .inv)
+loop-again c =
+    let at-check = c .before .before in
+    let at-if1 = at-check .before .before in
+    let at-loop-test = at-if1 .before in
+    let at-loop = at-loop-test .before in
+    rw (next-test _ _ _ _ _ (at-loop-test .loop-test .taken) (at-if1 .if1 .left), ← (at-check .check .ensures), c .enum-told3 .given .1) at (at-loop .loop .inv)
 
 returns-4 : tie.Need-returns-4 Inv-loop μ-loop
 returns-4 c = rw (no-tests _ _ _ _ _ (c .loop-test .left)) at (c .before .loop .inv)

@@ -31,7 +31,10 @@ sub-if2 : tie.Need-sub-if2 Inv-loop μ-loop
 sub-if2 c = omega arith
 
 returns-2 : tie.Need-returns-2 Inv-loop μ-loop
-returns-2 c = record { same = rw (choosing-cut _ _ _ _ (c .before .before .before .loop-test .taken) (c .if2 .taken) (c .before .if1 .left)) at (c .before .before .before .before .loop .inv .0); few = tt }
+returns-2 c =
+    let at-loop-test = c .before .before .before in
+    let at-loop = at-loop-test .before in
+    record { same = rw (choosing-cut _ _ _ _ (at-loop-test .loop-test .taken) (c .if2 .taken) (c .before .if1 .left)) at (at-loop .loop .inv .0); few = tt }
 
 add-counts : tie.Need-add-counts Inv-loop μ-loop
 add-counts c = omega arith
@@ -43,16 +46,21 @@ shared-slice-read-counts : tie.Need-shared-slice-read-counts Inv-loop μ-loop
 shared-slice-read-counts c = omega arith
 
 try-sentence-requires : tie.Need-try-sentence-requires Inv-loop μ-loop
-try-sentence-requires c κs = (c .before .before .before .before .before .before .before .before .pre, c .before .before .before .before .loop-test .taken)
+try-sentence-requires c κs =
+    let at-loop-test = c .before .before .before .before in
+    let entry = at-loop-test .before .before .before .before in
+    (entry .pre, at-loop-test .loop-test .taken)
 
 enum-told : tie.Need-enum-told Inv-loop μ-loop
 enum-told c = search needs
 
 returns-3 : tie.Need-returns-3 Inv-loop μ-loop
-returns-3 c = record {
-  same = rw (choosing-next _ _ _ _ (c .before .before .before .before .if2 .left) (c .before .before .before .before .before .if1 .left), ← (c .before .before .try-sentence .ensures), c .enum-told .given .1) at (c .before .before .before .before .before .before .before .before .loop .inv .0);
-  few = tt;
-}
+returns-3 c =
+    let at-try-sentence = c .before .before in
+    let at-if2 = at-try-sentence .before .before in
+    let at-if1 = at-if2 .before in
+    let at-loop = at-if1 .before .before .before in
+    record { same = rw (choosing-next _ _ _ _ (at-if2 .if2 .left) (at-if1 .if1 .left), ← (at-try-sentence .try-sentence .ensures), c .enum-told .given .1) at (at-loop .loop .inv .0); few = tt }
 
 enum-known-place : tie.Need-enum-known-place Inv-loop μ-loop
 enum-known-place c = search needs
@@ -70,14 +78,16 @@ wide-requires-2 : tie.Need-wide-requires-2 Inv-loop μ-loop
 wide-requires-2 c κs = search needs
 
 returns-4 : tie.Need-returns-4 Inv-loop μ-loop
-returns-4 c = let words = c .before .before .before .before .before .before .before .before .before .before .before .before .before .before .args .code .now in
-    let field = c .before .before .before .before .before .before .before .before .before .before .before .before .before .before .args .field .now in
-    record {
-      same =
-          rw (choosing-next _ _ _ _ (c .before .before .before .before .before .before .before .if2 .left) (c .before .before .before .before .before .before .before .before .if1 .left), ← (c .before .before .before .before .before .try-sentence .ensures), c .before .before .before .place .given .1, ← (c .before .wide .ensures), ← (c .wide2 .ensures))
-          at (c .before .before .before .before .before .before .before .before .before .before .before .loop .inv .0);
-      few = rw (c .wide2 .ensures) (tried-few _ (drop (c .before .before .before .before .before .before .before .before .before .before .before .loop .at + 2) words) field (metricIn (getD words (c .before .before .before .before .before .before .before .before .before .before .before .loop .at) 0)) _ (rw (c .before .before .before .place .given .1) at (c .before .before .before .before .before .try-sentence .ensures)));
-    }
+returns-4 c =
+    let at-place = c .before .before .before in
+    let at-try-sentence = at-place .before .before in
+    let at-if2 = at-try-sentence .before .before in
+    let at-if1 = at-if2 .before in
+    let at-loop = at-if1 .before .before .before in
+    let entry = at-loop .before .before .before in
+    let words = entry .args .code .now in
+    let field = entry .args .field .now in
+    record { same = rw (choosing-next _ _ _ _ (at-if2 .if2 .left) (at-if1 .if1 .left), ← (at-try-sentence .try-sentence .ensures), at-place .place .given .1, ← (c .before .wide .ensures), ← (c .wide2 .ensures)) at (at-loop .loop .inv .0); few = rw (c .wide2 .ensures) (tried-few _ (drop (at-loop .loop .at + 2) words) field (metricIn (getD words (at-loop .loop .at) 0)) _ (rw (at-place .place .given .1) at (at-try-sentence .try-sentence .ensures))) }
 
 enum-told-2 : tie.Need-enum-told-2 Inv-loop μ-loop
 enum-told-2 c = search needs
@@ -86,10 +96,16 @@ wide-requires-3 : tie.Need-wide-requires-3 Inv-loop μ-loop
 wide-requires-3 c κs = search needs
 
 add-at : tie.Need-add-at Inv-loop μ-loop
-add-at c = omega (arith, c .before .before .before .before .shared-slice-known4 .given (c .before .before .before .before .before .before .before .before .before .loop .at + 1))
+add-at c =
+    let at-shared-slice-known4 = c .before .before .before .before in
+    let at-loop = at-shared-slice-known4 .before .before .before .before .before in
+    omega (arith, at-shared-slice-known4 .shared-slice-known4 .given (at-loop .loop .at + 1))
 
 add-at-2 : tie.Need-add-at-2 Inv-loop μ-loop
-add-at-2 c = omega (arith, c .before .before .before .before .shared-slice-known4 .given (c .before .before .before .before .before .before .before .before .before .loop .at + 1))
+add-at-2 c =
+    let at-shared-slice-known4 = c .before .before .before .before in
+    let at-loop = at-shared-slice-known4 .before .before .before .before .before in
+    omega (arith, at-shared-slice-known4 .shared-slice-known4 .given (at-loop .loop .at + 1))
 
 add-number : tie.Need-add-number Inv-loop μ-loop
 add-number c = omega arith
@@ -98,7 +114,12 @@ loop-less : tie.Need-loop-less Inv-loop μ-loop
 loop-less c = omega arith
 
 loop-again : tie.Need-loop-again Inv-loop μ-loop
-loop-again c = (rw (choosing-next _ _ _ _ (c .before .before .before .before .before .if2 .left) (c .before .before .before .before .before .before .if1 .left), ← (c .before .before .before .try-sentence .ensures), c .before .enum-told2 .given .1, ← (c .wide3 .ensures)) at (c .before .before .before .before .before .before .before .before .before .loop .inv .0), omega arith)
+loop-again c =
+    let at-try-sentence = c .before .before .before in
+    let at-if2 = at-try-sentence .before .before in
+    let at-if1 = at-if2 .before in
+    let at-loop = at-if1 .before .before .before in
+    (rw (choosing-next _ _ _ _ (at-if2 .if2 .left) (at-if1 .if1 .left), ← (at-try-sentence .try-sentence .ensures), c .before .enum-told2 .given .1, ← (c .wide3 .ensures)) at (at-loop .loop .inv .0), omega arith)
 
 returns-5 : tie.Need-returns-5 Inv-loop μ-loop
 returns-5 c = record { same = rw (choosing-past _ _ _ _ (c .loop-test .left)) at (c .before .loop .inv .0); few = tt }

@@ -31,26 +31,26 @@ enum-told-2 : tie.Need-enum-told-2
 enum-told-2 c = search needs
 
 returns-2 : tie.Need-returns-2
-returns-2 c = let a = c .before .before .before .before .before .before .before .before .args in
-    rw (
-      compare-asks (siteOf (firstIn (a .word) % 4) (secondIn (a .word))) (siteOf (firstIn (a .word) / 4) (thirdIn (a .word))) _ _ _
-          (rw (c .before .before .before .before .b .given .1) at (c .before .before .before .before .before .before .cell-at .ensures)),
-      ← (c .before .before .cell-at2 .ensures),
-      c .enum-told2 .given .1,
-    )
+returns-2 c =
+    let at-cell-at2 = c .before .before in
+    let at-b = at-cell-at2 .before .before in
+    let at-cell-at = at-b .before .before in
+    let entry = at-cell-at .before .before in
+    let a = entry .args in
+    rw (compare-asks (siteOf (firstIn (a .word) % 4) (secondIn (a .word))) (siteOf (firstIn (a .word) / 4) (thirdIn (a .word))) _ _ _ (rw (at-b .b .given .1) at (at-cell-at .cell-at .ensures)), ← (at-cell-at2 .cell-at2 .ensures), c .enum-told2 .given .1)
 
 told-requires : tie.Need-told-requires
 told-requires c κs = search needs
 
 returns-3 : tie.Need-returns-3
-returns-3 c = let a = c .before .before .before .before .before .before .before .before .before .before .args in
-    rw (
-      compare-asks (siteOf (firstIn (a .word) % 4) (secondIn (a .word))) (siteOf (firstIn (a .word) / 4) (thirdIn (a .word))) _ _ _
-          (rw (c .before .before .before .before .before .before .b .given .1) at (c .before .before .before .before .before .before .before .before .cell-at .ensures)),
-      ← (c .before .before .before .before .cell-at2 .ensures),
-      c .before .before .a .given .1,
-    )
-    (c .told .ensures)
+returns-3 c =
+    let at-a = c .before .before in
+    let at-cell-at2 = at-a .before .before in
+    let at-b = at-cell-at2 .before .before in
+    let at-cell-at = at-b .before .before in
+    let entry = at-cell-at .before .before in
+    let a = entry .args in
+    rw (compare-asks (siteOf (firstIn (a .word) % 4) (secondIn (a .word))) (siteOf (firstIn (a .word) / 4) (thirdIn (a .word))) _ _ _ (rw (at-b .b .given .1) at (at-cell-at .cell-at .ensures)), ← (at-cell-at2 .cell-at2 .ensures), at-a .a .given .1) (c .told .ensures)
 
 pub compare-spec : {M : Type 1} → statement M
 compare-spec = tie.close (tie.spec cell-at-requires enum-known-b enum-told returns cell-at-requires-2 enum-known-a enum-told-2 returns-2 told-requires returns-3)

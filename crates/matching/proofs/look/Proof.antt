@@ -26,9 +26,12 @@ told-requires : tie.Need-told-requires
 told-requires c κs = search needs
 
 returns-2 : tie.Need-returns-2
-returns-2 c = let a = c .before .before .before .before .before .before .args in
-    c .told .ensures ∙
-    sym (look-asks (siteOf (firstIn (a .word)) (secondIn (a .word))) _ _ _ _ (rw (c .before .before .b .given .1) at (c .before .before .before .before .cell-at .ensures)))
+returns-2 c =
+    let at-b = c .before .before in
+    let at-cell-at = at-b .before .before in
+    let entry = at-cell-at .before .before in
+    let a = entry .args in
+    c .told .ensures ∙ sym (look-asks (siteOf (firstIn (a .word)) (secondIn (a .word))) _ _ _ _ (rw (at-b .b .given .1) at (at-cell-at .cell-at .ensures)))
 
 pub look-spec : {M : Type 1} → statement M
 look-spec = tie.close (tie.spec cell-at-requires enum-known-b enum-told returns cast-told told-requires returns-2)

@@ -36,10 +36,17 @@ returns : tie.Need-returns
 returns c = rw (c .before .match .keys1, c .one-if .ensures, c .before .before .before .before .wide .ensures)
 
 returns-2 : tie.Need-returns-2
-returns-2 c = rw (c .before .match .keys2, c .one-if2 .ensures, c .before .before .before .before .wide .ensures, c .before .before .before .wide2 .ensures)
+returns-2 c =
+    let at-wide2 = c .before .before .before in
+    let at-wide = at-wide2 .before in
+    rw (c .before .match .keys2, c .one-if2 .ensures, at-wide .wide .ensures, at-wide2 .wide2 .ensures)
 
 returns-3 : tie.Need-returns-3
-returns-3 c = rw (c .before .match .keys3, c .places-for .ensures, c .before .before .before .before .wide .ensures, c .before .before .before .wide2 .ensures, c .before .before .wide3 .ensures)
+returns-3 c =
+    let at-wide3 = c .before .before in
+    let at-wide2 = at-wide3 .before in
+    let at-wide = at-wide2 .before in
+    rw (c .before .match .keys3, c .places-for .ensures, at-wide .wide .ensures, at-wide2 .wide2 .ensures, at-wide3 .wide3 .ensures)
 
 returns-4 : tie.Need-returns-4
 returns-4 c = let r = c .match .rest in rw (metric-unknown _ (r .0 .0 .1) (r .0 .1) (r .1))

@@ -23,9 +23,12 @@ enum-told : tie.Need-enum-told
 enum-told c = search needs
 
 returns-2 : tie.Need-returns-2
-returns-2 c = let a = c .before .before .before .before .before .args in
-    sym (predicate-none (siteOf (firstIn (a .word) % 4) (secondIn (a .word))) (thirdIn (a .word)) _ _ _ (c .before .before .before .if1 .left)
-    (rw (c .enum-told .given .1) at (c .before .before .cell-at .ensures)))
+returns-2 c =
+    let at-cell-at = c .before .before in
+    let at-if1 = at-cell-at .before in
+    let entry = at-if1 .before .before in
+    let a = entry .args in
+    sym (predicate-none (siteOf (firstIn (a .word) % 4) (secondIn (a .word))) (thirdIn (a .word)) _ _ _ (at-if1 .if1 .left) (rw (c .enum-told .given .1) at (at-cell-at .cell-at .ensures)))
 
 cast-entry : tie.Need-cast-entry
 cast-entry c = search needs
@@ -46,26 +49,24 @@ told-requires-2 : tie.Need-told-requires-2
 told-requires-2 c κs = search needs
 
 returns-3 : tie.Need-returns-3
-returns-3 c = let a = c .before .before .before .before .before .before .before .before .before .before .args in
-    rw (
-      eq-eqb _ 1 (c .before .if2 .taken),
-      predicate-told (siteOf (firstIn (a .word) % 4) (secondIn (a .word))) (thirdIn (a .word)) true _ _ _ (c .before .before .before .before .before .before .before .before .if1 .left)
-          (rw (c .before .before .before .before .before .b .given .1) at (c .before .before .before .before .before .before .before .cell-at .ensures)),
-      ← (c .before .before .before .before .before .before .before .before .before .before .pre .each (thirdIn (a .word)) (c .before .before .before .before .before .b .given .0 .0) (search needs)),
-      ← (c .before .before .bit .ensures),
-    )
-    (c .told .ensures)
+returns-3 c =
+    let at-bit = c .before .before in
+    let at-b = at-bit .before .before .before in
+    let at-cell-at = at-b .before .before in
+    let at-if1 = at-cell-at .before in
+    let entry = at-if1 .before .before in
+    let a = entry .args in
+    rw (eq-eqb _ 1 (c .before .if2 .taken), predicate-told (siteOf (firstIn (a .word) % 4) (secondIn (a .word))) (thirdIn (a .word)) true _ _ _ (at-if1 .if1 .left) (rw (at-b .b .given .1) at (at-cell-at .cell-at .ensures)), ← (entry .pre .each (thirdIn (a .word)) (at-b .b .given .0 .0) (search needs)), ← (at-bit .bit .ensures)) (c .told .ensures)
 
 returns-4 : tie.Need-returns-4
-returns-4 c = let a = c .before .before .before .before .before .before .before .before .before .before .args in
-    rw (
-      ne-eqb _ 1 (c .before .if2 .left),
-      predicate-told (siteOf (firstIn (a .word) % 4) (secondIn (a .word))) (thirdIn (a .word)) false _ _ _ (c .before .before .before .before .before .before .before .before .if1 .left)
-          (rw (c .before .before .before .before .before .b .given .1) at (c .before .before .before .before .before .before .before .cell-at .ensures)),
-      ← (c .before .before .before .before .before .before .before .before .before .before .pre .each (thirdIn (a .word)) (c .before .before .before .before .before .b .given .0 .0) (search needs)),
-      ← (c .before .before .bit .ensures),
-    )
-    (c .told2 .ensures)
+returns-4 c =
+    let at-bit = c .before .before in
+    let at-b = at-bit .before .before .before in
+    let at-cell-at = at-b .before .before in
+    let at-if1 = at-cell-at .before in
+    let entry = at-if1 .before .before in
+    let a = entry .args in
+    rw (ne-eqb _ 1 (c .before .if2 .left), predicate-told (siteOf (firstIn (a .word) % 4) (secondIn (a .word))) (thirdIn (a .word)) false _ _ _ (at-if1 .if1 .left) (rw (at-b .b .given .1) at (at-cell-at .cell-at .ensures)), ← (entry .pre .each (thirdIn (a .word)) (at-b .b .given .0 .0) (search needs)), ← (at-bit .bit .ensures)) (c .told2 .ensures)
 
 pub predicate-spec : {M : Type 1} → statement M
 predicate-spec = tie.close (tie.spec returns cell-at-requires enum-known-b enum-told returns-2 cast-entry element-copy-out-entry cast-bit bit-requires told-requires told-requires-2 returns-3 returns-4)

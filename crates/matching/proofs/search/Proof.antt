@@ -28,13 +28,21 @@ enum-told : tie.Need-enum-told Inv-loop μ-loop
 enum-told c = search needs
 
 returns : tie.Need-returns Inv-loop μ-loop
-returns c = rw (next-place _ _ _ (c .before .before .before .loop-test .taken), ← (c .before .before .check-all .ensures), c .enum-told .given .1) at (c .before .before .before .before .loop .inv .0)
+returns c =
+    let at-check-all = c .before .before in
+    let at-loop-test = at-check-all .before in
+    let at-loop = at-loop-test .before in
+    rw (next-place _ _ _ (at-loop-test .loop-test .taken), ← (at-check-all .check-all .ensures), c .enum-told .given .1) at (at-loop .loop .inv .0)
 
 enum-told-2 : tie.Need-enum-told-2 Inv-loop μ-loop
 enum-told-2 c = search needs
 
 returns-2 : tie.Need-returns-2 Inv-loop μ-loop
-returns-2 c = rw (next-place _ _ _ (c .before .before .before .loop-test .taken), ← (c .before .before .check-all .ensures), c .enum-told2 .given .1) at (c .before .before .before .before .loop .inv .0)
+returns-2 c =
+    let at-check-all = c .before .before in
+    let at-loop-test = at-check-all .before in
+    let at-loop = at-loop-test .before in
+    rw (next-place _ _ _ (at-loop-test .loop-test .taken), ← (at-check-all .check-all .ensures), c .enum-told2 .given .1) at (at-loop .loop .inv .0)
 
 enum-told-3 : tie.Need-enum-told-3 Inv-loop μ-loop
 enum-told-3 c = search needs
@@ -49,7 +57,11 @@ loop-less : tie.Need-loop-less Inv-loop μ-loop
 loop-less c = omega arith
 
 loop-again : tie.Need-loop-again Inv-loop μ-loop
-loop-again c = (rw (next-place _ _ _ (c .before .before .before .loop-test .taken), ← (c .before .before .check-all .ensures), c .enum-told3 .given .1) at (c .before .before .before .before .loop .inv .0), omega arith)
+loop-again c =
+    let at-check-all = c .before .before in
+    let at-loop-test = at-check-all .before in
+    let at-loop = at-loop-test .before in
+    (rw (next-place _ _ _ (at-loop-test .loop-test .taken), ← (at-check-all .check-all .ensures), c .enum-told3 .given .1) at (at-loop .loop .inv .0), omega arith)
 
 returns-3 : tie.Need-returns-3 Inv-loop μ-loop
 returns-3 c = rw (no-places _ _ _ (c .loop-test .left)) at (c .before .loop .inv .0)

@@ -17,8 +17,11 @@ enum-told : tie.Need-enum-told
 enum-told c = search needs
 
 returns : tie.Need-returns
-returns c = let a = c .before .before .before .before .before .args in
-    sym (tried-unknown (a .counts) _ _ (metricIn (a .word)) _ (rw (c .enum-told .given .1) at (c .before .before .places-of .ensures)))
+returns c =
+    let at-places-of = c .before .before in
+    let entry = at-places-of .before .before .before in
+    let a = entry .args in
+    sym (tried-unknown (a .counts) _ _ (metricIn (a .word)) _ (rw (c .enum-told .given .1) at (at-places-of .places-of .ensures)))
 
 returns-2 : tie.Need-returns-2
 returns-2 c = let a = c .before .before .before .before .before .before .before .args in
@@ -31,12 +34,20 @@ wide-requires : tie.Need-wide-requires
 wide-requires c κs = search needs
 
 search-requires : tie.Need-search-requires
-search-requires c κs = (c .before .before .before .before .before .before .before .before .before .pre .0, places-few (c .before .before .before .before .before .before .before .before .before .args .word) _ _ _ (rw (c .before .before .before .before .first .given .1) at (c .before .before .before .before .before .before .places-of .ensures)))
+search-requires c κs =
+    let at-first = c .before .before .before .before in
+    let at-places-of = at-first .before .before in
+    let entry = at-places-of .before .before .before in
+    (entry .pre .0, places-few (entry .args .word) _ _ _ (rw (at-first .first .given .1) at (at-places-of .places-of .ensures)))
 
 returns-3 : tie.Need-returns-3
-returns-3 c = let a = c .before .before .before .before .before .before .before .before .before .before .args in
-    rw (tried-places (a .counts) _ _ (metricIn (a .word)) _ _ (rw (c .before .before .before .before .before .first .given .1) at (c .before .before .before .before .before .before .before .places-of .ensures)) (c .before .before .before .if1 .left), ← (c .before .wide .ensures))
-    (c .search .ensures)
+returns-3 c =
+    let at-if1 = c .before .before .before in
+    let at-first = at-if1 .before .before in
+    let at-places-of = at-first .before .before in
+    let entry = at-places-of .before .before .before in
+    let a = entry .args in
+    rw (tried-places (a .counts) _ _ (metricIn (a .word)) _ _ (rw (at-first .first .given .1) at (at-places-of .places-of .ensures)) (at-if1 .if1 .left), ← (c .before .wide .ensures)) (c .search .ensures)
 
 pub try-sentence-spec : {M : Type 1} → statement M
 try-sentence-spec = tie.close (tie.spec places-of-requires enum-known-first enum-told returns returns-2 add-search wide-requires search-requires returns-3)
