@@ -9,11 +9,6 @@ ghost use Rattle.acting.specs.States.{memory};
 ghost use Rattle.applying.specs.Waiting.{countIn, soundIn, functionsIn};
 ghost use Rattle.applying.specs.Advancing.{Keeps, Follows};
 ghost use Rattle.running.specs.Leaving.{cells, Leaves, refusedWith, reportedOf, clearedFrom, loadedWith};
-use crate::stepping::is_onward;
-use crate::stepping::next_of;
-use crate::stepping::registers_of;
-use crate::stepping::status_of;
-use crate::stepping::step;
 use acting::copying::copy_over;
 use acting::registers::Ending;
 use acting::registers::InCell;
@@ -24,6 +19,11 @@ use acting::registers::Registers;
 use applying::apply;
 use matching::CodePlace;
 use matching::wide;
+use stepping::is_onward;
+use stepping::next_of;
+use stepping::registers_of;
+use stepping::status_of;
+use stepping::step;
 
 pub fn refused(ending: Ending) -> Ran
     ensures { λ r. ⌜ r ≡ refusedWith ending ⌝ }

@@ -3,7 +3,6 @@ ghost use Rattle.meaning.specs.Leaving.{leaving};
 ghost use Rattle.running.specs.Leaving.{cells, Leaves};
 
 mod following;
-mod stepping;
 
 use crate::following::refused;
 use crate::following::run_lent;

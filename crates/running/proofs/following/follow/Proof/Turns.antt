@@ -17,10 +17,10 @@ use Rattle.acting.specs.States.{Memory, memory, roomOf}
 use Rattle.applying.specs.Waiting.{comesTo, leftToDo}
 use Rattle.applying.specs.Advancing.{Underway, Keeps, registersIn, statusIn, nextOf, onward, Leads, Advances, Follows}
 use Rattle.applying.proofs.laws.Advancing.{leads-start, leads-on}
-use Rattle.running.proofs.laws.Statuses.{rejoined, goes-onward, is-over}
+use Rattle.stepping.proofs.laws.Statuses.{rejoined, goes-onward, is-over}
 use Rattle.acting.proofs.registers.Registers as R
 use Rattle.acting.proofs.registers.Status as S
-use Rattle.running.proofs.walks.Callees.{registers-vals, spelled-out}
+use Rattle.stepping.proofs.walks.Callees.{registers-vals, spelled-out}
 
 -- what `step` leaves: the registers and the lists
 abbrev pub Changed : Type 0

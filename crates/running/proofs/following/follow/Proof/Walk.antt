@@ -51,17 +51,17 @@ use Rattle.acting.proofs.registers.Next as N
 use Rattle.acting.proofs.registers.Next.Laws as N′
 use Rattle.acting.proofs.registers.Status as S
 use Rattle.acting.proofs.registers.Status.Laws as S′
-use Rattle.running.proofs.stepping.registers_of.Symbol.{name as #running·stepping·registers-of}
-use Rattle.running.proofs.stepping.status_of.Symbol.{name as #running·stepping·status-of}
-use Rattle.running.proofs.stepping.is_onward.Symbol.{name as #running·stepping·is-onward}
-use Rattle.running.proofs.stepping.step as step
-use Rattle.running.proofs.stepping.step.Symbol.{name as #running·stepping·step}
-use Rattle.running.proofs.stepping.next_of.Symbol.{name as #running·stepping·next-of}
+use Rattle.stepping.proofs.registers_of.Symbol.{name as #stepping·registers-of}
+use Rattle.stepping.proofs.status_of.Symbol.{name as #stepping·status-of}
+use Rattle.stepping.proofs.is_onward.Symbol.{name as #stepping·is-onward}
+use Rattle.stepping.proofs.step as step
+use Rattle.stepping.proofs.step.Symbol.{name as #stepping·step}
+use Rattle.stepping.proofs.next_of.Symbol.{name as #stepping·next-of}
 use Rattle.running.proofs.following.follow as follow
 use Rattle.running.proofs.following.follow.Code as code
 use Rattle.running.proofs.following.follow.Code.Mir as body
 use Rattle.running.proofs.following.follow.Proof.Turns.{Turn, Changed, Told, Less, less-founded, memory-in, at-start, may-step, next-turn, falls, followed}
-use Rattle.running.proofs.walks.Callees.{registers-val, registers-vals, spelled-out, RegistersOf, StatusOf, IsOnward, Step, NextOf, registers-said, status-said, onward-said, next-said, to-parts, to-onward, to-next, goes-parts, asks-onward, goes-next, lends-registers, registers-come-back}
+use Rattle.stepping.proofs.walks.Callees.{registers-val, registers-vals, spelled-out, RegistersOf, StatusOf, IsOnward, Step, NextOf, registers-said, status-said, onward-said, next-said, to-parts, to-onward, to-next, goes-parts, asks-onward, goes-next, lends-registers, registers-come-back}
 
 abbrev pub stayed : Stays (follow.ended .signature .params) (follow.ended .kept)
 stayed = (stay-dropped _ _, (stay-dropped _ _, (stay-dropped _ _, (stay-dropped _ _, (stay-slice (2 ∷ []) tt (plain (λ _. u8)), (stay-slice (3 ∷ []) tt (plain (λ _. u8)), (stay-slice (4 ∷ []) tt (plain (λ _. u8)), (stay-slice (5 ∷ []) tt (plain (λ _. usize)), (stay-slice (6 ∷ []) tt (plain (λ _. u8)), tt)))))))))
@@ -114,7 +114,7 @@ module _ {M : Type 1} (𝓤 : URA M) (H : Heap 𝓤) (A : Atoms 𝓤) (W : Given
       nothing ! $ fjoin ! $ nothing ! $ fjoin ! $ nothing ! $ fjoin ! $ nothing ! $ fjoin ! $ done !
 
   module _ (are : Are (typesAt (follow.signature .params) κs) (Ises (typesAt (follow.signature .params) κs)) a vss) (req₁ : Answers (now bits)) (req₂ : countIn (now words) < length (now words))
-      (𝓣 : Tables 𝓤 H) (fm : FmC 𝓤 H (W .laws) (𝓣 .C)) (known-onward : Triple 𝓤 (𝓣 .C #running·stepping·is-onward) (IsOnward 𝓤 H A at-mem run)) (known-step : Triple 𝓤 (𝓣 .C #running·stepping·step) (Step 𝓤 H A at-mem run)) (known-next : Triple 𝓤 (𝓣 .C #running·stepping·next-of) (NextOf 𝓤 H A at-mem run)) where
+      (𝓣 : Tables 𝓤 H) (fm : FmC 𝓤 H (W .laws) (𝓣 .C)) (known-onward : Triple 𝓤 (𝓣 .C #stepping·is-onward) (IsOnward 𝓤 H A at-mem run)) (known-step : Triple 𝓤 (𝓣 .C #stepping·step) (Step 𝓤 H A at-mem run)) (known-next : Triple 𝓤 (𝓣 .C #stepping·next-of) (NextOf 𝓤 H A at-mem run)) where
     fits-input : (t : State) → Room u8 (length (t .input))
     fits-input t = subst (Room u8) (sym (t .same-input)) (are .1 .1 .1 .1 .0 .0 .1)
 
@@ -178,7 +178,7 @@ module _ {M : Type 1} (𝓤 : URA M) (H : Heap 𝓤) (A : Atoms 𝓤) (W : Given
 
       -- `is_onward` is asked
       asked : (t : State) (y : Bool) → onward (t .how) ≡ y → {rest : Code} {q : After 𝓤 H} → Seq (Go {0}) W (laid En (vacant ∷ (passed t ++ vacant ∷ holds (vbool y) ∷ [])) ++ Kept t) (runs (𝓣 .C) (𝓣 .Λ) En rest q)
-          → Seq (Go {0}) W (At t) (runs (𝓣 .C) (𝓣 .Λ) En (seq (call #running·stepping·is-onward (copy (place 11 []) ∷ []) (place 13 [])) rest) q)
+          → Seq (Go {0}) W (At t) (runs (𝓣 .C) (𝓣 .Λ) En (seq (call #stepping·is-onward (copy (place 11 []) ∷ []) (place 13 [])) rest) q)
       asked t y said k =
           owned ! S.the-row (Is S.the-row) (EL.makes S.the-type S′.the-plain 𝓤 H A) (t .how) (t .value ∷ []) (t .typed) $ use1 W (raw (IsOnward 𝓤 H A at-mem run .pre (to-onward 𝓤 H A at-mem run (t .how) (t .value)))) (asks-onward 𝓤 H A at-mem run W (t .how) (t .value)) $
           calls-at ! fm (IsOnward 𝓤 H A at-mem run) known-onward (to-onward 𝓤 H A at-mem run (t .how) (t .value)) (and-then ! (load ! (from ! (stop !)) (look ! 23 refl)) (no-more !)) (λ w.
@@ -257,7 +257,7 @@ module _ {M : Type 1} (𝓤 : URA M) (H : Heap 𝓤) (A : Atoms 𝓤) (W : Given
       turns : (t : State) → Goes t
       turns t = either t (onward (t .how)) refl
 
-    pub walk : Keeps allowance first (memory (now input) (now output) (now journal) (now frames) (now values)) → Triple 𝓤 (𝓣 .C #running·stepping·registers-of) (RegistersOf 𝓤 H A at-mem run) → Triple 𝓤 (𝓣 .C #running·stepping·status-of) (StatusOf 𝓤 H A at-mem run)
+    pub walk : Keeps allowance first (memory (now input) (now output) (now journal) (now frames) (now values)) → Triple 𝓤 (𝓣 .C #stepping·registers-of) (RegistersOf 𝓤 H A at-mem run) → Triple 𝓤 (𝓣 .C #stepping·status-of) (StatusOf 𝓤 H A at-mem run)
         → ent 𝓤 (onEntry 𝓤 H A follow.signature κs qs a vss) (WpFn 𝓤 H (𝓣 .C) (𝓣 .Λ) code.function (EL.val N.the-type N′.the-laws first ∷ vptr (ptr bits .0) (ptr bits .1) ∷ sliceVal (ptr words) (length (now words)) ∷ vint w32 allowance ∷ sliceVal (ptr input) (length (now input)) ∷ sliceVal (ptr output) (length (now output)) ∷ sliceVal (ptr journal) (length (now journal)) ∷ sliceVal (ptr frames) (length (now frames)) ∷ sliceVal (ptr values) (length (now values)) ∷ []) Post)
     walk req₃ known-registers known-status =
         qed W ((‵ (flft (κs .0) (qs .0)) ⊛ ‵ (flft (κs .1 .0) (qs .1 .0)) ⊛ ‵ (flft (κs .1 .1 .0) (qs .1 .1 .0)) ⊛ ‵ (flft (κs .1 .1 .1 .0) (qs .1 .1 .1 .0)) ⊛ ‵ (flft (κs .1 .1 .1 .1 .0) (qs .1 .1 .1 .1 .0)) ⊛ ‵ (flft (κs .1 .1 .1 .1 .1 .0) (qs .1 .1 .1 .1 .1 .0)) ⊛ ‵ (flft (κs .1 .1 .1 .1 .1 .1 .0) (qs .1 .1 .1 .1 .1 .1 .0)) ⊛ ‵ ftrue) ∷ ‵ Owned ∷ []) ∵ enter ! (𝓣 .C) (𝓣 .Λ) code.function _ _ $

@@ -50,8 +50,8 @@ use Rattle.acting.specs.declared.registers.Status.{Status}
 use Rattle.acting.specs.States.{Memory as Memories, memory, roomOf}
 use Rattle.applying.specs.Waiting.{comesTo, leftToDo}
 use Rattle.applying.specs.Advancing.{registersIn, statusIn, nextOf, Advances}
-use Rattle.running.proofs.laws.Statuses.{rejoined}
-use Rattle.running.proofs.walks.Callees.{registers-vals, RegistersOf, StatusOf, registers-said, status-said, to-parts, goes-parts}
+use Rattle.stepping.proofs.laws.Statuses.{rejoined}
+use Rattle.stepping.proofs.walks.Callees.{registers-vals, RegistersOf, StatusOf, registers-said, status-said, to-parts, goes-parts}
 use Rattle.walking.proofs.Answering.{answers}
 use Rattle.walking.proofs.Locals.{placed, holds, lays-out, frees-laid}
 use Rattle.walking.proofs.Handing.{all-handed, after-first, all-fit, all-go}
@@ -61,20 +61,20 @@ use Rattle.acting.proofs.registers.Next as N
 use Rattle.acting.proofs.registers.Next.Laws as N′
 use Rattle.acting.proofs.registers.Status as S
 use Rattle.acting.proofs.registers.Status.Laws as S′
-use Rattle.running.proofs.stepping.advance as advance
-use Rattle.running.proofs.stepping.advance.Symbol as advance-def
-use Rattle.running.proofs.stepping.advance.Symbol.{name as #running·stepping·advance}
-use Rattle.running.proofs.stepping.advance.Met as advance-thm
-use Rattle.running.proofs.stepping.registers_of.Symbol as registers-of-def
-use Rattle.running.proofs.stepping.registers_of.Symbol.{name as #running·stepping·registers-of}
-use Rattle.running.proofs.stepping.registers_of.Met as registers-of-thm
-use Rattle.running.proofs.stepping.status_of.Symbol as status-of-def
-use Rattle.running.proofs.stepping.status_of.Symbol.{name as #running·stepping·status-of}
-use Rattle.running.proofs.stepping.status_of.Met as status-of-thm
-use Rattle.running.proofs.stepping.step.Key.{name as #running·stepping·step}
-use Rattle.running.proofs.stepping.step as step
-use Rattle.running.proofs.stepping.step.Statement as stated
-use Rattle.running.proofs.stepping.step.Code as code
+use Rattle.stepping.proofs.advance as advance
+use Rattle.stepping.proofs.advance.Symbol as advance-def
+use Rattle.stepping.proofs.advance.Symbol.{name as #stepping·advance}
+use Rattle.stepping.proofs.advance.Met as advance-thm
+use Rattle.stepping.proofs.registers_of.Symbol as registers-of-def
+use Rattle.stepping.proofs.registers_of.Symbol.{name as #stepping·registers-of}
+use Rattle.stepping.proofs.registers_of.Met as registers-of-thm
+use Rattle.stepping.proofs.status_of.Symbol as status-of-def
+use Rattle.stepping.proofs.status_of.Symbol.{name as #stepping·status-of}
+use Rattle.stepping.proofs.status_of.Met as status-of-thm
+use Rattle.stepping.proofs.step.Key.{name as #stepping·step}
+use Rattle.stepping.proofs.step as step
+use Rattle.stepping.proofs.step.Statement as stated
+use Rattle.stepping.proofs.step.Code as code
 
 abbrev stayed : Stays (step.ended .signature .params) (step.ended .kept)
 stayed = (stay-ref (0 ∷ []) tt (plain (λ _. R.the-row)), all-handed (after-first (step.signature .params)) (step.ended .kept .1))
@@ -139,7 +139,7 @@ module _ {M : Type 1} (𝓤 : URA M) (H : Heap 𝓤) (A : Atoms 𝓤) (W : Given
       move ! (2 ∷ []) $ fsplit ! $ drop ! $ move ! (1 ∷ 0 ∷ []) $ fjoin ! $ done !
 
   module _ (are : Are (typesAt (step.signature .params) κs) (Ises (typesAt (step.signature .params) κs)) a vss) (C : Calls 𝓤 H) (Λ : Loops 𝓤 H) (fm : FmC 𝓤 H (W .laws) C)
-      (known-advance : Triple 𝓤 (C #running·stepping·advance) (Advance 𝓤 H A at-mem run)) (known-registers : Triple 𝓤 (C #running·stepping·registers-of) (RegistersOf 𝓤 H A at-mem run)) (known-status : Triple 𝓤 (C #running·stepping·status-of) (StatusOf 𝓤 H A at-mem run)) where
+      (known-advance : Triple 𝓤 (C #stepping·advance) (Advance 𝓤 H A at-mem run)) (known-registers : Triple 𝓤 (C #stepping·registers-of) (RegistersOf 𝓤 H A at-mem run)) (known-status : Triple 𝓤 (C #stepping·status-of) (StatusOf 𝓤 H A at-mem run)) where
     walk : ent 𝓤 (sep 𝓤 (onEntry 𝓤 H A step.signature κs qs a vss) Required) (WpFn 𝓤 H C Λ code.function (vptr b o ∷ vptr (ptr bits .0) (ptr bits .1) ∷ sliceVal (ptr words) (length (now words)) ∷ vint w32 allowance ∷ sliceVal (ptr input) (length (now input)) ∷ sliceVal (ptr output) (length (now output)) ∷ sliceVal (ptr journal) (length (now journal)) ∷ sliceVal (ptr frames) (length (now frames)) ∷ sliceVal (ptr values) (length (now values)) ∷ []) Post)
     walk =
         qed W (((‵ (flft (κs .0) (qs .0)) ⊛ raw Tokens) ⊛ ‵ Owned) ∷ raw Required ∷ []) ∵ enter ! C Λ code.function _ _ $
@@ -191,7 +191,7 @@ module _ {M : Type 1} (𝓤 : URA M) (H : Heap 𝓤) (A : Atoms 𝓤) (W : Given
 
 module _ {M : Type 1} (𝓤 : URA M) (H : Heap 𝓤) (A : Atoms 𝓤) (W : Given 𝓤 H A) (mem : Memory → SProp 𝓤) (run : Routine → Fun 𝓤) where
   step-walks : (C : Calls 𝓤 H) (Λ : Loops 𝓤 H) → FmC 𝓤 H (W .laws) C
-      → Triple 𝓤 (C #running·stepping·advance) (Advance 𝓤 H A mem run) → Triple 𝓤 (C #running·stepping·registers-of) (RegistersOf 𝓤 H A mem run) → Triple 𝓤 (C #running·stepping·status-of) (StatusOf 𝓤 H A mem run)
+      → Triple 𝓤 (C #stepping·advance) (Advance 𝓤 H A mem run) → Triple 𝓤 (C #stepping·registers-of) (RegistersOf 𝓤 H A mem run) → Triple 𝓤 (C #stepping·status-of) (StatusOf 𝓤 H A mem run)
       → Walks 𝓤 H A step.ended stayed (WpFn 𝓤 H C Λ code.function) (step.clauses 𝓤 H A mem run)
   step-walks C Λ fm known-advance known-registers known-status =
       walked 𝓤 H A step.ended stayed (step.clauses 𝓤 H A mem run) (WpFn 𝓤 H C Λ code.function)
@@ -200,7 +200,7 @@ module _ {M : Type 1} (𝓤 : URA M) (H : Heap 𝓤) (A : Atoms 𝓤) (W : Given
       (λ κs qs bounds a _ are. walk 𝓤 H A W mem run κs qs bounds (a .0) (a .1 .0) (a .1 .1 .0) (a .1 .1 .1 .0) (a .1 .1 .1 .1 .0) (a .1 .1 .1 .1 .1 .0) (a .1 .1 .1 .1 .1 .1 .0) (a .1 .1 .1 .1 .1 .1 .1 .0) (a .1 .1 .1 .1 .1 .1 .1 .1 .0) are C Λ fm known-advance known-registers known-status)
 
 step-meets : {M : Type 1} (𝓤 : URA M) (H : Heap 𝓤) (A : Atoms 𝓤) → Given 𝓤 H A → (mem : Memory → SProp 𝓤) (run : Routine → Fun 𝓤) (𝓣 : Tables 𝓤 H)
-    → Triple 𝓤 (𝓣 .C #running·stepping·advance) (Advance 𝓤 H A mem run) → Triple 𝓤 (𝓣 .C #running·stepping·registers-of) (RegistersOf 𝓤 H A mem run) → Triple 𝓤 (𝓣 .C #running·stepping·status-of) (StatusOf 𝓤 H A mem run)
+    → Triple 𝓤 (𝓣 .C #stepping·advance) (Advance 𝓤 H A mem run) → Triple 𝓤 (𝓣 .C #stepping·registers-of) (RegistersOf 𝓤 H A mem run) → Triple 𝓤 (𝓣 .C #stepping·status-of) (StatusOf 𝓤 H A mem run)
     → Meets 𝓤 H A step.signature (WpFn 𝓤 H (𝓣 .C) (𝓣 .Λ) code.function) (step.spec 𝓤 H A mem run)
 step-meets 𝓤 H A W mem run 𝓣 known-advance known-registers known-status =
     walk-meets 𝓤 H A step.ended stayed W (goes-ref 𝓤 H A W 8 0 tt (plain (λ _. R.the-row)), all-go 𝓤 H A W 8 (after-first (step.signature .params)) (step.ended .kept .1)) (step.clauses 𝓤 H A mem run)
@@ -210,8 +210,8 @@ pub step-spec : {M : Type 1} → stated.statement M
 unfolding code.routine tablesOf
 step-spec 𝓤 H 𝓜 𝓖 𝓡 =
     entered 𝓤 H (tripleOf 𝓤 H (𝓖 .A) step.signature (step.spec 𝓤 H (𝓖 .A) (𝓜 .mem) (𝓡 .run)))
-    (tables 𝓤 H 𝓜 𝓡 code.env .C) (tables 𝓤 H 𝓜 𝓡 code.env .Λ) #running·stepping·step code.function (code.unfolded 𝓤 H 𝓜 𝓡)
+    (tables 𝓤 H 𝓜 𝓡 code.env .C) (tables 𝓤 H 𝓜 𝓡 code.env .Λ) #stepping·step code.function (code.unfolded 𝓤 H 𝓜 𝓡)
     (step-meets 𝓤 H (𝓖 .A) (givenOf 𝓤 H 𝓜 𝓖) (𝓜 .mem) (𝓡 .run) (tablesOf 𝓤 H 𝓜 (tables 𝓤 H 𝓜 𝓡 code.env))
-    (cited 𝓤 H (Advance 𝓤 H (𝓖 .A) (𝓜 .mem) (𝓡 .run)) 𝓜 𝓡 code.env #running·stepping·advance advance-def.routine code.calls-running·stepping·advance (advance-thm.met 𝓤 H 𝓜 𝓖 𝓡))
-    (cited 𝓤 H (RegistersOf 𝓤 H (𝓖 .A) (𝓜 .mem) (𝓡 .run)) 𝓜 𝓡 code.env #running·stepping·registers-of registers-of-def.routine code.calls-running·stepping·registers-of (registers-of-thm.met 𝓤 H 𝓜 𝓖 𝓡))
-    (cited 𝓤 H (StatusOf 𝓤 H (𝓖 .A) (𝓜 .mem) (𝓡 .run)) 𝓜 𝓡 code.env #running·stepping·status-of status-of-def.routine code.calls-running·stepping·status-of (status-of-thm.met 𝓤 H 𝓜 𝓖 𝓡)))
+    (cited 𝓤 H (Advance 𝓤 H (𝓖 .A) (𝓜 .mem) (𝓡 .run)) 𝓜 𝓡 code.env #stepping·advance advance-def.routine code.calls-stepping·advance (advance-thm.met 𝓤 H 𝓜 𝓖 𝓡))
+    (cited 𝓤 H (RegistersOf 𝓤 H (𝓖 .A) (𝓜 .mem) (𝓡 .run)) 𝓜 𝓡 code.env #stepping·registers-of registers-of-def.routine code.calls-stepping·registers-of (registers-of-thm.met 𝓤 H 𝓜 𝓖 𝓡))
+    (cited 𝓤 H (StatusOf 𝓤 H (𝓖 .A) (𝓜 .mem) (𝓡 .run)) 𝓜 𝓡 code.env #stepping·status-of status-of-def.routine code.calls-stepping·status-of (status-of-thm.met 𝓤 H 𝓜 𝓖 𝓡)))

@@ -1,7 +1,7 @@
 -- `stepping::registers_of` meets its contract.
 use borrow.Author.Needs.{needs}
-use Rattle.running.proofs.stepping.registers_of.Statement.{statement}
-use Rattle.running.proofs.stepping.registers_of.Tie as tie
+use Rattle.stepping.proofs.registers_of.Statement.{statement}
+use Rattle.stepping.proofs.registers_of.Tie as tie
 
 enum-known-next : tie.Need-enum-known-next
 enum-known-next c = search needs

@@ -37,11 +37,11 @@ use Rattle.acting.proofs.registers.Registers as R
 use Rattle.acting.proofs.registers.Registers.Laws as R′
 use Rattle.acting.proofs.registers.Next as N
 use Rattle.acting.proofs.registers.Status as S
-use Rattle.running.proofs.stepping.registers_of as registers-of
-use Rattle.running.proofs.stepping.status_of as status-of
-use Rattle.running.proofs.stepping.is_onward as is-onward
-use Rattle.running.proofs.stepping.step as step
-use Rattle.running.proofs.stepping.next_of as next-of
+use Rattle.stepping.proofs.registers_of as registers-of
+use Rattle.stepping.proofs.status_of as status-of
+use Rattle.stepping.proofs.is_onward as is-onward
+use Rattle.stepping.proofs.step as step
+use Rattle.stepping.proofs.next_of as next-of
 
 -- the machine value of registers
 abbrev pub registers-val : Registers → Val

@@ -1,7 +1,7 @@
 -- `stepping::status_of` meets its contract.
 use borrow.Author.Needs.{needs}
-use Rattle.running.proofs.stepping.status_of.Statement.{statement}
-use Rattle.running.proofs.stepping.status_of.Tie as tie
+use Rattle.stepping.proofs.status_of.Statement.{statement}
+use Rattle.stepping.proofs.status_of.Tie as tie
 
 enum-told : tie.Need-enum-told
 enum-told c = search needs

@@ -9,8 +9,8 @@ use Rattle.acting.specs.States.{memory}
 use Rattle.acting.proofs.laws.Reading.{actions-at, actions-none, actions-named}
 use Rattle.applying.proofs.laws.Advancing.{stepped, advance-does, advance-acts, advance-unknown, advance-leaves}
 use borrow.Author.Needs.{needs}
-use Rattle.running.proofs.stepping.advance.Statement.{statement}
-use Rattle.running.proofs.stepping.advance.Tie as tie
+use Rattle.stepping.proofs.advance.Statement.{statement}
+use Rattle.stepping.proofs.advance.Tie as tie
 
 returns : tie.Need-returns
 returns c =

@@ -1,8 +1,8 @@
 -- `stepping::next_of` meets its contract.
 use borrow.Author.Needs.{needs}
-use Rattle.running.proofs.laws.Statuses.{onward-tagged, done-tagged}
-use Rattle.running.proofs.stepping.next_of.Statement.{statement}
-use Rattle.running.proofs.stepping.next_of.Tie as tie
+use Rattle.stepping.proofs.laws.Statuses.{onward-tagged, done-tagged}
+use Rattle.stepping.proofs.next_of.Statement.{statement}
+use Rattle.stepping.proofs.next_of.Tie as tie
 
 enum-told : tie.Need-enum-told
 enum-told c = search needs
