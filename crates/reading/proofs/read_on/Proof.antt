@@ -25,14 +25,20 @@ refusal-requires-2 c κs = search needs
 
 returns-2 : tie.Need-returns-2
 returns-2 c =
-    functions-stop _ (c .before .before .before .before .before .before .before .before .if1 .left) _ _ _ (c .before .before .fault .given .0 .0) _ (rw (c .before .before .fault .given .1) at (c .before .before .before .before .functions .ensures)) (c .refusal2 .ensures)
+    let at-fault = c .before .before in
+    let at-functions = at-fault .before .before in
+    let at-if1 = at-functions .before .before .before .before in
+    functions-stop _ (at-if1 .if1 .left) _ _ _ (at-fault .fault .given .0 .0) _ (rw (at-fault .fault .given .1) at (at-functions .functions .ensures)) (c .refusal2 .ensures)
 
 enum-known-table : tie.Need-enum-known-table
 enum-known-table c = search needs
 
 unknown-call-requires : tie.Need-unknown-call-requires
 unknown-call-requires c κs =
-    searchable _ (c .before .before .before .before .before .before .before .before .before .before .if1 .left) _ _ _ (c .before .before .before .before .table .given .0 .0) (rw (c .before .before .before .before .table .given .1) at (c .before .before .before .before .before .before .functions .ensures)) (search needs)
+    let at-table = c .before .before .before .before in
+    let at-functions = at-table .before .before in
+    let at-if1 = at-functions .before .before .before .before in
+    searchable _ (at-if1 .if1 .left) _ _ _ (at-table .table .given .0 .0) (rw (at-table .table .given .1) at (at-functions .functions .ensures)) (search needs)
 
 enum-known-place : tie.Need-enum-known-place
 enum-known-place c = search needs
@@ -45,13 +51,20 @@ enum-told c = search needs
 
 returns-3 : tie.Need-returns-3
 returns-3 c =
-    call-unknown _ (c .before .before .before .before .before .before .before .before .before .before .before .before .before .before .before .if1 .left) _ _ _ (c .before .before .before .before .before .before .before .before .before .table .given .0 .0) (rw (c .before .before .before .before .before .before .before .before .before .table .given .1) at (c .before .before .before .before .before .before .before .before .before .before .before .functions .ensures)) (search needs)
-    _ (c .before .before .before .before .unknown-call .ensures) _ _ (c .before .before .place .given .1) (c .refusal3 .ensures)
+    let at-place = c .before .before in
+    let at-unknown-call = at-place .before .before in
+    let at-table = at-unknown-call .before .before .before .before .before in
+    let at-functions = at-table .before .before in
+    let at-if1 = at-functions .before .before .before .before in
+    call-unknown _ (at-if1 .if1 .left) _ _ _ (at-table .table .given .0 .0) (rw (at-table .table .given .1) at (at-functions .functions .ensures)) (search needs) _ (at-unknown-call .unknown-call .ensures) _ _ (at-place .place .given .1) (c .refusal3 .ensures)
 
 returns-4 : tie.Need-returns-4
 returns-4 c =
-    calls-known _ (c .before .before .before .before .before .before .before .before .before .before .before .before .before .if1 .left) _ _ _ (c .before .before .before .before .before .before .before .table .given .0 .0) (rw (c .before .before .before .before .before .before .before .table .given .1) at (c .before .before .before .before .before .before .before .before .before .functions .ensures)) (search needs)
-    _ (c .before .before .unknown-call .ensures) _ (c .enum-told .given .1) refl
+    let at-unknown-call = c .before .before in
+    let at-table = at-unknown-call .before .before .before .before .before in
+    let at-functions = at-table .before .before in
+    let at-if1 = at-functions .before .before .before .before in
+    calls-known _ (at-if1 .if1 .left) _ _ _ (at-table .table .given .0 .0) (rw (at-table .table .given .1) at (at-functions .functions .ensures)) (search needs) _ (at-unknown-call .unknown-call .ensures) _ (c .enum-told .given .1) refl
 
 pub read-on-spec : {M : Type 1} → statement M
 read-on-spec =

@@ -19,7 +19,9 @@ fault-if-requires c κs = search needs
 
 returns-2 : tie.Need-returns-2
 returns-2 c =
-    c .fault-if .ensures ∙ called-is _ (c .before .before .before .before .before .args .x) (c .before .before .before .before .before .pre) (c .before .before .if1 .left) (a-predicate _ _ (c .before .class-named .ensures .0) (c .before .class-named .ensures .1))
+    let at-if1 = c .before .before in
+    let entry = at-if1 .before .before .before in
+    c .fault-if .ensures ∙ called-is _ (entry .args .x) (entry .pre) (at-if1 .if1 .left) (a-predicate _ _ (c .before .class-named .ensures .0) (c .before .class-named .ensures .1))
 
 pub called-fault-spec : {M : Type 1} → statement M
 called-fault-spec = tie.close (tie.spec sub-if1 returns class-named-requires fault-if-requires returns-2)

@@ -19,7 +19,10 @@ names-class-requires : tie.Need-names-class-requires Inv-loop μ-loop
 names-class-requires c κs = (c .before .before .before .pre, c .loop-test .taken)
 
 returns : tie.Need-returns Inv-loop μ-loop
-returns c = (asked-is (c .before .before .before .loop .inv) (c .before .before .loop-test .taken) (c .before .names-class .ensures) (c .if1 .taken), omega (arith, c .before .before .before .loop .inv .low))
+returns c =
+    let at-loop-test = c .before .before in
+    let at-loop = at-loop-test .before in
+    (asked-is (at-loop .loop .inv) (at-loop-test .loop-test .taken) (c .before .names-class .ensures) (c .if1 .taken), omega (arith, at-loop .loop .inv .low))
 
 add-class : tie.Need-add-class Inv-loop μ-loop
 add-class c = omega arith

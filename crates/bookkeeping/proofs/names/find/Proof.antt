@@ -20,7 +20,9 @@ loop-holds c = find-starts _ _ _ _ _ (c .before .before .pre .1)
 
 mul-name : tie.Need-mul-name Inv-loop μ-loop
 mul-name c =
-    let f = c .before .loop .inv in scaled-fits (c .before .loop .i) (length (c .before .before .before .before .args .table .now)) 8 (omega arith) (c .before .before .before .before .good .1 .0 .1)
+    let entry = c .before .before .before .before in
+    let f = c .before .loop .inv in
+    scaled-fits (c .before .loop .i) (length (entry .args .table .now)) 8 (omega arith) (entry .good .1 .0 .1)
 
 shared-slice-read-name : tie.Need-shared-slice-read-name Inv-loop μ-loop
 shared-slice-read-name c = let f = c .before .before .loop .inv in omega arith
@@ -30,12 +32,16 @@ add-t13 c = let e = entry-inside _ _ _ _ _ _ (c .before .before .loop .inv) (c .
 
 same-requires : tie.Need-same-requires Inv-loop μ-loop
 same-requires c κs =
-    let e = entry-inside _ _ _ _ _ _ (c .before .before .loop .inv) (c .before .loop-test .taken) in
-    (c .before .before .before .before .before .pre .0, record { forward = omega arith; inside = e })
+    let at-loop = c .before .before in
+    let entry = at-loop .before .before .before in
+    let e = entry-inside _ _ _ _ _ _ (at-loop .loop .inv) (c .before .loop-test .taken) in
+    (entry .pre .0, record { forward = omega arith; inside = e })
 
 returns : tie.Need-returns Inv-loop μ-loop
 returns c =
-    find-hits _ _ _ _ _ _ (c .before .before .before .before .loop .inv) (c .before .before .before .loop-test .taken) (sym (c .if1 .taken) ∙ c .before .same .ensures)
+    let at-loop-test = c .before .before .before in
+    let at-loop = at-loop-test .before in
+    find-hits _ _ _ _ _ _ (at-loop .loop .inv) (at-loop-test .loop-test .taken) (sym (c .if1 .taken) ∙ c .before .same .ensures)
 
 add-i : tie.Need-add-i Inv-loop μ-loop
 add-i c = let f = c .before .before .before .before .loop .inv in omega arith
@@ -45,7 +51,9 @@ loop-less c = omega arith
 
 loop-again : tie.Need-loop-again Inv-loop μ-loop
 loop-again c =
-    find-goes _ _ _ _ _ _ (c .before .before .before .before .loop .inv) (c .before .before .before .loop-test .taken) (sym (c .if1 .left) ∙ c .before .same .ensures)
+    let at-loop-test = c .before .before .before in
+    let at-loop = at-loop-test .before in
+    find-goes _ _ _ _ _ _ (at-loop .loop .inv) (at-loop-test .loop-test .taken) (sym (c .if1 .left) ∙ c .before .same .ensures)
 
 returns-2 : tie.Need-returns-2 Inv-loop μ-loop
 returns-2 c = find-ends _ _ _ _ _ _ (c .before .loop .inv) (c .loop-test .left)

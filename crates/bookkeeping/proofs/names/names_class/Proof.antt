@@ -51,9 +51,10 @@ returns-4 c = class-word _ 3 alphabetic (c .before .before .match .keys4) refl (
 
 returns-5 : tie.Need-returns-5
 returns-5 c =
-    let r = c .before .before .match .rest in
-    let e : c .before .before .before .before .args .class ≡ 4 = omega (arith, r, c .before .before .before .before .pre .1) in
-    class-word _ 4 blank e refl (c .spells5 .ensures)
+    let at-match = c .before .before in
+    let entry = at-match .before .before in
+    let r = at-match .match .rest in
+    let e : entry .args .class ≡ 4 = omega (arith, r, entry .pre .1) in class-word _ 4 blank e refl (c .spells5 .ensures)
 
 pub names-class-spec : {M : Type 1} → statement M
 names-class-spec =

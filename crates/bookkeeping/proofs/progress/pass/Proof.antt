@@ -18,18 +18,18 @@ refuse-requires c κs = search needs
 
 returns : tie.Need-returns
 returns c =
-    let a = c .before .before .before .before .args in
-    takes (a .text .now) (modeOf (a .mode)) (a .at) (a .byte) (c .before .before .lex .result)
-    (comes (a .text .now) (modeOf (a .mode)) (a .at) (c .before .before .lex .result) (c .before .before .before .before .pre) (c .before .before .lex .ensures))
-    (sym (c .before .is-sign .ensures) ∙ c .if1 .taken)
+    let at-lex = c .before .before in
+    let entry = at-lex .before .before in
+    let a = entry .args in
+    takes (a .text .now) (modeOf (a .mode)) (a .at) (a .byte) (at-lex .lex .result) (comes (a .text .now) (modeOf (a .mode)) (a .at) (at-lex .lex .result) (entry .pre) (at-lex .lex .ensures)) (sym (c .before .is-sign .ensures) ∙ c .if1 .taken)
 
 returns-2 : tie.Need-returns-2
 returns-2 c =
-    let a = c .before .before .before .before .before .args in
-    bars (a .text .now) (modeOf (a .mode)) (a .at) (a .byte) (c .before .before .before .lex .result) (c .refuse .result)
-    (comes (a .text .now) (modeOf (a .mode)) (a .at) (c .before .before .before .lex .result) (c .before .before .before .before .before .pre) (c .before .before .before .lex .ensures))
-    (sym (c .before .before .is-sign .ensures) ∙ c .before .if1 .left)
-    (c .refuse .ensures)
+    let at-is-sign = c .before .before in
+    let at-lex = at-is-sign .before in
+    let entry = at-lex .before .before in
+    let a = entry .args in
+    bars (a .text .now) (modeOf (a .mode)) (a .at) (a .byte) (at-lex .lex .result) (c .refuse .result) (comes (a .text .now) (modeOf (a .mode)) (a .at) (at-lex .lex .result) (entry .pre) (at-lex .lex .ensures)) (sym (at-is-sign .is-sign .ensures) ∙ c .before .if1 .left) (c .refuse .ensures)
 
 pub pass-spec : {M : Type 1} → statement M
 pass-spec = tie.close (tie.spec lex-requires is-sign-requires refuse-requires returns returns-2)

@@ -27,30 +27,49 @@ cast-put c = search needs
 
 put-requires : tie.Need-put-requires Inv-loop μ-loop
 put-requires c κs =
-    given-room _ _ _ _ _ _ _ (c .before .before .before .before .before .loop .inv) _ (c .before .before .before .before .next-character .ensures) _ _ (c .before .before .byte .given .1) .2
+    let at-byte = c .before .before in
+    let at-next-character = at-byte .before .before in
+    let at-loop = at-next-character .before in
+    given-room _ _ _ _ _ _ _ (at-loop .loop .inv) _ (at-next-character .next-character .ensures) _ _ (at-byte .byte .given .1) .2
 
 add-to : tie.Need-add-to Inv-loop μ-loop
 add-to c =
-    let k = given-room _ _ _ _ _ _ _ (c .before .before .before .before .before .before .loop .inv) _ (c .before .before .before .before .before .next-character .ensures) _ _ (c .before .before .before .byte .given .1) in omega arith
+    let at-byte = c .before .before .before in
+    let at-next-character = at-byte .before .before in
+    let at-loop = at-next-character .before in
+    let k = given-room _ _ _ _ _ _ _ (at-loop .loop .inv) _ (at-next-character .next-character .ensures) _ _ (at-byte .byte .given .1) in
+    omega arith
 
 loop-less : tie.Need-loop-less Inv-loop μ-loop
 loop-less c =
-    let k = given-room _ _ _ _ _ _ _ (c .before .before .before .before .before .before .loop .inv) _ (c .before .before .before .before .before .next-character .ensures) _ _ (c .before .before .before .byte .given .1) in omega arith
+    let at-byte = c .before .before .before in
+    let at-next-character = at-byte .before .before in
+    let at-loop = at-next-character .before in
+    let k = given-room _ _ _ _ _ _ _ (at-loop .loop .inv) _ (at-next-character .next-character .ensures) _ _ (at-byte .byte .given .1) in
+    omega arith
 
 loop-again : tie.Need-loop-again Inv-loop μ-loop
 loop-again c =
-    spelling-given _ _ _ _ _ _ _ (c .before .before .before .before .before .before .loop .inv) _ (c .before .before .before .before .before .next-character .ensures) _ _ (c .before .before .before .byte .given .1) (omega arith) _ (c .put .ensures)
+    let at-byte = c .before .before .before in
+    let at-next-character = at-byte .before .before in
+    let at-loop = at-next-character .before in
+    spelling-given _ _ _ _ _ _ _ (at-loop .loop .inv) _ (at-next-character .next-character .ensures) _ _ (at-byte .byte .given .1) (omega arith) _ (c .put .ensures)
 
 enum-known-past : tie.Need-enum-known-past Inv-loop μ-loop
 enum-known-past c = search needs
 
 loop-less-2 : tie.Need-loop-less-2 Inv-loop μ-loop
 loop-less-2 c =
-    let k = nothing-room _ _ _ _ _ _ _ (c .before .before .before .before .loop .inv) _ (c .before .before .before .next-character .ensures) _ (c .before .past .given .1) in omega arith
+    let at-next-character = c .before .before .before in
+    let at-loop = at-next-character .before in
+    let k = nothing-room _ _ _ _ _ _ _ (at-loop .loop .inv) _ (at-next-character .next-character .ensures) _ (c .before .past .given .1) in
+    omega arith
 
 loop-again-2 : tie.Need-loop-again-2 Inv-loop μ-loop
 loop-again-2 c =
-    spelling-nothing _ _ _ _ _ _ _ (c .before .before .before .before .loop .inv) _ (c .before .before .before .next-character .ensures) _ (c .before .past .given .1)
+    let at-next-character = c .before .before .before in
+    let at-loop = at-next-character .before in
+    spelling-nothing _ _ _ _ _ _ _ (at-loop .loop .inv) _ (at-next-character .next-character .ensures) _ (c .before .past .given .1)
 
 enum-told : tie.Need-enum-told Inv-loop μ-loop
 enum-told c = search needs
@@ -64,7 +83,10 @@ enum-told-2 c = search needs
 
 returns-2 : tie.Need-returns-2 Inv-loop μ-loop
 returns-2 c =
-    absurd (spelling-broken _ _ _ _ _ _ _ (c .before .before .before .loop .inv) _ (c .before .before .next-character .ensures) _ (c .enum-told2 .given .1) (c .before .before .before .before .before .pre .1))
+    let at-next-character = c .before .before in
+    let at-loop = at-next-character .before in
+    let entry = at-loop .before .before in
+    absurd (spelling-broken _ _ _ _ _ _ _ (at-loop .loop .inv) _ (at-next-character .next-character .ensures) _ (c .enum-told2 .given .1) (entry .pre .1))
 
 pub put-characters-spec : {M : Type 1} → statement M
 put-characters-spec =

@@ -18,7 +18,9 @@ add-to : tie.Need-add-to Inv-loop μ-loop
 add-to c = let p = c .before .before .before .pre .1 in omega arith
 
 loop-holds : tie.Need-loop-holds Inv-loop μ-loop
-loop-holds c = copy-starts _ _ _ (c .before .before .before .args .x) (c .before .before .before .pre .0) (c .before .before .before .pre .1)
+loop-holds c =
+    let entry = c .before .before .before in
+    copy-starts _ _ _ (entry .args .x) (entry .pre .0) (entry .pre .1)
 
 shared-slice-read-byte : tie.Need-shared-slice-read-byte Inv-loop μ-loop
 shared-slice-read-byte c = let n = c .before .before .loop .inv in omega arith
@@ -40,7 +42,10 @@ loop-less c = omega arith
 
 loop-again : tie.Need-loop-again Inv-loop μ-loop
 loop-again c =
-    copy-goes _ _ _ _ _ _ _ _ (c .before .before .before .before .loop .inv) _ (c .before .before .before .loop-test .taken) (omega (arith, c .before .before .shared-slice-known2 .given (c .before .before .before .before .loop .i))) (c .put2 .ensures)
+    let at-shared-slice-known2 = c .before .before in
+    let at-loop-test = at-shared-slice-known2 .before in
+    let at-loop = at-loop-test .before in
+    copy-goes _ _ _ _ _ _ _ _ (at-loop .loop .inv) _ (at-loop-test .loop-test .taken) (omega (arith, at-shared-slice-known2 .shared-slice-known2 .given (at-loop .loop .i))) (c .put2 .ensures)
 
 returns : tie.Need-returns Inv-loop μ-loop
 returns c =

@@ -13,8 +13,11 @@ enum-known-at c = search needs
 
 put-requires : tie.Need-put-requires
 put-requires c κs =
-    let t = rw (c .before .before .at .given .1) at (c .before .before .before .before .pass .ensures) in
-    let r = c .before .before .before .before .before .before .pre in
+    let at-at = c .before .before in
+    let at-pass = at-at .before .before in
+    let entry = at-pass .before .before in
+    let t = rw (at-at .at .given .1) at (at-pass .pass .ensures) in
+    let r = entry .pre in
     omega (arith, t .onward, t .inside)
 
 add-t11 : tie.Need-add-t11
@@ -25,7 +28,9 @@ enum-known-fault c = search needs
 
 returns : tie.Need-returns
 returns c =
-    record { gives = (rw (c .before .before .before .before .at .given .1) at (c .before .before .before .before .before .before .pass .ensures), refl, c .before .put .ensures) }
+    let at-at = c .before .before .before .before in
+    let at-pass = at-at .before .before in
+    record { gives = (rw (at-at .at .given .1) at (at-pass .pass .ensures), refl, c .before .put .ensures) }
 
 returns-2 : tie.Need-returns-2
 returns-2 c = record { gives = rw (c .before .fault .given .1) at (c .before .before .before .pass .ensures) }

@@ -7,7 +7,9 @@ use Rattle.bookkeeping.proofs.Choosing.{no-fault-here, a-fault-here}
 use Rattle.declarations.proofs.Joining.{symbol-many, symbol-bad, symbol-joined}
 
 returns : tie.Need-returns
-returns c = record { gives = symbol-many (c .before .before .before .before .pre .0) (c .before .before .before .before .pre .1) (c .if1 .taken) }
+returns c =
+    let entry = c .before .before .before .before in
+    record { gives = symbol-many (entry .pre .0) (entry .pre .1) (c .if1 .taken) }
 
 later-symbol-fault-requires : tie.Need-later-symbol-fault-requires
 later-symbol-fault-requires c κs = search needs
@@ -17,17 +19,28 @@ is-accepted-requires c κs = search needs
 
 returns-2 : tie.Need-returns-2
 returns-2 c =
-    let f = c .before .before .later-symbol-fault .ensures in
-    record { gives = symbol-bad (c .before .before .before .before .before .before .before .pre .0) (c .before .before .before .before .before .before .before .pre .1) (c .before .before .before .if1 .left) f (a-fault-here f (c .before .is-accepted .ensures) (c .if2 .taken)) }
+    let at-later-symbol-fault = c .before .before in
+    let at-if1 = at-later-symbol-fault .before in
+    let entry = at-if1 .before .before .before .before in
+    let f = at-later-symbol-fault .later-symbol-fault .ensures in
+    record { gives = symbol-bad (entry .pre .0) (entry .pre .1) (at-if1 .if1 .left) f (a-fault-here f (c .before .is-accepted .ensures) (c .if2 .taken)) }
 
 take-variable-requires : tie.Need-take-variable-requires
-take-variable-requires c κs = (c .before .before .before .before .before .before .before .before .pre .0 .ready, c .before .before .before .before .before .before .before .before .pre .1, c .before .before .before .before .if1 .left, omega arith)
+take-variable-requires c κs =
+    let at-if1 = c .before .before .before .before in
+    let entry = at-if1 .before .before .before .before in
+    (entry .pre .0 .ready, entry .pre .1, at-if1 .if1 .left, omega arith)
 
 returns-3 : tie.Need-returns-3
 returns-3 c =
-    let p = c .before .before .before .before .before .before .before .before .before .pre in
-    let f = no-fault-here (c .before .before .before .before .later-symbol-fault .ensures) (c .before .before .before .is-accepted .ensures) (c .before .before .if2 .left) in
-    record { gives = symbol-joined (p .0) (p .1) (c .before .before .before .before .before .if1 .left) f (c .take-variable .ensures) }
+    let at-if2 = c .before .before in
+    let at-is-accepted = at-if2 .before in
+    let at-later-symbol-fault = at-is-accepted .before in
+    let at-if1 = at-later-symbol-fault .before in
+    let entry = at-if1 .before .before .before .before in
+    let p = entry .pre in
+    let f = no-fault-here (at-later-symbol-fault .later-symbol-fault .ensures) (at-is-accepted .is-accepted .ensures) (at-if2 .if2 .left) in
+    record { gives = symbol-joined (p .0) (p .1) (at-if1 .if1 .left) f (c .take-variable .ensures) }
 
 pub join-symbol-spec : {M : Type 1} → statement M
 join-symbol-spec =

@@ -32,12 +32,19 @@ refuse-requires c κs = search needs
 
 returns-2 : tie.Need-returns-2
 returns-2 c =
-    let a = c .before .before .before .before .before .before .before .args in
-    let k = comes _ Tokens.naming _ _ (c .before .before .before .before .before .before .before .pre .0 .inside) (c .before .before .lex .ensures) in
-    call-nameless (a .text .now) (a .depth) (a .s) (a .place) (c .before .before .before .before .before .if1 .left) (leb-false 128 _ (c .before .before .before .if2 .left)) k (c .before .match .keys2) (c .refuse .ensures)
+    let at-lex = c .before .before in
+    let at-if2 = at-lex .before in
+    let at-if1 = at-if2 .before .before in
+    let entry = at-if1 .before .before in
+    let a = entry .args in
+    let k = comes _ Tokens.naming _ _ (entry .pre .0 .inside) (at-lex .lex .ensures) in
+    call-nameless (a .text .now) (a .depth) (a .s) (a .place) (at-if1 .if1 .left) (leb-false 128 _ (at-if2 .if2 .left)) k (c .before .match .keys2) (c .refuse .ensures)
 
 called-fault-requires : tie.Need-called-fault-requires
-called-fault-requires c κs = name-first (comes _ Tokens.naming _ _ (c .before .before .before .before .before .before .before .before .pre .0 .inside) (c .before .before .before .lex .ensures)) (c .before .token .given .1) .inside
+called-fault-requires c κs =
+    let at-lex = c .before .before .before in
+    let entry = at-lex .before .before .before .before .before in
+    name-first (comes _ Tokens.naming _ _ (entry .pre .0 .inside) (at-lex .lex .ensures)) (c .before .token .given .1) .inside
 
 is-accepted-requires : tie.Need-is-accepted-requires
 is-accepted-requires c κs = search needs
@@ -47,30 +54,53 @@ stopped-requires-2 c κs = search needs
 
 returns-3 : tie.Need-returns-3
 returns-3 c =
-    let a = c .before .before .before .before .before .before .before .before .before .before .before .before .args in
-    let k = comes _ Tokens.naming _ _ (c .before .before .before .before .before .before .before .before .before .before .before .before .pre .0 .inside) (c .before .before .before .before .before .before .before .lex .ensures) in
-    let f = c .before .before .before .called-fault .ensures in
-    rw (c .stopped2 .ensures)
-    (call-misnamed (a .text .now) (a .depth) (a .s) (a .place) (c .before .before .before .before .before .before .before .before .before .before .if1 .left) (leb-false 128 _ (c .before .before .before .before .before .before .before .before .if2 .left)) k (c .before .before .before .before .before .token .given .1) f (a-fault-here f (c .before .before .is-accepted .ensures) (c .before .if3 .taken)))
+    let at-is-accepted = c .before .before in
+    let at-called-fault = at-is-accepted .before in
+    let at-token = at-called-fault .before .before in
+    let at-lex = at-token .before .before in
+    let at-if2 = at-lex .before in
+    let at-if1 = at-if2 .before .before in
+    let entry = at-if1 .before .before in
+    let a = entry .args in
+    let k = comes _ Tokens.naming _ _ (entry .pre .0 .inside) (at-lex .lex .ensures) in
+    let f = at-called-fault .called-fault .ensures in
+    rw (c .stopped2 .ensures) (call-misnamed (a .text .now) (a .depth) (a .s) (a .place) (at-if1 .if1 .left) (leb-false 128 _ (at-if2 .if2 .left)) k (at-token .token .given .1) f (a-fault-here f (at-is-accepted .is-accepted .ensures) (c .before .if3 .taken)))
 
 put-call-requires : tie.Need-put-call-requires
 put-call-requires c κs =
-    let a = c .before .before .before .before .before .before .before .before .before .before .before .before .args in
-    let k = comes _ Tokens.naming _ _ (c .before .before .before .before .before .before .before .before .before .before .before .before .pre .0 .inside) (c .before .before .before .before .before .before .before .lex .ensures) in
-    let f = no-fault-here (c .before .before .before .called-fault .ensures) (c .before .before .is-accepted .ensures) (c .before .if3 .left) in
-    name-room (a .text .now) (a .depth) (a .s) (a .place) (c .before .before .before .before .before .before .before .before .before .before .if1 .left) (leb-false 128 _ (c .before .before .before .before .before .before .before .before .if2 .left)) k (c .before .before .before .before .before .token .given .1) f (c .before .before .before .before .before .before .before .before .before .before .before .before .pre .0) (c .before .before .before .before .before .before .before .before .before .before .before .before .pre .1)
+    let at-is-accepted = c .before .before in
+    let at-called-fault = at-is-accepted .before in
+    let at-token = at-called-fault .before .before in
+    let at-lex = at-token .before .before in
+    let at-if2 = at-lex .before in
+    let at-if1 = at-if2 .before .before in
+    let entry = at-if1 .before .before in
+    let a = entry .args in
+    let k = comes _ Tokens.naming _ _ (entry .pre .0 .inside) (at-lex .lex .ensures) in
+    let f = no-fault-here (at-called-fault .called-fault .ensures) (at-is-accepted .is-accepted .ensures) (c .before .if3 .left) in
+    name-room (a .text .now) (a .depth) (a .s) (a .place) (at-if1 .if1 .left) (leb-false 128 _ (at-if2 .if2 .left)) k (at-token .token .given .1) f (entry .pre .0) (entry .pre .1)
 
 add-t19 : tie.Need-add-t19
 add-t19 c =
-    let m = leb-false 128 (c .before .before .before .before .before .before .before .before .before .before .before .before .before .before .args .s .count) (c .before .before .before .before .before .before .before .before .before .before .if2 .left) in
+    let at-if2 = c .before .before .before .before .before .before .before .before .before .before in
+    let entry = at-if2 .before .before .before .before in
+    let m = leb-false 128 (entry .args .s .count) (at-if2 .if2 .left) in
     omega arith
 
 returns-4 : tie.Need-returns-4
 returns-4 c =
-    let a = c .before .before .before .before .before .before .before .before .before .before .before .before .before .before .args in
-    let k = comes _ Tokens.naming _ _ (c .before .before .before .before .before .before .before .before .before .before .before .before .before .before .pre .0 .inside) (c .before .before .before .before .before .before .before .before .before .lex .ensures) in
-    let f = no-fault-here (c .before .before .before .before .before .called-fault .ensures) (c .before .before .before .before .is-accepted .ensures) (c .before .before .before .if3 .left) in
-    call-opens (a .text .now) (a .depth) (a .s) (a .place) (c .before .before .before .before .before .before .before .before .before .before .before .before .if1 .left) (leb-false 128 _ (c .before .before .before .before .before .before .before .before .before .before .if2 .left)) k (c .before .before .before .before .before .before .before .token .given .1) f (c .before .before .before .before .before .before .before .before .before .before .before .before .before .before .pre .0) (c .before .before .before .before .before .before .before .before .before .before .before .before .before .before .pre .1) (c .before .put-call .ensures)
+    let at-if3 = c .before .before .before in
+    let at-is-accepted = at-if3 .before in
+    let at-called-fault = at-is-accepted .before in
+    let at-token = at-called-fault .before .before in
+    let at-lex = at-token .before .before in
+    let at-if2 = at-lex .before in
+    let at-if1 = at-if2 .before .before in
+    let entry = at-if1 .before .before in
+    let a = entry .args in
+    let k = comes _ Tokens.naming _ _ (entry .pre .0 .inside) (at-lex .lex .ensures) in
+    let f = no-fault-here (at-called-fault .called-fault .ensures) (at-is-accepted .is-accepted .ensures) (at-if3 .if3 .left) in
+    call-opens (a .text .now) (a .depth) (a .s) (a .place) (at-if1 .if1 .left) (leb-false 128 _ (at-if2 .if2 .left)) k (at-token .token .given .1) f (entry .pre .0) (entry .pre .1) (c .before .put-call .ensures)
 
 pub open-call-spec : {M : Type 1} → statement M
 open-call-spec =

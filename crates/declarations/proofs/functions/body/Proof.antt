@@ -17,7 +17,9 @@ enum-known-fault c = search needs
 
 returns : tie.Need-returns
 returns c =
-    brace-not _ (c .before .before .before .before .before .pre) (rw (c .before .fault .given .1) at (c .before .before .before .pass .ensures))
+    let at-pass = c .before .before .before in
+    let entry = at-pass .before .before in
+    brace-not _ (entry .pre) (rw (c .before .fault .given .1) at (at-pass .pass .ensures))
 
 sub-word : tie.Need-sub-word
 sub-word c = c .before .before .before .before .before .before .pre .inside .forward
@@ -30,15 +32,25 @@ cast-word c = let b = c .before .before .before .before .before .before .pre .br
 
 put-named-requires : tie.Need-put-named-requires
 put-named-requires c κs =
-    name-room (c .before .before .before .before .before .before .before .args .limit) (c .before .before .before .before .before .before .before .pre) (rw (c .before .before .before .at .given .1) at (c .before .before .before .before .before .pass .ensures))
+    let at-at = c .before .before .before in
+    let at-pass = at-at .before .before in
+    let entry = at-pass .before .before in
+    name-room (entry .args .limit) (entry .pre) (rw (at-at .at .given .1) at (at-pass .pass .ensures))
 
 sentences-requires : tie.Need-sentences-requires
 sentences-requires c κs =
-    body-ready (c .before .before .before .before .before .before .before .before .before .args .limit) (c .before .before .before .before .before .before .before .before .before .pre) (rw (c .before .before .before .before .before .at .given .1) at (c .before .before .before .before .before .before .before .pass .ensures)) refl (c .before .put-named .ensures)
+    let at-at = c .before .before .before .before .before in
+    let at-pass = at-at .before .before in
+    let entry = at-pass .before .before in
+    body-ready (entry .args .limit) (entry .pre) (rw (at-at .at .given .1) at (at-pass .pass .ensures)) refl (c .before .put-named .ensures)
 
 returns-2 : tie.Need-returns-2
 returns-2 c =
-    body-reads _ (c .before .before .before .before .before .before .before .before .before .before .pre) (rw (c .before .before .before .before .before .before .at .given .1) at (c .before .before .before .before .before .before .before .before .pass .ensures)) refl (c .before .before .put-named .ensures) (c .sentences .ensures)
+    let at-put-named = c .before .before in
+    let at-at = at-put-named .before .before .before .before in
+    let at-pass = at-at .before .before in
+    let entry = at-pass .before .before in
+    body-reads _ (entry .pre) (rw (at-at .at .given .1) at (at-pass .pass .ensures)) refl (at-put-named .put-named .ensures) (c .sentences .ensures)
 
 pub body-spec : {M : Type 1} → statement M
 body-spec =

@@ -20,11 +20,16 @@ stopped-requires : tie.Need-stopped-requires
 stopped-requires c κs = search needs
 
 returns-2 : tie.Need-returns-2
-returns-2 c = rw (c .stopped .ensures) (function-many _ (c .before .before .before .before .before .before .pre) (c .before .before .before .token .given .1) (c .before .if1 .taken))
+returns-2 c =
+    let at-token = c .before .before .before in
+    let entry = at-token .before .before .before in
+    rw (c .stopped .ensures) (function-many _ (entry .pre) (at-token .token .given .1) (c .before .if1 .taken))
 
 declared-fault-requires : tie.Need-declared-fault-requires
 declared-fault-requires c κs =
-    (named-here (c .before .before .before .before .before .before .before .args .limit) (c .before .before .before .before .before .before .before .pre) (c .before .before .before .before .token .given .1) .inside, c .before .before .before .before .before .before .before .pre .entries)
+    let at-token = c .before .before .before .before in
+    let entry = at-token .before .before .before in
+    (named-here (entry .args .limit) (entry .pre) (at-token .token .given .1) .inside, entry .pre .entries)
 
 is-accepted-requires : tie.Need-is-accepted-requires
 is-accepted-requires c κs = search needs
@@ -34,12 +39,21 @@ stopped-requires-2 c κs = search needs
 
 returns-3 : tie.Need-returns-3
 returns-3 c =
-    let f = c .before .before .before .declared-fault .ensures in
-    rw (c .stopped2 .ensures) (function-misnamed _ (c .before .before .before .before .before .before .before .before .before .before .before .pre) (c .before .before .before .before .before .before .before .before .token .given .1) (c .before .before .before .before .before .before .if1 .left) f (a-fault-here f (c .before .before .is-accepted .ensures) (c .before .if2 .taken)))
+    let at-is-accepted = c .before .before in
+    let at-declared-fault = at-is-accepted .before in
+    let at-if1 = at-declared-fault .before .before .before in
+    let at-token = at-if1 .before .before in
+    let entry = at-token .before .before .before in
+    let f = at-declared-fault .declared-fault .ensures in
+    rw (c .stopped2 .ensures) (function-misnamed _ (entry .pre) (at-token .token .given .1) (at-if1 .if1 .left) f (a-fault-here f (at-is-accepted .is-accepted .ensures) (c .before .if2 .taken)))
 
 entry-requires : tie.Need-entry-requires
 entry-requires c κs =
-    let d = declarable (c .before .before .before .before .before .before .before .before .before .before .args .limit) (c .before .before .before .before .before .before .before .before .before .before .pre) (c .before .before .before .before .before .before .before .token .given .1) (c .before .before .before .before .before .if1 .left) (no-fault-here (c .before .before .declared-fault .ensures) (c .before .is-accepted .ensures) (c .if2 .left)) in
+    let at-declared-fault = c .before .before in
+    let at-if1 = at-declared-fault .before .before .before in
+    let at-token = at-if1 .before .before in
+    let entry = at-token .before .before .before in
+    let d = declarable (entry .args .limit) (entry .pre) (at-token .token .given .1) (at-if1 .if1 .left) (no-fault-here (at-declared-fault .declared-fault .ensures) (c .before .is-accepted .ensures) (c .if2 .left)) in
     (d .inside .forward, omega (arith, d .inside .inside, d .short))
 
 mul-names : tie.Need-mul-names
@@ -50,11 +64,24 @@ element-write-names c = c .before .before .before .before .before .before .if1 .
 
 body-requires : tie.Need-body-requires
 body-requires c κs =
-    declarable (c .before .before .before .before .before .before .before .before .before .before .before .before .args .limit) (c .before .before .before .before .before .before .before .before .before .before .before .before .pre) (c .before .before .before .before .before .before .before .before .before .token .given .1) (c .before .before .before .before .before .before .before .if1 .left) (no-fault-here (c .before .before .before .before .declared-fault .ensures) (c .before .before .before .is-accepted .ensures) (c .before .before .if2 .left))
+    let at-if2 = c .before .before in
+    let at-is-accepted = at-if2 .before in
+    let at-declared-fault = at-is-accepted .before in
+    let at-if1 = at-declared-fault .before .before .before in
+    let at-token = at-if1 .before .before in
+    let entry = at-token .before .before .before in
+    declarable (entry .args .limit) (entry .pre) (at-token .token .given .1) (at-if1 .if1 .left) (no-fault-here (at-declared-fault .declared-fault .ensures) (at-is-accepted .is-accepted .ensures) (at-if2 .if2 .left))
 
 returns-4 : tie.Need-returns-4
 returns-4 c =
-    function-reads _ (c .before .before .before .before .before .before .before .before .before .before .before .before .before .pre) (c .before .before .before .before .before .before .before .before .before .before .token .given .1) (c .before .before .before .before .before .before .before .before .if1 .left) (no-fault-here (c .before .before .before .before .before .declared-fault .ensures) (c .before .before .before .before .is-accepted .ensures) (c .before .before .before .if2 .left)) (c .before .before .entry .ensures) refl (c .body .ensures)
+    let at-entry = c .before .before in
+    let at-if2 = at-entry .before in
+    let at-is-accepted = at-if2 .before in
+    let at-declared-fault = at-is-accepted .before in
+    let at-if1 = at-declared-fault .before .before .before in
+    let at-token = at-if1 .before .before in
+    let entry-2 = at-token .before .before .before in
+    function-reads _ (entry-2 .pre) (at-token .token .given .1) (at-if1 .if1 .left) (no-fault-here (at-declared-fault .declared-fault .ensures) (at-is-accepted .is-accepted .ensures) (at-if2 .if2 .left)) (at-entry .entry .ensures) refl (c .body .ensures)
 
 pub function-spec : {M : Type 1} → statement M
 function-spec =

@@ -32,16 +32,23 @@ returns c =
 
 function-requires : tie.Need-function-requires Inv-loop μ-loop
 function-requires c κs =
-    let k = c .before .before .before .before .before .loop .inv in
-    opening k (comes _ outside _ _ (k .went .inside) (c .before .before .before .before .lex .ensures))
+    let at-lex = c .before .before .before .before in
+    let at-loop = at-lex .before in
+    let k = at-loop .loop .inv in
+    opening k (comes _ outside _ _ (k .went .inside) (at-lex .lex .ensures))
 
 enum-known-fault : tie.Need-enum-known-fault Inv-loop μ-loop
 enum-known-fault c = search needs
 
 returns-2 : tie.Need-returns-2 Inv-loop μ-loop
 returns-2 c =
-    let k = c .before .before .before .before .before .before .before .before .before .loop .inv in
-    function-stops k (comes _ outside _ _ (k .went .inside) (c .before .before .before .before .before .before .before .before .lex .ensures)) (sym (c .before .before .before .before .before .before .before .is-end .ensures) ∙ c .before .before .before .before .before .before .if1 .left) (rw (c .before .fault .given .1) at (c .before .before .before .function .ensures))
+    let at-function = c .before .before .before in
+    let at-if1 = at-function .before .before .before in
+    let at-is-end = at-if1 .before in
+    let at-lex = at-is-end .before in
+    let at-loop = at-lex .before in
+    let k = at-loop .loop .inv in
+    function-stops k (comes _ outside _ _ (k .went .inside) (at-lex .lex .ensures)) (sym (at-is-end .is-end .ensures) ∙ at-if1 .if1 .left) (rw (c .before .fault .given .1) at (at-function .function .ensures))
 
 enum-known-f : tie.Need-enum-known-f Inv-loop μ-loop
 enum-known-f c = search needs
@@ -63,9 +70,15 @@ loop-less c =
 
 loop-again : tie.Need-loop-again Inv-loop μ-loop
 loop-again c =
-    let k = c .before .before .before .before .before .before .before .before .before .before .loop .inv in
-    let r = has-read _ _ (rw (c .before .before .f .given .1) at (c .before .before .before .before .function .ensures)) in
-    function-goes k (comes _ outside _ _ (k .went .inside) (c .before .before .before .before .before .before .before .before .before .lex .ensures)) (sym (c .before .before .before .before .before .before .before .before .is-end .ensures) ∙ c .before .before .before .before .before .before .before .if1 .left) r (c .pass-spare .ensures)
+    let at-f = c .before .before in
+    let at-function = at-f .before .before in
+    let at-if1 = at-function .before .before .before in
+    let at-is-end = at-if1 .before in
+    let at-lex = at-is-end .before in
+    let at-loop = at-lex .before in
+    let k = at-loop .loop .inv in
+    let r = has-read _ _ (rw (at-f .f .given .1) at (at-function .function .ensures)) in
+    function-goes k (comes _ outside _ _ (k .went .inside) (at-lex .lex .ensures)) (sym (at-is-end .is-end .ensures) ∙ at-if1 .if1 .left) r (c .pass-spare .ensures)
 
 pub functions-spec : {M : Type 1} → statement M
 functions-spec =

@@ -16,11 +16,15 @@ is-sign-requires c κs = search needs
 
 returns : tie.Need-returns
 returns c =
-    spare-passed (takes _ outside _ 59 _ (comes _ outside _ _ (c .before .before .before .before .pre) (c .before .before .lex .ensures)) (sym (c .before .is-sign .ensures) ∙ c .if1 .taken))
+    let at-lex = c .before .before in
+    let entry = at-lex .before .before in
+    spare-passed (takes _ outside _ 59 _ (comes _ outside _ _ (entry .pre) (at-lex .lex .ensures)) (sym (c .before .is-sign .ensures) ∙ c .if1 .taken))
 
 returns-2 : tie.Need-returns-2
 returns-2 c =
-    spare-none (comes _ outside _ _ (c .before .before .before .before .pre) (c .before .before .lex .ensures)) (sym (c .before .is-sign .ensures) ∙ c .if1 .left)
+    let at-lex = c .before .before in
+    let entry = at-lex .before .before in
+    spare-none (comes _ outside _ _ (entry .pre) (at-lex .lex .ensures)) (sym (c .before .is-sign .ensures) ∙ c .if1 .left)
 
 pub pass-spare-spec : {M : Type 1} → statement M
 pass-spare-spec = tie.close (tie.spec lex-requires is-sign-requires returns returns-2)

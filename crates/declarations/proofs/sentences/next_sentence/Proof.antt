@@ -20,24 +20,39 @@ refuse-requires c κs = search needs
 
 returns : tie.Need-returns
 returns c =
-    let k = comes _ inside _ _ (c .before .before .before .before .before .pre .inside) (c .before .before .before .lex .ensures) in
-    first-refused _ _ k (sym (c .before .before .begins .ensures) ∙ not-true _ (c .before .if1 .taken)) (c .refuse .ensures)
+    let at-begins = c .before .before in
+    let at-lex = at-begins .before in
+    let entry = at-lex .before .before in
+    let k = comes _ inside _ _ (entry .pre .inside) (at-lex .lex .ensures) in
+    first-refused _ _ k (sym (at-begins .begins .ensures) ∙ not-true _ (c .before .if1 .taken)) (c .refuse .ensures)
 
 stopped-requires : tie.Need-stopped-requires
 stopped-requires c κs = search needs
 
 returns-2 : tie.Need-returns-2
 returns-2 c =
-    let k = comes _ inside _ _ (c .before .before .before .before .before .before .pre .inside) (c .before .before .before .before .lex .ensures) in
-    rw (c .stopped .ensures) (first-many _ _ k (sym (c .before .before .before .begins .ensures) ∙ not-false _ (c .before .before .if1 .left)) (c .before .if2 .taken))
+    let at-if1 = c .before .before in
+    let at-begins = at-if1 .before in
+    let at-lex = at-begins .before in
+    let entry = at-lex .before .before in
+    let k = comes _ inside _ _ (entry .pre .inside) (at-lex .lex .ensures) in
+    rw (c .stopped .ensures) (first-many _ _ k (sym (at-begins .begins .ensures) ∙ not-false _ (at-if1 .if1 .left)) (c .before .if2 .taken))
 
 sentence-requires : tie.Need-sentence-requires
-sentence-requires c κs = ready-place (c .before .before .before .before .before .before .pre) (comes _ inside _ _ (c .before .before .before .before .before .before .pre .inside) (c .before .before .before .before .lex .ensures))
+sentence-requires c κs =
+    let at-lex = c .before .before .before .before in
+    let entry = at-lex .before .before in
+    ready-place (entry .pre) (comes _ inside _ _ (entry .pre .inside) (at-lex .lex .ensures))
 
 returns-3 : tie.Need-returns-3
 returns-3 c =
-    let k = comes _ inside _ _ (c .before .before .before .before .before .before .before .pre .inside) (c .before .before .before .before .before .lex .ensures) in
-    first-reads _ _ k (sym (c .before .before .before .before .begins .ensures) ∙ not-false _ (c .before .before .before .if1 .left)) (c .before .before .if2 .left) (c .sentence .ensures)
+    let at-if2 = c .before .before in
+    let at-if1 = at-if2 .before in
+    let at-begins = at-if1 .before in
+    let at-lex = at-begins .before in
+    let entry = at-lex .before .before in
+    let k = comes _ inside _ _ (entry .pre .inside) (at-lex .lex .ensures) in
+    first-reads _ _ k (sym (at-begins .begins .ensures) ∙ not-false _ (at-if1 .if1 .left)) (at-if2 .if2 .left) (c .sentence .ensures)
 
 pub next-sentence-spec : {M : Type 1} → statement M
 next-sentence-spec =

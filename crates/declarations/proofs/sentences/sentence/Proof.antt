@@ -22,37 +22,60 @@ enum-known-p c = search needs
 
 slice-aggregate-conditions : tie.Need-slice-aggregate-conditions
 slice-aggregate-conditions c =
-    let k = pattern-done (rw (c .before .before .before .p .given .1) at (c .before .before .before .before .before .pattern .ensures)) in sym (k .how .variables .long)
+    let at-p = c .before .before .before in
+    let at-pattern = at-p .before .before in
+    let k = pattern-done (rw (at-p .p .given .1) at (at-pattern .pattern .ensures)) in
+    sym (k .how .variables .long)
 
 conditions-requires : tie.Need-conditions-requires
 conditions-requires c κs =
-    let k = pattern-done (rw (c .before .before .before .p .given .1) at (c .before .before .before .before .before .pattern .ensures)) in
-    (pattern-ready (c .before .before .before .before .before .before .before .before .before .before .pre) k, k .how .variables .symbolEntries)
+    let at-p = c .before .before .before in
+    let at-pattern = at-p .before .before in
+    let entry = at-pattern .before .before .before .before .before in
+    let k = pattern-done (rw (at-p .p .given .1) at (at-pattern .pattern .ensures)) in
+    (pattern-ready (entry .pre) k, k .how .variables .symbolEntries)
 
 enum-known-fault-2 : tie.Need-enum-known-fault-2
 enum-known-fault-2 c = search needs
 
 returns-2 : tie.Need-returns-2
 returns-2 c =
-    let k = pattern-done (rw (c .before .before .before .before .before .before .before .p .given .1) at (c .before .before .before .before .before .before .before .before .before .pattern .ensures)) in
-    conditions-stop (c .before .before .before .before .before .before .before .before .before .before .before .before .before .before .pre) k (rw (c .before .fault2 .given .1) at (c .before .before .before .conditions .ensures))
+    let at-conditions = c .before .before .before in
+    let at-p = at-conditions .before .before .before .before in
+    let at-pattern = at-p .before .before in
+    let entry = at-pattern .before .before .before .before .before in
+    let k = pattern-done (rw (at-p .p .given .1) at (at-pattern .pattern .ensures)) in
+    conditions-stop (entry .pre) k (rw (c .before .fault2 .given .1) at (at-conditions .conditions .ensures))
 
 enum-known-c : tie.Need-enum-known-c
 enum-known-c c = search needs
 
 slice-aggregate-sentence-end : tie.Need-slice-aggregate-sentence-end
 slice-aggregate-sentence-end c =
-    let k = pattern-done (rw (c .before .before .before .before .before .before .before .before .before .p .given .1) at (c .before .before .before .before .before .before .before .before .before .before .before .pattern .ensures)) in sym (k .how .variables .long)
+    let at-p = c .before .before .before .before .before .before .before .before .before in
+    let at-pattern = at-p .before .before in
+    let k = pattern-done (rw (at-p .p .given .1) at (at-pattern .pattern .ensures)) in
+    sym (k .how .variables .long)
 
 sentence-end-requires : tie.Need-sentence-end-requires
 sentence-end-requires c κs =
-    let k = pattern-done (rw (c .before .before .before .before .before .before .before .before .before .p .given .1) at (c .before .before .before .before .before .before .before .before .before .before .before .pattern .ensures)) in
-    (k .how .variables, conditions-ready (c .before .before .before .before .before .before .before .before .before .before .before .before .before .before .before .before .pre) k (conditions-done (c .before .before .before .before .before .before .before .before .before .before .before .before .before .before .before .before .pre) k (rw (c .before .before .before .c .given .1) at (c .before .before .before .before .before .conditions .ensures))))
+    let at-c = c .before .before .before in
+    let at-conditions = at-c .before .before in
+    let at-p = at-conditions .before .before .before .before in
+    let at-pattern = at-p .before .before in
+    let entry = at-pattern .before .before .before .before .before in
+    let k = pattern-done (rw (at-p .p .given .1) at (at-pattern .pattern .ensures)) in
+    (k .how .variables, conditions-ready (entry .pre) k (conditions-done (entry .pre) k (rw (at-c .c .given .1) at (at-conditions .conditions .ensures))))
 
 returns-3 : tie.Need-returns-3
 returns-3 c =
-    let k = pattern-done (rw (c .before .before .before .before .before .before .before .before .before .before .p .given .1) at (c .before .before .before .before .before .before .before .before .before .before .before .before .pattern .ensures)) in
-    sentence-reads (c .before .before .before .before .before .before .before .before .before .before .before .before .before .before .before .before .before .pre) k (conditions-done (c .before .before .before .before .before .before .before .before .before .before .before .before .before .before .before .before .before .pre) k (rw (c .before .before .before .before .c .given .1) at (c .before .before .before .before .before .before .conditions .ensures))) (c .sentence-end .ensures)
+    let at-c = c .before .before .before .before in
+    let at-conditions = at-c .before .before in
+    let at-p = at-conditions .before .before .before .before in
+    let at-pattern = at-p .before .before in
+    let entry = at-pattern .before .before .before .before .before in
+    let k = pattern-done (rw (at-p .p .given .1) at (at-pattern .pattern .ensures)) in
+    sentence-reads (entry .pre) k (conditions-done (entry .pre) k (rw (at-c .c .given .1) at (at-conditions .conditions .ensures))) (c .sentence-end .ensures)
 
 pub sentence-spec : {M : Type 1} → statement M
 sentence-spec =

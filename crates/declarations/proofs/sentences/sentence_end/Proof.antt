@@ -16,22 +16,34 @@ enum-known-at c = search needs
 
 put-requires : tie.Need-put-requires
 put-requires c κs =
-    equals-room _ (c .before .before .before .before .before .before .before .args .table .now) (c .before .before .before .before .before .before .before .args .symbols) (c .before .before .before .before .before .before .before .args .parts) _ _ (rw (c .before .before .at .given .1) at (c .before .before .before .before .pass .ensures)) (c .before .before .before .before .before .before .before .pre .1)
+    let at-at = c .before .before in
+    let at-pass = at-at .before .before in
+    let entry = at-pass .before .before .before in
+    equals-room _ (entry .args .table .now) (entry .args .symbols) (entry .args .parts) _ _ (rw (at-at .at .given .1) at (at-pass .pass .ensures)) (entry .pre .1)
 
 add-t16 : tie.Need-add-t16
 add-t16 c = let r = c .before .before .before .before .before .before .before .before .pre .1 in omega arith
 
 expression-requires : tie.Need-expression-requires
 expression-requires c κs =
-    equals-going _ _ _ _ _ _ (rw (c .before .before .before .before .at .given .1) at (c .before .before .before .before .before .before .pass .ensures)) (c .before .before .before .before .before .before .before .before .before .pre .1) (c .before .before .before .before .before .before .before .before .before .pre .0)
+    let at-at = c .before .before .before .before in
+    let at-pass = at-at .before .before in
+    let entry = at-pass .before .before .before in
+    equals-going _ _ _ _ _ _ (rw (at-at .at .given .1) at (at-pass .pass .ensures)) (entry .pre .1) (entry .pre .0)
 
 returns : tie.Need-returns
 returns c =
-    equals-not _ (c .before .before .before .before .before .before .args .table .now) (c .before .before .before .before .before .before .args .symbols) (c .before .before .before .before .before .before .args .parts) _ _ (rw (c .before .fault .given .1) at (c .before .before .before .pass .ensures))
+    let at-pass = c .before .before .before in
+    let entry = at-pass .before .before .before in
+    equals-not _ (entry .args .table .now) (entry .args .symbols) (entry .args .parts) _ _ (rw (c .before .fault .given .1) at (at-pass .pass .ensures))
 
 returns-2 : tie.Need-returns-2
 returns-2 c =
-    equals-reads _ (c .before .before .before .before .before .before .before .before .before .before .args .table .now) (c .before .before .before .before .before .before .before .before .before .before .args .symbols) (c .before .before .before .before .before .before .before .before .before .before .args .parts) _ _ (rw (c .before .before .before .before .before .at .given .1) at (c .before .before .before .before .before .before .before .pass .ensures)) (c .before .before .before .before .before .before .before .before .before .before .pre .1) (c .before .before .put .ensures) (c .expression .ensures)
+    let at-put = c .before .before in
+    let at-at = at-put .before .before .before in
+    let at-pass = at-at .before .before in
+    let entry = at-pass .before .before .before in
+    equals-reads _ (entry .args .table .now) (entry .args .symbols) (entry .args .parts) _ _ (rw (at-at .at .given .1) at (at-pass .pass .ensures)) (entry .pre .1) (at-put .put .ensures) (c .expression .ensures)
 
 pub sentence-end-spec : {M : Type 1} → statement M
 sentence-end-spec =

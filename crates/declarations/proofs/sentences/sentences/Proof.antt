@@ -22,7 +22,10 @@ enum-known-fault : tie.Need-enum-known-fault Inv-loop μ-loop
 enum-known-fault c = search needs
 
 returns : tie.Need-returns Inv-loop μ-loop
-returns c = sentence-stops (c .before .before .before .before .before .loop .inv) (rw (c .before .fault .given .1) at (c .before .before .before .next-sentence .ensures))
+returns c =
+    let at-next-sentence = c .before .before .before in
+    let at-loop = at-next-sentence .before .before in
+    sentence-stops (at-loop .loop .inv) (rw (c .before .fault .given .1) at (at-next-sentence .next-sentence .ensures))
 
 enum-known-s : tie.Need-enum-known-s Inv-loop μ-loop
 enum-known-s c = search needs
@@ -34,8 +37,11 @@ sub-left c =
 
 add-to : tie.Need-add-to Inv-loop μ-loop
 add-to c =
-    let k = c .before .before .before .before .before .before .loop .inv in
-    let r = has-read _ _ (rw (c .before .before .s .given .1) at (c .before .before .before .before .next-sentence .ensures)) in
+    let at-s = c .before .before in
+    let at-next-sentence = at-s .before .before in
+    let at-loop = at-next-sentence .before .before in
+    let k = at-loop .loop .inv in
+    let r = has-read _ _ (rw (at-s .s .given .1) at (at-next-sentence .next-sentence .ensures)) in
     omega (arith, r .how .read .went .charged, r .how .read .went .inside, k .short)
 
 after-sentence-requires : tie.Need-after-sentence-requires Inv-loop μ-loop
@@ -48,43 +54,69 @@ enum-known-past c = search needs
 
 put-requires : tie.Need-put-requires Inv-loop μ-loop
 put-requires c κs =
-    let r = has-read _ _ (rw (c .before .before .before .before .before .before .before .s .given .1) at (c .before .before .before .before .before .before .before .before .before .next-sentence .ensures)) in
-    let f = rw (c .before .before .past .given .1) at (c .before .before .before .before .after-sentence .ensures) in
-    sequel-room (c .before .before .before .before .before .before .before .before .before .before .before .loop .inv) r (f .gives .1) (f .gives .2)
+    let at-past = c .before .before in
+    let at-after-sentence = at-past .before .before in
+    let at-s = at-after-sentence .before .before .before in
+    let at-next-sentence = at-s .before .before in
+    let at-loop = at-next-sentence .before .before in
+    let r = has-read _ _ (rw (at-s .s .given .1) at (at-next-sentence .next-sentence .ensures)) in
+    let f = rw (at-past .past .given .1) at (at-after-sentence .after-sentence .ensures) in
+    sequel-room (at-loop .loop .inv) r (f .gives .1) (f .gives .2)
 
 returns-2 : tie.Need-returns-2 Inv-loop μ-loop
 returns-2 c =
-    let r = has-read _ _ (rw (c .before .before .before .before .before .before .before .before .s .given .1) at (c .before .before .before .before .before .before .before .before .before .before .next-sentence .ensures)) in
-    let f = rw (c .before .before .before .past .given .1) at (c .before .before .before .before .before .after-sentence .ensures) in
-    sequel-ends (c .before .before .before .before .before .before .before .before .before .before .before .before .loop .inv) r f (c .put .ensures)
+    let at-past = c .before .before .before in
+    let at-after-sentence = at-past .before .before in
+    let at-s = at-after-sentence .before .before .before in
+    let at-next-sentence = at-s .before .before in
+    let at-loop = at-next-sentence .before .before in
+    let r = has-read _ _ (rw (at-s .s .given .1) at (at-next-sentence .next-sentence .ensures)) in
+    let f = rw (at-past .past .given .1) at (at-after-sentence .after-sentence .ensures) in
+    sequel-ends (at-loop .loop .inv) r f (c .put .ensures)
 
 enum-known-place : tie.Need-enum-known-place Inv-loop μ-loop
 enum-known-place c = search needs
 
 put-requires-2 : tie.Need-put-requires-2 Inv-loop μ-loop
 put-requires-2 c κs =
-    let r = has-read _ _ (rw (c .before .before .before .before .before .before .before .s .given .1) at (c .before .before .before .before .before .before .before .before .before .next-sentence .ensures)) in
-    let f = rw (c .before .before .place .given .1) at (c .before .before .before .before .after-sentence .ensures) in
-    sequel-room (c .before .before .before .before .before .before .before .before .before .before .before .loop .inv) r (f .gives .1) (f .gives .2)
+    let at-place = c .before .before in
+    let at-after-sentence = at-place .before .before in
+    let at-s = at-after-sentence .before .before .before in
+    let at-next-sentence = at-s .before .before in
+    let at-loop = at-next-sentence .before .before in
+    let r = has-read _ _ (rw (at-s .s .given .1) at (at-next-sentence .next-sentence .ensures)) in
+    let f = rw (at-place .place .given .1) at (at-after-sentence .after-sentence .ensures) in
+    sequel-room (at-loop .loop .inv) r (f .gives .1) (f .gives .2)
 
 loop-less : tie.Need-loop-less Inv-loop μ-loop
 loop-less c =
-    let r = has-read _ _ (rw (c .before .before .before .before .before .before .before .before .s .given .1) at (c .before .before .before .before .before .before .before .before .before .before .next-sentence .ensures)) in
+    let at-s = c .before .before .before .before .before .before .before .before in
+    let at-next-sentence = at-s .before .before in
+    let r = has-read _ _ (rw (at-s .s .given .1) at (at-next-sentence .next-sentence .ensures)) in
     omega (arith, r .how .some)
 
 loop-again : tie.Need-loop-again Inv-loop μ-loop
 loop-again c =
-    let r = has-read _ _ (rw (c .before .before .before .before .before .before .before .before .s .given .1) at (c .before .before .before .before .before .before .before .before .before .before .next-sentence .ensures)) in
-    let f = rw (c .before .before .before .place .given .1) at (c .before .before .before .before .before .after-sentence .ensures) in
-    sequel-goes (c .before .before .before .before .before .before .before .before .before .before .before .before .loop .inv) r f (c .put2 .ensures)
+    let at-place = c .before .before .before in
+    let at-after-sentence = at-place .before .before in
+    let at-s = at-after-sentence .before .before .before in
+    let at-next-sentence = at-s .before .before in
+    let at-loop = at-next-sentence .before .before in
+    let r = has-read _ _ (rw (at-s .s .given .1) at (at-next-sentence .next-sentence .ensures)) in
+    let f = rw (at-place .place .given .1) at (at-after-sentence .after-sentence .ensures) in
+    sequel-goes (at-loop .loop .inv) r f (c .put2 .ensures)
 
 enum-known-fault-2 : tie.Need-enum-known-fault-2 Inv-loop μ-loop
 enum-known-fault-2 c = search needs
 
 returns-3 : tie.Need-returns-3 Inv-loop μ-loop
 returns-3 c =
-    let r = has-read _ _ (rw (c .before .before .before .before .before .before .s .given .1) at (c .before .before .before .before .before .before .before .before .next-sentence .ensures)) in
-    sequel-refused (c .before .before .before .before .before .before .before .before .before .before .loop .inv) r (rw (c .before .fault2 .given .1) at (c .before .before .before .after-sentence .ensures))
+    let at-after-sentence = c .before .before .before in
+    let at-s = at-after-sentence .before .before .before in
+    let at-next-sentence = at-s .before .before in
+    let at-loop = at-next-sentence .before .before in
+    let r = has-read _ _ (rw (at-s .s .given .1) at (at-next-sentence .next-sentence .ensures)) in
+    sequel-refused (at-loop .loop .inv) r (rw (c .before .fault2 .given .1) at (at-after-sentence .after-sentence .ensures))
 
 pub sentences-spec : {M : Type 1} → statement M
 sentences-spec =

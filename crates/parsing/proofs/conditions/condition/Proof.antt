@@ -16,8 +16,10 @@ enum-known-fault c = search needs
 
 returns : tie.Need-returns
 returns c =
-    let p = c .before .before .before .before .before .before .pre in
-    open-not (p .1) (p .0) (c .before .before .before .pass .ensures) (c .before .fault .given .1)
+    let at-pass = c .before .before .before in
+    let entry = at-pass .before .before .before in
+    let p = entry .pre in
+    open-not (p .1) (p .0) (at-pass .pass .ensures) (c .before .fault .given .1)
 
 lex-requires : tie.Need-lex-requires
 lex-requires c κs = search needs
@@ -30,42 +32,81 @@ refuse-requires c κs = search needs
 
 returns-2 : tie.Need-returns-2
 returns-2 c =
-    let p = c .before .before .before .before .before .before .before .before .before .pre in
-    name-not (p .1) (p .0) (c .before .before .before .before .before .before .pass .ensures) (c .before .before .before .before .at .given .1) (c .before .before .lex .ensures) (c .before .match2 .keys2) (c .refuse .ensures)
+    let at-lex = c .before .before in
+    let at-at = at-lex .before .before in
+    let at-pass = at-at .before .before in
+    let entry = at-pass .before .before .before in
+    let p = entry .pre in
+    name-not (p .1) (p .0) (at-pass .pass .ensures) (at-at .at .given .1) (at-lex .lex .ensures) (c .before .match2 .keys2) (c .refuse .ensures)
 
 sub-if1 : tie.Need-sub-if1
 sub-if1 c =
-    let p = c .before .before .before .before .before .before .before .before .before .before .before .pre in
-    name-inside (p .1) (p .0) (c .before .before .before .before .before .before .before .before .pass .ensures) (c .before .before .before .before .before .before .at .given .1) (c .before .before .before .before .lex .ensures) (c .before .before .token .given .1) .forward
+    let at-token = c .before .before in
+    let at-lex = at-token .before .before in
+    let at-at = at-lex .before .before in
+    let at-pass = at-at .before .before in
+    let entry = at-pass .before .before .before in
+    let p = entry .pre in
+    name-inside (p .1) (p .0) (at-pass .pass .ensures) (at-at .at .given .1) (at-lex .lex .ensures) (at-token .token .given .1) .forward
 
 returns-3 : tie.Need-returns-3
 returns-3 c =
-    let p = c .before .before .before .before .before .before .before .before .before .before .before .before .pre in
-    name-long (p .1) (p .0) (c .before .before .before .before .before .before .before .before .before .pass .ensures) (c .before .before .before .before .before .before .before .at .given .1) (c .before .before .before .before .before .lex .ensures) (c .before .before .before .token .given .1) (c .if1 .taken)
+    let at-token = c .before .before .before in
+    let at-lex = at-token .before .before in
+    let at-at = at-lex .before .before in
+    let at-pass = at-at .before .before in
+    let entry = at-pass .before .before .before in
+    let p = entry .pre in
+    name-long (p .1) (p .0) (at-pass .pass .ensures) (at-at .at .given .1) (at-lex .lex .ensures) (at-token .token .given .1) (c .if1 .taken)
 
 class-named-requires : tie.Need-class-named-requires
 class-named-requires c κs =
-    let p = c .before .before .before .before .before .before .before .before .before .before .before .before .pre in
-    name-inside (p .1) (p .0) (c .before .before .before .before .before .before .before .before .before .pass .ensures) (c .before .before .before .before .before .before .before .at .given .1) (c .before .before .before .before .before .lex .ensures) (c .before .before .before .token .given .1)
+    let at-token = c .before .before .before in
+    let at-lex = at-token .before .before in
+    let at-at = at-lex .before .before in
+    let at-pass = at-at .before .before in
+    let entry = at-pass .before .before .before in
+    let p = entry .pre in
+    name-inside (p .1) (p .0) (at-pass .pass .ensures) (at-at .at .given .1) (at-lex .lex .ensures) (at-token .token .given .1)
 
 returns-4 : tie.Need-returns-4
 returns-4 c =
-    let p = c .before .before .before .before .before .before .before .before .before .before .before .before .before .before .pre in
-    class-not (p .1) (p .0) (c .before .before .before .before .before .before .before .before .before .before .before .pass .ensures) (c .before .before .before .before .before .before .before .before .before .at .given .1) (c .before .before .before .before .before .before .before .lex .ensures) (c .before .before .before .before .before .token .given .1) (c .before .before .if1 .left) (rw (c .if2 .taken) at (c .before .class-named .ensures .0))
+    let at-if1 = c .before .before in
+    let at-token = at-if1 .before .before .before in
+    let at-lex = at-token .before .before in
+    let at-at = at-lex .before .before in
+    let at-pass = at-at .before .before in
+    let entry = at-pass .before .before .before in
+    let p = entry .pre in
+    class-not (p .1) (p .0) (at-pass .pass .ensures) (at-at .at .given .1) (at-lex .lex .ensures) (at-token .token .given .1) (at-if1 .if1 .left) (rw (c .if2 .taken) at (c .before .class-named .ensures .0))
 
 condition-on-requires : tie.Need-condition-on-requires
 condition-on-requires c κs =
-    let p = c .before .before .before .before .before .before .before .before .before .before .before .before .before .before .before .pre in
-    let l = c .before .before .class-named .ensures .1 in
+    let at-class-named = c .before .before in
+    let at-token = at-class-named .before .before .before .before in
+    let at-lex = at-token .before .before in
+    let at-at = at-lex .before .before in
+    let at-pass = at-at .before .before in
+    let entry = at-pass .before .before .before in
+    let p = entry .pre in
+    let l = at-class-named .class-named .ensures .1 in
     let d = c .before .if2 .left in
-    (name-ready (p .1) (p .0) (c .before .before .before .before .before .before .before .before .before .before .before .before .pass .ensures) (c .before .before .before .before .before .before .before .before .before .before .at .given .1) (c .before .before .before .before .before .before .before .before .lex .ensures) (c .before .before .before .before .before .before .token .given .1), p .1, omega arith)
+    (name-ready (p .1) (p .0) (at-pass .pass .ensures) (at-at .at .given .1) (at-lex .lex .ensures) (at-token .token .given .1), p .1, omega arith)
 
 returns-5 : tie.Need-returns-5
 returns-5 c =
-    let p = c .before .before .before .before .before .before .before .before .before .before .before .before .before .before .before .before .pre in
-    let l = c .before .before .before .class-named .ensures .1 in
-    let d = c .before .before .if2 .left in
-    class-reads (p .1) (p .0) (c .before .before .before .before .before .before .before .before .before .before .before .before .before .pass .ensures) (c .before .before .before .before .before .before .before .before .before .before .before .at .given .1) (c .before .before .before .before .before .before .before .before .before .lex .ensures) (c .before .before .before .before .before .before .before .token .given .1) (c .before .before .before .before .if1 .left) (c .before .before .before .class-named .result) (omega arith) (c .before .before .before .class-named .ensures .0) (c .condition-on .ensures)
+    let at-if2 = c .before .before in
+    let at-class-named = at-if2 .before in
+    let at-if1 = at-class-named .before in
+    let at-token = at-if1 .before .before .before in
+    let at-lex = at-token .before .before in
+    let at-at = at-lex .before .before in
+    let at-pass = at-at .before .before in
+    let entry = at-pass .before .before .before in
+    let p = entry .pre in
+    let l = at-class-named .class-named .ensures .1 in
+    let d = at-if2 .if2 .left in
+    class-reads (p .1) (p .0) (at-pass .pass .ensures) (at-at .at .given .1) (at-lex .lex .ensures) (at-token .token .given .1) (at-if1 .if1 .left) (at-class-named .class-named .result) (omega arith) (at-class-named .class-named .ensures .0) (c .condition-on .ensures)
 
 pub condition-spec : {M : Type 1} → statement M
 condition-spec =

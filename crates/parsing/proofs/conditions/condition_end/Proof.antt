@@ -18,7 +18,9 @@ enum-known-fault c = search needs
 
 returns : tie.Need-returns
 returns c =
-    λ k e. end-no-close _ _ (c .before .before .before .before .before .args .x) k (rw (c .before .fault .given .1) at (c .before .before .before .pass .ensures))
+    let at-pass = c .before .before .before in
+    let entry = at-pass .before .before in
+    λ k e. end-no-close _ _ (entry .args .x) k (rw (c .before .fault .given .1) at (at-pass .pass .ensures))
 
 pass-requires-2 : tie.Need-pass-requires-2
 pass-requires-2 c κs = let t = rw (c .before .at .given .1) at (c .before .before .before .pass .ensures) in t .inside
@@ -31,8 +33,11 @@ enum-known-fault-2 c = search needs
 
 returns-2 : tie.Need-returns-2
 returns-2 c =
-    λ k e.
-    end-no-colon _ _ (c .before .before .before .before .before .before .before .before .before .args .x) k (rw (c .before .before .before .before .before .at .given .1) at (c .before .before .before .before .before .before .before .pass .ensures)) (rw (c .before .fault2 .given .1) at (c .before .before .before .pass2 .ensures))
+    let at-pass2 = c .before .before .before in
+    let at-at = at-pass2 .before .before in
+    let at-pass = at-at .before .before in
+    let entry = at-pass .before .before in
+    λ k e. end-no-colon _ _ (entry .args .x) k (rw (at-at .at .given .1) at (at-pass .pass .ensures)) (rw (c .before .fault2 .given .1) at (at-pass2 .pass2 .ensures))
 
 lex-requires : tie.Need-lex-requires
 lex-requires c κs = search needs
@@ -48,10 +53,14 @@ refuse-requires c κs = search needs
 
 returns-3 : tie.Need-returns-3
 returns-3 c =
-    λ k e.
-    let t = rw (c .before .before .before .before .before .at2 .given .1) at (c .before .before .before .before .before .before .before .pass2 .ensures) in
-    end-no-truth _ _ (c .before .before .before .before .before .before .before .before .before .before .before .before .before .args .x) k (rw (c .before .before .before .before .before .before .before .before .before .at .given .1) at (c .before .before .before .before .before .before .before .before .before .before .before .pass .ensures)) t (comes _ inside _ _ (t .inside) (c .before .before .before .lex .ensures))
-    (c .before .before .truth-in .ensures) (c .before .if1 .taken) (c .refuse .ensures)
+    let at-truth-in = c .before .before in
+    let at-lex = at-truth-in .before in
+    let at-at2 = at-lex .before .before in
+    let at-pass2 = at-at2 .before .before in
+    let at-at = at-pass2 .before .before in
+    let at-pass = at-at .before .before in
+    let entry = at-pass .before .before in
+    λ k e. let t = rw (at-at2 .at2 .given .1) at (at-pass2 .pass2 .ensures) in end-no-truth _ _ (entry .args .x) k (rw (at-at .at .given .1) at (at-pass .pass .ensures)) t (comes _ inside _ _ (t .inside) (at-lex .lex .ensures)) (at-truth-in .truth-in .ensures) (c .before .if1 .taken) (c .refuse .ensures)
 
 sub-word : tie.Need-sub-word
 sub-word c = search needs
@@ -76,11 +85,15 @@ put-named-requires c κs = search needs
 
 returns-4 : tie.Need-returns-4
 returns-4 c =
-    λ k e.
-    let t = rw (c .before .before .before .before .before .before .before .at2 .given .1) at (c .before .before .before .before .before .before .before .before .before .pass2 .ensures) in
-    let p = c .before .before .before .before .before .before .before .before .before .before .before .before .before .before .before .pre in
-    end-reads _ _ (c .before .before .before .before .before .before .before .before .before .before .before .before .before .before .before .args .x) k (rw (c .before .before .before .before .before .before .before .before .before .before .before .at .given .1) at (c .before .before .before .before .before .before .before .before .before .before .before .before .before .pass .ensures)) t (comes _ inside _ _ (t .inside) (c .before .before .before .before .before .lex .ensures))
-    (c .before .before .before .before .truth-in .ensures) (p .0) (p .1) (p .2) e (c .before .before .before .if1 .left) refl (c .put-named .ensures)
+    let at-if1 = c .before .before .before in
+    let at-truth-in = at-if1 .before in
+    let at-lex = at-truth-in .before in
+    let at-at2 = at-lex .before .before in
+    let at-pass2 = at-at2 .before .before in
+    let at-at = at-pass2 .before .before in
+    let at-pass = at-at .before .before in
+    let entry = at-pass .before .before in
+    λ k e. let t = rw (at-at2 .at2 .given .1) at (at-pass2 .pass2 .ensures) in let p = entry .pre in end-reads _ _ (entry .args .x) k (rw (at-at .at .given .1) at (at-pass .pass .ensures)) t (comes _ inside _ _ (t .inside) (at-lex .lex .ensures)) (at-truth-in .truth-in .ensures) (p .0) (p .1) (p .2) e (at-if1 .if1 .left) refl (c .put-named .ensures)
 
 pub condition-end-spec : {M : Type 1} → statement M
 condition-end-spec =

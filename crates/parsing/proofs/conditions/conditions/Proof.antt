@@ -31,20 +31,32 @@ returns c =
 
 returns-2 : tie.Need-returns-2 Inv-loop μ-loop
 returns-2 c =
-    let k = c .before .before .before .before .loop .inv in
-    conditions-many k (c .before .before .before .lex .ensures) (sym (c .before .before .is-sign .ensures) ∙ not-false _ (c .before .if1 .left)) (c .if2 .taken)
+    let at-is-sign = c .before .before in
+    let at-lex = at-is-sign .before in
+    let at-loop = at-lex .before in
+    let k = at-loop .loop .inv in
+    conditions-many k (at-lex .lex .ensures) (sym (at-is-sign .is-sign .ensures) ∙ not-false _ (c .before .if1 .left)) (c .if2 .taken)
 
 condition-requires : tie.Need-condition-requires Inv-loop μ-loop
-condition-requires c κs = (condition-ready (c .before .before .before .before .before .loop .inv) (c .before .before .before .before .lex .ensures), c .before .before .before .before .before .before .before .before .pre .1)
+condition-requires c κs =
+    let at-lex = c .before .before .before .before in
+    let at-loop = at-lex .before in
+    let entry = at-loop .before .before .before in
+    (condition-ready (at-loop .loop .inv) (at-lex .lex .ensures), entry .pre .1)
 
 enum-known-fault : tie.Need-enum-known-fault Inv-loop μ-loop
 enum-known-fault c = search needs
 
 returns-3 : tie.Need-returns-3 Inv-loop μ-loop
 returns-3 c =
-    let k = c .before .before .before .before .before .before .before .before .before .loop .inv in
-    condition-stops k (c .before .before .before .before .before .before .before .before .lex .ensures) (sym (c .before .before .before .before .before .before .before .is-sign .ensures) ∙ not-false _ (c .before .before .before .before .before .before .if1 .left)) (c .before .before .before .before .before .if2 .left)
-    (rw (c .before .fault .given .1) at (c .before .before .before .condition .ensures))
+    let at-condition = c .before .before .before in
+    let at-if2 = at-condition .before .before in
+    let at-if1 = at-if2 .before in
+    let at-is-sign = at-if1 .before in
+    let at-lex = at-is-sign .before in
+    let at-loop = at-lex .before in
+    let k = at-loop .loop .inv in
+    condition-stops k (at-lex .lex .ensures) (sym (at-is-sign .is-sign .ensures) ∙ not-false _ (at-if1 .if1 .left)) (at-if2 .if2 .left) (rw (c .before .fault .given .1) at (at-condition .condition .ensures))
 
 enum-known-next : tie.Need-enum-known-next Inv-loop μ-loop
 enum-known-next c = search needs
@@ -57,9 +69,14 @@ loop-less c = let z = c .before .before .before .before .before .if2 .left in om
 
 loop-again : tie.Need-loop-again Inv-loop μ-loop
 loop-again c =
-    let k = c .before .before .before .before .before .before .before .before .before .loop .inv in
-    condition-goes k (c .before .before .before .before .before .before .before .before .lex .ensures) (sym (c .before .before .before .before .before .before .before .is-sign .ensures) ∙ not-false _ (c .before .before .before .before .before .before .if1 .left)) (c .before .before .before .before .before .if2 .left)
-    (rw (c .before .next .given .1) at (c .before .before .before .condition .ensures))
+    let at-condition = c .before .before .before in
+    let at-if2 = at-condition .before .before in
+    let at-if1 = at-if2 .before in
+    let at-is-sign = at-if1 .before in
+    let at-lex = at-is-sign .before in
+    let at-loop = at-lex .before in
+    let k = at-loop .loop .inv in
+    condition-goes k (at-lex .lex .ensures) (sym (at-is-sign .is-sign .ensures) ∙ not-false _ (at-if1 .if1 .left)) (at-if2 .if2 .left) (rw (c .before .next .given .1) at (at-condition .condition .ensures))
 
 pub conditions-spec : {M : Type 1} → statement M
 conditions-spec =

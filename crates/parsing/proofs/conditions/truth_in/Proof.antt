@@ -15,7 +15,10 @@ add-three : tie.Need-add-three
 add-three c = let s = c .before .before .before .before .pre in omega (arith, s .forward, s .inside)
 
 returns-2 : tie.Need-returns-2
-returns-2 c = truth-long (c .before .before .before .before .before .args .text .now) (c .before .before .before .before .before .args .t) _ (c .before .before .enum-told .given .1) (c .if1 .taken)
+returns-2 c =
+    let at-enum-told = c .before .before in
+    let entry = at-enum-told .before .before .before in
+    truth-long (entry .args .text .now) (entry .args .t) _ (at-enum-told .enum-told .given .1) (c .if1 .taken)
 
 add-truth-between : tie.Need-add-truth-between
 add-truth-between c = search needs
@@ -28,7 +31,10 @@ truth-between-requires c κs = search needs
 
 returns-3 : tie.Need-returns-3
 returns-3 c =
-    truth-three (c .before .before .before .before .before .before .before .before .args .text .now) (c .before .before .before .before .before .before .before .before .args .t) _ (c .before .before .before .before .before .enum-told .given .1) (c .before .before .before .before .before .before .before .before .pre) (c .before .before .before .if1 .left) (c .truth-between .ensures)
+    let at-if1 = c .before .before .before in
+    let at-enum-told = at-if1 .before .before in
+    let entry = at-enum-told .before .before .before in
+    truth-three (entry .args .text .now) (entry .args .t) _ (at-enum-told .enum-told .given .1) (entry .pre) (at-if1 .if1 .left) (c .truth-between .ensures)
 
 pub truth-in-spec : {M : Type 1} → statement M
 truth-in-spec =

@@ -10,35 +10,47 @@ enum-known-token c = search needs
 
 add-string-requires : tie.Need-add-string-requires
 add-string-requires c κs =
-    (c .before .before .before .before .before .before .before .pre .0, string-at (c .before .before .before .before .before .before .before .pre .1) (c .before .before .before .before .token .given .1))
+    let at-token = c .before .before .before .before in
+    let entry = at-token .before .before .before in
+    (entry .pre .0, string-at (entry .pre .1) (at-token .token .given .1))
 
 enum-known-token-2 : tie.Need-enum-known-token-2
 enum-known-token-2 c = search needs
 
 add-symbol-requires : tie.Need-add-symbol-requires
 add-symbol-requires c κs =
-    (c .before .before .before .before .before .before .pre .0, symbol-at (c .before .before .before .before .before .before .pre .1) (c .before .before .before .token2 .given .1))
+    let at-token2 = c .before .before .before in
+    let entry = at-token2 .before .before .before in
+    (entry .pre .0, symbol-at (entry .pre .1) (at-token2 .token2 .given .1))
 
 enum-known-token-3 : tie.Need-enum-known-token-3
 enum-known-token-3 c = search needs
 
 add-part-requires : tie.Need-add-part-requires
 add-part-requires c κs =
-    (c .before .before .before .before .before .before .pre .0, part-at (c .before .before .before .before .before .before .pre .1) (c .before .before .before .token3 .given .1))
+    let at-token3 = c .before .before .before in
+    let entry = at-token3 .before .before .before in
+    (entry .pre .0, part-at (entry .pre .1) (at-token3 .token3 .given .1))
 
 returns : tie.Need-returns
 returns c =
-    adds (c .before .before .before .before .before .before .before .before .args .t) (item-string (c .before .before .before .before .before .before .before .before .pre .1) (c .before .before .before .before .before .token .given .1)) refl refl (c .add-string .ensures)
+    let at-token = c .before .before .before .before .before in
+    let entry = at-token .before .before .before in
+    adds (entry .args .t) (item-string (entry .pre .1) (at-token .token .given .1)) refl refl (c .add-string .ensures)
 
 returns-2 : tie.Need-returns-2
 returns-2 c =
-    let q = c .before .before .before .before .before .before .before .pre .1 in
-    adds (c .before .before .before .before .before .before .before .args .t) (item-symbol q (c .before .before .before .before .token2 .given .1)) refl (symbol-past q (c .before .before .before .before .token2 .given .1)) (c .add-symbol .ensures)
+    let at-token2 = c .before .before .before .before in
+    let entry = at-token2 .before .before .before in
+    let q = entry .pre .1 in
+    adds (entry .args .t) (item-symbol q (at-token2 .token2 .given .1)) refl (symbol-past q (at-token2 .token2 .given .1)) (c .add-symbol .ensures)
 
 returns-3 : tie.Need-returns-3
 returns-3 c =
-    let q = c .before .before .before .before .before .before .before .pre .1 in
-    adds (c .before .before .before .before .before .before .before .args .t) (item-part q (c .before .before .before .before .token3 .given .1)) refl (part-past q (c .before .before .before .before .token3 .given .1)) (c .add-part .ensures)
+    let at-token3 = c .before .before .before .before in
+    let entry = at-token3 .before .before .before in
+    let q = entry .pre .1 in
+    adds (entry .args .t) (item-part q (at-token3 .token3 .given .1)) refl (part-past q (at-token3 .token3 .given .1)) (c .add-part .ensures)
 
 returns-4 : tie.Need-returns-4
 returns-4 c = record { gives = (item-other (c .before .before .pre .1) (c .match .keys4), refl, refl) }

@@ -14,8 +14,10 @@ is-accepted-requires c κs = search needs
 
 returns : tie.Need-returns
 returns c =
-    let p = c .before .before .before .before .before .before .pre in
-    item-wrong (part-faulted (p .0) (p .1)) (c .before .before .part-fault .ensures) (c .before .is-accepted .ensures) (c .if1 .taken)
+    let at-part-fault = c .before .before in
+    let entry = at-part-fault .before .before .before .before in
+    let p = entry .pre in
+    item-wrong (part-faulted (p .0) (p .1)) (at-part-fault .part-fault .ensures) (c .before .is-accepted .ensures) (c .if1 .taken)
 
 add-last : tie.Need-add-last
 add-last c = search needs
@@ -28,8 +30,11 @@ mul-table c = search needs
 
 element-write-table : tie.Need-element-write-table
 element-write-table c =
-    let p = c .before .before .before .before .before .before .before .pre in
-    let f = part-few (p .0) (p .1) (no-fault-here (c .before .before .before .part-fault .ensures) (c .before .before .is-accepted .ensures) (c .before .if1 .left)) in
+    let at-is-accepted = c .before .before in
+    let at-part-fault = at-is-accepted .before in
+    let entry = at-part-fault .before .before .before .before in
+    let p = entry .pre in
+    let f = part-few (p .0) (p .1) (no-fault-here (at-part-fault .part-fault .ensures) (at-is-accepted .is-accepted .ensures) (c .before .if1 .left)) in
     omega arith
 
 put-name-requires : tie.Need-put-name-requires
@@ -40,9 +45,14 @@ add-t14 c = search needs
 
 returns-2 : tie.Need-returns-2
 returns-2 c =
-    let p = c .before .before .before .before .before .before .before .before .before .pre in
-    let f = no-fault-here (c .before .before .before .before .before .part-fault .ensures) (c .before .before .before .before .is-accepted .ensures) (c .before .before .before .if1 .left) in
-    rw (c .before .before .entry .ensures) (part-taken (p .0) (p .1) f (c .put-name .ensures))
+    let at-entry = c .before .before in
+    let at-if1 = at-entry .before in
+    let at-is-accepted = at-if1 .before in
+    let at-part-fault = at-is-accepted .before in
+    let entry-2 = at-part-fault .before .before .before .before in
+    let p = entry-2 .pre in
+    let f = no-fault-here (at-part-fault .part-fault .ensures) (at-is-accepted .is-accepted .ensures) (at-if1 .if1 .left) in
+    rw (at-entry .entry .ensures) (part-taken (p .0) (p .1) f (c .put-name .ensures))
 
 pub add-part-spec : {M : Type 1} → statement M
 add-part-spec =

@@ -12,23 +12,30 @@ find-requires c κs = (identifier-inside (c .before .before .before .pre .1), c 
 
 symbol-fault-requires : tie.Need-symbol-fault-requires
 symbol-fault-requires c κs =
-    let p = c .before .before .before .before .before .before .pre in (p .0, p .1, known-place (p .0) (p .1) _ (c .before .before .find .ensures))
+    let at-find = c .before .before in
+    let entry = at-find .before .before .before .before in
+    let p = entry .pre in
+    (p .0, p .1, known-place (p .0) (p .1) _ (at-find .find .ensures))
 
 is-accepted-requires : tie.Need-is-accepted-requires
 is-accepted-requires c κs = search needs
 
 returns : tie.Need-returns
 returns c =
-    let p = c .before .before .before .before .before .before .before .before .before .pre in
-    item-wrong (symbol-faulted (p .0) (p .1)) (c .before .before .symbol-fault .ensures) (c .before .is-accepted .ensures) (c .if1 .taken)
+    let at-symbol-fault = c .before .before in
+    let entry = at-symbol-fault .before .before .before .before .before .before .before in
+    let p = entry .pre in
+    item-wrong (symbol-faulted (p .0) (p .1)) (at-symbol-fault .symbol-fault .ensures) (c .before .is-accepted .ensures) (c .if1 .taken)
 
 entry-requires : tie.Need-entry-requires
 entry-requires c κs = search needs
 
 remember-requires : tie.Need-remember-requires
 remember-requires c κs =
-    let p = c .before .before .before .before .before .before .before .before .before .before .before .pre in
-    let l = known-low (p .0) (p .1) _ (c .before .before .before .before .before .before .before .find .ensures) in
+    let at-find = c .before .before .before .before .before .before .before in
+    let entry = at-find .before .before .before .before in
+    let p = entry .pre in
+    let l = known-low (p .0) (p .1) _ (at-find .find .ensures) in
     let f = p .0 .variables .fewSymbols in
     omega arith
 
@@ -40,9 +47,16 @@ add-t17 c = search needs
 
 returns-2 : tie.Need-returns-2
 returns-2 c =
-    let p = c .before .before .before .before .before .before .before .before .before .before .before .before .before .before .before .pre in
-    let f = no-fault-here (c .before .before .before .before .before .before .before .before .symbol-fault .ensures) (c .before .before .before .before .before .before .before .is-accepted .ensures) (c .before .before .before .before .before .before .if1 .left) in
-    symbol-taken (p .0) (p .1) _ (c .before .before .before .before .before .before .before .before .before .before .before .find .ensures) f (c .before .put-name .ensures) (rw (c .before .before .before .before .entry .ensures) at (c .before .before .before .remember .ensures))
+    let at-remember = c .before .before .before in
+    let at-entry = at-remember .before in
+    let at-if1 = at-entry .before .before in
+    let at-is-accepted = at-if1 .before in
+    let at-symbol-fault = at-is-accepted .before in
+    let at-find = at-symbol-fault .before .before .before in
+    let entry-2 = at-find .before .before .before .before in
+    let p = entry-2 .pre in
+    let f = no-fault-here (at-symbol-fault .symbol-fault .ensures) (at-is-accepted .is-accepted .ensures) (at-if1 .if1 .left) in
+    symbol-taken (p .0) (p .1) _ (at-find .find .ensures) f (c .before .put-name .ensures) (rw (at-entry .entry .ensures) at (at-remember .remember .ensures))
 
 pub add-symbol-spec : {M : Type 1} → statement M
 add-symbol-spec =

@@ -31,30 +31,42 @@ enum-known-next c = search needs
 
 loop-less : tie.Need-loop-less Inv-loop μ-loop
 loop-less c =
-    let k = c .before .before .before .before .before .before .before .loop .inv in
-    let m = pattern-moves k (c .before .before .before .before .before .before .lex .ensures) (c .before .before .before .add .ensures) (c .before .next .given .1) in
+    let at-add = c .before .before .before in
+    let at-lex = at-add .before .before .before in
+    let at-loop = at-lex .before in
+    let k = at-loop .loop .inv in
+    let m = pattern-moves k (at-lex .lex .ensures) (at-add .add .ensures) (c .before .next .given .1) in
     omega arith
 
 loop-again : tie.Need-loop-again Inv-loop μ-loop
 loop-again c =
-    let k = c .before .before .before .before .before .before .before .loop .inv in
-    pattern-takes k (c .before .before .before .before .before .before .lex .ensures) (c .before .before .before .add .ensures) (c .before .next .given .1)
+    let at-add = c .before .before .before in
+    let at-lex = at-add .before .before .before in
+    let at-loop = at-lex .before in
+    let k = at-loop .loop .inv in
+    pattern-takes k (at-lex .lex .ensures) (at-add .add .ensures) (c .before .next .given .1)
 
 enum-known-answer : tie.Need-enum-known-answer Inv-loop μ-loop
 enum-known-answer c = search needs
 
 returns : tie.Need-returns Inv-loop μ-loop
 returns c =
-    let k = c .before .before .before .before .before .before .before .loop .inv in
-    pattern-stops k (c .before .before .before .before .before .before .lex .ensures) (c .before .before .before .add .ensures) (c .before .answer .given .1)
+    let at-add = c .before .before .before in
+    let at-lex = at-add .before .before .before in
+    let at-loop = at-lex .before in
+    let k = at-loop .loop .inv in
+    pattern-stops k (at-lex .lex .ensures) (at-add .add .ensures) (c .before .answer .given .1)
 
 enum-told : tie.Need-enum-told Inv-loop μ-loop
 enum-told c = search needs
 
 returns-2 : tie.Need-returns-2 Inv-loop μ-loop
 returns-2 c =
-    let k = c .before .before .before .before .before .before .loop .inv in
-    pattern-ends k (c .before .before .before .before .before .lex .ensures) (c .before .before .add .ensures) (c .enum-told .given .1)
+    let at-add = c .before .before in
+    let at-lex = at-add .before .before .before in
+    let at-loop = at-lex .before in
+    let k = at-loop .loop .inv in
+    pattern-ends k (at-lex .lex .ensures) (at-add .add .ensures) (c .enum-told .given .1)
 
 pub pattern-spec : {M : Type 1} → statement M
 pattern-spec =

@@ -22,12 +22,17 @@ returns-2 : tie.Need-returns-2
 returns-2 c = calls-emission _ _ _ (c .before .before .if1 .left) (c .before .is-emission .ensures) (c .if2 .taken)
 
 find-requires : tie.Need-find-requires
-find-requires c κs = (record { forward = omega arith; inside = c .before .before .before .before .before .pre .0 (c .before .before .if1 .left) }, c .before .before .before .before .before .pre .1)
+find-requires c κs =
+    let at-if1 = c .before .before in
+    let entry = at-if1 .before .before .before in
+    (record { forward = omega arith; inside = entry .pre .0 (at-if1 .if1 .left) }, entry .pre .1)
 
 returns-3 : tie.Need-returns-3
 returns-3 c =
-    calls-function _ _ _ (c .before .before .before .if1 .left) (c .before .before .is-emission .ensures) (c .before .if2 .left)
-    (among _ _ _ _ (c .before .before .before .before .before .before .pre .1) _ _ (c .find .ensures) refl)
+    let at-is-emission = c .before .before in
+    let at-if1 = at-is-emission .before in
+    let entry = at-if1 .before .before .before in
+    calls-function _ _ _ (at-if1 .if1 .left) (at-is-emission .is-emission .ensures) (c .before .if2 .left) (among _ _ _ _ (entry .pre .1) _ _ (c .find .ensures) refl)
 
 pub is-known-spec : {M : Type 1} → statement M
 is-known-spec =

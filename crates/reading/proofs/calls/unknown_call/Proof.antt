@@ -28,14 +28,20 @@ cast-word : tie.Need-cast-word Inv-loop μ-loop
 cast-word c = omega (arith, c .shared-slice-known3 .given (c .before .before .loop .i))
 
 is-known-requires : tie.Need-is-known-requires Inv-loop μ-loop
-is-known-requires c κs = (searched-within _ _ _ _ _ (c .before .before .before .loop .inv) (c .before .before .loop-test .taken), c .before .before .before .before .before .before .pre .2)
+is-known-requires c κs =
+    let at-loop-test = c .before .before in
+    let at-loop = at-loop-test .before in
+    let entry = at-loop .before .before .before in
+    (searched-within _ _ _ _ _ (at-loop .loop .inv) (at-loop-test .loop-test .taken), entry .pre .2)
 
 sub-place : tie.Need-sub-place Inv-loop μ-loop
 sub-place c = unknown-opens _ _ _ (sym (c .before .is-known .ensures) ∙ not-true _ (c .if1 .taken))
 
 returns : tie.Need-returns Inv-loop μ-loop
 returns c =
-    λ t h. ap unknownAs (sym (search-finds _ _ _ _ _ (c .before .before .before .before .before .loop .inv) (c .before .before .before .before .loop-test .taken) (sym (c .before .is-known .ensures) ∙ not-true _ (c .if1 .taken))) ∙ table-found _ _ _ t h)
+    let at-loop-test = c .before .before .before .before in
+    let at-loop = at-loop-test .before in
+    λ t h. ap unknownAs (sym (search-finds _ _ _ _ _ (at-loop .loop .inv) (at-loop-test .loop-test .taken) (sym (c .before .is-known .ensures) ∙ not-true _ (c .if1 .taken))) ∙ table-found _ _ _ t h)
 
 add-i : tie.Need-add-i Inv-loop μ-loop
 add-i c = omega arith
@@ -44,7 +50,10 @@ loop-less : tie.Need-loop-less Inv-loop μ-loop
 loop-less c = omega arith
 
 loop-again : tie.Need-loop-again Inv-loop μ-loop
-loop-again c = search-goes _ _ _ _ _ (c .before .before .before .before .before .loop .inv) (c .before .before .before .before .loop-test .taken) (sym (c .before .is-known .ensures) ∙ not-false _ (c .if1 .left))
+loop-again c =
+    let at-loop-test = c .before .before .before .before in
+    let at-loop = at-loop-test .before in
+    search-goes _ _ _ _ _ (at-loop .loop .inv) (at-loop-test .loop-test .taken) (sym (c .before .is-known .ensures) ∙ not-false _ (c .if1 .left))
 
 returns-2 : tie.Need-returns-2 Inv-loop μ-loop
 returns-2 c = λ t h. ap unknownAs (sym (search-ends _ _ _ _ _ (c .before .loop .inv) (c .loop-test .left)) ∙ table-found _ _ _ t h)
