@@ -5,6 +5,7 @@ ghost use lib.Dec.{eqb};
 ghost use lib.ListN.{length, drop};
 ghost use Rattle.meaning.specs.Choice.{nth, pick};
 ghost use Rattle.meaning.specs.Instructions.{fromEnd};
+ghost use Rattle.meaning.specs.Rewriting.{sameTruth};
 ghost use Rattle.meaning.specs.Matching.{cellAt, checked, checkAll, chooseFrom};
 ghost use Rattle.meaning.specs.Matching.{check as tested, search as searched};
 ghost use Rattle.meaning.specs.Packing.{firstIn, secondIn, thirdIn, siteOf, classOf, testOf, lookOf, compareOf, predicateFor, metricIn, unpackTests, unpackSentences};
@@ -135,6 +136,12 @@ fn compare(field: &[u8], place: usize, word: u32) -> Checked
     told(b == a)
 }
 
+fn as_expected(expected: bool, within: bool) -> bool
+    ensures { λ r. ⌜ r ≡ sameTruth expected within ⌝ }
+{
+    if expected { within } else { !within }
+}
+
 // The byte at a site is in a class, or is not, as the condition has it.
 fn predicate(bits: &[u8; 256], field: &[u8], place: usize, word: u32) -> Checked
     requires { ⌜ Answers (now bits) ⌝ }
@@ -150,11 +157,8 @@ fn predicate(bits: &[u8; 256], field: &[u8], place: usize, word: u32) -> Checked
     };
     let entry = bits[b as usize];
     let within = classes::bit(entry, class as u8);
-    if site / 4 == 1 {
-        told(within)
-    } else {
-        told(!within)
-    }
+    let expected = site / 4 == 1;
+    told(as_expected(expected, within))
 }
 
 // One test at a place, by its number.

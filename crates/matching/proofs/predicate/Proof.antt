@@ -1,9 +1,8 @@
 -- `predicate` meets its contract: the class table answers each test.
 use borrow.Author.Needs.{needs}
+use native.Mathlib.Omega.{arith}
 use mathlib.Core.Path.{sym}
-use mathlib.Core.Bool.{true, false}
 use Prim.Native.Nat.{_%_}
-use borrow.Author.Tests.{eq-eqb, ne-eqb}
 use Rattle.meaning.specs.Packing.{siteOf, firstIn, secondIn, thirdIn}
 use Rattle.matching.proofs.laws.Fields.{class-unknown, predicate-unknown, predicate-none, predicate-told}
 use Rattle.matching.proofs.predicate.Statement.{statement}
@@ -42,31 +41,22 @@ cast-bit c = search needs
 bit-requires : tie.Need-bit-requires
 bit-requires c κs = search needs
 
+as-expected-requires : tie.Need-as-expected-requires
+as-expected-requires c κs = search needs
+
 told-requires : tie.Need-told-requires
 told-requires c κs = search needs
-
-told-requires-2 : tie.Need-told-requires-2
-told-requires-2 c κs = search needs
 
 returns-3 : tie.Need-returns-3
 returns-3 c =
     let at-bit = c .before .before in
-    let at-b = at-bit .before .before .before in
+    let at-known-told = at-bit .before .before in
+    let at-b = at-known-told .before in
     let at-cell-at = at-b .before .before in
     let at-if1 = at-cell-at .before in
     let entry = at-if1 .before .before in
     let a = entry .args in
-    rw (eq-eqb _ 1 (c .before .if2 .taken), predicate-told (siteOf (firstIn (a .word) % 4) (secondIn (a .word))) (thirdIn (a .word)) true _ _ _ (at-if1 .if1 .left) (rw (at-b .b .given .1) at (at-cell-at .cell-at .ensures)), ← (entry .pre .each (thirdIn (a .word)) (at-b .b .given .0 .0) (search needs)), ← (at-bit .bit .ensures)) (c .told .ensures)
-
-returns-4 : tie.Need-returns-4
-returns-4 c =
-    let at-bit = c .before .before in
-    let at-b = at-bit .before .before .before in
-    let at-cell-at = at-b .before .before in
-    let at-if1 = at-cell-at .before in
-    let entry = at-if1 .before .before in
-    let a = entry .args in
-    rw (ne-eqb _ 1 (c .before .if2 .left), predicate-told (siteOf (firstIn (a .word) % 4) (secondIn (a .word))) (thirdIn (a .word)) false _ _ _ (at-if1 .if1 .left) (rw (at-b .b .given .1) at (at-cell-at .cell-at .ensures)), ← (entry .pre .each (thirdIn (a .word)) (at-b .b .given .0 .0) (search needs)), ← (at-bit .bit .ensures)) (c .told2 .ensures)
+    rw (predicate-told (siteOf (firstIn (a .word) % 4) (secondIn (a .word))) (thirdIn (a .word)) _ _ _ _ (at-if1 .if1 .left) (rw (at-b .b .given .1) at (at-cell-at .cell-at .ensures)), ← (entry .pre .each (thirdIn (a .word)) (at-b .b .given .0 .0) (omega (arith, at-known-told .known-told))), ← (at-bit .bit .ensures), ← (c .before .as-expected .ensures)) (c .told .ensures)
 
 pub predicate-spec : {M : Type 1} → statement M
-predicate-spec = tie.close (tie.spec returns cell-at-requires enum-known-b enum-told returns-2 cast-entry element-copy-out-entry cast-bit bit-requires told-requires told-requires-2 returns-3 returns-4)
+predicate-spec = tie.close (tie.spec returns cell-at-requires enum-known-b enum-told returns-2 cast-entry element-copy-out-entry cast-bit bit-requires as-expected-requires told-requires returns-3)
