@@ -21,9 +21,9 @@ use Rattle.reading.specs.declared.Reading.{Reading}
 use Rattle.bookkeeping.specs.Answered.{numberOf}
 use Rattle.reading.specs.Reads.{Reads, treeTape}
 use Rattle.reading.proofs.Verdict.{tree-words}
-use Rattle.listing.specs.declared.State.the-variants.{Start}
+use Rattle.items.specs.declared.State.the-variants.{Start}
 use Rattle.listing.specs.declared.Listed.{Listed}
-use Rattle.listing.specs.Steps.{listFrom}
+use Rattle.listing.specs.Words.{listFrom}
 use Rattle.listing.specs.Leaves.{Leaves as Lists}
 use Rattle.listing.proofs.Lists.{tape-listed}
 use Rattle.translating.specs.declared.Translated.{Translated}

@@ -9,8 +9,8 @@ use borrow.Author.Tests.{le-leb, lt-leb}
 use lib.ListN.{length, take}
 use lib.Seq.{sets-eq}
 use Rattle.meaning.specs.Choice.{Bytes}
-use Rattle.listing.specs.Put.{Put}
-use Rattle.listing.specs.Steps.{mostWords}
+use Rattle.items.specs.Put.{Put}
+use Rattle.listing.specs.Words.{mostWords}
 use Rattle.listing.specs.Leaves.{holds, Leaves}
 
 pub leaves-listing : {listing lent after : Bytes} {size next : ℕ} → size ≡ length listing → size ≤ length lent → Put 0 lent listing next after →

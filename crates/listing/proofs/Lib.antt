@@ -1,5 +1,4 @@
 -- The laws that the proofs of the functions cite.
-pub mod Writing
 pub mod Sizes
 pub mod Stepping
 pub mod Leaving

@@ -6,12 +6,13 @@ use mathlib.Core.Path.{_≡_, refl, _∙_}
 use mathlib.Core.List.{List}
 use lib.ListN.{length, drop, getD, drop-of-length-le}
 use lib.Seq.{drop-cons}
-use Rattle.listing.specs.declared.State.{State}
-use Rattle.listing.specs.declared.State.the-variants.{Start}
-use Rattle.listing.specs.declared.Stepped.{Stepped}
-use Rattle.listing.specs.Put.{Put}
-use Rattle.listing.specs.Steps.{wordStep, listFrom, Wrote}
-use Rattle.listing.proofs.Writing.{put-none, put-then, put-length}
+use Rattle.items.specs.declared.State.{State}
+use Rattle.items.specs.declared.State.the-variants.{Start}
+use Rattle.items.specs.declared.Stepped.{Stepped}
+use Rattle.items.specs.Put.{Put}
+use Rattle.items.specs.Steps.{Wrote}
+use Rattle.listing.specs.Words.{wordStep, listFrom}
+use Rattle.items.proofs.Writing.{put-none, put-then, put-length}
 use Rattle.listing.proofs.Sizes.{widest, word-size}
 
 -- i words are listed: to write the rest from here is to write the whole from the start

@@ -1,4 +1,3 @@
 -- The definitions that this crate's contracts cite.
-pub mod Put
-pub mod Steps
+pub mod Words
 pub mod Leaves

@@ -1,6 +1,4 @@
 // From the tape to the listing text. The listing is written word by word of the tape; its length is found first, by writing into no cells.
-mod items;
-mod put;
 mod words;
 
 use words::list_length;
@@ -8,27 +6,9 @@ use words::list_words;
 ghost use mathlib.Core.Path.{_≡_};
 ghost use Prim.Native.Nat.{min};
 ghost use lib.ListN.{take};
-ghost use Rattle.listing.specs.Steps.{mostWords, listFrom};
+ghost use Rattle.listing.specs.Words.{mostWords, listFrom};
 ghost use Rattle.listing.specs.Leaves.{Leaves};
-ghost use Rattle.listing.specs.declared.State.the-variants.{Start};
-
-// How the listing stands between two words of the tape: at the beginning of a line; after an item; inside a string; in one right after a
-// code; or with so many bytes of a name to copy: a variable's or a call's, a condition's variable with its truth byte, a function's.
-pub enum State {
-    Start,
-    Plain,
-    InString,
-    AfterCode,
-    Name(usize),
-    Condition(usize, u8),
-    Header(usize),
-}
-
-// The state after a word, and the place after the bytes that it wrote.
-pub struct Stepped {
-    pub state: State,
-    pub at: usize,
-}
+ghost use Rattle.items.specs.declared.State.the-variants.{Start};
 
 // Whether the lent buffer holds the listing (if not, the answer is 17), and then its length.
 pub struct Listed {

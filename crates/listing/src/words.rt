@@ -1,18 +1,19 @@
 // The words of the tape one after another.
-use crate::State;
-use crate::Stepped;
-use crate::items::list_character;
-use crate::items::list_condition;
-use crate::items::list_ended;
-use crate::items::list_parted;
-use crate::put::put;
-use crate::put::put_all;
+use items::State;
+use items::Stepped;
+use items::list_character;
+use items::list_condition;
+use items::list_ended;
+use items::list_parted;
+use items::put::put;
+use items::put::put_all;
 ghost use mathlib.Core.Path.{_≡_};
 ghost use Prim.Native.Nat.{pred, _+_, _<_};
 ghost use lib.ListN.{length, take};
-ghost use Rattle.listing.specs.Put.{Put, farthest};
-ghost use Rattle.listing.specs.Steps.{kindStep, itemStep, copyStep, wordStep, listFrom, Wrote, Listable};
-ghost use Rattle.listing.specs.declared.State.the-variants.{Start};
+ghost use Rattle.items.specs.Put.{Put, farthest};
+ghost use Rattle.items.specs.Steps.{Wrote};
+ghost use Rattle.items.specs.declared.State.the-variants.{Start};
+ghost use Rattle.listing.specs.Words.{kindStep, itemStep, copyStep, wordStep, listFrom, Listable};
 
 // A word of a kind.
 pub fn list_kind(state: State, kind: u32, carried: usize, out: &mut [u8], at: usize) -> Stepped

@@ -10,8 +10,8 @@ use mir.Syntax.{w64}
 use lib.Seq.{paste, sets-eq, take-length}
 use Rattle.meaning.specs.Choice.{Bytes}
 use Rattle.io.specs.Digits.{digits, Fewest}
-use Rattle.listing.specs.Put.{Put}
-use Rattle.listing.proofs.Writing.{put-then}
+use Rattle.items.specs.Put.{Put}
+use Rattle.items.proofs.Writing.{put-then}
 use Rattle.program.specs.Printed.{Prints, Counted}
 use Rattle.program.proofs.Numerals.{fewest-numeral, fewest-short}
 

@@ -10,7 +10,7 @@ use Rattle.meaning.specs.Answers.{noSuchStart, bufferTooShort}
 use Rattle.meaning.specs.Outcome.{Result}
 use Rattle.meaning.specs.Reading.{read}
 use Rattle.meaning.specs.Leaving.{Cells, zeros, over}
-use Rattle.listing.specs.Put.{Put}
+use Rattle.items.specs.Put.{Put}
 use Rattle.running.specs.Leaving.{cells}
 use Rattle.engine.specs.declared.Report.{Report}
 use Rattle.engine.specs.TableRuns.{TableRun, tableRun}

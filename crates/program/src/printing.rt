@@ -3,7 +3,7 @@ use acting::copying::copy_over;
 use engine::Report;
 ghost use Prim.Native.Nat.{_+_, _≤_};
 ghost use lib.ListN.{length};
-ghost use Rattle.listing.specs.Put.{Put};
+ghost use Rattle.items.specs.Put.{Put};
 ghost use Rattle.program.specs.Printed.{Prints, Counted, refusalText, resultText, resultOf};
 
 fn put_bytes(out: &mut [u8], at: usize, bytes: &[u8]) -> usize

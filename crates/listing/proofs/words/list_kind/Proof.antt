@@ -1,5 +1,5 @@
 -- `listing::words::list_kind` meets its contract.
-use Rattle.listing.proofs.Writing.{put-none}
+use Rattle.items.proofs.Writing.{put-none}
 use borrow.Author.Tests.{ne-eqb}
 use mathlib.Core.Path.{refl}
 use borrow.Author.Needs.{needs}

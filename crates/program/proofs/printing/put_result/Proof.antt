@@ -1,6 +1,6 @@
 -- `program::printing::put_result` meets its contract.
 use native.Mathlib.Omega.{arith}
-use Rattle.listing.proofs.Writing.{put-then}
+use Rattle.items.proofs.Writing.{put-then}
 use Rattle.program.proofs.Putting.{put-prints}
 use borrow.Author.Needs.{needs}
 use Rattle.program.proofs.printing.put_result.Statement.{statement}

@@ -1,0 +1,49 @@
+-- `items::list_condition` meets its contract.
+use Rattle.items.proofs.Writing.{put-then}
+use Prim.Native.Nat.{_%_}
+use native.Mathlib.Omega.{arith}
+use Rattle.items.proofs.Sizes.{ending-size, class-size}
+use borrow.Author.Needs.{needs}
+use Rattle.items.proofs.list_condition.Statement.{statement}
+use Rattle.items.proofs.list_condition.Tie as tie
+
+put-ending-requires : tie.Need-put-ending-requires
+put-ending-requires c κs = search needs
+
+slice-aggregate-put-all : tie.Need-slice-aggregate-put-all
+slice-aggregate-put-all c = search needs
+
+put-all-requires : tie.Need-put-all-requires
+put-all-requires c κs = omega (arith, ending-size (c .before .before .before .before .before .before .before .args .state), c .before .before .before .before .put-ending .ensures .place)
+
+put-class-requires : tie.Need-put-class-requires
+put-class-requires c κs = omega (arith, ending-size (c .before .before .before .before .before .before .before .before .before .before .before .args .state), c .before .before .before .before .before .before .before .before .put-ending .ensures .place, c .before .before .before .put-all .ensures .place)
+
+slice-aggregate-put-all-2 : tie.Need-slice-aggregate-put-all-2
+slice-aggregate-put-all-2 c = search needs
+
+put-all-requires-2 : tie.Need-put-all-requires-2
+put-all-requires-2 c κs = omega (arith, ending-size (c .before .before .before .before .before .before .before .before .before .before .before .before .before .before .before .before .args .state), class-size (c .before .before .before .before .before .before .before .before .before .before .before .before .before .before .before .before .args .carried % 5), c .before .before .before .before .before .before .before .before .before .before .before .before .before .put-ending .ensures .place, c .before .before .before .before .before .before .before .before .put-all .ensures .place, c .before .before .before .before .put-class .ensures .place)
+
+truth-byte-requires : tie.Need-truth-byte-requires
+truth-byte-requires c κs = search needs
+
+same-length : tie.Need-same-length
+same-length c = search needs
+
+returns : tie.Need-returns
+returns c = record { state = rw (c .truth-byte .ensures); put = put-then (put-then (put-then (c .before .before .before .before .before .before .before .before .before .before .before .before .before .before .before .before .before .put-ending .ensures) (c .before .before .before .before .before .before .before .before .before .before .before .before .put-all .ensures)) (c .before .before .before .before .before .before .before .before .put-class .ensures)) (c .before .before .before .put-all2 .ensures) }
+
+pub list-condition-spec : {M : Type 1} → statement M
+list-condition-spec =
+    tie.close
+    (tie.spec
+    put-ending-requires
+    slice-aggregate-put-all
+    put-all-requires
+    put-class-requires
+    slice-aggregate-put-all-2
+    put-all-requires-2
+    truth-byte-requires
+    same-length
+    returns)

@@ -1,0 +1,30 @@
+-- `items::put_quoting` meets its contract.
+use Rattle.items.proofs.Writing.{put-none, put-then}
+use native.Mathlib.Omega.{arith}
+use Rattle.items.proofs.Sizes.{gap-size}
+use borrow.Author.Needs.{needs}
+use Rattle.items.proofs.put_quoting.Statement.{statement}
+use Rattle.items.proofs.put_quoting.Tie as tie
+
+is-quoted-requires : tie.Need-is-quoted-requires
+is-quoted-requires c κs = search needs
+
+returns : tie.Need-returns
+returns c = rw (← (c .before .is-quoted .ensures), c .if1 .taken) put-none
+
+put-gap-requires : tie.Need-put-gap-requires
+put-gap-requires c κs = search needs
+
+put-requires : tie.Need-put-requires
+put-requires c κs = omega (arith, gap-size (c .before .before .before .before .before .before .before .before .args .state), c .before .before .before .put-gap .ensures .place)
+
+same-length : tie.Need-same-length
+same-length c = search needs
+
+returns-2 : tie.Need-returns-2
+returns-2 c = rw (← (c .before .before .before .before .before .before .before .before .before .is-quoted .ensures), c .before .before .before .before .before .before .before .before .if1 .left) (put-then (c .before .before .before .before .before .before .put-gap .ensures) (c .before .before .put .ensures))
+
+pub put-quoting-spec : {M : Type 1} → statement M
+put-quoting-spec =
+    tie.close
+    (tie.spec is-quoted-requires returns put-gap-requires put-requires same-length returns-2)
