@@ -34,12 +34,24 @@ use Rattle.templates.proofs.laws.Names.{name-here, name-fits-here}
 use Rattle.expressions.proofs.laws.Naming.{name-short, value-among, number-among}
 use Rattle.templates.proofs.laws.Stores.{same-refl, same-trans, same-words, same-wrote, same-end}
 use Rattle.expressions.proofs.laws.Spanned.{rest-span, passage-spans}
-use Rattle.expressions.proofs.laws.Items.{isEnding, isDeep, stops, item-inside, item-room, call-room, deep-depth, stop-depth, levels-at, levels-past, levels-stop, stops-below, last-item}
+use Rattle.expressions.proofs.laws.Items.{stops, Reads, Told, told, levels-at, levels-past, levels-stop, stops-below, last-item}
 use Rattle.expressions.proofs.laws.Resumed.{resume-character, resume-symbol, resume-part, resume-call, resume-end, resume-last, open-more, open-less, open-none}
+
+-- the item where a walk stands
+abbrev Stands : List ℕ → Walk → Item → Type 0
+Stands ws w it = itemAt (drop (w .next) ws) (w .depth) (w .items) ≡ it
+
+module _ {ws calls : List ℕ} {w : Walk} (within : InItems ws calls w) where
+  pub tells : (it : Item) → Stands ws w it → Told ws (w .next) (w .depth) (w .items) it
+  tells = told ws (w .next) (w .depth) (w .items)
+
+  -- the innermost open call is known
+  pub innermost : 0 < w .depth → (1 ≤ w .depth) × (w .depth ≤ length calls) × (getD calls (w .depth - 1) 0 < length ws)
+  innermost deep = (deep, omega (arith, within .depth, within .room), within .opened (w .depth - 1) (omega arith))
 
 module _ (ws heads names : List ℕ) (m : Pattern) (calls : List ℕ) (w : Walk) (within : InItems ws calls w) where
   abbrev At : Item → Type 0
-  At it = itemAt (drop (w .next) ws) (w .depth) (w .items) ≡ it
+  At = Stands ws w
 
   abbrev size : ℕ
   size = length (headName ws (w .next))
@@ -51,86 +63,67 @@ module _ (ws heads names : List ℕ) (m : Pattern) (calls : List ℕ) (w : Walk)
   abbrev after : ℕ → Levels
   after n = levelsIn (w .depth) (w .items + 1) 0 (drop (w .next + 1 + n) ws)
 
-  -- bounds after an item of so many words
-  item-within : (n at depth : ℕ) (stand : Stand) (calls′ : List ℕ) → w .items < 128 → w .next + 1 + n ≤ length ws → length calls′ ≡ 16
-      → ((k : ℕ) → k < depth → getD calls′ k 0 < length ws) → depth ≤ 16 → InItems ws calls′ (itemDone w n at depth stand)
-  item-within n at depth stand calls′ room fits long known deep =
+  -- an item of so many words after its first is written, and leads to those levels
+  item-on : {code code′ words calls′ : List ℕ} {at depth : ℕ} {stand : Stand} (n : ℕ) → Reads ws (w .next) (w .items) → w .next + 1 + n ≤ length ws
+      → levelsNow ws w .rest ≡ levelsNow ws (itemDone w n at depth stand) .rest
+      → ((t : Table) (s : Shape) (ss : List (Named Site)) → Means ws heads names m t s ss
+      → remaining true t s ss ws calls w ≡ words ++ remaining true t s ss ws calls′ (itemDone w n at depth stand))
+      → Wrote code (w .at) words code′ at → length calls′ ≡ 16 → ((k : ℕ) → k < depth → getD calls′ k 0 < length ws) → depth ≤ 16
+      → depth ≤ w .depth + 1 → length words + 260 * depth ≤ 260 * w .depth + 270
+      → ItemsOn ws heads names m calls code w calls′ code′ (itemDone w n at depth stand)
+  item-on {code} n read fits rest same wrote long known deep one few =
       record {
-        room = long;
-        opened = known;
-        depth = deep;
-        items = omega arith;
-        next = omega arith;
-      }
-
-  pub character-on : (code code′ : List ℕ) (at : ℕ) → At Byte → Wrote code (w .at) (word 8 (getD ws (w .next) 0) 0 0 ∷ []) code′ at
-      → ItemsOn ws heads names m calls code w calls code′ (itemDone w 0 at (w .depth) (w .stand))
-  unfolding packActions
-  character-on code code′ at e wrote =
-      let inside = item-inside ws (w .next) (w .depth) (w .items) (ap stops e) in
-      let room = item-room ws (w .next) (w .depth) (w .items) (ap isEnding e) in
-      let z : w .next + 1 + 0 ≡ w .next + 1 = omega arith in
-      let now : levelsNow ws w ≡ onCurrent (thenCharacter (getD ws (w .next) 0)) (after 0) = levels-at ws (w .next) (w .depth) (w .items) Byte inside e ∙ rw z in
-      record {
-        same = λ t s ss means. same-wrote _
-            (same-words (same-refl code (w .at) _)
-            (rw now (ap packActions (resume-character t s ss (openNames ws calls (w .depth)) (getD ws (w .next) 0) (after 0 .current) (after 0 .outer) (meantStand (w .stand)))))) wrote;
-        rest = sym (ap (λ (l : Levels). l .rest) now);
-        within = item-within 0 at (w .depth) (w .stand) calls room (omega arith) (within .room) (within .opened) (within .depth);
+        same = λ t s ss means. same-wrote _ (same-words (same-refl code (w .at) _) (same t s ss means)) wrote;
+        rest = sym rest;
+        within = record { room = long; opened = known; depth = deep; items = omega (arith, read .room); next = omega arith };
         ahead = omega arith;
         grown = omega (arith, wrote .next);
       }
 
-  pub value-on : (code code′ : List ℕ) (at : ℕ) → At Symbol → Wrote code (w .at) (word 9 (numberAmong 0 (headNames ws names) name - 1) 0 0 ∷ []) code′ at
+  pub character-on : {code code′ : List ℕ} {at : ℕ} → At Byte → Wrote code (w .at) (word 8 (getD ws (w .next) 0) 0 0 ∷ []) code′ at
+      → ItemsOn ws heads names m calls code w calls code′ (itemDone w 0 at (w .depth) (w .stand))
+  unfolding packActions
+  character-on e wrote =
+      let read = tells within Byte e .0 in
+      let z : w .next + 1 + 0 ≡ w .next + 1 = omega arith in
+      let now : levelsNow ws w ≡ onCurrent (thenCharacter (getD ws (w .next) 0)) (after 0) = levels-at ws (w .next) (w .depth) (w .items) Byte (read .inside) e ∙ rw z in
+      item-on 0 read (omega (arith, read .inside)) (ap (λ (l : Levels). l .rest) now)
+      (λ t s ss means.
+      rw now (ap packActions (resume-character t s ss (openNames ws calls (w .depth)) (getD ws (w .next) 0) (after 0 .current) (after 0 .outer) (meantStand (w .stand)))))
+      wrote (within .room) (within .opened) (within .depth) (omega arith) (omega arith)
+
+  pub value-on : {code code′ : List ℕ} {at : ℕ} → At Symbol → Wrote code (w .at) (word 9 (numberAmong 0 (headNames ws names) name - 1) 0 0 ∷ []) code′ at
       → ItemsOn ws heads names m calls code w calls code′ (itemDone w size at (w .depth) (w .stand))
   unfolding packActions
-  value-on code code′ at e wrote =
-      let inside = item-inside ws (w .next) (w .depth) (w .items) (ap stops e) in
-      let room = item-room ws (w .next) (w .depth) (w .items) (ap isEnding e) in
+  value-on e wrote =
+      let read = tells within Symbol e in
       let now : levelsNow ws w ≡ onCurrent (thenSymbol name) (after size) =
-      levels-at ws (w .next) (w .depth) (w .items) Symbol inside e
-      ∙ rw (levels-past (w .depth) (w .items + 1) ws (w .next) inside, ← (name-here ws (w .next) inside)) in
-      record {
-        same = λ t s ss means.
-            let value : valueNumber ss name ≡ numberAmong 0 (headNames ws names) name - 1 =
-            value-among 0 ss name ∙ ap (λ (l : List Name). numberAmong 0 l name - 1) (means .symbols) in
-            same-wrote _
-            (same-words (same-refl code (w .at) _)
-            (rw now (ap packActions (resume-symbol t s ss (openNames ws calls (w .depth)) name (after size .current) (after size .outer) (meantStand (w .stand)))
-            ∙ ap (λ (v : ℕ). word 9 v 0 0 ∷ packActions (resume t s ss (openNames ws calls (w .depth)) (after size .current) (after size .outer) (meantStand (w .stand)))) value)))
-            wrote;
-        rest = sym (ap (λ (l : Levels). l .rest) now);
-        within =
-            item-within size at (w .depth) (w .stand) calls room (name-fits-here ws (w .next) inside) (within .room) (within .opened) (within .depth);
-        ahead = omega (arith, name-fits-here ws (w .next) inside);
-        grown = omega (arith, wrote .next);
-      }
+      levels-at ws (w .next) (w .depth) (w .items) Symbol (read .inside) e
+      ∙ rw (levels-past (w .depth) (w .items + 1) ws (w .next) (read .inside), ← (name-here ws (w .next) (read .inside))) in
+      item-on size read (name-fits-here ws (w .next) (read .inside)) (ap (λ (l : Levels). l .rest) now)
+      (λ t s ss means.
+      let value : valueNumber ss name ≡ numberAmong 0 (headNames ws names) name - 1 =
+      value-among 0 ss name ∙ ap (λ (l : List Name). numberAmong 0 l name - 1) (means .symbols) in
+      rw now (ap packActions (resume-symbol t s ss (openNames ws calls (w .depth)) name (after size .current) (after size .outer) (meantStand (w .stand)))
+      ∙ ap (λ (v : ℕ). word 9 v 0 0 ∷ packActions (resume t s ss (openNames ws calls (w .depth)) (after size .current) (after size .outer) (meantStand (w .stand)))) value))
+      wrote (within .room) (within .opened) (within .depth) (omega arith) (omega arith)
 
   abbrev first : Bool
   first = sameBytes name (headName ws (m .variable))
 
-  pub part-on : (code code′ : List ℕ) (at : ℕ) → At Part → Wrote code (w .at) (partWords (m .lengths) first (w .stand)) code′ at
+  pub part-on : {code code′ : List ℕ} {at : ℕ} → At Part → Wrote code (w .at) (partWords (m .lengths) first (w .stand)) code′ at
       → ItemsOn ws heads names m calls code w calls code′ (itemDone w size at (w .depth) (standAfter (m .lengths .parts) first (w .stand)))
   unfolding packActions
-  part-on code code′ at e wrote =
-      let inside = item-inside ws (w .next) (w .depth) (w .items) (ap stops e) in
-      let room = item-room ws (w .next) (w .depth) (w .items) (ap isEnding e) in
+  part-on e wrote =
+      let read = tells within Part e in
       let now : levelsNow ws w ≡ onCurrent (thenPart name) (after size) =
-      levels-at ws (w .next) (w .depth) (w .items) Part inside e
-      ∙ rw (levels-past (w .depth) (w .items + 1) ws (w .next) inside, ← (name-here ws (w .next) inside)) in
-      record {
-        same = λ t s ss means.
-            same-wrote _
-            (same-words (same-refl code (w .at) _)
-            (rw now (ap packActions (resume-part t s ss (openNames ws calls (w .depth)) name (after size .current) (after size .outer) (meantStand (w .stand)))
-            ∙ part-words t s ss means)))
-            wrote;
-        rest = sym (ap (λ (l : Levels). l .rest) now);
-        within =
-            item-within size at (w .depth) _ calls room (name-fits-here ws (w .next) inside) (within .room) (within .opened) (within .depth);
-        ahead = omega (arith, name-fits-here ws (w .next) inside);
-        grown = omega (arith, wrote .next);
-      }
+      levels-at ws (w .next) (w .depth) (w .items) Part (read .inside) e
+      ∙ rw (levels-past (w .depth) (w .items + 1) ws (w .next) (read .inside), ← (name-here ws (w .next) (read .inside))) in
+      item-on size read (name-fits-here ws (w .next) (read .inside)) (ap (λ (l : Levels). l .rest) now)
+      (λ t s ss means.
+      rw now (ap packActions (resume-part t s ss (openNames ws calls (w .depth)) name (after size .current) (after size .outer) (meantStand (w .stand)))
+      ∙ part-words t s ss means))
+      wrote (within .room) (within .opened) (within .depth) (omega arith) (omega arith)
     where
       part-words : (t : Table) (s : Shape) (ss : List (Named Site)) → Means ws heads names m t s ss
           → packActions (go (passage s name (meantStand (w .stand)) .gap) ∷ select (passage s name (meantStand (w .stand)) .piece) ∷ out ∷
@@ -150,31 +143,20 @@ module _ (ws heads names : List ℕ) (m : Pattern) (calls : List ℕ) (w : Walk)
           ap₂ (λ (l : Lengths) (b : Bool). meantStand (standAfter (l .parts) b st)) (means .lengths) f ∙ spans .2 in
           rw (gap, piece, then)
 
-  pub open-on : (code code′ : List ℕ) (at : ℕ) → At Call → Wrote code (w .at) (word 10 0 0 0 ∷ []) code′ at
+  pub open-on : {code code′ : List ℕ} {at : ℕ} → At Call → Wrote code (w .at) (word 10 0 0 0 ∷ []) code′ at
       → ItemsOn ws heads names m calls code w (set calls (w .depth) (w .next)) code′ (itemDone w size at (w .depth + 1) (w .stand))
   unfolding packActions
-  open-on code code′ at e wrote =
-      let inside = item-inside ws (w .next) (w .depth) (w .items) (ap stops e) in
-      let room = item-room ws (w .next) (w .depth) (w .items) (ap isEnding e) in
-      let deep = call-room ws (w .next) (w .depth) (w .items) e in
+  open-on e wrote =
+      let (read, deep) = tells within Call e in
       let later = levelsIn (w .depth + 1) (w .items + 1) 0 (drop (w .next + 1 + size) ws) in
       let now : levelsNow ws w ≡ opened (placeIn (getD ws (w .next) 0)) name later =
-      levels-at ws (w .next) (w .depth) (w .items) Call inside e
-      ∙ rw (levels-past (w .depth + 1) (w .items + 1) ws (w .next) inside, ← (name-here ws (w .next) inside)) in
-      record {
-        same = λ t s ss means.
-            same-wrote _
-            (same-words (same-refl code (w .at) _)
-            (rw (now, open-more ws calls (w .depth) (w .next) (omega (arith, within .room)))
-            (ap packActions (resume-call t s ss (openNames ws calls (w .depth)) (placeIn (getD ws (w .next) 0)) name (later .current) (later .outer) (meantStand (w .stand))))))
-            wrote;
-        rest = sym (ap (λ (l : Levels). l .rest) now);
-        within =
-            item-within size at (w .depth + 1) (w .stand) (set calls (w .depth) (w .next)) room (name-fits-here ws (w .next) inside)
-            (length-set calls (w .depth) (w .next) ∙ within .room) (still deep inside) (omega arith);
-        ahead = omega (arith, name-fits-here ws (w .next) inside);
-        grown = omega (arith, wrote .next);
-      }
+      levels-at ws (w .next) (w .depth) (w .items) Call (read .inside) e
+      ∙ rw (levels-past (w .depth + 1) (w .items + 1) ws (w .next) (read .inside), ← (name-here ws (w .next) (read .inside))) in
+      item-on size read (name-fits-here ws (w .next) (read .inside)) (ap (λ (l : Levels). l .rest) now)
+      (λ t s ss means.
+      rw (now, open-more ws calls (w .depth) (w .next) (omega (arith, within .room)))
+      (ap packActions (resume-call t s ss (openNames ws calls (w .depth)) (placeIn (getD ws (w .next) 0)) name (later .current) (later .outer) (meantStand (w .stand)))))
+      wrote (length-set calls (w .depth) (w .next) ∙ within .room) (still deep (read .inside)) (omega arith) (omega arith) (omega arith)
     where
       still : w .depth < 16 → w .next < length ws → (k : ℕ) → k < w .depth + 1 → getD (set calls (w .depth) (w .next)) k 0 < length ws
       still deep inside k h = elim (ℕ-discrete k (w .depth)) [
@@ -186,9 +168,9 @@ module _ (ws heads names : List ℕ) (m : Pattern) (calls : List ℕ) (w : Walk)
       → restWord (m .lengths) (w .stand) ≡ spanWord 5 (restOf s (meantStand (w .stand)))
   rest-word t s ss means = ap (λ (l : Lengths). restWord l (w .stand)) (means .lengths) ∙ ap (spanWords 5) (rest-span s (w .stand))
 
-  pub pass-on : (code : List ℕ) → At Pass → ItemsOn ws heads names m calls code w calls code (wordDone w)
-  pass-on code e =
-      let inside = item-inside ws (w .next) (w .depth) (w .items) (ap stops e) in
+  pub pass-on : {code : List ℕ} → At Pass → ItemsOn ws heads names m calls code w calls code (wordDone w)
+  pass-on {code} e =
+      let inside = tells within Pass e .inside in
       let now : levelsNow ws w ≡ levelsIn (w .depth) (w .items) 0 (drop (w .next + 1) ws) = levels-at ws (w .next) (w .depth) (w .items) Pass inside e in
       record {
         same = λ t s ss means. same-words (same-refl code (w .at) _)
@@ -200,11 +182,11 @@ module _ (ws heads names : List ℕ) (m : Pattern) (calls : List ℕ) (w : Walk)
         grown = omega arith;
       }
 
-  pub end-on : (code code′ : List ℕ) (at : ℕ) → At Stop → Wrote code (w .at) (restWord (m .lengths) (w .stand) ∷ 15 ∷ []) code′ at
+  pub end-on : {code code′ : List ℕ} {at : ℕ} → At Stop → Wrote code (w .at) (restWord (m .lengths) (w .stand) ∷ 15 ∷ []) code′ at
       → ItemsOn ws heads names m calls code w calls code′ (callDone w (w .next) at false)
   unfolding packActions openNames
-  end-on code code′ at e wrote =
-      let none = stop-depth ws (w .next) (w .depth) (w .items) e in
+  end-on {code} e wrote =
+      let none = tells within Stop e in
       let now : levelsNow ws w ≡ stopped (drop (w .next) ws) = levels-stop ws (w .next) (w .depth) (w .items) (ap stops e) in
       record {
         same = λ t s ss means. same-wrote []
@@ -315,11 +297,11 @@ module _ (ws heads names : List ℕ) (m : Pattern) (calls : List ℕ) (w : Walk)
     more-same t s ss true at h g = rw (h, g)
     more-same t s ss false at h g = refl
 
-    close-on : (code code′ : List ℕ) (at : ℕ) → levelsNow ws w ≡ record { current = end; outer = outer; rest = later .rest }
+    close-on : {code code′ : List ℕ} {at : ℕ} → levelsNow ws w ≡ record { current = end; outer = outer; rest = later .rest }
         → firstOf outer ≡ later .current → othersOf outer ≡ later .outer → w .next ≤ next → next ≤ length ws + 1
         → Wrote code (w .at) (endingWords ws heads (m .lengths) calls next w) code′ at
         → ItemsOn ws heads names m calls code w calls code′ (callDone w next at (goesOn manner))
-    close-on code code′ at now h g forward fits wrote =
+    close-on {code} {at = at} now h g forward fits wrote =
         record {
           same = λ t s ss means.
               let number : numberOf t called ≡ numberAmong 0 (headNames ws heads) called =
@@ -351,22 +333,21 @@ module _ (ws heads names : List ℕ) (m : Pattern) (calls : List ℕ) (w : Walk)
         flag-small true = omega arith
         flag-small false = omega arith
 
-  pub closed-on : (code code′ : List ℕ) (at : ℕ) → At Close → Wrote code (w .at) (endingWords ws heads (m .lengths) calls (w .next + 1) w) code′ at
+  pub closed-on : {code code′ : List ℕ} {at : ℕ} → At Close → Wrote code (w .at) (endingWords ws heads (m .lengths) calls (w .next + 1) w) code′ at
       → ItemsOn ws heads names m calls code w calls code′ (callDone w (w .next + 1) at (goesOn (mannerNow ws calls (w .next + 1) w)))
-  closed-on code code′ at e wrote =
-      let inside = item-inside ws (w .next) (w .depth) (w .items) (ap stops e) in
-      let deep = deep-depth ws (w .next) (w .depth) (w .items) (ap isDeep e) in
+  closed-on e wrote =
+      let (inside, deep) = tells within Close e in
       let l = levelsIn under (w .items) 0 (drop (w .next + 1) ws) in
-      close-on (w .next + 1) deep (l .current ∷ l .outer) code code′ at
+      close-on (w .next + 1) deep (l .current ∷ l .outer)
       (levels-at ws (w .next) (w .depth) (w .items) Close inside e) refl refl (omega arith) (omega arith) wrote
 
-  pub unclosed-on : (code code′ : List ℕ) (at : ℕ) → At Unclosed → Wrote code (w .at) (endingWords ws heads (m .lengths) calls (w .next) w) code′ at
+  pub unclosed-on : {code code′ : List ℕ} {at : ℕ} → At Unclosed → Wrote code (w .at) (endingWords ws heads (m .lengths) calls (w .next) w) code′ at
       → ItemsOn ws heads names m calls code w calls code′ (callDone w (w .next) at (goesOn (mannerNow ws calls (w .next) w)))
-  unclosed-on code code′ at e wrote =
-      let deep = deep-depth ws (w .next) (w .depth) (w .items) (ap isDeep e) in
+  unclosed-on e wrote =
+      let deep = tells within Unclosed e in
       let below : levelsIn under (w .items) 0 (drop (w .next) ws) ≡ stopped (drop (w .next) ws) =
       levels-stop ws (w .next) under (w .items) (stops-below ws (w .next) (w .depth) (w .items) e) in
-      close-on (w .next) deep [] code code′ at
+      close-on (w .next) deep []
       (levels-stop ws (w .next) (w .depth) (w .items) (ap stops e) ∙ ap (λ (r : List ℕ). stopped r) (sym (ap (λ (l : Levels). l .rest) below)))
       (sym (ap (λ (l : Levels). l .current) below)) (sym (ap (λ (l : Levels). l .outer) below)) (omega arith) (within .next) wrote
 

@@ -1,7 +1,7 @@
 -- Laws of reading an expression from the tape: what stands at a place, passing over words, and what an item tells.
 use Prim.Native.Nat.{ℕ, zero, suc, _+_, _-_, _≤_, _<_}
 use native.Mathlib.Omega.{arith}
-use mathlib.Core.Path.{_≡_, refl, sym, ap, _∙_}
+use mathlib.Core.Path.{_≡_, refl, sym, ap, _∙_, subst}
 use mathlib.Core.Bool.{Bool, true, false}
 use mathlib.Core.List.{List, [], _∷_}
 use borrow.Author.Tests.{leb-false, ltb-true, eqb-true, eqb-false, ne-eqb}
@@ -19,30 +19,6 @@ use Rattle.templates.proofs.laws.Names.{by-place, name-skip}
 
 contradiction : {A : Type 0} → true ≡ false → A
 contradiction e = absurd (let z : _≡_ {A = ℕ} 0 1 = cc in omega arith)
-
--- KINDS OF ITEMS
-
--- it ends something
-abbrev pub isEnding : Item → Bool
-isEnding Byte = false
-isEnding Symbol = false
-isEnding Part = false
-isEnding Call = false
-isEnding Pass = false
-isEnding Close = true
-isEnding Unclosed = true
-isEnding Stop = true
-
--- it ends an open call
-abbrev pub isDeep : Item → Bool
-isDeep Byte = false
-isDeep Symbol = false
-isDeep Part = false
-isDeep Call = false
-isDeep Pass = false
-isDeep Close = true
-isDeep Unclosed = true
-isDeep Stop = false
 
 -- nothing of it is read
 abbrev pub stops : Item → Bool
@@ -64,64 +40,6 @@ abbrev itemTests : Bool → Bool → Bool → Bool → Bool → Bool → Bool �
 itemTests a b c d e z u v y =
     pick a (endTests z u v) (pick b Byte (pick c Symbol (pick d Part (pick e (endTests z u v) (pick y Call Pass)))))
 
-end-ends : (z u v : Bool) → isEnding (endTests z u v) ≡ true
-end-ends true u v = refl
-end-ends false true v = refl
-end-ends false false true = refl
-end-ends false false false = refl
-
--- an item that ends nothing was within the limit of items
-room-tests : (a b c d e z u v y : Bool) → isEnding (itemTests a b c d e z u v y) ≡ false → a ≡ false
-room-tests true b c d e z u v y h = contradiction (sym (end-ends z u v) ∙ h)
-room-tests false b c d e z u v y h = refl
-
-byte-tests : (a b c d e z u v y : Bool) → itemTests a b c d e z u v y ≡ Byte → b ≡ true
-byte-tests true b c d e z u v y h = contradiction (sym (end-ends z u v) ∙ ap isEnding h)
-byte-tests false true c d e z u v y h = refl
-byte-tests false false true d e z u v y h = absurd (let k : _≡_ {A = ℕ} 0 1 = cc in omega arith)
-byte-tests false false false true e z u v y h = absurd (let k : _≡_ {A = ℕ} 0 1 = cc in omega arith)
-byte-tests false false false false true z u v y h = contradiction (sym (end-ends z u v) ∙ ap isEnding h)
-byte-tests false false false false false z u v true h = absurd (let k : _≡_ {A = ℕ} 0 1 = cc in omega arith)
-byte-tests false false false false false z u v false h = absurd (let k : _≡_ {A = ℕ} 0 1 = cc in omega arith)
-
-call-tests : (a b c d e z u v y : Bool) → itemTests a b c d e z u v y ≡ Call → y ≡ true
-call-tests true b c d e z u v y h = contradiction (sym (end-ends z u v) ∙ ap isEnding h)
-call-tests false true c d e z u v y h = absurd (let k : _≡_ {A = ℕ} 0 1 = cc in omega arith)
-call-tests false false true d e z u v y h = absurd (let k : _≡_ {A = ℕ} 0 1 = cc in omega arith)
-call-tests false false false true e z u v y h = absurd (let k : _≡_ {A = ℕ} 0 1 = cc in omega arith)
-call-tests false false false false true z u v y h = contradiction (sym (end-ends z u v) ∙ ap isEnding h)
-call-tests false false false false false z u v true h = refl
-call-tests false false false false false z u v false h = absurd (let k : _≡_ {A = ℕ} 0 1 = cc in omega arith)
-
--- what ends an open call has one open, and the end of the expression has none
-end-deep : (z u v : Bool) → isDeep (endTests z u v) ≡ true → z ≡ false
-end-deep true u v h = contradiction (sym h)
-end-deep false u v h = refl
-
-deep-tests : (a b c d e z u v y : Bool) → isDeep (itemTests a b c d e z u v y) ≡ true → z ≡ false
-deep-tests true b c d e z u v y h = end-deep z u v h
-deep-tests false true c d e z u v y h = contradiction (sym h)
-deep-tests false false true d e z u v y h = contradiction (sym h)
-deep-tests false false false true e z u v y h = contradiction (sym h)
-deep-tests false false false false true z u v y h = end-deep z u v h
-deep-tests false false false false false z u v true h = contradiction (sym h)
-deep-tests false false false false false z u v false h = contradiction (sym h)
-
-end-stop : (z u v : Bool) → isStop (endTests z u v) ≡ true → z ≡ true
-end-stop true u v h = refl
-end-stop false true v h = contradiction (sym h)
-end-stop false false true h = contradiction (sym h)
-end-stop false false false h = contradiction (sym h)
-
-stop-tests : (a b c d e z u v y : Bool) → isStop (itemTests a b c d e z u v y) ≡ true → z ≡ true
-stop-tests true b c d e z u v y h = end-stop z u v h
-stop-tests false true c d e z u v y h = contradiction (sym h)
-stop-tests false false true d e z u v y h = contradiction (sym h)
-stop-tests false false false true e z u v y h = contradiction (sym h)
-stop-tests false false false false true z u v y h = end-stop z u v h
-stop-tests false false false false false z u v true h = contradiction (sym h)
-stop-tests false false false false false z u v false h = contradiction (sym h)
-
 -- where nothing is read with a call open, nothing is read with one less open
 end-below : (z u v : Bool) → stops (endTests false u v) ≡ true → stops (endTests z u v) ≡ true
 end-below true u v h = refl
@@ -138,86 +56,77 @@ below-tests false false false false false z u v false x h = contradiction (sym h
 
 -- WHAT AN ITEM TELLS
 
-module _ (ws : List ℕ) (i depth items : ℕ) where
-  abbrev here : Item
-  here = itemAt (drop i ws) depth items
+-- an item that is read stands on the tape and within the limit of items
+pub record Reads (ws : List ℕ) (i items : ℕ) : Type 0 where
+  pub inside : i < length ws
+  pub room : items < 128
 
+module _ (ws : List ℕ) (i depth items : ℕ) where
   abbrev word : ℕ
   word = getD ws i 0
 
-  word-item : i < length ws → here ≡ itemOf word depth items
-  word-item h = rw (drop-word ws i h)
+  abbrev pub Told : Item → Type 0
+  Told Byte = Reads ws i items × (word < 256)
+  Told Symbol = Reads ws i items
+  Told Part = Reads ws i items
+  Told Call = Reads ws i items × (depth < 16)
+  Told Pass = Reads ws i items
+  Told Close = (i < length ws) × (0 < depth)
+  Told Unclosed = 0 < depth
+  Told Stop = depth ≡ 0
 
   -- past the end of the tape nothing is read
-  outside : length ws ≤ i → stops here ≡ true
+  outside : length ws ≤ i → stops (itemAt (drop i ws) depth items) ≡ true
   outside h = rw (drop-of-length-le ws h) (by-test (eqb depth 0))
     where
       by-test : (t : Bool) → stops (pick t Stop Unclosed) ≡ true
       by-test true = refl
       by-test false = refl
 
-  pub item-inside : stops here ≡ false → i < length ws
-  item-inside h = by-place ws i (λ k. k) (λ k. contradiction (sym (outside k) ∙ h))
-
-  pub item-room : isEnding here ≡ false → items < 128
-  item-room h =
-      by-place ws i
-      (λ k.
-      leb-false 128 items
-      (room-tests (leb 128 items) (ltb word 256) (ltb word 512) (ltb word 768) (ltb word 2304) (eqb depth 0) (ltb word 1280) (ltb word 1536) (ltb depth 16)
-      (sym (ap isEnding (word-item k)) ∙ h)))
-      (λ k. contradiction (sym (rw (drop-of-length-le ws k) (by-test (eqb depth 0))) ∙ h))
-    where
-      by-test : (t : Bool) → isEnding (pick t Stop Unclosed) ≡ true
-      by-test true = refl
-      by-test false = refl
-
-  pub byte-word : here ≡ Byte → word < 256
-  byte-word h =
-      let k = item-inside (ap stops h) in
-      ltb-true word 256
-      (byte-tests (leb 128 items) (ltb word 256) (ltb word 512) (ltb word 768) (ltb word 2304) (eqb depth 0) (ltb word 1280) (ltb word 1536) (ltb depth 16)
-      (sym (word-item k) ∙ h))
-
-  pub call-room : here ≡ Call → depth < 16
-  call-room h =
-      let k = item-inside (ap stops h) in
-      ltb-true depth 16
-      (call-tests (leb 128 items) (ltb word 256) (ltb word 512) (ltb word 768) (ltb word 2304) (eqb depth 0) (ltb word 1280) (ltb word 1536) (ltb depth 16)
-      (sym (word-item k) ∙ h))
-
-  depth-zero : eqb depth 0 ≡ false → 0 < depth
-  depth-zero e = by-zero depth (eqb-false depth 0 e)
+  some-open : eqb depth 0 ≡ false → 0 < depth
+  some-open e = by-zero depth (eqb-false depth 0 e)
     where
       by-zero : (d : ℕ) → (d ≡ 0 → ⊥) → 0 < d
       by-zero zero h = absurd (h refl)
       by-zero (suc d) h = omega arith
 
-  pub deep-depth : isDeep here ≡ true → 0 < depth
-  deep-depth h =
-      by-place ws i
-      (λ k.
-      depth-zero
-      (deep-tests (leb 128 items) (ltb word 256) (ltb word 512) (ltb word 768) (ltb word 2304) (eqb depth 0) (ltb word 1280) (ltb word 1536) (ltb depth 16)
-      (sym (ap isDeep (word-item k)) ∙ h)))
-      (λ k. depth-zero (by-test (eqb depth 0) (sym (rw (drop-of-length-le ws k) refl) ∙ h)))
-    where
-      by-test : (t : Bool) → isDeep (pick t Stop Unclosed) ≡ true → t ≡ false
-      by-test true e = contradiction (sym e)
-      by-test false e = refl
+  end-told : (z u v : Bool) → eqb depth 0 ≡ z → i < length ws → Told (endTests z u v)
+  end-told true u v e h = eqb-true depth 0 e
+  end-told false true v e h = some-open e
+  end-told false false true e h = (h, some-open e)
+  end-told false false false e h = some-open e
 
-  pub stop-depth : here ≡ Stop → depth ≡ 0
-  stop-depth h =
-      by-place ws i
-      (λ k.
-      eqb-true depth 0
-      (stop-tests (leb 128 items) (ltb word 256) (ltb word 512) (ltb word 768) (ltb word 2304) (eqb depth 0) (ltb word 1280) (ltb word 1536) (ltb depth 16)
-      (sym (ap isStop (word-item k)) ∙ ap isStop h)))
-      (λ k. eqb-true depth 0 (by-test (eqb depth 0) (sym (rw (drop-of-length-le ws k) refl) ∙ h)))
+  word-told : (a b c d e z u v y : Bool) → leb 128 items ≡ a → ltb word 256 ≡ b → eqb depth 0 ≡ z → ltb depth 16 ≡ y → i < length ws
+      → Told (itemTests a b c d e z u v y)
+  word-told true b c d e z u v y few byte none deep h = end-told z u v none h
+  word-told false b c d e z u v y few byte none deep h = within b c d e y byte deep
     where
-      by-test : (t : Bool) → pick t Stop Unclosed ≡ Stop → t ≡ true
-      by-test true e = refl
-      by-test false e = absurd (let k : _≡_ {A = ℕ} 0 1 = cc in omega arith)
+      read : Reads ws i items
+      read = record { inside = h; room = leb-false 128 items few }
+
+      within : (b c d e y : Bool) → ltb word 256 ≡ b → ltb depth 16 ≡ y → Told (itemTests false b c d e z u v y)
+      within true c d e y byte deep = (read, ltb-true word 256 byte)
+      within false true d e y byte deep = read
+      within false false true e y byte deep = read
+      within false false false true y byte deep = end-told z u v none h
+      within false false false false true byte deep = (read, ltb-true depth 16 deep)
+      within false false false false false byte deep = read
+
+  pub told : (it : Item) → itemAt (drop i ws) depth items ≡ it → Told it
+  told it e = subst Told e (by-place ws i on-tape past-tape)
+    where
+      on-tape : i < length ws → Told (itemAt (drop i ws) depth items)
+      on-tape h =
+          rw (drop-word ws i h)
+          (word-told (leb 128 items) (ltb word 256) (ltb word 512) (ltb word 768) (ltb word 2304) (eqb depth 0) (ltb word 1280) (ltb word 1536) (ltb depth 16)
+          refl refl refl refl h)
+
+      by-test : (z : Bool) → eqb depth 0 ≡ z → Told (pick z Stop Unclosed)
+      by-test true e = eqb-true depth 0 e
+      by-test false e = some-open e
+
+      past-tape : length ws ≤ i → Told (itemAt (drop i ws) depth items)
+      past-tape h = rw (drop-of-length-le ws h) (by-test (eqb depth 0) refl)
 
 -- READING
 
@@ -260,7 +169,7 @@ stops-below ws i depth items e =
     by-place ws i
     (λ h.
     let w = getD ws i 0 in
-    let deep : eqb depth 0 ≡ false = ne-eqb depth 0 (λ z. omega (arith, deep-depth ws i depth items (ap isDeep e))) in
+    let deep : eqb depth 0 ≡ false = ne-eqb depth 0 (λ z. omega (arith, told ws i depth items Unclosed e)) in
     let now : stops (itemOf w depth items) ≡ true = rw (drop-word ws i h) at (ap stops e) in
     rw (drop-word ws i h)
     (below-tests (leb 128 items) (ltb w 256) (ltb w 512) (ltb w 768) (ltb w 2304) (eqb (depth - 1) 0) (ltb w 1280) (ltb w 1536) (ltb depth 16) (ltb (depth - 1) 16)
