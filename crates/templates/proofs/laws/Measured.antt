@@ -18,7 +18,7 @@ use Rattle.templates.specs.Words.{headName, pieceAt}
 use Rattle.templates.specs.Scans.{Scan, scanned, andThen, oneMore, patternIn, patternAt}
 use Rattle.templates.specs.Measuring.{lengths, lengthsOf, addFirst, addSecond, addThird, longerLengths, cutLengths, variablePlace, pastLetter, pastPart, pastAll, measuredBy, variableBy, Measured, measuring, InPattern, Measures, MeasuresAll}
 use Rattle.templates.proofs.laws.Names.{name-here, name-fits-here}
-use Rattle.templates.proofs.laws.Scanning.{pattern-at, pattern-end, pattern-past, Fits, pattern-fits, character-inside, variable-inside, part-inside, character-room, variable-room, not-third}
+use Rattle.templates.proofs.laws.Scanning.{pattern-at, pattern-end, pattern-past, Fits, pattern-fits, NotBoth, Told, told}
 
 -- a letter's length counts before or after
 one-first : (a n : ℕ) → a + 1 + n ≡ a + suc n
@@ -43,12 +43,6 @@ longer-variable Zero n l (open₂ g x m y t) = refl
 longer-variable One n l s = refl
 longer-variable Two n l s = refl
 
--- before the second e-variable: where there are two already no other is read
-abbrev NotBoth : Parts → Type 0
-NotBoth Zero = Unit {0}
-NotBoth One = Unit {0}
-NotBoth Two = ⊥
-
 cut-measured : (p : Parts) (a b c : ℕ) (x : Name) (s : Shape) → NotBoth p → Fits (oneMore p) s
     → measuredBy (oneMore p) (cutLengths (lengths p a b c)) s ≡ measuredBy p (lengths p a b c) (cutAt x s)
 cut-measured Zero a b c x (fixed t) g h = ap (λ (n : ℕ). lengths One n (b + length t) c) (omega arith)
@@ -67,11 +61,6 @@ cut-variable Zero ws known next (open₂ k y m z t) g h = absurd h
 cut-variable One ws known next s g h = refl
 cut-variable Two ws known next s g h = absurd g
 
-not-both : (p : Parts) → (p ≡ Two → ⊥) → NotBoth p
-not-both Zero h = tt
-not-both One h = tt
-not-both Two h = absurd (h refl)
-
 end-measured : (p : Parts) (a b c : ℕ) → measuredBy p (lengths p a b c) (fixed []) ≡ lengths p a b c
 end-measured Zero a b c = ap (λ (n : ℕ). lengths Zero n b c) (omega arith)
 end-measured One a b c = ap (λ (n : ℕ). lengths One a n c) (omega arith)
@@ -89,6 +78,13 @@ whole-lengths (open₁ h x t) = ap₂ (λ (n k : ℕ). lengths One n k 0) (omega
 whole-lengths (open₂ h x m y t) = rw (zero-add, zero-add, zero-add)
 
 -- THE STEPS
+
+-- the piece where a measure stands
+abbrev Stands : List ℕ → Pattern → Piece → Type 0
+Stands ws m p = pieceAt (drop (m .next) ws) (m .letters) (m .lengths .parts) ≡ p
+
+pub tells : {ws : List ℕ} {m : Pattern} → InPattern ws m → (p : Piece) → Stands ws m p → Told ws (m .next) (m .letters) (m .lengths .parts) p
+tells {ws} {m} within = told ws (m .next) (m .letters) (m .lengths .parts)
 
 module _ (ws : List ℕ) (m : Pattern) where
   abbrev here : Scan (List Element)
@@ -134,7 +130,7 @@ module _ (ws : List ℕ) (m : Pattern) where
 
   module _ (within : InPattern ws m) where
     abbrev At : Piece → Type 0
-    At p = pieceAt (drop (m .next) ws) (m .letters) (m .lengths .parts) ≡ p
+    At = Stands ws m
 
     sum-longer : (p : Parts) (a b c n : ℕ) → a + b + c ≡ n → addFirst p a + addSecond p b + addThird p c ≡ n + 1
     sum-longer Zero a b c n e = omega arith
@@ -157,30 +153,30 @@ module _ (ws : List ℕ) (m : Pattern) where
 
     pub character-measures : At Character → Measures ws m (pastLetter m 0)
     character-measures e =
-        let inside = character-inside ws (m .next) (m .letters) (m .lengths .parts) e in
+        let (inside, room, byte) = tells within Character e in
         let z : m .next + 1 + 0 ≡ m .next + 1 = omega arith in
-        letter-measures 0 (character-room ws (m .next) (m .letters) (m .lengths .parts) e .0) (omega arith)
+        letter-measures 0 room (omega arith)
         (letter-same (character (getD ws (m .next) 0)) 0 (pattern-at ws (m .next) (m .letters) (m .lengths .parts) Character inside e ∙ rw z))
 
     pub variable-measures : At SVariable → Measures ws m (pastLetter m (length (headName ws (m .next))))
     variable-measures e =
-        let inside = variable-inside ws (m .next) (m .letters) (m .lengths .parts) e in
-        letter-measures (length (headName ws (m .next))) (variable-room ws (m .next) (m .letters) (m .lengths .parts) e) (name-fits-here ws (m .next) inside)
+        let (named, room) = tells within SVariable e in
+        letter-measures (length (headName ws (m .next))) room (named .fits)
         (letter-same (symbol (headName ws (m .next))) (length (headName ws (m .next)))
-        (pattern-at ws (m .next) (m .letters) (m .lengths .parts) SVariable inside e
-        ∙ rw (pattern-past (m .letters + 1) (m .lengths .parts) ws (m .next) inside, ← (name-here ws (m .next) inside))))
+        (pattern-at ws (m .next) (m .letters) (m .lengths .parts) SVariable (named .inside) e
+        ∙ rw (pattern-past (m .letters + 1) (m .lengths .parts) ws (m .next) (named .inside), ← (name-here ws (m .next) (named .inside)))))
 
     pub part-measures : At EVariable → Measures ws m (pastPart m (length (headName ws (m .next))))
     part-measures e =
-        let inside = part-inside ws (m .next) (m .letters) (m .lengths .parts) e in
+        let (named, one) = tells within EVariable e in
         record {
           same =
               part-same (length (headName ws (m .next)))
-              (pattern-at ws (m .next) (m .letters) (m .lengths .parts) EVariable inside e
-              ∙ rw (pattern-past (m .letters) (oneMore (m .lengths .parts)) ws (m .next) inside, ← (name-here ws (m .next) inside)))
-              (not-both (m .lengths .parts) (not-third ws (m .next) (m .letters) (m .lengths .parts) e));
-          within = record { letters = within .letters; most = within .most; next = name-fits-here ws (m .next) inside };
-          ahead = omega arith;
+              (pattern-at ws (m .next) (m .letters) (m .lengths .parts) EVariable (named .inside) e
+              ∙ rw (pattern-past (m .letters) (oneMore (m .lengths .parts)) ws (m .next) (named .inside), ← (name-here ws (m .next) (named .inside))))
+              one;
+          within = record { letters = within .letters; most = within .most; next = named .fits };
+          ahead = omega (arith, named .inside);
         }
 
     pub end-measures : At PatternEnd → Measures ws m (pastAll m)

@@ -1,7 +1,6 @@
--- Laws of reading a pattern from the tape: what stands at a place, passing over words, and at most two e-variables.
-use Prim.Native.Nat.{ℕ, zero, suc, _+_, _<_}
-use native.Mathlib.Omega.{arith}
-use mathlib.Core.Path.{_≡_, refl, sym, ap, _∙_}
+-- Laws of reading a pattern from the tape: what stands at a place, what a piece tells, passing over words, and at most two e-variables.
+use Prim.Native.Nat.{ℕ, zero, suc, _+_, _<_, _≤_}
+use mathlib.Core.Path.{_≡_, refl, ap, _∙_, subst}
 use mathlib.Core.Bool.{Bool, true, false}
 use mathlib.Core.List.{List, [], _∷_}
 use borrow.Author.Tests.{leb-false}
@@ -18,11 +17,55 @@ use Rattle.templates.specs.declared.tape.Piece.the-variants.{Character, 
 use Rattle.templates.specs.Words.{carried, headName, partPiece, pieceOf, pieceAt}
 use Rattle.templates.specs.Scans.{scanned, oneMore, pieceBy, patternIn}
 use Rattle.templates.proofs.laws.Lists.{drop-word}
-use Rattle.templates.proofs.laws.Names.{by-place, name-skip}
+use Rattle.templates.proofs.laws.Names.{by-place, name-skip, name-fits-here}
 
--- a piece that is none of the pattern's end stands on the tape
-pub piece-inside : (ws : List ℕ) (i letters : ℕ) (parts : Parts) → (pieceAt (drop i ws) letters parts ≡ PatternEnd → ⊥) → i < length ws
-piece-inside ws i letters parts h = by-place ws i (λ k. k) (λ k. absurd (h (rw (drop-of-length-le ws k))))
+-- WHAT A PIECE TELLS
+
+-- a word with its name stands on the tape
+pub record Named (ws : List ℕ) (i : ℕ) : Type 0 where
+  pub inside : i < length ws
+  pub fits : i + 1 + length (headName ws i) ≤ length ws
+
+-- where there are two e-variables already no other is read
+abbrev pub NotBoth : Parts → Type 0
+NotBoth Zero = Unit {0}
+NotBoth One = Unit {0}
+NotBoth Two = ⊥
+
+abbrev pieceTests : Bool → Bool → Bool → Bool → Parts → Piece
+pieceTests a b c d parts = pick a PatternEnd (pick b (partPiece parts) (pick c PatternEnd (pick d SVariable Character)))
+
+module _ (ws : List ℕ) (i letters : ℕ) where
+  abbrev pub Told : Parts → Piece → Type 0
+  Told parts Character = (i < length ws) × (letters < 64) × (getD ws i 0 < 256)
+  Told parts SVariable = Named ws i × (letters < 64)
+  Told parts EVariable = Named ws i × NotBoth parts
+  Told parts PatternEnd = Unit {0}
+
+  named : i < length ws → Named ws i
+  named h = record { inside = h; fits = name-fits-here ws i h }
+
+  part-told : (parts : Parts) → i < length ws → Told parts (partPiece parts)
+  part-told Zero h = (named h, tt)
+  part-told One h = (named h, tt)
+  part-told Two h = tt
+
+  word-told : (a b c d : Bool) (parts : Parts) → leb maxLetters letters ≡ c → leb 256 (getD ws i 0) ≡ d → i < length ws → Told parts (pieceTests a b c d parts)
+  word-told true b c d parts room byte h = tt
+  word-told false true c d parts room byte h = part-told parts h
+  word-told false false true d parts room byte h = tt
+  word-told false false false true parts room byte h = (named h, leb-false 64 letters room)
+  word-told false false false false parts room byte h = (h, leb-false 64 letters room, leb-false 256 (getD ws i 0) byte)
+
+  pub told : (parts : Parts) (p : Piece) → pieceAt (drop i ws) letters parts ≡ p → Told parts p
+  told parts p e = subst (Told parts) e (by-place ws i on-tape (λ h. rw (drop-of-length-le ws h) tt))
+    where
+      on-tape : i < length ws → Told parts (pieceAt (drop i ws) letters parts)
+      on-tape h =
+          let w = getD ws i 0 in
+          rw (drop-word ws i h) (word-told (leb 768 w) (leb 512 w) (leb maxLetters letters) (leb 256 w) parts refl refl h)
+
+-- READING
 
 pub pattern-at : (ws : List ℕ) (i letters : ℕ) (parts : Parts) (p : Piece) → i < length ws → pieceAt (drop i ws) letters parts ≡ p
     → patternIn letters parts 0 (drop i ws) ≡ pieceBy p letters parts (getD ws i 0) (drop (i + 1) ws) (λ l q skip. patternIn l q skip (drop (i + 1) ws))
@@ -76,14 +119,6 @@ fits-letter Two l (fixed t) h = tt
 fits-letter Two l (open₁ a x t) h = h
 fits-letter Two l (open₂ a x m y t) h = h
 
--- no third e-variable is read
-no-third : (a b c d : Bool) → _≡_ {A = Piece} (pick a PatternEnd (pick b PatternEnd (pick c PatternEnd (pick d SVariable Character)))) EVariable → ⊥
-no-third true b c d e = let z : _≡_ {A = ℕ} 0 1 = cc in omega arith
-no-third false true c d e = let z : _≡_ {A = ℕ} 0 1 = cc in omega arith
-no-third false false true d e = let z : _≡_ {A = ℕ} 0 1 = cc in omega arith
-no-third false false false true e = let z : _≡_ {A = ℕ} 0 1 = cc in omega arith
-no-third false false false false e = let z : _≡_ {A = ℕ} 0 1 = cc in omega arith
-
 -- the elements have at most two e-variables, with so many before them
 unfoldable pub AtMost : Parts → List Element → Type 0
 AtMost parts [] = Unit {0}
@@ -102,7 +137,7 @@ at-most-part : (parts : Parts) (w letters : ℕ) (x : Name) (es : List Element) 
 unfolding AtMost
 at-most-part Zero w letters x es e h = h
 at-most-part One w letters x es e h = h
-at-most-part Two w letters x es e h = absurd (no-third (leb 768 w) (leb 512 w) (leb maxLetters letters) (leb 256 w) e)
+at-most-part Two w letters x es e h = absurd (told (w ∷ []) 0 letters Two EVariable e .1)
 
 abbrev AllAtMost : List ℕ → Type 0
 AllAtMost ws = (letters : ℕ) (parts : Parts) (skip : ℕ) → AtMost parts (patternIn letters parts skip ws .value)
@@ -141,59 +176,3 @@ at-most-fits parts (part x ∷ es) h = cut-fits parts x es h (at-most-fits (oneM
 
 pub pattern-fits : (ws : List ℕ) (letters : ℕ) (parts : Parts) (skip : ℕ) → Fits parts (shapeOf (patternIn letters parts skip ws .value))
 pattern-fits ws letters parts skip = at-most-fits parts (patternIn letters parts skip ws .value) (pattern-at-most ws letters parts skip)
-
--- WHAT A PIECE TELLS
-
-abbrev pieceTests : Bool → Bool → Bool → Bool → Parts → Piece
-pieceTests a b c d parts = pick a PatternEnd (pick b (partPiece parts) (pick c PatternEnd (pick d SVariable Character)))
-
--- where the tests lead to a letter, there was room for one, and a character's word is a byte
-character-tests : (a b c d : Bool) (parts : Parts) → pieceTests a b c d parts ≡ Character → (c ≡ false) × (d ≡ false)
-character-tests true b c d parts e = absurd (let z : _≡_ {A = ℕ} 0 1 = cc in omega arith)
-character-tests false true c d Zero e = absurd (let z : _≡_ {A = ℕ} 0 1 = cc in omega arith)
-character-tests false true c d One e = absurd (let z : _≡_ {A = ℕ} 0 1 = cc in omega arith)
-character-tests false true c d Two e = absurd (let z : _≡_ {A = ℕ} 0 1 = cc in omega arith)
-character-tests false false true d parts e = absurd (let z : _≡_ {A = ℕ} 0 1 = cc in omega arith)
-character-tests false false false true parts e = absurd (let z : _≡_ {A = ℕ} 0 1 = cc in omega arith)
-character-tests false false false false parts e = (refl, refl)
-
-variable-tests : (a b c d : Bool) (parts : Parts) → pieceTests a b c d parts ≡ SVariable → c ≡ false
-variable-tests true b c d parts e = absurd (let z : _≡_ {A = ℕ} 0 1 = cc in omega arith)
-variable-tests false true c d Zero e = absurd (let z : _≡_ {A = ℕ} 0 1 = cc in omega arith)
-variable-tests false true c d One e = absurd (let z : _≡_ {A = ℕ} 0 1 = cc in omega arith)
-variable-tests false true c d Two e = absurd (let z : _≡_ {A = ℕ} 0 1 = cc in omega arith)
-variable-tests false false true d parts e = absurd (let z : _≡_ {A = ℕ} 0 1 = cc in omega arith)
-variable-tests false false false d parts e = refl
-
-module _ (ws : List ℕ) (i letters : ℕ) (parts : Parts) where
-  not-end : (p : Piece) → pieceAt (drop i ws) letters parts ≡ p → (p ≡ PatternEnd → ⊥) → i < length ws
-  not-end p e h = piece-inside ws i letters parts (λ q. h (sym e ∙ q))
-
-  pub character-inside : pieceAt (drop i ws) letters parts ≡ Character → i < length ws
-  character-inside e = not-end Character e (λ q. let z : _≡_ {A = ℕ} 0 1 = cc in omega arith)
-
-  pub variable-inside : pieceAt (drop i ws) letters parts ≡ SVariable → i < length ws
-  variable-inside e = not-end SVariable e (λ q. let z : _≡_ {A = ℕ} 0 1 = cc in omega arith)
-
-  pub part-inside : pieceAt (drop i ws) letters parts ≡ EVariable → i < length ws
-  part-inside e = not-end EVariable e (λ q. let z : _≡_ {A = ℕ} 0 1 = cc in omega arith)
-
-  word-piece : (p : Piece) → i < length ws → pieceAt (drop i ws) letters parts ≡ p → pieceOf (getD ws i 0) letters parts ≡ p
-  word-piece p h e = rw (drop-word ws i h) at e
-
-  pub character-room : pieceAt (drop i ws) letters parts ≡ Character → (letters < 64) × (getD ws i 0 < 256)
-  character-room e =
-      let w = getD ws i 0 in
-      let t = character-tests (leb 768 w) (leb 512 w) (leb maxLetters letters) (leb 256 w) parts (word-piece Character (character-inside e) e) in
-      (leb-false 64 letters (t .0), leb-false 256 w (t .1))
-
-  pub variable-room : pieceAt (drop i ws) letters parts ≡ SVariable → letters < 64
-  variable-room e =
-      let w = getD ws i 0 in
-      leb-false 64 letters (variable-tests (leb 768 w) (leb 512 w) (leb maxLetters letters) (leb 256 w) parts (word-piece SVariable (variable-inside e) e))
-
-  -- there were not two e-variables before
-  pub not-third : pieceAt (drop i ws) letters parts ≡ EVariable → parts ≡ Two → ⊥
-  not-third e q =
-      let w = getD ws i 0 in
-      no-third (leb 768 w) (leb 512 w) (leb maxLetters letters) (leb 256 w) (rw q at (word-piece EVariable (part-inside e) e))

@@ -1,7 +1,7 @@
 -- Laws of writing a pattern's tests: each step keeps what the tests come to.
-use Prim.Native.Nat.{ℕ, _+_, _*_, _≤_}
+use Prim.Native.Nat.{ℕ, _+_, _*_, _-_, _<_, _≤_}
 use native.Mathlib.Omega.{arith}
-use mathlib.Core.Path.{_≡_, sym, ap, _∙_}
+use mathlib.Core.Path.{_≡_, refl, sym, ap, _∙_, subst}
 use mathlib.Core.Bool.{true, false}
 use mathlib.Core.Option.{Option, none, some}
 use mathlib.Core.List.{List, [], _∷_, _++_, map, append-assoc, append-nil}
@@ -21,10 +21,11 @@ use Rattle.templates.specs.Words.{headName, headNames, pieceAt}
 use Rattle.templates.specs.Scans.{Scan, scanned, andThen, oneMore, patternIn, patternAt}
 use Rattle.templates.specs.Writing.{Wrote, Same}
 use Rattle.templates.specs.Finding.{numberAmong}
+use Rattle.templates.specs.Measuring.{flag}
 use Rattle.templates.specs.Testing.{siteAt, siteNumber, siteIn, AllSites, foundSite, held, walk, startFrom, testing, testWords, InTests, TestsOn, letterDone, partDone, testsDone, TestsAll, total}
-use Rattle.templates.proofs.laws.Names.{name-here, name-fits-here, name-part}
+use Rattle.templates.proofs.laws.Names.{name-here, name-part}
 use Rattle.templates.proofs.laws.Stores.{same-refl, same-trans, same-words, same-wrote, same-end}
-use Rattle.templates.proofs.laws.Scanning.{pattern-at, pattern-end, pattern-past, character-inside, variable-inside, part-inside, character-room, variable-room}
+use Rattle.templates.proofs.laws.Scanning.{Told, told, pattern-at, pattern-end, pattern-past}
 use Rattle.templates.proofs.laws.Held.{site-back, site-number, found-good, site-small, all-set, lookup-none, lookup-some, held-more}
 
 -- TESTS SO FAR STAY IN FRONT
@@ -65,6 +66,24 @@ compare-word : (a : ℕ) (s : Site) → siteNumber (siteIn a) ≡ a
     → testWord (compare (siteIn a) s) ≡ 2 + 256 * a + 1024 * siteRegister s + 16777216 * siteOffset s
 compare-word a s e = omega (arith, e)
 
+-- the piece where the tests stand
+abbrev Stands : List ℕ → Tests → Piece → Type 0
+Stands ws t p = pieceAt (drop (t .next) ws) (t .letters) (t .parts) ≡ p
+
+pub tells : {ws names sites : List ℕ} {t : Tests} → InTests ws names sites t → (p : Piece) → Stands ws t p → Told ws (t .next) (t .letters) (t .parts) p
+tells {ws} {names} {sites} {t} within = told ws (t .next) (t .letters) (t .parts)
+
+-- the cell of the next letter is near
+pub site-near : {ws names sites : List ℕ} {t : Tests} (l : Lengths) → InTests ws names sites t → total l ≤ 64
+    → (siteRegister (siteAt l (t .parts) (t .offset)) ≤ 2) × (siteOffset (siteAt l (t .parts) (t .offset)) ≤ 64)
+site-near {t = t} l within small = site-small l (t .parts) (t .offset) small (omega (arith, within .offset, within .letters))
+
+-- what an s-variable tells, and its cell
+pub symbol-at : {ws names sites : List ℕ} {t : Tests} (l : Lengths) → InTests ws names sites t → total l ≤ 64 → Stands ws t SVariable
+    → Told ws (t .next) (t .letters) (t .parts) SVariable
+    × ((siteRegister (siteAt l (t .parts) (t .offset)) ≤ 2) × (siteOffset (siteAt l (t .parts) (t .offset)) ≤ 64))
+symbol-at l within small e = (tells within SVariable e, site-near l within small)
+
 module _ (ws : List ℕ) (l : Lengths) (names sites : List ℕ) (t : Tests) (within : InTests ws names sites t) where
   abbrev here : Scan (List Element)
   here = patternIn (t .letters) (t .parts) 0 (drop (t .next) ws)
@@ -75,59 +94,23 @@ module _ (ws : List ℕ) (l : Lengths) (names sites : List ℕ) (t : Tests) (wit
   abbrev site : Site
   site = siteAt l (t .parts) (t .offset)
 
+  abbrev size : ℕ
+  size = length (headName ws (t .next))
+
   abbrev afterLetter : ℕ → Scan (List Element)
-  afterLetter size = patternIn (t .letters + 1) (t .parts) 0 (drop (t .next + 1 + size) ws)
+  afterLetter n = patternIn (t .letters + 1) (t .parts) 0 (drop (t .next + 1 + n) ws)
 
   abbrev walked : ℕ → List (Named Site) → Tested
-  walked size ss = walk l (t .parts) (t .offset + 1) (afterLetter size .value) (startFrom ss)
+  walked n ss = walk l (t .parts) (t .offset + 1) (afterLetter n .value) (startFrom ss)
 
   abbrev At : Piece → Type 0
-  At p = pieceAt (drop (t .next) ws) (t .letters) (t .parts) ≡ p
+  At = Stands ws t
 
-  character-now : At Character → here ≡ andThen (letter (character (getD ws (t .next) 0))) (afterLetter 0)
-  character-now e =
-      let z : t .next + 1 + 0 ≡ t .next + 1 = omega arith in
-      pattern-at ws (t .next) (t .letters) (t .parts) Character (character-inside ws (t .next) (t .letters) (t .parts) e) e ∙ rw z
+  -- BOUNDS AFTER A STEP
 
-  variable-now : At SVariable → here ≡ andThen (letter (symbol (headName ws (t .next)))) (afterLetter (length (headName ws (t .next))))
-  variable-now e =
-      let inside = variable-inside ws (t .next) (t .letters) (t .parts) e in
-      pattern-at ws (t .next) (t .letters) (t .parts) SVariable inside e
-      ∙ rw (pattern-past (t .letters + 1) (t .parts) ws (t .next) inside, ← (name-here ws (t .next) inside))
-
-  pub character-on : (code code′ : List ℕ) (at : ℕ) → At Character → Wrote code (t .at) (testWord (look site (getD ws (t .next) 0)) ∷ []) code′ at
-      → TestsOn ws l names sites code t names sites code′ (letterDone t (t .symbols) 0 at)
-  unfolding walk
-  character-on code code′ at e wrote =
-      let c = getD ws (t .next) 0 in
-      let inside = character-inside ws (t .next) (t .letters) (t .parts) e in
-      let room = character-room ws (t .next) (t .letters) (t .parts) e in
-      let now : testing true ws l names sites t ≡ scanned (prefixed (look site c ∷ []) (walked 0 known)) (afterLetter 0 .rest) =
-      rw (character-now e, walk-prefix l (afterLetter 0 .value) (t .parts) (t .offset + 1) (look site c ∷ []) known) in
-      record {
-        same = same-wrote _ (same-words (same-refl code (t .at) _) (ap testWords now)) wrote;
-        known = sym (ap (λ (s : Scan Tested). s .value .sites) now);
-        rest = sym (ap (λ (s : Scan Tested). s .rest) now);
-        within =
-            record {
-              nameRoom = within .nameRoom;
-              siteRoom = within .siteRoom;
-              good = within .good;
-              letters = omega arith;
-              offset = omega (arith, within .offset);
-              symbols = omega (arith, within .symbols);
-              next = omega arith;
-              at = omega (arith, wrote .next, within .at);
-            };
-        ahead = omega arith;
-        grown = omega (arith, wrote .next);
-      }
-
-  -- bounds after an s-variable
-  variable-within : (names′ sites′ : List ℕ) (symbols at : ℕ) → At SVariable → length names′ ≡ 64 → length sites′ ≡ 64 → AllSites sites′
-      → symbols ≤ t .symbols + 1 → at ≤ t .at + 1 → InTests ws names′ sites′ (letterDone t symbols (length (headName ws (t .next))) at)
-  variable-within names′ sites′ symbols at e hn hs good h g =
-      let room = variable-room ws (t .next) (t .letters) (t .parts) e in
+  letter-within : {names′ sites′ : List ℕ} {symbols at : ℕ} (n : ℕ) → t .letters < 64 → t .next + 1 + n ≤ length ws → length names′ ≡ 64 → length sites′ ≡ 64
+      → AllSites sites′ → symbols ≤ t .symbols + 1 → at ≤ t .at + 1 → InTests ws names′ sites′ (letterDone t symbols n at)
+  letter-within n room fits hn hs good h g =
       record {
         nameRoom = hn;
         siteRoom = hs;
@@ -135,20 +118,81 @@ module _ (ws : List ℕ) (l : Lengths) (names sites : List ℕ) (t : Tests) (wit
         letters = omega arith;
         offset = omega (arith, within .offset);
         symbols = omega (arith, within .symbols);
-        next = name-fits-here ws (t .next) (variable-inside ws (t .next) (t .letters) (t .parts) e);
+        next = fits;
         at = omega (arith, within .at);
       }
+
+  -- no letter was read
+  kept-within : (r : Tests) → r .letters ≡ t .letters → r .symbols ≡ t .symbols → r .at ≡ t .at → r .offset ≤ t .letters → r .next ≤ length ws
+      → InTests ws names sites r
+  kept-within r letters symbols at offset next =
+      record {
+        nameRoom = within .nameRoom;
+        siteRoom = within .siteRoom;
+        good = within .good;
+        letters = omega (arith, within .letters);
+        offset = omega arith;
+        symbols = omega (arith, within .symbols);
+        next = next;
+        at = omega (arith, within .at);
+      }
+
+  -- THE TWO KINDS OF STEPS
+
+  -- one test is written
+  test-on : {code code′ : List ℕ} {at word : ℕ} (n : ℕ) (x : Test) → testWord x ≡ word
+      → testing true ws l names sites t ≡ scanned (prefixed (x ∷ []) (walked n known)) (afterLetter n .rest)
+      → Wrote code (t .at) (word ∷ []) code′ at → t .letters < 64 → t .next + 1 + n ≤ length ws
+      → TestsOn ws l names sites code t names sites code′ (letterDone t (t .symbols) n at)
+  test-on {code} n x e now wrote room fits =
+      record {
+        same =
+            same-wrote _ (same-words (same-refl code (t .at) _) (ap testWords now ∙ ap (λ (w : ℕ). w ∷ map testWord (walked n known .tests)) e)) wrote;
+        known = sym (ap (λ (s : Scan Tested). s .value .sites) now);
+        rest = sym (ap (λ (s : Scan Tested). s .rest) now);
+        within = letter-within n room fits (within .nameRoom) (within .siteRoom) (within .good) (omega arith) (omega (arith, wrote .next));
+        ahead = omega arith;
+        grown = omega (arith, wrote .next);
+      }
+
+  -- nothing is written
+  unwritten-on : {names′ sites′ code : List ℕ} (r : Tests) → r .at ≡ t .at → testing true ws l names sites t ≡ testing (r .more) ws l names′ sites′ r
+      → InTests ws names′ sites′ r → length ws - r .next + flag (r .more) < length ws - t .next + 1 → t .letters ≤ r .letters
+      → TestsOn ws l names sites code t names′ sites′ code r
+  unwritten-on {names′} {sites′} {code} r e later inside ahead more =
+      record {
+        same =
+            subst (λ (a : ℕ). Same code (t .at) (testWords (testing true ws l names sites t)) code a (testWords (testing (r .more) ws l names′ sites′ r))) (sym e)
+            (same-words (same-refl code (t .at) _) (ap testWords later));
+        known = sym (ap (λ (s : Scan Tested). s .value .sites) later);
+        rest = sym (ap (λ (s : Scan Tested). s .rest) later);
+        within = inside;
+        ahead = ahead;
+        grown = omega arith;
+      }
+
+  -- A CHARACTER
+
+  pub character-on : {code code′ : List ℕ} {at : ℕ} → At Character → Wrote code (t .at) (testWord (look site (getD ws (t .next) 0)) ∷ []) code′ at
+      → TestsOn ws l names sites code t names sites code′ (letterDone t (t .symbols) 0 at)
+  unfolding walk
+  character-on e wrote =
+      let c = getD ws (t .next) 0 in
+      let (inside, room, byte) = tells within Character e in
+      let z : t .next + 1 + 0 ≡ t .next + 1 = omega arith in
+      let now : here ≡ andThen (letter (character c)) (afterLetter 0) = pattern-at ws (t .next) (t .letters) (t .parts) Character inside e ∙ rw z in
+      test-on 0 (look site c) refl
+      (rw (now, walk-prefix l (afterLetter 0 .value) (t .parts) (t .offset + 1) (look site c ∷ []) known)) wrote room (omega arith)
+
+  -- AN S-VARIABLE
 
   abbrev found : ℕ
   found = numberAmong 0 (headNames ws (take (t .symbols) names)) (headName ws (t .next))
 
-  abbrev size : ℕ
-  size = length (headName ws (t .next))
-
   symbols-fit : t .symbols ≤ 64
   symbols-fit = omega (arith, within .symbols, within .letters)
 
-  -- after an s-variable, by what is known of it
+  -- after it, by what is known of it
   abbrev afterSymbol : Option Site → Scan Tested
   afterSymbol o =
       scanned (walk l (t .parts) (t .offset + 1) (afterLetter size .value) (testedSymbol o (headName ws (t .next)) site (startFrom known))) (afterLetter size .rest)
@@ -157,40 +201,33 @@ module _ (ws : List ℕ) (l : Lengths) (names sites : List ℕ) (t : Tests) (wit
   unfolding walk
   symbol-now o e h = base ∙ ap afterSymbol h
     where
-      base : testing true ws l names sites t ≡ afterSymbol (lookup (headName ws (t .next)) known)
-      base = rw (variable-now e)
+      now : here ≡ andThen (letter (symbol (headName ws (t .next)))) (afterLetter size)
+      now =
+          let inside = tells within SVariable e .0 .inside in
+          pattern-at ws (t .next) (t .letters) (t .parts) SVariable inside e
+          ∙ rw (pattern-past (t .letters + 1) (t .parts) ws (t .next) inside, ← (name-here ws (t .next) inside))
 
-  pub equal-on : (code code′ : List ℕ) (at : ℕ) → At SVariable → (found ≡ 0 → ⊥) → found ≤ t .symbols
+      base : testing true ws l names sites t ≡ afterSymbol (lookup (headName ws (t .next)) known)
+      base = rw now
+
+  pub equal-on : {code code′ : List ℕ} {at : ℕ} → At SVariable → (found ≡ 0 → ⊥) → found ≤ t .symbols
       → Wrote code (t .at) ((2 + 256 * foundSite found sites + 1024 * siteRegister site + 16777216 * siteOffset site) ∷ []) code′ at
       → TestsOn ws l names sites code t names sites code′ (letterDone t (t .symbols) size at)
-  equal-on code code′ at e h g wrote =
-      let x = headName ws (t .next) in
+  equal-on e h g wrote =
       let first = siteIn (foundSite found sites) in
-      let inside = variable-inside ws (t .next) (t .letters) (t .parts) e in
-      let known-now : lookup x known ≡ some first =
-      lookup-some ws names sites (t .symbols) x (omega (arith, symbols-fit, within .nameRoom)) (omega (arith, symbols-fit, within .siteRoom)) h g in
-      let now : testing true ws l names sites t ≡ scanned (prefixed (compare first site ∷ []) (walked size known)) (afterLetter size .rest) =
-      symbol-now (some first) e known-now
-      ∙ ap (λ (d : Tested). scanned d (afterLetter size .rest)) (walk-prefix l (afterLetter size .value) (t .parts) (t .offset + 1) (compare first site ∷ []) known) in
-      record {
-        same =
-            same-wrote _
-            (same-words (same-refl code (t .at) _) (ap testWords now ∙ ap (λ (w : ℕ). w ∷ map testWord (walked size known .tests))
-            (compare-word (foundSite found sites) site (found-good sites (within .good) found .same))))
-            wrote;
-        known = sym (ap (λ (s : Scan Tested). s .value .sites) now);
-        rest = sym (ap (λ (s : Scan Tested). s .rest) now);
-        within = variable-within names sites (t .symbols) at e (within .nameRoom) (within .siteRoom) (within .good) (omega arith) (omega (arith, wrote .next));
-        ahead = omega (arith, name-fits-here ws (t .next) inside);
-        grown = omega (arith, wrote .next);
-      }
+      let (named, room) = tells within SVariable e in
+      let known-now : lookup (headName ws (t .next)) known ≡ some first =
+      lookup-some ws names sites (t .symbols) (headName ws (t .next)) (omega (arith, symbols-fit, within .nameRoom)) (omega (arith, symbols-fit, within .siteRoom)) h g in
+      test-on size (compare first site) (compare-word (foundSite found sites) site (found-good sites (within .good) found .same))
+      (symbol-now (some first) e known-now
+      ∙ ap (λ (d : Tested). scanned d (afterLetter size .rest)) (walk-prefix l (afterLetter size .value) (t .parts) (t .offset + 1) (compare first site ∷ []) known))
+      wrote room (named .fits)
 
-  pub new-on : (code : List ℕ) → At SVariable → total l ≤ 64 → found ≡ 0
+  pub new-on : {code : List ℕ} → At SVariable → total l ≤ 64 → found ≡ 0
       → TestsOn ws l names sites code t (set names (t .symbols) (t .next)) (set sites (t .symbols) (siteNumber site)) code (letterDone t (t .symbols + 1) size (t .at))
-  new-on code e small h =
+  new-on e small h =
       let x = headName ws (t .next) in
-      let inside = variable-inside ws (t .next) (t .letters) (t .parts) e in
-      let room = variable-room ws (t .next) (t .letters) (t .parts) e in
+      let (named, room) = tells within SVariable e in
       let known-now : lookup x known ≡ none =
       lookup-none ws names sites (t .symbols) x (omega (arith, symbols-fit, within .nameRoom)) (omega (arith, symbols-fit, within .siteRoom)) h in
       let more : held ws (set names (t .symbols) (t .next)) (set sites (t .symbols) (siteNumber site)) (t .symbols + 1) ≡ known ++ record { name = x; value = site } ∷ [] =
@@ -198,76 +235,34 @@ module _ (ws : List ℕ) (l : Lengths) (names sites : List ℕ) (t : Tests) (wit
       ∙ ap (λ (s : Site). known ++ record { name = x; value = s } ∷ []) (site-back site) in
       let now : testing true ws l names sites t ≡ scanned (walked size (known ++ record { name = x; value = site } ∷ [])) (afterLetter size .rest) =
       symbol-now none e known-now in
-      let later : testing true ws l names sites t
-      ≡ testing true ws l (set names (t .symbols) (t .next)) (set sites (t .symbols) (siteNumber site)) (letterDone t (t .symbols + 1) size (t .at)) =
-      now ∙ rw more in
-      record {
-        same = same-words (same-refl code (t .at) _) (ap testWords later);
-        known = sym (ap (λ (s : Scan Tested). s .value .sites) later);
-        rest = sym (ap (λ (s : Scan Tested). s .rest) later);
-        within =
-            variable-within _ _ (t .symbols + 1) (t .at) e (length-set names (t .symbols) (t .next) ∙ within .nameRoom)
-            (length-set sites (t .symbols) (siteNumber site) ∙ within .siteRoom)
-            (all-set sites (t .symbols) (siteNumber site) (within .good) (site-number site (site-small l (t .parts) (t .offset) small (omega (arith, within .offset, within .letters)) .1)))
-            (omega arith) (omega arith);
-        ahead = omega (arith, name-fits-here ws (t .next) inside);
-        grown = omega arith;
-      }
+      unwritten-on (letterDone t (t .symbols + 1) size (t .at)) refl (now ∙ rw more)
+      (letter-within size room (named .fits) (length-set names (t .symbols) (t .next) ∙ within .nameRoom)
+      (length-set sites (t .symbols) (siteNumber site) ∙ within .siteRoom)
+      (all-set sites (t .symbols) (siteNumber site) (within .good) (site-number site (site-near l within small .1))) (omega arith) (omega arith))
+      (omega (arith, named .fits)) (omega arith)
 
-  pub part-on : (code : List ℕ) → At EVariable → TestsOn ws l names sites code t names sites code (partDone t size)
+  -- AN E-VARIABLE, AND THE END
+
+  pub part-on : {code : List ℕ} → At EVariable → TestsOn ws l names sites code t names sites code (partDone t size)
   unfolding walk
-  part-on code e =
-      let inside = part-inside ws (t .next) (t .letters) (t .parts) e in
+  part-on e =
+      let (named, one) = tells within EVariable e in
       let now : here ≡ andThen (part (headName ws (t .next))) (patternIn (t .letters) (oneMore (t .parts)) 0 (drop (t .next + 1 + size) ws)) =
-      pattern-at ws (t .next) (t .letters) (t .parts) EVariable inside e
-      ∙ rw (pattern-past (t .letters) (oneMore (t .parts)) ws (t .next) inside, ← (name-here ws (t .next) inside)) in
-      let later : testing true ws l names sites t ≡ testing true ws l names sites (partDone t size) = rw now in
-      record {
-        same = same-words (same-refl code (t .at) _) (ap testWords later);
-        known = sym (ap (λ (s : Scan Tested). s .value .sites) later);
-        rest = sym (ap (λ (s : Scan Tested). s .rest) later);
-        within =
-            record {
-              nameRoom = within .nameRoom;
-              siteRoom = within .siteRoom;
-              good = within .good;
-              letters = within .letters;
-              offset = omega arith;
-              symbols = within .symbols;
-              next = name-fits-here ws (t .next) inside;
-              at = within .at;
-            };
-        ahead = omega (arith, name-fits-here ws (t .next) inside);
-        grown = omega arith;
-      }
+      pattern-at ws (t .next) (t .letters) (t .parts) EVariable (named .inside) e
+      ∙ rw (pattern-past (t .letters) (oneMore (t .parts)) ws (t .next) (named .inside), ← (name-here ws (t .next) (named .inside))) in
+      unwritten-on (partDone t size) refl (rw now) (kept-within (partDone t size) refl refl refl (omega arith) (named .fits)) (omega (arith, named .fits)) (omega arith)
 
-  pub end-on : (code : List ℕ) → At PatternEnd → TestsOn ws l names sites code t names sites code (testsDone t)
+  pub end-on : {code : List ℕ} → At PatternEnd → TestsOn ws l names sites code t names sites code (testsDone t)
   unfolding walk
-  end-on code e =
-      let later : testing true ws l names sites t ≡ testing false ws l names sites (testsDone t) = rw (pattern-end ws (t .next) (t .letters) (t .parts) e) in
-      record {
-        same = same-words (same-refl code (t .at) _) (ap testWords later);
-        known = sym (ap (λ (s : Scan Tested). s .value .sites) later);
-        rest = sym (ap (λ (s : Scan Tested). s .rest) later);
-        within =
-            record {
-              nameRoom = within .nameRoom;
-              siteRoom = within .siteRoom;
-              good = within .good;
-              letters = within .letters;
-              offset = within .offset;
-              symbols = within .symbols;
-              next = within .next;
-              at = within .at;
-            };
-        ahead = omega arith;
-        grown = omega arith;
-      }
+  end-on e =
+      unwritten-on (testsDone t) refl (rw (pattern-end ws (t .next) (t .letters) (t .parts) e))
+      (kept-within (testsDone t) refl refl refl (within .offset) (within .next)) (omega arith) (omega arith)
 
 -- the name that is looked for, by its words
-pub name-found : (ws names : List ℕ) (n p size : ℕ) → size ≡ length (headName ws p)
-    → numberAmong 0 (headNames ws (take n names)) (take size (drop (p + 1) ws)) ≡ numberAmong 0 (headNames ws (take n names)) (headName ws p)
-name-found ws names n p size e = ap (numberAmong 0 (headNames ws (take n names))) (rw e (sym (name-part ws p)))
+pub name-found : {ws names sites : List ℕ} {t : Tests} {size : ℕ} → InTests ws names sites t → size ≡ length (headName ws (t .next))
+    → numberAmong 0 (headNames ws (take (t .symbols) names)) (take size (drop (t .next + 1) ws))
+    ≡ numberAmong 0 (headNames ws (take (t .symbols) names)) (headName ws (t .next))
+name-found {ws} {names} {sites} {t} within e = ap (numberAmong 0 (headNames ws (take (t .symbols) names))) (rw e (sym (name-part ws (t .next))))
 
 -- ALL OF THEM
 

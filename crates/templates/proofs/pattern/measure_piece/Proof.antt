@@ -1,9 +1,8 @@
 -- `pattern::measure_piece` meets its contract.
 use native.Mathlib.Omega.{arith}
 use mathlib.Core.Path.{sym, _∙_}
-use Rattle.templates.proofs.laws.Scanning.{character-room, character-inside, variable-room, variable-inside, part-inside}
-use Rattle.templates.proofs.laws.Names.{name-fits-here}
-use Rattle.templates.proofs.laws.Measured.{character-measures, variable-measures, part-measures, end-measures}
+use Rattle.templates.specs.declared.tape.Piece.the-variants.{Character, SVariable, EVariable}
+use Rattle.templates.proofs.laws.Measured.{tells, character-measures, variable-measures, part-measures, end-measures}
 use borrow.Author.Needs.{needs}
 use Rattle.templates.proofs.pattern.measure_piece.Statement.{statement}
 use Rattle.templates.proofs.pattern.measure_piece.Tie as tie
@@ -15,7 +14,7 @@ enum-told : tie.Need-enum-told
 enum-told c = search needs
 
 measure-letter-requires : tie.Need-measure-letter-requires
-measure-letter-requires c κs = omega (arith, character-room (c .before .before .before .before .before .args .tape .now) (c .before .before .before .before .before .args .m .next) (c .before .before .before .before .before .args .m .letters) (c .before .before .before .before .before .args .m .lengths .parts) (sym (c .before .before .piece-at .ensures) ∙ c .enum-told .given .1) .0, character-inside (c .before .before .before .before .before .args .tape .now) (c .before .before .before .before .before .args .m .next) (c .before .before .before .before .before .args .m .letters) (c .before .before .before .before .before .args .m .lengths .parts) (sym (c .before .before .piece-at .ensures) ∙ c .enum-told .given .1), c .before .before .before .before .before .pre)
+measure-letter-requires c κs = omega (arith, tells (c .before .before .before .before .before .pre) Character (sym (c .before .before .piece-at .ensures) ∙ c .enum-told .given .1), c .before .before .before .before .before .pre)
 
 enum-told-2 : tie.Need-enum-told-2
 enum-told-2 c = search needs
@@ -24,7 +23,7 @@ name-size-requires : tie.Need-name-size-requires
 name-size-requires c κs = search needs
 
 measure-letter-requires-2 : tie.Need-measure-letter-requires-2
-measure-letter-requires-2 c κs = omega (arith, variable-room (c .before .before .before .before .before .before .args .tape .now) (c .before .before .before .before .before .before .args .m .next) (c .before .before .before .before .before .before .args .m .letters) (c .before .before .before .before .before .before .args .m .lengths .parts) (sym (c .before .before .before .piece-at .ensures) ∙ c .before .enum-told2 .given .1), name-fits-here (c .before .before .before .before .before .before .args .tape .now) (c .before .before .before .before .before .before .args .m .next) (variable-inside (c .before .before .before .before .before .before .args .tape .now) (c .before .before .before .before .before .before .args .m .next) (c .before .before .before .before .before .before .args .m .letters) (c .before .before .before .before .before .before .args .m .lengths .parts) (sym (c .before .before .before .piece-at .ensures) ∙ c .before .enum-told2 .given .1)), c .name-size .ensures, c .before .before .before .before .before .before .pre)
+measure-letter-requires-2 c κs = omega (arith, tells (c .before .before .before .before .before .before .pre) SVariable (sym (c .before .before .before .piece-at .ensures) ∙ c .before .enum-told2 .given .1), c .name-size .ensures, c .before .before .before .before .before .before .pre)
 
 enum-told-3 : tie.Need-enum-told-3
 enum-told-3 c = search needs
@@ -33,7 +32,7 @@ name-size-requires-2 : tie.Need-name-size-requires-2
 name-size-requires-2 c κs = search needs
 
 measure-part-requires : tie.Need-measure-part-requires
-measure-part-requires c κs = omega (arith, name-fits-here (c .before .before .before .before .before .before .args .tape .now) (c .before .before .before .before .before .before .args .m .next) (part-inside (c .before .before .before .before .before .before .args .tape .now) (c .before .before .before .before .before .before .args .m .next) (c .before .before .before .before .before .before .args .m .letters) (c .before .before .before .before .before .before .args .m .lengths .parts) (sym (c .before .before .before .piece-at .ensures) ∙ c .before .enum-told3 .given .1)), c .name-size2 .ensures, c .before .before .before .before .before .before .pre)
+measure-part-requires c κs = omega (arith, tells (c .before .before .before .before .before .before .pre) EVariable (sym (c .before .before .before .piece-at .ensures) ∙ c .before .enum-told3 .given .1), c .name-size2 .ensures, c .before .before .before .before .before .before .pre)
 
 enum-told-4 : tie.Need-enum-told-4
 enum-told-4 c = search needs
@@ -42,16 +41,16 @@ measure-end-requires : tie.Need-measure-end-requires
 measure-end-requires c κs = search needs
 
 returns : tie.Need-returns
-returns c = rw (c .measure-letter .ensures) (character-measures (c .before .before .before .before .before .before .args .tape .now) (c .before .before .before .before .before .before .args .m) (c .before .before .before .before .before .before .pre) (sym (c .before .before .before .piece-at .ensures) ∙ c .before .enum-told .given .1))
+returns c = rw (c .measure-letter .ensures) (character-measures _ _ (c .before .before .before .before .before .before .pre) (sym (c .before .before .before .piece-at .ensures) ∙ c .before .enum-told .given .1))
 
 returns-2 : tie.Need-returns-2
-returns-2 c = rw (c .measure-letter2 .ensures, c .before .name-size .ensures) (variable-measures (c .before .before .before .before .before .before .before .args .tape .now) (c .before .before .before .before .before .before .before .args .m) (c .before .before .before .before .before .before .before .pre) (sym (c .before .before .before .before .piece-at .ensures) ∙ c .before .before .enum-told2 .given .1))
+returns-2 c = rw (c .measure-letter2 .ensures, c .before .name-size .ensures) (variable-measures _ _ (c .before .before .before .before .before .before .before .pre) (sym (c .before .before .before .before .piece-at .ensures) ∙ c .before .before .enum-told2 .given .1))
 
 returns-3 : tie.Need-returns-3
-returns-3 c = rw (c .measure-part .ensures, c .before .name-size2 .ensures) (part-measures (c .before .before .before .before .before .before .before .args .tape .now) (c .before .before .before .before .before .before .before .args .m) (c .before .before .before .before .before .before .before .pre) (sym (c .before .before .before .before .piece-at .ensures) ∙ c .before .before .enum-told3 .given .1))
+returns-3 c = rw (c .measure-part .ensures, c .before .name-size2 .ensures) (part-measures _ _ (c .before .before .before .before .before .before .before .pre) (sym (c .before .before .before .before .piece-at .ensures) ∙ c .before .before .enum-told3 .given .1))
 
 returns-4 : tie.Need-returns-4
-returns-4 c = rw (c .measure-end .ensures) (end-measures (c .before .before .before .before .before .before .args .tape .now) (c .before .before .before .before .before .before .args .m) (c .before .before .before .before .before .before .pre) (sym (c .before .before .before .piece-at .ensures) ∙ c .before .enum-told4 .given .1))
+returns-4 c = rw (c .measure-end .ensures) (end-measures _ _ (c .before .before .before .before .before .before .pre) (sym (c .before .before .before .piece-at .ensures) ∙ c .before .enum-told4 .given .1))
 
 pub measure-piece-spec : {M : Type 1} → statement M
 measure-piece-spec =

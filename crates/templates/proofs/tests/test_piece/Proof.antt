@@ -1,9 +1,8 @@
 -- `tests::test_piece` meets its contract.
 use native.Mathlib.Omega.{arith}
 use mathlib.Core.Path.{sym, _∙_}
-use Rattle.templates.proofs.laws.Names.{name-fits-here}
-use Rattle.templates.proofs.laws.Scanning.{character-inside, character-room, part-inside}
-use Rattle.templates.proofs.laws.Tested.{character-on, part-on, end-on}
+use Rattle.templates.specs.declared.tape.Piece.the-variants.{Character, EVariable}
+use Rattle.templates.proofs.laws.Tested.{tells, character-on, part-on, end-on}
 use borrow.Author.Needs.{needs}
 use Rattle.templates.proofs.tests.test_piece.Statement.{statement}
 use Rattle.templates.proofs.tests.test_piece.Tie as tie
@@ -15,7 +14,7 @@ enum-told : tie.Need-enum-told
 enum-told c = search needs
 
 test-character-requires : tie.Need-test-character-requires
-test-character-requires c κs = omega (arith, character-inside (c .before .before .before .before .before .before .before .before .args .tape .now) (c .before .before .before .before .before .before .before .before .args .t .next) (c .before .before .before .before .before .before .before .before .args .t .letters) (c .before .before .before .before .before .before .before .before .args .t .parts) (sym (c .before .before .before .piece-at .ensures) ∙ c .before .enum-told .given .1), character-room (c .before .before .before .before .before .before .before .before .args .tape .now) (c .before .before .before .before .before .before .before .before .args .t .next) (c .before .before .before .before .before .before .before .before .args .t .letters) (c .before .before .before .before .before .before .before .before .args .t .parts) (sym (c .before .before .before .piece-at .ensures) ∙ c .before .enum-told .given .1), c .before .before .before .before .before .before .before .before .pre)
+test-character-requires c κs = omega (arith, tells (c .before .before .before .before .before .before .before .before .pre .0) Character (sym (c .before .before .before .piece-at .ensures) ∙ c .before .enum-told .given .1), c .before .before .before .before .before .before .before .before .pre)
 
 enum-told-2 : tie.Need-enum-told-2
 enum-told-2 c = search needs
@@ -30,7 +29,7 @@ name-size-requires : tie.Need-name-size-requires
 name-size-requires c κs = search needs
 
 past-part-requires : tie.Need-past-part-requires
-past-part-requires c κs = omega (arith, name-fits-here (c .before .before .before .before .before .before .before .before .args .tape .now) (c .before .before .before .before .before .before .before .before .args .t .next) (part-inside (c .before .before .before .before .before .before .before .before .args .tape .now) (c .before .before .before .before .before .before .before .before .args .t .next) (c .before .before .before .before .before .before .before .before .args .t .letters) (c .before .before .before .before .before .before .before .before .args .t .parts) (sym (c .before .before .before .piece-at .ensures) ∙ c .before .enum-told3 .given .1)), c .name-size .ensures)
+past-part-requires c κs = omega (arith, tells (c .before .before .before .before .before .before .before .before .pre .0) EVariable (sym (c .before .before .before .piece-at .ensures) ∙ c .before .enum-told3 .given .1), c .name-size .ensures)
 
 enum-told-4 : tie.Need-enum-told-4
 enum-told-4 c = search needs
@@ -42,7 +41,7 @@ same-length : tie.Need-same-length
 same-length c = search needs
 
 returns : tie.Need-returns
-returns c = rw (c .before .before .test-character .ensures .1) (character-on (c .before .before .before .before .before .before .before .before .before .before .before .args .tape .now) (c .before .before .before .before .before .before .before .before .before .before .before .args .lengths) (c .before .before .before .before .before .before .before .before .before .before .before .args .names .now) (c .before .before .before .before .before .before .before .before .before .before .before .args .sites .now) (c .before .before .before .before .before .before .before .before .before .before .before .args .t) (c .before .before .before .before .before .before .before .before .before .before .before .pre .0) (c .before .before .before .before .before .before .before .before .before .before .before .args .code .now) _ (c .before .before .test-character .result .at) (sym (c .before .before .before .before .before .before .piece-at .ensures) ∙ c .before .before .before .before .enum-told .given .1) (c .before .before .test-character .ensures .0))
+returns c = rw (c .before .before .test-character .ensures .1) (character-on _ _ _ _ _ (c .before .before .before .before .before .before .before .before .before .before .before .pre .0) (sym (c .before .before .before .before .before .before .piece-at .ensures) ∙ c .before .before .before .before .enum-told .given .1) (c .before .before .test-character .ensures .0))
 
 same-length-2 : tie.Need-same-length-2
 same-length-2 c = search needs
@@ -57,10 +56,10 @@ returns-2 : tie.Need-returns-2
 returns-2 c = search needs
 
 returns-3 : tie.Need-returns-3
-returns-3 c = rw (c .past-part .ensures, c .before .name-size .ensures) (part-on (c .before .before .before .before .before .before .before .before .before .args .tape .now) (c .before .before .before .before .before .before .before .before .before .args .lengths) (c .before .before .before .before .before .before .before .before .before .args .names .now) (c .before .before .before .before .before .before .before .before .before .args .sites .now) (c .before .before .before .before .before .before .before .before .before .args .t) (c .before .before .before .before .before .before .before .before .before .pre .0) (c .before .before .before .before .before .before .before .before .before .args .code .now) (sym (c .before .before .before .before .piece-at .ensures) ∙ c .before .before .enum-told3 .given .1))
+returns-3 c = rw (c .past-part .ensures, c .before .name-size .ensures) (part-on _ _ _ _ _ (c .before .before .before .before .before .before .before .before .before .pre .0) (sym (c .before .before .before .before .piece-at .ensures) ∙ c .before .before .enum-told3 .given .1))
 
 returns-4 : tie.Need-returns-4
-returns-4 c = rw (c .tests-end .ensures) (end-on (c .before .before .before .before .before .before .before .before .args .tape .now) (c .before .before .before .before .before .before .before .before .args .lengths) (c .before .before .before .before .before .before .before .before .args .names .now) (c .before .before .before .before .before .before .before .before .args .sites .now) (c .before .before .before .before .before .before .before .before .args .t) (c .before .before .before .before .before .before .before .before .pre .0) (c .before .before .before .before .before .before .before .before .args .code .now) (sym (c .before .before .before .piece-at .ensures) ∙ c .before .enum-told4 .given .1))
+returns-4 c = rw (c .tests-end .ensures) (end-on _ _ _ _ _ (c .before .before .before .before .before .before .before .before .pre .0) (sym (c .before .before .before .piece-at .ensures) ∙ c .before .enum-told4 .given .1))
 
 pub test-piece-spec : {M : Type 1} → statement M
 test-piece-spec =

@@ -1,10 +1,9 @@
 -- `tests::test_symbol` meets its contract.
 use native.Mathlib.Omega.{arith}
 use mathlib.Core.Path.{sym, ap, _∙_}
-use Rattle.templates.proofs.laws.Names.{name-fits-here}
-use Rattle.templates.proofs.laws.Scanning.{variable-inside, variable-room}
-use Rattle.templates.proofs.laws.Held.{site-small, found-good}
-use Rattle.templates.proofs.laws.Tested.{new-on, equal-on, name-found}
+use Rattle.templates.specs.declared.tape.Piece.the-variants.{SVariable}
+use Rattle.templates.proofs.laws.Held.{found-good}
+use Rattle.templates.proofs.laws.Tested.{tells, symbol-at, new-on, equal-on, name-found}
 use borrow.Author.Needs.{needs}
 use Rattle.templates.proofs.tests.test_symbol.Statement.{statement}
 use Rattle.templates.proofs.tests.test_symbol.Tie as tie
@@ -16,14 +15,21 @@ name-size-requires : tie.Need-name-size-requires
 name-size-requires c κs = search needs
 
 add-find : tie.Need-add-find
-add-find c = omega (arith, variable-inside (c .before .before .before .before .before .before .before .before .args .tape .now) (c .before .before .before .before .before .before .before .before .args .t .next) (c .before .before .before .before .before .before .before .before .args .t .letters) (c .before .before .before .before .before .before .before .before .args .t .parts) (c .before .before .before .before .before .before .before .before .pre .1))
+add-find c = omega (arith, tells (c .before .before .before .before .before .before .before .before .pre .0 .0) SVariable (c .before .before .before .before .before .before .before .before .pre .1))
 
 find-requires : tie.Need-find-requires
-find-requires c κs = omega (arith, name-fits-here (c .before .before .before .before .before .before .before .before .args .tape .now) (c .before .before .before .before .before .before .before .before .args .t .next) (variable-inside (c .before .before .before .before .before .before .before .before .args .tape .now) (c .before .before .before .before .before .before .before .before .args .t .next) (c .before .before .before .before .before .before .before .before .args .t .letters) (c .before .before .before .before .before .before .before .before .args .t .parts) (c .before .before .before .before .before .before .before .before .pre .1)), c .before .before .name-size .ensures, c .before .before .before .before .before .before .before .before .pre .0 .0)
+find-requires c κs = omega (arith, tells (c .before .before .before .before .before .before .before .before .pre .0 .0) SVariable (c .before .before .before .before .before .before .before .before .pre .1), c .before .before .name-size .ensures, c .before .before .before .before .before .before .before .before .pre .0 .0)
 
 new-symbol-requires : tie.Need-new-symbol-requires
-new-symbol-requires c κs = let small = site-small (c .before .before .before .before .before .before .before .before .before .before .before .before .args .lengths) (c .before .before .before .before .before .before .before .before .before .before .before .before .args .t .parts) (c .before .before .before .before .before .before .before .before .before .before .before .before .args .t .offset) (c .before .before .before .before .before .before .before .before .before .before .before .before .pre .0 .1) (omega (arith, c .before .before .before .before .before .before .before .before .before .before .before .before .pre .0 .0 .offset, c .before .before .before .before .before .before .before .before .before .before .before .before .pre .0 .0 .letters)) in
-    omega (arith, name-fits-here (c .before .before .before .before .before .before .before .before .before .before .before .before .args .tape .now) (c .before .before .before .before .before .before .before .before .before .before .before .before .args .t .next) (variable-inside (c .before .before .before .before .before .before .before .before .before .before .before .before .args .tape .now) (c .before .before .before .before .before .before .before .before .before .before .before .before .args .t .next) (c .before .before .before .before .before .before .before .before .before .before .before .before .args .t .letters) (c .before .before .before .before .before .before .before .before .before .before .before .before .args .t .parts) (c .before .before .before .before .before .before .before .before .before .before .before .before .pre .1)), c .before .before .before .before .before .before .name-size .ensures, c .before .before .before .before .before .before .before .before .before .before .before .before .pre .0 .0, ap (λ s. s .register) (c .before .before .before .before .before .before .before .site-of .ensures), ap (λ s. s .offset) (c .before .before .before .before .before .before .before .site-of .ensures), variable-room (c .before .before .before .before .before .before .before .before .before .before .before .before .args .tape .now) (c .before .before .before .before .before .before .before .before .before .before .before .before .args .t .next) (c .before .before .before .before .before .before .before .before .before .before .before .before .args .t .letters) (c .before .before .before .before .before .before .before .before .before .before .before .before .args .t .parts) (c .before .before .before .before .before .before .before .before .before .before .before .before .pre .1))
+new-symbol-requires c κs =
+    omega (
+      arith,
+      symbol-at (c .before .before .before .before .before .before .before .before .before .before .before .before .args .lengths) (c .before .before .before .before .before .before .before .before .before .before .before .before .pre .0 .0) (c .before .before .before .before .before .before .before .before .before .before .before .before .pre .0 .1) (c .before .before .before .before .before .before .before .before .before .before .before .before .pre .1),
+      c .before .before .before .before .before .before .name-size .ensures,
+      c .before .before .before .before .before .before .before .before .before .before .before .before .pre .0 .0,
+      ap (λ s. s .register) (c .before .before .before .before .before .before .before .site-of .ensures),
+      ap (λ s. s .offset) (c .before .before .before .before .before .before .before .site-of .ensures),
+    )
 
 same-length : tie.Need-same-length
 same-length c = search needs
@@ -33,19 +39,18 @@ same-length-2 c = search needs
 
 returns : tie.Need-returns
 returns c = rw (c .before .before .before .before .new-symbol .ensures .0, c .before .before .before .before .new-symbol .ensures .1 .0, c .before .before .before .before .new-symbol .ensures .1 .1, c .before .before .before .before .before .before .before .before .before .before .before .name-size .ensures, c .before .before .before .before .before .before .before .before .before .before .before .before .site-of .ensures)
-    (new-on (c .before .before .before .before .before .before .before .before .before .before .before .before .before .before .before .before .before .args .tape .now) (c .before .before .before .before .before .before .before .before .before .before .before .before .before .before .before .before .before .args .lengths) (c .before .before .before .before .before .before .before .before .before .before .before .before .before .before .before .before .before .args .names .now) (c .before .before .before .before .before .before .before .before .before .before .before .before .before .before .before .before .before .args .sites .now) (c .before .before .before .before .before .before .before .before .before .before .before .before .before .before .before .before .before .args .t) (c .before .before .before .before .before .before .before .before .before .before .before .before .before .before .before .before .before .pre .0 .0) (c .before .before .before .before .before .before .before .before .before .before .before .before .before .before .before .before .before .args .code .now) (c .before .before .before .before .before .before .before .before .before .before .before .before .before .before .before .before .before .pre .1) (c .before .before .before .before .before .before .before .before .before .before .before .before .before .before .before .before .before .pre .0 .1)
-    (sym (name-found (c .before .before .before .before .before .before .before .before .before .before .before .before .before .before .before .before .before .args .tape .now) (c .before .before .before .before .before .before .before .before .before .before .before .before .before .before .before .before .before .args .names .now) (c .before .before .before .before .before .before .before .before .before .before .before .before .before .before .before .before .before .args .t .symbols) (c .before .before .before .before .before .before .before .before .before .before .before .before .before .before .before .before .before .args .t .next) (c .before .before .before .before .before .before .before .before .before .before .before .name-size .result) (c .before .before .before .before .before .before .before .before .before .before .before .name-size .ensures)) ∙ sym (c .before .before .before .before .before .before .before .before .find .ensures .0) ∙ c .before .before .before .before .before .before .before .if1 .taken))
+    (new-on _ _ _ _ _ (c .before .before .before .before .before .before .before .before .before .before .before .before .before .before .before .before .before .pre .0 .0) (c .before .before .before .before .before .before .before .before .before .before .before .before .before .before .before .before .before .pre .1) (c .before .before .before .before .before .before .before .before .before .before .before .before .before .before .before .before .before .pre .0 .1)
+    (sym (name-found (c .before .before .before .before .before .before .before .before .before .before .before .before .before .before .before .before .before .pre .0 .0) (c .before .before .before .before .before .before .before .before .before .before .before .name-size .ensures)) ∙ sym (c .before .before .before .before .before .before .before .before .find .ensures .0) ∙ c .before .before .before .before .before .before .before .if1 .taken))
 
 equal-symbol-requires : tie.Need-equal-symbol-requires
-equal-symbol-requires c κs = let small = site-small (c .before .before .before .before .before .before .before .before .before .before .before .before .args .lengths) (c .before .before .before .before .before .before .before .before .before .before .before .before .args .t .parts) (c .before .before .before .before .before .before .before .before .before .before .before .before .args .t .offset) (c .before .before .before .before .before .before .before .before .before .before .before .before .pre .0 .1) (omega (arith, c .before .before .before .before .before .before .before .before .before .before .before .before .pre .0 .0 .offset, c .before .before .before .before .before .before .before .before .before .before .before .before .pre .0 .0 .letters)) in
+equal-symbol-requires c κs =
     omega (
       arith,
-      name-fits-here (c .before .before .before .before .before .before .before .before .before .before .before .before .args .tape .now) (c .before .before .before .before .before .before .before .before .before .before .before .before .args .t .next) (variable-inside (c .before .before .before .before .before .before .before .before .before .before .before .before .args .tape .now) (c .before .before .before .before .before .before .before .before .before .before .before .before .args .t .next) (c .before .before .before .before .before .before .before .before .before .before .before .before .args .t .letters) (c .before .before .before .before .before .before .before .before .before .before .before .before .args .t .parts) (c .before .before .before .before .before .before .before .before .before .before .before .before .pre .1)),
+      symbol-at (c .before .before .before .before .before .before .before .before .before .before .before .before .args .lengths) (c .before .before .before .before .before .before .before .before .before .before .before .before .pre .0 .0) (c .before .before .before .before .before .before .before .before .before .before .before .before .pre .0 .1) (c .before .before .before .before .before .before .before .before .before .before .before .before .pre .1),
       c .before .before .before .before .before .before .name-size .ensures,
       c .before .before .before .before .before .before .before .before .before .before .before .before .pre .0 .0,
       ap (λ s. s .register) (c .before .before .before .before .before .before .before .site-of .ensures),
       ap (λ s. s .offset) (c .before .before .before .before .before .before .before .site-of .ensures),
-      variable-room (c .before .before .before .before .before .before .before .before .before .before .before .before .args .tape .now) (c .before .before .before .before .before .before .before .before .before .before .before .before .args .t .next) (c .before .before .before .before .before .before .before .before .before .before .before .before .args .t .letters) (c .before .before .before .before .before .before .before .before .before .before .before .before .args .t .parts) (c .before .before .before .before .before .before .before .before .before .before .before .before .pre .1),
       c .before .before .before .find .ensures .1,
       found-good (c .before .before .before .before .before .before .before .before .before .before .before .before .args .sites .now) (c .before .before .before .before .before .before .before .before .before .before .before .before .pre .0 .0 .good) (c .before .before .before .find .result) .small,
     )
@@ -60,9 +65,9 @@ same-length-5 : tie.Need-same-length-5
 same-length-5 c = search needs
 
 returns-2 : tie.Need-returns-2
-returns-2 c = let same = c .before .before .before .before .before .before .find .ensures .0 ∙ name-found (c .before .before .before .before .before .before .before .before .before .before .before .before .before .before .before .args .tape .now) (c .before .before .before .before .before .before .before .before .before .before .before .before .before .before .before .args .names .now) (c .before .before .before .before .before .before .before .before .before .before .before .before .before .before .before .args .t .symbols) (c .before .before .before .before .before .before .before .before .before .before .before .before .before .before .before .args .t .next) (c .before .before .before .before .before .before .before .before .before .name-size .result) (c .before .before .before .before .before .before .before .before .before .name-size .ensures) in
+returns-2 c = let same = c .before .before .before .before .before .before .find .ensures .0 ∙ name-found (c .before .before .before .before .before .before .before .before .before .before .before .before .before .before .before .pre .0 .0) (c .before .before .before .before .before .before .before .before .before .name-size .ensures) in
     rw (c .before .before .equal-symbol .ensures .1, c .before .before .before .before .before .before .before .before .before .name-size .ensures)
-    (equal-on (c .before .before .before .before .before .before .before .before .before .before .before .before .before .before .before .args .tape .now) (c .before .before .before .before .before .before .before .before .before .before .before .before .before .before .before .args .lengths) (c .before .before .before .before .before .before .before .before .before .before .before .before .before .before .before .args .names .now) (c .before .before .before .before .before .before .before .before .before .before .before .before .before .before .before .args .sites .now) (c .before .before .before .before .before .before .before .before .before .before .before .before .before .before .before .args .t) (c .before .before .before .before .before .before .before .before .before .before .before .before .before .before .before .pre .0 .0) (c .before .before .before .before .before .before .before .before .before .before .before .before .before .before .before .args .code .now) _ (c .before .before .equal-symbol .result .at) (c .before .before .before .before .before .before .before .before .before .before .before .before .before .before .before .pre .1)
+    (equal-on _ _ _ _ _ (c .before .before .before .before .before .before .before .before .before .before .before .before .before .before .before .pre .0 .0) (c .before .before .before .before .before .before .before .before .before .before .before .before .before .before .before .pre .1)
     (λ e. c .before .before .before .before .before .if1 .left (same ∙ e)) (omega (arith, same, c .before .before .before .before .before .before .find .ensures .1))
     (rw (← same, ← (ap (λ s. s .register) (c .before .before .before .before .before .before .before .before .before .before .site-of .ensures)), ← (ap (λ s. s .offset) (c .before .before .before .before .before .before .before .before .before .before .site-of .ensures))) (c .before .before .equal-symbol .ensures .0)))
 
