@@ -4,7 +4,7 @@ pub mod put;
 use crate::put::put;
 use crate::put::put_all;
 ghost use mathlib.Core.Path.{_≡_};
-ghost use Prim.Native.Nat.{_+_, _<_};
+ghost use Prim.Native.Nat.{_+_, _/_, _%_, _<_};
 ghost use lib.ListN.{length};
 ghost use mathlib.Core.List.{[], _∷_};
 ghost use Rattle.meaning.specs.Listing.{decimal, isAfterCode, isCoded, isEscaped, characterText};
@@ -152,6 +152,15 @@ pub fn put_quoting(state: State, out: &mut [u8], at: usize) -> usize
     put(out, next, b'\'')
 }
 
+// The last two of a byte's decimal digits.
+pub fn put_tens(number: u8, out: &mut [u8], at: usize) -> usize
+    requires { ⌜ at + 1 < farthest ⌝ }
+    ensures { λ r. ⌜ Put at (now (out .entry)) ((48 + number / 10 % 10) ∷ (48 + number % 10) ∷ []) r (now (out .exit)) ⌝ }
+{
+    let next = put(out, at, 48 + number / 10 % 10);
+    put(out, next, 48 + number % 10)
+}
+
 // A byte's decimal digits.
 pub fn put_decimal(number: u8, out: &mut [u8], at: usize) -> usize
     requires { ⌜ at + 2 < farthest ⌝ }
@@ -161,12 +170,10 @@ pub fn put_decimal(number: u8, out: &mut [u8], at: usize) -> usize
         return put(out, at, 48 + number);
     }
     if number < 100 {
-        let tens = put(out, at, 48 + number / 10);
-        return put(out, tens, 48 + number % 10);
+        return put_tens(number, out, at);
     }
-    let hundreds = put(out, at, 48 + number / 100);
-    let tens = put(out, hundreds, 48 + number / 10 % 10);
-    put(out, tens, 48 + number % 10)
+    let next = put(out, at, 48 + number / 100);
+    put_tens(number, out, next)
 }
 
 pub fn put_escape(byte: u8, out: &mut [u8], at: usize) -> usize

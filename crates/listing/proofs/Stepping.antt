@@ -3,17 +3,33 @@ use Prim.Native.Nat.{ℕ, _+_, _*_, _≤_, _<_}
 use native.Mathlib.Omega.{arith}
 use native.Mathlib.Numerals.{add-one}
 use mathlib.Core.Path.{_≡_, refl, _∙_}
-use mathlib.Core.List.{List}
+use mathlib.Core.List.{List, [], _∷_}
 use lib.ListN.{length, drop, getD, drop-of-length-le}
 use lib.Seq.{drop-cons}
+use types.Run.{OneOf, miss}
+use denote.Enum.Declared.{tagOf}
+use Rattle.items.proofs.State as state
 use Rattle.items.specs.declared.State.{State}
-use Rattle.items.specs.declared.State.the-variants.{Start}
+use Rattle.items.specs.declared.State.the-variants.{Start, Plain, InString, AfterCode, Name, Condition, Header}
 use Rattle.items.specs.declared.Stepped.{Stepped}
 use Rattle.items.specs.Put.{Put}
 use Rattle.items.specs.Steps.{Wrote}
-use Rattle.listing.specs.Words.{wordStep, listFrom}
+use Rattle.listing.specs.Words.{itemStep, wordStep, listFrom}
 use Rattle.items.proofs.Writing.{put-none, put-then, put-length}
 use Rattle.listing.proofs.Sizes.{widest, word-size}
+
+-- where no name is being copied a word is an item
+abbrev notCopying : List ℕ
+notCopying = 0 ∷ 1 ∷ 2 ∷ 3 ∷ []
+
+pub item-next : (s : State) (w : ℕ) → OneOf notCopying (tagOf state.the-type s) → wordStep s w ≡ itemStep s w
+item-next Start w k = refl
+item-next Plain w k = refl
+item-next InString w k = refl
+item-next AfterCode w k = refl
+item-next (Name n) w k = absurd (miss notCopying 4 tt k)
+item-next (Condition n b) w k = absurd (miss notCopying 5 tt k)
+item-next (Header n) w k = absurd (miss notCopying 6 tt k)
 
 -- i words are listed: to write the rest from here is to write the whole from the start
 pub record Lists (out₀ words out : List ℕ) (i at : ℕ) (s : State) : Type 0 where

@@ -92,10 +92,6 @@ pub fn list_word(state: State, word: u32, out: &mut [u8], at: usize) -> Stepped
 {
     let byte = (word % 256) as u8;
     match state {
-        State::Start => list_item(State::Start, word, out, at),
-        State::Plain => list_item(State::Plain, word, out, at),
-        State::InString => list_item(State::InString, word, out, at),
-        State::AfterCode => list_item(State::AfterCode, word, out, at),
         State::Name(n) => {
             let left = one_less(n);
             list_copied(n, byte, State::Name(left), b"", State::Plain, out, at)
@@ -117,6 +113,7 @@ pub fn list_word(state: State, word: u32, out: &mut [u8], at: usize) -> Stepped
             let left = one_less(n);
             list_copied(n, byte, State::Header(left), b" {\n", State::Start, out, at)
         }
+        _ => list_item(state, word, out, at),
     }
 }
 

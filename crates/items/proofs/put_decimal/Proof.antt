@@ -1,4 +1,7 @@
 -- `items::put_decimal` meets its contract.
+use Prim.Native.Nat.{_/_, _%_}
+use native.Mathlib.Omega.{arith}
+use mathlib.Core.Path.{_≡_}
 use borrow.Author.Tests.{lt-ltb, le-ltb}
 use Rattle.items.proofs.Writing.{put-then}
 use borrow.Author.Needs.{needs}
@@ -17,47 +20,29 @@ same-length c = search needs
 returns : tie.Need-returns
 returns c = rw (lt-ltb _ _ (c .before .before .before .before .if1 .taken)) (c .before .before .put .ensures)
 
+put-tens-requires : tie.Need-put-tens-requires
+put-tens-requires c κs = search needs
+
+same-length-2 : tie.Need-same-length-2
+same-length-2 c = search needs
+
+returns-2 : tie.Need-returns-2
+returns-2 c = let n = c .before .before .before .before .before .before .before .args .number in let tens : n / 10 % 10 ≡ n / 10 = omega (arith, c .before .before .before .before .if2 .taken) in rw (le-ltb _ _ (c .before .before .before .before .before .if1 .left), lt-ltb _ _ (c .before .before .before .before .if2 .taken), ← tens) (c .before .before .put-tens .ensures)
+
 add-put-2 : tie.Need-add-put-2
 add-put-2 c = search needs
 
 put-requires-2 : tie.Need-put-requires-2
 put-requires-2 c κs = search needs
 
-add-put-3 : tie.Need-add-put-3
-add-put-3 c = search needs
-
-put-requires-3 : tie.Need-put-requires-3
-put-requires-3 c κs = search needs
-
-same-length-2 : tie.Need-same-length-2
-same-length-2 c = search needs
-
-returns-2 : tie.Need-returns-2
-returns-2 c = rw (le-ltb _ _ (c .before .before .before .before .before .before .before .before .before .if1 .left), lt-ltb _ _ (c .before .before .before .before .before .before .before .before .if2 .taken)) (put-then (c .before .before .before .before .before .before .put2 .ensures) (c .before .before .put3 .ensures))
-
-add-put-4 : tie.Need-add-put-4
-add-put-4 c = search needs
-
-put-requires-4 : tie.Need-put-requires-4
-put-requires-4 c κs = search needs
-
-add-put-5 : tie.Need-add-put-5
-add-put-5 c = search needs
-
-put-requires-5 : tie.Need-put-requires-5
-put-requires-5 c κs = search needs
-
-add-put-6 : tie.Need-add-put-6
-add-put-6 c = search needs
-
-put-requires-6 : tie.Need-put-requires-6
-put-requires-6 c κs = search needs
+put-tens-requires-2 : tie.Need-put-tens-requires-2
+put-tens-requires-2 c κs = search needs
 
 same-length-3 : tie.Need-same-length-3
 same-length-3 c = search needs
 
 returns-3 : tie.Need-returns-3
-returns-3 c = rw (le-ltb _ _ (c .before .before .before .before .before .before .before .before .before .before .before .before .before .if1 .left), le-ltb _ _ (c .before .before .before .before .before .before .before .before .before .before .before .before .if2 .left)) (put-then (c .before .before .before .before .before .before .before .before .before .before .put4 .ensures) (put-then (c .before .before .before .before .before .before .put5 .ensures) (c .before .before .put6 .ensures)))
+returns-3 c = rw (le-ltb _ _ (c .before .before .before .before .before .before .before .before .before .if1 .left), le-ltb _ _ (c .before .before .before .before .before .before .before .before .if2 .left)) (put-then (c .before .before .before .before .before .before .put2 .ensures) (c .before .before .put-tens2 .ensures))
 
 pub put-decimal-spec : {M : Type 1} → statement M
 put-decimal-spec =
@@ -67,17 +52,11 @@ put-decimal-spec =
     put-requires
     same-length
     returns
-    add-put-2
-    put-requires-2
-    add-put-3
-    put-requires-3
+    put-tens-requires
     same-length-2
     returns-2
-    add-put-4
-    put-requires-4
-    add-put-5
-    put-requires-5
-    add-put-6
-    put-requires-6
+    add-put-2
+    put-requires-2
+    put-tens-requires-2
     same-length-3
     returns-3)

@@ -1,34 +1,11 @@
 -- `listing::words::list_word` meets its contract.
+use Rattle.listing.proofs.Stepping.{item-next}
 use borrow.Author.Needs.{needs}
 use Rattle.listing.proofs.words.list_word.Statement.{statement}
 use Rattle.listing.proofs.words.list_word.Tie as tie
 
 cast-byte : tie.Need-cast-byte
 cast-byte c = search needs
-
-enum-told : tie.Need-enum-told
-enum-told c = search needs
-
-list-item-requires : tie.Need-list-item-requires
-list-item-requires c κs = search needs
-
-enum-told-2 : tie.Need-enum-told-2
-enum-told-2 c = search needs
-
-list-item-requires-2 : tie.Need-list-item-requires-2
-list-item-requires-2 c κs = search needs
-
-enum-told-3 : tie.Need-enum-told-3
-enum-told-3 c = search needs
-
-list-item-requires-3 : tie.Need-list-item-requires-3
-list-item-requires-3 c κs = search needs
-
-enum-told-4 : tie.Need-enum-told-4
-enum-told-4 c = search needs
-
-list-item-requires-4 : tie.Need-list-item-requires-4
-list-item-requires-4 c κs = search needs
 
 enum-known-state : tie.Need-enum-known-state
 enum-known-state c = search needs
@@ -66,61 +43,38 @@ slice-aggregate-list-copied-3 c = search needs
 list-copied-requires-3 : tie.Need-list-copied-requires-3
 list-copied-requires-3 c κs = search needs
 
+list-item-requires : tie.Need-list-item-requires
+list-item-requires c κs = search needs
+
 same-length : tie.Need-same-length
 same-length c = search needs
 
 returns : tie.Need-returns
-returns c = rw (c .before .before .before .before .enum-told .given .1) (c .before .before .list-item .ensures)
+returns c = rw (c .before .before .before .before .before .before .before .state .given .1, ← (c .before .before .before .before .before .one-less .ensures)) (c .before .before .list-copied .ensures)
 
 same-length-2 : tie.Need-same-length-2
 same-length-2 c = search needs
 
 returns-2 : tie.Need-returns-2
-returns-2 c = rw (c .before .before .before .before .enum-told2 .given .1) (c .before .before .list-item2 .ensures)
+returns-2 c = rw (c .before .before .before .before .before .before .before .state2 .given .1, ← (c .before .before .before .before .before .one-less2 .ensures)) (c .before .before .list-copied2 .ensures)
 
 same-length-3 : tie.Need-same-length-3
 same-length-3 c = search needs
 
 returns-3 : tie.Need-returns-3
-returns-3 c = rw (c .before .before .before .before .enum-told3 .given .1) (c .before .before .list-item3 .ensures)
+returns-3 c = rw (c .before .before .before .before .before .before .before .state3 .given .1, ← (c .before .before .before .before .before .one-less3 .ensures)) (c .before .before .list-copied3 .ensures)
 
 same-length-4 : tie.Need-same-length-4
 same-length-4 c = search needs
 
 returns-4 : tie.Need-returns-4
-returns-4 c = rw (c .before .before .before .before .enum-told4 .given .1) (c .before .before .list-item4 .ensures)
-
-same-length-5 : tie.Need-same-length-5
-same-length-5 c = search needs
-
-returns-5 : tie.Need-returns-5
-returns-5 c = rw (c .before .before .before .before .before .before .before .state .given .1, ← (c .before .before .before .before .before .one-less .ensures)) (c .before .before .list-copied .ensures)
-
-same-length-6 : tie.Need-same-length-6
-same-length-6 c = search needs
-
-returns-6 : tie.Need-returns-6
-returns-6 c = rw (c .before .before .before .before .before .before .before .state2 .given .1, ← (c .before .before .before .before .before .one-less2 .ensures)) (c .before .before .list-copied2 .ensures)
-
-same-length-7 : tie.Need-same-length-7
-same-length-7 c = search needs
-
-returns-7 : tie.Need-returns-7
-returns-7 c = rw (c .before .before .before .before .before .before .before .state3 .given .1, ← (c .before .before .before .before .before .one-less3 .ensures)) (c .before .before .list-copied3 .ensures)
+returns-4 c = rw (item-next (c .before .before .before .before .before .before .args .state) (c .before .before .before .before .before .before .args .word) (c .before .before .before .before .match .keys4)) (c .before .before .list-item .ensures)
 
 pub list-word-spec : {M : Type 1} → statement M
 list-word-spec =
     tie.close
     (tie.spec
     cast-byte
-    enum-told
-    list-item-requires
-    enum-told-2
-    list-item-requires-2
-    enum-told-3
-    list-item-requires-3
-    enum-told-4
-    list-item-requires-4
     enum-known-state
     one-less-requires
     slice-aggregate-list-copied
@@ -133,6 +87,7 @@ list-word-spec =
     one-less-requires-3
     slice-aggregate-list-copied-3
     list-copied-requires-3
+    list-item-requires
     same-length
     returns
     same-length-2
@@ -140,10 +95,4 @@ list-word-spec =
     same-length-3
     returns-3
     same-length-4
-    returns-4
-    same-length-5
-    returns-5
-    same-length-6
-    returns-6
-    same-length-7
-    returns-7)
+    returns-4)
