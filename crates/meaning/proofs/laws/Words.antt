@@ -46,19 +46,19 @@ length-below whole = omega arith
 length-below left = omega arith
 length-below right = omega arith
 
+-- what holds of each class holds of all
+pub by-class : (P : Class → Type 0) → P digit → P upper → P lower → P alphabetic → P blank → (k : Class) → P k
+by-class P d u l a b digit = d
+by-class P d u l a b upper = u
+by-class P d u l a b lower = l
+by-class P d u l a b alphabetic = a
+by-class P d u l a b blank = b
+
 class-back : (k : Class) → classOf (classNumber k) ≡ some k
-class-back digit = refl
-class-back upper = refl
-class-back lower = refl
-class-back alphabetic = refl
-class-back blank = refl
+class-back = by-class (λ k. classOf (classNumber k) ≡ some k) refl refl refl refl refl
 
 pub class-below : (k : Class) → classNumber k < 5
-class-below digit = omega arith
-class-below upper = omega arith
-class-below lower = omega arith
-class-below alphabetic = omega arith
-class-below blank = omega arith
+class-below = by-class (λ k. classNumber k < 5) (omega arith) (omega arith) (omega arith) (omega arith) (omega arith)
 
 truth-back : (e : Bool) → eqb (truthBit e) 1 ≡ e
 truth-back true = refl

@@ -88,11 +88,11 @@ go-ended {rest = rest} g e = sym (ended-append (g .used) rest (g .over)) ∙ (ap
 pub go-shorter : {A : Type 0} {r : Family A} {ts rest : List Placed} {v : A} → Go A r ts v rest → length rest ≤ length ts
 go-shorter {rest = rest} g = rw (g .shape, length-append (g .used) rest) (omega arith)
 
--- a reader that stops, or reads, wherever another does
-pub stop-also : {A B : Type 0} (r : Family A) (other : Family B) {ts : List Placed} {n k : ℕ} → Stop A r ts n k
-    → ((b : ℕ) (us : List Placed) → length us ≤ b → ((c : ℕ) → length us ≤ c → r c us ≡ stopped n k) → other b us ≡ stopped n k)
+-- a reader that stops, or reads, wherever another does; the next token is the same there
+stop-where : {A B : Type 0} (r : Family A) (other : Family B) {ts : List Placed} {n k : ℕ} → Stop A r ts n k
+    → ((b : ℕ) (us : List Placed) → headOf ts ≡ headOf us → length us ≤ b → ((c : ℕ) → length us ≤ c → r c us ≡ stopped n k) → other b us ≡ stopped n k)
     → Stop B other ts n k
-stop-also r other s also =
+stop-where r other s also =
     record {
       used = s .used;
       first = s .first;
@@ -100,19 +100,31 @@ stop-also r other s also =
       shape = s .shape;
       place = s .place;
       number = s .number;
-      again = λ b more e l. also b (s .used ++ s .first ∷ more) l (λ c m. s .again c more e m);
+      again = λ b more e l.
+          also b (s .used ++ s .first ∷ more) (ap headOf (s .shape) ∙ head-same (s .used) (s .first ∷ s .others) (s .first ∷ more) refl) l
+          (λ c m. s .again c more e m);
     }
 
-pub go-also : {A B : Type 0} (r : Family A) (other : Family B) {ts rest : List Placed} {v : A} {w : B} → Go A r ts v rest
-    → ((b : ℕ) (us more : List Placed) → length us ≤ b → ((c : ℕ) → length us ≤ c → r c us ≡ parsed v more) → other b us ≡ parsed w more)
+go-where : {A B : Type 0} (r : Family A) (other : Family B) {ts rest : List Placed} {v : A} {w : B} → Go A r ts v rest
+    → ((b : ℕ) (us more : List Placed) → headOf ts ≡ headOf us → length us ≤ b → ((c : ℕ) → length us ≤ c → r c us ≡ parsed v more) → other b us ≡ parsed w more)
     → Go B other ts w rest
-go-also r other g also =
+go-where r other {rest = rest} g also =
     record {
       used = g .used;
       shape = g .shape;
       over = g .over;
-      again = λ b more e h l. also b (g .used ++ more) more l (λ c m. g .again c more e h m);
+      again = λ b more e h l. also b (g .used ++ more) more (ap headOf (g .shape) ∙ head-same (g .used) rest more h) l (λ c m. g .again c more e h m);
     }
+
+pub stop-also : {A B : Type 0} (r : Family A) (other : Family B) {ts : List Placed} {n k : ℕ} → Stop A r ts n k
+    → ((b : ℕ) (us : List Placed) → length us ≤ b → ((c : ℕ) → length us ≤ c → r c us ≡ stopped n k) → other b us ≡ stopped n k)
+    → Stop B other ts n k
+stop-also r other s also = stop-where r other s (λ b us h. also b us)
+
+pub go-also : {A B : Type 0} (r : Family A) (other : Family B) {ts rest : List Placed} {v : A} {w : B} → Go A r ts v rest
+    → ((b : ℕ) (us more : List Placed) → length us ≤ b → ((c : ℕ) → length us ≤ c → r c us ≡ parsed v more) → other b us ≡ parsed w more)
+    → Go B other ts w rest
+go-also r other g also = go-where r other g (λ b us more h. also b us more)
 
 -- ONE READER AFTER ANOTHER
 
@@ -254,28 +266,10 @@ module _ {A : Type 0} (r other : Family A) (t : Placed) (ts : List Placed)
     on-head b (u ∷ us) h = let one : t ≡ u = cc in subst (λ z. r b (z ∷ us) ≡ other b (z ∷ us)) one (same b us)
 
     pub same-stop : {n k : ℕ} → Stop A other (t ∷ ts) n k → Stop A r (t ∷ ts) n k
-    same-stop s =
-        record {
-          used = s .used;
-          first = s .first;
-          others = s .others;
-          shape = s .shape;
-          place = s .place;
-          number = s .number;
-          again = λ b more e l.
-              on-head b (s .used ++ s .first ∷ more)
-              (ap headOf (s .shape) ∙ head-same (s .used) (s .first ∷ s .others) (s .first ∷ more) refl)
-              ∙ s .again b more e l;
-        }
+    same-stop s = stop-where other r s (λ b us h l again. on-head b us h ∙ again b l)
 
     same-go : {v : A} {rest : List Placed} → Go A other (t ∷ ts) v rest → Go A r (t ∷ ts) v rest
-    same-go {v} {rest} g =
-        record {
-          used = g .used;
-          shape = g .shape;
-          over = g .over;
-          again = λ b more e h l. on-head b (g .used ++ more) (ap headOf (g .shape) ∙ head-same (g .used) rest more h) ∙ g .again b more e h l;
-        }
+    same-go g = go-where other r g (λ b us more h l again. on-head b us h ∙ again b l)
 
     -- at this token it is another
     pub at-same : (x : Parsed A) → Streamed other (t ∷ ts) x → Streamed r (t ∷ ts) x

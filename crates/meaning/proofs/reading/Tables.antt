@@ -282,6 +282,16 @@ led left sentencesLeft before f fs a d l s =
       short = omega arith;
     }
 
+-- the first function is read
+first-read : (left : ℕ) {sentencesLeft : ℕ} {before : Table} {ts rest : List Placed} {f : Function} {fs : Table} → IsFunction ts f rest
+    → Led left sentencesLeft before f fs → functions (suc left) sentencesLeft before ts ≡ afterFunction (functions left) sentencesLeft before f rest
+unfolding functions
+first-read left {sentencesLeft} {before} d o =
+    rw (
+      at-function d before (follow (function (declaredFault before) sentencesLeft _) (afterFunction (functions left) sentencesLeft before)),
+      function-complete (declaredFault before) sentencesLeft d (o .faultless) (o .own) (o .room),
+    )
+
 -- a program of the grammar within the limits and with different names is read
 pub functions-complete : (left sentencesLeft : ℕ) (before : Table) {ts : List Placed} {fs : Table} → IsProgram ts fs
     → every allowedFunction fs ≡ true → distinct (namesOf (before ++ fs)) ≡ true → length fs ≤ left → sentencesIn fs ≤ sentencesLeft
@@ -293,18 +303,11 @@ functions-complete zero sentencesLeft before (functionThen f p) a d l s = absurd
 functions-complete zero sentencesLeft before (functionPartedThen f p) a d l s = absurd (omega arith)
 functions-complete (suc left) sentencesLeft before (functionThen {f = f} {t = fs} d p) a e l s =
     let o = led left sentencesLeft before f fs a e l s in
-    rw (
-      at-function d before (follow (function (declaredFault before) sentencesLeft _) (afterFunction (functions left) sentencesLeft before)),
-      function-complete (declaredFault before) sentencesLeft d (o .faultless) (o .own) (o .room),
-      program-first p,
-      ← append-assoc before (f ∷ []) fs,
-    )
+    first-read left d o
+    ∙ rw (program-first p, ← append-assoc before (f ∷ []) fs)
     (functions-complete left (sentencesLeft - length (f .sentences)) (before ++ f ∷ []) p (o .allowed) (o .different) (o .few) (o .short))
 functions-complete (suc left) sentencesLeft before (functionPartedThen {f = f} {t = fs} d p) a e l s =
     let o = led left sentencesLeft before f fs a e l s in
-    rw (
-      at-function d before (follow (function (declaredFault before) sentencesLeft _) (afterFunction (functions left) sentencesLeft before)),
-      function-complete (declaredFault before) sentencesLeft d (o .faultless) (o .own) (o .room),
-      ← append-assoc before (f ∷ []) fs,
-    )
+    first-read left d o
+    ∙ rw (← append-assoc before (f ∷ []) fs)
     (functions-complete left (sentencesLeft - length (f .sentences)) (before ++ f ∷ []) p (o .allowed) (o .different) (o .few) (o .short))

@@ -88,20 +88,24 @@ module _ (fits : ℕ → Bool) where
 abbrev soundLexed : Lexed → Bool
 soundLexed l = both (soundToken (l .first .token)) (every isByte (l .rest))
 
-name-at-sound : (at b : ℕ) (rest : Bytes) → inClass alphabetic b ≡ true → every isByte (b ∷ rest) ≡ true → soundLexed (nameToken at (run nameByte [] at (b ∷ rest))) ≡ true
+-- a run from a fitting byte on is spelled so, and sound bytes are left
+run-spelled : (fits : ℕ → Bool) (spelling : Bytes → Bool) (at b : ℕ) (rest : Bytes) → fits b ≡ true → every isByte (b ∷ rest) ≡ true
+    → ((more : Bytes) → every fits more ≡ true → spelling (b ∷ more) ≡ true)
+    → both (spelling (run fits [] at (b ∷ rest) .taken)) (every isByte (run fits [] at (b ∷ rest) .rest)) ≡ true
 unfolding every
-name-at-sound at b rest a s =
-    let r = run-takes nameByte (b ∷ []) (suc at) rest (both-right (isByte b) (every isByte rest) s) in
-    let n : nameSpelling (run nameByte (b ∷ []) (suc at) rest .taken) ≡ true = rw (r .whole) (both-true a (r .fitting)) in
-    rw (run-first nameByte at b rest (rw a)) (both-true n (r .rest-sound))
+run-spelled fits spelling at b rest f s spelled =
+    let r = run-takes fits (b ∷ []) (suc at) rest (both-right (isByte b) (every isByte rest) s) in
+    let whole : spelling (run fits (b ∷ []) (suc at) rest .taken) ≡ true = rw (r .whole) (spelled (r .more) (r .fitting)) in
+    rw (run-first fits at b rest f) (both-true whole (r .rest-sound))
+
+name-at-sound : (at b : ℕ) (rest : Bytes) → inClass alphabetic b ≡ true → every isByte (b ∷ rest) ≡ true → soundLexed (nameToken at (run nameByte [] at (b ∷ rest))) ≡ true
+name-at-sound at b rest a s = run-spelled nameByte nameSpelling at b rest (rw a) s (λ more f. both-true a f)
 
 word-at-sound : (at b : ℕ) (rest : Bytes) → inClass alphabetic b ≡ true → every isByte (b ∷ rest) ≡ true → soundLexed (wordToken at (run wordByte [] at (b ∷ rest))) ≡ true
 unfolding every
 word-at-sound at b rest a s =
-    let r = run-takes wordByte (b ∷ []) (suc at) rest (both-right (isByte b) (every isByte rest) s) in
     let first : wordByte b ≡ true = rw a in
-    let w : every wordByte (run wordByte (b ∷ []) (suc at) rest .taken) ≡ true = rw (r .whole) (both-true first (r .fitting)) in
-    rw (run-first wordByte at b rest first) (both-true w (r .rest-sound))
+    run-spelled wordByte (every wordByte) at b rest first s (λ more f. both-true first f)
 
 letter-sound : (mode : Mode) (at b : ℕ) (rest : Bytes) → inClass alphabetic b ≡ true → every isByte (b ∷ rest) ≡ true → soundLexed (wordAt mode at (b ∷ rest)) ≡ true
 letter-sound outside at b rest a s = name-at-sound at b rest a s

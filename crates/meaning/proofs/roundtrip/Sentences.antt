@@ -9,7 +9,7 @@ use borrow.Author.Tests.{eqb-true}
 use lib.Dec.{eqb, leb}
 use lib.ListN.{length}
 use Rattle.meaning.specs.Choice.{Bytes, Name, every, sameBytes}
-use Rattle.meaning.specs.Classes.{Class, digit, upper, lower, alphabetic, blank, className}
+use Rattle.meaning.specs.Classes.{Class, className}
 use Rattle.meaning.specs.Tree.{Condition, Sentence, unplacedSentence}
 use Rattle.meaning.specs.Names.{classNamed, predicateOf}
 use Rattle.meaning.specs.Allowed.{wordByte, spelledName, spelledIdentifier, member, symbolsOf, partsOf, maxConditions, allowedPattern, allowedConditions, allowedSentence}
@@ -22,6 +22,7 @@ use Rattle.meaning.proofs.reading.PatternFacts.{pattern-facts}
 use Rattle.meaning.proofs.reading.Conditions.{allKnown}
 use Rattle.meaning.proofs.reading.Sentences.{symbols-spelled, parts-spelled}
 use Rattle.meaning.proofs.roundtrip.Remaining.{remaining, remaining-token}
+use Rattle.meaning.proofs.laws.Words.{by-class}
 use Rattle.meaning.proofs.roundtrip.Words.{Begins, Parted, blank-passed, after-blank, sign-begins, call-begins, name-begins, variable-begins}
 use Rattle.meaning.proofs.roundtrip.Legible.{allowed-legible}
 use Rattle.meaning.proofs.roundtrip.Patterns.{PatternListed, pattern-listed}
@@ -31,19 +32,11 @@ use Rattle.meaning.proofs.roundtrip.Expressions.{ExpressionListed, expr
 
 class-spelled : (class : Class) → spelledName (className class) ≡ true
 unfolding every
-class-spelled digit = refl
-class-spelled upper = refl
-class-spelled lower = refl
-class-spelled alphabetic = refl
-class-spelled blank = refl
+class-spelled = by-class (λ k. spelledName (className k) ≡ true) refl refl refl refl refl
 
 class-named : (class : Class) → predicateOf (className class) ≡ some class
 unfolding classNamed sameBytes
-class-named digit = refl
-class-named upper = refl
-class-named lower = refl
-class-named alphabetic = refl
-class-named blank = refl
+class-named = by-class (λ k. predicateOf (className k) ≡ some k) refl refl refl refl refl
 
 -- 'T' or 'F' after a blank, three bytes long
 truth-lexed : (at : ℕ) (truth : Bool) (rest : Bytes) →
