@@ -1,6 +1,6 @@
 -- The tokens from a place on: the first, and those from its end on.
 use Prim.Native.Nat.{ℕ, zero, suc, _-_, _≤_, _<_}
-use mathlib.Core.Path.{_≡_, refl, sym, ap, subst}
+use mathlib.Core.Path.{_≡_, refl, sym, ap, subst, _∙_}
 use mathlib.Core.Bool.{Bool, true, false, not}
 use mathlib.Core.List.{List, [], _∷_}
 use native.Mathlib.Omega.{arith}
@@ -25,32 +25,39 @@ module _ (text : Bytes) where
   abbrev after : Tokens.Mode → ℕ → Tokens.Mode
   after mode at = Tokens.modeAfter mode (lexAt mode at .first .token)
 
-  -- a bound above the number of bytes is never reached
-  bounds : (b c : ℕ) (mode : Tokens.Mode) (at : ℕ) → at ≤ length text → length text - at < b → length text - at < c
+  -- two bounds above the number of bytes left
+  abbrev Bounded : ℕ → ℕ → Type 0
+  Bounded b c =
+      (mode : Tokens.Mode) (at : ℕ) → at ≤ length text → length text - at < b → length text - at < c
       → Tokens.tokensFrom b mode at (drop at text) ≡ Tokens.tokensFrom c mode at (drop at text)
+
+  -- the first token, and those after it under another bound
+  first-then : (b c : ℕ) → Bounded b c → (mode : Tokens.Mode) (at : ℕ) → at ≤ length text → length text - at < suc b → length text - at < suc c
+      → Tokens.tokensFrom (suc b) mode at (drop at text)
+      ≡ lexAt mode at .first ∷ pick (Tokens.isLast (lexAt mode at .first .token)) []
+      (Tokens.tokensFrom c (after mode at) (lexAt mode at .first .past) (drop (lexAt mode at .first .past) text))
   unfolding Tokens.tokensFrom
-  bounds zero c mode at h p q = absurd (omega arith)
-  bounds (suc b) zero mode at h p q = absurd (omega arith)
-  bounds (suc b) (suc c) mode at h p q =
+  first-then b c bounded mode at h p q =
       let l = lex-ends text mode at h in
       ap (λ (later : List Tokens.Placed). lexAt mode at .first ∷ later)
       (picked (Tokens.isLast (lexAt mode at .first .token)) [] _ _ λ m.
       let s = l .ends .moves m in
       let o = l .onward in
-      rw (s .left) (bounds b c (after mode at) (lexAt mode at .first .past) (s .inside) (omega (arith, s .onward)) (omega (arith, s .onward))))
+      rw (s .left) (bounded (after mode at) (lexAt mode at .first .past) (s .inside) (omega (arith, s .onward)) (omega (arith, s .onward))))
+
+  -- a bound above the number of bytes is never reached
+  bounds : (b c : ℕ) → Bounded b c
+  bounds zero c mode at h p q = absurd (omega arith)
+  bounds (suc b) zero mode at h p q = absurd (omega arith)
+  bounds (suc b) (suc c) mode at h p q =
+      first-then b c (bounds b c) mode at h p q ∙ sym (first-then c c (λ mode at h p q. refl) mode at h q q)
 
   pub stream-step : (mode : Tokens.Mode) (at : ℕ) → at ≤ length text
       → stream text mode at
       ≡ lexAt mode at .first ∷ pick (Tokens.isLast (lexAt mode at .first .token)) [] (stream text (after mode at) (lexAt mode at .first .past))
-  unfolding stream Tokens.tokensFrom
+  unfolding stream
   stream-step mode at h =
-      let l = lex-ends text mode at h in
-      ap (λ (later : List Tokens.Placed). lexAt mode at .first ∷ later)
-      (picked (Tokens.isLast (lexAt mode at .first .token)) [] _ _ λ m.
-      let s = l .ends .moves m in
-      let o = l .onward in
-      rw (s .left)
-      (bounds (length text) (suc (length text)) (after mode at) (lexAt mode at .first .past) (s .inside) (omega (arith, s .onward)) (omega (arith, s .onward))))
+      first-then (length text) (suc (length text)) (bounds (length text) (suc (length text))) mode at h (omega arith) (omega arith)
 
   -- a token comes first from a place on: what comes after it, and that it is read again at its place
   record First (mode : Tokens.Mode) (at : ℕ) (p : Tokens.Placed) : Type 0 where

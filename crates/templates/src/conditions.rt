@@ -6,7 +6,7 @@ use crate::tape::word_at;
 use crate::writing::put;
 ghost use mathlib.Core.Path.{_≡_};
 ghost use mathlib.Core.Bool.{true};
-ghost use Prim.Native.Nat.{_≤_, _<_, _^_};
+ghost use Prim.Native.Nat.{_+_, _*_, _/_, _%_, _≤_, _<_, _^_};
 ghost use lib.ListN.{length, drop};
 ghost use Rattle.templates.specs.Testing.{AllSites, held};
 ghost use Rattle.templates.specs.Conditioning.{conditionAt, conditionsDone, InConditions, ConditionsOn, ConditionsAll};
@@ -32,6 +32,16 @@ fn is_condition(tape: &[u32], i: usize, count: usize) -> bool
     word < 1024
 }
 
+// The test of the class and truth value that a condition's word carries, on the cell that was found.
+fn condition_word(site: usize, carried: usize) -> usize
+    requires { ⌜ (site < 16896) × (carried < 256) ⌝ }
+    ensures { λ r. ⌜ (r ≡ 3 + 256 * site + 1024 * (carried / 5 % 2) + 16777216 * (carried % 5)) × (r < 2 ^ 32) ⌝ }
+{
+    let truth = carried / 5 % 2;
+    let class = carried % 5;
+    3 + 256 * site + 1024 * truth + 16777216 * class
+}
+
 fn write_condition(
     tape: &[u32],
     names: &[usize],
@@ -48,9 +58,7 @@ fn write_condition(
     let from = c.next + 1;
     let size = reach(tape, from, carried / 10);
     let site = found_site(sites, find(tape, names, symbols, from, size));
-    let truth = carried / 5 % 2;
-    let class = carried % 5;
-    let at = put(code, c.at, 3 + 256 * site + 1024 * truth + 16777216 * class);
+    let at = put(code, c.at, condition_word(site, carried));
     Conditions {
         count: c.count + 1,
         next: from + size,

@@ -103,6 +103,13 @@ module _ (ws names sites : List ℕ) (symbols : ℕ) (hn : symbols ≤ length na
 
 -- THE STEPS
 
+-- a condition stands on the tape, and so does its variable's name
+pub condition-told : {ws : List ℕ} {c : Conditions} → InConditions ws c → conditionAt (c .count) (drop (c .next) ws) ≡ true → (n : ℕ)
+    → (c .next < length ws) × (c .next + 1 + length (take n (drop (c .next + 1) ws)) ≤ length ws)
+condition-told {ws} {c} within e n =
+    let inside = condition-inside ws (c .next) (c .count) e in
+    (inside, omega (arith, reached n (c .next + 1) ws))
+
 module _ (ws names sites : List ℕ) (symbols : ℕ) (hn : symbols ≤ length names) (hs : symbols ≤ length sites) (good : AllSites sites) (c : Conditions) (within : InConditions ws c) where
   abbrev known : List (Named Site)
   known = held ws names sites symbols
@@ -118,9 +125,8 @@ module _ (ws names sites : List ℕ) (symbols : ℕ) (hn : symbols ≤ length na
       → Wrote code (c .at) (conditionWord (foundSite (numberAmong 0 (headNames ws (take symbols names)) name) sites) word ∷ []) code′ at
       → ConditionsOn ws known code c code′ (conditionDone c (length name) at)
   condition-on code code′ at e h wrote =
-      let inside = condition-inside ws (c .next) (c .count) e in
+      let (inside, fits) = condition-told within e (carried word / 10) in
       let room = condition-room ws (c .next) (c .count) e in
-      let fits : c .next + 1 + length name ≤ length ws = omega (arith, reached (carried word / 10) (c .next + 1) ws) in
       let after : drop (carried word / 10) (drop (c .next + 1) ws) ≡ drop (c .next + 1 + length name) ws =
       sym (drop-again (carried word / 10) (drop (c .next + 1) ws)) ∙ drop-drop (length name) (c .next + 1) ws in
       let now : coming true ws c ≡ andThen (conditionIn word (drop (c .next + 1) ws)) (coming true ws (conditionDone c (length name) at)) =
@@ -139,19 +145,19 @@ module _ (ws names sites : List ℕ) (symbols : ℕ) (hn : symbols ≤ length na
       }
 
   -- the same from what the code worked out
-  pub condition-written : (code code′ : List ℕ) (at w size number site : ℕ) → conditionAt (c .count) (drop (c .next) ws) ≡ true → w ≡ word
+  pub condition-written : {code code′ : List ℕ} {at w size number site : ℕ} → conditionAt (c .count) (drop (c .next) ws) ≡ true → w ≡ word
       → size ≡ length (take (carried w / 10) (drop (c .next + 1) ws))
       → number ≡ numberAmong 0 (headNames ws (take symbols names)) (take size (drop (c .next + 1) ws)) → number ≤ symbols → site ≡ foundSite number sites
       → Wrote code (c .at) (conditionWord site w ∷ []) code′ at → ConditionsOn ws known code c code′ (conditionDone c size at)
-  condition-written code code′ at w size number site e ew es en h ef wrote =
+  condition-written {code} {code′} {at} {w} {size} {number} {site} e ew es en h ef wrote =
       let long : size ≡ length name = es ∙ ap (λ (v : ℕ). length (take (carried v / 10) (drop (c .next + 1) ws))) ew in
       let named : take size (drop (c .next + 1) ws) ≡ name =
       ap (λ (k : ℕ). take k (drop (c .next + 1) ws)) long ∙ take-again (carried word / 10) (drop (c .next + 1) ws) in
       let same : number ≡ numberAmong 0 (headNames ws (take symbols names)) name = en ∙ ap (numberAmong 0 (headNames ws (take symbols names))) named in
       rw long (condition-on code code′ at e (rw (← same) h) (rw (← same, ← ef, ← ew) wrote))
 
-  pub conditions-over : (code : List ℕ) → conditionAt (c .count) (drop (c .next) ws) ≡ false → ConditionsOn ws known code c code (conditionsDone c)
-  conditions-over code e =
+  pub conditions-over : {code : List ℕ} → conditionAt (c .count) (drop (c .next) ws) ≡ false → ConditionsOn ws known code c code (conditionsDone c)
+  conditions-over {code} e =
       let later : coming true ws c ≡ coming false ws (conditionsDone c) = conditions-end ws (c .next) (c .count) e in
       record {
         same = same-words (same-refl code (c .at) _) (ap (conditionWords known) later);

@@ -17,6 +17,7 @@ use Rattle.meaning.specs.Instructions.{Site, fromStart, fromEnd, fromPlace}
 use Rattle.meaning.specs.Packing.{siteRegister, siteOffset}
 use Rattle.templates.specs.Words.{headName, headNames}
 use Rattle.templates.specs.Finding.{numberAmong}
+use Rattle.meaning.proofs.laws.Words.{register-below}
 use Rattle.templates.specs.declared.tape.Parts.{Parts}
 use Rattle.templates.specs.declared.tape.Parts.the-variants.{Zero, One, Two}
 use Rattle.templates.specs.declared.pattern.Lengths.{Lengths}
@@ -24,24 +25,19 @@ use Rattle.templates.specs.Testing.{lastOf, siteBy, siteAt, siteNumber, 
 
 -- CELLS AS NUMBERS
 
+low-byte : (r k : ℕ) → r < 256 → (r + 256 * k) % 256 ≡ r
+low-byte r k h = omega arith
+
+high-part : (r k : ℕ) → r < 256 → (r + 256 * k) / 256 ≡ k
+high-part r k h = omega arith
+
 pub site-back : (s : Site) → siteIn (siteNumber s) ≡ s
-site-back (fromStart k) =
-    let a : (0 + 256 * k) % 256 ≡ 0 = omega arith in
-    let b : (0 + 256 * k) / 256 ≡ k = omega arith in
-    rw (a, b)
-site-back (fromEnd k) =
-    let a : (1 + 256 * k) % 256 ≡ 1 = omega arith in
-    let b : (1 + 256 * k) / 256 ≡ k = omega arith in
-    rw (a, b)
-site-back (fromPlace k) =
-    let a : (2 + 256 * k) % 256 ≡ 2 = omega arith in
-    let b : (2 + 256 * k) / 256 ≡ k = omega arith in
-    rw (a, b)
+site-back (fromStart k) = rw (low-byte 0 k (omega arith), high-part 0 k (omega arith))
+site-back (fromEnd k) = rw (low-byte 1 k (omega arith), high-part 1 k (omega arith))
+site-back (fromPlace k) = rw (low-byte 2 k (omega arith), high-part 2 k (omega arith))
 
 pub site-number : (s : Site) → siteOffset s ≤ 64 → IsSite (siteNumber s)
-site-number (fromStart k) h = record { same = ap siteNumber (site-back (fromStart k)); small = omega arith }
-site-number (fromEnd k) h = record { same = ap siteNumber (site-back (fromEnd k)); small = omega arith }
-site-number (fromPlace k) h = record { same = ap siteNumber (site-back (fromPlace k)); small = omega arith }
+site-number s h = record { same = ap siteNumber (site-back s); small = omega (arith, register-below s) }
 
 pub all-set : (sites : List ℕ) (k v : ℕ) → AllSites sites → IsSite v → AllSites (set sites k v)
 all-set sites k v h g j = elim (decLe (length sites) k) [ yes o ↦ rw (set-out sites k v o) (h j) | no o ↦ inside (lt-of-not-le o) (ℕ-discrete j k) ]

@@ -21,7 +21,7 @@ returns : tie.Need-returns
 returns c = search needs
 
 returns-2 : tie.Need-returns-2
-returns-2 c = rw (c .conditions-end .ensures) (conditions-over (c .before .before .before .before .before .before .before .args .tape .now) (c .before .before .before .before .before .before .before .args .names .now) (c .before .before .before .before .before .before .before .args .sites .now) (c .before .before .before .before .before .before .before .args .symbols) (c .before .before .before .before .before .before .before .pre .0) (c .before .before .before .before .before .before .before .pre .1) (c .before .before .before .before .before .before .before .pre .2) (c .before .before .before .before .before .before .before .args .c) (c .before .before .before .before .before .before .before .pre .3) (c .before .before .before .before .before .before .before .args .code .now) (sym (c .before .before .is-condition .ensures) ∙ c .before .if1 .left))
+returns-2 c = rw (c .conditions-end .ensures) (conditions-over (c .before .before .before .before .before .before .before .args .tape .now) (c .before .before .before .before .before .before .before .args .names .now) (c .before .before .before .before .before .before .before .args .sites .now) (c .before .before .before .before .before .before .before .args .symbols) (c .before .before .before .before .before .before .before .pre .0) (c .before .before .before .before .before .before .before .pre .1) (c .before .before .before .before .before .before .before .pre .2) (c .before .before .before .before .before .before .before .args .c) (c .before .before .before .before .before .before .before .pre .3) (sym (c .before .before .is-condition .ensures) ∙ c .before .if1 .left))
 
 pub condition-or-end-spec : {M : Type 1} → statement M
 condition-or-end-spec =
