@@ -16,7 +16,7 @@ use Rattle.meaning.specs.Tape.{tapeWord, symbolKind, partKind, conditionKind, e
 use Rattle.meaning.specs.Grammar.{truthByte}
 use Rattle.meaning.specs.Listing.{Quoted, unquoted, inString, afterCode, closeQuote, isCoded, afterCharacter, quotedCharacter, symbolText, partText, patternText, conditionText, conditionsText, expressionText, withoutBlank, sentenceText, sentencesText, functionText, listing}
 use Rattle.meaning.proofs.laws.Passing.{both-left, both-right, every-head, every-tail}
-use Rattle.meaning.proofs.laws.Words.{class-below}
+use Rattle.meaning.proofs.laws.Words.{by-class, class-below}
 use Rattle.meaning.proofs.roundtrip.Legible.{legible}
 use Rattle.items.specs.declared.State.{State}
 use Rattle.items.specs.declared.State.the-variants.{Start, Plain, InString, AfterCode, Name as NameLeft, Condition as ConditionLeft, Header}
@@ -159,6 +159,11 @@ module _ (body rest : List ℕ) (text after : Bytes) where
   item-then item bytes follows later q =
       rw (append-assoc item body rest) (follows (body ++ rest) .at q ∙ rw later (simp append-assoc))
 
+  -- a variable, and what comes after it
+  variable-then : {kind b : ℕ} → Begins kind b → (x : Name) → T (spelledIdentifier x) → listFrom Plain (body ++ rest) ≡ text ++ after → (q : Quoted) →
+      listFrom (standing q) ((named kind x ++ body) ++ rest) ≡ (closeQuote q ++ ((32 ∷ b ∷ x) ++ text)) ++ after
+  variable-then {kind} {b} k x t = item-then (named kind x) (32 ∷ b ∷ x) (named-follows k (short-identifier x t))
+
 -- a pattern, and what follows it
 pattern-listed : (p : List Element) → T (every spelledElement p) → {rest : List ℕ} {after : Bytes} → Follows rest after → (q : Quoted) →
     listFrom (standing q) (patternTape p ++ rest) ≡ patternText q p ++ after
@@ -168,12 +173,10 @@ pattern-listed (letter (character c) ∷ es) t {rest} {after} f q =
     character-then (patternTape es) rest (patternText (afterCharacter q c) es) after c (ltb→lt c 256 (both-left (isByte c) (every spelledElement es) t)) q
     (pattern-listed es (both-right (isByte c) (every spelledElement es) t) f (afterCharacter q c))
 pattern-listed (letter (symbol x) ∷ es) t {rest} {after} f q =
-    item-then (patternTape es) rest (patternText unquoted es) after (named symbolKind x) (symbolText x)
-    (named-follows symbol-begins (short-identifier x (both-left (spelledIdentifier x) (every spelledElement es) t)))
+    variable-then (patternTape es) rest (patternText unquoted es) after symbol-begins x (both-left (spelledIdentifier x) (every spelledElement es) t)
     (pattern-listed es (both-right (spelledIdentifier x) (every spelledElement es) t) f unquoted) q
 pattern-listed (part x ∷ es) t {rest} {after} f q =
-    item-then (patternTape es) rest (patternText unquoted es) after (named partKind x) (partText x)
-    (named-follows part-begins (short-identifier x (both-left (spelledIdentifier x) (every spelledElement es) t)))
+    variable-then (patternTape es) rest (patternText unquoted es) after part-begins x (both-left (spelledIdentifier x) (every spelledElement es) t)
     (pattern-listed es (both-right (spelledIdentifier x) (every spelledElement es) t) f unquoted) q
 
 -- an expression, and what follows it
@@ -185,12 +188,10 @@ expression-listed (thenCharacter c e) t {rest} {after} f q =
     character-then (expressionTape e) rest (expressionText (afterCharacter q c) e) after c (ltb→lt c 256 (both-left (isByte c) (legible e) t)) q
     (expression-listed e (both-right (isByte c) (legible e) t) f (afterCharacter q c))
 expression-listed (thenSymbol x e) t {rest} {after} f q =
-    item-then (expressionTape e) rest (expressionText unquoted e) after (named symbolKind x) (symbolText x)
-    (named-follows symbol-begins (short-identifier x (both-left (spelledIdentifier x) (legible e) t)))
+    variable-then (expressionTape e) rest (expressionText unquoted e) after symbol-begins x (both-left (spelledIdentifier x) (legible e) t)
     (expression-listed e (both-right (spelledIdentifier x) (legible e) t) f unquoted) q
 expression-listed (thenPart x e) t {rest} {after} f q =
-    item-then (expressionTape e) rest (expressionText unquoted e) after (named partKind x) (partText x)
-    (named-follows part-begins (short-identifier x (both-left (spelledIdentifier x) (legible e) t)))
+    variable-then (expressionTape e) rest (expressionText unquoted e) after part-begins x (both-left (spelledIdentifier x) (legible e) t)
     (expression-listed e (both-right (spelledIdentifier x) (legible e) t) f unquoted) q
 expression-listed (thenCall place n a e) t {rest} {after} f q =
     let inner = both-right (spelledName n) (both (legible a) (legible e)) t in
@@ -203,11 +204,7 @@ expression-listed (thenCall place n a e) t {rest} {after} f q =
 -- CONDITIONS
 
 class-named : (k : Class) → classText (classNumber k) ≡ className k
-class-named digit = refl
-class-named upper = refl
-class-named lower = refl
-class-named alphabetic = refl
-class-named blank = refl
+class-named = by-class (λ k. classText (classNumber k) ≡ className k) refl refl refl refl refl
 
 -- what a condition's word carries is read off it
 record Carries (count class : ℕ) (expected : Bool) (carried : ℕ) : Type 0 where
