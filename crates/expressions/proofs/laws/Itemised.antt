@@ -6,7 +6,7 @@ use mathlib.Core.Bool.{Bool, true, false}
 use mathlib.Core.List.{List, [], _∷_, _++_}
 use borrow.Author.Tests.{eqb-true}
 use lib.Dec.{eqb}
-use lib.ListN.{length, drop, getD, set, length-set}
+use lib.ListN.{length, take, drop, getD, set, length-set}
 use lib.Seq.{getD-set-same, getD-set-other}
 use native.Mathlib.Decide.{ℕ-discrete}
 use Rattle.meaning.specs.Choice.{Name, pick, Named, sameBytes}
@@ -23,7 +23,7 @@ use Rattle.expressions.specs.declared.spans.Stand.{Stand}
 use Rattle.expressions.specs.declared.expression.Walk.{Walk}
 use Rattle.expressions.specs.declared.expression.Manner.{Manner}
 use Rattle.expressions.specs.declared.expression.Manner.the-variants.{Emits, Replaces, Nests}
-use Rattle.templates.specs.Words.{headName, headNames, itemAt}
+use Rattle.templates.specs.Words.{carried, headName, headNames, itemAt}
 use Rattle.expressions.specs.Levels.{placeIn, Levels, stopped, onCurrent, firstOf, othersOf, opened, levelsIn}
 use Rattle.templates.specs.Writing.{Wrote, Same}
 use Rattle.templates.specs.Finding.{numberAmong}
@@ -80,6 +80,24 @@ module _ (ws heads names : List ℕ) (m : Pattern) (calls : List ℕ) (w : Walk)
         grown = omega (arith, wrote .next);
       }
 
+  -- one that opens no call
+  plain-on : {code code′ words : List ℕ} {at : ℕ} {stand : Stand} (n : ℕ) → Reads ws (w .next) (w .items) → w .next + 1 + n ≤ length ws
+      → levelsNow ws w .rest ≡ after n .rest
+      → ((t : Table) (s : Shape) (ss : List (Named Site)) → Means ws heads names m t s ss
+      → remaining true t s ss ws calls w ≡ words ++ remaining true t s ss ws calls (itemDone w n at (w .depth) stand))
+      → Wrote code (w .at) words code′ at → length words ≤ 270 → ItemsOn ws heads names m calls code w calls code′ (itemDone w n at (w .depth) stand)
+  plain-on n read fits rest same wrote few =
+      item-on n read fits rest same wrote (within .room) (within .opened) (within .depth) (omega arith) (omega arith)
+
+  -- a variable, whichever it is
+  variable-now : (variable : Name → Expression → Expression) → Reads ws (w .next) (w .items)
+      → levelsNow ws w
+      ≡ onCurrent (variable (take (carried (getD ws (w .next) 0)) (drop (w .next + 1) ws)))
+      (levelsIn (w .depth) (w .items + 1) (carried (getD ws (w .next) 0)) (drop (w .next + 1) ws))
+      → levelsNow ws w ≡ onCurrent (variable name) (after size)
+  variable-now variable read now =
+      now ∙ rw (levels-past (w .depth) (w .items + 1) ws (w .next) (read .inside), ← (name-here ws (w .next) (read .inside)))
+
   pub character-on : {code code′ : List ℕ} {at : ℕ} → At Byte → Wrote code (w .at) (word 8 (getD ws (w .next) 0) 0 0 ∷ []) code′ at
       → ItemsOn ws heads names m calls code w calls code′ (itemDone w 0 at (w .depth) (w .stand))
   unfolding packActions
@@ -87,26 +105,24 @@ module _ (ws heads names : List ℕ) (m : Pattern) (calls : List ℕ) (w : Walk)
       let read = tells within Byte e .0 in
       let z : w .next + 1 + 0 ≡ w .next + 1 = omega arith in
       let now : levelsNow ws w ≡ onCurrent (thenCharacter (getD ws (w .next) 0)) (after 0) = levels-at ws (w .next) (w .depth) (w .items) Byte (read .inside) e ∙ rw z in
-      item-on 0 read (omega (arith, read .inside)) (ap (λ (l : Levels). l .rest) now)
+      plain-on 0 read (omega (arith, read .inside)) (ap (λ (l : Levels). l .rest) now)
       (λ t s ss means.
       rw now (ap packActions (resume-character t s ss (openNames ws calls (w .depth)) (getD ws (w .next) 0) (after 0 .current) (after 0 .outer) (meantStand (w .stand)))))
-      wrote (within .room) (within .opened) (within .depth) (omega arith) (omega arith)
+      wrote (omega arith)
 
   pub value-on : {code code′ : List ℕ} {at : ℕ} → At Symbol → Wrote code (w .at) (word 9 (numberAmong 0 (headNames ws names) name - 1) 0 0 ∷ []) code′ at
       → ItemsOn ws heads names m calls code w calls code′ (itemDone w size at (w .depth) (w .stand))
   unfolding packActions
   value-on e wrote =
       let read = tells within Symbol e in
-      let now : levelsNow ws w ≡ onCurrent (thenSymbol name) (after size) =
-      levels-at ws (w .next) (w .depth) (w .items) Symbol (read .inside) e
-      ∙ rw (levels-past (w .depth) (w .items + 1) ws (w .next) (read .inside), ← (name-here ws (w .next) (read .inside))) in
-      item-on size read (name-fits-here ws (w .next) (read .inside)) (ap (λ (l : Levels). l .rest) now)
+      let now = variable-now thenSymbol read (levels-at ws (w .next) (w .depth) (w .items) Symbol (read .inside) e) in
+      plain-on size read (name-fits-here ws (w .next) (read .inside)) (ap (λ (l : Levels). l .rest) now)
       (λ t s ss means.
       let value : valueNumber ss name ≡ numberAmong 0 (headNames ws names) name - 1 =
       value-among 0 ss name ∙ ap (λ (l : List Name). numberAmong 0 l name - 1) (means .symbols) in
       rw now (ap packActions (resume-symbol t s ss (openNames ws calls (w .depth)) name (after size .current) (after size .outer) (meantStand (w .stand)))
       ∙ ap (λ (v : ℕ). word 9 v 0 0 ∷ packActions (resume t s ss (openNames ws calls (w .depth)) (after size .current) (after size .outer) (meantStand (w .stand)))) value))
-      wrote (within .room) (within .opened) (within .depth) (omega arith) (omega arith)
+      wrote (omega arith)
 
   abbrev first : Bool
   first = sameBytes name (headName ws (m .variable))
@@ -116,14 +132,12 @@ module _ (ws heads names : List ℕ) (m : Pattern) (calls : List ℕ) (w : Walk)
   unfolding packActions
   part-on e wrote =
       let read = tells within Part e in
-      let now : levelsNow ws w ≡ onCurrent (thenPart name) (after size) =
-      levels-at ws (w .next) (w .depth) (w .items) Part (read .inside) e
-      ∙ rw (levels-past (w .depth) (w .items + 1) ws (w .next) (read .inside), ← (name-here ws (w .next) (read .inside))) in
-      item-on size read (name-fits-here ws (w .next) (read .inside)) (ap (λ (l : Levels). l .rest) now)
+      let now = variable-now thenPart read (levels-at ws (w .next) (w .depth) (w .items) Part (read .inside) e) in
+      plain-on size read (name-fits-here ws (w .next) (read .inside)) (ap (λ (l : Levels). l .rest) now)
       (λ t s ss means.
       rw now (ap packActions (resume-part t s ss (openNames ws calls (w .depth)) name (after size .current) (after size .outer) (meantStand (w .stand)))
       ∙ part-words t s ss means))
-      wrote (within .room) (within .opened) (within .depth) (omega arith) (omega arith)
+      wrote (omega arith)
     where
       part-words : (t : Table) (s : Shape) (ss : List (Named Site)) → Means ws heads names m t s ss
           → packActions (go (passage s name (meantStand (w .stand)) .gap) ∷ select (passage s name (meantStand (w .stand)) .piece) ∷ out ∷
