@@ -22,6 +22,7 @@ use Rattle.translating.specs.Declaring.{Inside, wordsFrom, headsLeft, He
 use Rattle.translating.specs.Leaves.{codeOf}
 use Rattle.templates.proofs.laws.Lists.{drop-word}
 use Rattle.templates.proofs.laws.Names.{name-skip}
+use Rattle.meaning.proofs.laws.Packing.{places-length}
 use Rattle.templates.proofs.laws.Stores.{sets-append}
 use Rattle.translating.proofs.laws.Patching.{sets-comm, lentFrom, backFrom, sets-lent}
 
@@ -119,11 +120,6 @@ entry-written {ws} {heads} {part} {part₁} {part₂} {k} {at} {named = named} {
     same-words t = rw e (ap (λ (r : List Sentence). packSentences (translatedSentences t r)) (sym (function-sentences ws (getD heads k 0) inside)))
 
 -- ALL FUNCTIONS
-
-places-length : (at : ℕ) (fs : Code) → length (placesFrom at fs) ≡ length fs
-unfolding placesFrom
-places-length at [] = refl
-places-length at (f ∷ fs) = ap suc (places-length (at + length (packSentences f)) fs)
 
 -- the entries and functions still to be written
 abbrev tableLeft : Table → List ℕ → List ℕ → ℕ → List ℕ → ℕ → List ℕ

@@ -9,11 +9,11 @@ use borrow.Author.Tests.{lt-ltb, le-ltb, le-leb, lt-leb, ne-eqb, leb-true, ltb-t
 use lib.Dec.{T, eqb, leb, ltb}
 use lib.ListN.{length, take}
 use lib.Seq.{take-append-seam, drop-append-seam}
-use Rattle.meaning.specs.Choice.{Name, pick, both, either, isSome, every}
+use Rattle.meaning.specs.Choice.{Name, pick, both, isSome, every}
 use Rattle.meaning.specs.Names.{isReserved}
-use Rattle.meaning.specs.Classes.{Class, within, inClass, classNumber, digit, upper, lower, alphabetic, blank}
+use Rattle.meaning.specs.Classes.{Class, classNumber}
 use Rattle.meaning.specs.Tree.{character, symbol, Element, letter, part, Condition, Expression, end, thenCharacter, thenSymbol, thenPart, thenCall, Sentence, Function, Table}
-use Rattle.meaning.specs.Allowed.{maxFunctions, maxSentences, maxLetters, maxItems, maxIdentifier, member, distinct, parted, symbolsOf, spelledItems, comingAfterAll, allowedPattern, allowedConditions, allowedExpression, allowedSentence, allowedFunction, namesOf, allowed, isByte, wordByte, spelledName, spelledIdentifier, spelledElement, lettersIn, partsOf, itemsIn, nesting, someSentence}
+use Rattle.meaning.specs.Allowed.{maxFunctions, maxSentences, maxLetters, maxItems, member, distinct, parted, symbolsOf, spelledItems, comingAfterAll, allowedPattern, allowedConditions, allowedExpression, allowedSentence, allowedFunction, namesOf, allowed, isByte, wordByte, spelledName, spelledIdentifier, spelledElement, lettersIn, partsOf, itemsIn, nesting, someSentence}
 use Rattle.meaning.specs.Allowed.{sentencesIn as sentencesOf}
 use Rattle.meaning.specs.Tape.{tapeWord, named, symbolKind, partKind, conditionKind, equalsKind, closeKind, nextKind, endKind, functionKind, callKind, truthNumber, patternTape, conditionsTape, expressionTape, sentenceTape, sentencesTape, functionTape, tape}
 use Rattle.templates.specs.declared.tape.Parts.{Parts}
@@ -29,7 +29,8 @@ use Rattle.templates.proofs.laws.Conditioned.{conditions-skip}
 use Rattle.expressions.proofs.laws.Items.{levels-skip}
 use Rattle.meaning.proofs.reading.Basics.{both-left, both-right}
 use Rattle.meaning.proofs.agreement.Choosing.{passed-true, true-passed}
-use Rattle.meaning.proofs.laws.Spelling.{name-short, name-bytes}
+use Rattle.meaning.proofs.laws.Spelling.{name-short, name-bytes, identifier-bytes, identifier-short as short-identifier}
+use Rattle.meaning.proofs.laws.Words.{by-class, class-below}
 use Rattle.meaning.proofs.roundtrip.Legible.{legible, allowed-legible}
 use Rattle.meaning.proofs.reading.Sentences.{symbols-spelled, parts-spelled}
 use Rattle.meaning.proofs.reading.Lists.{member-every}
@@ -115,6 +116,9 @@ variable-back variable kind x e depth items ws l h ih =
     )
     (ap (onCurrent (variable x)) ih)
 
+one-more : (items n : ℕ) → items + suc n ≡ items + 1 + n
+one-more items n = omega arith
+
 -- an expression's words are read as it, and then what comes after it is read on
 pub levels-expression : (e : Expression) (depth items : ℕ) (ws : List ℕ) → Short e → items + itemsIn e ≤ 128 → depth + nesting e ≤ 16 →
     levelsIn depth items 0 (expressionTape e ++ ws) ≡ onCurrent (followed e) (levelsIn depth (items + itemsIn e) 0 ws)
@@ -122,16 +126,13 @@ unfolding levelsIn expressionTape itemsIn nesting followed
 levels-expression end depth items ws s h k = rw (add-zero items)
 levels-expression (thenCharacter c e) depth items ws s h k =
     let ih = levels-expression e depth (items + 1) ws (s .1) (omega arith) k in
-    let sum : items + suc (itemsIn e) ≡ items + 1 + itemsIn e = omega arith in
-    rw (byte-item depth items (omega arith) c (s .0), sum) (ap (onCurrent (thenCharacter c)) ih)
+    rw (byte-item depth items (omega arith) c (s .0), one-more items (itemsIn e)) (ap (onCurrent (thenCharacter c)) ih)
 levels-expression (thenSymbol x e) depth items ws s h k =
     let ih = levels-expression e depth (items + 1) ws (s .1) (omega arith) k in
-    let sum : items + suc (itemsIn e) ≡ items + 1 + itemsIn e = omega arith in
-    rw (symbol-item depth items (omega arith) (length x) (s .0), sum) (variable-back thenSymbol symbolKind x e depth (items + 1) ws _ (s .0) ih)
+    rw (symbol-item depth items (omega arith) (length x) (s .0), one-more items (itemsIn e)) (variable-back thenSymbol symbolKind x e depth (items + 1) ws _ (s .0) ih)
 levels-expression (thenPart x e) depth items ws s h k =
     let ih = levels-expression e depth (items + 1) ws (s .1) (omega arith) k in
-    let sum : items + suc (itemsIn e) ≡ items + 1 + itemsIn e = omega arith in
-    rw (part-item depth items (omega arith) (length x) (s .0), sum) (variable-back thenPart partKind x e depth (items + 1) ws _ (s .0) ih)
+    rw (part-item depth items (omega arith) (length x) (s .0), one-more items (itemsIn e)) (variable-back thenPart partKind x e depth (items + 1) ws _ (s .0) ih)
 levels-expression (thenCall place n a e) depth items ws s h k =
     let more = tapeWord closeKind 0 ∷ (expressionTape e ++ ws) in
     let inner = levels-expression a (depth + 1) (items + 1) more (s .1) (omega arith) (omega arith) in
@@ -153,8 +154,7 @@ levels-expression (thenCall place n a e) depth items ws s h k =
 -- SPELLING
 
 pub identifier-short : (x : Name) → spelledIdentifier x ≡ true → length x ≤ 8
-identifier-short [] e = absurd (false≢true e)
-identifier-short (b ∷ x) e = leb-true (length (b ∷ x)) maxIdentifier (both-right (every wordByte (b ∷ x)) _ e)
+identifier-short x e = short-identifier x (true-passed (spelledIdentifier x) e)
 
 pub name-small : (n : Name) → spelledName n ≡ true → length n ≤ 24
 name-small n e = name-short n (true-passed (spelledName n) e)
@@ -240,18 +240,7 @@ pattern-back (part x ∷ p) letters parts ws s h k ends =
 -- CONDITIONS
 
 class-back : (c : Class) → classIn (classNumber c) ≡ c
-class-back digit = refl
-class-back upper = refl
-class-back lower = refl
-class-back alphabetic = refl
-class-back blank = refl
-
-class-few : (c : Class) → classNumber c < 5
-class-few digit = omega arith
-class-few upper = omega arith
-class-few lower = omega arith
-class-few alphabetic = omega arith
-class-few blank = omega arith
+class-back = by-class (λ c. classIn (classNumber c) ≡ c) refl refl refl refl refl
 
 truth-few : (b : Bool) → truthNumber b ≤ 5
 truth-few true = omega arith
@@ -283,7 +272,7 @@ conditions-back [] count w ws s h k = go (leb 8 count)
     go false = rw (le-ltb w 768 (omega arith), le-ltb w 1024 k)
 conditions-back (c ∷ cs) count w ws s h k =
     let x = c .variable in
-    let few = class-few (c .predicate) in
+    let few = class-below (c .predicate) in
     let small = truth-few (c .expected) in
     let short = identifier-short x (both-left (spelledCondition c) (every spelledCondition cs) s) in
     let n = length x * 10 + truthNumber (c .expected) + classNumber (c .predicate) in
@@ -422,26 +411,17 @@ every-more f g h (x ∷ xs) p = rw (h x (both-left (f x) (every f xs) p)) (every
 byte-quiet : (b : ℕ) → isByte b ≡ true → quiet b ≡ true
 byte-quiet b e = quiet-low b (omega (arith, ltb-true b 256 e))
 
-within-quiet : (low high b : ℕ) → high < 2048 → within low high b ≡ true → quiet b ≡ true
-within-quiet low high b h e = quiet-low b (omega (arith, leb-true b high (both-right (leb low b) (leb b high) e)))
+bytes-quiet : (x : Name) → T (every isByte x) → every quiet x ≡ true
+bytes-quiet x t = every-more isByte quiet byte-quiet x (passed-true (every isByte x) t)
 
--- either of two tests that each say it says it
-either-quiet : (a b : Bool) (w : ℕ) → (a ≡ true → quiet w ≡ true) → (b ≡ true → quiet w ≡ true) → either a b ≡ true → quiet w ≡ true
-either-quiet true b w f g e = f refl
-either-quiet false b w f g e = g e
-
-word-quiet : (b : ℕ) → wordByte b ≡ true → quiet b ≡ true
-word-quiet b =
-    either-quiet (inClass alphabetic b) (inClass digit b) b
-    (either-quiet (within 65 90 b) (within 97 122 b) b (within-quiet 65 90 b (omega arith)) (within-quiet 97 122 b (omega arith)))
-    (within-quiet 48 57 b (omega arith))
-
-identifier-quiet : (x : Name) → spelledIdentifier x ≡ true → every quiet x ≡ true
-identifier-quiet [] e = absurd (false≢true e)
-identifier-quiet (b ∷ x) e = every-more wordByte quiet word-quiet (b ∷ x) (both-left (every wordByte (b ∷ x)) _ e)
+-- a word, the identifier after it, and what comes then
+variable-quiet : (w : ℕ) (x : Name) (ws : List ℕ) → w < 2048 → spelledIdentifier x ≡ true → every quiet ws ≡ true → every quiet (w ∷ (x ++ ws)) ≡ true
+unfolding every
+variable-quiet w x ws h e q =
+    rw (quiet-low w h) (every-append quiet x ws (bytes-quiet x (identifier-bytes x (true-passed (spelledIdentifier x) e))) q)
 
 name-quiet : (n : Name) → spelledName n ≡ true → every quiet n ≡ true
-name-quiet n e = every-more isByte quiet byte-quiet n (passed-true (every isByte n) (name-bytes n (true-passed (spelledName n) e)))
+name-quiet n e = bytes-quiet n (name-bytes n (true-passed (spelledName n) e))
 
 pattern-quiet : (p : List Element) → every spelledElement p ≡ true → every quiet (patternTape p) ≡ true
 unfolding every patternTape
@@ -450,12 +430,12 @@ pattern-quiet (letter (character c) ∷ p) s =
     rw (byte-quiet c (both-left (isByte c) (every spelledElement p) s)) (pattern-quiet p (both-right (isByte c) (every spelledElement p) s))
 pattern-quiet (letter (symbol x) ∷ p) s =
     let spelled = both-left (spelledIdentifier x) (every spelledElement p) s in
-    rw (quiet-low (tapeWord symbolKind (length x)) (omega (arith, identifier-short x spelled)))
-    (every-append quiet x (patternTape p) (identifier-quiet x spelled) (pattern-quiet p (both-right (spelledIdentifier x) (every spelledElement p) s)))
+    variable-quiet (tapeWord symbolKind (length x)) x (patternTape p) (omega (arith, identifier-short x spelled)) spelled
+    (pattern-quiet p (both-right (spelledIdentifier x) (every spelledElement p) s))
 pattern-quiet (part x ∷ p) s =
     let spelled = both-left (spelledIdentifier x) (every spelledElement p) s in
-    rw (quiet-low (tapeWord partKind (length x)) (omega (arith, identifier-short x spelled)))
-    (every-append quiet x (patternTape p) (identifier-quiet x spelled) (pattern-quiet p (both-right (spelledIdentifier x) (every spelledElement p) s)))
+    variable-quiet (tapeWord partKind (length x)) x (patternTape p) (omega (arith, identifier-short x spelled)) spelled
+    (pattern-quiet p (both-right (spelledIdentifier x) (every spelledElement p) s))
 
 conditions-quiet : (cs : List Condition) → every spelledCondition cs ≡ true → every quiet (conditionsTape cs) ≡ true
 unfolding every conditionsTape
@@ -463,9 +443,9 @@ conditions-quiet [] s = refl
 conditions-quiet (c ∷ cs) s =
     let spelled = both-left (spelledCondition c) (every spelledCondition cs) s in
     let n = length (c .variable) * 10 + truthNumber (c .expected) + classNumber (c .predicate) in
-    let few : n < 256 = omega (arith, identifier-short (c .variable) spelled, truth-few (c .expected), class-few (c .predicate)) in
-    rw (quiet-low (tapeWord conditionKind n) (omega arith))
-    (every-append quiet (c .variable) (conditionsTape cs) (identifier-quiet (c .variable) spelled) (conditions-quiet cs (both-right (spelledCondition c) (every spelledCondition cs) s)))
+    let few : n < 256 = omega (arith, identifier-short (c .variable) spelled, truth-few (c .expected), class-below (c .predicate)) in
+    variable-quiet (tapeWord conditionKind n) (c .variable) (conditionsTape cs) (omega arith) spelled
+    (conditions-quiet cs (both-right (spelledCondition c) (every spelledCondition cs) s))
 
 expression-quiet : (e : Expression) → legible e ≡ true → every quiet (expressionTape e) ≡ true
 unfolding every expressionTape legible
@@ -473,12 +453,12 @@ expression-quiet end l = refl
 expression-quiet (thenCharacter c e) l = rw (byte-quiet c (both-left (isByte c) (legible e) l)) (expression-quiet e (both-right (isByte c) (legible e) l))
 expression-quiet (thenSymbol x e) l =
     let spelled = both-left (spelledIdentifier x) (legible e) l in
-    rw (quiet-low (tapeWord symbolKind (length x)) (omega (arith, identifier-short x spelled)))
-    (every-append quiet x (expressionTape e) (identifier-quiet x spelled) (expression-quiet e (both-right (spelledIdentifier x) (legible e) l)))
+    variable-quiet (tapeWord symbolKind (length x)) x (expressionTape e) (omega (arith, identifier-short x spelled)) spelled
+    (expression-quiet e (both-right (spelledIdentifier x) (legible e) l))
 expression-quiet (thenPart x e) l =
     let spelled = both-left (spelledIdentifier x) (legible e) l in
-    rw (quiet-low (tapeWord partKind (length x)) (omega (arith, identifier-short x spelled)))
-    (every-append quiet x (expressionTape e) (identifier-quiet x spelled) (expression-quiet e (both-right (spelledIdentifier x) (legible e) l)))
+    variable-quiet (tapeWord partKind (length x)) x (expressionTape e) (omega (arith, identifier-short x spelled)) spelled
+    (expression-quiet e (both-right (spelledIdentifier x) (legible e) l))
 expression-quiet (thenCall place n a e) l =
     let spelled = both-left (spelledName n) (both (legible a) (legible e)) l in
     let others = both-right (spelledName n) (both (legible a) (legible e)) l in
