@@ -1,12 +1,13 @@
 -- Bytes written one after another into a buffer that may end before them.
-use Prim.Native.Nat.{ℕ, suc, _+_, _≤_, _<_}
+use Prim.Native.Nat.{ℕ, _+_, _≤_, _<_}
 use native.Mathlib.Omega.{arith}
 use native.Mathlib.Numerals.{add-one}
-use native.Mathlib.Nat.{add-zero, add-suc, suc-add}
+use native.Mathlib.Nat.{add-zero}
 use mathlib.Core.Path.{_≡_, refl, sym, _∙_, ap}
 use mathlib.Core.List.{List, [], _∷_, _++_}
-use lib.ListN.{length, drop, getD, set, drop-of-length-le, length-append}
+use lib.ListN.{length, drop, getD, drop-of-length-le, length-append}
 use lib.Seq.{sets, length-sets, drop-cons}
+use Rattle.meaning.proofs.laws.Storing.{sets-append}
 use Rattle.items.specs.Put.{Put}
 
 -- a text of which i bytes are written, the next going to `next`: the rest written from here gives what the whole gives from the start
@@ -34,11 +35,6 @@ writes-all {out₀} {text} {out} {at} {i} {next} w h =
       place = omega (arith, w .place, w .within);
       cells = rw (drop-of-length-le text h) at (w .rest);
     }
-
--- one text after another is both in a row
-pub sets-append : (out : List ℕ) (at : ℕ) (xs ys : List ℕ) → sets (sets out at xs) (at + length xs) ys ≡ sets out at (xs ++ ys)
-sets-append out at [] ys = rw add-zero
-sets-append out at (x ∷ xs) ys = rw (add-suc, ← (suc-add at (length xs))) (sets-append (set out at x) (suc at) xs ys)
 
 pub put-none : {at : ℕ} {old : List ℕ} → Put at old [] at old
 put-none {at} {old} = record { place = rw add-zero; cells = refl }

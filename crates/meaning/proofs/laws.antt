@@ -2,6 +2,7 @@
 pub mod Passing
 pub mod Spelling
 pub mod Words
+pub mod Storing
 pub mod Packable
 pub mod Packing
 pub mod Bounds

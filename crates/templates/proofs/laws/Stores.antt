@@ -1,19 +1,12 @@
 -- Words stored one after another: in two runs, and what is left of those still to be stored.
-use Prim.Native.Nat.{ℕ, suc, _+_}
+use Prim.Native.Nat.{ℕ, _+_}
 use native.Mathlib.Omega.{arith}
 use mathlib.Core.Path.{_≡_, refl, sym, ap, _∙_}
-use mathlib.Core.List.{List, [], _∷_, _++_}
-use lib.ListN.{length, set, length-append}
+use mathlib.Core.List.{List, [], _++_}
+use lib.ListN.{length, length-append}
 use lib.Seq.{sets, length-sets}
+use Rattle.meaning.proofs.laws.Storing.{sets-append}
 use Rattle.templates.specs.Writing.{Wrote, Same}
-
-pub sets-append : (l : List ℕ) (i : ℕ) (xs ys : List ℕ) → sets l i (xs ++ ys) ≡ sets (sets l i xs) (i + length xs) ys
-sets-append l i [] ys =
-    let e : i + 0 ≡ i = omega arith in
-    rw e
-sets-append l i (x ∷ xs) ys =
-    let e : i + suc (length xs) ≡ suc i + length xs = omega arith in
-    rw e (sets-append (set l i x) (suc i) xs ys)
 
 pub same-refl : (code : List ℕ) (at : ℕ) (words : List ℕ) → Same code at words code at words
 same-refl code at words = record { left = refl; next = refl }
@@ -30,7 +23,7 @@ pub same-wrote : {a b c : List ℕ} {i j k : ℕ} {x words : List ℕ} (rest : L
     → Same a i x b j (words ++ rest) → Wrote b j words c k → Same a i x c k rest
 same-wrote {b = b} {j = j} {words = words} rest s w =
     record {
-      left = rw (w .left, w .next) (sym (sets-append b j words rest) ∙ s .left);
+      left = rw (w .left, w .next) (sets-append b j words rest ∙ s .left);
       next = rw (w .next) (omega (arith, s .next, length-append words rest));
     }
 
@@ -44,6 +37,6 @@ same-size {a} {b} {i} {j} {x} {y} s = sym (length-sets b j y) ∙ ap length (s .
 pub wrote-more : {a b c : List ℕ} {i j k : ℕ} {x y : List ℕ} → Wrote a i x b j → Wrote b j y c k → Wrote a i (x ++ y) c k
 wrote-more {a} {i = i} {x = x} {y = y} v w =
     record {
-      left = w .left ∙ rw (v .left, v .next) (sym (sets-append a i x y));
+      left = w .left ∙ rw (v .left, v .next) (sets-append a i x y);
       next = rw (w .next, v .next, length-append) (omega arith);
     }

@@ -23,7 +23,7 @@ use Rattle.translating.specs.Leaves.{codeOf}
 use Rattle.templates.proofs.laws.Lists.{drop-word}
 use Rattle.templates.proofs.laws.Names.{name-skip}
 use Rattle.meaning.proofs.laws.Packing.{places-length}
-use Rattle.templates.proofs.laws.Stores.{sets-append}
+use Rattle.meaning.proofs.laws.Storing.{sets-append}
 use Rattle.translating.proofs.laws.Patching.{sets-comm, lentFrom, backFrom, sets-lent}
 
 -- THE HEADS
@@ -135,7 +135,7 @@ entry-first t ws h hs k code at room =
     let later = at + length words in
     let places = placesFrom later (functionsOf t ws hs) in
     let fit : suc (k + 1) + length places ≤ at = omega (arith, places-length later (functionsOf t ws hs), length-map hs (functionAt t ws)) in
-    sets-append (sets (set code (k + 1) at) (suc (k + 1)) places) at words (packFunctions (functionsOf t ws hs))
+    sym (sets-append (sets (set code (k + 1) at) (suc (k + 1)) places) at words (packFunctions (functionsOf t ws hs)))
     ∙ ap (λ (r : List ℕ). sets r later (packFunctions (functionsOf t ws hs))) (sets-comm (set code (k + 1) at) (suc (k + 1)) places at words fit)
     ∙ rw (add-one (k + 1))
 
@@ -205,7 +205,7 @@ functions-all {ws} {heads} {code} {code₀} {code′} {next} {at} {k} count s h 
             left =
                 same ∙ rw (start, count .left, ← many)
                 (ap (λ (n : ℕ). sets (sets (set code 0 (length fs)) 1 places) n (packFunctions fs)) (sym past)
-                ∙ sym (sets-append (set code 0 (length fs)) 1 places (packFunctions fs)));
+                ∙ sets-append (set code 0 (length fs)) 1 places (packFunctions fs));
             next = omega (arith, rw none at (s .next t g), start, length-append places (packFunctions fs), places-length (suc (length fs)) fs);
           };
     }
