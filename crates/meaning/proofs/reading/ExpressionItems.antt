@@ -13,7 +13,7 @@ use Rattle.meaning.specs.Choice.{Bytes, Name, pick, both, every, isSome,
 use Rattle.meaning.specs.Tree.{Expression}
 use Rattle.meaning.specs.Allowed.{isByte, member, itemsIn, nesting, spelledItems, comingAfter, comingAfterAll, whereSome, spelledIdentifier, maxItems, maxNesting, maxIdentifier}
 use Rattle.meaning.specs.Grammar.{written}
-use Rattle.meaning.specs.Reading.{Item, characters, symbolItem, partItem, noItem, isItem, Progress, itemCount, comingPast, comingOr, pastItem, itemFault, thenItem}
+use Rattle.meaning.specs.Reading.{Item, characters, symbolItem, partItem, noItem, isItem, Progress, itemCount, comingPast, comingOr, pastItem, itemFault, faultUnless, thenItem}
 use Rattle.meaning.proofs.reading.Basics.{both-left, both-right, both-true, impossible, passed, passed-on}
 use Rattle.meaning.proofs.laws.Choosing.{same-bytes}
 use Rattle.meaning.proofs.reading.Lists.{both-assoc, member-every}
@@ -105,23 +105,26 @@ pub record ItemFits (symbols : List Name) (so : Progress) (item : Item) : Type 0
   pub spelled : itemSpelled symbols item ≡ true
   pub order : itemComing item (so .coming) ≡ some (comingPast item (so .coming))
 
+-- an identifier is short, there is room for one more item, and no later fault
+variable-room : (x : Name) (items later : ℕ) → faultUnless (both (leb (length x) maxIdentifier) (leb (items + 1) maxItems)) 4 later ≡ 0
+    → (items + 1 ≤ maxItems) × (later ≡ 0)
+variable-room x items later z =
+    let limits : Bool = both (leb (length x) maxIdentifier) (leb (items + 1) maxItems) in
+    (leb-true _ _ (both-right (leb (length x) maxIdentifier) _ (passed limits 4 later (omega arith) z)), passed-on limits 4 later (omega arith) z)
+
 pub item-fits : (symbols : List Name) (so : Progress) (item : Item) → soundItem item ≡ true → isItem item ≡ true
     → itemFault symbols so item ≡ 0 → ItemFits symbols so item
 item-fits symbols so (characters text) s i z =
     record { room = leb-true _ _ (passed (leb (so .items + length text) maxItems) 4 0 (omega arith) z); spelled = s; order = refl }
 item-fits symbols so (symbolItem x) s i z =
-    let limits : Bool = both (leb (length x) maxIdentifier) (leb (so .items + 1) maxItems) in
-    record {
-      room = leb-true _ _ (both-right (leb (length x) maxIdentifier) _ (passed limits 4 _ (omega arith) z));
-      spelled = passed (member x symbols) 7 0 (omega arith) (passed-on limits 4 _ (omega arith) z);
-      order = refl;
-    }
+    let (room, known) = variable-room x (so .items) _ z in
+    record { room = room; spelled = passed (member x symbols) 7 0 (omega arith) known; order = refl }
 item-fits symbols so (partItem x) s i z =
-    let limits : Bool = both (leb (length x) maxIdentifier) (leb (so .items + 1) maxItems) in
+    let (room, comes) = variable-room x (so .items) _ z in
     record {
-      room = leb-true _ _ (both-right (leb (length x) maxIdentifier) _ (passed limits 4 _ (omega arith) z));
+      room = room;
       spelled = refl;
-      order = some-or (comingAfter x (so .coming)) (passed (isSome (comingAfter x (so .coming))) 7 0 (omega arith) (passed-on limits 4 _ (omega arith) z));
+      order = some-or (comingAfter x (so .coming)) (passed (isSome (comingAfter x (so .coming))) 7 0 (omega arith) comes);
     }
 item-fits symbols so noItem s i z = impossible i
 

@@ -170,10 +170,21 @@ pub not-nothing : {A : Type 0} (used : List Placed) (t : Placed) (others : List 
 not-nothing [] t others e = let z : _≡_ {A = ℕ} 0 1 = cc in absurd (omega arith)
 not-nothing (u ∷ used) t others e = let z : _≡_ {A = ℕ} 0 1 = cc in absurd (omega arith)
 
-pub later-token : (b : Bool) (later used : List Placed) (t : Placed) (others : List Placed) → pick b [] later ≡ used ++ t ∷ others
+later-token : (b : Bool) (later used : List Placed) (t : Placed) (others : List Placed) → pick b [] later ≡ used ++ t ∷ others
     → (b ≡ false) × (later ≡ used ++ t ∷ others)
 later-token true later used t others e = not-nothing used t others e
 later-token false later used t others e = (refl, e)
+
+-- a token that is not the first one stands among those after the first
+pub tokens-later : (b : ℕ) (mode : Mode) (at : ℕ) (xs : Bytes) {u : Placed} (used : List Placed) (t : Placed) (others : List Placed)
+    → tokensFrom (suc b) mode at xs ≡ u ∷ (used ++ t ∷ others)
+    → (isLast (lex mode at xs .first .token) ≡ false)
+    × (tokensFrom b (modeAfter mode (lex mode at xs .first .token)) (lex mode at xs .first .past) (lex mode at xs .rest) ≡ used ++ t ∷ others)
+unfolding tokensFrom
+tokens-later b mode at xs used t others e =
+    let x = lex mode at xs in
+    let rest : pick (isLast (x .first .token)) [] (tokensFrom b (modeAfter mode (x .first .token)) (x .first .past) (x .rest)) ≡ used ++ t ∷ others = cc in
+    later-token (isLast (x .first .token)) (tokensFrom b (modeAfter mode (x .first .token)) (x .first .past) (x .rest)) used t others rest
 
 -- tokens end no earlier than the place that lexing begins at
 tokens-forward : (b : ℕ) (mode : Mode) (at : ℕ) (xs : Bytes) (used : List Placed) (t : Placed) (others : List Placed)
@@ -185,8 +196,7 @@ tokens-forward (suc b) mode at xs [] t others e =
     rw (← one) (lex-eats mode at xs .forward)
 tokens-forward (suc b) mode at xs (u ∷ used) t others e =
     let x = lex mode at xs in
-    let rest : pick (isLast (x .first .token)) [] (tokensFrom b (modeAfter mode (x .first .token)) (x .first .past) (x .rest)) ≡ used ++ t ∷ others = cc in
-    let later = later-token (isLast (x .first .token)) (tokensFrom b (modeAfter mode (x .first .token)) (x .first .past) (x .rest)) used t others rest .1 in
+    let later = tokens-later b mode at xs used t others e .1 in
     omega (arith, lex-eats mode at xs .forward, tokens-forward b (modeAfter mode (x .first .token)) (x .first .past) (x .rest) used t others later)
 
 one-before : (mode : Mode) (c : ℕ) (rest : Bytes) (x y u : Placed) (tail : List Placed) → x ≡ y → x ≡ u → isLast (x .token) ≡ false
@@ -211,8 +221,7 @@ tokens-local (suc b) (suc c) mode at xs ys [] t others e d l =
     )
 tokens-local (suc b) (suc c) mode at xs ys (u ∷ used) t others e d l =
     let x = lex mode at xs in
-    let rest : pick (isLast (x .first .token)) [] (tokensFrom b (modeAfter mode (x .first .token)) (x .first .past) (x .rest)) ≡ used ++ t ∷ others = cc in
-    let later = later-token (isLast (x .first .token)) (tokensFrom b (modeAfter mode (x .first .token)) (x .first .past) (x .rest)) used t others rest in
+    let later = tokens-later b mode at xs used t others e in
     let forward = tokens-forward b (modeAfter mode (x .first .token)) (x .first .past) (x .rest) used t others (later .1) in
     let s = lex-local mode (suc (t .past)) at xs ys d (omega arith) in
     let y = lex mode at ys in

@@ -13,7 +13,7 @@ use Rattle.meaning.specs.Allowed.{wordByte, nameByte}
 use Rattle.meaning.specs.Tokens.{Mode, outside, inside, naming, quoted, sign, malformed, Placed, Lexed, lexed, ahead, Gap, between, opening, commented, starred, gapAfter, Skipped, found, skippedEnd, skipOn, skip, run, wordAt, Quoting, plain, Turn, goesOn, closes, breaks, turn, Quotation, quoteOn, quotation, quotedAt, bracketAt, tokenAt, tokenPast, lex, modeAfter, isLast, tokensFrom, tokens}
 use Rattle.meaning.specs.Reading.{isTextEnd}
 use Rattle.meaning.proofs.reading.Basics.{impossible}
-use Rattle.meaning.proofs.reading.Local.{not-nothing, later-token}
+use Rattle.meaning.proofs.reading.Local.{not-nothing, tokens-later}
 
 -- the place after a token and the bytes after it make the whole; the end of the text takes no place of its own and has nothing after it
 pub record Whole (total : ℕ) (l : Lexed) : Type 0 where
@@ -128,8 +128,7 @@ end-among (suc b) mode at bytes total k [] t others e p =
     }
 end-among (suc b) mode at bytes total k (u ∷ used) t others e p =
     let x = lex mode at bytes in
-    let rest : pick (isLast (x .first .token)) [] (tokensFrom b (modeAfter mode (x .first .token)) (x .first .past) (x .rest)) ≡ used ++ t ∷ others = cc in
-    let later = later-token (isLast (x .first .token)) (tokensFrom b (modeAfter mode (x .first .token)) (x .first .past) (x .rest)) used t others rest .1 in
+    let later = tokens-later b mode at bytes used t others e .1 in
     end-among b (modeAfter mode (x .first .token)) (x .first .past) (x .rest) total (omega (arith, lex-whole mode at bytes .kept)) used t others later p
 
 -- 01: "end of text: its length"
