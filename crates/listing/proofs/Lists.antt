@@ -9,12 +9,12 @@ use borrow.Author.Tests.{lt-ltb, le-ltb, lt-leb, ne-eqb}
 use lib.Dec.{T, ltb, leb, eqb, ltb→lt}
 use lib.ListN.{length, length-append}
 use Rattle.meaning.specs.Choice.{Bytes, Name, pick, both, every}
-use Rattle.meaning.specs.Classes.{Class, classNumber, className, digit, upper, lower, alphabetic, blank}
+use Rattle.meaning.specs.Classes.{Class, classNumber, className}
 use Rattle.meaning.specs.Tree.{character, symbol, Element, letter, part, Condition, Expression, end, thenCharacter, thenSymbol, thenPart, thenCall, Sentence, Function, Table}
 use Rattle.meaning.specs.Allowed.{maxName, isByte, spelledName, spelledIdentifier, spelledElement, allowedSentence, someSentence, allowedFunction, allowed}
 use Rattle.meaning.specs.Tape.{tapeWord, symbolKind, partKind, conditionKind, equalsKind, closeKind, nextKind, endKind, functionKind, callKind, named, patternTape, truthNumber, conditionTape, conditionsTape, expressionTape, sentenceTape, sentencesTape, functionTape, tape}
 use Rattle.meaning.specs.Grammar.{truthByte}
-use Rattle.meaning.specs.Listing.{Quoted, unquoted, inString, afterCode, closeQuote, isCoded, afterCharacter, quotedCharacter, symbolText, partText, patternText, conditionText, conditionsText, expressionText, withoutBlank, sentenceText, sentencesText, functionText, listing}
+use Rattle.meaning.specs.Listing.{Quoted, unquoted, inString, afterCode, closeQuote, isCoded, afterCharacter, quotedCharacter, symbolText, patternText, conditionText, conditionsText, expressionText, withoutBlank, sentenceText, sentencesText, functionText, listing}
 use Rattle.meaning.proofs.laws.Passing.{both-left, both-right, every-head, every-tail}
 use Rattle.meaning.proofs.laws.Words.{by-class, class-below}
 use Rattle.meaning.proofs.roundtrip.Legible.{legible}

@@ -10,7 +10,7 @@ use lib.ListN.{length, take}
 use Rattle.meaning.specs.Choice.{Bytes, pick}
 use Rattle.meaning.specs.Classes.{inClass, alphabetic}
 use Rattle.meaning.specs.Allowed.{wordByte, nameByte}
-use Rattle.meaning.specs.Tokens.{Mode, outside, inside, naming, quoted, sign, malformed, Placed, Lexed, lexed, ahead, Gap, between, opening, commented, starred, gapAfter, Skipped, found, skippedEnd, skipOn, skip, run, wordAt, Quoting, plain, Turn, goesOn, closes, breaks, turn, Quotation, quoteOn, quotation, quotedAt, bracketAt, tokenAt, tokenPast, lex, modeAfter, isLast, tokensFrom, tokens}
+use Rattle.meaning.specs.Tokens.{Mode, outside, inside, naming, quoted, sign, malformed, Placed, Lexed, lexed, ahead, Gap, between, opening, commented, starred, gapAfter, Skipped, found, skippedEnd, skipOn, skip, run, wordAt, Quoting, plain, Turn, goesOn, closes, breaks, turn, Quotation, quoteOn, quotation, quotedAt, bracketAt, tokenAt, tokenPast, lex, modeAfter, tokensFrom, tokens}
 use Rattle.meaning.specs.Reading.{isTextEnd}
 use Rattle.meaning.proofs.reading.Basics.{impossible}
 use Rattle.meaning.proofs.reading.Local.{not-nothing, tokens-later}

@@ -17,7 +17,7 @@ use Rattle.templates.specs.declared.pattern.Pattern.{Pattern}
 use Rattle.templates.specs.Words.{headName, pieceAt}
 use Rattle.templates.specs.Scans.{Scan, scanned, andThen, oneMore, patternIn, patternAt}
 use Rattle.templates.specs.Measuring.{lengths, lengthsOf, addFirst, addSecond, addThird, longerLengths, cutLengths, variablePlace, pastLetter, pastPart, pastAll, measuredBy, variableBy, Measured, measuring, InPattern, Measures, MeasuresAll}
-use Rattle.templates.proofs.laws.Names.{name-here, name-fits-here}
+use Rattle.templates.proofs.laws.Names.{name-here}
 use Rattle.templates.proofs.laws.Scanning.{pattern-at, pattern-end, pattern-past, Fits, pattern-fits, NotBoth, Told, told}
 
 -- a letter's length counts before or after

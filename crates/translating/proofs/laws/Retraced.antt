@@ -13,7 +13,7 @@ use Rattle.meaning.specs.Choice.{Name, pick, both, isSome, every}
 use Rattle.meaning.specs.Names.{isReserved}
 use Rattle.meaning.specs.Classes.{Class, classNumber}
 use Rattle.meaning.specs.Tree.{character, symbol, Element, letter, part, Condition, Expression, end, thenCharacter, thenSymbol, thenPart, thenCall, Sentence, Function, Table}
-use Rattle.meaning.specs.Allowed.{maxFunctions, maxSentences, maxLetters, maxItems, member, distinct, parted, symbolsOf, spelledItems, comingAfterAll, allowedPattern, allowedConditions, allowedExpression, allowedSentence, allowedFunction, namesOf, allowed, isByte, wordByte, spelledName, spelledIdentifier, spelledElement, lettersIn, partsOf, itemsIn, nesting, someSentence}
+use Rattle.meaning.specs.Allowed.{maxFunctions, maxSentences, maxLetters, maxItems, member, distinct, parted, symbolsOf, spelledItems, comingAfterAll, allowedPattern, allowedConditions, allowedExpression, allowedSentence, allowedFunction, namesOf, allowed, isByte, spelledName, spelledIdentifier, spelledElement, lettersIn, partsOf, itemsIn, nesting, someSentence}
 use Rattle.meaning.specs.Allowed.{sentencesIn as sentencesOf}
 use Rattle.meaning.specs.Tape.{tapeWord, named, symbolKind, partKind, conditionKind, equalsKind, closeKind, nextKind, endKind, functionKind, callKind, truthNumber, patternTape, conditionsTape, expressionTape, sentenceTape, sentencesTape, functionTape, tape}
 use Rattle.templates.specs.declared.tape.Parts.{Parts}
