@@ -23,7 +23,10 @@ same-length-3 : tie.Need-same-length-3
 same-length-3 c = search needs
 
 returns : tie.Need-returns
-returns c = runs (c .before .before .before .before .before .before .before .before .before .run .ensures) (c .before .before .ending-number .ensures)
+returns c =
+    let at-ending-number = c .before .before in
+    let at-run = at-ending-number .before .before .before .before .before .before .before in
+    runs (at-run .run .ensures) (at-ending-number .ending-number .ensures)
 
 pub refal0-run-spec : {M : Type 1} → statement M
 refal0-run-spec =

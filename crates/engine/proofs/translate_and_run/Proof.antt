@@ -13,7 +13,10 @@ same-length : tie.Need-same-length
 same-length c = search needs
 
 returns : tie.Need-returns
-returns c = unrun-reports _ _ _ _ _ (read (c .before .before .before .before .before .before .before .before .before .before .before .args .table .now)) (c .before .before .before .translate-table .ensures) (c .if1 .taken)
+returns c =
+    let at-translate-table = c .before .before .before in
+    let entry = at-translate-table .before .before .before .before .before .before .before .before in
+    unrun-reports _ _ _ _ _ (read (entry .args .table .now)) (at-translate-table .translate-table .ensures) (c .if1 .taken)
 
 run-requires : tie.Need-run-requires
 run-requires c κs = search needs
@@ -34,7 +37,13 @@ same-length-5 : tie.Need-same-length-5
 same-length-5 c = search needs
 
 returns-2 : tie.Need-returns-2
-returns-2 c = run-reports _ _ _ _ _ (c .before .before .before .before .before .before .before .run .ensures) (c .ending-number .ensures) (c .before .before .before .before .before .before .before .before .before .before .before .before .if1 .left) (read (c .before .before .before .before .before .before .before .before .before .before .before .before .before .before .before .before .before .before .before .before .before .before .before .args .table .now)) (read-known (c .before .before .before .before .before .before .before .before .before .before .before .before .before .before .before .before .before .before .before .before .before .before .before .args .table .now) (c .before .before .before .before .before .before .before .before .before .before .before .before .before .before .before .before .before .before .before .before .before .before .shared-slice-known .given)) (c .before .before .before .before .before .before .before .before .before .before .before .before .before .before .before .translate-table .ensures)
+returns-2 c =
+    let at-run = c .before .before .before .before .before .before .before in
+    let at-if1 = at-run .before .before .before .before .before in
+    let at-translate-table = at-if1 .before .before .before in
+    let at-shared-slice-known = at-translate-table .before .before .before .before .before .before .before in
+    let entry = at-shared-slice-known .before in
+    run-reports _ _ _ _ _ (at-run .run .ensures) (c .ending-number .ensures) (at-if1 .if1 .left) (read (entry .args .table .now)) (read-known (entry .args .table .now) (at-shared-slice-known .shared-slice-known .given)) (at-translate-table .translate-table .ensures)
 
 pub translate-and-run-spec : {M : Type 1} → statement M
 translate-and-run-spec =

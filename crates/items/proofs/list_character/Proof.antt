@@ -10,7 +10,10 @@ put-quoting-requires : tie.Need-put-quoting-requires
 put-quoting-requires c κs = search needs
 
 put-character-requires : tie.Need-put-character-requires
-put-character-requires c κs = omega (arith, quoting-size (c .before .before .before .before .before .before .args .state), c .before .before .before .put-quoting .ensures .place)
+put-character-requires c κs =
+    let at-put-quoting = c .before .before .before in
+    let entry = at-put-quoting .before .before .before in
+    omega (arith, quoting-size (entry .args .state), at-put-quoting .put-quoting .ensures .place)
 
 is-coded-requires : tie.Need-is-coded-requires
 is-coded-requires c κs = search needs
@@ -19,13 +22,19 @@ same-length : tie.Need-same-length
 same-length c = search needs
 
 returns : tie.Need-returns
-returns c = record { state = rw (← (c .before .is-coded .ensures), c .if1 .taken); put = put-then (c .before .before .before .before .before .before .before .before .put-quoting .ensures) (c .before .before .before .before .put-character .ensures) }
+returns c =
+    let at-put-character = c .before .before .before .before in
+    let at-put-quoting = at-put-character .before .before .before .before in
+    record { state = rw (← (c .before .is-coded .ensures), c .if1 .taken); put = put-then (at-put-quoting .put-quoting .ensures) (at-put-character .put-character .ensures) }
 
 same-length-2 : tie.Need-same-length-2
 same-length-2 c = search needs
 
 returns-2 : tie.Need-returns-2
-returns-2 c = record { state = rw (← (c .before .is-coded .ensures), c .if1 .left); put = put-then (c .before .before .before .before .before .before .before .before .put-quoting .ensures) (c .before .before .before .before .put-character .ensures) }
+returns-2 c =
+    let at-put-character = c .before .before .before .before in
+    let at-put-quoting = at-put-character .before .before .before .before in
+    record { state = rw (← (c .before .is-coded .ensures), c .if1 .left); put = put-then (at-put-quoting .put-quoting .ensures) (at-put-character .put-character .ensures) }
 
 pub list-character-spec : {M : Type 1} → statement M
 list-character-spec =

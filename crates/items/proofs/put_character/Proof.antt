@@ -18,7 +18,12 @@ same-length : tie.Need-same-length
 same-length c = search needs
 
 returns : tie.Need-returns
-returns c = rw (← (c .before .before .before .before .before .before .before .before .before .is-coded .ensures), c .before .before .before .before .before .before .before .before .if1 .taken) (put-then (c .before .before .before .before .before .before .put .ensures) (c .before .before .put-decimal .ensures))
+returns c =
+    let at-put-decimal = c .before .before in
+    let at-put = at-put-decimal .before .before .before .before in
+    let at-if1 = at-put .before .before in
+    let at-is-coded = at-if1 .before in
+    rw (← (at-is-coded .is-coded .ensures), at-if1 .if1 .taken) (put-then (at-put .put .ensures) (at-put-decimal .put-decimal .ensures))
 
 is-escaped-requires : tie.Need-is-escaped-requires
 is-escaped-requires c κs = search needs
@@ -30,7 +35,13 @@ same-length-2 : tie.Need-same-length-2
 same-length-2 c = search needs
 
 returns-2 : tie.Need-returns-2
-returns-2 c = rw (← (c .before .before .before .before .before .before .before .is-coded .ensures), c .before .before .before .before .before .before .if1 .left, ← (c .before .before .before .before .before .is-escaped .ensures), c .before .before .before .before .if2 .taken) (c .before .before .put-escape .ensures)
+returns-2 c =
+    let at-put-escape = c .before .before in
+    let at-if2 = at-put-escape .before .before in
+    let at-is-escaped = at-if2 .before in
+    let at-if1 = at-is-escaped .before in
+    let at-is-coded = at-if1 .before in
+    rw (← (at-is-coded .is-coded .ensures), at-if1 .if1 .left, ← (at-is-escaped .is-escaped .ensures), at-if2 .if2 .taken) (at-put-escape .put-escape .ensures)
 
 put-escape-requires-2 : tie.Need-put-escape-requires-2
 put-escape-requires-2 c κs = search needs
@@ -39,7 +50,14 @@ same-length-3 : tie.Need-same-length-3
 same-length-3 c = search needs
 
 returns-3 : tie.Need-returns-3
-returns-3 c = rw (← (c .before .before .before .before .before .before .before .before .is-coded .ensures), c .before .before .before .before .before .before .before .if1 .left, ← (c .before .before .before .before .before .before .is-escaped .ensures), c .before .before .before .before .before .if2 .left, eq-eqb _ _ (c .before .before .before .before .if3 .taken)) (c .before .before .put-escape2 .ensures)
+returns-3 c =
+    let at-put-escape2 = c .before .before in
+    let at-if3 = at-put-escape2 .before .before in
+    let at-if2 = at-if3 .before in
+    let at-is-escaped = at-if2 .before in
+    let at-if1 = at-is-escaped .before in
+    let at-is-coded = at-if1 .before in
+    rw (← (at-is-coded .is-coded .ensures), at-if1 .if1 .left, ← (at-is-escaped .is-escaped .ensures), at-if2 .if2 .left, eq-eqb _ _ (at-if3 .if3 .taken)) (at-put-escape2 .put-escape2 .ensures)
 
 put-escape-requires-3 : tie.Need-put-escape-requires-3
 put-escape-requires-3 c κs = search needs
@@ -48,7 +66,15 @@ same-length-4 : tie.Need-same-length-4
 same-length-4 c = search needs
 
 returns-4 : tie.Need-returns-4
-returns-4 c = rw (← (c .before .before .before .before .before .before .before .before .before .is-coded .ensures), c .before .before .before .before .before .before .before .before .if1 .left, ← (c .before .before .before .before .before .before .before .is-escaped .ensures), c .before .before .before .before .before .before .if2 .left, ne-eqb _ _ (c .before .before .before .before .before .if3 .left), eq-eqb _ _ (c .before .before .before .before .if4 .taken)) (c .before .before .put-escape3 .ensures)
+returns-4 c =
+    let at-put-escape3 = c .before .before in
+    let at-if4 = at-put-escape3 .before .before in
+    let at-if3 = at-if4 .before in
+    let at-if2 = at-if3 .before in
+    let at-is-escaped = at-if2 .before in
+    let at-if1 = at-is-escaped .before in
+    let at-is-coded = at-if1 .before in
+    rw (← (at-is-coded .is-coded .ensures), at-if1 .if1 .left, ← (at-is-escaped .is-escaped .ensures), at-if2 .if2 .left, ne-eqb _ _ (at-if3 .if3 .left), eq-eqb _ _ (at-if4 .if4 .taken)) (at-put-escape3 .put-escape3 .ensures)
 
 put-requires-2 : tie.Need-put-requires-2
 put-requires-2 c κs = search needs
@@ -57,7 +83,15 @@ same-length-5 : tie.Need-same-length-5
 same-length-5 c = search needs
 
 returns-5 : tie.Need-returns-5
-returns-5 c = rw (← (c .before .before .before .before .before .before .before .before .before .is-coded .ensures), c .before .before .before .before .before .before .before .before .if1 .left, ← (c .before .before .before .before .before .before .before .is-escaped .ensures), c .before .before .before .before .before .before .if2 .left, ne-eqb _ _ (c .before .before .before .before .before .if3 .left), ne-eqb _ _ (c .before .before .before .before .if4 .left)) (c .before .before .put2 .ensures)
+returns-5 c =
+    let at-put2 = c .before .before in
+    let at-if4 = at-put2 .before .before in
+    let at-if3 = at-if4 .before in
+    let at-if2 = at-if3 .before in
+    let at-is-escaped = at-if2 .before in
+    let at-if1 = at-is-escaped .before in
+    let at-is-coded = at-if1 .before in
+    rw (← (at-is-coded .is-coded .ensures), at-if1 .if1 .left, ← (at-is-escaped .is-escaped .ensures), at-if2 .if2 .left, ne-eqb _ _ (at-if3 .if3 .left), ne-eqb _ _ (at-if4 .if4 .left)) (at-put2 .put2 .ensures)
 
 pub put-character-spec : {M : Type 1} → statement M
 put-character-spec =

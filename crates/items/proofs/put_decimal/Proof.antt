@@ -27,7 +27,13 @@ same-length-2 : tie.Need-same-length-2
 same-length-2 c = search needs
 
 returns-2 : tie.Need-returns-2
-returns-2 c = let n = c .before .before .before .before .before .before .before .args .number in let tens : n / 10 % 10 ≡ n / 10 = omega (arith, c .before .before .before .before .if2 .taken) in rw (le-ltb _ _ (c .before .before .before .before .before .if1 .left), lt-ltb _ _ (c .before .before .before .before .if2 .taken), ← tens) (c .before .before .put-tens .ensures)
+returns-2 c =
+    let at-put-tens = c .before .before in
+    let at-if2 = at-put-tens .before .before in
+    let at-if1 = at-if2 .before in
+    let entry = at-if1 .before .before in
+    let n = entry .args .number in
+    let tens : n / 10 % 10 ≡ n / 10 = omega (arith, at-if2 .if2 .taken) in rw (le-ltb _ _ (at-if1 .if1 .left), lt-ltb _ _ (at-if2 .if2 .taken), ← tens) (at-put-tens .put-tens .ensures)
 
 add-put-2 : tie.Need-add-put-2
 add-put-2 c = search needs
@@ -42,7 +48,12 @@ same-length-3 : tie.Need-same-length-3
 same-length-3 c = search needs
 
 returns-3 : tie.Need-returns-3
-returns-3 c = rw (le-ltb _ _ (c .before .before .before .before .before .before .before .before .before .if1 .left), le-ltb _ _ (c .before .before .before .before .before .before .before .before .if2 .left)) (put-then (c .before .before .before .before .before .before .put2 .ensures) (c .before .before .put-tens2 .ensures))
+returns-3 c =
+    let at-put-tens2 = c .before .before in
+    let at-put2 = at-put-tens2 .before .before .before .before in
+    let at-if2 = at-put2 .before .before in
+    let at-if1 = at-if2 .before in
+    rw (le-ltb _ _ (at-if1 .if1 .left), le-ltb _ _ (at-if2 .if2 .left)) (put-then (at-put2 .put2 .ensures) (at-put-tens2 .put-tens2 .ensures))
 
 pub put-decimal-spec : {M : Type 1} → statement M
 put-decimal-spec =

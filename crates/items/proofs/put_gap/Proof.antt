@@ -17,7 +17,11 @@ same-length : tie.Need-same-length
 same-length c = search needs
 
 returns-2 : tie.Need-returns-2
-returns-2 c = rw (← (c .before .before .before .before .before .is-start .ensures), c .before .before .before .before .if1 .left) (c .before .before .put .ensures)
+returns-2 c =
+    let at-put = c .before .before in
+    let at-if1 = at-put .before .before in
+    let at-is-start = at-if1 .before in
+    rw (← (at-is-start .is-start .ensures), at-if1 .if1 .left) (at-put .put .ensures)
 
 pub put-gap-spec : {M : Type 1} → statement M
 put-gap-spec = tie.close (tie.spec is-start-requires returns put-requires same-length returns-2)

@@ -16,13 +16,21 @@ put-gap-requires : tie.Need-put-gap-requires
 put-gap-requires c κs = search needs
 
 put-requires : tie.Need-put-requires
-put-requires c κs = omega (arith, gap-size (c .before .before .before .before .before .before .before .before .args .state), c .before .before .before .put-gap .ensures .place)
+put-requires c κs =
+    let at-put-gap = c .before .before .before in
+    let entry = at-put-gap .before .before .before .before .before in
+    omega (arith, gap-size (entry .args .state), at-put-gap .put-gap .ensures .place)
 
 same-length : tie.Need-same-length
 same-length c = search needs
 
 returns-2 : tie.Need-returns-2
-returns-2 c = rw (← (c .before .before .before .before .before .before .before .before .before .is-quoted .ensures), c .before .before .before .before .before .before .before .before .if1 .left) (put-then (c .before .before .before .before .before .before .put-gap .ensures) (c .before .before .put .ensures))
+returns-2 c =
+    let at-put = c .before .before in
+    let at-put-gap = at-put .before .before .before .before in
+    let at-if1 = at-put-gap .before .before in
+    let at-is-quoted = at-if1 .before in
+    rw (← (at-is-quoted .is-quoted .ensures), at-if1 .if1 .left) (put-then (at-put-gap .put-gap .ensures) (at-put .put .ensures))
 
 pub put-quoting-spec : {M : Type 1} → statement M
 put-quoting-spec =

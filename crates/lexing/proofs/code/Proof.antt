@@ -29,7 +29,9 @@ cast-t12 c = record { fits = c .before .before .before .before .loop .inv .small
 
 returns : tie.Need-returns Inv-loop μ-loop
 returns c =
-    code-stops _ _ _ _ _ (c .before .before .before .before .loop .inv) (c .before .before .before .loop-test .taken) (sym (c .before .is-digit .ensures) ∙ not-true _ (c .if1 .taken))
+    let at-loop-test = c .before .before .before in
+    let at-loop = at-loop-test .before in
+    code-stops _ _ _ _ _ (at-loop .loop .inv) (at-loop-test .loop-test .taken) (sym (c .before .is-digit .ensures) ∙ not-true _ (c .if1 .taken))
 
 mul-value : tie.Need-mul-value Inv-loop μ-loop
 mul-value c = omega arith
@@ -39,27 +41,35 @@ sub-value c = is-digit _ (sym (c .before .is-digit .ensures) ∙ not-false _ (c 
 
 cast-value : tie.Need-cast-value Inv-loop μ-loop
 cast-value c =
-    omega
-    (arith, digit-value (getD (c .before .before .before .before .before .before .args .text .now) (c .before .before .before .before .loop .at) 0) (sym (c .before .is-digit .ensures) ∙ not-false _ (c .if1 .left)))
+    let at-loop = c .before .before .before .before in
+    let entry = at-loop .before .before in
+    omega (arith, digit-value (getD (entry .args .text .now) (at-loop .loop .at) 0) (sym (c .before .is-digit .ensures) ∙ not-false _ (c .if1 .left)))
 
 add-value : tie.Need-add-value Inv-loop μ-loop
 add-value c =
-    omega
-    (arith, digit-value (getD (c .before .before .before .before .before .before .args .text .now) (c .before .before .before .before .loop .at) 0) (sym (c .before .is-digit .ensures) ∙ not-false _ (c .if1 .left)))
+    let at-loop = c .before .before .before .before in
+    let entry = at-loop .before .before in
+    omega (arith, digit-value (getD (entry .args .text .now) (at-loop .loop .at) 0) (sym (c .before .is-digit .ensures) ∙ not-false _ (c .if1 .left)))
 
 add-at : tie.Need-add-at Inv-loop μ-loop
 add-at c = omega arith
 
 returns-2 : tie.Need-returns-2 Inv-loop μ-loop
 returns-2 c =
-    code-breaks _ _ _ _ _ (c .before .before .before .before .before .loop .inv) (c .before .before .before .before .loop-test .taken) (sym (c .before .before .is-digit .ensures) ∙ not-false _ (c .before .if1 .left)) (c .if2 .taken)
+    let at-is-digit = c .before .before in
+    let at-loop-test = at-is-digit .before .before in
+    let at-loop = at-loop-test .before in
+    code-breaks _ _ _ _ _ (at-loop .loop .inv) (at-loop-test .loop-test .taken) (sym (at-is-digit .is-digit .ensures) ∙ not-false _ (c .before .if1 .left)) (c .if2 .taken)
 
 loop-less : tie.Need-loop-less Inv-loop μ-loop
 loop-less c = omega arith
 
 loop-again : tie.Need-loop-again Inv-loop μ-loop
 loop-again c =
-    code-goes _ _ _ _ _ (c .before .before .before .before .before .loop .inv) (c .before .before .before .before .loop-test .taken) (sym (c .before .before .is-digit .ensures) ∙ not-false _ (c .before .if1 .left)) (omega arith)
+    let at-is-digit = c .before .before in
+    let at-loop-test = at-is-digit .before .before in
+    let at-loop = at-loop-test .before in
+    code-goes _ _ _ _ _ (at-loop .loop .inv) (at-loop-test .loop-test .taken) (sym (at-is-digit .is-digit .ensures) ∙ not-false _ (c .before .if1 .left)) (omega arith)
 
 cast-t14 : tie.Need-cast-t14 Inv-loop μ-loop
 cast-t14 c = record { fits = c .before .loop .inv .small }

@@ -33,8 +33,10 @@ add-past c = omega arith
 
 returns : tie.Need-returns Inv-loop μ-loop
 returns c =
-    star-ends _ _ _ (c .before .before .before .before .loop-test .taken) (eq-eqb _ 42 (c .before .before .if1 .taken)) (sym (c .before .byte-ahead .ensures) ∙ c .if2 .taken)
-    (c .before .before .before .before .before .loop .inv)
+    let at-if1 = c .before .before in
+    let at-loop-test = at-if1 .before .before in
+    let at-loop = at-loop-test .before in
+    star-ends _ _ _ (at-loop-test .loop-test .taken) (eq-eqb _ 42 (at-if1 .if1 .taken)) (sym (c .before .byte-ahead .ensures) ∙ c .if2 .taken) (at-loop .loop .inv)
 
 add-at : tie.Need-add-at Inv-loop μ-loop
 add-at c = omega arith
@@ -44,8 +46,10 @@ loop-less c = omega arith
 
 loop-again : tie.Need-loop-again Inv-loop μ-loop
 loop-again c =
-    star-goes _ _ _ (c .before .before .before .before .loop-test .taken) (eq-eqb _ 42 (c .before .before .if1 .taken)) (sym (c .before .byte-ahead .ensures) ∙ c .if2 .left)
-    (c .before .before .before .before .before .loop .inv)
+    let at-if1 = c .before .before in
+    let at-loop-test = at-if1 .before .before in
+    let at-loop = at-loop-test .before in
+    star-goes _ _ _ (at-loop-test .loop-test .taken) (eq-eqb _ 42 (at-if1 .if1 .taken)) (sym (c .before .byte-ahead .ensures) ∙ c .if2 .left) (at-loop .loop .inv)
 
 add-plain-past : tie.Need-add-plain-past Inv-loop μ-loop
 add-plain-past c = omega arith
@@ -58,7 +62,9 @@ loop-less-2 c = omega arith
 
 loop-again-2 : tie.Need-loop-again-2 Inv-loop μ-loop
 loop-again-2 c =
-    plain-joins _ _ _ _ (plain-goes _ _ _ (c .before .before .before .loop-test .taken) (ne-eqb _ 42 (c .before .if1 .left)) (c .before .before .before .before .loop .inv)) (c .plain-past .ensures)
+    let at-loop-test = c .before .before .before in
+    let at-loop = at-loop-test .before in
+    plain-joins _ _ _ _ (plain-goes _ _ _ (at-loop-test .loop-test .taken) (ne-eqb _ 42 (c .before .if1 .left)) (at-loop .loop .inv)) (c .plain-past .ensures)
 
 returns-2 : tie.Need-returns-2 Inv-loop μ-loop
 returns-2 c = endless _ _ _ (c .loop-test .left) (c .before .loop .inv)

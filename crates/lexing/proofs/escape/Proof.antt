@@ -24,11 +24,13 @@ sub-code c = is-digit _ (sym (c .before .is-digit .ensures) ∙ c .if2 .taken) .
 
 cast-code : tie.Need-cast-code
 cast-code c =
-    omega (arith, digit-value (getD (c .before .before .before .before .before .before .args .text .now) (c .before .before .before .before .before .before .args .at) 0) (sym (c .before .is-digit .ensures) ∙ c .if2 .taken))
+    let entry = c .before .before .before .before .before .before in
+    omega (arith, digit-value (getD (entry .args .text .now) (entry .args .at) 0) (sym (c .before .is-digit .ensures) ∙ c .if2 .taken))
 
 code-requires : tie.Need-code-requires
 code-requires c κs =
-    omega (arith, digit-value (getD (c .before .before .before .before .before .before .args .text .now) (c .before .before .before .before .before .before .args .at) 0) (sym (c .before .is-digit .ensures) ∙ c .if2 .taken))
+    let entry = c .before .before .before .before .before .before in
+    omega (arith, digit-value (getD (entry .args .text .now) (entry .args .at) 0) (sym (c .before .is-digit .ensures) ∙ c .if2 .taken))
 
 returns-2 : tie.Need-returns-2
 returns-2 c = stands-given _ _ _ _ (c .before .before .if1 .left) (omega arith) _ (escape-same _ (c .match .keys1))
@@ -44,16 +46,18 @@ returns-5 c = stands-nothing _ _ _ _ (c .before .before .if1 .left) (omega arith
 
 returns-6 : tie.Need-returns-6
 returns-6 c =
-    let m = c .before .before .before .match .rest in
-    stands-later _ _ _ _ (c .before .before .before .before .before .if1 .left) (omega arith) _ _
-    (λ characters. escape-digit _ (m .0 .0 .0 .1) (m .0 .0 .1) (m .0 .1) (m .1) characters (sym (c .before .before .is-digit .ensures) ∙ c .before .if2 .taken))
-    (c .code .ensures)
+    let at-is-digit = c .before .before in
+    let at-match = at-is-digit .before in
+    let at-if1 = at-match .before .before in
+    let m = at-match .match .rest in
+    stands-later _ _ _ _ (at-if1 .if1 .left) (omega arith) _ _ (λ characters. escape-digit _ (m .0 .0 .0 .1) (m .0 .0 .1) (m .0 .1) (m .1) characters (sym (at-is-digit .is-digit .ensures) ∙ c .before .if2 .taken)) (c .code .ensures)
 
 returns-7 : tie.Need-returns-7
 returns-7 c =
-    let m = c .before .before .match .rest in
-    stands-broken _ _ _ _ (c .before .before .before .before .if1 .left) (omega arith)
-    (λ characters. escape-other _ (m .0 .0 .0 .1) (m .0 .0 .1) (m .0 .1) (m .1) characters (sym (c .before .is-digit .ensures) ∙ c .if2 .left))
+    let at-match = c .before .before in
+    let at-if1 = at-match .before .before in
+    let m = at-match .match .rest in
+    stands-broken _ _ _ _ (at-if1 .if1 .left) (omega arith) (λ characters. escape-other _ (m .0 .0 .0 .1) (m .0 .0 .1) (m .0 .1) (m .1) characters (sym (c .before .is-digit .ensures) ∙ c .if2 .left))
 
 pub escape-spec : {M : Type 1} → statement M
 escape-spec =

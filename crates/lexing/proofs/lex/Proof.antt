@@ -20,17 +20,18 @@ enum-known-slash c = search needs
 
 returns : tie.Need-returns
 returns c =
-    let a = c .before .before .before .before .before .before .args in
-    rw (lex-found (a .text .now) (modeOf (a .mode)) (a .from) _ (sym (c .before .before .before .before .skip .ensures) ∙ ap (skippedOf (a .text .now)) (c .before .before .at .given .1)))
-    (c .token-at .ensures)
+    let at-at = c .before .before in
+    let at-skip = at-at .before .before in
+    let entry = at-skip .before .before in
+    let a = entry .args in
+    rw (lex-found (a .text .now) (modeOf (a .mode)) (a .from) _ (sym (at-skip .skip .ensures) ∙ ap (skippedOf (a .text .now)) (at-at .at .given .1))) (c .token-at .ensures)
 
 returns-2 : tie.Need-returns-2
 returns-2 c =
-    let a = c .before .before .before .before .before .args in
-    record {
-      same = rw (lex-unclosed (a .text .now) (modeOf (a .mode)) (a .from) _ _ (sym (c .before .before .before .skip .ensures) ∙ ap (skippedOf (a .text .now)) (c .before .slash .given .1)));
-      sound = tt;
-    }
+    let at-skip = c .before .before .before in
+    let entry = at-skip .before .before in
+    let a = entry .args in
+    record { same = rw (lex-unclosed (a .text .now) (modeOf (a .mode)) (a .from) _ _ (sym (at-skip .skip .ensures) ∙ ap (skippedOf (a .text .now)) (c .before .slash .given .1))); sound = tt }
 
 pub lex-spec : {M : Type 1} → statement M
 lex-spec =

@@ -30,36 +30,50 @@ add-count c = let i = c .before .before .before .before .loop .inv in omega arit
 
 loop-less : tie.Need-loop-less Inv-loop μ-loop
 loop-less c =
-    let p = given-passes _ _ _ _ (c .before .before .before .before .loop .inv) _ (c .before .before .before .next-character .ensures) _ _ (c .before .past .given .1) in omega arith
+    let at-next-character = c .before .before .before in
+    let at-loop = at-next-character .before in
+    let p = given-passes _ _ _ _ (at-loop .loop .inv) _ (at-next-character .next-character .ensures) _ _ (c .before .past .given .1) in
+    omega arith
 
 loop-again : tie.Need-loop-again Inv-loop μ-loop
 loop-again c =
-    quoted-given _ _ _ _ (c .before .before .before .before .loop .inv) _ (c .before .before .before .next-character .ensures) _ _ (c .before .past .given .1)
+    let at-next-character = c .before .before .before in
+    let at-loop = at-next-character .before in
+    quoted-given _ _ _ _ (at-loop .loop .inv) _ (at-next-character .next-character .ensures) _ _ (c .before .past .given .1)
 
 enum-known-past-2 : tie.Need-enum-known-past-2 Inv-loop μ-loop
 enum-known-past-2 c = search needs
 
 loop-less-2 : tie.Need-loop-less-2 Inv-loop μ-loop
 loop-less-2 c =
-    let p = nothing-passes _ _ _ _ (c .before .before .before .before .loop .inv) _ (c .before .before .before .next-character .ensures) _ (c .before .past2 .given .1) in omega arith
+    let at-next-character = c .before .before .before in
+    let at-loop = at-next-character .before in
+    let p = nothing-passes _ _ _ _ (at-loop .loop .inv) _ (at-next-character .next-character .ensures) _ (c .before .past2 .given .1) in
+    omega arith
 
 loop-again-2 : tie.Need-loop-again-2 Inv-loop μ-loop
 loop-again-2 c =
-    quoted-nothing _ _ _ _ (c .before .before .before .before .loop .inv) _ (c .before .before .before .next-character .ensures) _ (c .before .past2 .given .1)
+    let at-next-character = c .before .before .before in
+    let at-loop = at-next-character .before in
+    quoted-nothing _ _ _ _ (at-loop .loop .inv) _ (at-next-character .next-character .ensures) _ (c .before .past2 .given .1)
 
 enum-known-past-3 : tie.Need-enum-known-past-3 Inv-loop μ-loop
 enum-known-past-3 c = search needs
 
 returns : tie.Need-returns Inv-loop μ-loop
 returns c =
-    quoted-closed _ _ _ _ (c .before .before .before .before .loop .inv) _ (c .before .before .before .next-character .ensures) _ (c .before .past3 .given .1)
+    let at-next-character = c .before .before .before in
+    let at-loop = at-next-character .before in
+    quoted-closed _ _ _ _ (at-loop .loop .inv) _ (at-next-character .next-character .ensures) _ (c .before .past3 .given .1)
 
 enum-known-past-4 : tie.Need-enum-known-past-4 Inv-loop μ-loop
 enum-known-past-4 c = search needs
 
 returns-2 : tie.Need-returns-2 Inv-loop μ-loop
 returns-2 c =
-    quoted-broken _ _ _ _ (c .before .before .before .before .loop .inv) _ (c .before .before .before .next-character .ensures) _ (c .before .past4 .given .1)
+    let at-next-character = c .before .before .before in
+    let at-loop = at-next-character .before in
+    quoted-broken _ _ _ _ (at-loop .loop .inv) _ (at-next-character .next-character .ensures) _ (c .before .past4 .given .1)
 
 pub quoted-at-spec : {M : Type 1} → statement M
 quoted-at-spec =

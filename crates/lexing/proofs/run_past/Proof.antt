@@ -27,7 +27,9 @@ passes-requires c κs = search needs
 
 returns : tie.Need-returns Inv-loop μ-loop
 returns c =
-    run-stops _ _ _ _ (c .before .before .before .loop-test .taken) (sym (c .before .passes .ensures) ∙ not-true _ (c .if1 .taken)) (c .before .before .before .before .loop .inv)
+    let at-loop-test = c .before .before .before in
+    let at-loop = at-loop-test .before in
+    run-stops _ _ _ _ (at-loop-test .loop-test .taken) (sym (c .before .passes .ensures) ∙ not-true _ (c .if1 .taken)) (at-loop .loop .inv)
 
 add-at : tie.Need-add-at Inv-loop μ-loop
 add-at c = omega arith
@@ -37,7 +39,9 @@ loop-less c = omega arith
 
 loop-again : tie.Need-loop-again Inv-loop μ-loop
 loop-again c =
-    run-goes _ _ _ _ (c .before .before .before .loop-test .taken) (sym (c .before .passes .ensures) ∙ not-false _ (c .if1 .left)) (c .before .before .before .before .loop .inv)
+    let at-loop-test = c .before .before .before in
+    let at-loop = at-loop-test .before in
+    run-goes _ _ _ _ (at-loop-test .loop-test .taken) (sym (c .before .passes .ensures) ∙ not-false _ (c .if1 .left)) (at-loop .loop .inv)
 
 returns-2 : tie.Need-returns-2 Inv-loop μ-loop
 returns-2 c = run-ends _ _ _ _ (c .loop-test .left) (c .before .loop .inv)

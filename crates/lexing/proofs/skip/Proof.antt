@@ -41,7 +41,9 @@ loop-less c = omega arith
 
 loop-again : tie.Need-loop-again Inv-loop μ-loop
 loop-again c =
-    c .before .before .before .before .loop .inv ∙ blank-passed _ _ (c .before .before .before .loop-test .taken) (sym (c .before .is-blank .ensures) ∙ c .if1 .taken)
+    let at-loop-test = c .before .before .before in
+    let at-loop = at-loop-test .before in
+    at-loop .loop .inv ∙ blank-passed _ _ (at-loop-test .loop-test .taken) (sym (c .before .is-blank .ensures) ∙ c .if1 .taken)
 
 add-byte-ahead : tie.Need-add-byte-ahead Inv-loop μ-loop
 add-byte-ahead c = omega arith
@@ -68,30 +70,34 @@ comment-done : (c : lts.After-comment-past (is-blank-reads.Asked, is-blank-reads
     → Tokens.skip Tokens.between (c .before .before .before .before .before .before .before .before .before .before .args .from) (drop (c .before .before .before .before .before .before .before .before .before .before .args .from) (c .before .before .before .before .before .before .before .before .before .before .args .text .now))
     ≡ commentOf (c .before .before .before .before .before .before .before .before .before .before .args .text .now) (c .before .before .before .before .before .before .before .before .loop .at) comment
 comment-done c comment e =
-    c .before .before .before .before .before .before .before .before .loop .inv
-    ∙ comment-passed _ _ _ (c .before .before .before .before .before .before .before .loop-test .taken) (sym (c .before .before .before .before .before .is-blank .ensures) ∙ c .before .before .before .before .if1 .left) (eq-eqb _ 47 (c .before .before .before .if2 .taken)) (sym (c .before .before .byte-ahead .ensures) ∙ c .before .if3 .taken) (c .comment-past .ensures)
-    ∙ ap (commentOf (c .before .before .before .before .before .before .before .before .before .before .args .text .now) (c .before .before .before .before .before .before .before .before .loop .at)) e
+    let at-byte-ahead = c .before .before in
+    let at-if2 = at-byte-ahead .before in
+    let at-if1 = at-if2 .before in
+    let at-is-blank = at-if1 .before in
+    let at-loop-test = at-is-blank .before .before in
+    let at-loop = at-loop-test .before in
+    let entry = at-loop .before .before in
+    at-loop .loop .inv ∙ comment-passed _ _ _ (at-loop-test .loop-test .taken) (sym (at-is-blank .is-blank .ensures) ∙ at-if1 .if1 .left) (eq-eqb _ 47 (at-if2 .if2 .taken)) (sym (at-byte-ahead .byte-ahead .ensures) ∙ c .before .if3 .taken) (c .comment-past .ensures) ∙ ap (commentOf (entry .args .text .now) (at-loop .loop .at)) e
 
 returns : tie.Need-returns Inv-loop μ-loop
 returns c = sym (comment-done (c .before .before .before) _ (c .before .past2 .given .1))
 
 loop-less-2 : tie.Need-loop-less-2 Inv-loop μ-loop
 loop-less-2 c =
-    let onward : c .before .before .before .before .before .before .before .before .before .before .before .loop .at + 2 ≤ c .before .past .given .0 .0
-    = subst (EndsAfter _) (c .before .past .given .1) (c .before .before .before .comment-past .ensures .after)
-    in
-    omega arith
+    let at-comment-past = c .before .before .before in
+    let at-loop = at-comment-past .before .before .before .before .before .before .before .before in
+    let onward : at-loop .loop .at + 2 ≤ c .before .past .given .0 .0 = subst (EndsAfter _) (c .before .past .given .1) (at-comment-past .comment-past .ensures .after) in omega arith
 
 loop-again-2 : tie.Need-loop-again-2 Inv-loop μ-loop
 loop-again-2 c = comment-done (c .before .before .before) _ (c .before .past .given .1)
 
 returns-2 : tie.Need-returns-2 Inv-loop μ-loop
 returns-2 c =
-    let l = c .before .before .before .before .before .loop in
-    sym
-    (l .inv
-    ∙ token-found _ _ (c .before .before .before .before .loop-test .taken) (sym (c .before .before .is-blank .ensures) ∙ c .before .if1 .left)
-    (⊎-elim (λ w. rw (eq-eqb _ 47 (w .0 .taken)) (sym (w .1 .ensures) ∙ w .2 .left)) (λ w. rw (ne-eqb _ 47 (w .left))) (c .if2 .came)))
+    let at-is-blank = c .before .before in
+    let at-loop-test = at-is-blank .before .before in
+    let at-loop = at-loop-test .before in
+    let l = at-loop .loop in
+    sym (l .inv ∙ token-found _ _ (at-loop-test .loop-test .taken) (sym (at-is-blank .is-blank .ensures) ∙ c .before .if1 .left) (⊎-elim (λ w. rw (eq-eqb _ 47 (w .0 .taken)) (sym (w .1 .ensures) ∙ w .2 .left)) (λ w. rw (ne-eqb _ 47 (w .left))) (c .if2 .came)))
 
 returns-3 : tie.Need-returns-3 Inv-loop μ-loop
 returns-3 c = sym (c .before .loop .inv ∙ text-ends _ _ (c .loop-test .left))

@@ -21,7 +21,10 @@ word-at-requires c κs = record { inside = c .before .before .before .if1 .left;
 
 returns-2 : tie.Need-returns-2
 returns-2 c =
-    rw (at-letter _ (modeOf (c .before .before .before .before .before .before .args .mode)) _ (c .before .before .before .before .if1 .left) (sym (c .before .before .is-letter .ensures) ∙ c .before .if2 .taken)) (c .word-at .ensures)
+    let at-is-letter = c .before .before in
+    let at-if1 = at-is-letter .before .before in
+    let entry = at-if1 .before .before in
+    rw (at-letter _ (modeOf (entry .args .mode)) _ (at-if1 .if1 .left) (sym (at-is-letter .is-letter .ensures) ∙ c .before .if2 .taken)) (c .word-at .ensures)
 
 quoted-at-requires : tie.Need-quoted-at-requires
 quoted-at-requires c κs = search needs
@@ -34,17 +37,28 @@ add-t13 c = search needs
 
 returns-3 : tie.Need-returns-3
 returns-3 c =
-    rw (at-quote _ (modeOf (c .before .before .before .before .before .before .before .args .mode)) _ (c .before .before .before .before .before .if1 .left) (sym (c .before .before .before .is-letter .ensures) ∙ c .before .before .if2 .left) (c .before .match .keys1)) (c .quoted-at .ensures)
+    let at-if2 = c .before .before in
+    let at-is-letter = at-if2 .before in
+    let at-if1 = at-is-letter .before .before in
+    let entry = at-if1 .before .before in
+    rw (at-quote _ (modeOf (entry .args .mode)) _ (at-if1 .if1 .left) (sym (at-is-letter .is-letter .ensures) ∙ at-if2 .if2 .left) (c .before .match .keys1)) (c .quoted-at .ensures)
 
 returns-4 : tie.Need-returns-4
 returns-4 c =
-    rw (at-bracket _ (modeOf (c .before .before .before .before .before .before .before .args .mode)) _ (c .before .before .before .before .before .if1 .left) (sym (c .before .before .before .is-letter .ensures) ∙ c .before .before .if2 .left) (c .before .match .keys2)) (c .bracket-at .ensures)
+    let at-if2 = c .before .before in
+    let at-is-letter = at-if2 .before in
+    let at-if1 = at-is-letter .before .before in
+    let entry = at-if1 .before .before in
+    rw (at-bracket _ (modeOf (entry .args .mode)) _ (at-if1 .if1 .left) (sym (at-is-letter .is-letter .ensures) ∙ at-if2 .if2 .left) (c .before .match .keys2)) (c .bracket-at .ensures)
 
 returns-5 : tie.Need-returns-5
 returns-5 c =
-    let a = c .before .before .before .before .before .before .args in
+    let at-is-letter = c .before .before in
+    let at-if1 = at-is-letter .before .before in
+    let entry = at-if1 .before .before in
+    let a = entry .args in
     let m = c .match .rest in
-    let e = at-sign (a .text .now) (modeOf (a .mode)) (a .at) (c .before .before .before .before .if1 .left) (sym (c .before .before .is-letter .ensures) ∙ c .before .if2 .left) (m .0 .1) (m .1) in
+    let e = at-sign (a .text .now) (modeOf (a .mode)) (a .at) (at-if1 .if1 .left) (sym (at-is-letter .is-letter .ensures) ∙ c .before .if2 .left) (m .0 .1) (m .1) in
     record { same = rw (e, add-one); sound = tt }
 
 pub token-at-spec : {M : Type 1} → statement M

@@ -17,10 +17,21 @@ same-length : tie.Need-same-length
 same-length c = search needs
 
 returns : tie.Need-returns
-returns c = rw (← (take-counted (c .before .before .before .before .before .before .before .before .before .before .args .tape .now) (c .before .before .before .before .before .before .before .before .before .before .args .words) (c .before .before .before .before .before .before .before .list-length-arg .given .0) (c .before .before .before .before .before .before .before .before .counted .ensures))) (leaves-listing (c .before .before .before .before .before .before .list-length .ensures) (c .before .before .before .before .before .if1 .taken) (c .before .before .list-words .ensures))
+returns c =
+    let at-list-words = c .before .before in
+    let at-if1 = at-list-words .before .before .before in
+    let at-list-length = at-if1 .before in
+    let at-list-length-arg = at-list-length .before in
+    let at-counted = at-list-length-arg .before in
+    let entry = at-counted .before .before in
+    rw (← (take-counted (entry .args .tape .now) (entry .args .words) (at-list-length-arg .list-length-arg .given .0) (at-counted .counted .ensures))) (leaves-listing (at-list-length .list-length .ensures) (at-if1 .if1 .taken) (at-list-words .list-words .ensures))
 
 returns-2 : tie.Need-returns-2
-returns-2 c = rw (← (take-counted (c .before .before .before .before .before .args .tape .now) (c .before .before .before .before .before .args .words) (c .before .before .list-length-arg .given .0) (c .before .before .before .counted .ensures))) (leaves-nothing (c .before .list-length .ensures) (c .if1 .left))
+returns-2 c =
+    let at-list-length-arg = c .before .before in
+    let at-counted = at-list-length-arg .before in
+    let entry = at-counted .before .before in
+    rw (← (take-counted (entry .args .tape .now) (entry .args .words) (at-list-length-arg .list-length-arg .given .0) (at-counted .counted .ensures))) (leaves-nothing (c .before .list-length .ensures) (c .if1 .left))
 
 pub list-spec : {M : Type 1} → statement M
 list-spec =

@@ -28,7 +28,11 @@ put-refusal-requires : tie.Need-put-refusal-requires
 put-refusal-requires c κs = search needs
 
 returns : tie.Need-returns
-returns c = rw (c .before .before .before .before .before .before .run-table .ensures .refusal (sym (c .before .before .before .is-refusal .ensures) ∙ c .before .before .if1 .taken)) (c .put-refusal .ensures)
+returns c =
+    let at-if1 = c .before .before in
+    let at-is-refusal = at-if1 .before in
+    let at-run-table = at-is-refusal .before .before .before in
+    rw (at-run-table .run-table .ensures .refusal (sym (at-is-refusal .is-refusal .ensures) ∙ at-if1 .if1 .taken)) (c .put-refusal .ensures)
 
 array-share-prefix-record : tie.Need-array-share-prefix-record
 array-share-prefix-record c = search needs
@@ -43,10 +47,20 @@ slice-aggregate-put-result-2 : tie.Need-slice-aggregate-put-result-2
 slice-aggregate-put-result-2 c = sym (length-take-le _ _ (c .before .before .before .before .before .before .before .run-table .ensures .result))
 
 put-result-requires : tie.Need-put-result-requires
-put-result-requires c κs = let told = c .before .before .before .before .before .before .before .run-table .ensures in rw (length-take-le _ _ (told .emissions), length-take-le _ _ (told .result)) (omega (arith, c .before .before .before .before .before .record2 .given, c .before .before .before .before .before .before .stack-out2 .given, c .before .before .put-result-arg .given .0 .1))
+put-result-requires c κs =
+    let at-put-result-arg = c .before .before in
+    let at-record2 = at-put-result-arg .before .before .before in
+    let at-stack-out2 = at-record2 .before in
+    let at-run-table = at-stack-out2 .before in
+    let told = at-run-table .run-table .ensures in
+    rw (length-take-le _ _ (told .emissions), length-take-le _ _ (told .result)) (omega (arith, at-record2 .record2 .given, at-stack-out2 .stack-out2 .given, at-put-result-arg .put-result-arg .given .0 .1))
 
 returns-2 : tie.Need-returns-2
-returns-2 c = rw (c .before .before .before .before .before .before .before .before .run-table .ensures .run (sym (c .before .before .before .before .before .is-refusal .ensures) ∙ c .before .before .before .before .if1 .left)) (c .put-result .ensures)
+returns-2 c =
+    let at-if1 = c .before .before .before .before in
+    let at-is-refusal = at-if1 .before in
+    let at-run-table = at-is-refusal .before .before .before in
+    rw (at-run-table .run-table .ensures .run (sym (at-is-refusal .is-refusal .ensures) ∙ at-if1 .if1 .left)) (c .put-result .ensures)
 
 pub respond-spec : {M : Type 1} → statement M
 respond-spec =

@@ -26,7 +26,12 @@ same-length-2 : tie.Need-same-length-2
 same-length-2 c = search needs
 
 returns : tie.Need-returns
-returns c = shows (rw (c .before .before .before .before .before .before .before .before .before .before .before .before .code-room .ensures, c .before .before .before .before .before .before .before .before .before .before .before .cell-room .ensures, c .before .before .before .before .before .before .before .before .before .before .before .before .before .before .before .before .before .pre .0, c .before .before .before .before .before .before .before .before .before .before .before .before .before .before .before .before .before .pre .1) at (c .before .before .before .before .before .before .translate-and-run .ensures))
+returns c =
+    let at-translate-and-run = c .before .before .before .before .before .before in
+    let at-cell-room = at-translate-and-run .before .before .before .before .before in
+    let at-code-room = at-cell-room .before in
+    let entry = at-code-room .before .before .before .before .before in
+    shows (rw (at-code-room .code-room .ensures, at-cell-room .cell-room .ensures, entry .pre .0, entry .pre .1) at (at-translate-and-run .translate-and-run .ensures))
 
 pub run-table-spec : {M : Type 1} → statement M
 run-table-spec =

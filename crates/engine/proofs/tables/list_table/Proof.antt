@@ -29,7 +29,13 @@ same-length : tie.Need-same-length
 same-length c = search needs
 
 returns-2 : tie.Need-returns-2
-returns-2 c = rw (c .tell-of-buffer .ensures) (accepted-listed (c .before .before .before .before .before .before .before .before .read .ensures) (c .before .before .before .before .before .before .before .number .ensures) (c .before .before .before .before .before .before .before .before .before .before .before .before .shared-slice-known .given) (c .before .before .before .before .before .before .if1 .left) (c .before .before .before .list .ensures))
+returns-2 c =
+    let at-list = c .before .before .before in
+    let at-if1 = at-list .before .before .before in
+    let at-number = at-if1 .before in
+    let at-read = at-number .before in
+    let at-shared-slice-known = at-read .before .before .before .before in
+    rw (c .tell-of-buffer .ensures) (accepted-listed (at-read .read .ensures) (at-number .number .ensures) (at-shared-slice-known .shared-slice-known .given) (at-if1 .if1 .left) (at-list .list .ensures))
 
 pub list-table-spec : {M : Type 1} → statement M
 list-table-spec =

@@ -23,7 +23,11 @@ same-length : tie.Need-same-length
 same-length c = search needs
 
 returns : tie.Need-returns
-returns c = rw (c .tell .ensures) (refused-translated (c .before .before .before .before .before .before .before .before .read .ensures) (c .before .before .before .before .before .before .before .number .ensures) (c .before .if1 .taken) (c .before .before .before .before .translate .ensures))
+returns c =
+    let at-translate = c .before .before .before .before in
+    let at-number = at-translate .before .before .before in
+    let at-read = at-number .before in
+    rw (c .tell .ensures) (refused-translated (at-read .read .ensures) (at-number .number .ensures) (c .before .if1 .taken) (at-translate .translate .ensures))
 
 tell-of-buffer-requires : tie.Need-tell-of-buffer-requires
 tell-of-buffer-requires c κs = search needs
@@ -32,7 +36,12 @@ same-length-2 : tie.Need-same-length-2
 same-length-2 c = search needs
 
 returns-2 : tie.Need-returns-2
-returns-2 c = rw (c .tell-of-buffer .ensures) (accepted-translated (c .before .before .before .before .before .before .before .before .read .ensures) (c .before .before .before .before .before .before .before .number .ensures) (c .before .before .before .before .before .before .before .before .before .before .before .before .shared-slice-known .given) (c .before .if1 .left) (c .before .before .before .before .translate .ensures))
+returns-2 c =
+    let at-translate = c .before .before .before .before in
+    let at-number = at-translate .before .before .before in
+    let at-read = at-number .before in
+    let at-shared-slice-known = at-read .before .before .before .before in
+    rw (c .tell-of-buffer .ensures) (accepted-translated (at-read .read .ensures) (at-number .number .ensures) (at-shared-slice-known .shared-slice-known .given) (c .before .if1 .left) (at-translate .translate .ensures))
 
 pub translate-table-spec : {M : Type 1} → statement M
 translate-table-spec =

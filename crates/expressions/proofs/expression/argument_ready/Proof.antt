@@ -14,7 +14,10 @@ same-length : tie.Need-same-length
 same-length c = search needs
 
 returns : tie.Need-returns
-returns c = wrote-more (c .before .before .before .before .before .before .put-operands .ensures) (c .before .before .put-operands2 .ensures)
+returns c =
+    let at-put-operands2 = c .before .before in
+    let at-put-operands = at-put-operands2 .before .before .before .before in
+    wrote-more (at-put-operands .put-operands .ensures) (at-put-operands2 .put-operands2 .ensures)
 
 pub argument-ready-spec : {M : Type 1} → statement M
 argument-ready-spec =

@@ -26,7 +26,9 @@ add-is-emission : tie.Need-add-is-emission
 add-is-emission c = search needs
 
 is-emission-requires : tie.Need-is-emission-requires
-is-emission-requires c κs = omega (arith, name-fits-here (c .before .before .before .before .before .before .before .args .tape .now) (getD (c .before .before .before .before .before .before .before .args .calls .now) (c .before .before .before .before .before .before .before .args .walk .depth - 1) 0) (c .before .before .before .before .before .before .before .pre .0 .2), c .name-size .ensures)
+is-emission-requires c κs =
+    let entry = c .before .before .before .before .before .before .before in
+    omega (arith, name-fits-here (entry .args .tape .now) (getD (entry .args .calls .now) (entry .args .walk .depth - 1) 0) (entry .pre .0 .2), c .name-size .ensures)
 
 is-last-requires : tie.Need-is-last-requires
 is-last-requires c κs = search needs
@@ -47,8 +49,15 @@ same-length : tie.Need-same-length
 same-length c = search needs
 
 returns : tie.Need-returns
-returns c = let emission = c .before .before .before .before .before .before .before .before .is-emission .ensures ∙ ap isEmission (name-words (c .before .before .before .before .before .before .before .before .before .before .before .before .before .before .before .before .args .tape .now) (getD (c .before .before .before .before .before .before .before .before .before .before .before .before .before .before .before .before .args .calls .now) (c .before .before .before .before .before .before .before .before .before .before .before .before .before .before .before .before .args .walk .depth - 1) 0) (c .before .before .before .before .before .before .before .before .before .name-size .result) (c .before .before .before .before .before .before .before .before .before .name-size .ensures)) in
-    rw (c .past-call .ensures, ← emission, ← (c .before .before .before .before .before .before .before .is-last .ensures), c .before .goes-on .ensures, ← (c .before .before .before .before .before .before .manner-of .ensures)) (c .before .before .before .before .write-ending .ensures, refl)
+returns c =
+    let at-write-ending = c .before .before .before .before in
+    let at-manner-of = at-write-ending .before .before in
+    let at-is-last = at-manner-of .before in
+    let at-is-emission = at-is-last .before in
+    let at-name-size = at-is-emission .before in
+    let entry = at-name-size .before .before .before .before .before .before .before in
+    let emission = at-is-emission .is-emission .ensures ∙ ap isEmission (name-words (entry .args .tape .now) (getD (entry .args .calls .now) (entry .args .walk .depth - 1) 0) (at-name-size .name-size .result) (at-name-size .name-size .ensures)) in
+    rw (c .past-call .ensures, ← emission, ← (at-is-last .is-last .ensures), c .before .goes-on .ensures, ← (at-manner-of .manner-of .ensures)) (at-write-ending .write-ending .ensures, refl)
 
 pub close-call-spec : {M : Type 1} → statement M
 close-call-spec =

@@ -24,7 +24,11 @@ same-length : tie.Need-same-length
 same-length c = search needs
 
 returns : tie.Need-returns
-returns c = rw (c .past-call .ensures, ← (c .before .before .before .before .before .before .before .before .rest-of .ensures)) (wrote-more (c .before .before .before .before .before .before .before .put-span .ensures) (c .before .before .before .put .ensures), refl)
+returns c =
+    let at-put = c .before .before .before in
+    let at-put-span = at-put .before .before .before .before in
+    let at-rest-of = at-put-span .before in
+    rw (c .past-call .ensures, ← (at-rest-of .rest-of .ensures)) (wrote-more (at-put-span .put-span .ensures) (at-put .put .ensures), refl)
 
 pub end-actions-spec : {M : Type 1} → statement M
 end-actions-spec =

@@ -22,7 +22,9 @@ add-past-item : tie.Need-add-past-item
 add-past-item c = search needs
 
 past-item-requires : tie.Need-past-item-requires
-past-item-requires c κs = omega (arith, name-fits-here (c .before .before .before .before .before .before .before .before .args .tape .now) (c .before .before .before .before .before .before .before .before .args .walk .next) (c .before .before .before .before .before .before .before .before .pre .1), c .name-size .ensures)
+past-item-requires c κs =
+    let entry = c .before .before .before .before .before .before .before .before in
+    omega (arith, name-fits-here (entry .args .tape .now) (entry .args .walk .next) (entry .pre .1), c .name-size .ensures)
 
 same-length : tie.Need-same-length
 same-length c = search needs

@@ -17,8 +17,11 @@ piece-span-requires : tie.Need-piece-span-requires
 piece-span-requires c κs = search needs
 
 put-span-requires-2 : tie.Need-put-span-requires-2
-put-span-requires-2 c κs = let a = c .before .before .before .before .before .before .before .before .args in
-    (span-fits _ _ _ (omega arith) (c .piece-span .ensures) (piece-small (a .lengths) (c .before .before .before .before .before .before .before .before .pre .0) (a .lengths .parts) (a .first)), omega (arith, c .before .before .before .before .put-span .ensures .next))
+put-span-requires-2 c κs =
+    let at-put-span = c .before .before .before .before in
+    let entry = at-put-span .before .before .before .before in
+    let a = entry .args in
+    (span-fits _ _ _ (omega arith) (c .piece-span .ensures) (piece-small (a .lengths) (entry .pre .0) (a .lengths .parts) (a .first)), omega (arith, at-put-span .put-span .ensures .next))
 
 put-operands-requires : tie.Need-put-operands-requires
 put-operands-requires c κs = search needs
@@ -27,7 +30,13 @@ same-length : tie.Need-same-length
 same-length c = search needs
 
 returns : tie.Need-returns
-returns c = rw (← (c .before .before .before .before .before .before .before .before .before .before .before .before .gap-of .ensures), ← (c .before .before .before .before .before .before .before .piece-span .ensures)) (wrote-more (wrote-more (c .before .before .before .before .before .before .before .before .before .before .before .put-span .ensures) (c .before .before .before .before .before .before .put-span2 .ensures)) (c .before .before .put-operands .ensures))
+returns c =
+    let at-put-operands = c .before .before in
+    let at-put-span2 = at-put-operands .before .before .before .before in
+    let at-piece-span = at-put-span2 .before in
+    let at-put-span = at-piece-span .before .before .before .before in
+    let at-gap-of = at-put-span .before in
+    rw (← (at-gap-of .gap-of .ensures), ← (at-piece-span .piece-span .ensures)) (wrote-more (wrote-more (at-put-span .put-span .ensures) (at-put-span2 .put-span2 .ensures)) (at-put-operands .put-operands .ensures))
 
 pub put-part-spec : {M : Type 1} → statement M
 put-part-spec =

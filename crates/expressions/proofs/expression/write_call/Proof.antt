@@ -20,7 +20,10 @@ same-length : tie.Need-same-length
 same-length c = search needs
 
 returns : tie.Need-returns
-returns c = wrote-more (c .before .before .before .before .before .before .argument-ready .ensures) (c .before .before .put .ensures)
+returns c =
+    let at-put = c .before .before in
+    let at-argument-ready = at-put .before .before .before .before in
+    wrote-more (at-argument-ready .argument-ready .ensures) (at-put .put .ensures)
 
 pub write-call-spec : {M : Type 1} → statement M
 write-call-spec =

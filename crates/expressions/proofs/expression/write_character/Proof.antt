@@ -17,7 +17,10 @@ same-length : tie.Need-same-length
 same-length c = search needs
 
 returns : tie.Need-returns
-returns c = rw (c .past-item .ensures, ← (c .before .before .before .before .word-at .ensures .0)) (c .before .before .before .put-operands .ensures, refl)
+returns c =
+    let at-put-operands = c .before .before .before in
+    let at-word-at = at-put-operands .before in
+    rw (c .past-item .ensures, ← (at-word-at .word-at .ensures .0)) (at-put-operands .put-operands .ensures, refl)
 
 pub write-character-spec : {M : Type 1} → statement M
 write-character-spec =

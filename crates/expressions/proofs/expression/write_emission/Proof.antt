@@ -17,7 +17,11 @@ same-length : tie.Need-same-length
 same-length c = search needs
 
 returns : tie.Need-returns
-returns c = wrote-more (wrote-more (c .before .before .before .before .before .before .before .before .before .before .argument-ready .ensures) (c .before .before .before .before .before .before .put-operands .ensures)) (c .before .before .put-name .ensures)
+returns c =
+    let at-put-name = c .before .before in
+    let at-put-operands = at-put-name .before .before .before .before in
+    let at-argument-ready = at-put-operands .before .before .before .before in
+    wrote-more (wrote-more (at-argument-ready .argument-ready .ensures) (at-put-operands .put-operands .ensures)) (at-put-name .put-name .ensures)
 
 pub write-emission-spec : {M : Type 1} → statement M
 write-emission-spec =

@@ -37,19 +37,23 @@ slice-aggregate-write-item : tie.Need-slice-aggregate-write-item Inv-loop μ-loo
 slice-aggregate-write-item c = sym (c .before .before .loop .inv .0 .within .room)
 
 write-item-requires : tie.Need-write-item-requires Inv-loop μ-loop
-write-item-requires c κs = (
-  c .before .before .before .before .before .before .before .before .pre .0,
-  c .before .before .before .before .before .before .before .before .pre .1,
-  c .before .before .before .before .before .before .before .before .pre .2,
-  c .before .before .before .loop .inv .0 .within,
-  omega (arith, c .before .before .before .loop .inv .0 .grown, c .before .before .before .loop .inv .0 .within .items, c .before .before .before .before .before .before .before .before .pre .4),
-)
+write-item-requires c κs =
+    let at-loop = c .before .before .before in
+    let entry = at-loop .before .before .before .before .before in
+    (entry .pre .0, entry .pre .1, entry .pre .2, at-loop .loop .inv .0 .within, omega (arith, at-loop .loop .inv .0 .grown, at-loop .loop .inv .0 .within .items, entry .pre .4))
 
 loop-less : tie.Need-loop-less Inv-loop μ-loop
-loop-less c = rw (c .before .before .before .before .before .before .loop-test .taken) (c .before .before .before .write-item .ensures .ahead)
+loop-less c =
+    let at-write-item = c .before .before .before in
+    let at-loop-test = at-write-item .before .before .before in
+    rw (at-loop-test .loop-test .taken) (at-write-item .write-item .ensures .ahead)
 
 loop-again : tie.Need-loop-again Inv-loop μ-loop
-loop-again c = (items-go-on (c .before .before .before .before .before .before .before .loop .inv .0) (c .before .before .before .before .before .before .loop-test .taken) (c .before .before .before .write-item .ensures), c .before .before .before .write-item .kept .1 .1 .1 .1 .1 .0 ∙ c .before .before .before .before .before .before .before .loop .inv .1)
+loop-again c =
+    let at-write-item = c .before .before .before in
+    let at-loop-test = at-write-item .before .before .before in
+    let at-loop = at-loop-test .before in
+    (items-go-on (at-loop .loop .inv .0) (at-loop-test .loop-test .taken) (at-write-item .write-item .ensures), at-write-item .write-item .kept .1 .1 .1 .1 .1 .0 ∙ at-loop .loop .inv .1)
 
 same-length : tie.Need-same-length Inv-loop μ-loop
 same-length c = c .before .loop .inv .1

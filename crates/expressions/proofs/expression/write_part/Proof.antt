@@ -16,7 +16,9 @@ add-name-is : tie.Need-add-name-is
 add-name-is c = search needs
 
 name-is-requires : tie.Need-name-is-requires
-name-is-requires c κs = omega (arith, name-fits-here (c .before .before .before .before .args .tape .now) (c .before .before .before .before .args .walk .next) (c .before .before .before .before .pre .1), c .before .name-size .ensures)
+name-is-requires c κs =
+    let entry = c .before .before .before .before in
+    omega (arith, name-fits-here (entry .args .tape .now) (entry .args .walk .next) (entry .pre .1), c .before .name-size .ensures)
 
 put-part-requires : tie.Need-put-part-requires
 put-part-requires c κs = search needs
@@ -25,14 +27,22 @@ stand-after-requires : tie.Need-stand-after-requires
 stand-after-requires c κs = search needs
 
 past-item-requires : tie.Need-past-item-requires
-past-item-requires c κs = omega (arith, name-fits-here (c .before .before .before .before .before .before .before .before .before .before .before .args .tape .now) (c .before .before .before .before .before .before .before .before .before .before .before .args .walk .next) (c .before .before .before .before .before .before .before .before .before .before .before .pre .1), c .before .before .before .before .before .before .before .before .name-size .ensures)
+past-item-requires c κs =
+    let at-name-size = c .before .before .before .before .before .before .before .before in
+    let entry = at-name-size .before .before .before in
+    omega (arith, name-fits-here (entry .args .tape .now) (entry .args .walk .next) (entry .pre .1), at-name-size .name-size .ensures)
 
 same-length : tie.Need-same-length
 same-length c = search needs
 
 returns : tie.Need-returns
-returns c = let first = c .before .before .before .before .before .before .before .name-is .ensures ∙ ap (λ x. sameBytes x (headName (c .before .before .before .before .before .before .before .before .before .before .before .before .args .tape .now) (c .before .before .before .before .before .before .before .before .before .before .before .before .args .m .variable))) (name-words (c .before .before .before .before .before .before .before .before .before .before .before .before .args .tape .now) (c .before .before .before .before .before .before .before .before .before .before .before .before .args .walk .next) (c .before .before .before .before .before .before .before .before .before .name-size .result) (c .before .before .before .before .before .before .before .before .before .name-size .ensures)) in
-    rw (c .past-item .ensures, c .before .stand-after .ensures, ← first, ← (c .before .before .before .before .before .before .before .before .before .name-size .ensures)) (c .before .before .before .before .put-part .ensures, refl)
+returns c =
+    let at-put-part = c .before .before .before .before in
+    let at-name-is = at-put-part .before .before .before in
+    let at-name-size = at-name-is .before .before in
+    let entry = at-name-size .before .before .before in
+    let first = at-name-is .name-is .ensures ∙ ap (λ x. sameBytes x (headName (entry .args .tape .now) (entry .args .m .variable))) (name-words (entry .args .tape .now) (entry .args .walk .next) (at-name-size .name-size .result) (at-name-size .name-size .ensures)) in
+    rw (c .past-item .ensures, c .before .stand-after .ensures, ← first, ← (at-name-size .name-size .ensures)) (at-put-part .put-part .ensures, refl)
 
 pub write-part-spec : {M : Type 1} → statement M
 write-part-spec =

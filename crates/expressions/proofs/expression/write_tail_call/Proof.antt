@@ -32,8 +32,13 @@ same-length : tie.Need-same-length
 same-length c = search needs
 
 returns : tie.Need-returns
-returns c = rw (← (c .before .before .before .before .before .before .before .before .before .before .before .before .before .before .before .rest-of .ensures))
-    (wrote-more (wrote-more (wrote-more (c .before .before .before .before .before .before .before .before .before .before .before .before .before .before .put-span .ensures) (c .before .before .before .before .before .before .before .before .before .before .argument-ready .ensures)) (c .before .before .before .before .before .before .put .ensures)) (c .before .before .put2 .ensures))
+returns c =
+    let at-put2 = c .before .before in
+    let at-put = at-put2 .before .before .before .before in
+    let at-argument-ready = at-put .before .before .before .before in
+    let at-put-span = at-argument-ready .before .before .before .before in
+    let at-rest-of = at-put-span .before in
+    rw (← (at-rest-of .rest-of .ensures)) (wrote-more (wrote-more (wrote-more (at-put-span .put-span .ensures) (at-argument-ready .argument-ready .ensures)) (at-put .put .ensures)) (at-put2 .put2 .ensures))
 
 pub write-tail-call-spec : {M : Type 1} → statement M
 write-tail-call-spec =

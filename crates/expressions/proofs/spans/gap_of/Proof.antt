@@ -49,13 +49,22 @@ returns-3 : tie.Need-returns-3
 returns-3 c = rw (c .before .enum-told2 .given .1) (c .span-of2 .ensures)
 
 returns-4 : tie.Need-returns-4
-returns-4 c = rw (c .before .before .before .before .enum-told3 .given .1, c .before .enum-told4 .given .1, c .before .before .before .if1 .left) (c .span-of4 .ensures)
+returns-4 c =
+    let at-if1 = c .before .before .before in
+    let at-enum-told3 = at-if1 .before in
+    rw (at-enum-told3 .enum-told3 .given .1, c .before .enum-told4 .given .1, at-if1 .if1 .left) (c .span-of4 .ensures)
 
 returns-5 : tie.Need-returns-5
-returns-5 c = rw (c .before .before .before .before .enum-told3 .given .1, c .before .enum-told5 .given .1, c .before .before .before .if1 .left) (c .span-of5 .ensures)
+returns-5 c =
+    let at-if1 = c .before .before .before in
+    let at-enum-told3 = at-if1 .before in
+    rw (at-enum-told3 .enum-told3 .given .1, c .before .enum-told5 .given .1, at-if1 .if1 .left) (c .span-of5 .ensures)
 
 returns-6 : tie.Need-returns-6
-returns-6 c = rw (c .before .before .before .before .enum-told3 .given .1, c .before .enum-told6 .given .1, c .before .before .before .if1 .left) (c .span-of6 .ensures)
+returns-6 c =
+    let at-if1 = c .before .before .before in
+    let at-enum-told3 = at-if1 .before in
+    rw (at-enum-told3 .enum-told3 .given .1, c .before .enum-told6 .given .1, at-if1 .if1 .left) (c .span-of6 .ensures)
 
 pub gap-of-spec : {M : Type 1} → statement M
 gap-of-spec =

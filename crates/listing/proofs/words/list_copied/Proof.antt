@@ -17,7 +17,11 @@ same-length : tie.Need-same-length
 same-length c = search needs
 
 returns : tie.Need-returns
-returns c = rw (le-leb _ _ (c .before .before .before .before .if1 .taken)) (record { state = refl; put = put-then (c .before .before .before .before .before .before .before .put .ensures) (c .before .before .put-all .ensures) })
+returns c =
+    let at-put-all = c .before .before in
+    let at-if1 = at-put-all .before .before in
+    let at-put = at-if1 .before .before .before in
+    rw (le-leb _ _ (at-if1 .if1 .taken)) (record { state = refl; put = put-then (at-put .put .ensures) (at-put-all .put-all .ensures) })
 
 same-length-2 : tie.Need-same-length-2
 same-length-2 c = put-length (c .before .before .before .put .ensures)

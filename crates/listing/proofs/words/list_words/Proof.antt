@@ -33,9 +33,11 @@ loop-less c = omega arith
 
 loop-again : tie.Need-loop-again Inv-loop μ-loop
 loop-again c =
-    lists-word (c .before .before .before .before .before .before .loop .inv)
-    (rw (length-take-le _ _ (c .before .before .before .before .before .before .before .before .before .pre .there)) (c .before .before .before .before .before .loop-test .taken))
-    (rw (getD-take _ _ _ _ (c .before .before .before .before .before .loop-test .taken)) (c .before .before .list-word .ensures))
+    let at-list-word = c .before .before in
+    let at-loop-test = at-list-word .before .before .before in
+    let at-loop = at-loop-test .before in
+    let entry = at-loop .before .before .before in
+    lists-word (at-loop .loop .inv) (rw (length-take-le _ _ (entry .pre .there)) (at-loop-test .loop-test .taken)) (rw (getD-take _ _ _ _ (at-loop-test .loop-test .taken)) (at-list-word .list-word .ensures))
 
 same-length : tie.Need-same-length Inv-loop μ-loop
 same-length c = c .before .loop .inv .same

@@ -14,7 +14,10 @@ same-length : tie.Need-same-length
 same-length c = search needs
 
 returns : tie.Need-returns
-returns c = pasted-put (c .before .before .before .before .before .before .pre) (c .before .before .copy-over .ensures)
+returns c =
+    let at-copy-over = c .before .before in
+    let entry = at-copy-over .before .before .before .before in
+    pasted-put (entry .pre) (at-copy-over .copy-over .ensures)
 
 pub put-bytes-spec : {M : Type 1} → statement M
 put-bytes-spec = tie.close (tie.spec copy-over-requires add-result same-length returns)

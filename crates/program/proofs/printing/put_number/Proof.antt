@@ -16,19 +16,31 @@ slice-aggregate-put-bytes : tie.Need-slice-aggregate-put-bytes
 slice-aggregate-put-bytes c = search needs
 
 put-bytes-requires : tie.Need-put-bytes-requires
-put-bytes-requires c κs = omega (arith, c .before .before .decimal .ensures .0 .1, c .before .before .before .before .before .pre, fewest-short (c .before .before .decimal .result) (c .before .before .before .before .before .args .n) (c .before .before .decimal .ensures .1 .0) (c .before .before .before .before .before .fits .n))
+put-bytes-requires c κs =
+    let at-decimal = c .before .before in
+    let entry = at-decimal .before .before .before in
+    omega (arith, at-decimal .decimal .ensures .0 .1, entry .pre, fewest-short (at-decimal .decimal .result) (entry .args .n) (at-decimal .decimal .ensures .1 .0) (entry .fits .n))
 
 slice-aggregate-put-bytes-2 : tie.Need-slice-aggregate-put-bytes-2
 slice-aggregate-put-bytes-2 c = search needs
 
 put-bytes-requires-2 : tie.Need-put-bytes-requires-2
-put-bytes-requires-2 c κs = omega (arith, c .before .before .before .before .before .before .before .decimal .ensures .0 .1, c .before .before .before .before .before .before .before .before .before .before .pre, c .before .before .before .before .put-bytes .ensures .place, fewest-short (c .before .before .before .before .before .before .before .decimal .result) (c .before .before .before .before .before .before .before .before .before .before .args .n) (c .before .before .before .before .before .before .before .decimal .ensures .1 .0) (c .before .before .before .before .before .before .before .before .before .before .fits .n))
+put-bytes-requires-2 c κs =
+    let at-put-bytes = c .before .before .before .before in
+    let at-decimal = at-put-bytes .before .before .before in
+    let entry = at-decimal .before .before .before in
+    omega (arith, at-decimal .decimal .ensures .0 .1, entry .pre, at-put-bytes .put-bytes .ensures .place, fewest-short (at-decimal .decimal .result) (entry .args .n) (at-decimal .decimal .ensures .1 .0) (entry .fits .n))
 
 same-length : tie.Need-same-length
 same-length c = search needs
 
 returns : tie.Need-returns
-returns c = counted-put _ (c .before .before .before .before .before .before .before .before .before .before .decimal .ensures .0 .1) (c .before .before .before .before .before .before .before .before .before .before .before .before .before .fits .n) (c .before .before .before .before .before .before .before .before .before .before .decimal .ensures .1 .0) (c .before .before .before .before .before .before .before .before .before .before .decimal .ensures .1 .1) (c .before .before .before .before .before .before .before .put-bytes .ensures) (c .before .before .put-bytes2 .ensures)
+returns c =
+    let at-put-bytes2 = c .before .before in
+    let at-put-bytes = at-put-bytes2 .before .before .before .before .before in
+    let at-decimal = at-put-bytes .before .before .before in
+    let at-fits = at-decimal .before .before .before in
+    counted-put _ (at-decimal .decimal .ensures .0 .1) (at-fits .fits .n) (at-decimal .decimal .ensures .1 .0) (at-decimal .decimal .ensures .1 .1) (at-put-bytes .put-bytes .ensures) (at-put-bytes2 .put-bytes2 .ensures)
 
 pub put-number-spec : {M : Type 1} → statement M
 put-number-spec =

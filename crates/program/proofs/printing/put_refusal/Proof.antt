@@ -16,7 +16,10 @@ same-length : tie.Need-same-length
 same-length c = search needs
 
 returns : tie.Need-returns
-returns c = put-prints (put-then (c .before .before .before .before .before .before .put-number .ensures .put) (c .before .before .put-number2 .ensures .put)) (omega (arith, c .before .before .before .before .before .before .put-number .ensures .near, c .before .before .put-number2 .ensures .near))
+returns c =
+    let at-put-number2 = c .before .before in
+    let at-put-number = at-put-number2 .before .before .before .before in
+    put-prints (put-then (at-put-number .put-number .ensures .put) (at-put-number2 .put-number2 .ensures .put)) (omega (arith, at-put-number .put-number .ensures .near, at-put-number2 .put-number2 .ensures .near))
 
 pub put-refusal-spec : {M : Type 1} → statement M
 put-refusal-spec =

@@ -9,7 +9,10 @@ is-condition-requires : tie.Need-is-condition-requires
 is-condition-requires c κs = search needs
 
 write-condition-requires : tie.Need-write-condition-requires
-write-condition-requires c κs = (c .before .before .before .before .before .before .before .pre, sym (c .before .before .is-condition .ensures) ∙ c .before .if1 .taken)
+write-condition-requires c κs =
+    let at-is-condition = c .before .before in
+    let entry = at-is-condition .before .before .before .before .before in
+    (entry .pre, sym (at-is-condition .is-condition .ensures) ∙ c .before .if1 .taken)
 
 conditions-end-requires : tie.Need-conditions-end-requires
 conditions-end-requires c κs = search needs
@@ -21,7 +24,10 @@ returns : tie.Need-returns
 returns c = search needs
 
 returns-2 : tie.Need-returns-2
-returns-2 c = rw (c .conditions-end .ensures) (conditions-over (c .before .before .before .before .before .before .before .args .tape .now) (c .before .before .before .before .before .before .before .args .names .now) (c .before .before .before .before .before .before .before .args .sites .now) (c .before .before .before .before .before .before .before .args .symbols) (c .before .before .before .before .before .before .before .pre .0) (c .before .before .before .before .before .before .before .pre .1) (c .before .before .before .before .before .before .before .pre .2) (c .before .before .before .before .before .before .before .args .c) (c .before .before .before .before .before .before .before .pre .3) (sym (c .before .before .is-condition .ensures) ∙ c .before .if1 .left))
+returns-2 c =
+    let at-is-condition = c .before .before in
+    let entry = at-is-condition .before .before .before .before .before in
+    rw (c .conditions-end .ensures) (conditions-over (entry .args .tape .now) (entry .args .names .now) (entry .args .sites .now) (entry .args .symbols) (entry .pre .0) (entry .pre .1) (entry .pre .2) (entry .args .c) (entry .pre .3) (sym (at-is-condition .is-condition .ensures) ∙ c .before .if1 .left))
 
 pub condition-or-end-spec : {M : Type 1} → statement M
 condition-or-end-spec =

@@ -17,13 +17,19 @@ reach-requires : tie.Need-reach-requires
 reach-requires c κs = search needs
 
 find-requires : tie.Need-find-requires
-find-requires c κs = omega (arith, condition-told (c .before .before .before .before .before .before .before .pre .0 .3) (c .before .before .before .before .before .before .before .pre .1) (c .before .before .word-at .result % 256 / 10), c .reach .ensures, c .before .before .before .before .before .before .before .pre .0)
+find-requires c κs =
+    let at-word-at = c .before .before in
+    let entry = at-word-at .before .before .before .before .before in
+    omega (arith, condition-told (entry .pre .0 .3) (entry .pre .1) (at-word-at .word-at .result % 256 / 10), c .reach .ensures, entry .pre .0)
 
 found-site-requires : tie.Need-found-site-requires
 found-site-requires c κs = search needs
 
 condition-word-requires : tie.Need-condition-word-requires
-condition-word-requires c κs = omega (arith, c .before .found-site .ensures, found-good (c .before .before .before .before .before .before .before .before .before .before .args .sites .now) (c .before .before .before .before .before .before .before .before .before .before .pre .0 .2) (c .before .before .find .result))
+condition-word-requires c κs =
+    let at-find = c .before .before in
+    let entry = at-find .before .before .before .before .before .before .before .before in
+    omega (arith, c .before .found-site .ensures, found-good (entry .args .sites .now) (entry .pre .0 .2) (at-find .find .result))
 
 put-requires : tie.Need-put-requires
 put-requires c κs = search needs
@@ -32,14 +38,25 @@ add-t12 : tie.Need-add-t12
 add-t12 c = search needs
 
 add-t15 : tie.Need-add-t15
-add-t15 c = omega (arith, condition-told (c .before .before .before .before .before .before .before .before .before .before .before .before .before .before .before .pre .0 .3) (c .before .before .before .before .before .before .before .before .before .before .before .before .before .before .before .pre .1) (c .before .before .before .before .before .before .before .before .before .before .word-at .result % 256 / 10), c .before .before .before .before .before .before .before .before .reach .ensures)
+add-t15 c =
+    let at-reach = c .before .before .before .before .before .before .before .before in
+    let at-word-at = at-reach .before .before in
+    let entry = at-word-at .before .before .before .before .before in
+    omega (arith, condition-told (entry .pre .0 .3) (entry .pre .1) (at-word-at .word-at .result % 256 / 10), at-reach .reach .ensures)
 
 same-length : tie.Need-same-length
 same-length c = search needs
 
 returns : tie.Need-returns
-returns c = condition-written _ (c .before .before .before .before .before .before .before .before .before .before .before .before .before .before .before .args .names .now) (c .before .before .before .before .before .before .before .before .before .before .before .before .before .before .before .args .sites .now) (c .before .before .before .before .before .before .before .before .before .before .before .before .before .before .before .args .symbols) (c .before .before .before .before .before .before .before .before .before .before .before .before .before .before .before .pre .0 .0) (c .before .before .before .before .before .before .before .before .before .before .before .before .before .before .before .pre .0 .1) (c .before .before .before .before .before .before .before .before .before .before .before .before .before .before .before .pre .0 .2) _ (c .before .before .before .before .before .before .before .before .before .before .before .before .before .before .before .pre .0 .3) (c .before .before .before .before .before .before .before .before .before .before .before .before .before .before .before .pre .1)
-    (c .before .before .before .before .before .before .before .before .before .before .word-at .ensures .0) (c .before .before .before .before .before .before .before .before .reach .ensures) (c .before .before .before .before .before .before .before .find .ensures .0) (c .before .before .before .before .before .before .before .find .ensures .1) (c .before .before .before .before .before .before .found-site .ensures) (rw (c .before .before .before .before .condition-word .ensures .0) at (c .before .before .before .put .ensures))
+returns c =
+    let at-put = c .before .before .before in
+    let at-condition-word = at-put .before in
+    let at-found-site = at-condition-word .before .before in
+    let at-find = at-found-site .before in
+    let at-reach = at-find .before in
+    let at-word-at = at-reach .before .before in
+    let entry = at-word-at .before .before .before .before .before in
+    condition-written _ (entry .args .names .now) (entry .args .sites .now) (entry .args .symbols) (entry .pre .0 .0) (entry .pre .0 .1) (entry .pre .0 .2) _ (entry .pre .0 .3) (entry .pre .1) (at-word-at .word-at .ensures .0) (at-reach .reach .ensures) (at-find .find .ensures .0) (at-find .find .ensures .1) (at-found-site .found-site .ensures) (rw (at-condition-word .condition-word .ensures .0) at (at-put .put .ensures))
 
 pub write-condition-spec : {M : Type 1} → statement M
 write-condition-spec =

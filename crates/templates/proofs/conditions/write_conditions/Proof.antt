@@ -25,13 +25,20 @@ loop-holds c = record {
 }
 
 condition-or-end-requires : tie.Need-condition-or-end-requires Inv-loop μ-loop
-condition-or-end-requires c κs = (c .before .before .before .before .before .before .before .pre .0, c .before .before .before .before .before .before .before .pre .1, c .before .before .before .before .before .before .before .pre .2, c .before .before .loop .inv .within)
+condition-or-end-requires c κs =
+    let at-loop = c .before .before in
+    let entry = at-loop .before .before .before .before .before in
+    (entry .pre .0, entry .pre .1, entry .pre .2, at-loop .loop .inv .within)
 
 loop-less : tie.Need-loop-less Inv-loop μ-loop
 loop-less c = rw (c .before .before .before .before .loop-test .taken) (c .before .before .condition-or-end .ensures .ahead)
 
 loop-again : tie.Need-loop-again Inv-loop μ-loop
-loop-again c = conditions-go-on (c .before .before .before .before .before .loop .inv) (c .before .before .before .before .loop-test .taken) (c .before .before .condition-or-end .ensures)
+loop-again c =
+    let at-condition-or-end = c .before .before in
+    let at-loop-test = at-condition-or-end .before .before in
+    let at-loop = at-loop-test .before in
+    conditions-go-on (at-loop .loop .inv) (at-loop-test .loop-test .taken) (at-condition-or-end .condition-or-end .ensures)
 
 same-length : tie.Need-same-length Inv-loop μ-loop
 same-length c = same-size (c .before .loop .inv .same)

@@ -32,9 +32,13 @@ word-at-requires-2 : tie.Need-word-at-requires-2 Inv-loop μ-loop
 word-at-requires-2 c κs = search needs
 
 returns : tie.Need-returns Inv-loop μ-loop
-returns c = let a = c .before .before .before .before .before .before .args in
-    sym (differ-here (a .tape .now) (a .a) (a .b) (a .size) (c .before .before .before .before .before .before .pre .0) (c .before .before .before .before .before .before .pre .1) (c .before .before .before .before .loop .i) (c .before .before .before .loop-test .taken)
-    (λ e. c .if1 .taken (c .before .before .word-at .ensures .0 ∙ e ∙ sym (c .before .word-at2 .ensures .0)))) ∙ c .before .before .before .before .loop .inv .1
+returns c =
+    let at-word-at = c .before .before in
+    let at-loop-test = at-word-at .before in
+    let at-loop = at-loop-test .before in
+    let entry = at-loop .before .before in
+    let a = entry .args in
+    sym (differ-here (a .tape .now) (a .a) (a .b) (a .size) (entry .pre .0) (entry .pre .1) (at-loop .loop .i) (at-loop-test .loop-test .taken) (λ e. c .if1 .taken (at-word-at .word-at .ensures .0 ∙ e ∙ sym (c .before .word-at2 .ensures .0)))) ∙ at-loop .loop .inv .1
 
 add-i : tie.Need-add-i Inv-loop μ-loop
 add-i c = omega arith
@@ -43,15 +47,19 @@ loop-less : tie.Need-loop-less Inv-loop μ-loop
 loop-less c = omega arith
 
 loop-again : tie.Need-loop-again Inv-loop μ-loop
-loop-again c = let a = c .before .before .before .before .before .before .args in (
-  omega arith,
-  sym (same-again (a .tape .now) (a .a) (a .b) (a .size) (c .before .before .before .before .before .before .pre .0) (c .before .before .before .before .before .before .pre .1) (c .before .before .before .before .loop .i) (c .before .before .before .loop-test .taken)
-      (sym (c .before .before .word-at .ensures .0) ∙ c .if1 .left ∙ c .before .word-at2 .ensures .0)) ∙ c .before .before .before .before .loop .inv .1,
-)
+loop-again c =
+    let at-word-at = c .before .before in
+    let at-loop-test = at-word-at .before in
+    let at-loop = at-loop-test .before in
+    let entry = at-loop .before .before in
+    let a = entry .args in
+    (omega arith, sym (same-again (a .tape .now) (a .a) (a .b) (a .size) (entry .pre .0) (entry .pre .1) (at-loop .loop .i) (at-loop-test .loop-test .taken) (sym (at-word-at .word-at .ensures .0) ∙ c .if1 .left ∙ c .before .word-at2 .ensures .0)) ∙ at-loop .loop .inv .1)
 
 returns-2 : tie.Need-returns-2 Inv-loop μ-loop
-returns-2 c = let a = c .before .before .before .args in
-    sym (same-end (a .tape .now) (a .a) (a .b) (a .size) (c .before .before .before .pre .0) (c .before .before .before .pre .1) (c .before .loop .i) (c .loop-test .left)) ∙ c .before .loop .inv .1
+returns-2 c =
+    let entry = c .before .before .before in
+    let a = entry .args in
+    sym (same-end (a .tape .now) (a .a) (a .b) (a .size) (entry .pre .0) (entry .pre .1) (c .before .loop .i) (c .loop-test .left)) ∙ c .before .loop .inv .1
 
 pub same-words-spec : {M : Type 1} → statement M
 same-words-spec =

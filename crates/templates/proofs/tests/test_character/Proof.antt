@@ -13,8 +13,11 @@ word-at-requires : tie.Need-word-at-requires
 word-at-requires c κs = search needs
 
 put-operands-requires : tie.Need-put-operands-requires
-put-operands-requires c κs = let small = site-small (c .before .before .before .before .before .args .lengths) (c .before .before .before .before .before .args .t .parts) (c .before .before .before .before .before .args .t .offset) (c .before .before .before .before .before .pre .0) (c .before .before .before .before .before .pre .1) in
-    omega (arith, ap (λ s. s .register) (c .before .before .site-of .ensures), ap (λ s. s .offset) (c .before .before .site-of .ensures), c .word-at .ensures, c .before .before .before .before .before .pre)
+put-operands-requires c κs =
+    let at-site-of = c .before .before in
+    let entry = at-site-of .before .before .before in
+    let small = site-small (entry .args .lengths) (entry .args .t .parts) (entry .args .t .offset) (entry .pre .0) (entry .pre .1) in
+    omega (arith, ap (λ s. s .register) (at-site-of .site-of .ensures), ap (λ s. s .offset) (at-site-of .site-of .ensures), c .word-at .ensures, entry .pre)
 
 past-letter-requires : tie.Need-past-letter-requires
 past-letter-requires c κs = search needs
@@ -23,8 +26,11 @@ same-length : tie.Need-same-length
 same-length c = search needs
 
 returns : tie.Need-returns
-returns c = rw (c .past-letter .ensures, ← (ap (λ s. s .register) (c .before .before .before .before .before .before .site-of .ensures)), ← (ap (λ s. s .offset) (c .before .before .before .before .before .before .site-of .ensures)), ← (c .before .before .before .before .word-at .ensures .0))
-    (c .before .before .before .put-operands .ensures, refl)
+returns c =
+    let at-put-operands = c .before .before .before in
+    let at-word-at = at-put-operands .before in
+    let at-site-of = at-word-at .before .before in
+    rw (c .past-letter .ensures, ← (ap (λ s. s .register) (at-site-of .site-of .ensures)), ← (ap (λ s. s .offset) (at-site-of .site-of .ensures)), ← (at-word-at .word-at .ensures .0)) (at-put-operands .put-operands .ensures, refl)
 
 pub test-character-spec : {M : Type 1} → statement M
 test-character-spec =

@@ -15,21 +15,22 @@ name-size-requires : tie.Need-name-size-requires
 name-size-requires c κs = search needs
 
 add-find : tie.Need-add-find
-add-find c = omega (arith, tells (c .before .before .before .before .before .before .before .before .pre .0 .0) SVariable (c .before .before .before .before .before .before .before .before .pre .1))
+add-find c =
+    let entry = c .before .before .before .before .before .before .before .before in
+    omega (arith, tells (entry .pre .0 .0) SVariable (entry .pre .1))
 
 find-requires : tie.Need-find-requires
-find-requires c κs = omega (arith, tells (c .before .before .before .before .before .before .before .before .pre .0 .0) SVariable (c .before .before .before .before .before .before .before .before .pre .1), c .before .before .name-size .ensures, c .before .before .before .before .before .before .before .before .pre .0 .0)
+find-requires c κs =
+    let at-name-size = c .before .before in
+    let entry = at-name-size .before .before .before .before .before .before in
+    omega (arith, tells (entry .pre .0 .0) SVariable (entry .pre .1), at-name-size .name-size .ensures, entry .pre .0 .0)
 
 new-symbol-requires : tie.Need-new-symbol-requires
 new-symbol-requires c κs =
-    omega (
-      arith,
-      symbol-at (c .before .before .before .before .before .before .before .before .before .before .before .before .args .lengths) (c .before .before .before .before .before .before .before .before .before .before .before .before .pre .0 .0) (c .before .before .before .before .before .before .before .before .before .before .before .before .pre .0 .1) (c .before .before .before .before .before .before .before .before .before .before .before .before .pre .1),
-      c .before .before .before .before .before .before .name-size .ensures,
-      c .before .before .before .before .before .before .before .before .before .before .before .before .pre .0 .0,
-      ap (λ s. s .register) (c .before .before .before .before .before .before .before .site-of .ensures),
-      ap (λ s. s .offset) (c .before .before .before .before .before .before .before .site-of .ensures),
-    )
+    let at-name-size = c .before .before .before .before .before .before in
+    let at-site-of = at-name-size .before in
+    let entry = at-site-of .before .before .before .before .before in
+    omega (arith, symbol-at (entry .args .lengths) (entry .pre .0 .0) (entry .pre .0 .1) (entry .pre .1), at-name-size .name-size .ensures, entry .pre .0 .0, ap (λ s. s .register) (at-site-of .site-of .ensures), ap (λ s. s .offset) (at-site-of .site-of .ensures))
 
 same-length : tie.Need-same-length
 same-length c = search needs
@@ -38,22 +39,22 @@ same-length-2 : tie.Need-same-length-2
 same-length-2 c = search needs
 
 returns : tie.Need-returns
-returns c = rw (c .before .before .before .before .new-symbol .ensures .0, c .before .before .before .before .new-symbol .ensures .1 .0, c .before .before .before .before .new-symbol .ensures .1 .1, c .before .before .before .before .before .before .before .before .before .before .before .name-size .ensures, c .before .before .before .before .before .before .before .before .before .before .before .before .site-of .ensures)
-    (new-on _ _ _ _ _ (c .before .before .before .before .before .before .before .before .before .before .before .before .before .before .before .before .before .pre .0 .0) (c .before .before .before .before .before .before .before .before .before .before .before .before .before .before .before .before .before .pre .1) (c .before .before .before .before .before .before .before .before .before .before .before .before .before .before .before .before .before .pre .0 .1)
-    (sym (name-found (c .before .before .before .before .before .before .before .before .before .before .before .before .before .before .before .before .before .pre .0 .0) (c .before .before .before .before .before .before .before .before .before .before .before .name-size .ensures)) ∙ sym (c .before .before .before .before .before .before .before .before .find .ensures .0) ∙ c .before .before .before .before .before .before .before .if1 .taken))
+returns c =
+    let at-new-symbol = c .before .before .before .before in
+    let at-if1 = at-new-symbol .before .before .before in
+    let at-find = at-if1 .before in
+    let at-name-size = at-find .before .before .before in
+    let at-site-of = at-name-size .before in
+    let entry = at-site-of .before .before .before .before .before in
+    rw (at-new-symbol .new-symbol .ensures .0, at-new-symbol .new-symbol .ensures .1 .0, at-new-symbol .new-symbol .ensures .1 .1, at-name-size .name-size .ensures, at-site-of .site-of .ensures) (new-on _ _ _ _ _ (entry .pre .0 .0) (entry .pre .1) (entry .pre .0 .1) (sym (name-found (entry .pre .0 .0) (at-name-size .name-size .ensures)) ∙ sym (at-find .find .ensures .0) ∙ at-if1 .if1 .taken))
 
 equal-symbol-requires : tie.Need-equal-symbol-requires
 equal-symbol-requires c κs =
-    omega (
-      arith,
-      symbol-at (c .before .before .before .before .before .before .before .before .before .before .before .before .args .lengths) (c .before .before .before .before .before .before .before .before .before .before .before .before .pre .0 .0) (c .before .before .before .before .before .before .before .before .before .before .before .before .pre .0 .1) (c .before .before .before .before .before .before .before .before .before .before .before .before .pre .1),
-      c .before .before .before .before .before .before .name-size .ensures,
-      c .before .before .before .before .before .before .before .before .before .before .before .before .pre .0 .0,
-      ap (λ s. s .register) (c .before .before .before .before .before .before .before .site-of .ensures),
-      ap (λ s. s .offset) (c .before .before .before .before .before .before .before .site-of .ensures),
-      c .before .before .before .find .ensures .1,
-      found-good (c .before .before .before .before .before .before .before .before .before .before .before .before .args .sites .now) (c .before .before .before .before .before .before .before .before .before .before .before .before .pre .0 .0 .good) (c .before .before .before .find .result) .small,
-    )
+    let at-find = c .before .before .before in
+    let at-name-size = at-find .before .before .before in
+    let at-site-of = at-name-size .before in
+    let entry = at-site-of .before .before .before .before .before in
+    omega (arith, symbol-at (entry .args .lengths) (entry .pre .0 .0) (entry .pre .0 .1) (entry .pre .1), at-name-size .name-size .ensures, entry .pre .0 .0, ap (λ s. s .register) (at-site-of .site-of .ensures), ap (λ s. s .offset) (at-site-of .site-of .ensures), at-find .find .ensures .1, found-good (entry .args .sites .now) (entry .pre .0 .0 .good) (at-find .find .result) .small)
 
 same-length-3 : tie.Need-same-length-3
 same-length-3 c = search needs
@@ -65,11 +66,15 @@ same-length-5 : tie.Need-same-length-5
 same-length-5 c = search needs
 
 returns-2 : tie.Need-returns-2
-returns-2 c = let same = c .before .before .before .before .before .before .find .ensures .0 ∙ name-found (c .before .before .before .before .before .before .before .before .before .before .before .before .before .before .before .pre .0 .0) (c .before .before .before .before .before .before .before .before .before .name-size .ensures) in
-    rw (c .before .before .equal-symbol .ensures .1, c .before .before .before .before .before .before .before .before .before .name-size .ensures)
-    (equal-on _ _ _ _ _ (c .before .before .before .before .before .before .before .before .before .before .before .before .before .before .before .pre .0 .0) (c .before .before .before .before .before .before .before .before .before .before .before .before .before .before .before .pre .1)
-    (λ e. c .before .before .before .before .before .if1 .left (same ∙ e)) (omega (arith, same, c .before .before .before .before .before .before .find .ensures .1))
-    (rw (← same, ← (ap (λ s. s .register) (c .before .before .before .before .before .before .before .before .before .before .site-of .ensures)), ← (ap (λ s. s .offset) (c .before .before .before .before .before .before .before .before .before .before .site-of .ensures))) (c .before .before .equal-symbol .ensures .0)))
+returns-2 c =
+    let at-equal-symbol = c .before .before in
+    let at-if1 = at-equal-symbol .before .before .before in
+    let at-find = at-if1 .before in
+    let at-name-size = at-find .before .before .before in
+    let at-site-of = at-name-size .before in
+    let entry = at-site-of .before .before .before .before .before in
+    let same = at-find .find .ensures .0 ∙ name-found (entry .pre .0 .0) (at-name-size .name-size .ensures) in
+    rw (at-equal-symbol .equal-symbol .ensures .1, at-name-size .name-size .ensures) (equal-on _ _ _ _ _ (entry .pre .0 .0) (entry .pre .1) (λ e. at-if1 .if1 .left (same ∙ e)) (omega (arith, same, at-find .find .ensures .1)) (rw (← same, ← (ap (λ s. s .register) (at-site-of .site-of .ensures)), ← (ap (λ s. s .offset) (at-site-of .site-of .ensures))) (at-equal-symbol .equal-symbol .ensures .0)))
 
 pub test-symbol-spec : {M : Type 1} → statement M
 test-symbol-spec =

@@ -28,13 +28,22 @@ shared-slice-read-put : tie.Need-shared-slice-read-put Inv-loop μ-loop
 shared-slice-read-put c = omega arith
 
 mul-put-2 : tie.Need-mul-put-2 Inv-loop μ-loop
-mul-put-2 c = omega (arith, c .before .before .before .before .before .before .pre .1 (c .before .before .before .loop .k))
+mul-put-2 c =
+    let at-loop = c .before .before .before in
+    let entry = at-loop .before .before .before in
+    omega (arith, entry .pre .1 (at-loop .loop .k))
 
 add-put : tie.Need-add-put Inv-loop μ-loop
-add-put c = omega (arith, c .before .before .before .before .before .before .pre .1 (c .before .before .before .loop .k))
+add-put c =
+    let at-loop = c .before .before .before in
+    let entry = at-loop .before .before .before in
+    omega (arith, entry .pre .1 (at-loop .loop .k))
 
 put-requires : tie.Need-put-requires Inv-loop μ-loop
-put-requires c κs = omega (arith, c .before .before .before .before .before .before .pre .1 (c .before .before .before .loop .k))
+put-requires c κs =
+    let at-loop = c .before .before .before in
+    let entry = at-loop .before .before .before in
+    omega (arith, entry .pre .1 (at-loop .loop .k))
 
 add-k : tie.Need-add-k Inv-loop μ-loop
 add-k c = omega arith
@@ -43,21 +52,20 @@ loop-less : tie.Need-loop-less Inv-loop μ-loop
 loop-less c = omega arith
 
 loop-again : tie.Need-loop-again Inv-loop μ-loop
-loop-again c = (
-  omega arith,
-  omega (arith, c .before .before .put .ensures .next),
-  same-wrote _
-      (same-words (c .before .before .before .before .before .before .loop .inv .2)
-      (ap (map storeOfSite) (front-cons (c .before .before .before .before .before .before .before .before .before .args .sites .now) (c .before .before .before .before .before .before .before .before .before .args .symbols) (c .before .before .before .before .before .before .loop .k) (c .before .before .before .before .before .loop-test .taken) (c .before .before .before .before .before .before .before .before .before .pre .0))
-      ∙ ap (λ w. w ∷ map storeOfSite (frontFrom (c .before .before .before .before .before .before .before .before .before .args .sites .now) (c .before .before .before .before .before .before .before .before .before .args .symbols) (c .before .before .before .before .before .before .loop .k + 1))) (store-word _ (c .before .before .before .before .before .before .before .before .before .pre .1 (c .before .before .before .before .before .before .loop .k)))))
-      (c .before .before .put .ensures),
-)
+loop-again c =
+    let at-put = c .before .before in
+    let at-loop-test = at-put .before .before .before in
+    let at-loop = at-loop-test .before in
+    let entry = at-loop .before .before .before in
+    (omega arith, omega (arith, at-put .put .ensures .next), same-wrote _ (same-words (at-loop .loop .inv .2) (ap (map storeOfSite) (front-cons (entry .args .sites .now) (entry .args .symbols) (at-loop .loop .k) (at-loop-test .loop-test .taken) (entry .pre .0)) ∙ ap (λ w. w ∷ map storeOfSite (frontFrom (entry .args .sites .now) (entry .args .symbols) (at-loop .loop .k + 1))) (store-word _ (entry .pre .1 (at-loop .loop .k))))) (at-put .put .ensures))
 
 same-length : tie.Need-same-length Inv-loop μ-loop
 same-length c = same-size (c .before .loop .inv .2)
 
 returns : tie.Need-returns Inv-loop μ-loop
-returns c = same-end (same-words (c .before .loop .inv .2) (ap (map storeOfSite) (front-none (c .before .before .before .before .args .sites .now) (c .before .before .before .before .args .symbols) (c .before .loop .k) (c .loop-test .left))))
+returns c =
+    let entry = c .before .before .before .before in
+    same-end (same-words (c .before .loop .inv .2) (ap (map storeOfSite) (front-none (entry .args .sites .now) (entry .args .symbols) (c .before .loop .k) (c .loop-test .left))))
 
 pub write-stores-spec : {M : Type 1} → statement M
 write-stores-spec =

@@ -18,38 +18,38 @@ abbrev μ-loop : tie.MeasureT-loop
 
 loop-holds : tie.Need-loop-holds Inv-loop μ-loop
 unfolding heldSites
-loop-holds c = record {
-  same = same-refl _ _ _;
-  known = refl;
-  rest = refl;
-  within =
-      record {
-        nameRoom = c .before .before .before .before .pre .0 .0;
-        siteRoom = c .before .before .before .before .pre .0 .1;
-        good = c .before .before .before .before .pre .0 .2;
-        letters = omega arith;
-        offset = omega arith;
-        symbols = omega arith;
-        next = c .before .before .before .before .pre .1 .1;
-        at = omega arith;
-      };
-  grown = omega arith;
-}
+loop-holds c =
+    let entry = c .before .before .before .before in
+    record { same = same-refl _ _ _; known = refl; rest = refl; within = record { nameRoom = entry .pre .0 .0; siteRoom = entry .pre .0 .1; good = entry .pre .0 .2; letters = omega arith; offset = omega arith; symbols = omega arith; next = entry .pre .1 .1; at = omega arith }; grown = omega arith }
 
 test-piece-requires : tie.Need-test-piece-requires Inv-loop μ-loop
-test-piece-requires c κs = (c .before .before .before .before .loop .inv .within, c .before .before .before .before .before .before .before .before .before .pre .1 .0)
+test-piece-requires c κs =
+    let at-loop = c .before .before .before .before in
+    let entry = at-loop .before .before .before .before .before in
+    (at-loop .loop .inv .within, entry .pre .1 .0)
 
 loop-less : tie.Need-loop-less Inv-loop μ-loop
-loop-less c = rw (c .before .before .before .before .before .before .before .before .before .before .loop-test .taken) (c .before .before .before .before .before .before .test-piece .ensures .ahead)
+loop-less c =
+    let at-test-piece = c .before .before .before .before .before .before in
+    let at-loop-test = at-test-piece .before .before .before .before in
+    rw (at-loop-test .loop-test .taken) (at-test-piece .test-piece .ensures .ahead)
 
 loop-again : tie.Need-loop-again Inv-loop μ-loop
-loop-again c = tests-go-on (c .before .before .before .before .before .before .before .before .before .before .before .loop .inv) (c .before .before .before .before .before .before .before .before .before .before .loop-test .taken) (c .before .before .before .before .before .before .test-piece .ensures)
+loop-again c =
+    let at-test-piece = c .before .before .before .before .before .before in
+    let at-loop-test = at-test-piece .before .before .before .before in
+    let at-loop = at-loop-test .before in
+    tests-go-on (at-loop .loop .inv) (at-loop-test .loop-test .taken) (at-test-piece .test-piece .ensures)
 
 same-length : tie.Need-same-length Inv-loop μ-loop
-same-length c = c .before .loop .inv .within .nameRoom ∙ sym (c .before .before .before .before .before .before .pre .0 .0)
+same-length c =
+    let entry = c .before .before .before .before .before .before in
+    c .before .loop .inv .within .nameRoom ∙ sym (entry .pre .0 .0)
 
 same-length-2 : tie.Need-same-length-2 Inv-loop μ-loop
-same-length-2 c = c .before .loop .inv .within .siteRoom ∙ sym (c .before .before .before .before .before .before .pre .0 .1)
+same-length-2 c =
+    let entry = c .before .before .before .before .before .before in
+    c .before .loop .inv .within .siteRoom ∙ sym (entry .pre .0 .1)
 
 same-length-3 : tie.Need-same-length-3 Inv-loop μ-loop
 same-length-3 c = same-size (c .before .loop .inv .same)

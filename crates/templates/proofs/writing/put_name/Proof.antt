@@ -37,15 +37,14 @@ loop-less : tie.Need-loop-less Inv-loop μ-loop
 loop-less c = omega arith
 
 loop-again : tie.Need-loop-again Inv-loop μ-loop
-loop-again c = let a = c .before .before .before .before .before .before .before .before .before .args in (
-  omega (arith, c .before .before .put .ensures .next),
-  omega (arith, c .before .before .put .ensures .next),
-  same-wrote _
-      (same-words (c .before .before .before .before .before .before .loop .inv .2)
-      (part-cons (a .tape .now) (a .from) (a .size) (c .before .before .before .before .before .before .loop .i) (c .before .before .before .before .before .loop-test .taken) (c .before .before .before .before .before .before .before .before .before .pre .0)
-      ∙ ap (λ v. v ∷ partFrom (a .tape .now) (a .from) (a .size) (c .before .before .before .before .before .before .loop .i + 1)) (sym (c .before .before .before .word-at .ensures .0))))
-      (c .before .before .put .ensures),
-)
+loop-again c =
+    let at-put = c .before .before in
+    let at-word-at = at-put .before in
+    let at-loop-test = at-word-at .before .before in
+    let at-loop = at-loop-test .before in
+    let entry = at-loop .before .before .before in
+    let a = entry .args in
+    (omega (arith, at-put .put .ensures .next), omega (arith, at-put .put .ensures .next), same-wrote _ (same-words (at-loop .loop .inv .2) (part-cons (a .tape .now) (a .from) (a .size) (at-loop .loop .i) (at-loop-test .loop-test .taken) (entry .pre .0) ∙ ap (λ v. v ∷ partFrom (a .tape .now) (a .from) (a .size) (at-loop .loop .i + 1)) (sym (at-word-at .word-at .ensures .0)))) (at-put .put .ensures))
 
 same-length : tie.Need-same-length Inv-loop μ-loop
 same-length c = same-size (c .before .loop .inv .2)

@@ -27,7 +27,11 @@ loop-less : tie.Need-loop-less Inv-loop μ-loop
 loop-less c = omega arith
 
 loop-again : tie.Need-loop-again Inv-loop μ-loop
-loop-again c = heads-go-on (c .before .before .before .before .before .loop .inv) (c .before .before .before .before .loop-test .taken) (c .before .before .note-head .ensures) (c .before .before .note-head .kept .1 .1 .0)
+loop-again c =
+    let at-note-head = c .before .before in
+    let at-loop-test = at-note-head .before .before in
+    let at-loop = at-loop-test .before in
+    heads-go-on (at-loop .loop .inv) (at-loop-test .loop-test .taken) (at-note-head .note-head .ensures) (at-note-head .note-head .kept .1 .1 .0)
 
 same-length : tie.Need-same-length Inv-loop μ-loop
 same-length c = c .before .loop .inv .room ∙ sym (c .before .before .before .before .pre)

@@ -13,21 +13,27 @@ shared-slice-read-head : tie.Need-shared-slice-read-head
 shared-slice-read-head c = omega (arith, c .before .before .before .before .pre .0)
 
 add-start : tie.Need-add-start
-add-start c = let a = c .before .before .before .before .args in
-    omega (arith, c .before .before .before .before .pre .2 (a .k) (c .before .before .before .before .pre .0))
+add-start c =
+    let entry = c .before .before .before .before in
+    let a = entry .args in
+    omega (arith, entry .pre .2 (a .k) (entry .pre .0))
 
 name-size-requires : tie.Need-name-size-requires
 name-size-requires c κs = search needs
 
 add-start-2 : tie.Need-add-start-2
-add-start-2 c = let a = c .before .before .before .before .before .args in
-    omega (arith, c .name-size .ensures, name-fits-here (a .tape .now) _ (c .before .before .before .before .before .pre .2 (a .k) (c .before .before .before .before .before .pre .0)))
+add-start-2 c =
+    let entry = c .before .before .before .before .before in
+    let a = entry .args in
+    omega (arith, c .name-size .ensures, name-fits-here (a .tape .now) _ (entry .pre .2 (a .k) (entry .pre .0)))
 
 put-requires : tie.Need-put-requires
 put-requires c κs = omega (arith, c .before .before .before .before .before .before .pre .4)
 
 add-lesser : tie.Need-add-lesser
-add-lesser c = omega (arith, c .before .before .before .before .before .before .before .before .before .pre .0, c .before .before .before .before .before .before .before .before .before .pre .1)
+add-lesser c =
+    let entry = c .before .before .before .before .before .before .before .before .before in
+    omega (arith, entry .pre .0, entry .pre .1)
 
 sub-lesser : tie.Need-sub-lesser
 sub-lesser c = omega (arith, c .before .before .before .before .before .before .before .before .before .pre .3)
@@ -48,17 +54,29 @@ part-write-function-end : tie.Need-part-write-function-end
 part-write-function-end c = search needs
 
 write-function-requires : tie.Need-write-function-requires
-write-function-requires c κs = let a = c .before .before .before .before .before .before .before .before .before .before .before .args in
-    (c .before .before .before .before .before .before .before .before .before .before .before .pre .1, omega (arith, c .before .before .before .before .before .before .name-size .ensures, name-fits-here (a .tape .now) _ (c .before .before .before .before .before .before .before .before .before .before .before .pre .2 (a .k) (c .before .before .before .before .before .before .before .before .before .before .before .pre .0))))
+write-function-requires c κs =
+    let at-name-size = c .before .before .before .before .before .before in
+    let entry = at-name-size .before .before .before .before .before in
+    let a = entry .args in
+    (entry .pre .1, omega (arith, at-name-size .name-size .ensures, name-fits-here (a .tape .now) _ (entry .pre .2 (a .k) (entry .pre .0))))
 
 add-result : tie.Need-add-result
-add-result c = omega (arith, c .before .before .write-function .ensures .grown, c .before .before .before .before .before .before .before .before .before .before .before .before .before .before .pre .4)
+add-result c =
+    let at-write-function = c .before .before in
+    let entry = at-write-function .before .before .before .before .before .before .before .before .before .before .before .before in
+    omega (arith, at-write-function .write-function .ensures .grown, entry .pre .4)
 
 same-length : tie.Need-same-length
 same-length c = search needs
 
 returns : tie.Need-returns
-returns c = entry-written (c .before .before .before .before .before .before .before .before .before .before .before .before .before .before .pre .2 (c .before .before .before .before .before .before .before .before .before .before .before .before .before .before .args .k) (c .before .before .before .before .before .before .before .before .before .before .before .before .before .before .pre .0)) (c .before .before .before .before .before .before .before .put .ensures) (c .before .before .before .before .before .before .before .before .before .name-size .ensures) (c .before .before .before .before .lesser .ensures) (c .before .before .write-function .ensures)
+returns c =
+    let at-write-function = c .before .before in
+    let at-lesser = at-write-function .before .before in
+    let at-put = at-lesser .before .before .before in
+    let at-name-size = at-put .before .before in
+    let entry = at-name-size .before .before .before .before .before in
+    entry-written (entry .pre .2 (entry .args .k) (entry .pre .0)) (at-put .put .ensures) (at-name-size .name-size .ensures) (at-lesser .lesser .ensures) (at-write-function .write-function .ensures)
 
 pub write-entry-spec : {M : Type 1} → statement M
 write-entry-spec =

@@ -19,7 +19,10 @@ add-at : tie.Need-add-at Inv-loop μ-loop
 add-at c = omega (arith, c .before .before .put .ensures .next)
 
 loop-holds : tie.Need-loop-holds Inv-loop μ-loop
-loop-holds c = functions-none _ _ _ _ (omega (arith, c .before .before .put .ensures .next)) (c .before .before .before .before .before .before .before .pre .0)
+loop-holds c =
+    let at-put = c .before .before in
+    let entry = at-put .before .before .before .before .before in
+    functions-none _ _ _ _ (omega (arith, at-put .put .ensures .next)) (entry .pre .0)
 
 add-lesser : tie.Need-add-lesser Inv-loop μ-loop
 add-lesser c = omega arith
@@ -40,8 +43,12 @@ part-write-entry-end : tie.Need-part-write-entry-end Inv-loop μ-loop
 part-write-entry-end c = omega arith
 
 write-entry-requires : tie.Need-write-entry-requires Inv-loop μ-loop
-write-entry-requires c κs = let so-far = c .before .before .before .loop .inv in
-    (c .before .before .loop-test .taken, c .before .before .before .before .before .before .before .before .before .before .before .pre .0, c .before .before .before .before .before .before .before .before .before .before .before .pre .1, omega (arith, so-far .after), omega (arith, so-far .grown, so-far .few))
+write-entry-requires c κs =
+    let at-loop-test = c .before .before in
+    let at-loop = at-loop-test .before in
+    let entry = at-loop .before .before .before .before .before .before .before .before in
+    let so-far = at-loop .loop .inv in
+    (at-loop-test .loop-test .taken, entry .pre .0, entry .pre .1, omega (arith, so-far .after), omega (arith, so-far .grown, so-far .few))
 
 add-k : tie.Need-add-k Inv-loop μ-loop
 add-k c = omega arith
@@ -50,7 +57,12 @@ loop-less : tie.Need-loop-less Inv-loop μ-loop
 loop-less c = omega arith
 
 loop-again : tie.Need-loop-again Inv-loop μ-loop
-loop-again c = functions-go-on (c .before .before .before .before .before .before .loop .inv) (c .before .before .before .before .before .loop-test .taken) (c .before .before .before .before .lesser .ensures) (c .before .before .write-entry .ensures) (c .before .code2 .given .1)
+loop-again c =
+    let at-write-entry = c .before .before in
+    let at-lesser = at-write-entry .before .before in
+    let at-loop-test = at-lesser .before in
+    let at-loop = at-loop-test .before in
+    functions-go-on (at-loop .loop .inv) (at-loop-test .loop-test .taken) (at-lesser .lesser .ensures) (at-write-entry .write-entry .ensures) (c .before .code2 .given .1)
 
 same-length : tie.Need-same-length Inv-loop μ-loop
 same-length c = c .before .loop .inv .size ∙ c .before .before .before .before .put .kept .0

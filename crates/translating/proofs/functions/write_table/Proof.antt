@@ -36,7 +36,10 @@ same-length : tie.Need-same-length
 same-length c = search needs
 
 returns : tie.Need-returns
-returns c = table-written (c .before .before .before .before .before .before .find-heads .ensures) (c .before .before .write-functions .ensures)
+returns c =
+    let at-write-functions = c .before .before in
+    let at-find-heads = at-write-functions .before .before .before .before in
+    table-written (at-find-heads .find-heads .ensures) (at-write-functions .write-functions .ensures)
 
 pub write-table-spec : {M : Type 1} → statement M
 write-table-spec =

@@ -22,13 +22,20 @@ same-length : tie.Need-same-length
 same-length c = search needs
 
 returns : tie.Need-returns
-returns c = sentence-on true (c .before .before .before .before .before .before .before .before .before .before .before .pre .2) (c .before .before .before .before .before .before .write-sentence .ensures) (sym (c .before .before .follows .ensures) ∙ c .before .if1 .taken)
+returns c =
+    let at-follows = c .before .before in
+    let at-write-sentence = at-follows .before .before .before .before in
+    let entry = at-write-sentence .before .before .before .before .before in
+    sentence-on true (entry .pre .2) (at-write-sentence .write-sentence .ensures) (sym (at-follows .follows .ensures) ∙ c .before .if1 .taken)
 
 same-length-2 : tie.Need-same-length-2
 same-length-2 c = search needs
 
 returns-2 : tie.Need-returns-2
-returns-2 c = sentence-on false (c .before .before .before .before .before .before .before .before .before .before .pre .2) (c .before .before .before .before .before .write-sentence .ensures) (sym (c .before .follows .ensures) ∙ c .if1 .left)
+returns-2 c =
+    let at-write-sentence = c .before .before .before .before .before in
+    let entry = at-write-sentence .before .before .before .before .before in
+    sentence-on false (entry .pre .2) (at-write-sentence .write-sentence .ensures) (sym (c .before .follows .ensures) ∙ c .if1 .left)
 
 pub next-sentence-spec : {M : Type 1} → statement M
 next-sentence-spec =

@@ -9,8 +9,10 @@ metric-number-requires : tie.Need-metric-number-requires
 metric-number-requires c κs = search needs
 
 put-operands-requires : tie.Need-put-operands-requires
-put-operands-requires c κs = let a = c .before .before .before .args in
-    (metric-fits (a .lengths) (c .before .metric-number .result) (c .before .metric-number .ensures) (c .before .before .before .pre .0), omega arith)
+put-operands-requires c κs =
+    let entry = c .before .before .before in
+    let a = entry .args in
+    (metric-fits (a .lengths) (c .before .metric-number .result) (c .before .metric-number .ensures) (entry .pre .0), omega arith)
 
 same-length : tie.Need-same-length
 same-length c = search needs

@@ -21,36 +21,43 @@ slice-aggregate-write-matching-2 : tie.Need-slice-aggregate-write-matching-2
 slice-aggregate-write-matching-2 c = search needs
 
 write-matching-requires : tie.Need-write-matching-requires
-write-matching-requires c κs = let pre = c .before .before .before .before .before .before .before .before .before .pre in (
-  (ap length (c .before .before .before .before .room .ensures), ap length (c .before .before .before .room2 .ensures), λ k. rw (c .before .before .before .room2 .ensures) (all-zero 64 k)),
-  (pre .0 .lengths, omega (arith, pre .0 .within .letters, pre .0 .within .most), pre .2, pre .3),
-)
+write-matching-requires c κs =
+    let at-room2 = c .before .before .before in
+    let at-room = at-room2 .before in
+    let entry = at-room .before .before .before .before .before in
+    let pre = entry .pre in
+    ((ap length (at-room .room .ensures), ap length (at-room2 .room2 .ensures), λ k. rw (at-room2 .room2 .ensures) (all-zero 64 k)), (pre .0 .lengths, omega (arith, pre .0 .within .letters, pre .0 .within .most), pre .2, pre .3))
 
 array-share-prefix-names : tie.Need-array-share-prefix-names
 array-share-prefix-names c = search needs
 
 slice-aggregate-write-expression : tie.Need-slice-aggregate-write-expression
-slice-aggregate-write-expression c = let m = c .before .before .before .before .before .write-matching in
-    sym (length-take-le _ _ (omega (arith, m .ensures .few .1, m .kept .1 .1 .0, ap length (c .before .before .before .before .before .before .before .before .before .before .room .ensures))))
+slice-aggregate-write-expression c =
+    let at-write-matching = c .before .before .before .before .before in
+    let at-room = at-write-matching .before .before .before .before .before in
+    let m = at-write-matching .write-matching in
+    sym (length-take-le _ _ (omega (arith, m .ensures .few .1, m .kept .1 .1 .0, ap length (at-room .room .ensures))))
 
 add-write-expression : tie.Need-add-write-expression
 add-write-expression c = search needs
 
 write-expression-requires : tie.Need-write-expression-requires
-write-expression-requires c κs = let pre = c .before .before .before .before .before .before .before .before .before .before .before .before .before .before .before .before .before .pre in
-    let m = c .before .before .before .before .before .before .before .write-matching in (
-      pre .1,
-      omega (arith, length-take (m .result .symbols) (m .last .1 .1 .0), m .ensures .few .1),
-      omega (arith, pre .0 .within .letters, pre .0 .within .most),
-      omega (arith, m .ensures .next),
-      omega (arith, m .ensures .grown, pre .3),
-    )
+write-expression-requires c κs =
+    let at-write-matching = c .before .before .before .before .before .before .before in
+    let entry = at-write-matching .before .before .before .before .before .before .before .before .before .before in
+    let pre = entry .pre in
+    let m = at-write-matching .write-matching in
+    (pre .1, omega (arith, length-take (m .result .symbols) (m .last .1 .1 .0), m .ensures .few .1), omega (arith, pre .0 .within .letters, pre .0 .within .most), omega (arith, m .ensures .next), omega (arith, m .ensures .grown, pre .3))
 
 same-length : tie.Need-same-length
 same-length c = search needs
 
 returns : tie.Need-returns
-returns c = bodied (c .before .before .before .before .before .before .before .before .before .before .before .before .before .before .before .before .before .before .before .before .pre .0) (c .before .before .before .before .before .before .before .before .before .before .write-matching .ensures) (c .before .before .write-expression .ensures)
+returns c =
+    let at-write-expression = c .before .before in
+    let at-write-matching = at-write-expression .before .before .before .before .before .before .before .before in
+    let entry = at-write-matching .before .before .before .before .before .before .before .before .before .before in
+    bodied (entry .pre .0) (at-write-matching .write-matching .ensures) (at-write-expression .write-expression .ensures)
 
 pub write-body-spec : {M : Type 1} → statement M
 write-body-spec =

@@ -18,25 +18,43 @@ loop-holds : tie.Need-loop-holds Inv-loop μ-loop
 loop-holds c = (record { same = λ t h. same-refl _ _ _; within = record { count = omega arith; next = omega arith }; grown = omega arith }, refl)
 
 next-sentence-requires : tie.Need-next-sentence-requires Inv-loop μ-loop
-next-sentence-requires c κs = let so-far = c .before .before .loop .inv .0 in
+next-sentence-requires c κs =
+    let at-loop = c .before .before in
+    let entry = at-loop .before .before .before .before in
+    let so-far = at-loop .loop .inv .0 in
     let within = rw (c .before .loop-test .taken) at (so-far .within) in
-    (c .before .before .before .before .before .before .pre .0, omega (arith, within .next), omega (arith, within .count), omega (arith, so-far .grown, so-far .within .count))
+    (entry .pre .0, omega (arith, within .next), omega (arith, within .count), omega (arith, so-far .grown, so-far .within .count))
 
 loop-less : tie.Need-loop-less Inv-loop μ-loop
-loop-less c = let within = rw (c .before .before .before .before .loop-test .taken) at (c .before .before .before .before .before .loop .inv .0 .within) in
-    omega (arith, within .count, c .before .before .next-sentence .ensures .ahead)
+loop-less c =
+    let at-next-sentence = c .before .before in
+    let at-loop-test = at-next-sentence .before .before in
+    let at-loop = at-loop-test .before in
+    let within = rw (at-loop-test .loop-test .taken) at (at-loop .loop .inv .0 .within) in
+    omega (arith, within .count, at-next-sentence .next-sentence .ensures .ahead)
 
 loop-again : tie.Need-loop-again Inv-loop μ-loop
-loop-again c = (sentences-go-on (c .before .before .before .before .before .loop .inv .0) (c .before .before .before .before .loop-test .taken) (c .before .before .next-sentence .ensures), c .before .before .next-sentence .kept .1 .1 .0 ∙ c .before .before .before .before .before .loop .inv .1)
+loop-again c =
+    let at-next-sentence = c .before .before in
+    let at-loop-test = at-next-sentence .before .before in
+    let at-loop = at-loop-test .before in
+    (sentences-go-on (at-loop .loop .inv .0) (at-loop-test .loop-test .taken) (at-next-sentence .next-sentence .ensures), at-next-sentence .next-sentence .kept .1 .1 .0 ∙ at-loop .loop .inv .1)
 
 put-requires : tie.Need-put-requires Inv-loop μ-loop
 put-requires c κs = omega (arith, c .before .before .loop .inv .0 .grown, c .before .before .loop .inv .0 .within .count)
 
 same-length : tie.Need-same-length Inv-loop μ-loop
-same-length c = c .before .before .put .kept .0 ∙ c .before .before .before .before .before .loop .inv .1
+same-length c =
+    let at-put = c .before .before in
+    let at-loop = at-put .before .before .before in
+    at-put .put .kept .0 ∙ at-loop .loop .inv .1
 
 returns : tie.Need-returns Inv-loop μ-loop
-returns c = sentences-all (c .before .before .before .before .before .loop .inv .0) (c .before .before .before .before .loop-test .left) (c .before .before .put .ensures)
+returns c =
+    let at-put = c .before .before in
+    let at-loop-test = at-put .before .before in
+    let at-loop = at-loop-test .before in
+    sentences-all (at-loop .loop .inv .0) (at-loop-test .loop-test .left) (at-put .put .ensures)
 
 pub write-function-spec : {M : Type 1} → statement M
 write-function-spec =

@@ -10,17 +10,27 @@ write-tests-requires c κs = let pre = c .before .before .before .before .before
     (pre .0, (pre .1 .1, pre .1 .2, omega (arith, pre .1 .3)))
 
 write-conditions-requires : tie.Need-write-conditions-requires
-write-conditions-requires c κs = let t = c .before .before .before .before .before .before .before .before .before .write-tests .ensures in
+write-conditions-requires c κs =
+    let at-write-tests = c .before .before .before .before .before .before .before .before .before in
+    let entry = at-write-tests .before .before .before .before .before .before .before .before in
+    let t = at-write-tests .write-tests .ensures in
     let w = t .within in
-    (omega (arith, w .symbols, w .letters, w .nameRoom), omega (arith, w .symbols, w .letters, w .siteRoom), w .good, w .next, omega (arith, t .grown, c .before .before .before .before .before .before .before .before .before .before .before .before .before .before .before .before .before .pre .1 .3))
+    (omega (arith, w .symbols, w .letters, w .nameRoom), omega (arith, w .symbols, w .letters, w .siteRoom), w .good, w .next, omega (arith, t .grown, entry .pre .1 .3))
 
 write-stores-requires : tie.Need-write-stores-requires
-write-stores-requires c κs = let t = c .before .before .before .before .before .before .before .before .before .before .before .before .before .before .write-tests .ensures in
+write-stores-requires c κs =
+    let at-write-conditions = c .before .before .before .before in
+    let at-write-tests = at-write-conditions .before .before .before .before .before .before .before .before .before .before in
+    let entry = at-write-tests .before .before .before .before .before .before .before .before in
+    let t = at-write-tests .write-tests .ensures in
     let w = t .within in
-    (omega (arith, w .symbols, w .letters, w .siteRoom), w .good, omega (arith, w .symbols, w .letters, t .grown, c .before .before .before .before .write-conditions .ensures .grown, c .before .before .before .before .before .before .before .before .before .before .before .before .before .before .before .before .before .before .before .before .before .before .pre .1 .3))
+    (omega (arith, w .symbols, w .letters, w .siteRoom), w .good, omega (arith, w .symbols, w .letters, t .grown, at-write-conditions .write-conditions .ensures .grown, entry .pre .1 .3))
 
 sub-t27 : tie.Need-sub-t27
-sub-t27 c = omega (arith, c .before .before .before .before .before .before .before .before .before .before .before .before .before .before .before .before .before .before .write-tests .ensures .wrote .next, c .before .before .before .before .before .before .before .before .write-conditions .ensures .wrote .next)
+sub-t27 c =
+    let at-write-conditions = c .before .before .before .before .before .before .before .before in
+    let at-write-tests = at-write-conditions .before .before .before .before .before .before .before .before .before .before in
+    omega (arith, at-write-tests .write-tests .ensures .wrote .next, at-write-conditions .write-conditions .ensures .wrote .next)
 
 same-length : tie.Need-same-length
 same-length c = search needs
@@ -32,7 +42,12 @@ same-length-3 : tie.Need-same-length-3
 same-length-3 c = search needs
 
 returns : tie.Need-returns
-returns c = matched (c .before .before .before .before .before .before .before .before .before .before .before .before .before .before .before .before .before .before .before .before .before .before .before .before .before .before .pre .1 .0) (c .before .before .before .before .before .before .before .before .before .before .before .before .before .before .before .before .before .before .write-tests .ensures) (c .before .before .before .before .before .before .before .before .write-conditions .ensures) (c .before .before .before .write-stores .ensures)
+returns c =
+    let at-write-stores = c .before .before .before in
+    let at-write-conditions = at-write-stores .before .before .before .before .before in
+    let at-write-tests = at-write-conditions .before .before .before .before .before .before .before .before .before .before in
+    let entry = at-write-tests .before .before .before .before .before .before .before .before in
+    matched (entry .pre .1 .0) (at-write-tests .write-tests .ensures) (at-write-conditions .write-conditions .ensures) (at-write-stores .write-stores .ensures)
 
 pub write-matching-spec : {M : Type 1} → statement M
 write-matching-spec =

@@ -9,14 +9,24 @@ measure-requires : tie.Need-measure-requires
 measure-requires c κs = c .before .before .before .pre .1
 
 put-metric-requires : tie.Need-put-metric-requires
-put-metric-requires c κs = let m = c .before .before .measure .ensures .within in
-    (omega (arith, m .letters, m .most), omega (arith, c .before .before .before .before .before .before .pre .2))
+put-metric-requires c κs =
+    let at-measure = c .before .before in
+    let entry = at-measure .before .before .before .before in
+    let m = at-measure .measure .ensures .within in
+    (omega (arith, m .letters, m .most), omega (arith, entry .pre .2))
 
 add-from : tie.Need-add-from
-add-from c = omega (arith, c .before .before .put-metric .ensures .next, c .before .before .before .before .before .before .before .before .before .pre .2)
+add-from c =
+    let at-put-metric = c .before .before in
+    let entry = at-put-metric .before .before .before .before .before .before .before in
+    omega (arith, at-put-metric .put-metric .ensures .next, entry .pre .2)
 
 write-body-requires : tie.Need-write-body-requires
-write-body-requires c κs = (c .before .before .before .before .before .before .measure .ensures, c .before .before .before .before .before .before .before .before .before .before .pre .0, c .before .before .before .before .before .before .before .before .before .before .pre .1, omega (arith, c .before .before .before .put-metric .ensures .next, c .before .before .before .before .before .before .before .before .before .before .pre .2))
+write-body-requires c κs =
+    let at-put-metric = c .before .before .before in
+    let at-measure = at-put-metric .before .before .before in
+    let entry = at-measure .before .before .before .before in
+    (at-measure .measure .ensures, entry .pre .0, entry .pre .1, omega (arith, at-put-metric .put-metric .ensures .next, entry .pre .2))
 
 sub-put : tie.Need-sub-put
 sub-put c = body-ahead (c .before .before .before .before .write-body .ensures)
@@ -25,22 +35,37 @@ mul-put : tie.Need-mul-put
 mul-put c = omega (arith, c .before .before .before .before .write-body .ensures .grown)
 
 add-put : tie.Need-add-put
-add-put c = omega (arith, c .before .before .before .before .before .write-body .ensures .grown, c .before .before .before .before .before .write-body .ensures .few)
+add-put c =
+    let at-write-body = c .before .before .before .before .before in
+    omega (arith, at-write-body .write-body .ensures .grown, at-write-body .write-body .ensures .few)
 
 mul-put-2 : tie.Need-mul-put-2
-mul-put-2 c = omega (arith, c .before .before .before .before .before .write-body .ensures .grown, c .before .before .before .before .before .write-body .ensures .few)
+mul-put-2 c =
+    let at-write-body = c .before .before .before .before .before in
+    omega (arith, at-write-body .write-body .ensures .grown, at-write-body .write-body .ensures .few)
 
 add-put-2 : tie.Need-add-put-2
-add-put-2 c = omega (arith, c .before .before .before .before .before .before .write-body .ensures .grown, c .before .before .before .before .before .before .write-body .ensures .few)
+add-put-2 c =
+    let at-write-body = c .before .before .before .before .before .before in
+    omega (arith, at-write-body .write-body .ensures .grown, at-write-body .write-body .ensures .few)
 
 put-requires : tie.Need-put-requires
-put-requires c κs = (omega (arith, c .before .before .before .before .before .before .write-body .ensures .grown, c .before .before .before .before .before .before .write-body .ensures .few), omega (arith, c .before .before .before .before .before .before .before .before .before .before .put-metric .ensures .next, c .before .before .before .before .before .before .before .before .before .before .before .before .before .before .before .before .before .pre .2))
+put-requires c κs =
+    let at-write-body = c .before .before .before .before .before .before in
+    let at-put-metric = at-write-body .before .before .before .before in
+    let entry = at-put-metric .before .before .before .before .before .before .before in
+    (omega (arith, at-write-body .write-body .ensures .grown, at-write-body .write-body .ensures .few), omega (arith, at-put-metric .put-metric .ensures .next, entry .pre .2))
 
 same-length : tie.Need-same-length
 same-length c = search needs
 
 returns : tie.Need-returns
-returns c = sentenced (c .before .before .before .before .before .before .before .before .before .before .before .before .before .before .before .before .measure .ensures) (c .before .before .before .before .before .before .before .before .before .before .before .before .before .put-metric .ensures) (c .before .before .before .before .before .before .before .before .before .write-body .ensures) (c .before .before .put .ensures)
+returns c =
+    let at-put = c .before .before in
+    let at-write-body = at-put .before .before .before .before .before .before .before in
+    let at-put-metric = at-write-body .before .before .before .before in
+    let at-measure = at-put-metric .before .before .before in
+    sentenced (at-measure .measure .ensures) (at-put-metric .put-metric .ensures) (at-write-body .write-body .ensures) (at-put .put .ensures)
 
 pub write-sentence-spec : {M : Type 1} → statement M
 write-sentence-spec =
