@@ -6,4 +6,3 @@ pub mod Acting
 pub mod Sequences
 pub mod Naming
 pub mod Lines
-pub mod Reading

@@ -8,7 +8,7 @@ ghost use lib.Seq.{paste};
 ghost use Rattle.meaning.specs.Choice.{Bytes};
 ghost use Rattle.meaning.specs.Outcome.{emittedLine};
 ghost use Rattle.meaning.specs.Packing.{emissionOf};
-ghost use Rattle.acting.specs.Decoded.{isName};
+ghost use Rattle.decoding.specs.Decoded.{isName};
 ghost use Rattle.acting.specs.States.{memory, Acts};
 use crate::copying::copy_over;
 use crate::registers::Ending;

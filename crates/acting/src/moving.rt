@@ -5,15 +5,11 @@ ghost use mathlib.Core.List.{List};
 ghost use lib.ListN.{length};
 ghost use Rattle.meaning.specs.Choice.{Bytes};
 ghost use Rattle.meaning.specs.Instructions.{out, outCharacter, outValue, beginSequence, useSequence};
-ghost use Rattle.acting.specs.Decoded.{registerMeant, shiftMeant, writeMeant};
+ghost use Rattle.decoding.specs.Decoded.{registerMeant, shiftMeant, writeMeant};
 ghost use Rattle.acting.specs.States.{memory, frameWord, localAt, Acts};
 ghost use Rattle.acting.specs.Spans.{withinCells, cellsOf, reachedBy};
 ghost use Rattle.acting.specs.Copied.{MovedDown};
 use crate::copying::copy_over;
-use crate::decoding::Length;
-use crate::decoding::Shift;
-use crate::decoding::Span;
-use crate::decoding::Write;
 use crate::frames::set_word;
 use crate::frames::word;
 use crate::registers::Ending;
@@ -21,6 +17,10 @@ use crate::registers::InCell;
 use crate::registers::Next;
 use crate::registers::OutCell;
 use crate::registers::Registers;
+use decoding::Length;
+use decoding::Shift;
+use decoding::Span;
+use decoding::Write;
 
 // How many cells a span counts, where they are there.
 pub enum Cells {

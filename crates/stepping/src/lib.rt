@@ -7,8 +7,6 @@ ghost use Rattle.acting.specs.declared.registers.Next.the-variants.{Onward};
 ghost use Rattle.acting.specs.States.{memory, roomOf};
 ghost use Rattle.applying.specs.Waiting.{countIn, comesTo, leftToDo};
 ghost use Rattle.applying.specs.Advancing.{Underway, registersIn, statusIn, nextOf, onward, Advances};
-use acting::decoding::Instruction;
-use acting::decoding::decode;
 use acting::emitting::emit;
 use acting::moving::begin_sequence;
 use acting::moving::shift;
@@ -20,6 +18,8 @@ use acting::registers::Registers;
 use acting::registers::Status;
 use applying::call;
 use applying::leave;
+use decoding::Instruction;
+use decoding::decode;
 use matching::CodePlace;
 
 // One instruction.

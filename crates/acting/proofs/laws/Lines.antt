@@ -13,7 +13,7 @@ use Rattle.meaning.specs.Packing.{Words, emissionOf}
 use Rattle.acting.specs.declared.registers.Registers.{Registers}
 use Rattle.acting.specs.declared.registers.Ending.the-variants.{NoInstruction, JournalFull}
 use Rattle.acting.specs.declared.registers.Next.the-variants.{Onward, Stopped}
-use Rattle.acting.specs.Decoded.{isName}
+use Rattle.decoding.specs.Decoded.{isName}
 use Rattle.acting.specs.States.{Memory, memory, Acts}
 use Rattle.acting.proofs.laws.Acting.{stops}
 use Rattle.acting.proofs.laws.Naming.{spelled, spelled-long, length-line}

@@ -14,7 +14,7 @@ use Rattle.meaning.specs.Choice.{Bytes, every}
 use Rattle.meaning.specs.Outcome.{emittedLine}
 use Rattle.meaning.specs.Allowed.{isByte}
 use Rattle.meaning.specs.Packing.{Words}
-use Rattle.acting.specs.Decoded.{isName}
+use Rattle.decoding.specs.Decoded.{isName}
 use Rattle.meaning.proofs.laws.Choosing.{both-parts}
 use Rattle.matching.proofs.laws.Lists.{at-place}
 

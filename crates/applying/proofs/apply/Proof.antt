@@ -1,5 +1,4 @@
 -- `applying::apply` meets its contract.
-use Rattle.acting.specs.States.{memory}
 use Rattle.applying.proofs.laws.Calling.{apply-spent, apply-nothing, apply-wrong, apply-starts}
 use borrow.Author.Needs.{needs}
 use Rattle.applying.proofs.apply.Statement.{statement}

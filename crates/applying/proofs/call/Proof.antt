@@ -1,7 +1,6 @@
 -- `applying::call` meets its contract.
 use mathlib.Core.Path.{sym, _∙_}
 use borrow.Author.Tests.{not-true, not-false}
-use Rattle.acting.specs.States.{memory}
 use Rattle.applying.proofs.laws.Applying.{is-declared}
 use Rattle.applying.proofs.laws.Calling.{undeclared, tail-applies}
 use borrow.Author.Needs.{needs}

@@ -1,7 +1,6 @@
 -- `applying::framed_call` meets its contract.
 use native.Mathlib.Omega.{arith}
 use mathlib.Core.Path.{_∙_}
-use Rattle.acting.specs.States.{memory}
 use Rattle.applying.proofs.laws.Applying.{is-declared}
 use Rattle.applying.proofs.laws.Calling.{call-spent, call-full, call-applies}
 use borrow.Author.Needs.{needs}

@@ -3,10 +3,9 @@ use Prim.Native.Nat.{_+_}
 use native.Mathlib.Omega.{arith}
 use mathlib.Core.Path.{refl}
 use mathlib.Core.List.{[]}
-use Rattle.acting.specs.declared.decoding.Instruction.the-variants.{Shift as Shifts, Write as Writes, Begin, Use, Call as Calls, Emit, End, Unknown}
-use Rattle.acting.specs.Decoded.{callMeant}
-use Rattle.acting.specs.States.{memory}
-use Rattle.acting.proofs.laws.Reading.{actions-at, actions-none, actions-named}
+use Rattle.decoding.specs.declared.Instruction.the-variants.{Shift as Shifts, Write as Writes, Begin, Use, Call as Calls, Emit, End, Unknown}
+use Rattle.decoding.specs.Decoded.{callMeant}
+use Rattle.decoding.proofs.laws.Reading.{actions-at, actions-none, actions-named}
 use Rattle.applying.proofs.laws.Advancing.{stepped, advance-does, advance-acts, advance-unknown, advance-leaves}
 use borrow.Author.Needs.{needs}
 use Rattle.stepping.proofs.advance.Statement.{statement}

@@ -4,7 +4,7 @@ use borrow.Author.Needs.{needs}
 use Prim.Native.Nat.{_-_, _≤_}
 use mathlib.Core.Path.{_≡_, sym, _∙_}
 use lib.ListN.{drop}
-use Rattle.acting.specs.Decoded.{isName}
+use Rattle.decoding.specs.Decoded.{isName}
 use Rattle.acting.proofs.laws.Naming.{naming, naming-none, naming-wide, naming-next, naming-all, no-name}
 use Rattle.acting.proofs.emitting.named.Statement.{statement}
 use Rattle.acting.proofs.emitting.named.Tie as tie

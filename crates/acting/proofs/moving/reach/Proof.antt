@@ -4,7 +4,7 @@ use native.Mathlib.Omega.{arith}
 use Prim.Native.Nat.{_-_}
 use mathlib.Core.List.{[]}
 use lib.ListN.{length}
-use Rattle.acting.specs.Decoded.{registerMeant}
+use Rattle.decoding.specs.Decoded.{registerMeant}
 use Rattle.acting.specs.States.{localAt}
 use Rattle.acting.proofs.laws.Spanning.{counted}
 use Rattle.acting.proofs.moving.reach.Statement.{statement}

@@ -1,7 +1,6 @@
 -- `moving::shift` meets its contract.
 use borrow.Author.Needs.{needs}
-use Rattle.acting.specs.Decoded.{registerMeant}
-use Rattle.acting.specs.States.{memory}
+use Rattle.decoding.specs.Decoded.{registerMeant}
 use Rattle.acting.proofs.laws.Acting.{go-wrong, go-moved, select-wrong, select-moved}
 use Rattle.acting.proofs.moving.shift.Statement.{statement}
 use Rattle.acting.proofs.moving.shift.Tie as tie

@@ -1,6 +1,5 @@
 -- `moving::write_byte` meets its contract.
 use borrow.Author.Needs.{needs}
-use Rattle.acting.specs.States.{memory}
 use Rattle.acting.proofs.laws.Acting.{byte-full, byte-written}
 use Rattle.acting.proofs.moving.write_byte.Statement.{statement}
 use Rattle.acting.proofs.moving.write_byte.Tie as tie

@@ -1,6 +1,5 @@
 -- `moving::write_part` meets its contract.
 use borrow.Author.Needs.{needs}
-use Rattle.acting.specs.States.{memory}
 use Rattle.acting.proofs.laws.Acting.{part-full, part-written}
 use Rattle.acting.proofs.moving.write_part.Statement.{statement}
 use Rattle.acting.proofs.moving.write_part.Tie as tie

@@ -1,6 +1,5 @@
 -- `moving::write_value` meets its contract.
 use borrow.Author.Needs.{needs}
-use Rattle.acting.specs.States.{memory}
 use Rattle.acting.proofs.laws.Acting.{value-none, value-written}
 use Rattle.acting.proofs.moving.write_value.Statement.{statement}
 use Rattle.acting.proofs.moving.write_value.Tie as tie

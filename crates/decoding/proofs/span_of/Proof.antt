@@ -1,7 +1,7 @@
--- `decoding::span_of` meets its contract.
+-- `span_of` meets its contract.
 use borrow.Author.Needs.{needs}
-use Rattle.acting.proofs.decoding.span_of.Statement.{statement}
-use Rattle.acting.proofs.decoding.span_of.Tie as tie
+use Rattle.decoding.proofs.span_of.Statement.{statement}
+use Rattle.decoding.proofs.span_of.Tie as tie
 
 length-of-requires : tie.Need-length-of-requires
 length-of-requires c κs = search needs

@@ -1,7 +1,7 @@
--- `decoding::call_of` meets its contract.
+-- `call_of` meets its contract.
 use borrow.Author.Needs.{needs}
-use Rattle.acting.proofs.decoding.call_of.Statement.{statement}
-use Rattle.acting.proofs.decoding.call_of.Tie as tie
+use Rattle.decoding.proofs.call_of.Statement.{statement}
+use Rattle.decoding.proofs.call_of.Tie as tie
 
 wide-requires : tie.Need-wide-requires
 wide-requires c κs = search needs

@@ -1,7 +1,7 @@
--- `decoding::length_of` meets its contract: each arm's number computes the definition.
+-- `length_of` meets its contract: each arm's number computes the definition.
 use borrow.Author.Tests.{ne-eqb}
-use Rattle.acting.proofs.decoding.length_of.Statement.{statement}
-use Rattle.acting.proofs.decoding.length_of.Tie as tie
+use Rattle.decoding.proofs.length_of.Statement.{statement}
+use Rattle.decoding.proofs.length_of.Tie as tie
 
 returns : tie.Need-returns
 returns c = rw (c .match .keys1)

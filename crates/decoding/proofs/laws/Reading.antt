@@ -10,12 +10,12 @@ use lib.Seq.{drop-drop}
 use Rattle.meaning.specs.Choice.{pick}
 use Rattle.meaning.specs.Instructions.{null, whole, left, right, Action, go, select, out, outCharacter, outValue, beginSequence, useSequence, call, tailCall, unknownAction}
 use Rattle.meaning.specs.Packing.{Words, numberIn, firstIn, secondIn, thirdIn, lengthOf, spanAction, emissionOf, unpackActions}
-use Rattle.acting.specs.declared.decoding.Length.the-variants.{Null, Whole, Left, Right, Unknown as UnknownLength}
-use Rattle.acting.specs.declared.decoding.Instruction.{Instruction}
-use Rattle.acting.specs.declared.decoding.Shift.the-variants.{Go, Select}
-use Rattle.acting.specs.declared.decoding.Write.the-variants.{Part, Character, Value}
-use Rattle.acting.specs.declared.decoding.Instruction.the-variants.{Shift as Shifts, Write as Writes, Begin, Use, Call as Calls, Emit, End, Unknown}
-use Rattle.acting.specs.Decoded.{spanIn, callIn, instructionIn, registerMeant, lengthIn, actionsMeant}
+use Rattle.decoding.specs.declared.Length.the-variants.{Null, Whole, Left, Right, Unknown as UnknownLength}
+use Rattle.decoding.specs.declared.Instruction.{Instruction}
+use Rattle.decoding.specs.declared.Shift.the-variants.{Go, Select}
+use Rattle.decoding.specs.declared.Write.the-variants.{Part, Character, Value}
+use Rattle.decoding.specs.declared.Instruction.the-variants.{Shift as Shifts, Write as Writes, Begin, Use, Call as Calls, Emit, End, Unknown}
+use Rattle.decoding.specs.Decoded.{spanIn, callIn, instructionIn, registerMeant, lengthIn, actionsMeant}
 use Rattle.matching.proofs.laws.Lists.{at-place, past-end}
 
 module _ (a b c d : Bool) where

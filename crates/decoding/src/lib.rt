@@ -1,7 +1,7 @@
 // Code words as instructions.
 use matching::wide;
 ghost use mathlib.Core.Path.{_≡_};
-ghost use Rattle.acting.specs.Decoded.{lengthIn, spanIn, callIn, instructionIn};
+ghost use Rattle.decoding.specs.Decoded.{lengthIn, spanIn, callIn, instructionIn};
 
 // A register of the Process part; Unknown stands for a number that is none.
 pub enum Length {

@@ -10,16 +10,16 @@ use Rattle.meaning.specs.Allowed.{isByte}
 use Rattle.meaning.specs.Instructions.{null, whole, left, right, Action, go, select, out, outCharacter, outValue, beginSequence, useSequence, call, tailCall, unknownAction}
 use Rattle.meaning.specs.Instructions.{Length as Register}
 use Rattle.meaning.specs.Packing.{Words, numberIn, firstIn, secondIn, thirdIn, actionsEnd, spanAction, emissionOf, unpackActions}
-use Rattle.acting.specs.declared.decoding.Length.{Length}
-use Rattle.acting.specs.declared.decoding.Length.the-variants.{Null, Whole, Left, Right, Unknown as UnknownLength}
-use Rattle.acting.specs.declared.decoding.Span.{Span}
-use Rattle.acting.specs.declared.decoding.Shift.{Shift}
-use Rattle.acting.specs.declared.decoding.Shift.the-variants.{Go, Select}
-use Rattle.acting.specs.declared.decoding.Call.{Call}
-use Rattle.acting.specs.declared.decoding.Write.{Write}
-use Rattle.acting.specs.declared.decoding.Write.the-variants.{Part, Character, Value}
-use Rattle.acting.specs.declared.decoding.Instruction.{Instruction}
-use Rattle.acting.specs.declared.decoding.Instruction.the-variants.{Shift as Shifts, Write as Writes, Begin, Use, Call as Calls, Emit, End, Unknown}
+use Rattle.decoding.specs.declared.Length.{Length}
+use Rattle.decoding.specs.declared.Length.the-variants.{Null, Whole, Left, Right, Unknown as UnknownLength}
+use Rattle.decoding.specs.declared.Span.{Span}
+use Rattle.decoding.specs.declared.Shift.{Shift}
+use Rattle.decoding.specs.declared.Shift.the-variants.{Go, Select}
+use Rattle.decoding.specs.declared.Call.{Call}
+use Rattle.decoding.specs.declared.Write.{Write}
+use Rattle.decoding.specs.declared.Write.the-variants.{Part, Character, Value}
+use Rattle.decoding.specs.declared.Instruction.{Instruction}
+use Rattle.decoding.specs.declared.Instruction.the-variants.{Shift as Shifts, Write as Writes, Begin, Use, Call as Calls, Emit, End, Unknown}
 
 abbrev pub lengthIn : ℕ → Length
 lengthIn n = pick (eqb n 0) Null (pick (eqb n 1) Whole (pick (eqb n 2) Left (pick (eqb n 3) Right UnknownLength)))

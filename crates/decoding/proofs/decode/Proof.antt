@@ -1,8 +1,8 @@
--- `decoding::decode` meets its contract: each arm's number computes the definition.
+-- `decode` meets its contract: each arm's number computes the definition.
 use borrow.Author.Needs.{needs}
 use borrow.Author.Tests.{ne-eqb}
-use Rattle.acting.proofs.decoding.decode.Statement.{statement}
-use Rattle.acting.proofs.decoding.decode.Tie as tie
+use Rattle.decoding.proofs.decode.Statement.{statement}
+use Rattle.decoding.proofs.decode.Tie as tie
 
 wide-requires : tie.Need-wide-requires
 wide-requires c κs = search needs
