@@ -59,7 +59,8 @@ fn write_line(
 )
     requires { ⌜ isName size (drop (name .0) (now code)) ≡ true ⌝ }
     requires { ⌜ to + (size + length (now argument) + 2) ≤ length (now journal) ⌝ }
-    ensures { λ _. ⌜ now (journal .exit) ≡ paste (now (journal .entry)) to (emittedLine (take size (drop (name .0) (now (code .entry)))) (now (argument .entry))) (size + length (now (argument .entry)) + 2) ⌝ }
+    ensures { λ _. ⌜ now (journal .exit) ≡ paste (now (journal .entry)) to (emittedLine (take size (drop (name .0) (now (code .entry)))) (now (argument .entry)))
+        (size + length (now (argument .entry)) + 2) ⌝ }
 {
     copy_name(journal, to, code, name, size);
     let gap = to + size;
@@ -74,7 +75,8 @@ pub fn emit(g: Registers, code: &[u32], size: usize, input: &[u8], journal: &mut
     requires { ⌜ g .p .0 ≤ g .q .0 ⌝ }
     requires { ⌜ g .q .0 ≤ length (now input) ⌝ }
     requires { ⌜ g .emitted ≤ length (now journal) ⌝ }
-    ensures { λ r. ⌜ ((output values : Bytes) (frames : List ℕ) → Acts (emissionOf size (drop (g .at .0) (now (code .entry)))) (g .at .0 + size) g (memory (now (input .entry)) output (now (journal .entry)) frames values) r (memory (now (input .entry)) output (now (journal .exit)) frames values)) ⌝ }
+    ensures { λ r. ⌜ ((output values : Bytes) (frames : List ℕ) → Acts (emissionOf size (drop (g .at .0) (now (code .entry)))) (g .at .0 + size) g
+        (memory (now (input .entry)) output (now (journal .entry)) frames values) r (memory (now (input .entry)) output (now (journal .exit)) frames values)) ⌝ }
 {
     if !named(code, g.at, size) {
         return Next::Stopped(g, Ending::NoInstruction, 0);

@@ -84,7 +84,8 @@ fn reach(from: InCell, span: Span, frame: usize, input: &[u8], frames: &[usize])
     requires { ⌜ from .0 ≤ length (now input) ⌝ }
     requires { ⌜ frame < 256 ⌝ }
     requires { ⌜ length (now frames) ≡ 6144 ⌝ }
-    ensures { λ r. ⌜ ((values : Bytes) → r ≡ reachedBy (cellsOf (registerMeant (span .register)) (span .add) (span .back) (localAt frame (now (frames .entry)) values) (length (now (input .entry)) - from .0)) (from .0)) ⌝ }
+    ensures { λ r. ⌜ ((values : Bytes) → r ≡ reachedBy (cellsOf (registerMeant (span .register)) (span .add) (span .back)
+        (localAt frame (now (frames .entry)) values) (length (now (input .entry)) - from .0)) (from .0)) ⌝ }
 {
     let at = from.0;
     match span_cells(frames, frame, span, input.len() - at) {
@@ -99,7 +100,8 @@ pub fn shift(g: Registers, what: Shift, input: &[u8], frames: &[usize]) -> Next
     requires { ⌜ g .q .0 ≤ length (now input) ⌝ }
     requires { ⌜ g .frame < 256 ⌝ }
     requires { ⌜ length (now frames) ≡ 6144 ⌝ }
-    ensures { λ r. ⌜ ((output journal values : Bytes) → Acts (shiftMeant what) (g .at .0) g (memory (now (input .entry)) output journal (now (frames .entry)) values) r (memory (now (input .entry)) output journal (now (frames .entry)) values)) ⌝ }
+    ensures { λ r. ⌜ ((output journal values : Bytes) → Acts (shiftMeant what) (g .at .0) g (memory (now (input .entry)) output journal (now (frames .entry)) values)
+        r (memory (now (input .entry)) output journal (now (frames .entry)) values)) ⌝ }
 {
     match what {
         Shift::Go(span) => {
@@ -121,7 +123,8 @@ fn write_part(g: Registers, input: &[u8], output: &mut [u8]) -> Next
     requires { ⌜ g .p .0 ≤ g .q .0 ⌝ }
     requires { ⌜ g .q .0 ≤ length (now input) ⌝ }
     requires { ⌜ g .r .0 ≤ length (now output) ⌝ }
-    ensures { λ r. ⌜ ((journal values : Bytes) (frames : List ℕ) → Acts out (g .at .0) g (memory (now (input .entry)) (now (output .entry)) journal frames values) r (memory (now (input .entry)) (now (output .exit)) journal frames values)) ⌝ }
+    ensures { λ r. ⌜ ((journal values : Bytes) (frames : List ℕ) → Acts out (g .at .0) g (memory (now (input .entry)) (now (output .entry)) journal frames values) r
+        (memory (now (input .entry)) (now (output .exit)) journal frames values)) ⌝ }
 {
     let p = g.p.0;
     let q = g.q.0;
@@ -140,7 +143,8 @@ fn write_part(g: Registers, input: &[u8], output: &mut [u8]) -> Next
 
 fn write_byte(g: Registers, byte: u8, output: &mut [u8]) -> Next
     requires { ⌜ g .r .0 ≤ length (now output) ⌝ }
-    ensures { λ r. ⌜ ((input journal values : Bytes) (frames : List ℕ) → Acts (outCharacter byte) (g .at .0) g (memory input (now (output .entry)) journal frames values) r (memory input (now (output .exit)) journal frames values)) ⌝ }
+    ensures { λ r. ⌜ ((input journal values : Bytes) (frames : List ℕ) → Acts (outCharacter byte) (g .at .0) g
+        (memory input (now (output .entry)) journal frames values) r (memory input (now (output .exit)) journal frames values)) ⌝ }
 {
     let r = g.r.0;
     if output.len() <= r {
@@ -165,7 +169,9 @@ fn write_value(
     requires { ⌜ length (now frames) ≡ 6144 ⌝ }
     requires { ⌜ frameWord (g .frame) 3 (now frames) ≤ 16 ⌝ }
     requires { ⌜ length (now values) ≡ 4096 ⌝ }
-    ensures { λ r. ⌜ ((input journal : Bytes) → Acts (outValue index) (g .at .0) g (memory input (now (output .entry)) journal (now (frames .entry)) (now (values .entry))) r (memory input (now (output .exit)) journal (now (frames .entry)) (now (values .entry)))) ⌝ }
+    ensures { λ r. ⌜ ((input journal : Bytes) → Acts (outValue index) (g .at .0) g
+        (memory input (now (output .entry)) journal (now (frames .entry)) (now (values .entry))) r
+        (memory input (now (output .exit)) journal (now (frames .entry)) (now (values .entry)))) ⌝ }
 {
     let frame = g.frame;
     if word(frames, frame, 3) <= index {
@@ -190,7 +196,9 @@ pub fn write(
     requires { ⌜ length (now frames) ≡ 6144 ⌝ }
     requires { ⌜ frameWord (g .frame) 3 (now frames) ≤ 16 ⌝ }
     requires { ⌜ length (now values) ≡ 4096 ⌝ }
-    ensures { λ r. ⌜ ((journal : Bytes) → Acts (writeMeant what) (g .at .0) g (memory (now (input .entry)) (now (output .entry)) journal (now (frames .entry)) (now (values .entry))) r (memory (now (input .entry)) (now (output .exit)) journal (now (frames .entry)) (now (values .entry)))) ⌝ }
+    ensures { λ r. ⌜ ((journal : Bytes) → Acts (writeMeant what) (g .at .0) g
+        (memory (now (input .entry)) (now (output .entry)) journal (now (frames .entry)) (now (values .entry))) r
+        (memory (now (input .entry)) (now (output .exit)) journal (now (frames .entry)) (now (values .entry)))) ⌝ }
 {
     match what {
         Write::Part => write_part(g, input, output),
@@ -204,7 +212,8 @@ pub fn begin_sequence(g: Registers, frames: &mut [usize]) -> Next
     requires { ⌜ g .frame < 256 ⌝ }
     requires { ⌜ length (now frames) ≡ 6144 ⌝ }
     requires { ⌜ frameWord (g .frame) 4 (now frames) ≤ 16 ⌝ }
-    ensures { λ r. ⌜ ((input output journal values : Bytes) → g .r .0 ≤ length output → Acts beginSequence (g .at .0) g (memory input output journal (now (frames .entry)) values) r (memory input output journal (now (frames .exit)) values)) ⌝ }
+    ensures { λ r. ⌜ ((input output journal values : Bytes) → g .r .0 ≤ length output →
+        Acts beginSequence (g .at .0) g (memory input output journal (now (frames .entry)) values) r (memory input output journal (now (frames .exit)) values)) ⌝ }
 {
     let frame = g.frame;
     let opened = word(frames, frame, 4);
@@ -249,7 +258,9 @@ pub fn use_sequence(g: Registers, input: &mut [u8], output: &[u8], frames: &mut 
     requires { ⌜ g .frame < 256 ⌝ }
     requires { ⌜ length (now frames) ≡ 6144 ⌝ }
     requires { ⌜ frameWord (g .frame) 4 (now frames) ≤ 16 ⌝ }
-    ensures { λ r. ⌜ ((journal values : Bytes) → Acts useSequence (g .at .0) g (memory (now (input .entry)) (now (output .entry)) journal (now (frames .entry)) values) r (memory (now (input .exit)) (now (output .entry)) journal (now (frames .exit)) values)) ⌝ }
+    ensures { λ r. ⌜ ((journal values : Bytes) → Acts useSequence (g .at .0) g
+        (memory (now (input .entry)) (now (output .entry)) journal (now (frames .entry)) values) r
+        (memory (now (input .exit)) (now (output .entry)) journal (now (frames .exit)) values)) ⌝ }
 {
     let frame = g.frame;
     let opened = word(frames, frame, 4);

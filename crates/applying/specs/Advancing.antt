@@ -85,6 +85,11 @@ pub record Advances (words : Words) (allowance : ℕ) (tocome : Outcomes) (bound
   pub leads : Leads words allowance tocome g m next n
   pub falls : leftToDo (length words) allowance next n < bound
 
+-- one instruction of the loop
+abbrev pub Steps : Words → ℕ → Registers → Memory → Next → Memory → Type 0
+Steps words allowance g m next n =
+    Advances words allowance (comesTo (roomOf m) allowance words (Onward g) m) (leftToDo (length words) allowance (Onward g) m) g m next n
+
 -- an instruction does the machine's action, the registers being at the place after its word, and leads on to a place
 abbrev pub Performs : Words → ℕ → Action → ℕ → Registers → Memory → Next → Memory → Type 0
 Performs words allowance action at g m next n =

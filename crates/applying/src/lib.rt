@@ -55,7 +55,8 @@ fn store_values(
     frame: usize,
 ) -> Stored
     requires { ⌜ 16 * frame + count ≤ length (now values) ⌝ }
-    ensures { λ r. ⌜ Stores (16 * frame) count (stores .0 + count) (storedValues (unpackStores count (drop (stores .0) (now (code .entry)))) (now (field .entry)) place) (now (values .entry)) (now (values .exit)) r ⌝ }
+    ensures { λ r. ⌜ Stores (16 * frame) count (stores .0 + count)
+        (storedValues (unpackStores count (drop (stores .0) (now (code .entry)))) (now (field .entry)) place) (now (values .entry)) (now (values .exit)) r ⌝ }
 {
     let base = 16 * frame;
     let mut at = stores.0;
@@ -200,7 +201,9 @@ fn framed_call(
     requires { ⌜ g .frame < 256 ⌝ }
     requires { ⌜ length (now frames) ≡ 6144 ⌝ }
     requires { ⌜ length (now values) ≡ 4096 ⌝ }
-    ensures { λ r. ⌜ ((output journal : Bytes) → Performs (now (code .entry)) allowance (calling number) (g .at .0) g (memory (now (input .entry)) output journal (now (frames .entry)) (now (values .entry))) r (memory (now (input .entry)) output journal (now (frames .exit)) (now (values .exit)))) ⌝ }
+    ensures { λ r. ⌜ ((output journal : Bytes) → Performs (now (code .entry)) allowance (calling number) (g .at .0) g
+        (memory (now (input .entry)) output journal (now (frames .entry)) (now (values .entry))) r
+        (memory (now (input .entry)) output journal (now (frames .exit)) (now (values .exit)))) ⌝ }
 {
     if allowance <= g.steps {
         return Next::Stopped(g, Ending::AllowanceSpent, 0);
@@ -235,7 +238,9 @@ pub fn call(
     requires { ⌜ g .frame < 256 ⌝ }
     requires { ⌜ length (now frames) ≡ 6144 ⌝ }
     requires { ⌜ length (now values) ≡ 4096 ⌝ }
-    ensures { λ r. ⌜ ((output journal : Bytes) → Performs (now (code .entry)) allowance (callMeant what) (g .at .0) g (memory (now (input .entry)) output journal (now (frames .entry)) (now (values .entry))) r (memory (now (input .entry)) output journal (now (frames .exit)) (now (values .exit)))) ⌝ }
+    ensures { λ r. ⌜ ((output journal : Bytes) → Performs (now (code .entry)) allowance (callMeant what) (g .at .0) g
+        (memory (now (input .entry)) output journal (now (frames .entry)) (now (values .entry))) r
+        (memory (now (input .entry)) output journal (now (frames .exit)) (now (values .exit)))) ⌝ }
 {
     let number = what.function;
     if !declared(code, number) {

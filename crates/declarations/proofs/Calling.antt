@@ -55,7 +55,8 @@ call-is : (argument : ℕ → Reading.Progress → List Tokens.Placed → Parsed
     → Reading.call argument depth so t ts ≡ follow (opening depth (so .items) t ts) (afterName argument (suc depth) so)
 call-is argument depth so t ts =
     rw (name-follow Reading.calledFault ts (λ place n rest. parsed (record { place = place; name = n }) rest) (afterName argument (suc depth) so))
-    (check-follow (Reading.callFault depth so) t (passName Reading.calledFault ts (λ place n rest. parsed (record { place = place; name = n }) rest)) (afterName argument (suc depth) so))
+    (check-follow (Reading.callFault depth so) t (passName Reading.calledFault ts (λ place n rest. parsed (record { place = place; name = n }) rest))
+    (afterName argument (suc depth) so))
 
 -- THE READER
 
@@ -90,7 +91,8 @@ module _ (text table : List ℕ) (symbols parts bound depth : ℕ) (s : Progress
   at-opening : callAt text table symbols parts bound depth s place
       ≡ follow (openingAt text depth s place) (afterName (Reading.expression bound (symbolNames text table symbols)) (suc depth) (progressAt text table parts s))
   at-opening =
-      call-is (Reading.expression bound (symbolNames text table symbols)) depth (progressAt text table parts s) (standing (Tokens.sign 60) place (s .at)) (stream text Tokens.naming (s .at))
+      call-is (Reading.expression bound (symbolNames text table symbols)) depth (progressAt text table parts s) (standing (Tokens.sign 60) place (s .at))
+      (stream text Tokens.naming (s .at))
 
   pub call-unopened : {tape tape′ : List ℕ} {fault : Fault} → OpeningAgrees text depth s place tape tape′ (Stopped fault)
       → CallAgrees text table symbols parts bound depth s place tape tape′ (Stopped fault)

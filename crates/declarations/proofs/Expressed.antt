@@ -206,7 +206,8 @@ module _ {text table : List ℕ} {symbols parts depth : ℕ} {start : Progress} 
       let b = k .behind bound h in
       let i = item-then c (g .1) in
       let item = itemAt text t in
-      let rest = Reading.expression (b .left - 1) (symbolNames text table symbols) depth (Reading.pastItem item (progressAt text table parts s)) (stream text Tokens.inside (t .past)) in
+      let rest = Reading.expression (b .left - 1) (symbolNames text table symbols) depth (Reading.pastItem item (progressAt text table parts s))
+      (stream text Tokens.inside (t .past)) in
       stops _ _ _
       (at-step b (i .unrolled)
       ∙ rw (g .1, g .0 .fault, check-wrong (numberOf answer) (placedOf text t) (withFirst (thenItem item) rest) (g .0 .wrong)))
@@ -286,7 +287,8 @@ module _ {text table : List ℕ} {symbols parts depth : ℕ} {start : Progress} 
         let b = k .behind bound h in
         stops fault _ _ (at-call b ∙ rw (has-stopped _ fault (a (b .left - 1) (left-enough b)))) refl refl
 
-    call-behind : {tape″ : List ℕ} {next : Progress} {bound : ℕ} (b : Behind text table symbols parts depth start tape₀ tape s bound) (d : Reading.Called) (rest : List Tokens.Placed)
+    call-behind : {tape″ : List ℕ} {next : Progress} {bound : ℕ} (b : Behind text table symbols parts depth start tape₀ tape s bound) (d : Reading.Called)
+        (rest : List Tokens.Placed)
         → calledAt (b .left - 1) ≡ parsed d rest
         → CallRead text table symbols parts opened tape′ tape″ d rest next
         → tape′ ≡ tape

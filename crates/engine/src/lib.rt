@@ -53,7 +53,8 @@ pub extern "C" fn refal0_run(
     allowance: u32,
     answer: &mut [u64; 5],
 )
-    ensures { λ _. ⌜ Runs (now (answer .exit)) (cells (now («stack_in» .exit)) (now («stack_out» .exit)) (now («record» .exit))) (leaving (now (code .entry)) start (now (text .entry)) (cells (now («stack_in» .entry)) (now («stack_out» .entry)) (now («record» .entry))) allowance) ⌝ }
+    ensures { λ _. ⌜ Runs (now (answer .exit)) (cells (now («stack_in» .exit)) (now («stack_out» .exit)) (now («record» .exit)))
+        (leaving (now (code .entry)) start (now (text .entry)) (cells (now («stack_in» .entry)) (now («stack_out» .entry)) (now («record» .entry))) allowance) ⌝ }
 {
     let ran = running::run(code, start, text, stack_in, stack_out, record, allowance);
     let ending = ran.ending;
@@ -88,7 +89,9 @@ pub fn translate_and_run(
     record: &mut [u8],
     allowance: u32,
 ) -> Report
-    ensures { λ r. ⌜ Reports r (now (code .exit)) (cells (now («stack_in» .exit)) (now («stack_out» .exit)) (now («record» .exit))) (tableRun (read (now (table .entry))) (length (now (code .entry))) start (now (text .entry)) (cells (now («stack_in» .entry)) (now («stack_out» .entry)) (now («record» .entry))) allowance) ⌝ }
+    ensures { λ r. ⌜ Reports r (now (code .exit)) (cells (now («stack_in» .exit)) (now («stack_out» .exit)) (now («record» .exit)))
+        (tableRun (read (now (table .entry))) (length (now (code .entry))) start (now (text .entry))
+        (cells (now («stack_in» .entry)) (now («stack_out» .entry)) (now («record» .entry))) allowance) ⌝ }
 {
     let told = translate_table(table, code);
     let number = told.number;

@@ -83,7 +83,8 @@ fn write_character(tape: &[u32], code: &mut [u32], walk: Walk) -> Walk
 
 fn write_value(tape: &[u32], names: &[usize], code: &mut [u32], walk: Walk) -> Walk
     requires { ⌜ (walk .next < length (now tape)) × (walk .items < 128) × (walk .at < 2 ^ 61) × (length (now names) ≤ 64) ⌝ }
-    ensures { λ r. ⌜ Wrote (now (code .entry)) (walk .at) (word 9 (numberAmong 0 (headNames (now (tape .entry)) (now (names .entry))) (headName (now (tape .entry)) (walk .next)) - 1) 0 0 ∷ []) (now (code .exit)) (r .at) ⌝ }
+    ensures { λ r. ⌜ Wrote (now (code .entry)) (walk .at)
+        (word 9 (numberAmong 0 (headNames (now (tape .entry)) (now (names .entry))) (headName (now (tape .entry)) (walk .next)) - 1) 0 0 ∷ []) (now (code .exit)) (r .at) ⌝ }
     ensures { λ r. ⌜ r ≡ itemDone walk (length (headName (now (tape .entry)) (walk .next))) (r .at) (walk .depth) (walk .stand) ⌝ }
 {
     let size = name_size(tape, walk.next);
@@ -105,8 +106,10 @@ fn put_part(lengths: Lengths, first: bool, stand: Stand, code: &mut [u32], at: u
 
 fn write_part(tape: &[u32], m: Pattern, code: &mut [u32], walk: Walk) -> Walk
     requires { ⌜ (total (m .lengths) ≤ 64) × (walk .next < length (now tape)) × (walk .items < 128) × (walk .at < 2 ^ 61) ⌝ }
-    ensures { λ r. ⌜ Wrote (now (code .entry)) (walk .at) (partWords (m .lengths) (sameBytes (headName (now (tape .entry)) (walk .next)) (headName (now (tape .entry)) (m .variable))) (walk .stand)) (now (code .exit)) (r .at) ⌝ }
-    ensures { λ r. ⌜ r ≡ itemDone walk (length (headName (now (tape .entry)) (walk .next))) (r .at) (walk .depth) (standAfter (m .lengths .parts) (sameBytes (headName (now (tape .entry)) (walk .next)) (headName (now (tape .entry)) (m .variable))) (walk .stand)) ⌝ }
+    ensures { λ r. ⌜ Wrote (now (code .entry)) (walk .at)
+        (partWords (m .lengths) (sameBytes (headName (now (tape .entry)) (walk .next)) (headName (now (tape .entry)) (m .variable))) (walk .stand)) (now (code .exit)) (r .at) ⌝ }
+    ensures { λ r. ⌜ r ≡ itemDone walk (length (headName (now (tape .entry)) (walk .next))) (r .at) (walk .depth)
+        (standAfter (m .lengths .parts) (sameBytes (headName (now (tape .entry)) (walk .next)) (headName (now (tape .entry)) (m .variable))) (walk .stand)) ⌝ }
 {
     let size = name_size(tape, walk.next);
     let first = name_is(tape, m.variable, walk.next + 1, size);
@@ -275,7 +278,8 @@ fn write_ending(
     at: usize,
 ) -> usize
     requires { ⌜ (head < length (now tape)) × (length (now heads) ≤ 64) × (total lengths ≤ 64) × (at < 2 ^ 61) ⌝ }
-    ensures { λ r. ⌜ Wrote (now (code .entry)) at (callWords manner lengths stand (numberAmong 0 (headNames (now (tape .entry)) (now (heads .entry))) (headName (now (tape .entry)) head)) (headName (now (tape .entry)) head)) (now (code .exit)) r ⌝ }
+    ensures { λ r. ⌜ Wrote (now (code .entry)) at (callWords manner lengths stand
+        (numberAmong 0 (headNames (now (tape .entry)) (now (heads .entry))) (headName (now (tape .entry)) head)) (headName (now (tape .entry)) head)) (now (code .exit)) r ⌝ }
 {
     let from = head + 1;
     let size = name_size(tape, head);
@@ -299,7 +303,8 @@ fn close_call(
 ) -> Walk
     requires { ⌜ (1 ≤ walk .depth) × (walk .depth ≤ length (now calls)) × (getD (now calls) (walk .depth - 1) 0 < length (now tape)) ⌝ }
     requires { ⌜ (length (now heads) ≤ 64) × (total lengths ≤ 64) × (walk .at < 2 ^ 61) ⌝ }
-    ensures { λ r. ⌜ Wrote (now (code .entry)) (walk .at) (endingWords (now (tape .entry)) (now (heads .entry)) lengths (now (calls .entry)) next walk) (now (code .exit)) (r .at) ⌝ }
+    ensures { λ r. ⌜ Wrote (now (code .entry)) (walk .at) (endingWords (now (tape .entry)) (now (heads .entry)) lengths (now (calls .entry)) next walk)
+        (now (code .exit)) (r .at) ⌝ }
     ensures { λ r. ⌜ r ≡ callDone walk next (r .at) (goesOn (mannerNow (now (tape .entry)) (now (calls .entry)) next walk)) ⌝ }
 {
     let depth = walk.depth - 1;
@@ -322,7 +327,8 @@ fn write_item(
     walk: Walk,
 ) -> Walk
     requires { ⌜ (length (now heads) ≤ 64) × (length (now names) ≤ 64) × (total (m .lengths) ≤ 64) × InItems (now tape) (now calls) walk × (walk .at < 2 ^ 61) ⌝ }
-    ensures { λ r. ⌜ ItemsOn (now (tape .entry)) (now (heads .entry)) (now (names .entry)) m (now (calls .entry)) (now (code .entry)) walk (now (calls .exit)) (now (code .exit)) r ⌝ }
+    ensures { λ r. ⌜ ItemsOn (now (tape .entry)) (now (heads .entry)) (now (names .entry)) m (now (calls .entry)) (now (code .entry)) walk
+        (now (calls .exit)) (now (code .exit)) r ⌝ }
 {
     let item = item_at(tape, walk.next, walk.depth, walk.items);
     let lengths = m.lengths;

@@ -352,7 +352,8 @@ fn quoted_at(text: &[u8], place: usize) -> Placed
 // `<` has a letter right after it.
 fn bracket_at(text: &[u8], at: usize) -> Placed
     requires { ⌜ at < length (now text) ⌝ }
-    ensures { λ r. ⌜ Shows (now (text .entry)) r (Tokens.bracketAt at (drop (suc at) (now (text .entry))) (Tokens.ahead (inClass alphabetic) (drop (suc at) (now (text .entry)))) .first) ⌝ }
+    ensures { λ r. ⌜ Shows (now (text .entry)) r (Tokens.bracketAt at (drop (suc at) (now (text .entry)))
+        (Tokens.ahead (inClass alphabetic) (drop (suc at) (now (text .entry)))) .first) ⌝ }
 {
     if letter_ahead(text, at + 1) {
         Placed {

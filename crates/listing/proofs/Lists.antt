@@ -122,7 +122,16 @@ part-begins = record { some = omega arith; is = λ s n. refl }
 
 call-kind : (place : ℕ) (s : State) (n : ℕ) → kindStep s (callKind + place) n ≡ partedStep s 60 (NameLeft n)
 call-kind place s n =
-    rw (other 1 (omega arith), other 2 (omega arith), other 3 (omega arith), other 4 (omega arith), other 5 (omega arith), other 6 (omega arith), other 7 (omega arith), other 8 (omega arith))
+    rw (
+      other 1 (omega arith),
+      other 2 (omega arith),
+      other 3 (omega arith),
+      other 4 (omega arith),
+      other 5 (omega arith),
+      other 6 (omega arith),
+      other 7 (omega arith),
+      other 8 (omega arith),
+    )
   where
     other : (kind : ℕ) → kind < callKind → eqb (callKind + place) kind ≡ false
     other kind h = ne-eqb (callKind + place) kind (λ e. omega arith)
@@ -258,7 +267,11 @@ conditions-follow : (cs : List Condition) → T (every spelledVariable cs) → {
 unfolding conditionsTape conditionsText
 conditions-follow [] t f = f
 conditions-follow (c ∷ cs) t {rest} {after} f =
-    rw (append-assoc (conditionTape c) (conditionsTape cs) rest, append-assoc (conditionText c) (conditionsText cs) after, ← (conditions-follow cs (every-tail spelledVariable c cs t) f .at unquoted))
+    rw (
+      append-assoc (conditionTape c) (conditionsTape cs) rest,
+      append-assoc (conditionText c) (conditionsText cs) after,
+      ← (conditions-follow cs (every-tail spelledVariable c cs t) f .at unquoted),
+    )
     (condition-follows c (short-identifier (c .variable) (every-head spelledVariable c cs t)) (conditionsTape cs ++ rest))
 
 -- SENTENCES
@@ -348,7 +361,11 @@ function-listed f t rest = go (f .name) (f .sentences) (short-name (f .name) (se
     go n [] d u v = absurd u
     go n (s ∷ ss) d u v =
         list-word Start (tapeWord functionKind (length n)) _ (kind-item Start functionKind (length n) (omega arith) (omega (arith, d .short)))
-        ∙ rw (append-assoc n (sentencesTape (s ∷ ss)) rest, copied Header (32 ∷ 123 ∷ 10 ∷ []) Start (λ k w. refl) n (d .filled) (d .bytes) (sentencesTape (s ∷ ss) ++ rest), sentences-listed s ss v rest)
+        ∙ rw (
+          append-assoc n (sentencesTape (s ∷ ss)) rest,
+          copied Header (32 ∷ 123 ∷ 10 ∷ []) Start (λ k w. refl) n (d .filled) (d .bytes) (sentencesTape (s ∷ ss) ++ rest),
+          sentences-listed s ss v rest,
+        )
         (simp append-assoc)
 
 functions-listed : (t : Table) → T (every allowedFunction t) → listFrom Start (tape t) ≡ listing t

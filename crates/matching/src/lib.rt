@@ -145,7 +145,8 @@ fn as_expected(expected: bool, within: bool) -> bool
 // The byte at a site is in a class, or is not, as the condition has it.
 fn predicate(bits: &[u8; 256], field: &[u8], place: usize, word: u32) -> Checked
     requires { ⌜ Answers (now bits) ⌝ }
-    ensures { λ r. ⌜ checkedMeant r ≡ tested (predicateFor (siteOf (firstIn word % 4) (secondIn word)) (classOf (thirdIn word)) (eqb (firstIn word / 4) 1)) (now (field .entry)) place ⌝ }
+    ensures { λ r. ⌜ checkedMeant r ≡ tested (predicateFor (siteOf (firstIn word % 4) (secondIn word)) (classOf (thirdIn word)) (eqb (firstIn word / 4) 1))
+        (now (field .entry)) place ⌝ }
 {
     let site = word / 256 % 256;
     let class = word / 16777216 % 256;

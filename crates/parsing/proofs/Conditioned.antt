@@ -186,7 +186,8 @@ module _ (text : Bytes) (from : ℕ) (x : Span) (c : Class) where
           → EndAgrees text from words tape tape′ x c (Stopped fault)
       end-no-truth e f = refused k (at-truth ∙ rw (k .unrolled, v .same, e)) f
 
-      pub end-reads : {words : ℕ} {tape tape′ : List ℕ} → Ready text from words → Before text words from x → {class word after : ℕ} → class < 5 → classOf class ≡ some c → (n ≡ 1 → ⊥)
+      pub end-reads : {words : ℕ} {tape tape′ : List ℕ} → Ready text from words → Before text words from x → {class word after : ℕ} → class < 5 →
+          classOf class ≡ some c → (n ≡ 1 → ⊥)
           → word ≡ 768 + (x .past - x .from) * 10 + n + class
           → Wrote tape words (word ∷ View.part text x) after tape′ × T (every isQuiet (View.part text x))
           → EndAgrees text from words tape tape′ x c (Done (record { at = t .past; words = after; count = 0; parts = 0 }))
@@ -444,7 +445,10 @@ module _ {text start : List ℕ} {names : List Name} {from words : ℕ} {tape : 
           (behind (k .before))
       at-condition =
           k .same
-          ∙ rw (comma .unrolled, conditions-next names left (left - 1) (standing (Tokens.sign 44) (comma .place) (t .past)) (stream text Tokens.inside (t .past)) (omega arith) refl)
+          ∙ rw (
+            comma .unrolled,
+            conditions-next names left (left - 1) (standing (Tokens.sign 44) (comma .place) (t .past)) (stream text Tokens.inside (t .past)) (omega arith) refl,
+          )
 
       pub condition-stops : {tape′ : List ℕ} {fault : Fault}
           → Agrees (ConditionRead text (t .past) to tape tape′) (Reading.condition names (stream text Tokens.inside (t .past))) (Stopped fault)

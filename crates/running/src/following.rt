@@ -73,7 +73,9 @@ fn follow(
     requires { ⌜ Answers (now bits) ⌝ }
     requires { ⌜ countIn (now code) < length (now code) ⌝ }
     requires { ⌜ Keeps allowance first (memory (now input) (now output) (now journal) (now frames) (now values)) ⌝ }
-    ensures { λ r. ⌜ Follows (now (code .entry)) allowance first (memory (now (input .entry)) (now (output .entry)) (now (journal .entry)) (now (frames .entry)) (now (values .entry))) r (memory (now (input .exit)) (now (output .exit)) (now (journal .exit)) (now (frames .exit)) (now (values .exit))) ⌝ }
+    ensures { λ r. ⌜ Follows (now (code .entry)) allowance first
+        (memory (now (input .entry)) (now (output .entry)) (now (journal .entry)) (now (frames .entry)) (now (values .entry))) r
+        (memory (now (input .exit)) (now (output .exit)) (now (journal .exit)) (now (frames .exit)) (now (values .exit))) ⌝ }
 {
     let mut g = registers_of(first);
     let mut status = status_of(first);

@@ -23,7 +23,8 @@ pub fn run(
     journal: &mut [u8],
     allowance: u32,
 ) -> Ran
-    ensures { λ r. ⌜ Leaves r (cells (now (input .exit)) (now (output .exit)) (now (journal .exit))) (leaving (now (code .entry)) start (now (text .entry)) (cells (now (input .entry)) (now (output .entry)) (now (journal .entry))) allowance) ⌝ }
+    ensures { λ r. ⌜ Leaves r (cells (now (input .exit)) (now (output .exit)) (now (journal .exit)))
+        (leaving (now (code .entry)) start (now (text .entry)) (cells (now (input .entry)) (now (output .entry)) (now (journal .entry))) allowance) ⌝ }
 {
     if !sound_table(code) {
         return refused(Ending::NoInstruction);

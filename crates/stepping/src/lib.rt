@@ -3,10 +3,9 @@ ghost use Prim.Native.Nat.{_<_};
 ghost use mathlib.Core.Path.{_≡_};
 ghost use lib.ListN.{length};
 ghost use Rattle.classes.specs.Tests.{Answers};
-ghost use Rattle.acting.specs.declared.registers.Next.the-variants.{Onward};
-ghost use Rattle.acting.specs.States.{memory, roomOf};
-ghost use Rattle.applying.specs.Waiting.{countIn, comesTo, leftToDo};
-ghost use Rattle.applying.specs.Advancing.{Underway, registersIn, statusIn, nextOf, onward, Advances};
+ghost use Rattle.acting.specs.States.{memory};
+ghost use Rattle.applying.specs.Waiting.{countIn};
+ghost use Rattle.applying.specs.Advancing.{Underway, registersIn, statusIn, nextOf, onward, Steps};
 use acting::emitting::emit;
 use acting::moving::begin_sequence;
 use acting::moving::shift;
@@ -37,7 +36,9 @@ fn advance(
     requires { ⌜ Answers (now bits) ⌝ }
     requires { ⌜ countIn (now code) < length (now code) ⌝ }
     requires { ⌜ Underway allowance g (memory (now input) (now output) (now journal) (now frames) (now values)) ⌝ }
-    ensures { λ r. ⌜ Advances (now (code .entry)) allowance (comesTo (roomOf (memory (now (input .entry)) (now (output .entry)) (now (journal .entry)) (now (frames .entry)) (now (values .entry)))) allowance (now (code .entry)) (Onward g) (memory (now (input .entry)) (now (output .entry)) (now (journal .entry)) (now (frames .entry)) (now (values .entry)))) (leftToDo (length (now (code .entry))) allowance (Onward g) (memory (now (input .entry)) (now (output .entry)) (now (journal .entry)) (now (frames .entry)) (now (values .entry)))) g (memory (now (input .entry)) (now (output .entry)) (now (journal .entry)) (now (frames .entry)) (now (values .entry))) r (memory (now (input .exit)) (now (output .exit)) (now (journal .exit)) (now (frames .exit)) (now (values .exit))) ⌝ }
+    ensures { λ r. ⌜ Steps (now (code .entry)) allowance g
+        (memory (now (input .entry)) (now (output .entry)) (now (journal .entry)) (now (frames .entry)) (now (values .entry))) r
+        (memory (now (input .exit)) (now (output .exit)) (now (journal .exit)) (now (frames .exit)) (now (values .exit))) ⌝ }
 {
     let at = g.at.0;
     if code.len() <= at {
@@ -115,7 +116,10 @@ pub fn step(
     requires { ⌜ Answers (now bits) ⌝ }
     requires { ⌜ countIn (now code) < length (now code) ⌝ }
     requires { ⌜ Underway allowance (now g) (memory (now input) (now output) (now journal) (now frames) (now values)) ⌝ }
-    ensures { λ r. ⌜ Advances (now (code .entry)) allowance (comesTo (roomOf (memory (now (input .entry)) (now (output .entry)) (now (journal .entry)) (now (frames .entry)) (now (values .entry)))) allowance (now (code .entry)) (Onward (now (g .entry))) (memory (now (input .entry)) (now (output .entry)) (now (journal .entry)) (now (frames .entry)) (now (values .entry)))) (leftToDo (length (now (code .entry))) allowance (Onward (now (g .entry))) (memory (now (input .entry)) (now (output .entry)) (now (journal .entry)) (now (frames .entry)) (now (values .entry)))) (now (g .entry)) (memory (now (input .entry)) (now (output .entry)) (now (journal .entry)) (now (frames .entry)) (now (values .entry))) (nextOf r (now (g .exit))) (memory (now (input .exit)) (now (output .exit)) (now (journal .exit)) (now (frames .exit)) (now (values .exit))) ⌝ }
+    ensures { λ r. ⌜ Steps (now (code .entry)) allowance (now (g .entry))
+        (memory (now (input .entry)) (now (output .entry)) (now (journal .entry)) (now (frames .entry)) (now (values .entry)))
+        (nextOf r (now (g .exit)))
+        (memory (now (input .exit)) (now (output .exit)) (now (journal .exit)) (now (frames .exit)) (now (values .exit))) ⌝ }
 {
     let next = advance(
         *g,

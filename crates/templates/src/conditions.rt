@@ -106,7 +106,8 @@ pub fn write_conditions(
     at: usize,
 ) -> Conditions
     requires { ⌜ (symbols ≤ length (now names)) × (symbols ≤ length (now sites)) × AllSites (now sites) × (start ≤ length (now tape)) × (at < 2 ^ 60) ⌝ }
-    ensures { λ r. ⌜ ConditionsAll (now (tape .entry)) (held (now (tape .entry)) (now (names .entry)) (now (sites .entry)) symbols) start (now (code .entry)) at (now (code .exit)) r ⌝ }
+    ensures { λ r. ⌜ ConditionsAll (now (tape .entry)) (held (now (tape .entry)) (now (names .entry)) (now (sites .entry)) symbols) start (now (code .entry))
+        at (now (code .exit)) r ⌝ }
 {
     let mut c = Conditions {
         count: 0,

@@ -54,7 +54,8 @@ fn past_letter(t: Tests, symbols: usize, size: usize, at: usize) -> Tests
 
 fn test_character(tape: &[u32], lengths: Lengths, code: &mut [u32], t: Tests) -> Tests
     requires { ⌜ (total lengths ≤ 64) × (t .offset ≤ 64) × (t .letters ≤ 64) × (t .next < length (now tape)) × (getD (now tape) (t .next) 0 < 256) × (t .at < 2 ^ 62) ⌝ }
-    ensures { λ r. ⌜ Wrote (now (code .entry)) (t .at) (testWord (look (siteAt lengths (t .parts) (t .offset)) (getD (now (tape .entry)) (t .next) 0)) ∷ []) (now (code .exit)) (r .at) ⌝ }
+    ensures { λ r. ⌜ Wrote (now (code .entry)) (t .at) (testWord (look (siteAt lengths (t .parts) (t .offset)) (getD (now (tape .entry)) (t .next) 0)) ∷ [])
+        (now (code .exit)) (r .at) ⌝ }
     ensures { λ r. ⌜ r ≡ letterDone t (t .symbols) 0 (r .at) ⌝ }
 {
     let parts = t.parts;
@@ -95,7 +96,8 @@ fn equal_symbol(
 ) -> Tests
     requires { ⌜ (found ≤ length (now sites)) × (foundSite found (now sites) < 16896) × (site .register ≤ 2) × (site .offset ≤ 64) × (t .at < 2 ^ 62) ⌝ }
     requires { ⌜ (t .offset < 2 ^ 62) × (t .letters < 2 ^ 62) × (t .next + 1 + size < 2 ^ 62) ⌝ }
-    ensures { λ r. ⌜ Wrote (now (code .entry)) (t .at) ((2 + 256 * foundSite found (now (sites .entry)) + 1024 * site .register + 16777216 * site .offset) ∷ []) (now (code .exit)) (r .at) ⌝ }
+    ensures { λ r. ⌜ Wrote (now (code .entry)) (t .at) ((2 + 256 * foundSite found (now (sites .entry)) + 1024 * site .register + 16777216 * site .offset) ∷ [])
+        (now (code .exit)) (r .at) ⌝ }
     ensures { λ r. ⌜ r ≡ letterDone t (t .symbols) size (r .at) ⌝ }
 {
     let first = found_site(sites, found);
@@ -117,7 +119,8 @@ fn test_symbol(
 ) -> Tests
     requires { ⌜ InTests (now tape) (now names) (now sites) t × (total lengths ≤ 64) ⌝ }
     requires { ⌜ pieceAt (drop (t .next) (now tape)) (t .letters) (t .parts) ≡ SVariable ⌝ }
-    ensures { λ r. ⌜ TestsOn (now (tape .entry)) lengths (now (names .entry)) (now (sites .entry)) (now (code .entry)) t (now (names .exit)) (now (sites .exit)) (now (code .exit)) r ⌝ }
+    ensures { λ r. ⌜ TestsOn (now (tape .entry)) lengths (now (names .entry)) (now (sites .entry)) (now (code .entry)) t (now (names .exit))
+        (now (sites .exit)) (now (code .exit)) r ⌝ }
 {
     let parts = t.parts;
     let site = site_of(lengths, parts, t.offset);
@@ -173,7 +176,8 @@ fn test_piece(
     t: Tests,
 ) -> Tests
     requires { ⌜ InTests (now tape) (now names) (now sites) t × (total lengths ≤ 64) ⌝ }
-    ensures { λ r. ⌜ TestsOn (now (tape .entry)) lengths (now (names .entry)) (now (sites .entry)) (now (code .entry)) t (now (names .exit)) (now (sites .exit)) (now (code .exit)) r ⌝ }
+    ensures { λ r. ⌜ TestsOn (now (tape .entry)) lengths (now (names .entry)) (now (sites .entry)) (now (code .entry)) t (now (names .exit))
+        (now (sites .exit)) (now (code .exit)) r ⌝ }
 {
     let parts = t.parts;
     let piece = piece_at(tape, t.next, t.letters, parts);

@@ -36,14 +36,17 @@ module _ (R : RattleType) (κ : Lft) (q : Share) (x : RefT (List (R .Denot))) wh
   abbrev pub Away : ℕ → GName → List (R .Denot) → Fml
   Away ν δ ys =
       fsep (flent (ν ∷ []) (Held R (length ys) (ptr x .0) (ptr x .1) δ))
-      (fsep (fobor κ q (Held R (length ys) (ptr x .0) (ptr x .1) (name x))) (fsep (fobs (name x) (codedHoleys R .code (heres R ys))) (fauth (name x) (codedHoleys R .code (heres R ys)))))
+      (fsep (fobor κ q (Held R (length ys) (ptr x .0) (ptr x .1) (name x)))
+      (fsep (fobs (name x) (codedHoleys R .code (heres R ys))) (fauth (name x) (codedHoleys R .code (heres R ys)))))
 
   module _ {M : Type 1} (𝓤 : URA M) (H : Heap 𝓤) (A : Atoms 𝓤) (W : Given 𝓤 H A) (ν : ℕ) (ys : List (R .Denot)) where
     goes : ent 𝓤 (sep 𝓤 (sem 𝓤 H A (Mine ys)) (A .lft κ q)) (H .⇛ (ex 𝓤 (λ (δ : GName). sep 𝓤 (sem 𝓤 H A (Theirs ν δ ys)) (sem 𝓤 H A (Away ν δ ys)))))
     goes =
-        qed W (‵ (Mine ys) ∷ ‵ (flft κ q) ∷ []) ∵ updating ! $ fsplit ! $ pureL ! (at-slice R (lent-at x (name x) ys) (sliceVal (ptr x) (length ys) ∷ [])) (λ p. fsplit ! $ opens-slice ! tt R ys (ptr x .0) (ptr x .1) $
+        qed W (‵ (Mine ys) ∷ ‵ (flft κ q) ∷ []) ∵ updating ! $ fsplit ! $ pureL ! (at-slice R (lent-at x (name x) ys) (sliceVal (ptr x) (length ys) ∷ []))
+        (λ p. fsplit ! $ opens-slice ! tt R ys (ptr x .0) (ptr x .1) $
         use1 W (‵ (cells (mem R) ys (ptr x .0) (ptr x .1))) (whole-in 𝓤 H A W R ys (ptr x .0) (ptr x .1)) $
-        use1 W (later (some (λ (δ : GName). ‵ (Theirs ν δ ys) ⊛ ‵ (flent (ν ∷ []) (Held R (length ys) (ptr x .0) (ptr x .1) δ))))) (lends-slice 𝓤 H A W R erased (ν ∷ []) ys (ptr x .0) (ptr x .1) (p .1)) $ await ! tt $ pick ! (λ δ. split ! $
+        use1 W (later (some (λ (δ : GName). ‵ (Theirs ν δ ys) ⊛ ‵ (flent (ν ∷ []) (Held R (length ys) (ptr x .0) (ptr x .1) δ)))))
+        (lends-slice 𝓤 H A W R erased (ν ∷ []) ys (ptr x .0) (ptr x .1) (p .1)) $ await ! tt $ pick ! (λ δ. split ! $
         -- [the slice lent; the lender's part; the open borrow; obs; auth]
         at-once ! $ show ! (λ (γ : GName). sep 𝓤 (sem 𝓤 H A (Theirs ν γ ys)) (sem 𝓤 H A (Away ν γ ys))) δ $ frame ! $
         move ! (2 ∷ 3 ∷ []) $ fjoin ! $ move ! (2 ∷ 0 ∷ []) $ fjoin ! $ move ! (1 ∷ 0 ∷ []) $ fjoin ! $ done !))
@@ -52,23 +55,28 @@ module _ (R : RattleType) (κ : Lft) (q : Share) (x : RefT (List (R .Denot))) wh
         → ent 𝓤 (sep 𝓤 (A .dead (ν ∷ [])) (sep 𝓤 (sem 𝓤 H A (Away ν δ ys)) (sem 𝓤 H A (finally R δ zs)))) (H .⇛ (sep 𝓤 (sem 𝓤 H A (Mine zs)) (A .lft κ q)))
     comes δ zs room e =
         qed W (‵ (fdead (ν ∷ [])) ∷ ‵ (Away ν δ ys) ∷ ‵ (finally R δ zs) ∷ []) ∵ updating ! $ move ! (1 ∷ []) $ fsplit ! $ move ! (2 ∷ 0 ∷ 3 ∷ []) $
-        use3 W (later (‵ (Arr (mem R) (length ys) .lies zs (ptr x .0) (ptr x .1)))) (slice-back 𝓤 H A W R (ν ∷ []) δ zs (length ys) (ptr x .0) (ptr x .1)) $ await ! tt $ fsplit ! $ drop ! $
+        use3 W (later (‵ (Arr (mem R) (length ys) .lies zs (ptr x .0) (ptr x .1)))) (slice-back 𝓤 H A W R (ν ∷ []) δ zs (length ys) (ptr x .0) (ptr x .1)) $
+        await ! tt $ fsplit ! $ drop ! $
         use1 W (‵ (row R fullShare zs (ptr x .0) (ptr x .1))) (whole-out 𝓤 H A W R zs (ptr x .0) (ptr x .1)) $
         move ! (1 ∷ []) $ fsplit ! $ move ! (1 ∷ []) $ fsplit ! $ move ! (3 ∷ 2 ∷ 0 ∷ 1 ∷ []) $ closes-slice ! tt R ys zs e (ptr x .0) (ptr x .1) $ at-once ! $
         fjoin ! $ pureI ! (at-slice R (lent-at x (name x) zs) (sliceVal (ptr x) (length zs) ∷ [])) (tt, (tt, tt)) (refl, subst (Room R) (sym e) room) $ fjoin ! $ done !
 
 module _ {M : Type 1} {𝓤 : URA M} {H : Heap 𝓤} {A : Atoms 𝓤} {K : Type 0} {W : Given 𝓤 H A} {Γ : List (Item 𝓤)} {G : Goal 𝓤 H} (t : K) where
   -- a slice at a list as long as the one passed is owned at the machine value passed
-  pub as-passed : (R : RattleType) (κ : Lft) (q : Share) (x : RefT (List (R .Denot))) (ys : List (R .Denot)) → length ys ≡ length (now x) → Step K W (‵ (MutSlice erased κ R .own (lent-at x (name x) ys) (slice-vals x)) ∷ Γ) G (‵ (Mine R κ q x ys) ∷ Γ) G
+  pub as-passed : (R : RattleType) (κ : Lft) (q : Share) (x : RefT (List (R .Denot))) (ys : List (R .Denot)) → length ys ≡ length (now x) →
+      Step K W (‵ (MutSlice erased κ R .own (lent-at x (name x) ys) (slice-vals x)) ∷ Γ) G (‵ (Mine R κ q x ys) ∷ Γ) G
   as-passed R κ q x ys e = rewrite t 0 (λ (m : ℕ). ‵ (MutSlice erased κ R .own (lent-at x (name x) ys) (sliceVal (ptr x) m ∷ []))) e refl
 
   module _ (z : Soaks G) (R : RattleType) (κ : Lft) (q : Share) (x : RefT (List (R .Denot))) where
     -- it is lent, for a lifetime that is made
-    pub lends-slice-again : (ys : List (R .Denot)) → ((ν : ℕ) (δ : GName) → Seq K W (‵ (Theirs R κ q x ν δ ys) ∷ ‵ (Away R κ q x ν δ ys) ∷ ‵ (flft (ν ∷ []) fullShare) ∷ Γ) G) → Seq K W (‵ (Mine R κ q x ys) ∷ ‵ (flft κ q) ∷ Γ) G
+    pub lends-slice-again : (ys : List (R .Denot)) → ((ν : ℕ) (δ : GName) →
+        Seq K W (‵ (Theirs R κ q x ν δ ys) ∷ ‵ (Away R κ q x ν δ ys) ∷ ‵ (flft (ν ∷ []) fullShare) ∷ Γ) G) → Seq K W (‵ (Mine R κ q x ys) ∷ ‵ (flft κ q) ∷ Γ) G
     lends-slice-again ys k =
-        lft-new t z (λ ν. move t (1 ∷ 2 ∷ []) $ use2 W (later (some (λ (δ : GName). ‵ (Theirs R κ q x ν δ ys) ⊛ ‵ (Away R κ q x ν δ ys)))) (goes R κ q x 𝓤 H A W ν ys) $ await t z $ pick t (λ δ. split t $ k ν δ))
+        lft-new t z (λ ν. move t (1 ∷ 2 ∷ []) $ use2 W (later (some (λ (δ : GName). ‵ (Theirs R κ q x ν δ ys) ⊛ ‵ (Away R κ q x ν δ ys))))
+        (goes R κ q x 𝓤 H A W ν ys) $ await t z $ pick t (λ δ. split t $ k ν δ))
 
     -- the lifetime ends, and the slice is back at its last list
     pub slice-comes-back : (ys zs : List (R .Denot)) → Room R (length ys) → length zs ≡ length ys → {ν : ℕ} {δ : GName}
         → Step K W (‵ (Mine R κ q x zs) ∷ ‵ (flft κ q) ∷ Γ) G (‵ (flft (ν ∷ []) fullShare) ∷ ‵ (Away R κ q x ν δ ys) ∷ ‵ (finally R δ zs) ∷ Γ) G
-    slice-comes-back ys zs room e {ν} {δ} = step (λ s. lft-end t z $ use3 W (later (‵ (Mine R κ q x zs) ⊛ ‵ (flft κ q))) (comes R κ q x 𝓤 H A W ν ys δ zs room e) $ await t z $ split t $ s)
+    slice-comes-back ys zs room e {ν} {δ} = step (λ s. lft-end t z $ use3 W (later (‵ (Mine R κ q x zs) ⊛ ‵ (flft κ q))) (comes R κ q x 𝓤 H A W ν ys δ zs room e)
+        $ await t z $ split t $ s)

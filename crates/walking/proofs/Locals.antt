@@ -38,22 +38,26 @@ abbrev pub Laying : {M : Type 1} {𝓤 : URA M} {H : Heap 𝓤} {A : Atoms 𝓤}
 Laying K W Γ [] Δ f = Seq K W (Δ ++ Γ) (f [])
 Laying K W Γ (local τ h ∷ ls) Δ f = (b : ℕ) → Laying K W Γ ls (Δ ++ ‵ (froom τ b 0) ∷ ‵ (fdies τ b) ∷ []) (λ E. f ((τ, b) ∷ E))
 
-behind : {M : Type 1} {𝓤 : URA M} {H : Heap 𝓤} {A : Atoms 𝓤} (W : Given 𝓤 H A) (i j : Item 𝓤) (Δ Γ : List (Item 𝓤)) → ent 𝓤 (⋆ 𝓤 H A (i ∷ j ∷ (Δ ++ Γ))) (⋆ 𝓤 H A ((Δ ++ i ∷ j ∷ []) ++ Γ))
+behind : {M : Type 1} {𝓤 : URA M} {H : Heap 𝓤} {A : Atoms 𝓤} (W : Given 𝓤 H A) (i j : Item 𝓤) (Δ Γ : List (Item 𝓤)) →
+    ent 𝓤 (⋆ 𝓤 H A (i ∷ j ∷ (Δ ++ Γ))) (⋆ 𝓤 H A ((Δ ++ i ∷ j ∷ []) ++ Γ))
 behind {𝓤 = 𝓤} {H = H} {A = A} W i j [] Γ = qed W (i ∷ j ∷ Γ) ∵ done !
 behind {𝓤 = 𝓤} {H = H} {A = A} W i j (d ∷ Δ) Γ =
     qed W (i ∷ j ∷ d ∷ (Δ ++ Γ)) ∵ move ! (2 ∷ 0 ∷ 1 ∷ []) $
     by ! (via 𝓤 _ (pop 𝓤 H A d (i ∷ j ∷ (Δ ++ Γ))) (via 𝓤 _ (monoR 𝓤 (mean 𝓤 H A d) (behind W i j Δ Γ)) (push 𝓤 H A d ((Δ ++ i ∷ j ∷ []) ++ Γ))))
 
-laid-after : {M : Type 1} {𝓤 : URA M} {H : Heap 𝓤} {A : Atoms 𝓤} {K : Type 0} {W : Given 𝓤 H A} → K → (Γ : List (Item 𝓤)) (ls : List Local) (Δ : List (Item 𝓤)) (f : Env 𝓤 H → Goal 𝓤 H) → Laying K W Γ ls Δ f → Seq K W (Δ ++ Γ) (allocs ls f)
+laid-after : {M : Type 1} {𝓤 : URA M} {H : Heap 𝓤} {A : Atoms 𝓤} {K : Type 0} {W : Given 𝓤 H A} → K →
+    (Γ : List (Item 𝓤)) (ls : List Local) (Δ : List (Item 𝓤)) (f : Env 𝓤 H → Goal 𝓤 H) → Laying K W Γ ls Δ f → Seq K W (Δ ++ Γ) (allocs ls f)
 laid-after t Γ [] Δ f k = alloc0 t $ k
 laid-after {𝓤 = 𝓤} {W = W} t Γ (local τ h ∷ ls) Δ f k =
     alloc1 t (λ b. by t (via 𝓤 _ (behind W (‵ (froom τ b 0)) (‵ (fdies τ b)) Δ Γ) (laid-after t Γ ls (Δ ++ ‵ (froom τ b 0) ∷ ‵ (fdies τ b) ∷ []) (λ E. f ((τ, b) ∷ E)) (k b) .prf)))
 
-pub lays-out : {M : Type 1} {𝓤 : URA M} {H : Heap 𝓤} {A : Atoms 𝓤} {K : Type 0} {W : Given 𝓤 H A} {Γ : List (Item 𝓤)} {ls : List Local} {f : Env 𝓤 H → Goal 𝓤 H} → K → Laying K W Γ ls [] f → Seq K W Γ (allocs ls f)
+pub lays-out : {M : Type 1} {𝓤 : URA M} {H : Heap 𝓤} {A : Atoms 𝓤} {K : Type 0} {W : Given 𝓤 H A} {Γ : List (Item 𝓤)} {ls : List Local} {f : Env 𝓤 H → Goal 𝓤 H} →
+    K → Laying K W Γ ls [] f → Seq K W Γ (allocs ls f)
 lays-out {Γ = Γ} {ls = ls} {f = f} t k = laid-after t Γ ls [] f k
 
 -- all of them are freed
-pub frees-laid : {M : Type 1} {𝓤 : URA M} {H : Heap 𝓤} {A : Atoms 𝓤} {K : Type 0} {W : Given 𝓤 H A} {Γ : List (Item 𝓤)} {g : Goal 𝓤 H} → K → (ls : List (Ty × ℕ)) (cs : List Content) → Step K W Γ g (laid ls cs ++ Γ) (frees ls g)
+pub frees-laid : {M : Type 1} {𝓤 : URA M} {H : Heap 𝓤} {A : Atoms 𝓤} {K : Type 0} {W : Given 𝓤 H A} {Γ : List (Item 𝓤)} {g : Goal 𝓤 H} → K →
+    (ls : List (Ty × ℕ)) (cs : List Content) → Step K W Γ g (laid ls cs ++ Γ) (frees ls g)
 frees-laid t [] cs = free0 t
 frees-laid t (l ∷ ls) [] = step (λ s. free1 t $ frees-laid t ls [] $ s)
 frees-laid t (l ∷ ls) (vacant ∷ cs) = step (λ s. free1 t $ frees-laid t ls cs $ s)

@@ -65,7 +65,9 @@ returns-2 c =
     let entry = at-if1 .before .before .before .before .before in
     let a = entry .args in
     let pre = entry .pre in
-    λ output journal. let v = at-place .place .given .0 in let chosen = rw (at-wide .wide .ensures, at-place .place .given .1) at (at-choose .choose .ensures) in apply-starts _ _ _ _ _ (pre .1 .0) (pre .1 .1 .0) (pre .1 .1 .1 .0) (at-if1 .if1 .left) (v .0) (v .1 .0) (v .1 .1 .0 .0) (v .1 .1 .1 .0) _ _ (chosen .same) (at-start-sentence .start-sentence .ensures (a .allowance) output journal)
+    λ output journal. let v = at-place .place .given .0 in let chosen = rw (at-wide .wide .ensures, at-place .place .given .1) at (at-choose .choose .ensures) in
+    apply-starts _ _ _ _ _ (pre .1 .0) (pre .1 .1 .0) (pre .1 .1 .1 .0) (at-if1 .if1 .left) (v .0) (v .1 .0) (v .1 .1 .0 .0) (v .1 .1 .1 .0) _ _ (chosen .same)
+    (at-start-sentence .start-sentence .ensures (a .allowance) output journal)
 
 returns-3 : tie.Need-returns-3
 returns-3 c =
@@ -74,7 +76,8 @@ returns-3 c =
     let at-if1 = at-wide .before .before .before .before .before .before in
     let entry = at-if1 .before .before .before .before .before in
     let pre = entry .pre in
-    λ output journal. let chosen = rw (at-wide .wide .ensures, c .enum-told .given .1) at (at-choose .choose .ensures) in apply-nothing _ _ _ _ _ (pre .1 .0) (pre .1 .1 .0) (pre .1 .1 .1 .0) (at-if1 .if1 .left) (chosen .same)
+    λ output journal. let chosen = rw (at-wide .wide .ensures, c .enum-told .given .1) at (at-choose .choose .ensures) in
+    apply-nothing _ _ _ _ _ (pre .1 .0) (pre .1 .1 .0) (pre .1 .1 .1 .0) (at-if1 .if1 .left) (chosen .same)
 
 returns-4 : tie.Need-returns-4
 returns-4 c =
@@ -83,7 +86,8 @@ returns-4 c =
     let at-if1 = at-wide .before .before .before .before .before .before in
     let entry = at-if1 .before .before .before .before .before in
     let pre = entry .pre in
-    λ output journal. let chosen = rw (at-wide .wide .ensures, c .enum-told2 .given .1) at (at-choose .choose .ensures) in apply-wrong _ _ _ _ _ (pre .1 .0) (pre .1 .1 .0) (pre .1 .1 .1 .0) (at-if1 .if1 .left) (chosen .same)
+    λ output journal. let chosen = rw (at-wide .wide .ensures, c .enum-told2 .given .1) at (at-choose .choose .ensures) in
+    apply-wrong _ _ _ _ _ (pre .1 .0) (pre .1 .1 .0) (pre .1 .1 .1 .0) (at-if1 .if1 .left) (chosen .same)
 
 pub apply-spec : {M : Type 1} → statement M
 apply-spec =

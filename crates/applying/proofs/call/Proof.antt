@@ -38,7 +38,8 @@ returns-2 c =
     let at-if2 = at-apply .before .before .before in
     let at-if1 = at-if2 .before in
     let at-declared = at-if1 .before in
-    λ output journal. rw (at-if2 .if2 .taken) (tail-applies _ _ _ _ _ (sym (at-declared .declared .ensures) ∙ not-false _ (at-if1 .if1 .left)) _ _ (at-apply .apply .ensures output journal))
+    λ output journal. rw (at-if2 .if2 .taken) (tail-applies _ _ _ _ _ (sym (at-declared .declared .ensures) ∙ not-false _ (at-if1 .if1 .left)) _ _
+    (at-apply .apply .ensures output journal))
 
 framed-call-requires : tie.Need-framed-call-requires
 framed-call-requires c κs =

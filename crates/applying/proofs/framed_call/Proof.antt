@@ -48,7 +48,8 @@ returns-3 c =
     let at-if1 = at-if2 .before in
     let entry = at-if1 .before .before .before .before .before .before in
     let a = entry .args in
-    λ output journal. call-applies (a .code .now) (a .allowance) (a .number) (a .g) (a .input .now) output journal (a .frames .now) (a .values .now) (entry .pre .1 .1 .0) (at-if1 .if1 .left) (at-if2 .if2 .left) _ _ (rw (at-set-word .set-word .ensures) at (at-apply .apply .ensures output journal))
+    λ output journal. call-applies (a .code .now) (a .allowance) (a .number) (a .g) (a .input .now) output journal (a .frames .now) (a .values .now)
+    (entry .pre .1 .1 .0) (at-if1 .if1 .left) (at-if2 .if2 .left) _ _ (rw (at-set-word .set-word .ensures) at (at-apply .apply .ensures output journal))
 
 pub framed-call-spec : {M : Type 1} → statement M
 framed-call-spec =

@@ -13,7 +13,7 @@ use Rattle.acting.specs.declared.registers.Next.{Next}
 use Rattle.acting.specs.declared.registers.Next.the-variants.{Onward, Done, Stopped}
 use Rattle.acting.specs.States.{Memory, roomOf, Outcomes, Fits, Stayed, Acts}
 use Rattle.applying.specs.Waiting.{functionsIn, entering, going, returning, comesTo, leftWaiting, leftToDo, leftFrom, leftBy}
-use Rattle.applying.specs.Advancing.{Ready, Underway, Ended, Keeps, registersIn, Leads, Advances, Performs}
+use Rattle.applying.specs.Advancing.{Ready, Underway, Ended, Keeps, registersIn, Leads, Steps, Performs}
 use Rattle.applying.proofs.laws.Waiting.{left-same, held-same, waiting-same, waiting-stop, waiting-done}
 
 -- WHAT AN INSTRUCTION KEEPS UP
@@ -88,7 +88,8 @@ module _ (words : Words) (allowance : ℕ) (action : Action) (at : ℕ) (g : Reg
         leads =
             record {
               same =
-                  ap (returning (roomOf m) allowance words g m) (a .same allowance (functionsIn words) (entering (roomOf m) allowance words) (going (roomOf m) allowance words (g .frame) at)) ∙
+                  ap (returning (roomOf m) allowance words g m) (a .same allowance (functionsIn words) (entering (roomOf m) allowance words)
+                  (going (roomOf m) allowance words (g .frame) at)) ∙
                   waiting-stop (roomOf m) allowance words (g .frame) (m .frames) (m .values) _ _ _;
               keeps = rw (same, kept) (ended-of (u .ready));
               room = room;
@@ -131,14 +132,9 @@ underway-stepped u =
     }
 
 module _ (words : Words) (allowance : ℕ) (g : Registers) (m : Memory) where
-  -- what the loop owes of one instruction
-  abbrev pub Owed : Next → Memory → Type 0
-  Owed next n =
-      Advances words allowance (comesTo (roomOf m) allowance words (Onward g) m) (leftToDo (length words) allowance (Onward g) m) g m next n
-
   pub advance-does : (action : Action) (at : ℕ) (next : Next) (n : Memory) → g .at .0 < length words → Underway allowance g m →
       unpackActions 0 (drop (g .at .0) words) ≡ action ∷ unpackActions 0 (drop at words) →
-      Performs words allowance action at (stepped g) m next n → Owed next n
+      Performs words allowance action at (stepped g) m next n → Steps words allowance g m next n
   unfolding process
   advance-does action at next n h u e does =
       let d = does (underway-stepped u) in
@@ -149,7 +145,7 @@ module _ (words : Words) (allowance : ℕ) (g : Registers) (m : Memory) where
 
   -- words that are no instruction
   pub advance-unknown : (more : List Action) → Underway allowance g m → unpackActions 0 (drop (g .at .0) words) ≡ unknownAction ∷ more →
-      (h : Registers) → h .r ≡ g .r → h .steps ≡ g .steps → h .emitted ≡ g .emitted → Owed (Stopped h NoInstruction 0) m
+      (h : Registers) → h .r ≡ g .r → h .steps ≡ g .steps → h .emitted ≡ g .emitted → Steps words allowance g m (Stopped h NoInstruction 0) m
   unfolding process
   advance-unknown more u e h r steps emitted =
       record {
@@ -165,7 +161,7 @@ module _ (words : Words) (allowance : ℕ) (g : Registers) (m : Memory) where
 
   pub advance-acts : (action : Action) (at : ℕ) (next : Next) (n : Memory) → g .at .0 < length words → Underway allowance g m →
       unpackActions 0 (drop (g .at .0) words) ≡ action ∷ unpackActions 0 (drop at words) → roomOf n ≡ roomOf m → g .at .0 + 1 ≤ at →
-      Acts action at (stepped g) m next n → Owed next n
+      Acts action at (stepped g) m next n → Steps words allowance g m next n
   advance-acts action at next n h u e room l a =
       advance-does action at next n h u e (acts-performs words allowance action at (stepped g) m n room l next a)
 
@@ -200,7 +196,7 @@ module _ (words : Words) (allowance : ℕ) (g : Registers) (m : Memory) where
     less-left zero e = omega arith
     less-left (suc k) e = rw (← e) (omega arith)
 
-    pub advance-leaves : unpackActions 0 (drop (g .at .0) words) ≡ [] → Owed (leftBy (stepped g) (m .frames)) m
+    pub advance-leaves : unpackActions 0 (drop (g .at .0) words) ≡ [] → Steps words allowance g m (leftBy (stepped g) (m .frames)) m
     unfolding process
     advance-leaves e =
         record {

@@ -30,7 +30,9 @@ returns c =
     let at-store-values = c .before .before .before .before in
     let entry = at-store-values .before .before .before .before .before .before .before in
     let a = entry .args in
-    λ allowance output journal. starts-wrong (a .code .now) allowance (a .place) (a .stores .0) (a .stored) (a .g) (a .input .now) output journal (a .frames .now) (a .values .now) (at-store-values .store-values .last .1 .1 .1 .1 .1 .0) (entry .pre .1 .1 .1 .1 .1) (rw (c .enum-told .given .1) at (at-store-values .store-values .ensures))
+    λ allowance output journal. starts-wrong (a .code .now) allowance (a .place) (a .stores .0) (a .stored) (a .g) (a .input .now) output journal (a .frames .now)
+    (a .values .now) (at-store-values .store-values .last .1 .1 .1 .1 .1 .0) (entry .pre .1 .1 .1 .1 .1)
+    (rw (c .enum-told .given .1) at (at-store-values .store-values .ensures))
 
 sub-begin-frame : tie.Need-sub-begin-frame
 sub-begin-frame c = search needs
@@ -51,7 +53,10 @@ returns-2 c =
     let at-store-values = at-actions .before .before .before .before in
     let entry = at-store-values .before .before .before .before .before .before .before in
     let a = entry .args in
-    λ allowance output journal. rw (at-begin-frame .begin-frame .ensures) (starts-right (a .code .now) allowance (a .place) (a .stores .0) (a .stored) (a .g) (a .input .now) output journal (a .frames .now) (a .values .now) (at-store-values .store-values .last .1 .1 .1 .1 .1 .0) (entry .pre .1 .1 .1 .1 .1) (at-actions .actions .given .0 .0) (at-store-values .store-values .kept .1 .1 .1 .1 .1 .0) (rw (at-actions .actions .given .1) at (at-store-values .store-values .ensures)))
+    λ allowance output journal. rw (at-begin-frame .begin-frame .ensures)
+    (starts-right (a .code .now) allowance (a .place) (a .stores .0) (a .stored) (a .g) (a .input .now) output journal (a .frames .now) (a .values .now)
+    (at-store-values .store-values .last .1 .1 .1 .1 .1 .0) (entry .pre .1 .1 .1 .1 .1) (at-actions .actions .given .0 .0)
+    (at-store-values .store-values .kept .1 .1 .1 .1 .1 .0) (rw (at-actions .actions .given .1) at (at-store-values .store-values .ensures)))
 
 pub start-sentence-spec : {M : Type 1} → statement M
 start-sentence-spec =

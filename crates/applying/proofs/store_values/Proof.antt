@@ -50,7 +50,8 @@ returns-2 c =
     let at-if1 = at-stored-cell .before .before in
     let at-loop-test = at-if1 .before in
     let at-loop = at-loop-test .before in
-    storing-wrong _ _ _ _ _ _ _ _ _ _ (at-loop .loop .inv) (at-loop-test .loop-test .taken) (at-if1 .if1 .left) (sym (at-stored-cell .stored-cell .ensures) ∙ ap cellMeant (c .enum-told .given .1))
+    storing-wrong _ _ _ _ _ _ _ _ _ _ (at-loop .loop .inv) (at-loop-test .loop-test .taken) (at-if1 .if1 .left)
+    (sym (at-stored-cell .stored-cell .ensures) ∙ ap cellMeant (c .enum-told .given .1))
 
 add-values : tie.Need-add-values Inv-loop μ-loop
 add-values c = search needs
@@ -74,7 +75,8 @@ loop-again c =
     let at-loop-test = at-if1 .before in
     let at-loop = at-loop-test .before in
     let entry = at-loop .before .before .before .before in
-    storing-next _ _ _ _ _ _ _ _ _ _ (at-loop .loop .inv) _ (at-loop-test .loop-test .taken) (entry .pre) (at-if1 .if1 .left) (sym (at-stored-cell .stored-cell .ensures) ∙ ap cellMeant (c .before .byte .given .1))
+    storing-next _ _ _ _ _ _ _ _ _ _ (at-loop .loop .inv) _ (at-loop-test .loop-test .taken) (entry .pre) (at-if1 .if1 .left)
+    (sym (at-stored-cell .stored-cell .ensures) ∙ ap cellMeant (c .before .byte .given .1))
 
 same-length-3 : tie.Need-same-length-3 Inv-loop μ-loop
 same-length-3 c = c .before .loop .inv .sized

@@ -43,7 +43,8 @@ returns-2 c =
     let at-translate-table = at-if1 .before .before .before in
     let at-shared-slice-known = at-translate-table .before .before .before .before .before .before .before in
     let entry = at-shared-slice-known .before in
-    run-reports _ _ _ _ _ (at-run .run .ensures) (c .ending-number .ensures) (at-if1 .if1 .left) (read (entry .args .table .now)) (read-known (entry .args .table .now) (at-shared-slice-known .shared-slice-known .given)) (at-translate-table .translate-table .ensures)
+    run-reports _ _ _ _ _ (at-run .run .ensures) (c .ending-number .ensures) (at-if1 .if1 .left) (read (entry .args .table .now))
+    (read-known (entry .args .table .now) (at-shared-slice-known .shared-slice-known .given)) (at-translate-table .translate-table .ensures)
 
 pub translate-and-run-spec : {M : Type 1} → statement M
 translate-and-run-spec =

@@ -34,7 +34,14 @@ returns-5 c =
     let at-if2 = at-if3 .before in
     let at-if1 = at-if2 .before in
     let entry = at-if1 .before in
-    rw (ne-eqb _ _ (at-if1 .if1 .left), ne-eqb _ _ (at-if2 .if2 .left), le-leb _ _ (at-if3 .if3 .left), le-leb (entry .args .character) 126 (omega arith), ← (at-is-after-code .is-after-code .ensures), c .before .if5 .taken) (c .is-digit .ensures)
+    rw (
+      ne-eqb _ _ (at-if1 .if1 .left),
+      ne-eqb _ _ (at-if2 .if2 .left),
+      le-leb _ _ (at-if3 .if3 .left),
+      le-leb (entry .args .character) 126 (omega arith),
+      ← (at-is-after-code .is-after-code .ensures),
+      c .before .if5 .taken,
+    ) (c .is-digit .ensures)
 
 returns-6 : tie.Need-returns-6
 returns-6 c =
@@ -42,7 +49,14 @@ returns-6 c =
     let at-if2 = at-if3 .before in
     let at-if1 = at-if2 .before in
     let entry = at-if1 .before in
-    rw (ne-eqb _ _ (at-if1 .if1 .left), ne-eqb _ _ (at-if2 .if2 .left), le-leb _ _ (at-if3 .if3 .left), le-leb (entry .args .character) 126 (omega arith), ← (c .before .is-after-code .ensures), c .if5 .left)
+    rw (
+      ne-eqb _ _ (at-if1 .if1 .left),
+      ne-eqb _ _ (at-if2 .if2 .left),
+      le-leb _ _ (at-if3 .if3 .left),
+      le-leb (entry .args .character) 126 (omega arith),
+      ← (c .before .is-after-code .ensures),
+      c .if5 .left,
+    )
 
 pub is-coded-spec : {M : Type 1} → statement M
 is-coded-spec =

@@ -57,7 +57,8 @@ returns-3 c =
     let at-is-escaped = at-if2 .before in
     let at-if1 = at-is-escaped .before in
     let at-is-coded = at-if1 .before in
-    rw (← (at-is-coded .is-coded .ensures), at-if1 .if1 .left, ← (at-is-escaped .is-escaped .ensures), at-if2 .if2 .left, eq-eqb _ _ (at-if3 .if3 .taken)) (at-put-escape2 .put-escape2 .ensures)
+    rw (← (at-is-coded .is-coded .ensures), at-if1 .if1 .left, ← (at-is-escaped .is-escaped .ensures), at-if2 .if2 .left, eq-eqb _ _ (at-if3 .if3 .taken))
+    (at-put-escape2 .put-escape2 .ensures)
 
 put-escape-requires-3 : tie.Need-put-escape-requires-3
 put-escape-requires-3 c κs = search needs
@@ -74,7 +75,14 @@ returns-4 c =
     let at-is-escaped = at-if2 .before in
     let at-if1 = at-is-escaped .before in
     let at-is-coded = at-if1 .before in
-    rw (← (at-is-coded .is-coded .ensures), at-if1 .if1 .left, ← (at-is-escaped .is-escaped .ensures), at-if2 .if2 .left, ne-eqb _ _ (at-if3 .if3 .left), eq-eqb _ _ (at-if4 .if4 .taken)) (at-put-escape3 .put-escape3 .ensures)
+    rw (
+      ← (at-is-coded .is-coded .ensures),
+      at-if1 .if1 .left,
+      ← (at-is-escaped .is-escaped .ensures),
+      at-if2 .if2 .left,
+      ne-eqb _ _ (at-if3 .if3 .left),
+      eq-eqb _ _ (at-if4 .if4 .taken),
+    ) (at-put-escape3 .put-escape3 .ensures)
 
 put-requires-2 : tie.Need-put-requires-2
 put-requires-2 c κs = search needs
@@ -91,7 +99,14 @@ returns-5 c =
     let at-is-escaped = at-if2 .before in
     let at-if1 = at-is-escaped .before in
     let at-is-coded = at-if1 .before in
-    rw (← (at-is-coded .is-coded .ensures), at-if1 .if1 .left, ← (at-is-escaped .is-escaped .ensures), at-if2 .if2 .left, ne-eqb _ _ (at-if3 .if3 .left), ne-eqb _ _ (at-if4 .if4 .left)) (at-put2 .put2 .ensures)
+    rw (
+      ← (at-is-coded .is-coded .ensures),
+      at-if1 .if1 .left,
+      ← (at-is-escaped .is-escaped .ensures),
+      at-if2 .if2 .left,
+      ne-eqb _ _ (at-if3 .if3 .left),
+      ne-eqb _ _ (at-if4 .if4 .left),
+    ) (at-put2 .put2 .ensures)
 
 pub put-character-spec : {M : Type 1} → statement M
 put-character-spec =

@@ -50,14 +50,16 @@ returns-6 c =
     let at-match = at-is-digit .before in
     let at-if1 = at-match .before .before in
     let m = at-match .match .rest in
-    stands-later _ _ _ _ (at-if1 .if1 .left) (omega arith) _ _ (λ characters. escape-digit _ (m .0 .0 .0 .1) (m .0 .0 .1) (m .0 .1) (m .1) characters (sym (at-is-digit .is-digit .ensures) ∙ c .before .if2 .taken)) (c .code .ensures)
+    stands-later _ _ _ _ (at-if1 .if1 .left) (omega arith) _ _
+    (λ characters. escape-digit _ (m .0 .0 .0 .1) (m .0 .0 .1) (m .0 .1) (m .1) characters (sym (at-is-digit .is-digit .ensures) ∙ c .before .if2 .taken)) (c .code .ensures)
 
 returns-7 : tie.Need-returns-7
 returns-7 c =
     let at-match = c .before .before in
     let at-if1 = at-match .before .before in
     let m = at-match .match .rest in
-    stands-broken _ _ _ _ (at-if1 .if1 .left) (omega arith) (λ characters. escape-other _ (m .0 .0 .0 .1) (m .0 .0 .1) (m .0 .1) (m .1) characters (sym (c .before .is-digit .ensures) ∙ c .if2 .left))
+    stands-broken _ _ _ _ (at-if1 .if1 .left) (omega arith)
+    (λ characters. escape-other _ (m .0 .0 .0 .1) (m .0 .0 .1) (m .0 .1) (m .1) characters (sym (c .before .is-digit .ensures) ∙ c .if2 .left))
 
 pub escape-spec : {M : Type 1} → statement M
 escape-spec =

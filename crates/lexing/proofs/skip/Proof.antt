@@ -67,8 +67,11 @@ enum-known-past-2 c = search needs
 comment-done : (c : lts.After-comment-past (is-blank-reads.Asked, is-blank-reads.Learnt, byte-ahead-reads.Asked, byte-ahead-reads.Learnt, comment-past-reads.Asked, comment-past-reads.Learnt) reads.Pre reads.Post Inv-loop μ-loop)
     (comment : Comment)
     → c .comment-past .result ≡ comment
-    → Tokens.skip Tokens.between (c .before .before .before .before .before .before .before .before .before .before .args .from) (drop (c .before .before .before .before .before .before .before .before .before .before .args .from) (c .before .before .before .before .before .before .before .before .before .before .args .text .now))
-    ≡ commentOf (c .before .before .before .before .before .before .before .before .before .before .args .text .now) (c .before .before .before .before .before .before .before .before .loop .at) comment
+    → Tokens.skip Tokens.between (c .before .before .before .before .before .before .before .before .before .before .args .from)
+    (drop (c .before .before .before .before .before .before .before .before .before .before .args .from)
+    (c .before .before .before .before .before .before .before .before .before .before .args .text .now))
+    ≡ commentOf (c .before .before .before .before .before .before .before .before .before .before .args .text .now)
+    (c .before .before .before .before .before .before .before .before .loop .at) comment
 comment-done c comment e =
     let at-byte-ahead = c .before .before in
     let at-if2 = at-byte-ahead .before in
@@ -77,7 +80,9 @@ comment-done c comment e =
     let at-loop-test = at-is-blank .before .before in
     let at-loop = at-loop-test .before in
     let entry = at-loop .before .before in
-    at-loop .loop .inv ∙ comment-passed _ _ _ (at-loop-test .loop-test .taken) (sym (at-is-blank .is-blank .ensures) ∙ at-if1 .if1 .left) (eq-eqb _ 47 (at-if2 .if2 .taken)) (sym (at-byte-ahead .byte-ahead .ensures) ∙ c .before .if3 .taken) (c .comment-past .ensures) ∙ ap (commentOf (entry .args .text .now) (at-loop .loop .at)) e
+    at-loop .loop .inv ∙ comment-passed _ _ _ (at-loop-test .loop-test .taken) (sym (at-is-blank .is-blank .ensures) ∙ at-if1 .if1 .left)
+    (eq-eqb _ 47 (at-if2 .if2 .taken)) (sym (at-byte-ahead .byte-ahead .ensures) ∙ c .before .if3 .taken) (c .comment-past .ensures) ∙
+    ap (commentOf (entry .args .text .now) (at-loop .loop .at)) e
 
 returns : tie.Need-returns Inv-loop μ-loop
 returns c = sym (comment-done (c .before .before .before) _ (c .before .past2 .given .1))
@@ -86,7 +91,8 @@ loop-less-2 : tie.Need-loop-less-2 Inv-loop μ-loop
 loop-less-2 c =
     let at-comment-past = c .before .before .before in
     let at-loop = at-comment-past .before .before .before .before .before .before .before .before in
-    let onward : at-loop .loop .at + 2 ≤ c .before .past .given .0 .0 = subst (EndsAfter _) (c .before .past .given .1) (at-comment-past .comment-past .ensures .after) in omega arith
+    let onward : at-loop .loop .at + 2 ≤ c .before .past .given .0 .0 = subst (EndsAfter _) (c .before .past .given .1)
+    (at-comment-past .comment-past .ensures .after) in omega arith
 
 loop-again-2 : tie.Need-loop-again-2 Inv-loop μ-loop
 loop-again-2 c = comment-done (c .before .before .before) _ (c .before .past .given .1)
@@ -97,7 +103,8 @@ returns-2 c =
     let at-loop-test = at-is-blank .before .before in
     let at-loop = at-loop-test .before in
     let l = at-loop .loop in
-    sym (l .inv ∙ token-found _ _ (at-loop-test .loop-test .taken) (sym (at-is-blank .is-blank .ensures) ∙ c .before .if1 .left) (⊎-elim (λ w. rw (eq-eqb _ 47 (w .0 .taken)) (sym (w .1 .ensures) ∙ w .2 .left)) (λ w. rw (ne-eqb _ 47 (w .left))) (c .if2 .came)))
+    sym (l .inv ∙ token-found _ _ (at-loop-test .loop-test .taken) (sym (at-is-blank .is-blank .ensures) ∙ c .before .if1 .left)
+    (⊎-elim (λ w. rw (eq-eqb _ 47 (w .0 .taken)) (sym (w .1 .ensures) ∙ w .2 .left)) (λ w. rw (ne-eqb _ 47 (w .left))) (c .if2 .came)))
 
 returns-3 : tie.Need-returns-3 Inv-loop μ-loop
 returns-3 c = sym (c .before .loop .inv ∙ text-ends _ _ (c .loop-test .left))

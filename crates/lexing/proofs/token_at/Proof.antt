@@ -41,7 +41,8 @@ returns-3 c =
     let at-is-letter = at-if2 .before in
     let at-if1 = at-is-letter .before .before in
     let entry = at-if1 .before .before in
-    rw (at-quote _ (modeOf (entry .args .mode)) _ (at-if1 .if1 .left) (sym (at-is-letter .is-letter .ensures) ∙ at-if2 .if2 .left) (c .before .match .keys1)) (c .quoted-at .ensures)
+    rw (at-quote _ (modeOf (entry .args .mode)) _ (at-if1 .if1 .left) (sym (at-is-letter .is-letter .ensures) ∙ at-if2 .if2 .left)
+    (c .before .match .keys1)) (c .quoted-at .ensures)
 
 returns-4 : tie.Need-returns-4
 returns-4 c =
@@ -49,7 +50,8 @@ returns-4 c =
     let at-is-letter = at-if2 .before in
     let at-if1 = at-is-letter .before .before in
     let entry = at-if1 .before .before in
-    rw (at-bracket _ (modeOf (entry .args .mode)) _ (at-if1 .if1 .left) (sym (at-is-letter .is-letter .ensures) ∙ at-if2 .if2 .left) (c .before .match .keys2)) (c .bracket-at .ensures)
+    rw (at-bracket _ (modeOf (entry .args .mode)) _ (at-if1 .if1 .left) (sym (at-is-letter .is-letter .ensures) ∙ at-if2 .if2 .left)
+    (c .before .match .keys2)) (c .bracket-at .ensures)
 
 returns-5 : tie.Need-returns-5
 returns-5 c =

@@ -24,14 +24,16 @@ returns c =
     let at-list-length-arg = at-list-length .before in
     let at-counted = at-list-length-arg .before in
     let entry = at-counted .before .before in
-    rw (← (take-counted (entry .args .tape .now) (entry .args .words) (at-list-length-arg .list-length-arg .given .0) (at-counted .counted .ensures))) (leaves-listing (at-list-length .list-length .ensures) (at-if1 .if1 .taken) (at-list-words .list-words .ensures))
+    rw (← (take-counted (entry .args .tape .now) (entry .args .words) (at-list-length-arg .list-length-arg .given .0) (at-counted .counted .ensures)))
+    (leaves-listing (at-list-length .list-length .ensures) (at-if1 .if1 .taken) (at-list-words .list-words .ensures))
 
 returns-2 : tie.Need-returns-2
 returns-2 c =
     let at-list-length-arg = c .before .before in
     let at-counted = at-list-length-arg .before in
     let entry = at-counted .before .before in
-    rw (← (take-counted (entry .args .tape .now) (entry .args .words) (at-list-length-arg .list-length-arg .given .0) (at-counted .counted .ensures))) (leaves-nothing (c .before .list-length .ensures) (c .if1 .left))
+    rw (← (take-counted (entry .args .tape .now) (entry .args .words) (at-list-length-arg .list-length-arg .given .0) (at-counted .counted .ensures)))
+    (leaves-nothing (c .before .list-length .ensures) (c .if1 .left))
 
 pub list-spec : {M : Type 1} → statement M
 list-spec =

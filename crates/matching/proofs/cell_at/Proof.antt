@@ -35,4 +35,5 @@ returns-4 : tie.Need-returns-4
 returns-4 c = let r = c .match .rest in rw (site-unknown _ _ (r .0 .0 .1) (r .0 .1) (r .1))
 
 pub cell-at-spec : {M : Type 1} → statement M
-cell-at-spec = tie.close (tie.spec wide-requires byte-at-requires wide-requires-2 byte-before-end-requires wide-requires-3 byte-after-requires returns returns-2 returns-3 returns-4)
+cell-at-spec = tie.close (tie.spec wide-requires byte-at-requires wide-requires-2 byte-before-end-requires wide-requires-3 byte-after-requires returns
+    returns-2 returns-3 returns-4)

@@ -73,4 +73,5 @@ returns-4 : tie.Need-returns-4 Inv-loop μ-loop
 returns-4 c = rw (no-tests _ _ _ _ _ (c .loop-test .left)) at (c .before .loop .inv)
 
 pub check-all-spec : {M : Type 1} → statement M
-check-all-spec = tie.close (tie.spec Inv-loop μ-loop loop-holds returns mul-check shared-slice-read-check check-requires enum-told returns-2 enum-told-2 returns-3 enum-told-3 add-at sub-left loop-less loop-again returns-4)
+check-all-spec = tie.close (tie.spec Inv-loop μ-loop loop-holds returns mul-check shared-slice-read-check check-requires enum-told returns-2 enum-told-2 returns-3
+    enum-told-3 add-at sub-left loop-less loop-again returns-4)

@@ -118,11 +118,20 @@ loop-again c =
     let at-try-sentence = c .before .before .before in
     let at-if2 = at-try-sentence .before .before in
     let at-if1 = at-if2 .before in
-    let at-loop = at-if1 .before .before .before in
-    (rw (choosing-next _ _ _ _ (at-if2 .if2 .left) (at-if1 .if1 .left), ← (at-try-sentence .try-sentence .ensures), c .before .enum-told2 .given .1, ← (c .wide3 .ensures)) at (at-loop .loop .inv .0), omega arith)
+    let at-loop = at-if1 .before .before .before in (
+      rw (
+        choosing-next _ _ _ _ (at-if2 .if2 .left) (at-if1 .if1 .left),
+        ← (at-try-sentence .try-sentence .ensures),
+        c .before .enum-told2 .given .1,
+        ← (c .wide3 .ensures),
+      ) at (at-loop .loop .inv .0),
+      omega arith,
+    )
 
 returns-5 : tie.Need-returns-5 Inv-loop μ-loop
 returns-5 c = record { same = rw (choosing-past _ _ _ _ (c .loop-test .left)) at (c .before .loop .inv .0); few = tt }
 
 pub choose-spec : {M : Type 1} → statement M
-choose-spec = tie.close (tie.spec Inv-loop μ-loop loop-holds mul-word shared-slice-read-word returns sub-if2 returns-2 add-counts mul-counts shared-slice-read-counts try-sentence-requires enum-told returns-3 enum-known-place add-t18 wide-requires add-t21 wide-requires-2 returns-4 enum-told-2 wide-requires-3 add-at add-at-2 add-number loop-less loop-again returns-5)
+choose-spec = tie.close (tie.spec Inv-loop μ-loop loop-holds mul-word shared-slice-read-word returns sub-if2 returns-2 add-counts mul-counts shared-slice-read-counts
+    try-sentence-requires enum-told returns-3 enum-known-place add-t18 wide-requires add-t21 wide-requires-2 returns-4 enum-told-2 wide-requires-3 add-at add-at-2
+    add-number loop-less loop-again returns-5)

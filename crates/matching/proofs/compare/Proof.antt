@@ -37,7 +37,11 @@ returns-2 c =
     let at-cell-at = at-b .before .before in
     let entry = at-cell-at .before .before in
     let a = entry .args in
-    rw (compare-asks (siteOf (firstIn (a .word) % 4) (secondIn (a .word))) (siteOf (firstIn (a .word) / 4) (thirdIn (a .word))) _ _ _ (rw (at-b .b .given .1) at (at-cell-at .cell-at .ensures)), ← (at-cell-at2 .cell-at2 .ensures), c .enum-told2 .given .1)
+    rw (
+      compare-asks (siteOf (firstIn (a .word) % 4) (secondIn (a .word))) (siteOf (firstIn (a .word) / 4) (thirdIn (a .word))) _ _ _ (rw (at-b .b .given .1) at (at-cell-at .cell-at .ensures)),
+      ← (at-cell-at2 .cell-at2 .ensures),
+      c .enum-told2 .given .1,
+    )
 
 told-requires : tie.Need-told-requires
 told-requires c κs = search needs
@@ -50,7 +54,11 @@ returns-3 c =
     let at-cell-at = at-b .before .before in
     let entry = at-cell-at .before .before in
     let a = entry .args in
-    rw (compare-asks (siteOf (firstIn (a .word) % 4) (secondIn (a .word))) (siteOf (firstIn (a .word) / 4) (thirdIn (a .word))) _ _ _ (rw (at-b .b .given .1) at (at-cell-at .cell-at .ensures)), ← (at-cell-at2 .cell-at2 .ensures), at-a .a .given .1) (c .told .ensures)
+    rw (
+      compare-asks (siteOf (firstIn (a .word) % 4) (secondIn (a .word))) (siteOf (firstIn (a .word) / 4) (thirdIn (a .word))) _ _ _ (rw (at-b .b .given .1) at (at-cell-at .cell-at .ensures)),
+      ← (at-cell-at2 .cell-at2 .ensures),
+      at-a .a .given .1,
+    ) (c .told .ensures)
 
 pub compare-spec : {M : Type 1} → statement M
 compare-spec = tie.close (tie.spec cell-at-requires enum-known-b enum-told returns cell-at-requires-2 enum-known-a enum-told-2 returns-2 told-requires returns-3)

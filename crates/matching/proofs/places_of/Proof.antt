@@ -52,4 +52,5 @@ returns-4 : tie.Need-returns-4
 returns-4 c = let r = c .match .rest in rw (metric-unknown _ (r .0 .0 .1) (r .0 .1) (r .1))
 
 pub places-of-spec : {M : Type 1} → statement M
-places-of-spec = tie.close (tie.spec wide-requires wide-requires-2 wide-requires-3 one-if-requires add-one-if one-if-requires-2 add-places-for add-places-for-2 places-for-requires returns returns-2 returns-3 returns-4)
+places-of-spec = tie.close (tie.spec wide-requires wide-requires-2 wide-requires-3 one-if-requires add-one-if one-if-requires-2 add-places-for add-places-for-2
+    places-for-requires returns returns-2 returns-3 returns-4)

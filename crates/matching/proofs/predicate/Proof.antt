@@ -27,7 +27,8 @@ returns-2 c =
     let at-if1 = at-cell-at .before in
     let entry = at-if1 .before .before in
     let a = entry .args in
-    sym (predicate-none (siteOf (firstIn (a .word) % 4) (secondIn (a .word))) (thirdIn (a .word)) _ _ _ (at-if1 .if1 .left) (rw (c .enum-told .given .1) at (at-cell-at .cell-at .ensures)))
+    sym (predicate-none (siteOf (firstIn (a .word) % 4) (secondIn (a .word))) (thirdIn (a .word)) _ _ _ (at-if1 .if1 .left)
+    (rw (c .enum-told .given .1) at (at-cell-at .cell-at .ensures)))
 
 cast-entry : tie.Need-cast-entry
 cast-entry c = search needs
@@ -56,7 +57,13 @@ returns-3 c =
     let at-if1 = at-cell-at .before in
     let entry = at-if1 .before .before in
     let a = entry .args in
-    rw (predicate-told (siteOf (firstIn (a .word) % 4) (secondIn (a .word))) (thirdIn (a .word)) _ _ _ _ (at-if1 .if1 .left) (rw (at-b .b .given .1) at (at-cell-at .cell-at .ensures)), ← (entry .pre .each (thirdIn (a .word)) (at-b .b .given .0 .0) (omega (arith, at-known-told .known-told))), ← (at-bit .bit .ensures), ← (c .before .as-expected .ensures)) (c .told .ensures)
+    rw (
+      predicate-told (siteOf (firstIn (a .word) % 4) (secondIn (a .word))) (thirdIn (a .word)) _ _ _ _ (at-if1 .if1 .left) (rw (at-b .b .given .1) at (at-cell-at .cell-at .ensures)),
+      ← (entry .pre .each (thirdIn (a .word)) (at-b .b .given .0 .0) (omega (arith, at-known-told .known-told))),
+      ← (at-bit .bit .ensures),
+      ← (c .before .as-expected .ensures),
+    ) (c .told .ensures)
 
 pub predicate-spec : {M : Type 1} → statement M
-predicate-spec = tie.close (tie.spec returns cell-at-requires enum-known-b enum-told returns-2 cast-entry element-copy-out-entry cast-bit bit-requires as-expected-requires told-requires returns-3)
+predicate-spec = tie.close (tie.spec returns cell-at-requires enum-known-b enum-told returns-2 cast-entry element-copy-out-entry cast-bit bit-requires
+    as-expected-requires told-requires returns-3)

@@ -12,7 +12,8 @@ use Rattle.matching.proofs.search.Statement.{statement}
 use Rattle.matching.proofs.search.Tie as tie
 
 abbrev Inv-loop : tie.InvT-loop
-Inv-loop bits code tests count field first places place₀ left₀ place left = (searched (checkAll (unpackTests count (drop (tests .0) code)) field) left place ≡ searched (checkAll (unpackTests count (drop (tests .0) code)) field) places first) ×
+Inv-loop bits code tests count field first places place₀ left₀ place left =
+    (searched (checkAll (unpackTests count (drop (tests .0) code)) field) left place ≡ searched (checkAll (unpackTests count (drop (tests .0) code)) field) places first) ×
     (place + left ≤ length field + 256)
 
 abbrev μ-loop : tie.MeasureT-loop
@@ -67,4 +68,5 @@ returns-3 : tie.Need-returns-3 Inv-loop μ-loop
 returns-3 c = rw (no-places _ _ _ (c .loop-test .left)) at (c .before .loop .inv .0)
 
 pub search-spec : {M : Type 1} → statement M
-search-spec = tie.close (tie.spec Inv-loop μ-loop loop-holds check-all-requires enum-told returns enum-told-2 returns-2 enum-told-3 add-place sub-left loop-less loop-again returns-3)
+search-spec = tie.close (tie.spec Inv-loop μ-loop loop-holds check-all-requires enum-told returns enum-told-2 returns-2 enum-told-3 add-place sub-left
+    loop-less loop-again returns-3)

@@ -47,7 +47,10 @@ returns-3 c =
     let at-places-of = at-first .before .before in
     let entry = at-places-of .before .before .before in
     let a = entry .args in
-    rw (tried-places (a .counts) _ _ (metricIn (a .word)) _ _ (rw (at-first .first .given .1) at (at-places-of .places-of .ensures)) (at-if1 .if1 .left), ← (c .before .wide .ensures)) (c .search .ensures)
+    rw (
+      tried-places (a .counts) _ _ (metricIn (a .word)) _ _ (rw (at-first .first .given .1) at (at-places-of .places-of .ensures)) (at-if1 .if1 .left),
+      ← (c .before .wide .ensures),
+    ) (c .search .ensures)
 
 pub try-sentence-spec : {M : Type 1} → statement M
 try-sentence-spec = tie.close (tie.spec places-of-requires enum-known-first enum-told returns returns-2 add-search wide-requires search-requires returns-3)

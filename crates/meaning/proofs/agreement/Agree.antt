@@ -30,7 +30,8 @@ module _ (table : Table) (ok : T (allowed table)) where
   spent (suc depth) f text t e = rw e
 
   -- the chosen sentence is run, or 11 is answered, on both sides
-  chosen-run : (depth frame f : ℕ) (field below o : Bytes) (t : Tally) → Callee (enter endless depth (translate table)) (apply depth table) → {c : Choice} {fit : Option Fit} → Chosen table field c fit →
+  chosen-run : (depth frame f : ℕ) (field below o : Bytes) (t : Tally) → Callee (enter endless depth (translate table)) (apply depth table) →
+      {c : Choice} {fit : Option Fit} → Chosen table field c fit →
       ranChoice endless (translate table) (enter endless depth (translate table)) frame f c (stacks (field ++ below) (length field) o) (ledger t) ≡
       carried below o (rewritten table (apply depth table) f fit t)
   chosen-run depth frame f field below o t callee nowhere = refl

@@ -57,7 +57,11 @@ module _ (table : Table) (shape : Shape) (sites : List (Named Site)) (bound : Bi
       (m : Move shape l (standing .remaining) w (passage shape x w) (lookup x (bound .parts)) coming) →
       from opened (go (passage shape x w .gap) ∷ select (passage shape x w .piece) ∷ out ∷ more) w o t ≡ from opened more (passage shape x w .after) (o ++ m .piece) t
   part-law x w coming more opened o t m =
-      rw (m .whole, append-assoc (m .gap) (m .piece ++ standing .remaining (passage shape x w .after)) below, append-assoc (m .piece) (standing .remaining (passage shape x w .after)) below)
+      rw (
+        m .whole,
+        append-assoc (m .gap) (m .piece ++ standing .remaining (passage shape x w .after)) below,
+        append-assoc (m .piece) (standing .remaining (passage shape x w .after)) below,
+      )
       (go-law code enter frame _ l₁ t (passage shape x w .gap) (m .gap) (m .piece ++ onward) o 0 (span-opened (passage shape x w .gap) l opened ∙ m .gapSize) ∙
       select-law code enter frame _ l₁ t (passage shape x w .piece) (m .piece) onward o 0 (rw span-opened (omega (arith, m .pieceSize))) ∙
       out-law code enter frame more l₁ t (m .piece) onward o)
@@ -91,7 +95,8 @@ module _ (table : Table) (shape : Shape) (sites : List (Named Site)) (bound : Bi
       from (length o ∷ opened) (calling shape (pick last replaces nests) number n w more) w (o ++ argument) t ≡
       into (apply number argument t) (λ given t₁. from opened more w (o ++ given) t₁)
   declared-call true number n w more opened o argument t d e =
-      go-law (translate table) enter frame (argumentReady (tailCall number ∷ [])) (withOpened (length o ∷ opened) l) t (restOf shape w) (standing .remaining w) below (o ++ argument) 0
+      go-law (translate table) enter frame (argumentReady (tailCall number ∷ [])) (withOpened (length o ∷ opened) l) t (restOf shape w)
+      (standing .remaining w) below (o ++ argument) 0
       (span-opened (restOf shape w) l (length o ∷ opened) ∙ standing .toEnd w) ∙
       ready-law (tailCall number ∷ []) opened below o argument t ∙
       tail-law (translate table) enter frame [] (withOpened opened l) t number (stacks (argument ++ below) (length argument) o) d ∙
@@ -108,7 +113,8 @@ module _ (table : Table) (shape : Shape) (sites : List (Named Site)) (bound : Bi
           (λ s₁ g₁. process endless (translate table) enter frame more (withOpened opened l) (withSelected 0 s₁) g₁)) ≡
           into (apply number argument t) (λ given t₁. from opened more w (o ++ given) t₁)
       paid none q = rw (callee .spent number argument t q)
-      paid (some t₁) q = rw (callee .same (suc frame) number argument (standing .remaining w ++ below) o t) (carried-andThen (standing .remaining w ++ below) o (apply number argument t) _)
+      paid (some t₁) q = rw (callee .same (suc frame) number argument (standing .remaining w ++ below) o t)
+          (carried-andThen (standing .remaining w ++ below) o (apply number argument t) _)
 
   -- any call, by whether its name is an emission's and whether it is the last item outermost: both tests are taken as variables
   any-call : (emits? last : Bool) (n : Name) (w : Stand) (more : List Action) (opened : List ℕ) (o argument : Bytes) (t : Tally) →
@@ -144,7 +150,8 @@ module _ (table : Table) (shape : Shape) (sites : List (Named Site)) (bound : Bi
       expressed sound b k opened (o ++ c ∷ []) t ending h ∙
       into-written (c ∷ []) o (evaluate (callNamed table apply) bound e t) (λ text t₁. from opened (k w₁) w₁ text t₁)
   expressed {w} {w₁} (aSymbol {x} {e} v sound) b k opened o t ending h =
-      value-law (translate table) enter frame (items table shape sites b e w k) (withOpened opened l) t (valueNumber sites x) (v .byte) 0 (standing .remaining w ++ below) o (v .stored) ∙
+      value-law (translate table) enter frame (items table shape sites b e w k) (withOpened opened l) t (valueNumber sites x) (v .byte) 0
+      (standing .remaining w ++ below) o (v .stored) ∙
       expressed sound b k opened (o ++ v .byte ∷ []) t ending h ∙
       rw (v .taken) (into-written (v .byte ∷ []) o (evaluate (callNamed table apply) bound e t) (λ text t₁. from opened (k w₁) w₁ text t₁))
   expressed {w} {w₁} (aPart {x} {e} {later} m sound) b k opened o t ending h =

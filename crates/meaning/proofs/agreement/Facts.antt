@@ -49,7 +49,8 @@ unfolding symbolsFrom templated testedTemplate
 names-template at from [] d es = refl
 names-template at from (character c ∷ ls) d es = names-template at (suc from) ls (testedLetter (character c) (at from) d) es
 names-template at from (symbol x ∷ ls) d es =
-    ap (λ (known : List Name). symbolsFrom known (templated ls es)) (names-symbol x (at from) d (lookup x (d .sites)) refl) ∙ (names-template at (suc from) ls (testedLetter (symbol x) (at from) d) es)
+    ap (λ (known : List Name). symbolsFrom known (templated ls es)) (names-symbol x (at from) d (lookup x (d .sites)) refl) ∙
+    (names-template at (suc from) ls (testedLetter (symbol x) (at from) d) es)
 
 names-shape : (shape : Shape) → symbolsOf (elementsOf shape) ≡ namesIn (testedShape shape .sites)
 unfolding symbolsFrom
@@ -84,7 +85,8 @@ allowable table s a calls =
     let l = there (comingAfterAll (s .expression) (partsOf (s .pattern))) order in
     record {
       pattern = p;
-      apart = named-apart (shapeOf (s .pattern)) (rw (← parts) (true-passed (distinct (partsOf (s .pattern))) (distinct-second (symbolsOf (s .pattern)) (partsOf (s .pattern)) (passed-true _ names))));
+      apart = named-apart (shapeOf (s .pattern)) (rw (← parts)
+          (true-passed (distinct (partsOf (s .pattern))) (distinct-second (symbolsOf (s .pattern)) (partsOf (s .pattern)) (passed-true _ names))));
       asks = rw (← symbols) conditions;
       spelled = rw (← symbols) items;
       later = l .it;
@@ -111,4 +113,5 @@ facts table a f = declared (nth (pred f) table) refl
         let functions : T (every allowedFunction table) = search both-left in
         let calls : T (every (λ f. every (λ s. callsKnown table (s .expression)) (f .sentences)) table) = search (both-left, both-right) depth 8 in
         let one = every-nth allowedFunction table (pred f) g functions e in
-        allowables table (g .sentences) (search (both-left, both-right) depth 8) (every-nth (λ f. every (λ s. callsKnown table (s .expression)) (f .sentences)) table (pred f) g calls e)
+        allowables table (g .sentences) (search (both-left, both-right) depth 8)
+        (every-nth (λ f. every (λ s. callsKnown table (s .expression)) (f .sentences)) table (pred f) g calls e)

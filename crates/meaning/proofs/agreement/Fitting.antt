@@ -70,7 +70,8 @@ match-last ls cs bytes bound size = rw append-nil at (match-template ls [] cs by
     asked known true = refl
     asked known false = refl
 
-    held : (o : Option (List (Named ℕ))) → whereSome o (λ known. guard (hold cs known) (some (withSymbols bound known))) ≡ whereSome (whereSome o (holding cs)) (boundTo (bound .parts))
+    held : (o : Option (List (Named ℕ))) → whereSome o (λ known. guard (hold cs known) (some (withSymbols bound known))) ≡
+        whereSome (whereSome o (holding cs)) (boundTo (bound .parts))
     held none = refl
     held (some known) = asked known (hold cs known)
 
@@ -221,7 +222,8 @@ module _ (cs : List Condition) where
     place-open₂ hs p ms r ts sizeHead sizeMiddle sizeTail =
         rw (
           where-same (templateMatch h hs []) _ _ (λ known. match-part m y t cs ms r ts (withPart (bindings known []) x p) sizeMiddle sizeTail),
-          where-strict (λ o. whereSome (whereSome (whereSome o (templateMatch t ts)) (holding cs)) (boundTo (taking x p ∷ taking y r ∷ []))) (templateMatch h hs []) (templateMatch m ms) refl,
+          where-strict (λ o. whereSome (whereSome (whereSome o (templateMatch t ts)) (holding cs)) (boundTo (taking x p ∷ taking y r ∷ []))) (templateMatch h hs [])
+              (templateMatch m ms) refl,
         )
         (trial (laid-open₂ h x m y t hs p ms r ts sizeHead sizeMiddle sizeTail apart)
         (all-tested field at cs (testedShape shape₂) asks
@@ -255,7 +257,8 @@ module _ (cs : List Condition) where
         let count : placesOf (metricOf shape₂) (length (hs ++ rest)) ≡ suc (length rest) - (length m + length t) = rw length-append (omega arith) in
         let start : length hs + 0 ≡ firstPlace (metricOf shape₂) = omega arith in
         rw (count, match-open₂ hs rest size)
-        (rw start at (search-shortest (Fitting shape₂ (testedShape shape₂ .sites) (hs ++ rest)) (tests₂ (hs ++ rest)) (tried₂ hs) (length hs) (length m + length t) rest each short [] rest refl))
+        (rw start at (search-shortest (Fitting shape₂ (testedShape shape₂ .sites) (hs ++ rest)) (tests₂ (hs ++ rest)) (tried₂ hs) (length hs) (length m + length t)
+        rest each short [] rest refl))
       where
         each : (p back : Bytes) → p ++ back ≡ rest → length m + length t ≤ length back →
             Trial (Fitting shape₂ (testedShape shape₂ .sites) (hs ++ rest)) (length hs + length p) (tests₂ (hs ++ rest) (length hs + length p)) (tried₂ hs p back)
@@ -264,7 +267,8 @@ module _ (cs : List Condition) where
             rw (← e, a .whole) (place-open₂ hs p (a .first) (a .middle) (a .last) size (a .firstSize) (a .lastSize))
 
         short : (p back : Bytes) → length back < length m + length t → tried₂ hs p back ≡ none
-        short p back few = where-none (templateMatch h hs []) _ (λ known. match-short (templated m (part y ∷ templated t [])) cs back (withPart (bindings known []) x p) (rw letters-part few))
+        short p back few = where-none (templateMatch h hs []) _
+            (λ known. match-short (templated m (part y ∷ templated t [])) cs back (withPart (bindings known []) x p) (rw letters-part few))
 
     agrees-open₂ : (field : Bytes) → Agrees shape₂ field
     unfolding search

@@ -61,7 +61,9 @@ pub sentence-run : (table : Table) (enter : Applying) (apply : ℕ → Bytes →
     (storedValues (storesOf (testedShape (shapeOf (s .pattern)))) field at) (stacks (field ++ below) (length field) o) (ledger t) ≡
     carried below o (evaluate (callNamed table apply) bound (s .expression) t)
 sentence-run table enter apply callee s field at bound a f frame below o t =
-    let r = sounds table (shapeOf (s .pattern)) (sitesOf (s .pattern)) bound (locals (length field) at (f .values)) (f .standing) (s .expression) atStart (a .later) (a .spelled) (a .coming) (a .calls) in
+    let r = sounds table (shapeOf (s .pattern)) (sitesOf (s .pattern)) bound (locals (length field) at (f .values)) (f .standing) (s .expression) atStart (a .later)
+    (a .spelled) (a .coming) (a .calls) in
     rw (f .stored)
     (rw (f .whole) at
-    (evaluated table (shapeOf (s .pattern)) (sitesOf (s .pattern)) bound (locals (length field) at (f .values)) (f .standing) below frame enter apply callee (r .sound) (a .nested) o t))
+    (evaluated table (shapeOf (s .pattern)) (sitesOf (s .pattern)) bound (locals (length field) at (f .values)) (f .standing) below frame enter apply callee
+    (r .sound) (a .nested) o t))

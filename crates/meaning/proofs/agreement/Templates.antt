@@ -73,7 +73,8 @@ module _ (field : Bytes) (place : ℕ) where
   checkAll-append [] b = refl
   checkAll-append (t ∷ a) b = rw (checkAll-append a b) (again (check t field place))
     where
-      again : (c : Checked) → wherePassed c (wherePassed (checkAll a field place) (checkAll b field place)) ≡ wherePassed (wherePassed c (checkAll a field place)) (checkAll b field place)
+      again : (c : Checked) → wherePassed c (wherePassed (checkAll a field place) (checkAll b field place)) ≡
+          wherePassed (wherePassed c (checkAll a field place)) (checkAll b field place)
       again passed = refl
       again failed = refl
       again wrong = refl
@@ -106,7 +107,8 @@ module _ (field : Bytes) (place : ℕ) where
   looked-some (found {b} e) = record { byte = b; there = refl; cell = e }
 
   -- "Compare with the first equal s-variable" against "Equal s-variables take equal bytes"
-  compared : {sites : List (Named Site)} {known : List (Named ℕ)} {first : Site} (x : Name) (s : Site) (b : ℕ) → cellAt s field place ≡ some b → Known sites known → Found first (lookup x known) →
+  compared : {sites : List (Named Site)} {known : List (Named ℕ)} {first : Site} (x : Name) (s : Site) (b : ℕ) → cellAt s field place ≡ some b → Known sites known →
+      Found first (lookup x known) →
       Tried sites (check (compare first s) field place) (takeSymbol x b known)
   compared x s b cell k f = rw (f .there, f .cell, cell) (truth (eqb (f .byte) b) k)
 
@@ -115,7 +117,8 @@ module _ (field : Bytes) (place : ℕ) where
       Tried (d .sites) (checkAll (d .tests) field place) o →
       Tried (testedSymbol first x s d .sites) (checkAll (testedSymbol first x s d .tests) field place) (whereSome o (takeSymbol x b))
   symbol-tested x s b d none e cell tried =
-      rw no-test at (next {after = testedSymbol none x s d .sites} {d = passed} {f = takeSymbol x b} tried (λ known k. rw (looked-none (rw e at (looked k x))) (passes (known-more x s b cell k))))
+      rw no-test at (next {after = testedSymbol none x s d .sites} {d = passed} {f = takeSymbol x b} tried
+      (λ known k. rw (looked-none (rw e at (looked k x))) (passes (known-more x s b cell k))))
   symbol-tested x s b d (some r) e cell tried =
       rw (checkAll-last (d .tests) (compare r s)) (next tried (λ known k. compared x s b cell k (looked-some (rw e at (looked k x)))))
 
@@ -154,7 +157,8 @@ module _ (field : Bytes) (place : ℕ) where
       sited (some s) e t = record { site = s; standing = e; found = looked-some (rw e at (looked k x)) }
 
   -- conditions are asked of the s-variables that they name
-  pub conditions-tested : (sites : List (Named Site)) (cs : List Condition) → T (every (λ c. member (c .variable) (namesIn sites)) cs) → (known : List (Named ℕ)) → Known sites known →
+  pub conditions-tested : (sites : List (Named Site)) (cs : List Condition) → T (every (λ c. member (c .variable) (namesIn sites)) cs) →
+      (known : List (Named ℕ)) → Known sites known →
       Tried sites (checkAll (map (conditionTest sites) cs) field place) (guard (hold cs known) (some known))
   unfolding checkAll hold every
   conditions-tested sites [] m known k = passes k

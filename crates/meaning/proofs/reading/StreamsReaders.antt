@@ -120,7 +120,8 @@ module _ (symbols : List Name) where
       expression-step true q p s =
           let o = item-passable (t .token) p in
           let item = itemOf (t .token) in
-          at-check (reading depth so) (λ j us. withFirst (thenItem item) (expression j symbols depth (pastItem item so) us)) (itemFault symbols so item) t ts (item-ranged symbols so item) o
+          at-check (reading depth so) (λ j us. withFirst (thenItem item) (expression j symbols depth (pastItem item so) us)) (itemFault symbols so item) t ts
+          (item-ranged symbols so item) o
           (item-reaches p)
           (withFirst (thenItem item) (expression b symbols depth (pastItem item so) ts))
           (streamed-first (thenItem item) (reading depth (pastItem item so)) ts (expression b symbols depth (pastItem item so) ts)

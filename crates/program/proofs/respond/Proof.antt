@@ -53,7 +53,8 @@ put-result-requires c κs =
     let at-stack-out2 = at-record2 .before in
     let at-run-table = at-stack-out2 .before in
     let told = at-run-table .run-table .ensures in
-    rw (length-take-le _ _ (told .emissions), length-take-le _ _ (told .result)) (omega (arith, at-record2 .record2 .given, at-stack-out2 .stack-out2 .given, at-put-result-arg .put-result-arg .given .0 .1))
+    rw (length-take-le _ _ (told .emissions), length-take-le _ _ (told .result))
+    (omega (arith, at-record2 .record2 .given, at-stack-out2 .stack-out2 .given, at-put-result-arg .put-result-arg .given .0 .1))
 
 returns-2 : tie.Need-returns-2
 returns-2 c =

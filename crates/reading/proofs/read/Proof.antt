@@ -107,17 +107,21 @@ module _ {M : Type 1} (𝓤 : URA M) (H : Heap 𝓤) (A : Atoms 𝓤) (W : Given
   abbrev Said : Reading → Lasts read-text.ended κs a → SProp 𝓤
   Said x ws = read-text.clauses 𝓤 H A at-mem run κs a .ensures tt x (atExit read-text.ended κs a ws)
 
-  exits : (x : Reading) (ws : Lasts read-text.ended κs a) (v : Val) → ent 𝓤 (⋆ 𝓤 H A (‵ (O.the-row .own x (v ∷ [])) ∷ raw Tokens ∷ ‵ (lasts read-text.ended κs a ws) ∷ raw (Said x ws) ∷ [])) (Post v)
+  exits : (x : Reading) (ws : Lasts read-text.ended κs a) (v : Val) → ent 𝓤
+      (⋆ 𝓤 H A (‵ (O.the-row .own x (v ∷ [])) ∷ raw Tokens ∷ ‵ (lasts read-text.ended κs a ws) ∷ raw (Said x ws) ∷ [])) (Post v)
   exits x ws v =
       qed W (‵ (O.the-row .own x (v ∷ [])) ∷ raw Tokens ∷ ‵ (lasts read-text.ended κs a ws) ∷ raw (Said x ws) ∷ []) ∵
-      suffices ! _ (ends-at 𝓤 H A read.ended stayed (read.clauses 𝓤 H A at-mem run) W ((κs, qs, bounds, a, vss), tt) v x ws (all-fit κs (read.signature .params) (read.ended .kept) a ws)) $
+      suffices ! _ (ends-at 𝓤 H A read.ended stayed (read.clauses 𝓤 H A at-mem run) W ((κs, qs, bounds, a, vss), tt) v x ws
+      (all-fit κs (read.signature .params) (read.ended .kept) a ws)) $
       move ! (2 ∷ 0 ∷ []) $ join ! $ move ! (1 ∷ 0 ∷ []) $ join ! $ done !
 
   goes-new : ent 𝓤 (sep 𝓤 (A .lft (κs .0) (qs .0)) (sem 𝓤 H A (ShrSlice erased (κs .0) u8 .own (a .0) (slice-vals (a .0))))) (New 𝓤 H A at-mem run .pre to-new)
-  goes-new = qed W (‵ (flft (κs .0) (qs .0)) ∷ ‵ (ShrSlice erased (κs .0) u8 .own (a .0) (slice-vals (a .0))) ∷ []) ∵ nothing ! $ move ! (1 ∷ 0 ∷ []) $ join ! $ nothing ! $ move ! (2 ∷ 0 ∷ []) $ fjoin ! $ move ! (1 ∷ 0 ∷ []) $ join ! $ nothing ! $ move ! (1 ∷ 0 ∷ []) $ done !
+  goes-new = qed W (‵ (flft (κs .0) (qs .0)) ∷ ‵ (ShrSlice erased (κs .0) u8 .own (a .0) (slice-vals (a .0))) ∷ []) ∵ nothing ! $ move ! (1 ∷ 0 ∷ []) $ join ! $
+      nothing ! $ move ! (2 ∷ 0 ∷ []) $ fjoin ! $ move ! (1 ∷ 0 ∷ []) $ join ! $ nothing ! $ move ! (1 ∷ 0 ∷ []) $ done !
 
   goes-text : (r : Reader) (v : Val) → ent 𝓤 (sep 𝓤 (sep 𝓤 (A .lft (κs .0) (qs .0)) (emp 𝓤)) (sem 𝓤 H A (T.the-row α .own r (v ∷ [])))) (Text 𝓤 H A at-mem run .pre (to-text r v))
-  goes-text r v = qed W ((‵ (flft (κs .0) (qs .0)) ⊛ ‵ ftrue) ∷ ‵ (T.the-row α .own r (v ∷ [])) ∷ []) ∵ nothing ! $ move ! (2 ∷ 0 ∷ []) $ fjoin ! $ move ! (1 ∷ 0 ∷ []) $ join ! $ nothing ! $ move ! (1 ∷ 0 ∷ []) $ done !
+  goes-text r v = qed W ((‵ (flft (κs .0) (qs .0)) ⊛ ‵ ftrue) ∷ ‵ (T.the-row α .own r (v ∷ [])) ∷ []) ∵ nothing ! $ move ! (2 ∷ 0 ∷ []) $ fjoin ! $
+      move ! (1 ∷ 0 ∷ []) $ join ! $ nothing ! $ move ! (1 ∷ 0 ∷ []) $ done !
 
   new-said : (r : Reader) → ent 𝓤 (ensured 𝓤 H A new.ended (new.clauses 𝓤 H A at-mem run) (κs .0, tt) (a .0, tt) tt r) (fact 𝓤 (r ≡ readerAt (a .0) 0))
   new-said r = clause 𝓤 H A (lasts new.ended (κs .0, tt) (a .0, tt)) (r ≡ readerAt (a .0) 0)
@@ -127,15 +131,18 @@ module _ {M : Type 1} (𝓤 : URA M) (H : Heap 𝓤) (A : Atoms 𝓤) (W : Given
 
   module _ (are : Are (typesAt (read.signature .params) κs) (Ises (typesAt (read.signature .params) κs)) a vss) (C : Calls 𝓤 H) (Λ : Loops 𝓤 H) (fm : FmC 𝓤 H (W .laws) C)
       (known-new : Triple 𝓤 (C #lexing·reader·new) (New 𝓤 H A at-mem run)) (known-text : Triple 𝓤 (C #lexing·reader·text) (Text 𝓤 H A at-mem run)) (known-read-text : Triple 𝓤 (C #reading·read-text) (ReadText 𝓤 H A at-mem run)) where
-    walk : ent 𝓤 (onEntry 𝓤 H A read.signature κs qs a vss) (WpFn 𝓤 H C Λ code.function (sliceVal (ptr (a .0)) (length (now (a .0))) ∷ vptr (ptr (a .1 .0) .0) (ptr (a .1 .0) .1) ∷ []) Post)
+    walk : ent 𝓤 (onEntry 𝓤 H A read.signature κs qs a vss)
+        (WpFn 𝓤 H C Λ code.function (sliceVal (ptr (a .0)) (length (now (a .0))) ∷ vptr (ptr (a .1 .0) .0) (ptr (a .1 .0) .1) ∷ []) Post)
     walk =
-        qed W ((‵ (flft (κs .0) (qs .0)) ⊛ (‵ (flft (κs .1 .0) (qs .1 .0)) ⊛ ‵ ftrue)) ∷ ‵ (owns (typesAt (read.signature .params) κs) a vss) ∷ []) ∵ enter ! C Λ code.function _ _ $
+        qed W ((‵ (flft (κs .0) (qs .0)) ⊛ (‵ (flft (κs .1 .0) (qs .1 .0)) ⊛ ‵ ftrue)) ∷ ‵ (owns (typesAt (read.signature .params) κs) a vss) ∷ []) ∵ enter
+        ! C Λ code.function _ _ $
         alloc1 ! (λ l₀. alloc1 ! (λ l₁. alloc1 ! (λ l₂. alloc1 ! (λ l₃. alloc1 ! (λ l₄. alloc1 ! (λ l₅. alloc1 ! (λ l₆. alloc0 ! $ params1 ! $
         pass1 ! (init ! 10 refl (shr-slice-lawful 𝓤 H A W erased (κs .0) u8 .typed (a .0) _ (are .0) .0)) $ pass1 ! (init ! 8 refl (tt, tt)) $ pass0 ! $
         move ! (15 ∷ []) $ fsplit ! $ move ! (16 ∷ []) $ split ! $ move ! (0 ∷ 2 ∷ []) $ use2 W (raw (New 𝓤 H A at-mem run .pre to-new)) goes-new $
         -- [what `new` is passed; the tape's token; what the tape's borrow owns; _6; …; room for _0; …]
         calls-at ! fm (New 𝓤 H A at-mem run) known-new to-new (and-then ! (load ! (from ! (stop !)) (look ! 13 refl)) (no-more !)) (λ u.
-        use1 W (later (some (λ (r : Reader). ((‵ (flft (κs .0) (qs .0)) ⊛ ‵ ftrue) ⊛ ‵ (T.the-row α .own r (u ∷ []))) ⊛ raw (ensured 𝓤 H A new.ended (new.clauses 𝓤 H A at-mem run) (κs .0, tt) (a .0, tt) tt r)))) (id⊢ 𝓤 _) $ await ! tt $ pick ! (λ r.
+        use1 W (later (some (λ (r : Reader). ((‵ (flft (κs .0) (qs .0)) ⊛ ‵ ftrue) ⊛ ‵ (T.the-row α .own r (u ∷ []))) ⊛
+        raw (ensured 𝓤 H A new.ended (new.clauses 𝓤 H A at-mem run) (κs .0, tt) (a .0, tt) tt r)))) (id⊢ 𝓤 _) $ await ! tt $ pick ! (λ r.
         split ! $ move ! (1 ∷ []) $ use1 W (raw (fact 𝓤 (r ≡ readerAt (a .0) 0))) (new-said r) $ heard ! (r ≡ readerAt (a .0) 0) (λ made. split ! $ move ! (1 ∷ []) $
         peeks ! (T.the-row α) (Is (T.the-row α)) (shows 𝓤 H A (T.the-row α)) r (u ∷ []) (λ is.
         -- [what the reader owns; the text's token; the tape's token; what the tape's borrow owns; _6; …]
@@ -143,7 +150,8 @@ module _ {M : Type 1} (𝓤 : URA M) (H : Heap 𝓤) (A : Atoms 𝓤) (W : Given
         assigns ! (of-opd ! (load ! (from ! (stop !)) (look ! 10 refl))) (from ! (stop !)) (init ! 6 refl (LL.lawful (T.the-type α) (T′.the-laws α) 𝓤 H A W .typed r _ is .0)) $
         move ! (1 ∷ 0 ∷ []) $ use2 W (raw (Text 𝓤 H A at-mem run .pre (to-text r u))) (goes-text r u) $
         calls-at ! fm (Text 𝓤 H A at-mem run) known-text (to-text r u) (and-then ! (load ! (from ! (stop !)) (look ! 5 refl)) (no-more !)) (λ w.
-        use1 W (later (some (λ (s : RefT (List ℕ)). ((‵ (flft (κs .0) (qs .0)) ⊛ ‵ ftrue) ⊛ ‵ (Slice s w)) ⊛ raw (ensured 𝓤 H A text.ended (text.clauses 𝓤 H A at-mem run) (κs .0, tt) (r, tt) tt s)))) (id⊢ 𝓤 _) $ await ! tt $ pick ! (λ s.
+        use1 W (later (some (λ (s : RefT (List ℕ)). ((‵ (flft (κs .0) (qs .0)) ⊛ ‵ ftrue) ⊛ ‵ (Slice s w)) ⊛
+        raw (ensured 𝓤 H A text.ended (text.clauses 𝓤 H A at-mem run) (κs .0, tt) (r, tt) tt s)))) (id⊢ 𝓤 _) $ await ! tt $ pick ! (λ s.
         split ! $ move ! (1 ∷ []) $ use1 W (raw (fact 𝓤 (s ≡ r .text))) (text-said r s) $ heard ! (s ≡ r .text) (λ held. split ! $ move ! (1 ∷ []) $
         -- the reader's text is the text that was passed
         rewrite ! 0 (λ (x : RefT (List ℕ)). ‵ (Slice x w)) (held ∙ ap (λ (d : Reader). d .text) made) refl $
@@ -151,30 +159,38 @@ module _ {M : Type 1} (𝓤 : URA M) (H : Heap 𝓤) (A : Atoms 𝓤) (W : Given
         land ! (from ! (stop !)) (init ! 8 refl (shr-slice-lawful 𝓤 H A W erased (κs .0) u8 .typed (a .0) _ is-text .0)) $
         assigns ! (addr ! (from ! (hop ! (look ! 12 refl) (stop !)))) (from ! (stop !)) (init ! 4 refl (tt, tt)) $
         -- [what the text's borrow owns; its token, and true; the tape's token; what the tape's borrow owns; _6; …]
-        move ! (0 ∷ 3 ∷ []) $ fjoin ! $ move ! (1 ∷ []) $ split ! $ move ! (0 ∷ 3 ∷ []) $ join ! $ move ! (0 ∷ 2 ∷ []) $ join ! $ join ! $ use1 W (raw (ReadText 𝓤 H A at-mem run .pre (to-read-text w))) (id⊢ 𝓤 _) $
-        calls-at ! fm (ReadText 𝓤 H A at-mem run) known-read-text (to-read-text w) (and-then ! (load ! (from ! (stop !)) (look ! 5 refl)) (and-then ! (load ! (from ! (stop !)) (look ! 1 refl)) (no-more !))) (λ v.
-        use1 W (later (some (λ (x : Reading). (raw Tokens ⊛ ‵ (O.the-row .own x (v ∷ []))) ⊛ some (λ (ws : Lasts read-text.ended κs a). ‵ (lasts read-text.ended κs a ws) ⊛ raw (Said x ws))))) (id⊢ 𝓤 _) $ await ! tt $ pick ! (λ x.
+        move ! (0 ∷ 3 ∷ []) $ fjoin ! $ move ! (1 ∷ []) $ split ! $ move ! (0 ∷ 3 ∷ []) $ join ! $ move ! (0 ∷ 2 ∷ []) $ join ! $ join ! $
+        use1 W (raw (ReadText 𝓤 H A at-mem run .pre (to-read-text w))) (id⊢ 𝓤 _) $
+        calls-at ! fm (ReadText 𝓤 H A at-mem run) known-read-text (to-read-text w)
+        (and-then ! (load ! (from ! (stop !)) (look ! 5 refl)) (and-then ! (load ! (from ! (stop !)) (look ! 1 refl)) (no-more !))) (λ v.
+        use1 W (later (some (λ (x : Reading). (raw Tokens ⊛ ‵ (O.the-row .own x (v ∷ []))) ⊛
+        some (λ (ws : Lasts read-text.ended κs a). ‵ (lasts read-text.ended κs a ws) ⊛ raw (Said x ws))))) (id⊢ 𝓤 _) $ await ! tt $ pick ! (λ x.
         split ! $ move ! (1 ∷ []) $ pick ! (λ ws. split ! $ move ! (2 ∷ []) $ split ! $ move ! (1 ∷ []) $
         -- [the result; the tokens; the last values; what is said of them; _6; …]
         peeks ! O.the-row (Is O.the-row) (shows 𝓤 H A O.the-row) x (v ∷ []) (λ is-reading.
         land ! (from ! (stop !)) (init ! 16 refl (LL.lawful O.the-type O′.the-laws 𝓤 H A W .typed x _ is-reading .0)) $
         returns ! (look ! 16 refl) $ forget ! 4 refl $ forget ! 6 refl $ forget ! 8 refl $ forget ! 10 refl $ forget ! 12 refl $ forget ! 14 refl $ forget ! 16 refl $
-        move ! (16 ∷ 17 ∷ []) $ free1 ! $ move ! (14 ∷ 15 ∷ []) $ free1 ! $ move ! (12 ∷ 13 ∷ []) $ free1 ! $ move ! (10 ∷ 11 ∷ []) $ free1 ! $ move ! (8 ∷ 9 ∷ []) $ free1 ! $ move ! (6 ∷ 7 ∷ []) $ free1 ! $ move ! (4 ∷ 5 ∷ []) $ free1 ! $ free0 ! $
+        move ! (16 ∷ 17 ∷ []) $ free1 ! $ move ! (14 ∷ 15 ∷ []) $ free1 ! $ move ! (12 ∷ 13 ∷ []) $ free1 ! $ move ! (10 ∷ 11 ∷ []) $ free1 ! $ move ! (8 ∷ 9 ∷ []) $
+        free1 ! $ move ! (6 ∷ 7 ∷ []) $ free1 ! $ move ! (4 ∷ 5 ∷ []) $ free1 ! $ free0 ! $
         by ! (exits x ws v))))))))))))))))))))
 
 module _ {M : Type 1} (𝓤 : URA M) (H : Heap 𝓤) (A : Atoms 𝓤) (W : Given 𝓤 H A) (mem : Memory → SProp 𝓤) (run : Routine → Fun 𝓤) where
-  read-walks : (C : Calls 𝓤 H) (Λ : Loops 𝓤 H) → FmC 𝓤 H (W .laws) C → Triple 𝓤 (C #lexing·reader·new) (New 𝓤 H A mem run) → Triple 𝓤 (C #lexing·reader·text) (Text 𝓤 H A mem run) → Triple 𝓤 (C #reading·read-text) (ReadText 𝓤 H A mem run)
+  read-walks : (C : Calls 𝓤 H) (Λ : Loops 𝓤 H) → FmC 𝓤 H (W .laws) C → Triple 𝓤 (C #lexing·reader·new) (New 𝓤 H A mem run) →
+      Triple 𝓤 (C #lexing·reader·text) (Text 𝓤 H A mem run) → Triple 𝓤 (C #reading·read-text) (ReadText 𝓤 H A mem run)
       → Walks 𝓤 H A read.ended stayed (WpFn 𝓤 H C Λ code.function) (read.clauses 𝓤 H A mem run)
   read-walks C Λ fm known-new known-text known-read-text =
-      walked 𝓤 H A read.ended stayed (read.clauses 𝓤 H A mem run) (WpFn 𝓤 H C Λ code.function) (λ κs. (slice-vals, (ptr-vals, tt))) (λ κs. (shr-slice-tells (named 0) (κs .0) u8, (mut-tells (named 1) (κs .1 .0) (Array u32 32768), tt)))
+      walked 𝓤 H A read.ended stayed (read.clauses 𝓤 H A mem run) (WpFn 𝓤 H C Λ code.function) (λ κs. (slice-vals, (ptr-vals, tt)))
+      (λ κs. (shr-slice-tells (named 0) (κs .0) u8, (mut-tells (named 1) (κs .1 .0) (Array u32 32768), tt)))
       (λ κs qs bounds a g are. via 𝓤 _ (fst∗ 𝓤 _ (emp 𝓤)) (walk 𝓤 H A W mem run κs qs bounds a are C Λ fm known-new known-text known-read-text))
 
 read-meets : {M : Type 1} (𝓤 : URA M) (H : Heap 𝓤) (A : Atoms 𝓤) → Given 𝓤 H A → (mem : Memory → SProp 𝓤) (run : Routine → Fun 𝓤) (𝓣 : Tables 𝓤 H)
-    → Triple 𝓤 (𝓣 .C #lexing·reader·new) (New 𝓤 H A mem run) → Triple 𝓤 (𝓣 .C #lexing·reader·text) (Text 𝓤 H A mem run) → Triple 𝓤 (𝓣 .C #reading·read-text) (ReadText 𝓤 H A mem run)
+    → Triple 𝓤 (𝓣 .C #lexing·reader·new) (New 𝓤 H A mem run) → Triple 𝓤 (𝓣 .C #lexing·reader·text) (Text 𝓤 H A mem run) →
+    Triple 𝓤 (𝓣 .C #reading·read-text) (ReadText 𝓤 H A mem run)
     → Meets 𝓤 H A read.signature (WpFn 𝓤 H (𝓣 .C) (𝓣 .Λ) code.function) (read.spec 𝓤 H A mem run)
 read-meets 𝓤 H A W mem run 𝓣 known-new known-text known-read-text =
     walk-meets 𝓤 H A read.ended stayed W (all-go 𝓤 H A W 2 (read.signature .params) (read.ended .kept)) (read.clauses 𝓤 H A mem run)
-    (WpFn 𝓤 H (𝓣 .C) (𝓣 .Λ) code.function) (WpFn-mono 𝓤 H (W .laws) 𝓣 code.function) (read-walks 𝓤 H A W mem run (𝓣 .C) (𝓣 .Λ) (fmOf 𝓤 H (W .laws) 𝓣) known-new known-text known-read-text)
+    (WpFn 𝓤 H (𝓣 .C) (𝓣 .Λ) code.function) (WpFn-mono 𝓤 H (W .laws) 𝓣 code.function)
+    (read-walks 𝓤 H A W mem run (𝓣 .C) (𝓣 .Λ) (fmOf 𝓤 H (W .laws) 𝓣) known-new known-text known-read-text)
 
 pub read-spec : {M : Type 1} → stated.statement M
 unfolding code.routine tablesOf

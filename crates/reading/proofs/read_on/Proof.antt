@@ -56,7 +56,8 @@ returns-3 c =
     let at-table = at-unknown-call .before .before .before .before .before in
     let at-functions = at-table .before .before in
     let at-if1 = at-functions .before .before .before .before in
-    call-unknown _ (at-if1 .if1 .left) _ _ _ (at-table .table .given .0 .0) (rw (at-table .table .given .1) at (at-functions .functions .ensures)) (search needs) _ (at-unknown-call .unknown-call .ensures) _ _ (at-place .place .given .1) (c .refusal3 .ensures)
+    call-unknown _ (at-if1 .if1 .left) _ _ _ (at-table .table .given .0 .0) (rw (at-table .table .given .1) at (at-functions .functions .ensures)) (search needs) _
+    (at-unknown-call .unknown-call .ensures) _ _ (at-place .place .given .1) (c .refusal3 .ensures)
 
 returns-4 : tie.Need-returns-4
 returns-4 c =
@@ -64,7 +65,8 @@ returns-4 c =
     let at-table = at-unknown-call .before .before .before .before .before in
     let at-functions = at-table .before .before in
     let at-if1 = at-functions .before .before .before .before in
-    calls-known _ (at-if1 .if1 .left) _ _ _ (at-table .table .given .0 .0) (rw (at-table .table .given .1) at (at-functions .functions .ensures)) (search needs) _ (at-unknown-call .unknown-call .ensures) _ (c .enum-told .given .1) refl
+    calls-known _ (at-if1 .if1 .left) _ _ _ (at-table .table .given .0 .0) (rw (at-table .table .given .1) at (at-functions .functions .ensures)) (search needs) _
+    (at-unknown-call .unknown-call .ensures) _ (c .enum-told .given .1) refl
 
 pub read-on-spec : {M : Type 1} → statement M
 read-on-spec =

@@ -181,7 +181,8 @@ module _ (text input input′ : Bytes) (fits : length text ≤ length input)
         (left (runLent (roomOfCells (cells input output journal)) (functionsIn words) start text allowance) (cells input output journal))
     ending last m leads over =
         rw sized at
-        (leaves-end (roomOf Start) allowance words m last (cells input output journal) Whole (leads .same) over (leads .keeps) (leads .room ∙ rw sized) (leads .beyond journal refl))
+        (leaves-end (roomOf Start) allowance words m last (cells input output journal) Whole (leads .same) over (leads .keeps) (leads .room ∙ rw sized)
+        (leads .beyond journal refl))
 
 -- BEFORE A RUN
 

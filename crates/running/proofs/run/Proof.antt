@@ -21,7 +21,11 @@ returns c =
     let at-sound-table = c .before .before in
     let entry = at-sound-table .before .before .before .before .before .before in
     let a = entry .args in
-    rw (c .refused .ensures, leaving-unsound (a .code .now) (a .start) (a .text .now) (cells (a .input .now) (a .output .now) (a .journal .now)) (a .allowance) (sym (at-sound-table .sound-table .ensures) ∙ not-true _ (c .before .if1 .taken))) (refused-leaves NoInstruction (cells (a .input .now) (a .output .now) (a .journal .now)))
+    rw (
+      c .refused .ensures,
+      leaving-unsound (a .code .now) (a .start) (a .text .now) (cells (a .input .now) (a .output .now) (a .journal .now)) (a .allowance)
+          (sym (at-sound-table .sound-table .ensures) ∙ not-true _ (c .before .if1 .taken)),
+    ) (refused-leaves NoInstruction (cells (a .input .now) (a .output .now) (a .journal .now)))
 
 declared-requires : tie.Need-declared-requires
 declared-requires c κs =
@@ -39,7 +43,12 @@ returns-2 c =
     let at-sound-table = at-if1 .before in
     let entry = at-sound-table .before .before .before .before .before .before in
     let a = entry .args in
-    rw (c .refused2 .ensures, leaving-undeclared (a .code .now) (a .start) (a .text .now) (cells (a .input .now) (a .output .now) (a .journal .now)) (a .allowance) (sym (at-sound-table .sound-table .ensures) ∙ not-false _ (at-if1 .if1 .left)) (sym (at-declared .declared .ensures) ∙ not-true _ (c .before .if2 .taken))) (refused-leaves NoSuchStart (cells (a .input .now) (a .output .now) (a .journal .now)))
+    rw (
+      c .refused2 .ensures,
+      leaving-undeclared (a .code .now) (a .start) (a .text .now) (cells (a .input .now) (a .output .now) (a .journal .now)) (a .allowance)
+          (sym (at-sound-table .sound-table .ensures) ∙ not-false _ (at-if1 .if1 .left)) (sym (at-declared .declared .ensures) ∙ not-true _ (c .before .if2 .taken)),
+    )
+    (refused-leaves NoSuchStart (cells (a .input .now) (a .output .now) (a .journal .now)))
 
 refused-requires-3 : tie.Need-refused-requires-3
 refused-requires-3 c κs = search needs
@@ -52,7 +61,12 @@ returns-3 c =
     let at-sound-table = at-if1 .before in
     let entry = at-sound-table .before .before .before .before .before .before in
     let a = entry .args in
-    rw (c .refused3 .ensures, leaving-long (a .code .now) (a .start) (a .text .now) (cells (a .input .now) (a .output .now) (a .journal .now)) (a .allowance) (sym (at-sound-table .sound-table .ensures) ∙ not-false _ (at-if1 .if1 .left)) (sym (at-declared .declared .ensures) ∙ not-false _ (at-if2 .if2 .left)) (c .before .if3 .taken)) (refused-leaves TextTooLong (cells (a .input .now) (a .output .now) (a .journal .now)))
+    rw (
+      c .refused3 .ensures,
+      leaving-long (a .code .now) (a .start) (a .text .now) (cells (a .input .now) (a .output .now) (a .journal .now)) (a .allowance)
+          (sym (at-sound-table .sound-table .ensures) ∙ not-false _ (at-if1 .if1 .left)) (sym (at-declared .declared .ensures) ∙ not-false _ (at-if2 .if2 .left))
+          (c .before .if3 .taken),
+    ) (refused-leaves TextTooLong (cells (a .input .now) (a .output .now) (a .journal .now)))
 
 frame-room-requires : tie.Need-frame-room-requires
 frame-room-requires c κs = search needs
@@ -100,7 +114,9 @@ returns-4 c =
     let at-sound-table = at-if1 .before in
     let entry = at-sound-table .before .before .before .before .before .before in
     let a = entry .args in
-    rw (leaving-runs (a .code .now) (a .start) (a .text .now) (cells (a .input .now) (a .output .now) (a .journal .now)) (a .allowance) (sym (at-sound-table .sound-table .ensures) ∙ not-false _ (at-if1 .if1 .left)) (sym (at-declared .declared .ensures) ∙ not-false _ (at-if2 .if2 .left)) (at-if3 .if3 .left)) (at-run-lent .run-lent .ensures)
+    rw (leaving-runs (a .code .now) (a .start) (a .text .now) (cells (a .input .now) (a .output .now) (a .journal .now)) (a .allowance)
+    (sym (at-sound-table .sound-table .ensures) ∙ not-false _ (at-if1 .if1 .left)) (sym (at-declared .declared .ensures) ∙ not-false _ (at-if2 .if2 .left))
+    (at-if3 .if3 .left)) (at-run-lent .run-lent .ensures)
 
 pub run-spec : {M : Type 1} → statement M
 run-spec =

@@ -58,7 +58,9 @@ enum-known-what-3 : tie.Need-enum-known-what-3
 enum-known-what-3 c = search needs
 
 call-requires : tie.Need-call-requires
-call-requires c κs = let pre = c .before .before .before .before .before .before .before .before .before .before .before .before .before .before .before .before .before .before .pre in let r = pre .1 .1 .ready in (pre .0, (pre .1 .0, (r .ordered, (r .inside, (r .framed, (r .frameRoom, r .valueRoom))))))
+call-requires c κs = let pre =
+    c .before .before .before .before .before .before .before .before .before .before .before .before .before .before .before .before .before .before .pre in
+    let r = pre .1 .1 .ready in (pre .0, (pre .1 .0, (r .ordered, (r .inside, (r .framed, (r .frameRoom, r .valueRoom))))))
 
 enum-known-length : tie.Need-enum-known-length
 enum-known-length c = search needs
@@ -93,7 +95,9 @@ returns-2 c =
     let entry = at-if1 .before .before .before .before .before .before .before in
     let a = entry .args in
     let u = entry .pre .1 .1 in
-    advance-acts _ _ _ _ _ (a .g .at .0 + 1) _ _ (at-if1 .if1 .left) u (actions-at (a .code .now) (a .g .at .0) (Shifts (at-what .what .given .0 .0)) (rw (at-what .what .given .1) at (at-decode .decode .ensures)) (at-if1 .if1 .left)) refl (omega arith) (c .shift .ensures (a .output .now) (a .journal .now) (a .values .now))
+    advance-acts _ _ _ _ _ (a .g .at .0 + 1) _ _ (at-if1 .if1 .left) u
+    (actions-at (a .code .now) (a .g .at .0) (Shifts (at-what .what .given .0 .0)) (rw (at-what .what .given .1) at (at-decode .decode .ensures))
+    (at-if1 .if1 .left)) refl (omega arith) (c .shift .ensures (a .output .now) (a .journal .now) (a .values .now))
 
 same-length-3 : tie.Need-same-length-3
 same-length-3 c = search needs
@@ -116,7 +120,9 @@ returns-3 c =
     let entry = at-if1 .before .before .before .before .before .before .before in
     let a = entry .args in
     let u = entry .pre .1 .1 in
-    advance-acts _ _ _ _ _ (a .g .at .0 + 1) _ _ (at-if1 .if1 .left) u (actions-at (a .code .now) (a .g .at .0) (Writes (at-what2 .what2 .given .0 .0)) (rw (at-what2 .what2 .given .1) at (at-decode .decode .ensures)) (at-if1 .if1 .left)) (rw (at-write .write .kept .1 .1 .1 .0)) (omega arith) (at-write .write .ensures (a .journal .now))
+    advance-acts _ _ _ _ _ (a .g .at .0 + 1) _ _ (at-if1 .if1 .left) u
+    (actions-at (a .code .now) (a .g .at .0) (Writes (at-what2 .what2 .given .0 .0)) (rw (at-what2 .what2 .given .1) at (at-decode .decode .ensures))
+    (at-if1 .if1 .left)) (rw (at-write .write .kept .1 .1 .1 .0)) (omega arith) (at-write .write .ensures (a .journal .now))
 
 same-length-7 : tie.Need-same-length-7
 same-length-7 c = search needs
@@ -130,7 +136,9 @@ returns-4 c =
     let entry = at-if1 .before .before .before .before .before .before .before in
     let a = entry .args in
     let u = entry .pre .1 .1 in
-    advance-acts _ _ _ _ _ (a .g .at .0 + 1) _ _ (at-if1 .if1 .left) u (actions-at (a .code .now) (a .g .at .0) Begin (rw (at-enum-told .enum-told .given .1) at (at-decode .decode .ensures)) (at-if1 .if1 .left)) refl (omega arith) (at-begin-sequence .begin-sequence .ensures (a .input .now) (a .output .now) (a .journal .now) (a .values .now) (u .ready .below))
+    advance-acts _ _ _ _ _ (a .g .at .0 + 1) _ _ (at-if1 .if1 .left) u
+    (actions-at (a .code .now) (a .g .at .0) Begin (rw (at-enum-told .enum-told .given .1) at (at-decode .decode .ensures)) (at-if1 .if1 .left)) refl
+    (omega arith) (at-begin-sequence .begin-sequence .ensures (a .input .now) (a .output .now) (a .journal .now) (a .values .now) (u .ready .below))
 
 same-length-8 : tie.Need-same-length-8
 same-length-8 c = search needs
@@ -150,7 +158,9 @@ returns-5 c =
     let entry = at-if1 .before .before .before .before .before .before .before in
     let a = entry .args in
     let u = entry .pre .1 .1 in
-    advance-acts _ _ _ _ _ (a .g .at .0 + 1) _ _ (at-if1 .if1 .left) u (actions-at (a .code .now) (a .g .at .0) Use (rw (at-enum-told2 .enum-told2 .given .1) at (at-decode .decode .ensures)) (at-if1 .if1 .left)) (rw (at-use-sequence .use-sequence .kept .1 .0)) (omega arith) (at-use-sequence .use-sequence .ensures (a .journal .now) (a .values .now))
+    advance-acts _ _ _ _ _ (a .g .at .0 + 1) _ _ (at-if1 .if1 .left) u
+    (actions-at (a .code .now) (a .g .at .0) Use (rw (at-enum-told2 .enum-told2 .given .1) at (at-decode .decode .ensures)) (at-if1 .if1 .left))
+    (rw (at-use-sequence .use-sequence .kept .1 .0)) (omega arith) (at-use-sequence .use-sequence .ensures (a .journal .now) (a .values .now))
 
 same-length-11 : tie.Need-same-length-11
 same-length-11 c = search needs
@@ -170,7 +180,9 @@ returns-6 c =
     let entry = at-if1 .before .before .before .before .before .before .before in
     let a = entry .args in
     let u = entry .pre .1 .1 in
-    advance-does _ _ _ _ (callMeant (at-what3 .what3 .given .0 .0)) (a .g .at .0 + 1) _ _ (at-if1 .if1 .left) u (actions-at (a .code .now) (a .g .at .0) (Calls (at-what3 .what3 .given .0 .0)) (rw (at-what3 .what3 .given .1) at (at-decode .decode .ensures)) (at-if1 .if1 .left)) (at-call .call .ensures (a .output .now) (a .journal .now))
+    advance-does _ _ _ _ (callMeant (at-what3 .what3 .given .0 .0)) (a .g .at .0 + 1) _ _ (at-if1 .if1 .left) u
+    (actions-at (a .code .now) (a .g .at .0) (Calls (at-what3 .what3 .given .0 .0)) (rw (at-what3 .what3 .given .1) at (at-decode .decode .ensures))
+    (at-if1 .if1 .left)) (at-call .call .ensures (a .output .now) (a .journal .now))
 
 same-length-14 : tie.Need-same-length-14
 same-length-14 c = search needs
@@ -188,7 +200,10 @@ returns-7 c =
     let a = entry .args in
     let u = entry .pre .1 .1 in
     let size = at-length .length .given .0 .0 in
-    advance-acts _ _ _ _ _ (a .g .at .0 + 1 + size) _ _ (at-if1 .if1 .left) u (rw (actions-named (a .code .now) (a .g .at .0 + 1) size) at (actions-at (a .code .now) (a .g .at .0) (Emit size) (rw (at-length .length .given .1) at (at-decode .decode .ensures)) (at-if1 .if1 .left))) (rw (at-emit .emit .kept .1 .1 .1 .1 .0)) (omega arith) (at-emit .emit .ensures (a .output .now) (a .values .now) (a .frames .now))
+    advance-acts _ _ _ _ _ (a .g .at .0 + 1 + size) _ _ (at-if1 .if1 .left) u
+    (rw (actions-named (a .code .now) (a .g .at .0 + 1) size) at
+    (actions-at (a .code .now) (a .g .at .0) (Emit size) (rw (at-length .length .given .1) at (at-decode .decode .ensures)) (at-if1 .if1 .left)))
+    (rw (at-emit .emit .kept .1 .1 .1 .1 .0)) (omega arith) (at-emit .emit .ensures (a .output .now) (a .values .now) (a .frames .now))
 
 same-length-16 : tie.Need-same-length-16
 same-length-16 c = search needs
@@ -201,7 +216,8 @@ returns-8 c =
     let entry = at-if1 .before .before .before .before .before .before .before in
     let a = entry .args in
     let u = entry .pre .1 .1 in
-    rw (c .leave .ensures) (advance-leaves _ _ _ _ (at-if1 .if1 .left) u (actions-at (a .code .now) (a .g .at .0) End (rw (at-enum-told3 .enum-told3 .given .1) at (at-decode .decode .ensures)) (at-if1 .if1 .left)))
+    rw (c .leave .ensures) (advance-leaves _ _ _ _ (at-if1 .if1 .left) u
+    (actions-at (a .code .now) (a .g .at .0) End (rw (at-enum-told3 .enum-told3 .given .1) at (at-decode .decode .ensures)) (at-if1 .if1 .left)))
 
 returns-9 : tie.Need-returns-9
 returns-9 c =
@@ -210,7 +226,8 @@ returns-9 c =
     let entry = at-if1 .before .before .before .before .before .before .before in
     let a = entry .args in
     let u = entry .pre .1 .1 in
-    advance-unknown _ _ _ _ _ u (actions-at (a .code .now) (a .g .at .0) Unknown (rw (c .enum-told4 .given .1) at (at-decode .decode .ensures)) (at-if1 .if1 .left)) (stepped (a .g)) refl refl refl
+    advance-unknown _ _ _ _ _ u (actions-at (a .code .now) (a .g .at .0) Unknown (rw (c .enum-told4 .given .1) at (at-decode .decode .ensures)) (at-if1 .if1 .left))
+    (stepped (a .g)) refl refl refl
 
 pub advance-spec : {M : Type 1} → statement M
 advance-spec =

@@ -45,11 +45,9 @@ use denote.Triple.Table.{entered, cited}
 use denote.Triple.Walked.{says, Stays, stay-ref, walkOf, goes-ref, Walks, ends-at, walked, walk-meets}
 use Rattle.acting.specs.declared.registers.Registers.{Registers}
 use Rattle.acting.specs.declared.registers.Next.{Next}
-use Rattle.acting.specs.declared.registers.Next.the-variants.{Onward}
 use Rattle.acting.specs.declared.registers.Status.{Status}
-use Rattle.acting.specs.States.{Memory as Memories, memory, roomOf}
-use Rattle.applying.specs.Waiting.{comesTo, leftToDo}
-use Rattle.applying.specs.Advancing.{registersIn, statusIn, nextOf, Advances}
+use Rattle.acting.specs.States.{Memory as Memories, memory}
+use Rattle.applying.specs.Advancing.{registersIn, statusIn, nextOf, Steps}
 use Rattle.stepping.proofs.laws.Statuses.{rejoined}
 use Rattle.stepping.proofs.walks.Callees.{registers-vals, RegistersOf, StatusOf, registers-said, status-said, to-parts, goes-parts}
 use Rattle.walking.proofs.Answering.{answers}
@@ -127,24 +125,33 @@ module _ {M : Type 1} (𝓤 : URA M) (H : Heap 𝓤) (A : Atoms 𝓤) (W : Given
   before = memory (now input) (now output) (now journal) (now frames) (now values)
 
   abbrev Told : Next → Lasts advance.ended (κs .1) (g, a .1) → Type 0
-  Told r ws = Advances (now words) allowance (comesTo (roomOf before) allowance (now words) (Onward g) before) (leftToDo (length (now words)) allowance (Onward g) before) g before r (memory (ws .1 .1 .1 .1 .0) (ws .1 .1 .1 .1 .1 .0) (ws .1 .1 .1 .1 .1 .1 .0) (ws .1 .1 .1 .1 .1 .1 .1 .0) (ws .1 .1 .1 .1 .1 .1 .1 .1 .0))
+  Told r ws = Steps (now words) allowance g before r (memory (ws .1 .1 .1 .1 .0) (ws .1 .1 .1 .1 .1 .0) (ws .1 .1 .1 .1 .1 .1 .0) (ws .1 .1 .1 .1 .1 .1 .1 .0)
+      (ws .1 .1 .1 .1 .1 .1 .1 .1 .0))
 
   exits : (ws : Lasts advance.ended (κs .1) (g, a .1)) (g′ : Registers) (x : Status) (v : Val) → Told (nextOf x g′) ws
-      → ent 𝓤 (⋆ 𝓤 H A (‵ (S.the-row .own x (v ∷ [])) ∷ ‵ (fobs γ (R.the-row .coded .code g′)) ∷ ‵ (fbor (κs .0) (Body (mem R.the-row) b o γ)) ∷ ‵ (flft (κs .0) (qs .0)) ∷ raw Tokens ∷ ‵ (lasts advance.ended (κs .1) (g, a .1) ws) ∷ [])) (Post v)
+      → ent 𝓤 (⋆ 𝓤 H A (‵ (S.the-row .own x (v ∷ [])) ∷ ‵ (fobs γ (R.the-row .coded .code g′)) ∷ ‵ (fbor (κs .0) (Body (mem R.the-row) b o γ)) ∷
+      ‵ (flft (κs .0) (qs .0)) ∷ raw Tokens ∷ ‵ (lasts advance.ended (κs .1) (g, a .1) ws) ∷ [])) (Post v)
   exits ws g′ x v told =
-      qed W (‵ (S.the-row .own x (v ∷ [])) ∷ ‵ (fobs γ (R.the-row .coded .code g′)) ∷ ‵ (fbor (κs .0) (Body (mem R.the-row) b o γ)) ∷ ‵ (flft (κs .0) (qs .0)) ∷ raw Tokens ∷ ‵ (lasts advance.ended (κs .1) (g, a .1) ws) ∷ []) ∵
-      suffices ! _ (ends-at 𝓤 H A step.ended stayed (step.clauses 𝓤 H A at-mem run) W ((κs, qs, bounds, a, vss), tt) v x (g′, ws .1) (tt, all-fit κs (after-first (step.signature .params)) (step.ended .kept .1) (a .1) (ws .1))) $ says ! told $
+      qed W (‵ (S.the-row .own x (v ∷ [])) ∷ ‵ (fobs γ (R.the-row .coded .code g′)) ∷ ‵ (fbor (κs .0) (Body (mem R.the-row) b o γ)) ∷ ‵ (flft (κs .0) (qs .0)) ∷
+      raw Tokens ∷ ‵ (lasts advance.ended (κs .1) (g, a .1) ws) ∷ []) ∵
+      suffices ! _ (ends-at 𝓤 H A step.ended stayed (step.clauses 𝓤 H A at-mem run) W ((κs, qs, bounds, a, vss), tt) v x (g′, ws .1)
+      (tt, all-fit κs (after-first (step.signature .params)) (step.ended .kept .1) (a .1) (ws .1))) $ says ! told $
       move ! (3 ∷ 4 ∷ []) $ join ! $ frame ! $ move ! (1 ∷ 2 ∷ []) $ feqI ! (List Val) (ptr-vals lent) (ptr-vals lent) refl $ fjoin3 ! $
       -- [the reference; the result; the last lists]
       move ! (2 ∷ []) $ fsplit ! $ drop ! $ move ! (1 ∷ 0 ∷ []) $ fjoin ! $ done !
 
   module _ (are : Are (typesAt (step.signature .params) κs) (Ises (typesAt (step.signature .params) κs)) a vss) (C : Calls 𝓤 H) (Λ : Loops 𝓤 H) (fm : FmC 𝓤 H (W .laws) C)
       (known-advance : Triple 𝓤 (C #stepping·advance) (Advance 𝓤 H A at-mem run)) (known-registers : Triple 𝓤 (C #stepping·registers-of) (RegistersOf 𝓤 H A at-mem run)) (known-status : Triple 𝓤 (C #stepping·status-of) (StatusOf 𝓤 H A at-mem run)) where
-    walk : ent 𝓤 (sep 𝓤 (onEntry 𝓤 H A step.signature κs qs a vss) Required) (WpFn 𝓤 H C Λ code.function (vptr b o ∷ vptr (ptr bits .0) (ptr bits .1) ∷ sliceVal (ptr words) (length (now words)) ∷ vint w32 allowance ∷ sliceVal (ptr input) (length (now input)) ∷ sliceVal (ptr output) (length (now output)) ∷ sliceVal (ptr journal) (length (now journal)) ∷ sliceVal (ptr frames) (length (now frames)) ∷ sliceVal (ptr values) (length (now values)) ∷ []) Post)
+    walk : ent 𝓤 (sep 𝓤 (onEntry 𝓤 H A step.signature κs qs a vss) Required)
+        (WpFn 𝓤 H C Λ code.function (vptr b o ∷ vptr (ptr bits .0) (ptr bits .1) ∷ sliceVal (ptr words) (length (now words)) ∷ vint w32 allowance ∷
+        sliceVal (ptr input) (length (now input)) ∷ sliceVal (ptr output) (length (now output)) ∷ sliceVal (ptr journal) (length (now journal)) ∷
+        sliceVal (ptr frames) (length (now frames)) ∷ sliceVal (ptr values) (length (now values)) ∷ []) Post)
     walk =
         qed W (((‵ (flft (κs .0) (qs .0)) ⊛ raw Tokens) ⊛ ‵ Owned) ∷ raw Required ∷ []) ∵ enter ! C Λ code.function _ _ $
         lays-out ! (λ l₀ l₁ l₂ l₃ l₄ l₅ l₆ l₇ l₈ l₉ l₁₀ l₁₁ l₁₂ l₁₃ l₁₄ l₁₅ l₁₆ l₁₇ l₁₈ l₁₉ l₂₀ l₂₁. params1 ! $
-        pass1 ! (init ! 2 refl (tt, tt)) $ pass1 ! (init ! 4 refl (tt, tt)) $ pass1 ! (init ! 6 refl (shr-slice-lawful 𝓤 H A W (named 2) (κs .1 .1 .0) u32 .typed words _ (are .1 .1 .0) .0)) $ pass1 ! (init ! 8 refl (tt, record { fits = are .1 .1 .1 .0 .1 })) $
+        pass1 ! (init ! 2 refl (tt, tt)) $ pass1 ! (init ! 4 refl (tt, tt)) $ pass1 !
+        (init ! 6 refl (shr-slice-lawful 𝓤 H A W (named 2) (κs .1 .1 .0) u32 .typed words _ (are .1 .1 .0) .0)) $
+        pass1 ! (init ! 8 refl (tt, record { fits = are .1 .1 .1 .0 .1 })) $
         pass1 ! (init ! 10 refl (mut-slice-lawful 𝓤 H A W (named 3) (κs .1 .1 .1 .0) u8 .typed input _ (are .1 .1 .1 .1 .0) .0)) $
         pass1 ! (init ! 12 refl (mut-slice-lawful 𝓤 H A W (named 4) (κs .1 .1 .1 .1 .0) u8 .typed output _ (are .1 .1 .1 .1 .1 .0) .0)) $
         pass1 ! (init ! 14 refl (mut-slice-lawful 𝓤 H A W (named 5) (κs .1 .1 .1 .1 .1 .0) u8 .typed journal _ (are .1 .1 .1 .1 .1 .1 .0) .0)) $
@@ -152,59 +159,95 @@ module _ {M : Type 1} (𝓤 : URA M) (H : Heap 𝓤) (A : Atoms 𝓤) (W : Given
         pass1 ! (init ! 18 refl (mut-slice-lawful 𝓤 H A W (named 7) (κs .1 .1 .1 .1 .1 .1 .1 .0) u8 .typed values _ (are .1 .1 .1 .1 .1 .1 .1 .1 .0) .0)) $ pass0 ! $
         -- the registers' borrow is opened
         move ! (44 ∷ []) $ split ! $ split ! $ move ! (2 ∷ []) $ fsplit ! $ fsplit3 ! $ drop ! $ move ! (0 ∷ 1 ∷ 3 ∷ 2 ∷ 4 ∷ 49 ∷ []) $
-        opens ! tt R.the-row {h = g} b o (λ vs. spelt ! R.the-row (Is R.the-row) (shows 𝓤 H A R.the-row) (LL.vals R.the-type R′.the-laws) (LL.tells R.the-type R′.the-laws) fullShare g vs b o $
+        opens ! tt R.the-row {h = g} b o (λ vs. spelt ! R.the-row (Is R.the-row) (shows 𝓤 H A R.the-row) (LL.vals R.the-type R′.the-laws)
+        (LL.tells R.the-type R′.the-laws) fullShare g vs b o $
         move ! (1 ∷ []) $ peeks ! R.the-row (Is R.the-row) (shows 𝓤 H A R.the-row) g (registers-vals g) (λ is. move ! (1 ∷ 0 ∷ []) $
         -- [the registers' cell; what they own; the open borrow; obs; auth; what the others own; the others' tokens; what is required; the locals]
-        assigns ! (of-opd ! (load ! (from ! (hop ! (look ! 10 refl) (stop !))) (look-raw ! 0 refl))) (from ! (stop !)) (init ! 30 refl (LL.lawful R.the-type R′.the-laws 𝓤 H A W .typed g _ is .0)) $
+        assigns ! (of-opd ! (load ! (from ! (hop ! (look ! 10 refl) (stop !))) (look-raw ! 0 refl))) (from ! (stop !))
+        (init ! 30 refl (LL.lawful R.the-type R′.the-laws 𝓤 H A W .typed g _ is .0)) $
         assigns ! (addr ! (from ! (fld ! refl (hop ! (look-in ! 18 (sub ! 0 refl (whole !))) (stop !))))) (from ! (stop !)) (init ! 32 refl (tt, tt)) $
-        assigns ! (agg ! (and-then ! (load ! (from ! (stop !)) (look ! 32 refl)) (and-then ! (load ! (from ! (fld ! refl (stop !))) (look-in ! 18 (sub ! 1 refl (whole !)))) (no-more !)))) (from ! (stop !)) (init ! 34 refl (mut-slice-lawful 𝓤 H A W (named 3) (κs .1 .1 .1 .0) u8 .typed input _ (are .1 .1 .1 .1 .0) .0)) $
+        assigns ! (agg ! (and-then ! (load ! (from ! (stop !)) (look ! 32 refl))
+        (and-then ! (load ! (from ! (fld ! refl (stop !))) (look-in ! 18 (sub ! 1 refl (whole !)))) (no-more !)))) (from ! (stop !))
+        (init ! 34 refl (mut-slice-lawful 𝓤 H A W (named 3) (κs .1 .1 .1 .0) u8 .typed input _ (are .1 .1 .1 .1 .0) .0)) $
         assigns ! (addr ! (from ! (fld ! refl (hop ! (look-in ! 20 (sub ! 0 refl (whole !))) (stop !))))) (from ! (stop !)) (init ! 36 refl (tt, tt)) $
-        assigns ! (agg ! (and-then ! (load ! (from ! (stop !)) (look ! 36 refl)) (and-then ! (load ! (from ! (fld ! refl (stop !))) (look-in ! 20 (sub ! 1 refl (whole !)))) (no-more !)))) (from ! (stop !)) (init ! 38 refl (mut-slice-lawful 𝓤 H A W (named 4) (κs .1 .1 .1 .1 .0) u8 .typed output _ (are .1 .1 .1 .1 .1 .0) .0)) $
+        assigns ! (agg ! (and-then ! (load ! (from ! (stop !)) (look ! 36 refl))
+        (and-then ! (load ! (from ! (fld ! refl (stop !))) (look-in ! 20 (sub ! 1 refl (whole !)))) (no-more !)))) (from ! (stop !))
+        (init ! 38 refl (mut-slice-lawful 𝓤 H A W (named 4) (κs .1 .1 .1 .1 .0) u8 .typed output _ (are .1 .1 .1 .1 .1 .0) .0)) $
         assigns ! (addr ! (from ! (fld ! refl (hop ! (look-in ! 22 (sub ! 0 refl (whole !))) (stop !))))) (from ! (stop !)) (init ! 40 refl (tt, tt)) $
-        assigns ! (agg ! (and-then ! (load ! (from ! (stop !)) (look ! 40 refl)) (and-then ! (load ! (from ! (fld ! refl (stop !))) (look-in ! 22 (sub ! 1 refl (whole !)))) (no-more !)))) (from ! (stop !)) (init ! 42 refl (mut-slice-lawful 𝓤 H A W (named 5) (κs .1 .1 .1 .1 .1 .0) u8 .typed journal _ (are .1 .1 .1 .1 .1 .1 .0) .0)) $
+        assigns ! (agg ! (and-then ! (load ! (from ! (stop !)) (look ! 40 refl))
+        (and-then ! (load ! (from ! (fld ! refl (stop !))) (look-in ! 22 (sub ! 1 refl (whole !)))) (no-more !)))) (from ! (stop !))
+        (init ! 42 refl (mut-slice-lawful 𝓤 H A W (named 5) (κs .1 .1 .1 .1 .1 .0) u8 .typed journal _ (are .1 .1 .1 .1 .1 .1 .0) .0)) $
         assigns ! (addr ! (from ! (fld ! refl (hop ! (look-in ! 24 (sub ! 0 refl (whole !))) (stop !))))) (from ! (stop !)) (init ! 44 refl (tt, tt)) $
-        assigns ! (agg ! (and-then ! (load ! (from ! (stop !)) (look ! 44 refl)) (and-then ! (load ! (from ! (fld ! refl (stop !))) (look-in ! 24 (sub ! 1 refl (whole !)))) (no-more !)))) (from ! (stop !)) (init ! 46 refl (mut-slice-lawful 𝓤 H A W (named 6) (κs .1 .1 .1 .1 .1 .1 .0) usize .typed frames _ (are .1 .1 .1 .1 .1 .1 .1 .0) .0)) $
+        assigns ! (agg ! (and-then ! (load ! (from ! (stop !)) (look ! 44 refl))
+        (and-then ! (load ! (from ! (fld ! refl (stop !))) (look-in ! 24 (sub ! 1 refl (whole !)))) (no-more !)))) (from ! (stop !))
+        (init ! 46 refl (mut-slice-lawful 𝓤 H A W (named 6) (κs .1 .1 .1 .1 .1 .1 .0) usize .typed frames _ (are .1 .1 .1 .1 .1 .1 .1 .0) .0)) $
         assigns ! (addr ! (from ! (fld ! refl (hop ! (look-in ! 26 (sub ! 0 refl (whole !))) (stop !))))) (from ! (stop !)) (init ! 48 refl (tt, tt)) $
-        assigns ! (agg ! (and-then ! (load ! (from ! (stop !)) (look ! 48 refl)) (and-then ! (load ! (from ! (fld ! refl (stop !))) (look-in ! 26 (sub ! 1 refl (whole !)))) (no-more !)))) (from ! (stop !)) (init ! 50 refl (mut-slice-lawful 𝓤 H A W (named 7) (κs .1 .1 .1 .1 .1 .1 .1 .0) u8 .typed values _ (are .1 .1 .1 .1 .1 .1 .1 .1 .0) .0)) $
+        assigns ! (agg ! (and-then ! (load ! (from ! (stop !)) (look ! 48 refl))
+        (and-then ! (load ! (from ! (fld ! refl (stop !))) (look-in ! 26 (sub ! 1 refl (whole !)))) (no-more !)))) (from ! (stop !))
+        (init ! 50 refl (mut-slice-lawful 𝓤 H A W (named 7) (κs .1 .1 .1 .1 .1 .1 .1 .0) u8 .typed values _ (are .1 .1 .1 .1 .1 .1 .1 .1 .0) .0)) $
         -- `advance` is called with the registers, and with all else as it was passed
         move ! (1 ∷ 5 ∷ []) $ fjoin ! $ move ! (5 ∷ 0 ∷ []) $ join ! $ move ! (0 ∷ 5 ∷ []) $ join ! $ use1 W (raw (Advance 𝓤 H A at-mem run .pre to-advance)) (id⊢ 𝓤 _) $
-        calls-at ! fm (Advance 𝓤 H A at-mem run) known-advance to-advance (and-then ! (load ! (from ! (stop !)) (look ! 27 refl)) (and-then ! (load ! (from ! (stop !)) (look ! 9 refl)) (and-then ! (load ! (from ! (stop !)) (look ! 11 refl)) (and-then ! (load ! (from ! (stop !)) (look ! 13 refl)) (and-then ! (load ! (from ! (stop !)) (look ! 31 refl)) (and-then ! (load ! (from ! (stop !)) (look ! 35 refl)) (and-then ! (load ! (from ! (stop !)) (look ! 39 refl)) (and-then ! (load ! (from ! (stop !)) (look ! 43 refl)) (and-then ! (load ! (from ! (stop !)) (look ! 47 refl)) (no-more !)))))))))) (λ u.
-        use1 W (later (some (λ (r : Next). (raw Tokens ⊛ ‵ (N.the-row .own r (u ∷ []))) ⊛ some (λ (ws : Lasts advance.ended (κs .1) (g, a .1)). ‵ (lasts advance.ended (κs .1) (g, a .1) ws) ⊛ raw (fact 𝓤 (Told r ws)))))) (id⊢ 𝓤 _) $ await ! tt $ pick ! (λ r.
+        calls-at ! fm (Advance 𝓤 H A at-mem run) known-advance to-advance
+        (and-then ! (load ! (from ! (stop !)) (look ! 27 refl))
+        (and-then ! (load ! (from ! (stop !)) (look ! 9 refl))
+        (and-then ! (load ! (from ! (stop !)) (look ! 11 refl))
+        (and-then ! (load ! (from ! (stop !)) (look ! 13 refl))
+        (and-then ! (load ! (from ! (stop !)) (look ! 31 refl))
+        (and-then ! (load ! (from ! (stop !)) (look ! 35 refl))
+        (and-then ! (load ! (from ! (stop !)) (look ! 39 refl))
+        (and-then ! (load ! (from ! (stop !)) (look ! 43 refl)) (and-then ! (load ! (from ! (stop !)) (look ! 47 refl)) (no-more !)))))))))) (λ u.
+        use1 W (later (some (λ (r : Next). (raw Tokens ⊛ ‵ (N.the-row .own r (u ∷ []))) ⊛
+        some (λ (ws : Lasts advance.ended (κs .1) (g, a .1)). ‵ (lasts advance.ended (κs .1) (g, a .1) ws) ⊛ raw (fact 𝓤 (Told r ws)))))) (id⊢ 𝓤 _) $ await ! tt $ pick ! (λ r.
         split ! $ move ! (1 ∷ []) $ pick ! (λ ws. split ! $ move ! (1 ∷ []) $ heard ! (Told r ws) (λ told. move ! (1 ∷ []) $ split ! $ move ! (1 ∷ []) $
         -- [what the answer owns; the others' tokens; the last lists; the registers' cell; the open borrow; obs; auth; the locals]
-        peeks ! N.the-row (Is N.the-row) (shows 𝓤 H A N.the-row) r (u ∷ []) (λ is-next. land ! (from ! (stop !)) (init ! 27 refl (EL.lawful N.the-type N′.the-laws 𝓤 H A W tt .typed r _ is-next .0)) $
+        peeks ! N.the-row (Is N.the-row) (shows 𝓤 H A N.the-row) r (u ∷ [])
+        (λ is-next. land ! (from ! (stop !)) (init ! 27 refl (EL.lawful N.the-type N′.the-laws 𝓤 H A W tt .typed r _ is-next .0)) $
         -- the new registers are stored, and the borrow is closed at them
         use1 W (raw (RegistersOf 𝓤 H A at-mem run .pre (to-parts 𝓤 H A at-mem run r u))) (goes-parts 𝓤 H A at-mem run W r u) $
         calls-at ! fm (RegistersOf 𝓤 H A at-mem run) known-registers (to-parts 𝓤 H A at-mem run r u) (and-then ! (load ! (from ! (stop !)) (look ! 27 refl)) (no-more !)) (λ u′.
         answers ! tt R.the-row _ (λ g′. g′ ≡ registersIn r) (registers-said 𝓤 H A at-mem run r) u′ (λ g′ new is′.
         land ! (from ! (stop !)) (store ! 29 refl (LL.lawful R.the-type R′.the-laws 𝓤 H A W .typed g′ _ is′ .0)) $
-        assigns ! (of-opd ! (load ! (from ! (stop !)) (look ! 29 refl))) (from ! (hop ! (look ! 9 refl) (stop !))) (store-raw ! 3 refl (LL.lawful R.the-type R′.the-laws 𝓤 H A W .typed g′ _ is′ .0)) $
+        assigns ! (of-opd ! (load ! (from ! (stop !)) (look ! 29 refl))) (from ! (hop ! (look ! 9 refl) (stop !)))
+        (store-raw ! 3 refl (LL.lawful R.the-type R′.the-laws 𝓤 H A W .typed g′ _ is′ .0)) $
         move ! (3 ∷ 0 ∷ 4 ∷ 5 ∷ 6 ∷ []) $ closes ! tt R.the-row g′ (u′ ∷ []) b o $
         -- [obs; the borrow; its token; the others' tokens; the last lists; the locals]: how the run goes on
-        owned ! N.the-row (Is N.the-row) (EL.makes N.the-type N′.the-plain 𝓤 H A) r (u ∷ []) is-next $ use1 W (raw (StatusOf 𝓤 H A at-mem run .pre (to-parts 𝓤 H A at-mem run r u))) (goes-parts 𝓤 H A at-mem run W r u) $
+        owned ! N.the-row (Is N.the-row) (EL.makes N.the-type N′.the-plain 𝓤 H A) r (u ∷ []) is-next $
+        use1 W (raw (StatusOf 𝓤 H A at-mem run .pre (to-parts 𝓤 H A at-mem run r u))) (goes-parts 𝓤 H A at-mem run W r u) $
         calls-at ! fm (StatusOf 𝓤 H A at-mem run) known-status (to-parts 𝓤 H A at-mem run r u) (and-then ! (load ! (from ! (stop !)) (look ! 26 refl)) (no-more !)) (λ v.
         answers ! tt S.the-row _ (λ x. x ≡ statusIn r) (status-said 𝓤 H A at-mem run r) v (λ x how is-status.
         land ! (from ! (stop !)) (init ! 6 refl (EL.lawful S.the-type S′.the-laws 𝓤 H A W tt .typed x _ is-status .0)) $ returns ! (look ! 6 refl) $
-        move ! (6 ∷ 7 ∷ 8 ∷ 9 ∷ 10 ∷ 11 ∷ 12 ∷ 13 ∷ 14 ∷ 15 ∷ 16 ∷ 17 ∷ 18 ∷ 19 ∷ 20 ∷ 21 ∷ 22 ∷ 23 ∷ 24 ∷ 25 ∷ 26 ∷ 27 ∷ 28 ∷ 29 ∷ 30 ∷ 31 ∷ 32 ∷ 33 ∷ 34 ∷ 35 ∷ 36 ∷ 37 ∷ 38 ∷ 39 ∷ 40 ∷ 41 ∷ 42 ∷ 43 ∷ 44 ∷ 45 ∷ 46 ∷ 47 ∷ 48 ∷ 49 ∷ []) $
-        frees-laid ! (placed (code.function .locals) (l₀ ∷ l₁ ∷ l₂ ∷ l₃ ∷ l₄ ∷ l₅ ∷ l₆ ∷ l₇ ∷ l₈ ∷ l₉ ∷ l₁₀ ∷ l₁₁ ∷ l₁₂ ∷ l₁₃ ∷ l₁₄ ∷ l₁₅ ∷ l₁₆ ∷ l₁₇ ∷ l₁₈ ∷ l₁₉ ∷ l₂₀ ∷ l₂₁ ∷ [])) (holds v ∷ holds (vptr b o) ∷ holds (vptr (ptr bits .0) (ptr bits .1)) ∷ holds (sliceVal (ptr words) (length (now words))) ∷ holds (vint w32 allowance) ∷ holds (sliceVal (ptr input) (length (now input))) ∷ holds (sliceVal (ptr output) (length (now output))) ∷ holds (sliceVal (ptr journal) (length (now journal))) ∷ holds (sliceVal (ptr frames) (length (now frames))) ∷ holds (sliceVal (ptr values) (length (now values))) ∷ holds u ∷ holds u′ ∷ holds (vptr (ptr input .0) (ptr input .1)) ∷ holds (sliceVal (ptr input) (length (now input))) ∷ holds (vptr (ptr output .0) (ptr output .1)) ∷ holds (sliceVal (ptr output) (length (now output))) ∷ holds (vptr (ptr journal .0) (ptr journal .1)) ∷ holds (sliceVal (ptr journal) (length (now journal))) ∷ holds (vptr (ptr frames .0) (ptr frames .1)) ∷ holds (sliceVal (ptr frames) (length (now frames))) ∷ holds (vptr (ptr values .0) (ptr values .1)) ∷ holds (sliceVal (ptr values) (length (now values))) ∷ []) $
+        move ! (6 ∷ 7 ∷ 8 ∷ 9 ∷ 10 ∷ 11 ∷ 12 ∷ 13 ∷ 14 ∷ 15 ∷ 16 ∷ 17 ∷ 18 ∷ 19 ∷ 20 ∷ 21 ∷ 22 ∷ 23 ∷ 24 ∷ 25 ∷ 26 ∷ 27 ∷ 28 ∷ 29 ∷ 30 ∷ 31 ∷ 32 ∷ 33 ∷ 34 ∷ 35 ∷
+        36 ∷ 37 ∷ 38 ∷ 39 ∷ 40 ∷ 41 ∷ 42 ∷ 43 ∷ 44 ∷ 45 ∷ 46 ∷ 47 ∷ 48 ∷ 49 ∷ []) $
+        frees-laid ! (placed (code.function .locals) (l₀ ∷ l₁ ∷ l₂ ∷ l₃ ∷ l₄ ∷ l₅ ∷ l₆ ∷ l₇ ∷ l₈ ∷ l₉ ∷ l₁₀ ∷ l₁₁ ∷ l₁₂ ∷ l₁₃ ∷ l₁₄ ∷ l₁₅ ∷ l₁₆ ∷ l₁₇ ∷ l₁₈ ∷ l₁₉ ∷
+        l₂₀ ∷ l₂₁ ∷ [])) (holds v ∷ holds (vptr b o) ∷ holds (vptr (ptr bits .0) (ptr bits .1)) ∷ holds (sliceVal (ptr words) (length (now words))) ∷
+        holds (vint w32 allowance) ∷ holds (sliceVal (ptr input) (length (now input))) ∷ holds (sliceVal (ptr output) (length (now output))) ∷
+        holds (sliceVal (ptr journal) (length (now journal))) ∷ holds (sliceVal (ptr frames) (length (now frames))) ∷
+        holds (sliceVal (ptr values) (length (now values))) ∷ holds u ∷ holds u′ ∷ holds (vptr (ptr input .0) (ptr input .1)) ∷
+        holds (sliceVal (ptr input) (length (now input))) ∷ holds (vptr (ptr output .0) (ptr output .1)) ∷ holds (sliceVal (ptr output) (length (now output))) ∷
+        holds (vptr (ptr journal .0) (ptr journal .1)) ∷ holds (sliceVal (ptr journal) (length (now journal))) ∷ holds (vptr (ptr frames .0) (ptr frames .1)) ∷
+        holds (sliceVal (ptr frames) (length (now frames))) ∷ holds (vptr (ptr values .0) (ptr values .1)) ∷ holds (sliceVal (ptr values) (length (now values))) ∷ []) $
         by ! (exits ws g′ x v (subst (λ (n : Next). Told n ws) (sym (rejoined r x g′ new how)) told))))))))))))))
 
 module _ {M : Type 1} (𝓤 : URA M) (H : Heap 𝓤) (A : Atoms 𝓤) (W : Given 𝓤 H A) (mem : Memory → SProp 𝓤) (run : Routine → Fun 𝓤) where
   step-walks : (C : Calls 𝓤 H) (Λ : Loops 𝓤 H) → FmC 𝓤 H (W .laws) C
-      → Triple 𝓤 (C #stepping·advance) (Advance 𝓤 H A mem run) → Triple 𝓤 (C #stepping·registers-of) (RegistersOf 𝓤 H A mem run) → Triple 𝓤 (C #stepping·status-of) (StatusOf 𝓤 H A mem run)
+      → Triple 𝓤 (C #stepping·advance) (Advance 𝓤 H A mem run) → Triple 𝓤 (C #stepping·registers-of) (RegistersOf 𝓤 H A mem run) →
+      Triple 𝓤 (C #stepping·status-of) (StatusOf 𝓤 H A mem run)
       → Walks 𝓤 H A step.ended stayed (WpFn 𝓤 H C Λ code.function) (step.clauses 𝓤 H A mem run)
   step-walks C Λ fm known-advance known-registers known-status =
       walked 𝓤 H A step.ended stayed (step.clauses 𝓤 H A mem run) (WpFn 𝓤 H C Λ code.function)
       (λ κs. (ptr-vals, (ptr-vals, (slice-vals, (uint-vals w32, (slice-vals, (slice-vals, (slice-vals, (slice-vals, (slice-vals, tt))))))))))
       (λ κs. (mut-tells (named 0) (κs .0) R.the-row, (shr-tells (named 1) (κs .1 .0) (Array u8 256), (shr-slice-tells (named 2) (κs .1 .1 .0) u32, (uint-tells w32, (mut-slice-tells (named 3) (κs .1 .1 .1 .0) u8, (mut-slice-tells (named 4) (κs .1 .1 .1 .1 .0) u8, (mut-slice-tells (named 5) (κs .1 .1 .1 .1 .1 .0) u8, (mut-slice-tells (named 6) (κs .1 .1 .1 .1 .1 .1 .0) usize, (mut-slice-tells (named 7) (κs .1 .1 .1 .1 .1 .1 .1 .0) u8, tt))))))))))
-      (λ κs qs bounds a _ are. walk 𝓤 H A W mem run κs qs bounds (a .0) (a .1 .0) (a .1 .1 .0) (a .1 .1 .1 .0) (a .1 .1 .1 .1 .0) (a .1 .1 .1 .1 .1 .0) (a .1 .1 .1 .1 .1 .1 .0) (a .1 .1 .1 .1 .1 .1 .1 .0) (a .1 .1 .1 .1 .1 .1 .1 .1 .0) are C Λ fm known-advance known-registers known-status)
+      (λ κs qs bounds a _ are. walk 𝓤 H A W mem run κs qs bounds (a .0) (a .1 .0) (a .1 .1 .0) (a .1 .1 .1 .0) (a .1 .1 .1 .1 .0) (a .1 .1 .1 .1 .1 .0)
+      (a .1 .1 .1 .1 .1 .1 .0) (a .1 .1 .1 .1 .1 .1 .1 .0) (a .1 .1 .1 .1 .1 .1 .1 .1 .0) are C Λ fm known-advance known-registers known-status)
 
 step-meets : {M : Type 1} (𝓤 : URA M) (H : Heap 𝓤) (A : Atoms 𝓤) → Given 𝓤 H A → (mem : Memory → SProp 𝓤) (run : Routine → Fun 𝓤) (𝓣 : Tables 𝓤 H)
-    → Triple 𝓤 (𝓣 .C #stepping·advance) (Advance 𝓤 H A mem run) → Triple 𝓤 (𝓣 .C #stepping·registers-of) (RegistersOf 𝓤 H A mem run) → Triple 𝓤 (𝓣 .C #stepping·status-of) (StatusOf 𝓤 H A mem run)
+    → Triple 𝓤 (𝓣 .C #stepping·advance) (Advance 𝓤 H A mem run) → Triple 𝓤 (𝓣 .C #stepping·registers-of) (RegistersOf 𝓤 H A mem run) →
+    Triple 𝓤 (𝓣 .C #stepping·status-of) (StatusOf 𝓤 H A mem run)
     → Meets 𝓤 H A step.signature (WpFn 𝓤 H (𝓣 .C) (𝓣 .Λ) code.function) (step.spec 𝓤 H A mem run)
 step-meets 𝓤 H A W mem run 𝓣 known-advance known-registers known-status =
     walk-meets 𝓤 H A step.ended stayed W (goes-ref 𝓤 H A W 8 0 tt (plain (λ _. R.the-row)), all-go 𝓤 H A W 8 (after-first (step.signature .params)) (step.ended .kept .1)) (step.clauses 𝓤 H A mem run)
-    (WpFn 𝓤 H (𝓣 .C) (𝓣 .Λ) code.function) (WpFn-mono 𝓤 H (W .laws) 𝓣 code.function) (step-walks 𝓤 H A W mem run (𝓣 .C) (𝓣 .Λ) (fmOf 𝓤 H (W .laws) 𝓣) known-advance known-registers known-status)
+    (WpFn 𝓤 H (𝓣 .C) (𝓣 .Λ) code.function) (WpFn-mono 𝓤 H (W .laws) 𝓣 code.function)
+    (step-walks 𝓤 H A W mem run (𝓣 .C) (𝓣 .Λ) (fmOf 𝓤 H (W .laws) 𝓣) known-advance known-registers known-status)
 
 pub step-spec : {M : Type 1} → stated.statement M
 unfolding code.routine tablesOf
@@ -213,5 +256,6 @@ step-spec 𝓤 H 𝓜 𝓖 𝓡 =
     (tables 𝓤 H 𝓜 𝓡 code.env .C) (tables 𝓤 H 𝓜 𝓡 code.env .Λ) #stepping·step code.function (code.unfolded 𝓤 H 𝓜 𝓡)
     (step-meets 𝓤 H (𝓖 .A) (givenOf 𝓤 H 𝓜 𝓖) (𝓜 .mem) (𝓡 .run) (tablesOf 𝓤 H 𝓜 (tables 𝓤 H 𝓜 𝓡 code.env))
     (cited 𝓤 H (Advance 𝓤 H (𝓖 .A) (𝓜 .mem) (𝓡 .run)) 𝓜 𝓡 code.env #stepping·advance advance-def.routine code.calls-stepping·advance (advance-thm.met 𝓤 H 𝓜 𝓖 𝓡))
-    (cited 𝓤 H (RegistersOf 𝓤 H (𝓖 .A) (𝓜 .mem) (𝓡 .run)) 𝓜 𝓡 code.env #stepping·registers-of registers-of-def.routine code.calls-stepping·registers-of (registers-of-thm.met 𝓤 H 𝓜 𝓖 𝓡))
+    (cited 𝓤 H (RegistersOf 𝓤 H (𝓖 .A) (𝓜 .mem) (𝓡 .run)) 𝓜 𝓡 code.env #stepping·registers-of registers-of-def.routine code.calls-stepping·registers-of
+    (registers-of-thm.met 𝓤 H 𝓜 𝓖 𝓡))
     (cited 𝓤 H (StatusOf 𝓤 H (𝓖 .A) (𝓜 .mem) (𝓡 .run)) 𝓜 𝓡 code.env #stepping·status-of status-of-def.routine code.calls-stepping·status-of (status-of-thm.met 𝓤 H 𝓜 𝓖 𝓡)))

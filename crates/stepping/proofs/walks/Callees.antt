@@ -99,8 +99,10 @@ module _ {M : Type 1} (𝓤 : URA M) (H : Heap 𝓤) (A : Atoms 𝓤) (at-mem : 
     pub asks-onward : (x : Status) (v : Val) → ent 𝓤 (sem 𝓤 H A (S.the-row .own x (v ∷ []))) (IsOnward .pre (to-onward x v))
     asks-onward x v = qed W (‵ (S.the-row .own x (v ∷ [])) ∷ []) ∵ nothing ! $ move ! (1 ∷ 0 ∷ []) $ join ! $ nothing ! $ join ! $ frame ! $ done !
 
-    pub goes-next : (x : Status) (g : Registers) (v : Val) → ent 𝓤 (sem 𝓤 H A (owns (S.the-row ∷ R.the-row ∷ []) (x, (g, tt)) (v ∷ [], (registers-vals g, tt)))) (NextOf .pre (to-next x g v))
-    goes-next x g v = qed W (‵ (owns (S.the-row ∷ R.the-row ∷ []) (x, (g, tt)) (v ∷ [], (registers-vals g, tt))) ∷ []) ∵ nothing ! $ join ! $ nothing ! $ move ! (1 ∷ 0 ∷ []) $ join ! $ done !
+    pub goes-next : (x : Status) (g : Registers) (v : Val) → ent 𝓤 (sem 𝓤 H A (owns (S.the-row ∷ R.the-row ∷ []) (x, (g, tt)) (v ∷ [], (registers-vals g, tt))))
+        (NextOf .pre (to-next x g v))
+    goes-next x g v = qed W (‵ (owns (S.the-row ∷ R.the-row ∷ []) (x, (g, tt)) (v ∷ [], (registers-vals g, tt))) ∷ []) ∵ nothing ! $ join ! $ nothing ! $
+        move ! (1 ∷ 0 ∷ []) $ join ! $ done !
 
 module _ {M : Type 1} (𝓤 : URA M) (H : Heap 𝓤) (A : Atoms 𝓤) (W : Given 𝓤 H A) (g : Registers) (b : ℕ) where
   -- registers that lie in a local
@@ -114,18 +116,23 @@ module _ {M : Type 1} (𝓤 : URA M) (H : Heap 𝓤) (A : Atoms 𝓤) (W : Given
   lifts : ent 𝓤 (sem 𝓤 H A (mem R.the-row .lies g b 0)) (guard 𝓤 (Is R.the-row g (registers-vals g)) (H .at fullShare R′.mir b 0 (registers-val g)))
   unfolding partOf
   lifts =
-      qed W (‵ (mem R.the-row .lies g b 0) ∷ []) ∵ fpick ! (λ vs. fsplit ! $ spelt ! R.the-row (Is R.the-row) (shows 𝓤 H A R.the-row) (LL.vals R.the-type R′.the-laws) (LL.tells R.the-type R′.the-laws) fullShare g vs b 0 $
+      qed W (‵ (mem R.the-row .lies g b 0) ∷ []) ∵ fpick !
+      (λ vs. fsplit ! $ spelt ! R.the-row (Is R.the-row) (shows 𝓤 H A R.the-row) (LL.vals R.the-type R′.the-laws) (LL.tells R.the-type R′.the-laws) fullShare g vs b 0 $
       use1 W (‵ (fat fullShare R′.mir b 0 (registers-val g))) (W .laws .raw-at fullShare R′.mir b 0 (registers-val g)) $
       move ! (1 ∷ []) $ peeks ! R.the-row (Is R.the-row) (shows 𝓤 H A R.the-row) g (registers-vals g) (λ is. drop ! $ check ! is $ done !))
 
 module _ {M : Type 1} {𝓤 : URA M} {H : Heap 𝓤} {A : Atoms 𝓤} {K : Type 0} {W : Given 𝓤 H A} {Γ : List (Item 𝓤)} {G : Goal 𝓤 H} (t : K) (z : Soaks G) (g : Registers) where
   -- they are lent by `&mut`, for a lifetime that is made, and come back at their last values when it ends
   pub lends-registers : Is R.the-row g (registers-vals g) → (b : ℕ)
-      → ((ν : ℕ) (δ : GName) → Seq K W (‵ (MutRef erased (ν ∷ []) R.the-row .own (record { ptr = (b, 0); name = δ; now = g }) (vptr b 0 ∷ [])) ∷ ‵ (flent (ν ∷ []) (Body (mem R.the-row) b 0 δ)) ∷ ‵ (flft (ν ∷ []) fullShare) ∷ Γ) G)
+      → ((ν : ℕ) (δ : GName) → Seq K W (‵ (MutRef erased (ν ∷ []) R.the-row .own (record { ptr = (b, 0); name = δ; now = g }) (vptr b 0 ∷ [])) ∷
+      ‵ (flent (ν ∷ []) (Body (mem R.the-row) b 0 δ)) ∷ ‵ (flft (ν ∷ []) fullShare) ∷ Γ) G)
       → Seq K W (‵ (fat fullShare R′.mir b 0 (registers-val g)) ∷ Γ) G
   lends-registers kept b k =
-      owned t R.the-row (Is R.the-row) (LL.makes R.the-type R′.the-plain 𝓤 H A) g (registers-vals g) kept $ move t (1 ∷ 0 ∷ []) $ use2 W (‵ (mem R.the-row .lies g b 0)) (lays 𝓤 H A W g b) $
-      lft-new t z (λ ν. move t (1 ∷ []) $ use1 W (later (some (λ (δ : GName). ‵ (MutRef erased (ν ∷ []) R.the-row .own (record { ptr = (b, 0); name = δ; now = g }) (vptr b 0 ∷ [])) ⊛ ‵ (flent (ν ∷ []) (Body (mem R.the-row) b 0 δ)))))
+      owned t R.the-row (Is R.the-row) (LL.makes R.the-type R′.the-plain 𝓤 H A) g (registers-vals g) kept $ move t (1 ∷ 0 ∷ []) $
+      use2 W (‵ (mem R.the-row .lies g b 0)) (lays 𝓤 H A W g b) $
+      lft-new t z (λ ν. move t (1 ∷ []) $ use1 W (later (some
+      (λ (δ : GName). ‵ (MutRef erased (ν ∷ []) R.the-row .own (record { ptr = (b, 0); name = δ; now = g }) (vptr b 0 ∷ [])) ⊛
+      ‵ (flent (ν ∷ []) (Body (mem R.the-row) b 0 δ)))))
       (lends-ref 𝓤 H A W R.the-row erased (ν ∷ []) g b 0) $ await t z $ pick t (λ δ. split t $ k ν δ))
 
   pub registers-come-back : (b : ℕ) {ν : ℕ} {δ : GName} → (Is R.the-row g (registers-vals g) → Seq K W (‵ (fat fullShare R′.mir b 0 (registers-val g)) ∷ Γ) G)

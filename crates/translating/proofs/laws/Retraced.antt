@@ -105,7 +105,8 @@ call-closed place n a e depth items ws l ih =
 -- a variable's identifier is read back, and what comes after it is read on
 variable-back : (variable : Name → Expression → Expression) (kind : ℕ) (x : Name) (e : Expression) (depth items : ℕ) (ws : List ℕ) (l : Levels) → length x < 256 →
     levelsIn depth items 0 (expressionTape e ++ ws) ≡ l →
-    onCurrent (variable (take (carried (tapeWord kind (length x))) ((x ++ expressionTape e) ++ ws))) (levelsIn depth items (carried (tapeWord kind (length x))) ((x ++ expressionTape e) ++ ws)) ≡ onCurrent (variable x) l
+    onCurrent (variable (take (carried (tapeWord kind (length x))) ((x ++ expressionTape e) ++ ws)))
+    (levelsIn depth items (carried (tapeWord kind (length x))) ((x ++ expressionTape e) ++ ws)) ≡ onCurrent (variable x) l
 variable-back variable kind x e depth items ws l h ih =
     rw (
       carried-back kind (length x) h,

@@ -88,7 +88,8 @@ matched {ws} {names} {sites} {code} {code₂ = code₂} {l = l} {start} {at} {t 
     let walked : walk l Zero 0 (patternAt l₀ .value) (startFrom []) ≡ testedAt l₀ = rw e (walk-all l₀) in
     let known : held ws names sites n ≡ testedAt l₀ .sites = tests .known ∙ ap (λ (d : Tested). d .sites) walked in
     let cs = conditionsAt l₀ .value in
-    let asked : conditionWords (held ws names sites n) (conditionsIn 0 0 (drop (t .next) ws)) ≡ map testWord (map (conditionTest (testedAt l₀ .sites)) cs) = rw (known, tests .rest) in
+    let asked : conditionWords (held ws names sites n) (conditionsIn 0 0 (drop (t .next) ws)) ≡
+    map testWord (map (conditionTest (testedAt l₀ .sites)) cs) = rw (known, tests .rest) in
     let kept : map storeOfSite (take n sites) ≡ map storeWord (storesAt l₀) =
     sym (stores-held ws (take n names) (take n sites) (symbols ∙ sym cells))
     ∙ sym (map-map storeWord (λ s. store (s .value)) (held ws names sites n)) ∙ rw known in

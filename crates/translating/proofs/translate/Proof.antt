@@ -29,7 +29,8 @@ returns c =
     let at-clear-from = at-lesser .before .before .before in
     let entry = at-clear-from .before .before .before in
     let a = entry .args in
-    rw (← (take-counted (a .tape .now) (a .words) (at-write-table-arg .write-table-arg .given .0) (at-lesser .lesser .ensures))) (leaves-nothing (a .code .now) (at-clear-from .clear-from .ensures) (at-write-table .write-table .ensures) (at-if1 .if1 .taken) (at-clear-from2 .clear-from2 .ensures))
+    rw (← (take-counted (a .tape .now) (a .words) (at-write-table-arg .write-table-arg .given .0) (at-lesser .lesser .ensures)))
+    (leaves-nothing (a .code .now) (at-clear-from .clear-from .ensures) (at-write-table .write-table .ensures) (at-if1 .if1 .taken) (at-clear-from2 .clear-from2 .ensures))
 
 same-length-2 : tie.Need-same-length-2
 same-length-2 c = search needs
@@ -42,7 +43,8 @@ returns-2 c =
     let at-clear-from = at-lesser .before .before .before in
     let entry = at-clear-from .before .before .before in
     let a = entry .args in
-    rw (← (take-counted (a .tape .now) (a .words) (at-write-table-arg .write-table-arg .given .0) (at-lesser .lesser .ensures))) (leaves-code (a .code .now) (at-clear-from .clear-from .ensures) (at-write-table .write-table .ensures) (c .if1 .left))
+    rw (← (take-counted (a .tape .now) (a .words) (at-write-table-arg .write-table-arg .given .0) (at-lesser .lesser .ensures)))
+    (leaves-code (a .code .now) (at-clear-from .clear-from .ensures) (at-write-table .write-table .ensures) (c .if1 .left))
 
 pub translate-spec : {M : Type 1} → statement M
 translate-spec =

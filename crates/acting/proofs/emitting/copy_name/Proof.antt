@@ -63,4 +63,5 @@ returns : tie.Need-returns Inv-loop μ-loop
 returns c = let e : c .before .loop .i ≡ c .before .before .args .size = omega arith in rw e at (c .before .loop .inv .0)
 
 pub copy-name-spec : {M : Type 1} → statement M
-copy-name-spec = tie.close (tie.spec Inv-loop μ-loop loop-holds add-journal mul-journal shared-slice-read-journal cast-journal add-journal-2 slice-write-journal add-i loop-less loop-again same-length returns)
+copy-name-spec = tie.close (tie.spec Inv-loop μ-loop loop-holds add-journal mul-journal shared-slice-read-journal cast-journal add-journal-2 slice-write-journal
+    add-i loop-less loop-again same-length returns)

@@ -38,7 +38,8 @@ returns-2 c =
     let entry = at-named .before .before .before .before in
     let a = entry .args in
     let p = entry .pre in
-    λ output values frames. emission-full (a .g) (memory (a .input .now) output (a .journal .now) frames values) (a .code .now) (a .size) (p .1 .0) (p .1 .1 .0) (p .1 .1 .1) (sym (at-named .named .ensures) ∙ not-false _ (c .before .if1 .left)) (c .if2 .taken)
+    λ output values frames. emission-full (a .g) (memory (a .input .now) output (a .journal .now) frames values) (a .code .now) (a .size) (p .1 .0) (p .1 .1 .0)
+    (p .1 .1 .1) (sym (at-named .named .ensures) ∙ not-false _ (c .before .if1 .left)) (c .if2 .taken)
 
 sub-write-line : tie.Need-sub-write-line
 sub-write-line c = search needs
@@ -75,7 +76,10 @@ returns-3 c =
     let entry = at-named .before .before .before .before in
     let a = entry .args in
     let p = entry .pre in
-    λ output values frames. rw (at-write-line .write-line .ensures, part-long (a .input .now) (a .g .p .0) (a .g .q .0) (p .1 .1 .0)) (emission-written (a .g) (memory (a .input .now) output (a .journal .now) frames values) (a .code .now) (a .size) (p .1 .0) (p .1 .1 .0) (p .1 .1 .1) (sym (at-named .named .ensures) ∙ not-false _ (at-if1 .if1 .left)) (at-if2 .if2 .left))
+    λ output values frames. rw (at-write-line .write-line .ensures, part-long (a .input .now) (a .g .p .0) (a .g .q .0) (p .1 .1 .0))
+    (emission-written (a .g) (memory (a .input .now) output (a .journal .now) frames values) (a .code .now) (a .size) (p .1 .0) (p .1 .1 .0) (p .1 .1 .1)
+    (sym (at-named .named .ensures) ∙ not-false _ (at-if1 .if1 .left)) (at-if2 .if2 .left))
 
 pub emit-spec : {M : Type 1} → statement M
-emit-spec = tie.close (tie.spec named-requires returns sub-line add-line add-line-2 sub-if2 returns-2 sub-write-line part-write-line-start part-write-line-end write-line-requires add-t15 add-t14 same-length returns-3)
+emit-spec = tie.close (tie.spec named-requires returns sub-line add-line add-line-2 sub-if2 returns-2 sub-write-line part-write-line-start part-write-line-end
+    write-line-requires add-t15 add-t14 same-length returns-3)

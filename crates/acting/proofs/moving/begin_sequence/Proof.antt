@@ -16,7 +16,8 @@ returns c =
     let entry = c .before .before .before .before in
     let a = entry .args in
     let p = entry .pre in
-    λ input output journal values r≤out. begin-many (a .g) (memory input output journal (a .frames .now) values) (p .0) (p .1 .0) (p .1 .1) (rw (c .before .word .ensures) at (c .if1 .taken))
+    λ input output journal values r≤out. begin-many (a .g) (memory input output journal (a .frames .now) values) (p .0) (p .1 .0) (p .1 .1)
+    (rw (c .before .word .ensures) at (c .if1 .taken))
 
 sub-set-word : tie.Need-sub-set-word
 sub-set-word c = search needs
@@ -42,7 +43,8 @@ returns-2 c =
     let entry = at-word .before .before .before in
     let a = entry .args in
     let p = entry .pre in
-    λ input output journal values r≤out. rw (at-set-word2 .set-word2 .ensures, at-set-word .set-word .ensures, at-word .word .ensures) (begin-kept (a .g) (memory input output journal (a .frames .now) values) (p .0) (p .1 .0) r≤out (rw (at-word .word .ensures) at (at-if1 .if1 .left)))
+    λ input output journal values r≤out. rw (at-set-word2 .set-word2 .ensures, at-set-word .set-word .ensures, at-word .word .ensures)
+    (begin-kept (a .g) (memory input output journal (a .frames .now) values) (p .0) (p .1 .0) r≤out (rw (at-word .word .ensures) at (at-if1 .if1 .left)))
 
 pub begin-sequence-spec : {M : Type 1} → statement M
 begin-sequence-spec = tie.close (tie.spec word-requires same-length returns sub-set-word set-word-requires add-set-word set-word-requires-2 same-length-2 returns-2)

@@ -23,7 +23,8 @@ returns c =
     let at-what = at-reach .before .before in
     let entry = at-what .before .before .before .before in
     let s = at-what .what .given .0 .0 in
-    λ output journal values. rw (at-what .what .given .1) (go-wrong _ _ (entry .pre .0) (entry .pre .1 .0) (s .add) (s .back) (registerMeant (s .register)) (rw (c .enum-told .given .1) at (at-reach .reach .ensures values)))
+    λ output journal values. rw (at-what .what .given .1)
+    (go-wrong _ _ (entry .pre .0) (entry .pre .1 .0) (s .add) (s .back) (registerMeant (s .register)) (rw (c .enum-told .given .1) at (at-reach .reach .ensures values)))
 
 enum-known-what-2 : tie.Need-enum-known-what-2
 enum-known-what-2 c = search needs
@@ -43,7 +44,8 @@ returns-2 c =
     let at-what2 = at-reach2 .before .before in
     let entry = at-what2 .before .before .before .before in
     let s = at-what2 .what2 .given .0 .0 in
-    λ output journal values. rw (at-what2 .what2 .given .1) (select-wrong _ _ (entry .pre .0) (entry .pre .1 .0) (s .add) (s .back) (registerMeant (s .register)) (rw (c .enum-told2 .given .1) at (at-reach2 .reach2 .ensures values)))
+    λ output journal values. rw (at-what2 .what2 .given .1)
+    (select-wrong _ _ (entry .pre .0) (entry .pre .1 .0) (s .add) (s .back) (registerMeant (s .register)) (rw (c .enum-told2 .given .1) at (at-reach2 .reach2 .ensures values)))
 
 returns-3 : tie.Need-returns-3
 returns-3 c =
@@ -52,7 +54,8 @@ returns-3 c =
     let at-what = at-reach .before .before in
     let entry = at-what .before .before .before .before in
     let s = at-what .what .given .0 .0 in
-    λ output journal values. rw (at-what .what .given .1) (go-moved _ _ (entry .pre .0) (entry .pre .1 .0) (s .add) (s .back) (registerMeant (s .register)) _ (rw (at-to .to .given .1) at (at-reach .reach .ensures values)))
+    λ output journal values. rw (at-what .what .given .1)
+    (go-moved _ _ (entry .pre .0) (entry .pre .1 .0) (s .add) (s .back) (registerMeant (s .register)) _ (rw (at-to .to .given .1) at (at-reach .reach .ensures values)))
 
 returns-4 : tie.Need-returns-4
 returns-4 c =
@@ -61,7 +64,9 @@ returns-4 c =
     let at-what2 = at-reach2 .before .before in
     let entry = at-what2 .before .before .before .before in
     let s = at-what2 .what2 .given .0 .0 in
-    λ output journal values. rw (at-what2 .what2 .given .1) (select-moved _ _ (entry .pre .0) (entry .pre .1 .0) (s .add) (s .back) (registerMeant (s .register)) _ (rw (at-to2 .to2 .given .1) at (at-reach2 .reach2 .ensures values)))
+    λ output journal values. rw (at-what2 .what2 .given .1)
+    (select-moved _ _ (entry .pre .0) (entry .pre .1 .0) (s .add) (s .back) (registerMeant (s .register)) _ (rw (at-to2 .to2 .given .1) at (at-reach2 .reach2 .ensures values)))
 
 pub shift-spec : {M : Type 1} → statement M
-shift-spec = tie.close (tie.spec enum-known-what reach-requires enum-known-to enum-told returns enum-known-what-2 reach-requires-2 enum-known-to-2 enum-told-2 returns-2 returns-3 returns-4)
+shift-spec = tie.close (tie.spec enum-known-what reach-requires enum-known-to enum-told returns enum-known-what-2 reach-requires-2 enum-known-to-2 enum-told-2
+    returns-2 returns-3 returns-4)

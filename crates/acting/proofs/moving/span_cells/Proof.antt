@@ -59,4 +59,5 @@ returns-5 : tie.Need-returns-5
 returns-5 c = λ values. rw (c .enum-told5 .given .1)
 
 pub span-cells-spec : {M : Type 1} → statement M
-span-cells-spec = tie.close (tie.spec word-requires word-requires-2 enum-told within-requires enum-told-2 within-requires-2 enum-told-3 within-requires-3 enum-told-4 less-requires within-requires-4 enum-told-5 returns returns-2 returns-3 returns-4 returns-5)
+span-cells-spec = tie.close (tie.spec word-requires word-requires-2 enum-told within-requires enum-told-2 within-requires-2 enum-told-3 within-requires-3 enum-told-4
+    less-requires within-requires-4 enum-told-5 returns returns-2 returns-3 returns-4 returns-5)

@@ -17,7 +17,8 @@ returns c =
     let entry = c .before .before .before .before .before .before in
     let a = entry .args in
     let p = entry .pre in
-    λ journal values. use-none (a .g) (memory (a .input .now) (a .output .now) journal (a .frames .now) values) (p .1 .1 .1 .0) (p .1 .1 .1 .1 .0) (p .0) (p .1 .0) (p .1 .1 .0) (p .1 .1 .1 .1 .1) (rw (c .before .word .ensures) at (c .if1 .taken))
+    λ journal values. use-none (a .g) (memory (a .input .now) (a .output .now) journal (a .frames .now) values) (p .1 .1 .1 .0) (p .1 .1 .1 .1 .0) (p .0) (p .1 .0)
+    (p .1 .1 .0) (p .1 .1 .1 .1 .1) (rw (c .before .word .ensures) at (c .if1 .taken))
 
 sub-word : tie.Need-sub-word
 sub-word c = search needs
@@ -43,7 +44,9 @@ returns-2 c =
     let entry = at-word .before .before .before .before .before in
     let a = entry .args in
     let p = entry .pre in
-    λ journal values. use-full (a .g) (memory (a .input .now) (a .output .now) journal (a .frames .now) values) (p .1 .1 .1 .0) (p .1 .1 .1 .1 .0) (p .0) (p .1 .0) (p .1 .1 .0) (p .1 .1 .1 .1 .1) (rw (at-word .word .ensures) at (at-if1 .if1 .left)) (rw (at-lower .lower .ensures, at-word2 .word2 .ensures, at-word .word .ensures) at (c .if2 .taken))
+    λ journal values. use-full (a .g) (memory (a .input .now) (a .output .now) journal (a .frames .now) values) (p .1 .1 .1 .0) (p .1 .1 .1 .1 .0) (p .0) (p .1 .0)
+    (p .1 .1 .0) (p .1 .1 .1 .1 .1) (rw (at-word .word .ensures) at (at-if1 .if1 .left))
+    (rw (at-lower .lower .ensures, at-word2 .word2 .ensures, at-word .word .ensures) at (c .if2 .taken))
 
 sub-set-word : tie.Need-sub-set-word
 sub-set-word c = search needs
@@ -77,7 +80,12 @@ returns-3 c =
     let entry = at-word .before .before .before .before .before in
     let a = entry .args in
     let p = entry .pre in
-    λ journal values. rw (at-set-word .set-word .ensures, at-lower .lower .ensures, at-word2 .word2 .ensures, at-word .word .ensures) (use-moved (a .g) (memory (a .input .now) (a .output .now) journal (a .frames .now) values) (p .1 .1 .1 .0) (p .1 .1 .1 .1 .0) (p .0) (p .1 .0) (p .1 .1 .0) (p .1 .1 .1 .1 .1) _ _ (rw (at-lower .lower .ensures, at-word2 .word2 .ensures, at-word .word .ensures) at (at-move-down .move-down .ensures)) (rw (at-word .word .ensures) at (at-if1 .if1 .left)) (at-move-down .move-down .kept .0) (rw (at-lower .lower .ensures, at-word2 .word2 .ensures, at-word .word .ensures) at (at-if2 .if2 .left)))
+    λ journal values. rw (at-set-word .set-word .ensures, at-lower .lower .ensures, at-word2 .word2 .ensures, at-word .word .ensures)
+    (use-moved (a .g) (memory (a .input .now) (a .output .now) journal (a .frames .now) values) (p .1 .1 .1 .0) (p .1 .1 .1 .1 .0) (p .0) (p .1 .0) (p .1 .1 .0)
+    (p .1 .1 .1 .1 .1) _ _ (rw (at-lower .lower .ensures, at-word2 .word2 .ensures, at-word .word .ensures) at (at-move-down .move-down .ensures))
+    (rw (at-word .word .ensures) at (at-if1 .if1 .left)) (at-move-down .move-down .kept .0)
+    (rw (at-lower .lower .ensures, at-word2 .word2 .ensures, at-word .word .ensures) at (at-if2 .if2 .left)))
 
 pub use-sequence-spec : {M : Type 1} → statement M
-use-sequence-spec = tie.close (tie.spec word-requires same-length returns sub-word word-requires-2 lower-requires sub-if2 same-length-2 returns-2 sub-set-word set-word-requires move-down-requires same-length-3 same-length-4 returns-3)
+use-sequence-spec = tie.close (tie.spec word-requires same-length returns sub-word word-requires-2 lower-requires sub-if2 same-length-2 returns-2 sub-set-word
+    set-word-requires move-down-requires same-length-3 same-length-4 returns-3)

@@ -55,4 +55,5 @@ returns-3 c =
     λ journal. rw (at-what2 .what2 .given .1) (at-write-value .write-value .ensures (a .input .now) journal)
 
 pub write-spec : {M : Type 1} → statement M
-write-spec = tie.close (tie.spec enum-told write-part-requires enum-known-what write-byte-requires enum-known-what-2 write-value-requires same-length returns same-length-2 returns-2 same-length-3 returns-3)
+write-spec = tie.close (tie.spec enum-told write-part-requires enum-known-what write-byte-requires enum-known-what-2 write-value-requires same-length returns
+    same-length-2 returns-2 same-length-3 returns-3)

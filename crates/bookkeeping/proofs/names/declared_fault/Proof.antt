@@ -27,7 +27,8 @@ returns-2 c =
     let at-is-accepted = at-if1 .before in
     let at-called-fault = at-is-accepted .before in
     let entry = at-called-fault .before .before .before in
-    declared-is (entry .pre .0) (entry .pre .1) (at-called-fault .called-fault .ensures) (at-is-accepted .is-accepted .ensures) (at-if1 .if1 .left) (sym (c .before .is-emission .ensures) ∙ c .if2 .taken) refl
+    declared-is (entry .pre .0) (entry .pre .1) (at-called-fault .called-fault .ensures) (at-is-accepted .is-accepted .ensures) (at-if1 .if1 .left)
+    (sym (c .before .is-emission .ensures) ∙ c .if2 .taken) refl
 
 find-requires : tie.Need-find-requires
 find-requires c κs = search needs
@@ -44,7 +45,8 @@ returns-3 c =
     let at-called-fault = at-is-accepted .before in
     let entry = at-called-fault .before .before .before in
     let p = entry .pre in
-    c .fault-if .ensures ∙ declared-known (p .0) (p .1) (at-called-fault .called-fault .ensures) (at-is-accepted .is-accepted .ensures) (at-if1 .if1 .left) (sym (at-is-emission .is-emission .ensures) ∙ at-if2 .if2 .left) (among _ _ 0 _ (p .1) _ _ (c .before .find .ensures) refl)
+    c .fault-if .ensures ∙ declared-known (p .0) (p .1) (at-called-fault .called-fault .ensures) (at-is-accepted .is-accepted .ensures) (at-if1 .if1 .left)
+    (sym (at-is-emission .is-emission .ensures) ∙ at-if2 .if2 .left) (among _ _ 0 _ (p .1) _ _ (c .before .find .ensures) refl)
 
 pub declared-fault-spec : {M : Type 1} → statement M
 declared-fault-spec =

@@ -21,7 +21,8 @@ returns c =
     let at-lex = c .before .before in
     let entry = at-lex .before .before in
     let a = entry .args in
-    takes (a .text .now) (modeOf (a .mode)) (a .at) (a .byte) (at-lex .lex .result) (comes (a .text .now) (modeOf (a .mode)) (a .at) (at-lex .lex .result) (entry .pre) (at-lex .lex .ensures)) (sym (c .before .is-sign .ensures) ∙ c .if1 .taken)
+    takes (a .text .now) (modeOf (a .mode)) (a .at) (a .byte) (at-lex .lex .result)
+    (comes (a .text .now) (modeOf (a .mode)) (a .at) (at-lex .lex .result) (entry .pre) (at-lex .lex .ensures)) (sym (c .before .is-sign .ensures) ∙ c .if1 .taken)
 
 returns-2 : tie.Need-returns-2
 returns-2 c =
@@ -29,7 +30,9 @@ returns-2 c =
     let at-lex = at-is-sign .before in
     let entry = at-lex .before .before in
     let a = entry .args in
-    bars (a .text .now) (modeOf (a .mode)) (a .at) (a .byte) (at-lex .lex .result) (c .refuse .result) (comes (a .text .now) (modeOf (a .mode)) (a .at) (at-lex .lex .result) (entry .pre) (at-lex .lex .ensures)) (sym (at-is-sign .is-sign .ensures) ∙ c .before .if1 .left) (c .refuse .ensures)
+    bars (a .text .now) (modeOf (a .mode)) (a .at) (a .byte) (at-lex .lex .result) (c .refuse .result)
+    (comes (a .text .now) (modeOf (a .mode)) (a .at) (at-lex .lex .result) (entry .pre) (at-lex .lex .ensures))
+    (sym (at-is-sign .is-sign .ensures) ∙ c .before .if1 .left) (c .refuse .ensures)
 
 pub pass-spec : {M : Type 1} → statement M
 pass-spec = tie.close (tie.spec lex-requires is-sign-requires refuse-requires returns returns-2)

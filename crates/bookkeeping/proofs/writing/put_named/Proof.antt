@@ -45,7 +45,8 @@ loop-again c =
     let at-shared-slice-known2 = c .before .before in
     let at-loop-test = at-shared-slice-known2 .before in
     let at-loop = at-loop-test .before in
-    copy-goes _ _ _ _ _ _ _ _ (at-loop .loop .inv) _ (at-loop-test .loop-test .taken) (omega (arith, at-shared-slice-known2 .shared-slice-known2 .given (at-loop .loop .i))) (c .put2 .ensures)
+    copy-goes _ _ _ _ _ _ _ _ (at-loop .loop .inv) _ (at-loop-test .loop-test .taken)
+    (omega (arith, at-shared-slice-known2 .shared-slice-known2 .given (at-loop .loop .i))) (c .put2 .ensures)
 
 returns : tie.Need-returns Inv-loop μ-loop
 returns c =

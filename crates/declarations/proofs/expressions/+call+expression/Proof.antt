@@ -81,7 +81,8 @@ call-enum-known-fault t c = search needs
 call-returns : (t : ℕ) → call-lts.Need-returns (call-claims t) (call-at t) call.Post
 call-returns t c =
     let a = c .before .before .before .before .before .before .before .args in
-    λ bound h. call-unopened (a .text .now) (a .table .now) (a .symbols) (a .parts) bound (a .depth) (a .s) (a .place) (rw (c .before .fault .given .1) at (c .before .before .before .open-call .ensures))
+    λ bound h. call-unopened (a .text .now) (a .table .now) (a .symbols) (a .parts) bound (a .depth) (a .s) (a .place)
+    (rw (c .before .fault .given .1) at (c .before .before .before .open-call .ensures))
 
 call-enum-known-start : (t : ℕ) → call-lts.Need-enum-known-start (call-claims t) (call-at t) call.Post
 call-enum-known-start t c = search needs
@@ -97,7 +98,8 @@ call-expression-requires t c κs =
     let o = has-read _ _ (rw (c .before .before .start .given .1) at (c .before .before .before .before .open-call .ensures)) in
     let m = c .before .before .before .before .before .before .before .before .pre .0 in (
       omega (arith, o .how .shallow, o .how .went .onward, o .how .went .inside),
-      argument-going (a .text .now) (a .table .now) (a .symbols) (a .parts) 0 (a .depth) (a .s) (a .place) o (c .before .before .before .before .before .before .before .before .pre .1 .0),
+      argument-going (a .text .now) (a .table .now) (a .symbols) (a .parts) 0 (a .depth) (a .s) (a .place) o
+          (c .before .before .before .before .before .before .before .before .pre .1 .0),
     )
 
 call-enum-known-fault-2 : (t : ℕ) → call-lts.Need-enum-known-fault-2 (call-claims t) (call-at t) call.Post
@@ -107,23 +109,30 @@ call-enum-known-argument : (t : ℕ) → call-lts.Need-enum-known-argument (call
 call-enum-known-argument t c = search needs
 
 call-close-call-requires : (t : ℕ) → call-lts.Need-close-call-requires (call-claims t) (call-at t) call.Post
-call-close-call-requires t c κs = argument-ready (c .before .before .before .before .before .before .before .before .before .before .before .before .before .args .depth + 1) (rw (c .before .before .argument .given .1) at (c .before .before .before .before .expression .ensures))
+call-close-call-requires t c κs = argument-ready
+    (c .before .before .before .before .before .before .before .before .before .before .before .before .before .args .depth + 1)
+    (rw (c .before .before .argument .given .1) at (c .before .before .before .before .expression .ensures))
 
 call-returns-2 : (t : ℕ) → call-lts.Need-returns-2 (call-claims t) (call-at t) call.Post
 call-returns-2 t c =
     let a = c .before .before .before .before .before .before .before .before .before .before .before .before .args in
-    let o = has-read _ _ (rw (c .before .before .before .before .before .before .start .given .1) at (c .before .before .before .before .before .before .before .before .open-call .ensures)) in
+    let o = has-read _ _ (rw (c .before .before .before .before .before .before .start .given .1) at
+    (c .before .before .before .before .before .before .before .before .open-call .ensures)) in
     λ bound h.
     argument-stops (a .text .now) (a .table .now) (a .symbols) (a .parts) bound (a .depth) (a .s) (a .place) o
-    (rw (c .before .fault2 .given .1) at (c .before .before .before .expression .ensures bound (argument-enough (a .text .now) (a .table .now) (a .symbols) (a .parts) bound (a .depth) (a .s) (a .place) o h)))
+    (rw (c .before .fault2 .given .1) at (c .before .before .before .expression .ensures bound
+    (argument-enough (a .text .now) (a .table .now) (a .symbols) (a .parts) bound (a .depth) (a .s) (a .place) o h)))
 
 call-returns-3 : (t : ℕ) → call-lts.Need-returns-3 (call-claims t) (call-at t) call.Post
 call-returns-3 t c =
     let a = c .before .before .before .before .before .before .before .before .before .before .before .before .before .before .args in
-    let o = has-read _ _ (rw (c .before .before .before .before .before .before .before .before .start .given .1) at (c .before .before .before .before .before .before .before .before .before .before .open-call .ensures)) in
+    let o = has-read _ _ (rw (c .before .before .before .before .before .before .before .before .start .given .1) at
+    (c .before .before .before .before .before .before .before .before .before .before .open-call .ensures)) in
     λ bound h.
     call-closes (a .text .now) (a .table .now) (a .symbols) (a .parts) bound (a .depth) (a .s) (a .place) o
-    (rw (c .before .before .before .argument .given .1) at (c .before .before .before .before .before .expression .ensures bound (argument-enough (a .text .now) (a .table .now) (a .symbols) (a .parts) bound (a .depth) (a .s) (a .place) o h)))
+    (rw (c .before .before .before .argument .given .1) at
+    (c .before .before .before .before .before .expression .ensures bound
+    (argument-enough (a .text .now) (a .table .now) (a .symbols) (a .parts) bound (a .depth) (a .s) (a .place) o h)))
     (c .close-call .ensures)
 
 abbrev expression-Inv-loop : expression-lts.InvT-loop
@@ -149,13 +158,15 @@ expression-enum-known-next t c = search needs
 expression-loop-less : (t : ℕ) → expression-lts.Need-loop-less (expression-claims t) (expression-at t) expression.Post expression-Inv-loop expression-μ-loop
 expression-loop-less t c =
     let k = c .before .before .before .before .before .before .loop .inv in
-    let m = item-moves k (comes _ Tokens.inside _ _ (k .going .ready .inside) (c .before .before .before .before .before .lex .ensures)) (c .before .before .before .join .ensures) (c .before .next .given .1) in
+    let m = item-moves k (comes _ Tokens.inside _ _ (k .going .ready .inside) (c .before .before .before .before .before .lex .ensures))
+    (c .before .before .before .join .ensures) (c .before .next .given .1) in
     omega arith
 
 expression-loop-again : (t : ℕ) → expression-lts.Need-loop-again (expression-claims t) (expression-at t) expression.Post expression-Inv-loop expression-μ-loop
 expression-loop-again t c =
     let k = c .before .before .before .before .before .before .loop .inv in
-    item-taken k (comes _ Tokens.inside _ _ (k .going .ready .inside) (c .before .before .before .before .before .lex .ensures)) (c .before .before .before .join .ensures) (c .before .next .given .1)
+    item-taken k (comes _ Tokens.inside _ _ (k .going .ready .inside) (c .before .before .before .before .before .lex .ensures))
+    (c .before .before .before .join .ensures) (c .before .next .given .1)
 
 expression-enum-known-answer : (t : ℕ) → expression-lts.Need-enum-known-answer (expression-claims t) (expression-at t) expression.Post expression-Inv-loop expression-μ-loop
 expression-enum-known-answer t c = search needs
@@ -166,7 +177,8 @@ expression-stopped-requires t c κs = search needs
 expression-returns : (t : ℕ) → expression-lts.Need-returns (expression-claims t) (expression-at t) expression.Post expression-Inv-loop expression-μ-loop
 expression-returns t c =
     let k = c .before .before .before .before .before .before .before .loop .inv in
-    λ bound h. rw (c .stopped .ensures) (item-wrong k (comes _ Tokens.inside _ _ (k .going .ready .inside) (c .before .before .before .before .before .before .lex .ensures)) (c .before .before .before .before .join .ensures) (c .before .before .answer .given .1) h)
+    λ bound h. rw (c .stopped .ensures) (item-wrong k (comes _ Tokens.inside _ _ (k .going .ready .inside)
+    (c .before .before .before .before .before .before .lex .ensures)) (c .before .before .before .before .join .ensures) (c .before .before .answer .given .1) h)
 
 expression-enum-told : (t : ℕ) → expression-lts.Need-enum-told (expression-claims t) (expression-at t) expression.Post expression-Inv-loop expression-μ-loop
 expression-enum-told t c = search needs
@@ -178,14 +190,16 @@ expression-returns-2 : (t : ℕ) → expression-lts.Need-returns-2 (expression-c
 expression-returns-2 t c =
     let k = c .before .before .before .before .before .before .before .loop .inv in
     λ bound h.
-    expression-ends k (comes _ Tokens.inside _ _ (k .going .ready .inside) (c .before .before .before .before .before .before .lex .ensures)) (c .before .before .before .before .join .ensures) (c .before .before .enum-told .given .1)
+    expression-ends k (comes _ Tokens.inside _ _ (k .going .ready .inside) (c .before .before .before .before .before .before .lex .ensures))
+    (c .before .before .before .before .join .ensures) (c .before .before .enum-told .given .1)
     (sym (c .before .is-sign .ensures) ∙ not-true _ (c .if1 .taken)) h
 
 expression-call-requires : (t : ℕ) → expression-lts.Need-call-requires (expression-claims t) (expression-at t) expression.Post expression-Inv-loop expression-μ-loop
 expression-call-requires t c κs =
     let k = c .before .before .before .before .before .before .before .before .loop .inv in
     let n = comes _ Tokens.inside _ _ (k .going .ready .inside) (c .before .before .before .before .before .before .before .lex .ensures) in
-    let o = call-ready k n (c .before .before .before .before .before .join .ensures) (c .before .before .before .enum-told .given .1) (sym (c .before .before .is-sign .ensures) ∙ not-false _ (c .before .if1 .left)) in
+    let o = call-ready k n (c .before .before .before .before .before .join .ensures) (c .before .before .before .enum-told .given .1)
+    (sym (c .before .before .is-sign .ensures) ∙ not-false _ (c .before .if1 .left)) in
     let m = c .before .before .before .before .before .before .before .before .before .before .before .pre .0 in
     (omega (arith, k .onward, o .2, n .inside), (o .0, o .1))
 
@@ -196,8 +210,11 @@ expression-returns-3 : (t : ℕ) → expression-lts.Need-returns-3 (expression-c
 expression-returns-3 t c =
     let k = c .before .before .before .before .before .before .before .before .before .before .before .before .loop .inv in
     λ bound h.
-    call-stopped k (comes _ Tokens.inside _ _ (k .going .ready .inside) (c .before .before .before .before .before .before .before .before .before .before .before .lex .ensures)) (c .before .before .before .before .before .before .before .before .before .join .ensures) (c .before .before .before .before .before .before .before .enum-told .given .1)
-    (sym (c .before .before .before .before .before .before .is-sign .ensures) ∙ not-false _ (c .before .before .before .before .before .if1 .left)) (rw (c .before .fault .given .1) at (c .before .before .before .call .ensures)) h
+    call-stopped k (comes _ Tokens.inside _ _ (k .going .ready .inside)
+    (c .before .before .before .before .before .before .before .before .before .before .before .lex .ensures))
+    (c .before .before .before .before .before .before .before .before .before .join .ensures) (c .before .before .before .before .before .before .before .enum-told .given .1)
+    (sym (c .before .before .before .before .before .before .is-sign .ensures) ∙ not-false _ (c .before .before .before .before .before .if1 .left))
+    (rw (c .before .fault .given .1) at (c .before .before .before .call .ensures)) h
 
 expression-enum-known-next-2 : (t : ℕ) → expression-lts.Need-enum-known-next-2 (expression-claims t) (expression-at t) expression.Post expression-Inv-loop expression-μ-loop
 expression-enum-known-next-2 t c = search needs
@@ -206,8 +223,11 @@ expression-loop-less-2 : (t : ℕ) → expression-lts.Need-loop-less-2 (expressi
 expression-loop-less-2 t c =
     let k = c .before .before .before .before .before .before .before .before .before .before .before .before .loop .inv in
     let r =
-    call-read k (comes _ Tokens.inside _ _ (k .going .ready .inside) (c .before .before .before .before .before .before .before .before .before .before .before .lex .ensures)) (c .before .before .before .before .before .before .before .before .before .join .ensures) (c .before .before .before .before .before .before .before .enum-told .given .1)
-    (sym (c .before .before .before .before .before .before .is-sign .ensures) ∙ not-false _ (c .before .before .before .before .before .if1 .left)) (rw (c .before .next2 .given .1) at (c .before .before .before .call .ensures))
+    call-read k (comes _ Tokens.inside _ _ (k .going .ready .inside)
+    (c .before .before .before .before .before .before .before .before .before .before .before .lex .ensures))
+    (c .before .before .before .before .before .before .before .before .before .join .ensures) (c .before .before .before .before .before .before .before .enum-told .given .1)
+    (sym (c .before .before .before .before .before .before .is-sign .ensures) ∙ not-false _ (c .before .before .before .before .before .if1 .left))
+    (rw (c .before .next2 .given .1) at (c .before .before .before .call .ensures))
     in
     let i = r .0 .going .ready .inside in
     let m = r .1 in
@@ -216,8 +236,11 @@ expression-loop-less-2 t c =
 expression-loop-again-2 : (t : ℕ) → expression-lts.Need-loop-again-2 (expression-claims t) (expression-at t) expression.Post expression-Inv-loop expression-μ-loop
 expression-loop-again-2 t c =
     let k = c .before .before .before .before .before .before .before .before .before .before .before .before .loop .inv in
-    call-read k (comes _ Tokens.inside _ _ (k .going .ready .inside) (c .before .before .before .before .before .before .before .before .before .before .before .lex .ensures)) (c .before .before .before .before .before .before .before .before .before .join .ensures) (c .before .before .before .before .before .before .before .enum-told .given .1)
-    (sym (c .before .before .before .before .before .before .is-sign .ensures) ∙ not-false _ (c .before .before .before .before .before .if1 .left)) (rw (c .before .next2 .given .1) at (c .before .before .before .call .ensures)) .0
+    call-read k (comes _ Tokens.inside _ _ (k .going .ready .inside)
+    (c .before .before .before .before .before .before .before .before .before .before .before .lex .ensures))
+    (c .before .before .before .before .before .before .before .before .before .join .ensures) (c .before .before .before .before .before .before .before .enum-told .given .1)
+    (sym (c .before .before .before .before .before .before .is-sign .ensures) ∙ not-false _ (c .before .before .before .before .before .if1 .left))
+    (rw (c .before .next2 .given .1) at (c .before .before .before .call .ensures)) .0
 
 pub +call+expression-spec : {M : Type 1} → statement M
 +call+expression-spec = close μ-call μ-expression (λ t. call-lts.spec (call-claims t)

@@ -64,7 +64,8 @@ returns-3 c =
     let a = entry .args in
     let k = comes _ Tokens.naming _ _ (entry .pre .0 .inside) (at-lex .lex .ensures) in
     let f = at-called-fault .called-fault .ensures in
-    rw (c .stopped2 .ensures) (call-misnamed (a .text .now) (a .depth) (a .s) (a .place) (at-if1 .if1 .left) (leb-false 128 _ (at-if2 .if2 .left)) k (at-token .token .given .1) f (a-fault-here f (at-is-accepted .is-accepted .ensures) (c .before .if3 .taken)))
+    rw (c .stopped2 .ensures) (call-misnamed (a .text .now) (a .depth) (a .s) (a .place) (at-if1 .if1 .left) (leb-false 128 _ (at-if2 .if2 .left)) k
+    (at-token .token .given .1) f (a-fault-here f (at-is-accepted .is-accepted .ensures) (c .before .if3 .taken)))
 
 put-call-requires : tie.Need-put-call-requires
 put-call-requires c κs =
@@ -100,7 +101,8 @@ returns-4 c =
     let a = entry .args in
     let k = comes _ Tokens.naming _ _ (entry .pre .0 .inside) (at-lex .lex .ensures) in
     let f = no-fault-here (at-called-fault .called-fault .ensures) (at-is-accepted .is-accepted .ensures) (at-if3 .if3 .left) in
-    call-opens (a .text .now) (a .depth) (a .s) (a .place) (at-if1 .if1 .left) (leb-false 128 _ (at-if2 .if2 .left)) k (at-token .token .given .1) f (entry .pre .0) (entry .pre .1) (c .before .put-call .ensures)
+    call-opens (a .text .now) (a .depth) (a .s) (a .place) (at-if1 .if1 .left) (leb-false 128 _ (at-if2 .if2 .left)) k (at-token .token .given .1) f (entry .pre .0)
+    (entry .pre .1) (c .before .put-call .ensures)
 
 pub open-call-spec : {M : Type 1} → statement M
 open-call-spec =

@@ -45,7 +45,8 @@ returns-3 c =
     let at-token = at-if1 .before .before in
     let entry = at-token .before .before .before in
     let f = at-declared-fault .declared-fault .ensures in
-    rw (c .stopped2 .ensures) (function-misnamed _ (entry .pre) (at-token .token .given .1) (at-if1 .if1 .left) f (a-fault-here f (at-is-accepted .is-accepted .ensures) (c .before .if2 .taken)))
+    rw (c .stopped2 .ensures) (function-misnamed _ (entry .pre) (at-token .token .given .1) (at-if1 .if1 .left) f
+    (a-fault-here f (at-is-accepted .is-accepted .ensures) (c .before .if2 .taken)))
 
 entry-requires : tie.Need-entry-requires
 entry-requires c κs =
@@ -53,7 +54,8 @@ entry-requires c κs =
     let at-if1 = at-declared-fault .before .before .before in
     let at-token = at-if1 .before .before in
     let entry = at-token .before .before .before in
-    let d = declarable (entry .args .limit) (entry .pre) (at-token .token .given .1) (at-if1 .if1 .left) (no-fault-here (at-declared-fault .declared-fault .ensures) (c .before .is-accepted .ensures) (c .if2 .left)) in
+    let d = declarable (entry .args .limit) (entry .pre) (at-token .token .given .1) (at-if1 .if1 .left)
+    (no-fault-here (at-declared-fault .declared-fault .ensures) (c .before .is-accepted .ensures) (c .if2 .left)) in
     (d .inside .forward, omega (arith, d .inside .inside, d .short))
 
 mul-names : tie.Need-mul-names
@@ -70,7 +72,8 @@ body-requires c κs =
     let at-if1 = at-declared-fault .before .before .before in
     let at-token = at-if1 .before .before in
     let entry = at-token .before .before .before in
-    declarable (entry .args .limit) (entry .pre) (at-token .token .given .1) (at-if1 .if1 .left) (no-fault-here (at-declared-fault .declared-fault .ensures) (at-is-accepted .is-accepted .ensures) (at-if2 .if2 .left))
+    declarable (entry .args .limit) (entry .pre) (at-token .token .given .1) (at-if1 .if1 .left)
+    (no-fault-here (at-declared-fault .declared-fault .ensures) (at-is-accepted .is-accepted .ensures) (at-if2 .if2 .left))
 
 returns-4 : tie.Need-returns-4
 returns-4 c =
@@ -81,7 +84,8 @@ returns-4 c =
     let at-if1 = at-declared-fault .before .before .before in
     let at-token = at-if1 .before .before in
     let entry-2 = at-token .before .before .before in
-    function-reads _ (entry-2 .pre) (at-token .token .given .1) (at-if1 .if1 .left) (no-fault-here (at-declared-fault .declared-fault .ensures) (at-is-accepted .is-accepted .ensures) (at-if2 .if2 .left)) (at-entry .entry .ensures) refl (c .body .ensures)
+    function-reads _ (entry-2 .pre) (at-token .token .given .1) (at-if1 .if1 .left)
+    (no-fault-here (at-declared-fault .declared-fault .ensures) (at-is-accepted .is-accepted .ensures) (at-if2 .if2 .left)) (at-entry .entry .ensures) refl (c .body .ensures)
 
 pub function-spec : {M : Type 1} → statement M
 function-spec =

@@ -48,7 +48,8 @@ returns-2 c =
     let at-lex = at-is-end .before in
     let at-loop = at-lex .before in
     let k = at-loop .loop .inv in
-    function-stops k (comes _ outside _ _ (k .went .inside) (at-lex .lex .ensures)) (sym (at-is-end .is-end .ensures) ∙ at-if1 .if1 .left) (rw (c .before .fault .given .1) at (at-function .function .ensures))
+    function-stops k (comes _ outside _ _ (k .went .inside) (at-lex .lex .ensures)) (sym (at-is-end .is-end .ensures) ∙ at-if1 .if1 .left)
+    (rw (c .before .fault .given .1) at (at-function .function .ensures))
 
 enum-known-f : tie.Need-enum-known-f Inv-loop μ-loop
 enum-known-f c = search needs

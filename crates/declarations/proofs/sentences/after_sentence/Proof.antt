@@ -34,7 +34,8 @@ returns-2 c =
     let at-is-sign = at-if1 .before in
     let at-lex = at-is-sign .before in
     let entry = at-lex .before .before in
-    follows-nothing (comes _ inside _ _ (entry .pre) (at-lex .lex .ensures)) (sym (at-is-sign .is-sign .ensures) ∙ at-if1 .if1 .left) (sym (at-is-sign2 .is-sign2 .ensures) ∙ not-true _ (c .before .if2 .taken)) (c .refuse .ensures)
+    follows-nothing (comes _ inside _ _ (entry .pre) (at-lex .lex .ensures)) (sym (at-is-sign .is-sign .ensures) ∙ at-if1 .if1 .left)
+    (sym (at-is-sign2 .is-sign2 .ensures) ∙ not-true _ (c .before .if2 .taken)) (c .refuse .ensures)
 
 lex-requires-2 : tie.Need-lex-requires-2
 lex-requires-2 c κs = search needs

@@ -43,7 +43,8 @@ returns-2 c =
     let at-at = at-put .before .before .before in
     let at-pass = at-at .before .before in
     let entry = at-pass .before .before .before in
-    equals-reads _ (entry .args .table .now) (entry .args .symbols) (entry .args .parts) _ _ (rw (at-at .at .given .1) at (at-pass .pass .ensures)) (entry .pre .1) (at-put .put .ensures) (c .expression .ensures)
+    equals-reads _ (entry .args .table .now) (entry .args .symbols) (entry .args .parts) _ _ (rw (at-at .at .given .1) at (at-pass .pass .ensures)) (entry .pre .1)
+    (at-put .put .ensures) (c .expression .ensures)
 
 pub sentence-end-spec : {M : Type 1} → statement M
 sentence-end-spec =

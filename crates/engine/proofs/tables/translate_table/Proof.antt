@@ -41,7 +41,8 @@ returns-2 c =
     let at-number = at-translate .before .before .before in
     let at-read = at-number .before in
     let at-shared-slice-known = at-read .before .before .before .before in
-    rw (c .tell-of-buffer .ensures) (accepted-translated (at-read .read .ensures) (at-number .number .ensures) (at-shared-slice-known .shared-slice-known .given) (c .before .if1 .left) (at-translate .translate .ensures))
+    rw (c .tell-of-buffer .ensures) (accepted-translated (at-read .read .ensures) (at-number .number .ensures) (at-shared-slice-known .shared-slice-known .given)
+    (c .before .if1 .left) (at-translate .translate .ensures))
 
 pub translate-table-spec : {M : Type 1} → statement M
 translate-table-spec =

@@ -56,8 +56,11 @@ returns c =
     let at-is-emission = at-is-last .before in
     let at-name-size = at-is-emission .before in
     let entry = at-name-size .before .before .before .before .before .before .before in
-    let emission = at-is-emission .is-emission .ensures ∙ ap isEmission (name-words (entry .args .tape .now) (getD (entry .args .calls .now) (entry .args .walk .depth - 1) 0) (at-name-size .name-size .result) (at-name-size .name-size .ensures)) in
-    rw (c .past-call .ensures, ← emission, ← (at-is-last .is-last .ensures), c .before .goes-on .ensures, ← (at-manner-of .manner-of .ensures)) (at-write-ending .write-ending .ensures, refl)
+    let emission = at-is-emission .is-emission .ensures ∙ ap isEmission
+    (name-words (entry .args .tape .now) (getD (entry .args .calls .now) (entry .args .walk .depth - 1) 0) (at-name-size .name-size .result)
+    (at-name-size .name-size .ensures)) in
+    rw (c .past-call .ensures, ← emission, ← (at-is-last .is-last .ensures), c .before .goes-on .ensures, ← (at-manner-of .manner-of .ensures))
+    (at-write-ending .write-ending .ensures, refl)
 
 pub close-call-spec : {M : Type 1} → statement M
 close-call-spec =

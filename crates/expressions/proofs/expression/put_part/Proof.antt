@@ -36,7 +36,8 @@ returns c =
     let at-piece-span = at-put-span2 .before in
     let at-put-span = at-piece-span .before .before .before .before in
     let at-gap-of = at-put-span .before in
-    rw (← (at-gap-of .gap-of .ensures), ← (at-piece-span .piece-span .ensures)) (wrote-more (wrote-more (at-put-span .put-span .ensures) (at-put-span2 .put-span2 .ensures)) (at-put-operands .put-operands .ensures))
+    rw (← (at-gap-of .gap-of .ensures), ← (at-piece-span .piece-span .ensures))
+    (wrote-more (wrote-more (at-put-span .put-span .ensures) (at-put-span2 .put-span2 .ensures)) (at-put-operands .put-operands .ensures))
 
 pub put-part-spec : {M : Type 1} → statement M
 put-part-spec =

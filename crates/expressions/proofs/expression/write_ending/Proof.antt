@@ -47,7 +47,10 @@ returns c =
     let at-enum-told = at-write-emission .before .before in
     let at-name-size = at-enum-told .before .before .before in
     let entry = at-name-size .before .before .before .before in
-    rw (at-enum-told .enum-told .given .1) (rw (name-words (entry .args .tape .now) (entry .args .head) (at-name-size .name-size .result) (at-name-size .name-size .ensures), at-name-size .name-size .ensures) at (at-write-emission .write-emission .ensures))
+    rw (at-enum-told .enum-told .given .1) (rw (
+      name-words (entry .args .tape .now) (entry .args .head) (at-name-size .name-size .result) (at-name-size .name-size .ensures),
+      at-name-size .name-size .ensures,
+    ) at (at-write-emission .write-emission .ensures))
 
 same-length-2 : tie.Need-same-length-2
 same-length-2 c = search needs
@@ -59,7 +62,11 @@ returns-2 c =
     let at-find = at-enum-told2 .before .before in
     let at-name-size = at-find .before in
     let entry = at-name-size .before .before .before .before in
-    rw (at-enum-told2 .enum-told2 .given .1, ← (found-among (entry .args .tape .now) (entry .args .heads .now) (entry .args .head) (at-name-size .name-size .result) (at-find .find .result) (at-find .find .ensures .0) (at-name-size .name-size .ensures))) (at-write-tail-call .write-tail-call .ensures)
+    rw (
+      at-enum-told2 .enum-told2 .given .1,
+      ← (found-among (entry .args .tape .now) (entry .args .heads .now) (entry .args .head) (at-name-size .name-size .result) (at-find .find .result)
+          (at-find .find .ensures .0) (at-name-size .name-size .ensures)),
+    ) (at-write-tail-call .write-tail-call .ensures)
 
 same-length-3 : tie.Need-same-length-3
 same-length-3 c = search needs
@@ -71,7 +78,11 @@ returns-3 c =
     let at-find = at-enum-told3 .before .before in
     let at-name-size = at-find .before in
     let entry = at-name-size .before .before .before .before in
-    rw (at-enum-told3 .enum-told3 .given .1, ← (found-among (entry .args .tape .now) (entry .args .heads .now) (entry .args .head) (at-name-size .name-size .result) (at-find .find .result) (at-find .find .ensures .0) (at-name-size .name-size .ensures))) (at-write-call .write-call .ensures)
+    rw (
+      at-enum-told3 .enum-told3 .given .1,
+      ← (found-among (entry .args .tape .now) (entry .args .heads .now) (entry .args .head) (at-name-size .name-size .result) (at-find .find .result)
+          (at-find .find .ensures .0) (at-name-size .name-size .ensures)),
+    ) (at-write-call .write-call .ensures)
 
 pub write-ending-spec : {M : Type 1} → statement M
 write-ending-spec =

@@ -47,7 +47,8 @@ open-call-requires c κs =
     let at-enum-told4 = c .before .before in
     let at-item-at = at-enum-told4 .before .before .before in
     let entry = at-item-at .before .before .before .before .before .before in
-    let (read, deep) = tells (entry .pre .3) Call (sym (at-item-at .item-at .ensures) ∙ at-enum-told4 .enum-told4 .given .1) in (omega (arith, entry .pre .3 .room), read .inside, read .room, entry .pre .4)
+    let (read, deep) = tells (entry .pre .3) Call (sym (at-item-at .item-at .ensures) ∙ at-enum-told4 .enum-told4 .given .1) in
+    (omega (arith, entry .pre .3 .room), read .inside, read .room, entry .pre .4)
 
 enum-told-5 : tie.Need-enum-told-5
 enum-told-5 c = search needs
@@ -93,7 +94,8 @@ returns c =
     let at-enum-told = at-write-character .before .before in
     let at-item-at = at-enum-told .before .before .before in
     let entry = at-item-at .before .before .before .before .before .before in
-    rw (at-write-character .write-character .ensures .1) (character-on _ _ _ _ _ _ (entry .pre .3) (sym (at-item-at .item-at .ensures) ∙ at-enum-told .enum-told .given .1) (at-write-character .write-character .ensures .0))
+    rw (at-write-character .write-character .ensures .1)
+    (character-on _ _ _ _ _ _ (entry .pre .3) (sym (at-item-at .item-at .ensures) ∙ at-enum-told .enum-told .given .1) (at-write-character .write-character .ensures .0))
 
 same-length-2 : tie.Need-same-length-2
 same-length-2 c = search needs
@@ -104,7 +106,8 @@ returns-2 c =
     let at-enum-told2 = at-write-value .before .before in
     let at-item-at = at-enum-told2 .before .before .before in
     let entry = at-item-at .before .before .before .before .before .before in
-    rw (at-write-value .write-value .ensures .1) (value-on _ _ _ _ _ _ (entry .pre .3) (sym (at-item-at .item-at .ensures) ∙ at-enum-told2 .enum-told2 .given .1) (at-write-value .write-value .ensures .0))
+    rw (at-write-value .write-value .ensures .1) (value-on _ _ _ _ _ _ (entry .pre .3) (sym (at-item-at .item-at .ensures) ∙ at-enum-told2 .enum-told2 .given .1)
+    (at-write-value .write-value .ensures .0))
 
 same-length-3 : tie.Need-same-length-3
 same-length-3 c = search needs
@@ -115,7 +118,8 @@ returns-3 c =
     let at-enum-told3 = at-write-part .before .before in
     let at-item-at = at-enum-told3 .before .before .before in
     let entry = at-item-at .before .before .before .before .before .before in
-    rw (at-write-part .write-part .ensures .1) (part-on _ _ _ _ _ _ (entry .pre .3) (sym (at-item-at .item-at .ensures) ∙ at-enum-told3 .enum-told3 .given .1) (at-write-part .write-part .ensures .0))
+    rw (at-write-part .write-part .ensures .1) (part-on _ _ _ _ _ _ (entry .pre .3) (sym (at-item-at .item-at .ensures) ∙ at-enum-told3 .enum-told3 .given .1)
+    (at-write-part .write-part .ensures .0))
 
 same-length-4 : tie.Need-same-length-4
 same-length-4 c = search needs
@@ -129,7 +133,8 @@ returns-4 c =
     let at-enum-told4 = at-open-call .before .before .before in
     let at-item-at = at-enum-told4 .before .before .before in
     let entry = at-item-at .before .before .before .before .before .before in
-    rw (at-open-call .open-call .ensures .1 .0, at-open-call .open-call .ensures .1 .1) (open-on _ _ _ _ _ _ (entry .pre .3) (sym (at-item-at .item-at .ensures) ∙ at-enum-told4 .enum-told4 .given .1) (at-open-call .open-call .ensures .0))
+    rw (at-open-call .open-call .ensures .1 .0, at-open-call .open-call .ensures .1 .1)
+    (open-on _ _ _ _ _ _ (entry .pre .3) (sym (at-item-at .item-at .ensures) ∙ at-enum-told4 .enum-told4 .given .1) (at-open-call .open-call .ensures .0))
 
 returns-5 : tie.Need-returns-5
 returns-5 c =
@@ -149,7 +154,8 @@ returns-6 c =
     let at-enum-told6 = at-close-call .before .before .before .before in
     let at-item-at = at-enum-told6 .before .before .before in
     let entry = at-item-at .before .before .before .before .before .before in
-    rw (at-close-call .close-call .ensures .1) (closed-on _ _ _ _ _ _ (entry .pre .3) (sym (at-item-at .item-at .ensures) ∙ at-enum-told6 .enum-told6 .given .1) (at-close-call .close-call .ensures .0))
+    rw (at-close-call .close-call .ensures .1) (closed-on _ _ _ _ _ _ (entry .pre .3) (sym (at-item-at .item-at .ensures) ∙ at-enum-told6 .enum-told6 .given .1)
+    (at-close-call .close-call .ensures .0))
 
 same-length-8 : tie.Need-same-length-8
 same-length-8 c = search needs
@@ -163,7 +169,8 @@ returns-7 c =
     let at-enum-told7 = at-close-call2 .before .before .before in
     let at-item-at = at-enum-told7 .before .before .before in
     let entry = at-item-at .before .before .before .before .before .before in
-    rw (at-close-call2 .close-call2 .ensures .1) (unclosed-on _ _ _ _ _ _ (entry .pre .3) (sym (at-item-at .item-at .ensures) ∙ at-enum-told7 .enum-told7 .given .1) (at-close-call2 .close-call2 .ensures .0))
+    rw (at-close-call2 .close-call2 .ensures .1) (unclosed-on _ _ _ _ _ _ (entry .pre .3) (sym (at-item-at .item-at .ensures) ∙ at-enum-told7 .enum-told7 .given .1)
+    (at-close-call2 .close-call2 .ensures .0))
 
 same-length-10 : tie.Need-same-length-10
 same-length-10 c = search needs
@@ -174,7 +181,8 @@ returns-8 c =
     let at-enum-told8 = at-end-actions .before .before in
     let at-item-at = at-enum-told8 .before .before .before in
     let entry = at-item-at .before .before .before .before .before .before in
-    rw (at-end-actions .end-actions .ensures .1) (end-on _ _ _ _ _ _ (entry .pre .3) (sym (at-item-at .item-at .ensures) ∙ at-enum-told8 .enum-told8 .given .1) (at-end-actions .end-actions .ensures .0))
+    rw (at-end-actions .end-actions .ensures .1) (end-on _ _ _ _ _ _ (entry .pre .3) (sym (at-item-at .item-at .ensures) ∙ at-enum-told8 .enum-told8 .given .1)
+    (at-end-actions .end-actions .ensures .0))
 
 pub write-item-spec : {M : Type 1} → statement M
 write-item-spec =

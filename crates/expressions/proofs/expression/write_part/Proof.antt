@@ -41,7 +41,8 @@ returns c =
     let at-name-is = at-put-part .before .before .before in
     let at-name-size = at-name-is .before .before in
     let entry = at-name-size .before .before .before in
-    let first = at-name-is .name-is .ensures ∙ ap (λ x. sameBytes x (headName (entry .args .tape .now) (entry .args .m .variable))) (name-words (entry .args .tape .now) (entry .args .walk .next) (at-name-size .name-size .result) (at-name-size .name-size .ensures)) in
+    let first = at-name-is .name-is .ensures ∙ ap (λ x. sameBytes x (headName (entry .args .tape .now) (entry .args .m .variable)))
+    (name-words (entry .args .tape .now) (entry .args .walk .next) (at-name-size .name-size .result) (at-name-size .name-size .ensures)) in
     rw (c .past-item .ensures, c .before .stand-after .ensures, ← first, ← (at-name-size .name-size .ensures)) (at-put-part .put-part .ensures, refl)
 
 pub write-part-spec : {M : Type 1} → statement M

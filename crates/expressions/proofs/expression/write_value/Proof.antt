@@ -40,7 +40,8 @@ returns c =
     let at-find = at-less .before in
     let at-name-size = at-find .before .before in
     let entry = at-name-size .before .before .before .before in
-    let found = found-among (entry .args .tape .now) (entry .args .names .now) (entry .args .walk .next) (at-name-size .name-size .result) (at-find .find .result) (at-find .find .ensures .0) (at-name-size .name-size .ensures) in
+    let found = found-among (entry .args .tape .now) (entry .args .names .now) (entry .args .walk .next) (at-name-size .name-size .result) (at-find .find .result)
+    (at-find .find .ensures .0) (at-name-size .name-size .ensures) in
     rw (c .past-item .ensures, ← found, ← (at-less .less .ensures), ← (at-name-size .name-size .ensures)) (at-put-operands .put-operands .ensures, refl)
 
 pub write-value-spec : {M : Type 1} → statement M

@@ -148,23 +148,28 @@ module _ {M : Type 1} (𝓤 : URA M) (H : Heap 𝓤) (A : Atoms 𝓤) (W : Given
   said t = exE 𝓤 _ (λ ws. snd∗ 𝓤 (sem 𝓤 H A (lasts lex.ended (κ′, tt) (h .text, (h .at, (mode, tt))) ws)) (fact 𝓤 (Told t)))
 
   -- what the reader and the mode own gives what `lex` asks, and what the reader owns is kept
-  apart : h .at < 2 ^ 64 → ent 𝓤 (sep 𝓤 (sep 𝓤 (A .lft κ′ (qs .1 .0)) (emp 𝓤)) (sep 𝓤 (sem 𝓤 H A (owns (K.the-row ∷ []) (mode, tt) (kind, tt))) (sem 𝓤 H A Own))) (sep 𝓤 (Lex 𝓤 H A at-mem run .pre to-lex) (sem 𝓤 H A Own))
+  apart : h .at < 2 ^ 64 → ent 𝓤 (sep 𝓤 (sep 𝓤 (A .lft κ′ (qs .1 .0)) (emp 𝓤)) (sep 𝓤 (sem 𝓤 H A (owns (K.the-row ∷ []) (mode, tt) (kind, tt))) (sem 𝓤 H A Own)))
+      (sep 𝓤 (Lex 𝓤 H A at-mem run .pre to-lex) (sem 𝓤 H A Own))
   apart fits =
       qed W ((‵ (flft κ′ (qs .1 .0)) ⊛ ‵ ftrue) ∷ ‵ (owns (K.the-row ∷ []) (mode, tt) (kind, tt)) ∷ ‵ Own ∷ []) ∵
       move ! (2 ∷ []) $ use1 W (‵ Own ⊛ ‵ Own) (LL.copy D (T′.the-copy α) 𝓤 H A W .twice h (T′.lowered h ∷ [])) $ split ! $
       use1 W (given (T′.lowered h ∷ [] ≡ T′.lowered h ∷ []) (‵ (all-own (D .parts) L vd))) (own-open 𝓤 H A W D L vd (T′.lowered h)) $ learn ! (λ _.
       use1 W (‵ (ownAt (D .parts) L 0 (h .text)) ⊛ ‵ (rest (D .parts) L 0 vd)) (own-out 𝓤 H A W (D .parts) L 0 vd) $ split ! $ move ! (1 ∷ []) $ drop ! $
       -- [what the text's borrow owns; what the reader owns; the token; what the mode owns]
-      move ! (3 ∷ []) $ owned ! usize (Is usize) (uint-makes 𝓤 H A W w64) (h .at) _ (refl, fits) $ fjoin ! $ move ! (1 ∷ 0 ∷ []) $ fjoin ! $ move ! (2 ∷ 0 ∷ []) $ join ! $ nothing ! $ move ! (1 ∷ 0 ∷ []) $ join ! $ frame ! $ done !)
+      move ! (3 ∷ []) $ owned ! usize (Is usize) (uint-makes 𝓤 H A W w64) (h .at) _ (refl, fits) $ fjoin ! $ move ! (1 ∷ 0 ∷ []) $ fjoin ! $ move ! (2 ∷ 0 ∷ []) $
+      join ! $ nothing ! $ move ! (1 ∷ 0 ∷ []) $ join ! $ frame ! $ done !)
 
   -- what the text's borrow owns is kept, and the place's facts are made anew
   goes-on : (n : ℕ) → n < 2 ^ 64 → ent 𝓤 (sem 𝓤 H A Own) (sem 𝓤 H A (R .own (gone n) (T′.lowered (gone n) ∷ [])))
   goes-on n fits = qed W (‵ Own ∷ []) ∵ owned ! usize (Is usize) (uint-makes 𝓤 H A W w64) n _ (refl, fits) $ move ! (1 ∷ 0 ∷ []) $ by ! (own-put 𝓤 H A W D L 1 vd n (T′.lowered h))
 
-  exits : (t : Placed) → Told t → ent 𝓤 (⋆ 𝓤 H A (‵ (P.the-row .own t (LL.vals P.the-type P′.the-laws t)) ∷ ‵ (fobs γ (R .coded .code (gone (t .past)))) ∷ ‵ (fbor (κs .0) (Body (mem R) b o γ)) ∷ ‵ (flft (κs .0) (qs .0)) ∷ (‵ (flft κ′ (qs .1 .0)) ⊛ ‵ ftrue) ∷ [])) (Post (LL.val P.the-type P′.the-laws t))
+  exits : (t : Placed) → Told t → ent 𝓤 (⋆ 𝓤 H A (‵ (P.the-row .own t (LL.vals P.the-type P′.the-laws t)) ∷ ‵ (fobs γ (R .coded .code (gone (t .past)))) ∷
+      ‵ (fbor (κs .0) (Body (mem R) b o γ)) ∷ ‵ (flft (κs .0) (qs .0)) ∷ (‵ (flft κ′ (qs .1 .0)) ⊛ ‵ ftrue) ∷ [])) (Post (LL.val P.the-type P′.the-laws t))
   exits t told =
-      qed W (‵ (P.the-row .own t (LL.vals P.the-type P′.the-laws t)) ∷ ‵ (fobs γ (R .coded .code (gone (t .past)))) ∷ ‵ (fbor (κs .0) (Body (mem R) b o γ)) ∷ ‵ (flft (κs .0) (qs .0)) ∷ (‵ (flft κ′ (qs .1 .0)) ⊛ ‵ ftrue) ∷ []) ∵
-      suffices ! _ (ends-at 𝓤 H A token.ended stayed (token.clauses 𝓤 H A at-mem run) W ((κs, qs, bounds, a, vss), tt) (LL.val P.the-type P′.the-laws t) t (gone (t .past), (tt, tt)) (tt, (tt, tt))) $ says ! (record { shows = told; moved = refl }) $
+      qed W (‵ (P.the-row .own t (LL.vals P.the-type P′.the-laws t)) ∷ ‵ (fobs γ (R .coded .code (gone (t .past)))) ∷ ‵ (fbor (κs .0) (Body (mem R) b o γ)) ∷
+      ‵ (flft (κs .0) (qs .0)) ∷ (‵ (flft κ′ (qs .1 .0)) ⊛ ‵ ftrue) ∷ []) ∵
+      suffices ! _ (ends-at 𝓤 H A token.ended stayed (token.clauses 𝓤 H A at-mem run) W ((κs, qs, bounds, a, vss), tt) (LL.val P.the-type P′.the-laws t) t
+      (gone (t .past), (tt, tt)) (tt, (tt, tt))) $ says ! (record { shows = told; moved = refl }) $
       move ! (3 ∷ 4 ∷ []) $ join ! $ frame ! $ move ! (1 ∷ 2 ∷ []) $ feqI ! (List Val) (ptr-vals (a .0)) (ptr-vals (a .0)) refl $ fjoin3 ! $
       nothing ! $ nothing ! $ fjoin ! $ move ! (1 ∷ 0 ∷ []) $ fjoin ! $ done !
 
@@ -180,35 +185,46 @@ module _ {M : Type 1} (𝓤 : URA M) (H : Heap 𝓤) (A : Atoms 𝓤) (W : Given
         use1 W (‵ (fat fullShare (T′.mir erased) b o (T′.lowered h))) (W .laws .raw-at fullShare (T′.mir erased) b o (T′.lowered h)) $
         move ! (1 ∷ []) $ peeks ! R (Is R) (shows 𝓤 H A R) h (T′.lowered h ∷ []) (λ was. move ! (1 ∷ 0 ∷ []) $
         -- [the reader's cell; what it owns; the open borrow; obs; auth; the text's token; what the mode owns; _5; …; room for _0; …]
-        assigns ! (of-opd ! (load ! (from ! (hop ! (look ! 15 refl) (fld ! refl (stop !)))) (look-in ! 0 (sub ! 0 refl (whole !))))) (from ! (stop !)) (init ! 9 refl (shr-slice-lawful 𝓤 H A W (named 1) κ′ u8 .typed (h .text) _ (LL.owed D L h _ was .0) .0)) $
-        assigns ! (of-opd ! (load ! (from ! (hop ! (look ! 15 refl) (fld ! refl (stop !)))) (look-in ! 0 (sub ! 1 refl (whole !))))) (from ! (stop !)) (init ! 7 refl (tt, record { fits = LL.owed D L h _ was .1 .0 .1 })) $
+        assigns ! (of-opd ! (load ! (from ! (hop ! (look ! 15 refl) (fld ! refl (stop !)))) (look-in ! 0 (sub ! 0 refl (whole !))))) (from ! (stop !))
+        (init ! 9 refl (shr-slice-lawful 𝓤 H A W (named 1) κ′ u8 .typed (h .text) _ (LL.owed D L h _ was .0) .0)) $
+        assigns ! (of-opd ! (load ! (from ! (hop ! (look ! 15 refl) (fld ! refl (stop !)))) (look-in ! 0 (sub ! 1 refl (whole !))))) (from ! (stop !))
+        (init ! 7 refl (tt, record { fits = LL.owed D L h _ was .1 .0 .1 })) $
         -- `lex` is called on the text and the place
         move ! (5 ∷ 6 ∷ 1 ∷ []) $ use3 W (raw (Lex 𝓤 H A at-mem run .pre to-lex) ⊛ ‵ Own) (apart (LL.owed D L h _ was .1 .0 .1)) $ split ! $
-        calls-at ! fm (Lex 𝓤 H A at-mem run) known to-lex (and-then ! (load ! (from ! (stop !)) (look ! 8 refl)) (and-then ! (load ! (from ! (stop !)) (look ! 6 refl)) (and-then ! (load ! (from ! (stop !)) (look ! 12 refl)) (no-more !)))) (λ u.
-        use1 W (later (some (λ (t : Placed). ((‵ (flft κ′ (qs .1 .0)) ⊛ ‵ ftrue) ⊛ ‵ (P.the-row .own t (u ∷ []))) ⊛ raw (ensured 𝓤 H A lex.ended (lex.clauses 𝓤 H A at-mem run) (κ′, tt) (h .text, (h .at, (mode, tt))) tt t)))) (id⊢ 𝓤 _) $ await ! tt $ pick ! (λ t.
+        calls-at ! fm (Lex 𝓤 H A at-mem run) known to-lex (and-then ! (load ! (from ! (stop !)) (look ! 8 refl))
+        (and-then ! (load ! (from ! (stop !)) (look ! 6 refl)) (and-then ! (load ! (from ! (stop !)) (look ! 12 refl)) (no-more !)))) (λ u.
+        use1 W (later (some (λ (t : Placed). ((‵ (flft κ′ (qs .1 .0)) ⊛ ‵ ftrue) ⊛ ‵ (P.the-row .own t (u ∷ []))) ⊛
+        raw (ensured 𝓤 H A lex.ended (lex.clauses 𝓤 H A at-mem run) (κ′, tt) (h .text, (h .at, (mode, tt))) tt t)))) (id⊢ 𝓤 _) $ await ! tt $ pick ! (λ t.
         split ! $ move ! (1 ∷ []) $ use1 W (raw (fact 𝓤 (Told t))) (said t) $ heard ! (Told t) (λ told. split ! $ move ! (1 ∷ []) $
         -- [what the token's place owns; the text's token; what the reader owns; its cell; the open borrow; obs; auth; _5; …]
         peeks ! P.the-row (Is P.the-row) (shows 𝓤 H A P.the-row) t (u ∷ []) (λ is.
         land ! (from ! (stop !)) (init ! 11 refl (LL.lawful P.the-type P′.the-laws 𝓤 H A W .typed t _ is .0)) $
-        rewrite ! 11 (λ (w : Val). ‵ (fat fullShare P′.mir l₃ 0 w)) (ap only (LL.tells P.the-type P′.the-laws t _ is)) refl $ rewrite ! 0 (λ (ws : List Val). ‵ (P.the-row .own t ws)) (LL.tells P.the-type P′.the-laws t _ is) refl $
+        rewrite ! 11 (λ (w : Val). ‵ (fat fullShare P′.mir l₃ 0 w)) (ap only (LL.tells P.the-type P′.the-laws t _ is)) refl $
+        rewrite ! 0 (λ (ws : List Val). ‵ (P.the-row .own t ws)) (LL.tells P.the-type P′.the-laws t _ is) refl $
         -- the place after the token is stored, and the borrow is closed
-        assigns ! (of-opd ! (load ! (from ! (fld ! refl (stop !))) (look-in ! 11 (sub ! 2 refl (whole !))))) (from ! (hop ! (look ! 15 refl) (fld ! refl (stop !)))) (store-in ! 3 (sub ! 1 refl (whole !)) (tt, record { fits = LL.owed P.the-type P′.the-laws t _ is .1 .1 .0 .1 })) $
-        assigns ! (of-opd ! (load ! (from ! (stop !)) (look ! 11 refl))) (from ! (stop !)) (init ! 17 refl (LL.lawful P.the-type P′.the-laws 𝓤 H A W .typed t _ (LL.owes P.the-type P′.the-laws t (LL.owed P.the-type P′.the-laws t _ is)) .0)) $
+        assigns ! (of-opd ! (load ! (from ! (fld ! refl (stop !))) (look-in ! 11 (sub ! 2 refl (whole !))))) (from ! (hop ! (look ! 15 refl) (fld ! refl (stop !))))
+        (store-in ! 3 (sub ! 1 refl (whole !)) (tt, record { fits = LL.owed P.the-type P′.the-laws t _ is .1 .1 .0 .1 })) $
+        assigns ! (of-opd ! (load ! (from ! (stop !)) (look ! 11 refl))) (from ! (stop !))
+        (init ! 17 refl (LL.lawful P.the-type P′.the-laws 𝓤 H A W .typed t _ (LL.owes P.the-type P′.the-laws t (LL.owed P.the-type P′.the-laws t _ is)) .0)) $
         move ! (2 ∷ []) $ use1 W (‵ (R .own (gone (t .past)) (T′.lowered (gone (t .past)) ∷ []))) (goes-on (t .past) (LL.owed P.the-type P′.the-laws t _ is .1 .1 .0 .1)) $
-        move ! (3 ∷ []) $ use1 W (‵ (cellAt fullShare (R .mir) (T′.lowered (gone (t .past)) ∷ []) b o)) (W .laws .at-raw fullShare (T′.mir erased) b o (T′.lowered (gone (t .past)))) $
+        move ! (3 ∷ []) $ use1 W (‵ (cellAt fullShare (R .mir) (T′.lowered (gone (t .past)) ∷ []) b o))
+        (W .laws .at-raw fullShare (T′.mir erased) b o (T′.lowered (gone (t .past)))) $
         move ! (0 ∷ 1 ∷ 4 ∷ 5 ∷ 6 ∷ []) $ closes ! tt R (gone (t .past)) (T′.lowered (gone (t .past)) ∷ []) b o $
         returns ! (look ! 15 refl) $ forget ! 5 refl $ forget ! 7 refl $ forget ! 9 refl $ forget ! 11 refl $ forget ! 13 refl $ forget ! 15 refl $
-        move ! (15 ∷ 16 ∷ []) $ free1 ! $ move ! (13 ∷ 14 ∷ []) $ free1 ! $ move ! (11 ∷ 12 ∷ []) $ free1 ! $ move ! (9 ∷ 10 ∷ []) $ free1 ! $ move ! (7 ∷ 8 ∷ []) $ free1 ! $ move ! (5 ∷ 6 ∷ []) $ free1 ! $ free0 ! $
+        move ! (15 ∷ 16 ∷ []) $ free1 ! $ move ! (13 ∷ 14 ∷ []) $ free1 ! $ move ! (11 ∷ 12 ∷ []) $ free1 ! $ move ! (9 ∷ 10 ∷ []) $ free1 ! $ move ! (7 ∷ 8 ∷ []) $
+        free1 ! $ move ! (5 ∷ 6 ∷ []) $ free1 ! $ free0 ! $
         move ! (3 ∷ 0 ∷ 1 ∷ 2 ∷ []) $ by ! (exits t told)))))))))))))
 
 module _ {M : Type 1} (𝓤 : URA M) (H : Heap 𝓤) (A : Atoms 𝓤) (W : Given 𝓤 H A) (mem : Memory → SProp 𝓤) (run : Routine → Fun 𝓤) where
-  token-walks : (C : Calls 𝓤 H) (Λ : Loops 𝓤 H) → FmC 𝓤 H (W .laws) C → Triple 𝓤 (C #lexing·lex) (Lex 𝓤 H A mem run) → Walks 𝓤 H A token.ended stayed (WpFn 𝓤 H C Λ code.function) (token.clauses 𝓤 H A mem run)
+  token-walks : (C : Calls 𝓤 H) (Λ : Loops 𝓤 H) → FmC 𝓤 H (W .laws) C → Triple 𝓤 (C #lexing·lex) (Lex 𝓤 H A mem run) →
+      Walks 𝓤 H A token.ended stayed (WpFn 𝓤 H C Λ code.function) (token.clauses 𝓤 H A mem run)
   token-walks C Λ fm known =
       walked 𝓤 H A token.ended stayed (token.clauses 𝓤 H A mem run) (WpFn 𝓤 H C Λ code.function) (λ κs. (ptr-vals, (EL.vals K.the-type K′.the-laws, tt)))
       (λ κs. (mut-tells (named 0) (κs .0) (T.the-row (namedLft 2 1 tt κs)), (EL.tells K.the-type K′.the-laws, tt)))
       (λ κs qs bounds a g are. via 𝓤 _ (fst∗ 𝓤 _ (emp 𝓤)) (walk 𝓤 H A W mem run κs qs bounds a are C Λ fm known))
 
-token-meets : {M : Type 1} (𝓤 : URA M) (H : Heap 𝓤) (A : Atoms 𝓤) → Given 𝓤 H A → (mem : Memory → SProp 𝓤) (run : Routine → Fun 𝓤) (𝓣 : Tables 𝓤 H) → Triple 𝓤 (𝓣 .C #lexing·lex) (Lex 𝓤 H A mem run)
+token-meets : {M : Type 1} (𝓤 : URA M) (H : Heap 𝓤) (A : Atoms 𝓤) → Given 𝓤 H A → (mem : Memory → SProp 𝓤) (run : Routine → Fun 𝓤) (𝓣 : Tables 𝓤 H) →
+    Triple 𝓤 (𝓣 .C #lexing·lex) (Lex 𝓤 H A mem run)
     → Meets 𝓤 H A token.signature (WpFn 𝓤 H (𝓣 .C) (𝓣 .Λ) code.function) (token.spec 𝓤 H A mem run)
 token-meets 𝓤 H A W mem run 𝓣 known =
     walk-meets 𝓤 H A token.ended stayed W (goes-ref 𝓤 H A W 2 0 tt behind, (goes-dropped 𝓤 H A W 2 chosen yes (λ κs x f. refl), tt)) (token.clauses 𝓤 H A mem run)

@@ -100,7 +100,16 @@ returns-9 : tie.Need-returns-9
 returns-9 c =
     let at-list-parted4 = c .before .before in
     let at-match = at-list-parted4 .before .before in
-    rw (ne-eqb _ _ (at-match .match .rest .0 .0 .0 .0 .0 .0 .0 .1), ne-eqb _ _ (at-match .match .rest .0 .0 .0 .0 .0 .0 .1), ne-eqb _ _ (at-match .match .rest .0 .0 .0 .0 .0 .1), ne-eqb _ _ (at-match .match .rest .0 .0 .0 .0 .1), ne-eqb _ _ (at-match .match .rest .0 .0 .0 .1), ne-eqb _ _ (at-match .match .rest .0 .0 .1), ne-eqb _ _ (at-match .match .rest .0 .1), ne-eqb _ _ (at-match .match .rest .1)) (at-list-parted4 .list-parted4 .ensures)
+    rw (
+      ne-eqb _ _ (at-match .match .rest .0 .0 .0 .0 .0 .0 .0 .1),
+      ne-eqb _ _ (at-match .match .rest .0 .0 .0 .0 .0 .0 .1),
+      ne-eqb _ _ (at-match .match .rest .0 .0 .0 .0 .0 .1),
+      ne-eqb _ _ (at-match .match .rest .0 .0 .0 .0 .1),
+      ne-eqb _ _ (at-match .match .rest .0 .0 .0 .1),
+      ne-eqb _ _ (at-match .match .rest .0 .0 .1),
+      ne-eqb _ _ (at-match .match .rest .0 .1),
+      ne-eqb _ _ (at-match .match .rest .1),
+    ) (at-list-parted4 .list-parted4 .ensures)
 
 pub list-kind-spec : {M : Type 1} → statement M
 list-kind-spec =

@@ -37,7 +37,8 @@ loop-again c =
     let at-loop-test = at-list-word .before .before .before in
     let at-loop = at-loop-test .before in
     let entry = at-loop .before .before .before in
-    lists-word (at-loop .loop .inv) (rw (length-take-le _ _ (entry .pre .there)) (at-loop-test .loop-test .taken)) (rw (getD-take _ _ _ _ (at-loop-test .loop-test .taken)) (at-list-word .list-word .ensures))
+    lists-word (at-loop .loop .inv) (rw (length-take-le _ _ (entry .pre .there)) (at-loop-test .loop-test .taken))
+    (rw (getD-take _ _ _ _ (at-loop-test .loop-test .taken)) (at-list-word .list-word .ensures))
 
 same-length : tie.Need-same-length Inv-loop μ-loop
 same-length c = c .before .loop .inv .same

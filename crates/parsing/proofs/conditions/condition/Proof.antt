@@ -78,7 +78,8 @@ returns-4 c =
     let at-pass = at-at .before .before in
     let entry = at-pass .before .before .before in
     let p = entry .pre in
-    class-not (p .1) (p .0) (at-pass .pass .ensures) (at-at .at .given .1) (at-lex .lex .ensures) (at-token .token .given .1) (at-if1 .if1 .left) (rw (c .if2 .taken) at (c .before .class-named .ensures .0))
+    class-not (p .1) (p .0) (at-pass .pass .ensures) (at-at .at .given .1) (at-lex .lex .ensures) (at-token .token .given .1) (at-if1 .if1 .left)
+    (rw (c .if2 .taken) at (c .before .class-named .ensures .0))
 
 condition-on-requires : tie.Need-condition-on-requires
 condition-on-requires c κs =
@@ -106,7 +107,8 @@ returns-5 c =
     let p = entry .pre in
     let l = at-class-named .class-named .ensures .1 in
     let d = at-if2 .if2 .left in
-    class-reads (p .1) (p .0) (at-pass .pass .ensures) (at-at .at .given .1) (at-lex .lex .ensures) (at-token .token .given .1) (at-if1 .if1 .left) (at-class-named .class-named .result) (omega arith) (at-class-named .class-named .ensures .0) (c .condition-on .ensures)
+    class-reads (p .1) (p .0) (at-pass .pass .ensures) (at-at .at .given .1) (at-lex .lex .ensures) (at-token .token .given .1) (at-if1 .if1 .left)
+    (at-class-named .class-named .result) (omega arith) (at-class-named .class-named .ensures .0) (c .condition-on .ensures)
 
 pub condition-spec : {M : Type 1} → statement M
 condition-spec =

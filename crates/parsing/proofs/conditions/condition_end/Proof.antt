@@ -60,7 +60,9 @@ returns-3 c =
     let at-at = at-pass2 .before .before in
     let at-pass = at-at .before .before in
     let entry = at-pass .before .before in
-    λ k e. let t = rw (at-at2 .at2 .given .1) at (at-pass2 .pass2 .ensures) in end-no-truth _ _ (entry .args .x) k (rw (at-at .at .given .1) at (at-pass .pass .ensures)) t (comes _ inside _ _ (t .inside) (at-lex .lex .ensures)) (at-truth-in .truth-in .ensures) (c .before .if1 .taken) (c .refuse .ensures)
+    λ k e. let t = rw (at-at2 .at2 .given .1) at (at-pass2 .pass2 .ensures) in
+    end-no-truth _ _ (entry .args .x) k (rw (at-at .at .given .1) at (at-pass .pass .ensures)) t (comes _ inside _ _ (t .inside) (at-lex .lex .ensures))
+    (at-truth-in .truth-in .ensures) (c .before .if1 .taken) (c .refuse .ensures)
 
 sub-word : tie.Need-sub-word
 sub-word c = search needs
@@ -93,7 +95,9 @@ returns-4 c =
     let at-at = at-pass2 .before .before in
     let at-pass = at-at .before .before in
     let entry = at-pass .before .before in
-    λ k e. let t = rw (at-at2 .at2 .given .1) at (at-pass2 .pass2 .ensures) in let p = entry .pre in end-reads _ _ (entry .args .x) k (rw (at-at .at .given .1) at (at-pass .pass .ensures)) t (comes _ inside _ _ (t .inside) (at-lex .lex .ensures)) (at-truth-in .truth-in .ensures) (p .0) (p .1) (p .2) e (at-if1 .if1 .left) refl (c .put-named .ensures)
+    λ k e. let t = rw (at-at2 .at2 .given .1) at (at-pass2 .pass2 .ensures) in let p = entry .pre in
+    end-reads _ _ (entry .args .x) k (rw (at-at .at .given .1) at (at-pass .pass .ensures)) t (comes _ inside _ _ (t .inside) (at-lex .lex .ensures))
+    (at-truth-in .truth-in .ensures) (p .0) (p .1) (p .2) e (at-if1 .if1 .left) refl (c .put-named .ensures)
 
 pub condition-end-spec : {M : Type 1} → statement M
 condition-end-spec =

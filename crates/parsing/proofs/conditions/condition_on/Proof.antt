@@ -37,7 +37,8 @@ returns-2 c =
     let at-lex = at-token .before .before in
     let entry = at-lex .before .before .before in
     let p = entry .pre in
-    λ k e. on-wrong (p .1) (p .0) (at-lex .lex .ensures) (at-token .token .given .1) k (at-later-symbol-fault .later-symbol-fault .ensures) (c .before .is-accepted .ensures) (c .if1 .taken)
+    λ k e. on-wrong (p .1) (p .0) (at-lex .lex .ensures) (at-token .token .given .1) k (at-later-symbol-fault .later-symbol-fault .ensures)
+    (c .before .is-accepted .ensures) (c .if1 .taken)
 
 condition-end-requires : tie.Need-condition-end-requires
 condition-end-requires c κs =
@@ -47,7 +48,8 @@ condition-end-requires c κs =
     let at-lex = at-token .before .before in
     let entry = at-lex .before .before .before in
     let p = entry .pre in
-    let b = on-before (p .1) (p .0) (at-lex .lex .ensures) (at-token .token .given .1) (at-later-symbol-fault .later-symbol-fault .ensures) (at-is-accepted .is-accepted .ensures) (c .before .if1 .left) in
+    let b = on-before (p .1) (p .0) (at-lex .lex .ensures) (at-token .token .given .1) (at-later-symbol-fault .later-symbol-fault .ensures)
+    (at-is-accepted .is-accepted .ensures) (c .before .if1 .left) in
     (b .0, b .1, p .2)
 
 returns-3 : tie.Need-returns-3
@@ -59,7 +61,8 @@ returns-3 c =
     let at-lex = at-token .before .before in
     let entry = at-lex .before .before .before in
     let p = entry .pre in
-    λ k e. on-reads (p .1) (p .0) (at-lex .lex .ensures) (at-token .token .given .1) (at-later-symbol-fault .later-symbol-fault .ensures) (at-is-accepted .is-accepted .ensures) (at-if1 .if1 .left) k (c .condition-end .ensures k e)
+    λ k e. on-reads (p .1) (p .0) (at-lex .lex .ensures) (at-token .token .given .1) (at-later-symbol-fault .later-symbol-fault .ensures)
+    (at-is-accepted .is-accepted .ensures) (at-if1 .if1 .left) k (c .condition-end .ensures k e)
 
 pub condition-on-spec : {M : Type 1} → statement M
 condition-on-spec =

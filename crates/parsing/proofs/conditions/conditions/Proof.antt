@@ -56,7 +56,8 @@ returns-3 c =
     let at-lex = at-is-sign .before in
     let at-loop = at-lex .before in
     let k = at-loop .loop .inv in
-    condition-stops k (at-lex .lex .ensures) (sym (at-is-sign .is-sign .ensures) ∙ not-false _ (at-if1 .if1 .left)) (at-if2 .if2 .left) (rw (c .before .fault .given .1) at (at-condition .condition .ensures))
+    condition-stops k (at-lex .lex .ensures) (sym (at-is-sign .is-sign .ensures) ∙ not-false _ (at-if1 .if1 .left)) (at-if2 .if2 .left)
+    (rw (c .before .fault .given .1) at (at-condition .condition .ensures))
 
 enum-known-next : tie.Need-enum-known-next Inv-loop μ-loop
 enum-known-next c = search needs
@@ -76,7 +77,8 @@ loop-again c =
     let at-lex = at-is-sign .before in
     let at-loop = at-lex .before in
     let k = at-loop .loop .inv in
-    condition-goes k (at-lex .lex .ensures) (sym (at-is-sign .is-sign .ensures) ∙ not-false _ (at-if1 .if1 .left)) (at-if2 .if2 .left) (rw (c .before .next .given .1) at (at-condition .condition .ensures))
+    condition-goes k (at-lex .lex .ensures) (sym (at-is-sign .is-sign .ensures) ∙ not-false _ (at-if1 .if1 .left)) (at-if2 .if2 .left)
+    (rw (c .before .next .given .1) at (at-condition .condition .ensures))
 
 pub conditions-spec : {M : Type 1} → statement M
 conditions-spec =

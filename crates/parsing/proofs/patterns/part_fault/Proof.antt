@@ -46,7 +46,8 @@ returns-4 c =
     let at-if1 = at-if2 .before .before in
     let entry = at-if1 .before .before .before .before in
     let p = entry .pre in
-    part-is (p .0) (p .1) (at-if1 .if1 .left) (at-if2 .if2 .left) _ _ (at-find .find .ensures) (le-ltb _ _ (at-if3 .if3 .left)) (c .before .find2 .ensures) (lt-ltb _ _ (c .if4 .taken)) refl
+    part-is (p .0) (p .1) (at-if1 .if1 .left) (at-if2 .if2 .left) _ _ (at-find .find .ensures) (le-ltb _ _ (at-if3 .if3 .left)) (c .before .find2 .ensures)
+    (lt-ltb _ _ (c .if4 .taken)) refl
 
 fault-if-requires : tie.Need-fault-if-requires
 fault-if-requires c κs = search needs
@@ -60,7 +61,8 @@ returns-5 c =
     let at-if1 = at-if2 .before .before in
     let entry = at-if1 .before .before .before .before in
     let p = entry .pre in
-    c .fault-if .ensures ∙ part-ending (p .0) (p .1) (at-if1 .if1 .left) (at-if2 .if2 .left) _ _ (at-find .find .ensures) (at-if3 .if3 .left) (at-find2 .find2 .ensures) (c .before .if4 .left)
+    c .fault-if .ensures ∙ part-ending (p .0) (p .1) (at-if1 .if1 .left) (at-if2 .if2 .left) _ _ (at-find .find .ensures) (at-if3 .if3 .left)
+    (at-find2 .find2 .ensures) (c .before .if4 .left)
 
 pub part-fault-spec : {M : Type 1} → statement M
 part-fault-spec =

@@ -40,7 +40,8 @@ returns c =
     let at-put-bytes = at-put-bytes2 .before .before .before .before .before in
     let at-decimal = at-put-bytes .before .before .before in
     let at-fits = at-decimal .before .before .before in
-    counted-put _ (at-decimal .decimal .ensures .0 .1) (at-fits .fits .n) (at-decimal .decimal .ensures .1 .0) (at-decimal .decimal .ensures .1 .1) (at-put-bytes .put-bytes .ensures) (at-put-bytes2 .put-bytes2 .ensures)
+    counted-put _ (at-decimal .decimal .ensures .0 .1) (at-fits .fits .n) (at-decimal .decimal .ensures .1 .0) (at-decimal .decimal .ensures .1 .1)
+    (at-put-bytes .put-bytes .ensures) (at-put-bytes2 .put-bytes2 .ensures)
 
 pub put-number-spec : {M : Type 1} → statement M
 put-number-spec =

@@ -19,7 +19,8 @@ returns : tie.Need-returns
 returns c =
     let at-put-number2 = c .before .before in
     let at-put-number = at-put-number2 .before .before .before .before in
-    put-prints (put-then (at-put-number .put-number .ensures .put) (at-put-number2 .put-number2 .ensures .put)) (omega (arith, at-put-number .put-number .ensures .near, at-put-number2 .put-number2 .ensures .near))
+    put-prints (put-then (at-put-number .put-number .ensures .put) (at-put-number2 .put-number2 .ensures .put))
+    (omega (arith, at-put-number .put-number .ensures .near, at-put-number2 .put-number2 .ensures .near))
 
 pub put-refusal-spec : {M : Type 1} → statement M
 put-refusal-spec =

@@ -42,7 +42,11 @@ returns c =
     let at-put-number2 = at-put-number3 .before .before .before .before .before in
     let at-put-number = at-put-number2 .before .before .before .before in
     let entry = at-put-number .before .before .before .before .before in
-    put-prints (put-then (at-put-number .put-number .ensures .put) (put-then (at-put-number2 .put-number2 .ensures .put) (put-then (at-put-number3 .put-number3 .ensures .put) (put-then (at-put-bytes .put-bytes .ensures) (put-then (at-put-bytes2 .put-bytes2 .ensures) (at-put-bytes3 .put-bytes3 .ensures)))))) (omega (arith, entry .pre, at-put-number .put-number .ensures .near, at-put-number2 .put-number2 .ensures .near, at-put-number3 .put-number3 .ensures .near, at-put-bytes .put-bytes .ensures .place, at-put-bytes2 .put-bytes2 .ensures .place, at-put-bytes3 .put-bytes3 .ensures .place))
+    put-prints (put-then (at-put-number .put-number .ensures .put)
+    (put-then (at-put-number2 .put-number2 .ensures .put)
+    (put-then (at-put-number3 .put-number3 .ensures .put)
+    (put-then (at-put-bytes .put-bytes .ensures) (put-then (at-put-bytes2 .put-bytes2 .ensures) (at-put-bytes3 .put-bytes3 .ensures))))))
+    (omega (arith, entry .pre, at-put-number .put-number .ensures .near, at-put-number2 .put-number2 .ensures .near, at-put-number3 .put-number3 .ensures .near, at-put-bytes .put-bytes .ensures .place, at-put-bytes2 .put-bytes2 .ensures .place, at-put-bytes3 .put-bytes3 .ensures .place))
 
 pub put-result-spec : {M : Type 1} → statement M
 put-result-spec =

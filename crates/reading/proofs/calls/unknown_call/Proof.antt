@@ -41,7 +41,8 @@ returns : tie.Need-returns Inv-loop μ-loop
 returns c =
     let at-loop-test = c .before .before .before .before in
     let at-loop = at-loop-test .before in
-    λ t h. ap unknownAs (sym (search-finds _ _ _ _ _ (at-loop .loop .inv) (at-loop-test .loop-test .taken) (sym (c .before .is-known .ensures) ∙ not-true _ (c .if1 .taken))) ∙ table-found _ _ _ t h)
+    λ t h. ap unknownAs (sym (search-finds _ _ _ _ _ (at-loop .loop .inv) (at-loop-test .loop-test .taken)
+    (sym (c .before .is-known .ensures) ∙ not-true _ (c .if1 .taken))) ∙ table-found _ _ _ t h)
 
 add-i : tie.Need-add-i Inv-loop μ-loop
 add-i c = omega arith

@@ -27,13 +27,15 @@ loop-less : tie.Need-loop-less Inv-loop μ-loop
 loop-less c = omega (arith, c .before .loop .inv .3)
 
 loop-again : tie.Need-loop-again Inv-loop μ-loop
-loop-again c = let a = c .before .before .args in let v = c .before .loop .inv in (omega (arith, v .0), omega (arith, v .3, c .loop-test .taken), rw (v .2) (cleared-one (a .cells .now) (a .start) (c .before .before .pre) (c .before .loop .i) (v .0) (omega (arith, v .3, c .loop-test .taken))), rw length-set (v .3))
+loop-again c = let a = c .before .before .args in let v = c .before .loop .inv in
+    (omega (arith, v .0), omega (arith, v .3, c .loop-test .taken), rw (v .2) (cleared-one (a .cells .now) (a .start) (c .before .before .pre) (c .before .loop .i) (v .0) (omega (arith, v .3, c .loop-test .taken))), rw length-set (v .3))
 
 same-length : tie.Need-same-length Inv-loop μ-loop
 same-length c = c .before .loop .inv .3
 
 returns : tie.Need-returns Inv-loop μ-loop
-returns c = let a = c .before .before .args in let v = c .before .loop .inv in v .2 ∙ cleared-all (a .cells .now) (a .start) (c .before .before .pre) (c .before .loop .i) (omega (arith, v .3, c .loop-test .left)) (v .1)
+returns c = let a = c .before .before .args in let v = c .before .loop .inv in v .2 ∙
+    cleared-all (a .cells .now) (a .start) (c .before .before .pre) (c .before .loop .i) (omega (arith, v .3, c .loop-test .left)) (v .1)
 
 pub clear-from-spec : {M : Type 1} → statement M
 clear-from-spec =

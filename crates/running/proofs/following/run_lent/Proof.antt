@@ -37,7 +37,10 @@ follow-requires c κs =
     let entry = at-loaded .before .before .before .before .before .before .before .before in
     let a = entry .args in
     let pre = entry .pre in
-    let first = (starting (a .text .now) (a .input .now) (at-copy-over .copy-over .last .0) (pre .1 .1 .1 .0) (rw (at-loaded .loaded .ensures) at (at-copy-over .copy-over .ensures)) (at-copy-over .copy-over .kept .0) (a .output .now) (a .journal .now) (a .frames .now) (a .values .now) (a .code .now) (a .start) (a .allowance) (pre .1 .1 .1 .1 .0) (pre .1 .1 .1 .1 .1) _ _ (rw (at-loaded .loaded .ensures) at (at-apply .apply .ensures (a .output .now) (a .journal .now)))) in
+    let first = (starting (a .text .now) (a .input .now) (at-copy-over .copy-over .last .0) (pre .1 .1 .1 .0)
+    (rw (at-loaded .loaded .ensures) at (at-copy-over .copy-over .ensures)) (at-copy-over .copy-over .kept .0) (a .output .now) (a .journal .now)
+    (a .frames .now) (a .values .now) (a .code .now) (a .start) (a .allowance) (pre .1 .1 .1 .1 .0) (pre .1 .1 .1 .1 .1) _ _
+    (rw (at-loaded .loaded .ensures) at (at-apply .apply .ensures (a .output .now) (a .journal .now)))) in
     (at-class-table .class-table .ensures, (pre .0, first .keeps))
 
 reported-requires : tie.Need-reported-requires
@@ -51,7 +54,10 @@ clear-from-requires-2 c κs =
     let at-reported = c .before .before .before .before .before in
     let at-follow = at-reported .before .before .before .before .before .before .before .before .before .before .before in
     let entry = at-follow .before .before .before .before .before .before .before .before .before .before .before .before .before .before .before .before .before .before .before .before .before .before .before .before .before .before .before .before .before in
-    rw (at-reported .reported .ensures) (reported-within (entry .args .allowance) (at-follow .follow .result) (memory (at-follow .follow .last .1 .1 .1 .1 .0) (at-follow .follow .last .1 .1 .1 .1 .1 .0) (at-follow .follow .last .1 .1 .1 .1 .1 .1 .0) (at-follow .follow .last .1 .1 .1 .1 .1 .1 .1 .0) (at-follow .follow .last .1 .1 .1 .1 .1 .1 .1 .1 .0)) (at-follow .follow .ensures .over) (at-follow .follow .ensures .leads .keeps))
+    rw (at-reported .reported .ensures) (reported-within (entry .args .allowance) (at-follow .follow .result)
+    (memory (at-follow .follow .last .1 .1 .1 .1 .0) (at-follow .follow .last .1 .1 .1 .1 .1 .0) (at-follow .follow .last .1 .1 .1 .1 .1 .1 .0)
+    (at-follow .follow .last .1 .1 .1 .1 .1 .1 .1 .0) (at-follow .follow .last .1 .1 .1 .1 .1 .1 .1 .1 .0)) (at-follow .follow .ensures .over)
+    (at-follow .follow .ensures .leads .keeps))
 
 same-length : tie.Need-same-length
 same-length c =
@@ -84,8 +90,17 @@ returns c =
     let entry = at-loaded .before .before .before .before .before .before .before .before in
     let a = entry .args in
     let pre = entry .pre in
-    let first = (starting (a .text .now) (a .input .now) (at-copy-over .copy-over .last .0) (pre .1 .1 .1 .0) (rw (at-loaded .loaded .ensures) at (at-copy-over .copy-over .ensures)) (at-copy-over .copy-over .kept .0) (a .output .now) (a .journal .now) (a .frames .now) (a .values .now) (a .code .now) (a .start) (a .allowance) (pre .1 .1 .1 .1 .0) (pre .1 .1 .1 .1 .1) _ _ (rw (at-loaded .loaded .ensures) at (at-apply .apply .ensures (a .output .now) (a .journal .now)))) in
-    rw (at-clear-from .clear-from .ensures, at-clear-from2 .clear-from2 .ensures, at-reported .reported .ensures) (ending (a .text .now) (a .input .now) (at-copy-over .copy-over .last .0) (pre .1 .1 .1 .0) (rw (at-loaded .loaded .ensures) at (at-copy-over .copy-over .ensures)) (at-copy-over .copy-over .kept .0) (a .output .now) (a .journal .now) (a .frames .now) (a .values .now) (a .code .now) (a .start) (a .allowance) _ (memory (at-follow .follow .last .1 .1 .1 .1 .0) (at-follow .follow .last .1 .1 .1 .1 .1 .0) (at-follow .follow .last .1 .1 .1 .1 .1 .1 .0) (at-follow .follow .last .1 .1 .1 .1 .1 .1 .1 .0) (at-follow .follow .last .1 .1 .1 .1 .1 .1 .1 .1 .0)) (leads-on _ _ _ _ _ _ _ _ _ first (at-follow .follow .ensures .leads)) (at-follow .follow .ensures .over))
+    let first = (starting (a .text .now) (a .input .now) (at-copy-over .copy-over .last .0) (pre .1 .1 .1 .0)
+    (rw (at-loaded .loaded .ensures) at (at-copy-over .copy-over .ensures)) (at-copy-over .copy-over .kept .0) (a .output .now) (a .journal .now)
+    (a .frames .now) (a .values .now) (a .code .now) (a .start) (a .allowance) (pre .1 .1 .1 .1 .0) (pre .1 .1 .1 .1 .1) _ _
+    (rw (at-loaded .loaded .ensures) at (at-apply .apply .ensures (a .output .now) (a .journal .now)))) in
+    rw (at-clear-from .clear-from .ensures, at-clear-from2 .clear-from2 .ensures, at-reported .reported .ensures)
+    (ending (a .text .now) (a .input .now) (at-copy-over .copy-over .last .0) (pre .1 .1 .1 .0)
+    (rw (at-loaded .loaded .ensures) at (at-copy-over .copy-over .ensures)) (at-copy-over .copy-over .kept .0) (a .output .now) (a .journal .now)
+    (a .frames .now) (a .values .now) (a .code .now) (a .start) (a .allowance) _
+    (memory (at-follow .follow .last .1 .1 .1 .1 .0) (at-follow .follow .last .1 .1 .1 .1 .1 .0) (at-follow .follow .last .1 .1 .1 .1 .1 .1 .0)
+    (at-follow .follow .last .1 .1 .1 .1 .1 .1 .1 .0) (at-follow .follow .last .1 .1 .1 .1 .1 .1 .1 .1 .0))
+    (leads-on _ _ _ _ _ _ _ _ _ first (at-follow .follow .ensures .leads)) (at-follow .follow .ensures .over))
 
 pub run-lent-spec : {M : Type 1} → statement M
 run-lent-spec =

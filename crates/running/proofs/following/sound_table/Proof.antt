@@ -51,7 +51,8 @@ returns-3 c =
     let at-loop = at-loop-test .before in
     let entry = at-loop .before .before .before .before .before .before in
     let v = at-loop .loop .inv in
-    sound-wrong (entry .args .code .now) (v .1) (at-loop .loop .i) (omega (arith, v .0, at-loop-test .loop-test .taken)) (v .3) (omega (arith, c .if3 .taken, c .before .wide2 .ensures))
+    sound-wrong (entry .args .code .now) (v .1) (at-loop .loop .i) (omega (arith, v .0, at-loop-test .loop-test .taken)) (v .3)
+    (omega (arith, c .if3 .taken, c .before .wide2 .ensures))
 
 add-i : tie.Need-add-i Inv-loop μ-loop
 add-i c = omega arith

@@ -56,7 +56,9 @@ returns c =
     let at-reach = at-find .before in
     let at-word-at = at-reach .before .before in
     let entry = at-word-at .before .before .before .before .before in
-    condition-written _ (entry .args .names .now) (entry .args .sites .now) (entry .args .symbols) (entry .pre .0 .0) (entry .pre .0 .1) (entry .pre .0 .2) _ (entry .pre .0 .3) (entry .pre .1) (at-word-at .word-at .ensures .0) (at-reach .reach .ensures) (at-find .find .ensures .0) (at-find .find .ensures .1) (at-found-site .found-site .ensures) (rw (at-condition-word .condition-word .ensures .0) at (at-put .put .ensures))
+    condition-written _ (entry .args .names .now) (entry .args .sites .now) (entry .args .symbols) (entry .pre .0 .0) (entry .pre .0 .1) (entry .pre .0 .2) _
+    (entry .pre .0 .3) (entry .pre .1) (at-word-at .word-at .ensures .0) (at-reach .reach .ensures) (at-find .find .ensures .0) (at-find .find .ensures .1)
+    (at-found-site .found-site .ensures) (rw (at-condition-word .condition-word .ensures .0) at (at-put .put .ensures))
 
 pub write-condition-spec : {M : Type 1} → statement M
 write-condition-spec =

@@ -36,7 +36,8 @@ returns-3 c =
     let at-if1 = at-word-at .before in
     let entry = at-if1 .before .before in
     let a = entry .args in
-    sym (emission-words (a .tape .now) (a .from) (a .size) (at-if1 .if1 .left) (entry .pre) ∙ rw (eq-eqb 69 _ (sym (at-if2 .if2 .left) ∙ at-word-at .word-at .ensures .0), ne-eqb 109 _ (λ e. c .if3 .taken (c .before .word-at2 .ensures .0 ∙ sym e))))
+    sym (emission-words (a .tape .now) (a .from) (a .size) (at-if1 .if1 .left) (entry .pre) ∙
+    rw (eq-eqb 69 _ (sym (at-if2 .if2 .left) ∙ at-word-at .word-at .ensures .0), ne-eqb 109 _ (λ e. c .if3 .taken (c .before .word-at2 .ensures .0 ∙ sym e))))
 
 add-word-at-2 : tie.Need-add-word-at-2
 add-word-at-2 c = search needs
@@ -53,7 +54,12 @@ returns-4 c =
     let at-if1 = at-word-at .before in
     let entry = at-if1 .before .before in
     let a = entry .args in
-    sym (emission-words (a .tape .now) (a .from) (a .size) (at-if1 .if1 .left) (entry .pre) ∙ rw (eq-eqb 69 _ (sym (at-if2 .if2 .left) ∙ at-word-at .word-at .ensures .0), eq-eqb 109 _ (sym (at-if3 .if3 .left) ∙ at-word-at2 .word-at2 .ensures .0), ne-eqb 105 _ (λ e. c .if4 .taken (c .before .word-at3 .ensures .0 ∙ sym e))))
+    sym (emission-words (a .tape .now) (a .from) (a .size) (at-if1 .if1 .left) (entry .pre) ∙
+    rw (
+      eq-eqb 69 _ (sym (at-if2 .if2 .left) ∙ at-word-at .word-at .ensures .0),
+      eq-eqb 109 _ (sym (at-if3 .if3 .left) ∙ at-word-at2 .word-at2 .ensures .0),
+      ne-eqb 105 _ (λ e. c .if4 .taken (c .before .word-at3 .ensures .0 ∙ sym e)),
+    ))
 
 add-word-at-3 : tie.Need-add-word-at-3
 add-word-at-3 c = search needs
@@ -72,7 +78,13 @@ returns-5 c =
     let at-if1 = at-word-at .before in
     let entry = at-if1 .before .before in
     let a = entry .args in
-    sym (emission-words (a .tape .now) (a .from) (a .size) (at-if1 .if1 .left) (entry .pre) ∙ rw (eq-eqb 69 _ (sym (at-if2 .if2 .left) ∙ at-word-at .word-at .ensures .0), eq-eqb 109 _ (sym (at-if3 .if3 .left) ∙ at-word-at2 .word-at2 .ensures .0), eq-eqb 105 _ (sym (at-if4 .if4 .left) ∙ at-word-at3 .word-at3 .ensures .0), ne-eqb 116 _ (λ e. c .if5 .taken (c .before .word-at4 .ensures .0 ∙ sym e))))
+    sym (emission-words (a .tape .now) (a .from) (a .size) (at-if1 .if1 .left) (entry .pre) ∙
+    rw (
+      eq-eqb 69 _ (sym (at-if2 .if2 .left) ∙ at-word-at .word-at .ensures .0),
+      eq-eqb 109 _ (sym (at-if3 .if3 .left) ∙ at-word-at2 .word-at2 .ensures .0),
+      eq-eqb 105 _ (sym (at-if4 .if4 .left) ∙ at-word-at3 .word-at3 .ensures .0),
+      ne-eqb 116 _ (λ e. c .if5 .taken (c .before .word-at4 .ensures .0 ∙ sym e)),
+    ))
 
 returns-6 : tie.Need-returns-6
 returns-6 c =
@@ -85,7 +97,13 @@ returns-6 c =
     let at-if1 = at-word-at .before in
     let entry = at-if1 .before .before in
     let a = entry .args in
-    sym (emission-words (a .tape .now) (a .from) (a .size) (at-if1 .if1 .left) (entry .pre) ∙ rw (eq-eqb 69 _ (sym (at-if2 .if2 .left) ∙ at-word-at .word-at .ensures .0), eq-eqb 109 _ (sym (at-if3 .if3 .left) ∙ at-word-at2 .word-at2 .ensures .0), eq-eqb 105 _ (sym (at-if4 .if4 .left) ∙ at-word-at3 .word-at3 .ensures .0), eq-eqb 116 _ (sym (c .if5 .left) ∙ c .before .word-at4 .ensures .0)))
+    sym (emission-words (a .tape .now) (a .from) (a .size) (at-if1 .if1 .left) (entry .pre) ∙
+    rw (
+      eq-eqb 69 _ (sym (at-if2 .if2 .left) ∙ at-word-at .word-at .ensures .0),
+      eq-eqb 109 _ (sym (at-if3 .if3 .left) ∙ at-word-at2 .word-at2 .ensures .0),
+      eq-eqb 105 _ (sym (at-if4 .if4 .left) ∙ at-word-at3 .word-at3 .ensures .0),
+      eq-eqb 116 _ (sym (c .if5 .left) ∙ c .before .word-at4 .ensures .0),
+    ))
 
 pub is-emission-spec : {M : Type 1} → statement M
 is-emission-spec =

@@ -16,28 +16,32 @@ returns : tie.Need-returns
 returns c =
     let entry = c .before .before .before in
     let a = entry .args in
-    sym (lengths-differ (take (a .size) (drop (a .from) (a .tape .now))) (headName (a .tape .now) (a .head)) (λ e. c .if1 .taken (c .before .name-size .ensures ∙ sym e ∙ part-length (a .size) (a .from) (a .tape .now) (entry .pre))))
+    sym (lengths-differ (take (a .size) (drop (a .from) (a .tape .now))) (headName (a .tape .now) (a .head))
+    (λ e. c .if1 .taken (c .before .name-size .ensures ∙ sym e ∙ part-length (a .size) (a .from) (a .tape .now) (entry .pre))))
 
 returns-2 : tie.Need-returns-2
 returns-2 c =
     let at-name-size = c .before .before in
     let entry = at-name-size .before .before in
     let a = entry .args in
-    sym (both-empty (take (a .size) (drop (a .from) (a .tape .now))) (headName (a .tape .now) (a .head)) (part-length (a .size) (a .from) (a .tape .now) (entry .pre) ∙ c .if2 .taken) (sym (at-name-size .name-size .ensures) ∙ c .before .if1 .left ∙ c .if2 .taken))
+    sym (both-empty (take (a .size) (drop (a .from) (a .tape .now))) (headName (a .tape .now) (a .head))
+    (part-length (a .size) (a .from) (a .tape .now) (entry .pre) ∙ c .if2 .taken) (sym (at-name-size .name-size .ensures) ∙ c .before .if1 .left ∙ c .if2 .taken))
 
 add-same-words : tie.Need-add-same-words
 add-same-words c =
     let at-name-size = c .before .before in
     let entry = at-name-size .before .before in
     let a = entry .args in
-    let s : length (headName (a .tape .now) (a .head)) ≡ a .size = sym (at-name-size .name-size .ensures) ∙ c .before .if1 .left in omega (arith, name-fits (a .tape .now) (a .head) (omega arith))
+    let s : length (headName (a .tape .now) (a .head)) ≡ a .size = sym (at-name-size .name-size .ensures) ∙ c .before .if1 .left in
+    omega (arith, name-fits (a .tape .now) (a .head) (omega arith))
 
 same-words-requires : tie.Need-same-words-requires
 same-words-requires c κs =
     let at-name-size = c .before .before in
     let entry = at-name-size .before .before in
     let a = entry .args in
-    let s : length (headName (a .tape .now) (a .head)) ≡ a .size = sym (at-name-size .name-size .ensures) ∙ c .before .if1 .left in omega (arith, name-fits (a .tape .now) (a .head) (omega arith))
+    let s : length (headName (a .tape .now) (a .head)) ≡ a .size = sym (at-name-size .name-size .ensures) ∙ c .before .if1 .left in
+    omega (arith, name-fits (a .tape .now) (a .head) (omega arith))
 
 returns-3 : tie.Need-returns-3
 returns-3 c =
@@ -45,7 +49,8 @@ returns-3 c =
     let at-name-size = at-if1 .before in
     let entry = at-name-size .before .before in
     let a = entry .args in
-    let s : length (headName (a .tape .now) (a .head)) ≡ a .size = sym (at-name-size .name-size .ensures) ∙ at-if1 .if1 .left in rw (name-part (a .tape .now) (a .head), s) (c .same-words .ensures)
+    let s : length (headName (a .tape .now) (a .head)) ≡ a .size = sym (at-name-size .name-size .ensures) ∙ at-if1 .if1 .left in
+    rw (name-part (a .tape .now) (a .head), s) (c .same-words .ensures)
 
 pub name-is-spec : {M : Type 1} → statement M
 name-is-spec =

@@ -38,7 +38,8 @@ returns c =
     let at-loop = at-loop-test .before in
     let entry = at-loop .before .before in
     let a = entry .args in
-    sym (differ-here (a .tape .now) (a .a) (a .b) (a .size) (entry .pre .0) (entry .pre .1) (at-loop .loop .i) (at-loop-test .loop-test .taken) (λ e. c .if1 .taken (at-word-at .word-at .ensures .0 ∙ e ∙ sym (c .before .word-at2 .ensures .0)))) ∙ at-loop .loop .inv .1
+    sym (differ-here (a .tape .now) (a .a) (a .b) (a .size) (entry .pre .0) (entry .pre .1) (at-loop .loop .i) (at-loop-test .loop-test .taken)
+    (λ e. c .if1 .taken (at-word-at .word-at .ensures .0 ∙ e ∙ sym (c .before .word-at2 .ensures .0)))) ∙ at-loop .loop .inv .1
 
 add-i : tie.Need-add-i Inv-loop μ-loop
 add-i c = omega arith

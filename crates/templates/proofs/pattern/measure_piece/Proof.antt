@@ -60,7 +60,8 @@ returns-2 c =
     let at-enum-told2 = c .before .before in
     let at-piece-at = at-enum-told2 .before .before in
     let entry = at-piece-at .before .before .before in
-    rw (c .measure-letter2 .ensures, c .before .name-size .ensures) (variable-measures _ _ (entry .pre) (sym (at-piece-at .piece-at .ensures) ∙ at-enum-told2 .enum-told2 .given .1))
+    rw (c .measure-letter2 .ensures, c .before .name-size .ensures)
+    (variable-measures _ _ (entry .pre) (sym (at-piece-at .piece-at .ensures) ∙ at-enum-told2 .enum-told2 .given .1))
 
 returns-3 : tie.Need-returns-3
 returns-3 c =

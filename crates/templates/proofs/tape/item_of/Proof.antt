@@ -28,7 +28,13 @@ returns-5 c =
     let at-if3 = at-if4 .before in
     let at-if2 = at-if3 .before in
     let at-if1 = at-if2 .before in
-    simp (lt-leb _ _ (at-if1 .if1 .left), le-ltb _ _ (at-if2 .if2 .left), le-ltb _ _ (at-if3 .if3 .left), le-ltb _ _ (at-if4 .if4 .left), lt-ltb _ _ (c .before .if5 .taken)) (c .ending-of2 .ensures)
+    simp (
+      lt-leb _ _ (at-if1 .if1 .left),
+      le-ltb _ _ (at-if2 .if2 .left),
+      le-ltb _ _ (at-if3 .if3 .left),
+      le-ltb _ _ (at-if4 .if4 .left),
+      lt-ltb _ _ (c .before .if5 .taken),
+    ) (c .ending-of2 .ensures)
 
 opening-of-requires : tie.Need-opening-of-requires
 opening-of-requires c κs = search needs
@@ -39,7 +45,13 @@ returns-6 c =
     let at-if3 = at-if4 .before in
     let at-if2 = at-if3 .before in
     let at-if1 = at-if2 .before in
-    simp (lt-leb _ _ (at-if1 .if1 .left), le-ltb _ _ (at-if2 .if2 .left), le-ltb _ _ (at-if3 .if3 .left), le-ltb _ _ (at-if4 .if4 .left), le-ltb _ _ (c .before .if5 .left)) (c .opening-of .ensures)
+    simp (
+      lt-leb _ _ (at-if1 .if1 .left),
+      le-ltb _ _ (at-if2 .if2 .left),
+      le-ltb _ _ (at-if3 .if3 .left),
+      le-ltb _ _ (at-if4 .if4 .left),
+      le-ltb _ _ (c .before .if5 .left),
+    ) (c .opening-of .ensures)
 
 pub item-of-spec : {M : Type 1} → statement M
 item-of-spec =

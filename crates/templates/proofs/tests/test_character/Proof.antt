@@ -30,7 +30,12 @@ returns c =
     let at-put-operands = c .before .before .before in
     let at-word-at = at-put-operands .before in
     let at-site-of = at-word-at .before .before in
-    rw (c .past-letter .ensures, ← (ap (λ s. s .register) (at-site-of .site-of .ensures)), ← (ap (λ s. s .offset) (at-site-of .site-of .ensures)), ← (at-word-at .word-at .ensures .0)) (at-put-operands .put-operands .ensures, refl)
+    rw (
+      c .past-letter .ensures,
+      ← (ap (λ s. s .register) (at-site-of .site-of .ensures)),
+      ← (ap (λ s. s .offset) (at-site-of .site-of .ensures)),
+      ← (at-word-at .word-at .ensures .0),
+    ) (at-put-operands .put-operands .ensures, refl)
 
 pub test-character-spec : {M : Type 1} → statement M
 test-character-spec =

@@ -56,7 +56,8 @@ returns c =
     let at-enum-told = at-test-character .before .before in
     let at-piece-at = at-enum-told .before .before in
     let entry = at-piece-at .before .before .before .before .before in
-    rw (at-test-character .test-character .ensures .1) (character-on _ _ _ _ _ (entry .pre .0) (sym (at-piece-at .piece-at .ensures) ∙ at-enum-told .enum-told .given .1) (at-test-character .test-character .ensures .0))
+    rw (at-test-character .test-character .ensures .1) (character-on _ _ _ _ _ (entry .pre .0)
+    (sym (at-piece-at .piece-at .ensures) ∙ at-enum-told .enum-told .given .1) (at-test-character .test-character .ensures .0))
 
 same-length-2 : tie.Need-same-length-2
 same-length-2 c = search needs

@@ -46,7 +46,14 @@ returns c =
     let at-name-size = at-find .before .before .before in
     let at-site-of = at-name-size .before in
     let entry = at-site-of .before .before .before .before .before in
-    rw (at-new-symbol .new-symbol .ensures .0, at-new-symbol .new-symbol .ensures .1 .0, at-new-symbol .new-symbol .ensures .1 .1, at-name-size .name-size .ensures, at-site-of .site-of .ensures) (new-on _ _ _ _ _ (entry .pre .0 .0) (entry .pre .1) (entry .pre .0 .1) (sym (name-found (entry .pre .0 .0) (at-name-size .name-size .ensures)) ∙ sym (at-find .find .ensures .0) ∙ at-if1 .if1 .taken))
+    rw (
+      at-new-symbol .new-symbol .ensures .0,
+      at-new-symbol .new-symbol .ensures .1 .0,
+      at-new-symbol .new-symbol .ensures .1 .1,
+      at-name-size .name-size .ensures,
+      at-site-of .site-of .ensures,
+    ) (new-on _ _ _ _ _ (entry .pre .0 .0) (entry .pre .1) (entry .pre .0 .1)
+    (sym (name-found (entry .pre .0 .0) (at-name-size .name-size .ensures)) ∙ sym (at-find .find .ensures .0) ∙ at-if1 .if1 .taken))
 
 equal-symbol-requires : tie.Need-equal-symbol-requires
 equal-symbol-requires c κs =
@@ -74,7 +81,9 @@ returns-2 c =
     let at-site-of = at-name-size .before in
     let entry = at-site-of .before .before .before .before .before in
     let same = at-find .find .ensures .0 ∙ name-found (entry .pre .0 .0) (at-name-size .name-size .ensures) in
-    rw (at-equal-symbol .equal-symbol .ensures .1, at-name-size .name-size .ensures) (equal-on _ _ _ _ _ (entry .pre .0 .0) (entry .pre .1) (λ e. at-if1 .if1 .left (same ∙ e)) (omega (arith, same, at-find .find .ensures .1)) (rw (← same, ← (ap (λ s. s .register) (at-site-of .site-of .ensures)), ← (ap (λ s. s .offset) (at-site-of .site-of .ensures))) (at-equal-symbol .equal-symbol .ensures .0)))
+    rw (at-equal-symbol .equal-symbol .ensures .1, at-name-size .name-size .ensures)
+    (equal-on _ _ _ _ _ (entry .pre .0 .0) (entry .pre .1) (λ e. at-if1 .if1 .left (same ∙ e)) (omega (arith, same, at-find .find .ensures .1))
+    (rw (← same, ← (ap (λ s. s .register) (at-site-of .site-of .ensures)), ← (ap (λ s. s .offset) (at-site-of .site-of .ensures))) (at-equal-symbol .equal-symbol .ensures .0)))
 
 pub test-symbol-spec : {M : Type 1} → statement M
 test-symbol-spec =

@@ -13,7 +13,8 @@ use Rattle.templates.proofs.tests.write_stores.Statement.{statement}
 use Rattle.templates.proofs.tests.write_stores.Tie as tie
 
 abbrev Inv-loop : tie.InvT-loop
-Inv-loop sites symbols code₀ at place₀ k₀ code place k = (k ≤ symbols) × (place ≡ at + k) × Same code₀ at (map storeOfSite (take symbols sites)) code place (map storeOfSite (frontFrom sites symbols k))
+Inv-loop sites symbols code₀ at place₀ k₀ code place k = (k ≤ symbols) × (place ≡ at + k) ×
+    Same code₀ at (map storeOfSite (take symbols sites)) code place (map storeOfSite (frontFrom sites symbols k))
 
 abbrev μ-loop : tie.MeasureT-loop
 μ-loop sites symbols code₀ at place₀ k₀ code place k = symbols - k

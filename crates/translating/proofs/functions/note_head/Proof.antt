@@ -36,14 +36,16 @@ returns-2 c =
     let at-if1 = at-word-at .before in
     let entry = at-if1 .before .before .before in
     let a = entry .args in
-    head-noted (a .tape .now) (a .i) (a .heads .now) (a .count) (entry .pre .3) (at-if1 .if1 .left) (entry .pre .1) (entry .pre .0) (ap isFunctionWord (sym (at-word-at .word-at .ensures .0)) ∙ sym (c .before .is-function .ensures) ∙ c .if2 .taken)
+    head-noted (a .tape .now) (a .i) (a .heads .now) (a .count) (entry .pre .3) (at-if1 .if1 .left) (entry .pre .1) (entry .pre .0)
+    (ap isFunctionWord (sym (at-word-at .word-at .ensures .0)) ∙ sym (c .before .is-function .ensures) ∙ c .if2 .taken)
 
 returns-3 : tie.Need-returns-3
 returns-3 c =
     let at-word-at = c .before .before in
     let entry = at-word-at .before .before .before .before in
     let a = entry .args in
-    head-none (a .tape .now) (a .i) (a .heads .now) (a .count) (entry .pre .3) (entry .pre .2) (entry .pre .0) (ap isFunctionWord (sym (at-word-at .word-at .ensures .0)) ∙ sym (c .before .is-function .ensures) ∙ c .if2 .left)
+    head-none (a .tape .now) (a .i) (a .heads .now) (a .count) (entry .pre .3) (entry .pre .2) (entry .pre .0)
+    (ap isFunctionWord (sym (at-word-at .word-at .ensures .0)) ∙ sym (c .before .is-function .ensures) ∙ c .if2 .left)
 
 pub note-head-spec : {M : Type 1} → statement M
 note-head-spec =

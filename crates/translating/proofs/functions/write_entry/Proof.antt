@@ -76,7 +76,8 @@ returns c =
     let at-put = at-lesser .before .before .before in
     let at-name-size = at-put .before .before in
     let entry = at-name-size .before .before .before .before .before in
-    entry-written (entry .pre .2 (entry .args .k) (entry .pre .0)) (at-put .put .ensures) (at-name-size .name-size .ensures) (at-lesser .lesser .ensures) (at-write-function .write-function .ensures)
+    entry-written (entry .pre .2 (entry .args .k) (entry .pre .0)) (at-put .put .ensures) (at-name-size .name-size .ensures) (at-lesser .lesser .ensures)
+    (at-write-function .write-function .ensures)
 
 pub write-entry-spec : {M : Type 1} → statement M
 write-entry-spec =

@@ -15,7 +15,7 @@ use Rattle.acting.specs.declared.registers.Next.the-variants.{Onward}
 use Rattle.acting.specs.declared.registers.Status.{Status}
 use Rattle.acting.specs.States.{Memory, memory, roomOf}
 use Rattle.applying.specs.Waiting.{comesTo, leftToDo}
-use Rattle.applying.specs.Advancing.{Underway, Keeps, registersIn, statusIn, nextOf, onward, Leads, Advances, Follows}
+use Rattle.applying.specs.Advancing.{Underway, Keeps, registersIn, statusIn, nextOf, onward, Leads, Steps, Follows}
 use Rattle.applying.proofs.laws.Advancing.{leads-start, leads-on}
 use Rattle.stepping.proofs.laws.Statuses.{rejoined, goes-onward, is-over}
 use Rattle.acting.proofs.registers.Registers as R
@@ -64,10 +64,11 @@ module _ {words : Words} {allowance : ℕ} {first : Next} {m : Memory} where
   -- what `step` ensures in a state
   abbrev pub Told : Turn words allowance first m → Status → Changed → Type 0
   Told t x ws =
-      Advances words allowance (comesTo (roomOf (memory-in t)) allowance words (Onward (t .g)) (memory-in t)) (leftToDo (length words) allowance (Onward (t .g)) (memory-in t)) (t .g) (memory-in t) (nextOf x (ws .0)) (changed ws)
+      Steps words allowance (t .g) (memory-in t) (nextOf x (ws .0)) (changed ws)
 
   -- the first state, and an instruction may come next as long as the run goes on
-  abbrev pub at-start : Keeps allowance first m → (g : Registers) (u : Val) → g ≡ registersIn first → Is R.the-row g (u ∷ []) → (x : Status) (v : Val) → x ≡ statusIn first → Is S.the-row x (v ∷ []) → Turn words allowance first m
+  abbrev pub at-start : Keeps allowance first m → (g : Registers) (u : Val) → g ≡ registersIn first → Is R.the-row g (u ∷ []) → (x : Status) (v : Val) → x ≡
+      statusIn first → Is S.the-row x (v ∷ []) → Turn words allowance first m
   at-start keeps g u new is x v how is-x =
       record {
         g = g;
@@ -85,14 +86,17 @@ module _ {words : Words} {allowance : ℕ} {first : Next} {m : Memory} where
         same-journal = refl;
         same-frames = refl;
         same-values = refl;
-        leads = subst (λ (r : Next). Leads words allowance (comesTo (roomOf m) allowance words first m) (registersIn first) m r m) (sym (rejoined first x g new how)) (leads-start words allowance first m keeps);
+        leads = subst (λ (r : Next). Leads words allowance (comesTo (roomOf m) allowance words first m) (registersIn first) m r m) (sym (rejoined first x g new how))
+            (leads-start words allowance first m keeps);
       }
 
   pub may-step : (t : Turn words allowance first m) → onward (t .how) ≡ true → Underway allowance (t .g) (memory-in t)
   may-step t said = subst (λ (r : Next). Keeps allowance r (memory-in t)) (goes-onward (t .how) (t .g) said) (t .leads .keeps)
 
   -- the next state
-  abbrev pub next-turn : (t : Turn words allowance first m) (x : Status) (w : Val) (ws : Changed) → Told t x ws → length (ws .1 .1 .1 .1 .0) ≡ length (t .input) → length (ws .1 .1 .1 .1 .1 .0) ≡ length (t .output) → length (ws .1 .1 .1 .1 .1 .1 .0) ≡ length (t .journal) → length (ws .1 .1 .1 .1 .1 .1 .1 .0) ≡ length (t .frames) → length (ws .1 .1 .1 .1 .1 .1 .1 .1 .0) ≡ length (t .values)
+  abbrev pub next-turn : (t : Turn words allowance first m) (x : Status) (w : Val) (ws : Changed) → Told t x ws → length (ws .1 .1 .1 .1 .0) ≡ length (t .input) →
+      length (ws .1 .1 .1 .1 .1 .0) ≡ length (t .output) → length (ws .1 .1 .1 .1 .1 .1 .0) ≡ length (t .journal) → length (ws .1 .1 .1 .1 .1 .1 .1 .0) ≡
+      length (t .frames) → length (ws .1 .1 .1 .1 .1 .1 .1 .1 .0) ≡ length (t .values)
       → Is R.the-row (ws .0) (registers-vals (ws .0)) → Is S.the-row x (w ∷ []) → onward (t .how) ≡ true → Turn words allowance first m
   next-turn t x w ws told e₁ e₂ e₃ e₄ e₅ kept′ is-x said =
       record {
@@ -113,11 +117,14 @@ module _ {words : Words} {allowance : ℕ} {first : Next} {m : Memory} where
         same-values = e₅ ∙ t .same-values;
         leads =
             leads-on words allowance (comesTo (roomOf m) allowance words first m) (registersIn first) m (memory-in t) (changed ws) (Onward (t .g)) (nextOf x (ws .0))
-            (subst (λ (r : Next). Leads words allowance (comesTo (roomOf m) allowance words first m) (registersIn first) m r (memory-in t)) (goes-onward (t .how) (t .g) said) (t .leads)) (told .leads);
+            (subst (λ (r : Next). Leads words allowance (comesTo (roomOf m) allowance words first m) (registersIn first) m r (memory-in t))
+            (goes-onward (t .how) (t .g) said) (t .leads)) (told .leads);
       }
 
-  pub falls : (t : Turn words allowance first m) (x : Status) (ws : Changed) → Told t x ws → onward (t .how) ≡ true → leftToDo (length words) allowance (nextOf x (ws .0)) (changed ws) < left t
-  falls t x ws told said = subst (λ (r : Next). leftToDo (length words) allowance (nextOf x (ws .0)) (changed ws) < leftToDo (length words) allowance r (memory-in t)) (sym (goes-onward (t .how) (t .g) said)) (told .falls)
+  pub falls : (t : Turn words allowance first m) (x : Status) (ws : Changed) → Told t x ws → onward (t .how) ≡ true →
+      leftToDo (length words) allowance (nextOf x (ws .0)) (changed ws) < left t
+  falls t x ws told said = subst (λ (r : Next). leftToDo (length words) allowance (nextOf x (ws .0)) (changed ws) < leftToDo (length words) allowance r
+      (memory-in t)) (sym (goes-onward (t .how) (t .g) said)) (told .falls)
 
   -- the last state
   pub followed : (t : Turn words allowance first m) (r : Next) → onward (t .how) ≡ false → r ≡ nextOf (t .how) (t .g) → Follows words allowance first m r (memory-in t)

@@ -98,13 +98,21 @@ module _ {M : Type 1} (𝓤 : URA M) (H : Heap 𝓤) (A : Atoms 𝓤) (W : Given
 
   -- what the loop keeps beside the locals
   abbrev Kept : State → List (Item 𝓤)
-  Kept t = ‵ (Mine u8 (κs .1 .1 .0) (qs .1 .1 .0) input (t .input)) ∷ ‵ (Mine u8 (κs .1 .1 .1 .0) (qs .1 .1 .1 .0) output (t .output)) ∷ ‵ (Mine u8 (κs .1 .1 .1 .1 .0) (qs .1 .1 .1 .1 .0) journal (t .journal)) ∷ ‵ (Mine usize (κs .1 .1 .1 .1 .1 .0) (qs .1 .1 .1 .1 .1 .0) frames (t .frames)) ∷ ‵ (Mine u8 (κs .1 .1 .1 .1 .1 .1 .0) (qs .1 .1 .1 .1 .1 .1 .0) values (t .values)) ∷ ‵ (flft (κs .1 .1 .0) (qs .1 .1 .0)) ∷ ‵ (flft (κs .1 .1 .1 .0) (qs .1 .1 .1 .0)) ∷ ‵ (flft (κs .1 .1 .1 .1 .0) (qs .1 .1 .1 .1 .0)) ∷ ‵ (flft (κs .1 .1 .1 .1 .1 .0) (qs .1 .1 .1 .1 .1 .0)) ∷ ‵ (flft (κs .1 .1 .1 .1 .1 .1 .0) (qs .1 .1 .1 .1 .1 .1 .0)) ∷ ‵ (flft (κs .0) (qs .0)) ∷ ‵ (flft (κs .1 .0) (qs .1 .0)) ∷ ‵ Bits ∷ ‵ Words ∷ []
+  Kept t = ‵ (Mine u8 (κs .1 .1 .0) (qs .1 .1 .0) input (t .input)) ∷ ‵ (Mine u8 (κs .1 .1 .1 .0) (qs .1 .1 .1 .0) output (t .output)) ∷
+      ‵ (Mine u8 (κs .1 .1 .1 .1 .0) (qs .1 .1 .1 .1 .0) journal (t .journal)) ∷ ‵ (Mine usize (κs .1 .1 .1 .1 .1 .0) (qs .1 .1 .1 .1 .1 .0) frames (t .frames)) ∷
+      ‵ (Mine u8 (κs .1 .1 .1 .1 .1 .1 .0) (qs .1 .1 .1 .1 .1 .1 .0) values (t .values)) ∷ ‵ (flft (κs .1 .1 .0) (qs .1 .1 .0)) ∷
+      ‵ (flft (κs .1 .1 .1 .0) (qs .1 .1 .1 .0)) ∷ ‵ (flft (κs .1 .1 .1 .1 .0) (qs .1 .1 .1 .1 .0)) ∷ ‵ (flft (κs .1 .1 .1 .1 .1 .0) (qs .1 .1 .1 .1 .1 .0)) ∷
+      ‵ (flft (κs .1 .1 .1 .1 .1 .1 .0) (qs .1 .1 .1 .1 .1 .1 .0)) ∷ ‵ (flft (κs .0) (qs .0)) ∷ ‵ (flft (κs .1 .0) (qs .1 .0)) ∷ ‵ Bits ∷ ‵ Words ∷ []
 
-  exits : (t : State) (r : Next) (u : Val) → Follows (now words) allowance first (memory (now input) (now output) (now journal) (now frames) (now values)) r (memory-in t) → ent 𝓤 (⋆ 𝓤 H A (‵ (N.the-row .own r (u ∷ [])) ∷ Kept t)) (Post u)
+  exits : (t : State) (r : Next) (u : Val) → Follows (now words) allowance first (memory (now input) (now output) (now journal) (now frames) (now values)) r
+      (memory-in t) → ent 𝓤 (⋆ 𝓤 H A (‵ (N.the-row .own r (u ∷ [])) ∷ Kept t)) (Post u)
   exits t r u said =
       qed W (‵ (N.the-row .own r (u ∷ [])) ∷ Kept t) ∵
-      suffices ! _ (ends-at 𝓤 H A follow.ended stayed (follow.clauses 𝓤 H A at-mem run) W ((κs, qs, bounds, a, vss), tt) u r (tt, (tt, (tt, (tt, (t .input, (t .output, (t .journal, (t .frames, (t .values, tt))))))))) (tt, (tt, (tt, (tt, (t .same-input, (t .same-output, (t .same-journal, (t .same-frames, (t .same-values, tt)))))))))) $ says ! said $
-      nothing ! $ move ! (11 ∷ 0 ∷ []) $ join ! $ move ! (10 ∷ 0 ∷ []) $ join ! $ move ! (9 ∷ 0 ∷ []) $ join ! $ move ! (8 ∷ 0 ∷ []) $ join ! $ move ! (7 ∷ 0 ∷ []) $ join ! $ move ! (8 ∷ 0 ∷ []) $ join ! $
+      suffices ! _ (ends-at 𝓤 H A follow.ended stayed (follow.clauses 𝓤 H A at-mem run) W ((κs, qs, bounds, a, vss), tt) u r
+      (tt, (tt, (tt, (tt, (t .input, (t .output, (t .journal, (t .frames, (t .values, tt)))))))))
+      (tt, (tt, (tt, (tt, (t .same-input, (t .same-output, (t .same-journal, (t .same-frames, (t .same-values, tt)))))))))) $ says ! said $
+      nothing ! $ move ! (11 ∷ 0 ∷ []) $ join ! $ move ! (10 ∷ 0 ∷ []) $ join ! $ move ! (9 ∷ 0 ∷ []) $ join ! $ move ! (8 ∷ 0 ∷ []) $ join ! $ move ! (7 ∷ 0 ∷ []) $
+      join ! $ move ! (8 ∷ 0 ∷ []) $ join ! $
       move ! (7 ∷ 0 ∷ []) $ join ! $ frame ! $ move ! (6 ∷ []) $ drop ! $ move ! (6 ∷ []) $ drop ! $ nothing ! $
       move ! (6 ∷ 0 ∷ []) $ as-passed ! u8 (κs .1 .1 .1 .1 .1 .1 .0) (qs .1 .1 .1 .1 .1 .1 .0) values (t .values) (t .same-values) $ fjoin ! $
       move ! (5 ∷ 0 ∷ []) $ as-passed ! usize (κs .1 .1 .1 .1 .1 .0) (qs .1 .1 .1 .1 .1 .0) frames (t .frames) (t .same-frames) $ fjoin ! $
@@ -132,14 +140,18 @@ module _ {M : Type 1} (𝓤 : URA M) (H : Heap 𝓤) (A : Atoms 𝓤) (W : Given
 
     module _ (l₀ l₁ l₂ l₃ l₄ l₅ l₆ l₇ l₈ l₉ l₁₀ l₁₁ l₁₂ l₁₃ l₁₄ l₁₅ l₁₆ l₁₇ l₁₈ l₁₉ l₂₀ l₂₁ l₂₂ l₂₃ l₂₄ : ℕ) where
       abbrev En : Env 𝓤 H
-      En = placed (code.function .locals) (l₀ ∷ l₁ ∷ l₂ ∷ l₃ ∷ l₄ ∷ l₅ ∷ l₆ ∷ l₇ ∷ l₈ ∷ l₉ ∷ l₁₀ ∷ l₁₁ ∷ l₁₂ ∷ l₁₃ ∷ l₁₄ ∷ l₁₅ ∷ l₁₆ ∷ l₁₇ ∷ l₁₈ ∷ l₁₉ ∷ l₂₀ ∷ l₂₁ ∷ l₂₂ ∷ l₂₃ ∷ l₂₄ ∷ [])
+      En = placed (code.function .locals) (l₀ ∷ l₁ ∷ l₂ ∷ l₃ ∷ l₄ ∷ l₅ ∷ l₆ ∷ l₇ ∷ l₈ ∷ l₉ ∷ l₁₀ ∷ l₁₁ ∷ l₁₂ ∷ l₁₃ ∷ l₁₄ ∷ l₁₅ ∷ l₁₆ ∷ l₁₇ ∷ l₁₈ ∷ l₁₉ ∷ l₂₀ ∷
+          l₂₁ ∷ l₂₂ ∷ l₂₃ ∷ l₂₄ ∷ [])
 
       abbrev holding : ℕ → ℕ → Val → Item 𝓤
       holding i b v = ‵ (fat fullShare (type-at i (code.function .locals)) b 0 v)
 
       -- what the locals hold from the first parameter to the status, and the context in a state
       abbrev passed : State → List Content
-      passed t = holds (EL.val N.the-type N′.the-laws first) ∷ holds (vptr (ptr bits .0) (ptr bits .1)) ∷ holds (sliceVal (ptr words) (length (now words))) ∷ holds (vint w32 allowance) ∷ holds (sliceVal (ptr input) (length (t .input))) ∷ holds (sliceVal (ptr output) (length (t .output))) ∷ holds (sliceVal (ptr journal) (length (t .journal))) ∷ holds (sliceVal (ptr frames) (length (t .frames))) ∷ holds (sliceVal (ptr values) (length (t .values))) ∷ holds (registers-val (t .g)) ∷ holds (t .value) ∷ []
+      passed t = holds (EL.val N.the-type N′.the-laws first) ∷ holds (vptr (ptr bits .0) (ptr bits .1)) ∷ holds (sliceVal (ptr words) (length (now words))) ∷
+          holds (vint w32 allowance) ∷ holds (sliceVal (ptr input) (length (t .input))) ∷ holds (sliceVal (ptr output) (length (t .output))) ∷
+          holds (sliceVal (ptr journal) (length (t .journal))) ∷ holds (sliceVal (ptr frames) (length (t .frames))) ∷
+          holds (sliceVal (ptr values) (length (t .values))) ∷ holds (registers-val (t .g)) ∷ holds (t .value) ∷ []
 
       abbrev At : State → List (Item 𝓤)
       At t = laid En (vacant ∷ passed t) ++ Kept t
@@ -159,14 +171,24 @@ module _ {M : Type 1} (𝓤 : URA M) (H : Heap 𝓤) (A : Atoms 𝓤) (W : Given
       to-step t ν ν₁ ν₂ ν₃ ν₄ ν₅ δ δ₁ δ₂ δ₃ δ₄ δ₅ = ((step-lifetimes ν ν₁ ν₂ ν₃ ν₄ ν₅, (fullShare, (qs .0, (qs .1 .0, (fullShare, (fullShare, (fullShare, (fullShare, (fullShare, tt)))))))), tt, step-args t ν ν₁ ν₂ ν₃ ν₄ ν₅ δ δ₁ δ₂ δ₃ δ₄ δ₅, (vptr l₁₀ 0 ∷ [], (ptr-vals bits, (slice-vals words, (uint-vals w32 allowance, (sliceVal (ptr input) (length (t .input)) ∷ [], (sliceVal (ptr output) (length (t .output)) ∷ [], (sliceVal (ptr journal) (length (t .journal)) ∷ [], (sliceVal (ptr frames) (length (t .frames)) ∷ [], (sliceVal (ptr values) (length (t .values)) ∷ [], tt)))))))))), tt)
 
       abbrev Lent : State → (ν ν₁ ν₂ ν₃ ν₄ ν₅ : ℕ) (δ δ₁ δ₂ δ₃ δ₄ δ₅ : GName) → List (Item 𝓤)
-      Lent t ν ν₁ ν₂ ν₃ ν₄ ν₅ δ δ₁ δ₂ δ₃ δ₄ δ₅ = ‵ (flft (ν ∷ []) fullShare) ∷ ‵ (flft (κs .0) (qs .0)) ∷ ‵ (flft (κs .1 .0) (qs .1 .0)) ∷ ‵ (flft (ν₁ ∷ []) fullShare) ∷ ‵ (flft (ν₂ ∷ []) fullShare) ∷ ‵ (flft (ν₃ ∷ []) fullShare) ∷ ‵ (flft (ν₄ ∷ []) fullShare) ∷ ‵ (flft (ν₅ ∷ []) fullShare) ∷ ‵ (MutRef erased (ν ∷ []) R.the-row .own (record { ptr = (l₁₀, 0); name = δ; now = t .g }) (vptr l₁₀ 0 ∷ [])) ∷ ‵ Bits ∷ ‵ Words ∷ ‵ (Theirs u8 (κs .1 .1 .0) (qs .1 .1 .0) input ν₁ δ₁ (t .input)) ∷ ‵ (Theirs u8 (κs .1 .1 .1 .0) (qs .1 .1 .1 .0) output ν₂ δ₂ (t .output)) ∷ ‵ (Theirs u8 (κs .1 .1 .1 .1 .0) (qs .1 .1 .1 .1 .0) journal ν₃ δ₃ (t .journal)) ∷ ‵ (Theirs usize (κs .1 .1 .1 .1 .1 .0) (qs .1 .1 .1 .1 .1 .0) frames ν₄ δ₄ (t .frames)) ∷ ‵ (Theirs u8 (κs .1 .1 .1 .1 .1 .1 .0) (qs .1 .1 .1 .1 .1 .1 .0) values ν₅ δ₅ (t .values)) ∷ []
+      Lent t ν ν₁ ν₂ ν₃ ν₄ ν₅ δ δ₁ δ₂ δ₃ δ₄ δ₅ = ‵ (flft (ν ∷ []) fullShare) ∷ ‵ (flft (κs .0) (qs .0)) ∷ ‵ (flft (κs .1 .0) (qs .1 .0)) ∷
+          ‵ (flft (ν₁ ∷ []) fullShare) ∷ ‵ (flft (ν₂ ∷ []) fullShare) ∷ ‵ (flft (ν₃ ∷ []) fullShare) ∷ ‵ (flft (ν₄ ∷ []) fullShare) ∷ ‵ (flft (ν₅ ∷ []) fullShare) ∷
+          ‵ (MutRef erased (ν ∷ []) R.the-row .own (record { ptr = (l₁₀, 0); name = δ; now = t .g }) (vptr l₁₀ 0 ∷ [])) ∷ ‵ Bits ∷ ‵ Words ∷
+          ‵ (Theirs u8 (κs .1 .1 .0) (qs .1 .1 .0) input ν₁ δ₁ (t .input)) ∷ ‵ (Theirs u8 (κs .1 .1 .1 .0) (qs .1 .1 .1 .0) output ν₂ δ₂ (t .output)) ∷
+          ‵ (Theirs u8 (κs .1 .1 .1 .1 .0) (qs .1 .1 .1 .1 .0) journal ν₃ δ₃ (t .journal)) ∷
+          ‵ (Theirs usize (κs .1 .1 .1 .1 .1 .0) (qs .1 .1 .1 .1 .1 .0) frames ν₄ δ₄ (t .frames)) ∷
+          ‵ (Theirs u8 (κs .1 .1 .1 .1 .1 .1 .0) (qs .1 .1 .1 .1 .1 .1 .0) values ν₅ δ₅ (t .values)) ∷ []
 
-      goes-step : (t : State) (ν ν₁ ν₂ ν₃ ν₄ ν₅ : ℕ) (δ δ₁ δ₂ δ₃ δ₄ δ₅ : GName) → onward (t .how) ≡ true → ent 𝓤 (⋆ 𝓤 H A (Lent t ν ν₁ ν₂ ν₃ ν₄ ν₅ δ δ₁ δ₂ δ₃ δ₄ δ₅)) (Step 𝓤 H A at-mem run .pre (to-step t ν ν₁ ν₂ ν₃ ν₄ ν₅ δ δ₁ δ₂ δ₃ δ₄ δ₅))
+      goes-step : (t : State) (ν ν₁ ν₂ ν₃ ν₄ ν₅ : ℕ) (δ δ₁ δ₂ δ₃ δ₄ δ₅ : GName) → onward (t .how) ≡ true →
+          ent 𝓤 (⋆ 𝓤 H A (Lent t ν ν₁ ν₂ ν₃ ν₄ ν₅ δ δ₁ δ₂ δ₃ δ₄ δ₅)) (Step 𝓤 H A at-mem run .pre (to-step t ν ν₁ ν₂ ν₃ ν₄ ν₅ δ δ₁ δ₂ δ₃ δ₄ δ₅))
       goes-step t ν ν₁ ν₂ ν₃ ν₄ ν₅ δ δ₁ δ₂ δ₃ δ₄ δ₅ said =
           qed W (Lent t ν ν₁ ν₂ ν₃ ν₄ ν₅ δ δ₁ δ₂ δ₃ δ₄ δ₅) ∵
-          nothing ! $ move ! (16 ∷ 0 ∷ []) $ fjoin ! $ move ! (15 ∷ 0 ∷ []) $ fjoin ! $ move ! (14 ∷ 0 ∷ []) $ fjoin ! $ move ! (13 ∷ 0 ∷ []) $ fjoin ! $ move ! (12 ∷ 0 ∷ []) $ fjoin ! $
-          owned ! u32 (Is u32) (uint-makes 𝓤 H A W w32) allowance _ (refl, are .1 .1 .1 .0 .1) $ fjoin ! $ move ! (11 ∷ 0 ∷ []) $ fjoin ! $ move ! (10 ∷ 0 ∷ []) $ fjoin ! $ move ! (9 ∷ 0 ∷ []) $ fjoin ! $
-          nothing ! $ move ! (9 ∷ 0 ∷ []) $ join ! $ move ! (8 ∷ 0 ∷ []) $ join ! $ move ! (7 ∷ 0 ∷ []) $ join ! $ move ! (6 ∷ 0 ∷ []) $ join ! $ move ! (5 ∷ 0 ∷ []) $ join ! $ move ! (4 ∷ 0 ∷ []) $ join ! $
+          nothing ! $ move ! (16 ∷ 0 ∷ []) $ fjoin ! $ move ! (15 ∷ 0 ∷ []) $ fjoin ! $ move ! (14 ∷ 0 ∷ []) $ fjoin ! $ move ! (13 ∷ 0 ∷ []) $ fjoin ! $
+          move ! (12 ∷ 0 ∷ []) $ fjoin ! $
+          owned ! u32 (Is u32) (uint-makes 𝓤 H A W w32) allowance _ (refl, are .1 .1 .1 .0 .1) $ fjoin ! $ move ! (11 ∷ 0 ∷ []) $ fjoin ! $ move ! (10 ∷ 0 ∷ []) $
+          fjoin ! $ move ! (9 ∷ 0 ∷ []) $ fjoin ! $
+          nothing ! $ move ! (9 ∷ 0 ∷ []) $ join ! $ move ! (8 ∷ 0 ∷ []) $ join ! $ move ! (7 ∷ 0 ∷ []) $ join ! $ move ! (6 ∷ 0 ∷ []) $ join ! $
+          move ! (5 ∷ 0 ∷ []) $ join ! $ move ! (4 ∷ 0 ∷ []) $ join ! $
           move ! (3 ∷ 0 ∷ []) $ join ! $ move ! (2 ∷ 0 ∷ []) $ join ! $ join ! $ frame ! $
           use0 W (raw (fact 𝓤 (Underway allowance (t .g) (memory-in t)))) (factI 𝓤 (Underway allowance (t .g) (memory-in t)) (emp 𝓤) (may-step t said)) $
           use0 W (raw (fact 𝓤 (countIn (now words) < length (now words)))) (factI 𝓤 (countIn (now words) < length (now words)) (emp 𝓤) req₂) $
@@ -177,13 +199,18 @@ module _ {M : Type 1} (𝓤 : URA M) (H : Heap 𝓤) (A : Atoms 𝓤) (W : Given
       Goes t = Seq (Go {0}) W (At t) (runs (𝓣 .C) (𝓣 .Λ) En body.turn-1 (anyQ (afterTurn 𝓤 H (Below 𝓤 H A Less At t) Left)))
 
       -- `is_onward` is asked
-      asked : (t : State) (y : Bool) → onward (t .how) ≡ y → {rest : Code} {q : After 𝓤 H} → Seq (Go {0}) W (laid En (vacant ∷ (passed t ++ vacant ∷ holds (vbool y) ∷ [])) ++ Kept t) (runs (𝓣 .C) (𝓣 .Λ) En rest q)
+      asked : (t : State) (y : Bool) → onward (t .how) ≡ y → {rest : Code} {q : After 𝓤 H} →
+          Seq (Go {0}) W (laid En (vacant ∷ (passed t ++ vacant ∷ holds (vbool y) ∷ [])) ++ Kept t) (runs (𝓣 .C) (𝓣 .Λ) En rest q)
           → Seq (Go {0}) W (At t) (runs (𝓣 .C) (𝓣 .Λ) En (seq (call #stepping·is-onward (copy (place 11 []) ∷ []) (place 13 [])) rest) q)
       asked t y said k =
-          owned ! S.the-row (Is S.the-row) (EL.makes S.the-type S′.the-plain 𝓤 H A) (t .how) (t .value ∷ []) (t .typed) $ use1 W (raw (IsOnward 𝓤 H A at-mem run .pre (to-onward 𝓤 H A at-mem run (t .how) (t .value)))) (asks-onward 𝓤 H A at-mem run W (t .how) (t .value)) $
-          calls-at ! fm (IsOnward 𝓤 H A at-mem run) known-onward (to-onward 𝓤 H A at-mem run (t .how) (t .value)) (and-then ! (load ! (from ! (stop !)) (look ! 23 refl)) (no-more !)) (λ w.
-          answers ! tt Boolean _ (λ z. z ≡ onward (t .how)) (onward-said 𝓤 H A at-mem run (t .how)) w (λ z e is. drop ! $ land ! (from ! (stop !)) (init ! 26 refl (bool-lawful 𝓤 H A W .typed z _ is .0)) $
-          rewrite ! 26 (λ (v : Val). ‵ (fat fullShare tyBool l₁₃ 0 v)) (ap only is) refl $ rewrite ! 26 (λ (x : Bool). ‵ (fat fullShare tyBool l₁₃ 0 (vbool x))) (e ∙ said) refl $ k))
+          owned ! S.the-row (Is S.the-row) (EL.makes S.the-type S′.the-plain 𝓤 H A) (t .how) (t .value ∷ []) (t .typed) $
+          use1 W (raw (IsOnward 𝓤 H A at-mem run .pre (to-onward 𝓤 H A at-mem run (t .how) (t .value)))) (asks-onward 𝓤 H A at-mem run W (t .how) (t .value)) $
+          calls-at ! fm (IsOnward 𝓤 H A at-mem run) known-onward (to-onward 𝓤 H A at-mem run (t .how) (t .value))
+          (and-then ! (load ! (from ! (stop !)) (look ! 23 refl)) (no-more !)) (λ w.
+          answers ! tt Boolean _ (λ z. z ≡ onward (t .how)) (onward-said 𝓤 H A at-mem run (t .how)) w
+          (λ z e is. drop ! $ land ! (from ! (stop !)) (init ! 26 refl (bool-lawful 𝓤 H A W .typed z _ is .0)) $
+          rewrite ! 26 (λ (v : Val). ‵ (fat fullShare tyBool l₁₃ 0 v)) (ap only is) refl $
+          rewrite ! 26 (λ (x : Bool). ‵ (fat fullShare tyBool l₁₃ 0 (vbool x))) (e ∙ said) refl $ k))
 
       -- a turn that does an instruction
       goes-on : (t : State) → onward (t .how) ≡ true → Goes t
@@ -191,17 +218,28 @@ module _ {M : Type 1} (𝓤 : URA M) (H : Heap 𝓤) (A : Atoms 𝓤) (W : Given
       goes-on t said =
           asked t true said (stays ! (load ! (from ! (stop !)) (look ! 26 refl)) $ assigns ! (addr ! (from ! (stop !))) (from ! (stop !)) (init ! 28 refl (tt, tt)) $
           assigns ! (addr ! (from ! (fld ! refl (hop ! (look-in ! 10 (sub ! 0 refl (whole !))) (stop !))))) (from ! (stop !)) (init ! 30 refl (tt, tt)) $
-          assigns ! (agg ! (and-then ! (load ! (from ! (stop !)) (look ! 30 refl)) (and-then ! (load ! (from ! (fld ! refl (stop !))) (look-in ! 10 (sub ! 1 refl (whole !)))) (no-more !)))) (from ! (stop !)) (init ! 32 refl (tt, (tt, (record { fits = fits-input t .0 }, tt)))) $
+          assigns ! (agg ! (and-then ! (load ! (from ! (stop !)) (look ! 30 refl))
+          (and-then ! (load ! (from ! (fld ! refl (stop !))) (look-in ! 10 (sub ! 1 refl (whole !)))) (no-more !)))) (from ! (stop !))
+          (init ! 32 refl (tt, (tt, (record { fits = fits-input t .0 }, tt)))) $
           assigns ! (addr ! (from ! (fld ! refl (hop ! (look-in ! 12 (sub ! 0 refl (whole !))) (stop !))))) (from ! (stop !)) (init ! 34 refl (tt, tt)) $
-          assigns ! (agg ! (and-then ! (load ! (from ! (stop !)) (look ! 34 refl)) (and-then ! (load ! (from ! (fld ! refl (stop !))) (look-in ! 12 (sub ! 1 refl (whole !)))) (no-more !)))) (from ! (stop !)) (init ! 36 refl (tt, (tt, (record { fits = fits-output t .0 }, tt)))) $
+          assigns ! (agg ! (and-then ! (load ! (from ! (stop !)) (look ! 34 refl))
+          (and-then ! (load ! (from ! (fld ! refl (stop !))) (look-in ! 12 (sub ! 1 refl (whole !)))) (no-more !)))) (from ! (stop !))
+          (init ! 36 refl (tt, (tt, (record { fits = fits-output t .0 }, tt)))) $
           assigns ! (addr ! (from ! (fld ! refl (hop ! (look-in ! 14 (sub ! 0 refl (whole !))) (stop !))))) (from ! (stop !)) (init ! 38 refl (tt, tt)) $
-          assigns ! (agg ! (and-then ! (load ! (from ! (stop !)) (look ! 38 refl)) (and-then ! (load ! (from ! (fld ! refl (stop !))) (look-in ! 14 (sub ! 1 refl (whole !)))) (no-more !)))) (from ! (stop !)) (init ! 40 refl (tt, (tt, (record { fits = fits-journal t .0 }, tt)))) $
+          assigns ! (agg ! (and-then ! (load ! (from ! (stop !)) (look ! 38 refl))
+          (and-then ! (load ! (from ! (fld ! refl (stop !))) (look-in ! 14 (sub ! 1 refl (whole !)))) (no-more !)))) (from ! (stop !))
+          (init ! 40 refl (tt, (tt, (record { fits = fits-journal t .0 }, tt)))) $
           assigns ! (addr ! (from ! (fld ! refl (hop ! (look-in ! 16 (sub ! 0 refl (whole !))) (stop !))))) (from ! (stop !)) (init ! 42 refl (tt, tt)) $
-          assigns ! (agg ! (and-then ! (load ! (from ! (stop !)) (look ! 42 refl)) (and-then ! (load ! (from ! (fld ! refl (stop !))) (look-in ! 16 (sub ! 1 refl (whole !)))) (no-more !)))) (from ! (stop !)) (init ! 44 refl (tt, (tt, (record { fits = fits-frames t .0 }, tt)))) $
+          assigns ! (agg ! (and-then ! (load ! (from ! (stop !)) (look ! 42 refl))
+          (and-then ! (load ! (from ! (fld ! refl (stop !))) (look-in ! 16 (sub ! 1 refl (whole !)))) (no-more !)))) (from ! (stop !))
+          (init ! 44 refl (tt, (tt, (record { fits = fits-frames t .0 }, tt)))) $
           assigns ! (addr ! (from ! (fld ! refl (hop ! (look-in ! 18 (sub ! 0 refl (whole !))) (stop !))))) (from ! (stop !)) (init ! 46 refl (tt, tt)) $
-          assigns ! (agg ! (and-then ! (load ! (from ! (stop !)) (look ! 46 refl)) (and-then ! (load ! (from ! (fld ! refl (stop !))) (look-in ! 18 (sub ! 1 refl (whole !)))) (no-more !)))) (from ! (stop !)) (init ! 48 refl (tt, (tt, (record { fits = fits-values t .0 }, tt)))) $
+          assigns ! (agg ! (and-then ! (load ! (from ! (stop !)) (look ! 46 refl))
+          (and-then ! (load ! (from ! (fld ! refl (stop !))) (look-in ! 18 (sub ! 1 refl (whole !)))) (no-more !)))) (from ! (stop !))
+          (init ! 48 refl (tt, (tt, (record { fits = fits-values t .0 }, tt)))) $
           -- the registers are lent, and each slice is lent again, for lifetimes of the call
-          move ! (20 ∷ []) $ lends-registers ! tt (t .g) (t .kept) l₁₀ (λ ν δ. move ! (52 ∷ 57 ∷ []) $ lends-slice-again ! tt u8 (κs .1 .1 .0) (qs .1 .1 .0) input (t .input) (λ ν₁ δ₁.
+          move ! (20 ∷ []) $ lends-registers ! tt (t .g) (t .kept) l₁₀
+          (λ ν δ. move ! (52 ∷ 57 ∷ []) $ lends-slice-again ! tt u8 (κs .1 .1 .0) (qs .1 .1 .0) input (t .input) (λ ν₁ δ₁.
           move ! (55 ∷ 59 ∷ []) $ lends-slice-again ! tt u8 (κs .1 .1 .1 .0) (qs .1 .1 .1 .0) output (t .output) (λ ν₂ δ₂.
           move ! (58 ∷ 61 ∷ []) $ lends-slice-again ! tt u8 (κs .1 .1 .1 .1 .0) (qs .1 .1 .1 .1 .0) journal (t .journal) (λ ν₃ δ₃.
           move ! (61 ∷ 63 ∷ []) $ lends-slice-again ! tt usize (κs .1 .1 .1 .1 .1 .0) (qs .1 .1 .1 .1 .1 .0) frames (t .frames) (λ ν₄ δ₄.
@@ -211,14 +249,28 @@ module _ {M : Type 1} (𝓤 : URA M) (H : Heap 𝓤) (A : Atoms 𝓤) (W : Given
           move ! (71 ∷ []) $ use1 W (‵ Words ⊛ ‵ Words) (shr-slice-copy 𝓤 H A W erased (κs .1 .0) u32 .twice words (slice-vals words)) $ split ! $
           move ! (21 ∷ 71 ∷ 72 ∷ 18 ∷ 15 ∷ 12 ∷ 9 ∷ 6 ∷ 19 ∷ 3 ∷ 1 ∷ 16 ∷ 13 ∷ 10 ∷ 7 ∷ 4 ∷ []) $
           group ! 16 $ use1 W (raw (Step 𝓤 H A at-mem run .pre (to-step t ν ν₁ ν₂ ν₃ ν₄ ν₅ δ δ₁ δ₂ δ₃ δ₄ δ₅))) (goes-step t ν ν₁ ν₂ ν₃ ν₄ ν₅ δ δ₁ δ₂ δ₃ δ₄ δ₅ said) $
-          calls-at-last ! fm (Step 𝓤 H A at-mem run) known-step (to-step t ν ν₁ ν₂ ν₃ ν₄ ν₅ δ δ₁ δ₂ δ₃ δ₄ δ₅) (and-then ! (load ! (from ! (stop !)) (look ! 36 refl)) (and-then ! (load ! (from ! (stop !)) (look ! 13 refl)) (and-then ! (load ! (from ! (stop !)) (look ! 15 refl)) (and-then ! (load ! (from ! (stop !)) (look ! 17 refl)) (and-then ! (load ! (from ! (stop !)) (look ! 40 refl)) (and-then ! (load ! (from ! (stop !)) (look ! 44 refl)) (and-then ! (load ! (from ! (stop !)) (look ! 48 refl)) (and-then ! (load ! (from ! (stop !)) (look ! 52 refl)) (and-then ! (load ! (from ! (stop !)) (look ! 56 refl)) (no-more !)))))))))) (λ w.
-          use1 W (later (some (λ (x : Status). ((‵ (flft (ν ∷ []) fullShare) ⊛ ‵ (flft (κs .0) (qs .0)) ⊛ ‵ (flft (κs .1 .0) (qs .1 .0)) ⊛ ‵ (flft (ν₁ ∷ []) fullShare) ⊛ ‵ (flft (ν₂ ∷ []) fullShare) ⊛ ‵ (flft (ν₃ ∷ []) fullShare) ⊛ ‵ (flft (ν₄ ∷ []) fullShare) ⊛ ‵ (flft (ν₅ ∷ []) fullShare) ⊛ ‵ ftrue) ⊛ ‵ (S.the-row .own x (w ∷ []))) ⊛ some (λ (ws : Changed). ‵ (lasts step.ended (step-lifetimes ν ν₁ ν₂ ν₃ ν₄ ν₅) (step-args t ν ν₁ ν₂ ν₃ ν₄ ν₅ δ δ₁ δ₂ δ₃ δ₄ δ₅) ws) ⊛ raw (fact 𝓤 (Told t x ws)))))) (id⊢ 𝓤 _) $ await ! tt $ pick ! (λ x.
+          calls-at-last ! fm (Step 𝓤 H A at-mem run) known-step (to-step t ν ν₁ ν₂ ν₃ ν₄ ν₅ δ δ₁ δ₂ δ₃ δ₄ δ₅)
+          (and-then ! (load ! (from ! (stop !)) (look ! 36 refl))
+          (and-then ! (load ! (from ! (stop !)) (look ! 13 refl))
+          (and-then ! (load ! (from ! (stop !)) (look ! 15 refl))
+          (and-then ! (load ! (from ! (stop !)) (look ! 17 refl))
+          (and-then ! (load ! (from ! (stop !)) (look ! 40 refl))
+          (and-then ! (load ! (from ! (stop !)) (look ! 44 refl))
+          (and-then ! (load ! (from ! (stop !)) (look ! 48 refl))
+          (and-then ! (load ! (from ! (stop !)) (look ! 52 refl)) (and-then ! (load ! (from ! (stop !)) (look ! 56 refl)) (no-more !)))))))))) (λ w.
+          use1 W (later (some (λ (x : Status). ((‵ (flft (ν ∷ []) fullShare) ⊛ ‵ (flft (κs .0) (qs .0)) ⊛ ‵ (flft (κs .1 .0) (qs .1 .0)) ⊛
+          ‵ (flft (ν₁ ∷ []) fullShare) ⊛ ‵ (flft (ν₂ ∷ []) fullShare) ⊛ ‵ (flft (ν₃ ∷ []) fullShare) ⊛ ‵ (flft (ν₄ ∷ []) fullShare) ⊛
+          ‵ (flft (ν₅ ∷ []) fullShare) ⊛ ‵ ftrue) ⊛ ‵ (S.the-row .own x (w ∷ []))) ⊛
+          some (λ (ws : Changed). ‵ (lasts step.ended (step-lifetimes ν ν₁ ν₂ ν₃ ν₄ ν₅) (step-args t ν ν₁ ν₂ ν₃ ν₄ ν₅ δ δ₁ δ₂ δ₃ δ₄ δ₅) ws) ⊛
+          raw (fact 𝓤 (Told t x ws)))))) (id⊢ 𝓤 _) $ await ! tt $ pick ! (λ x.
           split ! $ move ! (1 ∷ []) $ pick ! (λ ws. split ! $ move ! (1 ∷ []) $ heard ! (Told t x ws) (λ told.
           -- the last values are taken apart
           fsplit ! $ move ! (1 ∷ []) $ fsplit ! $ drop ! $ fsplit ! $ drop ! $ fsplit ! $ drop ! $ fsplit ! $ fsplit ! $ move ! (1 ∷ []) $ feqL ! (λ e₁.
           move ! (1 ∷ []) $ fsplit ! $ fsplit ! $ move ! (1 ∷ []) $ feqL ! (λ e₂. move ! (1 ∷ []) $ fsplit ! $ fsplit ! $ move ! (1 ∷ []) $ feqL ! (λ e₃.
-          move ! (1 ∷ []) $ fsplit ! $ fsplit ! $ move ! (1 ∷ []) $ feqL ! (λ e₄. move ! (1 ∷ []) $ fsplit ! $ fsplit ! $ move ! (1 ∷ []) $ feqL ! (λ e₅. move ! (1 ∷ []) $ drop ! $ move ! (6 ∷ []) $ split ! $
-          move ! (1 ∷ []) $ facts ! S.the-row (Is S.the-row) (shows 𝓤 H A S.the-row) x (w ∷ []) (λ is-x. split ! $ move ! (1 ∷ []) $ split ! $ move ! (1 ∷ []) $ split ! $ move ! (1 ∷ []) $ split ! $
+          move ! (1 ∷ []) $ fsplit ! $ fsplit ! $ move ! (1 ∷ []) $ feqL !
+          (λ e₄. move ! (1 ∷ []) $ fsplit ! $ fsplit ! $ move ! (1 ∷ []) $ feqL ! (λ e₅. move ! (1 ∷ []) $ drop ! $ move ! (6 ∷ []) $ split ! $
+          move ! (1 ∷ []) $ facts ! S.the-row (Is S.the-row) (shows 𝓤 H A S.the-row) x (w ∷ [])
+          (λ is-x. split ! $ move ! (1 ∷ []) $ split ! $ move ! (1 ∷ []) $ split ! $ move ! (1 ∷ []) $ split ! $
           move ! (1 ∷ []) $ split ! $ move ! (1 ∷ []) $ split ! $ move ! (1 ∷ []) $ split ! $ move ! (1 ∷ []) $ split ! $ move ! (1 ∷ []) $ drop ! $
           -- the lifetimes end, and the registers and the slices come back
           move ! (7 ∷ 21 ∷ 13 ∷ []) $ registers-come-back ! tt (ws .0) l₁₀ (λ kept′.
@@ -230,10 +282,14 @@ module _ {M : Type 1} (𝓤 : URA M) (H : Heap 𝓤) (A : Atoms 𝓤) (W : Given
           rewrite ! 31 (λ (m : ℕ). holding 7 l₇ (sliceVal (ptr journal) m)) (sym e₃) refl $
           move ! (8 ∷ 16 ∷ 12 ∷ []) $ slice-comes-back ! tt usize (κs .1 .1 .1 .1 .1 .0) (qs .1 .1 .1 .1 .1 .0) frames (t .frames) (ws .1 .1 .1 .1 .1 .1 .1 .0) (fits-frames t) e₄ $
           rewrite ! 32 (λ (m : ℕ). holding 8 l₈ (sliceVal (ptr frames) m)) (sym e₄) refl $
-          move ! (9 ∷ 15 ∷ 12 ∷ []) $ slice-comes-back ! tt u8 (κs .1 .1 .1 .1 .1 .1 .0) (qs .1 .1 .1 .1 .1 .1 .0) values (t .values) (ws .1 .1 .1 .1 .1 .1 .1 .1 .0) (fits-values t) e₅ $
+          move ! (9 ∷ 15 ∷ 12 ∷ []) $ slice-comes-back ! tt u8 (κs .1 .1 .1 .1 .1 .1 .0) (qs .1 .1 .1 .1 .1 .1 .0) values (t .values)
+          (ws .1 .1 .1 .1 .1 .1 .1 .1 .0) (fits-values t) e₅ $
           rewrite ! 33 (λ (m : ℕ). holding 9 l₉ (sliceVal (ptr values) m)) (sym e₅) refl $
-          land-last ! (from ! (stop !)) (store ! 36 refl (EL.lawful S.the-type S′.the-laws 𝓤 H A W tt .typed x _ is-x .0)) $ forget ! 40 refl $ forget ! 42 refl $ forget ! 44 refl $ forget ! 46 refl $ forget ! 48 refl $ forget ! 50 refl $ forget ! 52 refl $ forget ! 54 refl $ forget ! 56 refl $ forget ! 58 refl $ forget ! 60 refl $ forget ! 62 refl $
-          move ! (15 ∷ 16 ∷ 17 ∷ 18 ∷ 19 ∷ 20 ∷ 21 ∷ 22 ∷ 23 ∷ 24 ∷ 25 ∷ 26 ∷ 27 ∷ 28 ∷ 29 ∷ 30 ∷ 31 ∷ 32 ∷ 33 ∷ 34 ∷ 10 ∷ 35 ∷ 36 ∷ 37 ∷ 38 ∷ 39 ∷ 40 ∷ 41 ∷ 42 ∷ 43 ∷ 44 ∷ 45 ∷ 46 ∷ 47 ∷ 48 ∷ 49 ∷ 50 ∷ 51 ∷ 52 ∷ 53 ∷ 54 ∷ 55 ∷ 56 ∷ 57 ∷ 58 ∷ 59 ∷ 60 ∷ 61 ∷ 62 ∷ 63 ∷ 8 ∷ 6 ∷ 4 ∷ 2 ∷ 0 ∷ 9 ∷ 7 ∷ 5 ∷ 3 ∷ 1 ∷ 12 ∷ 11 ∷ 14 ∷ []) $
+          land-last ! (from ! (stop !)) (store ! 36 refl (EL.lawful S.the-type S′.the-laws 𝓤 H A W tt .typed x _ is-x .0)) $ forget ! 40 refl $ forget ! 42 refl $
+          forget ! 44 refl $ forget ! 46 refl $ forget ! 48 refl $ forget ! 50 refl $ forget ! 52 refl $ forget ! 54 refl $ forget ! 56 refl $ forget ! 58 refl $
+          forget ! 60 refl $ forget ! 62 refl $
+          move ! (15 ∷ 16 ∷ 17 ∷ 18 ∷ 19 ∷ 20 ∷ 21 ∷ 22 ∷ 23 ∷ 24 ∷ 25 ∷ 26 ∷ 27 ∷ 28 ∷ 29 ∷ 30 ∷ 31 ∷ 32 ∷ 33 ∷ 34 ∷ 10 ∷ 35 ∷ 36 ∷ 37 ∷ 38 ∷ 39 ∷ 40 ∷ 41 ∷ 42 ∷
+          43 ∷ 44 ∷ 45 ∷ 46 ∷ 47 ∷ 48 ∷ 49 ∷ 50 ∷ 51 ∷ 52 ∷ 53 ∷ 54 ∷ 55 ∷ 56 ∷ 57 ∷ 58 ∷ 59 ∷ 60 ∷ 61 ∷ 62 ∷ 63 ∷ 8 ∷ 6 ∷ 4 ∷ 2 ∷ 0 ∷ 9 ∷ 7 ∷ 5 ∷ 3 ∷ 1 ∷ 12 ∷ 11 ∷ 14 ∷ []) $
           again ! Less At t (next-turn t x w ws told e₁ e₂ e₃ e₄ e₅ kept′ is-x said) (falls t x ws told said)))))))))))))))))))
 
       -- the turn that leaves the loop, and the rest of the body
@@ -241,13 +297,17 @@ module _ {M : Type 1} (𝓤 : URA M) (H : Heap 𝓤) (A : Atoms 𝓤) (W : Given
       unfolding afterTurn
       ends t said =
           asked t false said (leaves-loop ! (load ! (from ! (stop !)) (look ! 26 refl)) $ exec ! (𝓣 .C) (𝓣 .Λ) En body.t-5 (atRet En Post) $
-          assigns ! (of-opd ! (load ! (from ! (stop !)) (look ! 20 refl))) (from ! (stop !)) (init ! 24 refl (LL.lawful R.the-type R′.the-laws 𝓤 H A W .typed (t .g) _ (t .kept) .0)) $
-          nothing ! $ owned ! R.the-row (Is R.the-row) (LL.makes R.the-type R′.the-plain 𝓤 H A) (t .g) (registers-vals (t .g)) (t .kept) $ fjoin ! $ owned ! S.the-row (Is S.the-row) (EL.makes S.the-type S′.the-plain 𝓤 H A) (t .how) (t .value ∷ []) (t .typed) $ fjoin ! $
+          assigns ! (of-opd ! (load ! (from ! (stop !)) (look ! 20 refl))) (from ! (stop !))
+          (init ! 24 refl (LL.lawful R.the-type R′.the-laws 𝓤 H A W .typed (t .g) _ (t .kept) .0)) $
+          nothing ! $ owned ! R.the-row (Is R.the-row) (LL.makes R.the-type R′.the-plain 𝓤 H A) (t .g) (registers-vals (t .g)) (t .kept) $ fjoin ! $
+          owned ! S.the-row (Is S.the-row) (EL.makes S.the-type S′.the-plain 𝓤 H A) (t .how) (t .value ∷ []) (t .typed) $ fjoin ! $
           use1 W (raw (NextOf 𝓤 H A at-mem run .pre (to-next 𝓤 H A at-mem run (t .how) (t .g) (t .value)))) (goes-next 𝓤 H A at-mem run W (t .how) (t .g) (t .value)) $
-          calls-at ! fm (NextOf 𝓤 H A at-mem run) known-next (to-next 𝓤 H A at-mem run (t .how) (t .g) (t .value)) (and-then ! (load ! (from ! (stop !)) (look ! 23 refl)) (and-then ! (load ! (from ! (stop !)) (look ! 25 refl)) (no-more !))) (λ u.
+          calls-at ! fm (NextOf 𝓤 H A at-mem run) known-next (to-next 𝓤 H A at-mem run (t .how) (t .g) (t .value))
+          (and-then ! (load ! (from ! (stop !)) (look ! 23 refl)) (and-then ! (load ! (from ! (stop !)) (look ! 25 refl)) (no-more !))) (λ u.
           answers ! tt N.the-row _ (λ r. r ≡ nextOf (t .how) (t .g)) (next-said 𝓤 H A at-mem run (t .how) (t .g)) u (λ r last is-next.
           land ! (from ! (stop !)) (init ! 1 refl (EL.lawful N.the-type N′.the-laws 𝓤 H A W tt .typed r _ is-next .0)) $ returns ! (look ! 1 refl) $
-          move ! (1 ∷ 2 ∷ 3 ∷ 4 ∷ 5 ∷ 6 ∷ 7 ∷ 8 ∷ 9 ∷ 10 ∷ 11 ∷ 12 ∷ 13 ∷ 14 ∷ 15 ∷ 16 ∷ 17 ∷ 18 ∷ 19 ∷ 20 ∷ 21 ∷ 22 ∷ 23 ∷ 24 ∷ 25 ∷ 26 ∷ 27 ∷ 28 ∷ 29 ∷ 30 ∷ 31 ∷ 32 ∷ 33 ∷ 34 ∷ 35 ∷ 36 ∷ 37 ∷ 38 ∷ 39 ∷ 40 ∷ 41 ∷ 42 ∷ 43 ∷ 44 ∷ 45 ∷ 46 ∷ 47 ∷ 48 ∷ 49 ∷ 50 ∷ []) $
+          move ! (1 ∷ 2 ∷ 3 ∷ 4 ∷ 5 ∷ 6 ∷ 7 ∷ 8 ∷ 9 ∷ 10 ∷ 11 ∷ 12 ∷ 13 ∷ 14 ∷ 15 ∷ 16 ∷ 17 ∷ 18 ∷ 19 ∷ 20 ∷ 21 ∷ 22 ∷ 23 ∷ 24 ∷ 25 ∷ 26 ∷ 27 ∷ 28 ∷ 29 ∷ 30 ∷ 31 ∷
+          32 ∷ 33 ∷ 34 ∷ 35 ∷ 36 ∷ 37 ∷ 38 ∷ 39 ∷ 40 ∷ 41 ∷ 42 ∷ 43 ∷ 44 ∷ 45 ∷ 46 ∷ 47 ∷ 48 ∷ 49 ∷ 50 ∷ []) $
           frees-laid ! En (holds u ∷ (passed t ++ holds (registers-val (t .g)) ∷ holds (vbool false) ∷ [])) $ by ! (exits t r u (followed t r said last)))))
 
       either : (t : State) (y : Bool) → onward (t .how) ≡ y → Goes t
@@ -257,31 +317,51 @@ module _ {M : Type 1} (𝓤 : URA M) (H : Heap 𝓤) (A : Atoms 𝓤) (W : Given
       turns : (t : State) → Goes t
       turns t = either t (onward (t .how)) refl
 
-    pub walk : Keeps allowance first (memory (now input) (now output) (now journal) (now frames) (now values)) → Triple 𝓤 (𝓣 .C #stepping·registers-of) (RegistersOf 𝓤 H A at-mem run) → Triple 𝓤 (𝓣 .C #stepping·status-of) (StatusOf 𝓤 H A at-mem run)
-        → ent 𝓤 (onEntry 𝓤 H A follow.signature κs qs a vss) (WpFn 𝓤 H (𝓣 .C) (𝓣 .Λ) code.function (EL.val N.the-type N′.the-laws first ∷ vptr (ptr bits .0) (ptr bits .1) ∷ sliceVal (ptr words) (length (now words)) ∷ vint w32 allowance ∷ sliceVal (ptr input) (length (now input)) ∷ sliceVal (ptr output) (length (now output)) ∷ sliceVal (ptr journal) (length (now journal)) ∷ sliceVal (ptr frames) (length (now frames)) ∷ sliceVal (ptr values) (length (now values)) ∷ []) Post)
+    pub walk : Keeps allowance first (memory (now input) (now output) (now journal) (now frames) (now values)) →
+        Triple 𝓤 (𝓣 .C #stepping·registers-of) (RegistersOf 𝓤 H A at-mem run) → Triple 𝓤 (𝓣 .C #stepping·status-of) (StatusOf 𝓤 H A at-mem run)
+        → ent 𝓤 (onEntry 𝓤 H A follow.signature κs qs a vss)
+        (WpFn 𝓤 H (𝓣 .C) (𝓣 .Λ) code.function (EL.val N.the-type N′.the-laws first ∷ vptr (ptr bits .0) (ptr bits .1) ∷
+        sliceVal (ptr words) (length (now words)) ∷ vint w32 allowance ∷ sliceVal (ptr input) (length (now input)) ∷
+        sliceVal (ptr output) (length (now output)) ∷ sliceVal (ptr journal) (length (now journal)) ∷ sliceVal (ptr frames) (length (now frames)) ∷
+        sliceVal (ptr values) (length (now values)) ∷ []) Post)
     walk req₃ known-registers known-status =
-        qed W ((‵ (flft (κs .0) (qs .0)) ⊛ ‵ (flft (κs .1 .0) (qs .1 .0)) ⊛ ‵ (flft (κs .1 .1 .0) (qs .1 .1 .0)) ⊛ ‵ (flft (κs .1 .1 .1 .0) (qs .1 .1 .1 .0)) ⊛ ‵ (flft (κs .1 .1 .1 .1 .0) (qs .1 .1 .1 .1 .0)) ⊛ ‵ (flft (κs .1 .1 .1 .1 .1 .0) (qs .1 .1 .1 .1 .1 .0)) ⊛ ‵ (flft (κs .1 .1 .1 .1 .1 .1 .0) (qs .1 .1 .1 .1 .1 .1 .0)) ⊛ ‵ ftrue) ∷ ‵ Owned ∷ []) ∵ enter ! (𝓣 .C) (𝓣 .Λ) code.function _ _ $
+        qed W ((‵ (flft (κs .0) (qs .0)) ⊛ ‵ (flft (κs .1 .0) (qs .1 .0)) ⊛ ‵ (flft (κs .1 .1 .0) (qs .1 .1 .0)) ⊛ ‵ (flft (κs .1 .1 .1 .0) (qs .1 .1 .1 .0)) ⊛
+        ‵ (flft (κs .1 .1 .1 .1 .0) (qs .1 .1 .1 .1 .0)) ⊛ ‵ (flft (κs .1 .1 .1 .1 .1 .0) (qs .1 .1 .1 .1 .1 .0)) ⊛
+        ‵ (flft (κs .1 .1 .1 .1 .1 .1 .0) (qs .1 .1 .1 .1 .1 .1 .0)) ⊛ ‵ ftrue) ∷ ‵ Owned ∷ []) ∵ enter ! (𝓣 .C) (𝓣 .Λ) code.function _ _ $
         lays-out ! (λ l₀ l₁ l₂ l₃ l₄ l₅ l₆ l₇ l₈ l₉ l₁₀ l₁₁ l₁₂ l₁₃ l₁₄ l₁₅ l₁₆ l₁₇ l₁₈ l₁₉ l₂₀ l₂₁ l₂₂ l₂₃ l₂₄. params1 ! $
         pass1 ! (init ! 2 refl (EL.lawful N.the-type N′.the-laws 𝓤 H A W tt .typed first _ (are .0) .0)) $ pass1 ! (init ! 4 refl (tt, tt)) $
-        pass1 ! (init ! 6 refl (shr-slice-lawful 𝓤 H A W erased (κs .1 .0) u32 .typed words _ (are .1 .1 .0) .0)) $ pass1 ! (init ! 8 refl (tt, record { fits = are .1 .1 .1 .0 .1 })) $
+        pass1 ! (init ! 6 refl (shr-slice-lawful 𝓤 H A W erased (κs .1 .0) u32 .typed words _ (are .1 .1 .0) .0)) $
+        pass1 ! (init ! 8 refl (tt, record { fits = are .1 .1 .1 .0 .1 })) $
         pass1 ! (init ! 10 refl (mut-slice-lawful 𝓤 H A W erased (κs .1 .1 .0) u8 .typed input _ (are .1 .1 .1 .1 .0) .0)) $
         pass1 ! (init ! 12 refl (mut-slice-lawful 𝓤 H A W erased (κs .1 .1 .1 .0) u8 .typed output _ (are .1 .1 .1 .1 .1 .0) .0)) $
         pass1 ! (init ! 14 refl (mut-slice-lawful 𝓤 H A W erased (κs .1 .1 .1 .1 .0) u8 .typed journal _ (are .1 .1 .1 .1 .1 .1 .0) .0)) $
         pass1 ! (init ! 16 refl (mut-slice-lawful 𝓤 H A W erased (κs .1 .1 .1 .1 .1 .0) usize .typed frames _ (are .1 .1 .1 .1 .1 .1 .1 .0) .0)) $
-        pass1 ! (init ! 18 refl (mut-slice-lawful 𝓤 H A W erased (κs .1 .1 .1 .1 .1 .1 .0) u8 .typed values _ (are .1 .1 .1 .1 .1 .1 .1 .1 .0) .0)) $ pass0 ! $ move ! (50 ∷ []) $ split ! $
-        move ! (1 ∷ []) $ split ! $ move ! (1 ∷ []) $ split ! $ move ! (1 ∷ []) $ split ! $ move ! (1 ∷ []) $ split ! $ move ! (1 ∷ []) $ split ! $ move ! (1 ∷ []) $ split ! $ move ! (1 ∷ []) $ drop ! $
-        move ! (57 ∷ []) $ fsplit ! $ move ! (1 ∷ []) $ fsplit ! $ move ! (1 ∷ []) $ fsplit ! $ move ! (1 ∷ []) $ fsplit ! $ move ! (1 ∷ []) $ fsplit ! $ move ! (1 ∷ []) $ fsplit ! $
+        pass1 ! (init ! 18 refl (mut-slice-lawful 𝓤 H A W erased (κs .1 .1 .1 .1 .1 .1 .0) u8 .typed values _ (are .1 .1 .1 .1 .1 .1 .1 .1 .0) .0)) $ pass0 ! $
+        move ! (50 ∷ []) $ split ! $
+        move ! (1 ∷ []) $ split ! $ move ! (1 ∷ []) $ split ! $ move ! (1 ∷ []) $ split ! $ move ! (1 ∷ []) $ split ! $ move ! (1 ∷ []) $ split ! $ move ! (1 ∷ []) $
+        split ! $ move ! (1 ∷ []) $ drop ! $
+        move ! (57 ∷ []) $ fsplit ! $ move ! (1 ∷ []) $ fsplit ! $ move ! (1 ∷ []) $ fsplit ! $ move ! (1 ∷ []) $ fsplit ! $ move ! (1 ∷ []) $ fsplit ! $
+        move ! (1 ∷ []) $ fsplit ! $
         move ! (1 ∷ []) $ fsplit ! $ move ! (1 ∷ []) $ fsplit ! $ move ! (1 ∷ []) $ fsplit ! $ move ! (1 ∷ []) $ drop ! $ move ! (5 ∷ []) $ drop ! $
         -- the registers and the status of the first answer
-        move ! (7 ∷ []) $ use1 W (raw (RegistersOf 𝓤 H A at-mem run .pre (to-parts 𝓤 H A at-mem run first (EL.val N.the-type N′.the-laws first)))) (goes-parts 𝓤 H A at-mem run W first (EL.val N.the-type N′.the-laws first)) $
-        calls-at ! fm (RegistersOf 𝓤 H A at-mem run) known-registers (to-parts 𝓤 H A at-mem run first (EL.val N.the-type N′.the-laws first)) (and-then ! (load ! (from ! (stop !)) (look ! 17 refl)) (no-more !)) (λ u.
+        move ! (7 ∷ []) $ use1 W (raw (RegistersOf 𝓤 H A at-mem run .pre (to-parts 𝓤 H A at-mem run first (EL.val N.the-type N′.the-laws first))))
+        (goes-parts 𝓤 H A at-mem run W first (EL.val N.the-type N′.the-laws first)) $
+        calls-at ! fm (RegistersOf 𝓤 H A at-mem run) known-registers (to-parts 𝓤 H A at-mem run first (EL.val N.the-type N′.the-laws first))
+        (and-then ! (load ! (from ! (stop !)) (look ! 17 refl)) (no-more !)) (λ u.
         answers ! tt R.the-row _ (λ g. g ≡ registersIn first) (registers-said 𝓤 H A at-mem run first) u (λ g new is. drop ! $
-        land ! (from ! (stop !)) (init ! 38 refl (LL.lawful R.the-type R′.the-laws 𝓤 H A W .typed g _ is .0)) $ rewrite ! 38 (λ (w : Val). ‵ (fat fullShare R′.mir l₁₂ 0 w)) (ap only (LL.tells R.the-type R′.the-laws g _ is)) refl $
-        assigns ! (of-opd ! (load ! (from ! (stop !)) (look ! 38 refl))) (from ! (stop !)) (init ! 34 refl (LL.lawful R.the-type R′.the-laws 𝓤 H A W .typed g _ (spelled-out g u is) .0)) $ forget ! 38 refl $
-        owned ! N.the-row (Is N.the-row) (EL.makes N.the-type N′.the-plain 𝓤 H A) first _ (are .0) $ use1 W (raw (StatusOf 𝓤 H A at-mem run .pre (to-parts 𝓤 H A at-mem run first (EL.val N.the-type N′.the-laws first)))) (goes-parts 𝓤 H A at-mem run W first (EL.val N.the-type N′.the-laws first)) $
-        calls-at ! fm (StatusOf 𝓤 H A at-mem run) known-status (to-parts 𝓤 H A at-mem run first (EL.val N.the-type N′.the-laws first)) (and-then ! (load ! (from ! (stop !)) (look ! 17 refl)) (no-more !)) (λ v.
+        land ! (from ! (stop !)) (init ! 38 refl (LL.lawful R.the-type R′.the-laws 𝓤 H A W .typed g _ is .0)) $
+        rewrite ! 38 (λ (w : Val). ‵ (fat fullShare R′.mir l₁₂ 0 w)) (ap only (LL.tells R.the-type R′.the-laws g _ is)) refl $
+        assigns ! (of-opd ! (load ! (from ! (stop !)) (look ! 38 refl))) (from ! (stop !))
+        (init ! 34 refl (LL.lawful R.the-type R′.the-laws 𝓤 H A W .typed g _ (spelled-out g u is) .0)) $ forget ! 38 refl $
+        owned ! N.the-row (Is N.the-row) (EL.makes N.the-type N′.the-plain 𝓤 H A) first _ (are .0) $
+        use1 W (raw (StatusOf 𝓤 H A at-mem run .pre (to-parts 𝓤 H A at-mem run first (EL.val N.the-type N′.the-laws first))))
+        (goes-parts 𝓤 H A at-mem run W first (EL.val N.the-type N′.the-laws first)) $
+        calls-at ! fm (StatusOf 𝓤 H A at-mem run) known-status (to-parts 𝓤 H A at-mem run first (EL.val N.the-type N′.the-laws first))
+        (and-then ! (load ! (from ! (stop !)) (look ! 17 refl)) (no-more !)) (λ v.
         answers ! tt S.the-row _ (λ x. x ≡ statusIn first) (status-said 𝓤 H A at-mem run first) v (λ x how is-x. drop ! $
         land ! (from ! (stop !)) (init ! 36 refl (EL.lawful S.the-type S′.the-laws 𝓤 H A W tt .typed x _ is-x .0)) $
-        move ! (14 ∷ 15 ∷ 16 ∷ 17 ∷ 18 ∷ 19 ∷ 20 ∷ 21 ∷ 22 ∷ 23 ∷ 24 ∷ 25 ∷ 26 ∷ 27 ∷ 28 ∷ 29 ∷ 30 ∷ 31 ∷ 32 ∷ 33 ∷ 34 ∷ 35 ∷ 36 ∷ 37 ∷ 38 ∷ 39 ∷ 40 ∷ 41 ∷ 42 ∷ 43 ∷ 44 ∷ 45 ∷ 46 ∷ 47 ∷ 48 ∷ 49 ∷ 50 ∷ 51 ∷ 52 ∷ 53 ∷ 54 ∷ 55 ∷ 56 ∷ 57 ∷ 58 ∷ 59 ∷ 60 ∷ 61 ∷ 62 ∷ 63 ∷ 4 ∷ 3 ∷ 2 ∷ 1 ∷ 0 ∷ 11 ∷ 10 ∷ 9 ∷ 8 ∷ 7 ∷ 13 ∷ 12 ∷ 6 ∷ []) $
+        move ! (14 ∷ 15 ∷ 16 ∷ 17 ∷ 18 ∷ 19 ∷ 20 ∷ 21 ∷ 22 ∷ 23 ∷ 24 ∷ 25 ∷ 26 ∷ 27 ∷ 28 ∷ 29 ∷ 30 ∷ 31 ∷ 32 ∷ 33 ∷ 34 ∷ 35 ∷ 36 ∷ 37 ∷ 38 ∷ 39 ∷ 40 ∷ 41 ∷ 42 ∷ 43 ∷
+        44 ∷ 45 ∷ 46 ∷ 47 ∷ 48 ∷ 49 ∷ 50 ∷ 51 ∷ 52 ∷ 53 ∷ 54 ∷ 55 ∷ 56 ∷ 57 ∷ 58 ∷ 59 ∷ 60 ∷ 61 ∷ 62 ∷ 63 ∷ 4 ∷ 3 ∷ 2 ∷ 1 ∷ 0 ∷ 11 ∷ 10 ∷ 9 ∷ 8 ∷ 7 ∷ 13 ∷ 12 ∷ 6 ∷ []) $
         -- the loop
-        first-part ! $ blocks ! $ loops ! 𝓣 Less less-founded (At l₀ l₁ l₂ l₃ l₄ l₅ l₆ l₇ l₈ l₉ l₁₀ l₁₁ l₁₂ l₁₃ l₁₄ l₁₅ l₁₆ l₁₇ l₁₈ l₁₉ l₂₀ l₂₁ l₂₂ l₂₃ l₂₄) (turns l₀ l₁ l₂ l₃ l₄ l₅ l₆ l₇ l₈ l₉ l₁₀ l₁₁ l₁₂ l₁₃ l₁₄ l₁₅ l₁₆ l₁₇ l₁₈ l₁₉ l₂₀ l₂₁ l₂₂ l₂₃ l₂₄) (at-start req₃ g u new is x v how is-x))))))
+        first-part ! $ blocks ! $ loops ! 𝓣 Less less-founded (At l₀ l₁ l₂ l₃ l₄ l₅ l₆ l₇ l₈ l₉ l₁₀ l₁₁ l₁₂ l₁₃ l₁₄ l₁₅ l₁₆ l₁₇ l₁₈ l₁₉ l₂₀ l₂₁ l₂₂ l₂₃ l₂₄)
+        (turns l₀ l₁ l₂ l₃ l₄ l₅ l₆ l₇ l₈ l₉ l₁₀ l₁₁ l₁₂ l₁₃ l₁₄ l₁₅ l₁₆ l₁₇ l₁₈ l₁₉ l₂₀ l₂₁ l₂₂ l₂₃ l₂₄) (at-start req₃ g u new is x v how is-x))))))
