@@ -105,7 +105,14 @@ module _ (g : Registers) (m : Memory) (framed : g .frame < 256) (room : length (
 
   -- USESEQ
 
-  module _ (p≤q : g .p .0 ≤ g .q .0) (q≤in : g .q .0 ≤ length (m .input)) (r≤out : g .r .0 ≤ length (m .output)) (few : count ≤ 16) where
+  -- the registers stay within what is lent
+  pub record Bounded : Type 0 where
+    pub p≤q : g .p .0 ≤ g .q .0
+    pub q≤in : g .q .0 ≤ length (m .input)
+    pub r≤out : g .r .0 ≤ length (m .output)
+    pub few : count ≤ 16
+
+  module _ (b : Bounded) where
     -- where the latest open sequence begins on out
     abbrev pub mark : ℕ
     mark = frameWord (g .frame) (24 - count) (m .frames)
@@ -120,7 +127,7 @@ module _ (g : Registers) (m : Memory) (framed : g .frame < 256) (room : length (
         rw (
           opened-next (m .frames) (g .frame) framed room count (omega arith) (omega arith),
           length-drop mark (take (g .r .0) (m .output)),
-          length-take-le (g .r .0) (m .output) r≤out,
+          length-take-le (g .r .0) (m .output) (b .r≤out),
           length-drop (g .p .0) (m .input),
           lt-ltb _ _ full,
         ))
@@ -134,12 +141,12 @@ module _ (g : Registers) (m : Memory) (framed : g .frame < 256) (room : length (
       argument : drop mark (take (g .r .0) (m .output)) ≡ take (g .r .0 - min mark (g .r .0)) (drop (min mark (g .r .0)) (m .output))
       argument =
           sym (drop-min mark (take (g .r .0) (m .output))) ∙
-          rw (length-take-le (g .r .0) (m .output) r≤out) (drop-take (min mark (g .r .0)) (g .r .0) (m .output))
+          rw (length-take-le (g .r .0) (m .output) (b .r≤out)) (drop-take (min mark (g .r .0)) (g .r .0) (m .output))
 
       kept : take mark (take (g .r .0) (m .output)) ≡ take (min mark (g .r .0)) (m .output)
       kept =
           sym (take-min mark (take (g .r .0) (m .output))) ∙
-          rw (length-take-le (g .r .0) (m .output) r≤out) (take-take (min mark (g .r .0)) (g .r .0) (m .output) (omega arith))
+          rw (length-take-le (g .r .0) (m .output) (b .r≤out)) (take-take (min mark (g .r .0)) (g .r .0) (m .output) (omega arith))
 
       below-p : drop to input ≡ take (g .r .0 - min mark (g .r .0)) (drop (min mark (g .r .0)) (m .output)) ++ drop (g .p .0) (m .input)
       below-p = rw (down .cells) (drop-at (take to (m .input)) _ to (length-take-le to (m .input) (omega (arith, down .start))))
@@ -154,7 +161,7 @@ module _ (g : Registers) (m : Memory) (framed : g .frame < 256) (room : length (
                 rw (
                   opened-next (m .frames) (g .frame) framed room count (omega arith) (omega arith),
                   length-drop mark (take (g .r .0) (m .output)),
-                  length-take-le (g .r .0) (m .output) r≤out,
+                  length-take-le (g .r .0) (m .output) (b .r≤out),
                   length-drop (g .p .0) (m .input),
                   le-ltb (length (m .input)) _ there,
                   local-count (m .frames) (m .values) (g .frame) framed room (count - 1) (omega arith),

@@ -1,8 +1,25 @@
 -- `applying::apply` meets its contract.
-use Rattle.applying.proofs.laws.Calling.{apply-spent, apply-nothing, apply-wrong, apply-starts}
+use mathlib.Core.Path.{_≡_, refl}
+use Rattle.matching.specs.declared.Choice.{Choice}
+use Rattle.matching.specs.Matched.{choiceMeant}
+use Rattle.applying.proofs.laws.Calling.{Payable, apply-spent, Chosen, apply-stops, apply-starts}
 use borrow.Author.Needs.{needs}
 use Rattle.applying.proofs.apply.Statement.{statement}
 use Rattle.applying.proofs.apply.Tie as tie
+
+-- WHERE A SENTENCE IS CHOSEN: what is required of the function, the step that is left, and which sentence is meant
+
+abbrev entry : tie.After-choose → tie.Start
+entry c = c .before .before .before .before .before .before .before .before .before .before .before .before .before
+
+may : (c : tie.After-choose) → Payable (entry c .args .code .now) (entry c .args .allowance) (entry c .args .number) (entry c .args .g)
+may c =
+    let pre = entry c .pre in
+    record { counted = pre .1 .0; positive = pre .1 .1 .0; within = pre .1 .1 .1 .0; left = c .before .before .before .before .before .before .before .before .if1 .left }
+
+meant : (c : tie.After-choose) (r : Choice) → c .choose .result ≡ r → choiceMeant (entry c .args .code .now) r ≡
+    Chosen (entry c .args .code .now) (entry c .args .number) (entry c .args .g) (entry c .args .input .now)
+meant c r e = (rw (c .before .before .wide .ensures, e) at (c .choose .ensures)) .same
 
 returns : tie.Need-returns
 returns c = λ output journal. apply-spent _ _ _ _ _ (c .if1 .taken)
@@ -38,10 +55,9 @@ start-sentence-requires : tie.Need-start-sentence-requires
 start-sentence-requires c κs =
     let at-place = c .before .before .before in
     let at-choose = at-place .before .before in
-    let entry = at-choose .before .before .before .before .before .before .before .before .before .before .before .before .before in
-    let pre = entry .pre in
+    let lent = entry at-choose .pre .1 .1 .1 .1 in
     let few = rw (at-place .place .given .1) at (at-choose .choose .ensures .few) in
-    (pre .1 .1 .1 .1 .0, (pre .1 .1 .1 .1 .1 .0, (pre .1 .1 .1 .1 .1 .1 .0, (pre .1 .1 .1 .1 .1 .1 .1 .0, (pre .1 .1 .1 .1 .1 .1 .1 .1, few)))))
+    (lent .0, (lent .1 .0, (lent .1 .1 .0, (lent .1 .1 .1 .0, (lent .1 .1 .1 .1, few)))))
 
 enum-told : tie.Need-enum-told
 enum-told c = search needs
@@ -60,34 +76,15 @@ returns-2 c =
     let at-start-sentence = c .before .before .before .before in
     let at-place = at-start-sentence .before .before .before .before in
     let at-choose = at-place .before .before in
-    let at-wide = at-choose .before .before in
-    let at-if1 = at-wide .before .before .before .before .before .before in
-    let entry = at-if1 .before .before .before .before .before in
-    let a = entry .args in
-    let pre = entry .pre in
-    λ output journal. let v = at-place .place .given .0 in let chosen = rw (at-wide .wide .ensures, at-place .place .given .1) at (at-choose .choose .ensures) in
-    apply-starts _ _ _ _ _ (pre .1 .0) (pre .1 .1 .0) (pre .1 .1 .1 .0) (at-if1 .if1 .left) (v .0) (v .1 .0) (v .1 .1 .0 .0) (v .1 .1 .1 .0) _ _ (chosen .same)
-    (at-start-sentence .start-sentence .ensures (a .allowance) output journal)
+    let v = at-place .place .given .0 in
+    λ output journal. apply-starts _ _ _ _ _ (may at-choose) (v .0) (v .1 .0) (v .1 .1 .0 .0) (v .1 .1 .1 .0) _ _ (meant at-choose _ (at-place .place .given .1))
+    (at-start-sentence .start-sentence .ensures _ output journal)
 
 returns-3 : tie.Need-returns-3
-returns-3 c =
-    let at-choose = c .before .before in
-    let at-wide = at-choose .before .before in
-    let at-if1 = at-wide .before .before .before .before .before .before in
-    let entry = at-if1 .before .before .before .before .before in
-    let pre = entry .pre in
-    λ output journal. let chosen = rw (at-wide .wide .ensures, c .enum-told .given .1) at (at-choose .choose .ensures) in
-    apply-nothing _ _ _ _ _ (pre .1 .0) (pre .1 .1 .0) (pre .1 .1 .1 .0) (at-if1 .if1 .left) (chosen .same)
+returns-3 c = λ output journal. apply-stops _ _ _ _ _ (may (c .before .before)) _ (meant (c .before .before) _ (c .enum-told .given .1)) _ _ refl
 
 returns-4 : tie.Need-returns-4
-returns-4 c =
-    let at-choose = c .before .before in
-    let at-wide = at-choose .before .before in
-    let at-if1 = at-wide .before .before .before .before .before .before in
-    let entry = at-if1 .before .before .before .before .before in
-    let pre = entry .pre in
-    λ output journal. let chosen = rw (at-wide .wide .ensures, c .enum-told2 .given .1) at (at-choose .choose .ensures) in
-    apply-wrong _ _ _ _ _ (pre .1 .0) (pre .1 .1 .0) (pre .1 .1 .1 .0) (at-if1 .if1 .left) (chosen .same)
+returns-4 c = λ output journal. apply-stops _ _ _ _ _ (may (c .before .before)) _ (meant (c .before .before) _ (c .enum-told2 .given .1)) _ _ refl
 
 pub apply-spec : {M : Type 1} → statement M
 apply-spec =

@@ -1,11 +1,21 @@
 -- `applying::call` meets its contract.
-use mathlib.Core.Path.{sym, _∙_}
+use mathlib.Core.Path.{_≡_, sym, _∙_}
+use mathlib.Core.Bool.{true}
 use borrow.Author.Tests.{not-true, not-false}
+use Rattle.meaning.specs.Machine.{isDeclared}
+use Rattle.applying.specs.Waiting.{functionsIn}
 use Rattle.applying.proofs.laws.Applying.{is-declared}
 use Rattle.applying.proofs.laws.Calling.{undeclared, tail-applies}
 use borrow.Author.Needs.{needs}
 use Rattle.applying.proofs.call.Statement.{statement}
 use Rattle.applying.proofs.call.Tie as tie
+
+-- where the function is known to be declared
+abbrev entry : tie.Else1 → tie.Start
+entry c = c .before .before .before .before .before .before
+
+is : (c : tie.Else1) → isDeclared (functionsIn (entry c .args .code .now)) (entry c .args .what .function) ≡ true
+is c = sym (c .before .declared .ensures) ∙ not-false _ (c .if1 .left)
 
 declared-requires : tie.Need-declared-requires
 declared-requires c κs = search needs
@@ -19,11 +29,8 @@ returns c =
 apply-requires : tie.Need-apply-requires
 apply-requires c κs =
     let at-if1 = c .before .before .before in
-    let at-declared = at-if1 .before in
-    let entry = at-declared .before .before .before .before .before in
-    let a = entry .args in
-    let pre = entry .pre in
-    let d = is-declared (a .code .now) (pre .1 .0) (a .what .function) (sym (at-declared .declared .ensures) ∙ not-false _ (at-if1 .if1 .left)) in
+    let pre = entry at-if1 .pre in
+    let d = is-declared (entry at-if1 .args .code .now) (pre .1 .0) (entry at-if1 .args .what .function) (is at-if1) in
     (pre .0, (pre .1 .0, (d .0, (d .1, pre .1 .1))))
 
 same-length : tie.Need-same-length
@@ -36,18 +43,13 @@ returns-2 : tie.Need-returns-2
 returns-2 c =
     let at-apply = c .before .before .before .before in
     let at-if2 = at-apply .before .before .before in
-    let at-if1 = at-if2 .before in
-    let at-declared = at-if1 .before in
-    λ output journal. rw (at-if2 .if2 .taken) (tail-applies _ _ _ _ _ (sym (at-declared .declared .ensures) ∙ not-false _ (at-if1 .if1 .left)) _ _
-    (at-apply .apply .ensures output journal))
+    λ output journal. rw (at-if2 .if2 .taken) (tail-applies _ _ _ _ _ (is (at-if2 .before)) _ _ (at-apply .apply .ensures output journal))
 
 framed-call-requires : tie.Need-framed-call-requires
 framed-call-requires c κs =
     let at-if1 = c .before .before .before in
-    let at-declared = at-if1 .before in
-    let entry = at-declared .before .before .before .before .before in
-    let pre = entry .pre in
-    (pre .0, (pre .1 .0, (sym (at-declared .declared .ensures) ∙ not-false _ (at-if1 .if1 .left), pre .1 .1)))
+    let pre = entry at-if1 .pre in
+    (pre .0, (pre .1 .0, (is at-if1, pre .1 .1)))
 
 same-length-3 : tie.Need-same-length-3
 same-length-3 c = search needs

@@ -7,6 +7,13 @@ use borrow.Author.Needs.{needs}
 use Rattle.applying.proofs.framed_call.Statement.{statement}
 use Rattle.applying.proofs.framed_call.Tie as tie
 
+-- where the call has a frame
+abbrev framed : tie.After-set-word → tie.Else2
+framed c = c .before .before
+
+abbrev entry : tie.Else2 → tie.Start
+entry c = c .before .before .before .before .before .before .before
+
 returns : tie.Need-returns
 returns c =
     let entry = c .before .before .before .before .before .before in
@@ -26,13 +33,11 @@ add-t17 c = search needs
 apply-requires : tie.Need-apply-requires
 apply-requires c κs =
     let at-set-word = c .before .before .before .before .before .before .before .before in
-    let at-if2 = at-set-word .before .before in
-    let entry = at-if2 .before .before .before .before .before .before .before in
-    let a = entry .args in
-    let pre = entry .pre in
-    let rest = pre .1 .1 .1 in
-    let d = is-declared (a .code .now) (pre .1 .0) (a .number) (pre .1 .1 .0) in
-    (pre .0, (pre .1 .0, (d .0, (d .1, (rest .0, (rest .1 .0, (omega (arith, at-if2 .if2 .left), (at-set-word .set-word .kept .0 ∙ rest .1 .1 .1 .0, rest .1 .1 .1 .1))))))))
+    let at-if2 = framed at-set-word in
+    let pre = entry at-if2 .pre in
+    let lent = pre .1 .1 .1 in
+    let d = is-declared (entry at-if2 .args .code .now) (pre .1 .0) (entry at-if2 .args .number) (pre .1 .1 .0) in
+    (pre .0, (pre .1 .0, (d .0, (d .1, (lent .0, (lent .1 .0, (omega (arith, at-if2 .if2 .left), (at-set-word .set-word .kept .0 ∙ lent .1 .1 .1 .0, lent .1 .1 .1 .1))))))))
 
 same-length : tie.Need-same-length
 same-length c = search needs
@@ -44,12 +49,9 @@ returns-3 : tie.Need-returns-3
 returns-3 c =
     let at-apply = c .before .before .before .before in
     let at-set-word = at-apply .before .before .before .before .before .before .before .before .before in
-    let at-if2 = at-set-word .before .before in
-    let at-if1 = at-if2 .before in
-    let entry = at-if1 .before .before .before .before .before .before in
-    let a = entry .args in
-    λ output journal. call-applies (a .code .now) (a .allowance) (a .number) (a .g) (a .input .now) output journal (a .frames .now) (a .values .now)
-    (entry .pre .1 .1 .0) (at-if1 .if1 .left) (at-if2 .if2 .left) _ _ (rw (at-set-word .set-word .ensures) at (at-apply .apply .ensures output journal))
+    let at-if2 = framed at-set-word in
+    λ output journal. call-applies _ _ _ _ _ output journal _ _ (entry at-if2 .pre .1 .1 .0) (at-if2 .before .if1 .left) (at-if2 .if2 .left) _ _
+    (rw (at-set-word .set-word .ensures) at (at-apply .apply .ensures output journal))
 
 pub framed-call-spec : {M : Type 1} → statement M
 framed-call-spec =

@@ -14,14 +14,16 @@ use Rattle.meaning.specs.Choice.{Bytes, pick}
 use Rattle.meaning.specs.Answers.{noInstruction}
 use Rattle.meaning.specs.Outcome.{pay, stop, andThen}
 use Rattle.meaning.specs.Instructions.{call, tailCall}
-use Rattle.meaning.specs.Matching.{Choice, chosen, chosenNone, chosenWrong, chooseFrom}
+use Rattle.meaning.specs.Matching.{Choice, chosen, chooseFrom}
 use Rattle.meaning.specs.Machine.{perform, isDeclared, withSelected, ranPaid, ranChoice}
 use Rattle.meaning.specs.Runs.{Room, lent}
 use Rattle.meaning.specs.Packing.{Words, unpackSentences, unpackStores, unpackActions}
 use Rattle.acting.specs.declared.registers.Registers.{Registers}
-use Rattle.acting.specs.declared.registers.Ending.the-variants.{NoSentenceFits, AllowanceSpent, FramesFull, NoInstruction}
+use Rattle.acting.specs.declared.registers.Ending.{Ending}
+use Rattle.acting.specs.declared.registers.Ending.the-variants.{AllowanceSpent, FramesFull, NoInstruction}
 use Rattle.acting.specs.declared.registers.Next.{Next}
 use Rattle.acting.specs.declared.registers.Next.the-variants.{Stopped}
+use Rattle.acting.specs.Endings.{endingNumber}
 use Rattle.acting.specs.States.{Memory, memory, frameWord, localAt, localOf, stacksOf, ledgerOf, roomOf, Outcomes}
 use Rattle.applying.specs.Waiting.{countIn, functionsIn, entering, going, waiting, performing, leftWaiting}
 use Rattle.applying.specs.Advancing.{Held, Ready, Underway, Performs, Applies, Starts}
@@ -30,36 +32,51 @@ use Rattle.applying.proofs.laws.Applying.{code-at, stopping}
 
 -- THE STEP
 
+-- a step that is left is one and those left after it
+one-left : {allowance steps : ℕ} → steps < allowance → allowance - steps ≡ suc (allowance - suc steps)
+one-left h = omega arith
+
+-- or none is
+none-left : {allowance steps : ℕ} → allowance ≤ steps → allowance - steps ≡ 0
+none-left h = omega arith
+
 -- one step paid
 abbrev pub paidOf : Registers → Registers
 paidOf g =
     record { p = g .p; q = g .q; r = g .r; frame = g .frame; at = g .at; steps = g .steps + 1; emitted = g .emitted }
 
+-- the sentence chosen for the field
+abbrev pub Chosen : Words → ℕ → Registers → Bytes → Choice
+Chosen words number g input = chooseFrom 0 (unpackSentences 0 (drop (getD words number 0) words)) (take (g .q .0 - g .p .0) (drop (g .p .0) input))
+
+-- a function that is declared, and a step that is left for it
+pub record Payable (words : Words) (allowance number : ℕ) (g : Registers) : Type 0 where
+  pub counted : countIn words < length words
+  pub positive : 0 < number
+  pub within : number ≤ countIn words
+  pub left : g .steps < allowance
+
 module _ (words : Words) (allowance number : ℕ) (g : Registers) (m : Memory) where
   pub apply-spent : allowance ≤ g .steps → Applies words allowance number g m (Stopped g AllowanceSpent 0) m
   apply-spent h r =
-      let e : allowance - g .steps ≡ 0 = omega arith in
-      stopping words allowance g m m r _ _ AllowanceSpent 0 g (omega arith) (rw e) refl refl refl refl refl
+      stopping words allowance g m m r _ _ AllowanceSpent 0 g (omega arith) (rw (none-left h)) refl refl refl refl refl
 
-  module _ (counted : countIn words < length words) (positive : 0 < number) (within : number ≤ countIn words) (left : g .steps < allowance) where
-    -- the sentence chosen for the field
-    abbrev pub Chosen : Choice
-    Chosen = chooseFrom 0 (unpackSentences 0 (drop (getD words number 0) words)) (take (g .q .0 - g .p .0) (drop (g .p .0) (m .input)))
-
-    paying : (choice : Choice) → choice ≡ Chosen →
+  module _ (may : Payable words allowance number g) where
+    paying : (choice : Choice) → choice ≡ Chosen words number g (m .input) →
         ranPaid (lent (roomOf m)) (functionsIn words) (entering (roomOf m) allowance words) (suc (g .frame)) number (stacksOf g m) (ledgerOf allowance g m)
         (pay (ledgerOf allowance g m .tally)) ≡
         ranChoice (lent (roomOf m)) (functionsIn words) (entering (roomOf m) allowance words) (suc (g .frame)) number choice (stacksOf g m)
         (ledgerOf allowance (paidOf g) m)
     paying choice e =
-        let one : allowance - g .steps ≡ suc (allowance - suc (g .steps)) = omega arith in
-        rw (one, add-one (g .steps), e, code-at words counted number positive within)
+        rw (one-left (may .left), add-one (g .steps), e, code-at words (may .counted) number (may .positive) (may .within))
 
-    pub apply-nothing : chosenNone ≡ Chosen → Applies words allowance number g m (Stopped (paidOf g) NoSentenceFits number) m
-    apply-nothing e r = stopping words allowance g m m r _ _ NoSentenceFits number (paidOf g) (omega arith) (paying chosenNone e) refl refl refl refl refl
-
-    pub apply-wrong : chosenWrong ≡ Chosen → Applies words allowance number g m (Stopped (paidOf g) NoInstruction 0) m
-    apply-wrong e r = stopping words allowance g m m r _ _ NoInstruction 0 (paidOf g) (omega arith) (paying chosenWrong e) refl refl refl refl refl
+    -- where no sentence is begun, the run ends
+    pub apply-stops : (choice : Choice) → choice ≡ Chosen words number g (m .input) → (ending : Ending) (function : ℕ) →
+        ranChoice (lent (roomOf m)) (functionsIn words) (entering (roomOf m) allowance words) (suc (g .frame)) number choice (stacksOf g m)
+        (ledgerOf allowance (paidOf g) m) ≡ stop (endingNumber ending) function (ledgerOf allowance (paidOf g) m) →
+        Applies words allowance number g m (Stopped (paidOf g) ending function) m
+    apply-stops choice e ending function ends r =
+        stopping words allowance g m m r _ _ ending function (paidOf g) (omega arith) (paying choice e ∙ ends) refl refl refl refl refl
 
     ready-paid : Ready allowance g m → Ready allowance (paidOf g) m
     ready-paid r =
@@ -71,16 +88,16 @@ module _ (words : Words) (allowance number : ℕ) (g : Registers) (m : Memory) w
           framed = r .framed;
           frameRoom = r .frameRoom;
           valueRoom = r .valueRoom;
-          paid = omega arith;
+          paid = omega (arith, may .left);
           held = r .held;
         }
 
     pub apply-starts : (sentence place stores stored : ℕ) (next : Next) (n : Memory) →
-        chosen sentence place (unpackStores stored (drop stores words)) (unpackActions 0 (drop (stores + stored) words)) ≡ Chosen →
+        chosen sentence place (unpackStores stored (drop stores words)) (unpackActions 0 (drop (stores + stored) words)) ≡ Chosen words number g (m .input) →
         Starts words allowance place stores stored (paidOf g) m next n → Applies words allowance number g m next n
     apply-starts sentence place stores stored next n e starts r =
         let d = starts (ready-paid r) in
-        let one : allowance - g .steps ≡ suc (allowance - (g .steps + 1)) = omega arith in
+        let one : allowance - g .steps ≡ suc (allowance - (g .steps + 1)) = omega (arith, may .left) in
         let times : (allowance - g .steps) * suc (length words) ≡ (allowance - (g .steps + 1)) * suc (length words) + suc (length words) =
         rw one (suc-mul (allowance - (g .steps + 1)) (suc (length words))) in
         record {
@@ -162,14 +179,12 @@ module _ (words : Words) (allowance number : ℕ) (g : Registers) (m : Memory) w
   module _ (declared : isDeclared (functionsIn words) number ≡ true) where
     pub call-spent : allowance ≤ g .steps → Performs words allowance (call number) (g .at .0) g m (Stopped g AllowanceSpent 0) m
     call-spent h u =
-        let e : allowance - g .steps ≡ 0 = omega arith in
-        stopping words allowance g m m (u .ready) _ _ AllowanceSpent 0 g (omega arith) (rw (declared, e)) refl refl refl refl refl
+        stopping words allowance g m m (u .ready) _ _ AllowanceSpent 0 g (omega arith) (rw (declared, none-left h)) refl refl refl refl refl
 
     pub call-full : g .steps < allowance → 255 ≤ g .frame → Performs words allowance (call number) (g .at .0) g m (Stopped g FramesFull 0) m
     call-full h l u =
-        let one : allowance - g .steps ≡ suc (allowance - suc (g .steps)) = omega arith in
         stopping words allowance g m m (u .ready) _ _ FramesFull 0 g (omega arith)
-        (rw (declared, one, lt-ltb 256 (suc (suc (g .frame))) (omega arith))) refl refl refl refl refl
+        (rw (declared, one-left h, lt-ltb 256 (suc (suc (g .frame))) (omega arith))) refl refl refl refl refl
 
     -- a tail call is an application in the caller's frame
     pub tail-applies : (next : Next) (n : Memory) → Applies words allowance number g m next n → Performs words allowance (tailCall number) (g .at .0) g m next n
@@ -223,14 +238,13 @@ module _ (words : Words) (allowance number : ℕ) (g : Registers) (input output 
       let k = g .frame in
       let room = roomOf Caller in
       let r = u .ready in
-      let one : allowance - g .steps ≡ suc (allowance - suc (g .steps)) = omega arith in
       let entered = entering-paid room allowance words (suc (suc k)) number (stacksOf g Caller) (ledgerOf allowance g Caller) (omega arith) in
       let left = called-left frames k (g .at .0) (r .frameRoom) (r .framed) room allowance words (length words) in
       record {
         leads =
             record {
               same =
-                  opens declared one (le-ltb 256 (suc (suc k)) (omega arith)) ∙
+                  opens declared (one-left h) (le-ltb 256 (suc (suc k)) (omega arith)) ∙
                   called-waiting frames k (g .at .0) (r .frameRoom) (r .framed) room allowance words values (u .current) _ ∙
                   ap (waiting room allowance words (suc k) (set frames (24 * k + 0) (g .at .0)) values) entered ∙
                   rw (add-one k) at (d .leads .same);

@@ -4,6 +4,9 @@ use borrow.Author.Needs.{needs}
 use Rattle.applying.proofs.start_sentence.Statement.{statement}
 use Rattle.applying.proofs.start_sentence.Tie as tie
 
+abbrev entry : tie.After-store-values → tie.Start
+entry c = c .before .before .before .before .before .before .before
+
 sub-store-values : tie.Need-sub-store-values
 sub-store-values c = search needs
 
@@ -28,10 +31,7 @@ same-length c = search needs
 returns : tie.Need-returns
 returns c =
     let at-store-values = c .before .before .before .before in
-    let entry = at-store-values .before .before .before .before .before .before .before in
-    let a = entry .args in
-    λ allowance output journal. starts-wrong (a .code .now) allowance (a .place) (a .stores .0) (a .stored) (a .g) (a .input .now) output journal (a .frames .now)
-    (a .values .now) (at-store-values .store-values .last .1 .1 .1 .1 .1 .0) (entry .pre .1 .1 .1 .1 .1)
+    λ allowance output journal. starts-wrong _ _ _ _ _ _ _ _ _ _ _ _ (entry at-store-values .pre .1 .1 .1 .1 .1)
     (rw (c .enum-told .given .1) at (at-store-values .store-values .ensures))
 
 sub-begin-frame : tie.Need-sub-begin-frame
@@ -51,11 +51,8 @@ returns-2 c =
     let at-begin-frame = c .before .before .before .before .before in
     let at-actions = at-begin-frame .before .before .before in
     let at-store-values = at-actions .before .before .before .before in
-    let entry = at-store-values .before .before .before .before .before .before .before in
-    let a = entry .args in
     λ allowance output journal. rw (at-begin-frame .begin-frame .ensures)
-    (starts-right (a .code .now) allowance (a .place) (a .stores .0) (a .stored) (a .g) (a .input .now) output journal (a .frames .now) (a .values .now)
-    (at-store-values .store-values .last .1 .1 .1 .1 .1 .0) (entry .pre .1 .1 .1 .1 .1) (at-actions .actions .given .0 .0)
+    (starts-right _ _ _ _ _ _ _ _ _ _ _ _ (entry at-store-values .pre .1 .1 .1 .1 .1) (at-actions .actions .given .0 .0)
     (at-store-values .store-values .kept .1 .1 .1 .1 .1 .0) (rw (at-actions .actions .given .1) at (at-store-values .store-values .ensures)))
 
 pub start-sentence-spec : {M : Type 1} → statement M

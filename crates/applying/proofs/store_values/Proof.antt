@@ -14,6 +14,13 @@ Inv-loop code count field place values₀ frame base at₀ i₀ values at i = St
 abbrev μ-loop : tie.MeasureT-loop
 μ-loop code count field place values₀ frame base at₀ i₀ values at i = count - i
 
+-- where the store's word is there, and the turn of the loop in which it is asked
+abbrev there : tie.After-stored-cell Inv-loop μ-loop → tie.Else1 Inv-loop μ-loop
+there c = c .before .before
+
+abbrev turn : tie.After-stored-cell Inv-loop μ-loop → tie.At-loop Inv-loop μ-loop
+turn c = there c .before .before
+
 mul-base : tie.Need-mul-base Inv-loop μ-loop
 mul-base c = search needs
 
@@ -47,10 +54,7 @@ same-length-2 c = c .before .before .before .before .before .before .loop .inv .
 returns-2 : tie.Need-returns-2 Inv-loop μ-loop
 returns-2 c =
     let at-stored-cell = c .before .before in
-    let at-if1 = at-stored-cell .before .before in
-    let at-loop-test = at-if1 .before in
-    let at-loop = at-loop-test .before in
-    storing-wrong _ _ _ _ _ _ _ _ _ _ (at-loop .loop .inv) (at-loop-test .loop-test .taken) (at-if1 .if1 .left)
+    storing-wrong _ _ _ _ _ _ _ _ _ _ (turn at-stored-cell .loop .inv) (there at-stored-cell .before .loop-test .taken) (there at-stored-cell .if1 .left)
     (sym (at-stored-cell .stored-cell .ensures) ∙ ap cellMeant (c .enum-told .given .1))
 
 add-values : tie.Need-add-values Inv-loop μ-loop
@@ -71,11 +75,8 @@ loop-less c = search needs
 loop-again : tie.Need-loop-again Inv-loop μ-loop
 loop-again c =
     let at-stored-cell = c .before .before .before in
-    let at-if1 = at-stored-cell .before .before in
-    let at-loop-test = at-if1 .before in
-    let at-loop = at-loop-test .before in
-    let entry = at-loop .before .before .before .before in
-    storing-next _ _ _ _ _ _ _ _ _ _ (at-loop .loop .inv) _ (at-loop-test .loop-test .taken) (entry .pre) (at-if1 .if1 .left)
+    storing-next _ _ _ _ _ _ _ _ _ _ (turn at-stored-cell .loop .inv) _ (there at-stored-cell .before .loop-test .taken)
+    (turn at-stored-cell .before .before .before .before .pre) (there at-stored-cell .if1 .left)
     (sym (at-stored-cell .stored-cell .ensures) ∙ ap cellMeant (c .before .byte .given .1))
 
 same-length-3 : tie.Need-same-length-3 Inv-loop μ-loop

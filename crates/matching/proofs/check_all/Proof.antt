@@ -1,7 +1,11 @@
 -- `check_all` meets its contract. The loop's invariant: the tests from here on say what those from the first on say.
 use borrow.Author.Needs.{needs}
 use native.Mathlib.Omega.{arith}
-use mathlib.Core.Path.{_≡_, refl}
+use Prim.Native.Nat.{_+_, _-_}
+use mathlib.Core.Path.{_≡_, refl, sym, ap, _∙_}
+use Rattle.meaning.specs.Matching.{wherePassed}
+use Rattle.matching.specs.declared.Checked.{Checked}
+use Rattle.matching.specs.Matched.{checkedMeant}
 use Rattle.matching.proofs.laws.Testing.{testing, no-tests, tests-run-out, next-test}
 use Rattle.matching.proofs.check_all.Statement.{statement}
 use Rattle.matching.proofs.check_all.Tie as tie
@@ -11,6 +15,18 @@ Inv-loop bits code count field place at₀ left₀ at left = testing field place
 
 abbrev μ-loop : tie.MeasureT-loop
 μ-loop bits code count field place at₀ left₀ at left = left
+
+abbrev turn : tie.After-check Inv-loop μ-loop → tie.At-loop Inv-loop μ-loop
+turn c = c .before .before .before .before
+
+-- what a test says, and where it passes what the tests after it say, is what all of them say
+tested : (c : tie.After-check Inv-loop μ-loop) (r : Checked) → c .check .result ≡ r →
+    let a = turn c .before .before .before .args in
+    wherePassed (checkedMeant r) (testing (a .field .now) (a .place) (a .code .now) (turn c .loop .at + 1) (turn c .loop .left - 1)) ≡
+    testing (a .field .now) (a .place) (a .code .now) (a .tests .0) (a .count)
+tested c r e =
+    rw (next-test _ _ _ _ _ (c .before .before .before .loop-test .taken) (c .before .before .if1 .left), ← (sym (ap checkedMeant e) ∙ c .check .ensures)) at
+    (turn c .loop .inv)
 
 loop-holds : tie.Need-loop-holds Inv-loop μ-loop
 loop-holds c = refl
@@ -31,23 +47,13 @@ enum-told : tie.Need-enum-told Inv-loop μ-loop
 enum-told c = search needs
 
 returns-2 : tie.Need-returns-2 Inv-loop μ-loop
-returns-2 c =
-    let at-check = c .before .before in
-    let at-if1 = at-check .before .before in
-    let at-loop-test = at-if1 .before in
-    let at-loop = at-loop-test .before in
-    rw (next-test _ _ _ _ _ (at-loop-test .loop-test .taken) (at-if1 .if1 .left), ← (at-check .check .ensures), c .enum-told .given .1) at (at-loop .loop .inv)
+returns-2 c = tested (c .before .before) _ (c .enum-told .given .1)
 
 enum-told-2 : tie.Need-enum-told-2 Inv-loop μ-loop
 enum-told-2 c = search needs
 
 returns-3 : tie.Need-returns-3 Inv-loop μ-loop
-returns-3 c =
-    let at-check = c .before .before in
-    let at-if1 = at-check .before .before in
-    let at-loop-test = at-if1 .before in
-    let at-loop = at-loop-test .before in
-    rw (next-test _ _ _ _ _ (at-loop-test .loop-test .taken) (at-if1 .if1 .left), ← (at-check .check .ensures), c .enum-told2 .given .1) at (at-loop .loop .inv)
+returns-3 c = tested (c .before .before) _ (c .enum-told2 .given .1)
 
 enum-told-3 : tie.Need-enum-told-3 Inv-loop μ-loop
 enum-told-3 c = search needs
@@ -62,12 +68,7 @@ loop-less : tie.Need-loop-less Inv-loop μ-loop
 loop-less c = omega arith
 
 loop-again : tie.Need-loop-again Inv-loop μ-loop
-loop-again c =
-    let at-check = c .before .before in
-    let at-if1 = at-check .before .before in
-    let at-loop-test = at-if1 .before in
-    let at-loop = at-loop-test .before in
-    rw (next-test _ _ _ _ _ (at-loop-test .loop-test .taken) (at-if1 .if1 .left), ← (at-check .check .ensures), c .enum-told3 .given .1) at (at-loop .loop .inv)
+loop-again c = tested (c .before .before) _ (c .enum-told3 .given .1)
 
 returns-4 : tie.Need-returns-4 Inv-loop μ-loop
 returns-4 c = rw (no-tests _ _ _ _ _ (c .loop-test .left)) at (c .before .loop .inv)

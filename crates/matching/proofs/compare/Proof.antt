@@ -1,11 +1,26 @@
 -- `compare` meets its contract.
 use borrow.Author.Needs.{needs}
-use mathlib.Core.Path.{sym}
+use mathlib.Core.Path.{_≡_, sym, ap, _∙_}
 use Prim.Native.Nat.{_/_, _%_}
-use Rattle.meaning.specs.Packing.{siteOf, firstIn, secondIn, thirdIn}
+use lib.Dec.{eqb}
+use Rattle.meaning.specs.Matching.{asked, checked}
+use Rattle.meaning.specs.Matching.{check as tested}
+use Rattle.meaning.specs.Packing.{siteOf, compareOf, firstIn, secondIn, thirdIn}
+use Rattle.matching.specs.declared.Cell.{Cell}
+use Rattle.matching.specs.Matched.{cellMeant, siteCell}
 use Rattle.matching.proofs.laws.Fields.{compare-asks}
 use Rattle.matching.proofs.compare.Statement.{statement}
 use Rattle.matching.proofs.compare.Tie as tie
+
+-- the test asks for the first cell's byte, if it is there, and then for the second's
+first : (c : tie.After-cell-at) (r : Cell) → c .cell-at .result ≡ r →
+    let a = c .before .before .args in
+    let second = siteOf (firstIn (a .word) / 4) (thirdIn (a .word)) in
+    tested (compareOf (siteOf (firstIn (a .word) % 4) (secondIn (a .word))) second) (a .field .now) (a .place) ≡
+    asked (λ b. asked (λ b′. checked (eqb b b′)) (siteCell second (a .field .now) (a .place))) (cellMeant r)
+first c r e =
+    let word = c .before .before .args .word in
+    compare-asks (siteOf (firstIn word % 4) (secondIn word)) (siteOf (firstIn word / 4) (thirdIn word)) _ _ _ (sym (ap cellMeant e) ∙ c .cell-at .ensures)
 
 cell-at-requires : tie.Need-cell-at-requires
 cell-at-requires c κs = search needs
@@ -17,9 +32,7 @@ enum-told : tie.Need-enum-told
 enum-told c = search needs
 
 returns : tie.Need-returns
-returns c = let a = c .before .before .before .before .args in
-    sym (compare-asks (siteOf (firstIn (a .word) % 4) (secondIn (a .word))) (siteOf (firstIn (a .word) / 4) (thirdIn (a .word))) _ _ _
-    (rw (c .enum-told .given .1) at (c .before .before .cell-at .ensures)))
+returns c = sym (first (c .before .before) _ (c .enum-told .given .1))
 
 cell-at-requires-2 : tie.Need-cell-at-requires-2
 cell-at-requires-2 c κs = search needs
@@ -32,16 +45,8 @@ enum-told-2 c = search needs
 
 returns-2 : tie.Need-returns-2
 returns-2 c =
-    let at-cell-at2 = c .before .before in
-    let at-b = at-cell-at2 .before .before in
-    let at-cell-at = at-b .before .before in
-    let entry = at-cell-at .before .before in
-    let a = entry .args in
-    rw (
-      compare-asks (siteOf (firstIn (a .word) % 4) (secondIn (a .word))) (siteOf (firstIn (a .word) / 4) (thirdIn (a .word))) _ _ _ (rw (at-b .b .given .1) at (at-cell-at .cell-at .ensures)),
-      ← (at-cell-at2 .cell-at2 .ensures),
-      c .enum-told2 .given .1,
-    )
+    let at-b = c .before .before .before .before in
+    rw (first (at-b .before .before) _ (at-b .b .given .1), ← (c .before .before .cell-at2 .ensures), c .enum-told2 .given .1)
 
 told-requires : tie.Need-told-requires
 told-requires c κs = search needs
@@ -49,16 +54,8 @@ told-requires c κs = search needs
 returns-3 : tie.Need-returns-3
 returns-3 c =
     let at-a = c .before .before in
-    let at-cell-at2 = at-a .before .before in
-    let at-b = at-cell-at2 .before .before in
-    let at-cell-at = at-b .before .before in
-    let entry = at-cell-at .before .before in
-    let a = entry .args in
-    rw (
-      compare-asks (siteOf (firstIn (a .word) % 4) (secondIn (a .word))) (siteOf (firstIn (a .word) / 4) (thirdIn (a .word))) _ _ _ (rw (at-b .b .given .1) at (at-cell-at .cell-at .ensures)),
-      ← (at-cell-at2 .cell-at2 .ensures),
-      at-a .a .given .1,
-    ) (c .told .ensures)
+    let at-b = at-a .before .before .before .before in
+    rw (first (at-b .before .before) _ (at-b .b .given .1), ← (at-a .before .before .cell-at2 .ensures), at-a .a .given .1) (c .told .ensures)
 
 pub compare-spec : {M : Type 1} → statement M
 compare-spec = tie.close (tie.spec cell-at-requires enum-known-b enum-told returns cell-at-requires-2 enum-known-a enum-told-2 returns-2 told-requires returns-3)

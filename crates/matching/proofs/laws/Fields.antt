@@ -6,7 +6,7 @@ use mathlib.Core.Bool.{Bool}
 use mathlib.Core.Option.{Option, none, some}
 use lib.Dec.{eqb}
 use borrow.Author.Tests.{ne-eqb}
-use Rattle.meaning.specs.Choice.{Bytes}
+use Rattle.meaning.specs.Choice.{Bytes, pick}
 use Rattle.meaning.specs.Classes.{Class, digit, upper, lower, alphabetic, blank, inClass}
 use Rattle.meaning.specs.Rewriting.{sameTruth}
 use Rattle.meaning.specs.Instructions.{Site, unknownTest}
@@ -74,9 +74,14 @@ predicate-told o n expected field place b h e =
     let k = class-known n h in
     rw (k .numbered, k .asks b) (predicate-asks o (k .class) expected field place (some b) e)
 
--- a sentence's first word that is none
+-- a number that is none of three
+none-of : {A : Type 0} (n a b c : ℕ) (x y z other : A) → (n ≡ a → ⊥) → (n ≡ b → ⊥) → (n ≡ c → ⊥) →
+    pick (eqb n a) x (pick (eqb n b) y (pick (eqb n c) z other)) ≡ other
+none-of n a b c x y z other h h′ h″ = simp (ne-eqb n a h, ne-eqb n b h′, ne-eqb n c h″)
+
+-- a sentence's first word, and a test's, that is none
 pub metric-unknown : (w : ℕ) → (numberIn w ≡ 16 → ⊥) → (numberIn w ≡ 17 → ⊥) → (numberIn w ≡ 18 → ⊥) → metricIn w ≡ none
-metric-unknown w h h′ h″ = simp (ne-eqb (numberIn w) 16 h, ne-eqb (numberIn w) 17 h′, ne-eqb (numberIn w) 18 h″)
+metric-unknown w = none-of (numberIn w) 16 17 18 _ _ _ none
 
 pub test-unknown : (w : ℕ) → (numberIn w ≡ 1 → ⊥) → (numberIn w ≡ 2 → ⊥) → (numberIn w ≡ 3 → ⊥) → testOf w ≡ unknownTest
-test-unknown w h h′ h″ = simp (ne-eqb (numberIn w) 1 h, ne-eqb (numberIn w) 2 h′, ne-eqb (numberIn w) 3 h″)
+test-unknown w = none-of (numberIn w) 1 2 3 _ _ _ unknownTest

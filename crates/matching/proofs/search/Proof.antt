@@ -1,12 +1,14 @@
 -- `search` meets its contract. The loop's invariant: the search from this place on finds what the search from the first place on finds.
 use borrow.Author.Needs.{needs}
 use native.Mathlib.Omega.{arith}
-use Prim.Native.Nat.{_+_, _≤_}
-use mathlib.Core.Path.{_≡_, refl}
+use Prim.Native.Nat.{_+_, _-_, _≤_}
+use mathlib.Core.Path.{_≡_, refl, sym, ap, _∙_}
 use lib.ListN.{length, drop}
-use Rattle.meaning.specs.Matching.{checkAll}
+use Rattle.meaning.specs.Matching.{checkAll, settled}
 use Rattle.meaning.specs.Matching.{search as searched}
 use Rattle.meaning.specs.Packing.{unpackTests}
+use Rattle.matching.specs.declared.Checked.{Checked}
+use Rattle.matching.specs.Matched.{checkedMeant}
 use Rattle.matching.proofs.laws.Testing.{no-places, next-place}
 use Rattle.matching.proofs.search.Statement.{statement}
 use Rattle.matching.proofs.search.Tie as tie
@@ -19,6 +21,16 @@ Inv-loop bits code tests count field first places place₀ left₀ place left =
 abbrev μ-loop : tie.MeasureT-loop
 μ-loop bits code tests count field first places place₀ left₀ place left = left
 
+abbrev turn : tie.After-check-all Inv-loop μ-loop → tie.At-loop Inv-loop μ-loop
+turn c = c .before .before
+
+-- what the tests at a place say, and where they fail what is found from the next one on, is what is found
+placed : (c : tie.After-check-all Inv-loop μ-loop) (r : Checked) → c .check-all .result ≡ r →
+    let a = turn c .before .before .before .args in
+    let test = checkAll (unpackTests (a .count) (drop (a .tests .0) (a .code .now))) (a .field .now) in
+    settled (checkedMeant r) (turn c .loop .place) (searched test (turn c .loop .left - 1) (turn c .loop .place + 1)) ≡ searched test (a .places) (a .first)
+placed c r e = rw (next-place _ _ _ (c .before .loop-test .taken), ← (sym (ap checkedMeant e) ∙ c .check-all .ensures)) at (turn c .loop .inv .0)
+
 loop-holds : tie.Need-loop-holds Inv-loop μ-loop
 loop-holds c = (refl, omega arith)
 
@@ -29,21 +41,13 @@ enum-told : tie.Need-enum-told Inv-loop μ-loop
 enum-told c = search needs
 
 returns : tie.Need-returns Inv-loop μ-loop
-returns c =
-    let at-check-all = c .before .before in
-    let at-loop-test = at-check-all .before in
-    let at-loop = at-loop-test .before in
-    rw (next-place _ _ _ (at-loop-test .loop-test .taken), ← (at-check-all .check-all .ensures), c .enum-told .given .1) at (at-loop .loop .inv .0)
+returns c = placed (c .before .before) _ (c .enum-told .given .1)
 
 enum-told-2 : tie.Need-enum-told-2 Inv-loop μ-loop
 enum-told-2 c = search needs
 
 returns-2 : tie.Need-returns-2 Inv-loop μ-loop
-returns-2 c =
-    let at-check-all = c .before .before in
-    let at-loop-test = at-check-all .before in
-    let at-loop = at-loop-test .before in
-    rw (next-place _ _ _ (at-loop-test .loop-test .taken), ← (at-check-all .check-all .ensures), c .enum-told2 .given .1) at (at-loop .loop .inv .0)
+returns-2 c = placed (c .before .before) _ (c .enum-told2 .given .1)
 
 enum-told-3 : tie.Need-enum-told-3 Inv-loop μ-loop
 enum-told-3 c = search needs
@@ -58,11 +62,7 @@ loop-less : tie.Need-loop-less Inv-loop μ-loop
 loop-less c = omega arith
 
 loop-again : tie.Need-loop-again Inv-loop μ-loop
-loop-again c =
-    let at-check-all = c .before .before in
-    let at-loop-test = at-check-all .before in
-    let at-loop = at-loop-test .before in
-    (rw (next-place _ _ _ (at-loop-test .loop-test .taken), ← (at-check-all .check-all .ensures), c .enum-told3 .given .1) at (at-loop .loop .inv .0), omega arith)
+loop-again c = (placed (c .before .before) _ (c .enum-told3 .given .1), omega arith)
 
 returns-3 : tie.Need-returns-3 Inv-loop μ-loop
 returns-3 c = rw (no-places _ _ _ (c .loop-test .left)) at (c .before .loop .inv .0)

@@ -123,13 +123,18 @@ module _ (room : Room) (allowance : ℕ) (words : Words) (m : Memory) where
 
 -- THE START
 
-module _ (text input input′ : Bytes) (fits : length text ≤ length input)
-    (e : input′ ≡ paste input (length input - length text) text (length text)) (sized : length input′ ≡ length input) where
+-- the text stands at the right end of in
+pub record Loaded (text input input′ : Bytes) : Type 0 where
+  pub fits : length text ≤ length input
+  pub pasted : input′ ≡ paste input (length input - length text) text (length text)
+  pub sized : length input′ ≡ length input
+
+module _ (text input input′ : Bytes) (l : Loaded text input input′) where
   loaded-text : drop (length input - length text) input′ ≡ text
   loaded-text =
       let place = length input - length text in
-      let past : place + length text ≡ length input = omega arith in
-      rw (e, past, drop-length input, take-length text, append-nil (take place input ++ text))
+      let past : place + length text ≡ length input = omega (arith, l .fits) in
+      rw (l .pasted, past, drop-length input, take-length text, append-nil (take place input ++ text))
       (drop-at (take place input) text place (length-take-le place input (omega arith)))
 
   module _ (output journal : Bytes) (frames : List ℕ) (values : Bytes) (words : Words) (start allowance : ℕ) where
@@ -140,17 +145,17 @@ module _ (text input input′ : Bytes) (fits : length text ≤ length input)
     Beginning = loadedWith (length input) (length text)
 
     loaded-stacks : stacksOf Beginning Start ≡ loaded text
-    loaded-stacks = let whole : length input - (length input - length text) ≡ length text = omega arith in rw (loaded-text, whole)
+    loaded-stacks = let whole : length input - (length input - length text) ≡ length text = omega (arith, l .fits) in rw (loaded-text, whole)
 
     -- what the run comes to
     abbrev pub Whole : Outcomes
     Whole = from (lent (roomOf Start)) (functionsIn words) start text allowance tt
 
-    ready-start : length frames ≡ 6144 → length values ≡ 4096 → Ready allowance Beginning Start
+    pub ready-start : length frames ≡ 6144 → length values ≡ 4096 → Ready allowance Beginning Start
     ready-start f v =
         record {
           ordered = omega arith;
-          inside = omega (arith, sized);
+          inside = omega (arith, l .sized);
           below = omega arith;
           logged = omega arith;
           framed = omega arith;
@@ -180,8 +185,8 @@ module _ (text input input′ : Bytes) (fits : length text ≤ length input)
         Leaves (reportedOf last) (cells (clearedFrom 0 (m .input)) (clearedFrom (reportedOf last .text) (m .output)) (m .journal))
         (left (runLent (roomOfCells (cells input output journal)) (functionsIn words) start text allowance) (cells input output journal))
     ending last m leads over =
-        rw sized at
-        (leaves-end (roomOf Start) allowance words m last (cells input output journal) Whole (leads .same) over (leads .keeps) (leads .room ∙ rw sized)
+        rw (l .sized) at
+        (leaves-end (roomOf Start) allowance words m last (cells input output journal) Whole (leads .same) over (leads .keeps) (leads .room ∙ rw (l .sized))
         (leads .beyond journal refl))
 
 -- BEFORE A RUN

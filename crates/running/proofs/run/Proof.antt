@@ -1,7 +1,11 @@
 -- `run` meets its contract.
-use mathlib.Core.Path.{sym, _∙_}
+use mathlib.Core.Path.{_≡_, sym, _∙_}
+use mathlib.Core.Bool.{true}
 use borrow.Author.Tests.{not-true, not-false}
 use Rattle.acting.specs.declared.registers.Ending.the-variants.{NoSuchStart, TextTooLong, NoInstruction}
+use Rattle.meaning.specs.Leaving.{Cells}
+use Rattle.meaning.specs.Machine.{isDeclared}
+use Rattle.applying.specs.Waiting.{soundIn, functionsIn}
 use Rattle.running.specs.Leaving.{cells}
 use Rattle.applying.proofs.laws.Applying.{is-declared}
 use Rattle.running.proofs.laws.Tables.{sound-counted}
@@ -9,6 +13,20 @@ use Rattle.running.proofs.laws.Leaving.{refused-leaves, leaving-unsound
 use borrow.Author.Needs.{needs}
 use Rattle.running.proofs.run.Statement.{statement}
 use Rattle.running.proofs.run.Tie as tie
+
+-- WHERE THE TABLE IS LOOKED AT, WHERE IT IS SOUND, AND WHERE THE START IS DECLARED
+
+abbrev entry : tie.After-sound-table → tie.Start
+entry c = c .before .before .before .before .before .before
+
+abbrev lent : tie.After-sound-table → Cells
+lent c = cells (entry c .args .input .now) (entry c .args .output .now) (entry c .args .journal .now)
+
+sound : (c : tie.Else1) → soundIn (entry (c .before) .args .code .now) ≡ true
+sound c = sym (c .before .sound-table .ensures) ∙ not-false _ (c .if1 .left)
+
+starts : (c : tie.Else2) → isDeclared (functionsIn (entry (c .before .before .before) .args .code .now)) (entry (c .before .before .before) .args .start) ≡ true
+starts c = sym (c .before .declared .ensures) ∙ not-false _ (c .if2 .left)
 
 sound-table-requires : tie.Need-sound-table-requires
 sound-table-requires c κs = search needs
@@ -19,19 +37,13 @@ refused-requires c κs = search needs
 returns : tie.Need-returns
 returns c =
     let at-sound-table = c .before .before in
-    let entry = at-sound-table .before .before .before .before .before .before in
-    let a = entry .args in
     rw (
       c .refused .ensures,
-      leaving-unsound (a .code .now) (a .start) (a .text .now) (cells (a .input .now) (a .output .now) (a .journal .now)) (a .allowance)
-          (sym (at-sound-table .sound-table .ensures) ∙ not-true _ (c .before .if1 .taken)),
-    ) (refused-leaves NoInstruction (cells (a .input .now) (a .output .now) (a .journal .now)))
+      leaving-unsound _ _ _ (lent at-sound-table) _ (sym (at-sound-table .sound-table .ensures) ∙ not-true _ (c .before .if1 .taken)),
+    ) (refused-leaves NoInstruction (lent at-sound-table))
 
 declared-requires : tie.Need-declared-requires
-declared-requires c κs =
-    let entry = c .before .before .before .before .before .before .before in
-    let a = entry .args in
-    sound-counted (a .code .now) (sym (c .before .sound-table .ensures) ∙ not-false _ (c .if1 .left))
+declared-requires c κs = sound-counted (entry (c .before) .args .code .now) (sound c)
 
 refused-requires-2 : tie.Need-refused-requires-2
 refused-requires-2 c κs = search needs
@@ -40,15 +52,10 @@ returns-2 : tie.Need-returns-2
 returns-2 c =
     let at-declared = c .before .before in
     let at-if1 = at-declared .before in
-    let at-sound-table = at-if1 .before in
-    let entry = at-sound-table .before .before .before .before .before .before in
-    let a = entry .args in
     rw (
       c .refused2 .ensures,
-      leaving-undeclared (a .code .now) (a .start) (a .text .now) (cells (a .input .now) (a .output .now) (a .journal .now)) (a .allowance)
-          (sym (at-sound-table .sound-table .ensures) ∙ not-false _ (at-if1 .if1 .left)) (sym (at-declared .declared .ensures) ∙ not-true _ (c .before .if2 .taken)),
-    )
-    (refused-leaves NoSuchStart (cells (a .input .now) (a .output .now) (a .journal .now)))
+      leaving-undeclared _ _ _ (lent (at-if1 .before)) _ (sound at-if1) (sym (at-declared .declared .ensures) ∙ not-true _ (c .before .if2 .taken)),
+    ) (refused-leaves NoSuchStart (lent (at-if1 .before)))
 
 refused-requires-3 : tie.Need-refused-requires-3
 refused-requires-3 c κs = search needs
@@ -56,17 +63,9 @@ refused-requires-3 c κs = search needs
 returns-3 : tie.Need-returns-3
 returns-3 c =
     let at-if2 = c .before .before in
-    let at-declared = at-if2 .before in
-    let at-if1 = at-declared .before in
-    let at-sound-table = at-if1 .before in
-    let entry = at-sound-table .before .before .before .before .before .before in
-    let a = entry .args in
-    rw (
-      c .refused3 .ensures,
-      leaving-long (a .code .now) (a .start) (a .text .now) (cells (a .input .now) (a .output .now) (a .journal .now)) (a .allowance)
-          (sym (at-sound-table .sound-table .ensures) ∙ not-false _ (at-if1 .if1 .left)) (sym (at-declared .declared .ensures) ∙ not-false _ (at-if2 .if2 .left))
-          (c .before .if3 .taken),
-    ) (refused-leaves TextTooLong (cells (a .input .now) (a .output .now) (a .journal .now)))
+    let at-if1 = at-if2 .before .before in
+    rw (c .refused3 .ensures, leaving-long _ _ _ (lent (at-if1 .before)) _ (sound at-if1) (starts at-if2) (c .before .if3 .taken))
+    (refused-leaves TextTooLong (lent (at-if1 .before)))
 
 frame-room-requires : tie.Need-frame-room-requires
 frame-room-requires c κs = search needs
@@ -85,14 +84,10 @@ run-lent-requires c κs =
     let at-value-room = c .before .before .before .before .before in
     let at-frame-room = at-value-room .before in
     let at-if3 = at-frame-room .before in
-    let at-if2 = at-if3 .before in
-    let at-declared = at-if2 .before in
-    let at-if1 = at-declared .before in
-    let at-sound-table = at-if1 .before in
-    let entry = at-sound-table .before .before .before .before .before .before in
-    let a = entry .args in
-    let counted = sound-counted (a .code .now) (sym (at-sound-table .sound-table .ensures) ∙ not-false _ (at-if1 .if1 .left)) in
-    let d = is-declared (a .code .now) counted (a .start) (sym (at-declared .declared .ensures) ∙ not-false _ (at-if2 .if2 .left)) in
+    let at-if1 = at-if3 .before .before .before in
+    let a = entry (at-if1 .before) .args in
+    let counted = sound-counted (a .code .now) (sound at-if1) in
+    let d = is-declared (a .code .now) counted (a .start) (starts (at-if3 .before)) in
     (counted, (d .0, (d .1, (at-if3 .if3 .left, (at-frame-room .frame-room .ensures, at-value-room .value-room .ensures)))))
 
 same-length : tie.Need-same-length
@@ -108,15 +103,8 @@ returns-4 : tie.Need-returns-4
 returns-4 c =
     let at-run-lent = c .before .before .before .before .before .before .before .before in
     let at-if3 = at-run-lent .before .before .before .before .before .before .before .before in
-    let at-if2 = at-if3 .before in
-    let at-declared = at-if2 .before in
-    let at-if1 = at-declared .before in
-    let at-sound-table = at-if1 .before in
-    let entry = at-sound-table .before .before .before .before .before .before in
-    let a = entry .args in
-    rw (leaving-runs (a .code .now) (a .start) (a .text .now) (cells (a .input .now) (a .output .now) (a .journal .now)) (a .allowance)
-    (sym (at-sound-table .sound-table .ensures) ∙ not-false _ (at-if1 .if1 .left)) (sym (at-declared .declared .ensures) ∙ not-false _ (at-if2 .if2 .left))
-    (at-if3 .if3 .left)) (at-run-lent .run-lent .ensures)
+    let at-if1 = at-if3 .before .before .before in
+    rw (leaving-runs _ _ _ (lent (at-if1 .before)) _ (sound at-if1) (starts (at-if3 .before)) (at-if3 .if3 .left)) (at-run-lent .run-lent .ensures)
 
 pub run-spec : {M : Type 1} → statement M
 run-spec =

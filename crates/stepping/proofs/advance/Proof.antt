@@ -1,15 +1,51 @@
 -- `stepping::advance` meets its contract.
-use Prim.Native.Nat.{_+_}
+use Prim.Native.Nat.{ℕ, _+_, _<_, _≤_}
 use native.Mathlib.Omega.{arith}
-use mathlib.Core.Path.{refl}
-use mathlib.Core.List.{[]}
+use mathlib.Core.Path.{_≡_, refl, _∙_}
+use mathlib.Core.List.{[], _∷_}
+use lib.ListN.{length, drop}
+use Rattle.meaning.specs.Instructions.{Action}
+use Rattle.meaning.specs.Packing.{Words, unpackActions}
+use Rattle.decoding.specs.declared.Instruction.{Instruction}
 use Rattle.decoding.specs.declared.Instruction.the-variants.{Shift as Shifts, Write as Writes, Begin, Use, Call as Calls, Emit, End, Unknown}
-use Rattle.decoding.specs.Decoded.{callMeant}
+use Rattle.decoding.specs.Decoded.{callMeant, actionsMeant}
 use Rattle.decoding.proofs.laws.Reading.{actions-at, actions-none, actions-named}
+use Rattle.acting.specs.declared.registers.Registers.{Registers}
+use Rattle.acting.specs.declared.registers.Next.{Next}
+use Rattle.acting.specs.States.{Memory, memory, roomOf, Acts}
+use Rattle.applying.specs.Advancing.{Underway, Steps}
 use Rattle.applying.proofs.laws.Advancing.{stepped, advance-does, advance-acts, advance-unknown, advance-leaves}
 use borrow.Author.Needs.{needs}
 use Rattle.stepping.proofs.advance.Statement.{statement}
 use Rattle.stepping.proofs.advance.Tie as tie
+
+-- WHERE A WORD IS DECODED: the registers, the code and what is lent, and the instruction as the actions from there on
+
+abbrev entry : tie.After-decode → tie.Start
+entry c = c .before .before .before .before .before .before .before .before .before .before .before .before
+
+abbrev g : tie.After-decode → Registers
+g c = entry c .args .g
+
+abbrev words : tie.After-decode → Words
+words c = entry c .args .code .now
+
+abbrev lent : tie.After-decode → Memory
+lent c = memory (entry c .args .input .now) (entry c .args .output .now) (entry c .args .journal .now) (entry c .args .frames .now) (entry c .args .values .now)
+
+within : (c : tie.After-decode) → g c .at .0 < length (words c)
+within c = c .before .before .before .before .before .if1 .left
+
+read : (c : tie.After-decode) (i : Instruction) → c .decode .result ≡ i → unpackActions 0 (drop (g c .at .0) (words c)) ≡ actionsMeant i (drop (g c .at .0 + 1) (words c))
+read c i e = actions-at (words c) (g c .at .0) i (rw e at (c .decode .ensures)) (within c)
+
+-- an instruction that is one action, and leads on to a place
+acts : (c : tie.After-decode) (i : Instruction) → c .decode .result ≡ i → (action : Action) (at : ℕ) →
+    actionsMeant i (drop (g c .at .0 + 1) (words c)) ≡ action ∷ unpackActions 0 (drop at (words c)) → g c .at .0 + 1 ≤ at →
+    (next : Next) (n : Memory) → roomOf n ≡ roomOf (lent c) → Acts action at (stepped (g c)) (lent c) next n →
+    Steps (words c) (entry c .args .allowance) (g c) (lent c) next n
+acts c i e action at means l next n room a =
+    advance-acts (words c) _ (g c) (lent c) action at next n (within c) (entry c .pre .1 .1) (read c i e ∙ means) room l a
 
 returns : tie.Need-returns
 returns c =
@@ -90,14 +126,7 @@ same-length-2 c = search needs
 returns-2 : tie.Need-returns-2
 returns-2 c =
     let at-what = c .before .before .before .before in
-    let at-decode = at-what .before .before in
-    let at-if1 = at-decode .before .before .before .before .before in
-    let entry = at-if1 .before .before .before .before .before .before .before in
-    let a = entry .args in
-    let u = entry .pre .1 .1 in
-    advance-acts _ _ _ _ _ (a .g .at .0 + 1) _ _ (at-if1 .if1 .left) u
-    (actions-at (a .code .now) (a .g .at .0) (Shifts (at-what .what .given .0 .0)) (rw (at-what .what .given .1) at (at-decode .decode .ensures))
-    (at-if1 .if1 .left)) refl (omega arith) (c .shift .ensures (a .output .now) (a .journal .now) (a .values .now))
+    acts (at-what .before .before) _ (at-what .what .given .1) _ _ refl (omega arith) _ _ refl (c .shift .ensures _ _ _)
 
 same-length-3 : tie.Need-same-length-3
 same-length-3 c = search needs
@@ -115,14 +144,7 @@ returns-3 : tie.Need-returns-3
 returns-3 c =
     let at-write = c .before .before in
     let at-what2 = at-write .before .before .before .before .before .before in
-    let at-decode = at-what2 .before .before in
-    let at-if1 = at-decode .before .before .before .before .before in
-    let entry = at-if1 .before .before .before .before .before .before .before in
-    let a = entry .args in
-    let u = entry .pre .1 .1 in
-    advance-acts _ _ _ _ _ (a .g .at .0 + 1) _ _ (at-if1 .if1 .left) u
-    (actions-at (a .code .now) (a .g .at .0) (Writes (at-what2 .what2 .given .0 .0)) (rw (at-what2 .what2 .given .1) at (at-decode .decode .ensures))
-    (at-if1 .if1 .left)) (rw (at-write .write .kept .1 .1 .1 .0)) (omega arith) (at-write .write .ensures (a .journal .now))
+    acts (at-what2 .before .before) _ (at-what2 .what2 .given .1) _ _ refl (omega arith) _ _ (rw (at-write .write .kept .1 .1 .1 .0)) (at-write .write .ensures _)
 
 same-length-7 : tie.Need-same-length-7
 same-length-7 c = search needs
@@ -132,13 +154,8 @@ returns-4 c =
     let at-begin-sequence = c .before .before in
     let at-enum-told = at-begin-sequence .before .before in
     let at-decode = at-enum-told .before .before in
-    let at-if1 = at-decode .before .before .before .before .before in
-    let entry = at-if1 .before .before .before .before .before .before .before in
-    let a = entry .args in
-    let u = entry .pre .1 .1 in
-    advance-acts _ _ _ _ _ (a .g .at .0 + 1) _ _ (at-if1 .if1 .left) u
-    (actions-at (a .code .now) (a .g .at .0) Begin (rw (at-enum-told .enum-told .given .1) at (at-decode .decode .ensures)) (at-if1 .if1 .left)) refl
-    (omega arith) (at-begin-sequence .begin-sequence .ensures (a .input .now) (a .output .now) (a .journal .now) (a .values .now) (u .ready .below))
+    acts at-decode _ (at-enum-told .enum-told .given .1) _ _ refl (omega arith) _ _ refl
+    (at-begin-sequence .begin-sequence .ensures _ _ _ _ (entry at-decode .pre .1 .1 .ready .below))
 
 same-length-8 : tie.Need-same-length-8
 same-length-8 c = search needs
@@ -153,14 +170,8 @@ returns-5 : tie.Need-returns-5
 returns-5 c =
     let at-use-sequence = c .before .before .before .before in
     let at-enum-told2 = at-use-sequence .before .before .before .before in
-    let at-decode = at-enum-told2 .before .before in
-    let at-if1 = at-decode .before .before .before .before .before in
-    let entry = at-if1 .before .before .before .before .before .before .before in
-    let a = entry .args in
-    let u = entry .pre .1 .1 in
-    advance-acts _ _ _ _ _ (a .g .at .0 + 1) _ _ (at-if1 .if1 .left) u
-    (actions-at (a .code .now) (a .g .at .0) Use (rw (at-enum-told2 .enum-told2 .given .1) at (at-decode .decode .ensures)) (at-if1 .if1 .left))
-    (rw (at-use-sequence .use-sequence .kept .1 .0)) (omega arith) (at-use-sequence .use-sequence .ensures (a .journal .now) (a .values .now))
+    acts (at-enum-told2 .before .before) _ (at-enum-told2 .enum-told2 .given .1) _ _ refl (omega arith) _ _ (rw (at-use-sequence .use-sequence .kept .1 .0))
+    (at-use-sequence .use-sequence .ensures _ _)
 
 same-length-11 : tie.Need-same-length-11
 same-length-11 c = search needs
@@ -176,13 +187,8 @@ returns-6 c =
     let at-call = c .before .before .before .before in
     let at-what3 = at-call .before .before .before .before .before in
     let at-decode = at-what3 .before .before in
-    let at-if1 = at-decode .before .before .before .before .before in
-    let entry = at-if1 .before .before .before .before .before .before .before in
-    let a = entry .args in
-    let u = entry .pre .1 .1 in
-    advance-does _ _ _ _ (callMeant (at-what3 .what3 .given .0 .0)) (a .g .at .0 + 1) _ _ (at-if1 .if1 .left) u
-    (actions-at (a .code .now) (a .g .at .0) (Calls (at-what3 .what3 .given .0 .0)) (rw (at-what3 .what3 .given .1) at (at-decode .decode .ensures))
-    (at-if1 .if1 .left)) (at-call .call .ensures (a .output .now) (a .journal .now))
+    advance-does _ _ _ _ _ (g at-decode .at .0 + 1) _ _ (within at-decode) (entry at-decode .pre .1 .1) (read at-decode _ (at-what3 .what3 .given .1))
+    (at-call .call .ensures _ _)
 
 same-length-14 : tie.Need-same-length-14
 same-length-14 c = search needs
@@ -195,15 +201,8 @@ returns-7 c =
     let at-emit = c .before .before in
     let at-length = at-emit .before .before .before .before in
     let at-decode = at-length .before .before in
-    let at-if1 = at-decode .before .before .before .before .before in
-    let entry = at-if1 .before .before .before .before .before .before .before in
-    let a = entry .args in
-    let u = entry .pre .1 .1 in
-    let size = at-length .length .given .0 .0 in
-    advance-acts _ _ _ _ _ (a .g .at .0 + 1 + size) _ _ (at-if1 .if1 .left) u
-    (rw (actions-named (a .code .now) (a .g .at .0 + 1) size) at
-    (actions-at (a .code .now) (a .g .at .0) (Emit size) (rw (at-length .length .given .1) at (at-decode .decode .ensures)) (at-if1 .if1 .left)))
-    (rw (at-emit .emit .kept .1 .1 .1 .1 .0)) (omega arith) (at-emit .emit .ensures (a .output .now) (a .values .now) (a .frames .now))
+    let named = actions-named (words at-decode) (g at-decode .at .0 + 1) (at-length .length .given .0 .0) in
+    acts at-decode _ (at-length .length .given .1) _ _ (rw named) (omega arith) _ _ (rw (at-emit .emit .kept .1 .1 .1 .1 .0)) (at-emit .emit .ensures _ _ _)
 
 same-length-16 : tie.Need-same-length-16
 same-length-16 c = search needs
@@ -212,22 +211,13 @@ returns-8 : tie.Need-returns-8
 returns-8 c =
     let at-enum-told3 = c .before .before in
     let at-decode = at-enum-told3 .before .before in
-    let at-if1 = at-decode .before .before .before .before .before in
-    let entry = at-if1 .before .before .before .before .before .before .before in
-    let a = entry .args in
-    let u = entry .pre .1 .1 in
-    rw (c .leave .ensures) (advance-leaves _ _ _ _ (at-if1 .if1 .left) u
-    (actions-at (a .code .now) (a .g .at .0) End (rw (at-enum-told3 .enum-told3 .given .1) at (at-decode .decode .ensures)) (at-if1 .if1 .left)))
+    rw (c .leave .ensures)
+    (advance-leaves _ _ _ _ (within at-decode) (entry at-decode .pre .1 .1) (read at-decode _ (at-enum-told3 .enum-told3 .given .1)))
 
 returns-9 : tie.Need-returns-9
 returns-9 c =
     let at-decode = c .before .before in
-    let at-if1 = at-decode .before .before .before .before .before in
-    let entry = at-if1 .before .before .before .before .before .before .before in
-    let a = entry .args in
-    let u = entry .pre .1 .1 in
-    advance-unknown _ _ _ _ _ u (actions-at (a .code .now) (a .g .at .0) Unknown (rw (c .enum-told4 .given .1) at (at-decode .decode .ensures)) (at-if1 .if1 .left))
-    (stepped (a .g)) refl refl refl
+    advance-unknown _ _ _ _ _ (entry at-decode .pre .1 .1) (read at-decode _ (c .enum-told4 .given .1)) (stepped (g at-decode)) refl refl refl
 
 pub advance-spec : {M : Type 1} → statement M
 advance-spec =

@@ -1,14 +1,28 @@
 -- `emitting::emit` meets its contract.
 use borrow.Author.Needs.{needs}
 use native.Mathlib.Omega.{arith}
-use mathlib.Core.Path.{sym, _∙_}
-use lib.ListN.{length-take, length-drop}
+use Prim.Native.Nat.{_-_, _≤_}
+use mathlib.Core.Path.{_≡_, sym, _∙_}
+use mathlib.Core.Bool.{true}
+use lib.ListN.{length, drop, length-take, length-drop}
 use borrow.Author.Tests.{not-true, not-false}
+use Rattle.decoding.specs.Decoded.{isName}
 use Rattle.acting.specs.States.{memory}
 use Rattle.acting.proofs.laws.Naming.{spelled}
 use Rattle.acting.proofs.laws.Lines.{part-long, emission-wrong, emission-full, emission-written}
 use Rattle.acting.proofs.emitting.emit.Statement.{statement}
 use Rattle.acting.proofs.emitting.emit.Tie as tie
+
+-- where the name is known to be one
+abbrev entry : tie.Else1 → tie.Start
+entry c = c .before .before .before .before .before
+
+is-named : (c : tie.Else1) → isName (entry c .args .size) (drop (entry c .args .g .at .0) (entry c .args .code .now)) ≡ true
+is-named c = sym (c .before .named .ensures) ∙ not-false _ (c .if1 .left)
+
+-- so many words are there
+there : (c : tie.Else1) → entry c .args .size ≤ length (entry c .args .code .now) - entry c .args .g .at .0
+there c = spelled (entry c .args .code .now) (entry c .args .g .at .0) (entry c .args .size) (is-named c) .there
 
 named-requires : tie.Need-named-requires
 named-requires c κs = search needs
@@ -22,24 +36,20 @@ sub-line : tie.Need-sub-line
 sub-line c = search needs
 
 add-line : tie.Need-add-line
-add-line c = let a = c .before .before .before .before .before .args in
-    omega (arith, spelled (a .code .now) (a .g .at .0) (a .size) (sym (c .before .named .ensures) ∙ not-false _ (c .if1 .left)) .there)
+add-line c = omega (arith, there c)
 
 add-line-2 : tie.Need-add-line-2
-add-line-2 c = let a = c .before .before .before .before .before .args in
-    omega (arith, spelled (a .code .now) (a .g .at .0) (a .size) (sym (c .before .named .ensures) ∙ not-false _ (c .if1 .left)) .there)
+add-line-2 c = omega (arith, there c)
 
 sub-if2 : tie.Need-sub-if2
 sub-if2 c = search needs
 
 returns-2 : tie.Need-returns-2
 returns-2 c =
-    let at-named = c .before .before in
-    let entry = at-named .before .before .before .before in
-    let a = entry .args in
-    let p = entry .pre in
+    let a = entry (c .before) .args in
+    let p = entry (c .before) .pre in
     λ output values frames. emission-full (a .g) (memory (a .input .now) output (a .journal .now) frames values) (a .code .now) (a .size) (p .1 .0) (p .1 .1 .0)
-    (p .1 .1 .1) (sym (at-named .named .ensures) ∙ not-false _ (c .before .if1 .left)) (c .if2 .taken)
+    (p .1 .1 .1) (is-named (c .before)) (c .if2 .taken)
 
 sub-write-line : tie.Need-sub-write-line
 sub-write-line c = search needs
@@ -53,10 +63,7 @@ part-write-line-end c = search needs
 write-line-requires : tie.Need-write-line-requires
 write-line-requires c κs =
     let at-if2 = c .before .before in
-    let at-if1 = at-if2 .before in
-    let at-named = at-if1 .before in
-    let entry = at-named .before .before .before .before in
-    (sym (at-named .named .ensures) ∙ not-false _ (at-if1 .if1 .left), simp (length-take, length-drop) (omega (arith, at-if2 .if2 .left, entry .pre)))
+    (is-named (at-if2 .before), simp (length-take, length-drop) (omega (arith, at-if2 .if2 .left, entry (at-if2 .before) .pre)))
 
 add-t15 : tie.Need-add-t15
 add-t15 c = search needs
@@ -71,14 +78,11 @@ returns-3 : tie.Need-returns-3
 returns-3 c =
     let at-write-line = c .before .before .before .before .before .before in
     let at-if2 = at-write-line .before .before .before in
-    let at-if1 = at-if2 .before in
-    let at-named = at-if1 .before in
-    let entry = at-named .before .before .before .before in
-    let a = entry .args in
-    let p = entry .pre in
+    let a = entry (at-if2 .before) .args in
+    let p = entry (at-if2 .before) .pre in
     λ output values frames. rw (at-write-line .write-line .ensures, part-long (a .input .now) (a .g .p .0) (a .g .q .0) (p .1 .1 .0))
     (emission-written (a .g) (memory (a .input .now) output (a .journal .now) frames values) (a .code .now) (a .size) (p .1 .0) (p .1 .1 .0) (p .1 .1 .1)
-    (sym (at-named .named .ensures) ∙ not-false _ (at-if1 .if1 .left)) (at-if2 .if2 .left))
+    (is-named (at-if2 .before)) (at-if2 .if2 .left))
 
 pub emit-spec : {M : Type 1} → statement M
 emit-spec = tie.close (tie.spec named-requires returns sub-line add-line add-line-2 sub-if2 returns-2 sub-write-line part-write-line-start part-write-line-end

@@ -6,6 +6,12 @@ use Rattle.acting.proofs.laws.Naming.{spelled, spelled-long, line-writt
 use Rattle.acting.proofs.emitting.write_line.Statement.{statement}
 use Rattle.acting.proofs.emitting.write_line.Tie as tie
 
+abbrev entry : tie.After-copy-name → tie.Start
+entry c = c .before .before .before .before .before
+
+abbrev named : tie.After-copy-over → tie.After-copy-name
+named c = c .before .before .before .before
+
 copy-name-requires : tie.Need-copy-name-requires
 copy-name-requires c κs = search needs
 
@@ -21,8 +27,7 @@ add-copy-over c = search needs
 copy-over-requires : tie.Need-copy-over-requires
 copy-over-requires c κs =
     let at-copy-name = c .before .before .before in
-    let entry = at-copy-name .before .before .before .before .before in
-    simp length-set (omega (arith, at-copy-name .copy-name .kept .0, entry .pre .1))
+    simp length-set (omega (arith, at-copy-name .copy-name .kept .0, entry at-copy-name .pre .1))
 
 add-end : tie.Need-add-end
 add-end c = search needs
@@ -33,25 +38,23 @@ add-end-2 c = search needs
 slice-write-journal-2 : tie.Need-slice-write-journal-2
 slice-write-journal-2 c =
     let at-copy-over = c .before .before in
-    let at-copy-name = at-copy-over .before .before .before .before in
-    let entry = at-copy-name .before .before .before .before .before in
-    omega (arith, at-copy-over .copy-over .kept .0, simp length-set at (at-copy-over .copy-over .kept .0), at-copy-name .copy-name .kept .0, entry .pre .1)
+    let kept = at-copy-over .copy-over .kept .0 in
+    omega (arith, kept, simp length-set at kept, named at-copy-over .copy-name .kept .0, entry (named at-copy-over) .pre .1)
 
 same-length : tie.Need-same-length
 same-length c =
     let at-copy-over = c .before .before in
-    let at-copy-name = at-copy-over .before .before .before .before in
-    simp length-set (omega (arith, simp length-set at (at-copy-over .copy-over .kept .0), at-copy-name .copy-name .kept .0))
+    simp length-set (omega (arith, simp length-set at (at-copy-over .copy-over .kept .0), named at-copy-over .copy-name .kept .0))
 
 returns : tie.Need-returns
 returns c =
     let at-copy-over = c .before .before in
-    let at-copy-name = at-copy-over .before .before .before .before in
-    let entry = at-copy-name .before .before .before .before .before in
-    let a = entry .args in
-    let name = take (a .size) (drop (a .name .0) (a .code .now)) in
-    let long = spelled-long (a .code .now) (a .name .0) (a .size) (spelled (a .code .now) (a .name .0) (a .size) (entry .pre .0)) in
-    rw (at-copy-over .copy-over .ensures, at-copy-name .copy-name .ensures) (line-written (a .journal .now) name (a .argument .now) (a .to) (a .size) long (entry .pre .1))
+    let at-copy-name = named at-copy-over in
+    let a = entry at-copy-name .args in
+    let p = entry at-copy-name .pre in
+    let long = spelled-long (a .code .now) (a .name .0) (a .size) (spelled (a .code .now) (a .name .0) (a .size) (p .0)) in
+    rw (at-copy-over .copy-over .ensures, at-copy-name .copy-name .ensures)
+    (line-written (a .journal .now) (take (a .size) (drop (a .name .0) (a .code .now))) (a .argument .now) (a .to) (a .size) long (p .1))
 
 pub write-line-spec : {M : Type 1} → statement M
 write-line-spec = tie.close (tie.spec copy-name-requires add-gap slice-write-journal add-copy-over copy-over-requires add-end add-end-2 slice-write-journal-2 same-length returns)

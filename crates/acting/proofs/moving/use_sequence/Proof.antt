@@ -1,10 +1,37 @@
 -- `moving::use_sequence` meets its contract.
 use borrow.Author.Needs.{needs}
 use native.Mathlib.Omega.{arith}
-use Rattle.acting.specs.States.{memory}
-use Rattle.acting.proofs.laws.Sequences.{use-none, use-full, use-moved}
+use Prim.Native.Nat.{_-_, min}
+use mathlib.Core.Path.{_≡_}
+use Rattle.meaning.specs.Choice.{Bytes}
+use Rattle.acting.specs.States.{Memory, memory, frameWord}
+use Rattle.acting.proofs.laws.Sequences.{Bounded, use-none, use-full, use-moved}
 use Rattle.acting.proofs.moving.use_sequence.Statement.{statement}
 use Rattle.acting.proofs.moving.use_sequence.Tie as tie
+
+-- WHERE THE OPEN SEQUENCES ARE COUNTED, AND WHERE THE LATEST BEGINS
+
+abbrev entry : tie.After-word → tie.Start
+entry c = c .before .before .before .before .before
+
+abbrev lent : tie.After-word → Bytes → Bytes → Memory
+lent c journal values = memory (entry c .args .input .now) (entry c .args .output .now) journal (entry c .args .frames .now) values
+
+bounded : (c : tie.After-word) (journal values : Bytes) →
+    Bounded (entry c .args .g) (lent c journal values) (entry c .pre .1 .1 .1 .0) (entry c .pre .1 .1 .1 .1 .0)
+bounded c journal values =
+    let p = entry c .pre in
+    record { p≤q = p .0; q≤in = p .1 .0; r≤out = p .1 .1 .0; few = p .1 .1 .1 .1 .1 }
+
+abbrev counted : tie.After-lower → tie.After-word
+counted c = c .before .before .before .before
+
+some-open : (c : tie.After-lower) → frameWord (entry (counted c) .args .g .frame) 4 (entry (counted c) .args .frames .now) ≡ 0 → ⊥
+some-open c = rw (counted c .word .ensures) at (c .before .before .before .if1 .left)
+
+first : (c : tie.After-lower) → let a = c .before .before .before .before .before .before .before .before .before .args in
+    c .lower .result ≡ min (frameWord (a .g .frame) (24 - frameWord (a .g .frame) 4 (a .frames .now)) (a .frames .now)) (a .g .r .0)
+first c = rw (c .before .word2 .ensures, counted c .word .ensures) at (c .lower .ensures)
 
 word-requires : tie.Need-word-requires
 word-requires c κs = search needs
@@ -13,12 +40,7 @@ same-length : tie.Need-same-length
 same-length c = search needs
 
 returns : tie.Need-returns
-returns c =
-    let entry = c .before .before .before .before .before .before in
-    let a = entry .args in
-    let p = entry .pre in
-    λ journal values. use-none (a .g) (memory (a .input .now) (a .output .now) journal (a .frames .now) values) (p .1 .1 .1 .0) (p .1 .1 .1 .1 .0) (p .0) (p .1 .0)
-    (p .1 .1 .0) (p .1 .1 .1 .1 .1) (rw (c .before .word .ensures) at (c .if1 .taken))
+returns c = λ journal values. use-none _ (lent (c .before) journal values) _ _ (bounded (c .before) journal values) (rw (c .before .word .ensures) at (c .if1 .taken))
 
 sub-word : tie.Need-sub-word
 sub-word c = search needs
@@ -38,15 +60,8 @@ same-length-2 c = search needs
 returns-2 : tie.Need-returns-2
 returns-2 c =
     let at-lower = c .before .before .before .before in
-    let at-word2 = at-lower .before in
-    let at-if1 = at-word2 .before .before in
-    let at-word = at-if1 .before in
-    let entry = at-word .before .before .before .before .before in
-    let a = entry .args in
-    let p = entry .pre in
-    λ journal values. use-full (a .g) (memory (a .input .now) (a .output .now) journal (a .frames .now) values) (p .1 .1 .1 .0) (p .1 .1 .1 .1 .0) (p .0) (p .1 .0)
-    (p .1 .1 .0) (p .1 .1 .1 .1 .1) (rw (at-word .word .ensures) at (at-if1 .if1 .left))
-    (rw (at-lower .lower .ensures, at-word2 .word2 .ensures, at-word .word .ensures) at (c .if2 .taken))
+    let at-word = counted at-lower in
+    λ journal values. use-full _ (lent at-word journal values) _ _ (bounded at-word journal values) (some-open at-lower) (rw (first at-lower) at (c .if2 .taken))
 
 sub-set-word : tie.Need-sub-set-word
 sub-set-word c = search needs
@@ -58,9 +73,7 @@ move-down-requires : tie.Need-move-down-requires
 move-down-requires c κs =
     let at-if2 = c .before .before .before .before .before in
     let at-lower = at-if2 .before .before .before .before in
-    let entry = at-lower .before .before .before .before .before .before .before .before .before in
-    let p = entry .pre in
-    omega (arith, at-lower .lower .ensures, p, at-if2 .if2 .left)
+    omega (arith, at-lower .lower .ensures, entry (counted at-lower) .pre, at-if2 .if2 .left)
 
 same-length-3 : tie.Need-same-length-3
 same-length-3 c = search needs
@@ -74,17 +87,10 @@ returns-3 c =
     let at-set-word = at-move-down .before .before .before .before in
     let at-if2 = at-set-word .before .before in
     let at-lower = at-if2 .before .before .before .before in
-    let at-word2 = at-lower .before in
-    let at-if1 = at-word2 .before .before in
-    let at-word = at-if1 .before in
-    let entry = at-word .before .before .before .before .before in
-    let a = entry .args in
-    let p = entry .pre in
-    λ journal values. rw (at-set-word .set-word .ensures, at-lower .lower .ensures, at-word2 .word2 .ensures, at-word .word .ensures)
-    (use-moved (a .g) (memory (a .input .now) (a .output .now) journal (a .frames .now) values) (p .1 .1 .1 .0) (p .1 .1 .1 .1 .0) (p .0) (p .1 .0) (p .1 .1 .0)
-    (p .1 .1 .1 .1 .1) _ _ (rw (at-lower .lower .ensures, at-word2 .word2 .ensures, at-word .word .ensures) at (at-move-down .move-down .ensures))
-    (rw (at-word .word .ensures) at (at-if1 .if1 .left)) (at-move-down .move-down .kept .0)
-    (rw (at-lower .lower .ensures, at-word2 .word2 .ensures, at-word .word .ensures) at (at-if2 .if2 .left)))
+    let at-word = at-lower .before .before .before .before in
+    λ journal values. rw (at-set-word .set-word .ensures, at-word .word .ensures, first at-lower)
+    (use-moved _ (lent at-word journal values) _ _ (bounded at-word journal values) _ _ (rw (first at-lower) at (at-move-down .move-down .ensures))
+    (some-open at-lower) (at-move-down .move-down .kept .0) (rw (first at-lower) at (at-if2 .if2 .left)))
 
 pub use-sequence-spec : {M : Type 1} → statement M
 use-sequence-spec = tie.close (tie.spec word-requires same-length returns sub-word word-requires-2 lower-requires sub-if2 same-length-2 returns-2 sub-set-word

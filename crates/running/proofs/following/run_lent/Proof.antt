@@ -1,20 +1,55 @@
 -- `following::run_lent` meets its contract.
 use mathlib.Core.Path.{_∙_}
-use Rattle.acting.specs.States.{memory}
+use lib.ListN.{length}
+use Rattle.meaning.specs.Choice.{Bytes}
+use Rattle.acting.specs.States.{Memory, memory}
+use Rattle.applying.specs.Advancing.{Applies}
 use Rattle.applying.proofs.laws.Advancing.{leads-on}
-use Rattle.running.proofs.laws.Leaving.{starting, ending, reported-within}
+use Rattle.running.specs.Leaving.{loadedWith}
+use Rattle.running.proofs.laws.Leaving.{Loaded, ready-start, starting, ending, reported-within}
 use native.Mathlib.Omega.{arith}
 use borrow.Author.Needs.{needs}
 use Rattle.running.proofs.following.run_lent.Statement.{statement}
 use Rattle.running.proofs.following.run_lent.Tie as tie
+
+-- WHERE THE TEXT IS ON IN, WHERE THE START IS APPLIED, AND WHERE THE RUN HAS BEEN FOLLOWED
+
+abbrev entry : tie.After-copy-over → tie.Start
+entry c = c .before .before .before .before .before .before .before .before .before .before
+
+abbrev loading : tie.After-apply → tie.After-copy-over
+loading c = c .before .before .before .before .before .before .before .before
+
+abbrev applying : tie.After-follow → tie.After-apply
+applying c = c .before .before .before .before .before .before .before .before .before .before .before
+
+on-in : (c : tie.After-copy-over) → Loaded (entry c .args .text .now) (entry c .args .input .now) (c .copy-over .last .0)
+on-in c =
+    record {
+      fits = entry c .pre .1 .1 .1 .0;
+      pasted = rw (c .before .before .loaded .ensures) at (c .copy-over .ensures);
+      sized = c .copy-over .kept .0;
+    }
+
+applied : (c : tie.After-apply) → let a = entry (loading c) .args in
+    (output journal : Bytes) → Applies (a .code .now) (a .allowance) (a .start) (loadedWith (length (a .input .now)) (length (a .text .now)))
+    (memory (loading c .copy-over .last .0) output journal (a .frames .now) (a .values .now)) (c .apply .result)
+    (memory (loading c .copy-over .last .0) output journal (c .apply .last .1 .1 .1 .1 .1 .1 .0) (c .apply .last .1 .1 .1 .1 .1 .1 .1 .0))
+applied c = rw (loading c .before .before .loaded .ensures) at (c .apply .ensures)
+
+-- what is left of the stacks and the record
+abbrev left : tie.After-follow → Memory
+left c =
+    let cells = c .follow .last .1 .1 .1 .1 in
+    memory (cells .0) (cells .1 .0) (cells .1 .1 .0) (cells .1 .1 .1 .0) (cells .1 .1 .1 .1 .0)
 
 loaded-requires : tie.Need-loaded-requires
 loaded-requires c κs = search needs
 
 copy-over-requires : tie.Need-copy-over-requires
 copy-over-requires c κs =
-    let entry = c .before .before .before .before .before .before .before .before .before in
-    rw (c .before .loaded .ensures) (omega (arith, entry .pre .1 .1 .1 .0))
+    let pre = c .before .before .before .before .before .before .before .before .before .pre in
+    rw (c .before .loaded .ensures) (omega (arith, pre .1 .1 .1 .0))
 
 class-table-requires : tie.Need-class-table-requires
 class-table-requires c κs = search needs
@@ -23,25 +58,19 @@ apply-requires : tie.Need-apply-requires
 apply-requires c κs =
     let at-class-table = c .before .before .before .before in
     let at-copy-over = at-class-table .before .before .before in
-    let at-loaded = at-copy-over .before .before in
-    let entry = at-loaded .before .before .before .before .before .before .before .before in
-    let pre = entry .pre in
-    rw (at-loaded .loaded .ensures) (at-class-table .class-table .ensures, (pre .0, (pre .1 .0, (pre .1 .1 .0, (omega arith, (omega (arith, at-copy-over .copy-over .kept .0), (omega arith, (pre .1 .1 .1 .1 .0, pre .1 .1 .1 .1 .1))))))))
+    let pre = entry at-copy-over .pre in
+    let rooms = pre .1 .1 .1 .1 in
+    rw (at-copy-over .before .before .loaded .ensures)
+    (at-class-table .class-table .ensures, (pre .0, (pre .1 .0, (pre .1 .1 .0, (omega arith, (omega (arith, at-copy-over .copy-over .kept .0), (omega arith, (rooms .0, rooms .1))))))))
 
 follow-requires : tie.Need-follow-requires
 follow-requires c κs =
     let at-apply = c .before .before .before .before .before .before .before .before .before .before in
     let at-class-table = at-apply .before .before .before .before .before in
-    let at-copy-over = at-class-table .before .before .before in
-    let at-loaded = at-copy-over .before .before in
-    let entry = at-loaded .before .before .before .before .before .before .before .before in
-    let a = entry .args in
-    let pre = entry .pre in
-    let first = (starting (a .text .now) (a .input .now) (at-copy-over .copy-over .last .0) (pre .1 .1 .1 .0)
-    (rw (at-loaded .loaded .ensures) at (at-copy-over .copy-over .ensures)) (at-copy-over .copy-over .kept .0) (a .output .now) (a .journal .now)
-    (a .frames .now) (a .values .now) (a .code .now) (a .start) (a .allowance) (pre .1 .1 .1 .1 .0) (pre .1 .1 .1 .1 .1) _ _
-    (rw (at-loaded .loaded .ensures) at (at-apply .apply .ensures (a .output .now) (a .journal .now)))) in
-    (at-class-table .class-table .ensures, (pre .0, first .keeps))
+    let a = entry (loading at-apply) .args in
+    let pre = entry (loading at-apply) .pre in
+    let ready = ready-start _ _ _ (on-in (loading at-apply)) _ _ _ _ (a .code .now) (a .start) _ (pre .1 .1 .1 .1 .0) (pre .1 .1 .1 .1 .1) in
+    (at-class-table .class-table .ensures, (pre .0, applied at-apply _ _ ready .leads .keeps))
 
 reported-requires : tie.Need-reported-requires
 reported-requires c κs = search needs
@@ -53,18 +82,13 @@ clear-from-requires-2 : tie.Need-clear-from-requires-2
 clear-from-requires-2 c κs =
     let at-reported = c .before .before .before .before .before in
     let at-follow = at-reported .before .before .before .before .before .before .before .before .before .before .before in
-    let entry = at-follow .before .before .before .before .before .before .before .before .before .before .before .before .before .before .before .before .before .before .before .before .before .before .before .before .before .before .before .before .before in
-    rw (at-reported .reported .ensures) (reported-within (entry .args .allowance) (at-follow .follow .result)
-    (memory (at-follow .follow .last .1 .1 .1 .1 .0) (at-follow .follow .last .1 .1 .1 .1 .1 .0) (at-follow .follow .last .1 .1 .1 .1 .1 .1 .0)
-    (at-follow .follow .last .1 .1 .1 .1 .1 .1 .1 .0) (at-follow .follow .last .1 .1 .1 .1 .1 .1 .1 .1 .0)) (at-follow .follow .ensures .over)
-    (at-follow .follow .ensures .leads .keeps))
+    rw (at-reported .reported .ensures) (reported-within (entry (loading (applying at-follow)) .args .allowance) (at-follow .follow .result) (left at-follow) (at-follow .follow .ensures .over) (at-follow .follow .ensures .leads .keeps))
 
 same-length : tie.Need-same-length
 same-length c =
     let at-clear-from = c .before .before .before .before .before .before in
     let at-follow = at-clear-from .before .before .before .before .before .before .before .before .before .before .before .before .before in
-    let at-copy-over = at-follow .before .before .before .before .before .before .before .before .before .before .before .before .before .before .before .before .before .before .before in
-    at-clear-from .clear-from .kept .0 ∙ at-follow .follow .kept .1 .1 .1 .1 .0 ∙ at-copy-over .copy-over .kept .0
+    at-clear-from .clear-from .kept .0 ∙ at-follow .follow .kept .1 .1 .1 .1 .0 ∙ loading (applying at-follow) .copy-over .kept .0
 
 same-length-2 : tie.Need-same-length-2
 same-length-2 c = search needs
@@ -84,23 +108,12 @@ returns c =
     let at-clear-from = at-clear-from2 .before .before .before .before in
     let at-reported = at-clear-from .before .before in
     let at-follow = at-reported .before .before .before .before .before .before .before .before .before .before .before in
-    let at-apply = at-follow .before .before .before .before .before .before .before .before .before .before .before in
-    let at-copy-over = at-apply .before .before .before .before .before .before .before .before in
-    let at-loaded = at-copy-over .before .before in
-    let entry = at-loaded .before .before .before .before .before .before .before .before in
-    let a = entry .args in
-    let pre = entry .pre in
-    let first = (starting (a .text .now) (a .input .now) (at-copy-over .copy-over .last .0) (pre .1 .1 .1 .0)
-    (rw (at-loaded .loaded .ensures) at (at-copy-over .copy-over .ensures)) (at-copy-over .copy-over .kept .0) (a .output .now) (a .journal .now)
-    (a .frames .now) (a .values .now) (a .code .now) (a .start) (a .allowance) (pre .1 .1 .1 .1 .0) (pre .1 .1 .1 .1 .1) _ _
-    (rw (at-loaded .loaded .ensures) at (at-apply .apply .ensures (a .output .now) (a .journal .now)))) in
+    let at-apply = applying at-follow in
+    let rooms = entry (loading at-apply) .pre .1 .1 .1 .1 in
     rw (at-clear-from .clear-from .ensures, at-clear-from2 .clear-from2 .ensures, at-reported .reported .ensures)
-    (ending (a .text .now) (a .input .now) (at-copy-over .copy-over .last .0) (pre .1 .1 .1 .0)
-    (rw (at-loaded .loaded .ensures) at (at-copy-over .copy-over .ensures)) (at-copy-over .copy-over .kept .0) (a .output .now) (a .journal .now)
-    (a .frames .now) (a .values .now) (a .code .now) (a .start) (a .allowance) _
-    (memory (at-follow .follow .last .1 .1 .1 .1 .0) (at-follow .follow .last .1 .1 .1 .1 .1 .0) (at-follow .follow .last .1 .1 .1 .1 .1 .1 .0)
-    (at-follow .follow .last .1 .1 .1 .1 .1 .1 .1 .0) (at-follow .follow .last .1 .1 .1 .1 .1 .1 .1 .1 .0))
-    (leads-on _ _ _ _ _ _ _ _ _ first (at-follow .follow .ensures .leads)) (at-follow .follow .ensures .over))
+    (ending _ _ _ (on-in (loading at-apply)) _ _ _ _ _ _ _ _ (left at-follow)
+    (leads-on _ _ _ _ _ _ _ _ _ (starting _ _ _ (on-in (loading at-apply)) _ _ _ _ _ _ _ (rooms .0) (rooms .1) _ _ (applied at-apply _ _)) (at-follow .follow .ensures .leads))
+    (at-follow .follow .ensures .over))
 
 pub run-lent-spec : {M : Type 1} → statement M
 run-lent-spec =

@@ -4,6 +4,7 @@ use native.Mathlib.Omega.{arith}
 use borrow.Author.Needs.{needs}
 use mathlib.Core.Path.{_≡_, refl}
 use lib.ListN.{length}
+use Rattle.meaning.specs.Packing.{Words}
 use Rattle.applying.specs.Waiting.{countIn}
 use Rattle.running.proofs.laws.Tables.{Entries, sound-short, sound-wrong, sound-next, sound-all}
 use Rattle.running.proofs.following.sound_table.Statement.{statement}
@@ -14,6 +15,13 @@ Inv-loop code count i₀ i = (count ≡ countIn code) × (countIn code < length 
 
 abbrev μ-loop : tie.MeasureT-loop
 μ-loop code count i₀ i = count - i
+
+-- an entry that is looked at in a turn of the loop
+abbrev words : tie.In-loop Inv-loop μ-loop → Words
+words c = c .before .before .before .before .before .before .before .args .code .now
+
+within : (c : tie.In-loop Inv-loop μ-loop) → c .before .loop .i < countIn (words c)
+within c = omega (arith, c .before .loop .inv .0, c .loop-test .taken)
 
 returns : tie.Need-returns Inv-loop μ-loop
 returns c = sound-short (c .before .before .args .code .now) (omega (arith, c .if1 .taken))
@@ -34,25 +42,22 @@ loop-holds : tie.Need-loop-holds Inv-loop μ-loop
 loop-holds c = (c .before .wide .ensures, omega (arith, c .if2 .left, c .before .before .before .if1 .left, c .before .wide .ensures), omega arith, refl)
 
 add-wide : tie.Need-add-wide Inv-loop μ-loop
-add-wide c = omega (arith, c .before .loop .inv .0, c .before .loop .inv .1, c .loop-test .taken)
+add-wide c = omega (arith, c .before .loop .inv .1, within c)
 
 mul-wide : tie.Need-mul-wide Inv-loop μ-loop
 mul-wide c = search needs
 
 shared-slice-read-wide-2 : tie.Need-shared-slice-read-wide-2 Inv-loop μ-loop
-shared-slice-read-wide-2 c = omega (arith, c .before .before .loop .inv .0, c .before .before .loop .inv .1, c .before .loop-test .taken)
+shared-slice-read-wide-2 c = omega (arith, c .before .before .loop .inv .1, within (c .before))
 
 wide-requires-2 : tie.Need-wide-requires-2 Inv-loop μ-loop
 wide-requires-2 c κs = search needs
 
 returns-3 : tie.Need-returns-3 Inv-loop μ-loop
 returns-3 c =
-    let at-loop-test = c .before .before .before in
-    let at-loop = at-loop-test .before in
-    let entry = at-loop .before .before .before .before .before .before in
-    let v = at-loop .loop .inv in
-    sound-wrong (entry .args .code .now) (v .1) (at-loop .loop .i) (omega (arith, v .0, at-loop-test .loop-test .taken)) (v .3)
-    (omega (arith, c .if3 .taken, c .before .wide2 .ensures))
+    let at-entry = c .before .before .before in
+    let v = at-entry .before .loop .inv in
+    sound-wrong (words at-entry) (v .1) _ (within at-entry) (v .3) (omega (arith, c .if3 .taken, c .before .wide2 .ensures))
 
 add-i : tie.Need-add-i Inv-loop μ-loop
 add-i c = omega arith
@@ -62,11 +67,9 @@ loop-less c = omega arith
 
 loop-again : tie.Need-loop-again Inv-loop μ-loop
 loop-again c =
-    let at-loop-test = c .before .before .before in
-    let at-loop = at-loop-test .before in
-    let entry = at-loop .before .before .before .before .before .before in
-    let v = at-loop .loop .inv in
-    (v .0, v .1, omega arith, sound-next (entry .args .code .now) (v .1) (at-loop .loop .i) (omega (arith, v .0, at-loop-test .loop-test .taken)) (v .3) (omega (arith, c .if3 .left, c .before .wide2 .ensures)))
+    let at-entry = c .before .before .before in
+    let v = at-entry .before .loop .inv in
+    (v .0, v .1, omega arith, sound-next (words at-entry) (v .1) _ (within at-entry) (v .3) (omega (arith, c .if3 .left, c .before .wide2 .ensures)))
 
 returns-4 : tie.Need-returns-4 Inv-loop μ-loop
 returns-4 c =
