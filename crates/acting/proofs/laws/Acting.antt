@@ -23,7 +23,12 @@ use Rattle.acting.specs.declared.registers.Next.the-variants.{Onward, St
 use Rattle.acting.specs.declared.registers.InCell.{InCell}
 use Rattle.acting.specs.declared.moving.Cells.{Cells}
 use Rattle.acting.specs.declared.moving.Cells.the-variants.{Wrong}
+use Rattle.acting.specs.declared.moving.Reached.{Reached}
 use Rattle.acting.specs.declared.moving.Reached.the-variants.{At, Wrong as NotThere}
+use Rattle.decoding.specs.declared.Span.{Span}
+use Rattle.decoding.specs.declared.Shift.{Shift}
+use Rattle.decoding.specs.declared.Shift.the-variants.{Go, Select}
+use Rattle.decoding.specs.Decoded.{registerMeant, shiftMeant}
 use Rattle.acting.specs.Endings.{endingNumber}
 use Rattle.acting.specs.Spans.{cellsOf, reachedBy}
 use Rattle.acting.specs.States.{Memory, memory, frameWord, localOf, stacksOf, Ledgers, ledgerOf, roomOf, movedTo, Fits, Outcomes, Going, Stayed, Acts}
@@ -92,11 +97,7 @@ module _ (g : Registers) (m : Memory) where
     go-none (some r) e =
         stops _ _ NoInstruction (λ allowance code enter k. rw (length-drop (g .p .0) (m .input), lt-leb _ (length (m .input) - g .p .0) (not-counted _ _ e)))
 
-    pub go-wrong : (o : Option Register) → NotThere ≡ reachedBy (Spanned o (g .p .0)) (g .p .0) →
-        Acts (spanAction go o add back) (g .at .0) g m (Stopped g NoInstruction 0) m
-    go-wrong o e = go-none o (not-led _ _ e)
-
-    pub go-moved : (o : Option Register) (to : InCell) → At to ≡ reachedBy (Spanned o (g .p .0)) (g .p .0) →
+    go-moved : (o : Option Register) (to : InCell) → At to ≡ reachedBy (Spanned o (g .p .0)) (g .p .0) →
         Acts (spanAction go o add back) (g .at .0) g m (Onward (movedTo g (to .0) (to .0) (g .r .0))) m
     go-moved o to e =
         let l = led _ _ to e in
@@ -122,11 +123,7 @@ module _ (g : Registers) (m : Memory) where
         let short : length (m .input) - g .p .0 < g .q .0 - g .p .0 + n = omega (arith, not-counted n _ e) in
         stops _ _ NoInstruction (λ allowance code enter k. rw (length-drop (g .p .0) (m .input), lt-leb _ _ short))
 
-    pub select-wrong : (o : Option Register) → NotThere ≡ reachedBy (Spanned o (g .q .0)) (g .q .0) →
-        Acts (spanAction select o add back) (g .at .0) g m (Stopped g NoInstruction 0) m
-    select-wrong o e = select-none o (not-led _ _ e)
-
-    pub select-moved : (o : Option Register) (to : InCell) → At to ≡ reachedBy (Spanned o (g .q .0)) (g .q .0) →
+    select-moved : (o : Option Register) (to : InCell) → At to ≡ reachedBy (Spanned o (g .q .0)) (g .q .0) →
         Acts (spanAction select o add back) (g .at .0) g m (Onward (movedTo g (g .p .0) (to .0) (g .r .0))) m
     select-moved o to e =
         let l = led _ _ to e in
@@ -137,6 +134,28 @@ module _ (g : Registers) (m : Memory) where
           same = λ allowance code enter k. rw (t .known, t .amount, length-drop (g .p .0) (m .input), le-leb _ _ there, moved);
           stays = stayed _ _ _ (m .input) (m .output) (λ f. omega (arith, l .sum)) (λ f. omega (arith, t .enough, l .sum)) (λ f. f .below);
         }
+
+  -- the cell that a shift starts from, and where it leads, if the cells are there
+  abbrev pub startOf : Shift → ℕ
+  startOf (Go s) = g .p .0
+  startOf (Select s) = g .q .0
+
+  abbrev pub spanOf : Shift → Span
+  spanOf (Go s) = s
+  spanOf (Select s) = s
+
+  abbrev pub shifted : Shift → Reached → Next
+  shifted what NotThere = Stopped g NoInstruction 0
+  shifted (Go s) (At to) = Onward (movedTo g (to .0) (to .0) (g .r .0))
+  shifted (Select s) (At to) = Onward (movedTo g (g .p .0) (to .0) (g .r .0))
+
+  pub shifts : g .p .0 ≤ g .q .0 → g .q .0 ≤ length (m .input) → (what : Shift) (r : Reached) →
+      r ≡ reachedBy (cellsOf (registerMeant (spanOf what .register)) (spanOf what .add) (spanOf what .back) (localOf g m) (length (m .input) - startOf what)) (startOf what) →
+      Acts (shiftMeant what) (g .at .0) g m (shifted what r) m
+  shifts p≤q q≤in (Go s) NotThere e = go-none p≤q q≤in (s .add) (s .back) (registerMeant (s .register)) (not-led _ _ e)
+  shifts p≤q q≤in (Go s) (At to) e = go-moved p≤q q≤in (s .add) (s .back) (registerMeant (s .register)) to e
+  shifts p≤q q≤in (Select s) NotThere e = select-none p≤q q≤in (s .add) (s .back) (registerMeant (s .register)) (not-led _ _ e)
+  shifts p≤q q≤in (Select s) (At to) e = select-moved p≤q q≤in (s .add) (s .back) (registerMeant (s .register)) to e
 
   -- OUT, OUTC, OUTV
 
