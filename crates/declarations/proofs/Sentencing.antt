@@ -1,7 +1,7 @@
 -- The loop over a function's sentences.
 use Prim.Native.Nat.{ℕ, zero, suc, _+_, _-_, _≤_, _<_}
 use mathlib.Core.Path.{_≡_, refl, sym, _∙_}
-use mathlib.Core.Bool.{Bool, true, false}
+use mathlib.Core.Bool.{Bool, true, false, false≢true}
 use mathlib.Core.List.{List, [], _∷_, _++_, append-assoc, append-nil}
 use native.Mathlib.Omega.{arith}
 use lib.ListN.{length, set, length-append}
@@ -16,11 +16,12 @@ use Rattle.bookkeeping.specs.declared.progress.Fault.{Fault}
 use Rattle.bookkeeping.specs.declared.progress.Progress.{Progress}
 use Rattle.bookkeeping.specs.declared.progress.Parsed.{Parsed as CodeParsed}
 use Rattle.bookkeeping.specs.declared.progress.Parsed.the-variants.{Stopped, Done}
+use Rattle.declarations.specs.declared.sentences.Sequel.{Sequel}
 use Rattle.declarations.specs.declared.sentences.Sequel.the-variants.{Ends, Another, Refused}
 use Rattle.bookkeeping.specs.Answered.{Agrees}
 use Rattle.bookkeeping.specs.Written.{Ready, Went}
 use Rattle.declarations.specs.Sentences.{Each, SentenceStands, sentenceOf, firstSentence, FirstRead, Follows, SentencesRead}
-use Rattle.bookkeeping.proofs.Going.{stops, reads, ReadAt, has-stopped, follow-alone, behind, behind-more, went-none, went-then, word-went}
+use Rattle.bookkeeping.proofs.Going.{stops, reads, ReadAt, has-stopped, has-read, follow-alone, behind, behind-more, went-none, went-then, word-went}
 use Rattle.declarations.proofs.Onward.{ready-after}
 
 -- it holds of none, of these and those, and of one more
@@ -129,55 +130,96 @@ module _ {text start : List ℕ} {limit from words : ℕ} {tape : List ℕ} {at 
       → SentencesAgree text limit from words start tape′ (Stopped fault)
   sentence-stops {fault = fault} a = stops fault _ _ (at-sentence ∙ rw (has-stopped _ fault a)) refl refl
 
-  -- a sentence was read
-  module _ {tape₁ : List ℕ} {s : Progress}
-      (r : ReadAt (FirstRead text left at to tape tape₁) (firstSentence left (stream text Tokens.inside at)) s) where
-    at-sequel : Reading.sentences limit (stream text Tokens.inside from)
-        ≡ follow (afterSentence (Reading.sentences (left - 1)) (r .value) (stream text Tokens.inside (s .at))) (behind (k .before))
-    at-sequel = at-sentence ∙ rw (r .same, r .how .read .tokens)
+-- a sentence was read after those
+pub record OneMore (text start : List ℕ) (limit from words left : ℕ) (tape₁ : List ℕ) (s : Progress) : Type 0 where
+  pub tape : List ℕ
+  pub at : ℕ
+  pub to : ℕ
+  pub others : Sentenced text start limit from words tape at to left
+  pub read : ReadAt (FirstRead text left at to tape tape₁) (firstSentence left (stream text Tokens.inside at)) s
 
-    pub sequel-refused : {tape′ : List ℕ} {fault : Fault} → Follows text (s .at) (Refused fault) → SentencesAgree text limit from words start tape′ (Stopped fault)
-    sequel-refused {fault = fault} f = stops fault _ _ (at-sequel ∙ rw (f .gives (Reading.sentences (left - 1)) (r .value))) refl refl
+pub one-more : {text start : List ℕ} {limit from words : ℕ} {tape : List ℕ} {at to left : ℕ} {tape₁ : List ℕ} {s : Progress} {p : CodeParsed}
+    → Sentenced text start limit from words tape at to left
+    → p ≡ Done s
+    → Agrees (FirstRead text left at to tape tape₁) (firstSentence left (stream text Tokens.inside at)) p
+    → OneMore text start limit from words left tape₁ s
+one-more k e a = record { tape = _; at = _; to = _; others = k; read = has-read _ _ (rw e at a) }
 
-    -- the tape has room for the word after the sentence
-    pub sequel-room : {further : ℕ} → s .at < further → further ≤ length text → s .words < 32768
-    sequel-room h i = omega (arith, r .how .read .went .charged, k .short)
+-- something comes after it that isn't refused
+abbrev pub goesOn : Sequel → Bool
+goesOn (Ends past) = true
+goesOn (Another place) = true
+goesOn (Refused fault) = false
 
-    -- with the word after the sentence
-    sentence-went : (word : ℕ) {tape′ : List ℕ} {further : ℕ} → s .at < further → further ≤ length text → tape′ ≡ set tape₁ (s .words) word
-        → Went text from words start further (s .words + 1) tape′ (partedTape (k .before) ++ (sentenceTape (r .value) ++ word ∷ []))
-    sentence-went word h i w =
-        went-then (k .went) (went-then (r .how .read .went) (word-went (ready-after (k .short) (r .how .read .went)) h i w))
+module _ {text start : List ℕ} {limit from words left : ℕ} {tape₁ : List ℕ} {s : Progress} (o : OneMore text start limit from words left tape₁ s) where
+  abbrev before : List Sentence
+  before = o .others .before
 
-    counted-more : left - 1 + length (k .before ++ r .value ∷ []) ≡ limit
-    counted-more = rw (length-append (k .before) (r .value ∷ [])) (omega (arith, k .counted, r .how .some))
+  abbrev last : Sentence
+  last = o .read .value
 
-    stand-more : Each (SentenceStands text) (k .before ++ r .value ∷ [])
-    stand-more = each-more (SentenceStands text) (k .before) (r .value) (k .stand) (r .how .read .stands)
+  abbrev read-so : FirstRead text left (o .at) (o .to) (o .tape) tape₁ last (o .read .rest) s
+  read-so = o .read .how
 
-    pub sequel-ends : {tape′ : List ℕ} {past : ℕ} → Follows text (s .at) (Ends past) → tape′ ≡ set tape₁ (s .words) 1792
+  at-sequel : Reading.sentences limit (stream text Tokens.inside from)
+      ≡ follow (afterSentence (Reading.sentences (left - 1)) (o .read .value) (stream text Tokens.inside (s .at))) (behind (o .others .before))
+  at-sequel = at-sentence (o .others) ∙ rw (o .read .same, read-so .read .tokens)
+
+  -- it was one of those that might come, and the tape is within the text
+  pub some-left : 0 < left
+  some-left = read-so .some
+
+  pub sequel-ready : Ready text (s .at) (s .words)
+  sequel-ready = ready-after (o .others .short) (read-so .read .went)
+
+  -- the tape has room for the word after the sentence
+  pub sequel-room : (q : Sequel) → Follows text (s .at) q → goesOn q ≡ true → s .words < 32768
+  sequel-room (Ends past) f e = omega (arith, sequel-ready, f .gives .1, f .gives .2)
+  sequel-room (Another place) f e = omega (arith, sequel-ready, f .gives .1, f .gives .2)
+  sequel-room (Refused fault) f e = absurd (false≢true e)
+
+  -- with the word after the sentence
+  sentence-went : (word : ℕ) {tape′ : List ℕ} {further : ℕ} → s .at < further → further ≤ length text → tape′ ≡ set tape₁ (s .words) word
+      → Went text from words start further (s .words + 1) tape′ (partedTape before ++ (sentenceTape last ++ word ∷ []))
+  sentence-went word h i w = went-then (o .others .went) (went-then (read-so .read .went) (word-went sequel-ready h i w))
+
+  counted-more : left - 1 + length (before ++ last ∷ []) ≡ limit
+  counted-more = rw (length-append before (last ∷ [])) (omega (arith, o .others .counted, some-left))
+
+  stand-more : Each (SentenceStands text) (before ++ last ∷ [])
+  stand-more = each-more (SentenceStands text) before last (o .others .stand) (read-so .read .stands)
+
+  module _ {q : Sequel} (follows : Follows text (s .at) q) where
+    pub sequel-refused : {tape′ : List ℕ} {fault : Fault} → q ≡ Refused fault → SentencesAgree text limit from words start tape′ (Stopped fault)
+    sequel-refused {fault = fault} e =
+        let f = rw e at follows in
+        stops fault _ _ (at-sequel ∙ rw (f .gives (Reading.sentences (left - 1)) last)) refl refl
+
+    pub sequel-ends : {tape′ : List ℕ} {past : ℕ} → q ≡ Ends past → tape′ ≡ set tape₁ (s .words) 1792
         → SentencesAgree text limit from words start tape′ (Done (record { at = past; words = s .words + 1; count = left - 1; parts = 0 }))
-    sequel-ends {past = past} f w =
-        reads (k .before ++ r .value ∷ []) (stream text Tokens.outside past)
-        (at-sequel ∙ rw (f .gives .0 (Reading.sentences (left - 1)) (r .value)))
+    sequel-ends {past = past} e w =
+        let f = rw e at follows in
+        reads (before ++ last ∷ []) (stream text Tokens.outside past)
+        (at-sequel ∙ rw (f .gives .0 (Reading.sentences (left - 1)) last))
         (record {
           tokens = refl;
-          went = rw (parted-last (k .before) (r .value)) (sentence-went (tapeWord endKind 0) (f .gives .1) (f .gives .2) w);
+          went = rw (parted-last before last) (sentence-went (tapeWord endKind 0) (f .gives .1) (f .gives .2) w);
           left = counted-more;
           stand = stand-more;
         })
 
-    pub sequel-goes : {tape′ : List ℕ} {place : ℕ} → Follows text (s .at) (Another place) → tape′ ≡ set tape₁ (s .words) 1536
+    pub sequel-goes : {tape′ : List ℕ} {place : ℕ} → q ≡ Another place → tape′ ≡ set tape₁ (s .words) 1536
         → Sentenced text start limit from words tape′ place (s .words + 1) (left - 1)
-    sequel-goes {place = place} f w =
+    sequel-goes {place = place} e w =
+        let f = rw e at follows in
         record {
-          before = k .before ++ r .value ∷ [];
+          before = before ++ last ∷ [];
           same =
               at-sequel
-              ∙ rw (f .gives .0 (Reading.sentences (left - 1)) (r .value))
-              (behind-more (k .before) (r .value) (Reading.sentences (left - 1) (stream text Tokens.inside place)));
-          went = rw (parted-more (k .before) (r .value)) (sentence-went (tapeWord nextKind 0) (f .gives .1) (f .gives .2) w);
+              ∙ rw (f .gives .0 (Reading.sentences (left - 1)) last)
+              (behind-more before last (Reading.sentences (left - 1) (stream text Tokens.inside place)));
+          went = rw (parted-more before last) (sentence-went (tapeWord nextKind 0) (f .gives .1) (f .gives .2) w);
           counted = counted-more;
           stand = stand-more;
-          short = k .short;
+          short = o .others .short;
         }
