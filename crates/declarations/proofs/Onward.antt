@@ -1,18 +1,28 @@
 -- Where a reader may go on: after what it has read, after a name, and in an expression.
 use Prim.Native.Nat.{ℕ, _+_, _-_, _*_, _≤_, _<_}
-use mathlib.Core.Path.{_≡_}
+use mathlib.Core.Path.{_≡_, refl, sym, _∙_}
+use mathlib.Core.Bool.{Bool, true}
 use mathlib.Core.List.{List, _∷_}
 use native.Mathlib.Omega.{arith}
 use lib.ListN.{length}
 use Rattle.meaning.specs.Choice.{Bytes}
 use Rattle.meaning.specs.Tape.{named}
-use Rattle.lexing.specs.View.{part}
+use Rattle.meaning.specs.Tokens as Tokens
+use Rattle.meaning.specs.Reading as Reading
+use Rattle.lexing.specs.View.{part, stream, Comes}
 use Rattle.lexing.specs.declared.Span.{Span}
+use Rattle.lexing.specs.declared.Placed.{Placed}
+use Rattle.bookkeeping.specs.declared.progress.Fault.{Fault}
 use Rattle.bookkeeping.specs.declared.progress.Progress.{Progress}
+use Rattle.bookkeeping.specs.declared.progress.Parsed.the-variants.{Stopped}
 use Rattle.bookkeeping.specs.Tables.{Inside}
+use Rattle.bookkeeping.specs.Answered.{Agrees}
+use Rattle.bookkeeping.specs.Tokened.{signIs, Taken, Barred}
 use Rattle.bookkeeping.specs.Written.{Wrote, Ready, Went}
 use Rattle.declarations.specs.Expressions.{Going}
+use Rattle.bookkeeping.proofs.Going.{stops}
 use Rattle.bookkeeping.proofs.Lengths.{part-length}
+use Rattle.bookkeeping.proofs.Tokening.{takes, passes-not}
 
 pub ready-after : {text : Bytes} {at words : ℕ} {tape : List ℕ} {at′ words′ : ℕ} {tape′ added : List ℕ} → length text ≤ 32768
     → Went text at words tape at′ words′ tape′ added → Ready text at′ words′
@@ -32,3 +42,13 @@ name-went {text} {n} kind i o h c e w =
 pub going-on : {text : Bytes} {table : List ℕ} {symbols parts : ℕ} {s : Progress} {at words : ℕ} → Going text table symbols parts s → Ready text at words
     → Going text table symbols parts (record { at = at; words = words; count = s .count; parts = s .parts })
 going-on g r = record { variables = g .variables; passed = g .passed; few = g .few; ready = r }
+
+-- a token that was asked whether it is a byte, and is
+pub is-taken : {text : Bytes} {mode : Tokens.Mode} {byte at : ℕ} {t : Placed} {is : Bool} → Comes text mode at t → is ≡ signIs byte (t .token) → is ≡ true
+    → Taken text mode byte at (t .past)
+is-taken {text} {mode} {byte} {at} {t} c s e = takes text mode at byte t c (sym s ∙ e)
+
+-- a byte that isn't there stops a reader that begins with it
+pub barred-stops : {A : Type 0} {Reads : A → List Tokens.Placed → Progress → Type 0} {text : Bytes} {mode : Tokens.Mode} {byte at : ℕ} {fault : Fault}
+    (next : List Tokens.Placed → Reading.Parsed A) → Barred text mode byte at fault → Agrees Reads (Reading.pass byte (stream text mode at) next) (Stopped fault)
+barred-stops next b = stops _ _ _ (passes-not next b) refl refl

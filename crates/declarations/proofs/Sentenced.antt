@@ -106,36 +106,46 @@ module _ {text : Bytes} {from : ℕ} where
 abbrev expressionStart : ℕ → ℕ → Progress
 expressionStart at words = record { at = at; words = words + 1; count = 0; parts = 0 }
 
-module _ (text table : List ℕ) (symbols parts from words : ℕ) where
-  abbrev EqualsAgrees : List ℕ → List ℕ → CodeParsed → Type 0
-  EqualsAgrees tape tape′ r =
-      Agrees (EqualsRead text from words tape tape′)
-      (fromEquals (symbolNames text table symbols) (partNames text table parts) (stream text Tokens.inside from)) r
+abbrev EqualsAgrees : Bytes → List ℕ → ℕ → ℕ → ℕ → ℕ → List ℕ → List ℕ → CodeParsed → Type 0
+EqualsAgrees text table symbols parts from words tape tape′ r =
+    Agrees (EqualsRead text from words tape tape′) (fromEquals (symbolNames text table symbols) (partNames text table parts) (stream text Tokens.inside from)) r
 
-  pub equals-not : {tape tape′ : List ℕ} {fault : Fault} → Barred text Tokens.inside 61 from fault → EqualsAgrees tape tape′ (Stopped fault)
-  equals-not k = stops _ _ _ (passes-not _ k) refl refl
+-- the `=` was passed
+pub record AfterEquals (text : Bytes) (from words at : ℕ) : Type 0 where
+  pub ready : Ready text from words
+  pub taken : Taken text Tokens.inside 61 from at
 
-  module _ {at : ℕ} (k : Taken text Tokens.inside 61 from at) (ready : Ready text from words) where
-    pub equals-room : words < 32768
-    equals-room = omega (arith, ready .charged, ready .short, k .onward, k .inside)
+module _ {text : Bytes} {from words at : ℕ} (q : AfterEquals text from words at) where
+  pub equals-room : words < 32768
+  equals-room = omega (arith, q .ready .charged, q .ready .short, q .taken .onward, q .taken .inside)
 
+  module _ {table : List ℕ} {symbols parts : ℕ} where
     pub equals-going : Variables text table symbols parts → Going text table symbols parts (expressionStart at words)
     equals-going v =
         record {
           variables = v;
           passed = omega arith;
           few = omega arith;
-          ready = record { inside = k .inside; charged = omega (arith, ready .charged, k .onward); short = ready .short };
+          ready =
+              record {
+                inside = q .taken .inside;
+                charged = omega (arith, q .ready .charged, q .taken .onward);
+                short = q .ready .short;
+              };
         }
 
     pub equals-reads : {tape tape₁ tape′ : List ℕ} {r : CodeParsed} → tape₁ ≡ set tape words 1024
         → ((bound : ℕ) → length (stream text Tokens.inside at) ≤ bound
         → ExpressionAgrees text table symbols parts bound 0 (expressionStart at words) tape₁ tape′ r)
-        → EqualsAgrees tape tape′ r
-    equals-reads {tape} {tape₁} {tape′} e a =
+        → EqualsAgrees text table symbols parts from words tape tape′ r
+    equals-reads e a =
         makes (λ i. i) _
-        (λ i rest s h. record { tokens = h .tokens; went = went-then (word-went ready (k .onward) (k .inside) e) (h .went); stands = h .stands })
-        (passes-on _ k ∙ follow-alone _)
+        (λ i rest s h. record {
+          tokens = h .tokens;
+          went = went-then (word-went (q .ready) (q .taken .onward) (q .taken .inside) e) (h .went);
+          stands = h .stands;
+        })
+        (passes-on _ (q .taken) ∙ follow-alone _)
         (a (length (stream text Tokens.inside at)) (omega arith))
 
 -- A SENTENCE
@@ -159,66 +169,69 @@ sentence-is : (ts : List Tokens.Placed) → Reading.sentence ts ≡ follow (Read
 unfolding Reading.sentence
 sentence-is ts = refl
 
--- the pattern was read, and the conditions
-abbrev PatternDone : Bytes → ℕ → ℕ → List ℕ → List ℕ → List ℕ → Progress → Type 0
-PatternDone text from words tape table tape₁ p =
-    ReadAt (PatternRead text from words tape table tape₁) (Reading.pattern [] (stream text Tokens.inside from)) p
-
+-- what the definition reads after the pattern
 abbrev conditionsAt : Bytes → List ℕ → Progress → Parsed (List Condition)
 conditionsAt text table p = Reading.conditions 8 (symbolNames text table (p .count)) (stream text Tokens.inside (p .at))
 
-abbrev ConditionsDone : Bytes → List ℕ → Progress → List ℕ → List ℕ → Progress → Type 0
-ConditionsDone text table p tape₁ tape₂ c = ReadAt (ConditionsRead text (p .at) (p .words) tape₁ tape₂) (conditionsAt text table p) c
+-- the pattern was read
+pub record AfterPattern (text : Bytes) (from words : ℕ) (tape table tape₁ : List ℕ) (p : Progress) : Type 0 where
+  pub ready : Ready text from words
+  pub read : ReadAt (PatternRead text from words tape table tape₁) (Reading.pattern [] (stream text Tokens.inside from)) p
 
-module _ {text : Bytes} {from words : ℕ} where
-  pub pattern-stops : {tape tape′ table : List ℕ} {fault : Fault}
-      → Agrees (PatternRead text from words tape table tape′) (Reading.pattern [] (stream text Tokens.inside from)) (Stopped fault)
-      → SentenceAgrees text from words tape tape′ (Stopped fault)
-  pattern-stops {fault = fault} a = stops fault _ _ (sentence-is _ ∙ rw (has-stopped _ fault a)) refl refl
+-- the conditions were read after it
+pub record AfterConditions (text : Bytes) (from words : ℕ) (tape table : List ℕ) (p : Progress) (tape₂ : List ℕ) (c : Progress) : Type 0 where
+  pub tape₁ : List ℕ
+  pub pattern : AfterPattern text from words tape table tape₁ p
+  pub read : ReadAt (ConditionsRead text (p .at) (p .words) tape₁ tape₂) (conditionsAt text table p) c
 
-  pub pattern-done : {tape table tape₁ : List ℕ} {p : Progress}
-      → Agrees (PatternRead text from words tape table tape₁) (Reading.pattern [] (stream text Tokens.inside from)) (Done p)
-      → PatternDone text from words tape table tape₁ p
-  pattern-done {p = p} a = has-read _ p a
+module _ {text : Bytes} {from words : ℕ} {tape table tape₁ : List ℕ} {r : CodeParsed}
+    (a : Agrees (PatternRead text from words tape table tape₁) (Reading.pattern [] (stream text Tokens.inside from)) r) where
+  pub pattern-stops : {fault : Fault} → r ≡ Stopped fault → SentenceAgrees text from words tape tape₁ (Stopped fault)
+  pattern-stops {fault} e = stops fault _ _ (sentence-is _ ∙ rw (has-stopped _ fault (rw e at a))) refl refl
 
-  module _ (ready : Ready text from words) {tape table tape₁ : List ℕ} {p : Progress} (k : PatternDone text from words tape table tape₁ p) where
-    pub pattern-ready : Ready text (p .at) (p .words)
-    pattern-ready = ready-after (ready .short) (k .how .went)
+  pub pattern-done : {p : Progress} → Ready text from words → r ≡ Done p → AfterPattern text from words tape table tape₁ p
+  pattern-done ready e = record { ready = ready; read = has-read _ _ (rw e at a) }
 
-    at-conditions : Reading.sentence (stream text Tokens.inside from)
-        ≡ follow (conditionsAt text table p) (λ cs ts. follow (fromEquals (symbolNames text table (p .count)) (partNames text table (p .parts)) ts)
-        (λ i rest. parsed (withExpression (k .value) cs i) rest))
-    at-conditions =
-        sentence-is _
-        ∙ rw (k .same, k .how .tokens, k .how .symbols, k .how .parts)
-        (follow-same (conditionsAt text table p) (λ cs ts. pass-follow 61 ts _ _))
+module _ {text : Bytes} {from words : ℕ} {tape table tape₁ : List ℕ} {p : Progress} (k : AfterPattern text from words tape table tape₁ p) where
+  pub pattern-ready : Ready text (p .at) (p .words)
+  pattern-ready = ready-after (k .ready .short) (k .read .how .went)
 
-    pub conditions-stop : {tape′ : List ℕ} {fault : Fault}
-        → Agrees (ConditionsRead text (p .at) (p .words) tape₁ tape′) (conditionsAt text table p) (Stopped fault)
-        → SentenceAgrees text from words tape tape′ (Stopped fault)
-    conditions-stop {fault = fault} a = stops fault _ _ (at-conditions ∙ rw (has-stopped _ fault a)) refl refl
+  pub pattern-variables : Variables text table (p .count) (p .parts)
+  pattern-variables = k .read .how .variables
 
-    pub conditions-done : {tape₂ : List ℕ} {c : Progress}
-        → Agrees (ConditionsRead text (p .at) (p .words) tape₁ tape₂) (conditionsAt text table p) (Done c)
-        → ConditionsDone text table p tape₁ tape₂ c
-    conditions-done {c = c} a = has-read _ c a
+  at-conditions : Reading.sentence (stream text Tokens.inside from)
+      ≡ follow (conditionsAt text table p) (λ cs ts. follow (fromEquals (symbolNames text table (p .count)) (partNames text table (p .parts)) ts)
+      (λ i rest. parsed (withExpression (k .read .value) cs i) rest))
+  at-conditions =
+      sentence-is _
+      ∙ rw (k .read .same, k .read .how .tokens, k .read .how .symbols, k .read .how .parts)
+      (follow-same (conditionsAt text table p) (λ cs ts. pass-follow 61 ts _ _))
 
-    module _ {tape₂ : List ℕ} {c : Progress} (l : ConditionsDone text table p tape₁ tape₂ c) where
-      pub conditions-ready : Ready text (c .at) (c .words)
-      conditions-ready = ready-after (ready .short) (l .how .went)
+  module _ {tape₂ : List ℕ} {r : CodeParsed} (a : Agrees (ConditionsRead text (p .at) (p .words) tape₁ tape₂) (conditionsAt text table p) r) where
+    pub conditions-stop : {fault : Fault} → r ≡ Stopped fault → SentenceAgrees text from words tape tape₂ (Stopped fault)
+    conditions-stop {fault} e = stops fault _ _ (at-conditions ∙ rw (has-stopped _ fault (rw e at a))) refl refl
 
-      pub sentence-reads : {tape′ : List ℕ} {r : CodeParsed}
-          → EqualsAgrees text table (p .count) (p .parts) (c .at) (c .words) tape₂ tape′ r
-          → SentenceAgrees text from words tape tape′ r
-      sentence-reads a =
-          makes (withExpression (k .value) (l .value)) _
-          (λ i rest s h. record {
-            tokens = h .tokens;
-            went = went-then (k .how .went) (went-then (l .how .went) (h .went));
-            stands = record { pattern = k .how .quiet; conditions = l .how .quiet; expression = h .stands };
-          })
-          (at-conditions ∙ rw (l .same, l .how .tokens))
-          a
+    pub conditions-done : {c : Progress} → r ≡ Done c → AfterConditions text from words tape table p tape₂ c
+    conditions-done e = record { tape₁ = tape₁; pattern = k; read = has-read _ _ (rw e at a) }
+
+module _ {text : Bytes} {from words : ℕ} {tape table : List ℕ} {p : Progress} {tape₂ : List ℕ} {c : Progress}
+    (l : AfterConditions text from words tape table p tape₂ c) where
+  pub conditions-ready : Ready text (c .at) (c .words)
+  conditions-ready = ready-after (l .pattern .ready .short) (l .read .how .went)
+
+  pub sentence-reads : {tape′ : List ℕ} {r : CodeParsed}
+      → EqualsAgrees text table (p .count) (p .parts) (c .at) (c .words) tape₂ tape′ r
+      → SentenceAgrees text from words tape tape′ r
+  sentence-reads a =
+      let k = l .pattern .read in
+      makes (withExpression (k .value) (l .read .value)) _
+      (λ i rest s h. record {
+        tokens = h .tokens;
+        went = went-then (k .how .went) (went-then (l .read .how .went) (h .went));
+        stands = record { pattern = k .how .quiet; conditions = l .read .how .quiet; expression = h .stands };
+      })
+      (at-conditions (l .pattern) ∙ rw (l .read .same, l .read .how .tokens))
+      a
 
 -- THE NEXT SENTENCE
 

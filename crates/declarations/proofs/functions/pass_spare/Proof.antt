@@ -4,9 +4,13 @@ use Rattle.declarations.proofs.functions.pass_spare.Statement.{statemen
 use Rattle.declarations.proofs.functions.pass_spare.Tie as tie
 use mathlib.Core.Path.{sym, _∙_}
 use Rattle.meaning.specs.Tokens.{outside}
+use Rattle.lexing.specs.View.{Comes}
 use Rattle.lexing.proofs.Stream.{comes}
-use Rattle.bookkeeping.proofs.Tokening.{takes}
+use Rattle.declarations.proofs.Onward.{is-taken}
 use Rattle.declarations.proofs.Functioned.{spare-passed, spare-none}
+
+token-here : (c : tie.After-lex) → let a = c .before .before .args in Comes (a .text .now) outside (a .at) (c .lex .result)
+token-here c = comes _ outside _ _ (c .before .before .pre) (c .lex .ensures)
 
 lex-requires : tie.Need-lex-requires
 lex-requires c κs = search needs
@@ -15,16 +19,10 @@ is-sign-requires : tie.Need-is-sign-requires
 is-sign-requires c κs = search needs
 
 returns : tie.Need-returns
-returns c =
-    let at-lex = c .before .before in
-    let entry = at-lex .before .before in
-    spare-passed (takes _ outside _ 59 _ (comes _ outside _ _ (entry .pre) (at-lex .lex .ensures)) (sym (c .before .is-sign .ensures) ∙ c .if1 .taken))
+returns c = spare-passed (is-taken (token-here (c .before .before)) (c .before .is-sign .ensures) (c .if1 .taken))
 
 returns-2 : tie.Need-returns-2
-returns-2 c =
-    let at-lex = c .before .before in
-    let entry = at-lex .before .before in
-    spare-none (comes _ outside _ _ (entry .pre) (at-lex .lex .ensures)) (sym (c .before .is-sign .ensures) ∙ c .if1 .left)
+returns-2 c = spare-none (token-here (c .before .before)) (sym (c .before .is-sign .ensures) ∙ c .if1 .left)
 
 pub pass-spare-spec : {M : Type 1} → statement M
 pass-spare-spec = tie.close (tie.spec lex-requires is-sign-requires returns returns-2)

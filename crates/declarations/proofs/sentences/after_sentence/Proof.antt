@@ -5,9 +5,26 @@ use Rattle.declarations.proofs.sentences.after_sentence.Tie as tie
 use mathlib.Core.Path.{sym, _∙_}
 use borrow.Author.Tests.{not-true, not-false}
 use Rattle.meaning.specs.Tokens.{inside}
+use Rattle.lexing.specs.View.{Comes}
+use Rattle.bookkeeping.specs.Tokened.{Taken}
 use Rattle.lexing.proofs.Stream.{comes}
-use Rattle.bookkeeping.proofs.Tokening.{takes}
+use Rattle.declarations.proofs.Onward.{is-taken}
 use Rattle.declarations.proofs.Sentenced.{ends-at-once, follows-nothing, ends-after, goes-after}
+
+token-here : (c : tie.After-lex) → let a = c .before .before .args in Comes (a .text .now) inside (a .from) (c .lex .result)
+token-here c = comes _ inside _ _ (c .before .before .pre) (c .lex .ensures)
+
+-- a `;` comes
+passed-here : (c : tie.Else2)
+    → let at-lex = c .before .before .before .before in
+    let a = at-lex .before .before .args in
+    Taken (a .text .now) inside 59 (a .from) (at-lex .lex .result .past)
+passed-here c = is-taken (token-here (c .before .before .before .before)) (c .before .is-sign2 .ensures) (not-false _ (c .if2 .left))
+
+next-here : (c : tie.After-lex2)
+    → let at-lex = c .before .before .before .before .before in
+    Comes (at-lex .before .before .args .text .now) inside (at-lex .lex .result .past) (c .lex2 .result)
+next-here c = comes _ inside _ _ (passed-here (c .before) .inside) (c .lex2 .ensures)
 
 lex-requires : tie.Need-lex-requires
 lex-requires c κs = search needs
@@ -16,10 +33,7 @@ is-sign-requires : tie.Need-is-sign-requires
 is-sign-requires c κs = search needs
 
 returns : tie.Need-returns
-returns c =
-    let at-lex = c .before .before in
-    let entry = at-lex .before .before in
-    ends-at-once (takes _ inside _ 125 _ (comes _ inside _ _ (entry .pre) (at-lex .lex .ensures)) (sym (c .before .is-sign .ensures) ∙ c .if1 .taken))
+returns c = ends-at-once (is-taken (token-here (c .before .before)) (c .before .is-sign .ensures) (c .if1 .taken))
 
 is-sign-requires-2 : tie.Need-is-sign-requires-2
 is-sign-requires-2 c κs = search needs
@@ -32,9 +46,7 @@ returns-2 c =
     let at-is-sign2 = c .before .before in
     let at-if1 = at-is-sign2 .before in
     let at-is-sign = at-if1 .before in
-    let at-lex = at-is-sign .before in
-    let entry = at-lex .before .before in
-    follows-nothing (comes _ inside _ _ (entry .pre) (at-lex .lex .ensures)) (sym (at-is-sign .is-sign .ensures) ∙ at-if1 .if1 .left)
+    follows-nothing (token-here (at-is-sign .before)) (sym (at-is-sign .is-sign .ensures) ∙ at-if1 .if1 .left)
     (sym (at-is-sign2 .is-sign2 .ensures) ∙ not-true _ (c .before .if2 .taken)) (c .refuse .ensures)
 
 lex-requires-2 : tie.Need-lex-requires-2
@@ -46,22 +58,12 @@ is-sign-requires-3 c κs = search needs
 returns-3 : tie.Need-returns-3
 returns-3 c =
     let at-lex2 = c .before .before in
-    let at-if2 = at-lex2 .before in
-    let at-is-sign2 = at-if2 .before in
-    let at-lex = at-is-sign2 .before .before .before in
-    let entry = at-lex .before .before in
-    let k = takes _ inside _ 59 _ (comes _ inside _ _ (entry .pre) (at-lex .lex .ensures)) (sym (at-is-sign2 .is-sign2 .ensures) ∙ not-false _ (at-if2 .if2 .left)) in
-    ends-after k (takes _ inside _ 125 _ (comes _ inside _ _ (k .inside) (at-lex2 .lex2 .ensures)) (sym (c .before .is-sign3 .ensures) ∙ c .if3 .taken))
+    ends-after (passed-here (at-lex2 .before)) (is-taken (next-here at-lex2) (c .before .is-sign3 .ensures) (c .if3 .taken))
 
 returns-4 : tie.Need-returns-4
 returns-4 c =
     let at-lex2 = c .before .before in
-    let at-if2 = at-lex2 .before in
-    let at-is-sign2 = at-if2 .before in
-    let at-lex = at-is-sign2 .before .before .before in
-    let entry = at-lex .before .before in
-    let k = takes _ inside _ 59 _ (comes _ inside _ _ (entry .pre) (at-lex .lex .ensures)) (sym (at-is-sign2 .is-sign2 .ensures) ∙ not-false _ (at-if2 .if2 .left)) in
-    goes-after k (comes _ inside _ _ (k .inside) (at-lex2 .lex2 .ensures)) (sym (c .before .is-sign3 .ensures) ∙ c .if3 .left)
+    goes-after (passed-here (at-lex2 .before)) (next-here at-lex2) (sym (c .before .is-sign3 .ensures) ∙ c .if3 .left)
 
 pub after-sentence-spec : {M : Type 1} → statement M
 after-sentence-spec =

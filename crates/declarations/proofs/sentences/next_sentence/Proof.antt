@@ -2,12 +2,21 @@
 use borrow.Author.Needs.{needs}
 use Rattle.declarations.proofs.sentences.next_sentence.Statement.{statement}
 use Rattle.declarations.proofs.sentences.next_sentence.Tie as tie
-use mathlib.Core.Path.{sym, _∙_}
+use mathlib.Core.Path.{_≡_, sym, _∙_}
+use mathlib.Core.Bool.{true}
 use borrow.Author.Tests.{not-true, not-false}
 use Rattle.meaning.specs.Tokens.{inside}
+use Rattle.lexing.specs.View.{Comes}
+use Rattle.declarations.specs.Sentences.{beginsSentence}
 use Rattle.lexing.proofs.Stream.{comes}
 use Rattle.bookkeeping.proofs.Tokening.{ready-place}
 use Rattle.declarations.proofs.Sentenced.{first-refused, first-many, first-reads}
+
+token-here : (c : tie.After-lex) → let a = c .before .before .args in Comes (a .text .now) inside (a .from) (c .lex .result)
+token-here c = comes _ inside _ _ (c .before .before .pre .inside) (c .lex .ensures)
+
+begins-here : (c : tie.Else1) → beginsSentence (c .before .before .lex .result .token) ≡ true
+begins-here c = sym (c .before .begins .ensures) ∙ not-false _ (c .if1 .left)
 
 lex-requires : tie.Need-lex-requires
 lex-requires c κs = search needs
@@ -21,10 +30,7 @@ refuse-requires c κs = search needs
 returns : tie.Need-returns
 returns c =
     let at-begins = c .before .before in
-    let at-lex = at-begins .before in
-    let entry = at-lex .before .before in
-    let k = comes _ inside _ _ (entry .pre .inside) (at-lex .lex .ensures) in
-    first-refused _ _ k (sym (at-begins .begins .ensures) ∙ not-true _ (c .before .if1 .taken)) (c .refuse .ensures)
+    first-refused _ _ (token-here (at-begins .before)) (sym (at-begins .begins .ensures) ∙ not-true _ (c .before .if1 .taken)) (c .refuse .ensures)
 
 stopped-requires : tie.Need-stopped-requires
 stopped-requires c κs = search needs
@@ -32,27 +38,18 @@ stopped-requires c κs = search needs
 returns-2 : tie.Need-returns-2
 returns-2 c =
     let at-if1 = c .before .before in
-    let at-begins = at-if1 .before in
-    let at-lex = at-begins .before in
-    let entry = at-lex .before .before in
-    let k = comes _ inside _ _ (entry .pre .inside) (at-lex .lex .ensures) in
-    rw (c .stopped .ensures) (first-many _ _ k (sym (at-begins .begins .ensures) ∙ not-false _ (at-if1 .if1 .left)) (c .before .if2 .taken))
+    rw (c .stopped .ensures) (first-many _ _ (token-here (at-if1 .before .before)) (begins-here at-if1) (c .before .if2 .taken))
 
 sentence-requires : tie.Need-sentence-requires
 sentence-requires c κs =
     let at-lex = c .before .before .before .before in
-    let entry = at-lex .before .before in
-    ready-place (entry .pre) (comes _ inside _ _ (entry .pre .inside) (at-lex .lex .ensures))
+    ready-place (at-lex .before .before .pre) (token-here at-lex)
 
 returns-3 : tie.Need-returns-3
 returns-3 c =
     let at-if2 = c .before .before in
     let at-if1 = at-if2 .before in
-    let at-begins = at-if1 .before in
-    let at-lex = at-begins .before in
-    let entry = at-lex .before .before in
-    let k = comes _ inside _ _ (entry .pre .inside) (at-lex .lex .ensures) in
-    first-reads _ _ k (sym (at-begins .begins .ensures) ∙ not-false _ (at-if1 .if1 .left)) (at-if2 .if2 .left) (c .sentence .ensures)
+    first-reads _ _ (token-here (at-if1 .before .before)) (begins-here at-if1) (at-if2 .if2 .left) (c .sentence .ensures)
 
 pub next-sentence-spec : {M : Type 1} → statement M
 next-sentence-spec =

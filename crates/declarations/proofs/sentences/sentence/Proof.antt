@@ -2,8 +2,28 @@
 use Rattle.declarations.proofs.sentences.sentence.Statement.{statement}
 use Rattle.declarations.proofs.sentences.sentence.Tie as tie
 use borrow.Author.Needs.{needs}
-use Rattle.declarations.proofs.Sentenced.{pattern-stops, pattern-done, pattern-ready, conditions-stop, conditions-done, conditions-ready, sentence-reads}
+use Rattle.declarations.proofs.Sentenced.{AfterPattern, AfterConditions, pattern-stops, pattern-done, pattern-ready, pattern-variables, conditions-stop, conditions-done, conditions-ready, sentence-reads}
 use mathlib.Core.Path.{sym}
+
+pattern-here : (c : tie.After-p)
+    → let at-pattern = c .before .before in
+    let a = at-pattern .before .before .before .before .before .args in
+    let left = at-pattern .pattern .last .1 in
+    AfterPattern (a .text .now) (a .from) (a .words) (a .tape .now) (left .1 .0) (left .0) (c .p .given .0 .0)
+pattern-here c =
+    let at-pattern = c .before .before in
+    pattern-done (at-pattern .pattern .ensures) (at-pattern .before .before .before .before .before .pre) (c .p .given .1)
+
+conditions-here : (c : tie.After-c)
+    → let at-conditions = c .before .before in
+    let at-p = at-conditions .before .before .before .before in
+    let at-pattern = at-p .before .before in
+    let a = at-pattern .before .before .before .before .before .args in
+    AfterConditions (a .text .now) (a .from) (a .words) (a .tape .now) (at-pattern .pattern .last .1 .1 .0) (at-p .p .given .0 .0)
+    (at-conditions .conditions .last .1 .0) (c .c .given .0 .0)
+conditions-here c =
+    let at-conditions = c .before .before in
+    conditions-done (pattern-here (at-conditions .before .before .before .before)) (at-conditions .conditions .ensures) (c .c .given .1)
 
 variable-room-requires : tie.Need-variable-room-requires
 variable-room-requires c κs = search needs
@@ -15,25 +35,18 @@ enum-known-fault : tie.Need-enum-known-fault
 enum-known-fault c = search needs
 
 returns : tie.Need-returns
-returns c = pattern-stops (rw (c .before .fault .given .1) at (c .before .before .before .pattern .ensures))
+returns c = pattern-stops (c .before .before .before .pattern .ensures) (c .before .fault .given .1)
 
 enum-known-p : tie.Need-enum-known-p
 enum-known-p c = search needs
 
 slice-aggregate-conditions : tie.Need-slice-aggregate-conditions
-slice-aggregate-conditions c =
-    let at-p = c .before .before .before in
-    let at-pattern = at-p .before .before in
-    let k = pattern-done (rw (at-p .p .given .1) at (at-pattern .pattern .ensures)) in
-    sym (k .how .variables .long)
+slice-aggregate-conditions c = sym (pattern-variables (pattern-here (c .before .before .before)) .long)
 
 conditions-requires : tie.Need-conditions-requires
 conditions-requires c κs =
-    let at-p = c .before .before .before in
-    let at-pattern = at-p .before .before in
-    let entry = at-pattern .before .before .before .before .before in
-    let k = pattern-done (rw (at-p .p .given .1) at (at-pattern .pattern .ensures)) in
-    (pattern-ready (entry .pre) k, k .how .variables .symbolEntries)
+    let k = pattern-here (c .before .before .before) in
+    (pattern-ready k, pattern-variables k .symbolEntries)
 
 enum-known-fault-2 : tie.Need-enum-known-fault-2
 enum-known-fault-2 c = search needs
@@ -41,41 +54,21 @@ enum-known-fault-2 c = search needs
 returns-2 : tie.Need-returns-2
 returns-2 c =
     let at-conditions = c .before .before .before in
-    let at-p = at-conditions .before .before .before .before in
-    let at-pattern = at-p .before .before in
-    let entry = at-pattern .before .before .before .before .before in
-    let k = pattern-done (rw (at-p .p .given .1) at (at-pattern .pattern .ensures)) in
-    conditions-stop (entry .pre) k (rw (c .before .fault2 .given .1) at (at-conditions .conditions .ensures))
+    conditions-stop (pattern-here (at-conditions .before .before .before .before)) (at-conditions .conditions .ensures) (c .before .fault2 .given .1)
 
 enum-known-c : tie.Need-enum-known-c
 enum-known-c c = search needs
 
 slice-aggregate-sentence-end : tie.Need-slice-aggregate-sentence-end
-slice-aggregate-sentence-end c =
-    let at-p = c .before .before .before .before .before .before .before .before .before in
-    let at-pattern = at-p .before .before in
-    let k = pattern-done (rw (at-p .p .given .1) at (at-pattern .pattern .ensures)) in
-    sym (k .how .variables .long)
+slice-aggregate-sentence-end c = sym (pattern-variables (conditions-here (c .before .before .before) .pattern) .long)
 
 sentence-end-requires : tie.Need-sentence-end-requires
 sentence-end-requires c κs =
-    let at-c = c .before .before .before in
-    let at-conditions = at-c .before .before in
-    let at-p = at-conditions .before .before .before .before in
-    let at-pattern = at-p .before .before in
-    let entry = at-pattern .before .before .before .before .before in
-    let k = pattern-done (rw (at-p .p .given .1) at (at-pattern .pattern .ensures)) in
-    (k .how .variables, conditions-ready (entry .pre) k (conditions-done (entry .pre) k (rw (at-c .c .given .1) at (at-conditions .conditions .ensures))))
+    let l = conditions-here (c .before .before .before) in
+    (pattern-variables (l .pattern), conditions-ready l)
 
 returns-3 : tie.Need-returns-3
-returns-3 c =
-    let at-c = c .before .before .before .before in
-    let at-conditions = at-c .before .before in
-    let at-p = at-conditions .before .before .before .before in
-    let at-pattern = at-p .before .before in
-    let entry = at-pattern .before .before .before .before .before in
-    let k = pattern-done (rw (at-p .p .given .1) at (at-pattern .pattern .ensures)) in
-    sentence-reads (entry .pre) k (conditions-done (entry .pre) k (rw (at-c .c .given .1) at (at-conditions .conditions .ensures))) (c .sentence-end .ensures)
+returns-3 c = sentence-reads (conditions-here (c .before .before .before .before)) (c .sentence-end .ensures)
 
 pub sentence-spec : {M : Type 1} → statement M
 sentence-spec =
