@@ -41,129 +41,141 @@ use Rattle.declarations.specs.Sentences.{Each, SentencesRead}
 use Rattle.declarations.specs.Functions.{FunctionStands, fromBrace, declared, Declarable, BodyRead, Opening, nameFault, DeclaredRead, SpareTo, isEnd, FunctionsRead}
 use Rattle.bookkeeping.proofs.Lengths.{part-length, within}
 use Rattle.bookkeeping.proofs.Tabling.{Grown, grown, entry-name, entry-inside, none-yet, no-names}
-use Rattle.bookkeeping.proofs.Going.{check-wrong, stops, reads, ReadAt, has-stopped, pass-follow, follow-alone, makes, went-none, went-from, went-on, went-then}
+use Rattle.bookkeeping.proofs.Going.{check-wrong, stops, reads, ReadAt, has-stopped, has-read, pass-follow, follow-alone, makes, went-none, went-from, went-on, went-then}
 use Rattle.bookkeeping.proofs.Tokening.{NameFirst, sign-shown, passes-on, passes-not, name-first, names-not, refused, ready-place}
 use Rattle.declarations.proofs.Onward.{ready-after, name-went}
 use Rattle.declarations.proofs.Sentencing.{each-none, each-more}
 
 -- A FUNCTION AFTER ITS NAME
 
-module _ {text : Bytes} {words : ℕ} {n : Span} (limit : ℕ) (d : Declarable text words n) where
-  abbrev BodyAgrees : List ℕ → List ℕ → CodeParsed → Type 0
-  BodyAgrees tape tape′ r =
-      Agrees (BodyRead text limit (n .from) words (View.part text n) tape tape′) (fromBrace limit (stream text Tokens.outside (n .past))) r
+abbrev BodyAgrees : Bytes → ℕ → ℕ → Span → List ℕ → List ℕ → CodeParsed → Type 0
+BodyAgrees text limit words n tape tape′ r =
+    Agrees (BodyRead text limit (n .from) words (View.part text n) tape tape′) (fromBrace limit (stream text Tokens.outside (n .past))) r
 
-  pub brace-not : {tape tape′ : List ℕ} {fault : Fault} → Barred text Tokens.outside 123 (n .past) fault → BodyAgrees tape tape′ (Stopped fault)
-  brace-not k = stops _ _ _ (passes-not _ k) refl refl
+-- the `{` was passed after a name
+pub record AfterBrace (text : Bytes) (words : ℕ) (n : Span) (at : ℕ) : Type 0 where
+  pub name : Declarable text words n
+  pub taken : Taken text Tokens.outside 123 (n .past) at
 
-  module _ {at : ℕ} (k : Taken text Tokens.outside 123 (n .past) at) where
-    pub name-room : Inside text n × (words + 1 + (n .past - n .from) ≤ 32768)
-    name-room = (d .inside, omega (arith, d .after, d .short, d .inside .forward, k .onward, k .inside))
+module _ {text : Bytes} {words : ℕ} {n : Span} {at : ℕ} (b : AfterBrace text words n at) where
+  pub name-room : Inside text n × (words + 1 + (n .past - n .from) ≤ 32768)
+  name-room = (b .name .inside, omega (arith, b .name .after, b .name .short, b .name .inside .forward, b .taken .onward, b .taken .inside))
 
-    module _ {tape tape₁ : List ℕ} {word to : ℕ} (e : word ≡ 2048 + (n .past - n .from))
-        (w : Wrote tape words (word ∷ View.part text n) to tape₁ × T (every isQuiet (View.part text n))) where
-      word-is : tapeWord functionKind (length (View.part text n)) ≡ word
-      word-is = rw (part-length text n (d .inside), e)
+  module _ {tape tape₁ : List ℕ} {word to : ℕ} (e : word ≡ 2048 + (n .past - n .from))
+      (w : Wrote tape words (word ∷ View.part text n) to tape₁ × T (every isQuiet (View.part text n))) where
+    word-is : tapeWord functionKind (length (View.part text n)) ≡ word
+    word-is = rw (part-length text n (b .name .inside), e)
 
-      named-went : Went text (n .from) words tape at to tape₁ (named functionKind (View.part text n))
-      named-went =
-          name-went functionKind (d .inside) (omega (arith, d .inside .forward, k .onward)) (k .inside)
-          (omega (arith, d .after, d .inside .forward, k .onward)) e (w .0)
+    named-went : Went text (n .from) words tape at to tape₁ (named functionKind (View.part text n))
+    named-went =
+        name-went functionKind (b .name .inside) (omega (arith, b .name .inside .forward, b .taken .onward)) (b .taken .inside)
+        (omega (arith, b .name .after, b .name .inside .forward, b .taken .onward)) e (w .0)
 
-      name-quiet : T (every isQuiet (named functionKind (View.part text n)))
-      unfolding every
-      name-quiet =
-          rw word-is (both-pass (isQuiet word) (every isQuiet (View.part text n)) (lt→ltb word 2304 (omega (arith, d .brief))) (w .1))
+    name-quiet : T (every isQuiet (named functionKind (View.part text n)))
+    unfolding every
+    name-quiet =
+        rw word-is (both-pass (isQuiet word) (every isQuiet (View.part text n)) (lt→ltb word 2304 (omega (arith, b .name .brief))) (w .1))
 
-      pub body-ready : Ready text at to
-      body-ready = ready-after (d .short) named-went
+    pub body-ready : Ready text at to
+    body-ready = ready-after (b .name .short) named-went
 
-      pub body-reads : {tape′ : List ℕ} {r : CodeParsed}
-          → Agrees (SentencesRead text limit at to tape₁ tape′) (Reading.sentences limit (stream text Tokens.inside at)) r
-          → BodyAgrees tape tape′ r
-      body-reads a =
-          makes (λ ss. ss) _
-          (λ ss rest s h. record {
-            tokens = h .tokens;
-            went = went-then named-went (h .went);
-            left = h .left;
-            stands = record { name = name-quiet; sentences = h .stand };
-          })
-          (passes-on _ k ∙ follow-alone _)
-          a
+    pub body-reads : {limit : ℕ} {tape′ : List ℕ} {r : CodeParsed}
+        → Agrees (SentencesRead text limit at to tape₁ tape′) (Reading.sentences limit (stream text Tokens.inside at)) r
+        → BodyAgrees text limit words n tape tape′ r
+    body-reads a =
+        makes (λ ss. ss) _
+        (λ ss rest s h. record {
+          tokens = h .tokens;
+          went = went-then named-went (h .went);
+          left = h .left;
+          stands = record { name = name-quiet; sentences = h .stand };
+        })
+        (passes-on _ (b .taken) ∙ follow-alone _)
+        a
 
 -- A FUNCTION
 
-module _ {text names : List ℕ} {functions words : ℕ} {t : Code.Placed} (limit : ℕ) (o : Opening text names functions words t) where
-  abbrev FunctionAgrees : List ℕ → List ℕ → List ℕ → CodeParsed → Type 0
-  FunctionAgrees tape tape′ names′ r =
-      Agrees (DeclaredRead text limit (t .place) words functions tape tape′ names names′)
-      (Reading.function (nameFault functions (tableNames text names 0 functions)) limit (stream text Tokens.outside (t .place))) r
+abbrev FunctionAgrees : Bytes → List ℕ → ℕ → ℕ → ℕ → Code.Placed → List ℕ → List ℕ → List ℕ → CodeParsed → Type 0
+FunctionAgrees text names functions limit words t tape tape′ names′ r =
+    Agrees (DeclaredRead text limit (t .place) words functions tape tape′ names names′)
+    (Reading.function (nameFault functions (tableNames text names 0 functions)) limit (stream text Tokens.outside (t .place))) r
 
+module _ {text names : List ℕ} {functions words : ℕ} {t : Code.Placed} {limit : ℕ} (o : Opening text names functions words t) where
   pub function-nameless : {tape tape′ names′ : List ℕ} {fault : Fault} → OneOf (1 ∷ 2 ∷ 3 ∷ 4 ∷ 5 ∷ 6 ∷ 7 ∷ []) (tagOf token.the-type (t .token))
       → (numberOf (fault .answer) ≡ tokenFault (t .token)) × (fault .place ≡ t .place)
-      → FunctionAgrees tape tape′ names′ (Stopped fault)
+      → FunctionAgrees text names functions limit words t tape tape′ names′ (Stopped fault)
   function-nameless n f = refused (o .comes) (names-not (o .comes) _ _ n) f
 
   module _ {n : Span} (e : t .token ≡ NameToken n) where
-    pub named-here : NameFirst text Tokens.outside (t .place) t n
-    named-here = name-first (o .comes) e
+    pub function-many : {tape tape′ names′ : List ℕ} → 64 ≤ functions
+        → FunctionAgrees text names functions limit words t tape tape′ names′ (stoppedWith OverLimit (t .place))
+    function-many h = stops _ _ _ (rw (name-first (o .comes) e .unrolled, le-ltb functions 64 h)) refl refl
 
-    pub function-many : {tape tape′ names′ : List ℕ} → 64 ≤ functions → FunctionAgrees tape tape′ names′ (stoppedWith OverLimit (t .place))
-    function-many h = stops _ _ _ (rw (named-here .unrolled, le-ltb functions 64 h)) refl refl
+-- a name comes, and one more function may
+pub record NameComes (text names : List ℕ) (functions words : ℕ) (t : Code.Placed) (n : Span) : Type 0 where
+  pub opening : Opening text names functions words t
+  pub is : t .token ≡ NameToken n
+  pub few : functions < 64
 
-    module _ (few : functions < 64) where
-      pub function-misnamed : {tape tape′ names′ : List ℕ} {answer : Answer}
-          → numberOf answer ≡ declaredFaultIn (tableNames text names 0 functions) (View.part text n)
-          → eqb (numberOf answer) 0 ≡ false
-          → FunctionAgrees tape tape′ names′ (stoppedWith answer (t .place))
-      function-misnamed {answer = answer} f w =
-          stops _ _ _ (rw (named-here .unrolled, lt-ltb functions 64 few, ← f) (check-wrong (numberOf answer) _ _ w)) refl refl
+module _ {text names : List ℕ} {functions words : ℕ} {t : Code.Placed} {n : Span} (m : NameComes text names functions words t n) where
+  pub named-here : NameFirst text Tokens.outside (t .place) t n
+  named-here = name-first (m .opening .comes) (m .is)
 
-      -- a name without a fault
-      module _ (f : declaredFaultIn (tableNames text names 0 functions) (View.part text n) ≡ 0) where
-        pub declarable : Declarable text words n
-        declarable =
+  module _ {limit : ℕ} where
+    pub function-misnamed : {tape tape′ names′ : List ℕ} {answer : Answer}
+        → numberOf answer ≡ declaredFaultIn (tableNames text names 0 functions) (View.part text n)
+        → eqb (numberOf answer) 0 ≡ false
+        → FunctionAgrees text names functions limit words t tape tape′ names′ (stoppedWith answer (t .place))
+    function-misnamed {answer = answer} f w =
+        stops _ _ _ (rw (named-here .unrolled, lt-ltb functions 64 (m .few), ← f) (check-wrong (numberOf answer) _ _ w)) refl refl
+
+-- its name has no fault
+pub record Named (text names : List ℕ) (functions words : ℕ) (t : Code.Placed) (n : Span) : Type 0 where
+  pub name : NameComes text names functions words t n
+  pub sound : declaredFaultIn (tableNames text names 0 functions) (View.part text n) ≡ 0
+
+module _ {text names : List ℕ} {functions words : ℕ} {t : Code.Placed} {n : Span} (m : Named text names functions words t n) where
+  abbrev here : NameFirst text Tokens.outside (t .place) t n
+  here = named-here (m .name)
+
+  pub declarable : Declarable text words n
+  declarable =
+      record {
+        after = omega (arith, m .name .opening .ready .charged, here .from);
+        inside = here .inside;
+        brief = within text n (here .inside) 24 3 _ (m .sound);
+        short = m .name .opening .ready .short;
+      }
+
+  pub function-reads : {tape tape′ names′ : List ℕ} {entry limit : ℕ} {r : CodeParsed}
+      → entry ≡ n .from * 32 + (n .past - n .from)
+      → names′ ≡ set names functions entry
+      → BodyAgrees text limit words n tape tape′ r
+      → FunctionAgrees text names functions limit words t tape tape′ names′ r
+  function-reads {names′ = names′} {entry = entry} {limit} x w a =
+      let brief : n .past - n .from < 32 = omega (arith, declarable .brief) in
+      let inside : T (inText text entry) = rw x (entry-inside text n (here .inside) brief) in
+      let name : nameIn text entry ≡ View.part text n = rw x (entry-name text n (here .inside) brief) in
+      let o = m .name .opening in
+      let g : Grown text names names′ 0 functions (View.part text n) =
+      rw (w, ← name) (grown text names 0 functions (o .entries) entry (rw (o .long) (m .name .few)) inside)
+      in
+      makes (declared (View.part text n)) _
+      (λ ss rest s h. record {
+        read =
             record {
-              after = omega (arith, o .ready .charged, named-here .from);
-              inside = named-here .inside;
-              brief = within text n (named-here .inside) 24 3 _ f;
-              short = o .ready .short;
-            }
-
-        pub function-reads : {tape tape′ names′ : List ℕ} {entry : ℕ} {r : CodeParsed}
-            → entry ≡ n .from * 32 + (n .past - n .from)
-            → names′ ≡ set names functions entry
-            → BodyAgrees limit declarable tape tape′ r
-            → FunctionAgrees tape tape′ names′ r
-        function-reads {names′ = names′} {entry = entry} x w a =
-            let brief : n .past - n .from < 32 = omega (arith, declarable .brief) in
-            let inside : T (inText text entry) = rw x (entry-inside text n (named-here .inside) brief) in
-            let name : nameIn text entry ≡ View.part text n = rw x (entry-name text n (named-here .inside) brief) in
-            let g : Grown text names names′ 0 functions (View.part text n) =
-            rw (w, ← name) (grown text names 0 functions (o .entries) entry (rw (o .long) few) inside)
-            in
-            makes (declared (View.part text n)) _
-            (λ ss rest s h. record {
-              read =
-                  record {
-                    tokens = h .tokens;
-                    went = went-from (omega (arith, named-here .from)) (h .went);
-                    left = h .left;
-                    stands = h .stands;
-                  };
-              entries = g .entries;
-              names = g .names;
-              long = rw w (length-set names functions entry ∙ o .long);
-            })
-            (rw (named-here .unrolled, lt-ltb functions 64 few, f, ← named-here .past)
-            (pass-follow 123 (stream text Tokens.outside (n .past)) (λ ts. Reading.sentences limit ts) (λ ss rest. parsed (declared (View.part text n) ss) rest)))
-            a
-
--- it was one of at most 64
-pub one-more : {text : Bytes} {limit at words functions : ℕ} {tape tape′ table table′ : List ℕ} {f : Function} {rest : List Tokens.Placed} {p : Progress}
-    → DeclaredRead text limit at words functions tape tape′ table table′ f rest p → functions < 64
-one-more r = omega (arith, r .entries .inside, r .long)
+              tokens = h .tokens;
+              went = went-from (omega (arith, here .from)) (h .went);
+              left = h .left;
+              stands = h .stands;
+            };
+        entries = g .entries;
+        names = g .names;
+        long = rw w (length-set names functions entry ∙ o .long);
+      })
+      (rw (here .unrolled, lt-ltb functions 64 (m .name .few), m .sound, ← here .past)
+      (pass-follow 123 (stream text Tokens.outside (n .past)) (λ ts. Reading.sentences limit ts) (λ ss rest. parsed (declared (View.part text n) ss) rest)))
+      a
 
 -- A SPARE `;`
 
@@ -323,41 +335,81 @@ module _ {text start tape names : List ℕ} {at words count left : ℕ} {t : Cod
     not-end : Reading.isTextEnd (tokenOf text (t .token) (t .place) (t .past)) ≡ false
     not-end = end-same text (t .place) (t .past) (t .token) ∙ e
 
-    pub function-stops : {tape′ names′ : List ℕ} {fault : Fault} → FunctionAgrees left opening tape tape′ names′ (Stopped fault)
+    pub function-stops : {tape′ names′ : List ℕ} {fault : Fault} {r : CodeParsed} → FunctionAgrees text names count left words t tape tape′ names′ r → r ≡ Stopped fault
         → FunctionsAgree text start tape′ names′ (Stopped fault)
-    function-stops {fault = fault} a =
-        let h = rw (c .unrolled) at (next-is ∙ has-stopped _ fault a) in
+    function-stops {fault = fault} a q =
+        let h = rw (c .unrolled) at (next-is ∙ has-stopped _ fault (rw q at a)) in
         stops fault _ _
         (k .same
         ∙ rw (c .unrolled) (functions-stop left (k .before) (placedOf text t) following (64 - count) count (omega (arith, few)) not-end h))
         refl refl
 
-    -- a function was read
-    module _ {tape₁ names₁ : List ℕ} {p : Progress} (r : ReadAt (DeclaredRead text left (t .place) words count tape tape₁ names names₁) nextFunction p) where
-      at-next : Reading.functions 64 512 [] (stream text Tokens.outside 0)
-          ≡ Reading.functions (64 - (count + 1)) (p .count) (k .before ++ r .value ∷ []) (Reading.passSpare (stream text Tokens.outside (p .at)))
-      at-next =
-          let q : Reading.function (Reading.declaredFault (k .before)) left (placedOf text t ∷ following) ≡ parsed (r .value) (r .rest) =
-          fault-is left (k .before) (placedOf text t) following count (lt-ltb count 64 (one-more (r .how))) ∙ (rw (c .unrolled) at (next-is ∙ r .same))
-          in
-          let n : 64 - count ≡ suc (64 - (count + 1)) = omega (arith, one-more (r .how)) in
-          let l : left - length (r .value .sentences) ≡ p .count = omega (arith, r .how .read .left) in
-          k .same
-          ∙ rw (c .unrolled)
-          (functions-next left (k .before) (placedOf text t) following (64 - count) (64 - (count + 1)) n not-end ∙ rw (q, r .how .read .tokens, l))
+-- a function was read after those
+pub record OneMore (text start tape₁ names₁ : List ℕ) (count : ℕ) (p : Progress) : Type 0 where
+  pub tape : List ℕ
+  pub names : List ℕ
+  pub at : ℕ
+  pub words : ℕ
+  pub left : ℕ
+  pub token : Code.Placed
+  pub others : Functioned text start tape names at words count left
+  pub comes : Comes text Tokens.outside at token
+  pub another : isEnd (token .token) ≡ false
+  pub read : ReadAt (DeclaredRead text left (token .place) words count tape tape₁ names names₁) (nextFunction others comes) p
 
-      pub function-goes : {at′ : ℕ} → SpareTo text (p .at) at′ → Functioned text start tape₁ names₁ at′ (p .words) (count + 1) (p .count)
-      function-goes {at′} s =
-          record {
-            before = k .before ++ r .value ∷ [];
-            same = at-next ∙ rw (s .tokens);
-            went =
-                rw (tape-more (k .before) (r .value))
-                (went-then (k .went) (went-on at′ (went-from (c .onward) (r .how .read .went)) (s .onward) (s .inside)));
-            entries = r .how .entries;
-            names = map-append (λ (f : Function). f .name) (k .before) (r .value ∷ []) ∙ rw (k .names) (sym (r .how .names));
-            counted = rw (length-append (k .before) (r .value ∷ [])) (omega (arith, k .counted));
-            long = r .how .long;
-            stand = each-more (FunctionStands text) (k .before) (r .value) (k .stand) (r .how .read .stands);
-            short = k .short;
-          }
+pub one-more : {text start tape names tape₁ names₁ : List ℕ} {at words count left : ℕ} {t : Code.Placed} {p : Progress} {r : CodeParsed}
+    → Functioned text start tape names at words count left
+    → Comes text Tokens.outside at t
+    → isEnd (t .token) ≡ false
+    → FunctionAgrees text names count left words t tape tape₁ names₁ r
+    → r ≡ Done p
+    → OneMore text start tape₁ names₁ count p
+one-more k c e a q =
+    record {
+      tape = _;
+      names = _;
+      at = _;
+      words = _;
+      left = _;
+      token = _;
+      others = k;
+      comes = c;
+      another = e;
+      read = has-read _ _ (rw q at a);
+    }
+
+module _ {text start tape₁ names₁ : List ℕ} {count : ℕ} {p : Progress} (o : OneMore text start tape₁ names₁ count p) where
+  -- it was one of at most 64
+  pub room-before : count < 64
+  room-before = omega (arith, o .read .how .entries .inside, o .read .how .long)
+
+  at-next : Reading.functions 64 512 [] (stream text Tokens.outside 0)
+      ≡ Reading.functions (64 - (count + 1)) (p .count) (o .others .before ++ o .read .value ∷ []) (Reading.passSpare (stream text Tokens.outside (p .at)))
+  at-next =
+      let c = o .comes in
+      let t = placedOf text (o .token) in
+      let q : Reading.function (Reading.declaredFault (o .others .before)) (o .left) (t ∷ following (o .others) c) ≡ parsed (o .read .value) (o .read .rest) =
+      fault-is (o .left) (o .others .before) t (following (o .others) c) count (lt-ltb count 64 room-before) ∙ (rw (c .unrolled) at (next-is (o .others) c ∙ o .read .same))
+      in
+      let n : 64 - count ≡ suc (64 - (count + 1)) = omega (arith, room-before) in
+      let l : o .left - length (o .read .value .sentences) ≡ p .count = omega (arith, o .read .how .read .left) in
+      o .others .same
+      ∙ rw (c .unrolled)
+      (functions-next (o .left) (o .others .before) t (following (o .others) c) (64 - count) (64 - (count + 1)) n (not-end (o .others) c (o .another))
+      ∙ rw (q, o .read .how .read .tokens, l))
+
+  pub function-goes : {at′ : ℕ} → SpareTo text (p .at) at′ → Functioned text start tape₁ names₁ at′ (p .words) (count + 1) (p .count)
+  function-goes {at′} s =
+      record {
+        before = o .others .before ++ o .read .value ∷ [];
+        same = at-next ∙ rw (s .tokens);
+        went =
+            rw (tape-more (o .others .before) (o .read .value))
+            (went-then (o .others .went) (went-on at′ (went-from (o .comes .onward) (o .read .how .read .went)) (s .onward) (s .inside)));
+        entries = o .read .how .entries;
+        names = map-append (λ (f : Function). f .name) (o .others .before) (o .read .value ∷ []) ∙ rw (o .others .names) (sym (o .read .how .names));
+        counted = rw (length-append (o .others .before) (o .read .value ∷ [])) (omega (arith, o .others .counted));
+        long = o .read .how .long;
+        stand = each-more (FunctionStands text) (o .others .before) (o .read .value) (o .others .stand) (o .read .how .read .stands);
+        short = o .others .short;
+      }

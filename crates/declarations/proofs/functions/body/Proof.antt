@@ -4,7 +4,13 @@ use Rattle.declarations.proofs.functions.body.Statement.{statement}
 use Rattle.declarations.proofs.functions.body.Tie as tie
 use mathlib.Core.Path.{refl}
 use native.Mathlib.Omega.{arith}
-use Rattle.declarations.proofs.Functioned.{brace-not, name-room, body-ready, body-reads}
+use Rattle.declarations.proofs.Onward.{barred-stops}
+use Rattle.declarations.proofs.Functioned.{AfterBrace, name-room, body-ready, body-reads}
+
+brace-here : (c : tie.After-at) → let a = c .before .before .before .before .args in AfterBrace (a .text .now) (a .words) (a .name) (c .at .given .0 .0)
+brace-here c =
+    let at-pass = c .before .before in
+    record { name = at-pass .before .before .pre; taken = rw (c .at .given .1) at (at-pass .pass .ensures) }
 
 pass-requires : tie.Need-pass-requires
 pass-requires c κs = c .before .pre .inside .inside
@@ -16,41 +22,27 @@ enum-known-fault : tie.Need-enum-known-fault
 enum-known-fault c = search needs
 
 returns : tie.Need-returns
-returns c =
-    let at-pass = c .before .before .before in
-    let entry = at-pass .before .before in
-    brace-not _ (entry .pre) (rw (c .before .fault .given .1) at (at-pass .pass .ensures))
+returns c = barred-stops _ (rw (c .before .fault .given .1) at (c .before .before .before .pass .ensures))
 
 sub-word : tie.Need-sub-word
-sub-word c = c .before .before .before .before .before .before .pre .inside .forward
+sub-word c = brace-here (c .before .before) .name .inside .forward
 
 add-word : tie.Need-add-word
-add-word c = let b = c .before .before .before .before .before .before .pre .brief in omega arith
+add-word c = let b = brace-here (c .before .before) .name .brief in omega arith
 
 cast-word : tie.Need-cast-word
-cast-word c = let b = c .before .before .before .before .before .before .pre .brief in omega arith
+cast-word c = let b = brace-here (c .before .before) .name .brief in omega arith
 
 put-named-requires : tie.Need-put-named-requires
-put-named-requires c κs =
-    let at-at = c .before .before .before in
-    let at-pass = at-at .before .before in
-    let entry = at-pass .before .before in
-    name-room (entry .args .limit) (entry .pre) (rw (at-at .at .given .1) at (at-pass .pass .ensures))
+put-named-requires c κs = name-room (brace-here (c .before .before .before))
 
 sentences-requires : tie.Need-sentences-requires
-sentences-requires c κs =
-    let at-at = c .before .before .before .before .before in
-    let at-pass = at-at .before .before in
-    let entry = at-pass .before .before in
-    body-ready (entry .args .limit) (entry .pre) (rw (at-at .at .given .1) at (at-pass .pass .ensures)) refl (c .before .put-named .ensures)
+sentences-requires c κs = body-ready (brace-here (c .before .before .before .before .before)) refl (c .before .put-named .ensures)
 
 returns-2 : tie.Need-returns-2
 returns-2 c =
     let at-put-named = c .before .before in
-    let at-at = at-put-named .before .before .before .before in
-    let at-pass = at-at .before .before in
-    let entry = at-pass .before .before in
-    body-reads _ (entry .pre) (rw (at-at .at .given .1) at (at-pass .pass .ensures)) refl (at-put-named .put-named .ensures) (c .sentences .ensures)
+    body-reads (brace-here (at-put-named .before .before .before .before)) refl (at-put-named .put-named .ensures) (c .sentences .ensures)
 
 pub body-spec : {M : Type 1} → statement M
 body-spec =

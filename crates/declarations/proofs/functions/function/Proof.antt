@@ -5,7 +5,26 @@ use Rattle.declarations.proofs.functions.function.Tie as tie
 use mathlib.Core.Path.{refl}
 use native.Mathlib.Omega.{arith}
 use Rattle.bookkeeping.proofs.Choosing.{no-fault-here, a-fault-here}
-use Rattle.declarations.proofs.Functioned.{function-nameless, named-here, function-many, function-misnamed, declarable, function-reads}
+use Rattle.declarations.proofs.Functioned.{NameComes, Named, function-nameless, named-here, function-many, function-misnamed, declarable, function-reads}
+
+name-here : (c : tie.Else1)
+    → let at-token = c .before .before in
+    let a = at-token .before .before .before .args in
+    NameComes (a .text .now) (a .names .now) (a .functions) (a .words) (a .t) (at-token .token .given .0 .0)
+name-here c =
+    let at-token = c .before .before in
+    record { opening = at-token .before .before .before .pre; is = at-token .token .given .1; few = c .if1 .left }
+
+sound-here : (c : tie.Else2)
+    → let at-token = c .before .before .before .before .before .before .before in
+    let a = at-token .before .before .before .args in
+    Named (a .text .now) (a .names .now) (a .functions) (a .words) (a .t) (at-token .token .given .0 .0)
+sound-here c =
+    let at-declared-fault = c .before .before in
+    record {
+      name = name-here (at-declared-fault .before .before .before);
+      sound = no-fault-here (at-declared-fault .declared-fault .ensures) (c .before .is-accepted .ensures) (c .if2 .left);
+    }
 
 enum-known-token : tie.Need-enum-known-token
 enum-known-token c = search needs
@@ -14,7 +33,7 @@ refuse-requires : tie.Need-refuse-requires
 refuse-requires c κs = search needs
 
 returns : tie.Need-returns
-returns c = function-nameless _ (c .before .before .before .pre) (c .before .match .keys2) (c .refuse .ensures)
+returns c = function-nameless (c .before .before .before .pre) (c .before .match .keys2) (c .refuse .ensures)
 
 stopped-requires : tie.Need-stopped-requires
 stopped-requires c κs = search needs
@@ -22,14 +41,12 @@ stopped-requires c κs = search needs
 returns-2 : tie.Need-returns-2
 returns-2 c =
     let at-token = c .before .before .before in
-    let entry = at-token .before .before .before in
-    rw (c .stopped .ensures) (function-many _ (entry .pre) (at-token .token .given .1) (c .before .if1 .taken))
+    rw (c .stopped .ensures) (function-many (at-token .before .before .before .pre) (at-token .token .given .1) (c .before .if1 .taken))
 
 declared-fault-requires : tie.Need-declared-fault-requires
 declared-fault-requires c κs =
-    let at-token = c .before .before .before .before in
-    let entry = at-token .before .before .before in
-    (named-here (entry .args .limit) (entry .pre) (at-token .token .given .1) .inside, entry .pre .entries)
+    let m = name-here (c .before .before) in
+    (named-here m .inside, m .opening .entries)
 
 is-accepted-requires : tie.Need-is-accepted-requires
 is-accepted-requires c κs = search needs
@@ -41,51 +58,29 @@ returns-3 : tie.Need-returns-3
 returns-3 c =
     let at-is-accepted = c .before .before in
     let at-declared-fault = at-is-accepted .before in
-    let at-if1 = at-declared-fault .before .before .before in
-    let at-token = at-if1 .before .before in
-    let entry = at-token .before .before .before in
     let f = at-declared-fault .declared-fault .ensures in
-    rw (c .stopped2 .ensures) (function-misnamed _ (entry .pre) (at-token .token .given .1) (at-if1 .if1 .left) f
+    rw (c .stopped2 .ensures)
+    (function-misnamed (name-here (at-declared-fault .before .before .before)) f
     (a-fault-here f (at-is-accepted .is-accepted .ensures) (c .before .if2 .taken)))
 
 entry-requires : tie.Need-entry-requires
 entry-requires c κs =
-    let at-declared-fault = c .before .before in
-    let at-if1 = at-declared-fault .before .before .before in
-    let at-token = at-if1 .before .before in
-    let entry = at-token .before .before .before in
-    let d = declarable (entry .args .limit) (entry .pre) (at-token .token .given .1) (at-if1 .if1 .left)
-    (no-fault-here (at-declared-fault .declared-fault .ensures) (c .before .is-accepted .ensures) (c .if2 .left)) in
+    let d = declarable (sound-here c) in
     (d .inside .forward, omega (arith, d .inside .inside, d .short))
 
 mul-names : tie.Need-mul-names
 mul-names c = search needs
 
 element-write-names : tie.Need-element-write-names
-element-write-names c = c .before .before .before .before .before .before .if1 .left
+element-write-names c = sound-here (c .before) .name .few
 
 body-requires : tie.Need-body-requires
-body-requires c κs =
-    let at-if2 = c .before .before in
-    let at-is-accepted = at-if2 .before in
-    let at-declared-fault = at-is-accepted .before in
-    let at-if1 = at-declared-fault .before .before .before in
-    let at-token = at-if1 .before .before in
-    let entry = at-token .before .before .before in
-    declarable (entry .args .limit) (entry .pre) (at-token .token .given .1) (at-if1 .if1 .left)
-    (no-fault-here (at-declared-fault .declared-fault .ensures) (at-is-accepted .is-accepted .ensures) (at-if2 .if2 .left))
+body-requires c κs = declarable (sound-here (c .before .before))
 
 returns-4 : tie.Need-returns-4
 returns-4 c =
     let at-entry = c .before .before in
-    let at-if2 = at-entry .before in
-    let at-is-accepted = at-if2 .before in
-    let at-declared-fault = at-is-accepted .before in
-    let at-if1 = at-declared-fault .before .before .before in
-    let at-token = at-if1 .before .before in
-    let entry-2 = at-token .before .before .before in
-    function-reads _ (entry-2 .pre) (at-token .token .given .1) (at-if1 .if1 .left)
-    (no-fault-here (at-declared-fault .declared-fault .ensures) (at-is-accepted .is-accepted .ensures) (at-if2 .if2 .left)) (at-entry .entry .ensures) refl (c .body .ensures)
+    function-reads (sound-here (at-entry .before)) (at-entry .entry .ensures) refl (c .body .ensures)
 
 pub function-spec : {M : Type 1} → statement M
 function-spec =

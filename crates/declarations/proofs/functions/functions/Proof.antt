@@ -2,19 +2,40 @@
 use Rattle.declarations.proofs.functions.functions.Statement.{statement}
 use Rattle.declarations.proofs.functions.functions.Tie as tie
 use Prim.Native.Nat.{_-_}
-use mathlib.Core.Path.{sym, _∙_}
+use mathlib.Core.Path.{_≡_, sym, _∙_}
+use mathlib.Core.Bool.{false}
 use native.Mathlib.Omega.{arith}
 use borrow.Author.Needs.{needs}
 use Rattle.meaning.specs.Tokens.{outside}
+use Rattle.lexing.specs.View.{Comes}
+use Rattle.declarations.specs.Functions.{isEnd}
 use Rattle.lexing.proofs.Stream.{comes}
-use Rattle.bookkeeping.proofs.Going.{has-read}
-use Rattle.declarations.proofs.Functioned.{Functioned, functions-start, functions-done, opening, function-stops, one-more, function-goes}
+use Rattle.declarations.proofs.Functioned.{Functioned, functions-start, functions-done, opening, function-stops, OneMore, one-more, room-before, function-goes}
 
 abbrev Inv-loop : tie.InvT-loop
 Inv-loop text tape₀ names₀ at₀ words₀ count₀ left₀ tape names at words count left = Functioned text tape₀ tape names at words count left
 
 abbrev μ-loop : tie.MeasureT-loop
 μ-loop text tape₀ names₀ at₀ words₀ count₀ left₀ tape names at words count left = 64 - count
+
+token-here : (c : tie.After-lex Inv-loop μ-loop) → Comes (c .before .before .before .args .text .now) outside (c .before .loop .at) (c .lex .result)
+token-here c = comes _ outside _ _ (c .before .loop .inv .went .inside) (c .lex .ensures)
+
+another-here : (c : tie.Else1 Inv-loop μ-loop) → isEnd (c .before .before .lex .result .token) ≡ false
+another-here c = sym (c .before .is-end .ensures) ∙ c .if1 .left
+
+-- a function was read after those before it
+function-here : (c : tie.After-f Inv-loop μ-loop)
+    → let at-function = c .before .before in
+    let at-loop = at-function .before .before .before .before .before .before in
+    let a = at-loop .before .before .args in
+    let left = at-function .function .last .1 in
+    OneMore (a .text .now) (a .tape .now) (left .0) (left .1 .0) (at-loop .loop .count) (c .f .given .0 .0)
+function-here c =
+    let at-function = c .before .before in
+    let at-if1 = at-function .before .before .before in
+    let at-lex = at-if1 .before .before in
+    one-more (at-lex .before .loop .inv) (token-here at-lex) (another-here at-if1) (at-function .function .ensures) (c .f .given .1)
 
 loop-holds : tie.Need-loop-holds Inv-loop μ-loop
 loop-holds c = functions-start _ _ _ (c .before .pre .0) (c .before .pre .1)
@@ -27,15 +48,13 @@ is-end-requires c κs = search needs
 
 returns : tie.Need-returns Inv-loop μ-loop
 returns c =
-    let k = c .before .before .before .loop .inv in
-    functions-done k (comes _ outside _ _ (k .went .inside) (c .before .before .lex .ensures)) (sym (c .before .is-end .ensures) ∙ c .if1 .taken)
+    let at-lex = c .before .before in
+    functions-done (at-lex .before .loop .inv) (token-here at-lex) (sym (c .before .is-end .ensures) ∙ c .if1 .taken)
 
 function-requires : tie.Need-function-requires Inv-loop μ-loop
 function-requires c κs =
     let at-lex = c .before .before .before .before in
-    let at-loop = at-lex .before in
-    let k = at-loop .loop .inv in
-    opening k (comes _ outside _ _ (k .went .inside) (at-lex .lex .ensures))
+    opening (at-lex .before .loop .inv) (token-here at-lex)
 
 enum-known-fault : tie.Need-enum-known-fault Inv-loop μ-loop
 enum-known-fault c = search needs
@@ -44,42 +63,23 @@ returns-2 : tie.Need-returns-2 Inv-loop μ-loop
 returns-2 c =
     let at-function = c .before .before .before in
     let at-if1 = at-function .before .before .before in
-    let at-is-end = at-if1 .before in
-    let at-lex = at-is-end .before in
-    let at-loop = at-lex .before in
-    let k = at-loop .loop .inv in
-    function-stops k (comes _ outside _ _ (k .went .inside) (at-lex .lex .ensures)) (sym (at-is-end .is-end .ensures) ∙ at-if1 .if1 .left)
-    (rw (c .before .fault .given .1) at (at-function .function .ensures))
+    let at-lex = at-if1 .before .before in
+    function-stops (at-lex .before .loop .inv) (token-here at-lex) (another-here at-if1) (at-function .function .ensures) (c .before .fault .given .1)
 
 enum-known-f : tie.Need-enum-known-f Inv-loop μ-loop
 enum-known-f c = search needs
 
 pass-spare-requires : tie.Need-pass-spare-requires Inv-loop μ-loop
-pass-spare-requires c κs =
-    let r = has-read _ _ (rw (c .before .f .given .1) at (c .before .before .before .function .ensures)) in
-    r .how .read .went .inside
+pass-spare-requires c κs = function-here (c .before) .read .how .read .went .inside
 
 add-count : tie.Need-add-count Inv-loop μ-loop
-add-count c =
-    let r = has-read _ _ (rw (c .before .before .f .given .1) at (c .before .before .before .before .function .ensures)) in
-    omega (arith, one-more (r .how))
+add-count c = let few = room-before (function-here (c .before .before)) in omega arith
 
 loop-less : tie.Need-loop-less Inv-loop μ-loop
-loop-less c =
-    let r = has-read _ _ (rw (c .before .before .f .given .1) at (c .before .before .before .before .function .ensures)) in
-    omega (arith, one-more (r .how))
+loop-less c = let few = room-before (function-here (c .before .before)) in omega arith
 
 loop-again : tie.Need-loop-again Inv-loop μ-loop
-loop-again c =
-    let at-f = c .before .before in
-    let at-function = at-f .before .before in
-    let at-if1 = at-function .before .before .before in
-    let at-is-end = at-if1 .before in
-    let at-lex = at-is-end .before in
-    let at-loop = at-lex .before in
-    let k = at-loop .loop .inv in
-    let r = has-read _ _ (rw (at-f .f .given .1) at (at-function .function .ensures)) in
-    function-goes k (comes _ outside _ _ (k .went .inside) (at-lex .lex .ensures)) (sym (at-is-end .is-end .ensures) ∙ at-if1 .if1 .left) r (c .pass-spare .ensures)
+loop-again c = function-goes (function-here (c .before .before)) (c .pass-spare .ensures)
 
 pub functions-spec : {M : Type 1} → statement M
 functions-spec =
