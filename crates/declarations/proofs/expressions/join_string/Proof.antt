@@ -9,17 +9,15 @@ add-if1 : tie.Need-add-if1
 add-if1 c = search needs
 
 returns : tie.Need-returns
-returns c =
-    let entry = c .before .before .before .before in
-    record { gives = string-many (entry .pre .0) (entry .pre .1) (c .if1 .taken) }
+returns c = string-many (c .before .before .before .before .pre) (c .if1 .taken)
 
 add-put-characters : tie.Need-add-put-characters
 add-put-characters c = search needs
 
 put-characters-requires : tie.Need-put-characters-requires
 put-characters-requires c κs =
-    let entry = c .before .before .before .before .before in
-    string-ready (entry .pre .0 .ready) (entry .pre .1)
+    let p = c .before .before .before .before .before .pre in
+    string-ready (p .0 .ready) (p .1)
 
 add-t11 : tie.Need-add-t11
 add-t11 c = search needs
@@ -27,8 +25,7 @@ add-t11 c = search needs
 returns-2 : tie.Need-returns-2
 returns-2 c =
     let at-if1 = c .before .before .before in
-    let entry = at-if1 .before .before .before .before in
-    record { gives = string-joined (entry .pre .0) (entry .pre .1) (at-if1 .if1 .left) (c .before .put-characters .ensures) }
+    string-joined (at-if1 .before .before .before .before .pre) (at-if1 .if1 .left) (c .before .put-characters .ensures)
 
 pub join-string-spec : {M : Type 1} → statement M
 join-string-spec =

@@ -4,12 +4,10 @@ use Rattle.declarations.proofs.expressions.join_symbol.Statement.{state
 use Rattle.declarations.proofs.expressions.join_symbol.Tie as tie
 use native.Mathlib.Omega.{arith}
 use Rattle.bookkeeping.proofs.Choosing.{no-fault-here, a-fault-here}
-use Rattle.declarations.proofs.Joining.{symbol-many, symbol-bad, symbol-joined}
+use Rattle.declarations.proofs.Joining.{variable-many, symbol-bad, symbol-joined}
 
 returns : tie.Need-returns
-returns c =
-    let entry = c .before .before .before .before in
-    record { gives = symbol-many (entry .pre .0) (entry .pre .1) (c .if1 .taken) }
+returns c = variable-many (c .before .before .before .before .pre) (λ e. rw e) (c .if1 .taken)
 
 later-symbol-fault-requires : tie.Need-later-symbol-fault-requires
 later-symbol-fault-requires c κs = search needs
@@ -21,15 +19,14 @@ returns-2 : tie.Need-returns-2
 returns-2 c =
     let at-later-symbol-fault = c .before .before in
     let at-if1 = at-later-symbol-fault .before in
-    let entry = at-if1 .before .before .before .before in
     let f = at-later-symbol-fault .later-symbol-fault .ensures in
-    record { gives = symbol-bad (entry .pre .0) (entry .pre .1) (at-if1 .if1 .left) f (a-fault-here f (c .before .is-accepted .ensures) (c .if2 .taken)) }
+    symbol-bad (at-if1 .before .before .before .before .pre) (at-if1 .if1 .left) f (a-fault-here f (c .before .is-accepted .ensures) (c .if2 .taken))
 
 take-variable-requires : tie.Need-take-variable-requires
 take-variable-requires c κs =
     let at-if1 = c .before .before .before .before in
-    let entry = at-if1 .before .before .before .before in
-    (entry .pre .0 .ready, entry .pre .1, at-if1 .if1 .left, omega arith)
+    let p = at-if1 .before .before .before .before .pre in
+    (p .0 .ready, p .1, at-if1 .if1 .left, omega arith)
 
 returns-3 : tie.Need-returns-3
 returns-3 c =
@@ -37,10 +34,8 @@ returns-3 c =
     let at-is-accepted = at-if2 .before in
     let at-later-symbol-fault = at-is-accepted .before in
     let at-if1 = at-later-symbol-fault .before in
-    let entry = at-if1 .before .before .before .before in
-    let p = entry .pre in
-    let f = no-fault-here (at-later-symbol-fault .later-symbol-fault .ensures) (at-is-accepted .is-accepted .ensures) (at-if2 .if2 .left) in
-    record { gives = symbol-joined (p .0) (p .1) (at-if1 .if1 .left) f (c .take-variable .ensures) }
+    symbol-joined (at-if1 .before .before .before .before .pre) (at-if1 .if1 .left)
+    (no-fault-here (at-later-symbol-fault .later-symbol-fault .ensures) (at-is-accepted .is-accepted .ensures) (at-if2 .if2 .left)) (c .take-variable .ensures)
 
 pub join-symbol-spec : {M : Type 1} → statement M
 join-symbol-spec =
