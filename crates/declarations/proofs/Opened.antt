@@ -53,71 +53,94 @@ module _ (depth items : ℕ) where
   pub too-many : 128 ≤ items → both (ltb depth 16) (leb (items + 1) 128) ≡ false
   too-many h = rw (lt-leb (items + 1) 128 (omega arith)) (sym (both-false (ltb depth 16) refl))
 
-module _ (text : Bytes) (depth : ℕ) (s : Progress) (place : ℕ) where
-  pub call-limited : {tape tape′ : List ℕ} → both (ltb depth 16) (leb (s .count + 1) 128) ≡ false
-      → OpeningAgrees text depth s place tape tape′ (stoppedWith OverLimit place)
-  call-limited e = stops _ _ _ (rw e) refl refl
+pub call-limited : (text : Bytes) (depth : ℕ) (s : Progress) (place : ℕ) {tape tape′ : List ℕ} → both (ltb depth 16) (leb (s .count + 1) 128) ≡ false
+    → OpeningAgrees text depth s place tape tape′ (stoppedWith OverLimit place)
+call-limited text depth s place e = stops _ _ _ (rw e) refl refl
 
-  module _ (d : depth < 16) (m : s .count < 128) {t : Code.Placed} (k : Comes text Tokens.naming (s .at) t) where
-    at-name : openingAt text depth s place
-        ≡ Reading.passName Reading.calledFault (stream text Tokens.naming (s .at)) (λ at n rest. parsed (record { place = at; name = n }) rest)
-    at-name = rw (lt-ltb depth 16 d, le-leb (s .count + 1) 128 (omega arith))
+-- a call may stand here, and a token comes after its `<`
+pub record CallComes (text : Bytes) (depth : ℕ) (s : Progress) (place : ℕ) (t : Code.Placed) : Type 0 where
+  pub ready : Ready text (s .at) (s .words)
+  pub after : s .words < s .at
+  pub shallow : depth < 16
+  pub few : s .count < 128
+  pub comes : Comes text Tokens.naming (s .at) t
 
-    pub call-nameless : {tape tape′ : List ℕ} {fault : Fault} → OneOf (1 ∷ 2 ∷ 3 ∷ 4 ∷ 5 ∷ 6 ∷ 7 ∷ []) (tagOf token.the-type (t .token))
-        → (numberOf (fault .answer) ≡ tokenFault (t .token)) × (fault .place ≡ t .place)
-        → OpeningAgrees text depth s place tape tape′ (Stopped fault)
-    call-nameless n f = refused k (at-name ∙ names-not k _ _ n) f
+module _ {text : Bytes} {depth : ℕ} {s : Progress} {place : ℕ} {t : Code.Placed} (k : CallComes text depth s place t) where
+  at-name : openingAt text depth s place
+      ≡ Reading.passName Reading.calledFault (stream text Tokens.naming (s .at)) (λ at n rest. parsed (record { place = at; name = n }) rest)
+  at-name = rw (lt-ltb depth 16 (k .shallow), le-leb (s .count + 1) 128 (omega (arith, k .few)))
 
-    module _ {n : Span} (e : t .token ≡ NameToken n) where
-      abbrev here : NameFirst text Tokens.naming (s .at) t n
-      here = name-first k e
+  pub call-nameless : {tape tape′ : List ℕ} {fault : Fault} → OneOf (1 ∷ 2 ∷ 3 ∷ 4 ∷ 5 ∷ 6 ∷ 7 ∷ []) (tagOf token.the-type (t .token))
+      → (numberOf (fault .answer) ≡ tokenFault (t .token)) × (fault .place ≡ t .place)
+      → OpeningAgrees text depth s place tape tape′ (Stopped fault)
+  call-nameless n f = refused (k .comes) (at-name ∙ names-not (k .comes) _ _ n) f
 
-      pub call-misnamed : {tape tape′ : List ℕ} {answer : Answer} → numberOf answer ≡ Reading.calledFault (View.part text n) → eqb (numberOf answer) 0 ≡ false
-          → OpeningAgrees text depth s place tape tape′ (stoppedWith answer (t .place))
-      call-misnamed {answer = answer} f w =
-          stops _ _ _ (at-name ∙ rw (here .unrolled, ← f) (check-wrong (numberOf answer) _ _ w)) refl refl
+-- the token is a name
+pub record CallName (text : Bytes) (depth : ℕ) (s : Progress) (place : ℕ) (t : Code.Placed) (n : Span) : Type 0 where
+  pub call : CallComes text depth s place t
+  pub is : t .token ≡ NameToken n
 
-      -- a name without a fault
-      module _ (f : Reading.calledFault (View.part text n) ≡ 0) (g : Ready text (s .at) (s .words)) (a : s .words < s .at) where
-        name-length : length (View.part text n) ≡ n .past - n .from
-        name-length = part-length text n (here .inside)
+module _ {text : Bytes} {depth : ℕ} {s : Progress} {place : ℕ} {t : Code.Placed} {n : Span} (m : CallName text depth s place t n) where
+  pub named-here : NameFirst text Tokens.naming (s .at) t n
+  named-here = name-first (m .call .comes) (m .is)
 
-        name-short : n .past - n .from ≤ 24
-        name-short = within text n (here .inside) 24 3 _ f
+  pub call-misnamed : {tape tape′ : List ℕ} {answer : Answer} → numberOf answer ≡ Reading.calledFault (View.part text n) → eqb (numberOf answer) 0 ≡ false
+      → OpeningAgrees text depth s place tape tape′ (stoppedWith answer (t .place))
+  call-misnamed {answer = answer} f w =
+      stops _ _ _ (at-name (m .call) ∙ rw (named-here .unrolled, ← f) (check-wrong (numberOf answer) _ _ w)) refl refl
 
-        pub name-room : Inside text n × (s .words + 1 + (n .past - n .from) ≤ 32768) × (n .past - n .from ≤ 24) × (t .place ≤ 32768)
-        name-room = (
-          here .inside,
-          omega (arith, a, g .short, k .onward, here .from, here .inside .forward, here .inside .inside),
-          name-short,
-          omega (arith, g .short, k .forward, k .inside),
-        )
+-- it has no fault
+pub record CallNamed (text : Bytes) (depth : ℕ) (s : Progress) (place : ℕ) (t : Code.Placed) (n : Span) : Type 0 where
+  pub name : CallName text depth s place t n
+  pub sound : Reading.calledFault (View.part text n) ≡ 0
 
-        -- the name stands in the text
-        name-stands : T (every isQuiet (View.part text n)) → CallStands text (t .place) (View.part text n)
-        name-stands q =
-            let e : n .from + (n .past - n .from) ≡ n .past = omega (arith, here .inside .forward) in
-            record {
-              same = rw (name-length, ← here .from, e);
-              inside = rw name-length (omega (arith, here .from, here .inside .forward, here .inside .inside));
-              short = rw name-length name-short;
-              quiet = q;
-            }
+module _ {text : Bytes} {depth : ℕ} {s : Progress} {place : ℕ} {t : Code.Placed} {n : Span} (m : CallNamed text depth s place t n) where
+  abbrev call : CallComes text depth s place t
+  call = m .name .call
 
-        pub call-opens : {tape tape′ : List ℕ} {words : ℕ}
-            → Wrote tape (s .words) (((9 + t .place) * 256 + (n .past - n .from)) ∷ View.part text n) words tape′ × T (every isQuiet (View.part text n))
-            → OpeningAgrees text depth s place tape tape′ (Done (record { at = t .past; words = words; count = s .count + 1; parts = s .parts }))
-        call-opens w =
-            reads (record { place = t .place; name = View.part text n }) (stream text Tokens.inside (t .past)) (at-name ∙ rw (here .unrolled, f))
-            (record {
-              tokens = refl;
-              shorter = rw (here .unrolled) (omega arith);
-              went =
-                  name-went (callKind + t .place) (here .inside) (omega (arith, k .onward, k .forward)) (k .inside)
-                  (omega (arith, a, k .onward, here .from, here .past, here .some)) refl (w .0);
-              shallow = d;
-              few = m;
-              counted = refl;
-              passed = refl;
-              stands = name-stands (w .1);
-            })
+  abbrev here : NameFirst text Tokens.naming (s .at) t n
+  here = named-here (m .name)
+
+  name-length : length (View.part text n) ≡ n .past - n .from
+  name-length = part-length text n (here .inside)
+
+  name-short : n .past - n .from ≤ 24
+  name-short = within text n (here .inside) 24 3 _ (m .sound)
+
+  pub name-room : Inside text n × (s .words + 1 + (n .past - n .from) ≤ 32768) × (n .past - n .from ≤ 24) × (t .place ≤ 32768)
+  name-room = (
+    here .inside,
+    omega (arith, call .after, call .ready .short, call .comes .onward, here .from, here .inside .forward, here .inside .inside),
+    name-short,
+    omega (arith, call .ready .short, call .comes .forward, call .comes .inside),
+  )
+
+  -- the name stands in the text
+  name-stands : T (every isQuiet (View.part text n)) → CallStands text (t .place) (View.part text n)
+  name-stands q =
+      let e : n .from + (n .past - n .from) ≡ n .past = omega (arith, here .inside .forward) in
+      record {
+        same = rw (name-length, ← here .from, e);
+        inside = rw name-length (omega (arith, here .from, here .inside .forward, here .inside .inside));
+        short = rw name-length name-short;
+        quiet = q;
+      }
+
+  pub call-opens : {tape tape′ : List ℕ} {words : ℕ}
+      → Wrote tape (s .words) (((9 + t .place) * 256 + (n .past - n .from)) ∷ View.part text n) words tape′ × T (every isQuiet (View.part text n))
+      → OpeningAgrees text depth s place tape tape′ (Done (record { at = t .past; words = words; count = s .count + 1; parts = s .parts }))
+  call-opens w =
+      let k = call .comes in
+      reads (record { place = t .place; name = View.part text n }) (stream text Tokens.inside (t .past)) (at-name call ∙ rw (here .unrolled, m .sound))
+      (record {
+        tokens = refl;
+        shorter = rw (here .unrolled) (omega arith);
+        went =
+            name-went (callKind + t .place) (here .inside) (omega (arith, k .onward, k .forward)) (k .inside)
+            (omega (arith, call .after, k .onward, here .from, here .past, here .some)) refl (w .0);
+        shallow = call .shallow;
+        few = call .few;
+        counted = refl;
+        passed = refl;
+        stands = name-stands (w .1);
+      })

@@ -4,6 +4,11 @@ use Rattle.declarations.proofs.expressions.close_call.Statement.{statem
 use Rattle.declarations.proofs.expressions.close_call.Tie as tie
 use mathlib.Core.Path.{refl}
 use native.Mathlib.Omega.{arith}
+use Rattle.meaning.specs.Tokens.{inside}
+use Rattle.bookkeeping.specs.Tokened.{Taken}
+
+closed-here : (c : tie.After-at) → let a = c .before .before .before .before .args in Taken (a .text .now) inside 62 (a .s .at) (c .at .given .0 .0)
+closed-here c = rw (c .at .given .1) at (c .before .before .pass .ensures)
 
 pass-requires : tie.Need-pass-requires
 pass-requires c κs = search needs
@@ -13,12 +18,9 @@ enum-known-at c = search needs
 
 put-requires : tie.Need-put-requires
 put-requires c κs =
-    let at-at = c .before .before in
-    let at-pass = at-at .before .before in
-    let entry = at-pass .before .before in
-    let t = rw (at-at .at .given .1) at (at-pass .pass .ensures) in
-    let r = entry .pre in
-    omega (arith, t .onward, t .inside)
+    let t = closed-here (c .before .before) in
+    let r = c .before .before .before .before .before .before .pre in
+    omega arith
 
 add-t11 : tie.Need-add-t11
 add-t11 c = search needs
@@ -27,10 +29,7 @@ enum-known-fault : tie.Need-enum-known-fault
 enum-known-fault c = search needs
 
 returns : tie.Need-returns
-returns c =
-    let at-at = c .before .before .before .before in
-    let at-pass = at-at .before .before in
-    record { gives = (rw (at-at .at .given .1) at (at-pass .pass .ensures), refl, c .before .put .ensures) }
+returns c = record { gives = (closed-here (c .before .before .before .before), refl, c .before .put .ensures) }
 
 returns-2 : tie.Need-returns-2
 returns-2 c = record { gives = rw (c .before .fault .given .1) at (c .before .before .before .pass .ensures) }

@@ -8,8 +8,39 @@ use borrow.Author.Tests.{leb-true, leb-false}
 use Rattle.meaning.specs.Tokens as Tokens
 use Rattle.lexing.proofs.Stream.{comes}
 use Rattle.bookkeeping.proofs.Choosing.{no-fault-here, a-fault-here}
-use Rattle.bookkeeping.proofs.Tokening.{name-first}
-use Rattle.declarations.proofs.Opened.{too-deep, too-many, call-limited, call-nameless, call-misnamed, name-room, call-opens}
+use Rattle.declarations.proofs.Opened.{CallComes, CallName, CallNamed, too-deep, too-many, call-limited, call-nameless, named-here, call-misnamed, name-room, call-opens}
+
+call-here : (c : tie.After-lex)
+    → let a = c .before .before .before .before .before .args in
+    CallComes (a .text .now) (a .depth) (a .s) (a .place) (c .lex .result)
+call-here c =
+    let at-if1 = c .before .before .before in
+    let pre = at-if1 .before .before .pre in
+    record {
+      ready = pre .0;
+      after = pre .1;
+      shallow = at-if1 .if1 .left;
+      few = leb-false 128 _ (c .before .if2 .left);
+      comes = comes _ Tokens.naming _ _ (pre .0 .inside) (c .lex .ensures);
+    }
+
+name-here : (c : tie.After-token)
+    → let at-lex = c .before .before in
+    let a = at-lex .before .before .before .before .before .args in
+    CallName (a .text .now) (a .depth) (a .s) (a .place) (at-lex .lex .result) (c .token .given .0 .0)
+name-here c = record { call = call-here (c .before .before); is = c .token .given .1 }
+
+sound-here : (c : tie.Else3)
+    → let at-token = c .before .before .before .before in
+    let at-lex = at-token .before .before in
+    let a = at-lex .before .before .before .before .before .args in
+    CallNamed (a .text .now) (a .depth) (a .s) (a .place) (at-lex .lex .result) (at-token .token .given .0 .0)
+sound-here c =
+    let at-called-fault = c .before .before in
+    record {
+      name = name-here (at-called-fault .before .before);
+      sound = no-fault-here (at-called-fault .called-fault .ensures) (c .before .is-accepted .ensures) (c .if3 .left);
+    }
 
 stopped-requires : tie.Need-stopped-requires
 stopped-requires c κs = search needs
@@ -31,20 +62,10 @@ refuse-requires : tie.Need-refuse-requires
 refuse-requires c κs = search needs
 
 returns-2 : tie.Need-returns-2
-returns-2 c =
-    let at-lex = c .before .before in
-    let at-if2 = at-lex .before in
-    let at-if1 = at-if2 .before .before in
-    let entry = at-if1 .before .before in
-    let a = entry .args in
-    let k = comes _ Tokens.naming _ _ (entry .pre .0 .inside) (at-lex .lex .ensures) in
-    call-nameless (a .text .now) (a .depth) (a .s) (a .place) (at-if1 .if1 .left) (leb-false 128 _ (at-if2 .if2 .left)) k (c .before .match .keys2) (c .refuse .ensures)
+returns-2 c = call-nameless (call-here (c .before .before)) (c .before .match .keys2) (c .refuse .ensures)
 
 called-fault-requires : tie.Need-called-fault-requires
-called-fault-requires c κs =
-    let at-lex = c .before .before .before in
-    let entry = at-lex .before .before .before .before .before in
-    name-first (comes _ Tokens.naming _ _ (entry .pre .0 .inside) (at-lex .lex .ensures)) (c .before .token .given .1) .inside
+called-fault-requires c κs = named-here (name-here (c .before)) .inside
 
 is-accepted-requires : tie.Need-is-accepted-requires
 is-accepted-requires c κs = search needs
@@ -56,53 +77,18 @@ returns-3 : tie.Need-returns-3
 returns-3 c =
     let at-is-accepted = c .before .before in
     let at-called-fault = at-is-accepted .before in
-    let at-token = at-called-fault .before .before in
-    let at-lex = at-token .before .before in
-    let at-if2 = at-lex .before in
-    let at-if1 = at-if2 .before .before in
-    let entry = at-if1 .before .before in
-    let a = entry .args in
-    let k = comes _ Tokens.naming _ _ (entry .pre .0 .inside) (at-lex .lex .ensures) in
     let f = at-called-fault .called-fault .ensures in
-    rw (c .stopped2 .ensures) (call-misnamed (a .text .now) (a .depth) (a .s) (a .place) (at-if1 .if1 .left) (leb-false 128 _ (at-if2 .if2 .left)) k
-    (at-token .token .given .1) f (a-fault-here f (at-is-accepted .is-accepted .ensures) (c .before .if3 .taken)))
+    rw (c .stopped2 .ensures)
+    (call-misnamed (name-here (at-called-fault .before .before)) f (a-fault-here f (at-is-accepted .is-accepted .ensures) (c .before .if3 .taken)))
 
 put-call-requires : tie.Need-put-call-requires
-put-call-requires c κs =
-    let at-is-accepted = c .before .before in
-    let at-called-fault = at-is-accepted .before in
-    let at-token = at-called-fault .before .before in
-    let at-lex = at-token .before .before in
-    let at-if2 = at-lex .before in
-    let at-if1 = at-if2 .before .before in
-    let entry = at-if1 .before .before in
-    let a = entry .args in
-    let k = comes _ Tokens.naming _ _ (entry .pre .0 .inside) (at-lex .lex .ensures) in
-    let f = no-fault-here (at-called-fault .called-fault .ensures) (at-is-accepted .is-accepted .ensures) (c .before .if3 .left) in
-    name-room (a .text .now) (a .depth) (a .s) (a .place) (at-if1 .if1 .left) (leb-false 128 _ (at-if2 .if2 .left)) k (at-token .token .given .1) f (entry .pre .0) (entry .pre .1)
+put-call-requires c κs = name-room (sound-here (c .before))
 
 add-t19 : tie.Need-add-t19
-add-t19 c =
-    let at-if2 = c .before .before .before .before .before .before .before .before .before .before in
-    let entry = at-if2 .before .before .before .before in
-    let m = leb-false 128 (entry .args .s .count) (at-if2 .if2 .left) in
-    omega arith
+add-t19 c = let few = sound-here (c .before .before .before) .name .call .few in omega arith
 
 returns-4 : tie.Need-returns-4
-returns-4 c =
-    let at-if3 = c .before .before .before in
-    let at-is-accepted = at-if3 .before in
-    let at-called-fault = at-is-accepted .before in
-    let at-token = at-called-fault .before .before in
-    let at-lex = at-token .before .before in
-    let at-if2 = at-lex .before in
-    let at-if1 = at-if2 .before .before in
-    let entry = at-if1 .before .before in
-    let a = entry .args in
-    let k = comes _ Tokens.naming _ _ (entry .pre .0 .inside) (at-lex .lex .ensures) in
-    let f = no-fault-here (at-called-fault .called-fault .ensures) (at-is-accepted .is-accepted .ensures) (at-if3 .if3 .left) in
-    call-opens (a .text .now) (a .depth) (a .s) (a .place) (at-if1 .if1 .left) (leb-false 128 _ (at-if2 .if2 .left)) k (at-token .token .given .1) f (entry .pre .0)
-    (entry .pre .1) (c .before .put-call .ensures)
+returns-4 c = call-opens (sound-here (c .before .before .before)) (c .before .put-call .ensures)
 
 pub open-call-spec : {M : Type 1} → statement M
 open-call-spec =
