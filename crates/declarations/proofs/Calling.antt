@@ -79,13 +79,10 @@ abbrev pub ExpressionAgrees : Bytes → List ℕ → ℕ → ℕ → ℕ → ℕ
 ExpressionAgrees text table symbols parts bound depth start tape tape′ r =
     Agrees (ExpressionRead text table symbols parts start tape tape′) (expressionAt text table symbols parts bound depth start) r
 
--- the argument was read
-pub argument-ready : {text : Bytes} {table : List ℕ} {symbols parts : ℕ} {start : Progress} {tape tape′ : List ℕ} {argument : Progress} (depth : ℕ)
-    → ((bound : ℕ) → length (stream text Tokens.inside (start .at)) ≤ bound
-    → ExpressionAgrees text table symbols parts bound depth start tape tape′ (Done argument))
-    → Ready text (argument .at) (argument .words)
-argument-ready {text} {start = start} {argument = argument} depth a =
-    has-read _ argument (a (length (stream text Tokens.inside (start .at))) (omega arith)) .how .going .ready
+-- with every bound that is large enough
+abbrev pub ExpressionsAgree : Bytes → List ℕ → ℕ → ℕ → ℕ → Progress → List ℕ → List ℕ → CodeParsed → Type 0
+ExpressionsAgree text table symbols parts depth start tape tape′ r =
+    (bound : ℕ) → length (stream text Tokens.inside (start .at)) ≤ bound → ExpressionAgrees text table symbols parts bound depth start tape tape′ r
 
 module _ (text table : List ℕ) (symbols parts bound depth : ℕ) (s : Progress) (place : ℕ) where
   at-opening : callAt text table symbols parts bound depth s place
@@ -98,32 +95,39 @@ module _ (text table : List ℕ) (symbols parts bound depth : ℕ) (s : Progress
       → CallAgrees text table symbols parts bound depth s place tape tape′ (Stopped fault)
   call-unopened {fault = fault} a = stops fault _ _ (at-opening ∙ rw (has-stopped _ fault a)) refl refl
 
-  -- the call is open
-  module _ {tape tape₁ : List ℕ} {start : Progress} (o : ReadAt (OpeningRead text depth s tape tape₁) (openingAt text depth s place) start) where
-    pub argument-enough : length (stream text Tokens.naming (s .at)) ≤ bound → length (stream text Tokens.inside (start .at)) ≤ bound
-    argument-enough h =
-        let l : length (stream text Tokens.inside (start .at)) ≤ length (stream text Tokens.naming (s .at)) = rw (o .how .tokens) at (o .how .shorter) in
-        omega arith
+-- the call is open
+pub record Opened (text : Bytes) (depth : ℕ) (s : Progress) (place : ℕ) (tape tape₁ : List ℕ) (start : Progress) : Type 0 where
+  pub read : ReadAt (OpeningRead text depth s tape tape₁) (openingAt text depth s place) start
 
-    pub argument-going : Going text table symbols parts s → Going text table symbols parts start
-    argument-going g =
-        record {
-          variables = g .variables;
-          passed = rw (o .how .passed) (g .passed);
-          few = omega (arith, o .how .counted, o .how .few);
-          ready = ready-after (g .ready .short) (o .how .went);
-        }
+module _ {text : Bytes} {depth : ℕ} {s : Progress} {place : ℕ} {tape tape₁ : List ℕ} {start : Progress} (o : Opened text depth s place tape tape₁ start) where
+  argument-shorter : length (stream text Tokens.inside (start .at)) ≤ length (stream text Tokens.naming (s .at))
+  argument-shorter = rw (o .read .how .tokens) at (o .read .how .shorter)
 
+  pub argument-going : {table : List ℕ} {symbols parts : ℕ} → Going text table symbols parts s → Going text table symbols parts start
+  argument-going g =
+      record {
+        variables = g .variables;
+        passed = rw (o .read .how .passed) (g .passed);
+        few = omega (arith, o .read .how .counted, o .read .how .few);
+        ready = ready-after (g .ready .short) (o .read .how .went);
+      }
+
+  -- the argument was read
+  pub argument-ready : {table : List ℕ} {symbols parts : ℕ} {tape₂ : List ℕ} {r : CodeParsed} {argument : Progress}
+      → ExpressionsAgree text table symbols parts (depth + 1) start tape₁ tape₂ r
+      → r ≡ Done argument
+      → Ready text (argument .at) (argument .words)
+  argument-ready a e =
+      has-read _ _ (rw e at (a (length (stream text Tokens.inside (start .at))) (omega arith))) .how .going .ready
+
+  module _ (table : List ℕ) (symbols parts bound : ℕ) where
     at-argument : callAt text table symbols parts bound depth s place
         ≡ follow (expressionAt text table symbols parts bound (depth + 1) start) (λ given ts.
         Reading.pass 62 ts λ rest.
-        parsed (record { place = o .value .place; name = o .value .name; argument = given .expression; progress = given .progress }) rest)
-    at-argument = at-opening ∙ rw (o .same, o .how .tokens, o .how .counted, o .how .passed, add-one depth)
-
-    pub argument-stops : {tape₂ : List ℕ} {fault : Fault}
-        → ExpressionAgrees text table symbols parts bound (depth + 1) start tape₁ tape₂ (Stopped fault)
-        → CallAgrees text table symbols parts bound depth s place tape tape₂ (Stopped fault)
-    argument-stops {fault = fault} x = stops fault _ _ (at-argument ∙ rw (has-stopped _ fault x)) refl refl
+        parsed (record { place = o .read .value .place; name = o .read .value .name; argument = given .expression; progress = given .progress }) rest)
+    at-argument =
+        let r = o .read in
+        at-opening text table symbols parts bound depth s place ∙ rw (r .same, r .how .tokens, r .how .counted, r .how .passed, add-one depth)
 
     -- the argument is read
     module _ {tape₂ tape₃ : List ℕ} {argument : Progress}
@@ -143,15 +147,14 @@ module _ (text table : List ℕ) (symbols parts bound depth : ℕ) (s : Progress
           let short : suc (length (stream text Tokens.inside at)) ≤ length (stream text Tokens.inside (start .at)) =
           rw (h .how .tokens, x .unrolled) at (h .how .shorter)
           in
-          let shorter : length (stream text Tokens.inside (start .at)) ≤ length (stream text Tokens.naming (s .at)) = rw (o .how .tokens) at (o .how .shorter) in
           reads _ (stream text Tokens.inside at) (at-argument ∙ rw (h .same, h .how .tokens) (passes-on _ x))
           (record {
             tokens = refl;
-            shorter = omega arith;
-            went = went-then (o .how .went) (went-then (h .how .went) w);
+            shorter = omega (arith, argument-shorter);
+            went = went-then (o .read .how .went) (went-then (h .how .went) w);
             progress = h .how .progress;
             going = going-on (h .how .going) (ready-after (h .how .going .ready .short) w);
-            named = o .how .stands;
+            named = o .read .how .stands;
             stands = h .how .stands;
           })
 
@@ -160,8 +163,15 @@ module _ (text table : List ℕ) (symbols parts bound depth : ℕ) (s : Progress
       close-with (Stopped fault) x = close-barred x
       close-with (Done next) x = rw (x .1) (close-done (x .0) (x .2))
 
-    pub call-closes : {tape₂ tape₃ : List ℕ} {argument : Progress} {r : CodeParsed}
-        → ExpressionAgrees text table symbols parts bound (depth + 1) start tape₁ tape₂ (Done argument)
-        → Closes text argument tape₂ tape₃ r
-        → CallAgrees text table symbols parts bound depth s place tape tape₃ r
-    call-closes {argument = argument} {r} a x = close-with (has-read _ argument a) r (x .gives)
+  module _ {table : List ℕ} {symbols parts : ℕ} {tape₂ : List ℕ} {r : CodeParsed} (a : ExpressionsAgree text table symbols parts (depth + 1) start tape₁ tape₂ r)
+      (bound : ℕ) (h : length (stream text Tokens.naming (s .at)) ≤ bound) where
+    pub argument-stops : {fault : Fault} → r ≡ Stopped fault → CallAgrees text table symbols parts bound depth s place tape tape₂ (Stopped fault)
+    argument-stops {fault} e =
+        stops fault _ _
+        (at-argument table symbols parts bound ∙ rw (has-stopped _ fault (rw e at (a bound (omega (arith, argument-shorter))))))
+        refl refl
+
+    pub call-closes : {tape₃ : List ℕ} {argument : Progress} {q : CodeParsed} → r ≡ Done argument → Closes text argument tape₂ tape₃ q
+        → CallAgrees text table symbols parts bound depth s place tape tape₃ q
+    call-closes {q = q} e x =
+        close-with table symbols parts bound (has-read _ _ (rw e at (a bound (omega (arith, argument-shorter))))) q (x .gives)

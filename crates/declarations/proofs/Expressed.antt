@@ -153,58 +153,71 @@ module _ {text table : List ℕ} {symbols parts depth : ℕ} {start : Progress} 
       b .same
       ∙ rw (u, expression-step (b .left) (b .left - 1) (symbolNames text table symbols) depth (progressAt text table parts s) t ts (omega (arith, step-enough)))
 
-module _ {text table : List ℕ} {symbols parts depth : ℕ} {start : Progress} {tape₀ tape : List ℕ} {s : Progress} {t : Code.Placed} {tape′ : List ℕ} {r : Joined}
-    (k : Expressed text table symbols parts depth start tape₀ tape s)
-    (c : Comes text Tokens.inside (s .at) t)
-    (j : JoinsToken text table symbols parts s tape t tape′ r) where
-  given : {r′ : Joined} → r ≡ r′ → TokenGives text table symbols parts s tape t tape′ r′
-  given e = rw e at (j .gives)
+  -- one item or call more
+  behind-more : {next : Progress} {tape′ : List ℕ} (f : Expression → Expression) (added : List ℕ)
+      → expressionAt text table symbols parts bound depth start
+      ≡ withFirst (b .first) (withFirst f (expressionAt text table symbols parts (b .left - 1) depth next))
+      → length (stream text Tokens.inside (next .at)) ≤ length ts
+      → ((e : Expression) → expressionTape (f e) ≡ added ++ expressionTape e)
+      → ((e : Expression) → Stands text e → Stands text (f e))
+      → Went text (s .at) (s .words) tape (next .at) (next .words) tape′ added
+      → Behind text table symbols parts depth start tape₀ tape′ next bound
+  behind-more {next} f added same less tapes stand went =
+      record {
+        first = λ e. b .first (f e);
+        left = b .left - 1;
+        words = b .words ++ added;
+        same = same ∙ first-first (b .first) f (expressionAt text table symbols parts (b .left - 1) depth next);
+        enough = omega (arith, step-enough);
+        shorter = omega (arith, step-shorter);
+        tapes = λ e. b .tapes (f e) ∙ rw (tapes e) (sym (append-assoc (b .words) added (expressionTape e)));
+        stand = λ e h. b .stand (f e) (stand e h);
+        went = went-then (b .went) went;
+      }
+
+-- a token was joined to the expression, or is no item
+pub record AtToken (text table : List ℕ) (symbols parts depth : ℕ) (start : Progress) (tape₀ : List ℕ) (s : Progress) (t : Code.Placed) (tape′ : List ℕ) (r : Joined) : Type 0 where
+  pub tape : List ℕ
+  pub so : Expressed text table symbols parts depth start tape₀ tape s
+  pub comes : Comes text Tokens.inside (s .at) t
+  pub joins : JoinsToken text table symbols parts s tape t tape′ r
+
+module _ {text table : List ℕ} {symbols parts depth : ℕ} {start : Progress} {tape₀ : List ℕ} {s : Progress} {t : Code.Placed} {tape′ : List ℕ} {r : Joined}
+    (q : AtToken text table symbols parts depth start tape₀ s t tape′ r) where
+  given : {r′ : Joined} → r ≡ r′ → TokenGives text table symbols parts s (q .tape) t tape′ r′
+  given e = rw e at (q .joins .gives)
 
   -- AN ITEM
 
   pub item-moves : {next : Progress} → r ≡ Taken next → (s .at < next .at) × (next .at ≤ length text)
   item-moves e =
       let g = given e in
-      (omega (arith, g .0 .at, item-then c (g .1) .moves), g .0 .going .ready .inside)
+      (omega (arith, g .0 .at, item-then (q .comes) (g .1) .moves), g .0 .going .ready .inside)
 
-  item-behind : {next : Progress} (bound : ℕ) → TakenIn text table symbols parts s tape (itemAt text t) (t .past) tape′ next → isItem (itemAt text t) ≡ true
-      → Behind text table symbols parts depth start tape₀ tape s bound
+  item-behind : {next : Progress} (bound : ℕ) → TakenIn text table symbols parts s (q .tape) (itemAt text t) (t .past) tape′ next → isItem (itemAt text t) ≡ true
+      → Behind text table symbols parts depth start tape₀ (q .tape) s bound
       → Behind text table symbols parts depth start tape₀ tape′ next bound
-  item-behind {next} bound g q b =
-      let i = item-then c q in
+  item-behind bound g y b =
+      let i = item-then (q .comes) y in
       let item = itemAt text t in
-      let rest = Reading.expression (b .left - 1) (symbolNames text table symbols) depth (progressAt text table parts next) (stream text Tokens.inside (t .past)) in
-      record {
-        first = λ e. b .first (thenItem item e);
-        left = b .left - 1;
-        words = b .words ++ itemTape item;
-        same =
-            at-step b (i .unrolled) ∙ rw (q, g .fault, g .progress, g .at) (first-first (b .first) (thenItem item) rest);
-        enough = rw (g .at) (omega (arith, step-enough b (i .unrolled)));
-        shorter = rw (g .at) (omega (arith, step-shorter b (i .unrolled)));
-        tapes =
-            λ e.
-            b .tapes (thenItem item e)
-            ∙ rw (tape-item item e) (sym (append-assoc (b .words) (itemTape item) (expressionTape e)));
-        stand = λ e h. b .stand (thenItem item e) (stands-item text item e (g .quiet) h);
-        went = went-then (b .went) (g .went);
-      }
+      behind-more b (i .unrolled) (thenItem item) (itemTape item) (at-step b (i .unrolled) ∙ rw (y, g .fault, g .progress, g .at)) (rw (g .at) (omega arith))
+      (tape-item item) (λ e h. stands-item text item e (g .quiet) h) (g .went)
 
   pub item-taken : {next : Progress} → r ≡ Taken next → Expressed text table symbols parts depth start tape₀ tape′ next
   item-taken e =
       let g = given e in
       record {
         going = g .0 .going;
-        onward = omega (arith, k .onward, item-moves e .0);
-        behind = λ bound h. item-behind bound (g .0) (g .1) (k .behind bound h);
+        onward = omega (arith, q .so .onward, item-moves e .0);
+        behind = λ bound h. item-behind bound (g .0) (g .1) (q .so .behind bound h);
       }
 
   pub item-wrong : {answer : Answer} {bound : ℕ} → r ≡ Wrong answer → length (stream text Tokens.inside (start .at)) ≤ bound
       → ExpressionAgrees text table symbols parts bound depth start tape₀ tape′ (stoppedWith answer (t .place))
   item-wrong {answer} {bound} e h =
       let g = given e in
-      let b = k .behind bound h in
-      let i = item-then c (g .1) in
+      let b = q .so .behind bound h in
+      let i = item-then (q .comes) (g .1) in
       let item = itemAt text t in
       let rest = Reading.expression (b .left - 1) (symbolNames text table symbols) depth (Reading.pastItem item (progressAt text table parts s))
       (stream text Tokens.inside (t .past)) in
@@ -216,24 +229,24 @@ module _ {text table : List ℕ} {symbols parts depth : ℕ} {start : Progress} 
 
   -- THE END
 
-  end-with : {bound : ℕ} (ts : List Tokens.Placed) → Behind text table symbols parts depth start tape₀ tape s bound
+  end-with : {bound : ℕ} (ts : List Tokens.Placed) → Behind text table symbols parts depth start tape₀ (q .tape) s bound
       → stream text Tokens.inside (s .at) ≡ placedOf text t ∷ ts
       → isItem (itemAt text t) ≡ false
       → Reading.isSign 60 (tokenOf text (t .token) (t .place) (t .past)) ≡ false
-      → tape′ ≡ tape
+      → tape′ ≡ q .tape
       → ExpressionAgrees text table symbols parts bound depth start tape₀ tape′
       (Done (record { at = t .place; words = s .words; count = s .count; parts = s .parts }))
   end-with {bound} ts b u i n e =
       reads (record { expression = b .first end; progress = progressAt text table parts s }) (stream text Tokens.inside (s .at))
       (at-step b u ∙ rw (u, i, n))
       (record {
-        tokens = sym (c .again);
+        tokens = sym (q .comes .again);
         shorter = b .shorter;
         went =
             rw (b .tapes end, tape-end, append-nil (b .words), e)
-            (went-on (t .place) (b .went) (c .onward) (omega (arith, c .forward, c .inside)));
+            (went-on (t .place) (b .went) (q .comes .onward) (omega (arith, q .comes .forward, q .comes .inside)));
         progress = refl;
-        going = going-on (k .going) (ready-place (k .going .ready) c);
+        going = going-on (q .so .going) (ready-place (q .so .going .ready) (q .comes));
         stands = b .stand end (stands-end text);
       })
 
@@ -242,96 +255,87 @@ module _ {text table : List ℕ} {symbols parts depth : ℕ} {start : Progress} 
       (Done (record { at = t .place; words = s .words; count = s .count; parts = s .parts }))
   expression-ends {bound} e n h =
       let g = given e in
-      end-with _ (k .behind bound h) (c .unrolled) (g .0) (sign-shown text t 60 n) (g .1)
+      end-with _ (q .so .behind bound h) (q .comes .unrolled) (g .0) (sign-shown text t 60 n) (g .1)
 
-  -- A CALL
+-- A CALL
 
+-- the token is the `<` of a call
+pub record AtCall (text table : List ℕ) (symbols parts depth : ℕ) (start : Progress) (tape₀ : List ℕ) (s : Progress) (t : Code.Placed) (tape′ : List ℕ) : Type 0 where
+  pub token : AtToken text table symbols parts depth start tape₀ s t tape′ Other
+  pub angle : signIs 60 (t .token) ≡ true
+
+module _ {text table : List ℕ} {symbols parts depth : ℕ} {start : Progress} {tape₀ : List ℕ} {s : Progress} {t : Code.Placed} {tape′ : List ℕ}
+    (q : AtCall text table symbols parts depth start tape₀ s t tape′) where
   abbrev opened : Progress
   opened = record { at = t .past; words = s .words; count = s .count; parts = s .parts }
 
   abbrev calledAt : ℕ → Parsed Reading.Called
   calledAt left = callAt text table symbols parts left depth opened (t .place)
 
-  -- with every bound that is large enough
-  abbrev CallsAgree : List ℕ → CodeParsed → Type 0
-  CallsAgree tape″ p =
-      (left : ℕ) → length (stream text Tokens.naming (t .past)) ≤ left
-      → CallAgrees text table symbols parts left depth opened (t .place) tape′ tape″ p
+  unrolled : stream text Tokens.inside (s .at) ≡ standing (Tokens.sign 60) (t .place) (t .past) ∷ stream text Tokens.naming (t .past)
+  unrolled = sign-first text Tokens.inside (s .at) (q .token .comes) (q .angle)
 
-  module _ (e : r ≡ Other) (n : signIs 60 (t .token) ≡ true) where
-    angle : stream text Tokens.inside (s .at) ≡ standing (Tokens.sign 60) (t .place) (t .past) ∷ stream text Tokens.naming (t .past)
-    angle = sign-first text Tokens.inside (s .at) c n
+  passed : s .at < t .past
+  passed = takes text Tokens.inside (s .at) 60 t (q .token .comes) (q .angle) .onward
 
-    pub call-ready : Going text table symbols parts opened × (s .words < t .past) × (s .at < t .past)
-    call-ready =
-        let o = takes text Tokens.inside (s .at) 60 t c n .onward in (
-          going-on (k .going) (ready-past (k .going .ready) c),
-          omega (arith, k .going .ready .charged, o),
-          o,
-        )
+  -- the call begins further on in the text
+  pub call-onward : (start .at < t .past) × (t .past ≤ length text)
+  call-onward = (omega (arith, q .token .so .onward, passed), q .token .comes .inside)
 
-    -- the definition reads a call
-    at-call : {bound : ℕ} (b : Behind text table symbols parts depth start tape₀ tape s bound)
-        → expressionAt text table symbols parts bound depth start
-        ≡ withFirst (b .first)
-        (follow (calledAt (b .left - 1)) λ d rest.
-        withFirst (thenCall (d .place) (d .name) (d .argument)) (Reading.expression (b .left - 1) (symbolNames text table symbols) depth (d .progress) rest))
-    at-call b = at-step b angle
+  pub call-ready : Going text table symbols parts opened × (s .words < t .past)
+  call-ready =
+      let g = q .token .so .going in
+      (going-on g (ready-past (g .ready) (q .token .comes)), omega (arith, g .ready .charged, passed))
 
-    left-enough : {bound : ℕ} (b : Behind text table symbols parts depth start tape₀ tape s bound) → length (stream text Tokens.naming (t .past)) ≤ b .left - 1
-    left-enough b = omega (arith, step-enough b angle)
+  -- the definition reads a call
+  at-call : {bound : ℕ} (b : Behind text table symbols parts depth start tape₀ (q .token .tape) s bound)
+      → expressionAt text table symbols parts bound depth start
+      ≡ withFirst (b .first)
+      (follow (calledAt (b .left - 1)) λ d rest.
+      withFirst (thenCall (d .place) (d .name) (d .argument)) (Reading.expression (b .left - 1) (symbolNames text table symbols) depth (d .progress) rest))
+  at-call b = at-step b unrolled
 
-    pub call-stopped : {tape″ : List ℕ} {fault : Fault} {bound : ℕ} → CallsAgree tape″ (Stopped fault) → length (stream text Tokens.inside (start .at)) ≤ bound
+  left-enough : {bound : ℕ} (b : Behind text table symbols parts depth start tape₀ (q .token .tape) s bound) → length (stream text Tokens.naming (t .past)) ≤ b .left - 1
+  left-enough b = omega (arith, step-enough b unrolled)
+
+  call-behind : {tape″ : List ℕ} {next : Progress} {bound : ℕ} (b : Behind text table symbols parts depth start tape₀ (q .token .tape) s bound)
+      → ReadAt (CallRead text table symbols parts opened tape′ tape″) (calledAt (b .left - 1)) next
+      → Behind text table symbols parts depth start tape₀ tape″ next bound
+  call-behind {tape″} {next} b r =
+      let d = r .value in
+      let h = r .how in
+      let c = q .token .comes in
+      behind-more b unrolled (thenCall (d .place) (d .name) (d .argument)) (callTape d) (at-call b ∙ rw (r .same, h .progress, h .tokens)) (rw (h .tokens) at (h .shorter))
+      (tape-call (d .place) (d .name) (d .argument))
+      (λ e g. stands-call text (d .argument) e (h .named) (h .stands) g)
+      (went-from (omega (arith, c .onward, c .forward)) (rw (q .token .joins .gives .1) at (h .went)))
+
+  -- what the call's reader came to, with every bound that is large enough
+  module _ {tape″ : List ℕ} {p : CodeParsed}
+      (a : (left : ℕ) → length (stream text Tokens.naming (t .past)) ≤ left → CallAgrees text table symbols parts left depth opened (t .place) tape′ tape″ p) where
+    pub call-stopped : {fault : Fault} {bound : ℕ} → p ≡ Stopped fault → length (stream text Tokens.inside (start .at)) ≤ bound
         → ExpressionAgrees text table symbols parts bound depth start tape₀ tape″ (Stopped fault)
-    call-stopped {fault = fault} {bound} a h =
-        let b = k .behind bound h in
-        stops fault _ _ (at-call b ∙ rw (has-stopped _ fault (a (b .left - 1) (left-enough b)))) refl refl
+    call-stopped {fault} {bound} e h =
+        let b = q .token .so .behind bound h in
+        stops fault _ _ (at-call b ∙ rw (has-stopped _ fault (rw e at (a (b .left - 1) (left-enough b))))) refl refl
 
-    call-behind : {tape″ : List ℕ} {next : Progress} {bound : ℕ} (b : Behind text table symbols parts depth start tape₀ tape s bound) (d : Reading.Called)
-        (rest : List Tokens.Placed)
-        → calledAt (b .left - 1) ≡ parsed d rest
-        → CallRead text table symbols parts opened tape′ tape″ d rest next
-        → tape′ ≡ tape
-        → Behind text table symbols parts depth start tape₀ tape″ next bound
-    call-behind {tape″} {next} b d rest q h same =
-        let after = Reading.expression (b .left - 1) (symbolNames text table symbols) depth (progressAt text table parts next) (stream text Tokens.inside (next .at)) in
-        let short : length (stream text Tokens.inside (next .at)) ≤ length (stream text Tokens.naming (t .past)) = rw (h .tokens) at (h .shorter) in
-        record {
-          first = λ e. b .first (thenCall (d .place) (d .name) (d .argument) e);
-          left = b .left - 1;
-          words = b .words ++ callTape d;
-          same =
-              at-call b
-              ∙ rw (q, h .progress, h .tokens) (first-first (b .first) (thenCall (d .place) (d .name) (d .argument)) after);
-          enough = omega (arith, left-enough b);
-          shorter = omega (arith, step-shorter b angle);
-          tapes =
-              λ e.
-              b .tapes (thenCall (d .place) (d .name) (d .argument) e)
-              ∙ rw (tape-call (d .place) (d .name) (d .argument) e) (sym (append-assoc (b .words) (callTape d) (expressionTape e)));
-          stand = λ e g. b .stand (thenCall (d .place) (d .name) (d .argument) e) (stands-call text (d .argument) e (h .named) (h .stands) g);
-          went = went-then (b .went) (went-from (omega (arith, c .onward, c .forward)) (rw same at (h .went)));
-        }
+    module _ {next : Progress} (e : p ≡ Done next) where
+      called : (left : ℕ) → length (stream text Tokens.naming (t .past)) ≤ left → ReadAt (CallRead text table symbols parts opened tape′ tape″) (calledAt left) next
+      called left h = has-read _ next (rw e at (a left h))
 
-    behind-call : {tape″ : List ℕ} {next : Progress} {bound : ℕ} (b : Behind text table symbols parts depth start tape₀ tape s bound)
-        → ReadAt (CallRead text table symbols parts opened tape′ tape″) (calledAt (b .left - 1)) next
-        → tape′ ≡ tape
-        → Behind text table symbols parts depth start tape₀ tape″ next bound
-    behind-call b h same = call-behind b (h .value) (h .rest) (h .same) (h .how) same
+      shown : ReadAt (CallRead text table symbols parts opened tape′ tape″) (calledAt (length (stream text Tokens.naming (t .past)))) next
+      shown = called _ (omega arith)
 
-    pub call-read : {tape″ : List ℕ} {next : Progress} → CallsAgree tape″ (Done next)
-        → Expressed text table symbols parts depth start tape₀ tape″ next × (s .at < next .at)
-    call-read {tape″} {next} a =
-        let m = length (stream text Tokens.naming (t .past)) in
-        let h = has-read _ next (a m (omega arith)) in
-        let o = takes text Tokens.inside (s .at) 60 t c n .onward in (
+      pub call-moves : (s .at < next .at) × (next .at ≤ length text)
+      call-moves = (omega (arith, shown .how .went .onward, passed), shown .how .going .ready .inside)
+
+      pub call-read : Expressed text table symbols parts depth start tape₀ tape″ next
+      call-read =
           record {
-            going = h .how .going;
-            onward = omega (arith, k .onward, h .how .went .onward, o);
+            going = shown .how .going;
+            onward = omega (arith, q .token .so .onward, call-moves .0);
             behind =
                 λ bound l.
-                let b = k .behind bound l in
-                behind-call b (has-read _ next (a (b .left - 1) (left-enough b))) (given e .1);
-          },
-          omega (arith, h .how .went .onward, o),
-        )
+                let b = q .token .so .behind bound l in
+                call-behind b (called (b .left - 1) (left-enough b));
+          }

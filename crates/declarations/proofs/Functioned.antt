@@ -35,14 +35,14 @@ use Rattle.bookkeeping.specs.declared.progress.Parsed.the-variants.{Stopped, Do
 use Rattle.bookkeeping.specs.Tables.{Inside, nameIn, inText, tableNames, Entries, declaredFaultIn}
 use Rattle.bookkeeping.specs.Answered.{numberOf, Agrees}
 use Rattle.bookkeeping.specs.Written.{Wrote, isQuiet, Ready, Went}
-use Rattle.bookkeeping.specs.Tokened.{tokenFault, signIs, Taken, Barred}
+use Rattle.bookkeeping.specs.Tokened.{tokenFault, signIs, Taken}
 use Rattle.declarations.specs.Expressions.{stoppedWith}
 use Rattle.declarations.specs.Sentences.{Each, SentencesRead}
 use Rattle.declarations.specs.Functions.{FunctionStands, fromBrace, declared, Declarable, BodyRead, Opening, nameFault, DeclaredRead, SpareTo, isEnd, FunctionsRead}
 use Rattle.bookkeeping.proofs.Lengths.{part-length, within}
 use Rattle.bookkeeping.proofs.Tabling.{Grown, grown, entry-name, entry-inside, none-yet, no-names}
 use Rattle.bookkeeping.proofs.Going.{check-wrong, stops, reads, ReadAt, has-stopped, has-read, pass-follow, follow-alone, makes, went-none, went-from, went-on, went-then}
-use Rattle.bookkeeping.proofs.Tokening.{NameFirst, sign-shown, passes-on, passes-not, name-first, names-not, refused, ready-place}
+use Rattle.bookkeeping.proofs.Tokening.{NameFirst, sign-shown, passes-on, name-first, names-not, refused, ready-place}
 use Rattle.declarations.proofs.Onward.{ready-after, name-went}
 use Rattle.declarations.proofs.Sentencing.{each-none, each-more}
 

@@ -28,14 +28,14 @@ use Rattle.bookkeeping.specs.declared.progress.Parsed.the-variants.{Stopped, Do
 use Rattle.declarations.specs.declared.sentences.Sequel.the-variants.{Ends, Another, Refused}
 use Rattle.bookkeeping.specs.Answered.{numberOf, Agrees}
 use Rattle.bookkeeping.specs.Written.{Ready}
-use Rattle.bookkeeping.specs.Tokened.{tokenFault, signIs, Taken, Barred}
+use Rattle.bookkeeping.specs.Tokened.{tokenFault, signIs, Taken}
 use Rattle.parsing.specs.Patterns.{Variables, symbolNames, partNames, PatternRead}
 use Rattle.parsing.specs.Conditions.{ConditionsRead}
 use Rattle.declarations.specs.Expressions.{Going, stoppedWith}
 use Rattle.declarations.specs.Sentences.{fromEquals, EqualsRead, SentenceRead, beginsSentence, sentenceOf, firstSentence, FirstRead, Follows}
 use Rattle.parsing.proofs.Items.{symbol-at, part-at, symbol-variable, part-variable}
 use Rattle.bookkeeping.proofs.Going.{stops, ReadAt, has-stopped, has-read, follow-same, pass-follow, follow-alone, makes, went-from, went-then, word-went}
-use Rattle.bookkeeping.proofs.Tokening.{fault-same, sign-shown, passes-on, passes-not, refused}
+use Rattle.bookkeeping.proofs.Tokening.{fault-same, sign-shown, passes-on, refused}
 use Rattle.declarations.proofs.Onward.{ready-after}
 use Rattle.declarations.proofs.Calling.{ExpressionAgrees}
 

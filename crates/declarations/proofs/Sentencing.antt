@@ -172,12 +172,6 @@ module _ {text start : List ℕ} {limit from words left : ℕ} {tape₁ : List �
   pub sequel-ready : Ready text (s .at) (s .words)
   sequel-ready = ready-after (o .others .short) (read-so .read .went)
 
-  -- the tape has room for the word after the sentence
-  pub sequel-room : (q : Sequel) → Follows text (s .at) q → goesOn q ≡ true → s .words < 32768
-  sequel-room (Ends past) f e = omega (arith, sequel-ready, f .gives .1, f .gives .2)
-  sequel-room (Another place) f e = omega (arith, sequel-ready, f .gives .1, f .gives .2)
-  sequel-room (Refused fault) f e = absurd (false≢true e)
-
   -- with the word after the sentence
   sentence-went : (word : ℕ) {tape′ : List ℕ} {further : ℕ} → s .at < further → further ≤ length text → tape′ ≡ set tape₁ (s .words) word
       → Went text from words start further (s .words + 1) tape′ (partedTape before ++ (sentenceTape last ++ word ∷ []))
@@ -189,37 +183,57 @@ module _ {text start : List ℕ} {limit from words left : ℕ} {tape₁ : List �
   stand-more : Each (SentenceStands text) (before ++ last ∷ [])
   stand-more = each-more (SentenceStands text) before last (o .others .stand) (read-so .read .stands)
 
-  module _ {q : Sequel} (follows : Follows text (s .at) q) where
-    pub sequel-refused : {tape′ : List ℕ} {fault : Fault} → q ≡ Refused fault → SentencesAgree text limit from words start tape′ (Stopped fault)
-    sequel-refused {fault = fault} e =
-        let f = rw e at follows in
-        stops fault _ _ (at-sequel ∙ rw (f .gives (Reading.sentences (left - 1)) last)) refl refl
+-- what comes after it is known
+pub record Sequelled (text start : List ℕ) (limit from words left : ℕ) (tape₁ : List ℕ) (s : Progress) (q : Sequel) : Type 0 where
+  pub one : OneMore text start limit from words left tape₁ s
+  pub follows : Follows text (s .at) q
 
-    pub sequel-ends : {tape′ : List ℕ} {past : ℕ} → q ≡ Ends past → tape′ ≡ set tape₁ (s .words) 1792
-        → SentencesAgree text limit from words start tape′ (Done (record { at = past; words = s .words + 1; count = left - 1; parts = 0 }))
-    sequel-ends {past = past} e w =
-        let f = rw e at follows in
-        reads (before ++ last ∷ []) (stream text Tokens.outside past)
-        (at-sequel ∙ rw (f .gives .0 (Reading.sentences (left - 1)) last))
-        (record {
-          tokens = refl;
-          went = rw (parted-last before last) (sentence-went (tapeWord endKind 0) (f .gives .1) (f .gives .2) w);
-          left = counted-more;
-          stand = stand-more;
-        })
+module _ {text start : List ℕ} {limit from words left : ℕ} {tape₁ : List ℕ} {s : Progress} {q : Sequel} (w : Sequelled text start limit from words left tape₁ s q) where
+  -- the tape has room for the word after the sentence
+  pub sequel-room : goesOn q ≡ true → s .words < 32768
+  sequel-room = room q (w .follows)
+    where
+      room : (q′ : Sequel) → Follows text (s .at) q′ → goesOn q′ ≡ true → s .words < 32768
+      room (Ends past) f e = omega (arith, sequel-ready (w .one), f .gives .1, f .gives .2)
+      room (Another place) f e = omega (arith, sequel-ready (w .one), f .gives .1, f .gives .2)
+      room (Refused fault) f e = absurd (false≢true e)
 
-    pub sequel-goes : {tape′ : List ℕ} {place : ℕ} → q ≡ Another place → tape′ ≡ set tape₁ (s .words) 1536
-        → Sentenced text start limit from words tape′ place (s .words + 1) (left - 1)
-    sequel-goes {place = place} e w =
-        let f = rw e at follows in
-        record {
-          before = before ++ last ∷ [];
-          same =
-              at-sequel
-              ∙ rw (f .gives .0 (Reading.sentences (left - 1)) last)
-              (behind-more before last (Reading.sentences (left - 1) (stream text Tokens.inside place)));
-          went = rw (parted-more before last) (sentence-went (tapeWord nextKind 0) (f .gives .1) (f .gives .2) w);
-          counted = counted-more;
-          stand = stand-more;
-          short = o .others .short;
-        }
+  pub sequel-refused : {tape′ : List ℕ} {fault : Fault} → q ≡ Refused fault → SentencesAgree text limit from words start tape′ (Stopped fault)
+  sequel-refused {fault = fault} e =
+      let f = rw e at (w .follows) in
+      let before = w .one .others .before in
+      let last = w .one .read .value in
+      stops fault _ _ (at-sequel (w .one) ∙ rw (f .gives (Reading.sentences (left - 1)) last)) refl refl
+
+  pub sequel-ends : {tape′ : List ℕ} {past : ℕ} → q ≡ Ends past → tape′ ≡ set tape₁ (s .words) 1792
+      → SentencesAgree text limit from words start tape′ (Done (record { at = past; words = s .words + 1; count = left - 1; parts = 0 }))
+  sequel-ends {past = past} e put =
+      let f = rw e at (w .follows) in
+      let before = w .one .others .before in
+      let last = w .one .read .value in
+      reads (before ++ last ∷ []) (stream text Tokens.outside past)
+      (at-sequel (w .one) ∙ rw (f .gives .0 (Reading.sentences (left - 1)) last))
+      (record {
+        tokens = refl;
+        went = rw (parted-last before last) (sentence-went (w .one) (tapeWord endKind 0) (f .gives .1) (f .gives .2) put);
+        left = counted-more (w .one);
+        stand = stand-more (w .one);
+      })
+
+  pub sequel-goes : {tape′ : List ℕ} {place : ℕ} → q ≡ Another place → tape′ ≡ set tape₁ (s .words) 1536
+      → Sentenced text start limit from words tape′ place (s .words + 1) (left - 1)
+  sequel-goes {place = place} e put =
+      let f = rw e at (w .follows) in
+      let before = w .one .others .before in
+      let last = w .one .read .value in
+      record {
+        before = before ++ last ∷ [];
+        same =
+            at-sequel (w .one)
+            ∙ rw (f .gives .0 (Reading.sentences (left - 1)) last)
+            (behind-more before last (Reading.sentences (left - 1) (stream text Tokens.inside place)));
+        went = rw (parted-more before last) (sentence-went (w .one) (tapeWord nextKind 0) (f .gives .1) (f .gives .2) put);
+        counted = counted-more (w .one);
+        stand = stand-more (w .one);
+        short = w .one .others .short;
+      }

@@ -1,5 +1,6 @@
 -- The expression's reader and the call's reader, which call each other, meet their contracts. The measure of both is the text that remains and the nesting
 -- that is left: a call's reader begins after its `<`, an argument's after the name and one call deeper.
+use borrow.Fn.Kind.{PK}
 use borrow.Fn.Kinds.{In}
 use borrow.Fn.PlainCycle.{Measures, is, falls, and}
 use Rattle.declarations.proofs.expressions.call.Reads as call
@@ -18,41 +19,47 @@ use Rattle.declarations.proofs.expressions.+call+expression.{statement}
 use Rattle.declarations.proofs.expressions.+call+expression.Tie.{close}
 use Prim.Native.Nat.{ℕ, _+_, _-_, _<_}
 use mathlib.Core.Path.{sym, _∙_}
+use mathlib.Core.List.{List}
 use native.Mathlib.Omega.{arith}
 use borrow.Author.Needs.{needs}
 use borrow.Author.Tests.{not-true, not-false}
 use lib.ListN.{length}
 use Rattle.meaning.specs.Tokens as Tokens
+use Rattle.meaning.specs.Choice.{Bytes}
+use Rattle.lexing.specs.View.{Comes}
+use Rattle.bookkeeping.specs.declared.progress.Progress.{Progress}
 use Rattle.lexing.proofs.Stream.{comes}
 use Rattle.bookkeeping.proofs.Going.{has-read}
-use Rattle.declarations.proofs.Calling.{argument-ready, call-unopened, argument-enough, argument-going, argument-stops, call-closes}
-use Rattle.declarations.proofs.Expressed.{Expressed, expression-starts, item-moves, item-taken, item-wrong, expression-ends, call-ready, call-stopped, call-read}
+use Rattle.declarations.proofs.Calling.{Opened, call-unopened, argument-ready, argument-going, argument-stops, call-closes}
+use Rattle.declarations.proofs.Expressed.{Expressed, expression-starts, AtToken, item-moves, item-taken, item-wrong, expression-ends, AtCall, call-onward, call-ready, call-stopped, call-moves, call-read}
+
+abbrev remaining : Bytes → Progress → ℕ → ℕ
+remaining text s depth = (length text - s .at) + (16 - depth)
 
 abbrev μ-call : Measures 3 call-kinds.ps ℕ
-μ-call κs a = (length (a .0 .now) - a .1 .1 .1 .1 .1 .1 .0 .at) + (16 - a .1 .1 .1 .1 .1 .0)
+μ-call κs a = remaining (a .0 .now) (a .1 .1 .1 .1 .1 .1 .0) (a .1 .1 .1 .1 .1 .0)
 
 abbrev μ-expression : Measures 3 expression-kinds.ps ℕ
-μ-expression κs a = (length (a .0 .now) - a .1 .1 .1 .1 .1 .1 .0 .at) + (16 - a .1 .1 .1 .1 .1 .0)
+μ-expression κs a = remaining (a .0 .now) (a .1 .1 .1 .1 .1 .1 .0) (a .1 .1 .1 .1 .1 .0)
+
+-- what a reader may assume, with the measure, and what it may ask of the other
+abbrev at-measure : (ps : List (PK 3)) → Measures 3 ps ℕ → In 3 ps → ℕ → In 3 ps
+at-measure ps μ Pre t = and 3 ps (is 3 ps μ t) Pre
+
+abbrev below-measure : (ps : List (PK 3)) → Measures 3 ps ℕ → In 3 ps → ℕ → In 3 ps
+below-measure ps μ Pre t = and 3 ps (falls 3 ps _<_ μ t) Pre
 
 abbrev call-at : ℕ → In 3 call-kinds.ps
-call-at t = and 3 call-kinds.ps (is 3 call-kinds.ps μ-call t) call.Pre
-
-abbrev call-below : ℕ → In 3 call-kinds.ps
-call-below t = and 3 call-kinds.ps (falls 3 call-kinds.ps _<_ μ-call t) call.Pre
+call-at = at-measure call-kinds.ps μ-call call.Pre
 
 abbrev expression-at : ℕ → In 3 expression-kinds.ps
-expression-at t =
-    and 3 expression-kinds.ps (is 3 expression-kinds.ps μ-expression t) expression.Pre
-
-abbrev expression-below : ℕ → In 3 expression-kinds.ps
-expression-below t =
-    and 3 expression-kinds.ps (falls 3 expression-kinds.ps _<_ μ-expression t) expression.Pre
+expression-at = at-measure expression-kinds.ps μ-expression expression.Pre
 
 abbrev call-claims : ℕ → call-lts.Claims
 call-claims t = (
   open-call-reads.Asked,
   open-call-reads.Learnt,
-  expression-below t,
+  below-measure expression-kinds.ps μ-expression expression.Pre t,
   expression.Post,
   close-call-reads.Asked,
   close-call-reads.Learnt,
@@ -68,215 +75,175 @@ expression-claims t = (
   stopped-reads.Learnt,
   is-sign-reads.Asked,
   is-sign-reads.Learnt,
-  call-below t,
+  below-measure call-kinds.ps μ-call call.Pre t,
   call.Post,
 )
 
-call-open-call-requires : (t : ℕ) → call-lts.Need-open-call-requires (call-claims t) (call-at t) call.Post
-call-open-call-requires t c κs = (c .before .before .before .pre .1 .0 .ready, c .before .before .before .pre .1 .1)
+-- THE CALL
 
-call-enum-known-fault : (t : ℕ) → call-lts.Need-enum-known-fault (call-claims t) (call-at t) call.Post
-call-enum-known-fault t c = search needs
+module _ (t : ℕ) where
+  opened-here : (c : call-lts.After-start (call-claims t) (call-at t) call.Post)
+      → let at-open-call = c .before .before in
+      let a = at-open-call .before .before .before .before .args in
+      Opened (a .text .now) (a .depth) (a .s) (a .place) (a .tape .now) (at-open-call .open-call .last .1 .0) (c .start .given .0 .0)
+  opened-here c = record { read = has-read _ _ (rw (c .start .given .1) at (c .before .before .open-call .ensures)) }
 
-call-returns : (t : ℕ) → call-lts.Need-returns (call-claims t) (call-at t) call.Post
-call-returns t c =
-    let a = c .before .before .before .before .before .before .before .args in
-    λ bound h. call-unopened (a .text .now) (a .table .now) (a .symbols) (a .parts) bound (a .depth) (a .s) (a .place)
-    (rw (c .before .fault .given .1) at (c .before .before .before .open-call .ensures))
+  call-open-call-requires : call-lts.Need-open-call-requires (call-claims t) (call-at t) call.Post
+  call-open-call-requires c κs = (c .before .before .before .pre .1 .0 .ready, c .before .before .before .pre .1 .1)
 
-call-enum-known-start : (t : ℕ) → call-lts.Need-enum-known-start (call-claims t) (call-at t) call.Post
-call-enum-known-start t c = search needs
+  call-returns : call-lts.Need-returns (call-claims t) (call-at t) call.Post
+  call-returns c =
+      let a = c .before .before .before .before .before .before .before .args in
+      λ bound h. call-unopened (a .text .now) (a .table .now) (a .symbols) (a .parts) bound (a .depth) (a .s) (a .place)
+      (rw (c .before .fault .given .1) at (c .before .before .before .open-call .ensures))
 
-call-add-expression : (t : ℕ) → call-lts.Need-add-expression (call-claims t) (call-at t) call.Post
-call-add-expression t c =
-    let o = has-read _ _ (rw (c .before .before .start .given .1) at (c .before .before .before .before .open-call .ensures)) in
-    omega (arith, o .how .shallow)
+  call-add-expression : call-lts.Need-add-expression (call-claims t) (call-at t) call.Post
+  call-add-expression c = omega (arith, opened-here (c .before .before) .read .how .shallow)
 
-call-expression-requires : (t : ℕ) → call-lts.Need-expression-requires (call-claims t) (call-at t) call.Post
-call-expression-requires t c κs =
-    let a = c .before .before .before .before .before .before .before .before .args in
-    let o = has-read _ _ (rw (c .before .before .start .given .1) at (c .before .before .before .before .open-call .ensures)) in
-    let m = c .before .before .before .before .before .before .before .before .pre .0 in (
-      omega (arith, o .how .shallow, o .how .went .onward, o .how .went .inside),
-      argument-going (a .text .now) (a .table .now) (a .symbols) (a .parts) 0 (a .depth) (a .s) (a .place) o
-          (c .before .before .before .before .before .before .before .before .pre .1 .0),
-    )
+  call-expression-requires : call-lts.Need-expression-requires (call-claims t) (call-at t) call.Post
+  call-expression-requires c κs =
+      let o = opened-here (c .before .before) in
+      let pre = c .before .before .before .before .before .before .before .before .pre in
+      let m = pre .0 in
+      (omega (arith, o .read .how .shallow, o .read .how .went .onward, o .read .how .went .inside), argument-going o (pre .1 .0))
 
-call-enum-known-fault-2 : (t : ℕ) → call-lts.Need-enum-known-fault-2 (call-claims t) (call-at t) call.Post
-call-enum-known-fault-2 t c = search needs
+  call-close-call-requires : call-lts.Need-close-call-requires (call-claims t) (call-at t) call.Post
+  call-close-call-requires c κs =
+      let at-argument = c .before .before in
+      let at-expression = at-argument .before .before in
+      argument-ready (opened-here (at-expression .before .before .before)) (at-expression .expression .ensures) (at-argument .argument .given .1)
 
-call-enum-known-argument : (t : ℕ) → call-lts.Need-enum-known-argument (call-claims t) (call-at t) call.Post
-call-enum-known-argument t c = search needs
+  call-returns-2 : call-lts.Need-returns-2 (call-claims t) (call-at t) call.Post
+  call-returns-2 c =
+      let at-expression = c .before .before .before in
+      λ bound h.
+      argument-stops (opened-here (at-expression .before .before .before)) (at-expression .expression .ensures) bound h (c .before .fault2 .given .1)
 
-call-close-call-requires : (t : ℕ) → call-lts.Need-close-call-requires (call-claims t) (call-at t) call.Post
-call-close-call-requires t c κs = argument-ready
-    (c .before .before .before .before .before .before .before .before .before .before .before .before .before .args .depth + 1)
-    (rw (c .before .before .argument .given .1) at (c .before .before .before .before .expression .ensures))
+  call-returns-3 : call-lts.Need-returns-3 (call-claims t) (call-at t) call.Post
+  call-returns-3 c =
+      let at-argument = c .before .before .before in
+      let at-expression = at-argument .before .before in
+      λ bound h.
+      call-closes (opened-here (at-expression .before .before .before)) (at-expression .expression .ensures) bound h (at-argument .argument .given .1)
+      (c .close-call .ensures)
 
-call-returns-2 : (t : ℕ) → call-lts.Need-returns-2 (call-claims t) (call-at t) call.Post
-call-returns-2 t c =
-    let a = c .before .before .before .before .before .before .before .before .before .before .before .before .args in
-    let o = has-read _ _ (rw (c .before .before .before .before .before .before .start .given .1) at
-    (c .before .before .before .before .before .before .before .before .open-call .ensures)) in
-    λ bound h.
-    argument-stops (a .text .now) (a .table .now) (a .symbols) (a .parts) bound (a .depth) (a .s) (a .place) o
-    (rw (c .before .fault2 .given .1) at (c .before .before .before .expression .ensures bound
-    (argument-enough (a .text .now) (a .table .now) (a .symbols) (a .parts) bound (a .depth) (a .s) (a .place) o h)))
+-- THE EXPRESSION
 
-call-returns-3 : (t : ℕ) → call-lts.Need-returns-3 (call-claims t) (call-at t) call.Post
-call-returns-3 t c =
-    let a = c .before .before .before .before .before .before .before .before .before .before .before .before .before .before .args in
-    let o = has-read _ _ (rw (c .before .before .before .before .before .before .before .before .start .given .1) at
-    (c .before .before .before .before .before .before .before .before .before .before .open-call .ensures)) in
-    λ bound h.
-    call-closes (a .text .now) (a .table .now) (a .symbols) (a .parts) bound (a .depth) (a .s) (a .place) o
-    (rw (c .before .before .before .argument .given .1) at
-    (c .before .before .before .before .before .expression .ensures bound
-    (argument-enough (a .text .now) (a .table .now) (a .symbols) (a .parts) bound (a .depth) (a .s) (a .place) o h)))
-    (c .close-call .ensures)
+abbrev Inv-loop : expression-lts.InvT-loop
+Inv-loop text tape₀ table symbols parts depth s₀ tape s = Expressed text table symbols parts depth s₀ tape₀ tape s
 
-abbrev expression-Inv-loop : expression-lts.InvT-loop
-expression-Inv-loop text tape₀ table symbols parts depth s₀ tape s = Expressed text table symbols parts depth s₀ tape₀ tape s
+abbrev μ-loop : expression-lts.MeasureT-loop
+μ-loop text tape₀ table symbols parts depth s₀ tape s = length text - s .at
 
-abbrev expression-μ-loop : expression-lts.MeasureT-loop
-expression-μ-loop text tape₀ table symbols parts depth s₀ tape s = length text - s .at
+module _ (t : ℕ) where
+  token-here : (c : expression-lts.After-lex (expression-claims t) (expression-at t) expression.Post Inv-loop μ-loop)
+      → Comes (c .before .before .before .before .args .text .now) Tokens.inside (c .before .loop .s .at) (c .lex .result)
+  token-here c = comes _ Tokens.inside _ _ (c .before .loop .inv .going .ready .inside) (c .lex .ensures)
 
-expression-loop-holds : (t : ℕ) → expression-lts.Need-loop-holds (expression-claims t) (expression-at t) expression.Post expression-Inv-loop expression-μ-loop
-expression-loop-holds t c = expression-starts _ _ _ _ _ _ _ (c .before .before .pre .1)
+  joined-here : (c : expression-lts.After-join (expression-claims t) (expression-at t) expression.Post Inv-loop μ-loop)
+      → let at-lex = c .before .before in
+      let at-loop = at-lex .before in
+      let a = at-loop .before .before .before .args in
+      AtToken (a .text .now) (a .table .now) (a .symbols) (a .parts) (a .depth) (a .start) (a .tape .now) (at-loop .loop .s) (at-lex .lex .result)
+      (c .join .last .1 .0) (c .join .result)
+  joined-here c =
+      let at-lex = c .before .before in
+      record { tape = _; so = at-lex .before .loop .inv; comes = token-here at-lex; joins = c .join .ensures }
 
-expression-lex-requires : (t : ℕ) → expression-lts.Need-lex-requires (expression-claims t) (expression-at t) expression.Post expression-Inv-loop expression-μ-loop
-expression-lex-requires t c κs = search needs
+  call-here : (c : expression-lts.Else1 (expression-claims t) (expression-at t) expression.Post Inv-loop μ-loop)
+      → let at-join = c .before .before .before .before in
+      let at-lex = at-join .before .before in
+      let at-loop = at-lex .before in
+      let a = at-loop .before .before .before .args in
+      AtCall (a .text .now) (a .table .now) (a .symbols) (a .parts) (a .depth) (a .start) (a .tape .now) (at-loop .loop .s) (at-lex .lex .result)
+      (at-join .join .last .1 .0)
+  call-here c =
+      let at-enum-told = c .before .before in
+      record {
+        token = rw (at-enum-told .enum-told .given .1) at (joined-here (at-enum-told .before .before));
+        angle = sym (c .before .is-sign .ensures) ∙ not-false _ (c .if1 .left);
+      }
 
-expression-join-requires : (t : ℕ) → expression-lts.Need-join-requires (expression-claims t) (expression-at t) expression.Post expression-Inv-loop expression-μ-loop
-expression-join-requires t c κs =
-    let k = c .before .before .loop .inv in
-    (k .going, comes _ Tokens.inside _ _ (k .going .ready .inside) (c .before .lex .ensures))
+  expression-loop-holds : expression-lts.Need-loop-holds (expression-claims t) (expression-at t) expression.Post Inv-loop μ-loop
+  expression-loop-holds c = expression-starts _ _ _ _ _ _ _ (c .before .before .pre .1)
 
-expression-enum-known-next : (t : ℕ) → expression-lts.Need-enum-known-next (expression-claims t) (expression-at t) expression.Post expression-Inv-loop expression-μ-loop
-expression-enum-known-next t c = search needs
+  expression-join-requires : expression-lts.Need-join-requires (expression-claims t) (expression-at t) expression.Post Inv-loop μ-loop
+  expression-join-requires c κs = (c .before .before .loop .inv .going, token-here (c .before))
 
-expression-loop-less : (t : ℕ) → expression-lts.Need-loop-less (expression-claims t) (expression-at t) expression.Post expression-Inv-loop expression-μ-loop
-expression-loop-less t c =
-    let k = c .before .before .before .before .before .before .loop .inv in
-    let m = item-moves k (comes _ Tokens.inside _ _ (k .going .ready .inside) (c .before .before .before .before .before .lex .ensures))
-    (c .before .before .before .join .ensures) (c .before .next .given .1) in
-    omega arith
+  expression-loop-less : expression-lts.Need-loop-less (expression-claims t) (expression-at t) expression.Post Inv-loop μ-loop
+  expression-loop-less c = let m = item-moves (joined-here (c .before .before .before)) (c .before .next .given .1) in omega arith
 
-expression-loop-again : (t : ℕ) → expression-lts.Need-loop-again (expression-claims t) (expression-at t) expression.Post expression-Inv-loop expression-μ-loop
-expression-loop-again t c =
-    let k = c .before .before .before .before .before .before .loop .inv in
-    item-taken k (comes _ Tokens.inside _ _ (k .going .ready .inside) (c .before .before .before .before .before .lex .ensures))
-    (c .before .before .before .join .ensures) (c .before .next .given .1)
+  expression-loop-again : expression-lts.Need-loop-again (expression-claims t) (expression-at t) expression.Post Inv-loop μ-loop
+  expression-loop-again c = item-taken (joined-here (c .before .before .before)) (c .before .next .given .1)
 
-expression-enum-known-answer : (t : ℕ) → expression-lts.Need-enum-known-answer (expression-claims t) (expression-at t) expression.Post expression-Inv-loop expression-μ-loop
-expression-enum-known-answer t c = search needs
+  expression-returns : expression-lts.Need-returns (expression-claims t) (expression-at t) expression.Post Inv-loop μ-loop
+  expression-returns c =
+      λ bound h. rw (c .stopped .ensures) (item-wrong (joined-here (c .before .before .before .before)) (c .before .before .answer .given .1) h)
 
-expression-stopped-requires : (t : ℕ) → expression-lts.Need-stopped-requires (expression-claims t) (expression-at t) expression.Post expression-Inv-loop expression-μ-loop
-expression-stopped-requires t c κs = search needs
+  expression-returns-2 : expression-lts.Need-returns-2 (expression-claims t) (expression-at t) expression.Post Inv-loop μ-loop
+  expression-returns-2 c =
+      let at-enum-told = c .before .before in
+      λ bound h.
+      expression-ends (joined-here (at-enum-told .before .before)) (at-enum-told .enum-told .given .1)
+      (sym (c .before .is-sign .ensures) ∙ not-true _ (c .if1 .taken)) h
 
-expression-returns : (t : ℕ) → expression-lts.Need-returns (expression-claims t) (expression-at t) expression.Post expression-Inv-loop expression-μ-loop
-expression-returns t c =
-    let k = c .before .before .before .before .before .before .before .loop .inv in
-    λ bound h. rw (c .stopped .ensures) (item-wrong k (comes _ Tokens.inside _ _ (k .going .ready .inside)
-    (c .before .before .before .before .before .before .lex .ensures)) (c .before .before .before .before .join .ensures) (c .before .before .answer .given .1) h)
+  expression-call-requires : expression-lts.Need-call-requires (expression-claims t) (expression-at t) expression.Post Inv-loop μ-loop
+  expression-call-requires c κs =
+      let q = call-here (c .before) in
+      let m = c .before .before .before .before .before .before .before .before .before .before .before .pre .0 in
+      (omega (arith, call-onward q), call-ready q)
 
-expression-enum-told : (t : ℕ) → expression-lts.Need-enum-told (expression-claims t) (expression-at t) expression.Post expression-Inv-loop expression-μ-loop
-expression-enum-told t c = search needs
+  expression-returns-3 : expression-lts.Need-returns-3 (expression-claims t) (expression-at t) expression.Post Inv-loop μ-loop
+  expression-returns-3 c =
+      let at-call = c .before .before .before in
+      λ bound h. call-stopped (call-here (at-call .before .before)) (at-call .call .ensures) (c .before .fault .given .1) h
 
-expression-is-sign-requires : (t : ℕ) → expression-lts.Need-is-sign-requires (expression-claims t) (expression-at t) expression.Post expression-Inv-loop expression-μ-loop
-expression-is-sign-requires t c κs = search needs
+  expression-loop-less-2 : expression-lts.Need-loop-less-2 (expression-claims t) (expression-at t) expression.Post Inv-loop μ-loop
+  expression-loop-less-2 c =
+      let at-call = c .before .before .before in
+      let m = call-moves (call-here (at-call .before .before)) (at-call .call .ensures) (c .before .next2 .given .1) in
+      omega arith
 
-expression-returns-2 : (t : ℕ) → expression-lts.Need-returns-2 (expression-claims t) (expression-at t) expression.Post expression-Inv-loop expression-μ-loop
-expression-returns-2 t c =
-    let k = c .before .before .before .before .before .before .before .loop .inv in
-    λ bound h.
-    expression-ends k (comes _ Tokens.inside _ _ (k .going .ready .inside) (c .before .before .before .before .before .before .lex .ensures))
-    (c .before .before .before .before .join .ensures) (c .before .before .enum-told .given .1)
-    (sym (c .before .is-sign .ensures) ∙ not-true _ (c .if1 .taken)) h
-
-expression-call-requires : (t : ℕ) → expression-lts.Need-call-requires (expression-claims t) (expression-at t) expression.Post expression-Inv-loop expression-μ-loop
-expression-call-requires t c κs =
-    let k = c .before .before .before .before .before .before .before .before .loop .inv in
-    let n = comes _ Tokens.inside _ _ (k .going .ready .inside) (c .before .before .before .before .before .before .before .lex .ensures) in
-    let o = call-ready k n (c .before .before .before .before .before .join .ensures) (c .before .before .before .enum-told .given .1)
-    (sym (c .before .before .is-sign .ensures) ∙ not-false _ (c .before .if1 .left)) in
-    let m = c .before .before .before .before .before .before .before .before .before .before .before .pre .0 in
-    (omega (arith, k .onward, o .2, n .inside), (o .0, o .1))
-
-expression-enum-known-fault : (t : ℕ) → expression-lts.Need-enum-known-fault (expression-claims t) (expression-at t) expression.Post expression-Inv-loop expression-μ-loop
-expression-enum-known-fault t c = search needs
-
-expression-returns-3 : (t : ℕ) → expression-lts.Need-returns-3 (expression-claims t) (expression-at t) expression.Post expression-Inv-loop expression-μ-loop
-expression-returns-3 t c =
-    let k = c .before .before .before .before .before .before .before .before .before .before .before .before .loop .inv in
-    λ bound h.
-    call-stopped k (comes _ Tokens.inside _ _ (k .going .ready .inside)
-    (c .before .before .before .before .before .before .before .before .before .before .before .lex .ensures))
-    (c .before .before .before .before .before .before .before .before .before .join .ensures) (c .before .before .before .before .before .before .before .enum-told .given .1)
-    (sym (c .before .before .before .before .before .before .is-sign .ensures) ∙ not-false _ (c .before .before .before .before .before .if1 .left))
-    (rw (c .before .fault .given .1) at (c .before .before .before .call .ensures)) h
-
-expression-enum-known-next-2 : (t : ℕ) → expression-lts.Need-enum-known-next-2 (expression-claims t) (expression-at t) expression.Post expression-Inv-loop expression-μ-loop
-expression-enum-known-next-2 t c = search needs
-
-expression-loop-less-2 : (t : ℕ) → expression-lts.Need-loop-less-2 (expression-claims t) (expression-at t) expression.Post expression-Inv-loop expression-μ-loop
-expression-loop-less-2 t c =
-    let k = c .before .before .before .before .before .before .before .before .before .before .before .before .loop .inv in
-    let r =
-    call-read k (comes _ Tokens.inside _ _ (k .going .ready .inside)
-    (c .before .before .before .before .before .before .before .before .before .before .before .lex .ensures))
-    (c .before .before .before .before .before .before .before .before .before .join .ensures) (c .before .before .before .before .before .before .before .enum-told .given .1)
-    (sym (c .before .before .before .before .before .before .is-sign .ensures) ∙ not-false _ (c .before .before .before .before .before .if1 .left))
-    (rw (c .before .next2 .given .1) at (c .before .before .before .call .ensures))
-    in
-    let i = r .0 .going .ready .inside in
-    let m = r .1 in
-    omega arith
-
-expression-loop-again-2 : (t : ℕ) → expression-lts.Need-loop-again-2 (expression-claims t) (expression-at t) expression.Post expression-Inv-loop expression-μ-loop
-expression-loop-again-2 t c =
-    let k = c .before .before .before .before .before .before .before .before .before .before .before .before .loop .inv in
-    call-read k (comes _ Tokens.inside _ _ (k .going .ready .inside)
-    (c .before .before .before .before .before .before .before .before .before .before .before .lex .ensures))
-    (c .before .before .before .before .before .before .before .before .before .join .ensures) (c .before .before .before .before .before .before .before .enum-told .given .1)
-    (sym (c .before .before .before .before .before .before .is-sign .ensures) ∙ not-false _ (c .before .before .before .before .before .if1 .left))
-    (rw (c .before .next2 .given .1) at (c .before .before .before .call .ensures)) .0
+  expression-loop-again-2 : expression-lts.Need-loop-again-2 (expression-claims t) (expression-at t) expression.Post Inv-loop μ-loop
+  expression-loop-again-2 c =
+      let at-call = c .before .before .before in
+      call-read (call-here (at-call .before .before)) (at-call .call .ensures) (c .before .next2 .given .1)
 
 pub +call+expression-spec : {M : Type 1} → statement M
 +call+expression-spec = close μ-call μ-expression (λ t. call-lts.spec (call-claims t)
     (call-at t)
     call.Post
     (call-open-call-requires t)
-    (call-enum-known-fault t)
+    (λ c. search needs)
     (call-returns t)
-    (call-enum-known-start t)
+    (λ c. search needs)
     (call-add-expression t)
     (call-expression-requires t)
-    (call-enum-known-fault-2 t)
-    (call-enum-known-argument t)
+    (λ c. search needs)
+    (λ c. search needs)
     (call-close-call-requires t)
     (call-returns-2 t)
     (call-returns-3 t))
     λ t. expression-lts.spec (expression-claims t)
     (expression-at t)
     expression.Post
-    expression-Inv-loop
-    expression-μ-loop
+    Inv-loop
+    μ-loop
     (expression-loop-holds t)
-    (expression-lex-requires t)
+    (λ c κs. search needs)
     (expression-join-requires t)
-    (expression-enum-known-next t)
+    (λ c. search needs)
     (expression-loop-less t)
     (expression-loop-again t)
-    (expression-enum-known-answer t)
-    (expression-stopped-requires t)
+    (λ c. search needs)
+    (λ c κs. search needs)
     (expression-returns t)
-    (expression-enum-told t)
-    (expression-is-sign-requires t)
+    (λ c. search needs)
+    (λ c κs. search needs)
     (expression-returns-2 t)
     (expression-call-requires t)
-    (expression-enum-known-fault t)
+    (λ c. search needs)
     (expression-returns-3 t)
-    (expression-enum-known-next-2 t)
+    (λ c. search needs)
     (expression-loop-less-2 t)
     (expression-loop-again-2 t)

@@ -1,12 +1,9 @@
 -- `declarations::sentences::sentences` meets its contract: the sentences from the start are those from here.
 use Rattle.declarations.proofs.sentences.sentences.Statement.{statement}
 use Rattle.declarations.proofs.sentences.sentences.Tie as tie
-use Prim.Native.Nat.{_<_}
-use mathlib.Core.Path.{_≡_}
-use mathlib.Core.Bool.{true}
 use native.Mathlib.Omega.{arith}
 use borrow.Author.Needs.{needs}
-use Rattle.declarations.proofs.Sentencing.{Sentenced, sentences-start, next-ready, sentence-stops, OneMore, one-more, goesOn, some-left, sequel-ready, sequel-room, sequel-refused, sequel-ends, sequel-goes}
+use Rattle.declarations.proofs.Sentencing.{Sentenced, sentences-start, next-ready, sentence-stops, OneMore, one-more, Sequelled, some-left, sequel-ready, sequel-room, sequel-refused, sequel-ends, sequel-goes}
 
 abbrev Inv-loop : tie.InvT-loop
 Inv-loop text tape₀ limit from words at₀ to₀ left₀ tape at to left = Sentenced text tape₀ limit from words tape at to left
@@ -24,10 +21,14 @@ read-here c =
     let at-next-sentence = c .before .before in
     one-more (at-next-sentence .before .before .loop .inv) (c .s .given .1) (at-next-sentence .next-sentence .ensures)
 
--- the tape has room for the word after it
-room-here : (c : tie.After-after-sentence Inv-loop μ-loop) → goesOn (c .after-sentence .result) ≡ true
-    → c .before .before .before .s .given .0 .0 .words < 32768
-room-here c e = sequel-room (read-here (c .before .before .before)) _ (c .after-sentence .ensures) e
+sequel-here : (c : tie.After-after-sentence Inv-loop μ-loop)
+    → let at-s = c .before .before .before in
+    let at-next-sentence = at-s .before .before in
+    let at-loop = at-next-sentence .before .before in
+    let a = at-loop .before .before .args in
+    Sequelled (a .text .now) (a .tape .now) (a .limit) (a .from) (a .words) (at-loop .loop .left) (at-next-sentence .next-sentence .last .1 .0) (at-s .s .given .0 .0)
+    (c .after-sentence .result)
+sequel-here c = record { one = read-here (c .before .before .before); follows = c .after-sentence .ensures }
 
 loop-holds : tie.Need-loop-holds Inv-loop μ-loop
 loop-holds c = sentences-start _ _ _ _ _ (c .before .pre)
@@ -60,36 +61,28 @@ enum-known-past : tie.Need-enum-known-past Inv-loop μ-loop
 enum-known-past c = search needs
 
 put-requires : tie.Need-put-requires Inv-loop μ-loop
-put-requires c κs = room-here (c .before .before .before .before) (rw (c .before .before .past .given .1))
+put-requires c κs = sequel-room (sequel-here (c .before .before .before .before)) (rw (c .before .before .past .given .1))
 
 returns-2 : tie.Need-returns-2 Inv-loop μ-loop
-returns-2 c =
-    let at-past = c .before .before .before in
-    let at-after-sentence = at-past .before .before in
-    sequel-ends (read-here (at-after-sentence .before .before .before)) (at-after-sentence .after-sentence .ensures) (at-past .past .given .1) (c .put .ensures)
+returns-2 c = sequel-ends (sequel-here (c .before .before .before .before .before)) (c .before .before .before .past .given .1) (c .put .ensures)
 
 enum-known-place : tie.Need-enum-known-place Inv-loop μ-loop
 enum-known-place c = search needs
 
 put-requires-2 : tie.Need-put-requires-2 Inv-loop μ-loop
-put-requires-2 c κs = room-here (c .before .before .before .before) (rw (c .before .before .place .given .1))
+put-requires-2 c κs = sequel-room (sequel-here (c .before .before .before .before)) (rw (c .before .before .place .given .1))
 
 loop-less : tie.Need-loop-less Inv-loop μ-loop
 loop-less c = let r = some-left (read-here (c .before .before .before .before .before .before .before .before)) in omega arith
 
 loop-again : tie.Need-loop-again Inv-loop μ-loop
-loop-again c =
-    let at-place = c .before .before .before in
-    let at-after-sentence = at-place .before .before in
-    sequel-goes (read-here (at-after-sentence .before .before .before)) (at-after-sentence .after-sentence .ensures) (at-place .place .given .1) (c .put2 .ensures)
+loop-again c = sequel-goes (sequel-here (c .before .before .before .before .before)) (c .before .before .before .place .given .1) (c .put2 .ensures)
 
 enum-known-fault-2 : tie.Need-enum-known-fault-2 Inv-loop μ-loop
 enum-known-fault-2 c = search needs
 
 returns-3 : tie.Need-returns-3 Inv-loop μ-loop
-returns-3 c =
-    let at-after-sentence = c .before .before .before in
-    sequel-refused (read-here (at-after-sentence .before .before .before)) (at-after-sentence .after-sentence .ensures) (c .before .fault2 .given .1)
+returns-3 c = sequel-refused (sequel-here (c .before .before .before)) (c .before .fault2 .given .1)
 
 pub sentences-spec : {M : Type 1} → statement M
 sentences-spec =
