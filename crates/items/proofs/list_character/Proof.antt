@@ -1,19 +1,34 @@
 -- `items::list_character` meets its contract.
 use Rattle.items.proofs.Writing.{put-then}
 use native.Mathlib.Omega.{arith}
+use mathlib.Core.Path.{_≡_, sym, _∙_}
+use Rattle.meaning.specs.Choice.{pick}
+use Rattle.items.specs.declared.State.{State}
+use Rattle.items.specs.declared.State.the-variants.{InString, AfterCode}
+use Rattle.items.specs.Steps.{characterStep, Wrote}
 use Rattle.items.proofs.Sizes.{quoting-size}
 use borrow.Author.Needs.{needs}
 use Rattle.items.proofs.list_character.Statement.{statement}
 use Rattle.items.proofs.list_character.Tie as tie
 
+-- the string goes on as it was asked
+left-here : (c : tie.After-is-coded) {after : State} → pick (c .is-coded .result) AfterCode InString ≡ after
+    → let at-put-character = c .before .before .before in
+    let a = at-put-character .before .before .before .before .before .before .before .args in
+    Wrote (a .at) (a .out .now) (characterStep (a .state) (a .character)) (record { state = after; at = at-put-character .put-character .result })
+    (at-put-character .put-character .last .1 .1 .0)
+left-here c e =
+    let at-put-character = c .before .before .before in
+    record {
+      state = sym e ∙ rw (c .is-coded .ensures);
+      put = put-then (at-put-character .before .before .before .before .put-quoting .ensures) (at-put-character .put-character .ensures);
+    }
+
 put-quoting-requires : tie.Need-put-quoting-requires
 put-quoting-requires c κs = search needs
 
 put-character-requires : tie.Need-put-character-requires
-put-character-requires c κs =
-    let at-put-quoting = c .before .before .before in
-    let entry = at-put-quoting .before .before .before in
-    omega (arith, quoting-size (entry .args .state), at-put-quoting .put-quoting .ensures .place)
+put-character-requires c κs = omega (arith, quoting-size (c .before .before .before .before .before .before .args .state))
 
 is-coded-requires : tie.Need-is-coded-requires
 is-coded-requires c κs = search needs
@@ -22,19 +37,13 @@ same-length : tie.Need-same-length
 same-length c = search needs
 
 returns : tie.Need-returns
-returns c =
-    let at-put-character = c .before .before .before .before in
-    let at-put-quoting = at-put-character .before .before .before .before in
-    record { state = rw (← (c .before .is-coded .ensures), c .if1 .taken); put = put-then (at-put-quoting .put-quoting .ensures) (at-put-character .put-character .ensures) }
+returns c = left-here (c .before) (rw (c .if1 .taken))
 
 same-length-2 : tie.Need-same-length-2
 same-length-2 c = search needs
 
 returns-2 : tie.Need-returns-2
-returns-2 c =
-    let at-put-character = c .before .before .before .before in
-    let at-put-quoting = at-put-character .before .before .before .before in
-    record { state = rw (← (c .before .is-coded .ensures), c .if1 .left); put = put-then (at-put-quoting .put-quoting .ensures) (at-put-character .put-character .ensures) }
+returns-2 c = left-here (c .before) (rw (c .if1 .left))
 
 pub list-character-spec : {M : Type 1} → statement M
 list-character-spec =

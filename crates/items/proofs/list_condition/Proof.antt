@@ -14,28 +14,18 @@ slice-aggregate-put-all : tie.Need-slice-aggregate-put-all
 slice-aggregate-put-all c = search needs
 
 put-all-requires : tie.Need-put-all-requires
-put-all-requires c κs =
-    let at-put-ending = c .before .before .before .before in
-    let entry = at-put-ending .before .before .before in
-    omega (arith, ending-size (entry .args .state), at-put-ending .put-ending .ensures .place)
+put-all-requires c κs = omega (arith, ending-size (c .before .before .before .before .before .before .before .args .state))
 
 put-class-requires : tie.Need-put-class-requires
-put-class-requires c κs =
-    let at-put-all = c .before .before .before in
-    let at-put-ending = at-put-all .before .before .before .before .before in
-    let entry = at-put-ending .before .before .before in
-    omega (arith, ending-size (entry .args .state), at-put-ending .put-ending .ensures .place, at-put-all .put-all .ensures .place)
+put-class-requires c κs = omega (arith, ending-size (c .before .before .before .before .before .before .before .before .before .before .before .args .state))
 
 slice-aggregate-put-all-2 : tie.Need-slice-aggregate-put-all-2
 slice-aggregate-put-all-2 c = search needs
 
 put-all-requires-2 : tie.Need-put-all-requires-2
 put-all-requires-2 c κs =
-    let at-put-class = c .before .before .before .before in
-    let at-put-all = at-put-class .before .before .before .before in
-    let at-put-ending = at-put-all .before .before .before .before .before in
-    let entry = at-put-ending .before .before .before in
-    omega (arith, ending-size (entry .args .state), class-size (entry .args .carried % 5), at-put-ending .put-ending .ensures .place, at-put-all .put-all .ensures .place, at-put-class .put-class .ensures .place)
+    let a = c .before .before .before .before .before .before .before .before .before .before .before .before .before .before .before .before .args in
+    omega (arith, ending-size (a .state), class-size (a .carried % 5))
 
 truth-byte-requires : tie.Need-truth-byte-requires
 truth-byte-requires c κs = search needs
@@ -48,8 +38,8 @@ returns c =
     let at-put-all2 = c .before .before .before in
     let at-put-class = at-put-all2 .before .before .before .before .before in
     let at-put-all = at-put-class .before .before .before .before in
-    let at-put-ending = at-put-all .before .before .before .before .before in
-    record { state = rw (c .truth-byte .ensures); put = put-then (put-then (put-then (at-put-ending .put-ending .ensures) (at-put-all .put-all .ensures)) (at-put-class .put-class .ensures)) (at-put-all2 .put-all2 .ensures) }
+    let opened = put-then (at-put-all .before .before .before .before .before .put-ending .ensures) (at-put-all .put-all .ensures) in
+    record { state = rw (c .truth-byte .ensures); put = put-then (put-then opened (at-put-class .put-class .ensures)) (at-put-all2 .put-all2 .ensures) }
 
 pub list-condition-spec : {M : Type 1} → statement M
 list-condition-spec =

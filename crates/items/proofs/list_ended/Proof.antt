@@ -11,19 +11,13 @@ put-ending-requires : tie.Need-put-ending-requires
 put-ending-requires c κs = search needs
 
 put-all-requires : tie.Need-put-all-requires
-put-all-requires c κs =
-    let at-put-ending = c .before .before .before in
-    let entry = at-put-ending .before .before .before .before in
-    omega (arith, ending-size (entry .args .state), at-put-ending .put-ending .ensures .place)
+put-all-requires c κs = omega (arith, ending-size (c .before .before .before .before .before .before .before .args .state))
 
 same-length : tie.Need-same-length
 same-length c = search needs
 
 returns : tie.Need-returns
-returns c =
-    let at-put-all = c .before .before in
-    let at-put-ending = at-put-all .before .before .before .before in
-    record { state = refl; put = put-then (at-put-ending .put-ending .ensures) (at-put-all .put-all .ensures) }
+returns c = record { state = refl; put = put-then (c .before .before .before .before .before .before .put-ending .ensures) (c .before .before .put-all .ensures) }
 
 pub list-ended-spec : {M : Type 1} → statement M
 list-ended-spec = tie.close (tie.spec put-ending-requires put-all-requires same-length returns)

@@ -11,19 +11,13 @@ put-parting-requires : tie.Need-put-parting-requires
 put-parting-requires c κs = search needs
 
 put-requires : tie.Need-put-requires
-put-requires c κs =
-    let at-put-parting = c .before .before .before in
-    let entry = at-put-parting .before .before .before in
-    omega (arith, parting-size (entry .args .state), at-put-parting .put-parting .ensures .place)
+put-requires c κs = omega (arith, parting-size (c .before .before .before .before .before .before .args .state))
 
 same-length : tie.Need-same-length
 same-length c = search needs
 
 returns : tie.Need-returns
-returns c =
-    let at-put = c .before .before in
-    let at-put-parting = at-put .before .before .before .before in
-    record { state = refl; put = put-then (at-put-parting .put-parting .ensures) (at-put .put .ensures) }
+returns c = record { state = refl; put = put-then (c .before .before .before .before .before .before .put-parting .ensures) (c .before .before .put .ensures) }
 
 pub list-parted-spec : {M : Type 1} → statement M
 list-parted-spec = tie.close (tie.spec put-parting-requires put-requires same-length returns)

@@ -1,9 +1,25 @@
 -- `items::put_character` meets its contract.
 use Rattle.items.proofs.Writing.{put-then}
-use borrow.Author.Tests.{eq-eqb, ne-eqb}
+use borrow.Author.Tests.{ne-eqb}
 use borrow.Author.Needs.{needs}
+use mathlib.Core.Path.{_≡_, sym, _∙_}
+use mathlib.Core.Bool.{false}
+use mathlib.Core.List.{[], _∷_}
+use lib.Dec.{eqb}
+use Rattle.meaning.specs.Choice.{pick}
+use Rattle.meaning.specs.Listing.{isCoded, characterText}
+use Rattle.items.specs.Steps.{quotedIn}
 use Rattle.items.proofs.put_character.Statement.{statement}
 use Rattle.items.proofs.put_character.Tie as tie
+
+-- a character that is not coded, and one that isn't escaped either
+uncoded-here : (c : tie.Else1) → let a = c .before .before .before .args in isCoded (quotedIn (a .state)) (a .character) ≡ false
+uncoded-here c = sym (c .before .is-coded .ensures) ∙ c .if1 .left
+
+bare-here : (c : tie.Else2)
+    → let a = c .before .before .before .before .before .args in
+    characterText (quotedIn (a .state)) (a .character) ≡ pick (eqb (a .character) 9) (92 ∷ 116 ∷ []) (pick (eqb (a .character) 10) (92 ∷ 110 ∷ []) (a .character ∷ []))
+bare-here c = rw (uncoded-here (c .before .before), ← (c .before .is-escaped .ensures), c .if2 .left)
 
 is-coded-requires : tie.Need-is-coded-requires
 is-coded-requires c κs = search needs
@@ -22,8 +38,7 @@ returns c =
     let at-put-decimal = c .before .before in
     let at-put = at-put-decimal .before .before .before .before in
     let at-if1 = at-put .before .before in
-    let at-is-coded = at-if1 .before in
-    rw (← (at-is-coded .is-coded .ensures), at-if1 .if1 .taken) (put-then (at-put .put .ensures) (at-put-decimal .put-decimal .ensures))
+    rw (← (at-if1 .before .is-coded .ensures), at-if1 .if1 .taken) (put-then (at-put .put .ensures) (at-put-decimal .put-decimal .ensures))
 
 is-escaped-requires : tie.Need-is-escaped-requires
 is-escaped-requires c κs = search needs
@@ -39,9 +54,7 @@ returns-2 c =
     let at-put-escape = c .before .before in
     let at-if2 = at-put-escape .before .before in
     let at-is-escaped = at-if2 .before in
-    let at-if1 = at-is-escaped .before in
-    let at-is-coded = at-if1 .before in
-    rw (← (at-is-coded .is-coded .ensures), at-if1 .if1 .left, ← (at-is-escaped .is-escaped .ensures), at-if2 .if2 .taken) (at-put-escape .put-escape .ensures)
+    rw (uncoded-here (at-is-escaped .before), ← (at-is-escaped .is-escaped .ensures), at-if2 .if2 .taken) (at-put-escape .put-escape .ensures)
 
 put-escape-requires-2 : tie.Need-put-escape-requires-2
 put-escape-requires-2 c κs = search needs
@@ -50,15 +63,7 @@ same-length-3 : tie.Need-same-length-3
 same-length-3 c = search needs
 
 returns-3 : tie.Need-returns-3
-returns-3 c =
-    let at-put-escape2 = c .before .before in
-    let at-if3 = at-put-escape2 .before .before in
-    let at-if2 = at-if3 .before in
-    let at-is-escaped = at-if2 .before in
-    let at-if1 = at-is-escaped .before in
-    let at-is-coded = at-if1 .before in
-    rw (← (at-is-coded .is-coded .ensures), at-if1 .if1 .left, ← (at-is-escaped .is-escaped .ensures), at-if2 .if2 .left, eq-eqb _ _ (at-if3 .if3 .taken))
-    (at-put-escape2 .put-escape2 .ensures)
+returns-3 c = rw (bare-here (c .before .before .before .before .before), c .before .before .before .before .if3 .taken) (c .before .before .put-escape2 .ensures)
 
 put-escape-requires-3 : tie.Need-put-escape-requires-3
 put-escape-requires-3 c κs = search needs
@@ -67,22 +72,7 @@ same-length-4 : tie.Need-same-length-4
 same-length-4 c = search needs
 
 returns-4 : tie.Need-returns-4
-returns-4 c =
-    let at-put-escape3 = c .before .before in
-    let at-if4 = at-put-escape3 .before .before in
-    let at-if3 = at-if4 .before in
-    let at-if2 = at-if3 .before in
-    let at-is-escaped = at-if2 .before in
-    let at-if1 = at-is-escaped .before in
-    let at-is-coded = at-if1 .before in
-    rw (
-      ← (at-is-coded .is-coded .ensures),
-      at-if1 .if1 .left,
-      ← (at-is-escaped .is-escaped .ensures),
-      at-if2 .if2 .left,
-      ne-eqb _ _ (at-if3 .if3 .left),
-      eq-eqb _ _ (at-if4 .if4 .taken),
-    ) (at-put-escape3 .put-escape3 .ensures)
+returns-4 c = rw (bare-here (c .before .before .before .before .before .before), c .before .before .before .before .if4 .taken) (c .before .before .put-escape3 .ensures)
 
 put-requires-2 : tie.Need-put-requires-2
 put-requires-2 c κs = search needs
@@ -92,21 +82,9 @@ same-length-5 c = search needs
 
 returns-5 : tie.Need-returns-5
 returns-5 c =
-    let at-put2 = c .before .before in
-    let at-if4 = at-put2 .before .before in
+    let at-if4 = c .before .before .before .before in
     let at-if3 = at-if4 .before in
-    let at-if2 = at-if3 .before in
-    let at-is-escaped = at-if2 .before in
-    let at-if1 = at-is-escaped .before in
-    let at-is-coded = at-if1 .before in
-    rw (
-      ← (at-is-coded .is-coded .ensures),
-      at-if1 .if1 .left,
-      ← (at-is-escaped .is-escaped .ensures),
-      at-if2 .if2 .left,
-      ne-eqb _ _ (at-if3 .if3 .left),
-      ne-eqb _ _ (at-if4 .if4 .left),
-    ) (at-put2 .put2 .ensures)
+    rw (bare-here (at-if3 .before), ne-eqb _ _ (at-if3 .if3 .left), ne-eqb _ _ (at-if4 .if4 .left)) (c .before .before .put2 .ensures)
 
 pub put-character-spec : {M : Type 1} → statement M
 put-character-spec =

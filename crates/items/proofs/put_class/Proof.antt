@@ -1,5 +1,5 @@
 -- `items::put_class` meets its contract.
-use borrow.Author.Tests.{eq-eqb, ne-eqb}
+use borrow.Author.Tests.{ne-eqb}
 use borrow.Author.Needs.{needs}
 use Rattle.items.proofs.put_class.Statement.{statement}
 use Rattle.items.proofs.put_class.Tie as tie
@@ -14,10 +14,7 @@ same-length : tie.Need-same-length
 same-length c = search needs
 
 returns : tie.Need-returns
-returns c =
-    let at-put-all = c .before .before in
-    let at-if1 = at-put-all .before .before .before in
-    rw (eq-eqb _ _ (at-if1 .if1 .taken)) (at-put-all .put-all .ensures)
+returns c = rw (c .before .before .before .before .before .if1 .taken) (c .before .before .put-all .ensures)
 
 slice-aggregate-put-all-2 : tie.Need-slice-aggregate-put-all-2
 slice-aggregate-put-all-2 c = search needs
@@ -29,11 +26,7 @@ same-length-2 : tie.Need-same-length-2
 same-length-2 c = search needs
 
 returns-2 : tie.Need-returns-2
-returns-2 c =
-    let at-put-all2 = c .before .before in
-    let at-if2 = at-put-all2 .before .before .before in
-    let at-if1 = at-if2 .before in
-    rw (ne-eqb _ _ (at-if1 .if1 .left), eq-eqb _ _ (at-if2 .if2 .taken)) (at-put-all2 .put-all2 .ensures)
+returns-2 c = rw (c .before .before .before .before .before .if2 .taken) (c .before .before .put-all2 .ensures)
 
 slice-aggregate-put-all-3 : tie.Need-slice-aggregate-put-all-3
 slice-aggregate-put-all-3 c = search needs
@@ -45,12 +38,7 @@ same-length-3 : tie.Need-same-length-3
 same-length-3 c = search needs
 
 returns-3 : tie.Need-returns-3
-returns-3 c =
-    let at-put-all3 = c .before .before in
-    let at-if3 = at-put-all3 .before .before .before in
-    let at-if2 = at-if3 .before in
-    let at-if1 = at-if2 .before in
-    rw (ne-eqb _ _ (at-if1 .if1 .left), ne-eqb _ _ (at-if2 .if2 .left), eq-eqb _ _ (at-if3 .if3 .taken)) (at-put-all3 .put-all3 .ensures)
+returns-3 c = rw (c .before .before .before .before .before .if3 .taken) (c .before .before .put-all3 .ensures)
 
 slice-aggregate-put-all-4 : tie.Need-slice-aggregate-put-all-4
 slice-aggregate-put-all-4 c = search needs
@@ -62,13 +50,7 @@ same-length-4 : tie.Need-same-length-4
 same-length-4 c = search needs
 
 returns-4 : tie.Need-returns-4
-returns-4 c =
-    let at-put-all4 = c .before .before in
-    let at-if4 = at-put-all4 .before .before .before in
-    let at-if3 = at-if4 .before in
-    let at-if2 = at-if3 .before in
-    let at-if1 = at-if2 .before in
-    rw (ne-eqb _ _ (at-if1 .if1 .left), ne-eqb _ _ (at-if2 .if2 .left), ne-eqb _ _ (at-if3 .if3 .left), eq-eqb _ _ (at-if4 .if4 .taken)) (at-put-all4 .put-all4 .ensures)
+returns-4 c = rw (c .before .before .before .before .before .if4 .taken) (c .before .before .put-all4 .ensures)
 
 slice-aggregate-put-all-5 : tie.Need-slice-aggregate-put-all-5
 slice-aggregate-put-all-5 c = search needs

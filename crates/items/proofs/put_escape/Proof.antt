@@ -14,10 +14,7 @@ same-length : tie.Need-same-length
 same-length c = search needs
 
 returns : tie.Need-returns
-returns c =
-    let at-put2 = c .before .before in
-    let at-put = at-put2 .before .before .before .before in
-    put-then (at-put .put .ensures) (at-put2 .put2 .ensures)
+returns c = put-then (c .before .before .before .before .before .before .put .ensures) (c .before .before .put2 .ensures)
 
 pub put-escape-spec : {M : Type 1} → statement M
 put-escape-spec = tie.close (tie.spec put-requires put-requires-2 same-length returns)

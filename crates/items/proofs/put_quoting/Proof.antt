@@ -16,10 +16,7 @@ put-gap-requires : tie.Need-put-gap-requires
 put-gap-requires c κs = search needs
 
 put-requires : tie.Need-put-requires
-put-requires c κs =
-    let at-put-gap = c .before .before .before in
-    let entry = at-put-gap .before .before .before .before .before in
-    omega (arith, gap-size (entry .args .state), at-put-gap .put-gap .ensures .place)
+put-requires c κs = omega (arith, gap-size (c .before .before .before .before .before .before .before .before .args .state))
 
 same-length : tie.Need-same-length
 same-length c = search needs
