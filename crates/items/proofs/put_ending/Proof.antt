@@ -15,10 +15,8 @@ same-length c = search needs
 
 returns : tie.Need-returns
 returns c =
-    let at-put = c .before .before in
-    let at-if1 = at-put .before .before in
-    let at-is-quoted = at-if1 .before in
-    rw (← (at-is-quoted .is-quoted .ensures), at-if1 .if1 .taken) (at-put .put .ensures)
+    let at-if1 = c .before .before .before .before in
+    rw (← (at-if1 .before .is-quoted .ensures), at-if1 .if1 .taken) (c .before .before .put .ensures)
 
 returns-2 : tie.Need-returns-2
 returns-2 c = rw (← (c .before .is-quoted .ensures), c .if1 .left) put-none

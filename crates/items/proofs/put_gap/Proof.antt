@@ -18,10 +18,8 @@ same-length c = search needs
 
 returns-2 : tie.Need-returns-2
 returns-2 c =
-    let at-put = c .before .before in
-    let at-if1 = at-put .before .before in
-    let at-is-start = at-if1 .before in
-    rw (← (at-is-start .is-start .ensures), at-if1 .if1 .left) (at-put .put .ensures)
+    let at-if1 = c .before .before .before .before in
+    rw (← (at-if1 .before .is-start .ensures), at-if1 .if1 .left) (c .before .before .put .ensures)
 
 pub put-gap-spec : {M : Type 1} → statement M
 put-gap-spec = tie.close (tie.spec is-start-requires returns put-requires same-length returns-2)

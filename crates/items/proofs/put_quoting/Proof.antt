@@ -26,8 +26,7 @@ returns-2 c =
     let at-put = c .before .before in
     let at-put-gap = at-put .before .before .before .before in
     let at-if1 = at-put-gap .before .before in
-    let at-is-quoted = at-if1 .before in
-    rw (← (at-is-quoted .is-quoted .ensures), at-if1 .if1 .left) (put-then (at-put-gap .put-gap .ensures) (at-put .put .ensures))
+    rw (← (at-if1 .before .is-quoted .ensures), at-if1 .if1 .left) (put-then (at-put-gap .put-gap .ensures) (at-put .put .ensures))
 
 pub put-quoting-spec : {M : Type 1} → statement M
 put-quoting-spec =
