@@ -5,7 +5,7 @@ use native.Mathlib.Nat.{not-suc-le-zero}
 use mathlib.Core.Path.{_≡_, refl, sym, _∙_, ap}
 use mathlib.Core.Bool.{Bool, true, false}
 use mathlib.Core.List.{List, [], _∷_, _++_, append-assoc}
-use borrow.Author.Tests.{lt-ltb, le-ltb, lt-leb, ne-eqb}
+use borrow.Author.Tests.{lt-ltb, le-ltb, lt-leb}
 use lib.Dec.{T, ltb, leb, eqb, ltb→lt}
 use lib.ListN.{length, length-append}
 use Rattle.meaning.specs.Choice.{Bytes, Name, pick, both, every}
@@ -22,6 +22,7 @@ use Rattle.items.specs.declared.State.{State}
 use Rattle.items.specs.declared.State.the-variants.{Start, Plain, InString, AfterCode, Name as NameLeft, Condition as ConditionLeft, Header}
 use Rattle.items.specs.Steps.{Step, step, ending, parting, characterStep, classText, truthText, partedStep, endedStep}
 use Rattle.listing.specs.Words.{kindStep, itemStep, copyStep, wordStep, listFrom}
+use Rattle.listing.proofs.Stepping.{others, other-kind}
 use Rattle.listing.proofs.Spelled.{Short, short-name, short-identifier, spelledVariable, Written, sentence-written}
 
 -- ONE WORD
@@ -36,10 +37,14 @@ list-word : (s : State) (w : ℕ) (ws : List ℕ) {x : Step} → wordStep s w �
 unfolding listFrom
 list-word s w ws e = rw e
 
+-- what holds however a string stands
+by-quoted : (P : Quoted → Type 0) → P unquoted → P inString → P afterCode → (q : Quoted) → P q
+by-quoted P x y z unquoted = x
+by-quoted P x y z inString = y
+by-quoted P x y z afterCode = z
+
 item-word : (q : Quoted) (w : ℕ) → wordStep (standing q) w ≡ itemStep (standing q) w
-item-word unquoted w = refl
-item-word inString w = refl
-item-word afterCode w = refl
+item-word q w = by-quoted (λ q. wordStep (standing q) w ≡ itemStep (standing q) w) refl refl refl q
 
 kind-item : (s : State) (kind carried : ℕ) → 0 < kind → carried < 256 → itemStep s (tapeWord kind carried) ≡ kindStep s kind carried
 kind-item s kind carried h l =
@@ -52,23 +57,23 @@ kind-item s kind carried h l =
 record Follows (rest : List ℕ) (after : Bytes) : Type 0 where
   at : (q : Quoted) → listFrom (standing q) rest ≡ closeQuote q ++ after
 
+-- a word that is an item however the listing stands
+word-follows : (w : ℕ) (ws : List ℕ) (bytes : State → Bytes) (t : State) (after : Bytes) → ((s : State) → itemStep s w ≡ step (bytes s) t)
+    → ((q : Quoted) → bytes (standing q) ++ listFrom t ws ≡ closeQuote q ++ after)
+    → Follows (w ∷ ws) after
+word-follows w ws bytes t after is go = record { at = λ q. list-word (standing q) w ws (item-word q w ∙ is (standing q)) ∙ go q }
+
 -- bytes right after an item
 ended-follows : (w : ℕ) (bytes : Bytes) (t : State) → ((s : State) → itemStep s w ≡ endedStep s bytes t) → (ws : List ℕ) → Follows (w ∷ ws) (bytes ++ listFrom t ws)
-ended-follows w bytes t is ws = record { at = λ q. list-word (standing q) w ws (item-word q w ∙ is (standing q)) ∙ go q }
-  where
-    go : (q : Quoted) → (ending (standing q) ++ bytes) ++ listFrom t ws ≡ closeQuote q ++ (bytes ++ listFrom t ws)
-    go unquoted = refl
-    go inString = refl
-    go afterCode = refl
+ended-follows w bytes t is ws =
+    word-follows w ws (λ s. ending s ++ bytes) t _ is
+    (by-quoted (λ q. (ending (standing q) ++ bytes) ++ listFrom t ws ≡ closeQuote q ++ (bytes ++ listFrom t ws)) refl refl refl)
 
 -- a byte after the blank between items
 parted-follows : (w b : ℕ) (t : State) → ((s : State) → itemStep s w ≡ partedStep s b t) → (ws : List ℕ) → Follows (w ∷ ws) (32 ∷ b ∷ listFrom t ws)
-parted-follows w b t is ws = record { at = λ q. list-word (standing q) w ws (item-word q w ∙ is (standing q)) ∙ go q }
-  where
-    go : (q : Quoted) → (parting (standing q) ++ b ∷ []) ++ listFrom t ws ≡ closeQuote q ++ (32 ∷ b ∷ listFrom t ws)
-    go unquoted = refl
-    go inString = refl
-    go afterCode = refl
+parted-follows w b t is ws =
+    word-follows w ws (λ s. parting s ++ b ∷ []) t _ is
+    (by-quoted (λ q. (parting (standing q) ++ b ∷ []) ++ listFrom t ws ≡ closeQuote q ++ (32 ∷ b ∷ listFrom t ws)) refl refl refl)
 
 equals-follows : (ws : List ℕ) → Follows (tapeWord equalsKind 0 ∷ ws) (32 ∷ 61 ∷ listFrom Plain ws)
 equals-follows = parted-follows (tapeWord equalsKind 0) 61 Plain (λ s. refl)
@@ -120,24 +125,8 @@ symbol-begins = record { some = omega arith; is = λ s n. refl }
 part-begins : Begins partKind 101
 part-begins = record { some = omega arith; is = λ s n. refl }
 
-call-kind : (place : ℕ) (s : State) (n : ℕ) → kindStep s (callKind + place) n ≡ partedStep s 60 (NameLeft n)
-call-kind place s n =
-    rw (
-      other 1 (omega arith),
-      other 2 (omega arith),
-      other 3 (omega arith),
-      other 4 (omega arith),
-      other 5 (omega arith),
-      other 6 (omega arith),
-      other 7 (omega arith),
-      other 8 (omega arith),
-    )
-  where
-    other : (kind : ℕ) → kind < callKind → eqb (callKind + place) kind ≡ false
-    other kind h = ne-eqb (callKind + place) kind (λ e. omega arith)
-
 call-begins : (place : ℕ) → Begins (callKind + place) 60
-call-begins place = record { some = omega arith; is = call-kind place }
+call-begins place = record { some = omega arith; is = λ s n. other-kind s (callKind + place) n (others (callKind + place) 8 (omega arith)) }
 
 -- ITEMS
 
@@ -146,11 +135,12 @@ character-item s c h = rw (lt-ltb c 256 h)
 
 module _ (body rest : List ℕ) (text after : Bytes) where
   -- a character, and what comes after it
-  character-then : (c : ℕ) → c < 256 → (q : Quoted) → listFrom (standing (afterCharacter q c)) (body ++ rest) ≡ text ++ after →
-      listFrom (standing q) (c ∷ (body ++ rest)) ≡ (quotedCharacter q c ++ text) ++ after
-  character-then c h q later =
-      list-word (standing q) c (body ++ rest) (item-word q c ∙ character-item (standing q) c h ∙ go q)
-      ∙ rw later (simp append-assoc)
+  character-then : (c : ℕ) (others : Bool) → T (both (isByte c) others) → (q : Quoted)
+      → (T others → listFrom (standing (afterCharacter q c)) (body ++ rest) ≡ text ++ after)
+      → listFrom (standing q) (c ∷ (body ++ rest)) ≡ (quotedCharacter q c ++ text) ++ after
+  character-then c others t q later =
+      list-word (standing q) c (body ++ rest) (item-word q c ∙ character-item (standing q) c (ltb→lt c 256 (both-left (isByte c) others t)) ∙ go q)
+      ∙ rw (later (both-right (isByte c) others t)) (simp append-assoc)
     where
       state : (b : Bool) → pick b AfterCode InString ≡ standing (pick b afterCode inString)
       state true = refl
@@ -169,9 +159,12 @@ module _ (body rest : List ℕ) (text after : Bytes) where
       rw (append-assoc item body rest) (follows (body ++ rest) .at q ∙ rw later (simp append-assoc))
 
   -- a variable, and what comes after it
-  variable-then : {kind b : ℕ} → Begins kind b → (x : Name) → T (spelledIdentifier x) → listFrom Plain (body ++ rest) ≡ text ++ after → (q : Quoted) →
-      listFrom (standing q) ((named kind x ++ body) ++ rest) ≡ (closeQuote q ++ ((32 ∷ b ∷ x) ++ text)) ++ after
-  variable-then {kind} {b} k x t = item-then (named kind x) (32 ∷ b ∷ x) (named-follows k (short-identifier x t))
+  variable-then : {kind b : ℕ} → Begins kind b → (x : Name) (others : Bool) → T (both (spelledIdentifier x) others)
+      → (T others → listFrom Plain (body ++ rest) ≡ text ++ after) → (q : Quoted)
+      → listFrom (standing q) ((named kind x ++ body) ++ rest) ≡ (closeQuote q ++ ((32 ∷ b ∷ x) ++ text)) ++ after
+  variable-then {kind} {b} k x others t later =
+      item-then (named kind x) (32 ∷ b ∷ x) (named-follows k (short-identifier x (both-left (spelledIdentifier x) others t)))
+      (later (both-right (spelledIdentifier x) others t))
 
 -- a pattern, and what follows it
 pattern-listed : (p : List Element) → T (every spelledElement p) → {rest : List ℕ} {after : Bytes} → Follows rest after → (q : Quoted) →
@@ -179,14 +172,11 @@ pattern-listed : (p : List Element) → T (every spelledElement p) → {rest : L
 unfolding patternTape patternText every
 pattern-listed [] t f q = f .at q
 pattern-listed (letter (character c) ∷ es) t {rest} {after} f q =
-    character-then (patternTape es) rest (patternText (afterCharacter q c) es) after c (ltb→lt c 256 (both-left (isByte c) (every spelledElement es) t)) q
-    (pattern-listed es (both-right (isByte c) (every spelledElement es) t) f (afterCharacter q c))
+    character-then (patternTape es) rest (patternText (afterCharacter q c) es) after c _ t q (λ u. pattern-listed es u f (afterCharacter q c))
 pattern-listed (letter (symbol x) ∷ es) t {rest} {after} f q =
-    variable-then (patternTape es) rest (patternText unquoted es) after symbol-begins x (both-left (spelledIdentifier x) (every spelledElement es) t)
-    (pattern-listed es (both-right (spelledIdentifier x) (every spelledElement es) t) f unquoted) q
+    variable-then (patternTape es) rest (patternText unquoted es) after symbol-begins x _ t (λ u. pattern-listed es u f unquoted) q
 pattern-listed (part x ∷ es) t {rest} {after} f q =
-    variable-then (patternTape es) rest (patternText unquoted es) after part-begins x (both-left (spelledIdentifier x) (every spelledElement es) t)
-    (pattern-listed es (both-right (spelledIdentifier x) (every spelledElement es) t) f unquoted) q
+    variable-then (patternTape es) rest (patternText unquoted es) after part-begins x _ t (λ u. pattern-listed es u f unquoted) q
 
 -- an expression, and what follows it
 expression-listed : (e : Expression) → T (legible e) → {rest : List ℕ} {after : Bytes} → Follows rest after → (q : Quoted) →
@@ -194,14 +184,11 @@ expression-listed : (e : Expression) → T (legible e) → {rest : List ℕ} {af
 unfolding expressionTape expressionText legible
 expression-listed end t f q = f .at q
 expression-listed (thenCharacter c e) t {rest} {after} f q =
-    character-then (expressionTape e) rest (expressionText (afterCharacter q c) e) after c (ltb→lt c 256 (both-left (isByte c) (legible e) t)) q
-    (expression-listed e (both-right (isByte c) (legible e) t) f (afterCharacter q c))
+    character-then (expressionTape e) rest (expressionText (afterCharacter q c) e) after c _ t q (λ u. expression-listed e u f (afterCharacter q c))
 expression-listed (thenSymbol x e) t {rest} {after} f q =
-    variable-then (expressionTape e) rest (expressionText unquoted e) after symbol-begins x (both-left (spelledIdentifier x) (legible e) t)
-    (expression-listed e (both-right (spelledIdentifier x) (legible e) t) f unquoted) q
+    variable-then (expressionTape e) rest (expressionText unquoted e) after symbol-begins x _ t (λ u. expression-listed e u f unquoted) q
 expression-listed (thenPart x e) t {rest} {after} f q =
-    variable-then (expressionTape e) rest (expressionText unquoted e) after part-begins x (both-left (spelledIdentifier x) (legible e) t)
-    (expression-listed e (both-right (spelledIdentifier x) (legible e) t) f unquoted) q
+    variable-then (expressionTape e) rest (expressionText unquoted e) after part-begins x _ t (λ u. expression-listed e u f unquoted) q
 expression-listed (thenCall place n a e) t {rest} {after} f q =
     let inner = both-right (spelledName n) (both (legible a) (legible e)) t in
     item-then (expressionTape a ++ tapeWord closeKind 0 ∷ expressionTape e) rest (expressionText unquoted a ++ 62 ∷ expressionText unquoted e) after
@@ -222,13 +209,15 @@ record Carries (count class : ℕ) (expected : Bool) (carried : ℕ) : Type 0 wh
   classed : carried % 5 ≡ class
   truth : truthText (carried / 5 % 2) ≡ truthByte expected
 
+carries-bit : {count class bit : ℕ} {expected : Bool} → count ≤ maxName → class < 5 → bit < 2 → truthText bit ≡ truthByte expected
+    → Carries count class expected (count * 10 + 5 * bit + class)
+carries-bit {count} {class} {bit} h k b e =
+    let same : (count * 10 + 5 * bit + class) / 5 % 2 ≡ bit = omega arith in
+    record { low = omega arith; counted = omega arith; classed = omega arith; truth = rw same e }
+
 carries : (count class : ℕ) (expected : Bool) → count ≤ maxName → class < 5 → Carries count class expected (count * 10 + truthNumber expected + class)
-carries count class true h k =
-    let bit : (count * 10 + 5 + class) / 5 % 2 ≡ 1 = omega arith in
-    record { low = omega arith; counted = omega arith; classed = omega arith; truth = rw bit }
-carries count class false h k =
-    let bit : (count * 10 + 0 + class) / 5 % 2 ≡ 0 = omega arith in
-    record { low = omega arith; counted = omega arith; classed = omega arith; truth = rw bit }
+carries count class true h k = carries-bit {bit = 1} h k (omega arith) refl
+carries count class false h k = carries-bit {bit = 0} h k (omega arith) refl
 
 -- `, <Predicate s`
 abbrev openingText : Class → Bytes

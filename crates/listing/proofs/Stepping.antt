@@ -1,11 +1,12 @@
 -- The words of a tape listed one after another.
-use Prim.Native.Nat.{ℕ, _+_, _*_, _≤_, _<_}
+use Prim.Native.Nat.{ℕ, zero, suc, _+_, _*_, _≤_, _<_}
 use native.Mathlib.Omega.{arith}
 use native.Mathlib.Numerals.{add-one}
 use mathlib.Core.Path.{_≡_, refl, _∙_}
 use mathlib.Core.List.{List, [], _∷_}
 use lib.ListN.{length, drop, getD, drop-of-length-le}
 use lib.Seq.{drop-cons}
+use borrow.Author.Tests.{ne-eqb}
 use types.Run.{OneOf, miss}
 use denote.Enum.Declared.{tagOf}
 use Rattle.items.proofs.State as state
@@ -13,8 +14,8 @@ use Rattle.items.specs.declared.State.{State}
 use Rattle.items.specs.declared.State.the-variants.{Start, Plain, InString, AfterCode, Name, Condition, Header}
 use Rattle.items.specs.declared.Stepped.{Stepped}
 use Rattle.items.specs.Put.{Put}
-use Rattle.items.specs.Steps.{Wrote}
-use Rattle.listing.specs.Words.{itemStep, wordStep, listFrom}
+use Rattle.items.specs.Steps.{partedStep, Wrote}
+use Rattle.listing.specs.Words.{kindStep, itemStep, wordStep, listFrom}
 use Rattle.items.proofs.Writing.{put-none, put-then, put-length}
 use Rattle.listing.proofs.Sizes.{widest, word-size}
 
@@ -30,6 +31,29 @@ item-next AfterCode w k = refl
 item-next (Name n) w k = absurd (miss notCopying 4 tt k)
 item-next (Condition n b) w k = absurd (miss notCopying 5 tt k)
 item-next (Header n) w k = absurd (miss notCopying 6 tt k)
+
+-- none of the numbers from 1 to this one
+abbrev pub Others : ℕ → ℕ → Type 0
+Others kind zero = Unit {0}
+Others kind (suc n) = Others kind n × (kind ≡ suc n → ⊥)
+
+pub others : (kind n : ℕ) → n < kind → Others kind n
+others kind zero h = tt
+others kind (suc n) h = (others kind n (omega arith), λ e. omega arith)
+
+-- a word of a further kind opens a call
+pub other-kind : (s : State) (kind n : ℕ) → Others kind 8 → kindStep s kind n ≡ partedStep s 60 (Name n)
+other-kind s kind n o =
+    rw (
+      ne-eqb kind 1 (o .0 .0 .0 .0 .0 .0 .0 .1),
+      ne-eqb kind 2 (o .0 .0 .0 .0 .0 .0 .1),
+      ne-eqb kind 3 (o .0 .0 .0 .0 .0 .1),
+      ne-eqb kind 4 (o .0 .0 .0 .0 .1),
+      ne-eqb kind 5 (o .0 .0 .0 .1),
+      ne-eqb kind 6 (o .0 .0 .1),
+      ne-eqb kind 7 (o .0 .1),
+      ne-eqb kind 8 (o .1),
+    )
 
 -- i words are listed: to write the rest from here is to write the whole from the start
 pub record Lists (out₀ words out : List ℕ) (i at : ℕ) (s : State) : Type 0 where

@@ -1,8 +1,14 @@
 -- `listing::list` meets its contract.
 use Rattle.listing.proofs.Leaving.{leaves-listing, leaves-nothing, take-counted}
 use borrow.Author.Needs.{needs}
+use mathlib.Core.Path.{_≡_}
+use lib.ListN.{take}
 use Rattle.listing.proofs.list.Statement.{statement}
 use Rattle.listing.proofs.list.Tie as tie
+
+-- words past the end of the tape don't count
+words-here : (c : tie.After-list-length-arg) → let a = c .before .before .before .args in take (c .before .counted .result) (a .tape .now) ≡ take (a .words) (a .tape .now)
+words-here c = take-counted _ _ (c .list-length-arg .given .0) (c .before .counted .ensures)
 
 counted-requires : tie.Need-counted-requires
 counted-requires c κs = search needs
@@ -21,19 +27,11 @@ returns c =
     let at-list-words = c .before .before in
     let at-if1 = at-list-words .before .before .before in
     let at-list-length = at-if1 .before in
-    let at-list-length-arg = at-list-length .before in
-    let at-counted = at-list-length-arg .before in
-    let entry = at-counted .before .before in
-    rw (← (take-counted (entry .args .tape .now) (entry .args .words) (at-list-length-arg .list-length-arg .given .0) (at-counted .counted .ensures)))
+    rw (← (words-here (at-list-length .before)))
     (leaves-listing (at-list-length .list-length .ensures) (at-if1 .if1 .taken) (at-list-words .list-words .ensures))
 
 returns-2 : tie.Need-returns-2
-returns-2 c =
-    let at-list-length-arg = c .before .before in
-    let at-counted = at-list-length-arg .before in
-    let entry = at-counted .before .before in
-    rw (← (take-counted (entry .args .tape .now) (entry .args .words) (at-list-length-arg .list-length-arg .given .0) (at-counted .counted .ensures)))
-    (leaves-nothing (c .before .list-length .ensures) (c .if1 .left))
+returns-2 c = rw (← (words-here (c .before .before))) (leaves-nothing (c .before .list-length .ensures) (c .if1 .left))
 
 pub list-spec : {M : Type 1} → statement M
 list-spec =

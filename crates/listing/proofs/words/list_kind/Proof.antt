@@ -1,6 +1,6 @@
 -- `listing::words::list_kind` meets its contract.
 use Rattle.items.proofs.Writing.{put-none}
-use borrow.Author.Tests.{ne-eqb}
+use Rattle.listing.proofs.Stepping.{other-kind}
 use mathlib.Core.Path.{refl}
 use borrow.Author.Needs.{needs}
 use Rattle.listing.proofs.words.list_kind.Statement.{statement}
@@ -67,28 +67,19 @@ same-length-5 : tie.Need-same-length-5
 same-length-5 c = search needs
 
 returns-5 : tie.Need-returns-5
-returns-5 c =
-    let at-list-ended = c .before .before in
-    let at-match = at-list-ended .before .before .before in
-    rw (at-match .match .keys5) (at-list-ended .list-ended .ensures)
+returns-5 c = rw (c .before .before .before .before .before .match .keys5) (c .before .before .list-ended .ensures)
 
 same-length-6 : tie.Need-same-length-6
 same-length-6 c = search needs
 
 returns-6 : tie.Need-returns-6
-returns-6 c =
-    let at-list-ended2 = c .before .before in
-    let at-match = at-list-ended2 .before .before .before in
-    rw (at-match .match .keys6) (at-list-ended2 .list-ended2 .ensures)
+returns-6 c = rw (c .before .before .before .before .before .match .keys6) (c .before .before .list-ended2 .ensures)
 
 same-length-7 : tie.Need-same-length-7
 same-length-7 c = search needs
 
 returns-7 : tie.Need-returns-7
-returns-7 c =
-    let at-list-ended3 = c .before .before in
-    let at-match = at-list-ended3 .before .before .before in
-    rw (at-match .match .keys7) (at-list-ended3 .list-ended3 .ensures)
+returns-7 c = rw (c .before .before .before .before .before .match .keys7) (c .before .before .list-ended3 .ensures)
 
 returns-8 : tie.Need-returns-8
 returns-8 c = rw (c .match .keys8) (record { state = refl; put = put-none })
@@ -97,19 +88,7 @@ same-length-8 : tie.Need-same-length-8
 same-length-8 c = search needs
 
 returns-9 : tie.Need-returns-9
-returns-9 c =
-    let at-list-parted4 = c .before .before in
-    let at-match = at-list-parted4 .before .before in
-    rw (
-      ne-eqb _ _ (at-match .match .rest .0 .0 .0 .0 .0 .0 .0 .1),
-      ne-eqb _ _ (at-match .match .rest .0 .0 .0 .0 .0 .0 .1),
-      ne-eqb _ _ (at-match .match .rest .0 .0 .0 .0 .0 .1),
-      ne-eqb _ _ (at-match .match .rest .0 .0 .0 .0 .1),
-      ne-eqb _ _ (at-match .match .rest .0 .0 .0 .1),
-      ne-eqb _ _ (at-match .match .rest .0 .0 .1),
-      ne-eqb _ _ (at-match .match .rest .0 .1),
-      ne-eqb _ _ (at-match .match .rest .1),
-    ) (at-list-parted4 .list-parted4 .ensures)
+returns-9 c = rw (other-kind _ _ _ (c .before .before .before .before .match .rest)) (c .before .before .list-parted4 .ensures)
 
 pub list-kind-spec : {M : Type 1} → statement M
 list-kind-spec =

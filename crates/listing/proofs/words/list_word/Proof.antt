@@ -50,31 +50,19 @@ same-length : tie.Need-same-length
 same-length c = search needs
 
 returns : tie.Need-returns
-returns c =
-    let at-list-copied = c .before .before in
-    let at-one-less = at-list-copied .before .before .before in
-    let at-state = at-one-less .before .before in
-    rw (at-state .state .given .1, ← (at-one-less .one-less .ensures)) (at-list-copied .list-copied .ensures)
+returns c = rw (c .before .before .before .before .before .before .before .state .given .1, ← (c .before .before .before .before .before .one-less .ensures)) (c .before .before .list-copied .ensures)
 
 same-length-2 : tie.Need-same-length-2
 same-length-2 c = search needs
 
 returns-2 : tie.Need-returns-2
-returns-2 c =
-    let at-list-copied2 = c .before .before in
-    let at-one-less2 = at-list-copied2 .before .before .before in
-    let at-state2 = at-one-less2 .before .before in
-    rw (at-state2 .state2 .given .1, ← (at-one-less2 .one-less2 .ensures)) (at-list-copied2 .list-copied2 .ensures)
+returns-2 c = rw (c .before .before .before .before .before .before .before .state2 .given .1, ← (c .before .before .before .before .before .one-less2 .ensures)) (c .before .before .list-copied2 .ensures)
 
 same-length-3 : tie.Need-same-length-3
 same-length-3 c = search needs
 
 returns-3 : tie.Need-returns-3
-returns-3 c =
-    let at-list-copied3 = c .before .before in
-    let at-one-less3 = at-list-copied3 .before .before .before in
-    let at-state3 = at-one-less3 .before .before in
-    rw (at-state3 .state3 .given .1, ← (at-one-less3 .one-less3 .ensures)) (at-list-copied3 .list-copied3 .ensures)
+returns-3 c = rw (c .before .before .before .before .before .before .before .state3 .given .1, ← (c .before .before .before .before .before .one-less3 .ensures)) (c .before .before .list-copied3 .ensures)
 
 same-length-4 : tie.Need-same-length-4
 same-length-4 c = search needs
