@@ -156,7 +156,7 @@ module _ (text : Bytes) (t : Table) where
 
 -- THE TABLE THAT WAS READ
 
-module _ (text : Bytes) (words : List ℕ) (names : List Name) (t : Table) (h : Holds text words names t) where
+module _ {text : Bytes} {words : List ℕ} {names : List Name} {t : Table} (h : Holds text words names t) where
   table-finds : Scans text names words (unknownIn t t)
   table-finds = rw (h .written, h .declared) (functions-find text t t (h .stand))
 
@@ -194,11 +194,11 @@ pub record Searching (text : Bytes) (tape : List ℕ) (names : List Name) (words
   pub rest : unknownFrom text names (take words tape) ≡ unknownFrom text names (slice i words tape)
   pub inside : Each (CallWithin text) (slice i words tape)
 
-module _ (text : Bytes) (tape : List ℕ) (names : List Name) (words : ℕ) where
+module _ {text : Bytes} {tape : List ℕ} {names : List Name} {words : ℕ} where
   pub search-starts : words ≤ length tape → Each (CallWithin text) (take words tape) → Searching text tape names words 0
   search-starts h k = record { before = omega arith; room = h; rest = refl; inside = k }
 
-  module _ (i : ℕ) (s : Searching text tape names words i) where
+  module _ {i : ℕ} (s : Searching text tape names words i) where
     module _ (h : i < words) where
       here : slice i words tape ≡ getD tape i 0 ∷ slice (i + 1) words tape
       here = slice-cons i words tape 0 h (s .room) ∙ rw add-one

@@ -71,65 +71,66 @@ module _ (text : Bytes) where
       → Begins text r tape′
   accepts t count words tape′ r e f c n h = record { answer = rw (e, f, c); words = rw (e, f) n; tape = rw (e, f) h }
 
-  pub too-long : (tape′ : List ℕ) (r : Reading) → 32768 < length text → r ≡ refusedWith TableTooLong 0 → Begins text r tape′
-  too-long tape′ r h e = refuses TableTooLong 0 tape′ r e (read-long h)
+  pub too-long : {tape′ : List ℕ} {r : Reading} → 32768 < length text → r ≡ refusedWith TableTooLong 0 → Begins text r tape′
+  too-long h e = refuses TableTooLong 0 _ _ e (read-long h)
 
-  -- THE FUNCTIONS
+-- THE FUNCTIONS
 
-  module _ (h : length text ≤ 32768) (start tape′ names : List ℕ) where
-    abbrev Comes : Parsed Table → CodeParsed → Type 0
-    Comes p r = Agrees (FunctionsRead text start tape′ names) p r
+-- what the definition reads of a text's functions
+abbrev functionsOf : Bytes → Parsed Table
+functionsOf text = functions 64 512 [] (stream text Tokens.outside 0)
 
-    abbrev table-of : Parsed Table
-    table-of = functions 64 512 [] (stream text Tokens.outside 0)
+-- a text's functions were read
+pub record TableRead (text tape′ names : List ℕ) (p : Progress) : Type 0 where
+  pub start : List ℕ
+  pub short : length text ≤ 32768
+  pub room : length tape′ ≡ 32768
+  pub read : ReadAt (FunctionsRead text start tape′ names) (functionsOf text) p
 
-    pub functions-stop : (fault : Fault) (r : Reading) → Comes table-of (Stopped fault) → r ≡ refusedWith (fault .answer) (fault .place) → Begins text r tape′
-    functions-stop fault r a e = refuses (fault .answer) (fault .place) tape′ r e (read-short h ∙ ap verdict (has-stopped _ fault a))
+module _ {text start tape′ names : List ℕ} {q : CodeParsed} (h : length text ≤ 32768) (a : Agrees (FunctionsRead text start tape′ names) (functionsOf text) q) where
+  pub functions-stop : {fault : Fault} {r : Reading} → q ≡ Stopped fault → r ≡ refusedWith (fault .answer) (fault .place) → Begins text r tape′
+  functions-stop {fault} f e = refuses text (fault .answer) (fault .place) _ _ e (read-short text h ∙ ap verdict (has-stopped _ fault (rw f at a)))
 
-    module _ (p : Progress) (a : Comes table-of (Done p)) (room : length tape′ ≡ 32768) where
-      abbrev came : ReadAt (FunctionsRead text start tape′ names) table-of p
-      came = has-read _ p a
+  pub functions-done : {p : Progress} → q ≡ Done p → length tape′ ≡ 32768 → TableRead text tape′ names p
+  functions-done e room = record { start = start; short = h; room = room; read = has-read _ _ (rw e at a) }
 
-      abbrev table : Table
-      table = came .value
+module _ {text tape′ names : List ℕ} {p : Progress} (k : TableRead text tape′ names p) where
+  abbrev table : Table
+  table = k .read .value
 
-      read-table : FunctionsRead text start tape′ names table (came .rest) p
-      read-table = came .how
+  on-tape : take (p .words) tape′ ≡ tape table
+  on-tape = begins (k .read .how .went) (k .room) (k .short)
 
-      on-tape : take (p .words) tape′ ≡ tape table
-      on-tape = begins (read-table .went) room h
+  pub held : Holds text (take (p .words) tape′) (tableNames text names 0 (p .count)) table
+  held = record { written = on-tape; declared = sym (k .read .how .names); stand = k .read .how .stand }
 
-      pub held : Holds text (take (p .words) tape′) (tableNames text names 0 (p .count)) table
-      held = record { written = on-tape; declared = sym (read-table .names); stand = read-table .stand }
+  -- what the search for undeclared names requires
+  pub searchable : (p .words ≤ length tape′) × Each (CallWithin text) (take (p .words) tape′) × Entries text names 0 (p .count)
+  searchable =
+      let w = k .read .how .went in
+      (omega (arith, w .charged, w .inside, k .short, k .room), table-within held, k .read .how .entries)
 
-      -- what the search for undeclared names requires
-      pub searchable : (p .words ≤ length tape′) × Each (CallWithin text) (take (p .words) tape′) × Entries text names 0 (p .count)
-      searchable = (let w = read-table .went in omega (arith, w .charged, w .inside), table-within _ _ _ table held, read-table .entries)
+  -- THE CALLS
 
-      -- THE CALLS
+  module _ {found : Unknown} (search : (t : Table) → Holds text (take (p .words) tape′) (tableNames text names 0 (p .count)) t → found ≡ unknownAs (unknownIn t t)) where
+    judged : {o : Option ℕ} → unknownIn table table ≡ o → read text ≡ known o table
+    judged e = read-short text (k .short) ∙ ap verdict (k .read .same) ∙ ap (λ o. known o table) e
 
-      module _ (found : Unknown)
-          (search : (t : Table) → Holds text (take (p .words) tape′) (tableNames text names 0 (p .count)) t → found ≡ unknownAs (unknownIn t t)) where
-        judged : read text ≡ known (unknownIn table table) table
-        judged = read-short h ∙ ap verdict (came .same)
+    pub call-unknown : {place : ℕ} {r : Reading} → found ≡ At place → r ≡ refusedWith UndeclaredName place → Begins text r tape′
+    call-unknown {place} e f = refuses text UndeclaredName place _ _ f (judged (is-some (unknownIn table table) (sym (search table held) ∙ e)))
+      where
+        is-some : (o : Option ℕ) → unknownAs o ≡ At place → o ≡ some place
+        is-some none f = let z : _≡_ {A = ℕ} 0 1 = cc in absurd (omega arith)
+        is-some (some q) f = cc
 
-        pub call-unknown : (place : ℕ) (r : Reading) → found ≡ At place → r ≡ refusedWith UndeclaredName place → Begins text r tape′
-        call-unknown place r e k =
-            refuses UndeclaredName place tape′ r k (judged ∙ ap (λ o. known o table) (is-some (unknownIn table table) (sym (search table held) ∙ e)))
-          where
-            is-some : (o : Option ℕ) → unknownAs o ≡ At place → o ≡ some place
-            is-some none f = let z : _≡_ {A = ℕ} 0 1 = cc in absurd (omega arith)
-            is-some (some q) f = cc
-
-        pub calls-known : (r : Reading) → found ≡ Nowhere → r ≡ acceptedWith (p .count) (p .words) → Begins text r tape′
-        calls-known r e k =
-            accepts table (p .count) (p .words) tape′ r k
-            (judged ∙ ap (λ o. known o table) (is-none (unknownIn table table) (sym (search table held) ∙ e)))
-            (read-table .count) (counts (read-table .went)) on-tape
-          where
-            is-none : (o : Option ℕ) → unknownAs o ≡ Nowhere → o ≡ none
-            is-none none f = refl
-            is-none (some q) f = let z : _≡_ {A = ℕ} 0 1 = cc in absurd (omega arith)
+    pub calls-known : {r : Reading} → found ≡ Nowhere → r ≡ acceptedWith (p .count) (p .words) → Begins text r tape′
+    calls-known e f =
+        accepts text table (p .count) (p .words) _ _ f (judged (is-none (unknownIn table table) (sym (search table held) ∙ e)))
+        (k .read .how .count) (counts (k .read .how .went)) on-tape
+      where
+        is-none : (o : Option ℕ) → unknownAs o ≡ Nowhere → o ≡ none
+        is-none none f = refl
+        is-none (some q) f = let z : _≡_ {A = ℕ} 0 1 = cc in absurd (omega arith)
 
 -- THE TAPE AFTERWARDS
 

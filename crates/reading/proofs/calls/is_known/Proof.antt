@@ -1,10 +1,15 @@
 -- `reading::calls::is_known` meets its contract.
 use mathlib.Core.Path.{refl}
 use native.Mathlib.Omega.{arith}
+use Rattle.bookkeeping.specs.Tables.{Inside}
+use Rattle.reading.specs.Calls.{calledSpan}
 use Rattle.bookkeeping.proofs.Finding.{among}
 use Rattle.reading.proofs.Called.{no-call, calls-emission, calls-function}
 use Rattle.reading.proofs.calls.is_known.Statement.{statement}
 use Rattle.reading.proofs.calls.is_known.Tie as tie
+
+name-here : (c : tie.Else1) → let a = c .before .before .before .args in Inside (a .text .now) (calledSpan (a .word))
+name-here c = record { forward = omega arith; inside = c .before .before .before .pre .0 (c .if1 .left) }
 
 returns : tie.Need-returns
 returns c = no-call _ _ _ (c .if1 .taken)
@@ -16,16 +21,13 @@ add-past : tie.Need-add-past
 add-past c = omega arith
 
 is-emission-requires : tie.Need-is-emission-requires
-is-emission-requires c κs = record { forward = omega arith; inside = c .before .before .before .pre .0 (c .if1 .left) }
+is-emission-requires c κs = name-here c
 
 returns-2 : tie.Need-returns-2
 returns-2 c = calls-emission _ _ _ (c .before .before .if1 .left) (c .before .is-emission .ensures) (c .if2 .taken)
 
 find-requires : tie.Need-find-requires
-find-requires c κs =
-    let at-if1 = c .before .before in
-    let entry = at-if1 .before .before .before in
-    (record { forward = omega arith; inside = entry .pre .0 (at-if1 .if1 .left) }, entry .pre .1)
+find-requires c κs = (name-here (c .before .before), c .before .before .before .before .before .pre .1)
 
 returns-3 : tie.Need-returns-3
 returns-3 c =
