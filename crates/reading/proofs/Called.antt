@@ -85,9 +85,13 @@ module _ (text : Bytes) (t : Table) where
       let h : w < 2304 = ltb→lt w 2304 q in
       record { same = rw (lt-ltb w 2304 h); inside = (λ k. absurd (omega arith), tt) }
 
-  quiet-finds : (ws : List ℕ) → T (every isQuiet ws) → Finds ws none
-  quiet-finds [] q = none-finds
-  quiet-finds (w ∷ ws) q = append-finds (w ∷ []) (word-finds w (every-head isQuiet w ws q)) (quiet-finds ws (every-tail isQuiet w ws q))
+  -- before others
+  word-then : (w : ℕ) → T (isQuiet w) → {ys : List ℕ} {p : Option ℕ} → Finds ys p → Finds (w ∷ ys) p
+  word-then w q r = append-finds (w ∷ []) (word-finds w q) r
+
+  quiet-then : (ws : List ℕ) → T (every isQuiet ws) → {ys : List ℕ} {p : Option ℕ} → Finds ys p → Finds (ws ++ ys) p
+  quiet-then [] q r = r
+  quiet-then (w ∷ ws) q r = word-then w (every-head isQuiet w ws q) (quiet-then ws (every-tail isQuiet w ws q) r)
 
   -- CALLS
 
@@ -112,7 +116,7 @@ module _ (text : Bytes) (t : Table) where
         → Finds (named (callKind + place) n ++ words) (pick (either (isEmission n) (ltb 0 (numberOf t n))) found (some place))
     unfolding unknownFrom Each
     call-finds r =
-        let named = append-finds n (quiet-finds n (s .quiet)) r in
+        let named = quiet-then n (s .quiet) r in
         record { same = rw (word-known, word-place, named .same); inside = (word-within, named .inside) }
 
   -- THE TREE
@@ -120,38 +124,31 @@ module _ (text : Bytes) (t : Table) where
   expression-finds : (e : Expression) → Stands text e → Finds (expressionTape e) (unknownCall t e)
   unfolding expressionTape Stands unknownCall
   expression-finds end s = none-finds
-  expression-finds (thenCharacter c e) s = append-finds (c ∷ []) (word-finds c (s .0)) (expression-finds e (s .1))
-  expression-finds (thenSymbol x e) s =
-      append-finds (named symbolKind x) (quiet-finds (named symbolKind x) (s .0)) (expression-finds e (s .1))
-  expression-finds (thenPart x e) s =
-      append-finds (named partKind x) (quiet-finds (named partKind x) (s .0)) (expression-finds e (s .1))
+  expression-finds (thenCharacter c e) s = word-then c (s .0) (expression-finds e (s .1))
+  expression-finds (thenSymbol x e) s = quiet-then (named symbolKind x) (s .0) (expression-finds e (s .1))
+  expression-finds (thenPart x e) s = quiet-then (named partKind x) (s .0) (expression-finds e (s .1))
   expression-finds (thenCall place n a e) s =
       call-finds place n (s .0)
-      (append-finds (expressionTape a) (expression-finds a (s .1))
-      (append-finds (tapeWord closeKind 0 ∷ []) (word-finds (tapeWord closeKind 0) tt) (expression-finds e (s .2))))
+      (append-finds (expressionTape a) (expression-finds a (s .1)) (word-then (tapeWord closeKind 0) tt (expression-finds e (s .2))))
 
   sentence-finds : (s : Sentence) → SentenceStands text s → Finds (sentenceTape s) (unknownCall t (s .expression))
   sentence-finds s k =
-      append-finds (patternTape (s .pattern)) (quiet-finds (patternTape (s .pattern)) (k .pattern))
-      (append-finds (conditionsTape (s .conditions)) (quiet-finds (conditionsTape (s .conditions)) (k .conditions))
-      (append-finds (tapeWord equalsKind 0 ∷ []) (word-finds (tapeWord equalsKind 0) tt)
-      (expression-finds (s .expression) (k .expression))))
+      quiet-then (patternTape (s .pattern)) (k .pattern)
+      (quiet-then (conditionsTape (s .conditions)) (k .conditions)
+      (word-then (tapeWord equalsKind 0) tt (expression-finds (s .expression) (k .expression))))
 
   sentences-find : (ss : List Sentence) → Each (SentenceStands text) ss → Finds (sentencesTape ss) (unknownInSentences t ss)
   unfolding sentencesTape unknownInSentences Each
   sentences-find [] k = word-finds (tapeWord endKind 0) tt
   sentences-find (s ∷ []) k = append-finds (sentenceTape s) (sentence-finds s (k .0)) (word-finds (tapeWord endKind 0) tt)
   sentences-find (s ∷ r ∷ rs) k =
-      append-finds (sentenceTape s) (sentence-finds s (k .0))
-      (append-finds (tapeWord nextKind 0 ∷ []) (word-finds (tapeWord nextKind 0) tt) (sentences-find (r ∷ rs) (k .1)))
+      append-finds (sentenceTape s) (sentence-finds s (k .0)) (word-then (tapeWord nextKind 0) tt (sentences-find (r ∷ rs) (k .1)))
 
   functions-find : (fs : List Function) → Each (FunctionStands text) fs → Finds (tape fs) (unknownIn t fs)
   unfolding tape unknownIn Each
   functions-find [] k = none-finds
   functions-find (f ∷ fs) k =
-      append-finds (functionTape f)
-      (append-finds (named functionKind (f .name)) (quiet-finds (named functionKind (f .name)) (k .0 .name))
-      (sentences-find (f .sentences) (k .0 .sentences)))
+      append-finds (functionTape f) (quiet-then (named functionKind (f .name)) (k .0 .name) (sentences-find (f .sentences) (k .0 .sentences)))
       (functions-find fs (k .1))
 
 -- THE TABLE THAT WAS READ
