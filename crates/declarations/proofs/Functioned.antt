@@ -35,7 +35,7 @@ use Rattle.bookkeeping.specs.declared.progress.Parsed.the-variants.{Stopped, Do
 use Rattle.bookkeeping.specs.Tables.{Inside, nameIn, inText, tableNames, Entries, declaredFaultIn}
 use Rattle.bookkeeping.specs.Answered.{numberOf, Agrees}
 use Rattle.bookkeeping.specs.Written.{Wrote, isQuiet, Ready, Went}
-use Rattle.bookkeeping.specs.Tokened.{tokenFault, signIs, Taken}
+use Rattle.bookkeeping.specs.Tokened.{signIs, Taken}
 use Rattle.declarations.specs.Expressions.{stoppedWith}
 use Rattle.declarations.specs.Sentences.{Each, SentencesRead}
 use Rattle.declarations.specs.Functions.{FunctionStands, fromBrace, declared, Declarable, BodyRead, Opening, nameFault, DeclaredRead, SpareTo, isEnd, FunctionsRead}
@@ -43,7 +43,7 @@ use Rattle.bookkeeping.proofs.Lengths.{part-length, within}
 use Rattle.bookkeeping.proofs.Tabling.{Grown, grown, entry-name, entry-inside, none-yet, no-names}
 use Rattle.bookkeeping.proofs.Going.{check-wrong, stops, reads, ReadAt, has-stopped, has-read, pass-follow, follow-alone, makes, went-none, went-from, went-on, went-then}
 use Rattle.bookkeeping.proofs.Tokening.{NameFirst, sign-shown, passes-on, name-first, names-not, refused, ready-place}
-use Rattle.declarations.proofs.Onward.{ready-after, name-went}
+use Rattle.declarations.proofs.Onward.{ready-after, name-went, FaultOf, NoName}
 use Rattle.declarations.proofs.Sentencing.{each-none, each-more}
 
 -- A FUNCTION AFTER ITS NAME
@@ -101,8 +101,8 @@ FunctionAgrees text names functions limit words t tape tape′ names′ r =
     (Reading.function (nameFault functions (tableNames text names 0 functions)) limit (stream text Tokens.outside (t .place))) r
 
 module _ {text names : List ℕ} {functions words : ℕ} {t : Code.Placed} {limit : ℕ} (o : Opening text names functions words t) where
-  pub function-nameless : {tape tape′ names′ : List ℕ} {fault : Fault} → OneOf (1 ∷ 2 ∷ 3 ∷ 4 ∷ 5 ∷ 6 ∷ 7 ∷ []) (tagOf token.the-type (t .token))
-      → (numberOf (fault .answer) ≡ tokenFault (t .token)) × (fault .place ≡ t .place)
+  pub function-nameless : {tape tape′ names′ : List ℕ} {fault : Fault} → NoName (t .token)
+      → FaultOf t fault
       → FunctionAgrees text names functions limit words t tape tape′ names′ (Stopped fault)
   function-nameless n f = refused (o .comes) (names-not (o .comes) _ _ n) f
 

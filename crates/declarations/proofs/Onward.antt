@@ -2,22 +2,26 @@
 use Prim.Native.Nat.{ℕ, _+_, _-_, _*_, _≤_, _<_}
 use mathlib.Core.Path.{_≡_, refl, sym, _∙_}
 use mathlib.Core.Bool.{Bool, true}
-use mathlib.Core.List.{List, _∷_}
+use mathlib.Core.List.{List, [], _∷_}
 use native.Mathlib.Omega.{arith}
 use lib.ListN.{length}
+use types.Run.{OneOf}
+use denote.Enum.Declared.{tagOf}
 use Rattle.meaning.specs.Choice.{Bytes}
 use Rattle.meaning.specs.Tape.{named}
 use Rattle.meaning.specs.Tokens as Tokens
 use Rattle.meaning.specs.Reading as Reading
+use Rattle.lexing.proofs.Token as token
 use Rattle.lexing.specs.View.{part, stream, Comes}
 use Rattle.lexing.specs.declared.Span.{Span}
+use Rattle.lexing.specs.declared.Token.{Token}
 use Rattle.lexing.specs.declared.Placed.{Placed}
 use Rattle.bookkeeping.specs.declared.progress.Fault.{Fault}
 use Rattle.bookkeeping.specs.declared.progress.Progress.{Progress}
 use Rattle.bookkeeping.specs.declared.progress.Parsed.the-variants.{Stopped}
 use Rattle.bookkeeping.specs.Tables.{Inside}
-use Rattle.bookkeeping.specs.Answered.{Agrees}
-use Rattle.bookkeeping.specs.Tokened.{signIs, Taken, Barred}
+use Rattle.bookkeeping.specs.Answered.{numberOf, Agrees}
+use Rattle.bookkeeping.specs.Tokened.{tokenFault, signIs, Taken, Barred}
 use Rattle.bookkeeping.specs.Written.{Wrote, Ready, Went}
 use Rattle.declarations.specs.Expressions.{Going}
 use Rattle.bookkeeping.proofs.Going.{stops}
@@ -52,3 +56,10 @@ is-taken {text} {mode} {byte} {at} {t} c s e = takes text mode at byte t c (sym 
 pub barred-stops : {A : Type 0} {Reads : A → List Tokens.Placed → Progress → Type 0} {text : Bytes} {mode : Tokens.Mode} {byte at : ℕ} {fault : Fault}
     (next : List Tokens.Placed → Reading.Parsed A) → Barred text mode byte at fault → Agrees Reads (Reading.pass byte (stream text mode at) next) (Stopped fault)
 barred-stops next b = stops _ _ _ (passes-not next b) refl refl
+
+-- a token's fault, and a token that is no name
+abbrev pub FaultOf : Placed → Fault → Type 0
+FaultOf t fault = (numberOf (fault .answer) ≡ tokenFault (t .token)) × (fault .place ≡ t .place)
+
+abbrev pub NoName : Token → Type 0
+NoName t = OneOf (1 ∷ 2 ∷ 3 ∷ 4 ∷ 5 ∷ 6 ∷ 7 ∷ []) (tagOf token.the-type t)

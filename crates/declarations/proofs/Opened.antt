@@ -2,12 +2,10 @@
 use Prim.Native.Nat.{ℕ, _+_, _-_, _*_, _≤_, _<_}
 use mathlib.Core.Path.{_≡_, refl, sym, _∙_}
 use mathlib.Core.Bool.{false}
-use mathlib.Core.List.{List, [], _∷_}
+use mathlib.Core.List.{List, _∷_}
 use native.Mathlib.Omega.{arith}
 use lib.Dec.{T, leb, ltb, eqb}
 use lib.ListN.{length}
-use types.Run.{OneOf}
-use denote.Enum.Declared.{tagOf}
 use borrow.Author.Tests.{lt-leb, le-leb, lt-ltb, le-ltb}
 use Rattle.meaning.specs.Choice.{Bytes, both, every}
 use Rattle.meaning.specs.Tape.{callKind}
@@ -15,7 +13,6 @@ use Rattle.meaning.specs.Tokens as Tokens
 use Rattle.meaning.specs.Grammar.{standing}
 use Rattle.meaning.specs.Reading as Reading
 use Rattle.meaning.specs.Reading.{Parsed, parsed}
-use Rattle.lexing.proofs.Token as token
 use Rattle.lexing.specs.View as View
 use Rattle.lexing.specs.View.{stream, Comes}
 use Rattle.lexing.specs.declared.Span.{Span}
@@ -30,13 +27,12 @@ use Rattle.bookkeeping.specs.declared.progress.Parsed.the-variants.{Stopped, Do
 use Rattle.bookkeeping.specs.Tables.{Inside}
 use Rattle.bookkeeping.specs.Answered.{numberOf, Agrees}
 use Rattle.bookkeeping.specs.Written.{Wrote, isQuiet, Ready}
-use Rattle.bookkeeping.specs.Tokened.{tokenFault}
 use Rattle.declarations.specs.Expressions.{CallStands, stoppedWith, CalledName, opening, OpeningRead}
 use Rattle.bookkeeping.proofs.Choosing.{both-false}
 use Rattle.bookkeeping.proofs.Lengths.{part-length, within}
 use Rattle.bookkeeping.proofs.Going.{check-wrong, stops, reads}
 use Rattle.bookkeeping.proofs.Tokening.{NameFirst, name-first, names-not, refused}
-use Rattle.declarations.proofs.Onward.{name-went}
+use Rattle.declarations.proofs.Onward.{name-went, FaultOf, NoName}
 
 -- what the definition reads of a call after its `<`, up to its argument
 abbrev pub openingAt : Bytes → ℕ → Progress → ℕ → Parsed CalledName
@@ -70,8 +66,8 @@ module _ {text : Bytes} {depth : ℕ} {s : Progress} {place : ℕ} {t : Code.Pla
       ≡ Reading.passName Reading.calledFault (stream text Tokens.naming (s .at)) (λ at n rest. parsed (record { place = at; name = n }) rest)
   at-name = rw (lt-ltb depth 16 (k .shallow), le-leb (s .count + 1) 128 (omega (arith, k .few)))
 
-  pub call-nameless : {tape tape′ : List ℕ} {fault : Fault} → OneOf (1 ∷ 2 ∷ 3 ∷ 4 ∷ 5 ∷ 6 ∷ 7 ∷ []) (tagOf token.the-type (t .token))
-      → (numberOf (fault .answer) ≡ tokenFault (t .token)) × (fault .place ≡ t .place)
+  pub call-nameless : {tape tape′ : List ℕ} {fault : Fault} → NoName (t .token)
+      → FaultOf t fault
       → OpeningAgrees text depth s place tape tape′ (Stopped fault)
   call-nameless n f = refused (k .comes) (at-name ∙ names-not (k .comes) _ _ n) f
 

@@ -28,7 +28,7 @@ use Rattle.bookkeeping.specs.declared.progress.Parsed.the-variants.{Stopped, Do
 use Rattle.declarations.specs.declared.sentences.Sequel.the-variants.{Ends, Another, Refused}
 use Rattle.bookkeeping.specs.Answered.{numberOf, Agrees}
 use Rattle.bookkeeping.specs.Written.{Ready}
-use Rattle.bookkeeping.specs.Tokened.{tokenFault, signIs, Taken}
+use Rattle.bookkeeping.specs.Tokened.{signIs, Taken}
 use Rattle.parsing.specs.Patterns.{Variables, symbolNames, partNames, PatternRead}
 use Rattle.parsing.specs.Conditions.{ConditionsRead}
 use Rattle.declarations.specs.Expressions.{Going, stoppedWith}
@@ -36,7 +36,7 @@ use Rattle.declarations.specs.Sentences.{fromEquals, EqualsRead, Sentenc
 use Rattle.parsing.proofs.Items.{symbol-at, part-at, symbol-variable, part-variable}
 use Rattle.bookkeeping.proofs.Going.{stops, ReadAt, has-stopped, has-read, follow-same, pass-follow, follow-alone, makes, went-from, went-then, word-went}
 use Rattle.bookkeeping.proofs.Tokening.{fault-same, sign-shown, passes-on, refused}
-use Rattle.declarations.proofs.Onward.{ready-after}
+use Rattle.declarations.proofs.Onward.{ready-after, FaultOf}
 use Rattle.declarations.proofs.Calling.{ExpressionAgrees}
 
 -- WHERE A SENTENCE BEGINS
@@ -78,7 +78,7 @@ module _ {text : Bytes} {from : ℕ} where
   ends-at-once k = record { gives = (λ more s. rw (k .unrolled), k .onward, k .inside) }
 
   pub follows-nothing : {t : Code.Placed} {fault : Fault} → Comes text Tokens.inside from t → signIs 125 (t .token) ≡ false → signIs 59 (t .token) ≡ false
-      → (numberOf (fault .answer) ≡ tokenFault (t .token)) × (fault .place ≡ t .place)
+      → FaultOf t fault
       → Follows text from (Refused fault)
   follows-nothing {t} {fault} c e d f =
       let i : Reading.isSign 125 (tokenOf text (t .token) (t .place) (t .past)) ≡ false = sign-shown text t 125 e in
@@ -244,7 +244,7 @@ FirstAgrees text left from words tape tape′ r =
     Agrees (FirstRead text left from words tape tape′) (firstSentence left (stream text Tokens.inside from)) r
 
 module _ (left words : ℕ) {text : Bytes} {from : ℕ} {t : Code.Placed} (c : Comes text Tokens.inside from t) where
-  pub first-refused : {tape tape′ : List ℕ} {fault : Fault} → beginsSentence (t .token) ≡ false → (numberOf (fault .answer) ≡ tokenFault (t .token)) × (fault .place ≡ t .place)
+  pub first-refused : {tape tape′ : List ℕ} {fault : Fault} → beginsSentence (t .token) ≡ false → FaultOf t fault
       → FirstAgrees text left from words tape tape′ (Stopped fault)
   first-refused e f = refused c (rw (c .unrolled, begins-same c ∙ e)) f
 

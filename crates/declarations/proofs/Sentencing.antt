@@ -201,9 +201,7 @@ module _ {text start : List ℕ} {limit from words left : ℕ} {tape₁ : List �
   pub sequel-refused : {tape′ : List ℕ} {fault : Fault} → q ≡ Refused fault → SentencesAgree text limit from words start tape′ (Stopped fault)
   sequel-refused {fault = fault} e =
       let f = rw e at (w .follows) in
-      let before = w .one .others .before in
-      let last = w .one .read .value in
-      stops fault _ _ (at-sequel (w .one) ∙ rw (f .gives (Reading.sentences (left - 1)) last)) refl refl
+      stops fault _ _ (at-sequel (w .one) ∙ rw (f .gives (Reading.sentences (left - 1)) (w .one .read .value))) refl refl
 
   pub sequel-ends : {tape′ : List ℕ} {past : ℕ} → q ≡ Ends past → tape′ ≡ set tape₁ (s .words) 1792
       → SentencesAgree text limit from words start tape′ (Done (record { at = past; words = s .words + 1; count = left - 1; parts = 0 }))
