@@ -22,9 +22,9 @@ use Rattle.bookkeeping.specs.Written.{Ready, Went}
 use Rattle.bookkeeping.specs.Tokened.{Taken, Barred}
 use Rattle.parsing.specs.Patterns.{symbolNames}
 use Rattle.declarations.specs.Expressions.{progressAt, Going, ExpressionRead, CalledName, opening, OpeningRead, CallRead, CloseGives, Closes}
-use Rattle.bookkeeping.proofs.Going.{stops, reads, ReadAt, has-stopped, has-read, went-then, word-went}
+use Rattle.bookkeeping.proofs.Going.{stops, reads, ReadAt, has-read, went-then, word-went}
 use Rattle.bookkeeping.proofs.Tokening.{passes-on, passes-not}
-use Rattle.declarations.proofs.Onward.{ready-after, going-on}
+use Rattle.declarations.proofs.Onward.{ready-after, going-on, stops-too}
 use Rattle.declarations.proofs.Opened.{openingAt, OpeningAgrees}
 
 -- THE DEFINITION
@@ -91,9 +91,9 @@ module _ (text table : List ℕ) (symbols parts bound depth : ℕ) (s : Progress
       call-is (Reading.expression bound (symbolNames text table symbols)) depth (progressAt text table parts s) (standing (Tokens.sign 60) place (s .at))
       (stream text Tokens.naming (s .at))
 
-  pub call-unopened : {tape tape′ : List ℕ} {fault : Fault} → OpeningAgrees text depth s place tape tape′ (Stopped fault)
+  pub call-unopened : {tape tape′ : List ℕ} {r : CodeParsed} {fault : Fault} → OpeningAgrees text depth s place tape tape′ r → r ≡ Stopped fault
       → CallAgrees text table symbols parts bound depth s place tape tape′ (Stopped fault)
-  call-unopened {fault = fault} a = stops fault _ _ (at-opening ∙ rw (has-stopped _ fault a)) refl refl
+  call-unopened a e = stops-too _ at-opening a e
 
 -- the call is open
 pub record Opened (text : Bytes) (depth : ℕ) (s : Progress) (place : ℕ) (tape tape₁ : List ℕ) (start : Progress) : Type 0 where
@@ -166,10 +166,7 @@ module _ {text : Bytes} {depth : ℕ} {s : Progress} {place : ℕ} {tape tape₁
   module _ {table : List ℕ} {symbols parts : ℕ} {tape₂ : List ℕ} {r : CodeParsed} (a : ExpressionsAgree text table symbols parts (depth + 1) start tape₁ tape₂ r)
       (bound : ℕ) (h : length (stream text Tokens.naming (s .at)) ≤ bound) where
     pub argument-stops : {fault : Fault} → r ≡ Stopped fault → CallAgrees text table symbols parts bound depth s place tape tape₂ (Stopped fault)
-    argument-stops {fault} e =
-        stops fault _ _
-        (at-argument table symbols parts bound ∙ rw (has-stopped _ fault (rw e at (a bound (omega (arith, argument-shorter))))))
-        refl refl
+    argument-stops e = stops-too _ (at-argument table symbols parts bound) (a bound (omega (arith, argument-shorter))) e
 
     pub call-closes : {tape₃ : List ℕ} {argument : Progress} {q : CodeParsed} → r ≡ Done argument → Closes text argument tape₂ tape₃ q
         → CallAgrees text table symbols parts bound depth s place tape tape₃ q

@@ -18,13 +18,14 @@ use Rattle.lexing.specs.declared.Token.{Token}
 use Rattle.lexing.specs.declared.Placed.{Placed}
 use Rattle.bookkeeping.specs.declared.progress.Fault.{Fault}
 use Rattle.bookkeeping.specs.declared.progress.Progress.{Progress}
+use Rattle.bookkeeping.specs.declared.progress.Parsed.{Parsed}
 use Rattle.bookkeeping.specs.declared.progress.Parsed.the-variants.{Stopped}
 use Rattle.bookkeeping.specs.Tables.{Inside}
 use Rattle.bookkeeping.specs.Answered.{numberOf, Agrees}
 use Rattle.bookkeeping.specs.Tokened.{tokenFault, signIs, Taken, Barred}
 use Rattle.bookkeeping.specs.Written.{Wrote, Ready, Went}
 use Rattle.declarations.specs.Expressions.{Going}
-use Rattle.bookkeeping.proofs.Going.{stops}
+use Rattle.bookkeeping.proofs.Going.{stops, has-stopped}
 use Rattle.bookkeeping.proofs.Lengths.{part-length}
 use Rattle.bookkeeping.proofs.Tokening.{takes, passes-not}
 
@@ -56,6 +57,12 @@ is-taken {text} {mode} {byte} {at} {t} c s e = takes text mode at byte t c (sym 
 pub barred-stops : {A : Type 0} {Reads : A → List Tokens.Placed → Progress → Type 0} {text : Bytes} {mode : Tokens.Mode} {byte at : ℕ} {fault : Fault}
     (next : List Tokens.Placed → Reading.Parsed A) → Barred text mode byte at fault → Agrees Reads (Reading.pass byte (stream text mode at) next) (Stopped fault)
 barred-stops next b = stops _ _ _ (passes-not next b) refl refl
+
+-- what stops a reader stops what begins with it
+pub stops-too : {A B : Type 0} {Reads : A → List Tokens.Placed → Progress → Type 0} {Makes : B → List Tokens.Placed → Progress → Type 0} {p : Reading.Parsed A}
+    {q : Reading.Parsed B} {r : Parsed} {fault : Fault} (next : A → List Tokens.Placed → Reading.Parsed B)
+    → q ≡ Reading.follow p next → Agrees Reads p r → r ≡ Stopped fault → Agrees Makes q (Stopped fault)
+stops-too {fault = fault} next e a f = stops fault _ _ (e ∙ rw (has-stopped _ fault (rw f at a))) refl refl
 
 -- a token's fault, and a token that is no name
 abbrev pub FaultOf : Placed → Fault → Type 0

@@ -34,9 +34,9 @@ use Rattle.parsing.specs.Conditions.{ConditionsRead}
 use Rattle.declarations.specs.Expressions.{Going, stoppedWith}
 use Rattle.declarations.specs.Sentences.{fromEquals, EqualsRead, SentenceRead, beginsSentence, sentenceOf, firstSentence, FirstRead, Follows}
 use Rattle.parsing.proofs.Items.{symbol-at, part-at, symbol-variable, part-variable}
-use Rattle.bookkeeping.proofs.Going.{stops, ReadAt, has-stopped, has-read, follow-same, pass-follow, follow-alone, makes, went-from, went-then, word-went}
+use Rattle.bookkeeping.proofs.Going.{stops, ReadAt, has-read, follow-same, pass-follow, follow-alone, makes, went-from, went-then, word-went}
 use Rattle.bookkeeping.proofs.Tokening.{fault-same, sign-shown, passes-on, refused}
-use Rattle.declarations.proofs.Onward.{ready-after, FaultOf}
+use Rattle.declarations.proofs.Onward.{ready-after, FaultOf, stops-too}
 use Rattle.declarations.proofs.Calling.{ExpressionAgrees}
 
 -- WHERE A SENTENCE BEGINS
@@ -187,7 +187,7 @@ pub record AfterConditions (text : Bytes) (from words : ℕ) (tape table : List 
 module _ {text : Bytes} {from words : ℕ} {tape table tape₁ : List ℕ} {r : CodeParsed}
     (a : Agrees (PatternRead text from words tape table tape₁) (Reading.pattern [] (stream text Tokens.inside from)) r) where
   pub pattern-stops : {fault : Fault} → r ≡ Stopped fault → SentenceAgrees text from words tape tape₁ (Stopped fault)
-  pattern-stops {fault} e = stops fault _ _ (sentence-is _ ∙ rw (has-stopped _ fault (rw e at a))) refl refl
+  pattern-stops e = stops-too _ (sentence-is _) a e
 
   pub pattern-done : {p : Progress} → Ready text from words → r ≡ Done p → AfterPattern text from words tape table tape₁ p
   pattern-done ready e = record { ready = ready; read = has-read _ _ (rw e at a) }
@@ -209,7 +209,7 @@ module _ {text : Bytes} {from words : ℕ} {tape table tape₁ : List ℕ} {p : 
 
   module _ {tape₂ : List ℕ} {r : CodeParsed} (a : Agrees (ConditionsRead text (p .at) (p .words) tape₁ tape₂) (conditionsAt text table p) r) where
     pub conditions-stop : {fault : Fault} → r ≡ Stopped fault → SentenceAgrees text from words tape tape₂ (Stopped fault)
-    conditions-stop {fault} e = stops fault _ _ (at-conditions ∙ rw (has-stopped _ fault (rw e at a))) refl refl
+    conditions-stop e = stops-too _ at-conditions a e
 
     pub conditions-done : {c : Progress} → r ≡ Done c → AfterConditions text from words tape table p tape₂ c
     conditions-done e = record { tape₁ = tape₁; pattern = k; read = has-read _ _ (rw e at a) }

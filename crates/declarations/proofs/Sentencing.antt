@@ -125,10 +125,11 @@ module _ {text start : List ℕ} {limit from words : ℕ} {tape : List ℕ} {at 
       (behind (k .before))
   at-sentence = k .same ∙ rw (sentences-are left (stream text Tokens.inside at))
 
-  pub sentence-stops : {tape′ : List ℕ} {fault : Fault}
-      → Agrees (FirstRead text left at to tape tape′) (firstSentence left (stream text Tokens.inside at)) (Stopped fault)
+  pub sentence-stops : {tape′ : List ℕ} {r : CodeParsed} {fault : Fault}
+      → Agrees (FirstRead text left at to tape tape′) (firstSentence left (stream text Tokens.inside at)) r
+      → r ≡ Stopped fault
       → SentencesAgree text limit from words start tape′ (Stopped fault)
-  sentence-stops {fault = fault} a = stops fault _ _ (at-sentence ∙ rw (has-stopped _ fault a)) refl refl
+  sentence-stops {fault = fault} a e = stops fault _ _ (at-sentence ∙ rw (has-stopped _ fault (rw e at a))) refl refl
 
 -- a sentence was read after those
 pub record OneMore (text start : List ℕ) (limit from words left : ℕ) (tape₁ : List ℕ) (s : Progress) : Type 0 where

@@ -95,7 +95,7 @@ module _ (t : ℕ) where
   call-returns c =
       let a = c .before .before .before .before .before .before .before .args in
       λ bound h. call-unopened (a .text .now) (a .table .now) (a .symbols) (a .parts) bound (a .depth) (a .s) (a .place)
-      (rw (c .before .fault .given .1) at (c .before .before .before .open-call .ensures))
+      (c .before .before .before .open-call .ensures) (c .before .fault .given .1)
 
   call-add-expression : call-lts.Need-add-expression (call-claims t) (call-at t) call.Post
   call-add-expression c = omega (arith, opened-here (c .before .before) .read .how .shallow)

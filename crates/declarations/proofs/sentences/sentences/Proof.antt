@@ -42,8 +42,7 @@ enum-known-fault c = search needs
 returns : tie.Need-returns Inv-loop μ-loop
 returns c =
     let at-next-sentence = c .before .before .before in
-    let at-loop = at-next-sentence .before .before in
-    sentence-stops (at-loop .loop .inv) (rw (c .before .fault .given .1) at (at-next-sentence .next-sentence .ensures))
+    sentence-stops (at-next-sentence .before .before .loop .inv) (at-next-sentence .next-sentence .ensures) (c .before .fault .given .1)
 
 enum-known-s : tie.Need-enum-known-s Inv-loop μ-loop
 enum-known-s c = search needs
