@@ -150,12 +150,7 @@ module _ {text : Bytes} {table : List ℕ} {symbols parts : ℕ} {s : Progress} 
   symbol-joined m f v =
       variable-joined m (within text x (identifier-inside (p .1)) 8 3 _ f) (symbolItem name) 1 refl (omega arith) (p .0 .passed) (symbol-like m refl ∙ f) refl v
 
-  -- AN E-VARIABLE
-
-  abbrev coming : List Name
-  coming = tableNames text table (16 + s .parts) (16 + parts)
-
-  -- the entries that may still come
+  -- the entries of e-variables that may still come
   pub coming-entries : Entries text table (16 + s .parts) (16 + parts)
   coming-entries = entries-later text table 16 (16 + parts) (p .0 .variables .partEntries) (s .parts) (omega (arith, p .0 .passed))
 
@@ -164,14 +159,14 @@ pub record Sought (text : Bytes) (table : List ℕ) (symbols parts : ℕ) (s : P
   pub here : Going text table symbols parts s × Identifier text (s .at) x
   pub few : s .count < 128
   pub brief : x .past - x .from ≤ 8
-  pub found : r ≡ 16 + s .parts + position (name here) (coming here)
+  pub found : r ≡ 16 + s .parts + position (View.part text x) (progressAt text table parts s .coming)
 
 module _ {text : Bytes} {table : List ℕ} {symbols parts : ℕ} {s : Progress} {x : Span} {r : ℕ} (q : Sought text table symbols parts s x r) where
   abbrev sought : Name
   sought = View.part text x
 
   abbrev those : List Name
-  those = tableNames text table (16 + s .parts) (16 + parts)
+  those = progressAt text table parts s .coming
 
   passed : s .parts ≤ parts
   passed = q .here .0 .passed

@@ -1,4 +1,4 @@
--- Where a reader may go on: after what it has read, after a name, and in an expression.
+-- Where a reader may go on, after what it has read, after a name and in an expression, and what stops it.
 use Prim.Native.Nat.{ℕ, _+_, _-_, _*_, _≤_, _<_}
 use mathlib.Core.Path.{_≡_, refl, sym, _∙_}
 use mathlib.Core.Bool.{Bool, true}
