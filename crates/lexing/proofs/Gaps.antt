@@ -49,27 +49,30 @@ module _ (text : Bytes) (from at : ℕ) where
   plain-still true h p e = let z : _≡_ {A = ℕ} 0 1 = cc in absurd (omega arith)
   plain-still false h p e = plain-goes h e (p refl)
 
-  star-stands : at < length text → eqb (getD text at 0) 42 ≡ true → Plain text from at
-      → (slash : ℕ) → skip (commented slash) from (drop from text) ≡ skip (starred slash) (at + 1) (drop (at + 1) text)
-  unfolding skip
-  star-stands h e p slash = p .same slash ∙ rw (add-one, here text at h, e)
+  -- a `*` stands inside a comment, with a `/` after it or not
+  pub record StarAt (ends : Bool) : Type 0 where
+    pub plain : Plain text from at
+    pub inside : at < length text
+    pub star : eqb (getD text at 0) 42 ≡ true
+    pub slash : ahead (eqb 47) (drop (at + 1) text) ≡ ends
 
-  pub star-goes : at < length text → eqb (getD text at 0) 42 ≡ true → ahead (eqb 47) (drop (at + 1) text) ≡ false
-      → Plain text from at
-      → Plain text from (at + 1)
-  star-goes h e a p =
+  star-passed : {ends : Bool} → StarAt ends → (slash : ℕ)
+      → skip (commented slash) from (drop from text) ≡ skip (starred slash) (at + 1) (drop (at + 1) text)
+  unfolding skip
+  star-passed s slash = s .plain .same slash ∙ rw (add-one, here text at (s .inside), s .star)
+
+  pub star-goes : StarAt false → Plain text from (at + 1)
+  star-goes s =
       record {
-        same = λ slash. star-stands h e p slash ∙ star-undone slash (at + 1) (drop (at + 1) text) a;
-        onward = omega arith;
+        same = λ slash. star-passed s slash ∙ star-undone slash (at + 1) (drop (at + 1) text) (s .slash);
+        onward = omega (arith, s .plain .onward);
       }
 
-  pub star-ends : at < length text → eqb (getD text at 0) 42 ≡ true → ahead (eqb 47) (drop (at + 1) text) ≡ true
-      → Plain text from at
-      → Ends text from (Ended (at + 2))
-  star-ends h e a p =
+  pub star-ends : StarAt true → Ends text from (Ended (at + 2))
+  star-ends s =
       record {
-        same = λ slash. star-stands h e p slash ∙ star-closes slash (at + 1) (drop (at + 1) text) a ∙ two-on text at between;
-        after = omega arith;
+        same = λ slash. star-passed s slash ∙ star-closes slash (at + 1) (drop (at + 1) text) (s .slash) ∙ two-on text at between;
+        after = omega (arith, s .plain .onward);
       }
 
   pub endless : length text ≤ at → Plain text from at → Ends text from (Endless at)

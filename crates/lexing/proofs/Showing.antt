@@ -53,41 +53,41 @@ module _ (text : Bytes) (at : ℕ) where
   abbrev letterAhead : Bool
   letterAhead = Tokens.ahead (inClass alphabetic) (drop (suc at) text)
 
-  pub shows-bracket : true ≡ letterAhead
-      → Shows text (record { token = Sign 60; place = at; past = at + 1 }) (Tokens.bracketAt at (drop (suc at) text) letterAhead .first)
-  shows-bracket e = record { same = rw (← e, add-one); sound = tt }
+  abbrev bracket : Bool → Token
+  bracket true = Sign 60
+  bracket false = Malformed
 
-  pub shows-no-bracket : false ≡ letterAhead
-      → Shows text (record { token = Malformed; place = at; past = at + 1 }) (Tokens.bracketAt at (drop (suc at) text) letterAhead .first)
-  shows-no-bracket e = record { same = rw (← e, add-one); sound = tt }
+  pub shows-bracket : (letter : Bool) → letter ≡ letterAhead
+      → Shows text (record { token = bracket letter; place = at; past = at + 1 }) (Tokens.bracketAt at (drop (suc at) text) letterAhead .first)
+  shows-bracket true e = record { same = rw (← e, add-one); sound = tt }
+  shows-bracket false e = record { same = rw (← e, add-one); sound = tt }
+
+-- a byte stands at a place, a letter or another one
+pub record ByteAt (text : Bytes) (at : ℕ) (letter : Bool) : Type 0 where
+  pub inside : at < length text
+  pub class : inClass alphabetic (getD text at 0) ≡ letter
 
 -- the token that begins at a place, by the byte that stands there
 module _ (text : Bytes) (mode : Tokens.Mode) (at : ℕ) where
   pub at-end : length text ≤ at → Tokens.tokenAt mode at (drop at text) ≡ Tokens.lexed Tokens.textEnd at at []
   at-end h = rw (nothing text at h)
 
-  pub at-letter : at < length text → inClass alphabetic (getD text at 0) ≡ true → Tokens.tokenAt mode at (drop at text) ≡ Tokens.wordAt mode at (drop at text)
-  at-letter h l = rw (here text at h, l)
+  pub at-letter : ByteAt text at true → Tokens.tokenAt mode at (drop at text) ≡ Tokens.wordAt mode at (drop at text)
+  at-letter l = rw (here text at (l .inside), l .class)
 
-  module _ (h : at < length text) (l : inClass alphabetic (getD text at 0) ≡ false) where
+  module _ (o : ByteAt text at false) where
     pub at-quote : getD text at 0 ≡ 39 → Tokens.tokenAt mode at (drop at text) ≡ Tokens.quotedAt at (quotationAt text at)
-    at-quote e = rw (here text at h, l, e)
+    at-quote e = rw (here text at (o .inside), o .class, e)
 
     pub at-bracket : getD text at 0 ≡ 60 → Tokens.tokenAt mode at (drop at text) ≡ Tokens.bracketAt at (drop (suc at) text) (letterAhead text at)
-    at-bracket e = rw (here text at h, l, e)
+    at-bracket e = rw (here text at (o .inside), o .class, e)
 
     pub at-sign : (getD text at 0 ≡ 39 → ⊥) → (getD text at 0 ≡ 60 → ⊥)
         → Tokens.tokenAt mode at (drop at text) ≡ Tokens.lexed (Tokens.sign (getD text at 0)) at (suc at) (drop (suc at) text)
-    at-sign q b = rw (here text at h, l, ne-eqb (getD text at 0) 39 q, ne-eqb (getD text at 0) 60 b)
+    at-sign q b = rw (here text at (o .inside), o .class, ne-eqb (getD text at 0) 39 q, ne-eqb (getD text at 0) 60 b)
 
 -- the first token from a place on, by what is passed before it
 module _ (text : Bytes) (mode : Tokens.Mode) (from : ℕ) where
-  pub lex-found : (at : ℕ) → Tokens.skip Tokens.between from (drop from text) ≡ Tokens.found at (drop at text)
-      → Tokens.lex mode from (drop from text) ≡ Tokens.tokenAt mode at (drop at text)
+  pub lex-past : {s : Tokens.Skipped} → Tokens.skip Tokens.between from (drop from text) ≡ s → Tokens.lex mode from (drop from text) ≡ Tokens.tokenPast mode s
   unfolding Tokens.lex
-  lex-found at e = rw e
-
-  pub lex-unclosed : (slash past : ℕ) → Tokens.skip Tokens.between from (drop from text) ≡ Tokens.unclosed slash past
-      → Tokens.lex mode from (drop from text) ≡ Tokens.lexed Tokens.malformed slash past []
-  unfolding Tokens.lex
-  lex-unclosed slash past e = rw e
+  lex-past e = rw e

@@ -6,15 +6,16 @@ use mathlib.Core.List.{[], _∷_, _++_}
 use mathlib.Core.Logic.{_⊎_, inl, inr, ⊎-elim}
 use native.Mathlib.Numerals.{add-one}
 use native.Mathlib.Omega.{arith}
-use lib.Dec.{T, leb}
+use lib.Dec.{T, leb, ltb}
 use lib.ListN.{length, getD, drop, length-append}
 use borrow.Author.Tests.{lt-ltb, le-ltb, leb-true, ne-eqb}
 use Rattle.meaning.specs.Choice.{Bytes, pick}
 use Rattle.meaning.specs.Classes.{inClass, digit}
-use Rattle.meaning.specs.Tokens.{Quoting, plain, escaped, coded, goesOn, closes, breaks, digitValue, codeTurn, turn, quoteOn, closed, quotation, quotedAt}
+use Rattle.meaning.specs.Tokens.{Quoting, plain, escaped, coded, Turn, goesOn, closes, breaks, digitValue, codeTurn, turn, quoteOn, closed, quotation, quotedAt}
 use Rattle.meaning.proofs.laws.Passing.{both-left, both-right, passed}
-use Rattle.lexing.specs.View.{Passes, Stands, quotationAt, Shows}
+use Rattle.lexing.specs.View.{continued, Passes, Stands, quotationAt, Shows}
 use Rattle.lexing.specs.declared.Character.{Character}
+use Rattle.lexing.specs.declared.Token.{Token}
 use Rattle.lexing.specs.declared.Token.the-variants.{Quoted, Malformed}
 use Rattle.lexing.specs.declared.Character.the-variants.{Given, Nothing, Closed, Broken}
 use Rattle.lexing.proofs.Places.{here, nothing}
@@ -33,9 +34,6 @@ is-digit b e =
       high = leb-true b 57 (passed (leb b 57) (both-right (leb 48 b) (leb b 57) t));
     }
 
-pub digit-value : (b : ℕ) → inClass digit b ≡ true → b - 48 ≤ 9
-digit-value b e = let d = is-digit b e in omega arith
-
 -- CODES
 
 -- the code so far, whatever the characters before it
@@ -45,62 +43,71 @@ pub record Coding (text : Bytes) (first from value at : ℕ) : Type 0 where
   pub onward : from ≤ at
   pub inside : at ≤ length text
 
-module _ (text : Bytes) (first from value at : ℕ) (r : Coding text first from value at) where
+module _ (text : Bytes) (first from value at : ℕ) where
+  pub code-ends : Coding text first from value at → length text ≤ at → Stands text (coded first) from from (Given value at)
+  unfolding quotation
+  code-ends r h = record { same = λ characters. r .same characters ∙ rw (nothing text at h); passes = (r .onward, r .inside) }
+
+  -- the code so far, before a byte that is a digit or not
+  pub record CodingAt (isDigit : Bool) : Type 0 where
+    pub coding : Coding text first from value at
+    pub inside : at < length text
+    pub class : inClass digit (getD text at 0) ≡ isDigit
+
+  pub code-digit : CodingAt true → Digit (getD text at 0)
+  code-digit c = is-digit _ (c .class)
+
   abbrev more : ℕ
   more = value * 10 + (getD text at 0 - 48)
 
-  pub code-goes : at < length text → inClass digit (getD text at 0) ≡ true → more < 256 → Coding text first from more (at + 1)
+  code-step : {isDigit small : Bool} → CodingAt isDigit → ltb more 256 ≡ small → (characters : Bytes)
+      → quotation (coded first) characters from (drop from text)
+      ≡ quoteOn (pick isDigit (pick small (goesOn (coded more) characters) breaks) (turn plain (characters ++ value ∷ []) (getD text at 0)))
+      (λ next longer. quotation next longer (at + 1) (drop (at + 1) text)) (at + 1) (drop (at + 1) text)
   unfolding quotation
-  code-goes h d s =
-      record {
-        same = λ characters. r .same characters ∙ rw (here text at h, d, lt-ltb _ _ s, add-one);
-        small = s;
-        onward = omega arith;
-        inside = omega arith;
-      }
+  code-step c s characters = c .coding .same characters ∙ rw (here text at (c .inside), c .class, s, add-one)
 
-  pub code-breaks : at < length text → inClass digit (getD text at 0) ≡ true → 256 ≤ more → Stands text (coded first) from from (Broken (at + 1))
-  unfolding quotation
-  code-breaks h d s =
-      record { same = λ characters. r .same characters ∙ rw (here text at h, d, le-ltb _ _ s, add-one); passes = tt }
+  pub code-goes : CodingAt true → more < 256 → Coding text first from more (at + 1)
+  code-goes c s = record { same = code-step c (lt-ltb _ _ s); small = s; onward = omega (arith, c .coding .onward); inside = omega arith }
 
-  pub code-stops : at < length text → inClass digit (getD text at 0) ≡ false → Stands text (coded first) from from (Given value at)
-  unfolding quotation
-  code-stops h d =
-      record { same = λ characters. r .same characters ∙ rw (here text at h, d); passes = (r .onward, r .inside) }
+  pub code-breaks : CodingAt true → 256 ≤ more → Stands text (coded first) from from (Broken (at + 1))
+  code-breaks c s = record { same = code-step c (le-ltb _ _ s); passes = tt }
 
-  pub code-ends : length text ≤ at → Stands text (coded first) from from (Given value at)
+  pub code-stops : CodingAt false → Stands text (coded first) from from (Given value at)
   unfolding quotation
-  code-ends h =
-      record { same = λ characters. r .same characters ∙ rw (nothing text at h); passes = (r .onward, r .inside) }
+  code-stops c =
+      record { same = λ characters. c .coding .same characters ∙ rw (here text at (c .inside), c .class); passes = (c .coding .onward, c .coding .inside) }
 
 -- ONE BYTE
 
 -- what a byte does, whatever the characters so far, says what stands there
-module _ (text : Bytes) (state : Quoting) (at low : ℕ) (h : at < length text) (l : low ≤ at + 1) where
-  taking : (characters : Bytes)
+module _ (text : Bytes) (state : Quoting) (at low : ℕ) (h : (at < length text) × (low ≤ at + 1)) where
+  abbrev Turns : (Bytes → Turn) → Type 0
+  Turns does = (characters : Bytes) → turn state characters (getD text at 0) ≡ does characters
+
+  taking : {does : Bytes → Turn} → Turns does → (characters : Bytes)
       → quotation state characters at (drop at text)
-      ≡ quoteOn (turn state characters (getD text at 0)) (λ next longer. quotation next longer (at + 1) (drop (at + 1) text)) (at + 1) (drop (at + 1) text)
+      ≡ quoteOn (does characters) (λ next longer. quotation next longer (at + 1) (drop (at + 1) text)) (at + 1) (drop (at + 1) text)
   unfolding quotation
-  taking characters = rw (here text at h, add-one)
+  taking e characters = rw (here text at (h .0), add-one, e characters)
 
-  pub stands-given : (v : ℕ) → ((characters : Bytes) → turn state characters (getD text at 0) ≡ goesOn plain (characters ++ v ∷ []))
-      → Stands text state at low (Given v (at + 1))
-  stands-given v e = record { same = λ characters. taking characters ∙ rw (e characters); passes = (l, omega arith) }
+  passes-byte : (low ≤ at + 1) × (at + 1 ≤ length text)
+  passes-byte = omega arith
 
-  pub stands-nothing : ((characters : Bytes) → turn state characters (getD text at 0) ≡ goesOn plain characters) → Stands text state at low (Nothing (at + 1))
-  stands-nothing e = record { same = λ characters. taking characters ∙ rw (e characters); passes = (l, omega arith) }
+  pub stands-given : (v : ℕ) → Turns (λ characters. goesOn plain (characters ++ v ∷ [])) → Stands text state at low (Given v (at + 1))
+  stands-given v e = record { same = taking e; passes = passes-byte }
 
-  pub stands-closed : ((characters : Bytes) → turn state characters (getD text at 0) ≡ closes characters) → Stands text state at low (Closed (at + 1))
-  stands-closed e = record { same = λ characters. taking characters ∙ rw (e characters); passes = (l, omega arith) }
+  pub stands-nothing : Turns (goesOn plain) → Stands text state at low (Nothing (at + 1))
+  stands-nothing e = record { same = taking e; passes = passes-byte }
 
-  pub stands-broken : ((characters : Bytes) → turn state characters (getD text at 0) ≡ breaks) → Stands text state at low (Broken (at + 1))
-  stands-broken e = record { same = λ characters. taking characters ∙ rw (e characters); passes = tt }
+  pub stands-closed : Turns closes → Stands text state at low (Closed (at + 1))
+  stands-closed e = record { same = taking e; passes = passes-byte }
 
-  pub stands-later : (next : Quoting) (r : Character) → ((characters : Bytes) → turn state characters (getD text at 0) ≡ goesOn next characters)
-      → Stands text next (at + 1) (at + 1) r → Stands text state at low r
-  stands-later next r e s =
-      record { same = λ characters. taking characters ∙ rw (e characters) (s .same characters); passes = further r (s .passes) }
+  pub stands-broken : Turns (λ characters. breaks) → Stands text state at low (Broken (at + 1))
+  stands-broken e = record { same = taking e; passes = tt }
+
+  pub stands-later : (next : Quoting) (r : Character) → Turns (goesOn next) → Stands text next (at + 1) (at + 1) r → Stands text state at low r
+  stands-later next r e s = record { same = λ characters. taking e characters ∙ s .same characters; passes = further r (s .passes) }
     where
       further : (c : Character) → Passes text (at + 1) c → Passes text low c
       further (Given b past) p = (omega arith, p .1)
@@ -116,25 +123,36 @@ stands-end text state at low h = record { same = λ characters. rw (nothing text
 pub escape-same : (b : ℕ) → (b ≡ 34) ⊎ ((b ≡ 39) ⊎ (b ≡ 92)) → (characters : Bytes) → turn escaped characters b ≡ goesOn plain (characters ++ b ∷ [])
 escape-same b k characters = ⊎-elim (λ e. rw e) (λ l. ⊎-elim (λ e. rw e) (λ e. rw e) l) k
 
--- a byte that is none of those with a rule of their own
-module _ (b : ℕ) (same : (b ≡ 34) ⊎ ((b ≡ 39) ⊎ (b ≡ 92)) → ⊥) (line : b ≡ 110 → ⊥) (tab : b ≡ 116 → ⊥) (end : b ≡ 10 → ⊥) (characters : Bytes) where
-  other : {is : Bool} → inClass digit b ≡ is → turn escaped characters b ≡ pick is (codeTurn (digitValue b) characters) breaks
-  other d =
+-- a byte that is none of those with a rule of their own, a digit or not
+pub record Unlisted (b : ℕ) (isDigit : Bool) : Type 0 where
+  pub same : (b ≡ 34) ⊎ ((b ≡ 39) ⊎ (b ≡ 92)) → ⊥
+  pub line : b ≡ 110 → ⊥
+  pub tab : b ≡ 116 → ⊥
+  pub end : b ≡ 10 → ⊥
+  pub class : inClass digit b ≡ isDigit
+
+module _ (b : ℕ) where
+  other : {isDigit : Bool} → Unlisted b isDigit → (characters : Bytes)
+      → turn escaped characters b ≡ pick isDigit (codeTurn (digitValue b) characters) breaks
+  other u characters =
       rw (
-        ne-eqb b 39 (λ k. same (inr (inl k))),
-        ne-eqb b 34 (λ k. same (inl k)),
-        ne-eqb b 92 (λ k. same (inr (inr k))),
-        ne-eqb b 110 line,
-        ne-eqb b 116 tab,
-        ne-eqb b 10 end,
-        d,
+        ne-eqb b 39 (λ k. u .same (inr (inl k))),
+        ne-eqb b 34 (λ k. u .same (inl k)),
+        ne-eqb b 92 (λ k. u .same (inr (inr k))),
+        ne-eqb b 110 (u .line),
+        ne-eqb b 116 (u .tab),
+        ne-eqb b 10 (u .end),
+        u .class,
       )
 
-  pub escape-digit : inClass digit b ≡ true → turn escaped characters b ≡ goesOn (coded (digitValue b)) characters
-  escape-digit d = let v = digit-value b d in other d ∙ rw (lt-ltb (digitValue b) 256 (omega arith))
+  pub unlisted-digit : Unlisted b true → Digit b
+  unlisted-digit u = is-digit b (u .class)
 
-  pub escape-other : inClass digit b ≡ false → turn escaped characters b ≡ breaks
-  escape-other d = other d
+  pub escape-digit : Unlisted b true → (characters : Bytes) → turn escaped characters b ≡ goesOn (coded (digitValue b)) characters
+  escape-digit u characters = let d = unlisted-digit u in other u characters ∙ rw (lt-ltb (digitValue b) 256 (omega arith))
+
+  pub escape-other : Unlisted b false → (characters : Bytes) → turn escaped characters b ≡ breaks
+  escape-other u characters = other u characters
 
 -- A WHOLE STRING
 
@@ -150,45 +168,32 @@ pub quoted-starts : (text : Bytes) (place : ℕ) → place < length text → Quo
 quoted-starts text place h =
     record { characters = []; same = rw add-one; counted = refl; charged = omega arith; inside = omega arith }
 
-module _ (text : Bytes) (place at count : ℕ) (q : Quoted-to text place at count) (r : Character) (s : Stands text plain at (at + 1) r) where
-  stood : {r′ : Character} → r ≡ r′ → Stands text plain at (at + 1) r′
-  stood e = rw e at s
+-- what the string comes to, or how it goes on, after each character
+module _ (text : Bytes) (place at count : ℕ) where
+  abbrev Shown : Token → ℕ → Type 0
+  Shown token past = Shows text (record { token = token; place = place; past = past }) (quotedAt place (quotationAt text place) .first)
 
-  pub given-passes : (b past : ℕ) → r ≡ Given b past → (at < past) × (past ≤ length text)
-  given-passes b past e = let p = stood e .passes in omega arith
+  abbrev pub QuotedOn : Character → Type 0
+  QuotedOn (Given b past) = (at < past) × Quoted-to text place past (count + 1)
+  QuotedOn (Nothing past) = (at < past) × Quoted-to text place past count
+  QuotedOn (Closed past) = Shown (Quoted count) past
+  QuotedOn (Broken past) = Shown Malformed past
 
-  pub nothing-passes : (past : ℕ) → r ≡ Nothing past → (at < past) × (past ≤ length text)
-  nothing-passes past e = let p = stood e .passes in omega arith
-
-  pub quoted-given : (b past : ℕ) → r ≡ Given b past → Quoted-to text place past (count + 1)
-  quoted-given b past e =
-      let p = stood e .passes in
-      record {
-        characters = q .characters ++ b ∷ [];
-        same = q .same ∙ stood e .same (q .characters);
-        counted = length-append (q .characters) (b ∷ []) ∙ rw (q .counted);
-        charged = omega (arith, q .charged);
-        inside = p .1;
-      }
-
-  pub quoted-nothing : (past : ℕ) → r ≡ Nothing past → Quoted-to text place past count
-  quoted-nothing past e =
-      let p = stood e .passes in
-      record {
-        characters = q .characters;
-        same = q .same ∙ stood e .same (q .characters);
-        counted = q .counted;
-        charged = omega (arith, q .charged);
-        inside = p .1;
-      }
-
-  pub quoted-closed : (past : ℕ) → r ≡ Closed past
-      → Shows text (record { token = Quoted count; place = place; past = past }) (quotedAt place (quotationAt text place) .first)
-  quoted-closed past e =
-      let p = stood e .passes in
-      let w : quotationAt text place ≡ closed (q .characters) past (drop past text) = q .same ∙ stood e .same (q .characters) in
-      record { same = rw w; sound = (rw w, rw w (q .counted), omega (arith, q .charged)) }
-
-  pub quoted-broken : (past : ℕ) → r ≡ Broken past
-      → Shows text (record { token = Malformed; place = place; past = past }) (quotedAt place (quotationAt text place) .first)
-  quoted-broken past e = record { same = rw (q .same ∙ stood e .same (q .characters)); sound = tt }
+  pub quoted-on : Quoted-to text place at count → (r : Character) → Stands text plain at (at + 1) r → QuotedOn r
+  quoted-on q r s = turned r (q .same ∙ s .same (q .characters)) (s .passes)
+    where
+      turned : (r : Character) → quotationAt text place ≡ continued text r (q .characters) → Passes text (at + 1) r → QuotedOn r
+      turned (Given b past) w p = (
+        omega arith,
+        record {
+          characters = q .characters ++ b ∷ [];
+          same = w;
+          counted = length-append (q .characters) (b ∷ []) ∙ rw (q .counted);
+          charged = omega (arith, q .charged);
+          inside = p .1;
+        },
+      )
+      turned (Nothing past) w p =
+          (omega arith, record { characters = q .characters; same = w; counted = q .counted; charged = omega (arith, q .charged); inside = p .1 })
+      turned (Closed past) w p = record { same = rw w; sound = (rw w, rw w (q .counted), omega (arith, q .charged)) }
+      turned (Broken past) w p = record { same = rw w; sound = tt }

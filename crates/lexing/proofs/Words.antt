@@ -1,6 +1,6 @@
 -- Words: a step of a run, as long as it goes.
 use Prim.Native.Nat.{ℕ, _+_, _≤_, _<_}
-use mathlib.Core.Path.{_≡_, _∙_}
+use mathlib.Core.Path.{_≡_, refl, _∙_}
 use mathlib.Core.Bool.{Bool, true, false}
 use mathlib.Core.List.{[], _∷_}
 use native.Mathlib.Numerals.{add-one}
@@ -26,18 +26,27 @@ module _ (text : Bytes) (fits : ℕ → Bool) (from : ℕ) where
   pub run-starts : Running text fits from from
   run-starts = record { same = rw slice-empty; onward = omega arith; inside = λ h. h }
 
-  pub run-goes : (at : ℕ) → at < length text → fits (getD text at 0) ≡ true → Running text fits from at → Running text fits from (at + 1)
+  -- the run so far, before a byte that fits or not
+  pub record RunningAt (at : ℕ) (goes : Bool) : Type 0 where
+    pub running : Running text fits from at
+    pub inside : at < length text
+    pub class : fits (getD text at 0) ≡ goes
+
+  pub run-goes : (at : ℕ) → RunningAt at true → Running text fits from (at + 1)
   unfolding run
-  run-goes at h t r =
+  run-goes at c =
+      let r = c .running in
       record {
-        same = r .same ∙ rw (add-one, slice-suc text from at (r .onward) h, here text at h, t);
+        same = r .same ∙ rw (add-one, slice-suc text from at (r .onward) (c .inside), here text at (c .inside), c .class);
         onward = omega arith;
         inside = omega arith;
       }
 
-  pub run-stops : (at : ℕ) → at < length text → fits (getD text at 0) ≡ false → Running text fits from at → RunsTo text fits from at
+  pub run-stops : (at : ℕ) → RunningAt at false → RunsTo text fits from at
   unfolding run
-  run-stops at h t r = record { same = r .same ∙ rw (here text at h, t); onward = r .onward; inside = r .inside }
+  run-stops at c =
+      let r = c .running in
+      record { same = r .same ∙ rw (here text at (c .inside), c .class); onward = r .onward; inside = r .inside }
 
   pub run-ends : (at : ℕ) → length text ≤ at → Running text fits from at → RunsTo text fits from at
   unfolding run
@@ -45,26 +54,29 @@ module _ (text : Bytes) (fits : ℕ → Bool) (from : ℕ) where
 
 -- WHAT A WORD IS
 
-module _ (text : Bytes) (at past : ℕ) (h : at < past) (k : past ≤ length text) where
-  first : slice at past text ≡ getD text at 0 ∷ slice (at + 1) past text
-  first = slice-cons at past text 0 h k ∙ rw add-one
+module _ (text : Bytes) (at past : ℕ) where
+  module _ (h : (at < past) × (past ≤ length text)) where
+    first : slice at past text ≡ getD text at 0 ∷ slice (at + 1) past text
+    first = slice-cons at past text 0 (h .0) (h .1) ∙ rw add-one
 
-  pub variable-word : (b : ℕ) → getD text at 0 ≡ b → word (b ∷ slice (at + 1) past text) ≡ word (slice at past text)
-  variable-word b e = rw (first, e)
+    pub letter-alone : past ≤ at + 1 → variableOf (slice at past text) ≡ noItem
+    letter-alone low =
+        let e : at + 1 ≡ past = omega arith in
+        rw (first, e, slice-empty past text)
 
-  pub letter-alone : past ≤ at + 1 → variableOf (slice at past text) ≡ noItem
-  letter-alone low =
-      let e : at + 1 ≡ past = omega arith in
-      rw (first, e, slice-empty past text)
+  module _ (h : (at + 1 < past) × (past ≤ length text)) where
+    pub variable-word : (b : ℕ) → getD text at 0 ≡ b
+        → (word (b ∷ slice (at + 1) past text) ≡ word (slice at past text)) × ((at + 1 ≡ at + 1) × (past ≡ past) × (at + 1 < past))
+    variable-word b e = (rw (first (omega arith), e), (refl, refl, h .0))
 
-  pub other-word : (getD text at 0 ≡ 115 → ⊥) → (getD text at 0 ≡ 101 → ⊥) → at + 1 < past → variableOf (slice at past text) ≡ noItem
-  other-word s e low =
-      rw (
-        first,
-        slice-cons (at + 1) past text 0 low k,
-        ne-eqb (getD text at 0) 115 s,
-        ne-eqb (getD text at 0) 101 e,
-      )
+    pub other-word : (getD text at 0 ≡ 115 → ⊥) → (getD text at 0 ≡ 101 → ⊥) → variableOf (slice at past text) ≡ noItem
+    other-word s e =
+        rw (
+          first (omega arith),
+          slice-cons (at + 1) past text 0 (h .0) (h .1),
+          ne-eqb (getD text at 0) 115 s,
+          ne-eqb (getD text at 0) 101 e,
+        )
 
 -- a letter is a byte of a word and of a name
 pub letter-word : (b : ℕ) → inClass alphabetic b ≡ true → wordByte b ≡ true

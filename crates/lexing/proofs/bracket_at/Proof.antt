@@ -2,9 +2,14 @@
 use borrow.Author.Needs.{needs}
 use Rattle.lexing.proofs.bracket_at.Statement.{statement}
 use Rattle.lexing.proofs.bracket_at.Tie as tie
-use mathlib.Core.Path.{sym, _∙_}
+use Prim.Native.Nat.{suc}
+use mathlib.Core.Path.{_≡_, sym, _∙_}
+use mathlib.Core.Bool.{Bool, true, false}
 use native.Mathlib.Numerals.{add-one}
-use Rattle.lexing.proofs.Showing.{shows-bracket, shows-no-bracket}
+use lib.ListN.{drop}
+use Rattle.meaning.specs.Classes.{inClass, alphabetic}
+use Rattle.meaning.specs.Tokens.{ahead}
+use Rattle.lexing.proofs.Showing.{shows-bracket}
 
 add-letter-ahead : tie.Need-add-letter-ahead
 add-letter-ahead c = search needs
@@ -18,11 +23,15 @@ add-t7 c = search needs
 add-t9 : tie.Need-add-t9
 add-t9 c = search needs
 
+after : (c : tie.After-letter-ahead) {letter : Bool} → c .letter-ahead .result ≡ letter
+    → let a = c .before .before .args in letter ≡ ahead (inClass alphabetic) (drop (suc (a .at)) (a .text .now))
+after c e = sym e ∙ rw add-one at (c .letter-ahead .ensures)
+
 returns : tie.Need-returns
-returns c = shows-bracket _ _ (sym (c .if1 .taken) ∙ rw add-one at (c .before .letter-ahead .ensures))
+returns c = shows-bracket _ _ true (after (c .before) (c .if1 .taken))
 
 returns-2 : tie.Need-returns-2
-returns-2 c = shows-no-bracket _ _ (sym (c .if1 .left) ∙ rw add-one at (c .before .letter-ahead .ensures))
+returns-2 c = shows-bracket _ _ false (after (c .before) (c .if1 .left))
 
 pub bracket-at-spec : {M : Type 1} → statement M
 bracket-at-spec =

@@ -2,12 +2,13 @@
 use Rattle.lexing.proofs.code.Statement.{statement}
 use Rattle.lexing.proofs.code.Tie as tie
 use Prim.Native.Nat.{_-_}
-use mathlib.Core.Path.{refl, sym, _∙_}
+use mathlib.Core.Path.{_≡_, refl, sym, _∙_}
+use mathlib.Core.Bool.{Bool, true}
 use native.Mathlib.Omega.{arith}
 use borrow.Author.Needs.{needs}
 use borrow.Author.Tests.{not-true, not-false}
-use lib.ListN.{length, getD}
-use Rattle.lexing.proofs.Strings.{is-digit, digit-value, Coding, code-goes, code-breaks, code-stops, code-ends}
+use lib.ListN.{length}
+use Rattle.lexing.proofs.Strings.{Coding, CodingAt, code-digit, code-goes, code-breaks, code-stops, code-ends}
 
 abbrev Inv-loop : tie.InvT-loop
 Inv-loop text from first value₀ at₀ value at = Coding text first from value at
@@ -24,52 +25,52 @@ shared-slice-read-byte c = omega arith
 is-digit-requires : tie.Need-is-digit-requires Inv-loop μ-loop
 is-digit-requires c κs = search needs
 
+coding : (c : tie.After-is-digit Inv-loop μ-loop) {isDigit : Bool} → c .is-digit .result ≡ isDigit
+    → let l = c .before .before .before .loop in
+    let a = c .before .before .before .before .before .args in
+    CodingAt (a .text .now) (a .first) (a .from) (l .value) (l .at) isDigit
+coding c e =
+    record {
+      coding = c .before .before .before .loop .inv;
+      inside = c .before .before .loop-test .taken;
+      class = sym (c .is-digit .ensures) ∙ e;
+    }
+
+before-digit : (c : tie.Else1 Inv-loop μ-loop)
+    → let l = c .before .before .before .before .loop in
+    let a = c .before .before .before .before .before .before .args in
+    CodingAt (a .text .now) (a .first) (a .from) (l .value) (l .at) true
+before-digit c = coding (c .before) (not-false _ (c .if1 .left))
+
 cast-t12 : tie.Need-cast-t12 Inv-loop μ-loop
 cast-t12 c = record { fits = c .before .before .before .before .loop .inv .small }
 
 returns : tie.Need-returns Inv-loop μ-loop
-returns c =
-    let at-loop-test = c .before .before .before in
-    let at-loop = at-loop-test .before in
-    code-stops _ _ _ _ _ (at-loop .loop .inv) (at-loop-test .loop-test .taken) (sym (c .before .is-digit .ensures) ∙ not-true _ (c .if1 .taken))
+returns c = code-stops _ _ _ _ _ (coding (c .before) (not-true _ (c .if1 .taken)))
 
 mul-value : tie.Need-mul-value Inv-loop μ-loop
 mul-value c = omega arith
 
 sub-value : tie.Need-sub-value Inv-loop μ-loop
-sub-value c = is-digit _ (sym (c .before .is-digit .ensures) ∙ not-false _ (c .if1 .left)) .low
+sub-value c = code-digit _ _ _ _ _ (before-digit c) .low
 
 cast-value : tie.Need-cast-value Inv-loop μ-loop
-cast-value c =
-    let at-loop = c .before .before .before .before in
-    let entry = at-loop .before .before in
-    omega (arith, digit-value (getD (entry .args .text .now) (at-loop .loop .at) 0) (sym (c .before .is-digit .ensures) ∙ not-false _ (c .if1 .left)))
+cast-value c = omega (arith, code-digit _ _ _ _ _ (before-digit c))
 
 add-value : tie.Need-add-value Inv-loop μ-loop
-add-value c =
-    let at-loop = c .before .before .before .before in
-    let entry = at-loop .before .before in
-    omega (arith, digit-value (getD (entry .args .text .now) (at-loop .loop .at) 0) (sym (c .before .is-digit .ensures) ∙ not-false _ (c .if1 .left)))
+add-value c = omega (arith, code-digit _ _ _ _ _ (before-digit c))
 
 add-at : tie.Need-add-at Inv-loop μ-loop
 add-at c = omega arith
 
 returns-2 : tie.Need-returns-2 Inv-loop μ-loop
-returns-2 c =
-    let at-is-digit = c .before .before in
-    let at-loop-test = at-is-digit .before .before in
-    let at-loop = at-loop-test .before in
-    code-breaks _ _ _ _ _ (at-loop .loop .inv) (at-loop-test .loop-test .taken) (sym (at-is-digit .is-digit .ensures) ∙ not-false _ (c .before .if1 .left)) (c .if2 .taken)
+returns-2 c = code-breaks _ _ _ _ _ (before-digit (c .before)) (c .if2 .taken)
 
 loop-less : tie.Need-loop-less Inv-loop μ-loop
 loop-less c = omega arith
 
 loop-again : tie.Need-loop-again Inv-loop μ-loop
-loop-again c =
-    let at-is-digit = c .before .before in
-    let at-loop-test = at-is-digit .before .before in
-    let at-loop = at-loop-test .before in
-    code-goes _ _ _ _ _ (at-loop .loop .inv) (at-loop-test .loop-test .taken) (sym (at-is-digit .is-digit .ensures) ∙ not-false _ (c .before .if1 .left)) (omega arith)
+loop-again c = code-goes _ _ _ _ _ (before-digit (c .before)) (omega arith)
 
 cast-t14 : tie.Need-cast-t14 Inv-loop μ-loop
 cast-t14 c = record { fits = c .before .loop .inv .small }

@@ -2,13 +2,14 @@
 use Rattle.lexing.proofs.comment_past.Statement.{statement}
 use Rattle.lexing.proofs.comment_past.Tie as tie
 use Prim.Native.Nat.{_-_}
-use mathlib.Core.Path.{sym, _∙_}
+use mathlib.Core.Path.{_≡_, sym, _∙_}
+use mathlib.Core.Bool.{Bool}
 use native.Mathlib.Omega.{arith}
 use lib.ListN.{length}
 use borrow.Author.Needs.{needs}
 use borrow.Author.Tests.{eq-eqb, ne-eqb}
 use Rattle.lexing.specs.View.{Plain}
-use Rattle.lexing.proofs.Gaps.{plain-starts, plain-goes, plain-joins, star-goes, star-ends, endless}
+use Rattle.lexing.proofs.Gaps.{plain-starts, plain-goes, plain-joins, StarAt, star-goes, star-ends, endless}
 
 abbrev Inv-loop : tie.InvT-loop
 Inv-loop text from at₀ at = Plain text from at
@@ -28,15 +29,24 @@ add-byte-ahead c = omega arith
 byte-ahead-requires : tie.Need-byte-ahead-requires Inv-loop μ-loop
 byte-ahead-requires c κs = search needs
 
+star-stands : (c : tie.After-byte-ahead Inv-loop μ-loop) {ends : Bool} → c .byte-ahead .result ≡ ends
+    → let l = c .before .before .before .before .loop in
+    let a = c .before .before .before .before .before .before .args in
+    StarAt (a .text .now) (a .from) (l .at) ends
+star-stands c e =
+    let at-loop-test = c .before .before .before in
+    record {
+      plain = at-loop-test .before .loop .inv;
+      inside = at-loop-test .loop-test .taken;
+      star = eq-eqb _ 42 (c .before .if1 .taken);
+      slash = sym (c .byte-ahead .ensures) ∙ e;
+    }
+
 add-past : tie.Need-add-past Inv-loop μ-loop
 add-past c = omega arith
 
 returns : tie.Need-returns Inv-loop μ-loop
-returns c =
-    let at-if1 = c .before .before in
-    let at-loop-test = at-if1 .before .before in
-    let at-loop = at-loop-test .before in
-    star-ends _ _ _ (at-loop-test .loop-test .taken) (eq-eqb _ 42 (at-if1 .if1 .taken)) (sym (c .before .byte-ahead .ensures) ∙ c .if2 .taken) (at-loop .loop .inv)
+returns c = star-ends _ _ _ (star-stands (c .before) (c .if2 .taken))
 
 add-at : tie.Need-add-at Inv-loop μ-loop
 add-at c = omega arith
@@ -45,11 +55,7 @@ loop-less : tie.Need-loop-less Inv-loop μ-loop
 loop-less c = omega arith
 
 loop-again : tie.Need-loop-again Inv-loop μ-loop
-loop-again c =
-    let at-if1 = c .before .before in
-    let at-loop-test = at-if1 .before .before in
-    let at-loop = at-loop-test .before in
-    star-goes _ _ _ (at-loop-test .loop-test .taken) (eq-eqb _ 42 (at-if1 .if1 .taken)) (sym (c .before .byte-ahead .ensures) ∙ c .if2 .left) (at-loop .loop .inv)
+loop-again c = star-goes _ _ _ (star-stands (c .before) (c .if2 .left))
 
 add-plain-past : tie.Need-add-plain-past Inv-loop μ-loop
 add-plain-past c = omega arith

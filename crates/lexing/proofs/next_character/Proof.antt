@@ -20,20 +20,18 @@ escape-requires : tie.Need-escape-requires
 escape-requires c κs = search needs
 
 returns-2 : tie.Need-returns-2
-returns-2 c = stands-closed _ _ _ _ (c .before .before .if1 .left) (omega arith) (λ characters. rw (c .match .keys1))
+returns-2 c = stands-closed _ _ _ _ (omega arith) (λ characters. rw (c .match .keys1))
 
 returns-3 : tie.Need-returns-3
-returns-3 c = stands-broken _ _ _ _ (c .before .before .if1 .left) (omega arith) (λ characters. rw (c .match .keys2))
+returns-3 c = stands-broken _ _ _ _ (omega arith) (λ characters. rw (c .match .keys2))
 
 returns-4 : tie.Need-returns-4
-returns-4 c =
-    stands-later _ _ _ _ (c .before .before .before .if1 .left) (omega arith) escaped _ (λ characters. rw (c .before .match .keys3)) (c .escape .ensures)
+returns-4 c = stands-later _ _ _ _ (omega arith) escaped _ (λ characters. rw (c .before .match .keys3)) (c .escape .ensures)
 
 returns-5 : tie.Need-returns-5
 returns-5 c =
     let m = c .match .rest in
-    stands-given _ _ _ _ (c .before .before .if1 .left) (omega arith) _
-    (λ characters. rw (ne-eqb _ 39 (m .0 .0 .1), ne-eqb _ 34 (m .0 .1), ne-eqb _ 92 (m .1)))
+    stands-given _ _ _ _ (omega arith) _ (λ characters. rw (ne-eqb _ 39 (m .0 .0 .1), ne-eqb _ 34 (m .0 .1), ne-eqb _ 92 (m .1)))
 
 pub next-character-spec : {M : Type 1} → statement M
 next-character-spec =

@@ -2,10 +2,12 @@
 use Rattle.lexing.proofs.quoted_at.Statement.{statement}
 use Rattle.lexing.proofs.quoted_at.Tie as tie
 use Prim.Native.Nat.{_-_}
+use mathlib.Core.Path.{_≡_}
 use native.Mathlib.Omega.{arith}
 use lib.ListN.{length}
 use borrow.Author.Needs.{needs}
-use Rattle.lexing.proofs.Strings.{Quoted-to, quoted-starts, given-passes, nothing-passes, quoted-given, quoted-nothing, quoted-closed, quoted-broken}
+use Rattle.lexing.specs.declared.Character.{Character}
+use Rattle.lexing.proofs.Strings.{Quoted-to, quoted-starts, QuotedOn, quoted-on}
 
 abbrev Inv-loop : tie.InvT-loop
 Inv-loop text place at₀ count₀ at count = Quoted-to text place at count
@@ -22,6 +24,13 @@ loop-holds c = quoted-starts _ _ (c .before .pre)
 next-character-requires : tie.Need-next-character-requires Inv-loop μ-loop
 next-character-requires c κs = search needs
 
+-- after the next character, whatever it is
+turned : (c : tie.After-next-character Inv-loop μ-loop) {r : Character} → c .next-character .result ≡ r
+    → let l = c .before .loop in
+    let a = c .before .before .before .args in
+    QuotedOn (a .text .now) (a .place) (l .at) (l .count) r
+turned c {r} e = quoted-on _ _ _ _ (c .before .loop .inv) r (rw e at (c .next-character .ensures))
+
 enum-known-past : tie.Need-enum-known-past Inv-loop μ-loop
 enum-known-past c = search needs
 
@@ -29,51 +38,31 @@ add-count : tie.Need-add-count Inv-loop μ-loop
 add-count c = let i = c .before .before .before .before .loop .inv in omega arith
 
 loop-less : tie.Need-loop-less Inv-loop μ-loop
-loop-less c =
-    let at-next-character = c .before .before .before in
-    let at-loop = at-next-character .before in
-    let p = given-passes _ _ _ _ (at-loop .loop .inv) _ (at-next-character .next-character .ensures) _ _ (c .before .past .given .1) in
-    omega arith
+loop-less c = let p = turned (c .before .before .before) (c .before .past .given .1) in omega arith
 
 loop-again : tie.Need-loop-again Inv-loop μ-loop
-loop-again c =
-    let at-next-character = c .before .before .before in
-    let at-loop = at-next-character .before in
-    quoted-given _ _ _ _ (at-loop .loop .inv) _ (at-next-character .next-character .ensures) _ _ (c .before .past .given .1)
+loop-again c = turned (c .before .before .before) (c .before .past .given .1) .1
 
 enum-known-past-2 : tie.Need-enum-known-past-2 Inv-loop μ-loop
 enum-known-past-2 c = search needs
 
 loop-less-2 : tie.Need-loop-less-2 Inv-loop μ-loop
-loop-less-2 c =
-    let at-next-character = c .before .before .before in
-    let at-loop = at-next-character .before in
-    let p = nothing-passes _ _ _ _ (at-loop .loop .inv) _ (at-next-character .next-character .ensures) _ (c .before .past2 .given .1) in
-    omega arith
+loop-less-2 c = let p = turned (c .before .before .before) (c .before .past2 .given .1) in omega arith
 
 loop-again-2 : tie.Need-loop-again-2 Inv-loop μ-loop
-loop-again-2 c =
-    let at-next-character = c .before .before .before in
-    let at-loop = at-next-character .before in
-    quoted-nothing _ _ _ _ (at-loop .loop .inv) _ (at-next-character .next-character .ensures) _ (c .before .past2 .given .1)
+loop-again-2 c = turned (c .before .before .before) (c .before .past2 .given .1) .1
 
 enum-known-past-3 : tie.Need-enum-known-past-3 Inv-loop μ-loop
 enum-known-past-3 c = search needs
 
 returns : tie.Need-returns Inv-loop μ-loop
-returns c =
-    let at-next-character = c .before .before .before in
-    let at-loop = at-next-character .before in
-    quoted-closed _ _ _ _ (at-loop .loop .inv) _ (at-next-character .next-character .ensures) _ (c .before .past3 .given .1)
+returns c = turned (c .before .before .before) (c .before .past3 .given .1)
 
 enum-known-past-4 : tie.Need-enum-known-past-4 Inv-loop μ-loop
 enum-known-past-4 c = search needs
 
 returns-2 : tie.Need-returns-2 Inv-loop μ-loop
-returns-2 c =
-    let at-next-character = c .before .before .before in
-    let at-loop = at-next-character .before in
-    quoted-broken _ _ _ _ (at-loop .loop .inv) _ (at-next-character .next-character .ensures) _ (c .before .past4 .given .1)
+returns-2 c = turned (c .before .before .before) (c .before .past4 .given .1)
 
 pub quoted-at-spec : {M : Type 1} → statement M
 quoted-at-spec =

@@ -2,13 +2,14 @@
 use Rattle.lexing.proofs.run_past.Statement.{statement}
 use Rattle.lexing.proofs.run_past.Tie as tie
 use Prim.Native.Nat.{_-_}
-use mathlib.Core.Path.{sym, _∙_}
+use mathlib.Core.Path.{_≡_, sym, _∙_}
+use mathlib.Core.Bool.{Bool}
 use native.Mathlib.Omega.{arith}
 use lib.ListN.{length}
 use borrow.Author.Needs.{needs}
 use borrow.Author.Tests.{not-true, not-false}
 use Rattle.classes.specs.Tests.{classTest}
-use Rattle.lexing.proofs.Words.{Running, run-starts, run-goes, run-stops, run-ends}
+use Rattle.lexing.proofs.Words.{Running, RunningAt, run-starts, run-goes, run-stops, run-ends}
 
 abbrev Inv-loop : tie.InvT-loop
 Inv-loop table text from class at₀ at = Running text (classTest class) from at
@@ -25,11 +26,19 @@ shared-slice-read-byte c = omega arith
 passes-requires : tie.Need-passes-requires Inv-loop μ-loop
 passes-requires c κs = search needs
 
+running : (c : tie.After-passes Inv-loop μ-loop) {goes : Bool} → c .passes .result ≡ goes
+    → let l = c .before .before .before .loop in
+    let a = c .before .before .before .before .before .args in
+    RunningAt (a .text .now) (classTest (a .class)) (a .from) (l .at) goes
+running c e =
+    record {
+      running = c .before .before .before .loop .inv;
+      inside = c .before .before .loop-test .taken;
+      class = sym (c .passes .ensures) ∙ e;
+    }
+
 returns : tie.Need-returns Inv-loop μ-loop
-returns c =
-    let at-loop-test = c .before .before .before in
-    let at-loop = at-loop-test .before in
-    run-stops _ _ _ _ (at-loop-test .loop-test .taken) (sym (c .before .passes .ensures) ∙ not-true _ (c .if1 .taken)) (at-loop .loop .inv)
+returns c = run-stops _ _ _ _ (running (c .before) (not-true _ (c .if1 .taken)))
 
 add-at : tie.Need-add-at Inv-loop μ-loop
 add-at c = omega arith
@@ -38,10 +47,7 @@ loop-less : tie.Need-loop-less Inv-loop μ-loop
 loop-less c = omega arith
 
 loop-again : tie.Need-loop-again Inv-loop μ-loop
-loop-again c =
-    let at-loop-test = c .before .before .before in
-    let at-loop = at-loop-test .before in
-    run-goes _ _ _ _ (at-loop-test .loop-test .taken) (sym (c .before .passes .ensures) ∙ not-false _ (c .if1 .left)) (at-loop .loop .inv)
+loop-again c = run-goes _ _ _ _ (running (c .before) (not-false _ (c .if1 .left)))
 
 returns-2 : tie.Need-returns-2 Inv-loop μ-loop
 returns-2 c = run-ends _ _ _ _ (c .loop-test .left) (c .before .loop .inv)

@@ -1,11 +1,6 @@
 -- `lexing::skip` meets its contract: what is passed from the start on is what is passed from here.
 use Rattle.lexing.proofs.skip.Statement.{statement}
 use Rattle.lexing.proofs.skip.Tie as tie
-use Rattle.lexing.proofs.skip.Reads as reads
-use Rattle.lexing.proofs.skip.Lts as lts
-use Rattle.classes.proofs.is_blank.Reads as is-blank-reads
-use Rattle.lexing.proofs.byte_ahead.Reads as byte-ahead-reads
-use Rattle.lexing.proofs.comment_past.Reads as comment-past-reads
 use Prim.Native.Nat.{_+_, _-_, _≤_}
 use mathlib.Core.Path.{_≡_, refl, sym, _∙_, ap, subst}
 use mathlib.Core.Logic.{⊎-elim}
@@ -64,14 +59,10 @@ enum-known-past-2 : tie.Need-enum-known-past-2 Inv-loop μ-loop
 enum-known-past-2 c = search needs
 
 -- after the comment, whether it has an end or not
-comment-done : (c : lts.After-comment-past (is-blank-reads.Asked, is-blank-reads.Learnt, byte-ahead-reads.Asked, byte-ahead-reads.Learnt, comment-past-reads.Asked, comment-past-reads.Learnt) reads.Pre reads.Post Inv-loop μ-loop)
-    (comment : Comment)
-    → c .comment-past .result ≡ comment
-    → Tokens.skip Tokens.between (c .before .before .before .before .before .before .before .before .before .before .args .from)
-    (drop (c .before .before .before .before .before .before .before .before .before .before .args .from)
-    (c .before .before .before .before .before .before .before .before .before .before .args .text .now))
-    ≡ commentOf (c .before .before .before .before .before .before .before .before .before .before .args .text .now)
-    (c .before .before .before .before .before .before .before .before .loop .at) comment
+comment-done : (c : tie.After-comment-past Inv-loop μ-loop) (comment : Comment) → c .comment-past .result ≡ comment
+    → let at-loop = c .before .before .before .before .before .before .before .before in
+    let a = at-loop .before .before .args in
+    Tokens.skip Tokens.between (a .from) (drop (a .from) (a .text .now)) ≡ commentOf (a .text .now) (at-loop .loop .at) comment
 comment-done c comment e =
     let at-byte-ahead = c .before .before in
     let at-if2 = at-byte-ahead .before in

@@ -2,13 +2,13 @@
 use borrow.Author.Needs.{needs}
 use Rattle.lexing.proofs.token_at.Statement.{statement}
 use Rattle.lexing.proofs.token_at.Tie as tie
-use mathlib.Core.Path.{sym, _∙_}
+use mathlib.Core.Path.{_≡_, sym, _∙_}
+use mathlib.Core.Bool.{Bool, false}
 use native.Mathlib.Numerals.{add-one}
-use Rattle.lexing.specs.View.{modeOf}
-use Rattle.lexing.proofs.Showing.{at-end, at-letter, at-quote, at-bracket, at-sign}
+use Rattle.lexing.proofs.Showing.{ByteAt, at-end, at-letter, at-quote, at-bracket, at-sign}
 
 returns : tie.Need-returns
-returns c = record { same = rw (at-end _ (modeOf (c .before .before .args .mode)) _ (c .if1 .taken)); sound = tt }
+returns c = record { same = rw (at-end _ _ _ (c .if1 .taken)); sound = tt }
 
 shared-slice-read-byte : tie.Need-shared-slice-read-byte
 shared-slice-read-byte c = search needs
@@ -16,15 +16,15 @@ shared-slice-read-byte c = search needs
 is-letter-requires : tie.Need-is-letter-requires
 is-letter-requires c κs = search needs
 
+byte-stands : (c : tie.After-is-letter) {letter : Bool} → c .is-letter .result ≡ letter
+    → let a = c .before .before .before .before .args in ByteAt (a .text .now) (a .at) letter
+byte-stands c e = record { inside = c .before .before .if1 .left; class = sym (c .is-letter .ensures) ∙ e }
+
 word-at-requires : tie.Need-word-at-requires
-word-at-requires c κs = record { inside = c .before .before .before .if1 .left; letter = sym (c .before .is-letter .ensures) ∙ c .if2 .taken }
+word-at-requires c κs = let b = byte-stands (c .before) (c .if2 .taken) in record { inside = b .inside; letter = b .class }
 
 returns-2 : tie.Need-returns-2
-returns-2 c =
-    let at-is-letter = c .before .before in
-    let at-if1 = at-is-letter .before .before in
-    let entry = at-if1 .before .before in
-    rw (at-letter _ (modeOf (entry .args .mode)) _ (at-if1 .if1 .left) (sym (at-is-letter .is-letter .ensures) ∙ c .before .if2 .taken)) (c .word-at .ensures)
+returns-2 c = rw (at-letter _ _ _ (byte-stands (c .before .before) (c .before .if2 .taken))) (c .word-at .ensures)
 
 quoted-at-requires : tie.Need-quoted-at-requires
 quoted-at-requires c κs = search needs
@@ -35,33 +35,17 @@ bracket-at-requires c κs = search needs
 add-t13 : tie.Need-add-t13
 add-t13 c = search needs
 
+no-letter : (c : tie.Else2) → let a = c .before .before .before .before .before .args in ByteAt (a .text .now) (a .at) false
+no-letter c = byte-stands (c .before) (c .if2 .left)
+
 returns-3 : tie.Need-returns-3
-returns-3 c =
-    let at-if2 = c .before .before in
-    let at-is-letter = at-if2 .before in
-    let at-if1 = at-is-letter .before .before in
-    let entry = at-if1 .before .before in
-    rw (at-quote _ (modeOf (entry .args .mode)) _ (at-if1 .if1 .left) (sym (at-is-letter .is-letter .ensures) ∙ at-if2 .if2 .left)
-    (c .before .match .keys1)) (c .quoted-at .ensures)
+returns-3 c = rw (at-quote _ _ _ (no-letter (c .before .before)) (c .before .match .keys1)) (c .quoted-at .ensures)
 
 returns-4 : tie.Need-returns-4
-returns-4 c =
-    let at-if2 = c .before .before in
-    let at-is-letter = at-if2 .before in
-    let at-if1 = at-is-letter .before .before in
-    let entry = at-if1 .before .before in
-    rw (at-bracket _ (modeOf (entry .args .mode)) _ (at-if1 .if1 .left) (sym (at-is-letter .is-letter .ensures) ∙ at-if2 .if2 .left)
-    (c .before .match .keys2)) (c .bracket-at .ensures)
+returns-4 c = rw (at-bracket _ _ _ (no-letter (c .before .before)) (c .before .match .keys2)) (c .bracket-at .ensures)
 
 returns-5 : tie.Need-returns-5
-returns-5 c =
-    let at-is-letter = c .before .before in
-    let at-if1 = at-is-letter .before .before in
-    let entry = at-if1 .before .before in
-    let a = entry .args in
-    let m = c .match .rest in
-    let e = at-sign (a .text .now) (modeOf (a .mode)) (a .at) (at-if1 .if1 .left) (sym (at-is-letter .is-letter .ensures) ∙ c .before .if2 .left) (m .0 .1) (m .1) in
-    record { same = rw (e, add-one); sound = tt }
+returns-5 c = record { same = rw (at-sign _ _ _ (no-letter (c .before)) (c .match .rest .0 .1) (c .match .rest .1), add-one); sound = tt }
 
 pub token-at-spec : {M : Type 1} → statement M
 token-at-spec =

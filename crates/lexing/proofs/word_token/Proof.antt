@@ -15,24 +15,18 @@ add-if1-2 : tie.Need-add-if1-2
 add-if1-2 c = omega arith
 
 returns : tie.Need-returns
-returns c = (refl, letter-alone _ _ _ (c .before .before .pre .0) (c .before .before .pre .1) (c .if1 .taken))
+returns c = (refl, letter-alone _ _ _ (c .before .before .pre) (c .if1 .taken))
 
 returns-2 : tie.Need-returns-2
-returns-2 c =
-    let entry = c .before .before .before in
-    (variable-word _ _ _ (entry .pre .0) (entry .pre .1) 115 (c .if2 .taken), (refl, refl, c .before .if1 .left))
+returns-2 c = variable-word _ _ _ (omega arith) 115 (c .if2 .taken)
 
 returns-3 : tie.Need-returns-3
-returns-3 c =
-    let at-if1 = c .before .before in
-    let entry = at-if1 .before .before in
-    (variable-word _ _ _ (entry .pre .0) (entry .pre .1) 101 (c .if3 .taken), (refl, refl, at-if1 .if1 .left))
+returns-3 c = variable-word _ _ _ (omega arith) 101 (c .if3 .taken)
 
 returns-4 : tie.Need-returns-4
 returns-4 c =
     let at-if1 = c .before .before in
-    let entry = at-if1 .before .before in
-    (refl, other-word _ _ _ (entry .pre .0) (entry .pre .1) (c .before .if2 .left) (c .if3 .left) (at-if1 .if1 .left))
+    (refl, other-word _ _ _ (at-if1 .if1 .left, at-if1 .before .before .pre .1) (c .before .if2 .left) (c .if3 .left))
 
 pub word-token-spec : {M : Type 1} → statement M
 word-token-spec =
