@@ -92,9 +92,13 @@ module _ (text : Bytes) (x : Span) (p : Inside text x) where
   pub called-is : x .past - x .from ≤ 24 → {is : Bool} → isPredicate (part text x) ≡ is → pick is wrongName 0 ≡ calledFault (part text x)
   called-is h {is} e = rw (short-enough text x p 24 h, e) (fault-if is wrongName)
 
+-- what is wrong with a name where it is called, and whether that is nothing
+pub record Asked-called (text : Bytes) (x : Span) (number : ℕ) (is : Bool) : Type 0 where
+  pub fault : number ≡ calledFault (part text x)
+  pub accepted : is ≡ eqb number 0
+
 -- a declared name, by what is wrong with it where it is called
-module _ {text : Bytes} {x : Span} {table : List ℕ} {functions : ℕ} (p : Inside text x) (k : Entries text table 0 functions) {number : ℕ} {is : Bool}
-    (e : number ≡ calledFault (part text x)) (q : is ≡ eqb number 0) where
+module _ {text : Bytes} {x : Span} {number : ℕ} {is : Bool} (a : Asked-called text x number is) {table : List ℕ} {functions : ℕ} (k : Entries text table 0 functions) where
   abbrev n : Name
   n = part text x
 
@@ -102,7 +106,7 @@ module _ {text : Bytes} {x : Span} {table : List ℕ} {functions : ℕ} (p : Ins
   names = tableNames text table 0 functions
 
   pub declared-wrong : not is ≡ true → number ≡ declaredFaultIn names n
-  declared-wrong w = e ∙ wrong (leb (length n) 24) (isPredicate n) (rw e at (a-fault-here e q w))
+  declared-wrong w = a .fault ∙ wrong (leb (length n) 24) (isPredicate n) (rw (a .fault) at (a-fault-here (a .fault) (a .accepted) w))
     where
       wrong : (short predicate : Bool) → eqb (faultUnless short overLimit (faultUnless (not predicate) wrongName 0)) 0 ≡ false
           → faultUnless short overLimit (faultUnless (not predicate) wrongName 0)
@@ -113,7 +117,7 @@ module _ {text : Bytes} {x : Span} {table : List ℕ} {functions : ℕ} (p : Ins
 
   pub declared-is : not is ≡ false → {emission known : Bool} → isEmission n ≡ emission → member n names ≡ known
       → faultUnless (both (not emission) (not known)) wrongName 0 ≡ declaredFaultIn names n
-  declared-is w {emission} {known} f g = right (leb (length n) 24) (isPredicate n) (no-fault-here e q w)
+  declared-is w {emission} {known} f g = right (leb (length n) 24) (isPredicate n) (no-fault-here (a .fault) (a .accepted) w)
     where
       right : (short predicate : Bool) → faultUnless short overLimit (faultUnless (not predicate) wrongName 0) ≡ 0
           → faultUnless (both (not emission) (not known)) wrongName 0

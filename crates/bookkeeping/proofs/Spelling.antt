@@ -8,13 +8,14 @@ use native.Mathlib.Numerals.{add-one}
 use native.Mathlib.Omega.{arith}
 use lib.Dec.{eqb}
 use lib.ListN.{length, getD, take, drop, drop-of-length-le}
-use lib.Seq.{slice, slice-cons, length-slice, drop-cons, take-nil}
+use lib.Seq.{slice, slice-cons, drop-cons, take-nil}
 use borrow.Author.Tests.{eq-eqb, ne-eqb, eqb-true, eqb-false}
 use Rattle.meaning.specs.Choice.{Bytes, Name, both, sameBytes, startsWith}
 use Rattle.lexing.specs.View.{part}
 use Rattle.lexing.specs.declared.Span.{Span}
 use Rattle.bookkeeping.specs.Tables.{Inside}
 use Rattle.bookkeeping.proofs.Choosing.{both-false}
+use Rattle.bookkeeping.proofs.Lengths.{part-length}
 
 -- a part of the text as it is lent on
 pub lent-part : (from past : ℕ) (text : Bytes) → take (past - from) (drop from text) ≡ slice from past text
@@ -49,7 +50,7 @@ pub record Beginning (text word : Bytes) (from past i : ℕ) : Type 0 where
 
 module _ (text word : Bytes) (x : Span) (p : Inside text x) where
   pub begins-short : x .past - x .from < length word → false ≡ startsWith word (part text x)
-  begins-short h = starts-shorter word (part text x) (rw (length-slice (x .from) (x .past) text (p .inside)) h)
+  begins-short h = starts-shorter word (part text x) (rw (part-length text x p) h)
 
   pub begins-starts : length word ≤ x .past - x .from → Beginning text word (x .from) (x .past) 0
   begins-starts h =
@@ -94,7 +95,7 @@ begins-same (x ∷ xs) (w ∷ word) e = ap₂ both (turned w x (eqb w x) refl) (
 
 module _ (text word : Bytes) (x : Span) (p : Inside text x) where
   pub spells-unlike : (x .past - x .from ≡ length word → ⊥) → false ≡ sameBytes (part text x) word
-  spells-unlike d = lengths-differ (part text x) word (λ e. d (sym (length-slice (x .from) (x .past) text (p .inside)) ∙ e))
+  spells-unlike d = lengths-differ (part text x) word (λ e. d (sym (part-length text x p) ∙ e))
 
   pub spells-same : x .past - x .from ≡ length word → startsWith word (part text x) ≡ sameBytes (part text x) word
-  spells-same e = begins-same (part text x) word (length-slice (x .from) (x .past) text (p .inside) ∙ e)
+  spells-same e = begins-same (part text x) word (part-length text x p ∙ e)

@@ -9,7 +9,8 @@ use lib.Dec.{T, le→leb}
 use lib.ListN.{length, take, drop, set, length-set}
 use lib.Seq.{slice, slice-empty, take-suc-set, take-set-le, take-set-lt, drop-set-lt, drop-append-le, length-take-le, drop-drop}
 use Rattle.meaning.specs.Choice.{Bytes, Name, every}
-use Rattle.meaning.proofs.laws.Passing.{both-left, both-right, both-pass}
+use Rattle.meaning.proofs.laws.Passing.{both-right, both-pass}
+use Rattle.meaning.proofs.reading.Lists.{every-append as every-both}
 use Rattle.lexing.specs.View.{part}
 use Rattle.lexing.specs.declared.Span.{Span}
 use Rattle.bookkeeping.specs.Tables.{Inside, nameIn, namesIn, inText, tableNames, Entries}
@@ -17,10 +18,7 @@ use Rattle.bookkeeping.specs.Tables.{Inside, nameIn, namesIn, inText, ta
 -- LISTS
 
 pub every-append : {A : Type 0} (f : A → Bool) (xs ys : List A) → T (every f xs) → T (every f ys) → T (every f (xs ++ ys))
-unfolding every
-every-append f [] ys p q = q
-every-append f (x ∷ xs) ys p q =
-    both-pass (f x) (every f (xs ++ ys)) (both-left (f x) (every f xs) p) (every-append f xs ys (both-right (f x) (every f xs) p) q)
+every-append f xs ys p q = rw (every-both f xs ys) (both-pass (every f xs) (every f ys) p q)
 
 pub every-one : {A : Type 0} (f : A → Bool) (x : A) → T (f x) → T (every f (x ∷ []))
 unfolding every

@@ -10,7 +10,7 @@ use lib.ListN.{length, getD, set, take, drop, replicate, length-append, length-s
 use lib.Seq.{slice, slice-empty, length-slice, take-suc-set, take-all, length-take-le}
 use Rattle.meaning.specs.Choice.{Bytes, every}
 use Rattle.meaning.specs.Tokens as Tokens
-use Rattle.lexing.specs.View.{IsClosed, charactersIn, Stands}
+use Rattle.lexing.specs.View.{IsClosed, charactersIn, continued, Passes, Stands}
 use Rattle.lexing.specs.declared.Character.{Character}
 use Rattle.lexing.specs.declared.Character.the-variants.{Given, Nothing, Closed, Broken}
 use Rattle.lexing.specs.declared.Span.{Span}
@@ -166,55 +166,49 @@ module _ (text : Bytes) (start : List ℕ) (at from : ℕ) where
         short = r .short;
       }
 
-  module _ (tape : List ℕ) (to i : ℕ) (s : Spelled-to text start at from tape to i) (r : Character) (stood : Stands text Tokens.plain i (i + 1) r) where
-    at-character : {r′ : Character} → r ≡ r′ → Stands text Tokens.plain i (i + 1) r′
-    at-character e = rw e at stood
+  -- what the string comes to, or how its characters go on, after each
+  module _ (tape : List ℕ) (to i : ℕ) where
+    abbrev pub SpelledOn : Character → Type 0
+    SpelledOn (Given b past) =
+        (i < past) × (past ≤ length text) × (to < 32768)
+        × (b < 256 → (next : List ℕ) → next ≡ set tape to b → Spelled-to text start at from next (to + 1) past)
+    SpelledOn (Nothing past) = (i < past) × Spelled-to text start at from tape to past
+    SpelledOn (Closed past) =
+        Wrote start at (charactersIn (stringFrom text from)) to tape × T (every isQuiet (charactersIn (stringFrom text from)))
+    SpelledOn (Broken past) = IsClosed (stringFrom text from) → ⊥
 
-    pub given-room : (b past : ℕ) → r ≡ Given b past → (i < past) × (past ≤ length text) × (to < 32768)
-    given-room b past e =
-        let p = at-character e .passes in
-        let k = s .charged in
-        let m = s .short in
-        omega arith
-
-    pub nothing-room : (past : ℕ) → r ≡ Nothing past → (i < past) × (past ≤ length text)
-    nothing-room past e = let p = at-character e .passes in omega arith
-
-    pub spelling-given : (b past : ℕ) → r ≡ Given b past → b < 256 → (next : List ℕ) → next ≡ set tape to b → Spelled-to text start at from next (to + 1) past
-    spelling-given b past e small next w =
-        let p = at-character e .passes in
-        record {
-          characters = s .characters ++ b ∷ [];
-          string = s .string ∙ at-character e .same (s .characters);
-          reached = rw (length-append (s .characters) (b ∷ [])) (omega (arith, s .reached));
-          same = w ∙ rw (s .same, s .reached) (written-snoc (s .characters) start at b);
-          quiet = every-append isQuiet (s .characters) (b ∷ []) (s .quiet) (every-one isQuiet b (lt→ltb b 2304 (omega arith)));
-          charged = omega (arith, s .charged);
-          inside = p .1;
-          short = s .short;
-        }
-
-    pub spelling-nothing : (past : ℕ) → r ≡ Nothing past → Spelled-to text start at from tape to past
-    spelling-nothing past e =
-        let p = at-character e .passes in
-        record {
-          characters = s .characters;
-          string = s .string ∙ at-character e .same (s .characters);
-          reached = s .reached;
-          same = s .same;
-          quiet = s .quiet;
-          charged = omega (arith, s .charged);
-          inside = p .1;
-          short = s .short;
-        }
-
-    pub spelling-closed : (past : ℕ) → r ≡ Closed past
-        → Wrote start at (charactersIn (stringFrom text from)) to tape × T (every isQuiet (charactersIn (stringFrom text from)))
-    spelling-closed past e =
-        let w : stringFrom text from ≡ Tokens.closed (s .characters) past (drop past text) = s .string ∙ at-character e .same (s .characters) in
-        (record { reached = rw w (s .reached); same = rw w (s .same) }, rw w (s .quiet))
-
-    pub spelling-broken : (past : ℕ) → r ≡ Broken past → IsClosed (stringFrom text from) → ⊥
-    spelling-broken past e k =
-        let w : stringFrom text from ≡ Tokens.broken past (drop past text) = s .string ∙ at-character e .same (s .characters) in
-        rw w at k
+    pub spelled-on : Spelled-to text start at from tape to i → (r : Character) → Stands text Tokens.plain i (i + 1) r → SpelledOn r
+    spelled-on s r stood = turned r (s .string ∙ stood .same (s .characters)) (stood .passes)
+      where
+        turned : (r : Character) → stringFrom text from ≡ continued text r (s .characters) → Passes text (i + 1) r → SpelledOn r
+        turned (Given b past) w p = (
+          omega arith,
+          p .1,
+          omega (arith, s .charged, s .short),
+          λ small next e.
+              record {
+                characters = s .characters ++ b ∷ [];
+                string = w;
+                reached = rw (length-append (s .characters) (b ∷ [])) (omega (arith, s .reached));
+                same = e ∙ rw (s .same, s .reached) (written-snoc (s .characters) start at b);
+                quiet = every-append isQuiet (s .characters) (b ∷ []) (s .quiet) (every-one isQuiet b (lt→ltb b 2304 (omega arith)));
+                charged = omega (arith, s .charged);
+                inside = p .1;
+                short = s .short;
+              },
+        )
+        turned (Nothing past) w p = (
+          omega arith,
+          record {
+            characters = s .characters;
+            string = w;
+            reached = s .reached;
+            same = s .same;
+            quiet = s .quiet;
+            charged = omega (arith, s .charged);
+            inside = p .1;
+            short = s .short;
+          },
+        )
+        turned (Closed past) w p = (record { reached = rw w (s .reached); same = rw w (s .same) }, rw w (s .quiet))
+        turned (Broken past) w p = λ k. rw w at k

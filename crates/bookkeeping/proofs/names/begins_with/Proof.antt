@@ -31,10 +31,7 @@ shared-slice-read-if2-2 : tie.Need-shared-slice-read-if2-2 Inv-loop μ-loop
 shared-slice-read-if2-2 c = omega arith
 
 returns-2 : tie.Need-returns-2 Inv-loop μ-loop
-returns-2 c =
-    let at-loop-test = c .before .before .before in
-    let at-loop = at-loop-test .before in
-    begins-parts-ways _ _ _ _ _ (at-loop .loop .inv) (at-loop-test .loop-test .taken) (c .if2 .taken)
+returns-2 c = begins-parts-ways _ _ _ _ _ (c .before .before .before .before .loop .inv) (omega arith) (c .if2 .taken)
 
 add-i : tie.Need-add-i Inv-loop μ-loop
 add-i c = omega arith
@@ -43,10 +40,7 @@ loop-less : tie.Need-loop-less Inv-loop μ-loop
 loop-less c = omega arith
 
 loop-again : tie.Need-loop-again Inv-loop μ-loop
-loop-again c =
-    let at-loop-test = c .before .before .before in
-    let at-loop = at-loop-test .before in
-    begins-goes _ _ _ _ _ (at-loop .loop .inv) (at-loop-test .loop-test .taken) (c .if2 .left)
+loop-again c = begins-goes _ _ _ _ _ (c .before .before .before .before .loop .inv) (omega arith) (c .if2 .left)
 
 returns-3 : tie.Need-returns-3 Inv-loop μ-loop
 returns-3 c = begins-ends _ _ _ _ _ (c .before .loop .inv) (c .loop-test .left)

@@ -20,9 +20,8 @@ names-class-requires c κs = (c .before .before .before .pre, c .loop-test .take
 
 returns : tie.Need-returns Inv-loop μ-loop
 returns c =
-    let at-loop-test = c .before .before in
-    let at-loop = at-loop-test .before in
-    (asked-is (at-loop .loop .inv) (at-loop-test .loop-test .taken) (c .before .names-class .ensures) (c .if1 .taken), omega (arith, at-loop .loop .inv .low))
+    let i = c .before .before .before .loop .inv in
+    (asked-is i (omega arith) (c .before .names-class .ensures) (c .if1 .taken), omega (arith, i .low))
 
 add-class : tie.Need-add-class Inv-loop μ-loop
 add-class c = omega arith
@@ -31,7 +30,7 @@ loop-less : tie.Need-loop-less Inv-loop μ-loop
 loop-less c = omega arith
 
 loop-again : tie.Need-loop-again Inv-loop μ-loop
-loop-again c = asked-not (c .before .before .before .loop .inv) (c .before .before .loop-test .taken) (c .before .names-class .ensures) (c .if1 .left)
+loop-again c = asked-not (c .before .before .before .loop .inv) (omega arith) (c .before .names-class .ensures) (c .if1 .left)
 
 returns-2 : tie.Need-returns-2 Inv-loop μ-loop
 returns-2 c = (asked-all (c .before .loop .inv) (c .loop-test .left), omega arith)

@@ -3,8 +3,9 @@ use borrow.Author.Needs.{needs}
 use Rattle.bookkeeping.proofs.names.declared_fault.Statement.{statement}
 use Rattle.bookkeeping.proofs.names.declared_fault.Tie as tie
 use mathlib.Core.Path.{refl, sym, _∙_}
+use Rattle.bookkeeping.specs.Answered.{numberOf}
 use Rattle.bookkeeping.proofs.Finding.{among}
-use Rattle.bookkeeping.proofs.Naming.{declared-wrong, declared-is, declared-known}
+use Rattle.bookkeeping.proofs.Naming.{Asked-called, declared-wrong, declared-is, declared-known}
 
 called-fault-requires : tie.Need-called-fault-requires
 called-fault-requires c κs = search needs
@@ -12,23 +13,21 @@ called-fault-requires c κs = search needs
 is-accepted-requires : tie.Need-is-accepted-requires
 is-accepted-requires c κs = search needs
 
+called : (c : tie.After-is-accepted) → let a = c .before .before .before .before .args in
+    Asked-called (a .text .now) (a .x) (numberOf (c .before .called-fault .result)) (c .is-accepted .result)
+called c = record { fault = c .before .called-fault .ensures; accepted = c .is-accepted .ensures }
+
 returns : tie.Need-returns
-returns c =
-    let at-called-fault = c .before .before in
-    let entry = at-called-fault .before .before .before in
-    declared-wrong (entry .pre .0) (entry .pre .1) (at-called-fault .called-fault .ensures) (c .before .is-accepted .ensures) (c .if1 .taken)
+returns c = declared-wrong (called (c .before)) (c .before .before .before .before .before .pre .1) (c .if1 .taken)
 
 is-emission-requires : tie.Need-is-emission-requires
 is-emission-requires c κs = search needs
 
 returns-2 : tie.Need-returns-2
 returns-2 c =
-    let at-if1 = c .before .before in
-    let at-is-accepted = at-if1 .before in
-    let at-called-fault = at-is-accepted .before in
-    let entry = at-called-fault .before .before .before in
-    declared-is (entry .pre .0) (entry .pre .1) (at-called-fault .called-fault .ensures) (at-is-accepted .is-accepted .ensures) (at-if1 .if1 .left)
-    (sym (c .before .is-emission .ensures) ∙ c .if2 .taken) refl
+    let at-is-accepted = c .before .before .before in
+    let entry = at-is-accepted .before .before .before .before in
+    declared-is (called at-is-accepted) (entry .pre .1) (c .before .before .if1 .left) (sym (c .before .is-emission .ensures) ∙ c .if2 .taken) refl
 
 find-requires : tie.Need-find-requires
 find-requires c κs = search needs
@@ -39,14 +38,10 @@ fault-if-requires c κs = search needs
 returns-3 : tie.Need-returns-3
 returns-3 c =
     let at-if2 = c .before .before in
-    let at-is-emission = at-if2 .before in
-    let at-if1 = at-is-emission .before in
-    let at-is-accepted = at-if1 .before in
-    let at-called-fault = at-is-accepted .before in
-    let entry = at-called-fault .before .before .before in
-    let p = entry .pre in
-    c .fault-if .ensures ∙ declared-known (p .0) (p .1) (at-called-fault .called-fault .ensures) (at-is-accepted .is-accepted .ensures) (at-if1 .if1 .left)
-    (sym (at-is-emission .is-emission .ensures) ∙ at-if2 .if2 .left) (among _ _ 0 _ (p .1) _ _ (c .before .find .ensures) refl)
+    let at-if1 = at-if2 .before .before in
+    let entry = at-if1 .before .before .before .before .before in
+    c .fault-if .ensures ∙ declared-known (called (at-if1 .before)) (entry .pre .1) (at-if1 .if1 .left)
+    (sym (at-if2 .before .is-emission .ensures) ∙ at-if2 .if2 .left) (among _ _ 0 _ (entry .pre .1) _ _ (c .before .find .ensures) refl)
 
 pub declared-fault-spec : {M : Type 1} → statement M
 declared-fault-spec =

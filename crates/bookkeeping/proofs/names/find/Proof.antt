@@ -38,10 +38,7 @@ same-requires c κs =
     (entry .pre .0, record { forward = omega arith; inside = e })
 
 returns : tie.Need-returns Inv-loop μ-loop
-returns c =
-    let at-loop-test = c .before .before .before in
-    let at-loop = at-loop-test .before in
-    find-hits _ _ _ _ _ _ (at-loop .loop .inv) (at-loop-test .loop-test .taken) (sym (c .if1 .taken) ∙ c .before .same .ensures)
+returns c = find-hits _ _ _ _ _ _ (c .before .before .before .before .loop .inv) (omega arith) (sym (c .if1 .taken) ∙ c .before .same .ensures)
 
 add-i : tie.Need-add-i Inv-loop μ-loop
 add-i c = let f = c .before .before .before .before .loop .inv in omega arith
@@ -50,10 +47,7 @@ loop-less : tie.Need-loop-less Inv-loop μ-loop
 loop-less c = omega arith
 
 loop-again : tie.Need-loop-again Inv-loop μ-loop
-loop-again c =
-    let at-loop-test = c .before .before .before in
-    let at-loop = at-loop-test .before in
-    find-goes _ _ _ _ _ _ (at-loop .loop .inv) (at-loop-test .loop-test .taken) (sym (c .if1 .left) ∙ c .before .same .ensures)
+loop-again c = find-goes _ _ _ _ _ _ (c .before .before .before .before .loop .inv) (omega arith) (sym (c .if1 .left) ∙ c .before .same .ensures)
 
 returns-2 : tie.Need-returns-2 Inv-loop μ-loop
 returns-2 c = find-ends _ _ _ _ _ _ (c .before .loop .inv) (c .loop-test .left)

@@ -2,10 +2,13 @@
 use Rattle.bookkeeping.proofs.writing.put_characters.Statement.{statement}
 use Rattle.bookkeeping.proofs.writing.put_characters.Tie as tie
 use Prim.Native.Nat.{_-_}
+use mathlib.Core.Path.{_≡_}
 use native.Mathlib.Omega.{arith}
 use lib.ListN.{length}
 use borrow.Author.Needs.{needs}
-use Rattle.bookkeeping.proofs.Words.{Spelled-to, spelling-starts, given-room, nothing-room, spelling-given, spelling-nothing, spelling-closed, spelling-broken}
+use Rattle.lexing.specs.declared.Character.{Character}
+use Rattle.lexing.specs.declared.Character.the-variants.{Given}
+use Rattle.bookkeeping.proofs.Words.{Spelled-to, spelling-starts, SpelledOn, spelled-on}
 
 abbrev Inv-loop : tie.InvT-loop
 Inv-loop text tape₀ at from to₀ i₀ tape to i = Spelled-to text tape₀ at from tape to i
@@ -19,74 +22,58 @@ loop-holds c = spelling-starts _ _ _ _ (c .before .pre .0)
 next-character-requires : tie.Need-next-character-requires Inv-loop μ-loop
 next-character-requires c κs = search needs
 
+-- after the next character, whatever it is
+turned : (c : tie.After-next-character Inv-loop μ-loop) {r : Character} → c .next-character .result ≡ r
+    → let l = c .before .loop in
+    let a = c .before .before .before .args in
+    SpelledOn (a .text .now) (a .tape .now) (a .at) (a .from) (l .tape) (l .to) (l .i) r
+turned c {r} e = spelled-on _ _ _ _ _ _ _ (c .before .loop .inv) r (rw e at (c .next-character .ensures))
+
 enum-known-byte : tie.Need-enum-known-byte Inv-loop μ-loop
 enum-known-byte c = search needs
 
 cast-put : tie.Need-cast-put Inv-loop μ-loop
 cast-put c = search needs
 
+given : (c : tie.After-known-told Inv-loop μ-loop)
+    → let l = c .before .before .before .before .loop in
+    let a = c .before .before .before .before .before .before .args in
+    let v = c .before .byte .given .0 in
+    SpelledOn (a .text .now) (a .tape .now) (a .at) (a .from) (l .tape) (l .to) (l .i) (Given (v .0) (v .1 .0))
+given c = turned (c .before .before .before) (c .before .byte .given .1)
+
 put-requires : tie.Need-put-requires Inv-loop μ-loop
-put-requires c κs =
-    let at-byte = c .before .before in
-    let at-next-character = at-byte .before .before in
-    let at-loop = at-next-character .before in
-    given-room _ _ _ _ _ _ _ (at-loop .loop .inv) _ (at-next-character .next-character .ensures) _ _ (at-byte .byte .given .1) .2
+put-requires c κs = given (c .before) .2
 
 add-to : tie.Need-add-to Inv-loop μ-loop
-add-to c =
-    let at-byte = c .before .before .before in
-    let at-next-character = at-byte .before .before in
-    let at-loop = at-next-character .before in
-    let k = given-room _ _ _ _ _ _ _ (at-loop .loop .inv) _ (at-next-character .next-character .ensures) _ _ (at-byte .byte .given .1) in
-    omega arith
+add-to c = let k = given (c .before .before) in omega arith
 
 loop-less : tie.Need-loop-less Inv-loop μ-loop
-loop-less c =
-    let at-byte = c .before .before .before in
-    let at-next-character = at-byte .before .before in
-    let at-loop = at-next-character .before in
-    let k = given-room _ _ _ _ _ _ _ (at-loop .loop .inv) _ (at-next-character .next-character .ensures) _ _ (at-byte .byte .given .1) in
-    omega arith
+loop-less c = let k = given (c .before .before) in omega arith
 
 loop-again : tie.Need-loop-again Inv-loop μ-loop
-loop-again c =
-    let at-byte = c .before .before .before in
-    let at-next-character = at-byte .before .before in
-    let at-loop = at-next-character .before in
-    spelling-given _ _ _ _ _ _ _ (at-loop .loop .inv) _ (at-next-character .next-character .ensures) _ _ (at-byte .byte .given .1) (omega arith) _ (c .put .ensures)
+loop-again c = given (c .before .before) .3 (omega arith) _ (c .put .ensures)
 
 enum-known-past : tie.Need-enum-known-past Inv-loop μ-loop
 enum-known-past c = search needs
 
 loop-less-2 : tie.Need-loop-less-2 Inv-loop μ-loop
-loop-less-2 c =
-    let at-next-character = c .before .before .before in
-    let at-loop = at-next-character .before in
-    let k = nothing-room _ _ _ _ _ _ _ (at-loop .loop .inv) _ (at-next-character .next-character .ensures) _ (c .before .past .given .1) in
-    omega arith
+loop-less-2 c = let k = turned (c .before .before .before) (c .before .past .given .1) in omega arith
 
 loop-again-2 : tie.Need-loop-again-2 Inv-loop μ-loop
-loop-again-2 c =
-    let at-next-character = c .before .before .before in
-    let at-loop = at-next-character .before in
-    spelling-nothing _ _ _ _ _ _ _ (at-loop .loop .inv) _ (at-next-character .next-character .ensures) _ (c .before .past .given .1)
+loop-again-2 c = turned (c .before .before .before) (c .before .past .given .1) .1
 
 enum-told : tie.Need-enum-told Inv-loop μ-loop
 enum-told c = search needs
 
 returns : tie.Need-returns Inv-loop μ-loop
-returns c =
-    spelling-closed _ _ _ _ _ _ _ (c .before .before .before .loop .inv) _ (c .before .before .next-character .ensures) _ (c .enum-told .given .1)
+returns c = turned (c .before .before) (c .enum-told .given .1)
 
 enum-told-2 : tie.Need-enum-told-2 Inv-loop μ-loop
 enum-told-2 c = search needs
 
 returns-2 : tie.Need-returns-2 Inv-loop μ-loop
-returns-2 c =
-    let at-next-character = c .before .before in
-    let at-loop = at-next-character .before in
-    let entry = at-loop .before .before in
-    absurd (spelling-broken _ _ _ _ _ _ _ (at-loop .loop .inv) _ (at-next-character .next-character .ensures) _ (c .enum-told2 .given .1) (entry .pre .1))
+returns-2 c = absurd (turned (c .before .before) (c .enum-told2 .given .1) (c .before .before .before .before .before .pre .1))
 
 pub put-characters-spec : {M : Type 1} → statement M
 put-characters-spec =
