@@ -169,51 +169,61 @@ goes-on text (Sign s) place past is e = no-value e
 goes-on text End place past is e = no-value e
 goes-on text Malformed place past is e = no-value e
 
-module _ (text : Bytes) (from : ℕ) (x : Span) (c : Class) where
-  pub end-no-close : {words : ℕ} {tape tape′ : List ℕ} {fault : Fault} → Barred text Tokens.inside 62 from fault → EndAgrees text from words tape tape′ x c (Stopped fault)
-  end-no-close k = stops _ _ _ (passes-not _ k) refl refl
+-- `>` and `:` stand after a condition's variable, and a token with this truth value after them
+pub record ClosingAt (text : Bytes) (from words : ℕ) (x : Span) (close colon : ℕ) (t : Code.Placed) (n : ℕ) : Type 0 where
+  pub ready : Ready text from words
+  pub variable : Before text words from x
+  pub closed : Taken text Tokens.inside 62 from close
+  pub parted : Taken text Tokens.inside 58 close colon
+  pub first : Comes text Tokens.inside colon t
+  pub truth : Truth text t n
 
-  module _ {close : ℕ} (t₁ : Taken text Tokens.inside 62 from close) where
-    pub end-no-colon : {words : ℕ} {tape tape′ : List ℕ} {fault : Fault} → Barred text Tokens.inside 58 close fault → EndAgrees text from words tape tape′ x c (Stopped fault)
-    end-no-colon k = stops _ _ _ (passes-on _ t₁ ∙ passes-not _ k) refl refl
+module _ {text : Bytes} {from words : ℕ} {x : Span} where
+  pub end-no-close : Before text words from x → (c : Class) {tape tape′ : List ℕ} {fault : Fault} → Barred text Tokens.inside 62 from fault
+      → EndAgrees text from words tape tape′ x c (Stopped fault)
+  end-no-close b c k = stops _ _ _ (passes-not _ k) refl refl
 
-    module _ {colon : ℕ} {t : Code.Placed} (t₂ : Taken text Tokens.inside 58 close colon) (k : Comes text Tokens.inside colon t) {n : ℕ} (v : Truth text t n) where
-      at-truth : conditionEnd c (View.part text x) (stream text Tokens.inside from)
-          ≡ Reading.passTruth (stream text Tokens.inside colon) (withTruth c (View.part text x))
-      at-truth = passes-on _ t₁ ∙ passes-on _ t₂
+  pub end-no-colon : Before text words from x → (c : Class) {tape tape′ : List ℕ} {close : ℕ} {fault : Fault} → Taken text Tokens.inside 62 from close → Barred text Tokens.inside 58 close fault
+      → EndAgrees text from words tape tape′ x c (Stopped fault)
+  end-no-colon b c t k = stops _ _ _ (passes-on _ t ∙ passes-not _ k) refl refl
 
-      pub end-no-truth : {words : ℕ} {tape tape′ : List ℕ} {fault : Fault} → n ≡ 1 → (numberOf (fault .answer) ≡ tokenFault (t .token)) × (fault .place ≡ t .place)
-          → EndAgrees text from words tape tape′ x c (Stopped fault)
-      end-no-truth e f = refused k (at-truth ∙ rw (k .unrolled, v .same, e)) f
+  module _ {close colon : ℕ} {t : Code.Placed} {n : ℕ} (a : ClosingAt text from words x close colon t n) (c : Class) where
+    at-truth : conditionEnd c (View.part text x) (stream text Tokens.inside from)
+        ≡ Reading.passTruth (stream text Tokens.inside colon) (withTruth c (View.part text x))
+    at-truth = passes-on _ (a .closed) ∙ passes-on _ (a .parted)
 
-      pub end-reads : {words : ℕ} {tape tape′ : List ℕ} → Ready text from words → Before text words from x → {class word after : ℕ} → class < 5 →
-          classOf class ≡ some c → (n ≡ 1 → ⊥)
-          → word ≡ 768 + (x .past - x .from) * 10 + n + class
-          → Wrote tape words (word ∷ View.part text x) after tape′ × T (every isQuiet (View.part text x))
-          → EndAgrees text from words tape tape′ x c (Done (record { at = t .past; words = after; count = 0; parts = 0 }))
-      unfolding every
-      end-reads {words} ready b {class} {word} {after} low e d w o =
-          let u = value-of n (v .known) d in
-          let same : Reading.truthOf (tokenOf text (t .token) (t .place) (t .past)) (eqb (t .past) (t .place + 3)) ≡ some (u .truth) = v .same ∙ u .same in
-          let l : length (View.part text x) ≡ x .past - x .from = length-slice (x .from) (x .past) text (omega (arith, b .before, ready .inside)) in
-          let q : 768 + (length (View.part text x) * 10 + truthNumber (u .truth) + classNumber c) ≡ word =
-          rw (l, u .number, class-number class c low e, w) (omega arith)
-          in
-          let m : after ≡ words + suc (length (View.part text x)) = o .0 .reached in
-          reads (record { predicate = c; variable = View.part text x; expected = u .truth }) (stream text Tokens.inside (t .past))
-          (at-truth ∙ rw (k .unrolled, same, goes-on text (t .token) (t .place) (t .past) _ same))
-          (record {
-            tokens = refl;
-            went =
-                record {
-                  onward = omega (arith, t₁ .onward, t₂ .onward, k .onward, k .forward);
-                  inside = k .inside;
-                  charged = omega (arith, l, b .after, b .before, b .some, t₁ .onward, t₂ .onward, k .onward, k .forward);
-                  counted = m;
-                  wrote = rw q (o .0 .same);
-                };
-            quiet = rw q (both-pass (isQuiet word) (every isQuiet (View.part text x)) (lt→ltb word 2304 (omega (arith, b .short, v .low))) (o .1));
-          })
+    pub end-no-truth : {tape tape′ : List ℕ} {fault : Fault} → n ≡ 1 → (numberOf (fault .answer) ≡ tokenFault (t .token)) × (fault .place ≡ t .place)
+        → EndAgrees text from words tape tape′ x c (Stopped fault)
+    end-no-truth e f = refused (a .first) (at-truth ∙ rw (a .first .unrolled, a .truth .same, e)) f
+
+    pub end-reads : {tape tape′ : List ℕ} {class word after : ℕ} → class < 5 → classOf class ≡ some c → (n ≡ 1 → ⊥)
+        → word ≡ 768 + (x .past - x .from) * 10 + n + class
+        → Wrote tape words (word ∷ View.part text x) after tape′ × T (every isQuiet (View.part text x))
+        → EndAgrees text from words tape tape′ x c (Done (record { at = t .past; words = after; count = 0; parts = 0 }))
+    unfolding every
+    end-reads {class = class} {word = word} {after = after} low e d w o =
+        let b = a .variable in
+        let u = value-of n (a .truth .known) d in
+        let same : Reading.truthOf (tokenOf text (t .token) (t .place) (t .past)) (eqb (t .past) (t .place + 3)) ≡ some (u .truth) = a .truth .same ∙ u .same in
+        let l : length (View.part text x) ≡ x .past - x .from = length-slice (x .from) (x .past) text (omega (arith, b .before, a .ready .inside)) in
+        let q : 768 + (length (View.part text x) * 10 + truthNumber (u .truth) + classNumber c) ≡ word =
+        rw (l, u .number, class-number class c low e, w) (omega arith)
+        in
+        let m : after ≡ words + suc (length (View.part text x)) = o .0 .reached in
+        reads (record { predicate = c; variable = View.part text x; expected = u .truth }) (stream text Tokens.inside (t .past))
+        (at-truth ∙ rw (a .first .unrolled, same, goes-on text (t .token) (t .place) (t .past) _ same))
+        (record {
+          tokens = refl;
+          went =
+              record {
+                onward = omega (arith, a .closed .onward, a .parted .onward, a .first .onward, a .first .forward);
+                inside = a .first .inside;
+                charged = omega (arith, l, b .after, b .before, b .some, a .closed .onward, a .parted .onward, a .first .onward, a .first .forward);
+                counted = m;
+                wrote = rw q (o .0 .same);
+              };
+          quiet = rw q (both-pass (isQuiet word) (every isQuiet (View.part text x)) (lt→ltb word 2304 (omega (arith, b .short, a .truth .low))) (o .1));
+        })
 
 -- A CONDITION AFTER ITS PREDICATE
 
@@ -239,50 +249,65 @@ abbrev OnAgrees : Bytes → List ℕ → ℕ → ℕ → ℕ → List ℕ → Li
 OnAgrees text table symbols from words tape tape′ c r =
     Agrees (ConditionRead text from words tape tape′) (conditionOn (symbolNames text table symbols) c (stream text Tokens.inside from)) r
 
-module _ {text table : List ℕ} {symbols from words : ℕ} {t : Code.Placed} (known : Entries text table 0 symbols) (ready : Ready text from words)
-    (shown : Shows text t (Tokens.lex Tokens.inside from (drop from text) .first)) where
-  k : Comes text Tokens.inside from t
-  k = comes text Tokens.inside from t (ready .inside) shown
+-- the first token after a condition's predicate
+pub record OnToken (text table : List ℕ) (symbols from words : ℕ) (t : Code.Placed) : Type 0 where
+  pub known : Entries text table 0 symbols
+  pub ready : Ready text from words
+  pub first : Comes text Tokens.inside from t
 
-  pub on-no-symbol : (c : Class) {tape tape′ : List ℕ} {fault : Fault} → OneOf allButSymbol (tagOf token.the-type (t .token))
+-- it is an s-variable
+pub record OnSymbol (text table : List ℕ) (symbols from words : ℕ) (t : Code.Placed) (x : Span) : Type 0 where
+  pub on : OnToken text table symbols from words t
+  pub symbol : t .token ≡ Symbol x
+
+-- what is wrong with it, and whether that is nothing
+pub record OnAsked (text table : List ℕ) (symbols from words : ℕ) (t : Code.Placed) (x : Span) (number : ℕ) (is : Bool) : Type 0 where
+  pub on : OnSymbol text table symbols from words t x
+  pub fault : number ≡ symbolFault (symbolNames text table symbols) (View.part text x)
+  pub accepted : is ≡ eqb number 0
+
+module _ {text table : List ℕ} {symbols from words : ℕ} {t : Code.Placed} where
+  pub on-no-symbol : OnToken text table symbols from words t → (c : Class) {tape tape′ : List ℕ} {fault : Fault}
+      → OneOf allButSymbol (tagOf token.the-type (t .token))
       → (numberOf (fault .answer) ≡ tokenFault (t .token)) × (fault .place ≡ t .place)
       → OnAgrees text table symbols from words tape tape′ c (Stopped fault)
-  on-no-symbol c o f =
+  on-no-symbol a c o f =
+      let k = a .first in
       refused k
       (rw (k .unrolled) (symbol-not text (t .token) (t .place) (t .past) (k .sound) o (symbolNames text table symbols) (placedOf text t) _))
       f
 
-  module _ {x : Span} (e : t .token ≡ Symbol x) where
-    pub on-inside : Inside text x
-    on-inside = identifier-inside (symbol-at k e)
+  module _ {x : Span} where
+    pub on-inside : OnSymbol text table symbols from words t x → Inside text x
+    on-inside a = identifier-inside (symbol-at (a .on .first) (a .symbol))
 
-    at-symbol : (c : Class) → conditionOn (symbolNames text table symbols) c (stream text Tokens.inside from)
+    at-symbol : OnSymbol text table symbols from words t x → (c : Class) → conditionOn (symbolNames text table symbols) c (stream text Tokens.inside from)
         ≡ Reading.check (symbolFault (symbolNames text table symbols) (View.part text x)) (placedOf text t)
         (conditionEnd c (View.part text x) (stream text Tokens.inside (t .past)))
-    at-symbol c =
-        let i : Reading.isItem (itemAt text t) ≡ true = rw (item-symbol k e) in
-        rw (item-then k i .unrolled, item-symbol k e)
+    at-symbol a c =
+        let k = a .on .first in
+        let i : Reading.isItem (itemAt text t) ≡ true = rw (item-symbol k (a .symbol)) in
+        rw (item-then k i .unrolled, item-symbol k (a .symbol))
 
-    pub on-wrong : (c : Class) {tape tape′ : List ℕ} {answer : Answer} {is : Bool}
-        → numberOf answer ≡ symbolFault (symbolNames text table symbols) (View.part text x)
-        → is ≡ eqb (numberOf answer) 0
+    pub on-wrong : {answer : Answer} {is : Bool} → OnAsked text table symbols from words t x (numberOf answer) is → (c : Class) {tape tape′ : List ℕ}
         → not is ≡ true
         → OnAgrees text table symbols from words tape tape′ c (Stopped (record { answer = answer; place = t .place }))
-    on-wrong c {answer = answer} n q w =
-        stops _ _ _ (at-symbol c ∙ rw (← n) (check-wrong (numberOf answer) (placedOf text t) _ (a-fault-here n q w))) refl refl
+    on-wrong {answer} a c w =
+        stops _ _ _ (at-symbol (a .on) c ∙ rw (← (a .fault)) (check-wrong (numberOf answer) (placedOf text t) _ (a-fault-here (a .fault) (a .accepted) w))) refl refl
 
-    module _ {number : ℕ} {is : Bool} (n : number ≡ symbolFault (symbolNames text table symbols) (View.part text x)) (q : is ≡ eqb number 0) (w : not is ≡ false) where
+    module _ {number : ℕ} {is : Bool} (a : OnAsked text table symbols from words t x number is) (w : not is ≡ false) where
       right : symbolFault (symbolNames text table symbols) (View.part text x) ≡ 0
-      right = no-fault-here n q w
+      right = no-fault-here (a .fault) (a .accepted) w
 
       pub on-before : Ready text (t .past) words × Before text words (t .past) x
       on-before =
-          let i = symbol-at k e in (
-            ready-past ready k,
+          let on = a .on .on in
+          let i = symbol-at (on .first) (a .on .symbol) in (
+            ready-past (on .ready) (on .first),
             record {
-              after = omega (arith, ready .charged, i .after);
+              after = omega (arith, on .ready .charged, i .after);
               some = i .some;
-              before = omega (arith, symbol-past k e);
+              before = omega (arith, symbol-past (on .first) (a .on .symbol));
               short = within text x (identifier-inside i) 8 3 _ right;
             },
           )
@@ -290,7 +315,7 @@ module _ {text table : List ℕ} {symbols from words : ℕ} {t : Code.Placed} (k
       -- what is read from a later place on is read from here
       pub on-reads : (c : Class) {tape tape′ : List ℕ} {r : CodeParsed} → EndAgrees text (t .past) words tape tape′ x c r
           → OnAgrees text table symbols from words tape tape′ c r
-      on-reads c a = earlier (omega (arith, k .onward, k .forward)) (at-symbol c ∙ rw right) a
+      on-reads c e = let k = a .on .on .first in earlier (omega (arith, k .onward, k .forward)) (at-symbol (a .on) c ∙ rw right) e
 
 -- A CONDITION AFTER ITS `,`
 
@@ -301,48 +326,50 @@ ConditionAgrees text table symbols from words tape tape′ r =
 abbrev withName : List Name → ℕ → Name → List Tokens.Placed → Parsed Condition
 withName names place n ts = Reading.withClass (predicateOf n) place λ class. conditionOn names class ts
 
-module _ {text table : List ℕ} {symbols : ℕ} (known : Entries text table 0 symbols) {from words : ℕ} (ready : Ready text from words) {p : Passed} (w : Passes text Tokens.inside 60 from p) where
-  pub open-not : {tape tape′ : List ℕ} {fault : Fault} → p ≡ Refused fault
+-- `<` stands after the `,`, and a token after it
+pub record OpenedAt (text table : List ℕ) (symbols from words start : ℕ) (t : Code.Placed) : Type 0 where
+  pub known : Entries text table 0 symbols
+  pub ready : Ready text from words
+  pub opened : Taken text Tokens.inside 60 from start
+  pub first : Comes text Tokens.naming start t
+
+-- it is a name
+pub record NamedAt (text table : List ℕ) (symbols from words start : ℕ) (t : Code.Placed) (n : Span) : Type 0 where
+  pub bracket : OpenedAt text table symbols from words start t
+  pub name : NameFirst text Tokens.naming start t n
+
+module _ {text table : List ℕ} {symbols from words : ℕ} where
+  pub open-not : {tape tape′ : List ℕ} {fault : Fault} → Entries text table 0 symbols → Barred text Tokens.inside 60 from fault
       → ConditionAgrees text table symbols from words tape tape′ (Stopped fault)
   unfolding Reading.condition
-  open-not e = let b = rw e at w in stops _ _ _ (passes-not _ b) refl refl
+  open-not known b = stops _ _ _ (passes-not _ b) refl refl
 
-  module _ {start : ℕ} {t : Code.Placed} (g : p ≡ Past start) (shown : Shows text t (Tokens.lex Tokens.naming start (drop start text) .first)) where
-    o : Taken text Tokens.inside 60 from start
-    o = rw g at w
-
-    first : Comes text Tokens.naming start t
-    first = comes text Tokens.naming start t (o .inside) shown
-
-    at-name : Reading.condition (symbolNames text table symbols) (stream text Tokens.inside from)
+  module _ {start : ℕ} {t : Code.Placed} where
+    at-name : OpenedAt text table symbols from words start t
+        → Reading.condition (symbolNames text table symbols) (stream text Tokens.inside from)
         ≡ Reading.passName (λ n. Reading.lengthFault n 0) (stream text Tokens.naming start) (withName (symbolNames text table symbols))
     unfolding Reading.condition
-    at-name = passes-on _ o
+    at-name a = passes-on _ (a .opened)
 
-    pub name-not : {tape tape′ : List ℕ} {fault : Fault} → OneOf (1 ∷ 2 ∷ 3 ∷ 4 ∷ 5 ∷ 6 ∷ 7 ∷ []) (tagOf token.the-type (t .token))
+    pub name-not : {tape tape′ : List ℕ} {fault : Fault} → OpenedAt text table symbols from words start t
+        → OneOf (1 ∷ 2 ∷ 3 ∷ 4 ∷ 5 ∷ 6 ∷ 7 ∷ []) (tagOf token.the-type (t .token))
         → (numberOf (fault .answer) ≡ tokenFault (t .token)) × (fault .place ≡ t .place)
         → ConditionAgrees text table symbols from words tape tape′ (Stopped fault)
-    name-not n f = refused first (at-name ∙ names-not first _ _ n) f
+    name-not a n f = refused (a .first) (at-name a ∙ names-not (a .first) _ _ n) f
 
-    module _ {n : Span} (e : t .token ≡ NameToken n) where
-      abbrev here : NameFirst text Tokens.naming start t n
-      here = name-first first e
-
-      pub name-inside : Inside text n
-      name-inside = here .inside
-
+    module _ {n : Span} (a : NamedAt text table symbols from words start t n) where
       pub name-ready : Ready text (t .past) words
-      name-ready = ready-past (ready-taken ready o) first
+      name-ready = ready-past (ready-taken (a .bracket .ready) (a .bracket .opened)) (a .bracket .first)
 
       pub name-long : {tape tape′ : List ℕ} → 24 < n .past - n .from
           → ConditionAgrees text table symbols from words tape tape′ (Stopped (record { answer = OverLimit; place = t .place }))
       name-long l =
-          stops _ _ _ (at-name ∙ rw (here .unrolled, too-long text n (here .inside) 24 l)) refl refl
+          stops _ _ _ (at-name (a .bracket) ∙ rw (a .name .unrolled, too-long text n (a .name .inside) 24 l)) refl refl
 
       module _ (l : n .past - n .from ≤ 24) where
         at-class : Reading.condition (symbolNames text table symbols) (stream text Tokens.inside from)
             ≡ withName (symbolNames text table symbols) (t .place) (View.part text n) (stream text Tokens.inside (t .past))
-        at-class = at-name ∙ rw (here .unrolled, short-enough text n (here .inside) 24 l)
+        at-class = at-name (a .bracket) ∙ rw (a .name .unrolled, short-enough text n (a .name .inside) 24 l)
 
         pub class-not : {tape tape′ : List ℕ} → predicateOf (View.part text n) ≡ none
             → ConditionAgrees text table symbols from words tape tape′ (Stopped (record { answer = WrongName; place = t .place }))
@@ -351,9 +378,10 @@ module _ {text table : List ℕ} {symbols : ℕ} (known : Entries text table 0 s
         pub class-reads : {tape tape′ : List ℕ} {r : CodeParsed} (class : ℕ) → class < 5 → predicateOf (View.part text n) ≡ classOf class
             → ((c : Class) → classOf class ≡ some c → OnAgrees text table symbols (t .past) words tape tape′ c r)
             → ConditionAgrees text table symbols from words tape tape′ r
-        class-reads class low d a =
+        class-reads class low d e =
             let c = classed class low in
-            earlier (omega (arith, o .onward, first .onward, first .forward)) (at-class ∙ rw (d, c .same)) (a (c .class) (c .same))
+            let o = a .bracket in
+            earlier (omega (arith, o .opened .onward, o .first .onward, o .first .forward)) (at-class ∙ rw (d, c .same)) (e (c .class) (c .same))
 
 -- CONDITIONS
 
@@ -404,73 +432,84 @@ conditions-start text start names from words r =
       short = r .short;
     }
 
-module _ {text start : List ℕ} {names : List Name} {from words : ℕ} {tape : List ℕ} {at to left : ℕ} {t : Code.Placed}
-    (k : Conditioned text start names from words tape at to left) (l : Shows text t (Tokens.lex Tokens.inside at (drop at text) .first)) where
-  c : Comes text Tokens.inside at t
-  c = comes text Tokens.inside at t (k .went .inside) l
+-- the token after those, a `,` or another one
+pub record LookedAt (text start : List ℕ) (names : List Name) (from words : ℕ) (tape : List ℕ) (at to left : ℕ) (t : Code.Placed) (comma : Bool) : Type 0 where
+  pub read : Conditioned text start names from words tape at to left
+  pub first : Comes text Tokens.inside at t
+  pub sign : signIs 44 (t .token) ≡ comma
 
-  -- the condition after its `,`
-  pub condition-ready : Ready text (t .past) to
-  condition-ready = ready-past (conditions-ready k) c
+abbrev ConditionsAgree : List ℕ → List ℕ → List Name → ℕ → ℕ → List ℕ → CodeParsed → Type 0
+ConditionsAgree text start names from words tape r =
+    Agrees (ConditionsRead text from words start tape) (Reading.conditions 8 names (stream text Tokens.inside from)) r
 
-  pub conditions-done : {count parts : ℕ} → signIs 44 (t .token) ≡ false
-      → Agrees (ConditionsRead text from words start tape) (Reading.conditions 8 names (stream text Tokens.inside from))
-      (Done (record { at = t .place; words = to; count = count; parts = parts }))
-  conditions-done e =
-      let i : Reading.isSign 44 (tokenOf text (t .token) (t .place) (t .past)) ≡ false = sign-shown text t 44 e in
+module _ {text start : List ℕ} {names : List Name} {from words : ℕ} {tape : List ℕ} {at to left : ℕ} {t : Code.Placed} where
+  shown : {comma : Bool} → LookedAt text start names from words tape at to left t comma
+      → Reading.isSign 44 (tokenOf text (t .token) (t .place) (t .past)) ≡ comma
+  shown a = sign-shown text t 44 (a .sign)
+
+  pub conditions-done : {count parts : ℕ} → LookedAt text start names from words tape at to left t false
+      → ConditionsAgree text start names from words tape (Done (record { at = t .place; words = to; count = count; parts = parts }))
+  conditions-done a =
+      let k = a .read in
+      let c = a .first in
       reads (k .before) (stream text Tokens.inside at)
-      (k .same ∙ rw (c .unrolled, conditions-end names left (placedOf text t) _ i, append-nil (k .before)))
+      (k .same ∙ rw (c .unrolled, conditions-end names left (placedOf text t) _ (shown a), append-nil (k .before)))
       (record {
         tokens = sym (c .again);
         went = went-on (t .place) (k .went) (c .onward) (omega (arith, c .forward, c .inside));
         quiet = k .quiet;
       })
 
-  module _ (e : signIs 44 (t .token) ≡ true) where
-    comma : Taken text Tokens.inside 44 at (t .past)
-    comma = takes text Tokens.inside at 44 t c e
+  module _ (a : LookedAt text start names from words tape at to left t true) where
+    -- the condition after its `,`
+    pub condition-ready : Ready text (t .past) to
+    condition-ready = ready-past (conditions-ready (a .read)) (a .first)
 
-    pub conditions-many : left ≡ 0
-        → Agrees (ConditionsRead text from words start tape) (Reading.conditions 8 names (stream text Tokens.inside from))
-        (Stopped (record { answer = OverLimit; place = t .place }))
+    pub conditions-many : left ≡ 0 → ConditionsAgree text start names from words tape (Stopped (record { answer = OverLimit; place = t .place }))
     conditions-many z =
-        let i : Reading.isSign 44 (tokenOf text (t .token) (t .place) (t .past)) ≡ true = sign-shown text t 44 e in
-        stops _ _ _ (k .same ∙ rw (c .unrolled, z, conditions-full names (placedOf text t) _ i)) refl refl
+        stops _ _ _ (a .read .same ∙ rw (a .first .unrolled, z, conditions-full names (placedOf text t) _ (shown a))) refl refl
 
-    module _ (z : left ≡ 0 → ⊥) where
-      at-condition : Reading.conditions 8 names (stream text Tokens.inside from)
-          ≡ follow
-          (follow (Reading.condition names (stream text Tokens.inside (t .past)))
-          (λ d ts. follow (Reading.conditions (left - 1) names ts) (λ ds rest. parsed (d ∷ ds) rest)))
-          (behind (k .before))
-      at-condition =
-          k .same
-          ∙ rw (
-            comma .unrolled,
-            conditions-next names left (left - 1) (standing (Tokens.sign 44) (comma .place) (t .past)) (stream text Tokens.inside (t .past)) (omega arith) refl,
-          )
+    -- what was read of it stops the conditions, or they go on after it
+    abbrev pub ConditionsOn : List ℕ → CodeParsed → Type 0
+    ConditionsOn tape′ (Stopped fault) = ConditionsAgree text start names from words tape′ (Stopped fault)
+    ConditionsOn tape′ (Done s) = Conditioned text start names from words tape′ (s .at) (s .words) (left - 1)
 
-      pub condition-stops : {tape′ : List ℕ} {fault : Fault}
-          → Agrees (ConditionRead text (t .past) to tape tape′) (Reading.condition names (stream text Tokens.inside (t .past))) (Stopped fault)
-          → Agrees (ConditionsRead text from words start tape′) (Reading.conditions 8 names (stream text Tokens.inside from)) (Stopped fault)
-      condition-stops {fault = fault} a = stops fault _ _ (at-condition ∙ rw (has-stopped _ fault a)) refl refl
+    pub conditions-on : (left ≡ 0 → ⊥) → {tape′ : List ℕ} (r : CodeParsed)
+        → Agrees (ConditionRead text (t .past) to tape tape′) (Reading.condition names (stream text Tokens.inside (t .past))) r
+        → ConditionsOn tape′ r
+    conditions-on z {tape′} r e = turned r e
+      where
+        at-condition : Reading.conditions 8 names (stream text Tokens.inside from)
+            ≡ follow
+            (follow (Reading.condition names (stream text Tokens.inside (t .past)))
+            (λ d ts. follow (Reading.conditions (left - 1) names ts) (λ ds rest. parsed (d ∷ ds) rest)))
+            (behind (a .read .before))
+        at-condition =
+            let comma = takes text Tokens.inside at 44 t (a .first) (a .sign) in
+            a .read .same
+            ∙ rw (
+              comma .unrolled,
+              conditions-next names left (left - 1) (standing (Tokens.sign 44) (comma .place) (t .past)) (stream text Tokens.inside (t .past)) (omega arith) refl,
+            )
 
-      goes-with : {tape′ : List ℕ} {s : Progress} (d : Condition) (rest : List Tokens.Placed)
-          → Reading.condition names (stream text Tokens.inside (t .past)) ≡ parsed d rest
-          → ConditionRead text (t .past) to tape tape′ d rest s
-          → Conditioned text start names from words tape′ (s .at) (s .words) (left - 1)
-      goes-with {s = s} d rest q h =
-          record {
-            before = k .before ++ d ∷ [];
-            same = at-condition ∙ rw (q, h .tokens) (behind-more (k .before) d (Reading.conditions (left - 1) names (stream text Tokens.inside (s .at))));
-            went = rw (tape-more (k .before) d) (went-then (k .went) (went-from (omega (arith, c .onward, c .forward)) (h .went)));
-            quiet =
-                rw (tape-more (k .before) d)
-                (every-append isQuiet (conditionsTape (k .before)) (conditionTape d) (k .quiet) (h .quiet));
-            short = k .short;
-          }
+        goes-with : {s : Progress} (d : Condition) (rest : List Tokens.Placed)
+            → Reading.condition names (stream text Tokens.inside (t .past)) ≡ parsed d rest
+            → ConditionRead text (t .past) to tape tape′ d rest s
+            → ConditionsOn tape′ (Done s)
+        goes-with {s} d rest q h =
+            let k = a .read in
+            record {
+              before = k .before ++ d ∷ [];
+              same = at-condition ∙ rw (q, h .tokens) (behind-more (k .before) d (Reading.conditions (left - 1) names (stream text Tokens.inside (s .at))));
+              went = rw (tape-more (k .before) d) (went-then (k .went) (went-from (omega (arith, a .first .onward, a .first .forward)) (h .went)));
+              quiet =
+                  rw (tape-more (k .before) d)
+                  (every-append isQuiet (conditionsTape (k .before)) (conditionTape d) (k .quiet) (h .quiet));
+              short = k .short;
+            }
 
-      pub condition-goes : {tape′ : List ℕ} {s : Progress}
-          → Agrees (ConditionRead text (t .past) to tape tape′) (Reading.condition names (stream text Tokens.inside (t .past))) (Done s)
-          → Conditioned text start names from words tape′ (s .at) (s .words) (left - 1)
-      condition-goes {s = s} a = let r = has-read _ s a in goes-with (r .value) (r .rest) (r .same) (r .how)
+        turned : (r′ : CodeParsed)
+            → Agrees (ConditionRead text (t .past) to tape tape′) (Reading.condition names (stream text Tokens.inside (t .past))) r′
+            → ConditionsOn tape′ r′
+        turned (Stopped fault) e′ = stops fault _ _ (at-condition ∙ rw (has-stopped _ fault e′)) refl refl
+        turned (Done s) e′ = let h = has-read _ s e′ in goes-with (h .value) (h .rest) (h .same) (h .how)

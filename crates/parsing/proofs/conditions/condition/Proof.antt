@@ -3,7 +3,10 @@ use borrow.Author.Needs.{needs}
 use Rattle.parsing.proofs.conditions.condition.Statement.{statement}
 use Rattle.parsing.proofs.conditions.condition.Tie as tie
 use native.Mathlib.Omega.{arith}
-use Rattle.parsing.proofs.Conditioned.{open-not, name-not, name-inside, name-ready, name-long, class-not, class-reads}
+use Rattle.meaning.specs.Tokens.{naming}
+use Rattle.lexing.proofs.Stream.{comes}
+use Rattle.bookkeeping.proofs.Tokening.{name-first}
+use Rattle.parsing.proofs.Conditioned.{OpenedAt, NamedAt, open-not, name-not, name-ready, name-long, class-not, class-reads}
 
 pass-requires : tie.Need-pass-requires
 pass-requires c κs = search needs
@@ -17,9 +20,7 @@ enum-known-fault c = search needs
 returns : tie.Need-returns
 returns c =
     let at-pass = c .before .before .before in
-    let entry = at-pass .before .before .before in
-    let p = entry .pre in
-    open-not (p .1) (p .0) (at-pass .pass .ensures) (c .before .fault .given .1)
+    open-not (at-pass .before .before .before .pre .1) (rw (c .before .fault .given .1) at (at-pass .pass .ensures))
 
 lex-requires : tie.Need-lex-requires
 lex-requires c κs = search needs
@@ -30,85 +31,51 @@ enum-known-token c = search needs
 refuse-requires : tie.Need-refuse-requires
 refuse-requires c κs = search needs
 
+opened : (c : tie.After-lex) → let at-at = c .before .before in
+    let a = at-at .before .before .before .before .before .args in
+    OpenedAt (a .text .now) (a .table .now) (a .symbols) (a .from) (a .words) (at-at .at .given .0 .0) (c .lex .result)
+opened c =
+    let at-at = c .before .before in
+    let p = at-at .before .before .before .before .before .pre in
+    let o = rw (at-at .at .given .1) at (at-at .before .before .pass .ensures) in
+    record { known = p .1; ready = p .0; opened = o; first = comes _ naming _ _ (o .inside) (c .lex .ensures) }
+
+named : (c : tie.After-token) → let at-at = c .before .before .before .before in
+    let a = at-at .before .before .before .before .before .args in
+    NamedAt (a .text .now) (a .table .now) (a .symbols) (a .from) (a .words) (at-at .at .given .0 .0) (c .before .before .lex .result) (c .token .given .0 .0)
+named c = let o = opened (c .before .before) in record { bracket = o; name = name-first (o .first) (c .token .given .1) }
+
 returns-2 : tie.Need-returns-2
-returns-2 c =
-    let at-lex = c .before .before in
-    let at-at = at-lex .before .before in
-    let at-pass = at-at .before .before in
-    let entry = at-pass .before .before .before in
-    let p = entry .pre in
-    name-not (p .1) (p .0) (at-pass .pass .ensures) (at-at .at .given .1) (at-lex .lex .ensures) (c .before .match2 .keys2) (c .refuse .ensures)
+returns-2 c = name-not (opened (c .before .before)) (c .before .match2 .keys2) (c .refuse .ensures)
 
 sub-if1 : tie.Need-sub-if1
-sub-if1 c =
-    let at-token = c .before .before in
-    let at-lex = at-token .before .before in
-    let at-at = at-lex .before .before in
-    let at-pass = at-at .before .before in
-    let entry = at-pass .before .before .before in
-    let p = entry .pre in
-    name-inside (p .1) (p .0) (at-pass .pass .ensures) (at-at .at .given .1) (at-lex .lex .ensures) (at-token .token .given .1) .forward
+sub-if1 c = named (c .before .before) .name .inside .forward
 
 returns-3 : tie.Need-returns-3
-returns-3 c =
-    let at-token = c .before .before .before in
-    let at-lex = at-token .before .before in
-    let at-at = at-lex .before .before in
-    let at-pass = at-at .before .before in
-    let entry = at-pass .before .before .before in
-    let p = entry .pre in
-    name-long (p .1) (p .0) (at-pass .pass .ensures) (at-at .at .given .1) (at-lex .lex .ensures) (at-token .token .given .1) (c .if1 .taken)
+returns-3 c = name-long (named (c .before .before .before)) (c .if1 .taken)
 
 class-named-requires : tie.Need-class-named-requires
-class-named-requires c κs =
-    let at-token = c .before .before .before in
-    let at-lex = at-token .before .before in
-    let at-at = at-lex .before .before in
-    let at-pass = at-at .before .before in
-    let entry = at-pass .before .before .before in
-    let p = entry .pre in
-    name-inside (p .1) (p .0) (at-pass .pass .ensures) (at-at .at .given .1) (at-lex .lex .ensures) (at-token .token .given .1)
+class-named-requires c κs = named (c .before .before .before) .name .inside
 
 returns-4 : tie.Need-returns-4
-returns-4 c =
-    let at-if1 = c .before .before in
-    let at-token = at-if1 .before .before .before in
-    let at-lex = at-token .before .before in
-    let at-at = at-lex .before .before in
-    let at-pass = at-at .before .before in
-    let entry = at-pass .before .before .before in
-    let p = entry .pre in
-    class-not (p .1) (p .0) (at-pass .pass .ensures) (at-at .at .given .1) (at-lex .lex .ensures) (at-token .token .given .1) (at-if1 .if1 .left)
-    (rw (c .if2 .taken) at (c .before .class-named .ensures .0))
+returns-4 c = class-not (named (c .before .before .before .before .before)) (c .before .before .if1 .left) (rw (c .if2 .taken) at (c .before .class-named .ensures .0))
 
 condition-on-requires : tie.Need-condition-on-requires
 condition-on-requires c κs =
     let at-class-named = c .before .before in
-    let at-token = at-class-named .before .before .before .before in
-    let at-lex = at-token .before .before in
-    let at-at = at-lex .before .before in
-    let at-pass = at-at .before .before in
-    let entry = at-pass .before .before .before in
-    let p = entry .pre in
+    let n = named (at-class-named .before .before .before .before) in
     let l = at-class-named .class-named .ensures .1 in
     let d = c .before .if2 .left in
-    (name-ready (p .1) (p .0) (at-pass .pass .ensures) (at-at .at .given .1) (at-lex .lex .ensures) (at-token .token .given .1), p .1, omega arith)
+    (name-ready n, n .bracket .known, omega arith)
 
 returns-5 : tie.Need-returns-5
 returns-5 c =
-    let at-if2 = c .before .before in
-    let at-class-named = at-if2 .before in
+    let at-class-named = c .before .before .before in
     let at-if1 = at-class-named .before in
-    let at-token = at-if1 .before .before .before in
-    let at-lex = at-token .before .before in
-    let at-at = at-lex .before .before in
-    let at-pass = at-at .before .before in
-    let entry = at-pass .before .before .before in
-    let p = entry .pre in
     let l = at-class-named .class-named .ensures .1 in
-    let d = at-if2 .if2 .left in
-    class-reads (p .1) (p .0) (at-pass .pass .ensures) (at-at .at .given .1) (at-lex .lex .ensures) (at-token .token .given .1) (at-if1 .if1 .left)
-    (at-class-named .class-named .result) (omega arith) (at-class-named .class-named .ensures .0) (c .condition-on .ensures)
+    let d = c .before .before .if2 .left in
+    class-reads (named (at-if1 .before .before .before)) (at-if1 .if1 .left) (at-class-named .class-named .result) (omega arith)
+    (at-class-named .class-named .ensures .0) (c .condition-on .ensures)
 
 pub condition-spec : {M : Type 1} → statement M
 condition-spec =

@@ -4,8 +4,10 @@ use Rattle.parsing.proofs.conditions.condition_end.Statement.{statement
 use Rattle.parsing.proofs.conditions.condition_end.Tie as tie
 use mathlib.Core.Path.{refl}
 use Rattle.meaning.specs.Tokens.{inside}
+use Rattle.lexing.specs.View.{Comes}
 use Rattle.lexing.proofs.Stream.{comes}
-use Rattle.parsing.proofs.Conditioned.{end-no-close, end-no-colon, end-no-truth, end-reads}
+use Rattle.bookkeeping.specs.Tokened.{Taken}
+use Rattle.parsing.proofs.Conditioned.{ClosingAt, end-no-close, end-no-colon, end-no-truth, end-reads}
 
 pass-requires : tie.Need-pass-requires
 pass-requires c κs = search needs
@@ -19,11 +21,13 @@ enum-known-fault c = search needs
 returns : tie.Need-returns
 returns c =
     let at-pass = c .before .before .before in
-    let entry = at-pass .before .before in
-    λ k e. end-no-close _ _ (entry .args .x) k (rw (c .before .fault .given .1) at (at-pass .pass .ensures))
+    λ k e. end-no-close (at-pass .before .before .pre .1) k (rw (c .before .fault .given .1) at (at-pass .pass .ensures))
+
+closed : (c : tie.After-at) → let a = c .before .before .before .before .args in Taken (a .text .now) inside 62 (a .from) (c .at .given .0 .0)
+closed c = rw (c .at .given .1) at (c .before .before .pass .ensures)
 
 pass-requires-2 : tie.Need-pass-requires-2
-pass-requires-2 c κs = let t = rw (c .before .at .given .1) at (c .before .before .before .pass .ensures) in t .inside
+pass-requires-2 c κs = closed (c .before) .inside
 
 enum-known-at-2 : tie.Need-enum-known-at-2
 enum-known-at-2 c = search needs
@@ -35,34 +39,39 @@ returns-2 : tie.Need-returns-2
 returns-2 c =
     let at-pass2 = c .before .before .before in
     let at-at = at-pass2 .before .before in
-    let at-pass = at-at .before .before in
-    let entry = at-pass .before .before in
-    λ k e. end-no-colon _ _ (entry .args .x) k (rw (at-at .at .given .1) at (at-pass .pass .ensures)) (rw (c .before .fault2 .given .1) at (at-pass2 .pass2 .ensures))
+    λ k e. end-no-colon (at-at .before .before .before .before .pre .1) k (closed at-at) (rw (c .before .fault2 .given .1) at (at-pass2 .pass2 .ensures))
 
 lex-requires : tie.Need-lex-requires
 lex-requires c κs = search needs
 
+parted : (c : tie.After-at2) → let at-at = c .before .before .before .before in
+    let a = at-at .before .before .before .before .args in
+    Taken (a .text .now) inside 58 (at-at .at .given .0 .0) (c .at2 .given .0 .0)
+parted c = rw (c .at2 .given .1) at (c .before .before .pass2 .ensures)
+
+first : (c : tie.After-lex) → let at-at2 = c .before .before in
+    let a = at-at2 .before .before .before .before .before .before .before .before .args in
+    Comes (a .text .now) inside (at-at2 .at2 .given .0 .0) (c .lex .result)
+first c = comes _ inside _ _ (parted (c .before .before) .inside) (c .lex .ensures)
+
+closing : (c : tie.After-truth-in) → let at-at2 = c .before .before .before in
+    let at-at = at-at2 .before .before .before .before in
+    let a = at-at .before .before .before .before .args in
+    ClosingAt (a .text .now) (a .from) (a .words) (a .x) (at-at .at .given .0 .0) (at-at2 .at2 .given .0 .0) (c .before .lex .result) (c .truth-in .result)
+closing c =
+    let at-at2 = c .before .before .before in
+    let at-at = at-at2 .before .before .before .before in
+    let p = at-at .before .before .before .before .pre in
+    record { ready = p .0; variable = p .1; closed = closed at-at; parted = parted at-at2; first = first (c .before); truth = c .truth-in .ensures }
+
 truth-in-requires : tie.Need-truth-in-requires
-truth-in-requires c κs =
-    let t = rw (c .before .before .at2 .given .1) at (c .before .before .before .before .pass2 .ensures) in
-    let m = comes _ inside _ _ (t .inside) (c .lex .ensures) in
-    record { forward = m .forward; inside = m .inside; sound = m .sound }
+truth-in-requires c κs = let m = first c in record { forward = m .forward; inside = m .inside; sound = m .sound }
 
 refuse-requires : tie.Need-refuse-requires
 refuse-requires c κs = search needs
 
 returns-3 : tie.Need-returns-3
-returns-3 c =
-    let at-truth-in = c .before .before in
-    let at-lex = at-truth-in .before in
-    let at-at2 = at-lex .before .before in
-    let at-pass2 = at-at2 .before .before in
-    let at-at = at-pass2 .before .before in
-    let at-pass = at-at .before .before in
-    let entry = at-pass .before .before in
-    λ k e. let t = rw (at-at2 .at2 .given .1) at (at-pass2 .pass2 .ensures) in
-    end-no-truth _ _ (entry .args .x) k (rw (at-at .at .given .1) at (at-pass .pass .ensures)) t (comes _ inside _ _ (t .inside) (at-lex .lex .ensures))
-    (at-truth-in .truth-in .ensures) (c .before .if1 .taken) (c .refuse .ensures)
+returns-3 c = λ k e. end-no-truth (closing (c .before .before)) k (c .before .if1 .taken) (c .refuse .ensures)
 
 sub-word : tie.Need-sub-word
 sub-word c = search needs
@@ -88,16 +97,8 @@ put-named-requires c κs = search needs
 returns-4 : tie.Need-returns-4
 returns-4 c =
     let at-if1 = c .before .before .before in
-    let at-truth-in = at-if1 .before in
-    let at-lex = at-truth-in .before in
-    let at-at2 = at-lex .before .before in
-    let at-pass2 = at-at2 .before .before in
-    let at-at = at-pass2 .before .before in
-    let at-pass = at-at .before .before in
-    let entry = at-pass .before .before in
-    λ k e. let t = rw (at-at2 .at2 .given .1) at (at-pass2 .pass2 .ensures) in let p = entry .pre in
-    end-reads _ _ (entry .args .x) k (rw (at-at .at .given .1) at (at-pass .pass .ensures)) t (comes _ inside _ _ (t .inside) (at-lex .lex .ensures))
-    (at-truth-in .truth-in .ensures) (p .0) (p .1) (p .2) e (at-if1 .if1 .left) refl (c .put-named .ensures)
+    let entry = at-if1 .before .before .before .before .before .before .before .before .before .before .before .before in
+    λ k e. end-reads (closing (at-if1 .before)) k (entry .pre .2) e (at-if1 .if1 .left) refl (c .put-named .ensures)
 
 pub condition-end-spec : {M : Type 1} → statement M
 condition-end-spec =

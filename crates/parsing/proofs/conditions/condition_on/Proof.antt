@@ -2,7 +2,10 @@
 use borrow.Author.Needs.{needs}
 use Rattle.parsing.proofs.conditions.condition_on.Statement.{statement}
 use Rattle.parsing.proofs.conditions.condition_on.Tie as tie
-use Rattle.parsing.proofs.Conditioned.{on-no-symbol, on-inside, on-wrong, on-before, on-reads}
+use Rattle.meaning.specs.Tokens.{inside}
+use Rattle.lexing.proofs.Stream.{comes}
+use Rattle.bookkeeping.specs.Answered.{numberOf}
+use Rattle.parsing.proofs.Conditioned.{OnToken, OnSymbol, OnAsked, on-no-symbol, on-inside, on-wrong, on-before, on-reads}
 
 lex-requires : tie.Need-lex-requires
 lex-requires c κs = search needs
@@ -13,56 +16,40 @@ enum-known-token c = search needs
 refuse-requires : tie.Need-refuse-requires
 refuse-requires c κs = search needs
 
+looked : (c : tie.After-lex) → let a = c .before .before .before .args in OnToken (a .text .now) (a .table .now) (a .symbols) (a .from) (a .words) (c .lex .result)
+looked c =
+    let p = c .before .before .before .pre in
+    record { known = p .1; ready = p .0; first = comes _ inside _ _ (p .0 .inside) (c .lex .ensures) }
+
+symbol : (c : tie.After-token) → let a = c .before .before .before .before .before .args in
+    OnSymbol (a .text .now) (a .table .now) (a .symbols) (a .from) (a .words) (c .before .before .lex .result) (c .token .given .0 .0)
+symbol c = record { on = looked (c .before .before); symbol = c .token .given .1 }
+
+asked : (c : tie.After-is-accepted) → let at-token = c .before .before .before in
+    let a = at-token .before .before .before .before .before .args in
+    OnAsked (a .text .now) (a .table .now) (a .symbols) (a .from) (a .words) (at-token .before .before .lex .result) (at-token .token .given .0 .0)
+    (numberOf (c .before .later-symbol-fault .result)) (c .is-accepted .result)
+asked c = record { on = symbol (c .before .before .before); fault = c .before .later-symbol-fault .ensures; accepted = c .is-accepted .ensures }
+
 returns : tie.Need-returns
-returns c =
-    let at-lex = c .before .before in
-    let entry = at-lex .before .before .before in
-    let p = entry .pre in
-    λ k e. on-no-symbol (p .1) (p .0) (at-lex .lex .ensures) k (c .before .match .keys2) (c .refuse .ensures)
+returns c = λ k e. on-no-symbol (looked (c .before .before)) k (c .before .match .keys2) (c .refuse .ensures)
 
 later-symbol-fault-requires : tie.Need-later-symbol-fault-requires
-later-symbol-fault-requires c κs =
-    let at-lex = c .before .before .before in
-    let entry = at-lex .before .before .before in
-    let p = entry .pre in
-    (on-inside (p .1) (p .0) (at-lex .lex .ensures) (c .before .token .given .1), p .1)
+later-symbol-fault-requires c κs = (on-inside (symbol (c .before)), c .before .before .before .before .before .before .pre .1)
 
 is-accepted-requires : tie.Need-is-accepted-requires
 is-accepted-requires c κs = search needs
 
 returns-2 : tie.Need-returns-2
-returns-2 c =
-    let at-later-symbol-fault = c .before .before in
-    let at-token = at-later-symbol-fault .before .before in
-    let at-lex = at-token .before .before in
-    let entry = at-lex .before .before .before in
-    let p = entry .pre in
-    λ k e. on-wrong (p .1) (p .0) (at-lex .lex .ensures) (at-token .token .given .1) k (at-later-symbol-fault .later-symbol-fault .ensures)
-    (c .before .is-accepted .ensures) (c .if1 .taken)
+returns-2 c = λ k e. on-wrong (asked (c .before)) k (c .if1 .taken)
 
 condition-end-requires : tie.Need-condition-end-requires
 condition-end-requires c κs =
-    let at-is-accepted = c .before .before in
-    let at-later-symbol-fault = at-is-accepted .before in
-    let at-token = at-later-symbol-fault .before .before in
-    let at-lex = at-token .before .before in
-    let entry = at-lex .before .before .before in
-    let p = entry .pre in
-    let b = on-before (p .1) (p .0) (at-lex .lex .ensures) (at-token .token .given .1) (at-later-symbol-fault .later-symbol-fault .ensures)
-    (at-is-accepted .is-accepted .ensures) (c .before .if1 .left) in
-    (b .0, b .1, p .2)
+    let b = on-before (asked (c .before .before)) (c .before .if1 .left) in
+    (b .0, b .1, c .before .before .before .before .before .before .before .before .before .before .pre .2)
 
 returns-3 : tie.Need-returns-3
-returns-3 c =
-    let at-if1 = c .before .before in
-    let at-is-accepted = at-if1 .before in
-    let at-later-symbol-fault = at-is-accepted .before in
-    let at-token = at-later-symbol-fault .before .before in
-    let at-lex = at-token .before .before in
-    let entry = at-lex .before .before .before in
-    let p = entry .pre in
-    λ k e. on-reads (p .1) (p .0) (at-lex .lex .ensures) (at-token .token .given .1) (at-later-symbol-fault .later-symbol-fault .ensures)
-    (at-is-accepted .is-accepted .ensures) (at-if1 .if1 .left) k (c .condition-end .ensures k e)
+returns-3 c = λ k e. on-reads (asked (c .before .before .before)) (c .before .before .if1 .left) k (c .condition-end .ensures k e)
 
 pub condition-on-spec : {M : Type 1} → statement M
 condition-on-spec =

@@ -1,12 +1,16 @@
 -- `parsing::conditions::conditions` meets its contract: the conditions from the start are those from here.
 use Rattle.parsing.proofs.conditions.conditions.Statement.{statement}
 use Rattle.parsing.proofs.conditions.conditions.Tie as tie
-use mathlib.Core.Path.{sym, _∙_}
+use mathlib.Core.Path.{_≡_, sym, _∙_}
+use mathlib.Core.Bool.{Bool, true}
 use native.Mathlib.Omega.{arith}
 use borrow.Author.Needs.{needs}
 use borrow.Author.Tests.{not-true, not-false}
+use Rattle.meaning.specs.Tokens.{inside}
+use Rattle.lexing.proofs.Stream.{comes}
+use Rattle.bookkeeping.specs.declared.progress.Parsed.{Parsed}
 use Rattle.parsing.specs.Patterns.{symbolNames}
-use Rattle.parsing.proofs.Conditioned.{Conditioned, condition-ready, conditions-start, conditions-done, conditions-many, condition-stops, condition-goes}
+use Rattle.parsing.proofs.Conditioned.{Conditioned, LookedAt, condition-ready, conditions-start, conditions-done, conditions-many, ConditionsOn, conditions-on}
 
 abbrev Inv-loop : tie.InvT-loop
 Inv-loop text tape₀ table symbols from words s₀ left₀ tape s left =
@@ -24,40 +28,40 @@ lex-requires c κs = search needs
 is-sign-requires : tie.Need-is-sign-requires Inv-loop μ-loop
 is-sign-requires c κs = search needs
 
+abbrev Look : tie.After-is-sign Inv-loop μ-loop → Bool → Type 0
+Look c comma =
+    let l = c .before .before .loop in
+    let a = c .before .before .before .before .before .args in
+    LookedAt (a .text .now) (a .tape .now) (symbolNames (a .text .now) (a .table .now) (a .symbols)) (a .from) (a .words) (l .tape) (l .s .at) (l .s .words) (l .left)
+    (c .before .lex .result) comma
+
+looked : (c : tie.After-is-sign Inv-loop μ-loop) {comma : Bool} → c .is-sign .result ≡ comma → Look c comma
+looked c e =
+    let k = c .before .before .loop .inv in
+    record { read = k; first = comes _ inside _ _ (k .went .inside) (c .before .lex .ensures); sign = sym (c .is-sign .ensures) ∙ e }
+
+at-comma : (c : tie.Else1 Inv-loop μ-loop) → Look (c .before) true
+at-comma c = looked (c .before) (not-false _ (c .if1 .left))
+
 returns : tie.Need-returns Inv-loop μ-loop
-returns c =
-    let k = c .before .before .before .loop .inv in
-    conditions-done k (c .before .before .lex .ensures) (sym (c .before .is-sign .ensures) ∙ not-true _ (c .if1 .taken))
+returns c = conditions-done (looked (c .before) (not-true _ (c .if1 .taken)))
 
 returns-2 : tie.Need-returns-2 Inv-loop μ-loop
-returns-2 c =
-    let at-is-sign = c .before .before in
-    let at-lex = at-is-sign .before in
-    let at-loop = at-lex .before in
-    let k = at-loop .loop .inv in
-    conditions-many k (at-lex .lex .ensures) (sym (at-is-sign .is-sign .ensures) ∙ not-false _ (c .before .if1 .left)) (c .if2 .taken)
+returns-2 c = conditions-many (at-comma (c .before)) (c .if2 .taken)
 
 condition-requires : tie.Need-condition-requires Inv-loop μ-loop
-condition-requires c κs =
-    let at-lex = c .before .before .before .before in
-    let at-loop = at-lex .before in
-    let entry = at-loop .before .before .before in
-    (condition-ready (at-loop .loop .inv) (at-lex .lex .ensures), entry .pre .1)
+condition-requires c κs = (condition-ready (at-comma (c .before .before)), c .before .before .before .before .before .before .before .before .pre .1)
+
+-- after a condition, whether it was read or not
+turned : (c : tie.After-condition Inv-loop μ-loop) {r : Parsed} → c .condition .result ≡ r
+    → ConditionsOn (at-comma (c .before .before .before)) (c .condition .last .1 .0) r
+turned c {r} e = conditions-on (at-comma (c .before .before .before)) (c .before .before .if2 .left) r (rw e at (c .condition .ensures))
 
 enum-known-fault : tie.Need-enum-known-fault Inv-loop μ-loop
 enum-known-fault c = search needs
 
 returns-3 : tie.Need-returns-3 Inv-loop μ-loop
-returns-3 c =
-    let at-condition = c .before .before .before in
-    let at-if2 = at-condition .before .before in
-    let at-if1 = at-if2 .before in
-    let at-is-sign = at-if1 .before in
-    let at-lex = at-is-sign .before in
-    let at-loop = at-lex .before in
-    let k = at-loop .loop .inv in
-    condition-stops k (at-lex .lex .ensures) (sym (at-is-sign .is-sign .ensures) ∙ not-false _ (at-if1 .if1 .left)) (at-if2 .if2 .left)
-    (rw (c .before .fault .given .1) at (at-condition .condition .ensures))
+returns-3 c = turned (c .before .before .before) (c .before .fault .given .1)
 
 enum-known-next : tie.Need-enum-known-next Inv-loop μ-loop
 enum-known-next c = search needs
@@ -69,16 +73,7 @@ loop-less : tie.Need-loop-less Inv-loop μ-loop
 loop-less c = let z = c .before .before .before .before .before .if2 .left in omega arith
 
 loop-again : tie.Need-loop-again Inv-loop μ-loop
-loop-again c =
-    let at-condition = c .before .before .before in
-    let at-if2 = at-condition .before .before in
-    let at-if1 = at-if2 .before in
-    let at-is-sign = at-if1 .before in
-    let at-lex = at-is-sign .before in
-    let at-loop = at-lex .before in
-    let k = at-loop .loop .inv in
-    condition-goes k (at-lex .lex .ensures) (sym (at-is-sign .is-sign .ensures) ∙ not-false _ (at-if1 .if1 .left)) (at-if2 .if2 .left)
-    (rw (c .before .next .given .1) at (at-condition .condition .ensures))
+loop-again c = turned (c .before .before .before) (c .before .next .given .1)
 
 pub conditions-spec : {M : Type 1} → statement M
 conditions-spec =
