@@ -92,12 +92,12 @@ module _ {text : Bytes} {table : List ℕ} {p : Counts} {tape : List ℕ} {item 
 
 -- STRINGS
 
-module _ {text : Bytes} {table : List ℕ} {p : Counts} {place past count : ℕ} (h : Held text table p) (a : StringAt text (p .at) place past count) where
+module _ {text : Bytes} {table : List ℕ} {p : Counts} {place past count : ℕ} (pre : Held text table p × StringAt text (p .at) place past count) where
   abbrev string : Bytes
   string = charactersIn (quotationAt text place)
 
   string-faulted : {is : Bool} → leb (p .letters + count) 64 ≡ is → Faulted text table p (characters string) (faultUnless is overLimit 0)
-  string-faulted e before s = rw (s .letters, a .counted, e)
+  string-faulted e before s = rw (s .letters, pre .1 .counted, e)
 
   pub string-wrong : {tape table′ tape′ : List ℕ} → 64 < p .letters + count
       → AddsItem text table p tape (characters string) past table′ tape′ (Wrong OverLimit)
@@ -109,17 +109,17 @@ module _ {text : Bytes} {table : List ℕ} {p : Counts} {place past count : ℕ}
       → AddsItem text table p tape (characters string) past table tape′
       (Taken (record { at = past; words = words; letters = p .letters + count; symbols = p .symbols; parts = p .parts; ending = ending }))
   string-taken few tape tape′ words ending w e =
-      item-taken h (tape-string string) (string-faulted (le-leb (p .letters + count) 64 few))
+      item-taken (pre .0) (tape-string string) (string-faulted (le-leb (p .letters + count) 64 few))
       (record {
-        variables = h .variables;
+        variables = pre .0 .variables;
         few = few;
-        letters = rw (characters-letters string, a .counted);
+        letters = rw (characters-letters string, pre .1 .counted);
         symbols = characters-symbols (symbolNames text table (p .symbols)) string;
         parts = rw (characters-parts string) (append-nil (partNames text table (p .parts)));
-        ending = λ before s. ends-string before string ∙ rw (s, a .counted) (sym e);
+        ending = λ before s. ends-string before string ∙ rw (s, pre .1 .counted) (sym e);
       })
-      (string-went (h .ready) a (w .0))
-      (string-quiet (h .ready) a (w .1))
+      (string-went (pre .0 .ready) (pre .1) (w .0))
+      (string-quiet (pre .0 .ready) (pre .1) (w .1))
 
 -- VARIABLES
 
@@ -242,7 +242,7 @@ module _ {text : Bytes} {table : List ℕ} {p : Counts} {x : Span} (h : Held tex
 
   -- AN E-VARIABLE
 
-  abbrev partFault : ℕ
+  abbrev pub partFault : ℕ
   partFault = patternPartFault (symbolNames text table (p .symbols)) (partNames text table (p .parts)) (p .ending) name
 
   pub part-faulted : Faulted text table p (partItem name) partFault

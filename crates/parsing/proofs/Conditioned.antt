@@ -61,19 +61,19 @@ use Rattle.bookkeeping.proofs.Tokening.{NameFirst, sign-shown, takes, passes-on
 
 -- A LATER S-VARIABLE
 
-module _ {text : Bytes} {table : List ℕ} {symbols : ℕ} {x : Span} (p : Inside text x) (e : Entries text table 0 symbols) where
+module _ {text : Bytes} {table : List ℕ} {symbols : ℕ} {x : Span} (pre : Inside text x × Entries text table 0 symbols) where
   abbrev Later : ℕ → Type 0
   Later number = number ≡ symbolFault (symbolNames text table symbols) (View.part text x)
 
   pub later-long : 8 < x .past - x .from → Later overLimit
-  later-long l = later-fault-is (symbolNames text table symbols) (View.part text x) (too-long text x p 8 l) refl
+  later-long l = later-fault-is (symbolNames text table symbols) (View.part text x) (too-long text x (pre .0) 8 l) refl
 
   pub later-is : x .past - x .from ≤ 8 → (r : ℕ) → r ≡ 0 + position (View.part text x) (symbolNames text table symbols) → {known : Bool} → ltb r symbols ≡ known
       → Later (pick (not known) wrongLaterVariable 0)
   later-is l r f {known} h =
       fault-if-not known wrongLaterVariable
-      ∙ later-fault-is (symbolNames text table symbols) (View.part text x) (short-enough text x p 8 l)
-      (among text table 0 symbols e (View.part text x) r f h)
+      ∙ later-fault-is (symbolNames text table symbols) (View.part text x) (short-enough text x (pre .0) 8 l)
+      (among text table 0 symbols (pre .1) (View.part text x) r f h)
 
 -- THE CLOSING STRING
 

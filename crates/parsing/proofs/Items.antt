@@ -22,7 +22,7 @@ use Rattle.lexing.specs.declared.Placed.{Placed}
 use Rattle.parsing.specs.declared.patterns.Counts.{Counts}
 use Rattle.parsing.specs.declared.patterns.Added.{Added}
 use Rattle.parsing.specs.declared.patterns.Added.the-variants.{Taken, Wrong, Other}
-use Rattle.parsing.specs.Patterns.{Identifier, StringAt, itemAt, ItemGives, AddsItem, TokenGives, AddsToken}
+use Rattle.parsing.specs.Patterns.{Identifier, StringAt, Held, itemAt, ItemGives, AddsItem, TokenGives, AddsToken}
 
 module _ {text : Bytes} {mode : Tokens.Mode} {at : ℕ} {t : Placed} (c : Comes text mode at t) where
   -- the token is known to be one
@@ -95,7 +95,7 @@ pub item-other : {text : Bytes} {mode : Tokens.Mode} {at : ℕ} {t : Placed} →
 item-other {text} {t = t} c o = no-item text (t .place) (t .past) (t .token) (c .sound) o
 
 -- what comes of the item comes of the token
-pub adds : {text : Bytes} {table : List ℕ} {p : Counts} {tape : List ℕ} {item : Item} {past : ℕ} {table′ tape′ : List ℕ} {r : Added} (t : Placed)
+adds : {text : Bytes} {table : List ℕ} {p : Counts} {tape : List ℕ} {item : Item} {past : ℕ} {table′ tape′ : List ℕ} {r : Added} (t : Placed)
     → itemAt text t ≡ item → isItem item ≡ true → past ≡ t .past → AddsItem text table p tape item past table′ tape′ r
     → AddsToken text table p tape t table′ tape′ r
 adds {text} {table} {p} {tape} {item} {past} {table′} {tape′} {r} t e i w a = record { gives = gives r (a .gives) }
@@ -104,6 +104,31 @@ adds {text} {table} {p} {tape} {item} {past} {table′} {tape′} {r} t e i w a 
     gives (Taken next) g = (rw (e, ← w) g, rw e i)
     gives (Wrong answer) g = (rw e g, rw e i)
     gives Other g = absurd g
+
+-- what is asked of a token by the function that adds it, and what comes of it
+module _ {text : Bytes} {table : List ℕ} {p : Counts} {t : Placed} (pre : Held text table p × Comes text Tokens.inside (p .at) t) where
+  pub asks-string : {count : ℕ} → t .token ≡ Quoted count → Held text table p × StringAt text (p .at) (t .place) (t .past) count
+  asks-string e = (pre .0, string-at (pre .1) e)
+
+  pub asks-symbol : {x : Span} → t .token ≡ Symbol x → Held text table p × Identifier text (p .at) x
+  asks-symbol e = (pre .0, symbol-at (pre .1) e)
+
+  pub asks-part : {x : Span} → t .token ≡ Part x → Held text table p × Identifier text (p .at) x
+  asks-part e = (pre .0, part-at (pre .1) e)
+
+  module _ {tape table′ tape′ : List ℕ} {r : Added} where
+    pub adds-string : {count : ℕ} → t .token ≡ Quoted count
+        → AddsItem text table p tape (characters (charactersIn (quotationAt text (t .place)))) (t .past) table′ tape′ r
+        → AddsToken text table p tape t table′ tape′ r
+    adds-string e a = adds t (item-string (pre .1) e) refl refl a
+
+    pub adds-symbol : {x : Span} → t .token ≡ Symbol x → AddsItem text table p tape (symbolItem (View.part text x)) (x .past) table′ tape′ r
+        → AddsToken text table p tape t table′ tape′ r
+    adds-symbol e a = adds t (item-symbol (pre .1) e) refl (symbol-past (pre .1) e) a
+
+    pub adds-part : {x : Span} → t .token ≡ Part x → AddsItem text table p tape (partItem (View.part text x)) (x .past) table′ tape′ r
+        → AddsToken text table p tape t table′ tape′ r
+    adds-part e a = adds t (item-part (pre .1) e) refl (part-past (pre .1) e) a
 
 -- after an item the tokens go on inside the sentence
 module _ (text : Bytes) (place past : ℕ) where

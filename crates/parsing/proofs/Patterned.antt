@@ -1,29 +1,27 @@
 -- The pattern's reader: the loop over its tokens.
-use Prim.Native.Nat.{ℕ, _≤_, _<_}
+use Prim.Native.Nat.{ℕ, _<_}
 use mathlib.Core.Path.{_≡_, refl, sym, _∙_}
 use mathlib.Core.Bool.{false}
 use mathlib.Core.List.{List, [], _++_}
 use native.Mathlib.Omega.{arith}
 use lib.Dec.{T}
-use lib.ListN.{length, drop}
+use lib.ListN.{length}
 use Rattle.meaning.specs.Choice.{every}
 use Rattle.meaning.specs.Tree.{Element}
 use Rattle.meaning.specs.Allowed.{symbolsFrom, partsOf, lettersIn}
 use Rattle.meaning.specs.Tape.{patternTape}
-use Rattle.meaning.specs.Tokens as Tokens
 use Rattle.meaning.specs.Tokens.{inside}
 use Rattle.meaning.specs.Reading.{endsInPart, elementsOf, pattern}
-use Rattle.lexing.specs.View.{stream, Shows, Comes}
+use Rattle.lexing.specs.View.{stream, Comes}
 use Rattle.lexing.specs.declared.Placed as Code
-use Rattle.lexing.proofs.Stream.{comes}
-use Rattle.bookkeeping.specs.declared.Answer.{Answer}
+use Rattle.bookkeeping.specs.declared.progress.Parsed.{Parsed}
 use Rattle.bookkeeping.specs.declared.progress.Parsed.the-variants.{Stopped, Done}
 use Rattle.parsing.specs.declared.patterns.Counts.{Counts}
 use Rattle.parsing.specs.declared.patterns.Added.{Added}
 use Rattle.parsing.specs.declared.patterns.Added.the-variants.{Taken, Wrong, Other}
 use Rattle.bookkeeping.specs.Answered.{Agrees}
 use Rattle.bookkeeping.specs.Written.{isQuiet, Ready, Went}
-use Rattle.parsing.specs.Patterns.{Held, Seen, TokenGives, AddsToken, PatternRead, itemAt}
+use Rattle.parsing.specs.Patterns.{Held, Seen, TokenGives, PatternRead, itemAt}
 use Rattle.bookkeeping.proofs.Tabling.{none-yet, no-names, every-append}
 use Rattle.parsing.proofs.Elements.{tape-append}
 use Rattle.parsing.proofs.Items.{item-then}
@@ -63,52 +61,38 @@ pattern-starts text start table at words r l =
       quiet = tt;
     }
 
-module _ {text start : List ℕ} {at words : ℕ} {tape table : List ℕ} {p : Counts} {t : Code.Placed} {table′ tape′ : List ℕ} {r : Added}
-    (k : Patterned text start at words tape table p)
-    (l : Shows text t (Tokens.lex inside (p .at) (drop (p .at) text) .first))
-    (a : AddsToken text table p tape t table′ tape′ r) where
-  c : Comes text inside (p .at) t
-  c = comes text inside (p .at) t (k .held .ready .inside) l
+-- what the pattern comes to, or how it goes on, after a token
+module _ (text start : List ℕ) (at words : ℕ) (p : Counts) (t : Code.Placed) (table′ tape′ : List ℕ) where
+  abbrev Agree : Parsed → Type 0
+  Agree r = Agrees (PatternRead text at words start table′ tape′) (pattern [] (stream text inside at)) r
 
-  given : {r′ : Added} → r ≡ r′ → TokenGives text table p tape t table′ tape′ r′
-  given e = rw e at (a .gives)
+  abbrev pub PatternOn : Added → Type 0
+  PatternOn (Taken next) = (p .at < next .at) × Patterned text start at words tape′ table′ next
+  PatternOn (Wrong answer) = Agree (Stopped (record { answer = answer; place = t .place }))
+  PatternOn Other = Agree (Done (record { at = t .place; words = p .words; count = p .symbols; parts = p .parts }))
 
-  pub pattern-moves : {next : Counts} → r ≡ Taken next → (p .at < next .at) × (next .at ≤ length text)
-  pattern-moves e =
-      let g = given e in
-      let m = item-then c (g .1) in
-      (omega (arith, g .0 .at, m .moves), g .0 .held .ready .inside)
-
-  pub pattern-takes : {next : Counts} → r ≡ Taken next → Patterned text start at words tape′ table′ next
+  pub pattern-on : {tape table : List ℕ} → Patterned text start at words tape table p → Comes text inside (p .at) t → (r : Added)
+      → TokenGives text table p tape t table′ tape′ r
+      → PatternOn r
   unfolding pattern
-  pattern-takes e =
-      let g = given e in
-      let i = item-then c (g .1) in
-      record {
-        before = k .before ++ elementsOf (itemAt text t);
-        same = k .same ∙ rw (i .unrolled, g .1, g .0 .fault (k .before) (k .seen), g .0 .at);
-        held = g .0 .held;
-        seen = g .0 .seen (k .before) (k .seen);
-        went = rw (tape-append (k .before) (elementsOf (itemAt text t))) (went-then (k .went) (g .0 .went));
-        quiet =
-            rw (tape-append (k .before) (elementsOf (itemAt text t)))
-            (every-append isQuiet (patternTape (k .before)) (patternTape (elementsOf (itemAt text t))) (k .quiet) (g .0 .quiet));
-      }
-
-  pub pattern-stops : {answer : Answer} → r ≡ Wrong answer
-      → Agrees (PatternRead text at words start table′ tape′) (pattern [] (stream text inside at)) (Stopped (record { answer = answer; place = t .place }))
-  unfolding pattern
-  pattern-stops e =
-      let g = given e in
+  pattern-on k c (Taken next) g =
+      let i = item-then c (g .1) in (
+        omega (arith, g .0 .at, i .moves),
+        record {
+          before = k .before ++ elementsOf (itemAt text t);
+          same = k .same ∙ rw (i .unrolled, g .1, g .0 .fault (k .before) (k .seen), g .0 .at);
+          held = g .0 .held;
+          seen = g .0 .seen (k .before) (k .seen);
+          went = rw (tape-append (k .before) (elementsOf (itemAt text t))) (went-then (k .went) (g .0 .went));
+          quiet =
+              rw (tape-append (k .before) (elementsOf (itemAt text t)))
+              (every-append isQuiet (patternTape (k .before)) (patternTape (elementsOf (itemAt text t))) (k .quiet) (g .0 .quiet));
+        },
+      )
+  pattern-on k c (Wrong answer) g =
       let i = item-then c (g .1) in
       stops _ _ _ (k .same ∙ rw (i .unrolled, g .1, g .0 .fault (k .before) (k .seen)) (check-wrong _ _ _ (g .0 .wrong))) refl refl
-
-  pub pattern-ends : r ≡ Other
-      → Agrees (PatternRead text at words start table′ tape′) (pattern [] (stream text inside at))
-      (Done (record { at = t .place; words = p .words; count = p .symbols; parts = p .parts }))
-  unfolding pattern
-  pattern-ends e =
-      let g = given e in
+  pattern-on k c Other g =
       reads (k .before) (stream text inside (p .at)) (k .same ∙ rw (c .unrolled, g .0))
       (record {
         tokens = sym (c .again);

@@ -1,6 +1,6 @@
 -- The pattern's reader: what an item adds.
 use Prim.Native.Nat.{ℕ, _+_, _-_, _≤_, _<_}
-use mathlib.Core.Path.{_≡_, refl, _∙_}
+use mathlib.Core.Path.{_≡_, refl, _∙_, ap}
 use mathlib.Core.Bool.{Bool, true, not}
 use mathlib.Core.List.{List}
 use native.Mathlib.Omega.{arith}
@@ -9,7 +9,7 @@ use lib.ListN.{length}
 use borrow.Author.Tests.{lt-leb, le-leb, lt-ltb, le-ltb}
 use Rattle.meaning.specs.Choice.{Bytes, pick, both, either}
 use Rattle.meaning.specs.Answers.{notAllowedHere, overLimit, wrongPatternVariable}
-use Rattle.meaning.specs.Allowed.{maxIdentifier, maxSymbols, added}
+use Rattle.meaning.specs.Allowed.{maxIdentifier, member}
 use Rattle.meaning.specs.Reading.{faultUnless}
 use Rattle.lexing.specs.View.{part}
 use Rattle.lexing.specs.declared.Span.{Span}
@@ -31,88 +31,81 @@ module _ {text : Bytes} {table : List ℕ} {symbols parts : ℕ} (v : Variables 
   pub part-count : length (partNames text table parts) ≡ parts
   part-count = table-length text table 16 (16 + parts) (v .partEntries) ∙ omega arith
 
-  parts-are : {is : Bool} → ltb parts 2 ≡ is → ltb (length (partNames text table parts)) 2 ≡ is
-  parts-are e = rw part-count e
-
 -- FAULTS OF VARIABLES
 
-module _ {text : Bytes} {table : List ℕ} {p : Counts} {x : Span} (h : Held text table p) (i : Identifier text (p .at) x) where
-  inside : Inside text x
-  inside = identifier-inside i
+-- the code's place of a name in the table of s-variables, and in that of e-variables
+abbrev SymbolAt : Bytes → List ℕ → Counts → Span → ℕ → Type 0
+SymbolAt text table p x r = r ≡ 0 + position (part text x) (symbolNames text table (p .symbols))
 
-  -- the code's place of a name in the table of s-variables, and in that of e-variables
-  abbrev SymbolAt : ℕ → Type 0
-  SymbolAt known = known ≡ 0 + position (part text x) (symbolNames text table (p .symbols))
+abbrev PartAt : Bytes → List ℕ → Counts → Span → ℕ → Type 0
+PartAt text table p x r = r ≡ 16 + position (part text x) (partNames text table (p .parts))
 
-  abbrev PartAt : ℕ → Type 0
-  PartAt r = r ≡ 16 + position (part text x) (partNames text table (p .parts))
+-- an s-variable, which is known at an entry
+module _ {text : Bytes} {table : List ℕ} {p : Counts} {x : Span} {known : ℕ}
+    (pre : Held text table p × Identifier text (p .at) x × (known ≡ position (part text x) (symbolNames text table (p .symbols)))) where
+  abbrev Symbol : ℕ → Type 0
+  Symbol number = number ≡ patternSymbolFault (p .letters) (symbolNames text table (p .symbols)) (partNames text table (p .parts)) (part text x)
 
-  -- an s-variable
-  module _ (known : ℕ) (k : known ≡ position (part text x) (symbolNames text table (p .symbols))) where
-    abbrev Symbol : ℕ → Type 0
-    Symbol number = number ≡ patternSymbolFault (p .letters) (symbolNames text table (p .symbols)) (partNames text table (p .parts)) (part text x)
+  symbol-tests : {short few room shared : Bool} → leb (length (part text x)) maxIdentifier ≡ short → leb (p .letters + 1) 64 ≡ few → ltb known 16 ≡ room
+      → member (part text x) (partNames text table (p .parts)) ≡ shared
+      → Symbol (faultUnless (both short (both few room)) overLimit (faultUnless (not shared) wrongPatternVariable 0))
+  symbol-tests s f r m =
+      let v = pre .0 .variables in
+      let room = added-room (part text x) (symbolNames text table (p .symbols)) 16 (rw (symbol-count v) (v .fewSymbols)) in
+      symbol-fault-is (p .letters) (symbolNames text table (p .symbols)) (partNames text table (p .parts)) (part text x) s f (room ∙ rw (← (pre .2)) r) m
 
-    room-is : {is : Bool} → ltb known 16 ≡ is → leb (length (added (part text x) (symbolNames text table (p .symbols)))) maxSymbols ≡ is
-    room-is e =
-        added-room (part text x) (symbolNames text table (p .symbols)) 16 (rw (symbol-count (h .variables)) (h .variables .fewSymbols)) ∙ rw (← k) e
+  pub symbol-long : 8 < x .past - x .from → Symbol overLimit
+  symbol-long l = symbol-tests (too-long text x (identifier-inside (pre .1)) 8 l) refl refl refl
 
-    pub symbol-long : 8 < x .past - x .from → Symbol overLimit
-    symbol-long l = symbol-fault-is (p .letters) (symbolNames text table (p .symbols)) (partNames text table (p .parts)) (part text x) (too-long text x inside 8 l) refl refl refl
+  module _ (l : x .past - x .from ≤ 8) where
+    short : leb (length (part text x)) maxIdentifier ≡ true
+    short = short-enough text x (identifier-inside (pre .1)) 8 l
 
-    module _ (l : x .past - x .from ≤ 8) where
-      abbrev short : leb (length (part text x)) maxIdentifier ≡ true
-      short = short-enough text x inside 8 l
+    pub symbol-many : 64 ≤ p .letters → Symbol overLimit
+    symbol-many m = symbol-tests short (lt-leb (p .letters + 1) 64 (omega arith)) refl refl
 
-      pub symbol-many : 64 ≤ p .letters → Symbol overLimit
-      symbol-many m =
-          symbol-fault-is (p .letters) (symbolNames text table (p .symbols)) (partNames text table (p .parts)) (part text x) short
-          (lt-leb (p .letters + 1) 64 (omega arith)) refl refl
+    module _ (m : p .letters < 64) where
+      few : leb (p .letters + 1) 64 ≡ true
+      few = le-leb (p .letters + 1) 64 (omega arith)
 
-      module _ (m : p .letters < 64) where
-        few : leb (p .letters + 1) 64 ≡ true
-        few = le-leb (p .letters + 1) 64 (omega arith)
+      pub symbol-new : 16 ≤ known → Symbol overLimit
+      symbol-new n = symbol-tests short few (le-ltb known 16 n) refl
 
-        pub symbol-new : 16 ≤ known → Symbol overLimit
-        symbol-new n =
-            symbol-fault-is (p .letters) (symbolNames text table (p .symbols)) (partNames text table (p .parts)) (part text x) short few
-            (room-is (le-ltb known 16 n)) refl
+      pub symbol-is : known < 16 → {is : Bool} (r : ℕ) → PartAt text table p x r → ltb r (16 + p .parts) ≡ is → Symbol (pick is wrongPatternVariable 0)
+      symbol-is n {is} r f e =
+          fault-if is wrongPatternVariable
+          ∙ symbol-tests short few (lt-ltb known 16 n) (among text table 16 (16 + p .parts) (pre .0 .variables .partEntries) (part text x) r f e)
 
-        pub symbol-is : {is : Bool} (r : ℕ) → known < 16 → PartAt r → ltb r (16 + p .parts) ≡ is → Symbol (pick is wrongPatternVariable 0)
-        symbol-is {is} r n f e =
-            fault-if is wrongPatternVariable
-            ∙ symbol-fault-is (p .letters) (symbolNames text table (p .symbols)) (partNames text table (p .parts)) (part text x) short few
-            (room-is (lt-ltb known 16 n))
-            (among text table 16 (16 + p .parts) (h .variables .partEntries) (part text x) r f e)
-
-  -- an e-variable
+-- an e-variable
+module _ {text : Bytes} {table : List ℕ} {p : Counts} {x : Span} (pre : Held text table p × Identifier text (p .at) x) where
   abbrev Part : ℕ → Type 0
   Part number = number ≡ patternPartFault (symbolNames text table (p .symbols)) (partNames text table (p .parts)) (p .ending) (part text x)
 
+  part-tests : {room short symbol shared ends : Bool} → ltb (p .parts) 2 ≡ room → leb (length (part text x)) maxIdentifier ≡ short
+      → member (part text x) (symbolNames text table (p .symbols)) ≡ symbol
+      → member (part text x) (partNames text table (p .parts)) ≡ shared
+      → p .ending ≡ ends
+      → Part (faultUnless room notAllowedHere (faultUnless short overLimit (faultUnless (both (not (either symbol shared)) (not ends)) wrongPatternVariable 0)))
+  part-tests r s m n e =
+      part-fault-is (symbolNames text table (p .symbols)) (partNames text table (p .parts)) (p .ending) (part text x) (ap (λ (k : ℕ). ltb k 2) (part-count (pre .0 .variables)) ∙ r) s m n e
+
   pub part-third : 2 ≤ p .parts → Part notAllowedHere
-  part-third m =
-      part-fault-is (symbolNames text table (p .symbols)) (partNames text table (p .parts)) (p .ending) (part text x)
-      (parts-are (h .variables) (le-ltb (p .parts) 2 m)) refl refl refl refl
+  part-third m = part-tests (le-ltb (p .parts) 2 m) refl refl refl refl
 
   module _ (m : p .parts < 2) where
-    room : ltb (length (partNames text table (p .parts))) 2 ≡ true
-    room = parts-are (h .variables) (lt-ltb (p .parts) 2 m)
-
     pub part-long : 8 < x .past - x .from → Part overLimit
-    part-long l =
-        part-fault-is (symbolNames text table (p .symbols)) (partNames text table (p .parts)) (p .ending) (part text x) room
-        (too-long text x inside 8 l) refl refl refl
+    part-long l = part-tests (lt-ltb (p .parts) 2 m) (too-long text x (identifier-inside (pre .1)) 8 l) refl refl refl
 
-    module _ (l : x .past - x .from ≤ 8) where
-      pub part-is : {symbol shared ends : Bool} (r q : ℕ) → SymbolAt r → ltb r (p .symbols) ≡ symbol → PartAt q → ltb q (16 + p .parts) ≡ shared
+    module _ (l : x .past - x .from ≤ 8) {r : ℕ} (f : SymbolAt text table p x r) where
+      pub part-is : {symbol shared ends : Bool} → ltb r (p .symbols) ≡ symbol → {q : ℕ} → PartAt text table p x q → ltb q (16 + p .parts) ≡ shared
           → p .ending ≡ ends
           → Part (faultUnless (both (not (either symbol shared)) (not ends)) wrongPatternVariable 0)
-      part-is r q f d g e n =
-          part-fault-is (symbolNames text table (p .symbols)) (partNames text table (p .parts)) (p .ending) (part text x) room
-          (short-enough text x inside 8 l)
-          (among text table 0 (p .symbols) (h .variables .symbolEntries) (part text x) r f d)
-          (among text table 16 (16 + p .parts) (h .variables .partEntries) (part text x) q g e)
+      part-is d {q} g e n =
+          let v = pre .0 .variables in
+          part-tests (lt-ltb (p .parts) 2 m) (short-enough text x (identifier-inside (pre .1)) 8 l)
+          (among text table 0 (p .symbols) (v .symbolEntries) (part text x) r f d)
+          (among text table 16 (16 + p .parts) (v .partEntries) (part text x) q g e)
           n
 
-      pub part-ending : (r q : ℕ) → SymbolAt r → p .symbols ≤ r → PartAt q → 16 + p .parts ≤ q → Part (pick (p .ending) wrongPatternVariable 0)
-      part-ending r q f d g e =
-          fault-if (p .ending) wrongPatternVariable ∙ part-is r q f (le-ltb r (p .symbols) d) g (le-ltb q (16 + p .parts) e) refl
+      pub part-ending : p .symbols ≤ r → {q : ℕ} → PartAt text table p x q → 16 + p .parts ≤ q → Part (pick (p .ending) wrongPatternVariable 0)
+      part-ending d {q} g e = fault-if (p .ending) wrongPatternVariable ∙ part-is (le-ltb r (p .symbols) d) g (le-ltb q (16 + p .parts) e) refl

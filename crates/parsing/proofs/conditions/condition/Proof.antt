@@ -2,6 +2,7 @@
 use borrow.Author.Needs.{needs}
 use Rattle.parsing.proofs.conditions.condition.Statement.{statement}
 use Rattle.parsing.proofs.conditions.condition.Tie as tie
+use Prim.Native.Nat.{_<_}
 use native.Mathlib.Omega.{arith}
 use Rattle.meaning.specs.Tokens.{naming}
 use Rattle.lexing.proofs.Stream.{comes}
@@ -60,22 +61,23 @@ class-named-requires c κs = named (c .before .before .before) .name .inside
 returns-4 : tie.Need-returns-4
 returns-4 c = class-not (named (c .before .before .before .before .before)) (c .before .before .if1 .left) (rw (c .if2 .taken) at (c .before .class-named .ensures .0))
 
+predicate : (c : tie.Else2) → c .before .class-named .result < 5
+predicate c =
+    let l = c .before .class-named .ensures .1 in
+    let d = c .if2 .left in
+    omega arith
+
 condition-on-requires : tie.Need-condition-on-requires
 condition-on-requires c κs =
-    let at-class-named = c .before .before in
-    let n = named (at-class-named .before .before .before .before) in
-    let l = at-class-named .class-named .ensures .1 in
-    let d = c .before .if2 .left in
-    (name-ready n, n .bracket .known, omega arith)
+    let n = named (c .before .before .before .before .before .before) in
+    (name-ready n, n .bracket .known, predicate (c .before))
 
 returns-5 : tie.Need-returns-5
 returns-5 c =
     let at-class-named = c .before .before .before in
     let at-if1 = at-class-named .before in
-    let l = at-class-named .class-named .ensures .1 in
-    let d = c .before .before .if2 .left in
-    class-reads (named (at-if1 .before .before .before)) (at-if1 .if1 .left) (at-class-named .class-named .result) (omega arith)
-    (at-class-named .class-named .ensures .0) (c .condition-on .ensures)
+    class-reads (named (at-if1 .before .before .before)) (at-if1 .if1 .left) _ (predicate (c .before .before)) (at-class-named .class-named .ensures .0)
+    (c .condition-on .ensures)
 
 pub condition-spec : {M : Type 1} → statement M
 condition-spec =

@@ -9,9 +9,7 @@ sub-if1 : tie.Need-sub-if1
 sub-if1 c = search needs
 
 returns : tie.Need-returns
-returns c =
-    let entry = c .before .before .before .before in
-    later-long (entry .pre .0) (entry .pre .1) (c .if1 .taken)
+returns c = later-long (c .before .before .before .before .pre) (c .if1 .taken)
 
 find-requires : tie.Need-find-requires
 find-requires c κs = search needs
@@ -22,9 +20,7 @@ fault-if-requires c κs = search needs
 returns-2 : tie.Need-returns-2
 returns-2 c =
     let at-if1 = c .before .before in
-    let entry = at-if1 .before .before .before .before in
-    let p = entry .pre in
-    c .fault-if .ensures ∙ later-is (p .0) (p .1) (at-if1 .if1 .left) _ (c .before .find .ensures) refl
+    c .fault-if .ensures ∙ later-is (at-if1 .before .before .before .before .pre) (at-if1 .if1 .left) _ (c .before .find .ensures) refl
 
 pub later-symbol-fault-spec : {M : Type 1} → statement M
 later-symbol-fault-spec = tie.close (tie.spec sub-if1 returns find-requires fault-if-requires returns-2)

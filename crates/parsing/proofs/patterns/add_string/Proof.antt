@@ -9,17 +9,13 @@ add-if1 : tie.Need-add-if1
 add-if1 c = search needs
 
 returns : tie.Need-returns
-returns c =
-    let entry = c .before .before .before .before in
-    string-wrong (entry .pre .0) (entry .pre .1) (c .if1 .taken)
+returns c = string-wrong (c .before .before .before .before .pre) (c .if1 .taken)
 
 add-put-characters : tie.Need-add-put-characters
 add-put-characters c = search needs
 
 put-characters-requires : tie.Need-put-characters-requires
-put-characters-requires c κs =
-    let entry = c .before .before .before .before .before in
-    string-ready (entry .pre .0 .ready) (entry .pre .1)
+put-characters-requires c κs = let p = c .before .before .before .before .before .pre in string-ready (p .0 .ready) (p .1)
 
 still-ending-requires : tie.Need-still-ending-requires
 still-ending-requires c κs = search needs
@@ -31,8 +27,7 @@ returns-2 : tie.Need-returns-2
 returns-2 c =
     let at-put-characters = c .before .before in
     let at-if1 = at-put-characters .before .before in
-    let entry = at-if1 .before .before .before .before in
-    string-taken (entry .pre .0) (entry .pre .1) (at-if1 .if1 .left) _ _ _ _ (at-put-characters .put-characters .ensures) (c .before .still-ending .ensures)
+    string-taken (at-if1 .before .before .before .before .pre) (at-if1 .if1 .left) _ _ _ _ (at-put-characters .put-characters .ensures) (c .before .still-ending .ensures)
 
 pub add-string-spec : {M : Type 1} → statement M
 add-string-spec =

@@ -4,21 +4,17 @@ use borrow.Author.Tests.{lt-ltb, le-ltb}
 use Rattle.parsing.proofs.patterns.part_fault.Statement.{statement}
 use Rattle.parsing.proofs.patterns.part_fault.Tie as tie
 use mathlib.Core.Path.{refl, _∙_}
+use native.Mathlib.Omega.{arith}
 use Rattle.parsing.proofs.Patterning.{part-third, part-long, part-is, part-ending}
 
 returns : tie.Need-returns
-returns c =
-    let entry = c .before .before .before .before in
-    part-third (entry .pre .0) (entry .pre .1) (c .if1 .taken)
+returns c = part-third (c .before .before .before .before .pre) (c .if1 .taken)
 
 sub-if2 : tie.Need-sub-if2
 sub-if2 c = search needs
 
 returns-2 : tie.Need-returns-2
-returns-2 c =
-    let at-if1 = c .before .before in
-    let entry = at-if1 .before .before .before .before in
-    part-long (entry .pre .0) (entry .pre .1) (at-if1 .if1 .left) (c .if2 .taken)
+returns-2 c = part-long (c .before .before .before .before .before .before .pre) (omega arith) (c .if2 .taken)
 
 find-requires : tie.Need-find-requires
 find-requires c κs = search needs
@@ -26,11 +22,8 @@ find-requires c κs = search needs
 returns-3 : tie.Need-returns-3
 returns-3 c =
     let at-find = c .before .before in
-    let at-if2 = at-find .before in
-    let at-if1 = at-if2 .before .before in
-    let entry = at-if1 .before .before .before .before in
-    let p = entry .pre in
-    part-is (p .0) (p .1) (at-if1 .if1 .left) (at-if2 .if2 .left) _ _ (at-find .find .ensures) (lt-ltb _ _ (c .if3 .taken)) refl refl refl
+    let entry = at-find .before .before .before .before .before .before .before in
+    part-is (entry .pre) (omega arith) (omega arith) (at-find .find .ensures) (lt-ltb _ _ (c .if3 .taken)) refl refl refl
 
 add-parts : tie.Need-add-parts
 add-parts c = search needs
@@ -42,11 +35,8 @@ returns-4 : tie.Need-returns-4
 returns-4 c =
     let at-if3 = c .before .before .before in
     let at-find = at-if3 .before .before in
-    let at-if2 = at-find .before in
-    let at-if1 = at-if2 .before .before in
-    let entry = at-if1 .before .before .before .before in
-    let p = entry .pre in
-    part-is (p .0) (p .1) (at-if1 .if1 .left) (at-if2 .if2 .left) _ _ (at-find .find .ensures) (le-ltb _ _ (at-if3 .if3 .left)) (c .before .find2 .ensures)
+    let entry = at-find .before .before .before .before .before .before .before in
+    part-is (entry .pre) (omega arith) (omega arith) (at-find .find .ensures) (le-ltb _ _ (at-if3 .if3 .left)) (c .before .find2 .ensures)
     (lt-ltb _ _ (c .if4 .taken)) refl
 
 fault-if-requires : tie.Need-fault-if-requires
@@ -57,12 +47,9 @@ returns-5 c =
     let at-find2 = c .before .before in
     let at-if3 = at-find2 .before .before in
     let at-find = at-if3 .before .before in
-    let at-if2 = at-find .before in
-    let at-if1 = at-if2 .before .before in
-    let entry = at-if1 .before .before .before .before in
-    let p = entry .pre in
-    c .fault-if .ensures ∙ part-ending (p .0) (p .1) (at-if1 .if1 .left) (at-if2 .if2 .left) _ _ (at-find .find .ensures) (at-if3 .if3 .left)
-    (at-find2 .find2 .ensures) (c .before .if4 .left)
+    let entry = at-find .before .before .before .before .before .before .before in
+    c .fault-if .ensures ∙ part-ending (entry .pre) (omega arith) (omega arith) (at-find .find .ensures) (at-if3 .if3 .left) (at-find2 .find2 .ensures)
+    (c .before .if4 .left)
 
 pub part-fault-spec : {M : Type 1} → statement M
 part-fault-spec =

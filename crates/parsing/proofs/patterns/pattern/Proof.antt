@@ -2,12 +2,15 @@
 use Rattle.parsing.proofs.patterns.pattern.Statement.{statement}
 use Rattle.parsing.proofs.patterns.pattern.Tie as tie
 use Prim.Native.Nat.{_-_}
+use mathlib.Core.Path.{_≡_}
 use native.Mathlib.Omega.{arith}
 use lib.ListN.{length}
 use borrow.Author.Needs.{needs}
 use Rattle.meaning.specs.Tokens.{inside}
 use Rattle.lexing.proofs.Stream.{comes}
-use Rattle.parsing.proofs.Patterned.{Patterned, pattern-starts, pattern-moves, pattern-takes, pattern-stops, pattern-ends}
+use Rattle.lexing.specs.View.{Comes}
+use Rattle.parsing.specs.declared.patterns.Added.{Added}
+use Rattle.parsing.proofs.Patterned.{Patterned, pattern-starts, PatternOn, pattern-on}
 
 abbrev Inv-loop : tie.InvT-loop
 Inv-loop text tape₀ table₀ at words p₀ tape table p = Patterned text tape₀ at words tape table p
@@ -21,52 +24,43 @@ loop-holds c = pattern-starts _ _ _ _ _ (c .before .pre .0) (c .before .pre .1)
 lex-requires : tie.Need-lex-requires Inv-loop μ-loop
 lex-requires c κs = search needs
 
+first : (c : tie.After-lex Inv-loop μ-loop) → let l = c .before .loop in
+    let a = c .before .before .before .args in
+    Comes (a .text .now) inside (l .p .at) (c .lex .result)
+first c = comes _ inside _ _ (c .before .loop .inv .held .ready .inside) (c .lex .ensures)
+
 add-requires : tie.Need-add-requires Inv-loop μ-loop
-add-requires c κs =
-    let k = c .before .before .before .loop .inv in
-    (k .held, comes _ inside _ _ (k .held .ready .inside) (c .before .before .lex .ensures))
+add-requires c κs = (c .before .before .before .loop .inv .held, first (c .before .before))
+
+-- after a token, whatever comes of it
+turned : (c : tie.After-add Inv-loop μ-loop) {r : Added} → c .add .result ≡ r
+    → let at-lex = c .before .before .before in
+    let a = at-lex .before .before .before .args in
+    PatternOn (a .text .now) (a .tape .now) (a .at) (a .words) (at-lex .before .loop .p) (at-lex .lex .result) (c .add .last .1 .1 .0) (c .add .last .1 .0) r
+turned c {r} e =
+    let at-lex = c .before .before .before in
+    pattern-on _ _ _ _ _ _ _ _ (at-lex .before .loop .inv) (first at-lex) r (rw e at (c .add .ensures .gives))
 
 enum-known-next : tie.Need-enum-known-next Inv-loop μ-loop
 enum-known-next c = search needs
 
 loop-less : tie.Need-loop-less Inv-loop μ-loop
-loop-less c =
-    let at-add = c .before .before .before in
-    let at-lex = at-add .before .before .before in
-    let at-loop = at-lex .before in
-    let k = at-loop .loop .inv in
-    let m = pattern-moves k (at-lex .lex .ensures) (at-add .add .ensures) (c .before .next .given .1) in
-    omega arith
+loop-less c = let m = turned (c .before .before .before) (c .before .next .given .1) in omega arith
 
 loop-again : tie.Need-loop-again Inv-loop μ-loop
-loop-again c =
-    let at-add = c .before .before .before in
-    let at-lex = at-add .before .before .before in
-    let at-loop = at-lex .before in
-    let k = at-loop .loop .inv in
-    pattern-takes k (at-lex .lex .ensures) (at-add .add .ensures) (c .before .next .given .1)
+loop-again c = turned (c .before .before .before) (c .before .next .given .1) .1
 
 enum-known-answer : tie.Need-enum-known-answer Inv-loop μ-loop
 enum-known-answer c = search needs
 
 returns : tie.Need-returns Inv-loop μ-loop
-returns c =
-    let at-add = c .before .before .before in
-    let at-lex = at-add .before .before .before in
-    let at-loop = at-lex .before in
-    let k = at-loop .loop .inv in
-    pattern-stops k (at-lex .lex .ensures) (at-add .add .ensures) (c .before .answer .given .1)
+returns c = turned (c .before .before .before) (c .before .answer .given .1)
 
 enum-told : tie.Need-enum-told Inv-loop μ-loop
 enum-told c = search needs
 
 returns-2 : tie.Need-returns-2 Inv-loop μ-loop
-returns-2 c =
-    let at-add = c .before .before in
-    let at-lex = at-add .before .before .before in
-    let at-loop = at-lex .before in
-    let k = at-loop .loop .inv in
-    pattern-ends k (at-lex .lex .ensures) (at-add .add .ensures) (c .enum-told .given .1)
+returns-2 c = turned (c .before .before) (c .enum-told .given .1)
 
 pub pattern-spec : {M : Type 1} → statement M
 pattern-spec =

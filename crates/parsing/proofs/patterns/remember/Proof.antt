@@ -5,8 +5,7 @@ use Rattle.parsing.proofs.patterns.remember.Tie as tie
 use borrow.Author.Tests.{lt-ltb, le-ltb}
 
 returns : tie.Need-returns
-returns c =
-    (rw (lt-ltb (c .before .args .known) (c .before .args .symbols) (c .if1 .taken)), rw (lt-ltb (c .before .args .known) (c .before .args .symbols) (c .if1 .taken)))
+returns c = let e = lt-ltb _ _ (c .if1 .taken) in (rw e, rw e)
 
 mul-table : tie.Need-mul-table
 mul-table c = search needs
@@ -18,8 +17,7 @@ add-result : tie.Need-add-result
 add-result c = search needs
 
 returns-2 : tie.Need-returns-2
-returns-2 c =
-    (rw (le-ltb (c .before .args .known) (c .before .args .symbols) (c .if1 .left)), rw (le-ltb (c .before .args .known) (c .before .args .symbols) (c .if1 .left)))
+returns-2 c = let e = le-ltb _ _ (c .if1 .left) in (rw e, rw e)
 
 pub remember-spec : {M : Type 1} → statement M
 remember-spec = tie.close (tie.spec returns mul-table element-write-table add-result returns-2)
