@@ -99,20 +99,16 @@ module _ (text : Bytes) (at : ℕ) where
   unfolding skip
   blank-passed h e = rw (add-one, here text at h, e)
 
-  slash-passed : at < length text → isBlankByte (getD text at 0) ≡ false → eqb (getD text at 0) 47 ≡ true
-      → ahead (eqb 42) (drop (at + 1) text) ≡ true
-      → skip between at (drop at text) ≡ skip (opening at) (at + 1) (drop (at + 1) text)
-  unfolding skip
-  slash-passed h e s a =
-      let n : ahead (eqb 42) (drop (suc at) text) ≡ true = subst (λ (k : ℕ). ahead (eqb 42) (drop k text) ≡ true) (add-one at) a in
-      rw (here text at h, e, s, n, add-one)
+  module _ (h : at < length text) (e : isBlankByte (getD text at 0) ≡ false) (s : eqb (getD text at 0) 47 ≡ true)
+      (a : ahead (eqb 42) (drop (at + 1) text) ≡ true) where
+    slash-passed : skip between at (drop at text) ≡ skip (opening at) (at + 1) (drop (at + 1) text)
+    unfolding skip
+    slash-passed =
+        let n : ahead (eqb 42) (drop (suc at) text) ≡ true = subst (λ (k : ℕ). ahead (eqb 42) (drop k text) ≡ true) (add-one at) a in
+        rw (here text at h, e, s, n, add-one)
 
-  pub comment-passed : (comment : Comment) → at < length text → isBlankByte (getD text at 0) ≡ false → eqb (getD text at 0) 47 ≡ true
-      → ahead (eqb 42) (drop (at + 1) text) ≡ true
-      → Ends text (at + 2) comment
-      → skip between at (drop at text) ≡ commentOf text at comment
-  comment-passed comment h e s a p =
-      slash-passed h e s a ∙ comment-opens at (at + 1) (drop (at + 1) text) a ∙ two-on text at (commented at) ∙ p .same at
+    pub comment-passed : (comment : Comment) → Ends text (at + 2) comment → skip between at (drop at text) ≡ commentOf text at comment
+    comment-passed comment p = slash-passed ∙ comment-opens at (at + 1) (drop (at + 1) text) a ∙ two-on text at (commented at) ∙ p .same at
 
   pub token-found : at < length text → isBlankByte (getD text at 0) ≡ false
       → both (eqb (getD text at 0) 47) (ahead (eqb 42) (drop (at + 1) text)) ≡ false

@@ -7,3 +7,4 @@ pub mod Shortest
 pub mod Showing
 pub mod Onward
 pub mod Stream
+pub mod Entering

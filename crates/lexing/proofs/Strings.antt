@@ -11,7 +11,7 @@ use lib.ListN.{length, getD, drop, length-append}
 use borrow.Author.Tests.{lt-ltb, le-ltb, leb-true, ne-eqb}
 use Rattle.meaning.specs.Choice.{Bytes, pick}
 use Rattle.meaning.specs.Classes.{inClass, digit}
-use Rattle.meaning.specs.Tokens.{Quoting, plain, escaped, coded, Turn, goesOn, closes, breaks, digitValue, codeTurn, turn, quoteOn, closed, quotation, quotedAt}
+use Rattle.meaning.specs.Tokens.{Quoting, plain, escaped, coded, Turn, goesOn, closes, breaks, digitValue, codeTurn, turn, quoteOn, quotation, quotedAt}
 use Rattle.meaning.proofs.laws.Passing.{both-left, both-right, passed}
 use Rattle.lexing.specs.View.{continued, Passes, Stands, quotationAt, Shows}
 use Rattle.lexing.specs.declared.Character.{Character}

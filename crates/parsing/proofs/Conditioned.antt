@@ -7,7 +7,7 @@ use mathlib.Core.Logic.{_⊎_, inl, inr, ⊎-elim}
 use mathlib.Core.Option.{Option, none, some}
 use native.Mathlib.Omega.{arith}
 use lib.Dec.{T, ltb, eqb, lt→ltb}
-use lib.ListN.{length, getD, drop}
+use lib.ListN.{length, getD}
 use lib.Seq.{length-slice}
 use types.Run.{OneOf, miss}
 use denote.Enum.Declared.{tagOf}
@@ -26,9 +26,8 @@ use Rattle.meaning.proofs.laws.Passing.{both-pass}
 use Rattle.meaning.specs.Packing.{classOf}
 use Rattle.lexing.proofs.Token as token
 use Rattle.lexing.proofs.Shortest.{three-bytes}
-use Rattle.lexing.proofs.Stream.{comes}
 use Rattle.lexing.specs.View as View
-use Rattle.lexing.specs.View.{tokenOf, placedOf, Sound, stream, Shows, Comes}
+use Rattle.lexing.specs.View.{tokenOf, placedOf, Sound, stream, Comes}
 use Rattle.lexing.specs.declared.Span.{Span}
 use Rattle.lexing.specs.declared.Token.{Token}
 use Rattle.lexing.specs.declared.Token.the-variants.{Name as NameToken, Symbol, Part, Word, Quoted, Sign, End, Malformed}
@@ -42,9 +41,7 @@ use Rattle.bookkeeping.specs.declared.progress.Parsed.the-variants.{Stopped, Do
 use Rattle.bookkeeping.specs.Tables.{Inside, Entries, position}
 use Rattle.bookkeeping.specs.Answered.{numberOf, Agrees}
 use Rattle.bookkeeping.specs.Written.{Wrote, isQuiet, Ready, Went}
-use Rattle.bookkeeping.specs.declared.progress.Passed.{Passed}
-use Rattle.bookkeeping.specs.declared.progress.Passed.the-variants.{Past, Refused}
-use Rattle.bookkeeping.specs.Tokened.{tokenFault, signIs, Taken, Barred, Passes}
+use Rattle.bookkeeping.specs.Tokened.{tokenFault, signIs, Taken, Barred}
 use Rattle.parsing.specs.Patterns.{symbolNames, itemAt}
 use Rattle.parsing.specs.Conditions.{conditionEnd, conditionOn, truthAt, TruthNumber, TruthIs, truthBetween, Standing, Before, ConditionRead, ConditionsRead}
 use Rattle.meaning.proofs.reading.Basics.{no-value}
@@ -57,7 +54,7 @@ use Rattle.parsing.proofs.Patterning.{identifier-inside}
 use Rattle.bookkeeping.proofs.Going.{check-wrong, stops, reads, has-stopped, has-read, follow-alone, makes, behind, behind-more, went-none, went-from, went-on, went-then}
 use Rattle.parsing.proofs.Items.{symbol-at, symbol-past, item-symbol, item-then}
 use Rattle.bookkeeping.proofs.Tabling.{every-append}
-use Rattle.bookkeeping.proofs.Tokening.{NameFirst, sign-shown, takes, passes-on, passes-not, name-first, names-not, refused, ready-past, ready-taken}
+use Rattle.bookkeeping.proofs.Tokening.{NameFirst, sign-shown, takes, passes-on, passes-not, names-not, refused, ready-past, ready-taken}
 
 -- A LATER S-VARIABLE
 

@@ -33,10 +33,7 @@ module _ {text : Bytes} {table : List ℕ} {symbols parts : ℕ} (v : Variables 
 
 -- FAULTS OF VARIABLES
 
--- the code's place of a name in the table of s-variables, and in that of e-variables
-abbrev SymbolAt : Bytes → List ℕ → Counts → Span → ℕ → Type 0
-SymbolAt text table p x r = r ≡ 0 + position (part text x) (symbolNames text table (p .symbols))
-
+-- the code's place of a name in the table of e-variables
 abbrev PartAt : Bytes → List ℕ → Counts → Span → ℕ → Type 0
 PartAt text table p x r = r ≡ 16 + position (part text x) (partNames text table (p .parts))
 
@@ -92,20 +89,26 @@ module _ {text : Bytes} {table : List ℕ} {p : Counts} {x : Span} (pre : Held t
   pub part-third : 2 ≤ p .parts → Part notAllowedHere
   part-third m = part-tests (le-ltb (p .parts) 2 m) refl refl refl refl
 
-  module _ (m : p .parts < 2) where
-    pub part-long : 8 < x .past - x .from → Part overLimit
-    part-long l = part-tests (lt-ltb (p .parts) 2 m) (too-long text x (identifier-inside (pre .1)) 8 l) refl refl refl
+  pub part-long : p .parts < 2 → 8 < x .past - x .from → Part overLimit
+  part-long m l = part-tests (lt-ltb (p .parts) 2 m) (too-long text x (identifier-inside (pre .1)) 8 l) refl refl refl
 
-    module _ (l : x .past - x .from ≤ 8) {r : ℕ} (f : SymbolAt text table p x r) where
-      pub part-is : {symbol shared ends : Bool} → ltb r (p .symbols) ≡ symbol → {q : ℕ} → PartAt text table p x q → ltb q (16 + p .parts) ≡ shared
-          → p .ending ≡ ends
-          → Part (faultUnless (both (not (either symbol shared)) (not ends)) wrongPatternVariable 0)
-      part-is d {q} g e n =
-          let v = pre .0 .variables in
-          part-tests (lt-ltb (p .parts) 2 m) (short-enough text x (identifier-inside (pre .1)) 8 l)
-          (among text table 0 (p .symbols) (v .symbolEntries) (part text x) r f d)
-          (among text table 16 (16 + p .parts) (v .partEntries) (part text x) q g e)
-          n
+-- one that is short enough and not the third, at its place among the s-variables
+pub record PartFound (text : Bytes) (table : List ℕ) (p : Counts) (x : Span) (r : ℕ) : Type 0 where
+  pub pre : Held text table p × Identifier text (p .at) x
+  pub few : p .parts < 2
+  pub short : x .past - x .from ≤ 8
+  pub place : r ≡ 0 + position (part text x) (symbolNames text table (p .symbols))
 
-      pub part-ending : p .symbols ≤ r → {q : ℕ} → PartAt text table p x q → 16 + p .parts ≤ q → Part (pick (p .ending) wrongPatternVariable 0)
-      part-ending d {q} g e = fault-if (p .ending) wrongPatternVariable ∙ part-is (le-ltb r (p .symbols) d) g (le-ltb q (16 + p .parts) e) refl
+module _ {text : Bytes} {table : List ℕ} {p : Counts} {x : Span} {r : ℕ} (f : PartFound text table p x r) where
+  pub part-is : {symbol shared ends : Bool} → ltb r (p .symbols) ≡ symbol → {q : ℕ} → PartAt text table p x q → ltb q (16 + p .parts) ≡ shared
+      → p .ending ≡ ends
+      → Part (f .pre) (faultUnless (both (not (either symbol shared)) (not ends)) wrongPatternVariable 0)
+  part-is d {q} g e n =
+      let v = f .pre .0 .variables in
+      part-tests (f .pre) (lt-ltb (p .parts) 2 (f .few)) (short-enough text x (identifier-inside (f .pre .1)) 8 (f .short))
+      (among text table 0 (p .symbols) (v .symbolEntries) (part text x) r (f .place) d)
+      (among text table 16 (16 + p .parts) (v .partEntries) (part text x) q g e)
+      n
+
+  pub part-ending : p .symbols ≤ r → {q : ℕ} → PartAt text table p x q → 16 + p .parts ≤ q → Part (f .pre) (pick (p .ending) wrongPatternVariable 0)
+  part-ending d {q} g e = fault-if (p .ending) wrongPatternVariable ∙ part-is (le-ltb r (p .symbols) d) g (le-ltb q (16 + p .parts) e) refl

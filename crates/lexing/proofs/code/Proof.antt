@@ -25,10 +25,13 @@ shared-slice-read-byte c = omega arith
 is-digit-requires : tie.Need-is-digit-requires Inv-loop μ-loop
 is-digit-requires c κs = search needs
 
-coding : (c : tie.After-is-digit Inv-loop μ-loop) {isDigit : Bool} → c .is-digit .result ≡ isDigit
-    → let l = c .before .before .before .loop in
+abbrev Coded : tie.After-is-digit Inv-loop μ-loop → Bool → Type 0
+Coded c isDigit =
+    let l = c .before .before .before .loop in
     let a = c .before .before .before .before .before .args in
     CodingAt (a .text .now) (a .first) (a .from) (l .value) (l .at) isDigit
+
+coding : (c : tie.After-is-digit Inv-loop μ-loop) {isDigit : Bool} → c .is-digit .result ≡ isDigit → Coded c isDigit
 coding c e =
     record {
       coding = c .before .before .before .loop .inv;
@@ -36,10 +39,7 @@ coding c e =
       class = sym (c .is-digit .ensures) ∙ e;
     }
 
-before-digit : (c : tie.Else1 Inv-loop μ-loop)
-    → let l = c .before .before .before .before .loop in
-    let a = c .before .before .before .before .before .before .args in
-    CodingAt (a .text .now) (a .first) (a .from) (l .value) (l .at) true
+before-digit : (c : tie.Else1 Inv-loop μ-loop) → Coded (c .before) true
 before-digit c = coding (c .before) (not-false _ (c .if1 .left))
 
 cast-t12 : tie.Need-cast-t12 Inv-loop μ-loop

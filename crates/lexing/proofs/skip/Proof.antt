@@ -71,8 +71,8 @@ comment-done c comment e =
     let at-loop-test = at-is-blank .before .before in
     let at-loop = at-loop-test .before in
     let entry = at-loop .before .before in
-    at-loop .loop .inv ∙ comment-passed _ _ _ (at-loop-test .loop-test .taken) (sym (at-is-blank .is-blank .ensures) ∙ at-if1 .if1 .left)
-    (eq-eqb _ 47 (at-if2 .if2 .taken)) (sym (at-byte-ahead .byte-ahead .ensures) ∙ c .before .if3 .taken) (c .comment-past .ensures) ∙
+    at-loop .loop .inv ∙ comment-passed _ _ (at-loop-test .loop-test .taken) (sym (at-is-blank .is-blank .ensures) ∙ at-if1 .if1 .left)
+    (eq-eqb _ 47 (at-if2 .if2 .taken)) (sym (at-byte-ahead .byte-ahead .ensures) ∙ c .before .if3 .taken) _ (c .comment-past .ensures) ∙
     ap (commentOf (entry .args .text .now) (at-loop .loop .at)) e
 
 returns : tie.Need-returns Inv-loop μ-loop
