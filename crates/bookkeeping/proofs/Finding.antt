@@ -27,7 +27,7 @@ pub find-starts : (text : Bytes) (table : List ℕ) (from to : ℕ) (x : Name) �
 find-starts text table from to x e =
     record { onward = omega arith; low = e .ordered; inside = e .inside; sound = e .sound; same = refl }
 
-module _ (text : Bytes) (table : List ℕ) (from to : ℕ) (x : Name) (i : ℕ) (f : Finding text table from to x i) where
+module _ {text : Bytes} {table : List ℕ} {from to : ℕ} {x : Name} {i : ℕ} (f : Finding text table from to x i) where
   pub find-ends : to ≤ i → to ≡ from + position x (tableNames text table from to)
   unfolding namesIn position
   find-ends h =
@@ -42,23 +42,22 @@ module _ (text : Bytes) (table : List ℕ) (from to : ℕ) (x : Name) (i : ℕ) 
     pub entry-inside : getD table i 0 / 32 + getD table i 0 % 32 ≤ length text
     entry-inside = leb→le _ _ (every-head (inText text) (getD table i 0) (slice (suc i) to table) (rw first at (f .sound)))
 
-    unrolled : (is : Bool) → is ≡ sameBytes x (nameIn text (getD table i 0))
-        → from + position x (tableNames text table from to) ≡ i + pick is 0 (suc (position x (tableNames text table (suc i) to)))
+    -- the entry is the name, or the search goes on after it
+    abbrev pub FindOn : Bool → Type 0
+    FindOn true = i ≡ from + position x (tableNames text table from to)
+    FindOn false = Finding text table from to x (i + 1)
+
+    pub find-on : (is : Bool) → is ≡ sameBytes x (nameIn text (getD table i 0)) → FindOn is
     unfolding namesIn position
-    unrolled is e = f .same ∙ rw (first, e)
-
-    pub find-hits : true ≡ sameBytes x (nameIn text (getD table i 0)) → i ≡ from + position x (tableNames text table from to)
-    find-hits e = sym (unrolled true e ∙ add-zero i)
-
-    pub find-goes : false ≡ sameBytes x (nameIn text (getD table i 0)) → Finding text table from to x (i + 1)
-    find-goes e =
+    find-on true e = sym (f .same ∙ rw (first, ← e) (add-zero i))
+    find-on false e =
         let u : suc i ≡ i + 1 = omega arith in
         record {
           onward = omega (arith, f .onward);
           low = omega arith;
           inside = f .inside;
           sound = rw (← u) (every-tail (inText text) (getD table i 0) (slice (suc i) to table) (rw first at (f .sound)));
-          same = unrolled false e ∙ rw (← u) (omega arith);
+          same = f .same ∙ rw (first, ← e, ← u) (omega arith);
         }
 
 -- WHAT A POSITION SAYS

@@ -24,9 +24,9 @@ use Rattle.bookkeeping.specs.declared.progress.Progress.{Progress}
 use Rattle.bookkeeping.specs.declared.progress.Parsed.the-variants.{Stopped}
 use Rattle.bookkeeping.specs.Tables.{Inside}
 use Rattle.bookkeeping.specs.Answered.{numberOf, Agrees}
-use Rattle.bookkeeping.specs.Written.{Ready}
+use Rattle.bookkeeping.specs.Written.{Ready, Went}
 use Rattle.bookkeeping.specs.Tokened.{tokenFault, signIs, Taken, Barred}
-use Rattle.bookkeeping.proofs.Going.{stops}
+use Rattle.bookkeeping.proofs.Going.{stops, went-on}
 
 module _ (text : Bytes) (place past : ℕ) where
   pub fault-same : (t : Token) → tokenFault t ≡ Reading.faultOf (tokenOf text t place past)
@@ -161,3 +161,8 @@ module _ {text : Bytes} {mode : Tokens.Mode} {at words : ℕ} {t : Placed} (r : 
 
 pub ready-taken : {text : Bytes} {mode : Tokens.Mode} {byte at past words : ℕ} → Ready text at words → Taken text mode byte at past → Ready text past words
 ready-taken r t = record { inside = t .inside; charged = omega (arith, r .charged, t .onward); short = r .short }
+
+-- what was read ends before the first token that was not
+pub went-before : {text : Bytes} {at words : ℕ} {tape : List ℕ} {at′ words′ : ℕ} {tape′ added : List ℕ} {mode : Tokens.Mode} {t : Placed}
+    → Went text at words tape at′ words′ tape′ added → Comes text mode at′ t → Went text at words tape (t .place) words′ tape′ added
+went-before {t = t} w c = went-on (t .place) w (c .onward) (omega (arith, c .forward, c .inside))

@@ -151,64 +151,63 @@ pub record Spelled-to (text : Bytes) (start : List ℕ) (at from : ℕ) (tape : 
   pub inside : i ≤ length text
   pub short : length text ≤ 32768
 
-module _ (text : Bytes) (start : List ℕ) (at from : ℕ) where
-  pub spelling-starts : Ready text from at → Spelled-to text start at from start at from
-  unfolding every
-  spelling-starts r =
-      record {
-        characters = [];
-        string = refl;
-        reached = omega arith;
-        same = sym (written-none start at);
-        quiet = tt;
-        charged = r .charged;
-        inside = r .inside;
-        short = r .short;
-      }
+pub spelling-starts : (text : Bytes) (start : List ℕ) (at from : ℕ) → Ready text from at → Spelled-to text start at from start at from
+unfolding every
+spelling-starts text start at from r =
+    record {
+      characters = [];
+      string = refl;
+      reached = omega arith;
+      same = sym (written-none start at);
+      quiet = tt;
+      charged = r .charged;
+      inside = r .inside;
+      short = r .short;
+    }
 
-  -- what the string comes to, or how its characters go on, after each
-  module _ (tape : List ℕ) (to i : ℕ) where
-    abbrev pub SpelledOn : Character → Type 0
-    SpelledOn (Given b past) =
-        (i < past) × (past ≤ length text) × (to < 32768)
-        × (b < 256 → (next : List ℕ) → next ≡ set tape to b → Spelled-to text start at from next (to + 1) past)
-    SpelledOn (Nothing past) = (i < past) × Spelled-to text start at from tape to past
-    SpelledOn (Closed past) =
-        Wrote start at (charactersIn (stringFrom text from)) to tape × T (every isQuiet (charactersIn (stringFrom text from)))
-    SpelledOn (Broken past) = IsClosed (stringFrom text from) → ⊥
+-- what the string comes to, or how its characters go on, after each
+module _ {text : Bytes} {start : List ℕ} {at from : ℕ} {tape : List ℕ} {to i : ℕ} (s : Spelled-to text start at from tape to i) where
+  abbrev pub SpelledOn : Character → Type 0
+  SpelledOn (Given b past) =
+      (i < past) × (past ≤ length text) × (to < 32768)
+      × (b < 256 → (next : List ℕ) → next ≡ set tape to b → Spelled-to text start at from next (to + 1) past)
+  SpelledOn (Nothing past) = (i < past) × Spelled-to text start at from tape to past
+  SpelledOn (Closed past) =
+      Wrote start at (charactersIn (stringFrom text from)) to tape × T (every isQuiet (charactersIn (stringFrom text from)))
+  SpelledOn (Broken past) = IsClosed (stringFrom text from) → ⊥
 
-    pub spelled-on : Spelled-to text start at from tape to i → (r : Character) → Stands text Tokens.plain i (i + 1) r → SpelledOn r
-    spelled-on s r stood = turned r (s .string ∙ stood .same (s .characters)) (stood .passes)
-      where
-        turned : (r : Character) → stringFrom text from ≡ continued text r (s .characters) → Passes text (i + 1) r → SpelledOn r
-        turned (Given b past) w p = (
-          omega arith,
-          p .1,
-          omega (arith, s .charged, s .short),
-          λ small next e.
-              record {
-                characters = s .characters ++ b ∷ [];
-                string = w;
-                reached = rw (length-append (s .characters) (b ∷ [])) (omega (arith, s .reached));
-                same = e ∙ rw (s .same, s .reached) (written-snoc (s .characters) start at b);
-                quiet = every-append isQuiet (s .characters) (b ∷ []) (s .quiet) (every-one isQuiet b (lt→ltb b 2304 (omega arith)));
-                charged = omega (arith, s .charged);
-                inside = p .1;
-                short = s .short;
-              },
-        )
-        turned (Nothing past) w p = (
-          omega arith,
-          record {
-            characters = s .characters;
-            string = w;
-            reached = s .reached;
-            same = s .same;
-            quiet = s .quiet;
-            charged = omega (arith, s .charged);
-            inside = p .1;
-            short = s .short;
-          },
-        )
-        turned (Closed past) w p = (record { reached = rw w (s .reached); same = rw w (s .same) }, rw w (s .quiet))
-        turned (Broken past) w p = λ k. rw w at k
+  pub spelled-on : (r : Character) → Stands text Tokens.plain i (i + 1) r → SpelledOn r
+  spelled-on r stood = turned r (s .string ∙ stood .same (s .characters)) (stood .passes)
+    where
+      turned : (r : Character) → stringFrom text from ≡ continued text r (s .characters) → Passes text (i + 1) r → SpelledOn r
+      turned (Given b past) w p = (
+        omega arith,
+        p .1,
+        omega (arith, s .charged, s .short),
+        λ small next e.
+            record {
+              characters = s .characters ++ b ∷ [];
+              string = w;
+              reached = rw (length-append (s .characters) (b ∷ [])) (omega (arith, s .reached));
+              same = e ∙ rw (s .same, s .reached) (written-snoc (s .characters) start at b);
+              quiet = every-append isQuiet (s .characters) (b ∷ []) (s .quiet) (every-one isQuiet b (lt→ltb b 2304 (omega arith)));
+              charged = omega (arith, s .charged);
+              inside = p .1;
+              short = s .short;
+            },
+      )
+      turned (Nothing past) w p = (
+        omega arith,
+        record {
+          characters = s .characters;
+          string = w;
+          reached = s .reached;
+          same = s .same;
+          quiet = s .quiet;
+          charged = omega (arith, s .charged);
+          inside = p .1;
+          short = s .short;
+        },
+      )
+      turned (Closed past) w p = (record { reached = rw w (s .reached); same = rw w (s .same) }, rw w (s .quiet))
+      turned (Broken past) w p = λ k. rw w at k

@@ -34,6 +34,18 @@ is-digit b e =
       high = leb-true b 57 (passed (leb b 57) (both-right (leb 48 b) (leb b 57) t));
     }
 
+-- ONE BYTE
+
+-- what a byte does in a string, whatever the characters so far
+abbrev Turns : Quoting → ℕ → (Bytes → Turn) → Type 0
+Turns state b does = (characters : Bytes) → turn state characters b ≡ does characters
+
+taking : (text : Bytes) (state : Quoting) (at : ℕ) {does : Bytes → Turn} → at < length text → Turns state (getD text at 0) does → (characters : Bytes)
+    → quotation state characters at (drop at text)
+    ≡ quoteOn (does characters) (λ next longer. quotation next longer (at + 1) (drop (at + 1) text)) (at + 1) (drop (at + 1) text)
+unfolding quotation
+taking text state at h e characters = rw (here text at h, add-one, e characters)
+
 -- CODES
 
 -- the code so far, whatever the characters before it
@@ -60,54 +72,48 @@ module _ (text : Bytes) (first from value at : ℕ) where
   abbrev more : ℕ
   more = value * 10 + (getD text at 0 - 48)
 
-  code-step : {isDigit small : Bool} → CodingAt isDigit → ltb more 256 ≡ small → (characters : Bytes)
-      → quotation (coded first) characters from (drop from text)
-      ≡ quoteOn (pick isDigit (pick small (goesOn (coded more) characters) breaks) (turn plain (characters ++ value ∷ []) (getD text at 0)))
-      (λ next longer. quotation next longer (at + 1) (drop (at + 1) text)) (at + 1) (drop (at + 1) text)
-  unfolding quotation
-  code-step c s characters = c .coding .same characters ∙ rw (here text at (c .inside), c .class, s, add-one)
+  code-turn : CodingAt true → {small : Bool} → ltb more 256 ≡ small
+      → Turns (coded value) (getD text at 0) (λ characters. pick small (goesOn (coded more) characters) breaks)
+  code-turn c s characters = rw (c .class, s)
 
   pub code-goes : CodingAt true → more < 256 → Coding text first from more (at + 1)
-  code-goes c s = record { same = code-step c (lt-ltb _ _ s); small = s; onward = omega (arith, c .coding .onward); inside = omega arith }
+  code-goes c s =
+      record {
+        same = λ characters. c .coding .same characters ∙ taking text (coded value) at (c .inside) (code-turn c (lt-ltb _ _ s)) characters;
+        small = s;
+        onward = omega (arith, c .coding .onward);
+        inside = omega arith;
+      }
 
   pub code-breaks : CodingAt true → 256 ≤ more → Stands text (coded first) from from (Broken (at + 1))
-  code-breaks c s = record { same = code-step c (le-ltb _ _ s); passes = tt }
+  code-breaks c s = record { same = λ characters. c .coding .same characters ∙ taking text (coded value) at (c .inside) (code-turn c (le-ltb _ _ s)) characters; passes = tt }
 
   pub code-stops : CodingAt false → Stands text (coded first) from from (Given value at)
   unfolding quotation
   code-stops c =
       record { same = λ characters. c .coding .same characters ∙ rw (here text at (c .inside), c .class); passes = (c .coding .onward, c .coding .inside) }
 
--- ONE BYTE
+-- WHAT STANDS THERE
 
--- what a byte does, whatever the characters so far, says what stands there
+-- what a byte does says what stands there
 module _ (text : Bytes) (state : Quoting) (at low : ℕ) (h : (at < length text) × (low ≤ at + 1)) where
-  abbrev Turns : (Bytes → Turn) → Type 0
-  Turns does = (characters : Bytes) → turn state characters (getD text at 0) ≡ does characters
-
-  taking : {does : Bytes → Turn} → Turns does → (characters : Bytes)
-      → quotation state characters at (drop at text)
-      ≡ quoteOn (does characters) (λ next longer. quotation next longer (at + 1) (drop (at + 1) text)) (at + 1) (drop (at + 1) text)
-  unfolding quotation
-  taking e characters = rw (here text at (h .0), add-one, e characters)
-
   passes-byte : (low ≤ at + 1) × (at + 1 ≤ length text)
   passes-byte = omega arith
 
-  pub stands-given : (v : ℕ) → Turns (λ characters. goesOn plain (characters ++ v ∷ [])) → Stands text state at low (Given v (at + 1))
-  stands-given v e = record { same = taking e; passes = passes-byte }
+  pub stands-given : (v : ℕ) → Turns state (getD text at 0) (λ characters. goesOn plain (characters ++ v ∷ [])) → Stands text state at low (Given v (at + 1))
+  stands-given v e = record { same = taking text state at (h .0) e; passes = passes-byte }
 
-  pub stands-nothing : Turns (goesOn plain) → Stands text state at low (Nothing (at + 1))
-  stands-nothing e = record { same = taking e; passes = passes-byte }
+  pub stands-nothing : Turns state (getD text at 0) (goesOn plain) → Stands text state at low (Nothing (at + 1))
+  stands-nothing e = record { same = taking text state at (h .0) e; passes = passes-byte }
 
-  pub stands-closed : Turns closes → Stands text state at low (Closed (at + 1))
-  stands-closed e = record { same = taking e; passes = passes-byte }
+  pub stands-closed : Turns state (getD text at 0) closes → Stands text state at low (Closed (at + 1))
+  stands-closed e = record { same = taking text state at (h .0) e; passes = passes-byte }
 
-  pub stands-broken : Turns (λ characters. breaks) → Stands text state at low (Broken (at + 1))
-  stands-broken e = record { same = taking e; passes = tt }
+  pub stands-broken : Turns state (getD text at 0) (λ characters. breaks) → Stands text state at low (Broken (at + 1))
+  stands-broken e = record { same = taking text state at (h .0) e; passes = tt }
 
-  pub stands-later : (next : Quoting) (r : Character) → Turns (goesOn next) → Stands text next (at + 1) (at + 1) r → Stands text state at low r
-  stands-later next r e s = record { same = λ characters. taking e characters ∙ s .same characters; passes = further r (s .passes) }
+  pub stands-later : (next : Quoting) (r : Character) → Turns state (getD text at 0) (goesOn next) → Stands text next (at + 1) (at + 1) r → Stands text state at low r
+  stands-later next r e s = record { same = λ characters. taking text state at (h .0) e characters ∙ s .same characters; passes = further r (s .passes) }
     where
       further : (c : Character) → Passes text (at + 1) c → Passes text low c
       further (Given b past) p = (omega arith, p .1)
@@ -169,7 +175,7 @@ quoted-starts text place h =
     record { characters = []; same = rw add-one; counted = refl; charged = omega arith; inside = omega arith }
 
 -- what the string comes to, or how it goes on, after each character
-module _ (text : Bytes) (place at count : ℕ) where
+module _ {text : Bytes} {place at count : ℕ} (q : Quoted-to text place at count) where
   abbrev Shown : Token → ℕ → Type 0
   Shown token past = Shows text (record { token = token; place = place; past = past }) (quotedAt place (quotationAt text place) .first)
 
@@ -179,8 +185,8 @@ module _ (text : Bytes) (place at count : ℕ) where
   QuotedOn (Closed past) = Shown (Quoted count) past
   QuotedOn (Broken past) = Shown Malformed past
 
-  pub quoted-on : Quoted-to text place at count → (r : Character) → Stands text plain at (at + 1) r → QuotedOn r
-  quoted-on q r s = turned r (q .same ∙ s .same (q .characters)) (s .passes)
+  pub quoted-on : (r : Character) → Stands text plain at (at + 1) r → QuotedOn r
+  quoted-on r s = turned r (q .same ∙ s .same (q .characters)) (s .passes)
     where
       turned : (r : Character) → quotationAt text place ≡ continued text r (q .characters) → Passes text (at + 1) r → QuotedOn r
       turned (Given b past) w p = (

@@ -43,7 +43,7 @@ use Rattle.bookkeeping.specs.Answered.{numberOf, Agrees}
 use Rattle.bookkeeping.specs.Written.{Wrote, isQuiet, Ready, Went}
 use Rattle.bookkeeping.specs.Tokened.{tokenFault, signIs, Taken, Barred}
 use Rattle.parsing.specs.Patterns.{symbolNames, itemAt}
-use Rattle.parsing.specs.Conditions.{conditionEnd, conditionOn, truthAt, TruthNumber, TruthIs, truthBetween, Standing, Before, ConditionRead, ConditionsRead}
+use Rattle.parsing.specs.Conditions.{conditionEnd, conditionOn, truthAt, TruthNumber, truthBetween, Standing, Before, ConditionRead, ConditionsRead}
 use Rattle.meaning.proofs.reading.Basics.{no-value}
 use Rattle.bookkeeping.proofs.Choosing.{both-true, fault-if-not, no-fault-here, a-fault-here}
 use Rattle.bookkeeping.proofs.Finding.{among}
@@ -51,10 +51,10 @@ use Rattle.bookkeeping.proofs.Naming.{classed, class-number}
 use Rattle.parsing.proofs.Faults.{later-fault-is}
 use Rattle.bookkeeping.proofs.Lengths.{too-long, short-enough, within}
 use Rattle.parsing.proofs.Patterning.{identifier-inside}
-use Rattle.bookkeeping.proofs.Going.{check-wrong, stops, reads, has-stopped, has-read, follow-alone, makes, behind, behind-more, went-none, went-from, went-on, went-then}
+use Rattle.bookkeeping.proofs.Going.{check-wrong, stops, reads, has-stopped, has-read, follow-alone, makes, behind, behind-more, went-none, went-from, went-then}
 use Rattle.parsing.proofs.Items.{symbol-at, symbol-past, item-symbol, item-then}
 use Rattle.bookkeeping.proofs.Tabling.{every-append}
-use Rattle.bookkeeping.proofs.Tokening.{NameFirst, sign-shown, takes, passes-on, passes-not, names-not, refused, ready-past, ready-taken}
+use Rattle.bookkeeping.proofs.Tokening.{NameFirst, sign-shown, takes, passes-on, passes-not, names-not, refused, ready-past, ready-taken, went-before}
 
 -- A LATER S-VARIABLE
 
@@ -88,8 +88,12 @@ no-string text (Sign b) place past three o = refl
 no-string text End place past three o = refl
 no-string text Malformed place past three o = refl
 
+-- the truth value of a token
+abbrev truthIn : Bytes → Code.Placed → Option Bool
+truthIn text t = Reading.truthOf (tokenOf text (t .token) (t .place) (t .past)) (eqb (t .past) (t .place + 3))
+
 abbrev Truth : Bytes → Code.Placed → ℕ → Type 0
-Truth text t n = TruthIs (tokenOf text (t .token) (t .place) (t .past)) (eqb (t .past) (t .place + 3)) n
+Truth text t n = TruthNumber (truthIn text t) n
 
 -- what is no truth value has the number 1
 pub number-none : {value : Option Bool} → value ≡ none → TruthNumber value 1
@@ -112,8 +116,7 @@ module _ (text : Bytes) (t : Code.Placed) (count : ℕ) (e : t .token ≡ Quoted
     abbrev middle : ℕ
     middle = getD text (t .place + 1) 0
 
-    three : Reading.truthOf (tokenOf text (t .token) (t .place) (t .past)) (eqb (t .past) (t .place + 3))
-        ≡ pick (both (eqb middle 84) true) (some true) (pick (both (eqb middle 70) true) (some false) none)
+    three : truthIn text t ≡ pick (both (eqb middle 84) true) (some true) (pick (both (eqb middle 70) true) (some false) none)
     unfolding sameBytes
     three =
         let q = rw e at (s .sound) in
@@ -201,7 +204,7 @@ module _ {text : Bytes} {from words : ℕ} {x : Span} where
     end-reads {class = class} {word = word} {after = after} low e d w o =
         let b = a .variable in
         let u = value-of n (a .truth .known) d in
-        let same : Reading.truthOf (tokenOf text (t .token) (t .place) (t .past)) (eqb (t .past) (t .place + 3)) ≡ some (u .truth) = a .truth .same ∙ u .same in
+        let same : truthIn text t ≡ some (u .truth) = a .truth .same ∙ u .same in
         let l : length (View.part text x) ≡ x .past - x .from = length-slice (x .from) (x .past) text (omega (arith, b .before, a .ready .inside)) in
         let q : 768 + (length (View.part text x) * 10 + truthNumber (u .truth) + classNumber c) ≡ word =
         rw (l, u .number, class-number class c low e, w) (omega arith)
@@ -453,7 +456,7 @@ module _ {text start : List ℕ} {names : List Name} {from words : ℕ} {tape : 
       (k .same ∙ rw (c .unrolled, conditions-end names left (placedOf text t) _ (shown a), append-nil (k .before)))
       (record {
         tokens = sym (c .again);
-        went = went-on (t .place) (k .went) (c .onward) (omega (arith, c .forward, c .inside));
+        went = went-before (k .went) c;
         quiet = k .quiet;
       })
 

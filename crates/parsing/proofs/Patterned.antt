@@ -25,7 +25,8 @@ use Rattle.parsing.specs.Patterns.{Held, Seen, TokenGives, PatternRead, 
 use Rattle.bookkeeping.proofs.Tabling.{none-yet, no-names, every-append}
 use Rattle.parsing.proofs.Elements.{tape-append}
 use Rattle.parsing.proofs.Items.{item-then}
-use Rattle.bookkeeping.proofs.Going.{check-wrong, stops, reads, went-none, went-on, went-then}
+use Rattle.bookkeeping.proofs.Going.{check-wrong, stops, reads, went-none, went-then}
+use Rattle.bookkeeping.proofs.Tokening.{went-before}
 
 -- the pattern from the start is that from here with these elements before it
 pub record Patterned (text start : List ℕ) (at words : ℕ) (tape table : List ℕ) (p : Counts) : Type 0 where
@@ -62,7 +63,8 @@ pattern-starts text start table at words r l =
     }
 
 -- what the pattern comes to, or how it goes on, after a token
-module _ (text start : List ℕ) (at words : ℕ) (p : Counts) (t : Code.Placed) (table′ tape′ : List ℕ) where
+module _ {text start : List ℕ} {at words : ℕ} {tape table : List ℕ} {p : Counts} (k : Patterned text start at words tape table p) {t : Code.Placed} (c : Comes text inside (p .at) t)
+    (table′ tape′ : List ℕ) where
   abbrev Agree : Parsed → Type 0
   Agree r = Agrees (PatternRead text at words start table′ tape′) (pattern [] (stream text inside at)) r
 
@@ -71,11 +73,9 @@ module _ (text start : List ℕ) (at words : ℕ) (p : Counts) (t : Code.Placed)
   PatternOn (Wrong answer) = Agree (Stopped (record { answer = answer; place = t .place }))
   PatternOn Other = Agree (Done (record { at = t .place; words = p .words; count = p .symbols; parts = p .parts }))
 
-  pub pattern-on : {tape table : List ℕ} → Patterned text start at words tape table p → Comes text inside (p .at) t → (r : Added)
-      → TokenGives text table p tape t table′ tape′ r
-      → PatternOn r
+  pub pattern-on : (r : Added) → TokenGives text table p tape t table′ tape′ r → PatternOn r
   unfolding pattern
-  pattern-on k c (Taken next) g =
+  pattern-on (Taken next) g =
       let i = item-then c (g .1) in (
         omega (arith, g .0 .at, i .moves),
         record {
@@ -89,14 +89,14 @@ module _ (text start : List ℕ) (at words : ℕ) (p : Counts) (t : Code.Placed)
               (every-append isQuiet (patternTape (k .before)) (patternTape (elementsOf (itemAt text t))) (k .quiet) (g .0 .quiet));
         },
       )
-  pattern-on k c (Wrong answer) g =
+  pattern-on (Wrong answer) g =
       let i = item-then c (g .1) in
       stops _ _ _ (k .same ∙ rw (i .unrolled, g .1, g .0 .fault (k .before) (k .seen)) (check-wrong _ _ _ (g .0 .wrong))) refl refl
-  pattern-on k c Other g =
+  pattern-on Other g =
       reads (k .before) (stream text inside (p .at)) (k .same ∙ rw (c .unrolled, g .0))
       (record {
         tokens = sym (c .again);
-        went = rw (g .2) (went-on (t .place) (k .went) (c .onward) (omega (arith, c .forward, c .inside)));
+        went = rw (g .2) (went-before (k .went) c);
         quiet = k .quiet;
         variables = rw (g .1) (k .held .variables);
         symbols = rw (g .1) (k .seen .symbols);

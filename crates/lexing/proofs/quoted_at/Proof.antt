@@ -25,11 +25,8 @@ next-character-requires : tie.Need-next-character-requires Inv-loop μ-loop
 next-character-requires c κs = search needs
 
 -- after the next character, whatever it is
-turned : (c : tie.After-next-character Inv-loop μ-loop) {r : Character} → c .next-character .result ≡ r
-    → let l = c .before .loop in
-    let a = c .before .before .before .args in
-    QuotedOn (a .text .now) (a .place) (l .at) (l .count) r
-turned c {r} e = quoted-on _ _ _ _ (c .before .loop .inv) r (rw e at (c .next-character .ensures))
+turned : (c : tie.After-next-character Inv-loop μ-loop) {r : Character} → c .next-character .result ≡ r → QuotedOn (c .before .loop .inv) r
+turned c {r} e = quoted-on (c .before .loop .inv) r (rw e at (c .next-character .ensures))
 
 enum-known-past : tie.Need-enum-known-past Inv-loop μ-loop
 enum-known-past c = search needs

@@ -22,15 +22,9 @@ loop-holds c = spelling-starts _ _ _ _ (c .before .pre .0)
 next-character-requires : tie.Need-next-character-requires Inv-loop μ-loop
 next-character-requires c κs = search needs
 
-abbrev Turned : tie.After-next-character Inv-loop μ-loop → Character → Type 0
-Turned c r =
-    let l = c .before .loop in
-    let a = c .before .before .before .args in
-    SpelledOn (a .text .now) (a .tape .now) (a .at) (a .from) (l .tape) (l .to) (l .i) r
-
 -- after the next character, whatever it is
-turned : (c : tie.After-next-character Inv-loop μ-loop) {r : Character} → c .next-character .result ≡ r → Turned c r
-turned c {r} e = spelled-on _ _ _ _ _ _ _ (c .before .loop .inv) r (rw e at (c .next-character .ensures))
+turned : (c : tie.After-next-character Inv-loop μ-loop) {r : Character} → c .next-character .result ≡ r → SpelledOn (c .before .loop .inv) r
+turned c {r} e = spelled-on (c .before .loop .inv) r (rw e at (c .next-character .ensures))
 
 enum-known-byte : tie.Need-enum-known-byte Inv-loop μ-loop
 enum-known-byte c = search needs
@@ -38,7 +32,7 @@ enum-known-byte c = search needs
 cast-put : tie.Need-cast-put Inv-loop μ-loop
 cast-put c = search needs
 
-given : (c : tie.After-known-told Inv-loop μ-loop) → let v = c .before .byte .given .0 in Turned (c .before .before .before) (Given (v .0) (v .1 .0))
+given : (c : tie.After-known-told Inv-loop μ-loop) → let v = c .before .byte .given .0 in SpelledOn (c .before .before .before .before .loop .inv) (Given (v .0) (v .1 .0))
 given c = turned (c .before .before .before) (c .before .byte .given .1)
 
 put-requires : tie.Need-put-requires Inv-loop μ-loop

@@ -35,11 +35,10 @@ add-requires c κs = (c .before .before .before .loop .inv .held, first (c .befo
 -- after a token, whatever comes of it
 turned : (c : tie.After-add Inv-loop μ-loop) {r : Added} → c .add .result ≡ r
     → let at-lex = c .before .before .before in
-    let a = at-lex .before .before .before .args in
-    PatternOn (a .text .now) (a .tape .now) (a .at) (a .words) (at-lex .before .loop .p) (at-lex .lex .result) (c .add .last .1 .1 .0) (c .add .last .1 .0) r
+    PatternOn (at-lex .before .loop .inv) (first at-lex) (c .add .last .1 .1 .0) (c .add .last .1 .0) r
 turned c {r} e =
     let at-lex = c .before .before .before in
-    pattern-on _ _ _ _ _ _ _ _ (at-lex .before .loop .inv) (first at-lex) r (rw e at (c .add .ensures .gives))
+    pattern-on (at-lex .before .loop .inv) (first at-lex) _ _ r (rw e at (c .add .ensures .gives))
 
 enum-known-next : tie.Need-enum-known-next Inv-loop μ-loop
 enum-known-next c = search needs
