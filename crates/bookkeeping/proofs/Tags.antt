@@ -9,7 +9,7 @@ use denote.Enum.Declared.{tagOf}
 use Rattle.meaning.specs.Answers.{notAllowedHere}
 use Rattle.lexing.proofs.Token as token
 use Rattle.lexing.specs.declared.Token.{Token}
-use Rattle.lexing.specs.declared.Token.the-variants.{Name, Symbol, Part, Word, Quoted, Sign, End, Malformed}
+use Rattle.lexing.proofs.Variants.{by-kind}
 use Rattle.bookkeeping.proofs.Answer as answer
 use Rattle.bookkeeping.specs.declared.Answer.{Answer}
 use Rattle.bookkeeping.specs.declared.Answer.the-variants.{Accepted, TableTooLong, MalformedToken, NotAllowedHere, OverLimit, WrongName, WrongPatternVariable, WrongLaterVariable, UndeclaredName}
@@ -34,24 +34,14 @@ abbrev allButSign : List ℕ
 allButSign = 0 ∷ 1 ∷ 2 ∷ 3 ∷ 4 ∷ 6 ∷ 7 ∷ []
 
 pub no-sign : (byte : ℕ) (t : Token) → OneOf allButSign (tagOf token.the-type t) → false ≡ signIs byte t
-no-sign byte (Name n) k = refl
-no-sign byte (Symbol x) k = refl
-no-sign byte (Part x) k = refl
-no-sign byte Word k = refl
-no-sign byte (Quoted n) k = refl
-no-sign byte (Sign b) k = absurd (miss allButSign 5 tt k)
-no-sign byte End k = refl
-no-sign byte Malformed k = refl
+no-sign byte =
+    by-kind (λ t. OneOf allButSign (tagOf token.the-type t) → false ≡ signIs byte t) (λ n k. refl) (λ x k. refl) (λ x k. refl) (λ k. refl) (λ n k. refl)
+    (λ b k. absurd (miss allButSign 5 tt k)) (λ k. refl) (λ k. refl)
 
 abbrev allButMalformed : List ℕ
 allButMalformed = 0 ∷ 1 ∷ 2 ∷ 3 ∷ 4 ∷ 5 ∷ 6 ∷ []
 
 pub well-formed : (t : Token) → OneOf allButMalformed (tagOf token.the-type t) → notAllowedHere ≡ tokenFault t
-well-formed (Name n) k = refl
-well-formed (Symbol x) k = refl
-well-formed (Part x) k = refl
-well-formed Word k = refl
-well-formed (Quoted n) k = refl
-well-formed (Sign b) k = refl
-well-formed End k = refl
-well-formed Malformed k = absurd (miss allButMalformed 7 tt k)
+well-formed =
+    by-kind (λ t. OneOf allButMalformed (tagOf token.the-type t) → notAllowedHere ≡ tokenFault t) (λ n k. refl) (λ x k. refl) (λ x k. refl) (λ k. refl) (λ n k. refl)
+    (λ b k. refl) (λ k. refl) (λ k. absurd (miss allButMalformed 7 tt k))

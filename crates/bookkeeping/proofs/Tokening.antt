@@ -17,7 +17,8 @@ use Rattle.lexing.specs.View as View
 use Rattle.lexing.specs.View.{tokenOf, placedOf, stream, Comes}
 use Rattle.lexing.specs.declared.Span.{Span}
 use Rattle.lexing.specs.declared.Token.{Token}
-use Rattle.lexing.specs.declared.Token.the-variants.{Name, Symbol, Part, Word, Quoted, Sign, End, Malformed}
+use Rattle.lexing.specs.declared.Token.the-variants.{Name}
+use Rattle.lexing.proofs.Variants.{by-kind}
 use Rattle.lexing.specs.declared.Placed.{Placed}
 use Rattle.bookkeeping.specs.declared.progress.Fault.{Fault}
 use Rattle.bookkeeping.specs.declared.progress.Progress.{Progress}
@@ -30,24 +31,12 @@ use Rattle.bookkeeping.proofs.Going.{stops, went-on}
 
 module _ (text : Bytes) (place past : ℕ) where
   pub fault-same : (t : Token) → tokenFault t ≡ Reading.faultOf (tokenOf text t place past)
-  fault-same (Name n) = refl
-  fault-same (Symbol x) = refl
-  fault-same (Part x) = refl
-  fault-same Word = refl
-  fault-same (Quoted n) = refl
-  fault-same (Sign b) = refl
-  fault-same End = refl
-  fault-same Malformed = refl
+  fault-same =
+      by-kind (λ t. tokenFault t ≡ Reading.faultOf (tokenOf text t place past)) (λ n. refl) (λ x. refl) (λ x. refl) refl (λ n. refl) (λ b. refl) refl refl
 
   pub sign-same : (byte : ℕ) (t : Token) → signIs byte t ≡ Reading.isSign byte (tokenOf text t place past)
-  sign-same byte (Name n) = refl
-  sign-same byte (Symbol x) = refl
-  sign-same byte (Part x) = refl
-  sign-same byte Word = refl
-  sign-same byte (Quoted n) = refl
-  sign-same byte (Sign b) = refl
-  sign-same byte End = refl
-  sign-same byte Malformed = refl
+  sign-same byte =
+      by-kind (λ t. signIs byte t ≡ Reading.isSign byte (tokenOf text t place past)) (λ n. refl) (λ x. refl) (λ x. refl) refl (λ n. refl) (λ b. refl) refl refl
 
 pub sign-shown : (text : Bytes) (t : Placed) (byte : ℕ) {is : Bool} → signIs byte (t .token) ≡ is
     → Reading.isSign byte (tokenOf text (t .token) (t .place) (t .past)) ≡ is
@@ -55,16 +44,17 @@ sign-shown text t byte e = sym (sign-same text (t .place) (t .past) byte (t .tok
 
 module _ (text : Bytes) (mode : Tokens.Mode) (at : ℕ) where
   -- a token that is a byte
-  sign-here : (byte place past : ℕ) (t : Token) → Comes text mode at (record { token = t; place = place; past = past }) → signIs byte t ≡ true
+  abbrev SignHere : ℕ → ℕ → ℕ → Token → Type 0
+  SignHere byte place past t =
+      Comes text mode at (record { token = t; place = place; past = past }) → signIs byte t ≡ true
       → (stream text mode at ≡ standing (Tokens.sign byte) place past ∷ stream text (Tokens.modeAfter mode (Tokens.sign byte)) past) × (at < past)
-  sign-here byte place past (Name n) c e = absurd (false≢true e)
-  sign-here byte place past (Symbol x) c e = absurd (false≢true e)
-  sign-here byte place past (Part x) c e = absurd (false≢true e)
-  sign-here byte place past Word c e = absurd (false≢true e)
-  sign-here byte place past (Quoted n) c e = absurd (false≢true e)
-  sign-here byte place past (Sign b) c e = (rw (eqb-true b byte e) at (c .unrolled), omega (arith, c .onward, c .moves tt))
-  sign-here byte place past End c e = absurd (false≢true e)
-  sign-here byte place past Malformed c e = absurd (false≢true e)
+
+  sign-here : (byte place past : ℕ) (t : Token) → SignHere byte place past t
+  sign-here byte place past =
+      by-kind (SignHere byte place past) (λ n c e. absurd (false≢true e)) (λ x c e. absurd (false≢true e)) (λ x c e. absurd (false≢true e))
+      (λ c e. absurd (false≢true e)) (λ n c e. absurd (false≢true e))
+      (λ b c e. (rw (eqb-true b byte e) at (c .unrolled), omega (arith, c .onward, c .moves tt)))
+      (λ c e. absurd (false≢true e)) (λ c e. absurd (false≢true e))
 
   pub sign-first : {byte : ℕ} {t : Placed} → Comes text mode at t → signIs byte (t .token) ≡ true
       → stream text mode at ≡ standing (Tokens.sign byte) (t .place) (t .past) ∷ stream text (Tokens.modeAfter mode (Tokens.sign byte)) (t .past)
@@ -128,14 +118,9 @@ module _ {text : Bytes} {mode : Tokens.Mode} {at : ℕ} {t : Placed} (c : Comes 
   allButName = 1 ∷ 2 ∷ 3 ∷ 4 ∷ 5 ∷ 6 ∷ 7 ∷ []
 
   no-name : (k : Token) (place past : ℕ) → OneOf allButName (tagOf token.the-type k) → Reading.nameOf (tokenOf text k place past) ≡ none
-  no-name (Name n) place past o = absurd (miss allButName 0 tt o)
-  no-name (Symbol x) place past o = refl
-  no-name (Part x) place past o = refl
-  no-name Word place past o = refl
-  no-name (Quoted n) place past o = refl
-  no-name (Sign b) place past o = refl
-  no-name End place past o = refl
-  no-name Malformed place past o = refl
+  no-name k place past =
+      by-kind (λ t′. OneOf allButName (tagOf token.the-type t′) → Reading.nameOf (tokenOf text t′ place past) ≡ none) (λ n o. absurd (miss allButName 0 tt o))
+      (λ x o. refl) (λ x o. refl) (λ o. refl) (λ n o. refl) (λ b o. refl) (λ o. refl) (λ o. refl) k
 
   pub names-not : {A : Type 0} (fault : Bytes → ℕ) (next : ℕ → Bytes → List Tokens.Placed → Reading.Parsed A)
       → OneOf allButName (tagOf token.the-type (t .token))

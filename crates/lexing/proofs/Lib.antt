@@ -7,4 +7,5 @@ pub mod Shortest
 pub mod Showing
 pub mod Onward
 pub mod Stream
+pub mod Variants
 pub mod Entering

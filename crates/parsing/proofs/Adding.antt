@@ -30,10 +30,10 @@ use Rattle.parsing.specs.Patterns.{Variables, symbolNames, partNames, Id
 use Rattle.bookkeeping.proofs.Finding.{position-member}
 use Rattle.bookkeeping.proofs.Choosing.{no-fault}
 use Rattle.parsing.proofs.Faults.{position-low, added-room}
-use Rattle.bookkeeping.proofs.Lengths.{within}
+use Rattle.bookkeeping.proofs.Lengths.{part-length, within}
 use Rattle.bookkeeping.proofs.Tabling.{kept-above, kept-below, grown, entry-name, entry-inside}
 use Rattle.parsing.proofs.Elements.{ends-with, ends-string, tape-string, tape-one}
-use Rattle.parsing.proofs.Itemed.{string-went, string-quiet, identifier-length, variable-went, variable-quiet}
+use Rattle.parsing.proofs.Itemed.{string-went, string-quiet, variable-went, variable-quiet}
 use Rattle.parsing.proofs.Patterning.{identifier-inside, symbol-count, part-count}
 
 -- ITEMS
@@ -213,7 +213,7 @@ module _ {text : Bytes} {table : List ℕ} {p : Counts} {x : Span} (h : Held tex
         added-room name (symbolNames text table (p .symbols)) 16 (rw (symbol-count (h .variables)) (h .variables .fewSymbols)) ∙ rw (← known-place)
         in
         record {
-          short = rw (identifier-length (h .ready) i) at (leb-true (length name) 8 (both-left a (both b c) t));
+          short = rw (part-length text x (identifier-inside i)) at (leb-true (length name) 8 (both-left a (both b c) t));
           few = leb-true (p .letters + 1) 64 (both-left b c u);
           room = ltb-true known 16 (sym e ∙ both-right b c u);
         }

@@ -30,7 +30,8 @@ use Rattle.lexing.specs.View as View
 use Rattle.lexing.specs.View.{tokenOf, placedOf, Sound, stream, Comes}
 use Rattle.lexing.specs.declared.Span.{Span}
 use Rattle.lexing.specs.declared.Token.{Token}
-use Rattle.lexing.specs.declared.Token.the-variants.{Name as NameToken, Symbol, Part, Word, Quoted, Sign, End, Malformed}
+use Rattle.lexing.specs.declared.Token.the-variants.{Symbol, Quoted}
+use Rattle.lexing.proofs.Variants.{by-kind}
 use Rattle.lexing.specs.declared.Placed as Code
 use Rattle.bookkeeping.specs.declared.Answer.{Answer}
 use Rattle.bookkeeping.specs.declared.Answer.the-variants.{OverLimit, WrongName}
@@ -79,14 +80,9 @@ allButQuoted = 0 ∷ 1 ∷ 2 ∷ 3 ∷ 5 ∷ 6 ∷ 7 ∷ []
 
 no-string : (text : Bytes) (k : Token) (place past : ℕ) (three : Bool) → OneOf allButQuoted (tagOf token.the-type k)
     → Reading.truthOf (tokenOf text k place past) three ≡ none
-no-string text (NameToken n) place past three o = refl
-no-string text (Symbol x) place past three o = refl
-no-string text (Part x) place past three o = refl
-no-string text Word place past three o = refl
-no-string text (Quoted n) place past three o = absurd (miss allButQuoted 4 tt o)
-no-string text (Sign b) place past three o = refl
-no-string text End place past three o = refl
-no-string text Malformed place past three o = refl
+no-string text k place past three =
+    by-kind (λ t. OneOf allButQuoted (tagOf token.the-type t) → Reading.truthOf (tokenOf text t place past) three ≡ none) (λ n o. refl) (λ x o. refl) (λ x o. refl)
+    (λ o. refl) (λ n o. absurd (miss allButQuoted 4 tt o)) (λ b o. refl) (λ o. refl) (λ o. refl) k
 
 -- the truth value of a token
 abbrev truthIn : Bytes → Code.Placed → Option Bool
@@ -157,17 +153,15 @@ abbrev withTruth : Class → Name → Bool → List Tokens.Placed → Parsed Con
 withTruth c x truth rest = parsed (record { predicate = c; variable = x; expected = truth }) rest
 
 -- the token is a string, and the tokens go on after it
-goes-on : (text : Bytes) (k′ : Token) (place past : ℕ) {truth : Bool} (is : Bool) → Reading.truthOf (tokenOf text k′ place past) is ≡ some truth
-    → pick (Tokens.isLast (tokenOf text k′ place past)) [] (stream text (Tokens.modeAfter Tokens.inside (tokenOf text k′ place past)) past)
-    ≡ stream text Tokens.inside past
-goes-on text (NameToken n) place past is e = no-value e
-goes-on text (Symbol y) place past is e = no-value e
-goes-on text (Part y) place past is e = no-value e
-goes-on text Word place past is e = no-value e
-goes-on text (Quoted n) place past is e = refl
-goes-on text (Sign s) place past is e = no-value e
-goes-on text End place past is e = no-value e
-goes-on text Malformed place past is e = no-value e
+abbrev GoesOn : Bytes → ℕ → ℕ → Bool → Bool → Token → Type 0
+GoesOn text place past is truth k =
+    Reading.truthOf (tokenOf text k place past) is ≡ some truth
+    → pick (Tokens.isLast (tokenOf text k place past)) [] (stream text (Tokens.modeAfter Tokens.inside (tokenOf text k place past)) past) ≡ stream text Tokens.inside past
+
+goes-on : (text : Bytes) (place past : ℕ) (is truth : Bool) (k : Token) → GoesOn text place past is truth k
+goes-on text place past is truth =
+    by-kind (GoesOn text place past is truth) (λ n e. no-value e) (λ x e. no-value e) (λ x e. no-value e) (λ e. no-value e) (λ n e. refl) (λ b e. no-value e)
+    (λ e. no-value e) (λ e. no-value e)
 
 -- `>` and `:` stand after a condition's variable, and a token with this truth value after them
 pub record ClosingAt (text : Bytes) (from words : ℕ) (x : Span) (close colon : ℕ) (t : Code.Placed) (n : ℕ) : Type 0 where
@@ -211,7 +205,7 @@ module _ {text : Bytes} {from words : ℕ} {x : Span} where
         in
         let m : after ≡ words + suc (length (View.part text x)) = o .0 .reached in
         reads (record { predicate = c; variable = View.part text x; expected = u .truth }) (stream text Tokens.inside (t .past))
-        (at-truth ∙ rw (a .first .unrolled, same, goes-on text (t .token) (t .place) (t .past) _ same))
+        (at-truth ∙ rw (a .first .unrolled, same, goes-on text (t .place) (t .past) _ _ (t .token) same))
         (record {
           tokens = refl;
           went =
@@ -232,18 +226,14 @@ allButSymbol = 0 ∷ 2 ∷ 3 ∷ 4 ∷ 5 ∷ 6 ∷ 7 ∷ []
 
 symbol-not : {A : Type 0} (text : Bytes) (k : Token) (place past : ℕ) → Sound text k place past → OneOf allButSymbol (tagOf token.the-type k)
     → (names : List Name) (t : Tokens.Placed) (next : Name → Parsed A) → symbolOn (itemOf (tokenOf text k place past)) names t next ≡ Reading.refuse t
-symbol-not text (NameToken n) place past s o names t next = refl
-symbol-not text (Symbol x) place past s o names t next = absurd (miss allButSymbol 1 tt o)
-symbol-not text (Part x) place past s o names t next = elsewhere (View.part text x)
+symbol-not text k place past s o names t next =
+    by-kind (λ k′. Sound text k′ place past → OneOf allButSymbol (tagOf token.the-type k′) → symbolOn (itemOf (tokenOf text k′ place past)) names t next ≡ Reading.refuse t)
+    (λ n s o. refl) (λ x s o. absurd (miss allButSymbol 1 tt o)) (λ x s o. elsewhere (View.part text x)) (λ s o. rw s) (λ n s o. refl) (λ b s o. refl) (λ s o. refl)
+    (λ s o. refl) k s o
   where
-    elsewhere : (x′ : Name) → symbolOn (Reading.variableOf (101 ∷ x′)) names t next ≡ Reading.refuse t
+    elsewhere : (x : Name) → symbolOn (Reading.variableOf (101 ∷ x)) names t next ≡ Reading.refuse t
     elsewhere [] = refl
-    elsewhere (b ∷ x′) = refl
-symbol-not text Word place past s o names t next = rw s
-symbol-not text (Quoted n) place past s o names t next = refl
-symbol-not text (Sign b) place past s o names t next = refl
-symbol-not text End place past s o names t next = refl
-symbol-not text Malformed place past s o names t next = refl
+    elsewhere (b ∷ x) = refl
 
 abbrev OnAgrees : Bytes → List ℕ → ℕ → ℕ → ℕ → List ℕ → List ℕ → Class → CodeParsed → Type 0
 OnAgrees text table symbols from words tape tape′ c r =

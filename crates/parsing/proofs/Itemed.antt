@@ -6,7 +6,6 @@ use native.Mathlib.Numerals.{add-one}
 use native.Mathlib.Omega.{arith}
 use lib.Dec.{T, lt→ltb}
 use lib.ListN.{length}
-use lib.Seq.{length-slice}
 use Rattle.meaning.specs.Choice.{Bytes, every}
 use Rattle.meaning.specs.Tape.{named}
 use Rattle.meaning.proofs.laws.Passing.{both-pass}
@@ -15,6 +14,8 @@ use Rattle.lexing.specs.View.{IsClosed, charactersIn, quotationAt}
 use Rattle.lexing.specs.declared.Span.{Span}
 use Rattle.bookkeeping.specs.Written.{Wrote, stringFrom, isQuiet, Ready, Went}
 use Rattle.parsing.specs.Patterns.{Identifier, StringAt}
+use Rattle.bookkeeping.proofs.Lengths.{part-length}
+use Rattle.parsing.proofs.Patterning.{identifier-inside}
 
 -- a string
 module _ {text : Bytes} {at words place past count : ℕ} (r : Ready text at words) (a : StringAt text at place past count) where
@@ -45,8 +46,8 @@ module _ {text : Bytes} {at words place past count : ℕ} (r : Ready text at wor
 
 -- a variable, of the kind 1 or 2
 module _ {text : Bytes} {at words : ℕ} {x : Span} (r : Ready text at words) (i : Identifier text at x) where
-  pub identifier-length : length (View.part text x) ≡ x .past - x .from
-  identifier-length = length-slice (x .from) (x .past) text (i .inside)
+  long : length (View.part text x) ≡ x .past - x .from
+  long = part-length text x (identifier-inside i)
 
   pub variable-went : (kind : ℕ) {word : ℕ} {tape tape′ : List ℕ} {words′ : ℕ} → word ≡ kind * 256 + (x .past - x .from)
       → Wrote tape words (word ∷ View.part text x) words′ tape′
@@ -55,14 +56,14 @@ module _ {text : Bytes} {at words : ℕ} {x : Span} (r : Ready text at words) (i
       record {
         onward = omega (arith, i .after, i .some);
         inside = i .inside;
-        charged = omega (arith, w .reached, identifier-length, r .charged, i .after, i .some);
+        charged = omega (arith, w .reached, long, r .charged, i .after, i .some);
         counted = w .reached;
-        wrote = rw (identifier-length, ← e) (w .same);
+        wrote = rw (long, ← e) (w .same);
       }
 
   pub variable-quiet : (kind : ℕ) → kind * 256 + (x .past - x .from) < 2304 → T (every isQuiet (View.part text x)) → T (every isQuiet (named kind (View.part text x)))
   unfolding every
   variable-quiet kind s q =
       both-pass (isQuiet (kind * 256 + length (View.part text x))) (every isQuiet (View.part text x))
-      (rw identifier-length (lt→ltb (kind * 256 + (x .past - x .from)) 2304 s))
+      (rw long (lt→ltb (kind * 256 + (x .past - x .from)) 2304 s))
       q

@@ -17,7 +17,8 @@ use Rattle.lexing.specs.View as View
 use Rattle.lexing.specs.View.{charactersIn, quotationAt, tokenOf, placedOf, Sound, stream, Comes}
 use Rattle.lexing.specs.declared.Span.{Span}
 use Rattle.lexing.specs.declared.Token.{Token}
-use Rattle.lexing.specs.declared.Token.the-variants.{Name, Symbol, Part, Word, Quoted, Sign, End, Malformed}
+use Rattle.lexing.specs.declared.Token.the-variants.{Symbol, Part, Quoted}
+use Rattle.lexing.proofs.Variants.{by-kind}
 use Rattle.lexing.specs.declared.Placed.{Placed}
 use Rattle.parsing.specs.declared.patterns.Counts.{Counts}
 use Rattle.parsing.specs.declared.patterns.Added.{Added}
@@ -81,14 +82,10 @@ otherTags = 0 ∷ 3 ∷ 5 ∷ 6 ∷ 7 ∷ []
 
 no-item : (text : Bytes) (place past : ℕ) (k : Token) → Sound text k place past → OneOf otherTags (tagOf token.the-type k)
     → isItem (itemOf (tokenOf text k place past)) ≡ false
-no-item text place past (Name n) s o = refl
-no-item text place past (Symbol x) s o = absurd (miss otherTags 1 tt o)
-no-item text place past (Part x) s o = absurd (miss otherTags 2 tt o)
-no-item text place past Word s o = ap isItem s
-no-item text place past (Quoted n) s o = absurd (miss otherTags 4 tt o)
-no-item text place past (Sign b) s o = refl
-no-item text place past End s o = refl
-no-item text place past Malformed s o = refl
+no-item text place past =
+    by-kind (λ k. Sound text k place past → OneOf otherTags (tagOf token.the-type k) → isItem (itemOf (tokenOf text k place past)) ≡ false) (λ n s o. refl)
+    (λ x s o. absurd (miss otherTags 1 tt o)) (λ x s o. absurd (miss otherTags 2 tt o)) (λ s o. ap isItem s) (λ n s o. absurd (miss otherTags 4 tt o))
+    (λ b s o. refl) (λ s o. refl) (λ s o. refl)
 
 pub item-other : {text : Bytes} {mode : Tokens.Mode} {at : ℕ} {t : Placed} → Comes text mode at t → OneOf otherTags (tagOf token.the-type (t .token))
     → isItem (itemAt text t) ≡ false
@@ -132,18 +129,17 @@ module _ {text : Bytes} {table : List ℕ} {p : Counts} {t : Placed} (pre : Held
 
 -- after an item the tokens go on inside the sentence
 module _ (text : Bytes) (place past : ℕ) where
-  item-goes-on : (k : Token) → isItem (itemOf (tokenOf text k place past)) ≡ true
+  abbrev GoesOn : Token → Type 0
+  GoesOn k =
+      isItem (itemOf (tokenOf text k place past)) ≡ true
       → T (not (Tokens.isLast (tokenOf text k place past)))
       × (pick (Tokens.isLast (tokenOf text k place past)) [] (stream text (Tokens.modeAfter Tokens.inside (tokenOf text k place past)) past)
       ≡ stream text Tokens.inside past)
-  item-goes-on (Name n) e = absurd (false≢true e)
-  item-goes-on (Symbol x) e = (tt, refl)
-  item-goes-on (Part x) e = (tt, refl)
-  item-goes-on Word e = (tt, refl)
-  item-goes-on (Quoted n) e = (tt, refl)
-  item-goes-on (Sign b) e = absurd (false≢true e)
-  item-goes-on End e = absurd (false≢true e)
-  item-goes-on Malformed e = absurd (false≢true e)
+
+  item-goes-on : (k : Token) → GoesOn k
+  item-goes-on =
+      by-kind GoesOn (λ n e. absurd (false≢true e)) (λ x e. (tt, refl)) (λ x e. (tt, refl)) (λ e. (tt, refl)) (λ n e. (tt, refl)) (λ b e. absurd (false≢true e))
+      (λ e. absurd (false≢true e)) (λ e. absurd (false≢true e))
 
 pub record Item-then (text : Bytes) (at : ℕ) (t : Placed) : Type 0 where
   pub unrolled : stream text Tokens.inside at ≡ placedOf text t ∷ stream text Tokens.inside (t .past)

@@ -15,10 +15,8 @@ is-accepted-requires c κs = search needs
 
 returns : tie.Need-returns
 returns c =
-    let at-part-fault = c .before .before in
-    let entry = at-part-fault .before .before .before .before in
-    let p = entry .pre in
-    item-wrong (part-faulted (p .0) (p .1)) (at-part-fault .part-fault .ensures) (c .before .is-accepted .ensures) (c .if1 .taken)
+    let p = c .before .before .before .before .before .before .pre in
+    item-wrong (part-faulted (p .0) (p .1)) (c .before .before .part-fault .ensures) (c .before .is-accepted .ensures) (c .if1 .taken)
 
 add-last : tie.Need-add-last
 add-last c = search needs

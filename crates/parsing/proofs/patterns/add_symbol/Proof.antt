@@ -12,20 +12,16 @@ find-requires c κs = (identifier-inside (c .before .before .before .pre .1), c 
 
 symbol-fault-requires : tie.Need-symbol-fault-requires
 symbol-fault-requires c κs =
-    let at-find = c .before .before in
-    let entry = at-find .before .before .before .before in
-    let p = entry .pre in
-    (p .0, p .1, known-place (p .0) (p .1) _ (at-find .find .ensures))
+    let p = c .before .before .before .before .before .before .pre in
+    (p .0, p .1, known-place (p .0) (p .1) _ (c .before .before .find .ensures))
 
 is-accepted-requires : tie.Need-is-accepted-requires
 is-accepted-requires c κs = search needs
 
 returns : tie.Need-returns
 returns c =
-    let at-symbol-fault = c .before .before in
-    let entry = at-symbol-fault .before .before .before .before .before .before .before in
-    let p = entry .pre in
-    item-wrong (symbol-faulted (p .0) (p .1)) (at-symbol-fault .symbol-fault .ensures) (c .before .is-accepted .ensures) (c .if1 .taken)
+    let p = c .before .before .before .before .before .before .before .before .before .pre in
+    item-wrong (symbol-faulted (p .0) (p .1)) (c .before .before .symbol-fault .ensures) (c .before .is-accepted .ensures) (c .if1 .taken)
 
 entry-requires : tie.Need-entry-requires
 entry-requires c κs = search needs
@@ -33,11 +29,8 @@ entry-requires c κs = search needs
 remember-requires : tie.Need-remember-requires
 remember-requires c κs =
     let at-find = c .before .before .before .before .before .before .before in
-    let entry = at-find .before .before .before .before in
-    let p = entry .pre in
-    let l = known-low (p .0) (p .1) _ (at-find .find .ensures) in
-    let f = p .0 .variables .fewSymbols in
-    omega arith
+    let p = at-find .before .before .before .before .pre in
+    omega (arith, known-low (p .0) (p .1) _ (at-find .find .ensures), p .0 .variables .fewSymbols)
 
 put-name-requires : tie.Need-put-name-requires
 put-name-requires c κs = search needs
@@ -50,13 +43,12 @@ returns-2 c =
     let at-remember = c .before .before .before in
     let at-entry = at-remember .before in
     let at-if1 = at-entry .before .before in
-    let at-is-accepted = at-if1 .before in
-    let at-symbol-fault = at-is-accepted .before in
+    let at-symbol-fault = at-if1 .before .before in
     let at-find = at-symbol-fault .before .before .before in
-    let entry-2 = at-find .before .before .before .before in
-    let p = entry-2 .pre in
-    let f = no-fault-here (at-symbol-fault .symbol-fault .ensures) (at-is-accepted .is-accepted .ensures) (at-if1 .if1 .left) in
-    symbol-taken (p .0) (p .1) _ (at-find .find .ensures) f (c .before .put-name .ensures) (rw (at-entry .entry .ensures) at (at-remember .remember .ensures))
+    let p = at-find .before .before .before .before .pre in
+    symbol-taken (p .0) (p .1) _ (at-find .find .ensures)
+    (no-fault-here (at-symbol-fault .symbol-fault .ensures) (at-if1 .before .is-accepted .ensures) (at-if1 .if1 .left)) (c .before .put-name .ensures)
+    (rw (at-entry .entry .ensures) at (at-remember .remember .ensures))
 
 pub add-symbol-spec : {M : Type 1} → statement M
 add-symbol-spec =
