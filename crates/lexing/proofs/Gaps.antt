@@ -1,7 +1,7 @@
 -- Blanks and comments: a step of passing them.
 use Prim.Native.Nat.{ℕ, suc, _+_, _≤_, _<_}
 use mathlib.Core.Path.{_≡_, refl, sym, _∙_, subst}
-use mathlib.Core.Bool.{Bool, true, false, _||_}
+use mathlib.Core.Bool.{Bool, true, false, _||_, false≢true, true≢false}
 use mathlib.Core.List.{[], _∷_}
 use native.Mathlib.Numerals.{add-one}
 use native.Mathlib.Omega.{arith}
@@ -29,7 +29,7 @@ two-on text at gap =
 -- after a `*` a `/` ends the comment, and any other byte goes on as if no `*` had come before
 star-closes : (slash at : ℕ) (rest : Bytes) → ahead (eqb 47) rest ≡ true → skip (starred slash) at rest ≡ skip between (suc at) (drop 1 rest)
 unfolding skip
-star-closes slash at [] e = let z : _≡_ {A = ℕ} 0 1 = cc in absurd (omega arith)
+star-closes slash at [] e = absurd (false≢true e)
 star-closes slash at (b ∷ rest) e = rw (eq-eqb b 47 (sym (eqb-true 47 b e)))
 
 star-undone : (slash at : ℕ) (rest : Bytes) → ahead (eqb 47) rest ≡ false → skip (starred slash) at rest ≡ skip (commented slash) at rest
@@ -46,7 +46,7 @@ module _ (text : Bytes) (from at : ℕ) where
   -- no byte so far was a `*`, and neither is this one
   pub plain-still : (any : Bool) → at < length text → (any ≡ false → Plain text from at) → any || eqb (getD text at 0) 42 ≡ false
       → Plain text from (at + 1)
-  plain-still true h p e = let z : _≡_ {A = ℕ} 0 1 = cc in absurd (omega arith)
+  plain-still true h p e = absurd (true≢false e)
   plain-still false h p e = plain-goes h e (p refl)
 
   -- a `*` stands inside a comment, with a `/` after it or not
@@ -90,7 +90,7 @@ plain-starts text from = record { same = λ slash. refl; onward = omega arith }
 
 comment-opens : (slash at : ℕ) (rest : Bytes) → ahead (eqb 42) rest ≡ true → skip (opening slash) at rest ≡ skip (commented slash) (suc at) (drop 1 rest)
 unfolding skip
-comment-opens slash at [] e = let z : _≡_ {A = ℕ} 0 1 = cc in absurd (omega arith)
+comment-opens slash at [] e = absurd (false≢true e)
 comment-opens slash at (b ∷ rest) e = refl
 
 module _ (text : Bytes) (at : ℕ) where

@@ -9,15 +9,18 @@ use lib.Dec.{eqb, ltb}
 use lib.ListN.{length, getD, drop}
 use Rattle.meaning.specs.Choice.{Bytes, pick, either}
 use Rattle.meaning.specs.Classes.{inClass, digit}
-use Rattle.meaning.specs.Tokens.{Quoting, plain, escaped, coded, Turn, goesOn, closes, breaks, digitValue, turn, Quotation, closed, quoteOn, quotation}
+use Rattle.meaning.specs.Tokens.{Quoting, plain, escaped, coded, Turn, goesOn, closes, breaks, digitValue, turn, Quotation, closed, broken, quoteOn, quotation}
 use Rattle.lexing.specs.View.{charactersIn, quotationAt}
 use Rattle.lexing.proofs.Places.{here}
+
+never-closed : {A : Type 0} {at past : ℕ} {rest all rest′ : Bytes} → broken at rest ≡ closed all past rest′ → A
+never-closed e = let z : _≡_ {A = ℕ} 0 1 = cc in absurd (omega arith)
 
 -- a string that goes on closes after one more byte at least
 closes-after : (bytes : Bytes) (state : Quoting) (characters : Bytes) (at : ℕ) {all : Bytes} {past : ℕ} {rest : Bytes}
     → quotation state characters at bytes ≡ closed all past rest → at < past
 unfolding quotation
-closes-after [] state characters at e = let z : _≡_ {A = ℕ} 0 1 = cc in absurd (omega arith)
+closes-after [] state characters at e = never-closed e
 closes-after (b ∷ bytes) state characters at {all} {past} {rest} e =
     turned (turn state characters b) (λ next longer f. closes-after bytes next longer (suc at) f) e
   where
@@ -25,14 +28,14 @@ closes-after (b ∷ bytes) state characters at {all} {past} {rest} e =
         → quoteOn t (λ next longer. quotation next longer (suc at) bytes) (suc at) bytes ≡ closed all past rest → at < past
     turned (goesOn next longer) later f = let l = later next longer f in omega arith
     turned (closes longer) later f = let p : suc at ≡ past = cc in omega arith
-    turned breaks later f = let z : _≡_ {A = ℕ} 0 1 = cc in absurd (omega arith)
+    turned breaks later f = never-closed f
 
 -- a string that closes right after a byte closes at it
 closes-at : (t : Turn) (at : ℕ) (bytes : Bytes) {all rest : Bytes}
     → quoteOn t (λ next longer. quotation next longer at bytes) at bytes ≡ closed all at rest → t ≡ closes all
 closes-at (goesOn next longer) at bytes e = let l = closes-after bytes next longer at e in absurd (omega arith)
 closes-at (closes longer) at bytes e = cc
-closes-at breaks at bytes e = let z : _≡_ {A = ℕ} 0 1 = cc in absurd (omega arith)
+closes-at breaks at bytes e = never-closed e
 
 -- BYTES THAT CLOSE NO STRING
 
@@ -83,7 +86,7 @@ one-character at b c bytes {all} {rest} e = go (eqb b 39) (eqb b 34) (eqb b 92) 
         ≡ closed all (suc (suc at)) rest
         → all ≡ b ∷ []
     go true double back f = let z : suc at ≡ suc (suc at) = cc in absurd (omega arith)
-    go false true back f = let z : _≡_ {A = ℕ} 0 1 = cc in absurd (omega arith)
+    go false true back f = never-closed f
     go false false true f = absurd (escaped-open [] c .never all (closes-at (turn escaped [] c) (suc (suc at)) bytes f))
     go false false false f = sym (plain-closes (b ∷ []) c (closes-at (turn plain (b ∷ []) c) (suc (suc at)) bytes f))
 

@@ -1,7 +1,7 @@
 -- Tokens that are items: strings, s-variables and e-variables.
 use Prim.Native.Nat.{ℕ, suc, _<_}
 use mathlib.Core.Path.{_≡_, refl, _∙_, ap}
-use mathlib.Core.Bool.{true, false, not, false≢true}
+use mathlib.Core.Bool.{Bool, true, false, not, false≢true}
 use lib.Dec.{T}
 use mathlib.Core.List.{List, [], _∷_}
 use native.Mathlib.Omega.{arith}
@@ -102,16 +102,23 @@ adds {text} {table} {p} {tape} {item} {past} {table′} {tape′} {r} t e i w a 
     gives (Wrong answer) g = (rw e g, rw e i)
     gives Other g = absurd g
 
+-- an s-variable or an e-variable
+abbrev variableToken : Bool → Span → Token
+variableToken false x = Symbol x
+variableToken true x = Part x
+
+abbrev variableItem : Bool → Bytes → Item
+variableItem false x = symbolItem x
+variableItem true x = partItem x
+
 -- what is asked of a token by the function that adds it, and what comes of it
 module _ {text : Bytes} {table : List ℕ} {p : Counts} {t : Placed} (pre : Held text table p × Comes text Tokens.inside (p .at) t) where
   pub asks-string : {count : ℕ} → t .token ≡ Quoted count → Held text table p × StringAt text (p .at) (t .place) (t .past) count
   asks-string e = (pre .0, string-at (pre .1) e)
 
-  pub asks-symbol : {x : Span} → t .token ≡ Symbol x → Held text table p × Identifier text (p .at) x
-  asks-symbol e = (pre .0, symbol-at (pre .1) e)
-
-  pub asks-part : {x : Span} → t .token ≡ Part x → Held text table p × Identifier text (p .at) x
-  asks-part e = (pre .0, part-at (pre .1) e)
+  pub asks-variable : (isPart : Bool) (x : Span) → t .token ≡ variableToken isPart x → Held text table p × Identifier text (p .at) x
+  asks-variable false x e = (pre .0, symbol-at (pre .1) e)
+  asks-variable true x e = (pre .0, part-at (pre .1) e)
 
   module _ {tape table′ tape′ : List ℕ} {r : Added} where
     pub adds-string : {count : ℕ} → t .token ≡ Quoted count
@@ -119,13 +126,11 @@ module _ {text : Bytes} {table : List ℕ} {p : Counts} {t : Placed} (pre : Held
         → AddsToken text table p tape t table′ tape′ r
     adds-string e a = adds t (item-string (pre .1) e) refl refl a
 
-    pub adds-symbol : {x : Span} → t .token ≡ Symbol x → AddsItem text table p tape (symbolItem (View.part text x)) (x .past) table′ tape′ r
+    pub adds-variable : (isPart : Bool) (x : Span) → t .token ≡ variableToken isPart x
+        → AddsItem text table p tape (variableItem isPart (View.part text x)) (x .past) table′ tape′ r
         → AddsToken text table p tape t table′ tape′ r
-    adds-symbol e a = adds t (item-symbol (pre .1) e) refl (symbol-past (pre .1) e) a
-
-    pub adds-part : {x : Span} → t .token ≡ Part x → AddsItem text table p tape (partItem (View.part text x)) (x .past) table′ tape′ r
-        → AddsToken text table p tape t table′ tape′ r
-    adds-part e a = adds t (item-part (pre .1) e) refl (part-past (pre .1) e) a
+    adds-variable false x e a = adds t (item-symbol (pre .1) e) refl (symbol-past (pre .1) e) a
+    adds-variable true x e a = adds t (item-part (pre .1) e) refl (part-past (pre .1) e) a
 
 -- after an item the tokens go on inside the sentence
 module _ (text : Bytes) (place past : ℕ) where
