@@ -1,4 +1,0 @@
-// A text longer than stack in.
-fn main() {
-    program::run_program();
-}

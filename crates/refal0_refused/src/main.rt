@@ -1,4 +1,0 @@
-// A table that is refused: number and place alone are printed.
-fn main() {
-    program::run_program();
-}
