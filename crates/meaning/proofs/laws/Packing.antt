@@ -3,7 +3,7 @@ use mathlib.Core.Path.{_≡_, refl, ap, _∙_}
 use mathlib.Core.Bool.{true, false}
 use mathlib.Core.List.{List, [], _∷_, _++_, map, append-assoc}
 use mathlib.Core.Option.{some}
-use Prim.Native.Nat.{ℕ, suc, _+_, _*_, _<_, _≤_}
+use Prim.Native.Nat.{ℕ, suc, _+_, _*_, _/_, _<_, _≤_}
 use native.Mathlib.Omega.{arith}
 use lib.Dec.{T, eqb, ltb}
 use lib.ListN.{length, take, drop, length-append, length-map}
@@ -12,11 +12,11 @@ use borrow.Author.Tests.{le-leb, lt-ltb}
 use Rattle.meaning.specs.Choice.{every}
 use Rattle.meaning.specs.Classes.{classNumber}
 use Rattle.meaning.specs.Allowed.{isByte}
-use Rattle.meaning.specs.Instructions.{Test, look, compare, predicate, unknownTest, Store, store, unknownStore, Action, go, select, out, outCharacter, outValue, beginSequence, useSequence, call, tailCall, emission, unknownAction, Metric, exactly, ends, middle, Sentences, noMore, sentence, Code}
-use Rattle.meaning.specs.Packing.{Words, numberIn, firstIn, siteRegister, siteOffset, lengthNumber, truthBit, testWord, testOf, storeWord, storeOf, actionWords, actionOf, actionsEnd, packActions, emissionOf, unpackActions, metricWord, metricIn, sentencesEnd, bodyWords, countsWord, packSentences, testsIn, storesIn, bodyIn, unpackTests, unpackStores, maxStored, bodyOf, unpackSentences, packFunctions, placesFrom, pack, functionsAt, soundTable, unpack}
+use Rattle.meaning.specs.Instructions.{Test, look, compare, predicate, unknownTest, Store, store, unknownStore, Span, Action, go, select, out, outCharacter, outValue, beginSequence, useSequence, call, tailCall, emission, unknownAction, Metric, exactly, ends, middle, Sentences, noMore, sentence, Code}
+use Rattle.meaning.specs.Packing.{Words, word, numberIn, firstIn, secondIn, thirdIn, siteRegister, siteOffset, lengthNumber, lengthOf, spanAction, truthBit, testWord, testOf, storeWord, storeOf, actionWords, actionOf, actionsEnd, packActions, emissionOf, unpackActions, metricWord, metricIn, sentencesEnd, bodyWords, countsWord, packSentences, testsIn, storesIn, bodyIn, unpackTests, unpackStores, maxStored, bodyOf, unpackSentences, packFunctions, placesFrom, pack, functionsAt, soundTable, unpack}
 use Rattle.meaning.proofs.laws.Passing.{passed}
-use Rattle.meaning.proofs.laws.Words.{word-holds, register-below, class-below, truth-below, length-below, look-held, compare-held, predicate-held, store-held, go-held, select-held, character-held, value-held, called-number, call-held, tailCall-held}
-use Rattle.meaning.proofs.laws.Packable.{All, nil, cons, FitsTest, FitsStore, FitsAction, FitsMetric, FitsSentence, FitsSentences, eachNone, eachMore, Packable}
+use Rattle.meaning.proofs.laws.Words.{word-holds, register-below, class-below, truth-below, length-below, look-held, compare-held, predicate-held, store-held, length-back, called-number, called-function}
+use Rattle.meaning.proofs.laws.Packable.{All, nil, cons, FitsTest, FitsStore, FitsSpan, FitsAction, FitsMetric, FitsSentence, FitsSentences, eachNone, eachMore, Packable}
 
 -- TESTS AND STORES
 
@@ -30,32 +30,63 @@ test-back (predicate s k e) f =
     (omega (arith, register-below s, truth-below e)) f (omega (arith, class-below k)))
 test-back unknownTest f = absurd f
 
-tests-back : {tests : List Test} → All FitsTest tests → (rest : Words) → unpackTests (length tests) (map testWord tests ++ rest) ≡ tests
-unfolding unpackTests
-tests-back nil rest = refl
-tests-back (cons f fs) rest = rw (test-back _ f, tests-back fs rest)
-
 store-back : (t : Store) → FitsStore t → storeOf (storeWord t) ≡ t
 store-back (store s) f = store-held _ s (word-holds 4 (siteRegister s) (siteOffset s) 0 (omega arith) (omega (arith, register-below s)) f (omega arith))
 store-back unknownStore f = absurd f
 
+-- so many words, each unpacked by itself
+each-back : {A : Type 0} (Fits : A → Type 0) (packed : A → ℕ) (unpacked : ℕ → Words → List A) → ((ws : Words) → unpacked 0 ws ≡ []) →
+    ((n : ℕ) (a : A) (ws : Words) → Fits a → unpacked (suc n) (packed a ∷ ws) ≡ a ∷ unpacked n ws) →
+    {xs : List A} → All Fits xs → (rest : Words) → unpacked (length xs) (map packed xs ++ rest) ≡ xs
+each-back Fits packed unpacked none one nil rest = none rest
+each-back Fits packed unpacked none one (cons f fs) rest = one _ _ _ f ∙ rw (each-back Fits packed unpacked none one fs rest)
+
+tests-back : {tests : List Test} → All FitsTest tests → (rest : Words) → unpackTests (length tests) (map testWord tests ++ rest) ≡ tests
+unfolding unpackTests
+tests-back = each-back FitsTest testWord unpackTests (λ ws. refl) (λ n t ws f. rw (test-back t f))
+
 stores-back : {stores : List Store} → All FitsStore stores → (rest : Words) → unpackStores (length stores) (map storeWord stores ++ rest) ≡ stores
 unfolding unpackStores
-stores-back nil rest = refl
-stores-back (cons f fs) rest = rw (store-back _ f, stores-back fs rest)
+stores-back = each-back FitsStore storeWord unpackStores (λ ws. refl) (λ n t ws f. rw (store-back t f))
+
+-- what passes over a word where there are words to skip passes over as many as it is to skip
+skipped : {A : Type 0} (unpacked : ℕ → Words → A) → ((n w : ℕ) (ws : Words) → unpacked (suc n) (w ∷ ws) ≡ unpacked n ws) →
+    (over ws : Words) → unpacked (length over) (over ++ ws) ≡ unpacked 0 ws
+skipped unpacked one [] ws = refl
+skipped unpacked one (w ∷ over) ws = one _ w _ ∙ skipped unpacked one over ws
 
 -- ACTIONS
 
 -- a word that holds an instruction of its own
-single : (w n : ℕ) (ws : Words) (a : Action) → numberIn w ≡ n → eqb n 14 ≡ false → eqb n 15 ≡ false → actionOf w ≡ a →
-    unpackActions 0 (w ∷ ws) ≡ a ∷ unpackActions 0 ws
-unfolding unpackActions
-single w n ws a number named ended held = rw (held, number, named, ended)
+module _ (n : ℕ) (named : eqb n 14 ≡ false) (ended : eqb n 15 ≡ false) where
+  single : (w : ℕ) (ws : Words) (a : Action) → numberIn w ≡ n → actionOf w ≡ a → unpackActions 0 (w ∷ ws) ≡ a ∷ unpackActions 0 ws
+  unfolding unpackActions
+  single w ws a number held = rw (held, number, named, ended)
+
+  -- with a span, with a byte, and with a called function's number
+  span-first : (instruction : Span → Action) → n < 256
+      → ((w : ℕ) → numberIn w ≡ n → actionOf w ≡ spanAction instruction (lengthOf (firstIn w)) (secondIn w) (thirdIn w))
+      → (s : Span) (ws : Words) → FitsSpan s
+      → unpackActions 0 (word n (lengthNumber (s .register)) (s .add) (s .back) ∷ ws) ≡ instruction s ∷ unpackActions 0 ws
+  span-first instruction small read s ws f =
+      let holds = word-holds n (lengthNumber (s .register)) (s .add) (s .back) small (length-below (s .register)) (f .0) (f .1) in
+      single _ ws (instruction s) (holds .number)
+      (read _ (holds .number) ∙ rw (holds .first, holds .second, holds .third, length-back (s .register)))
+
+  byte-first : (instruction : ℕ → Action) → n < 256 → ((w : ℕ) → numberIn w ≡ n → actionOf w ≡ instruction (firstIn w))
+      → (b : ℕ) (ws : Words) → b < 256 → unpackActions 0 (word n b 0 0 ∷ ws) ≡ instruction b ∷ unpackActions 0 ws
+  byte-first instruction small read b ws f =
+      let holds = word-holds n b 0 0 small f (omega arith) (omega arith) in
+      single _ ws (instruction b) (holds .number) (read _ (holds .number) ∙ rw (holds .first))
+
+  called-first : (instruction : ℕ → Action) → n < 256 → ((w : ℕ) → numberIn w ≡ n → actionOf w ≡ instruction (w / 256))
+      → (f : ℕ) (ws : Words) → unpackActions 0 ((n + 256 * f) ∷ ws) ≡ instruction f ∷ unpackActions 0 ws
+  called-first instruction small read f ws =
+      single _ ws (instruction f) (called-number f n small) (read _ (called-number f n small) ∙ rw (called-function f n small))
 
 name-skipped : (n ws : Words) → unpackActions (length n) (n ++ ws) ≡ unpackActions 0 ws
 unfolding unpackActions
-name-skipped [] ws = refl
-name-skipped (b ∷ n) ws = name-skipped n ws
+name-skipped = skipped unpackActions (λ n w ws. refl)
 
 emission-back : (n ws : Words) → T (every isByte n) → emissionOf (length n) (n ++ ws) ≡ emission n
 emission-back n ws h = rw (take-at n ws (length n) refl, passed (every isByte n) h, length-append, le-leb (length n) (length n + length ws) (omega arith))
@@ -71,23 +102,15 @@ actions-ended ws = refl
 
 module _ (limit : ℕ) where
   action-first : (a : Action) (ws : Words) → FitsAction limit a → unpackActions 0 (actionWords a ++ ws) ≡ a ∷ unpackActions 0 ws
-  action-first (go s) ws f =
-      let holds = word-holds 5 (lengthNumber (s .register)) (s .add) (s .back) (omega arith) (length-below (s .register)) (f .0) (f .1) in
-      single _ 5 ws (go s) (holds .number) refl refl (go-held _ s holds)
-  action-first (select s) ws f =
-      let holds = word-holds 6 (lengthNumber (s .register)) (s .add) (s .back) (omega arith) (length-below (s .register)) (f .0) (f .1) in
-      single _ 6 ws (select s) (holds .number) refl refl (select-held _ s holds)
-  action-first out ws f = single 7 7 ws out refl refl refl refl
-  action-first (outCharacter c) ws f =
-      let holds = word-holds 8 c 0 0 (omega arith) f (omega arith) (omega arith) in
-      single _ 8 ws (outCharacter c) (holds .number) refl refl (character-held _ c holds)
-  action-first (outValue k) ws f =
-      let holds = word-holds 9 k 0 0 (omega arith) f (omega arith) (omega arith) in
-      single _ 9 ws (outValue k) (holds .number) refl refl (value-held _ k holds)
-  action-first beginSequence ws f = single 10 10 ws beginSequence refl refl refl refl
-  action-first useSequence ws f = single 11 11 ws useSequence refl refl refl refl
-  action-first (call n) ws f = single _ 12 ws (call n) (called-number n 12 (omega arith)) refl refl (call-held n)
-  action-first (tailCall n) ws f = single _ 13 ws (tailCall n) (called-number n 13 (omega arith)) refl refl (tailCall-held n)
+  action-first (go s) ws f = span-first 5 refl refl go (omega arith) (λ w number. rw number) s ws f
+  action-first (select s) ws f = span-first 6 refl refl select (omega arith) (λ w number. rw number) s ws f
+  action-first out ws f = single 7 refl refl 7 ws out refl refl
+  action-first (outCharacter c) ws f = byte-first 8 refl refl outCharacter (omega arith) (λ w number. rw number) c ws f
+  action-first (outValue k) ws f = byte-first 9 refl refl outValue (omega arith) (λ w number. rw number) k ws f
+  action-first beginSequence ws f = single 10 refl refl 10 ws beginSequence refl refl
+  action-first useSequence ws f = single 11 refl refl 11 ws useSequence refl refl
+  action-first (call n) ws f = called-first 12 refl refl call (omega arith) (λ w number. rw number) n ws
+  action-first (tailCall n) ws f = called-first 13 refl refl tailCall (omega arith) (λ w number. rw number) n ws
   action-first (emission n) ws f =
       let holds = word-holds 14 (length n) 0 0 (omega arith) (f .0) (omega arith) (omega arith) in
       emission-first _ n ws (holds .number) (holds .first) (f .1)
@@ -128,8 +151,7 @@ counts-back t s b ht hs = omega arith
 
 body-skipped : (b ws : Words) → unpackSentences (length b) (b ++ ws) ≡ unpackSentences 0 ws
 unfolding unpackSentences
-body-skipped [] ws = refl
-body-skipped (x ∷ b) ws = body-skipped b ws
+body-skipped = skipped unpackSentences (λ n w ws. refl)
 
 module _ (limit : ℕ) (metric : Metric) (tests : List Test) (stores : List Store) (actions : List Action) (f : FitsSentence limit metric tests stores actions) where
   stores-reached : (ws : Words) → drop (length tests) (bodyWords tests stores actions ++ ws) ≡ map storeWord stores ++ (packActions actions ++ ws)

@@ -6,8 +6,8 @@ use Prim.Native.Nat.{ℕ, _+_, _*_, _/_, _%_, _<_}
 use native.Mathlib.Omega.{arith}
 use lib.Dec.{eqb}
 use Rattle.meaning.specs.Classes.{Class, digit, upper, lower, alphabetic, blank, classNumber}
-use Rattle.meaning.specs.Instructions.{Site, fromStart, fromEnd, fromPlace, look, compare, predicate, store, Length, null, whole, left, right, Span, go, select, outCharacter, outValue, call, tailCall}
-use Rattle.meaning.specs.Packing.{word, numberIn, firstIn, secondIn, thirdIn, siteRegister, siteOffset, siteOf, lengthNumber, lengthOf, classOf, truthBit, testOf, storeOf, actionOf}
+use Rattle.meaning.specs.Instructions.{Site, fromStart, fromEnd, fromPlace, look, compare, predicate, store, Length, null, whole, left, right}
+use Rattle.meaning.specs.Packing.{word, numberIn, firstIn, secondIn, thirdIn, siteRegister, siteOffset, siteOf, lengthNumber, lengthOf, classOf, truthBit, testOf, storeOf}
 
 -- THE FOUR BYTES
 
@@ -34,7 +34,7 @@ register-below (fromStart k) = omega arith
 register-below (fromEnd k) = omega arith
 register-below (fromPlace k) = omega arith
 
-length-back : (r : Length) → lengthOf (lengthNumber r) ≡ some r
+pub length-back : (r : Length) → lengthOf (lengthNumber r) ≡ some r
 length-back null = refl
 length-back whole = refl
 length-back left = refl
@@ -91,29 +91,10 @@ module _ (w : ℕ) (s : Site) where
   pub store-held : Holds w 4 (siteRegister s) (siteOffset s) 0 → storeOf w ≡ store s
   store-held h = rw (h .number, h .first, h .second, site-back s)
 
-module _ (w : ℕ) (s : Span) where
-  pub go-held : Holds w 5 (lengthNumber (s .register)) (s .add) (s .back) → actionOf w ≡ go s
-  go-held h = rw (h .number, h .first, h .second, h .third, length-back (s .register))
-
-  pub select-held : Holds w 6 (lengthNumber (s .register)) (s .add) (s .back) → actionOf w ≡ select s
-  select-held h = rw (h .number, h .first, h .second, h .third, length-back (s .register))
-
-pub character-held : (w c : ℕ) → Holds w 8 c 0 0 → actionOf w ≡ outCharacter c
-character-held w c h = rw (h .number, h .first)
-
-pub value-held : (w k : ℕ) → Holds w 9 k 0 0 → actionOf w ≡ outValue k
-value-held w k h = rw (h .number, h .first)
-
 -- a called function's number stands above the instruction's
 module _ (f : ℕ) where
   pub called-number : (n : ℕ) → n < 256 → numberIn (n + 256 * f) ≡ n
   called-number n h = omega arith
 
-  called-function : (n : ℕ) → n < 256 → (n + 256 * f) / 256 ≡ f
+  pub called-function : (n : ℕ) → n < 256 → (n + 256 * f) / 256 ≡ f
   called-function n h = omega arith
-
-  pub call-held : actionOf (12 + 256 * f) ≡ call f
-  call-held = rw (called-number 12 (omega arith), called-function 12 (omega arith))
-
-  pub tailCall-held : actionOf (13 + 256 * f) ≡ tailCall f
-  tailCall-held = rw (called-number 13 (omega arith), called-function 13 (omega arith))

@@ -48,34 +48,20 @@ pub follow-parsed : {A B : Type 0} (first : Parsed A) (next : A → List Placed 
 follow-parsed (stopped n k) next {v} {rest} e = never-both n k v rest e
 follow-parsed (parsed a ts) next e = record { value = a; between = ts; before = refl; after = e }
 
-pub check-zero : {A : Type 0} (n : ℕ) (t : Placed) (later : Parsed A) {v : A} {rest : List Placed}
-    → check n t later ≡ parsed v rest → n ≡ 0
-check-zero zero t later e = refl
-check-zero (suc n) t later {v} {rest} e = never-both (suc n) (t .place) v rest e
+pub check-parsed : {A : Type 0} (n : ℕ) (t : Placed) (later : Parsed A) {v : A} {rest : List Placed}
+    → check n t later ≡ parsed v rest → (n ≡ 0) × (later ≡ parsed v rest)
+check-parsed zero t later e = (refl, e)
+check-parsed (suc n) t later {v} {rest} e = never-both (suc n) (t .place) v rest e
 
-pub check-later : {A : Type 0} (n : ℕ) (t : Placed) (later : Parsed A) {v : A} {rest : List Placed}
-    → check n t later ≡ parsed v rest → later ≡ parsed v rest
-check-later zero t later e = e
-check-later (suc n) t later {v} {rest} e = never-both (suc n) (t .place) v rest e
+pub whether-parsed : {A : Type 0} (b : Bool) (t : Placed) (later : Parsed A) {v : A} {rest : List Placed}
+    → whether b t later ≡ parsed v rest → (b ≡ true) × (later ≡ parsed v rest)
+whether-parsed true t later e = (refl, e)
+whether-parsed false t later {v} {rest} e = never-both _ (t .place) v rest e
 
-pub whether-true : {A : Type 0} (b : Bool) (t : Placed) (later : Parsed A) {v : A} {rest : List Placed}
-    → whether b t later ≡ parsed v rest → b ≡ true
-whether-true true t later e = refl
-whether-true false t later {v} {rest} e = never-both _ (t .place) v rest e
-
-pub whether-later : {A : Type 0} (b : Bool) (t : Placed) (later : Parsed A) {v : A} {rest : List Placed}
-    → whether b t later ≡ parsed v rest → later ≡ parsed v rest
-whether-later true t later e = e
-whether-later false t later {v} {rest} e = never-both _ (t .place) v rest e
-
--- a fault of number 0 is none: its tests pass
-pub passed : (b : Bool) (n later : ℕ) → 0 < n → faultUnless b n later ≡ 0 → b ≡ true
-passed true n later p e = refl
+-- a fault of number 0 is none: its test passes, and so do those after it
+pub passed : (b : Bool) (n later : ℕ) → 0 < n → faultUnless b n later ≡ 0 → (b ≡ true) × (later ≡ 0)
+passed true n later p e = (refl, e)
 passed false n later p e = absurd (omega arith)
-
-pub passed-on : (b : Bool) (n later : ℕ) → 0 < n → faultUnless b n later ≡ 0 → later ≡ 0
-passed-on true n later p e = e
-passed-on false n later p e = absurd (omega arith)
 
 -- TOKENS
 
@@ -133,13 +119,8 @@ pub pass-parsed : {A : Type 0} (c : ℕ) (ts : List Placed) (next : List Placed 
     → pass c ts next ≡ parsed v rest → Passed A c ts next v rest
 pass-parsed c [] next {v} {rest} e = never-both 0 0 v rest e
 pass-parsed c (t ∷ ts) next e =
-    record {
-      place = t .place;
-      past = t .past;
-      tail = ts;
-      shape = ap (λ z. z ∷ ts) (standing-as t (sign-of c (t .token) (whether-true (isSign c (t .token)) t (next ts) e)));
-      after = whether-later (isSign c (t .token)) t (next ts) e;
-    }
+    let (there, after) = whether-parsed (isSign c (t .token)) t (next ts) e in
+    record { place = t .place; past = t .past; tail = ts; shape = ap (λ z. z ∷ ts) (standing-as t (sign-of c (t .token) there)); after = after }
 
 pub record NamePassed (A : Type 0) (fault : Name → ℕ) (ts : List Placed) (next : ℕ → Name → List Placed → Parsed A) (v : A) (rest : List Placed) : Type 0 where
   pub name : Name
@@ -156,14 +137,15 @@ name-step : {A : Type 0} (fault : Name → ℕ) (o : Option Name) (t : Placed) (
     → NamePassed A fault (t ∷ ts) next v rest
 name-step fault none t ts next {v} {rest} p e = never-both _ (t .place) v rest e
 name-step fault (some n) t ts next p e =
+    let (faultless, after) = check-parsed (fault n) t (next (t .place) n ts) e in
     record {
       name = n;
       place = t .place;
       past = t .past;
       tail = ts;
       shape = ap (λ z. z ∷ ts) (standing-as t (name-of (t .token) p));
-      faultless = check-zero (fault n) t (next (t .place) n ts) e;
-      after = check-later (fault n) t (next (t .place) n ts) e;
+      faultless = faultless;
+      after = after;
     }
 
 pub name-parsed : {A : Type 0} (fault : Name → ℕ) (ts : List Placed) (next : ℕ → Name → List Placed → Parsed A) {v : A} {rest : List Placed}

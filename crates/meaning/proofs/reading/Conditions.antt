@@ -16,7 +16,7 @@ use Rattle.meaning.specs.Allowed.{member, spelledIdentifier, maxIdentifi
 use Rattle.meaning.specs.Tokens.{Token, functionName, word, quoted, sign, textEnd, malformed, Placed}
 use Rattle.meaning.specs.Grammar.{standing, symbolWord, truthByte, truthString, IsCondition, isCondition, IsConditions, noConditions, conditionThen}
 use Rattle.meaning.specs.Reading.{Parsed, stopped, parsed, follow, isSign, passSymbol, symbolFault, passTruth, truthOn, truthOf, truthIn, withClass, condition, atComma, conditions, pass, passName, lengthFault}
-use Rattle.meaning.proofs.reading.Basics.{both-left, both-right, both-true, impossible, no-value, never-both, check-zero, check-later, passed, passed-on, Followed, follow-parsed, Passed, pass-parsed, NamePassed, name-parsed, TokenView, aString, aSymbol, aPart, another, view, sign-of, standing-as}
+use Rattle.meaning.proofs.reading.Basics.{both-left, both-right, both-true, impossible, no-value, never-both, check-parsed, passed, Followed, follow-parsed, Passed, pass-parsed, NamePassed, name-parsed, TokenView, aString, aSymbol, aPart, another, view, sign-of, standing-as}
 use Rattle.meaning.proofs.laws.Choosing.{same-bytes}
 use Rattle.meaning.proofs.reading.Lists.{member-every}
 use Rattle.meaning.proofs.reading.Sound.{soundTokens, sound-rest, spelled-identifier-short}
@@ -37,6 +37,7 @@ symbol-step : {A : Type 0} (symbols : List Name) {token : Token} (place past : �
     → SymbolPassed A symbols (standing token place past ∷ ts) next v rest
 symbol-step symbols place past ts next {v} {rest} (aString text) e = never-both 3 place v rest e
 symbol-step symbols place past ts next (aSymbol b x) e =
+    let (faultless, after) = check-parsed (symbolFault symbols (b ∷ x)) (standing (symbolWord b x) place past) (next (b ∷ x) ts) e in
     record {
       byte = b;
       bytes = x;
@@ -44,8 +45,8 @@ symbol-step symbols place past ts next (aSymbol b x) e =
       past = past;
       tail = ts;
       shape = refl;
-      faultless = check-zero (symbolFault symbols (b ∷ x)) (standing (symbolWord b x) place past) (next (b ∷ x) ts) e;
-      after = check-later (symbolFault symbols (b ∷ x)) (standing (symbolWord b x) place past) (next (b ∷ x) ts) e;
+      faultless = faultless;
+      after = after;
     }
 symbol-step symbols place past ts next {v} {rest} (aPart b x) e = never-both 3 place v rest e
 symbol-step symbols place past ts next {v} {rest} (another token n) e = never-both _ place v rest (rw n at e)
@@ -165,17 +166,11 @@ module _ {class : Class} {x : Name} {c : Condition} {rest : List Placed} where
         value = cc;
       }
 
-  closing-colon : {ts : List Placed}
-      → (p₄ : Passed Condition 62 ts (afterClose class x) c rest)
-      → (p₅ : Passed Condition 58 (p₄ .tail) (afterColon class x) c rest)
-      → Closing class x ts c rest
-  closing-colon p₄ p₅ = closing-truth p₄ p₅ (truth-parsed (p₅ .tail) (afterTruth class x) (p₅ .after))
-
-  closing-bracket : {ts : List Placed} → (p₄ : Passed Condition 62 ts (afterClose class x) c rest) → Closing class x ts c rest
-  closing-bracket p₄ = closing-colon p₄ (pass-parsed 58 (p₄ .tail) (afterColon class x) (p₄ .after))
-
   closing : (ts : List Placed) → afterVariable class x ts ≡ parsed c rest → Closing class x ts c rest
-  closing ts e = closing-bracket (pass-parsed 62 ts (afterClose class x) e)
+  closing ts e =
+      let p₄ = pass-parsed 62 ts (afterClose class x) e in
+      let p₅ = pass-parsed 58 (p₄ .tail) (afterColon class x) (p₄ .after) in
+      closing-truth p₄ p₅ (truth-parsed (p₅ .tail) (afterTruth class x) (p₅ .after))
 
 pub record ConditionRead (symbols : List Name) (ts : List Placed) (c : Condition) (rest : List Placed) : Type 0 where
   pub derived : IsCondition ts c rest
@@ -207,33 +202,18 @@ module _ (symbols : List Name) {c : Condition} {rest : List Placed} where
         known =
             rw (← (p₄ .value))
             (passed (member (p₃ .byte ∷ p₃ .bytes) symbols) 7 0 (omega arith)
-            (passed-on (leb (length (p₃ .byte ∷ p₃ .bytes)) maxIdentifier) 4 _ (omega arith) (p₃ .faultless)));
+            (passed (leb (length (p₃ .byte ∷ p₃ .bytes)) maxIdentifier) 4 _ (omega arith) (p₃ .faultless) .1) .0);
         sound = sound-six _ _ _ _ _ _ rest (rw shape at s);
       }
 
-  condition-class : {ts : List Placed} → soundTokens ts ≡ true
-      → (p₁ : Passed Condition 60 ts (afterOpen symbols) c rest)
-      → (p₂ : NamePassed Condition (λ n. lengthFault n 0) (p₁ .tail) (afterPredicate symbols) c rest)
-      → (k : (class : Class) × (predicateOf (p₂ .name) ≡ some class) × (passSymbol symbols (p₂ .tail) (afterVariable class) ≡ parsed c rest))
-      → ConditionRead symbols ts c rest
-  condition-class s p₁ p₂ k =
-      let p₃ = symbol-parsed symbols (p₂ .tail) (afterVariable (k .0)) (k .2) in
-      condition-whole s p₁ p₂ (k .0) (k .1) p₃ (closing (p₃ .tail) (p₃ .after))
-
-  condition-name : {ts : List Placed} → soundTokens ts ≡ true
-      → (p₁ : Passed Condition 60 ts (afterOpen symbols) c rest)
-      → (p₂ : NamePassed Condition (λ n. lengthFault n 0) (p₁ .tail) (afterPredicate symbols) c rest)
-      → ConditionRead symbols ts c rest
-  condition-name s p₁ p₂ =
-      condition-class s p₁ p₂
-      (class-parsed (predicateOf (p₂ .name)) (p₂ .place) (λ class. passSymbol symbols (p₂ .tail) (afterVariable class)) (p₂ .after))
-
-  condition-open : {ts : List Placed} → soundTokens ts ≡ true → (p₁ : Passed Condition 60 ts (afterOpen symbols) c rest) → ConditionRead symbols ts c rest
-  condition-open s p₁ = condition-name s p₁ (name-parsed (λ n. lengthFault n 0) (p₁ .tail) (afterPredicate symbols) (p₁ .after))
-
   condition-sound : (ts : List Placed) → soundTokens ts ≡ true → condition symbols ts ≡ parsed c rest → ConditionRead symbols ts c rest
   unfolding condition
-  condition-sound ts s e = condition-open s (pass-parsed 60 ts (afterOpen symbols) e)
+  condition-sound ts s e =
+      let p₁ = pass-parsed 60 ts (afterOpen symbols) e in
+      let p₂ = name-parsed (λ n. lengthFault n 0) (p₁ .tail) (afterPredicate symbols) (p₁ .after) in
+      let k = class-parsed (predicateOf (p₂ .name)) (p₂ .place) (λ class. passSymbol symbols (p₂ .tail) (afterVariable class)) (p₂ .after) in
+      let p₃ = symbol-parsed symbols (p₂ .tail) (afterVariable (k .0)) (k .2) in
+      condition-whole s p₁ p₂ (k .0) (k .1) p₃ (closing {class = k .0} {x = p₃ .byte ∷ p₃ .bytes} (p₃ .tail) (p₃ .after))
 
 -- PREDICATES' NAMES
 
@@ -346,19 +326,13 @@ module _ (left : ℕ) (symbols : List Name) {cs : List Condition} {rest : List P
           sound = rw left at (d .sound);
         }
 
-    with-condition : (place past : ℕ) {ts : List Placed}
-        → (p : Followed Condition (List Condition) (condition symbols ts) (afterCondition left symbols) cs rest)
-        → ConditionRead symbols ts (p .value) (p .between)
-        → ConditionsRead (suc left) symbols (standing (sign 44) place past ∷ ts) cs rest
-    with-condition place past p r =
-        let q = follow-parsed (conditions left symbols (p .between)) (afterConditions (p .value)) (p .after) in
-        with-conditions place past (p .value) r q (later (p .between) (q .value) (q .between) (r .sound) (q .before))
-
     with-comma : (place past : ℕ) (ts : List Placed) → soundTokens ts ≡ true → afterComma left symbols (standing (sign 44) place past) ts ≡ parsed cs rest
         → ConditionsRead (suc left) symbols (standing (sign 44) place past ∷ ts) cs rest
     with-comma place past ts s e =
         let p = follow-parsed (condition symbols ts) (afterCondition left symbols) e in
-        with-condition place past p (condition-sound symbols ts s (p .before))
+        let r = condition-sound symbols ts s (p .before) in
+        let q = follow-parsed (conditions left symbols (p .between)) (afterConditions (p .value)) (p .after) in
+        with-conditions place past (p .value) r q (later (p .between) (q .value) (q .between) (r .sound) (q .before))
 
     conditions-step : {ts : List Placed} → soundTokens ts ≡ true → AtComma ts (afterComma left symbols) cs rest → ConditionsRead (suc left) symbols ts cs rest
     conditions-step s (without e l) = without-comma (suc left) symbols s e l

@@ -14,7 +14,7 @@ use Rattle.meaning.specs.Tree.{Expression}
 use Rattle.meaning.specs.Allowed.{isByte, member, itemsIn, nesting, spelledItems, comingAfter, comingAfterAll, whereSome, spelledIdentifier, maxItems, maxNesting, maxIdentifier}
 use Rattle.meaning.specs.Grammar.{written}
 use Rattle.meaning.specs.Reading.{Item, characters, symbolItem, partItem, noItem, isItem, Progress, itemCount, comingPast, comingOr, pastItem, itemFault, faultUnless, thenItem}
-use Rattle.meaning.proofs.reading.Basics.{both-left, both-right, both-true, impossible, passed, passed-on}
+use Rattle.meaning.proofs.reading.Basics.{both-left, both-right, both-true, impossible, passed}
 use Rattle.meaning.proofs.laws.Choosing.{same-bytes}
 use Rattle.meaning.proofs.reading.Lists.{both-assoc, member-every}
 use Rattle.meaning.proofs.reading.Sound.{soundItem, spelled-identifier-short}
@@ -34,7 +34,7 @@ unfolding written itemsIn
 written-items [] e = sym (zero-add (itemsIn e))
 written-items (c ∷ text) e = rw (written-items text e) (sym (suc-add (length text) (itemsIn e)))
 
-pub written-nesting : (text : Bytes) (e : Expression) → nesting (written text e) ≡ nesting e
+written-nesting : (text : Bytes) (e : Expression) → nesting (written text e) ≡ nesting e
 unfolding written nesting
 written-nesting [] e = refl
 written-nesting (c ∷ text) e = written-nesting text e
@@ -72,7 +72,7 @@ item-items (symbolItem x) e = omega arith
 item-items (partItem x) e = omega arith
 item-items noItem e = omega arith
 
-item-nesting : (item : Item) (e : Expression) → nesting (thenItem item e) ≡ nesting e
+pub item-nesting : (item : Item) (e : Expression) → nesting (thenItem item e) ≡ nesting e
 unfolding nesting
 item-nesting (characters text) e = written-nesting text e
 item-nesting (symbolItem x) e = refl
@@ -110,21 +110,22 @@ variable-room : (x : Name) (items later : ℕ) → faultUnless (both (leb (lengt
     → (items + 1 ≤ maxItems) × (later ≡ 0)
 variable-room x items later z =
     let limits : Bool = both (leb (length x) maxIdentifier) (leb (items + 1) maxItems) in
-    (leb-true _ _ (both-right (leb (length x) maxIdentifier) _ (passed limits 4 later (omega arith) z)), passed-on limits 4 later (omega arith) z)
+    let (fits, others) = passed limits 4 later (omega arith) z in
+    (leb-true _ _ (both-right (leb (length x) maxIdentifier) _ fits), others)
 
 pub item-fits : (symbols : List Name) (so : Progress) (item : Item) → soundItem item ≡ true → isItem item ≡ true
     → itemFault symbols so item ≡ 0 → ItemFits symbols so item
 item-fits symbols so (characters text) s i z =
-    record { room = leb-true _ _ (passed (leb (so .items + length text) maxItems) 4 0 (omega arith) z); spelled = s; order = refl }
+    record { room = leb-true _ _ (passed (leb (so .items + length text) maxItems) 4 0 (omega arith) z .0); spelled = s; order = refl }
 item-fits symbols so (symbolItem x) s i z =
     let (room, known) = variable-room x (so .items) _ z in
-    record { room = room; spelled = passed (member x symbols) 7 0 (omega arith) known; order = refl }
+    record { room = room; spelled = passed (member x symbols) 7 0 (omega arith) known .0; order = refl }
 item-fits symbols so (partItem x) s i z =
     let (room, comes) = variable-room x (so .items) _ z in
     record {
       room = room;
       spelled = refl;
-      order = some-or (comingAfter x (so .coming)) (passed (isSome (comingAfter x (so .coming))) 7 0 (omega arith) comes);
+      order = some-or (comingAfter x (so .coming)) (passed (isSome (comingAfter x (so .coming))) 7 0 (omega arith) comes .0);
     }
 item-fits symbols so noItem s i z = impossible i
 

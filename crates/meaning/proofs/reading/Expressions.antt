@@ -14,7 +14,7 @@ use Rattle.meaning.specs.Allowed.{itemsIn, nesting, spelledItems, spelle
 use Rattle.meaning.specs.Tokens.{Token, functionName, sign, Placed}
 use Rattle.meaning.specs.Grammar.{standing, IsExpression, noItems, stringThen, symbolThen, partThen, callThen}
 use Rattle.meaning.specs.Reading.{Parsed, stopped, parsed, follow, check, pass, passName, itemOf, isItem, isSign, Progress, Items, Called, pastItem, pastCall, itemFault, callFault, calledFault, thenItem, withFirst, call, expression}
-use Rattle.meaning.proofs.reading.Basics.{both-left, both-right, both-true, impossible, never-both, check-zero, check-later, passed, passed-on, Followed, follow-parsed, Passed, pass-parsed, NamePassed, name-parsed, TokenView, aString, aSymbol, aPart, another, view, sign-of, standing-as}
+use Rattle.meaning.proofs.reading.Basics.{both-left, both-right, both-true, impossible, never-both, check-parsed, passed, Followed, follow-parsed, Passed, pass-parsed, NamePassed, name-parsed, TokenView, aString, aSymbol, aPart, another, view, sign-of, standing-as}
 use Rattle.meaning.proofs.reading.Sound.{soundTokens, sound-first, sound-rest, item-sound, name-spelled}
 use Rattle.meaning.proofs.reading.ExpressionItems.{Leads, item-fits, item-leads}
 
@@ -92,25 +92,25 @@ module _ (next : Reader) (symbols : List Name) (later : Sound next symbols) (dep
         let end = r .after in
         let left : r .tail ≡ rest = cc in
         let made : record { place = p .place; name = p .name; argument = q .value .expression; progress = q .value .progress } ≡ c = cc in
+        let (short, unreserved) = passed (leb (length (p .name)) maxName) 4 _ (omega arith) (p .faultless) in
         let shape : q .between ≡ standing (sign 62) (r .place) (r .past) ∷ rest = r .shape ∙ ap (λ z. standing (sign 62) (r .place) (r .past) ∷ z) left in
         record {
           derived = λ e more d. rw (p .shape, standing-as t o, ← made) (callThen (rw shape at (a .derived)) d);
           leads = rw (← made) (a .leads);
           spelled =
               rw (← made)
-              (both-true
-              (name-spelled (p .name) (sound-first (standing (functionName (p .name)) (p .place) (p .past)) (p .tail) s)
-              (passed (leb (length (p .name)) maxName) 4 _ (omega arith) (p .faultless)))
-              (passed (not (isPredicate (p .name))) 5 0 (omega arith)
-              (passed-on (leb (length (p .name)) maxName) 4 _ (omega arith) (p .faultless))));
+              (both-true (name-spelled (p .name) (sound-first (standing (functionName (p .name)) (p .place) (p .past)) (p .tail) s) short)
+              (passed (not (isPredicate (p .name))) 5 0 (omega arith) unreserved .0));
           sound = sound-rest (standing (sign 62) (r .place) (r .past)) rest (rw shape at (a .sound));
         }
 
-    call-argued : {t : Placed} {ts : List Placed} → t .token ≡ sign 60 → callFault depth so ≡ 0 → soundTokens ts ≡ true
-        → (p : NamePassed Called calledFault ts (argued next depth so) c rest)
-        → CallRead symbols depth so (t ∷ ts) c rest
-    call-argued {t} {ts} o z s p =
-        let limits = passed (both (ltb depth maxNesting) (leb (so .items + 1) maxItems)) 4 0 (omega arith) z in
+    call-sound : (t : Placed) (ts : List Placed) → t .token ≡ sign 60 → soundTokens ts ≡ true
+        → call next depth so t ts ≡ parsed c rest → CallRead symbols depth so (t ∷ ts) c rest
+    call-sound t ts o s e =
+        let named = passName calledFault ts (argued next depth so) in
+        let (z, after) = check-parsed (callFault depth so) t named e in
+        let p = name-parsed calledFault ts (argued next depth so) after in
+        let limits = passed (both (ltb depth maxNesting) (leb (so .items + 1) maxItems)) 4 0 (omega arith) z .0 in
         let deep = ltb-true depth maxNesting (both-left (ltb depth maxNesting) (leb (so .items + 1) maxItems) limits) in
         let room = leb-true (so .items + 1) maxItems (both-right (ltb depth maxNesting) (leb (so .items + 1) maxItems) limits) in
         let sound : soundTokens (standing (functionName (p .name)) (p .place) (p .past) ∷ p .tail) ≡ true = rw (p .shape) at s in
@@ -119,15 +119,6 @@ module _ (next : Reader) (symbols : List Name) (later : Sound next symbols) (dep
         (later (suc depth) (pastCall so) (p .tail) (q .value) (q .between) room deep
         (sound-rest (standing (functionName (p .name)) (p .place) (p .past)) (p .tail) sound) (q .before))
         (pass-parsed 62 (q .between) (closed (p .place) (p .name) (q .value)) (q .after))
-
-    call-sound : (t : Placed) (ts : List Placed) → t .token ≡ sign 60 → soundTokens ts ≡ true
-        → call next depth so t ts ≡ parsed c rest → CallRead symbols depth so (t ∷ ts) c rest
-    call-sound t ts o s e =
-        call-argued o
-        (check-zero (callFault depth so) t (passName calledFault ts (argued next depth so)) e)
-        s
-        (name-parsed calledFault ts (argued next depth so)
-        (check-later (callFault depth so) t (passName calledFault ts (argued next depth so)) e))
 
   module _ {i : Items} {rest : List Placed} where
     after-item : (t : Placed) (ts : List Placed) → isItem (itemOf (t .token)) ≡ true → depth ≤ maxNesting → soundTokens (t ∷ ts) ≡ true
@@ -183,7 +174,8 @@ module _ (next : Reader) (symbols : List Name) (later : Sound next symbols) (dep
         ≡ parsed i rest
         → ExpressionRead symbols depth so (t ∷ ts) i rest
     expression-step t ts true b p q m d s e =
-        after-item t ts p d s (check-zero (itemFault symbols so (itemOf (t .token))) t _ e) (check-later (itemFault symbols so (itemOf (t .token))) t _ e)
+        let (z, after) = check-parsed (itemFault symbols so (itemOf (t .token))) t _ e in
+        after-item t ts p d s z after
     expression-step t ts false true p q m d s e =
         let f = follow-parsed (call next depth so t ts)
         (λ c rest. withFirst (thenCall (c .place) (c .name) (c .argument)) (next depth (c .progress) rest)) e

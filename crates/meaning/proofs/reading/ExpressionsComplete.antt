@@ -6,14 +6,15 @@ use mathlib.Core.List.{List, _∷_}
 use mathlib.Core.Option.{some}
 use native.Mathlib.Omega.{arith}
 use borrow.Author.Tests.{le-leb, lt-ltb}
+use lib.Dec.{eqb}
 use lib.ListN.{length}
 use Rattle.meaning.specs.Choice.{Name, both, every}
 use Rattle.meaning.specs.Tree.{Expression, end, thenCharacter, thenSymbol, thenPart, thenCall}
 use Rattle.meaning.specs.Names.{isPredicate}
 use Rattle.meaning.specs.Allowed.{itemsIn, nesting, spelledItems, spelledName, comingAfter, comingAfterAll, spelledIdentifier, maxItems, maxNesting}
-use Rattle.meaning.specs.Tokens.{sign, Placed}
-use Rattle.meaning.specs.Grammar.{standing, IsExpression, noItems, stringThen, symbolThen, partThen, callThen}
-use Rattle.meaning.specs.Reading.{parsed, characters, symbolItem, partItem, itemOf, isItem, isSign, Progress, pastItem, pastCall, callFault, calledFault, expression}
+use Rattle.meaning.specs.Tokens.{functionName, quoted, sign, Placed}
+use Rattle.meaning.specs.Grammar.{standing, symbolWord, partWord, IsExpression, noItems, stringThen, symbolThen, partThen, callThen}
+use Rattle.meaning.specs.Reading.{parsed, itemOf, isItem, thenItem, isSign, Progress, pastItem, pastCall, callFault, calledFault, expression}
 use Rattle.meaning.proofs.reading.Basics.{both-left, both-right}
 use Rattle.meaning.proofs.reading.Sound.{spelled-name-short}
 use Rattle.meaning.proofs.reading.ExpressionItems.{Leads, item-led, where-some, coming-every}
@@ -85,14 +86,32 @@ call-led symbols depth so place n a e then c l =
           };
     }
 
--- EVERY STEP EATS A TOKEN
+-- ITEMS
 
-expression-shorter : {ts rest : List Placed} {e : Expression} → IsExpression ts e rest → length rest ≤ length ts
-expression-shorter noItems = omega arith
-expression-shorter (stringThen d) = omega (arith, expression-shorter d)
-expression-shorter (symbolThen d) = omega (arith, expression-shorter d)
-expression-shorter (partThen d) = omega (arith, expression-shorter d)
-expression-shorter (callThen c d) = omega (arith, expression-shorter d, expression-shorter c)
+-- the grammar's expressions, where strings and variables are one kind of item
+pub data IsItemed : List Placed → Expression → List Placed → Type 0 where
+  nothingMore : {ts : List Placed} → IsItemed ts end ts
+  oneItemThen : {t : Placed} {ts rest : List Placed} {e : Expression}
+      → isItem (itemOf (t .token)) ≡ true
+      → IsItemed ts e rest
+      → IsItemed (t ∷ ts) (thenItem (itemOf (t .token)) e) rest
+  calledThen : {ts ts₁ rest : List Placed} {at₁ past₁ at₂ past₂ at₃ past₃ : ℕ} {n : Name} {a e : Expression}
+      → IsItemed ts a (standing (sign 62) at₃ past₃ ∷ ts₁)
+      → IsItemed ts₁ e rest
+      → IsItemed (standing (sign 60) at₁ past₁ ∷ standing (functionName n) at₂ past₂ ∷ ts) (thenCall at₂ n a e) rest
+
+pub itemed : {ts rest : List Placed} {e : Expression} → IsExpression ts e rest → IsItemed ts e rest
+itemed noItems = nothingMore
+itemed (stringThen {place = place} {past = past} {text = text} d) = oneItemThen {t = standing (quoted text) place past} refl (itemed d)
+itemed (symbolThen {place = place} {past = past} {b = b} {x = x} d) = oneItemThen {t = standing (symbolWord b x) place past} refl (itemed d)
+itemed (partThen {place = place} {past = past} {b = b} {x = x} d) = oneItemThen {t = standing (partWord b x) place past} refl (itemed d)
+itemed (callThen k d) = calledThen (itemed k) (itemed d)
+
+-- every step eats a token
+itemed-shorter : {ts rest : List Placed} {e : Expression} → IsItemed ts e rest → length rest ≤ length ts
+itemed-shorter nothingMore = omega arith
+itemed-shorter (oneItemThen item d) = omega (arith, itemed-shorter d)
+itemed-shorter (calledThen k d) = omega (arith, itemed-shorter d, itemed-shorter k)
 
 -- READING
 
@@ -104,35 +123,33 @@ pub record Ends (rest : List Placed) : Type 0 where
   pub none-item : isItem (itemOf (first .token)) ≡ false
   pub none-call : isSign 60 (first .token) ≡ false
 
-abbrev closes : (place past : ℕ) (rest : List Placed) → Ends (standing (sign 62) place past ∷ rest)
-closes place past rest = record { first = standing (sign 62) place past; others = rest; shape = refl; none-item = refl; none-call = refl }
+pub ends-with : (c place past : ℕ) (rest : List Placed) → eqb c 60 ≡ false → Ends (standing (sign c) place past ∷ rest)
+ends-with c place past rest e = record { first = standing (sign c) place past; others = rest; shape = refl; none-item = refl; none-call = e }
 
 module _ (symbols : List Name) (s : every spelledIdentifier symbols ≡ true) where
-  pub expression-complete : {ts rest : List Placed} {e : Expression} → IsExpression ts e rest → Ends rest
+  itemed-complete : {ts rest : List Placed} {e : Expression} → IsItemed ts e rest → Ends rest
       → (bound depth : ℕ) (so then : Progress) → every spelledIdentifier (so .coming) ≡ true → length ts ≤ bound
       → Leads symbols depth so e then
       → expression bound symbols depth so ts ≡ parsed (record { expression = e; progress = then }) rest
   unfolding expression
-  expression-complete (noItems {ts = ts}) h zero depth so then c b l = absurd (omega (arith, ap length (h .shape)))
-  expression-complete (stringThen d) h zero depth so then c b l = absurd (omega arith)
-  expression-complete (symbolThen d) h zero depth so then c b l = absurd (omega arith)
-  expression-complete (partThen d) h zero depth so then c b l = absurd (omega arith)
-  expression-complete (callThen k d) h zero depth so then c b l = absurd (omega arith)
-  expression-complete noItems h (suc bound) depth so then c b l = rw (h .shape, h .none-item, h .none-call, leads-end symbols depth so then l)
-  expression-complete (stringThen {text = text} {e = e} d) h (suc bound) depth so then c b l =
-      let i = item-led symbols depth so (characters text) e then s c l in
-      rw (i .faultless, expression-complete d h bound depth (pastItem (characters text) so) then (i .coming) (omega arith) (i .leads))
-  expression-complete (symbolThen {b = y} {x = x} {e = e} d) h (suc bound) depth so then c b l =
-      let i = item-led symbols depth so (symbolItem (y ∷ x)) e then s c l in
-      rw (i .faultless, expression-complete d h bound depth (pastItem (symbolItem (y ∷ x)) so) then (i .coming) (omega arith) (i .leads))
-  expression-complete (partThen {b = y} {x = x} {e = e} d) h (suc bound) depth so then c b l =
-      let i = item-led symbols depth so (partItem (y ∷ x)) e then s c l in
-      rw (i .faultless, expression-complete d h bound depth (pastItem (partItem (y ∷ x)) so) then (i .coming) (omega arith) (i .leads))
-  expression-complete (callThen {ts₁ = ts₁} {at₂ = at₂} {at₃ = at₃} {past₃ = past₃} {n = n} {a = a} {e = e} k d) h (suc bound) depth so then c b l =
+  itemed-complete (nothingMore {ts = ts}) h zero depth so then c b l = absurd (omega (arith, ap length (h .shape)))
+  itemed-complete (oneItemThen item d) h zero depth so then c b l = absurd (omega arith)
+  itemed-complete (calledThen k d) h zero depth so then c b l = absurd (omega arith)
+  itemed-complete nothingMore h (suc bound) depth so then c b l = rw (h .shape, h .none-item, h .none-call, leads-end symbols depth so then l)
+  itemed-complete (oneItemThen {t = t} {e = e} item d) h (suc bound) depth so then c b l =
+      let i = item-led symbols depth so (itemOf (t .token)) e then s c l in
+      rw (item, i .faultless, itemed-complete d h bound depth (pastItem (itemOf (t .token)) so) then (i .coming) (omega arith) (i .leads))
+  itemed-complete (calledThen {ts₁ = ts₁} {at₂ = at₂} {at₃ = at₃} {past₃ = past₃} {n = n} {a = a} {e = e} k d) h (suc bound) depth so then c b l =
       let i = call-led symbols depth so at₂ n a e then c l in
       rw (
         i .faultless,
         i .named,
-        expression-complete k (closes at₃ past₃ ts₁) bound (suc depth) (pastCall so) (i .between) c (omega arith) (i .inner),
-        expression-complete d h bound depth (i .between) then (i .coming) (omega (arith, expression-shorter k)) (i .outer),
+        itemed-complete k (ends-with 62 at₃ past₃ ts₁ refl) bound (suc depth) (pastCall so) (i .between) c (omega arith) (i .inner),
+        itemed-complete d h bound depth (i .between) then (i .coming) (omega (arith, itemed-shorter k)) (i .outer),
       )
+
+  pub expression-complete : {ts rest : List Placed} {e : Expression} → IsExpression ts e rest → Ends rest
+      → (bound depth : ℕ) (so then : Progress) → every spelledIdentifier (so .coming) ≡ true → length ts ≤ bound
+      → Leads symbols depth so e then
+      → expression bound symbols depth so ts ≡ parsed (record { expression = e; progress = then }) rest
+  expression-complete d = itemed-complete (itemed d)

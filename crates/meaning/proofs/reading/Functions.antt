@@ -1,6 +1,6 @@
 -- The readers of a function's sentences and of the functions read exactly what the grammar and the limits allow.
 use Prim.Native.Nat.{ℕ, zero, suc, _≤_}
-use mathlib.Core.Path.{_≡_, refl, subst}
+use mathlib.Core.Path.{_≡_, refl, _∙_, subst}
 use mathlib.Core.Bool.{Bool, true, false}
 use mathlib.Core.List.{List, [], _∷_}
 use native.Mathlib.Omega.{arith}
@@ -13,9 +13,9 @@ use Rattle.meaning.specs.Allowed.{allowedSentence}
 use Rattle.meaning.specs.Tokens.{Token, functionName, word, quoted, sign, textEnd, malformed, Placed}
 use Rattle.meaning.specs.Grammar.{standing, IsSentence, IsSentences, lastSentence, lastSentenceParted, sentenceThen}
 use Rattle.meaning.specs.Reading.{Parsed, stopped, parsed, follow, whether, isSign, begins, sentence, atSentence, afterSemicolon, afterSentence, sentences}
-use Rattle.meaning.proofs.reading.Basics.{both-left, both-right, both-true, impossible, never-both, whether-true, whether-later, Followed, follow-parsed, sign-of, standing-as}
+use Rattle.meaning.proofs.reading.Basics.{both-left, both-right, both-true, impossible, never-both, whether-parsed, Followed, follow-parsed, sign-of, standing-as}
 use Rattle.meaning.proofs.reading.Sound.{soundTokens, sound-rest}
-use Rattle.meaning.proofs.reading.ExpressionsComplete.{Ends}
+use Rattle.meaning.proofs.reading.ExpressionsComplete.{ends-with}
 use Rattle.meaning.proofs.reading.Sentences.{SentenceRead, sentence-sound, sentence-complete, Begins, sentence-begins}
 
 -- SENTENCES
@@ -95,8 +95,8 @@ module _ (left : ℕ) (more : More)
         one-sentence a (cc) us (cc) (sound-rest t us k)
         (lastSentence (subst (λ z. IsSentence ts s (z ∷ us)) (standing-as t (sign-of 125 (t .token) p)) d))
     sentence-step t us false p a k d e =
-        after-semicolon t us (sign-of 59 (t .token) (whether-true (isSign 59 (t .token)) t (afterSemicolon more s us) e)) a (sound-rest t us k) d
-        (whether-later (isSign 59 (t .token)) t (afterSemicolon more s us) e)
+        let (there, after) = whether-parsed (isSign 59 (t .token)) t (afterSemicolon more s us) e in
+        after-semicolon t us (sign-of 59 (t .token) there) a (sound-rest t us k) d after
 
     after-sentence : (us : List Placed) → SentenceRead ts s us → afterSentence more s us ≡ parsed ss rest → SentencesRead (suc left) ts ss rest
     after-sentence [] r e = never-both 0 0 ss rest e
@@ -105,7 +105,7 @@ module _ (left : ℕ) (more : More)
 at-sentence : (ts : List Placed) (next : Placed → Parsed (List Sentence)) {ss : List Sentence} {rest : List Placed}
     → atSentence ts next ≡ parsed ss rest → (t : Placed) × (next t ≡ parsed ss rest)
 at-sentence [] next {ss} {rest} e = never-both 0 0 ss rest e
-at-sentence (t ∷ ts) next e = (t, whether-later (begins (t .token)) t (next t) e)
+at-sentence (t ∷ ts) next e = (t, whether-parsed (begins (t .token)) t (next t) e .1)
 
 pub sentences-sound : (left : ℕ) (ts : List Placed) (ss : List Sentence) (rest : List Placed)
     → soundTokens ts ≡ true → sentences left ts ≡ parsed ss rest → SentencesRead left ts ss rest
@@ -121,9 +121,6 @@ sentences-sound (suc left) ts ss rest k e =
 
 at-begins : {ts : List Placed} (b : Begins ts) (next : Placed → Parsed (List Sentence)) → atSentence ts next ≡ next (b .first)
 at-begins b next = rw (b .shape, b .beginning)
-
-ends-with : (c place past : ℕ) (rest : List Placed) → eqb c 60 ≡ false → Ends (standing (sign c) place past ∷ rest)
-ends-with c place past rest e = record { first = standing (sign c) place past; others = rest; shape = refl; none-item = refl; none-call = e }
 
 closing-sign : (b : ℕ) (p q : Bool) → eqb b 44 ≡ p → eqb b 61 ≡ q → either p q ≡ true → eqb b 125 ≡ false
 closing-sign b true q e f h = rw (eqb-true b 44 e)
@@ -147,6 +144,16 @@ sentences-begin (sentenceThen d ds) = sentence-begins d
 more-sentences : (more : More) (s : Sentence) {ts : List Placed} (b : Begins ts) → afterSemicolon more s ts ≡ follow (more ts) (joined s)
 more-sentences more s b = rw (b .shape, begins-open (b .first .token) (b .beginning))
 
+-- the first sentence is read
+first-read : (left : ℕ) {c place past : ℕ} {ts rest : List Placed} {s : Sentence} → IsSentence ts s (standing (sign c) place past ∷ rest)
+    → eqb c 60 ≡ false → allowedSentence s ≡ true → sentences (suc left) ts ≡ afterSentence (sentences left) s (standing (sign c) place past ∷ rest)
+unfolding sentences
+first-read left {c} {place} {past} {ts} {rest} d e a =
+    rw (
+      at-begins (sentence-begins d) (λ t. follow (sentence ts) (afterSentence (sentences left))),
+      sentence-complete d (ends-with c place past rest e) a,
+    )
+
 -- sentences that the grammar and the limits allow are read
 pub sentences-complete : (left : ℕ) {ts rest : List Placed} {ss : List Sentence} → IsSentences ts ss rest
     → every allowedSentence ss ≡ true → length ss ≤ left → sentences left ts ≡ parsed ss rest
@@ -154,20 +161,11 @@ unfolding sentences every
 sentences-complete zero (lastSentence d) a l = absurd (omega arith)
 sentences-complete zero (lastSentenceParted d) a l = absurd (omega arith)
 sentences-complete zero (sentenceThen d ds) a l = absurd (omega arith)
-sentences-complete (suc left) (lastSentence {ts = ts} {rest = rest} {place = place} {past = past} {s = s} d) a l =
-    rw (
-      at-begins (sentence-begins d) (λ t. follow (sentence ts) (afterSentence (sentences left))),
-      sentence-complete d (ends-with 125 place past rest refl) (both-left (allowedSentence s) true a),
-    )
-sentences-complete (suc left) (lastSentenceParted {ts = ts} {rest = rest} {place = place} {past = past} {place₁ = place₁} {past₁ = past₁} {s = s} d) a l =
-    rw (
-      at-begins (sentence-begins d) (λ t. follow (sentence ts) (afterSentence (sentences left))),
-      sentence-complete d (ends-with 59 place past (standing (sign 125) place₁ past₁ ∷ rest) refl) (both-left (allowedSentence s) true a),
-    )
-sentences-complete (suc left) (sentenceThen {ts = ts} {ts₁ = ts₁} {place = place} {past = past} {s = s} {ss = ss} d ds) a l =
-    rw (
-      at-begins (sentence-begins d) (λ t. follow (sentence ts) (afterSentence (sentences left))),
-      sentence-complete d (ends-with 59 place past ts₁ refl) (both-left (allowedSentence s) (every allowedSentence ss) a),
+sentences-complete (suc left) (lastSentence {s = s} d) a l = first-read left d refl (both-left (allowedSentence s) true a)
+sentences-complete (suc left) (lastSentenceParted {s = s} d) a l = first-read left d refl (both-left (allowedSentence s) true a)
+sentences-complete (suc left) (sentenceThen {s = s} {ss = ss} d ds) a l =
+    first-read left d refl (both-left (allowedSentence s) (every allowedSentence ss) a)
+    ∙ rw (
       more-sentences (sentences left) s (sentences-begin ds),
       sentences-complete left ds (both-right (allowedSentence s) (every allowedSentence ss) a) (omega arith),
     )

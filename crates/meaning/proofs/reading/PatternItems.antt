@@ -13,7 +13,7 @@ use Rattle.meaning.specs.Tree.{character, symbol, Element, letter, part}
 use Rattle.meaning.specs.Allowed.{isByte, spelledElement, spelledIdentifier, symbolsOf, symbolsFrom, partsOf, lettersIn, parted, distinct, member, added, maxLetters, maxSymbols, maxIdentifier}
 use Rattle.meaning.specs.Grammar.{charactersOf}
 use Rattle.meaning.specs.Reading.{Item, characters, symbolItem, partItem, noItem, elementsOf, patternFault, endsInPart}
-use Rattle.meaning.proofs.reading.Basics.{both-left, both-right, both-true, passed, passed-on}
+use Rattle.meaning.proofs.reading.Basics.{both-left, both-right, both-true, passed}
 use Rattle.meaning.proofs.reading.Lists.{every-append, both-comm, distinct-after, distinct-between, distinct-apart}
 use Rattle.meaning.proofs.reading.Sound.{soundItem, identifier-spelled, spelled-identifier-short}
 use Rattle.meaning.proofs.reading.PatternFacts.{PatternFacts, parts-append, letters-append, symbols-append, parted-letter, parted-part, characters-parts, characters-letters, characters-symbols, characters-spelled, parted-characters}
@@ -200,25 +200,26 @@ module _ (a : List Element) (x : Name) where
 pub item-allowed : (a : List Element) (item : Item) → PatternFacts a → soundItem item ≡ true → patternFault a item ≡ 0
     → PatternFacts (a ++ elementsOf item)
 item-allowed a (characters text) f s z =
-    characters-allowed a text f s (leb-true _ _ (passed (leb (lettersIn a + length text) maxLetters) 4 0 (omega arith) z))
+    characters-allowed a text f s (leb-true _ _ (passed (leb (lettersIn a + length text) maxLetters) 4 0 (omega arith) z .0))
 item-allowed a (symbolItem x) f s z =
     let limits : Bool =
     both (leb (length x) maxIdentifier)
     (both (leb (lettersIn a + 1) maxLetters) (leb (length (added x (symbolsOf a))) maxSymbols))
     in
-    let tests = passed limits 4 _ (omega arith) z in
+    let (tests, z₁) = passed limits 4 _ (omega arith) z in
     let rest = both-right (leb (length x) maxIdentifier) _ tests in
     symbol-allowed a x f
     (identifier-spelled x s (both-left (leb (length x) maxIdentifier) _ tests))
     (leb-true _ _ (both-left (leb (lettersIn a + 1) maxLetters) _ rest))
     (leb-true _ _ (both-right (leb (lettersIn a + 1) maxLetters) _ rest))
-    (passed (not (member x (partsOf a))) 6 0 (omega arith) (passed-on limits 4 _ (omega arith) z))
+    (passed (not (member x (partsOf a))) 6 0 (omega arith) z₁ .0)
 item-allowed a (partItem x) f s z =
-    let z₁ = passed-on (ltb (length (partsOf a)) 2) 3 _ (omega arith) z in
-    let tests = passed _ 6 0 (omega arith) (passed-on (leb (length x) maxIdentifier) 4 _ (omega arith) z₁) in
+    let (few, z₁) = passed (ltb (length (partsOf a)) 2) 3 _ (omega arith) z in
+    let (short, z₂) = passed (leb (length x) maxIdentifier) 4 _ (omega arith) z₁ in
+    let tests = passed _ 6 0 (omega arith) z₂ .0 in
     part-allowed a x f
-    (identifier-spelled x s (passed (leb (length x) maxIdentifier) 4 _ (omega arith) z₁))
-    (ltb-true _ _ (passed (ltb (length (partsOf a)) 2) 3 _ (omega arith) z))
+    (identifier-spelled x s short)
+    (ltb-true _ _ few)
     (both-left (not (member x (symbolsOf a ++ partsOf a))) _ tests)
     (both-right (not (member x (symbolsOf a ++ partsOf a))) _ tests)
 item-allowed a noItem f s z = rw (append-nil a) f

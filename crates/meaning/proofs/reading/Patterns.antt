@@ -11,7 +11,7 @@ use Rattle.meaning.specs.Allowed.{partsOf, parted}
 use Rattle.meaning.specs.Tokens.{Token, Placed}
 use Rattle.meaning.specs.Grammar.{standing, symbolWord, partWord, charactersOf, IsLetters, stringLetters, variableLetter, IsTemplate, lettersAlone, lettersThen, IsTemplateOrNone, noTemplate, someTemplate, IsPattern, noPart, onePart, twoParts}
 use Rattle.meaning.specs.Reading.{parsed, check, Item, noItem, itemOf, isItem, elementsOf, patternFault, pattern}
-use Rattle.meaning.proofs.reading.Basics.{impossible, never-both, check-zero, check-later, TokenView, aString, aSymbol, aPart, another, view}
+use Rattle.meaning.proofs.reading.Basics.{impossible, never-both, check-parsed, TokenView, aString, aSymbol, aPart, another, view}
 use Rattle.meaning.proofs.reading.Sound.{soundTokens, sound-first, sound-rest, item-sound}
 use Rattle.meaning.proofs.reading.PatternFacts.{PatternFacts, parts-append, characters-parts}
 use Rattle.meaning.proofs.reading.PatternItems.{item-allowed, item-faultless, facts-before}
@@ -43,10 +43,8 @@ module _ (before : List Element) (t : Placed) (ts : List Placed) {p : List Eleme
       → PatternRead before (t ∷ ts) p rest
   pattern-step true i f s later e =
       let item = itemOf (t .token) in
-      let r = later
-      (item-allowed before item f (item-sound (t .token) (sound-first t ts s)) (check-zero _ t _ e))
-      (sound-rest t ts s) (check-later (patternFault before item) t _ e)
-      in
+      let (faultless, after) = check-parsed (patternFault before item) t _ e in
+      let r = later (item-allowed before item f (item-sound (t .token) (sound-first t ts s)) faultless) (sound-rest t ts s) after in
       record {
         elements = elementsOf item ++ r .elements;
         whole = r .whole ∙ append-assoc before (elementsOf item) (r .elements);

@@ -135,37 +135,21 @@ module _ {ts : List Placed} {s : Sentence} {rest : List Placed} where
         sound = rw left at (d₃ .sound);
       }
 
-  sentence-equals : (p : Followed (List Element) Sentence (pattern [] ts) afterPattern s rest)
-      → PatternRead [] ts (p .value) (p .between)
-      → (q : Followed (List Condition) Sentence (conditions maxConditions (symbolsOf (p .value)) (p .between)) (afterConditions (p .value)) s rest)
-      → ConditionsRead maxConditions (symbolsOf (p .value)) (p .between) (q .value) (q .between)
-      → Passed Sentence 61 (q .between) (afterEquals (p .value) (q .value)) s rest
-      → SentenceRead ts s rest
-  sentence-equals p d₁ q d₂ r =
-      let e = follow-parsed (expression (length (r .tail)) (symbolsOf (p .value)) 0 (start (partsOf (p .value))) (r .tail))
-      (afterExpression (p .value) (q .value)) (r .after)
-      in
-      sentence-whole p d₁ q d₂ r e
-      (expression-sound (length (r .tail)) (symbolsOf (p .value)) 0 (start (partsOf (p .value))) (r .tail) (e .value) (e .between)
-      (omega arith) (omega arith) (sound-rest (standing (sign 61) (r .place) (r .past)) (r .tail) (rw (r .shape) at (d₂ .sound))) (e .before))
-
-  sentence-conditions : (p : Followed (List Element) Sentence (pattern [] ts) afterPattern s rest)
-      → PatternRead [] ts (p .value) (p .between)
-      → Followed (List Condition) Sentence (conditions maxConditions (symbolsOf (p .value)) (p .between)) (afterConditions (p .value)) s rest
-      → SentenceRead ts s rest
-  sentence-conditions p d₁ q =
-      sentence-equals p d₁ q (conditions-sound maxConditions (symbolsOf (p .value)) (p .between) (d₁ .sound) (q .before))
-      (pass-parsed 61 (q .between) (afterEquals (p .value) (q .value)) (q .after))
-
-  sentence-pattern : soundTokens ts ≡ true → Followed (List Element) Sentence (pattern [] ts) afterPattern s rest → SentenceRead ts s rest
-  sentence-pattern t p =
-      sentence-conditions p (pattern-sound [] ts empty-facts t (p .before))
-      (follow-parsed (conditions maxConditions (symbolsOf (p .value)) (p .between)) (afterConditions (p .value)) (p .after))
-
 -- what the sentence's reader reads is an allowed sentence of the grammar
 pub sentence-sound : (ts : List Placed) {s : Sentence} {rest : List Placed} → soundTokens ts ≡ true → sentence ts ≡ parsed s rest → SentenceRead ts s rest
 unfolding sentence
-sentence-sound ts t e = sentence-pattern t (follow-parsed (pattern [] ts) afterPattern e)
+sentence-sound ts t read =
+    let p = follow-parsed (pattern [] ts) afterPattern read in
+    let d₁ = pattern-sound [] ts empty-facts t (p .before) in
+    let symbols = symbolsOf (p .value) in
+    let parts = start (partsOf (p .value)) in
+    let q = follow-parsed (conditions maxConditions symbols (p .between)) (afterConditions (p .value)) (p .after) in
+    let d₂ = conditions-sound maxConditions symbols (p .between) (d₁ .sound) (q .before) in
+    let r = pass-parsed 61 (q .between) (afterEquals (p .value) (q .value)) (q .after) in
+    let e = follow-parsed (expression (length (r .tail)) symbols 0 parts (r .tail)) (afterExpression (p .value) (q .value)) (r .after) in
+    sentence-whole p d₁ q d₂ r e
+    (expression-sound (length (r .tail)) symbols 0 parts (r .tail) (e .value) (e .between) (omega arith) (omega arith)
+    (sound-rest (standing (sign 61) (r .place) (r .past)) (r .tail) (rw (r .shape) at (d₂ .sound))) (e .before))
 
 -- EVERY ALLOWED SENTENCE IS READ
 
@@ -177,20 +161,19 @@ record Parts (ts : List Placed) : Type 0 where
   none-item : isItem (itemOf (first .token)) ≡ false
   beginning : begins (first .token) ≡ true
 
+sign-first : (c place past : ℕ) (ts : List Placed) → begins (sign c) ≡ true → Parts (standing (sign c) place past ∷ ts)
+sign-first c place past ts b = record { first = standing (sign c) place past; others = ts; shape = refl; none-item = refl; beginning = b }
+
 conditions-first : {ts rest : List Placed} {cs : List Condition} → IsConditions ts cs rest → Parts rest → Parts ts
 conditions-first noConditions h = h
-conditions-first (conditionThen {ts = ts} {place = place} {past = past} d ds) h =
-    record { first = standing (sign 44) place past; others = ts; shape = refl; none-item = refl; beginning = refl }
-
-equals-first : (place past : ℕ) (ts : List Placed) → Parts (standing (sign 61) place past ∷ ts)
-equals-first place past ts = record { first = standing (sign 61) place past; others = ts; shape = refl; none-item = refl; beginning = refl }
+conditions-first (conditionThen {ts = ts} {place = place} {past = past} d ds) h = sign-first 44 place past ts refl
 
 pub sentence-complete : {ts rest : List Placed} {s : Sentence} → IsSentence ts s rest → Ends rest → allowedSentence s ≡ true → sentence ts ≡ parsed s rest
 unfolding sentence every
 sentence-complete (isSentence {ts = ts} {ts₂ = ts₂} {place = place} {past = past} {p = p} {cs = cs} {e = e} d₁ d₂ d₃) h a =
     let f = pattern-facts p (both-left (allowedPattern p) _ a) in
     let a₁ = both-right (allowedPattern p) _ a in
-    let first = conditions-first d₂ (equals-first place past ts₂) in
+    let first = conditions-first d₂ (sign-first 61 place past ts₂ refl) in
     let symbols = symbols-spelled [] p refl (f .spelled) in
     let known = both-left (allowedConditions (symbolsOf p) cs) _ a₁ in
     let (then, leads) = allowed-leads (symbolsOf p) (partsOf p) e (both-right (allowedConditions (symbolsOf p) cs) _ a₁) in
@@ -215,4 +198,4 @@ items-first (itemThen {t = t} {ts = ts} i d) h = record { first = t; others = ts
 
 pub sentence-begins : {ts rest : List Placed} {s : Sentence} → IsSentence ts s rest → Begins ts
 sentence-begins (isSentence {ts₂ = ts₂} {place = place} {past = past} d₁ d₂ d₃) =
-    items-first (pattern-items d₁) (conditions-first d₂ (equals-first place past ts₂))
+    items-first (pattern-items d₁) (conditions-first d₂ (sign-first 61 place past ts₂ refl))

@@ -13,7 +13,7 @@ use Rattle.meaning.specs.Allowed.{allowedSentence, allowedFunction, some
 use Rattle.meaning.specs.Tokens.{Token, functionName, word, quoted, sign, textEnd, malformed, Placed}
 use Rattle.meaning.specs.Grammar.{standing, IsSentences, lastSentence, lastSentenceParted, sentenceThen, IsFunction, isFunction, IsProgram, noFunctions, functionThen, functionPartedThen}
 use Rattle.meaning.specs.Reading.{Parsed, stopped, parsed, follow, pass, isSign, isTextEnd, sentences, passSpare, declaredFault, function, atFunction, functions}
-use Rattle.meaning.proofs.reading.Basics.{both-left, both-right, both-true, impossible, never-both, passed, passed-on, Followed, follow-parsed, Passed, pass-parsed, NamePassed, name-parsed, sign-of, standing-as}
+use Rattle.meaning.proofs.reading.Basics.{both-left, both-right, both-true, impossible, never-both, passed, Followed, follow-parsed, Passed, pass-parsed, NamePassed, name-parsed, sign-of, standing-as}
 use Rattle.meaning.proofs.reading.Lists.{distinct-after, distinct-first}
 use Rattle.meaning.proofs.reading.Sound.{soundTokens, sound-first, sound-rest, sound-end, nameSpelling, name-spelled, spelled-name-short}
 use Rattle.meaning.proofs.reading.Functions.{SentencesRead, sentences-sound, sentences-complete}
@@ -65,24 +65,17 @@ module _ (fault : Name → ℕ) (left : ℕ) {ts : List Placed} {f : Function} {
         sound = rw left-over at (d .sound);
       }
 
-  function-brace : soundTokens ts ≡ true
-      → (p : NamePassed Function fault ts (afterName left) f rest)
-      → (q : Passed Function 123 (p .tail) (afterBrace left (p .name)) f rest)
-      → FunctionRead fault left ts f rest
-  function-brace k p q =
-      let r = follow-parsed (sentences left (q .tail)) (declared (p .name)) (q .after) in
-      let sound =
-      sound-rest (standing (sign 123) (q .place) (q .past)) (q .tail)
-      (rw (q .shape) at (sound-rest (standing (functionName (p .name)) (p .place) (p .past)) (p .tail) (rw (p .shape) at k)))
-      in
-      function-whole k p q r (sentences-sound left (q .tail) (r .value) (r .between) sound (r .before))
-
-  function-name : soundTokens ts ≡ true → NamePassed Function fault ts (afterName left) f rest → FunctionRead fault left ts f rest
-  function-name k p = function-brace k p (pass-parsed 123 (p .tail) (afterBrace left (p .name)) (p .after))
-
 pub function-sound : (fault : Name → ℕ) (left : ℕ) (ts : List Placed) {f : Function} {rest : List Placed}
     → soundTokens ts ≡ true → function fault left ts ≡ parsed f rest → FunctionRead fault left ts f rest
-function-sound fault left ts k e = function-name fault left k (name-parsed fault ts (afterName left) e)
+function-sound fault left ts k e =
+    let p = name-parsed fault ts (afterName left) e in
+    let q = pass-parsed 123 (p .tail) (afterBrace left (p .name)) (p .after) in
+    let r = follow-parsed (sentences left (q .tail)) (declared (p .name)) (q .after) in
+    let sound =
+    sound-rest (standing (sign 123) (q .place) (q .past)) (q .tail)
+    (rw (q .shape) at (sound-rest (standing (functionName (p .name)) (p .place) (p .past)) (p .tail) (rw (p .shape) at k)))
+    in
+    function-whole fault left k p q r (sentences-sound left (q .tail) (r .value) (r .between) sound (r .before))
 
 pub function-complete : (fault : Name → ℕ) (left : ℕ) {ts rest : List Placed} {f : Function} → IsFunction ts f rest
     → fault (f .name) ≡ 0 → every allowedSentence (f .sentences) ≡ true → length (f .sentences) ≤ left
@@ -109,21 +102,20 @@ module _ (before : Table) (f : Function) where
   abbrev nameTests : Bool
   nameTests = both (not (isReserved (f .name))) (not (member (f .name) (namesOf before)))
 
-  name-short : declaredFault before (f .name) ≡ 0 → leb (length (f .name)) maxName ≡ true
-  name-short z = passed (leb (length (f .name)) maxName) 4 _ (omega arith) z
-
-  name-tests : declaredFault before (f .name) ≡ 0 → nameTests ≡ true
-  name-tests z = passed nameTests 5 0 (omega arith) (passed-on (leb (length (f .name)) maxName) 4 _ (omega arith) z)
+  name-tests : declaredFault before (f .name) ≡ 0 → (leb (length (f .name)) maxName ≡ true) × (nameTests ≡ true)
+  name-tests z =
+      let (short, z₁) = passed (leb (length (f .name)) maxName) 4 _ (omega arith) z in
+      (short, passed nameTests 5 0 (omega arith) z₁ .0)
 
   name-allowed : declaredFault before (f .name) ≡ 0 → nameSpelling (f .name) ≡ true → both (spelledName (f .name)) (not (isReserved (f .name))) ≡ true
   name-allowed z s =
-      both-true (name-spelled (f .name) s (name-short z))
-      (both-left (not (isReserved (f .name))) (not (member (f .name) (namesOf before))) (name-tests z))
+      let (short, tests) = name-tests z in
+      both-true (name-spelled (f .name) s short) (both-left (not (isReserved (f .name))) (not (member (f .name) (namesOf before))) tests)
 
   name-different : distinct (namesOf before) ≡ true → declaredFault before (f .name) ≡ 0 → distinct (namesOf (before ++ f ∷ [])) ≡ true
   name-different d z =
       rw (names-append before (f ∷ []), distinct-after (f .name) (namesOf before))
-      (both-true d (both-right (not (isReserved (f .name))) (not (member (f .name) (namesOf before))) (name-tests z)))
+      (both-true d (both-right (not (isReserved (f .name))) (not (member (f .name) (namesOf before))) (name-tests z .1)))
 
   name-faultless : both (spelledName (f .name)) (not (isReserved (f .name))) ≡ true → distinct (namesOf (before ++ f ∷ [])) ≡ true
       → declaredFault before (f .name) ≡ 0
@@ -292,6 +284,20 @@ first-read left {sentencesLeft} {before} d o =
       function-complete (declaredFault before) sentencesLeft d (o .faultless) (o .own) (o .room),
     )
 
+-- functions after these are read
+abbrev ReadOn : ℕ → ℕ → Table → List Placed → Table → Type 0
+ReadOn left sentencesLeft before ts fs =
+    every allowedFunction fs ≡ true → distinct (namesOf (before ++ fs)) ≡ true → length fs ≤ left → sentencesIn fs ≤ sentencesLeft
+    → functions left sentencesLeft before ts ≡ parsed (before ++ fs) []
+
+one-complete : (left sentencesLeft : ℕ) (before : Table) {ts between rest : List Placed} {f : Function} {fs : Table} → IsFunction ts f between
+    → passSpare between ≡ rest → ((m : ℕ) (b : Table) → ReadOn left m b rest fs) → ReadOn (suc left) sentencesLeft before ts (f ∷ fs)
+one-complete left sentencesLeft before {f = f} {fs = fs} d spare later a e l s =
+    let o = led left sentencesLeft before f fs a e l s in
+    first-read left d o
+    ∙ rw (spare, ← append-assoc before (f ∷ []) fs)
+    (later (sentencesLeft - length (f .sentences)) (before ++ f ∷ []) (o .allowed) (o .different) (o .few) (o .short))
+
 -- a program of the grammar within the limits and with different names is read
 pub functions-complete : (left sentencesLeft : ℕ) (before : Table) {ts : List Placed} {fs : Table} → IsProgram ts fs
     → every allowedFunction fs ≡ true → distinct (namesOf (before ++ fs)) ≡ true → length fs ≤ left → sentencesIn fs ≤ sentencesLeft
@@ -301,13 +307,7 @@ functions-complete zero sentencesLeft before noFunctions a d l s = rw (append-ni
 functions-complete (suc left) sentencesLeft before noFunctions a d l s = rw (append-nil before)
 functions-complete zero sentencesLeft before (functionThen f p) a d l s = absurd (omega arith)
 functions-complete zero sentencesLeft before (functionPartedThen f p) a d l s = absurd (omega arith)
-functions-complete (suc left) sentencesLeft before (functionThen {f = f} {t = fs} d p) a e l s =
-    let o = led left sentencesLeft before f fs a e l s in
-    first-read left d o
-    ∙ rw (program-first p, ← append-assoc before (f ∷ []) fs)
-    (functions-complete left (sentencesLeft - length (f .sentences)) (before ++ f ∷ []) p (o .allowed) (o .different) (o .few) (o .short))
-functions-complete (suc left) sentencesLeft before (functionPartedThen {f = f} {t = fs} d p) a e l s =
-    let o = led left sentencesLeft before f fs a e l s in
-    first-read left d o
-    ∙ rw (← append-assoc before (f ∷ []) fs)
-    (functions-complete left (sentencesLeft - length (f .sentences)) (before ++ f ∷ []) p (o .allowed) (o .different) (o .few) (o .short))
+functions-complete (suc left) sentencesLeft before (functionThen d p) a e l s =
+    one-complete left sentencesLeft before d (program-first p) (λ m b a₁ e₁ l₁ s₁. functions-complete left m b p a₁ e₁ l₁ s₁) a e l s
+functions-complete (suc left) sentencesLeft before (functionPartedThen d p) a e l s =
+    one-complete left sentencesLeft before d refl (λ m b a₁ e₁ l₁ s₁. functions-complete left m b p a₁ e₁ l₁ s₁) a e l s

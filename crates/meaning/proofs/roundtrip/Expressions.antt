@@ -101,35 +101,32 @@ string-lists c e byte spelled later rest parted at =
     }
 
 -- s or e and an identifier, and then more items
-variable-lists : (v b : ℕ) (x : Bytes) (item : Expression → Expression) → inClass alphabetic v ≡ true → every wordByte (b ∷ x) ≡ true →
-    ((t u : Expression) → unplaced t ≡ unplaced u → unplaced (item t) ≡ unplaced (item u)) →
-    ((place past : ℕ) (ts rest : List Placed) (t : Expression) → IsExpression ts t rest → IsExpression (standing (word (v ∷ b ∷ x)) place past ∷ ts) (item t) rest) →
-    (e : Expression) → Lists e → (rest : Bytes) → Parted rest → (at : ℕ) →
-    ExpressionListed at (32 ∷ v ∷ (((b ∷ x) ++ expressionText unquoted e) ++ rest)) (item e) rest
-variable-lists v b x item alphabet spelled same derives e later rest parted at =
-    let begins = variable-begins at v (b ∷ x) (expressionText unquoted e ++ rest) alphabet spelled (expression-parted e rest parted) in
+variable-lists : (v : ℕ) (item : Name → Expression → Expression) → inClass alphabetic v ≡ true →
+    ((x : Name) (t u : Expression) → unplaced t ≡ unplaced u → unplaced (item x t) ≡ unplaced (item x u)) →
+    ((place past b : ℕ) (x : Bytes) (ts rest : List Placed) (t : Expression) → IsExpression ts t rest →
+    IsExpression (standing (word (v ∷ b ∷ x)) place past ∷ ts) (item (b ∷ x) t) rest) →
+    (x : Name) (e : Expression) → spelledIdentifier x ≡ true → Lists e → (rest : Bytes) → Parted rest → (at : ℕ) →
+    ExpressionListed at (32 ∷ v ∷ ((x ++ expressionText unquoted e) ++ rest)) (item x e) rest
+variable-lists v item alphabet same derives [] e spelled later rest parted at = impossible spelled
+variable-lists v item alphabet same derives (b ∷ x) e spelled later rest parted at =
+    let word = both-left (every wordByte (b ∷ x)) _ spelled in
+    let begins = variable-begins at v (b ∷ x) (expressionText unquoted e ++ rest) alphabet word (expression-parted e rest parted) in
     let l = later rest parted (begins .past) in
     rw (append-assoc (b ∷ x) (expressionText unquoted e) rest)
     record {
       past = l .past;
-      tree = item (l .tree);
-      same = same (l .tree) e (l .same);
-      derived = rw (begins .tokens) (derives (begins .place) (begins .past) _ _ (l .tree) (l .derived));
+      tree = item (b ∷ x) (l .tree);
+      same = same (b ∷ x) (l .tree) e (l .same);
+      derived = rw (begins .tokens) (derives (begins .place) (begins .past) b x _ _ (l .tree) (l .derived));
     }
 
 symbol-lists : (x : Name) (e : Expression) → spelledIdentifier x ≡ true → Lists e → Lists (thenSymbol x e)
 unfolding expressionText unplaced
-symbol-lists [] e spelled later = impossible spelled
-symbol-lists (b ∷ x) e spelled later =
-    variable-lists 115 b x (thenSymbol (b ∷ x)) refl (both-left (every wordByte (b ∷ x)) _ spelled)
-    (λ t u p. ap (thenSymbol (b ∷ x)) p) (λ place past ts rest t d. symbolThen d) e later
+symbol-lists = variable-lists 115 thenSymbol refl (λ x t u p. ap (thenSymbol x) p) (λ place past b x ts rest t d. symbolThen d)
 
 part-lists : (x : Name) (e : Expression) → spelledIdentifier x ≡ true → Lists e → Lists (thenPart x e)
 unfolding expressionText unplaced
-part-lists [] e spelled later = impossible spelled
-part-lists (b ∷ x) e spelled later =
-    variable-lists 101 b x (thenPart (b ∷ x)) refl (both-left (every wordByte (b ∷ x)) _ spelled)
-    (λ t u p. ap (thenPart (b ∷ x)) p) (λ place past ts rest t d. partThen d) e later
+part-lists = variable-lists 101 thenPart refl (λ x t u p. ap (thenPart x) p) (λ place past b x ts rest t d. partThen d)
 
 -- CALLS
 
@@ -160,6 +157,12 @@ record ListsBoth (e : Expression) : Type 0 where
   whole : Lists e
   later : Lists (pastLeading e)
 
+-- what is listed after a variable, where both are spelled well
+spelled-lists : {item : Name → Expression → Expression} → ((x : Name) (e : Expression) → spelledIdentifier x ≡ true → Lists e → Lists (item x e)) →
+    {x : Name} {e : Expression} → both (spelledIdentifier x) (legible e) ≡ true → (legible e ≡ true → Lists e) → Lists (item x e)
+spelled-lists lists {x} {e} spelled later =
+    lists x e (both-left (spelledIdentifier x) (legible e) spelled) (later (both-right (spelledIdentifier x) (legible e) spelled))
+
 lists-both : (e : Expression) → legible e ≡ true → ListsBoth e
 unfolding legible pastLeading expressionText
 lists-both end spelled =
@@ -169,10 +172,10 @@ lists-both (thenCharacter c e) spelled =
     let l = lists-both e (both-right (isByte c) _ spelled) in
     record { whole = string-lists c e (both-left (isByte c) _ spelled) (both-right (isByte c) _ spelled) (l .later); later = l .later }
 lists-both (thenSymbol x e) spelled =
-    let l = symbol-lists x e (both-left (spelledIdentifier x) _ spelled) (lists-both e (both-right (spelledIdentifier x) _ spelled) .whole) in
+    let l = spelled-lists symbol-lists spelled (λ s. lists-both e s .whole) in
     record { whole = l; later = l }
 lists-both (thenPart x e) spelled =
-    let l = part-lists x e (both-left (spelledIdentifier x) _ spelled) (lists-both e (both-right (spelledIdentifier x) _ spelled) .whole) in
+    let l = spelled-lists part-lists spelled (λ s. lists-both e s .whole) in
     record { whole = l; later = l }
 lists-both (thenCall place n a e) spelled =
     let others = both-right (spelledName n) (both (legible a) (legible e)) spelled in

@@ -7,13 +7,15 @@ use mathlib.Core.List.{List, [], _∷_, _++_}
 use Rattle.meaning.specs.Choice.{Bytes, every}
 use Rattle.meaning.specs.Tree.{character, symbol, Element, letter, part, Expression, end, thenCharacter, thenSymbol, thenPart, thenCall, unplaced}
 use Rattle.meaning.specs.Allowed.{isByte, spelledElement, spelledIdentifier, nesting, allowedPattern}
-use Rattle.meaning.specs.Tokens.{inside, quoted, Placed}
-use Rattle.meaning.specs.Grammar.{standing, symbolWord, partWord, charactersOf, written, IsPattern, IsExpression, noItems, stringThen, symbolThen, partThen, callThen}
+use Rattle.meaning.specs.Tokens.{inside, Placed}
+use Rattle.meaning.specs.Grammar.{charactersOf, written, IsPattern}
 use Rattle.meaning.specs.Listing.{Quoted, unquoted, closeQuote, quotedCharacter, afterCharacter, symbolText, partText, patternText, expressionText}
+use Rattle.meaning.specs.Reading.{Item, characters, symbolItem, partItem, noItem, itemOf, elementsOf, thenItem}
 use Rattle.meaning.proofs.reading.Basics.{both-left, both-right, both-true}
 use Rattle.meaning.proofs.reading.PatternFacts.{pattern-facts}
-use Rattle.meaning.proofs.reading.ExpressionItems.{written-nesting}
+use Rattle.meaning.proofs.reading.ExpressionItems.{item-nesting}
 use Rattle.meaning.proofs.reading.Patterns.{IsItems, noMore, itemThen, items-pattern}
+use Rattle.meaning.proofs.reading.ExpressionsComplete.{IsItemed, nothingMore, oneItemThen, calledThen, itemed}
 use Rattle.meaning.proofs.roundtrip.Remaining.{remaining}
 use Rattle.meaning.proofs.roundtrip.Words.{Parted}
 use Rattle.meaning.proofs.roundtrip.Legible.{legible}
@@ -83,17 +85,19 @@ no-calls (letter (symbol x) ∷ es) = no-calls es
 no-calls (part x ∷ es) = no-calls es
 
 -- the tokens of an expression without calls are its items in order
-expression-items : {ts rest : List Placed} {e : Expression} → IsExpression ts e rest → nesting e ≡ 0 → IsItems ts (elementsIn e) rest
+elements-item : (item : Item) (e : Expression) → elementsIn (thenItem item e) ≡ elementsOf item ++ elementsIn e
+unfolding elementsIn
+elements-item (characters text) e = elements-written text e
+elements-item (symbolItem x) e = refl
+elements-item (partItem x) e = refl
+elements-item noItem e = refl
+
+expression-items : {ts rest : List Placed} {e : Expression} → IsItemed ts e rest → nesting e ≡ 0 → IsItems ts (elementsIn e) rest
 unfolding elementsIn nesting
-expression-items noItems none = noMore
-expression-items (stringThen {place = place} {past = past} {text = text} {e = e} d) none =
-    rw (elements-written text e)
-    (itemThen {t = standing (quoted text) place past} refl (expression-items d (sym (written-nesting text e) ∙ none)))
-expression-items (symbolThen {place = place} {past = past} {b = b} {x = x} d) none =
-    itemThen {t = standing (symbolWord b x) place past} refl (expression-items d none)
-expression-items (partThen {place = place} {past = past} {b = b} {x = x} d) none =
-    itemThen {t = standing (partWord b x) place past} refl (expression-items d none)
-expression-items (callThen {a = a} {e = e} d₁ d₂) none = absurd (omega arith)
+expression-items nothingMore none = noMore
+expression-items (oneItemThen {t = t} {e = e} item d) none =
+    rw (elements-item (itemOf (t .token)) e) (itemThen {t = t} item (expression-items d (sym (item-nesting (itemOf (t .token)) e) ∙ none)))
+expression-items (calledThen k d) none = absurd (omega arith)
 
 -- THE PATTERN
 
@@ -109,4 +113,4 @@ pattern-listed p allows rest parted at =
     let none = sym (nesting-unplaced (listed .tree)) ∙ (ap nesting (listed .same) ∙ (nesting-unplaced (asExpression p) ∙ no-calls p)) in
     let back = sym (elements-unplaced (listed .tree)) ∙ (ap elementsIn (listed .same) ∙ (elements-unplaced (asExpression p) ∙ elements-back p)) in
     rw (listed-alike unquoted p)
-    record { past = listed .past; derived = items-pattern facts (rw back at (expression-items (listed .derived) none)) }
+    record { past = listed .past; derived = items-pattern facts (rw back at (expression-items (itemed (listed .derived)) none)) }
