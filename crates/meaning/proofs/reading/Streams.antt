@@ -77,9 +77,13 @@ pub record Go (A : Type 0) (r : Family A) (ts : List Placed) (v : A) (rest : Lis
   pub again : (b : ℕ) (more : List Placed) → ended more ≡ true → headOf rest ≡ headOf more → length (used ++ more) ≤ b
       → r b (used ++ more) ≡ parsed v more
 
+-- what is told of a reader: its stops, and something of what it reads
+abbrev pub Told : {A : Type 0} → (A → List Placed → Type 0) → Family A → List Placed → Parsed A → Type 0
+Told {A} reads r ts (stopped n k) = Stop A r ts n k
+Told {A} reads r ts (parsed v rest) = reads v rest
+
 abbrev pub Streamed : {A : Type 0} → Family A → List Placed → Parsed A → Type 0
-Streamed {A} r ts (stopped n k) = Stop A r ts n k
-Streamed {A} r ts (parsed v rest) = Go A r ts v rest
+Streamed {A} r ts = Told (Go A r ts) r ts
 
 -- what is left is ended and no longer
 pub go-ended : {A : Type 0} {r : Family A} {ts rest : List Placed} {v : A} → Go A r ts v rest → ended ts ≡ true → ended rest ≡ true
@@ -89,7 +93,7 @@ pub go-shorter : {A : Type 0} {r : Family A} {ts rest : List Placed} {v : A} →
 go-shorter {rest = rest} g = rw (g .shape, length-append (g .used) rest) (omega arith)
 
 -- a reader that stops, or reads, wherever another does; the next token is the same there
-stop-where : {A B : Type 0} (r : Family A) (other : Family B) {ts : List Placed} {n k : ℕ} → Stop A r ts n k
+pub stop-where : {A B : Type 0} (r : Family A) (other : Family B) {ts : List Placed} {n k : ℕ} → Stop A r ts n k
     → ((b : ℕ) (us : List Placed) → headOf ts ≡ headOf us → length us ≤ b → ((c : ℕ) → length us ≤ c → r c us ≡ stopped n k) → other b us ≡ stopped n k)
     → Stop B other ts n k
 stop-where r other s also =
@@ -105,7 +109,7 @@ stop-where r other s also =
           (λ c m. s .again c more e m);
     }
 
-go-where : {A B : Type 0} (r : Family A) (other : Family B) {ts rest : List Placed} {v : A} {w : B} → Go A r ts v rest
+pub go-where : {A B : Type 0} (r : Family A) (other : Family B) {ts rest : List Placed} {v : A} {w : B} → Go A r ts v rest
     → ((b : ℕ) (us more : List Placed) → headOf ts ≡ headOf us → length us ≤ b → ((c : ℕ) → length us ≤ c → r c us ≡ parsed v more) → other b us ≡ parsed w more)
     → Go B other ts w rest
 go-where r other {rest = rest} g also =
@@ -116,15 +120,12 @@ go-where r other {rest = rest} g also =
       again = λ b more e h l. also b (g .used ++ more) more (ap headOf (g .shape) ∙ head-same (g .used) rest more h) l (λ c m. g .again c more e h m);
     }
 
-pub stop-also : {A B : Type 0} (r : Family A) (other : Family B) {ts : List Placed} {n k : ℕ} → Stop A r ts n k
-    → ((b : ℕ) (us : List Placed) → length us ≤ b → ((c : ℕ) → length us ≤ c → r c us ≡ stopped n k) → other b us ≡ stopped n k)
-    → Stop B other ts n k
-stop-also r other s also = stop-where r other s (λ b us h. also b us)
-
-pub go-also : {A B : Type 0} (r : Family A) (other : Family B) {ts rest : List Placed} {v : A} {w : B} → Go A r ts v rest
-    → ((b : ℕ) (us more : List Placed) → length us ≤ b → ((c : ℕ) → length us ≤ c → r c us ≡ parsed v more) → other b us ≡ parsed w more)
-    → Go B other ts w rest
-go-also r other g also = go-where r other g (λ b us more h. also b us more)
+-- a reader that does as another
+pub at-where : {A : Type 0} (r other : Family A) (ts : List Placed)
+    → ((b : ℕ) (us : List Placed) → headOf ts ≡ headOf us → length us ≤ b → (x : Parsed A) → ((c : ℕ) → length us ≤ c → r c us ≡ x) → other b us ≡ x)
+    → (x : Parsed A) → Streamed r ts x → Streamed other ts x
+at-where r other ts also (stopped n k) s = stop-where r other s (λ b us h l. also b us h l (stopped n k))
+at-where r other ts also (parsed v rest) g = go-where r other g (λ b us more h l. also b us h l (parsed v more))
 
 -- ONE READER AFTER ANOTHER
 
@@ -133,11 +134,11 @@ module _ {A B : Type 0} (r : Family A) (k : A → Family B) where
   both-read b ts = follow (r b ts) (λ v rest. k v b rest)
 
   -- the first reader stops
-  pub follow-stop-first : {ts : List Placed} {n p : ℕ} → Stop A r ts n p → Stop B both-read ts n p
-  follow-stop-first s = stop-also r both-read s (λ b us l same. rw (same b l))
+  follow-stop-first : {ts : List Placed} {n p : ℕ} → Stop A r ts n p → Stop B both-read ts n p
+  follow-stop-first s = stop-where r both-read s (λ b us h l same. rw (same b l))
 
   -- the second reader stops
-  pub follow-stop : {ts rest : List Placed} {v : A} {n p : ℕ} → Go A r ts v rest → Stop B (k v) rest n p → Stop B both-read ts n p
+  follow-stop : {ts rest : List Placed} {v : A} {n p : ℕ} → Go A r ts v rest → Stop B (k v) rest n p → Stop B both-read ts n p
   follow-stop {ts} {rest} {v} {n} {p} g s =
       record {
         used = g .used ++ s .used;
@@ -160,7 +161,7 @@ module _ {A B : Type 0} (r : Family A) (k : A → Family B) where
           rw (join, g .again b tail e₁ h l₁) (s .again b more e₁ (omega (arith, length-append (g .used) tail)))
 
   -- both read
-  pub follow-go : {ts between rest : List Placed} {v : A} {w : B} → Go A r ts v between → Go B (k v) between w rest → Go B both-read ts w rest
+  follow-go : {ts between rest : List Placed} {v : A} {w : B} → Go A r ts v between → Go B (k v) between w rest → Go B both-read ts w rest
   follow-go {ts} {between} {rest} {v} {w} g h =
       record {
         used = g .used ++ h .used;
@@ -179,20 +180,25 @@ module _ {A B : Type 0} (r : Family A) (k : A → Family B) where
           let same : headOf between ≡ headOf tail = ap headOf (h .shape) ∙ head-same (h .used) rest more n in
           rw (join, g .again b tail e₁ same l₁) (h .again b more e n (omega (arith, length-append (g .used) tail)))
 
-  follow-second : {ts rest : List Placed} {v : A} (y : Parsed B) → Go A r ts v rest → Streamed (k v) rest y → Streamed both-read ts y
-  follow-second (stopped n p) g s = follow-stop g s
-  follow-second (parsed w more) g s = follow-go g s
+  -- what is told of both, if what the second reads tells it
+  told-second : (reads later : B → List Placed → Type 0) {ts rest : List Placed} {v : A} → ((w : B) (more : List Placed) → later w more → reads w more)
+      → (y : Parsed B) → Go A r ts v rest → Told later (k v) rest y → Told reads both-read ts y
+  told-second reads later join (stopped n p) g s = follow-stop g s
+  told-second reads later join (parsed w more) g s = join w more s
 
-  follow-cases : (b : ℕ) (ts : List Placed) (x : Parsed A) → ended ts ≡ true → length ts ≤ b → Streamed r ts x
-      → ((v : A) (rest : List Placed) → ended rest ≡ true → length rest ≤ b → Streamed (k v) rest (k v b rest))
-      → Streamed both-read ts (follow x (λ v rest. k v b rest))
-  follow-cases b ts (stopped n p) e l s next = follow-stop-first s
-  follow-cases b ts (parsed v rest) e l g next = follow-second (k v b rest) g (next v rest (go-ended g e) (omega (arith, go-shorter g)))
+  pub told-follow : (reads : B → List Placed → Type 0) (later : A → List Placed → B → List Placed → Type 0) (b : ℕ) (ts : List Placed) (x : Parsed A)
+      → ((v : A) (rest : List Placed) → Go A r ts v rest → (w : B) (more : List Placed) → later v rest w more → reads w more)
+      → ended ts ≡ true → length ts ≤ b → Streamed r ts x
+      → ((v : A) (rest : List Placed) → ended rest ≡ true → length rest ≤ b → Told (later v rest) (k v) rest (k v b rest))
+      → Told reads both-read ts (follow x (λ v rest. k v b rest))
+  told-follow reads later b ts (stopped n p) join e l s next = follow-stop-first s
+  told-follow reads later b ts (parsed v rest) join e l g next =
+      told-second reads (later v rest) (join v rest g) (k v b rest) g (next v rest (go-ended g e) (omega (arith, go-shorter g)))
 
   pub streamed-follow : (b : ℕ) (ts : List Placed) → ended ts ≡ true → length ts ≤ b → Streamed r ts (r b ts)
       → ((v : A) (rest : List Placed) → ended rest ≡ true → length rest ≤ b → Streamed (k v) rest (k v b rest))
       → Streamed both-read ts (both-read b ts)
-  streamed-follow b ts e l s next = follow-cases b ts (r b ts) e l s next
+  streamed-follow b ts = told-follow (Go B both-read ts) (λ v rest. Go B (k v) rest) b ts (r b ts) (λ v rest g w more. follow-go g)
 
 -- A READER AT ITS FIRST TOKEN
 
@@ -213,18 +219,18 @@ module _ {A : Type 0} (r : Family A) (t : Placed) (ts : List Placed) where
       look b [] h l = let z : _≡_ {A = ℕ} 0 1 = cc in absurd (omega arith)
       look b (u ∷ more) h l = let one : t ≡ u = cc in subst (λ z. r b (z ∷ more) ≡ parsed v (z ∷ more)) one (same b more l)
 
--- the reader at this token and some more is another at those
-pub record Reaches (A : Type 0) (r next : Family A) (t : Placed) (b : ℕ) (more : List Placed) : Type 0 where
+-- the reader at this token and some more is another at those, unless the token has a fault
+pub record Reaches (A : Type 0) (r next : Family A) (n : ℕ) (t : Placed) (b : ℕ) (more : List Placed) : Type 0 where
   pub bound : ℕ
   pub fits : length more ≤ bound
-  pub same : r b (t ∷ more) ≡ next bound more
+  pub same : r b (t ∷ more) ≡ check n t (next bound more)
 
 pub ended-tail : (t : Placed) (ts : List Placed) → passable t ≡ true → ended (t ∷ ts) ≡ true → ended ts ≡ true
 unfolding every
 ended-tail t ts p e = sym (ended-append (t ∷ []) ts (both-true p refl)) ∙ e
 
 module _ {A : Type 0} (r next : Family A) (t : Placed) (ts : List Placed) (p : passable t ≡ true)
-    (step : (b : ℕ) (more : List Placed) → length (t ∷ more) ≤ b → Reaches A r next t b more)
+    (step : (b : ℕ) (more : List Placed) → length (t ∷ more) ≤ b → Reaches A r next 0 t b more)
   where
     pub next-stop : {n k : ℕ} → Stop A next ts n k → Stop A r (t ∷ ts) n k
     next-stop s =
@@ -265,16 +271,12 @@ module _ {A : Type 0} (r other : Family A) (t : Placed) (ts : List Placed)
     on-head b [] h = let z : _≡_ {A = ℕ} 0 1 = cc in absurd (omega arith)
     on-head b (u ∷ us) h = let one : t ≡ u = cc in subst (λ z. r b (z ∷ us) ≡ other b (z ∷ us)) one (same b us)
 
+    -- at this token it is another
     pub same-stop : {n k : ℕ} → Stop A other (t ∷ ts) n k → Stop A r (t ∷ ts) n k
     same-stop s = stop-where other r s (λ b us h l again. on-head b us h ∙ again b l)
 
-    same-go : {v : A} {rest : List Placed} → Go A other (t ∷ ts) v rest → Go A r (t ∷ ts) v rest
-    same-go g = go-where other r g (λ b us more h l again. on-head b us h ∙ again b l)
-
-    -- at this token it is another
     pub at-same : (x : Parsed A) → Streamed other (t ∷ ts) x → Streamed r (t ∷ ts) x
-    at-same (stopped n k) s = same-stop s
-    at-same (parsed v rest) g = same-go g
+    at-same = at-where other r (t ∷ ts) (λ b us h l x again. on-head b us h ∙ again b l)
 
 -- what has been read already
 pub at-done : {A : Type 0} (v : A) (ts : List Placed) → Go A (λ b us. parsed v us) ts v ts
@@ -292,15 +294,16 @@ pub not-ended : {A : Type 0} → ended [] ≡ true → A
 unfolding ended
 not-ended e = impossible e
 
--- the reader at this token and some more is another at those, unless the token has a fault
-pub record ReachesChecked (A : Type 0) (r next : Family A) (n : ℕ) (t : Placed) (b : ℕ) (more : List Placed) : Type 0 where
-  pub bound : ℕ
-  pub fits : length more ≤ bound
-  pub same : r b (t ∷ more) ≡ check n t (next bound more)
-
 pub at-check : {A : Type 0} (r next : Family A) (n : ℕ) (t : Placed) (ts : List Placed) → Ranged n → passable t ≡ true
-    → ((b : ℕ) (more : List Placed) → length (t ∷ more) ≤ b → ReachesChecked A r next n t b more)
+    → ((b : ℕ) (more : List Placed) → length (t ∷ more) ≤ b → Reaches A r next n t b more)
     → (x : Parsed A) → Streamed next ts x → Streamed r (t ∷ ts) (check n t x)
-at-check r next zero t ts m p step x s =
-    at-next r next t ts p (λ b more l. let z = step b more l in record { bound = z .bound; fits = z .fits; same = z .same }) x s
+at-check r next zero t ts m p step x s = at-next r next t ts p step x s
 at-check r next (suc n) t ts m p step x s = at-stop r t ts (suc n) m (λ b more l. step b more l .same)
+
+-- the same at every bound
+pub at-token : {A : Type 0} (r next : Family A) (n : ℕ) (t : Placed) (ts : List Placed) (b : ℕ) → Ranged n → passable t ≡ true
+    → ((i : ℕ) (more : List Placed) → r i (t ∷ more) ≡ check n t (next i more)) → StreamsAt next b
+    → ended (t ∷ ts) ≡ true → length (t ∷ ts) ≤ b → Streamed r (t ∷ ts) (check n t (next b ts))
+at-token r next n t ts b m p same later e l =
+    at-check r next n t ts m p (λ i more k. record { bound = i; fits = omega arith; same = same i more })
+    (next b ts) (later ts (ended-tail t ts p e) (omega arith))

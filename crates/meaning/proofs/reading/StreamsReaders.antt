@@ -17,8 +17,8 @@ use Rattle.meaning.proofs.reading.Expressions.{argued, closing, closed}
 use Rattle.meaning.proofs.reading.Sentences.{start, afterExpression, afterEquals, afterConditions, afterPattern}
 use Rattle.meaning.proofs.reading.Functions.{joined, More}
 use Rattle.meaning.proofs.reading.Tables.{declared, afterBrace, afterName, afterFunction}
-use Rattle.meaning.proofs.reading.Streams.{Ranged, ended, ended-tail, not-ended, Family, Stop, Go, Streamed, StreamsAt, Streams, stop-also, go-also, follow-stop-first, follow-stop, streamed-follow, ReachesChecked, at-stop, at-look, at-next, at-check, at-same, at-done, next-stop, same-stop, go-ended, go-shorter}
-use Rattle.meaning.proofs.reading.StreamsTokens.{unless-ranged, length-ranged, fault-number, sign-passable, item-passable, pass-streams, name-streams, pattern-streams, conditions-streams}
+use Rattle.meaning.proofs.reading.Streams.{Ranged, ended, ended-tail, not-ended, Family, Told, Streamed, StreamsAt, Streams, stop-where, go-where, at-where, told-follow, streamed-follow, Reaches, at-stop, at-look, at-check, at-token, at-same, at-done, next-stop, same-stop}
+use Rattle.meaning.proofs.reading.StreamsTokens.{unless-ranged, length-ranged, at-refuse, sign-passable, item-passable, pass-streams, name-streams, pattern-streams, conditions-streams}
 
 -- FAULTS
 
@@ -46,8 +46,8 @@ declared-ranged before n =
 
 streamed-first : (first : Expression → Expression) (r : Family Items) (ts : List Placed) (x : Parsed Items)
     → Streamed r ts x → Streamed (λ i us. withFirst first (r i us)) ts (withFirst first x)
-streamed-first first r ts (stopped n k) s = stop-also r (λ i us. withFirst first (r i us)) s (λ b us l same. rw (same b l))
-streamed-first first r ts (parsed v rest) g = go-also r (λ i us. withFirst first (r i us)) g (λ b us more l same. rw (same b l))
+streamed-first first r ts (stopped n k) s = stop-where r (λ i us. withFirst first (r i us)) s (λ b us h l same. rw (same b l))
+streamed-first first r ts (parsed v rest) g = go-where r (λ i us. withFirst first (r i us)) g (λ b us more h l same. rw (same b l))
 
 follow-check : {A B : Type 0} (n : ℕ) (t : Placed) (x : Parsed A) (k : A → List Placed → Parsed B) → follow (check n t x) k ≡ check n t (follow x k)
 follow-check zero t x k = refl
@@ -88,7 +88,7 @@ module _ (symbols : List Name) where
 
     module _ (t : Placed) (ts : List Placed) (e : ended (t ∷ ts) ≡ true) (l : length (t ∷ ts) ≤ suc b) where
       item-reaches : isItem (itemOf (t .token)) ≡ true → (i : ℕ) (more : List Placed) → length (t ∷ more) ≤ i
-          → ReachesChecked Items (reading depth so)
+          → Reaches Items (reading depth so)
           (λ j us. withFirst (thenItem (itemOf (t .token))) (expression j symbols depth (pastItem (itemOf (t .token)) so) us))
           (itemFault symbols so (itemOf (t .token))) t i more
       unfolding expression
@@ -96,7 +96,7 @@ module _ (symbols : List Name) where
       item-reaches p (suc i) more m = record { bound = i; fits = omega arith; same = rw p }
 
       call-reaches : isItem (itemOf (t .token)) ≡ false → isSign 60 (t .token) ≡ true → (i : ℕ) (more : List Placed) → length (t ∷ more) ≤ i
-          → ReachesChecked Items (reading depth so) afterBracket (callFault depth so) t i more
+          → Reaches Items (reading depth so) afterBracket (callFault depth so) t i more
       unfolding expression
       call-reaches p q zero more m = absurd (omega arith)
       call-reaches p q (suc i) more m =
@@ -147,8 +147,7 @@ module _ (symbols : List Name) where
   whole-reading so i ts = expression (length ts) symbols 0 so ts
 
   whole-cases : (so : Progress) (ts : List Placed) (x : Parsed Items) → Streamed (reading 0 so) ts x → Streamed (whole-reading so) ts x
-  whole-cases so ts (stopped n k) s = stop-also (reading 0 so) (whole-reading so) s (λ b us l same. same (length us) (omega arith))
-  whole-cases so ts (parsed v rest) g = go-also (reading 0 so) (whole-reading so) g (λ b us more l same. same (length us) (omega arith))
+  whole-cases so ts = at-where (reading 0 so) (whole-reading so) ts (λ b us h l x same. same (length us) (omega arith))
 
   whole-streams : (so : Progress) → Streams (whole-reading so)
   whole-streams so b ts e l = whole-cases so ts (expression (length ts) symbols 0 so ts) (expression-streams (length ts) 0 so ts e (omega arith))
@@ -171,14 +170,20 @@ sentence-streams b ts e l =
     vs g n))
 
 module _ (more : More) (later : Streams (λ i ts. more ts)) (s : Sentence) where
+  -- a `}` after the sentence
+  last-streams : (r : Family (List Sentence)) (b : ℕ) (t : Placed) (ts : List Placed) → isSign 125 (t .token) ≡ true
+      → ((i : ℕ) (us : List Placed) → r i (t ∷ us) ≡ parsed (s ∷ []) us) → ended (t ∷ ts) ≡ true → length (t ∷ ts) ≤ b
+      → Streamed r (t ∷ ts) (parsed (s ∷ []) ts)
+  last-streams r b t ts p same e l =
+      at-token r (λ i us. parsed (s ∷ []) us) 0 t ts b tt (sign-passable 125 (t .token) p) same (λ us f m. at-done (s ∷ []) us) e l
+
   abbrev parting : Family (List Sentence)
   parting i ts = afterSemicolon more s ts
 
   semicolon-step : (b : ℕ) (t : Placed) (ts : List Placed) (q : Bool) → isSign 125 (t .token) ≡ q → ended (t ∷ ts) ≡ true → length (t ∷ ts) ≤ b
       → Streamed parting (t ∷ ts) (pick q (parsed (s ∷ []) ts) (follow (more (t ∷ ts)) (joined s)))
   semicolon-step b t ts true p e l =
-      at-next parting (λ i us. parsed (s ∷ []) us) t ts (sign-passable 125 (t .token) p)
-      (λ i us m. record { bound = i; fits = omega arith; same = rw p }) (parsed (s ∷ []) ts) (at-done (s ∷ []) ts)
+      last-streams parting b t ts p (λ i us. rw p) e l
   semicolon-step b t ts false p e l =
       at-same parting (λ i us. follow (more us) (joined s)) t ts (λ i us. rw p) (follow (more (t ∷ ts)) (joined s))
       (streamed-follow (λ i us. more us) (λ ss i us. joined s ss us) b (t ∷ ts) e l (later b (t ∷ ts) e l) (λ ss us f m. at-done (s ∷ ss) us))
@@ -194,13 +199,10 @@ module _ (more : More) (later : Streams (λ i ts. more ts)) (s : Sentence) where
       → ended (t ∷ ts) ≡ true → length (t ∷ ts) ≤ b
       → Streamed ending (t ∷ ts) (pick q (parsed (s ∷ []) ts) (whether p t (afterSemicolon more s ts)))
   after-step b t ts true p q r e l =
-      at-next ending (λ i us. parsed (s ∷ []) us) t ts (sign-passable 125 (t .token) q)
-      (λ i us m. record { bound = i; fits = omega arith; same = rw q }) (parsed (s ∷ []) ts) (at-done (s ∷ []) ts)
+      last-streams ending b t ts q (λ i us. rw q) e l
   after-step b t ts false true q r e l =
-      let o = sign-passable 59 (t .token) r in
-      at-next ending parting t ts o (λ i us m. record { bound = i; fits = omega arith; same = rw (q, r) })
-      (afterSemicolon more s ts) (semicolon-streams b ts (ended-tail t ts o e) (omega arith))
-  after-step b t ts false false q r e l = at-stop ending t ts (faultOf (t .token)) (fault-number (t .token)) (λ i us m. rw (q, r))
+      at-token ending parting 0 t ts b tt (sign-passable 59 (t .token) r) (λ i us. rw (q, r)) (semicolon-streams b) e l
+  after-step b t ts false false q r e l = at-refuse ending t ts (λ i us m. rw (q, r))
 
   after-streams : Streams ending
   after-streams b [] e l = not-ended e
@@ -211,7 +213,7 @@ begin-step : (r : Family (List Sentence)) (t : Placed) (ts : List Placed) (x : P
     → (begins (t .token) ≡ false → (i : ℕ) (us : List Placed) → r i (t ∷ us) ≡ stopped (faultOf (t .token)) (t .place))
     → Streamed r (t ∷ ts) (whether q t x)
 begin-step r t ts x true p s other = s p
-begin-step r t ts x false p s other = at-stop r t ts (faultOf (t .token)) (fault-number (t .token)) (λ i us m. other p i us)
+begin-step r t ts x false p s other = at-refuse r t ts (λ i us m. other p i us)
 
 sentences-streams : (left : ℕ) → Streams (λ i ts. sentences left ts)
 unfolding sentences
@@ -244,22 +246,7 @@ function-streams fault inRange left b =
 
 -- the last reader passes the end of the text: of it only its stops are told
 abbrev pub Stopped : {A : Type 0} → Family A → List Placed → Parsed A → Type 0
-Stopped {A} r ts (stopped n k) = Stop A r ts n k
-Stopped {A} r ts (parsed v rest) = Unit {0}
-
-module _ {A B : Type 0} (r : Family A) (k : A → Family B) where
-  abbrev then-read : Family B
-  then-read b ts = follow (r b ts) (λ v rest. k v b rest)
-
-  stopped-second : {ts rest : List Placed} {v : A} (y : Parsed B) → Go A r ts v rest → Stopped (k v) rest y → Stopped then-read ts y
-  stopped-second (stopped n p) g s = follow-stop r k g s
-  stopped-second (parsed w more) g s = tt
-
-  stopped-follow : (b : ℕ) (ts : List Placed) (x : Parsed A) → ended ts ≡ true → length ts ≤ b → Streamed r ts x
-      → ((v : A) (rest : List Placed) → ended rest ≡ true → length rest ≤ b → Stopped (k v) rest (k v b rest))
-      → Stopped then-read ts (follow x (λ v rest. k v b rest))
-  stopped-follow b ts (stopped n p) e l s next = follow-stop-first r k s
-  stopped-follow b ts (parsed v rest) e l g next = stopped-second (k v b rest) g (next v rest (go-ended g e) (omega (arith, go-shorter g)))
+Stopped = Told (λ v rest. Unit {0})
 
 abbrev Stops : {A : Type 0} → Family A → Type 0
 Stops r = (b : ℕ) (ts : List Placed) → ended ts ≡ true → length ts ≤ b → Stopped r ts (r b ts)
@@ -306,7 +293,7 @@ tooMany sentencesLeft i ts = follow (function (λ n. 4) sentencesLeft ts) (λ f 
 
 many-step : (sentencesLeft : ℕ) (t : Placed) (ts : List Placed) (o : Option Name) → nameOf (t .token) ≡ o
     → Stopped (tooMany sentencesLeft) (t ∷ ts) (follow (nameOn o (λ n. 4) t (λ n. afterName sentencesLeft (t .place) n ts)) (λ f rest. stopped 0 0))
-many-step sentencesLeft t ts none p = at-stop (tooMany sentencesLeft) t ts (faultOf (t .token)) (fault-number (t .token)) (λ i us m. rw p)
+many-step sentencesLeft t ts none p = at-refuse (tooMany sentencesLeft) t ts (λ i us m. rw p)
 many-step sentencesLeft t ts (some n) p = at-stop (tooMany sentencesLeft) t ts 4 (omega arith) (λ i us m. rw p)
 
 many-stopped : (sentencesLeft : ℕ) (t : Placed) (ts : List Placed) → Stopped (tooMany sentencesLeft) (t ∷ ts) (tooMany sentencesLeft 0 (t ∷ ts))
@@ -325,8 +312,8 @@ functions-stop (suc left) sentencesLeft before b (t ∷ ts) e l =
     (λ i us. follow (function (declaredFault before) sentencesLeft us) (afterFunction (functions left) sentencesLeft before)) (λ p i us. rw p)
     (isTextEnd (t .token)) refl
     (follow (function (declaredFault before) sentencesLeft (t ∷ ts)) (afterFunction (functions left) sentencesLeft before))
-    (stopped-follow (λ i us. function (declaredFault before) sentencesLeft us) (λ f i us. afterFunction (functions left) sentencesLeft before f us)
-    b (t ∷ ts) (function (declaredFault before) sentencesLeft (t ∷ ts)) e l
+    (told-follow (λ i us. function (declaredFault before) sentencesLeft us) (λ f i us. afterFunction (functions left) sentencesLeft before f us)
+    (λ v rest. Unit {0}) (λ f rest₁ v rest. Unit {0}) b (t ∷ ts) (function (declaredFault before) sentencesLeft (t ∷ ts)) (λ f rest₁ g v rest s. tt) e l
     (function-streams (declaredFault before) (declared-ranged before) sentencesLeft b (t ∷ ts) e l)
     (λ f us g m.
     spared-stops (functions left (sentencesLeft - length (f .sentences)) (before ++ f ∷ []))

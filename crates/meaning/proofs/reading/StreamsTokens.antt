@@ -13,10 +13,10 @@ use Rattle.meaning.specs.Tree.{Element, Condition}
 use Rattle.meaning.specs.Names.{predicateOf}
 use Rattle.meaning.specs.Allowed.{member, added, symbolsOf, partsOf, lettersIn, maxName, maxIdentifier, maxLetters, maxSymbols}
 use Rattle.meaning.specs.Tokens.{Token, functionName, word, quoted, sign, textEnd, malformed, Placed, isLast}
-use Rattle.meaning.specs.Reading.{parsed, faultOf, faultUnless, endsInPart, whether, check, isSign, nameOf, nameOn, pass, passName, Item, characters, symbolItem, partItem, noItem, itemOf, isItem, elementsOf, patternFault, pattern, symbolFault, symbolOn, passSymbol, truthOf, truthOn, passTruth, withClass, lengthFault, condition, atComma, conditions}
+use Rattle.meaning.specs.Reading.{parsed, faultOf, refuse, faultUnless, endsInPart, whether, check, isSign, nameOf, nameOn, pass, passName, Item, characters, symbolItem, partItem, noItem, itemOf, isItem, elementsOf, patternFault, pattern, symbolFault, symbolOn, passSymbol, truthOf, truthOn, passTruth, withClass, lengthFault, condition, atComma, conditions}
 use Rattle.meaning.proofs.reading.Basics.{impossible, sign-of, name-of}
 use Rattle.meaning.proofs.reading.Conditions.{truth-of, afterTruth, afterColon, afterClose, afterVariable, afterPredicate, afterOpen, afterConditions, afterCondition, afterComma, overComma}
-use Rattle.meaning.proofs.reading.Streams.{Numbered, Ranged, ended, passable, ended-tail, not-ended, Family, Streamed, StreamsAt, Streams, streamed-follow, at-stop, at-look, at-next, at-check, at-done}
+use Rattle.meaning.proofs.reading.Streams.{Numbered, Ranged, ended, ended-tail, not-ended, Family, Stop, Streamed, StreamsAt, Streams, streamed-follow, at-stop, at-look, at-check, at-token, at-done}
 
 -- FAULTS
 
@@ -58,6 +58,11 @@ fault-number (sign b) = omega arith
 fault-number textEnd = omega arith
 fault-number malformed = omega arith
 
+-- a reader that refuses its first token
+pub at-refuse : {A : Type 0} (r : Family A) (t : Placed) (ts : List Placed) → ((b : ℕ) (more : List Placed) → length (t ∷ more) ≤ b → r b (t ∷ more) ≡ refuse t)
+    → Stop A r (t ∷ ts) (faultOf (t .token)) (t .place)
+at-refuse r t ts same = at-stop r t ts (faultOf (t .token)) (fault-number (t .token)) same
+
 pub sign-passable : (c : ℕ) (token : Token) → isSign c token ≡ true → not (isLast token) ≡ true
 sign-passable c token e = rw (sign-of c token e)
 
@@ -76,10 +81,8 @@ module _ {A : Type 0} (c : ℕ) (next : Family A) (b : ℕ) (later : StreamsAt n
   pass-step : (t : Placed) (ts : List Placed) (q : Bool) → isSign c (t .token) ≡ q → ended (t ∷ ts) ≡ true → length (t ∷ ts) ≤ b
       → Streamed passing (t ∷ ts) (whether q t (next b ts))
   pass-step t ts true p e l =
-      let o = sign-passable c (t .token) p in
-      at-next passing next t ts o (λ i more m. record { bound = i; fits = omega arith; same = rw p })
-      (next b ts) (later ts (ended-tail t ts o e) (omega arith))
-  pass-step t ts false p e l = at-stop passing t ts (faultOf (t .token)) (fault-number (t .token)) (λ i more m. rw p)
+      at-token passing next 0 t ts b tt (sign-passable c (t .token) p) (λ i more. rw p) later e l
+  pass-step t ts false p e l = at-refuse passing t ts (λ i more m. rw p)
 
   pub pass-streams : StreamsAt passing b
   pass-streams [] e l = not-ended e
@@ -93,11 +96,9 @@ module _ {A : Type 0} (fault : Name → ℕ) (inRange : (n : Name) → Ranged (f
 
     name-step : (t : Placed) (ts : List Placed) (o : Option Name) → nameOf (t .token) ≡ o → ended (t ∷ ts) ≡ true → length (t ∷ ts) ≤ b
         → Streamed naming (t ∷ ts) (nameOn o fault t (λ n. next (t .place) n b ts))
-    name-step t ts none p e l = at-stop naming t ts (faultOf (t .token)) (fault-number (t .token)) (λ i more m. rw p)
+    name-step t ts none p e l = at-refuse naming t ts (λ i more m. rw p)
     name-step t ts (some n) p e l =
-        let o : passable t ≡ true = rw (name-of (t .token) p) in
-        at-check naming (next (t .place) n) (fault n) t ts (inRange n) o (λ i more m. record { bound = i; fits = omega arith; same = rw p })
-        (next (t .place) n b ts) (later (t .place) n ts (ended-tail t ts o e) (omega arith))
+        at-token naming (next (t .place) n) (fault n) t ts b (inRange n) (rw (name-of (t .token) p)) (λ i more. rw p) (later (t .place) n) e l
 
     pub name-streams : StreamsAt naming b
     name-streams [] e l = not-ended e
@@ -109,13 +110,12 @@ module _ {A : Type 0} (symbols : List Name) (next : Name → Family A) (b : ℕ)
 
   symbol-step : (t : Placed) (ts : List Placed) (item : Item) → itemOf (t .token) ≡ item → ended (t ∷ ts) ≡ true → length (t ∷ ts) ≤ b
       → Streamed naming-symbol (t ∷ ts) (symbolOn item symbols t (λ x. next x b ts))
-  symbol-step t ts (characters text) p e l = at-stop naming-symbol t ts (faultOf (t .token)) (fault-number (t .token)) (λ i more m. rw p)
+  symbol-step t ts (characters text) p e l = at-refuse naming-symbol t ts (λ i more m. rw p)
   symbol-step t ts (symbolItem x) p e l =
-      let o = item-passable (t .token) (ap isItem p) in
-      at-check naming-symbol (next x) (symbolFault symbols x) t ts (symbol-ranged symbols x) o (λ i more m. record { bound = i; fits = omega arith; same = rw p })
-      (next x b ts) (later x ts (ended-tail t ts o e) (omega arith))
-  symbol-step t ts (partItem x) p e l = at-stop naming-symbol t ts (faultOf (t .token)) (fault-number (t .token)) (λ i more m. rw p)
-  symbol-step t ts noItem p e l = at-stop naming-symbol t ts (faultOf (t .token)) (fault-number (t .token)) (λ i more m. rw p)
+      at-token naming-symbol (next x) (symbolFault symbols x) t ts b (symbol-ranged symbols x) (item-passable (t .token) (ap isItem p)) (λ i more. rw p)
+      (later x) e l
+  symbol-step t ts (partItem x) p e l = at-refuse naming-symbol t ts (λ i more m. rw p)
+  symbol-step t ts noItem p e l = at-refuse naming-symbol t ts (λ i more m. rw p)
 
   symbol-streams : StreamsAt naming-symbol b
   symbol-streams [] e l = not-ended e
@@ -128,11 +128,9 @@ module _ {A : Type 0} (next : Bool → Family A) (b : ℕ) (later : (truth : Boo
   truth-step : (t : Placed) (ts : List Placed) (o : Option Bool) → truthOf (t .token) (eqb (t .past) (t .place + 3)) ≡ o
       → ended (t ∷ ts) ≡ true → length (t ∷ ts) ≤ b
       → Streamed closing (t ∷ ts) (truthOn o t (λ truth. next truth b ts))
-  truth-step t ts none p e l = at-stop closing t ts (faultOf (t .token)) (fault-number (t .token)) (λ i more m. rw p)
+  truth-step t ts none p e l = at-refuse closing t ts (λ i more m. rw p)
   truth-step t ts (some truth) p e l =
-      let o : passable t ≡ true = rw (truth-of (t .token) (eqb (t .past) (t .place + 3)) p .1) in
-      at-next closing (next truth) t ts o (λ i more m. record { bound = i; fits = omega arith; same = rw p })
-      (next truth b ts) (later truth ts (ended-tail t ts o e) (omega arith))
+      at-token closing (next truth) 0 t ts b tt (rw (truth-of (t .token) (eqb (t .past) (t .place + 3)) p .1)) (λ i more. rw p) (later truth) e l
 
   truth-streams : StreamsAt closing b
   truth-streams [] e l = not-ended e
@@ -157,16 +155,14 @@ class-step symbols n t ts b zero none q z p e l = at-stop (opening symbols) t ts
 class-step symbols n t ts b (suc m) none q z p e l =
     at-stop (opening symbols) t ts (suc m) (subst Ranged z (length-ranged n 0 tt)) (λ i more k. rw (q, z))
 class-step symbols n t ts b m (some class) q z p e l =
-    let o : passable t ≡ true = rw (name-of (t .token) q) in
-    at-check (opening symbols) (λ i us. passSymbol symbols us (afterVariable class)) m t ts (subst Ranged z (length-ranged n 0 tt)) o
-    (λ i more k. record { bound = i; fits = omega arith; same = rw (q, z, p) })
-    (passSymbol symbols ts (afterVariable class))
-    (symbol-streams symbols (λ x i us. afterVariable class x us) b (λ x. variable-streams class x b) ts (ended-tail t ts o e) (omega arith))
+    at-token (opening symbols) (λ i us. passSymbol symbols us (afterVariable class)) m t ts b (subst Ranged z (length-ranged n 0 tt))
+    (rw (name-of (t .token) q)) (λ i more. rw (q, z, p))
+    (symbol-streams symbols (λ x i us. afterVariable class x us) b (λ x. variable-streams class x b)) e l
 
 open-step : (symbols : List Name) (t : Placed) (ts : List Placed) (b : ℕ) (o : Option Name) → nameOf (t .token) ≡ o
     → ended (t ∷ ts) ≡ true → length (t ∷ ts) ≤ b
     → Streamed (opening symbols) (t ∷ ts) (nameOn o (λ n. lengthFault n 0) t (λ n. afterPredicate symbols (t .place) n ts))
-open-step symbols t ts b none p e l = at-stop (opening symbols) t ts (faultOf (t .token)) (fault-number (t .token)) (λ i more m. rw p)
+open-step symbols t ts b none p e l = at-refuse (opening symbols) t ts (λ i more m. rw p)
 open-step symbols t ts b (some n) p e l = class-step symbols n t ts b (lengthFault n 0) (predicateOf n) p refl refl e l
 
 open-streams : (symbols : List Name) → Streams (opening symbols)
@@ -200,11 +196,8 @@ conditions-streams (suc left) symbols b [] e l = not-ended e
 conditions-streams (suc left) symbols b (t ∷ ts) e l =
     comma-step (λ comma i us. afterComma left symbols comma us) t ts b (isSign 44 (t .token)) refl
     (λ p.
-    let o = sign-passable 44 (t .token) p in
-    at-next (λ i us. atComma us (afterComma left symbols)) (λ i us. afterComma left symbols t us) t ts o
-    (λ i more m. record { bound = i; fits = omega arith; same = rw p })
-    (afterComma left symbols t ts)
-    (after-comma-streams left symbols (λ c us f m. conditions-streams left symbols c us f m) t b ts (ended-tail t ts o e) (omega arith)))
+    at-token (λ i us. atComma us (afterComma left symbols)) (λ i us. afterComma left symbols t us) 0 t ts b tt (sign-passable 44 (t .token) p)
+    (λ i more. rw p) (after-comma-streams left symbols (λ c us f m. conditions-streams left symbols c us f m) t b) e l)
 
 -- PATTERNS
 
