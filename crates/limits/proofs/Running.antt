@@ -1,7 +1,7 @@
 -- Worked rows of runs at the limit of the frames, and of a tail call on a long text.
 use Prim.Native.Nat.{ℕ}
 use mathlib.Core.Path.{_≡_, refl}
-use mathlib.Core.List.{[]}
+use mathlib.Core.List.{List, [], _∷_, map}
 use lib.ListN.{replicate}
 use Rattle.meaning.specs.Choice.{Bytes}
 use Rattle.meaning.specs.Tree.{Table}
@@ -13,26 +13,29 @@ use Rattle.meaning.proofs.rows.Starred.{most, result}
 use Rattle.meaning.proofs.rows.Edges.{framed}
 use Rattle.meaning.proofs.rows.Computing.{computing}
 
--- what the code gives on a long text, with so many frames; rewriting would try every cut of it
-abbrev Runs : Table → Bytes → ℕ → ℕ → Result → Type 0
-Runs table text allowance frames r = runLent (framed frames) (translate table) 1 text allowance ≡ r
+-- a row: the table, the text, the allowance and the frames; what the code gives there
+pub record Row : Type 0 where
+  pub table : Table
+  pub text : Bytes
+  pub allowance : ℕ
+  pub frames : ℕ
+  pub ran : Result
 
--- 255 bytes reach frame 256
-pub last-frame : Runs tableR (replicate 255 97) most 256 (result 0 0 256 (replicate 255 97) [])
-unfolding computing
-last-frame = refl
+abbrev row : Table → Bytes → ℕ → ℕ → Result → Row
+row table text allowance frames r = record { table = table; text = text; allowance = allowance; frames = frames; ran = r }
 
--- 256 bytes need frame 257
-pub no-frame-left : Runs tableR (replicate 256 97) most 256 (result 15 0 256 [] [])
-unfolding computing
-no-frame-left = refl
+abbrev rows : List Row
+rows =
+    -- 255 bytes reach frame 256
+    row tableR (replicate 255 97) most 256 (result 0 0 256 (replicate 255 97) []) ∷
+    -- 256 bytes need frame 257
+    row tableR (replicate 256 97) most 256 (result 15 0 256 [] []) ∷
+    -- 12 comes before 15
+    row tableR (replicate 256 97) 256 256 (result 12 0 256 [] []) ∷
+    -- a tail call takes its caller's frame
+    row tableZ (replicate 300 48) most 1 (result 0 0 301 [] []) ∷ []
 
--- 12 comes before 15
-pub spent-before-frame : Runs tableR (replicate 256 97) 256 256 (result 12 0 256 [] [])
+-- rewriting would try every cut of the long texts
+pub frames-run : map (λ (r : Row). runLent (framed (r .frames)) (translate (r .table)) 1 (r .text) (r .allowance)) rows ≡ map (λ (r : Row). r .ran) rows
 unfolding computing
-spent-before-frame = refl
-
--- a tail call takes its caller's frame
-pub tail-call : Runs tableZ (replicate 300 48) most 1 (result 0 0 301 [] [])
-unfolding computing
-tail-call = refl
+frames-run = refl

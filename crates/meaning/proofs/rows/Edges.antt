@@ -1,14 +1,14 @@
 -- Worked rows at the edges of 01: the allowance, the middle place, full stacks, a full record, the frames, and what comes before what.
 use Prim.Native.Nat.{ℕ}
 use mathlib.Core.Path.{refl}
-use mathlib.Core.List.{[], _∷_}
+use mathlib.Core.List.{List, [], _∷_}
 use lib.ListN.{take}
 use Rattle.meaning.specs.Choice.{Bytes}
 use Rattle.meaning.specs.Tree.{character, symbol, letter, part, end, thenCharacter, thenSymbol, thenPart, thenCall, Table}
 use Rattle.meaning.specs.Outcome.{Result}
 use Rattle.meaning.specs.Runs.{Room}
 use Rattle.meaning.proofs.rows.Tables.{x1, x2, all1, plain, function, tableZ, tableR, tableP, tableM}
-use Rattle.meaning.proofs.rows.Starred.{Row, Holds, ample, cells, most, result, same, short, sixty, abc, lines}
+use Rattle.meaning.proofs.rows.Starred.{Row, AllHold, ample, cells, most, result, same, short, sixty, abc, lines}
 use Rattle.meaning.proofs.rows.Computing.{computing}
 
 -- TABLES
@@ -36,6 +36,10 @@ tableW = function (87 ∷ []) (plain [] (thenCall 7 (69 ∷ 109 ∷ 105 ∷ 116 
 
 -- ROOMS AND ROWS
 
+-- the line of an emission of nothing, named Emit
+abbrev nothing : Bytes
+nothing = 69 ∷ 109 ∷ 105 ∷ 116 ∷ 32 ∷ 10 ∷ []
+
 -- so many bytes of the record, and ample else
 abbrev recording : ℕ → Room
 recording bytes = record { inCells = 1000; outCells = 1000; recordBytes = bytes; frames = 256 }
@@ -49,90 +53,42 @@ abbrev sooner : Table → Bytes → ℕ → Room → Result → Result → Row
 sooner table text allowance room r stopped =
     record { table = table; text = text; allowance = allowance; room = room; rewritten = r; ran = stopped }
 
--- THE ALLOWANCE
+abbrev edges : List Row
+edges =
+    -- THE ALLOWANCE
+    -- with no steps the start itself is past the allowance
+    same tableZ sixty 0 ample (result 12 0 0 [] []) ∷
+    -- an emission is no step: it is done after the last one
+    same tableM (113 ∷ []) 2 ample (result 0 0 2 [] lines) ∷
+    -- the application past the allowance comes before the emission that waits for it
+    same tableM (113 ∷ []) 1 ample (result 12 0 1 [] []) ∷
+    -- THE MIDDLE PLACE
+    -- it may touch the end template, and the start of the field
+    same tableB abc most ample (result 0 0 1 (97 ∷ 124 ∷ []) []) ∷
+    same tableB (98 ∷ 99 ∷ []) most ample (result 0 0 1 (124 ∷ []) []) ∷
+    -- FULL STACKS
+    -- an empty part is no fault where out is full
+    same tableX [] most (cells 0 1) (result 0 0 1 (120 ∷ []) []) ∷
+    same tableZ [] most (cells 0 0) (result 0 0 1 [] []) ∷
+    -- an empty argument is no fault where in is full
+    same tableU (97 ∷ []) most (cells 1 1) (result 0 0 2 (97 ∷ []) []) ∷
+    -- THE FRAMES
+    -- as many frames as there are calls one inside another, the start's among them
+    same tableR (97 ∷ []) most (framed 2) (result 0 0 2 (97 ∷ []) []) ∷
+    short tableR (97 ∷ []) (framed 1) (result 0 0 2 (97 ∷ []) []) (result 15 0 1 [] []) ∷
+    -- WHAT COMES FIRST
+    -- the argument is written and moved before the call, so that 14 or 13 can come where rewriting says 12
+    sooner tableP (99 ∷ []) 1 (cells 1000 1) (result 12 0 1 [] []) (result 14 0 1 [] []) ∷
+    sooner tableP (99 ∷ []) 1 (cells 2 1000) (result 12 0 1 [] []) (result 13 0 1 [] []) ∷
+    -- THE RECORD
+    -- three lines of eight bytes fit 24
+    same tableM (113 ∷ []) most (recording 24) (result 0 0 2 [] lines) ∷
+    -- where one byte is missing, nothing of the line is written
+    short tableM (113 ∷ []) (recording 23) (result 0 0 2 [] lines) (result 16 0 2 [] (take 16 lines)) ∷
+    -- an emission of nothing needs its name and two bytes
+    same tableW [] most (recording 6) (result 0 0 1 [] nothing) ∷
+    short tableW [] (recording 5) (result 0 0 1 [] nothing) (result 16 0 1 [] []) ∷ []
 
--- with no steps the start itself is past the allowance
-pub nothing-allowed : Holds (same tableZ sixty 0 ample (result 12 0 0 [] []))
+pub edges-hold : AllHold edges
 unfolding computing
-nothing-allowed = (refl, refl, refl, refl)
-
--- an emission is no step: it is done after the last one
-pub spent-then-emission : Holds (same tableM (113 ∷ []) 2 ample (result 0 0 2 [] lines))
-unfolding computing
-spent-then-emission = (refl, refl, refl, refl)
-
--- the application past the allowance comes before the emission that waits for it
-pub spent-before-emission : Holds (same tableM (113 ∷ []) 1 ample (result 12 0 1 [] []))
-unfolding computing
-spent-before-emission = (refl, refl, refl, refl)
-
--- THE MIDDLE PLACE
-
--- it may touch the end template
-pub place-at-end : Holds (same tableB abc most ample (result 0 0 1 (97 ∷ 124 ∷ []) []))
-unfolding computing
-place-at-end = (refl, refl, refl, refl)
-
--- and the start of the field
-pub place-at-start : Holds (same tableB (98 ∷ 99 ∷ []) most ample (result 0 0 1 (124 ∷ []) []))
-unfolding computing
-place-at-start = (refl, refl, refl, refl)
-
--- FULL STACKS
-
--- an empty part is no fault where out is full
-pub empty-part : Holds (same tableX [] most (cells 0 1) (result 0 0 1 (120 ∷ []) []))
-unfolding computing
-empty-part = (refl, refl, refl, refl)
-
-pub nothing-lent : Holds (same tableZ [] most (cells 0 0) (result 0 0 1 [] []))
-unfolding computing
-nothing-lent = (refl, refl, refl, refl)
-
--- an empty argument is no fault where in is full
-pub empty-argument : Holds (same tableU (97 ∷ []) most (cells 1 1) (result 0 0 2 (97 ∷ []) []))
-unfolding computing
-empty-argument = (refl, refl, refl, refl)
-
--- THE FRAMES
-
--- as many frames as there are calls one inside another, the start's among them
-pub frames-enough : Holds (same tableR (97 ∷ []) most (framed 2) (result 0 0 2 (97 ∷ []) []))
-unfolding computing
-frames-enough = (refl, refl, refl, refl)
-
-pub frames-short : Holds (short tableR (97 ∷ []) (framed 1) (result 0 0 2 (97 ∷ []) []) (result 15 0 1 [] []))
-unfolding computing
-frames-short = (refl, refl, refl, refl)
-
--- WHAT COMES FIRST
-
--- the argument is written and moved before the call, so that 14 or 13 can come where rewriting says 12
-pub written-before-spent : Holds (sooner tableP (99 ∷ []) 1 (cells 1000 1) (result 12 0 1 [] []) (result 14 0 1 [] []))
-unfolding computing
-written-before-spent = (refl, refl, refl, refl)
-
-pub moved-before-spent : Holds (sooner tableP (99 ∷ []) 1 (cells 2 1000) (result 12 0 1 [] []) (result 13 0 1 [] []))
-unfolding computing
-moved-before-spent = (refl, refl, refl, refl)
-
--- THE RECORD
-
--- three lines of eight bytes fit 24
-pub record-fits : Holds (same tableM (113 ∷ []) most (recording 24) (result 0 0 2 [] lines))
-unfolding computing
-record-fits = (refl, refl, refl, refl)
-
--- where one byte is missing, nothing of the line is written
-pub record-full : Holds (short tableM (113 ∷ []) (recording 23) (result 0 0 2 [] lines) (result 16 0 2 [] (take 16 lines)))
-unfolding computing
-record-full = (refl, refl, refl, refl)
-
--- an emission of nothing needs its name and two bytes
-pub empty-emission : Holds (same tableW [] most (recording 6) (result 0 0 1 [] (69 ∷ 109 ∷ 105 ∷ 116 ∷ 32 ∷ 10 ∷ [])))
-unfolding computing
-empty-emission = (refl, refl, refl, refl)
-
-pub empty-emission-full : Holds (short tableW [] (recording 5) (result 0 0 1 [] (69 ∷ 109 ∷ 105 ∷ 116 ∷ 32 ∷ 10 ∷ [])) (result 16 0 1 [] []))
-unfolding computing
-empty-emission-full = (refl, refl, refl, refl)
+edges-hold = refl

@@ -1,6 +1,7 @@
 -- Packed code, word by word: the example of docs/CODE.md, and three more tables with the instructions that it lacks.
 use mathlib.Core.Path.{_≡_, refl}
-use mathlib.Core.List.{[], _∷_}
+use mathlib.Core.List.{[], _∷_, map}
+use Rattle.meaning.specs.Tree.{Table}
 use Rattle.meaning.specs.Translation.{translate}
 use Rattle.meaning.specs.Packing.{Words, pack}
 use Rattle.meaning.proofs.rows.Tables.{tableR, tableH, tableK, tableM}
@@ -14,23 +15,14 @@ wordsR =
     16 ∷ 131072 ∷ 261 ∷ 15 ∷
     19 ∷ []
 
-pub packedR : pack (translate tableR) ≡ wordsR
-unfolding computing
-packedR = refl
-
 -- `H { e1 s2 e3, <IsDigit s2>: 'T' = s2 }`
-pub packedH : pack (translate tableH) ≡ 1 ∷ 2 ∷ 65554 ∷ 327937 ∷ 1539 ∷ 516 ∷ 9 ∷ 261 ∷ 15 ∷ 19 ∷ []
-unfolding computing
-packedH = refl
+abbrev wordsH : Words
+wordsH = 1 ∷ 2 ∷ 65554 ∷ 327937 ∷ 1539 ∷ 516 ∷ 9 ∷ 261 ∷ 15 ∷ 19 ∷ []
 
 -- `K { s1 e2 s1 e3 = e2 '|' e3 }`
 abbrev wordsK : Words
 wordsK =
     1 ∷ 2 ∷ 65810 ∷ 721153 ∷ 2050 ∷ 4 ∷ 65541 ∷ 16777734 ∷ 7 ∷ 31752 ∷ 65541 ∷ 16777990 ∷ 7 ∷ 5 ∷ 15 ∷ 19 ∷ []
-
-pub packedK : pack (translate tableK) ≡ wordsK
-unfolding computing
-packedK = refl
 
 -- `M { e1 = <EmitA <N e1>> <EmitB 'x'> } N { e1 = <EmitC e1> 'y' }`
 abbrev wordsM : Words
@@ -40,6 +32,6 @@ wordsM =
     10 ∷ 30728 ∷ 11 ∷ 6 ∷ 1294 ∷ 69 ∷ 109 ∷ 105 ∷ 116 ∷ 66 ∷ 5 ∷ 15 ∷ 19 ∷
     17 ∷ 983040 ∷ 10 ∷ 5 ∷ 262 ∷ 7 ∷ 11 ∷ 6 ∷ 1294 ∷ 69 ∷ 109 ∷ 105 ∷ 116 ∷ 67 ∷ 30984 ∷ 5 ∷ 15 ∷ 19 ∷ []
 
-pub packedM : pack (translate tableM) ≡ wordsM
+pub packed : map (λ (t : Table). pack (translate t)) (tableR ∷ tableH ∷ tableK ∷ tableM ∷ []) ≡ wordsR ∷ wordsH ∷ wordsK ∷ wordsM ∷ []
 unfolding computing
-packedM = refl
+packed = refl

@@ -1,13 +1,14 @@
 -- The small proved table of 01's 'Runs to hold on to': one theorem covers all starred rows, and the outcomes that stand beside them.
 use Prim.Native.Nat.{ℕ}
 use mathlib.Core.Path.{_≡_, refl}
-use mathlib.Core.List.{List, [], _∷_}
-use mathlib.Core.Option.{some}
+use mathlib.Core.List.{List, [], _∷_, map}
+use mathlib.Core.Option.{Option, some}
 use Rattle.meaning.specs.Choice.{Bytes}
 use Rattle.meaning.specs.Tree.{Table}
 use Rattle.meaning.specs.Outcome.{Result}
 use Rattle.meaning.specs.Rewriting.{rewrite}
 use Rattle.meaning.specs.Runs.{Room, runLent, runEndless}
+use Rattle.meaning.specs.Instructions.{Code}
 use Rattle.meaning.specs.Translation.{translate}
 use Rattle.meaning.specs.Packing.{pack, unpack}
 use Rattle.meaning.proofs.rows.Tables.{tableZ, tableR, tableH, tableK, tableP, tableM}
@@ -22,16 +23,27 @@ pub record Row : Type 0 where
   pub rewritten : Result
   pub ran : Result
 
-abbrev pub Holds : Row → Type 0
-Holds r =
-    (rewrite (r .table) 1 (r .text) (r .allowance) ≡ r .rewritten) ×
-    (runEndless (translate (r .table)) 1 (r .text) (r .allowance) ≡ r .rewritten) ×
-    (runLent (r .room) (translate (r .table)) 1 (r .text) (r .allowance) ≡ r .ran) ×
-    (unpack (pack (translate (r .table))) ≡ some (translate (r .table)))
+-- rewriting, the run without end, the run on what is lent, and the code unpacked from its packed words
+pub record Outcomes : Type 0 where
+  pub rewriting : Result
+  pub endless : Result
+  pub lent : Result
+  pub unpacked : Option Code
+
+abbrev pub found : Row → Outcomes
+found r =
+    record {
+      rewriting = rewrite (r .table) 1 (r .text) (r .allowance);
+      endless = runEndless (translate (r .table)) 1 (r .text) (r .allowance);
+      lent = runLent (r .room) (translate (r .table)) 1 (r .text) (r .allowance);
+      unpacked = unpack (pack (translate (r .table)));
+    }
+
+abbrev pub expected : Row → Outcomes
+expected r = record { rewriting = r .rewritten; endless = r .rewritten; lent = r .ran; unpacked = some (translate (r .table)) }
 
 abbrev pub AllHold : List Row → Type 0
-AllHold [] = Unit {0}
-AllHold (r ∷ rs) = Holds r × AllHold rs
+AllHold rs = map found rs ≡ map expected rs
 
 abbrev pub ample : Room
 ample = record { inCells = 1000; outCells = 1000; recordBytes = 1000; frames = 256 }
@@ -89,46 +101,4 @@ rows =
 
 pub starred : AllHold rows
 unfolding computing
-starred = (
-  (refl, refl, refl, refl),
-  (
-    (refl, refl, refl, refl),
-    (
-      (refl, refl, refl, refl),
-      (
-        (refl, refl, refl, refl),
-        (
-          (refl, refl, refl, refl),
-          (
-            (refl, refl, refl, refl),
-            (
-              (refl, refl, refl, refl),
-              (
-                (refl, refl, refl, refl),
-                (
-                  (refl, refl, refl, refl),
-                  (
-                    (refl, refl, refl, refl),
-                    (
-                      (refl, refl, refl, refl),
-                      (
-                        (refl, refl, refl, refl),
-                        (
-                          (refl, refl, refl, refl),
-                          (
-                            (refl, refl, refl, refl),
-                            tt,
-                          ),
-                        ),
-                      ),
-                    ),
-                  ),
-                ),
-              ),
-            ),
-          ),
-        ),
-      ),
-    ),
-  ),
-)
+starred = refl
