@@ -14,7 +14,7 @@ use Rattle.meaning.specs.Packing.{pack}
 use Rattle.meaning.proofs.laws.Passing.{passed}
 use Rattle.meaning.proofs.reading.Accepted.{accepted-allows, allows-accepted}
 use Rattle.meaning.proofs.roundtrip.Tables.{listing-derived}
-use Rattle.meaning.proofs.roundtrip.Places.{same-allowed, same-listing, same-translation}
+use Rattle.meaning.proofs.roundtrip.Places.{allowed-unplaced, listing-unplaced, translate-unplaced, same-unplaced}
 
 -- A table's listing is read as a tree that is the table's but for the places of called names; that tree has the same listing and the same code.
 pub record ReadBack (t : Table) : Type 0 where
@@ -27,13 +27,13 @@ pub record ReadBack (t : Table) : Type 0 where
 pub round-trip : (t : Table) → T (allowed t) → length (listing t) ≤ maxTable → ReadBack t
 round-trip t allows short =
     let d = listing-derived t (passed (allowed t) allows) in
-    let within = same-allowed (d .tree) t (d .same) ∙ passed (allowed t) allows in
+    let within = same-unplaced (λ t. allowed t) allowed-unplaced (d .tree) t (d .same) ∙ passed (allowed t) allows in
     record {
       tree = d .tree;
       accepts = allows-accepted (listing t) (d .tree) (record { short = short; derived = d .derived; within = within });
       same = d .same;
-      listed = same-listing (d .tree) t (d .same);
-      translated = ap pack (same-translation (d .tree) t (d .same));
+      listed = same-unplaced listing listing-unplaced (d .tree) t (d .same);
+      translated = ap pack (same-unplaced (λ t. translate t) translate-unplaced (d .tree) t (d .same));
     }
 
 -- So it is for the tree of every text of bytes that is read.

@@ -172,9 +172,9 @@ module _ (W : Watch) where
 abbrev itself : Tally → Tally
 itself t = t
 
--- two ways to call are alike where the depths come to the same
-abbrev AlikeCalls : ℕ → ℕ → (Name → Bytes → Tally → Outcome Bytes Tally) → (Name → Bytes → Tally → Outcome Bytes Tally) → Type 0
-AlikeCalls depth depth′ call call′ = (n : Name) (text : Bytes) (t : Tally) → Enough depth depth′ (t .left) → Same itself t (call n text t) (call′ n text t)
+-- two ways to call by name, or to apply by number, are alike where the depths come to the same
+abbrev AlikeCalls : {A : Type 0} → ℕ → ℕ → (A → Bytes → Tally → Outcome Bytes Tally) → (A → Bytes → Tally → Outcome Bytes Tally) → Type 0
+AlikeCalls {A} depth depth′ call call′ = (n : A) (text : Bytes) (t : Tally) → Enough depth depth′ (t .left) → Same itself t (call n text t) (call′ n text t)
 
 same-before : (text : Bytes) (t : Tally) (o o′ : Outcome Bytes Tally) → Same itself t o o′ → Same itself t (before text o) (before text o′)
 same-before text t o o′ p = same-then itself t o o′ _ _ p (λ rest t₁ h. unmoved)
@@ -191,12 +191,7 @@ module _ (depth depth′ : ℕ) (call call′ : Name → Bytes → Tally → Out
       (λ text t₁ p₁. same-then itself t₁ _ _ _ _ (alike n text t₁ (enough-fewer p₁ h))
       (λ given t₂ p₂. same-before given t₂ _ _ (evaluate-alike e t₂ (enough-fewer p₂ (enough-fewer p₁ h)))))
 
--- two ways to apply are alike where the depths come to the same
-abbrev AlikeApplying : ℕ → ℕ → (ℕ → Bytes → Tally → Outcome Bytes Tally) → (ℕ → Bytes → Tally → Outcome Bytes Tally) → Type 0
-AlikeApplying depth depth′ apply apply′ =
-    (number : ℕ) (text : Bytes) (t : Tally) → Enough depth depth′ (t .left) → Same itself t (apply number text t) (apply′ number text t)
-
-module _ (depth depth′ : ℕ) (table : Table) (apply apply′ : ℕ → Bytes → Tally → Outcome Bytes Tally) (alike : AlikeApplying depth depth′ apply apply′) where
+module _ (depth depth′ : ℕ) (table : Table) (apply apply′ : ℕ → Bytes → Tally → Outcome Bytes Tally) (alike : AlikeCalls depth depth′ apply apply′) where
   picked : (b : Bool) (n : Name) (text : Bytes) (t : Tally) (o o′ : Outcome Bytes Tally) → Same itself t o o′ →
       Same itself t (pick b (done [] (emitted n text t)) o) (pick b (done [] (emitted n text t)) o′)
   picked true n text t o o′ p = record { same = refl; spent = omega arith }
@@ -219,7 +214,7 @@ module _ (depth depth′ : ℕ) (table : Table) (apply apply′ : ℕ → Bytes 
       same-later (omega arith)
       (rewritten-alike number (choose (functionAt table number) text) (record { left = n; steps = suc steps; emissions = emissions }) (enough-paid h))
 
-apply-alike : (depth depth′ : ℕ) (table : Table) → AlikeApplying depth depth′ (apply depth table) (apply depth′ table)
+apply-alike : (depth depth′ : ℕ) (table : Table) → AlikeCalls depth depth′ (apply depth table) (apply depth′ table)
 unfolding apply
 apply-alike zero zero table number text t h = unmoved
 apply-alike zero (suc depth′) table number text t h = rw (pay-none t (enough-none h)) unmoved

@@ -54,17 +54,25 @@ sentencesKnown t ss = every (λ s. callsKnown t (s .expression)) ss
 abbrev functionsKnown : Table → List Function → Bool
 functionsKnown t fs = every (λ f. sentencesKnown t (f .sentences)) fs
 
+-- where a test of one element is a look that finds nothing, so is the test of all
+all-known : {A : Type 0} (test : A → Bool) (look : A → Option ℕ) (first : List A → Option ℕ) → ((x : A) → test x ≡ isNone (look x))
+    → first [] ≡ none → ((x : A) (xs : List A) → first (x ∷ xs) ≡ orElse (look x) (first xs)) → (xs : List A) → every test xs ≡ isNone (first xs)
+unfolding every
+all-known test look first same nil cons [] = rw nil
+all-known test look first same nil cons (x ∷ xs) =
+    rw (same x, all-known test look first same nil cons xs, cons x xs) (neither (look x) (first xs))
+
 sentences-known : (t : Table) (ss : List Sentence) → sentencesKnown t ss ≡ isNone (unknownInSentences t ss)
-unfolding unknownInSentences every
-sentences-known t [] = refl
-sentences-known t (s ∷ ss) =
-    rw (calls-known t (s .expression), sentences-known t ss) (neither (unknownCall t (s .expression)) (unknownInSentences t ss))
+unfolding unknownInSentences
+sentences-known t =
+    all-known (λ s. callsKnown t (s .expression)) (λ s. unknownCall t (s .expression)) (unknownInSentences t)
+    (λ s. calls-known t (s .expression)) refl (λ s ss. refl)
 
 functions-known : (t : Table) (fs : List Function) → functionsKnown t fs ≡ isNone (unknownIn t fs)
-unfolding unknownIn every
-functions-known t [] = refl
-functions-known t (f ∷ fs) =
-    rw (sentences-known t (f .sentences), functions-known t fs) (neither (unknownInSentences t (f .sentences)) (unknownIn t fs))
+unfolding unknownIn
+functions-known t =
+    all-known (λ f. sentencesKnown t (f .sentences)) (λ f. unknownInSentences t (f .sentences)) (unknownIn t)
+    (λ f. sentences-known t (f .sentences)) refl (λ f fs. refl)
 
 -- THE TEXT
 

@@ -9,7 +9,7 @@ use borrow.Author.Tests.{eqb-true, eq-eqb}
 use lib.Dec.{leb, eqb}
 use lib.ListN.{length}
 use Rattle.meaning.specs.Choice.{Bytes, Name, pick, every, sameBytes}
-use Rattle.meaning.specs.Classes.{Class, className, classes, digit, upper, lower, alphabetic, blank}
+use Rattle.meaning.specs.Classes.{Class, className, classes}
 use Rattle.meaning.specs.Tree.{Condition}
 use Rattle.meaning.specs.Names.{predicateOf, classNamed}
 use Rattle.meaning.specs.Allowed.{member, spelledIdentifier, maxIdentifier, maxName}
@@ -18,6 +18,7 @@ use Rattle.meaning.specs.Grammar.{standing, symbolWord, truthByte, truth
 use Rattle.meaning.specs.Reading.{Parsed, stopped, parsed, follow, isSign, passSymbol, symbolFault, passTruth, truthOn, truthOf, truthIn, withClass, condition, atComma, conditions, pass, passName, lengthFault}
 use Rattle.meaning.proofs.reading.Basics.{both-left, both-right, both-true, impossible, no-value, never-both, check-parsed, passed, Followed, follow-parsed, Passed, pass-parsed, NamePassed, name-parsed, TokenView, aString, aSymbol, aPart, another, view, sign-of, standing-as}
 use Rattle.meaning.proofs.laws.Choosing.{same-bytes}
+use Rattle.meaning.proofs.laws.Words.{by-class}
 use Rattle.meaning.proofs.reading.Lists.{member-every}
 use Rattle.meaning.proofs.reading.Sound.{soundTokens, sound-rest, spelled-identifier-short}
 
@@ -230,11 +231,7 @@ named-class (c ∷ cs) n {class} e = go (sameBytes n (className c)) refl e (λ l
     go false same e later = later e
 
 class-name-short : (class : Class) → leb (length (className class)) maxName ≡ true
-class-name-short digit = refl
-class-name-short upper = refl
-class-name-short lower = refl
-class-name-short alphabetic = refl
-class-name-short blank = refl
+class-name-short = by-class (λ k. leb (length (className k)) maxName ≡ true) refl refl refl refl refl
 
 predicate-short : (n : Name) {class : Class} → predicateOf n ≡ some class → leb (length n) maxName ≡ true
 predicate-short n {class} e = rw (named-class classes n e) (class-name-short class)

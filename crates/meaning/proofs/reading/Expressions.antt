@@ -120,6 +120,10 @@ module _ (next : Reader) (symbols : List Name) (later : Sound next symbols) (dep
         (sound-rest (standing (functionName (p .name)) (p .place) (p .past)) (p .tail) sound) (q .before))
         (pass-parsed 62 (q .between) (closed (p .place) (p .name) (q .value)) (q .after))
 
+  -- what comes after a call
+  abbrev outside : Called → List Placed → Parsed Items
+  outside c rest = withFirst (thenCall (c .place) (c .name) (c .argument)) (next depth (c .progress) rest)
+
   module _ {i : Items} {rest : List Placed} where
     after-item : (t : Placed) (ts : List Placed) → isItem (itemOf (t .token)) ≡ true → depth ≤ maxNesting → soundTokens (t ∷ ts) ≡ true
         → itemFault symbols so (itemOf (t .token)) ≡ 0
@@ -137,8 +141,7 @@ module _ (next : Reader) (symbols : List Name) (later : Sound next symbols) (dep
         }
 
     after-call : (t : Placed) (ts : List Placed) → isSign 60 (t .token) ≡ true → depth ≤ maxNesting → soundTokens (t ∷ ts) ≡ true
-        → (p : Followed Called Items (call next depth so t ts)
-        (λ c rest. withFirst (thenCall (c .place) (c .name) (c .argument)) (next depth (c .progress) rest)) i rest)
+        → (p : Followed Called Items (call next depth so t ts) outside i rest)
         → CallRead symbols depth so (t ∷ ts) (p .value) (p .between)
         → ExpressionRead symbols depth so (t ∷ ts) i rest
     after-call t ts o d s p r =
@@ -167,19 +170,14 @@ module _ (next : Reader) (symbols : List Name) (later : Sound next symbols) (dep
         → so .items ≤ maxItems → depth ≤ maxNesting → soundTokens (t ∷ ts) ≡ true
         → pick a
         (check (itemFault symbols so (itemOf (t .token))) t (withFirst (thenItem (itemOf (t .token))) (next depth (pastItem (itemOf (t .token)) so) ts)))
-        (pick b
-        (follow (call next depth so t ts)
-        (λ c rest. withFirst (thenCall (c .place) (c .name) (c .argument)) (next depth (c .progress) rest)))
-        (parsed (record { expression = end; progress = so }) (t ∷ ts)))
+        (pick b (follow (call next depth so t ts) outside) (parsed (record { expression = end; progress = so }) (t ∷ ts)))
         ≡ parsed i rest
         → ExpressionRead symbols depth so (t ∷ ts) i rest
     expression-step t ts true b p q m d s e =
         let (z, after) = check-parsed (itemFault symbols so (itemOf (t .token))) t _ e in
         after-item t ts p d s z after
     expression-step t ts false true p q m d s e =
-        let f = follow-parsed (call next depth so t ts)
-        (λ c rest. withFirst (thenCall (c .place) (c .name) (c .argument)) (next depth (c .progress) rest)) e
-        in
+        let f = follow-parsed (call next depth so t ts) outside e in
         after-call t ts q d s f (call-sound t ts (sign-of 60 (t .token) q) (sound-rest t ts s) (f .before))
     expression-step t ts false false p q m d s e = at-end t ts m d s e
 

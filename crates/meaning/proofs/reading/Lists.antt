@@ -110,6 +110,10 @@ distinct-between x (y ∷ xs) ys new =
     )
     (sym (both-assoc (not (either (member y xs) (member y ys))) (distinct (xs ++ ys)) (not (member x ys))))
 
+-- a name that isn't among more names is among none of them
+outside-both : (x : Name) (xs ys : List Name) → not (member x (xs ++ ys)) ≡ true → either (member x xs) (member x ys) ≡ false
+outside-both x xs ys n = sym (member-append x xs ys) ∙ not-true (member x (xs ++ ys)) n
+
 -- of different names one that stands on the left doesn't stand on the right
 pub distinct-apart : (x : Name) (xs ys : List Name) → distinct (xs ++ ys) ≡ true → member x xs ≡ true → member x ys ≡ false
 unfolding member distinct
@@ -120,8 +124,7 @@ distinct-apart x (y ∷ xs) ys d m =
     go : (b : Bool) → sameBytes x y ≡ b → either b (member x xs) ≡ true → (member x xs ≡ true → member x ys ≡ false) → member x ys ≡ false
     go true same m later =
         rw (same-bytes x y same)
-        (either-right-false (member y xs) (member y ys)
-        (sym (member-append y xs ys) ∙ not-true (member y (xs ++ ys)) (both-left (not (member y (xs ++ ys))) (distinct (xs ++ ys)) d)))
+        (either-right-false (member y xs) (member y ys) (outside-both y xs ys (both-left (not (member y (xs ++ ys))) (distinct (xs ++ ys)) d)))
     go false same m later = later m
 
 -- the first of more different names are different
@@ -130,6 +133,5 @@ unfolding member distinct
 distinct-first [] ys d = refl
 distinct-first (x ∷ xs) ys d =
     both-true
-    (ap not (either-left-false (member x xs) (member x ys)
-    (sym (member-append x xs ys) ∙ not-true (member x (xs ++ ys)) (both-left (not (member x (xs ++ ys))) (distinct (xs ++ ys)) d))))
+    (ap not (either-left-false (member x xs) (member x ys) (outside-both x xs ys (both-left (not (member x (xs ++ ys))) (distinct (xs ++ ys)) d))))
     (distinct-first xs ys (both-right (not (member x (xs ++ ys))) (distinct (xs ++ ys)) d))

@@ -70,11 +70,16 @@ module _ (fits : ℕ → Bool) (token : Bytes → Token) (place until : ℕ) whe
       run-step taken at b (fits b) (run fits (taken ++ b ∷ []) (suc at) xs) (run fits (taken ++ b ∷ []) (suc at) ys) d l
       (λ m. run-local (taken ++ b ∷ []) (suc at) d m)
 
-word-local : (mode : Mode) (until at b : ℕ) {xs ys : Bytes} → AgreeTo until (suc at) xs ys → wordAt mode at (b ∷ xs) .first .past < until
-    → SameLexed until (wordAt mode at (b ∷ xs)) (wordAt mode at (b ∷ ys))
-word-local outside until at b d l = run-local nameByte functionName at until [] at (same d) l
-word-local inside until at b d l = run-local wordByte word at until [] at (same d) l
-word-local naming until at b d l = run-local nameByte functionName at until [] at (same d) l
+-- what is read from a byte on depends only on bytes up to one past its token
+abbrev Local : (ℕ → Bytes → Lexed) → Type 0
+Local lexedAt =
+    (until at b : ℕ) (xs ys : Bytes) → AgreeTo until (suc at) xs ys → lexedAt at (b ∷ xs) .first .past < until
+    → SameLexed until (lexedAt at (b ∷ xs)) (lexedAt at (b ∷ ys))
+
+word-local : (mode : Mode) → Local (wordAt mode)
+word-local outside until at b xs ys d l = run-local nameByte functionName at until [] at (same d) l
+word-local inside until at b xs ys d l = run-local wordByte word at until [] at (same d) l
+word-local naming until at b xs ys d l = run-local nameByte functionName at until [] at (same d) l
 
 -- STRINGS
 
@@ -110,11 +115,10 @@ bracket-local until at true d = record { first = refl; rest = d }
 bracket-local until at false d = record { first = refl; rest = d }
 
 -- a token that begins with a byte
-token-local : (mode : Mode) (until at b : ℕ) {xs ys : Bytes} → AgreeTo until (suc at) xs ys → tokenAt mode at (b ∷ xs) .first .past < until
-    → SameLexed until (tokenAt mode at (b ∷ xs)) (tokenAt mode at (b ∷ ys))
-token-local mode until at b {xs} {ys} d l =
+token-local : (mode : Mode) → Local (tokenAt mode)
+token-local mode until at b xs ys d l =
     let next : suc at < until = omega (arith, token-within mode at b xs .forward) in
-    pick-local until (inClass alphabetic b) (wordAt mode at (b ∷ xs)) _ (wordAt mode at (b ∷ ys)) _ l (λ m. word-local mode until at b d m)
+    pick-local until (inClass alphabetic b) (wordAt mode at (b ∷ xs)) _ (wordAt mode at (b ∷ ys)) _ l (λ m. word-local mode until at b xs ys d m)
     (λ m.
     pick-local until (eqb b 39) (quotedAt at (quotation plain [] (suc at) xs)) _ (quotedAt at (quotation plain [] (suc at) ys)) _ m
     (λ n. quotation-local at until plain [] (suc at) d n)
@@ -135,7 +139,7 @@ skip-on-local : (mode : Mode) (until at b : ℕ) {xs ys : Bytes} (o : Option Gap
     → tokenPast mode (skipOn o next (found at (b ∷ xs))) .first .past < until
     → ((gap : Gap) → tokenPast mode (next gap) .first .past < until → SameLexed until (tokenPast mode (next gap)) (tokenPast mode (other gap)))
     → SameLexed until (tokenPast mode (skipOn o next (found at (b ∷ xs)))) (tokenPast mode (skipOn o other (found at (b ∷ ys))))
-skip-on-local mode until at b none next other d l go = token-local mode until at b d l
+skip-on-local mode until at b none next other d l go = token-local mode until at b _ _ d l
 skip-on-local mode until at b (some gap) next other d l go = go gap l
 
 skip-step : (mode : Mode) (until at b : ℕ) (gap : Gap) {xs ys : Bytes} → AgreeTo until (suc at) xs ys → suc at < until

@@ -13,6 +13,7 @@ use Rattle.meaning.specs.Tree.{character, symbol, Element, letter, part}
 use Rattle.meaning.specs.Allowed.{isByte, spelledElement, spelledIdentifier, symbolsOf, symbolsFrom, partsOf, lettersIn, parted, distinct, member, added, maxLetters, maxSymbols, maxIdentifier}
 use Rattle.meaning.specs.Grammar.{charactersOf}
 use Rattle.meaning.specs.Reading.{Item, characters, symbolItem, partItem, noItem, elementsOf, patternFault, endsInPart}
+use Rattle.meaning.proofs.laws.Choosing.{both-parts}
 use Rattle.meaning.proofs.reading.Basics.{both-left, both-right, both-true, passed}
 use Rattle.meaning.proofs.reading.Lists.{every-append, both-comm, distinct-after, distinct-between, distinct-apart}
 use Rattle.meaning.proofs.reading.Sound.{soundItem, identifier-spelled, spelled-identifier-short}
@@ -21,6 +22,10 @@ use Rattle.meaning.proofs.reading.PatternFacts.{PatternFacts, parts-app
 spelled-one : (a : List Element) (e : Element) → every spelledElement (a ++ e ∷ []) ≡ both (every spelledElement a) (spelledElement e)
 unfolding every
 spelled-one a e = every-append spelledElement a (e ∷ []) ∙ ap (both (every spelledElement a)) (both-comm (spelledElement e) true)
+
+-- the elements before the last one, and the last one
+spelled-both : (a : List Element) (e : Element) → PatternFacts (a ++ e ∷ []) → (every spelledElement a ≡ true) × (spelledElement e ≡ true)
+spelled-both a e f = both-parts (every spelledElement a) (spelledElement e) (rw (spelled-one a e) at (f .spelled))
 
 -- CHARACTERS
 
@@ -69,17 +74,10 @@ added-different : (b : Bool) (x : Name) (xs ys : List Name) → member x xs ≡ 
 added-different true x xs ys m d n = d
 added-different false x xs ys m d n = rw (distinct-between x xs ys m) (both-true d n)
 
-added-different-before : (b : Bool) (x : Name) (xs ys : List Name) → member x xs ≡ b
-    → distinct (pick b xs (xs ++ x ∷ []) ++ ys) ≡ true → distinct (xs ++ ys) ≡ true
-added-different-before true x xs ys m d = d
-added-different-before false x xs ys m d =
-    both-left (distinct (xs ++ ys)) (not (member x ys)) (rw (distinct-between x xs ys m) at d)
-
-added-new : (b : Bool) (x : Name) (xs ys : List Name) → member x xs ≡ b
-    → distinct (pick b xs (xs ++ x ∷ []) ++ ys) ≡ true → not (member x ys) ≡ true
-added-new true x xs ys m d = ap not (distinct-apart x xs ys d m)
-added-new false x xs ys m d =
-    both-right (distinct (xs ++ ys)) (not (member x ys)) (rw (distinct-between x xs ys m) at d)
+added-before : (b : Bool) (x : Name) (xs ys : List Name) → member x xs ≡ b
+    → distinct (pick b xs (xs ++ x ∷ []) ++ ys) ≡ true → (distinct (xs ++ ys) ≡ true) × (not (member x ys) ≡ true)
+added-before true x xs ys m d = (d, ap not (distinct-apart x xs ys d m))
+added-before false x xs ys m d = both-parts (distinct (xs ++ ys)) (not (member x ys)) (rw (distinct-between x xs ys m) at d)
 
 added-longer : (b : Bool) (x : Name) (xs : List Name) → length xs ≤ length (pick b xs (xs ++ x ∷ []))
 added-longer true x xs = omega arith
@@ -112,15 +110,17 @@ module _ (a : List Element) (x : Name) where
         known = rw symbol-adds k;
       }
 
+  symbol-different : PatternFacts (a ++ letter (symbol x) ∷ []) → (distinct (symbolsOf a ++ partsOf a) ≡ true) × (not (member x (partsOf a)) ≡ true)
+  symbol-different f =
+      added-before (member x (symbolsOf a)) x (symbolsOf a) (partsOf a) refl (rw (symbol-adds, symbol-same-parts) at (f .different))
+
   symbol-before : PatternFacts (a ++ letter (symbol x) ∷ []) → PatternFacts a
   symbol-before f =
       record {
-        spelled = both-left (every spelledElement a) (spelledIdentifier x) (rw (spelled-one a (letter (symbol x))) at (f .spelled));
+        spelled = spelled-both a (letter (symbol x)) f .0;
         few = rw symbol-same-parts at (f .few);
         apart = sym (parted-letter a (symbol x)) ∙ f .apart;
-        different =
-            added-different-before (member x (symbolsOf a)) x (symbolsOf a) (partsOf a) refl
-            (rw (symbol-adds, symbol-same-parts) at (f .different));
+        different = symbol-different f .0;
         short = omega (arith, (rw symbol-more-letters at (f .short)));
         known = omega (arith, (rw symbol-adds at (f .known)), added-longer (member x (symbolsOf a)) x (symbolsOf a));
       }
@@ -128,11 +128,10 @@ module _ (a : List Element) (x : Name) where
   symbol-fits : PatternFacts (a ++ letter (symbol x) ∷ []) → patternFault a (symbolItem x) ≡ 0
   symbol-fits f =
       rw (
-        spelled-identifier-short x
-            (both-right (every spelledElement a) (spelledIdentifier x) (rw (spelled-one a (letter (symbol x))) at (f .spelled))),
+        spelled-identifier-short x (spelled-both a (letter (symbol x)) f .1),
         le-leb (lettersIn a + 1) maxLetters (rw symbol-more-letters at (f .short)),
         le-leb (length (added x (symbolsOf a))) maxSymbols (rw symbol-adds at (f .known)),
-        added-new (member x (symbolsOf a)) x (symbolsOf a) (partsOf a) refl (rw (symbol-adds, symbol-same-parts) at (f .different)),
+        symbol-different f .1,
       )
 
 -- AN E-VARIABLE
@@ -170,15 +169,19 @@ module _ (a : List Element) (x : Name) where
         known = rw part-same-symbols (f .known);
       }
 
+  part-apart : PatternFacts (a ++ part x ∷ []) → (parted a ≡ true) × (not (endsInPart a) ≡ true)
+  part-apart f = both-parts (parted a) (not (endsInPart a)) (rw (parted-part a x) at (f .apart))
+
+  part-new : PatternFacts (a ++ part x ∷ []) → (distinct (symbolsOf a ++ partsOf a) ≡ true) × (not (member x (symbolsOf a ++ partsOf a)) ≡ true)
+  part-new f = both-parts (distinct (symbolsOf a ++ partsOf a)) (not (member x (symbolsOf a ++ partsOf a))) (rw part-different at (f .different))
+
   part-before : PatternFacts (a ++ part x ∷ []) → PatternFacts a
   part-before f =
       record {
-        spelled = both-left (every spelledElement a) (spelledIdentifier x) (rw (spelled-one a (part x)) at (f .spelled));
+        spelled = spelled-both a (part x) f .0;
         few = omega (arith, (rw part-length at (f .few)));
-        apart = both-left (parted a) (not (endsInPart a)) (rw (parted-part a x) at (f .apart));
-        different =
-            both-left (distinct (symbolsOf a ++ partsOf a)) (not (member x (symbolsOf a ++ partsOf a)))
-            (rw part-different at (f .different));
+        apart = part-apart f .0;
+        different = part-new f .0;
         short = rw part-same-letters at (f .short);
         known = rw part-same-symbols at (f .known);
       }
@@ -187,11 +190,9 @@ module _ (a : List Element) (x : Name) where
   part-fits f =
       rw (
         lt-ltb (length (partsOf a)) 2 (omega (arith, (rw part-length at (f .few)))),
-        spelled-identifier-short x
-            (both-right (every spelledElement a) (spelledIdentifier x) (rw (spelled-one a (part x)) at (f .spelled))),
-        both-right (distinct (symbolsOf a ++ partsOf a)) (not (member x (symbolsOf a ++ partsOf a)))
-            (rw part-different at (f .different)),
-        both-right (parted a) (not (endsInPart a)) (rw (parted-part a x) at (f .apart)),
+        spelled-identifier-short x (spelled-both a (part x) f .1),
+        part-new f .1,
+        part-apart f .1,
       )
 
 -- ANY ITEM
@@ -231,12 +232,12 @@ item-faultless a (symbolItem x) f = symbol-fits a x f
 item-faultless a (partItem x) f = part-fits a x f
 item-faultless a noItem f = refl
 
+element-before : (a : List Element) (e : Element) → PatternFacts (a ++ e ∷ []) → PatternFacts a
+element-before a (letter (character c)) f = characters-before a (c ∷ []) f
+element-before a (letter (symbol x)) f = symbol-before a x f
+element-before a (part x) f = part-before a x f
+
 -- the beginning of an allowed pattern is allowed
 pub facts-before : (a b : List Element) → PatternFacts (a ++ b) → PatternFacts a
 facts-before a [] f = rw append-nil at f
-facts-before a (letter (character c) ∷ b) f =
-    characters-before a (c ∷ []) (facts-before (a ++ letter (character c) ∷ []) b (rw (append-assoc a (letter (character c) ∷ []) b) f))
-facts-before a (letter (symbol x) ∷ b) f =
-    symbol-before a x (facts-before (a ++ letter (symbol x) ∷ []) b (rw (append-assoc a (letter (symbol x) ∷ []) b) f))
-facts-before a (part x ∷ b) f =
-    part-before a x (facts-before (a ++ part x ∷ []) b (rw (append-assoc a (part x ∷ []) b) f))
+facts-before a (e ∷ b) f = element-before a e (facts-before (a ++ e ∷ []) b (rw (append-assoc a (e ∷ []) b) f))

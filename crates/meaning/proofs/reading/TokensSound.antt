@@ -98,19 +98,23 @@ run-spelled fits spelling at b rest f s spelled =
     let whole : spelling (run fits (b ∷ []) (suc at) rest .taken) ≡ true = rw (r .whole) (spelled (r .more) (r .fitting)) in
     rw (run-first fits at b rest f) (both-true whole (r .rest-sound))
 
-name-at-sound : (at b : ℕ) (rest : Bytes) → inClass alphabetic b ≡ true → every isByte (b ∷ rest) ≡ true → soundLexed (nameToken at (run nameByte [] at (b ∷ rest))) ≡ true
+-- what is read from a letter on
+abbrev SoundAt : (ℕ → Bytes → Lexed) → Type 0
+SoundAt lexedAt = (at b : ℕ) (rest : Bytes) → inClass alphabetic b ≡ true → every isByte (b ∷ rest) ≡ true → soundLexed (lexedAt at (b ∷ rest)) ≡ true
+
+name-at-sound : SoundAt (λ at bytes. nameToken at (run nameByte [] at bytes))
 name-at-sound at b rest a s = run-spelled nameByte nameSpelling at b rest (rw a) s (λ more f. both-true a f)
 
-word-at-sound : (at b : ℕ) (rest : Bytes) → inClass alphabetic b ≡ true → every isByte (b ∷ rest) ≡ true → soundLexed (wordToken at (run wordByte [] at (b ∷ rest))) ≡ true
+word-at-sound : SoundAt (λ at bytes. wordToken at (run wordByte [] at bytes))
 unfolding every
 word-at-sound at b rest a s =
     let first : wordByte b ≡ true = rw a in
     run-spelled wordByte (every wordByte) at b rest first s (λ more f. both-true first f)
 
-letter-sound : (mode : Mode) (at b : ℕ) (rest : Bytes) → inClass alphabetic b ≡ true → every isByte (b ∷ rest) ≡ true → soundLexed (wordAt mode at (b ∷ rest)) ≡ true
-letter-sound outside at b rest a s = name-at-sound at b rest a s
-letter-sound inside at b rest a s = word-at-sound at b rest a s
-letter-sound naming at b rest a s = name-at-sound at b rest a s
+letter-sound : (mode : Mode) → SoundAt (wordAt mode)
+letter-sound outside = name-at-sound
+letter-sound inside = word-at-sound
+letter-sound naming = name-at-sound
 
 -- STRINGS
 

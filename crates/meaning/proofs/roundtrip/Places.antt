@@ -27,7 +27,7 @@ unfolding sentencesText
 sentences-text [] = refl
 sentences-text (s ∷ ss) = rw (expression-text unquoted (s .expression), sentences-text ss)
 
-listing-unplaced : (t : Table) → listing (unplacedTable t) ≡ listing t
+pub listing-unplaced : (t : Table) → listing (unplacedTable t) ≡ listing t
 unfolding listing
 listing-unplaced [] = refl
 listing-unplaced (f ∷ fs) = rw (sentences-text (f .sentences), listing-unplaced fs)
@@ -109,7 +109,7 @@ calls-unplaced t (thenSymbol x e) = calls-unplaced t e
 calls-unplaced t (thenPart x e) = calls-unplaced t e
 calls-unplaced t (thenCall place n a e) = rw (number-unplaced 0 t n, calls-unplaced t a, calls-unplaced t e)
 
-allowed-unplaced : (t : Table) → allowed (unplacedTable t) ≡ allowed t
+pub allowed-unplaced : (t : Table) → allowed (unplacedTable t) ≡ allowed t
 allowed-unplaced t =
     rw (
       every-unplaced unplacedFunction allowedFunction allowedFunction function-unplaced t,
@@ -158,7 +158,7 @@ sentences-unplaced t (s ∷ ss) =
     let shape = shapeOf (s .pattern) in
     rw (actions-unplaced t shape (testedShape shape .sites) true (s .expression) atStart (passesRest shape), sentences-unplaced t ss)
 
-translate-unplaced : (t : Table) → translate (unplacedTable t) ≡ translate t
+pub translate-unplaced : (t : Table) → translate (unplacedTable t) ≡ translate t
 translate-unplaced t = go t
   where
     go : (fs : Table) → map (λ f. translatedSentences (unplacedTable t) (f .sentences)) (unplacedTable fs) ≡ map (λ f. translatedSentences t (f .sentences)) fs
@@ -168,14 +168,5 @@ translate-unplaced t = go t
 -- TREES THAT ARE EQUAL BUT FOR PLACES
 
 -- what doesn't look at places gives the same for both
-same-unplaced : {A : Type 0} (f : Table → A) → ((t : Table) → f (unplacedTable t) ≡ f t) → (t u : Table) → unplacedTable t ≡ unplacedTable u → f t ≡ f u
+pub same-unplaced : {A : Type 0} (f : Table → A) → ((t : Table) → f (unplacedTable t) ≡ f t) → (t u : Table) → unplacedTable t ≡ unplacedTable u → f t ≡ f u
 same-unplaced f blind t u e = sym (blind t) ∙ (ap f e ∙ blind u)
-
-pub same-allowed : (t u : Table) → unplacedTable t ≡ unplacedTable u → allowed t ≡ allowed u
-same-allowed = same-unplaced (λ t. allowed t) allowed-unplaced
-
-pub same-listing : (t u : Table) → unplacedTable t ≡ unplacedTable u → listing t ≡ listing u
-same-listing = same-unplaced listing listing-unplaced
-
-pub same-translation : (t u : Table) → unplacedTable t ≡ unplacedTable u → translate t ≡ translate u
-same-translation = same-unplaced (λ t. translate t) translate-unplaced

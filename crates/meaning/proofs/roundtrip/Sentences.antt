@@ -13,8 +13,8 @@ use Rattle.meaning.specs.Classes.{Class, className}
 use Rattle.meaning.specs.Tree.{Condition, Sentence, unplacedSentence}
 use Rattle.meaning.specs.Names.{classNamed, predicateOf}
 use Rattle.meaning.specs.Allowed.{wordByte, spelledName, spelledIdentifier, member, symbolsOf, partsOf, maxConditions, allowedPattern, allowedConditions, allowedSentence}
-use Rattle.meaning.specs.Tokens.{inside, naming, quoted, sign, quotation, skip, lex}
-use Rattle.meaning.specs.Grammar.{standing, truthByte, truthString, isCondition, IsConditions, noConditions, conditionThen, IsSentence, isSentence}
+use Rattle.meaning.specs.Tokens.{inside, naming, quoted, sign, lexed, quotation, skip, lex}
+use Rattle.meaning.specs.Grammar.{truthByte, truthString, isCondition, IsConditions, noConditions, conditionThen, IsSentence, isSentence}
 use Rattle.meaning.specs.Listing.{unquoted, patternText, conditionsText, expressionText, withoutBlank, sentenceText}
 use Rattle.meaning.proofs.reading.Basics.{both-left, both-right, impossible}
 use Rattle.meaning.proofs.reading.Lists.{member-every}
@@ -46,13 +46,11 @@ truth-lexed at truth rest =
     let end : suc (suc (suc (suc at))) ≡ suc at + 3 = omega arith in
     rw (← end)
     (blank-passed inside at 32 (39 ∷ truthByte truth ∷ 39 ∷ rest) refl
-    ∙ go truth)
+    ∙ remaining-token inside (suc at) (39 ∷ truthByte truth ∷ 39 ∷ rest) (quoted (truthByte truth ∷ [])) (suc at) (suc (suc (suc (suc at)))) rest (lexes truth) refl)
   where
-    go : (truth : Bool) →
-        remaining inside (suc at) (39 ∷ truthByte truth ∷ 39 ∷ rest)
-        ≡ standing (quoted (truthByte truth ∷ [])) (suc at) (suc (suc (suc (suc at)))) ∷ remaining inside (suc (suc (suc (suc at)))) rest
-    go true = remaining-token inside (suc at) (39 ∷ 84 ∷ 39 ∷ rest) (quoted (84 ∷ [])) (suc at) (suc (suc (suc (suc at)))) rest refl refl
-    go false = remaining-token inside (suc at) (39 ∷ 70 ∷ 39 ∷ rest) (quoted (70 ∷ [])) (suc at) (suc (suc (suc (suc at)))) rest refl refl
+    lexes : (truth : Bool) → lex inside (suc at) (39 ∷ truthByte truth ∷ 39 ∷ rest) ≡ lexed (quoted (truthByte truth ∷ [])) (suc at) (suc (suc (suc (suc at)))) rest
+    lexes true = refl
+    lexes false = refl
 
 record ConditionsListed (at : ℕ) (bytes : Bytes) (cs : List Condition) (rest : Bytes) : Type 0 where
   past : ℕ
