@@ -5,7 +5,7 @@ use mathlib.Core.Bool.{Bool, true}
 use mathlib.Core.List.{List, [], _∷_}
 use mathlib.Core.Option.{Option, none, some, Option·none-ne-some, Option·some-injective}
 use lib.Dec.{T}
-use Rattle.meaning.specs.Choice.{both, isSome, every, nth}
+use Rattle.meaning.specs.Choice.{both, every, nth}
 use Rattle.meaning.specs.Allowed.{whereSome}
 pub use Rattle.meaning.proofs.laws.Passing.{both-left, both-right, passed as passed-true}
 
@@ -14,16 +14,6 @@ true-passed b e = rw e tt
 
 pub both-pair : (a b : Bool) → T (both a b) → T a × T b
 both-pair a b t = (both-left a b t, both-right a b t)
-
--- two choices of which the second rests on the first
-pub record Both {A B : Type 0} (o : Option A) (k : A → Option B) (b : B) : Type 0 where
-  pub middle : A
-  pub first : o ≡ some middle
-  pub second : k middle ≡ some b
-
-pub both-some : {A B : Type 0} (o : Option A) (k : A → Option B) (b : B) → whereSome o k ≡ some b → Both o k b
-both-some none k b e = absurd (Option·none-ne-some b e)
-both-some (some a) k b e = record { middle = a; first = refl; second = e }
 
 -- what comes after a choice counts only by what it gives
 pub where-same : {A B : Type 0} (o : Option A) (f g : A → Option B) → ((a : A) → f a ≡ g a) → whereSome o f ≡ whereSome o g
@@ -46,15 +36,6 @@ where-again (some a) f g = refl
 pub where-strict : {A B C : Type 0} (F : Option B → Option C) (o : Option A) (f : A → Option B) → F none ≡ none → whereSome o (λ a. F (f a)) ≡ F (whereSome o f)
 where-strict F none f e = sym e
 where-strict F (some a) f e = refl
-
--- a choice that there is
-pub record There {A : Type 0} (o : Option A) : Type 0 where
-  pub it : A
-  pub same : o ≡ some it
-
-pub there : {A : Type 0} (o : Option A) → T (isSome o) → There o
-there none t = absurd t
-there (some a) t = record { it = a; same = refl }
 
 -- what holds of every element holds of each
 pub every-nth {ℓ} : {A : Type ℓ} (p : A → Bool) (xs : List A) (i : ℕ) (x : A) → T (every p xs) → nth i xs ≡ some x → T (p x)

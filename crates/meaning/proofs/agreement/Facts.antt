@@ -12,8 +12,8 @@ use Rattle.meaning.specs.Rewriting.{sentencesOf, functionAt}
 use Rattle.meaning.specs.Allowed.{maxNesting, member, added, symbolsFrom, symbolsOf, partsOf, distinct, nesting, spelledItems, comingAfterAll, allowedSentence, allowedFunction, callsKnown, allowed}
 use Rattle.meaning.specs.Instructions.{Site, fromStart, fromPlace}
 use Rattle.meaning.specs.Translation.{Shape, fixed, open₁, open₂, shapeOf, Tested, testedSymbol, testedLetter, testedTemplate, beforeEnd, untested, testedShape, atStart}
-use Rattle.meaning.proofs.laws.Choosing.{same-bytes, namesIn, names-append, member-bound, distinct-second}
-use Rattle.meaning.proofs.agreement.Choosing.{both-left, both-right, both-pair, passed-true, true-passed, there, every-nth}
+use Rattle.meaning.proofs.laws.Choosing.{given-some, same-bytes, namesIn, names-append, member-bound, distinct-second}
+use Rattle.meaning.proofs.agreement.Choosing.{both-left, both-right, both-pair, passed-true, true-passed, every-nth}
 use Rattle.meaning.proofs.agreement.Standing.{comingAt}
 use Rattle.meaning.proofs.agreement.Patterns.{templated, elementsOf, parts-shape, elements-shape}
 use Rattle.meaning.proofs.agreement.Fitting.{NamedApart, Asks}
@@ -82,15 +82,15 @@ allowable table s a calls =
     let p = elements-shape (s .pattern) (leb→le _ _ few) in
     let parts : partsOf (s .pattern) ≡ comingAt (shapeOf (s .pattern)) atStart = rw p at (parts-shape (shapeOf (s .pattern))) in
     let symbols : symbolsOf (s .pattern) ≡ namesIn (sitesOf (s .pattern)) = rw p at (names-shape (shapeOf (s .pattern))) in
-    let l = there (comingAfterAll (s .expression) (partsOf (s .pattern))) order in
+    let l = given-some (comingAfterAll (s .expression) (partsOf (s .pattern))) (passed-true _ order) in
     record {
       pattern = p;
       apart = named-apart (shapeOf (s .pattern)) (rw (← parts)
           (true-passed (distinct (partsOf (s .pattern))) (distinct-second (symbolsOf (s .pattern)) (partsOf (s .pattern)) (passed-true _ names))));
       asks = rw (← symbols) conditions;
       spelled = rw (← symbols) items;
-      later = l .it;
-      coming = rw (← parts) (l .same);
+      later = l .value;
+      coming = rw (← parts) (l .is);
       nested = leb→le _ _ deep;
       calls = calls;
     }

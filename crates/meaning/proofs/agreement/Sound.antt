@@ -14,8 +14,8 @@ use Rattle.meaning.specs.Allowed.{isByte, member, spelledName, spelledIt
 use Rattle.meaning.specs.Instructions.{Site}
 use Rattle.meaning.specs.Machine.{Local}
 use Rattle.meaning.specs.Translation.{Shape, Stand, passage}
-use Rattle.meaning.proofs.laws.Choosing.{namesIn}
-use Rattle.meaning.proofs.agreement.Choosing.{both-left, both-right, both-pair, both-some}
+use Rattle.meaning.proofs.laws.Choosing.{namesIn, both-some}
+use Rattle.meaning.proofs.agreement.Choosing.{both-left, both-right, both-pair}
 use Rattle.meaning.proofs.agreement.Standing.{comingAt, Move, Valued, Standing}
 
 module _ (table : Table) (shape : Shape) (sites : List (Named Site)) (bound : Bindings) (l : Local) (standing : Standing shape sites bound l) where
@@ -48,7 +48,7 @@ module _ (table : Table) (shape : Shape) (sites : List (Named Site)) (bound : Bi
       let v = standing .values x (both-left (member x (namesIn sites)) (spelledItems (namesIn sites) e) spelled) in
       record { after = r .after; sound = aSymbol v (r .sound); coming = r .coming }
   sounds (thenPart x e) w later spelled coming calls =
-      let c = both-some (comingAfter x (comingAt shape w)) (comingAfterAll e) later coming in
+      let c = both-some (comingAfter x (comingAt shape w)) (comingAfterAll e) coming in
       let m = standing .toPart x w (c .middle) (c .first) in
       let r = sounds e (passage shape x w .after) later spelled (rw (m .coming) (c .second)) calls in
       record { after = r .after; sound = aPart m (r .sound); coming = r .coming }
@@ -57,7 +57,7 @@ module _ (table : Table) (shape : Shape) (sites : List (Named Site)) (bound : Bi
       let named = both-right (both (spelledName n) (not (isPredicate n))) (both (spelledItems (namesIn sites) a) (spelledItems (namesIn sites) e)) spelled in
       let p = both-pair (spelledItems (namesIn sites) a) (spelledItems (namesIn sites) e) named in
       let k = both-pair (callsKnown table a) (callsKnown table e) (known .1) in
-      let c = both-some (comingAfterAll a (comingAt shape w)) (comingAfterAll e) later coming in
+      let c = both-some (comingAfterAll a (comingAt shape w)) (comingAfterAll e) coming in
       let q = sounds a w (c .middle) (p .0) (c .first) (k .0) in
       let r = sounds e (q .after) later (p .1) (rw (q .coming) (c .second)) (k .1) in
       record { after = r .after; sound = aCall (known .0) (q .sound) (r .sound); coming = r .coming }

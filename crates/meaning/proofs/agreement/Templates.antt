@@ -42,6 +42,9 @@ module _ (field : Bytes) (place : ℕ) where
     fails : Tried sites failed none
     passes : {known : List (Named ℕ)} → Known sites known → Tried sites passed (some known)
 
+  abbrev pub TriedAll : Tested → Option (List (Named ℕ)) → Type 0
+  TriedAll d o = Tried (d .sites) (checkAll (d .tests) field place) o
+
   -- what is tried next, where all passed so far
   pub next : {before after : List (Named Site)} {c d : Checked} {o : Option (List (Named ℕ))} {f : List (Named ℕ) → Option (List (Named ℕ))} →
       Tried before c o → ((known : List (Named ℕ)) → Known before known → Tried after d (f known)) → Tried after (wherePassed c d) (whereSome o f)
@@ -114,8 +117,8 @@ module _ (field : Bytes) (place : ℕ) where
 
   -- an s-variable's first letter is no test and a new site; each later one is a test and no new site
   symbol-tested : (x : Name) (s : Site) (b : ℕ) (d : Tested) {o : Option (List (Named ℕ))} (first : Option Site) → lookup x (d .sites) ≡ first → cellAt s field place ≡ some b →
-      Tried (d .sites) (checkAll (d .tests) field place) o →
-      Tried (testedSymbol first x s d .sites) (checkAll (testedSymbol first x s d .tests) field place) (whereSome o (takeSymbol x b))
+      TriedAll d o →
+      TriedAll (testedSymbol first x s d) (whereSome o (takeSymbol x b))
   symbol-tested x s b d none e cell tried =
       rw no-test at (next {after = testedSymbol none x s d .sites} {d = passed} {f = takeSymbol x b} tried
       (λ known k. rw (looked-none (rw e at (looked k x))) (passes (known-more x s b cell k))))
@@ -123,8 +126,8 @@ module _ (field : Bytes) (place : ℕ) where
       rw (checkAll-last (d .tests) (compare r s)) (next tried (λ known k. compared x s b cell k (looked-some (rw e at (looked k x)))))
 
   letter-tested : (l : Letter) (s : Site) (b : ℕ) (d : Tested) {o : Option (List (Named ℕ))} → cellAt s field place ≡ some b →
-      Tried (d .sites) (checkAll (d .tests) field place) o →
-      Tried (testedLetter l s d .sites) (checkAll (testedLetter l s d .tests) field place) (whereSome o (letterMatch l b))
+      TriedAll d o →
+      TriedAll (testedLetter l s d) (whereSome o (letterMatch l b))
   letter-tested (character c) s b d cell tried =
       rw (checkAll-last (d .tests) (look s c), cell) (next tried (λ known k. truth (eqb c b) k))
   letter-tested (symbol x) s b d cell tried = symbol-tested x s b d (lookup x (d .sites)) refl cell tried
@@ -132,8 +135,8 @@ module _ (field : Bytes) (place : ℕ) where
   -- THE LEMMA OVER THE PLACE
   pub template-tested : (at : ℕ → Site) (from : ℕ) (ls : List Letter) (bytes : Bytes) (d : Tested) {o : Option (List (Named ℕ))} → length bytes ≡ length ls →
       ((k : ℕ) → k < length bytes → cellAt (at (from + k)) field place ≡ nth k bytes) →
-      Tried (d .sites) (checkAll (d .tests) field place) o →
-      Tried (testedTemplate at from ls d .sites) (checkAll (testedTemplate at from ls d .tests) field place) (whereSome o (templateMatch ls bytes))
+      TriedAll d o →
+      TriedAll (testedTemplate at from ls d) (whereSome o (templateMatch ls bytes))
   unfolding testedTemplate templateMatch nth
   template-tested at from [] bytes d {o} size cells tried = rw (where-last o) tried
   template-tested at from (l ∷ ls) [] d size cells tried = absurd (omega arith)

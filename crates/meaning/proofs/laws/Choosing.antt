@@ -8,7 +8,7 @@ use native.Mathlib.Omega.{arith}
 use borrow.Author.Tests.{eqb-true, eq-eqb}
 use lib.Dec.{eqb}
 use Rattle.meaning.specs.Choice.{Bytes, Name, pick, both, either, guard, orElse, isSome, Named, sameBytes, lookup}
-use Rattle.meaning.specs.Allowed.{member, distinct}
+use Rattle.meaning.specs.Allowed.{member, distinct, whereSome}
 
 pub not-both : {b : Bool} → b ≡ true → b ≡ false → ⊥
 not-both p q = let z : _≡_ {A = ℕ} 0 1 = cc in omega arith
@@ -31,6 +31,25 @@ both-parts false b h = absurd (not-both h refl)
 pub guard-some : {A : Type 0} {a : A} (b : Bool) (o : Option A) → guard b o ≡ some a → (b ≡ true) × (o ≡ some a)
 guard-some true o h = (refl, h)
 guard-some false o h = absurd (some-none h refl)
+
+-- a choice that there is
+pub record Given {A : Type 0} (o : Option A) : Type 0 where
+  pub value : A
+  pub is : o ≡ some value
+
+pub given-some : {A : Type 0} (o : Option A) → isSome o ≡ true → Given o
+given-some none e = absurd (not-both e refl)
+given-some (some a) e = record { value = a; is = refl }
+
+-- two choices of which the second rests on the first
+pub record Both {A B : Type 0} (o : Option A) (k : A → Option B) (b : B) : Type 0 where
+  pub middle : A
+  pub first : o ≡ some middle
+  pub second : k middle ≡ some b
+
+pub both-some : {A B : Type 0} (o : Option A) (k : A → Option B) {b : B} → whereSome o k ≡ some b → Both o k b
+both-some none k e = absurd (some-none e refl)
+both-some (some a) k e = record { middle = a; first = refl; second = e }
 
 pub same-itself : (x : Bytes) → sameBytes x x ≡ true
 unfolding sameBytes

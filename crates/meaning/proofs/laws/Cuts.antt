@@ -7,7 +7,7 @@ use mathlib.Core.Option.{Option, none, some}
 use lib.ListN.{length}
 use Rattle.meaning.specs.Choice.{Bytes, orElse}
 use Rattle.meaning.specs.Rewriting.{shortest}
-use Rattle.meaning.proofs.laws.Choosing.{some-none}
+use Rattle.meaning.proofs.laws.Choosing.{some-none, Given}
 
 -- the first cut that succeeds: no other that succeeds has a shorter front
 pub record Cut {A : Type 0} (k : Bytes → Bytes → Option A) (taken rest : Bytes) (a : A) : Type 0 where
@@ -51,25 +51,18 @@ shortest-cut k taken (b ∷ rest) a h = go (k taken (b ∷ rest)) refl h (shorte
     go (some v) e h later = cut-here k taken (b ∷ rest) a (e ∙ h)
     go none e h later = cut-later k taken b rest a e (later h)
 
-pub record Given {A : Type 0} (o : Option A) : Type 0 where
-  pub value : A
-  pub is : o ≡ some value
-
-pub given : {A : Type 0} {o : Option A} (a : A) → o ≡ some a → Given o
-given a h = record { value = a; is = h }
-
 orElse-first : {A : Type 0} (o later : Option A) (a : A) → o ≡ some a → Given (orElse o later)
-orElse-first o later a h = rw h (given a refl)
+orElse-first o later a h = rw h (record { value = a; is = refl })
 
 orElse-second : {A : Type 0} (o later : Option A) → Given later → Given (orElse o later)
-orElse-second (some v) later g = given v refl
+orElse-second (some v) later g = record { value = v; is = refl }
 orElse-second none later g = g
 
 -- where a cut succeeds, a first one is found
 pub shortest-given : {A : Type 0} (k : Bytes → Bytes → Option A) (taken front back : Bytes) (a : A) → k (taken ++ front) back ≡ some a →
     Given (shortest k taken (front ++ back))
 unfolding shortest
-shortest-given k taken [] [] a h = given a (rw append-nil at h)
+shortest-given k taken [] [] a h = record { value = a; is = rw append-nil at h }
 shortest-given k taken [] (b ∷ back) a h = orElse-first (k taken (b ∷ back)) _ a (rw append-nil at h)
 shortest-given k taken (b ∷ front) back a h =
     orElse-second (k taken (b ∷ (front ++ back))) _ (shortest-given k (taken ++ b ∷ []) front back a (rw append-assoc h))

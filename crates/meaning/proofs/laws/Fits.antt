@@ -13,8 +13,8 @@ use Rattle.meaning.specs.Tree.{Letter, character, symbol, Element, lette
 use Rattle.meaning.specs.Rewriting.{Bindings, unbound, agreed, takeSymbol, holdsFor, hold, shortest, withSymbols, withPart, matchRest, match, partText}
 use Rattle.meaning.specs.Fits.{oneByte, standsFor, joined, filled, Fits}
 use Rattle.meaning.specs.Allowed.{member, added, symbolsFrom, symbolsOf, partsOf, parted, distinct, spelledElement, allowedPattern, allowedConditions}
-use Rattle.meaning.proofs.laws.Choosing.{not-both, is-false, either-second, some-none, both-parts, guard-some, same-itself, same-bytes, lookup-append, lookup-one, namesIn, names-append, member-bound, distinct-second}
-use Rattle.meaning.proofs.laws.Cuts.{Cut, Given, shortest-cut, shortest-given}
+use Rattle.meaning.proofs.laws.Choosing.{Given, not-both, is-false, either-second, some-none, both-parts, guard-some, same-itself, same-bytes, lookup-append, lookup-one, namesIn, names-append, member-bound, distinct-second}
+use Rattle.meaning.proofs.laws.Cuts.{Cut, shortest-cut, shortest-given}
 
 nil-cons : {A : Type 0} {x : A} {xs : List A} → _≡_ {A = List A} [] (x ∷ xs) → ⊥
 nil-cons h = let z : _≡_ {A = ℕ} 0 1 = cc in omega arith

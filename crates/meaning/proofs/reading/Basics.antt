@@ -11,16 +11,15 @@ use Rattle.meaning.specs.Choice.{Bytes, Name, both}
 use Rattle.meaning.specs.Tokens.{Token, functionName, word, quoted, sign, textEnd, malformed, Placed}
 use Rattle.meaning.specs.Reading.{Parsed, stopped, parsed, follow, check, whether, faultUnless, isSign, nameOf, pass, passName, nameOn, noItem, itemOf}
 use Rattle.meaning.specs.Grammar.{standing, symbolWord, partWord}
+use Rattle.meaning.proofs.laws.Choosing.{both-parts}
 
 -- TESTS
 
 pub both-left : (a b : Bool) → both a b ≡ true → a ≡ true
-both-left true b e = refl
-both-left false b e = e
+both-left a b e = both-parts a b e .0
 
 pub both-right : (a b : Bool) → both a b ≡ true → b ≡ true
-both-right true b e = e
-both-right false b e = absurd (false≢true e)
+both-right a b e = both-parts a b e .1
 
 pub both-true : {a b : Bool} → a ≡ true → b ≡ true → both a b ≡ true
 both-true p q = rw (p, q)

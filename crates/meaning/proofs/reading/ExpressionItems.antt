@@ -15,7 +15,7 @@ use Rattle.meaning.specs.Allowed.{isByte, member, itemsIn, nesting, spel
 use Rattle.meaning.specs.Grammar.{written}
 use Rattle.meaning.specs.Reading.{Item, characters, symbolItem, partItem, noItem, isItem, Progress, itemCount, comingPast, comingOr, pastItem, itemFault, faultUnless, thenItem}
 use Rattle.meaning.proofs.reading.Basics.{both-left, both-right, both-true, impossible, passed}
-use Rattle.meaning.proofs.laws.Choosing.{same-bytes}
+use Rattle.meaning.proofs.laws.Choosing.{both-some, same-bytes}
 use Rattle.meaning.proofs.reading.Lists.{both-assoc, member-every}
 use Rattle.meaning.proofs.reading.Sound.{soundItem, spelled-identifier-short}
 
@@ -160,10 +160,6 @@ coming-every f x [] h e = let z : _≡_ {A = ℕ} 0 1 = cc in absurd (omega arit
 coming-every f x (y ∷ ys) h e =
     coming-step f (sameBytes x y) x y ys (comingAfter x ys) refl h e (λ g. coming-every f x ys (both-right (f y) (every f ys) h) g)
 
-pub where-some : {A B : Type 0} (o : Option A) (k : A → Option B) {b : B} → whereSome o k ≡ some b → (a : A) × (o ≡ some a) × (k a ≡ some b)
-where-some none k e = let z : _≡_ {A = ℕ} 0 1 = cc in absurd (omega arith)
-where-some (some a) k e = (a, refl, e)
-
 -- an item of an expression that leads within the limits passes its tests
 pub record ItemLed (symbols : List Name) (depth : ℕ) (so : Progress) (item : Item) (e : Expression) (then : Progress) : Type 0 where
   pub faultless : itemFault symbols so item ≡ 0
@@ -198,19 +194,19 @@ pub item-led : (symbols : List Name) (depth : ℕ) (so : Progress) (item : Item)
     → every spelledIdentifier symbols ≡ true → every spelledIdentifier (so .coming) ≡ true
     → Leads symbols depth so (thenItem item e) then → ItemLed symbols depth so item e then
 item-led symbols depth so item e then s c l =
-    let order = where-some (itemComing item (so .coming)) (comingAfterAll e) (rw (item-order item e (so .coming)) at (l .order)) in
+    let order = both-some (itemComing item (so .coming)) (comingAfterAll e) (rw (item-order item e (so .coming)) at (l .order)) in
     let spelled = rw (item-spelled symbols item e) at (l .spelled) in
     let items = rw (item-items item e) at (l .items) in
     let room = l .room in
     record {
       faultless =
-          item-faultless symbols so item s c (omega arith) (both-left (itemSpelled symbols item) (spelledItems symbols e) spelled) (order .1);
-      coming = past-every item (so .coming) (order .1) c;
+          item-faultless symbols so item s c (omega arith) (both-left (itemSpelled symbols item) (spelledItems symbols e) spelled) (order .first);
+      coming = past-every item (so .coming) (order .first) c;
       leads =
           record {
             items = omega arith;
             room = l .room;
-            order = rw (coming-past item (so .coming) (order .1)) (order .2);
+            order = rw (coming-past item (so .coming) (order .first)) (order .second);
             spelled = both-right (itemSpelled symbols item) (spelledItems symbols e) spelled;
             deep = rw (item-nesting item e) at (l .deep);
           };

@@ -15,9 +15,10 @@ use Rattle.meaning.specs.Allowed.{itemsIn, nesting, spelledItems, spelle
 use Rattle.meaning.specs.Tokens.{functionName, quoted, sign, Placed}
 use Rattle.meaning.specs.Grammar.{standing, symbolWord, partWord, IsExpression, noItems, stringThen, symbolThen, partThen, callThen}
 use Rattle.meaning.specs.Reading.{parsed, itemOf, isItem, thenItem, isSign, Progress, pastItem, pastCall, callFault, calledFault, expression}
+use Rattle.meaning.proofs.laws.Choosing.{both-some}
 use Rattle.meaning.proofs.reading.Basics.{both-left, both-right}
 use Rattle.meaning.proofs.reading.Sound.{spelled-name-short}
-use Rattle.meaning.proofs.reading.ExpressionItems.{Leads, item-led, where-some, coming-every}
+use Rattle.meaning.proofs.reading.ExpressionItems.{Leads, item-led, coming-every}
 
 -- WHAT LEADS WITHIN THE LIMITS
 
@@ -36,11 +37,11 @@ coming-all-every f end coming {then} h e = let same : coming ≡ then = cc in rw
 coming-all-every f (thenCharacter c e) coming h p = coming-all-every f e coming h p
 coming-all-every f (thenSymbol x e) coming h p = coming-all-every f e coming h p
 coming-all-every f (thenPart x e) coming h p =
-    let w = where-some (comingAfter x coming) (comingAfterAll e) p in
-    coming-all-every f e (w .0) ((coming-every f x coming h (w .1)) .1) (w .2)
+    let w = both-some (comingAfter x coming) (comingAfterAll e) p in
+    coming-all-every f e (w .middle) ((coming-every f x coming h (w .first)) .1) (w .second)
 coming-all-every f (thenCall place n a e) coming h p =
-    let w = where-some (comingAfterAll a coming) (comingAfterAll e) p in
-    coming-all-every f e (w .0) (coming-all-every f a coming h (w .1)) (w .2)
+    let w = both-some (comingAfterAll a coming) (comingAfterAll e) p in
+    coming-all-every f e (w .middle) (coming-all-every f a coming h (w .first)) (w .second)
 
 -- a call of an expression that leads within the limits passes its tests
 record CallLed (symbols : List Name) (depth : ℕ) (so : Progress) (n : Name) (a e : Expression) (then : Progress) : Type 0 where
@@ -56,23 +57,23 @@ call-led : (symbols : List Name) (depth : ℕ) (so : Progress) (place : ℕ) (n 
     → Leads symbols depth so (thenCall place n a e) then → CallLed symbols depth so n a e then
 unfolding itemsIn comingAfterAll spelledItems nesting
 call-led symbols depth so place n a e then c l =
-    let w = where-some (comingAfterAll a (so .coming)) (comingAfterAll e) (l .order) in
+    let w = both-some (comingAfterAll a (so .coming)) (comingAfterAll e) (l .order) in
     let items = l .items in
     let room = l .room in
     let deep = l .deep in
     let name = both-left (both (spelledName n) (not (isPredicate n))) (both (spelledItems symbols a) (spelledItems symbols e)) (l .spelled) in
     let inside = both-right (both (spelledName n) (not (isPredicate n))) (both (spelledItems symbols a) (spelledItems symbols e)) (l .spelled) in
     record {
-      between = record { items = so .items + 1 + itemsIn a; coming = w .0 };
+      between = record { items = so .items + 1 + itemsIn a; coming = w .middle };
       faultless = rw (lt-ltb depth maxNesting (omega arith), le-leb (so .items + 1) maxItems (omega arith));
       named =
           rw (spelled-name-short n (both-left (spelledName n) (not (isPredicate n)) name), both-right (spelledName n) (not (isPredicate n)) name);
-      coming = coming-all-every spelledIdentifier a (so .coming) c (w .1);
+      coming = coming-all-every spelledIdentifier a (so .coming) c (w .first);
       inner =
           record {
             items = refl;
             room = omega arith;
-            order = w .1;
+            order = w .first;
             spelled = both-left (spelledItems symbols a) (spelledItems symbols e) inside;
             deep = omega arith;
           };
@@ -80,7 +81,7 @@ call-led symbols depth so place n a e then c l =
           record {
             items = omega arith;
             room = l .room;
-            order = w .2;
+            order = w .second;
             spelled = both-right (spelledItems symbols a) (spelledItems symbols e) inside;
             deep = omega arith;
           };
@@ -127,7 +128,7 @@ pub ends-with : (c place past : ℕ) (rest : List Placed) → eqb c 60 ≡ false
 ends-with c place past rest e = record { first = standing (sign c) place past; others = rest; shape = refl; none-item = refl; none-call = e }
 
 module _ (symbols : List Name) (s : every spelledIdentifier symbols ≡ true) where
-  itemed-complete : {ts rest : List Placed} {e : Expression} → IsItemed ts e rest → Ends rest
+  pub itemed-complete : {ts rest : List Placed} {e : Expression} → IsItemed ts e rest → Ends rest
       → (bound depth : ℕ) (so then : Progress) → every spelledIdentifier (so .coming) ≡ true → length ts ≤ bound
       → Leads symbols depth so e then
       → expression bound symbols depth so ts ≡ parsed (record { expression = e; progress = then }) rest
@@ -147,9 +148,3 @@ module _ (symbols : List Name) (s : every spelledIdentifier symbols ≡ true) wh
         itemed-complete k (ends-with 62 at₃ past₃ ts₁ refl) bound (suc depth) (pastCall so) (i .between) c (omega arith) (i .inner),
         itemed-complete d h bound depth (i .between) then (i .coming) (omega (arith, itemed-shorter k)) (i .outer),
       )
-
-  pub expression-complete : {ts rest : List Placed} {e : Expression} → IsExpression ts e rest → Ends rest
-      → (bound depth : ℕ) (so then : Progress) → every spelledIdentifier (so .coming) ≡ true → length ts ≤ bound
-      → Leads symbols depth so e then
-      → expression bound symbols depth so ts ≡ parsed (record { expression = e; progress = then }) rest
-  expression-complete d = itemed-complete (itemed d)

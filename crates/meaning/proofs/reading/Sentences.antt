@@ -3,7 +3,6 @@ use Prim.Native.Nat.{ℕ}
 use mathlib.Core.Path.{_≡_, refl, sym, ap, subst}
 use mathlib.Core.Bool.{Bool, true, false}
 use mathlib.Core.List.{List, [], _∷_, _++_}
-use mathlib.Core.Option.{Option, none, some}
 use native.Mathlib.Omega.{arith}
 use borrow.Author.Tests.{leb-true, le-leb}
 use lib.Dec.{leb}
@@ -14,7 +13,8 @@ use Rattle.meaning.specs.Allowed.{spelledElement, spelledIdentifier, mem
 use Rattle.meaning.specs.Tokens.{sign, Placed}
 use Rattle.meaning.specs.Grammar.{standing, IsPattern, IsConditions, noConditions, conditionThen, IsSentence, isSentence}
 use Rattle.meaning.specs.Reading.{Parsed, parsed, follow, pass, itemOf, isItem, begins, Progress, Items, pattern, conditions, expression, sentence}
-use Rattle.meaning.proofs.reading.Basics.{both-left, both-right, both-true, impossible, Followed, follow-parsed, Passed, pass-parsed}
+use Rattle.meaning.proofs.laws.Choosing.{given-some}
+use Rattle.meaning.proofs.reading.Basics.{both-left, both-right, both-true, Followed, follow-parsed, Passed, pass-parsed}
 use Rattle.meaning.proofs.reading.Lists.{every-append}
 use Rattle.meaning.proofs.reading.Sound.{soundTokens, sound-rest}
 use Rattle.meaning.proofs.reading.PatternFacts.{PatternFacts, pattern-facts, facts-pattern}
@@ -22,7 +22,7 @@ use Rattle.meaning.proofs.reading.Patterns.{IsItems, noMore, itemThen, 
 use Rattle.meaning.proofs.reading.Conditions.{ConditionsRead, conditions-sound, conditions-complete, allKnown}
 use Rattle.meaning.proofs.reading.ExpressionItems.{Leads}
 use Rattle.meaning.proofs.reading.Expressions.{ExpressionRead, expression-sound}
-use Rattle.meaning.proofs.reading.ExpressionsComplete.{Ends, expression-complete}
+use Rattle.meaning.proofs.reading.ExpressionsComplete.{itemed, Ends, itemed-complete}
 
 -- the empty pattern is allowed
 empty-facts : PatternFacts []
@@ -69,23 +69,19 @@ leads-allowed symbols parts e then l =
     both-true (l .spelled)
     (both-true (ap isSome (l .order)) (both-true (le-leb (itemsIn e) maxItems (omega arith)) (le-leb (nesting e) maxNesting (omega arith))))
 
-pub some-of : {A : Type 0} (o : Option A) → isSome o ≡ true → (a : A) × (o ≡ some a)
-some-of none e = impossible e
-some-of (some a) e = (a, refl)
-
 allowed-leads : (symbols parts : List Name) (e : Expression) → allowedExpression symbols parts e ≡ true
     → (then : Progress) × Leads symbols 0 (start parts) e then
 allowed-leads symbols parts e a =
     let a₁ = both-right (spelledItems symbols e) _ a in
     let a₂ = both-right (isSome (comingAfterAll e parts)) _ a₁ in
-    let order = some-of (comingAfterAll e parts) (both-left (isSome (comingAfterAll e parts)) _ a₁) in
+    let order = given-some (comingAfterAll e parts) (both-left (isSome (comingAfterAll e parts)) _ a₁) in
     let room = leb-true (itemsIn e) maxItems (both-left (leb (itemsIn e) maxItems) (leb (nesting e) maxNesting) a₂) in
     let deep = leb-true (nesting e) maxNesting (both-right (leb (itemsIn e) maxItems) (leb (nesting e) maxNesting) a₂) in (
-      record { items = itemsIn e; coming = order .0 },
+      record { items = itemsIn e; coming = order .value },
       record {
         items = omega arith;
         room = room;
-        order = order .1;
+        order = order .is;
         spelled = both-left (spelledItems symbols e) _ a;
         deep = omega arith;
       },
@@ -182,7 +178,7 @@ sentence-complete (isSentence {ts = ts} {ts₂ = ts₂} {place = place} {past = 
       conditions-complete maxConditions (symbolsOf p) symbols d₂ (standing (sign 61) place past) ts₂ refl refl
           (both-left (allKnown (symbolsOf p) cs) (leb (length cs) maxConditions) known)
           (leb-true (length cs) maxConditions (both-right (allKnown (symbolsOf p) cs) (leb (length cs) maxConditions) known)),
-      expression-complete (symbolsOf p) symbols d₃ h (length ts₂) 0 (start (partsOf p)) then (parts-spelled p (f .spelled)) (omega arith) leads,
+      itemed-complete (symbolsOf p) symbols (itemed d₃) h (length ts₂) 0 (start (partsOf p)) then (parts-spelled p (f .spelled)) (omega arith) leads,
     )
 
 -- a sentence begins with a token that a sentence can begin with

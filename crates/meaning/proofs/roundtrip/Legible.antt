@@ -7,10 +7,10 @@ use Rattle.meaning.specs.Choice.{Name, both, every, isSome}
 use Rattle.meaning.specs.Tree.{Expression, end, thenCharacter, thenSymbol, thenPart, thenCall}
 use Rattle.meaning.specs.Names.{isPredicate}
 use Rattle.meaning.specs.Allowed.{isByte, spelledName, spelledIdentifier, member, comingAfter, comingAfterAll, spelledItems, allowedExpression}
+use Rattle.meaning.proofs.laws.Choosing.{given-some, both-some}
 use Rattle.meaning.proofs.reading.Basics.{both-left, both-right, both-true}
 use Rattle.meaning.proofs.reading.Lists.{member-every}
-use Rattle.meaning.proofs.reading.ExpressionItems.{coming-every, where-some}
-use Rattle.meaning.proofs.reading.Sentences.{some-of}
+use Rattle.meaning.proofs.reading.ExpressionItems.{coming-every}
 
 unfoldable pub legible : Expression → Bool
 legible end = true
@@ -37,20 +37,20 @@ spelled-legible symbols known (thenSymbol x e) coming spelled items order =
     let l = spelled-legible symbols known e coming spelled (both-right (member x symbols) _ items) order in
     record { whole = both-true (member-every spelledIdentifier x symbols known (both-left (member x symbols) _ items)) (l .whole); later = l .later }
 spelled-legible symbols known (thenPart x e) coming spelled items order =
-    let (between, first, then) = where-some (comingAfter x coming) (comingAfterAll e) order in
-    let (this, others) = coming-every spelledIdentifier x coming spelled first in
-    let l = spelled-legible symbols known e between others items then in
+    let w = both-some (comingAfter x coming) (comingAfterAll e) order in
+    let (this, others) = coming-every spelledIdentifier x coming spelled (w .first) in
+    let l = spelled-legible symbols known e (w .middle) others items (w .second) in
     record { whole = both-true this (l .whole); later = l .later }
 spelled-legible symbols known (thenCall place n a e) coming spelled items order =
-    let (between, first, then) = where-some (comingAfterAll a coming) (comingAfterAll e) order in
+    let w = both-some (comingAfterAll a coming) (comingAfterAll e) order in
     let named = both-left (spelledName n) (not (isPredicate n)) (both-left (both (spelledName n) (not (isPredicate n))) _ items) in
     let others = both-right (both (spelledName n) (not (isPredicate n))) (both (spelledItems symbols a) (spelledItems symbols e)) items in
-    let inner = spelled-legible symbols known a coming spelled (both-left (spelledItems symbols a) (spelledItems symbols e) others) first in
-    let outer = spelled-legible symbols known e between (inner .later) (both-right (spelledItems symbols a) (spelledItems symbols e) others) then in
+    let inner = spelled-legible symbols known a coming spelled (both-left (spelledItems symbols a) (spelledItems symbols e) others) (w .first) in
+    let outer = spelled-legible symbols known e (w .middle) (inner .later) (both-right (spelledItems symbols a) (spelledItems symbols e) others) (w .second) in
     record { whole = both-true named (both-true (inner .whole) (outer .whole)); later = outer .later }
 
 pub allowed-legible : (symbols parts : List Name) (e : Expression) → every spelledIdentifier symbols ≡ true → every spelledIdentifier parts ≡ true →
     allowedExpression symbols parts e ≡ true → legible e ≡ true
 allowed-legible symbols parts e known spelled allows =
-    let (after, order) = some-of (comingAfterAll e parts) (both-left (isSome (comingAfterAll e parts)) _ (both-right (spelledItems symbols e) _ allows)) in
-    spelled-legible symbols known e parts spelled (both-left (spelledItems symbols e) _ allows) order .whole
+    let order = given-some (comingAfterAll e parts) (both-left (isSome (comingAfterAll e parts)) _ (both-right (spelledItems symbols e) _ allows)) in
+    spelled-legible symbols known e parts spelled (both-left (spelledItems symbols e) _ allows) (order .is) .whole
