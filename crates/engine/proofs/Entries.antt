@@ -4,12 +4,13 @@ use native.Mathlib.Omega.{arith}
 use mathlib.Core.Path.{_≡_, refl}
 use mathlib.Core.Bool.{Bool, true, false}
 use mathlib.Core.List.{List, [], _∷_}
-use lib.Dec.{leb}
+use lib.Dec.{T, leb}
 use lib.ListN.{length, take}
 use borrow.Author.Tests.{le-leb}
 use Rattle.meaning.specs.Choice.{Bytes, pick, every}
 use Rattle.meaning.specs.Answers.{finished, bufferTooShort}
-use Rattle.meaning.specs.Allowed.{distinct, sentencesIn}
+use Rattle.meaning.specs.Tree.{Table}
+use Rattle.meaning.specs.Allowed.{distinct, sentencesIn, allowed}
 use Rattle.meaning.specs.Tape.{tape}
 use Rattle.meaning.specs.Reading.{Read, accepted, refused, read}
 use Rattle.meaning.specs.Listing.{listing}
@@ -19,7 +20,7 @@ use Rattle.meaning.specs.Leaving.{zeros, padded, over}
 use Rattle.meaning.specs.Entries.{answered, readAnswer, written, listed, translated}
 use Rattle.reading.specs.declared.Reading.{Reading}
 use Rattle.bookkeeping.specs.Answered.{numberOf}
-use Rattle.reading.specs.Reads.{Reads, treeTape}
+use Rattle.reading.specs.Reads.{Reads}
 use Rattle.reading.proofs.Verdict.{tree-words}
 use Rattle.items.specs.declared.State.the-variants.{Start}
 use Rattle.listing.specs.declared.Listed.{Listed}
@@ -55,22 +56,11 @@ refused-read : (x : Read) {number place count : ℕ} → answered number place c
 refused-read (accepted t) e ne = absurd (ne (cc))
 refused-read (refused n k) e ne = cc
 
-lists : (x : Read) → Known x → {number place count : ℕ} → answered number place count ≡ readAnswer x → number ≡ 0
-    → {words : List ℕ} {lent after : Bytes} {l : Listed} → words ≡ treeTape x → Lists (listFrom Start words) lent l after
-    → written (bufferAnswer (l .fits) (l .length)) after ≡ listed x lent
-lists (accepted t) known e z {lent = lent} w l =
-    let leaves = rw (w, tape-listed t known) at l in
-    buffered (leb (length (listing t)) (length lent)) (length (listing t)) (over (listing t) lent) lent (leaves .fits) (leaves .size) (leaves .cells)
-lists (refused n k) known e z w l = absurd (known (cc))
-
-translates : (x : Read) → Known x → {number place count : ℕ} → answered number place count ≡ readAnswer x → number ≡ 0
-    → {words : List ℕ} {room : ℕ} {after : List ℕ} {l : Translated} → words ≡ treeTape x → Translates (codeOf words) room l after
-    → written (bufferAnswer (l .fits) (l .words)) after ≡ translated x room
-translates (accepted t) known e z {room = room} w l =
-    let code = pack (translate t) in
-    let leaves = rw (w, tape-translated t known) at l in
-    buffered (leb (length code) room) (length code) (padded code room) (zeros room) (leaves .fits) (leaves .count) (leaves .cells)
-translates (refused n k) known e z w l = absurd (known (cc))
+-- and 0 is that of an allowed table
+accepted-read : (x : Read) → Known x → {number place count : ℕ} → answered number place count ≡ readAnswer x → number ≡ 0
+    → (t : Table) × (x ≡ accepted t) × T (allowed t)
+accepted-read (accepted t) known e z = (t, refl, known)
+accepted-read (refused n k) known e z = absurd (known (cc))
 
 module _ {text : Bytes} {r : Reading} {words : List ℕ} (reads : Reads text r words) {number : ℕ} (told : number ≡ numberOf (r .answer)) where
   answers : answered number (r .place) (r .functions) ≡ readAnswer (read text)
@@ -94,8 +84,16 @@ module _ {text : Bytes} {r : Reading} {words : List ℕ} (reads : Reads text r w
 
   pub accepted-listed : AreBytes text → number ≡ 0 → {lent after : Bytes} {l : Listed}
       → Lists (listFrom Start (take (r .words) words)) lent l after → written (bufferAnswer (l .fits) (l .length)) after ≡ listed (read text) lent
-  accepted-listed bytes z l = lists (read text) (read-known text bytes) answers z (tree-words reads) l
+  accepted-listed bytes z {lent = lent} l =
+      let (t, is, known) = accepted-read (read text) (read-known text bytes) answers z in
+      let leaves = rw (rw is at (tree-words reads), tape-listed t known) at l in
+      rw is
+      (buffered (leb (length (listing t)) (length lent)) (length (listing t)) (over (listing t) lent) lent (leaves .fits) (leaves .size) (leaves .cells))
 
   pub accepted-translated : AreBytes text → number ≡ 0 → {room : ℕ} {after : List ℕ} {l : Translated}
       → Translates (codeOf (take (r .words) words)) room l after → written (bufferAnswer (l .fits) (l .words)) after ≡ translated (read text) room
-  accepted-translated bytes z l = translates (read text) (read-known text bytes) answers z (tree-words reads) l
+  accepted-translated bytes z {room = room} l =
+      let (t, is, known) = accepted-read (read text) (read-known text bytes) answers z in
+      let code = pack (translate t) in
+      let leaves = rw (rw is at (tree-words reads), tape-translated t known) at l in
+      rw is (buffered (leb (length code) room) (length code) (padded code room) (zeros room) (leaves .fits) (leaves .count) (leaves .cells))

@@ -25,13 +25,10 @@ record Kept (leaving : Leaving) : Type 0 where
   emissions : take (length (leaving .result .emissions)) (leaving .cells .journal) ≡ leaving .result .emissions
   text : take (length (leaving .result .text)) (leaving .cells .stackOut) ≡ leaving .result .text
 
-kept-either : (b : Bool) {x y : Leaving} → Kept x → Kept y → Kept (pick b x y)
-kept-either true k l = k
-kept-either false k l = l
-
-kept-code : (b : Bool) (x y : TableRun) → Kept (x .leaving) → Kept (y .leaving) → Kept (pick b x y .leaving)
-kept-code true x y k l = k
-kept-code false x y k l = l
+-- of two, whatever they leave by
+kept-either : {A : Type 0} (leavingOf : A → Leaving) (b : Bool) (x y : A) → Kept (leavingOf x) → Kept (leavingOf y) → Kept (leavingOf (pick b x y))
+kept-either leavingOf true x y k l = k
+kept-either leavingOf false x y k l = l
 
 kept-unrun : (number : ℕ) (lent : Cells) → Kept (unrun number lent)
 kept-unrun number lent = record { emissions = refl; text = refl }
@@ -43,9 +40,9 @@ kept-left r lent =
 table-kept : (x : Read) (room start : ℕ) (text : Bytes) (lent : Cells) (allowance : ℕ) → Kept (tableRun x room start text lent allowance .leaving)
 table-kept (refused number place) room start text lent allowance = kept-unrun number lent
 table-kept (accepted t) room start text lent allowance =
-    kept-code (leb (length (pack (translate t))) room) (withCode t room start text lent allowance) (withoutCode bufferTooShort 0 room lent)
-    (kept-either (hasFunction t start)
-    (kept-either (leb (length text) (length (lent .stackIn)))
+    kept-either (λ run. run .leaving) (leb (length (pack (translate t))) room) (withCode t room start text lent allowance) (withoutCode bufferTooShort 0 room lent)
+    (kept-either (λ l. l) (hasFunction t start) _ _
+    (kept-either (λ l. l) (leb (length text) (length (lent .stackIn))) _ _
     (kept-left (demanded (roomOf lent) t start text allowance) lent)
     (kept-unrun textTooLong lent))
     (kept-unrun noSuchStart lent))
