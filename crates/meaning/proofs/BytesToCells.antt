@@ -8,9 +8,7 @@ use borrow.Author.Tests.{le-leb}
 use Rattle.meaning.specs.Choice.{Bytes}
 use Rattle.meaning.specs.Answers.{finished}
 use Rattle.meaning.specs.Tree.{Table}
-use Rattle.meaning.specs.Allowed.{maxTable, allowed}
-use Rattle.meaning.specs.Tokens.{tokens}
-use Rattle.meaning.specs.Grammar.{IsProgram}
+use Rattle.meaning.specs.Allowed.{allowed}
 use Rattle.meaning.specs.Reading.{accepted, read}
 use Rattle.meaning.specs.Machine.{isDeclared}
 use Rattle.meaning.specs.Translation.{translate}
@@ -18,19 +16,16 @@ use Rattle.meaning.specs.Packing.{pack}
 use Rattle.meaning.specs.Leaving.{Cells, zeros, left, roomOf, leaving, padded}
 use Rattle.meaning.specs.Entries.{answered, translated}
 use Rattle.meaning.specs.Demanded.{demanded}
-use Rattle.meaning.proofs.reading.Accepted.{allows-accepted}
-use Rattle.meaning.proofs.agreement.Choosing.{passed-true}
+use Rattle.meaning.proofs.reading.Accepted.{Allows, allows-accepted}
+use Rattle.meaning.proofs.agreement.Choosing.{true-passed}
 use Rattle.meaning.proofs.Demand3.{on-words, as-demanded}
 
--- a table text that the grammar and the rules allow, with its tree
-pub record Admitted (table : Bytes) (t : Table) : Type 0 where
-  pub short : length table ≤ maxTable
-  pub derived : IsProgram (tokens table) t
-  pub rules : T (allowed t)
-
-module _ {table : Bytes} {t : Table} (a : Admitted table t) (room : ℕ) (fits : length (pack (translate t)) ≤ room) where
+module _ {table : Bytes} {t : Table} (a : Allows table t) (room : ℕ) (fits : length (pack (translate t)) ≤ room) where
   tree : read table ≡ accepted t
-  tree = allows-accepted table t (record { short = a .short; derived = a .derived; within = passed-true (allowed t) (a .rules) })
+  tree = allows-accepted table t a
+
+  rules : T (allowed t)
+  rules = true-passed (allowed t) (a .within)
 
   -- translating answers 0 and the length of the code, and leaves the code with zeros after it
   pub code-left : (translated (read table) room .answer ≡ answered finished 0 (length (pack (translate t)))) ×
@@ -41,5 +36,5 @@ module _ {table : Bytes} {t : Table} (a : Admitted table t) (room : ℕ) (fits :
   pub run-left : (start : ℕ) (text : Bytes) (cells : Cells) (allowance : ℕ) → T (isDeclared (translate t) start) → length text ≤ length (cells .stackIn) →
       leaving (translated (read table) room .buffer) start text cells allowance ≡ left (demanded (roomOf cells) t start text allowance) cells
   run-left start text cells allowance declared inside =
-      rw (code-left .1, on-words t (a .rules) start text allowance (zeros (room - length (pack (translate t)))) cells declared inside)
-      (ap (λ r. left r cells) (as-demanded t (a .rules) start text allowance (roomOf cells)))
+      rw (code-left .1, on-words t rules start text allowance (zeros (room - length (pack (translate t)))) cells declared inside)
+      (ap (λ r. left r cells) (as-demanded t rules start text allowance (roomOf cells)))

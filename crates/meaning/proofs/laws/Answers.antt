@@ -17,16 +17,21 @@ pub data Ends (answer function : ℕ) : Type 0 where
   unfitted : answer ≡ noSentenceFits → Ends answer function
   spent : answer ≡ allowanceSpent → function ≡ 0 → Ends answer function
 
-abbrev pub Plain : {A : Type 0} → Outcome A Tally → Type 0
-Plain (done v t) = Unit {0}
-Plain (stop answer function t) = Ends answer function
+-- what stops, stops so
+abbrev pub StopsSo : {A L : Type 0} → (ℕ → ℕ → Type 0) → Outcome A L → Type 0
+StopsSo so (done v l) = Unit {0}
+StopsSo so (stop answer function l) = so answer function
 
-andThen-plain : {A B : Type 0} (o : Outcome A Tally) (k : A → Tally → Outcome B Tally) → Plain o → ((v : A) (t : Tally) → Plain (k v t)) → Plain (andThen o k)
-andThen-plain (done v t) k p h = h v t
-andThen-plain (stop answer function t) k p h = p
+pub then-stops : {A B L : Type 0} (so : ℕ → ℕ → Type 0) (o : Outcome A L) (k : A → L → Outcome B L) → StopsSo so o →
+    ((v : A) (l : L) → StopsSo so (k v l)) → StopsSo so (andThen o k)
+then-stops so (done v l) k p h = h v l
+then-stops so (stop answer function l) k p h = p
+
+abbrev pub Plain : {A : Type 0} → Outcome A Tally → Type 0
+Plain = StopsSo Ends
 
 before-plain : (text : Bytes) (o : Outcome Bytes Tally) → Plain o → Plain (before text o)
-before-plain text o p = andThen-plain o (λ rest t. done (text ++ rest) t) p (λ v t. tt)
+before-plain text o p = then-stops Ends o (λ rest t. done (text ++ rest) t) p (λ v t. tt)
 
 module _ (call : Name → Bytes → Tally → Outcome Bytes Tally) (plain : (n : Name) (text : Bytes) (t : Tally) → Plain (call n text t)) (bound : Bindings) where
   evaluate-plain : (e : Expression) (t : Tally) → Plain (evaluate call bound e t)
@@ -36,8 +41,8 @@ module _ (call : Name → Bytes → Tally → Outcome Bytes Tally) (plain : (n :
   evaluate-plain (thenSymbol x e) t = before-plain (symbolText (lookup x (bound .symbols))) (evaluate call bound e t) (evaluate-plain e t)
   evaluate-plain (thenPart x e) t = before-plain (partText (lookup x (bound .parts))) (evaluate call bound e t) (evaluate-plain e t)
   evaluate-plain (thenCall place n a e) t =
-      andThen-plain (evaluate call bound a t) (λ text t₁. andThen (call n text t₁) (λ given t₂. before given (evaluate call bound e t₂))) (evaluate-plain a t)
-      (λ text t₁. andThen-plain (call n text t₁) (λ given t₂. before given (evaluate call bound e t₂)) (plain n text t₁)
+      then-stops Ends (evaluate call bound a t) (λ text t₁. andThen (call n text t₁) (λ given t₂. before given (evaluate call bound e t₂))) (evaluate-plain a t)
+      (λ text t₁. then-stops Ends (call n text t₁) (λ given t₂. before given (evaluate call bound e t₂)) (plain n text t₁)
       (λ given t₂. before-plain given (evaluate call bound e t₂) (evaluate-plain e t₂)))
 
 picked-plain : (first : Bool) (a b : Outcome Bytes Tally) → Plain a → Plain b → Plain (pick first a b)

@@ -41,14 +41,6 @@ each-back : {A : Type 0} (Fits : A → Type 0) (packed : A → ℕ) (unpacked : 
 each-back Fits packed unpacked none one nil rest = none rest
 each-back Fits packed unpacked none one (cons f fs) rest = one _ _ _ f ∙ rw (each-back Fits packed unpacked none one fs rest)
 
-tests-back : {tests : List Test} → All FitsTest tests → (rest : Words) → unpackTests (length tests) (map testWord tests ++ rest) ≡ tests
-unfolding unpackTests
-tests-back = each-back FitsTest testWord unpackTests (λ ws. refl) (λ n t ws f. rw (test-back t f))
-
-stores-back : {stores : List Store} → All FitsStore stores → (rest : Words) → unpackStores (length stores) (map storeWord stores ++ rest) ≡ stores
-unfolding unpackStores
-stores-back = each-back FitsStore storeWord unpackStores (λ ws. refl) (λ n t ws f. rw (store-back t f))
-
 -- what passes over a word where there are words to skip passes over as many as it is to skip
 skipped : {A : Type 0} (unpacked : ℕ → Words → A) → ((n w : ℕ) (ws : Words) → unpacked (suc n) (w ∷ ws) ≡ unpacked n ws) →
     (over ws : Words) → unpacked (length over) (over ++ ws) ≡ unpacked 0 ws
@@ -164,7 +156,13 @@ module _ (limit : ℕ) (metric : Metric) (tests : List Test) (stores : List Stor
       (drop-at (map storeWord stores) (packActions actions ++ ws) (length stores) (length-map stores storeWord))
 
   tests-first : (ws : Words) → unpackTests (length tests) (bodyWords tests stores actions ++ ws) ≡ tests
-  tests-first ws = rw append-assoc (tests-back (f .eachTest) ((map storeWord stores ++ packActions actions) ++ ws))
+  unfolding unpackTests
+  tests-first ws = rw append-assoc
+      (each-back FitsTest testWord unpackTests (λ ws. refl) (λ n t ws f. rw (test-back t f)) (f .eachTest) ((map storeWord stores ++ packActions actions) ++ ws))
+
+  stores-first : (rest : Words) → unpackStores (length stores) (map storeWord stores ++ rest) ≡ stores
+  unfolding unpackStores
+  stores-first = each-back FitsStore storeWord unpackStores (λ ws. refl) (λ n t ws f. rw (store-back t f)) (f .eachStore)
 
   body-back : (v body : ℕ) (ws : Words) (more : Sentences) → Counts v (length tests) (length stores) body →
       bodyOf metric v (bodyWords tests stores actions ++ ws) more ≡ sentence metric tests stores actions more
@@ -175,8 +173,7 @@ module _ (limit : ℕ) (metric : Metric) (tests : List Test) (stores : List Stor
         tests-first ws,
         stores-reached ws,
         actions-reached ws,
-        stores-back (f .eachStore)
-            (packActions actions ++ ws),
+        stores-first (packActions actions ++ ws),
         actions-back limit (f .eachAction) ws,
       )
 

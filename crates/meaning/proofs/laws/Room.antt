@@ -14,6 +14,7 @@ use Rattle.meaning.specs.Instructions.{Code}
 use Rattle.meaning.specs.Matching.{Choice, chooseFrom}
 use Rattle.meaning.specs.Machine.{Need, inCells, outCells, recordBytes, frames, onward, halt, Watch, Ledger, Stacks, Ran, withTally, afterNote, noting, wherePayable, ranChoice, ranPaid, enter, codeAt}
 use Rattle.meaning.specs.Runs.{Room, passes, answerTo, endless, lent, Passed, firstPassed, watching, loaded, from, textOf, markOf, runEndless, runLent, passedFirst}
+use Rattle.meaning.proofs.laws.Answers.{StopsSo, then-stops}
 use Rattle.meaning.proofs.laws.Related.{Own, unfitting, spent, unreadable, Computation, Closed, Enters, Paying, applies}
 
 -- a watch that lets every need pass
@@ -112,8 +113,7 @@ module _ (A : Type 0) (step : Need → Tally → A → A) (U : Watch) (sees : A 
 
 -- whatever stops a run without end is its own
 abbrev pub OwnStop : Ran endless → Type 0
-OwnStop (done s g) = Unit {0}
-OwnStop (stop answer function g) = Own answer
+OwnStop = StopsSo (λ answer function. Own answer)
 
 abbrev OwnStops : Computation endless → Computation endless → Type 0
 OwnStops k k′ = (g : Ledger (Unit {0})) → OwnStop (k g)
@@ -121,11 +121,6 @@ OwnStops k k′ = (g : Ledger (Unit {0})) → OwnStop (k g)
 own-afforded : (o : Option Tally) (g : Ledger (Unit {0})) (ran : Ran endless) → OwnStop ran → OwnStop (wherePayable endless o g ran)
 own-afforded none g ran own = spent refl
 own-afforded (some t) g ran own = own
-
-own-chained : (o : Ran endless) (k : Stacks → Computation endless) → OwnStop o → ((s : Stacks) (g : Ledger (Unit {0})) → OwnStop (k s g)) →
-    OwnStop (andThen o k)
-own-chained (done s g) k own later = later s g
-own-chained (stop answer function g) k own later = own
 
 own-closed : Closed endless endless OwnStops
 own-closed =
@@ -135,7 +130,7 @@ own-closed =
       notes = λ need k k′ own g. own g;
       emits = λ n text k k′ own g. own (withTally endless (emitted n text (g .tally)) g);
       affords = λ k k′ own g. own-afforded (pay (g .tally)) g (k g) (own g);
-      chains = λ first first′ k k′ own later g. own-chained (first g) k (own g) later;
+      chains = λ first first′ k k′ own later g. then-stops (λ answer function. Own answer) (first g) k (own g) later;
     }
 
 own-paid : (o : Option Tally) (code : Code) (e : Enters endless) (frame f : ℕ) (s : Stacks) (g : Ledger (Unit {0})) →

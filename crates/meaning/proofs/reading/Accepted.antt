@@ -62,17 +62,14 @@ all-known test look first same nil cons [] = rw nil
 all-known test look first same nil cons (x ∷ xs) =
     rw (same x, all-known test look first same nil cons xs, cons x xs) (neither (look x) (first xs))
 
-sentences-known : (t : Table) (ss : List Sentence) → sentencesKnown t ss ≡ isNone (unknownInSentences t ss)
-unfolding unknownInSentences
-sentences-known t =
-    all-known (λ s. callsKnown t (s .expression)) (λ s. unknownCall t (s .expression)) (unknownInSentences t)
-    (λ s. calls-known t (s .expression)) refl (λ s ss. refl)
-
 functions-known : (t : Table) (fs : List Function) → functionsKnown t fs ≡ isNone (unknownIn t fs)
-unfolding unknownIn
+unfolding unknownIn unknownInSentences
 functions-known t =
     all-known (λ f. sentencesKnown t (f .sentences)) (λ f. unknownInSentences t (f .sentences)) (unknownIn t)
-    (λ f. sentences-known t (f .sentences)) refl (λ f fs. refl)
+    (λ f.
+    all-known (λ s. callsKnown t (s .expression)) (λ s. unknownCall t (s .expression)) (unknownInSentences t) (λ s. calls-known t (s .expression)) refl
+    (λ s ss. refl) (f .sentences))
+    refl (λ f fs. refl)
 
 -- THE TEXT
 

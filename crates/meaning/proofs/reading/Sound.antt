@@ -2,6 +2,7 @@
 use mathlib.Core.Path.{_≡_, refl}
 use mathlib.Core.Bool.{Bool, true, false}
 use mathlib.Core.List.{List, [], _∷_}
+use borrow.Author.Tests.{le-leb}
 use lib.Dec.{leb, eqb}
 use lib.ListN.{length}
 use Rattle.meaning.specs.Choice.{Bytes, Name, pick, both, every}
@@ -9,6 +10,7 @@ use Rattle.meaning.specs.Classes.{inClass, alphabetic}
 use Rattle.meaning.specs.Allowed.{isByte, wordByte, nameByte, spelledName, spelledIdentifier, maxName, maxIdentifier}
 use Rattle.meaning.specs.Tokens.{Token, functionName, word, quoted, sign, textEnd, malformed, Placed}
 use Rattle.meaning.specs.Reading.{Item, characters, symbolItem, partItem, noItem, itemOf, variableOf, isTextEnd}
+use Rattle.meaning.proofs.laws.Spelling.{name-short, identifier-short}
 use Rattle.meaning.proofs.reading.Basics.{both-left, both-right, both-true, impossible}
 
 -- "a letter, then letters, digits, _ or -", of any length
@@ -71,18 +73,14 @@ name-spelled (b ∷ n) s l =
     (both-true (both-right (inClass alphabetic b) (every nameByte n) s) l)
 
 pub spelled-name-short : (n : Name) → spelledName n ≡ true → leb (length n) maxName ≡ true
-spelled-name-short [] s = impossible s
-spelled-name-short (b ∷ n) s =
-    both-right (every nameByte n) (leb (length (b ∷ n)) maxName)
-    (both-right (inClass alphabetic b) (both (every nameByte n) (leb (length (b ∷ n)) maxName)) s)
+spelled-name-short n s = le-leb (length n) maxName (name-short n (rw s tt))
 
 pub identifier-spelled : (x : Name) → identifierSpelling x ≡ true → leb (length x) maxIdentifier ≡ true → spelledIdentifier x ≡ true
 identifier-spelled [] s l = impossible s
 identifier-spelled (b ∷ x) s l = both-true s l
 
 pub spelled-identifier-short : (x : Name) → spelledIdentifier x ≡ true → leb (length x) maxIdentifier ≡ true
-spelled-identifier-short [] s = impossible s
-spelled-identifier-short (b ∷ x) s = both-right (every wordByte (b ∷ x)) (leb (length (b ∷ x)) maxIdentifier) s
+spelled-identifier-short x s = le-leb (length x) maxIdentifier (identifier-short x (rw s tt))
 
 -- ITEMS
 

@@ -105,13 +105,13 @@ variable-lists : (v : ℕ) (item : Name → Expression → Expression) → inCla
     ((x : Name) (t u : Expression) → unplaced t ≡ unplaced u → unplaced (item x t) ≡ unplaced (item x u)) →
     ((place past b : ℕ) (x : Bytes) (ts rest : List Placed) (t : Expression) → IsExpression ts t rest →
     IsExpression (standing (word (v ∷ b ∷ x)) place past ∷ ts) (item (b ∷ x) t) rest) →
-    (x : Name) (e : Expression) → spelledIdentifier x ≡ true → Lists e → (rest : Bytes) → Parted rest → (at : ℕ) →
-    ExpressionListed at (32 ∷ v ∷ ((x ++ expressionText unquoted e) ++ rest)) (item x e) rest
+    (x : Name) (e : Expression) → both (spelledIdentifier x) (legible e) ≡ true → (legible e ≡ true → Lists e) →
+    (rest : Bytes) → Parted rest → (at : ℕ) → ExpressionListed at (32 ∷ v ∷ ((x ++ expressionText unquoted e) ++ rest)) (item x e) rest
 variable-lists v item alphabet same derives [] e spelled later rest parted at = impossible spelled
 variable-lists v item alphabet same derives (b ∷ x) e spelled later rest parted at =
-    let word = both-left (every wordByte (b ∷ x)) _ spelled in
+    let word = both-left (every wordByte (b ∷ x)) _ (both-left (spelledIdentifier (b ∷ x)) (legible e) spelled) in
     let begins = variable-begins at v (b ∷ x) (expressionText unquoted e ++ rest) alphabet word (expression-parted e rest parted) in
-    let l = later rest parted (begins .past) in
+    let l = later (both-right (spelledIdentifier (b ∷ x)) (legible e) spelled) rest parted (begins .past) in
     rw (append-assoc (b ∷ x) (expressionText unquoted e) rest)
     record {
       past = l .past;
@@ -119,14 +119,6 @@ variable-lists v item alphabet same derives (b ∷ x) e spelled later rest parte
       same = same (b ∷ x) (l .tree) e (l .same);
       derived = rw (begins .tokens) (derives (begins .place) (begins .past) b x _ _ (l .tree) (l .derived));
     }
-
-symbol-lists : (x : Name) (e : Expression) → spelledIdentifier x ≡ true → Lists e → Lists (thenSymbol x e)
-unfolding expressionText unplaced
-symbol-lists = variable-lists 115 thenSymbol refl (λ x t u p. ap (thenSymbol x) p) (λ place past b x ts rest t d. symbolThen d)
-
-part-lists : (x : Name) (e : Expression) → spelledIdentifier x ≡ true → Lists e → Lists (thenPart x e)
-unfolding expressionText unplaced
-part-lists = variable-lists 101 thenPart refl (λ x t u p. ap (thenPart x) p) (λ place past b x ts rest t d. partThen d)
 
 -- CALLS
 
@@ -157,14 +149,8 @@ record ListsBoth (e : Expression) : Type 0 where
   whole : Lists e
   later : Lists (pastLeading e)
 
--- what is listed after a variable, where both are spelled well
-spelled-lists : {item : Name → Expression → Expression} → ((x : Name) (e : Expression) → spelledIdentifier x ≡ true → Lists e → Lists (item x e)) →
-    {x : Name} {e : Expression} → both (spelledIdentifier x) (legible e) ≡ true → (legible e ≡ true → Lists e) → Lists (item x e)
-spelled-lists lists {x} {e} spelled later =
-    lists x e (both-left (spelledIdentifier x) (legible e) spelled) (later (both-right (spelledIdentifier x) (legible e) spelled))
-
 lists-both : (e : Expression) → legible e ≡ true → ListsBoth e
-unfolding legible pastLeading expressionText
+unfolding legible pastLeading expressionText unplaced
 lists-both end spelled =
     let none : Lists end = λ rest parted at. record { past = at; tree = end; same = refl; derived = noItems } in
     record { whole = none; later = none }
@@ -172,10 +158,14 @@ lists-both (thenCharacter c e) spelled =
     let l = lists-both e (both-right (isByte c) _ spelled) in
     record { whole = string-lists c e (both-left (isByte c) _ spelled) (both-right (isByte c) _ spelled) (l .later); later = l .later }
 lists-both (thenSymbol x e) spelled =
-    let l = spelled-lists symbol-lists spelled (λ s. lists-both e s .whole) in
+    let l : Lists (thenSymbol x e) =
+    variable-lists 115 thenSymbol refl (λ y t u p. ap (thenSymbol y) p) (λ place past b y ts rest t d. symbolThen d) x e spelled (λ s. lists-both e s .whole)
+    in
     record { whole = l; later = l }
 lists-both (thenPart x e) spelled =
-    let l = spelled-lists part-lists spelled (λ s. lists-both e s .whole) in
+    let l : Lists (thenPart x e) =
+    variable-lists 101 thenPart refl (λ y t u p. ap (thenPart y) p) (λ place past b y ts rest t d. partThen d) x e spelled (λ s. lists-both e s .whole)
+    in
     record { whole = l; later = l }
 lists-both (thenCall place n a e) spelled =
     let others = both-right (spelledName n) (both (legible a) (legible e)) spelled in
