@@ -300,6 +300,12 @@ pub at-check : {A : Type 0} (r next : Family A) (n : ℕ) (t : Placed) (ts : Lis
 at-check r next zero t ts m p step x s = at-next r next t ts p step x s
 at-check r next (suc n) t ts m p step x s = at-stop r t ts (suc n) m (λ b more l. step b more l .same)
 
+-- a reader streams if it does from each first token on
+pub at-first : {A : Type 0} (r : Family A) (b : ℕ)
+    → ((t : Placed) (ts : List Placed) → ended (t ∷ ts) ≡ true → length (t ∷ ts) ≤ b → Streamed r (t ∷ ts) (r b (t ∷ ts))) → StreamsAt r b
+at-first r b step [] e l = not-ended e
+at-first r b step (t ∷ ts) e l = step t ts e l
+
 -- the same at every bound
 pub at-token : {A : Type 0} (r next : Family A) (n : ℕ) (t : Placed) (ts : List Placed) (b : ℕ) → Ranged n → passable t ≡ true
     → ((i : ℕ) (more : List Placed) → r i (t ∷ more) ≡ check n t (next i more)) → StreamsAt next b

@@ -17,7 +17,7 @@ use Rattle.meaning.proofs.reading.Expressions.{argued, closing, closed}
 use Rattle.meaning.proofs.reading.Sentences.{start, afterExpression, afterEquals, afterConditions, afterPattern}
 use Rattle.meaning.proofs.reading.Functions.{joined, More}
 use Rattle.meaning.proofs.reading.Tables.{declared, afterBrace, afterName, afterFunction}
-use Rattle.meaning.proofs.reading.Streams.{Ranged, ended, ended-tail, not-ended, Family, Told, Streamed, StreamsAt, Streams, stop-where, go-where, at-where, told-follow, streamed-follow, Reaches, at-stop, at-look, at-check, at-token, at-same, at-done, next-stop, same-stop}
+use Rattle.meaning.proofs.reading.Streams.{Ranged, ended, ended-tail, not-ended, Family, Told, Streamed, StreamsAt, Streams, stop-where, go-where, at-where, told-follow, streamed-follow, Reaches, at-stop, at-look, at-check, at-first, at-token, at-same, at-done, next-stop, same-stop}
 use Rattle.meaning.proofs.reading.StreamsTokens.{unless-ranged, length-ranged, at-refuse, sign-passable, item-passable, pass-streams, name-streams, pattern-streams, conditions-streams}
 
 -- FAULTS
@@ -189,8 +189,7 @@ module _ (more : More) (later : Streams (λ i ts. more ts)) (s : Sentence) where
       (streamed-follow (λ i us. more us) (λ ss i us. joined s ss us) b (t ∷ ts) e l (later b (t ∷ ts) e l) (λ ss us f m. at-done (s ∷ ss) us))
 
   semicolon-streams : Streams parting
-  semicolon-streams b [] e l = not-ended e
-  semicolon-streams b (t ∷ ts) e l = semicolon-step b t ts (isSign 125 (t .token)) refl e l
+  semicolon-streams b = at-first parting b (λ t ts. semicolon-step b t ts (isSign 125 (t .token)) refl)
 
   abbrev ending : Family (List Sentence)
   ending i ts = afterSentence more s ts
@@ -205,8 +204,7 @@ module _ (more : More) (later : Streams (λ i ts. more ts)) (s : Sentence) where
   after-step b t ts false false q r e l = at-refuse ending t ts (λ i us m. rw (q, r))
 
   after-streams : Streams ending
-  after-streams b [] e l = not-ended e
-  after-streams b (t ∷ ts) e l = after-step b t ts (isSign 125 (t .token)) (isSign 59 (t .token)) refl refl e l
+  after-streams b = at-first ending b (λ t ts. after-step b t ts (isSign 125 (t .token)) (isSign 59 (t .token)) refl refl)
 
 begin-step : (r : Family (List Sentence)) (t : Placed) (ts : List Placed) (x : Parsed (List Sentence)) (q : Bool) → begins (t .token) ≡ q
     → (begins (t .token) ≡ true → Streamed r (t ∷ ts) x)

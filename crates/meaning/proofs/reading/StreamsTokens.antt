@@ -16,7 +16,7 @@ use Rattle.meaning.specs.Tokens.{Token, functionName, word, quoted, sign
 use Rattle.meaning.specs.Reading.{parsed, faultOf, refuse, faultUnless, endsInPart, whether, check, isSign, nameOf, nameOn, pass, passName, Item, characters, symbolItem, partItem, noItem, itemOf, isItem, elementsOf, patternFault, pattern, symbolFault, symbolOn, passSymbol, truthOf, truthOn, passTruth, withClass, lengthFault, condition, atComma, conditions}
 use Rattle.meaning.proofs.reading.Basics.{impossible, sign-of, name-of}
 use Rattle.meaning.proofs.reading.Conditions.{truth-of, afterTruth, afterColon, afterClose, afterVariable, afterPredicate, afterOpen, afterConditions, afterCondition, afterComma, overComma}
-use Rattle.meaning.proofs.reading.Streams.{Numbered, Ranged, ended, ended-tail, not-ended, Family, Stop, Streamed, StreamsAt, Streams, streamed-follow, at-stop, at-look, at-check, at-token, at-done}
+use Rattle.meaning.proofs.reading.Streams.{Numbered, Ranged, ended, ended-tail, not-ended, Family, Stop, Streamed, StreamsAt, Streams, streamed-follow, at-stop, at-look, at-check, at-first, at-token, at-done}
 
 -- FAULTS
 
@@ -85,8 +85,7 @@ module _ {A : Type 0} (c : ℕ) (next : Family A) (b : ℕ) (later : StreamsAt n
   pass-step t ts false p e l = at-refuse passing t ts (λ i more m. rw p)
 
   pub pass-streams : StreamsAt passing b
-  pass-streams [] e l = not-ended e
-  pass-streams (t ∷ ts) e l = pass-step t ts (isSign c (t .token)) refl e l
+  pass-streams = at-first passing b (λ t ts. pass-step t ts (isSign c (t .token)) refl)
 
 module _ {A : Type 0} (fault : Name → ℕ) (inRange : (n : Name) → Ranged (fault n)) (next : ℕ → Name → Family A) (b : ℕ)
     (later : (place : ℕ) (n : Name) → StreamsAt (next place n) b)
@@ -101,8 +100,7 @@ module _ {A : Type 0} (fault : Name → ℕ) (inRange : (n : Name) → Ranged (f
         at-token naming (next (t .place) n) (fault n) t ts b (inRange n) (rw (name-of (t .token) p)) (λ i more. rw p) (later (t .place) n) e l
 
     pub name-streams : StreamsAt naming b
-    name-streams [] e l = not-ended e
-    name-streams (t ∷ ts) e l = name-step t ts (nameOf (t .token)) refl e l
+    name-streams = at-first naming b (λ t ts. name-step t ts (nameOf (t .token)) refl)
 
 module _ {A : Type 0} (symbols : List Name) (next : Name → Family A) (b : ℕ) (later : (x : Name) → StreamsAt (next x) b) where
   abbrev naming-symbol : Family A
@@ -118,8 +116,7 @@ module _ {A : Type 0} (symbols : List Name) (next : Name → Family A) (b : ℕ)
   symbol-step t ts noItem p e l = at-refuse naming-symbol t ts (λ i more m. rw p)
 
   symbol-streams : StreamsAt naming-symbol b
-  symbol-streams [] e l = not-ended e
-  symbol-streams (t ∷ ts) e l = symbol-step t ts (itemOf (t .token)) refl e l
+  symbol-streams = at-first naming-symbol b (λ t ts. symbol-step t ts (itemOf (t .token)) refl)
 
 module _ {A : Type 0} (next : Bool → Family A) (b : ℕ) (later : (truth : Bool) → StreamsAt (next truth) b) where
   abbrev closing : Family A
@@ -133,8 +130,7 @@ module _ {A : Type 0} (next : Bool → Family A) (b : ℕ) (later : (truth : Boo
       at-token closing (next truth) 0 t ts b tt (rw (truth-of (t .token) (eqb (t .past) (t .place + 3)) p .1)) (λ i more. rw p) (later truth) e l
 
   truth-streams : StreamsAt closing b
-  truth-streams [] e l = not-ended e
-  truth-streams (t ∷ ts) e l = truth-step t ts (truthOf (t .token) (eqb (t .past) (t .place + 3))) refl e l
+  truth-streams = at-first closing b (λ t ts. truth-step t ts (truthOf (t .token) (eqb (t .past) (t .place + 3))) refl)
 
 -- CONDITIONS
 
@@ -166,8 +162,7 @@ open-step symbols t ts b none p e l = at-refuse (opening symbols) t ts (λ i mor
 open-step symbols t ts b (some n) p e l = class-step symbols n t ts b (lengthFault n 0) (predicateOf n) p refl refl e l
 
 open-streams : (symbols : List Name) → Streams (opening symbols)
-open-streams symbols b [] e l = not-ended e
-open-streams symbols b (t ∷ ts) e l = open-step symbols t ts b (nameOf (t .token)) refl e l
+open-streams symbols b = at-first (opening symbols) b (λ t ts. open-step symbols t ts b (nameOf (t .token)) refl)
 
 condition-streams : (symbols : List Name) → Streams (λ i ts. condition symbols ts)
 unfolding condition
