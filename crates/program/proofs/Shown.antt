@@ -2,11 +2,11 @@
 use Prim.Native.Nat.{ℕ, _≤_}
 use native.Mathlib.Omega.{arith}
 use mathlib.Core.Path.{_≡_, refl, ap}
-use mathlib.Core.Bool.{Bool, true, false}
+use mathlib.Core.Bool.{true, false}
 use lib.Dec.{leb}
 use lib.ListN.{length, take, length-take}
 use lib.Seq.{take-at}
-use Rattle.meaning.specs.Choice.{Bytes, pick}
+use Rattle.meaning.specs.Choice.{Bytes}
 use Rattle.meaning.specs.Answers.{noSuchStart, textTooLong, bufferTooShort}
 use Rattle.meaning.specs.Outcome.{Result}
 use Rattle.meaning.specs.Demanded.{demanded}
@@ -15,6 +15,7 @@ use Rattle.meaning.specs.Translation.{translate}
 use Rattle.meaning.specs.Packing.{Words, pack}
 use Rattle.meaning.specs.Leaving.{Cells, Leaving, left, roomOf}
 use Rattle.meaning.specs.Leaving.{refused as unrun}
+use Rattle.meaning.proofs.laws.Choosing.{of-either}
 use Rattle.running.specs.Leaving.{cells}
 use Rattle.engine.specs.declared.Report.{Report}
 use Rattle.engine.specs.TableRuns.{TableRun, hasFunction, withoutCode, withCode, tableRun, Reports}
@@ -24,11 +25,6 @@ use Rattle.program.specs.Printed.{isRefusal, refusalText, resultOf, resu
 record Kept (leaving : Leaving) : Type 0 where
   emissions : take (length (leaving .result .emissions)) (leaving .cells .journal) ≡ leaving .result .emissions
   text : take (length (leaving .result .text)) (leaving .cells .stackOut) ≡ leaving .result .text
-
--- of two, whatever they leave by
-kept-either : {A : Type 0} (leavingOf : A → Leaving) (b : Bool) (x y : A) → Kept (leavingOf x) → Kept (leavingOf y) → Kept (leavingOf (pick b x y))
-kept-either leavingOf true x y k l = k
-kept-either leavingOf false x y k l = l
 
 kept-unrun : (number : ℕ) (lent : Cells) → Kept (unrun number lent)
 kept-unrun number lent = record { emissions = refl; text = refl }
@@ -40,9 +36,9 @@ kept-left r lent =
 table-kept : (x : Read) (room start : ℕ) (text : Bytes) (lent : Cells) (allowance : ℕ) → Kept (tableRun x room start text lent allowance .leaving)
 table-kept (refused number place) room start text lent allowance = kept-unrun number lent
 table-kept (accepted t) room start text lent allowance =
-    kept-either (λ run. run .leaving) (leb (length (pack (translate t))) room) (withCode t room start text lent allowance) (withoutCode bufferTooShort 0 room lent)
-    (kept-either (λ l. l) (hasFunction t start) _ _
-    (kept-either (λ l. l) (leb (length text) (length (lent .stackIn))) _ _
+    of-either (λ (run : TableRun). Kept (run .leaving)) (leb (length (pack (translate t))) room) (withCode t room start text lent allowance) (withoutCode bufferTooShort 0 room lent)
+    (of-either Kept (hasFunction t start) _ _
+    (of-either Kept (leb (length text) (length (lent .stackIn))) _ _
     (kept-left (demanded (roomOf lent) t start text allowance) lent)
     (kept-unrun textTooLong lent))
     (kept-unrun noSuchStart lent))

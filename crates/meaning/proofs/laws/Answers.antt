@@ -1,15 +1,15 @@
 -- Rewriting ends done, or with 11 and the function that no sentence fits, or with 12 and function 0.
 use mathlib.Core.Path.{_≡_, refl}
-use mathlib.Core.Bool.{Bool, true, false}
 use mathlib.Core.List.{[], _∷_, _++_}
 use mathlib.Core.Option.{Option, none, some}
 use Prim.Native.Nat.{ℕ, zero, suc}
-use Rattle.meaning.specs.Choice.{Bytes, Name, pick, lookup}
+use Rattle.meaning.specs.Choice.{Bytes, Name, lookup}
 use Rattle.meaning.specs.Answers.{finished, noSentenceFits, allowanceSpent}
 use Rattle.meaning.specs.Tree.{Expression, end, thenCharacter, thenSymbol, thenPart, thenCall, Table}
 use Rattle.meaning.specs.Names.{isEmission, numberOf}
 use Rattle.meaning.specs.Outcome.{Tally, fresh, pay, emitted, Outcome, done, stop, andThen, resultOf}
 use Rattle.meaning.specs.Rewriting.{Bindings, Fit, symbolText, partText, before, evaluate, functionAt, choose, callNamed, rewritten, applied, apply, rewrite}
+use Rattle.meaning.proofs.laws.Choosing.{of-either}
 
 -- an answer with its function number
 pub data Ends (answer function : ℕ) : Type 0 where
@@ -45,16 +45,12 @@ module _ (call : Name → Bytes → Tally → Outcome Bytes Tally) (plain : (n :
       (λ text t₁. then-stops Ends (call n text t₁) (λ given t₂. before given (evaluate call bound e t₂)) (plain n text t₁)
       (λ given t₂. before-plain given (evaluate call bound e t₂) (evaluate-plain e t₂)))
 
-picked-plain : (first : Bool) (a b : Outcome Bytes Tally) → Plain a → Plain b → Plain (pick first a b)
-picked-plain true a b p r = p
-picked-plain false a b p r = r
-
 module _ (table : Table) (apply₁ : ℕ → Bytes → Tally → Outcome Bytes Tally) (plain : (number : ℕ) (text : Bytes) (t : Tally) → Plain (apply₁ number text t)) where
   rewritten-plain : (number : ℕ) (fit : Option Fit) (t : Tally) → Plain (rewritten table apply₁ number fit t)
   rewritten-plain number none t = unfitted refl
   rewritten-plain number (some f) t =
       evaluate-plain (callNamed table apply₁)
-      (λ n text t₁. picked-plain (isEmission n) (done [] (emitted n text t₁)) (apply₁ (numberOf table n) text t₁) tt (plain (numberOf table n) text t₁))
+      (λ n text t₁. of-either Plain (isEmission n) (done [] (emitted n text t₁)) (apply₁ (numberOf table n) text t₁) tt (plain (numberOf table n) text t₁))
       (f .bindings) (f .sentence .expression) t
 
   applied-plain : (number : ℕ) (text : Bytes) (t : Tally) (paid : Option Tally) → Plain (applied table apply₁ number text t paid)

@@ -32,6 +32,11 @@ pub guard-some : {A : Type 0} {a : A} (b : Bool) (o : Option A) → guard b o �
 guard-some true o h = (refl, h)
 guard-some false o h = absurd (some-none h refl)
 
+-- what holds of both holds of the one that a test picks
+pub of-either : {A : Type 0} (P : A → Type 0) (b : Bool) (x y : A) → P x → P y → P (pick b x y)
+of-either P true x y p q = p
+of-either P false x y p q = q
+
 -- a choice that there is
 pub record Given {A : Type 0} (o : Option A) : Type 0 where
   pub value : A

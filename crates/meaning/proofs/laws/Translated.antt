@@ -7,13 +7,14 @@ use Prim.Native.Nat.{ℕ, suc, _+_, _*_, _<_, _≤_}
 use native.Mathlib.Omega.{arith}
 use lib.Dec.{T, leb→le, ltb→lt}
 use lib.ListN.{length, length-append, length-map}
-use Rattle.meaning.specs.Choice.{Name, Named, pick, every, sameBytes, lookup}
+use Rattle.meaning.specs.Choice.{Name, Named, every, sameBytes, lookup}
 use Rattle.meaning.specs.Tree.{Letter, Condition, Expression, end, thenCharacter, thenSymbol, thenPart, thenCall, Sentence, Function, Table}
 use Rattle.meaning.specs.Names.{numberFrom, numberOf}
 use Rattle.meaning.specs.Allowed.{isByte, member, spelledName, spelledElement, lettersIn, symbolsOf, maxLetters, maxSymbols, maxConditions, maxItems, maxName, itemsIn, spelledItems, allowedSentence, allowedFunction, allowed, sentencesIn, maxFunctions, maxSentences}
 use Rattle.meaning.specs.Instructions.{Site, Test, Store, store, Span, Action, go, select, out, outCharacter, outValue, beginSequence, useSequence, call, tailCall, emission, Metric, Code}
 use Rattle.meaning.specs.Translation.{Shape, fixed, open₁, open₂, shapeOf, metricOf, Tested, testedShape, siteOr, conditionTest, testsOf, storesOf, valueFrom, valueNumber, Stand, atStart, afterFirst, afterSecond, nowhere, Passage, passageFirst, gapToSecond, passageSecond, passage, restOf, Manner, emits, replaces, nests, mannerOf, argumentReady, calling, items, passesRest, actionsOf, translatedSentences, translate}
 use Rattle.meaning.specs.Packing.{Words, pack, unpack}
+use Rattle.meaning.proofs.laws.Choosing.{of-either}
 use Rattle.meaning.proofs.laws.Passing.{both-left, both-right, every-head, every-tail}
 use Rattle.meaning.proofs.laws.Spelling.{name-bytes, name-short}
 use Rattle.meaning.proofs.laws.Packable.{All, nil, cons, FitsSite, FitsTest, FitsSpan, FitsAction, FitsMetric, FitsSentence, EachSentence, eachNone, eachMore, EachAction, Packable, all-append, all-map}
@@ -56,10 +57,6 @@ gap-fits m atStart h = omega arith
 gap-fits m afterFirst h = omega arith
 gap-fits m afterSecond h = omega arith
 
-picked-fits : (first : Bool) (p r : Passage) → FitsPassage p → FitsPassage r → FitsPassage (pick first p r)
-picked-fits true p r fp fr = fp
-picked-fits false p r fp fr = fr
-
 passage-fits : (s : Shape) (x : Name) (w : Stand) → Short s → FitsPassage (passage s x w)
 passage-fits (fixed t) x w low = record { gap = omega arith; piece = omega arith }
 passage-fits (open₁ h y t) x w low =
@@ -68,7 +65,7 @@ passage-fits (open₁ h y t) x w low =
 passage-fits (open₂ h y m z t) x w low =
     let sum = length-append h (m ++ t) in
     let sum₁ = length-append m t in
-    picked-fits (sameBytes x y) (passageFirst h) (passageSecond m t w) (record { gap = omega arith; piece = omega arith })
+    of-either FitsPassage (sameBytes x y) (passageFirst h) (passageSecond m t w) (record { gap = omega arith; piece = omega arith })
     (record { gap = gap-fits m w (omega arith); piece = omega arith })
 
 nowhere-fits : FitsSpan nowhere
@@ -90,20 +87,16 @@ metric-fits (open₂ h y m z t) low = omega (arith, length-append h (m ++ t), le
 
 -- VALUES AND FUNCTIONS BY NUMBER
 
-pick-low : (same : Bool) (a b high : ℕ) → a ≤ high → b ≤ high → pick same a b ≤ high
-pick-low true a b high ha hb = ha
-pick-low false a b high ha hb = hb
-
 value-low : (from : ℕ) (x : Name) (sites : List (Named Site)) → valueFrom from x sites ≤ from + length sites
 unfolding valueFrom
 value-low from x [] = omega arith
-value-low from x (s ∷ ss) = pick-low (sameBytes x (s .name)) from (valueFrom (suc from) x ss) _ (omega arith) (omega (arith, value-low (suc from) x ss))
+value-low from x (s ∷ ss) = of-either (λ n. n ≤ from + length (s ∷ ss)) (sameBytes x (s .name)) from (valueFrom (suc from) x ss) (omega arith) (omega (arith, value-low (suc from) x ss))
 
 -- a name's number is no greater than the number of functions
 pub number-low : (count : ℕ) (table : Table) (n : Name) → numberFrom count table n ≤ count + length table
 unfolding numberFrom
 number-low count [] n = omega arith
-number-low count (f ∷ fs) n = pick-low (sameBytes n (f .name)) (suc count) (numberFrom (suc count) fs n) _ (omega arith) (omega (arith, number-low (suc count) fs n))
+number-low count (f ∷ fs) n = of-either (λ k. k ≤ count + length (f ∷ fs)) (sameBytes n (f .name)) (suc count) (numberFrom (suc count) fs n) (omega arith) (omega (arith, number-low (suc count) fs n))
 
 -- THE EXPRESSION
 

@@ -11,6 +11,7 @@ use Rattle.meaning.specs.Choice.{Bytes, pick}
 use Rattle.meaning.specs.Classes.{inClass, alphabetic}
 use Rattle.meaning.specs.Allowed.{wordByte, nameByte}
 use Rattle.meaning.specs.Tokens.{Mode, outside, inside, naming, Token, functionName, word, malformed, Placed, Lexed, lexed, ahead, Gap, between, opening, commented, starred, gapAfter, Skipped, found, skippedEnd, skipOn, skip, Run, run, wordAt, Quoting, plain, Turn, goesOn, closes, breaks, turn, Quotation, quoteOn, quotation, quotedAt, bracketAt, tokenAt, tokenPast, lex, modeAfter, isLast, tokensFrom}
+use Rattle.meaning.proofs.laws.Choosing.{of-either}
 use Rattle.meaning.proofs.reading.Basics.{impossible}
 use Rattle.meaning.proofs.reading.TokensSound.{run-first}
 use Rattle.meaning.proofs.reading.Streams.{ended}
@@ -19,10 +20,6 @@ use Rattle.meaning.proofs.reading.Streams.{ended}
 pub record Within (at size : ℕ) (l : Lexed) : Type 0 where
   pub forward : at ≤ l .first .past
   pub shorter : length (l .rest) ≤ size
-
-within-pick : {at size : ℕ} (b : Bool) (x y : Lexed) → Within at size x → Within at size y → Within at size (pick b x y)
-within-pick true x y p q = p
-within-pick false x y p q = q
 
 weaker : {at size : ℕ} (l : Lexed) → Within (suc at) size l → Within at (suc size) l
 weaker l w = let f = w .forward in let s = w .shorter in record { forward = omega arith; shorter = omega arith }
@@ -83,8 +80,8 @@ letter-or-within mode at b rest false other p w = w
 pub token-within : (mode : Mode) (at b : ℕ) (rest : Bytes) → Within (suc at) (length rest) (tokenAt mode at (b ∷ rest))
 token-within mode at b rest =
     letter-or-within mode at b rest (inClass alphabetic b) _ refl
-    (within-pick (eqb b 39) (quotedAt at (quotation plain [] (suc at) rest)) _ (quotation-within at plain [] (suc at) rest)
-    (within-pick (eqb b 60) (bracketAt at rest (ahead (inClass alphabetic) rest)) _ (bracket-within at rest (ahead (inClass alphabetic) rest))
+    (of-either (Within (suc at) (length rest)) (eqb b 39) (quotedAt at (quotation plain [] (suc at) rest)) _ (quotation-within at plain [] (suc at) rest)
+    (of-either (Within (suc at) (length rest)) (eqb b 60) (bracketAt at rest (ahead (inClass alphabetic) rest)) _ (bracket-within at rest (ahead (inClass alphabetic) rest))
     (record { forward = omega arith; shorter = omega arith })))
 
 -- after blanks and comments: the place goes forward, and a token that isn't the last eats a byte

@@ -12,6 +12,7 @@ use Rattle.meaning.specs.Classes.{inClass, alphabetic}
 use Rattle.meaning.specs.Allowed.{wordByte, nameByte}
 use Rattle.meaning.specs.Tokens.{Mode, outside, inside, naming, quoted, sign, malformed, Placed, Lexed, lexed, ahead, Gap, between, opening, commented, starred, gapAfter, Skipped, found, skippedEnd, skipOn, skip, run, wordAt, Quoting, plain, Turn, goesOn, closes, breaks, turn, Quotation, quoteOn, quotation, quotedAt, bracketAt, tokenAt, tokenPast, lex, modeAfter, tokensFrom, tokens}
 use Rattle.meaning.specs.Reading.{isTextEnd}
+use Rattle.meaning.proofs.laws.Choosing.{of-either}
 use Rattle.meaning.proofs.reading.Basics.{impossible}
 use Rattle.meaning.proofs.reading.Local.{not-nothing, tokens-later}
 
@@ -25,10 +26,6 @@ pub record Whole (total : ℕ) (l : Lexed) : Type 0 where
 inner : (total : ℕ) (l : Lexed) → l .first .past + length (l .rest) ≡ total → isTextEnd (l .first .token) ≡ false → Whole total l
 inner total l k n =
     record { kept = k; last-place = λ e. impossible (sym n ∙ e); last-past = λ e. impossible (sym n ∙ e) }
-
-whole-pick : (total : ℕ) (b : Bool) (x y : Lexed) → Whole total x → Whole total y → Whole total (pick b x y)
-whole-pick total true x y p q = p
-whole-pick total false x y p q = q
 
 -- WORDS
 
@@ -76,9 +73,9 @@ token-whole : (mode : Mode) (at : ℕ) (bytes : Bytes) → Whole (at + length by
 token-whole mode at [] = record { kept = refl; last-place = λ e. omega arith; last-past = λ e. omega arith }
 token-whole mode at (b ∷ rest) =
     let total = at + length (b ∷ rest) in
-    whole-pick total (inClass alphabetic b) (wordAt mode at (b ∷ rest)) _ (word-whole mode at (b ∷ rest))
-    (whole-pick total (eqb b 39) (quotedAt at (quotation plain [] (suc at) rest)) _ (quotation-whole at plain [] (suc at) rest total (omega arith))
-    (whole-pick total (eqb b 60) (bracketAt at rest (ahead (inClass alphabetic) rest)) _
+    of-either (Whole total) (inClass alphabetic b) (wordAt mode at (b ∷ rest)) _ (word-whole mode at (b ∷ rest))
+    (of-either (Whole total) (eqb b 39) (quotedAt at (quotation plain [] (suc at) rest)) _ (quotation-whole at plain [] (suc at) rest total (omega arith))
+    (of-either (Whole total) (eqb b 60) (bracketAt at rest (ahead (inClass alphabetic) rest)) _
     (bracket-whole at total rest (ahead (inClass alphabetic) rest) (omega arith))
     (inner total (lexed (sign b) at (suc at) rest) (omega arith) refl)))
 

@@ -9,14 +9,14 @@ use Rattle.meaning.specs.Choice.{Bytes, pick, both, either, every}
 use Rattle.meaning.specs.Classes.{inClass, digit, alphabetic}
 use Rattle.meaning.specs.Allowed.{isByte, wordByte, nameByte}
 use Rattle.meaning.specs.Tokens.{Mode, outside, inside, naming, Token, functionName, word, quoted, sign, textEnd, malformed, Placed, Lexed, ahead, Gap, between, opening, commented, starred, gapAfter, Skipped, found, unclosed, skippedEnd, skipOn, skip, Run, run, nameToken, wordToken, wordAt, Quoting, plain, escaped, coded, Turn, goesOn, closes, breaks, plainTurn, codeTurn, escapedTurn, digitValue, turn, Quotation, closed, broken, quoteOn, quotation, quotedAt, bracketAt, tokenAt, tokenPast, lex, modeAfter, isLast, tokensFrom}
+use Rattle.meaning.proofs.laws.Choosing.{of-either}
 use Rattle.meaning.proofs.reading.Basics.{both-left, both-right, both-true}
 use Rattle.meaning.proofs.reading.Lists.{every-append}
 use Rattle.meaning.proofs.reading.Sound.{nameSpelling, soundToken, endsText, soundTokens}
 
 -- what passes either way passes
 pick-sound : {A : Type 0} (test : A → Bool) (b : Bool) (x y : A) → test x ≡ true → test y ≡ true → test (pick b x y) ≡ true
-pick-sound test true x y p q = p
-pick-sound test false x y p q = q
+pick-sound test = of-either (λ z. test z ≡ true)
 
 every-after : {A : Type 0} (f : A → Bool) (xs : List A) (x : A) → every f xs ≡ true → f x ≡ true → every f (xs ++ x ∷ []) ≡ true
 unfolding every
