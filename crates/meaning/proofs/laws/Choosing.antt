@@ -16,6 +16,9 @@ not-both p q = let z : _≡_ {A = ℕ} 0 1 = cc in omega arith
 pub some-none : {A : Type 0} {o : Option A} {a : A} → o ≡ some a → o ≡ none → ⊥
 some-none p q = let z : _≡_ {A = ℕ} 0 1 = cc in omega arith
 
+pub no-cons : {A : Type 0} {B : Type 0} {x : A} {xs : List A} → _≡_ {A = List A} [] (x ∷ xs) → B
+no-cons e = let z : _≡_ {A = ℕ} 0 1 = cc in absurd (omega arith)
+
 pub is-false : (b : Bool) → (b ≡ true → ⊥) → b ≡ false
 is-false true h = absurd (h refl)
 is-false false h = refl

@@ -13,11 +13,8 @@ use Rattle.meaning.specs.Tree.{Letter, character, symbol, Element, lette
 use Rattle.meaning.specs.Rewriting.{Bindings, unbound, agreed, takeSymbol, holdsFor, hold, shortest, withSymbols, withPart, matchRest, match, partText}
 use Rattle.meaning.specs.Fits.{oneByte, standsFor, joined, filled, Fits}
 use Rattle.meaning.specs.Allowed.{member, added, symbolsFrom, symbolsOf, partsOf, parted, distinct, spelledElement, allowedPattern, allowedConditions}
-use Rattle.meaning.proofs.laws.Choosing.{Given, not-both, is-false, either-second, some-none, both-parts, guard-some, same-itself, same-bytes, lookup-append, lookup-one, namesIn, names-append, member-bound, distinct-second}
+use Rattle.meaning.proofs.laws.Choosing.{Given, no-cons, not-both, is-false, either-second, some-none, both-parts, guard-some, same-itself, same-bytes, lookup-append, lookup-one, namesIn, names-append, member-bound, distinct-second}
 use Rattle.meaning.proofs.laws.Cuts.{Cut, shortest-cut, shortest-given}
-
-nil-cons : {A : Type 0} {x : A} {xs : List A} → _≡_ {A = List A} [] (x ∷ xs) → ⊥
-nil-cons h = let z : _≡_ {A = ℕ} 0 1 = cc in omega arith
 
 pub tail-equal : {A : Type 0} {x y : A} {xs ys : List A} → _≡_ {A = List A} (x ∷ xs) (y ∷ ys) → xs ≡ ys
 tail-equal h = cc
@@ -275,7 +272,7 @@ best-nothing cs text bound fit on extends f =
     (record {
       value = bound;
       is = rw (hold-kept cs (bound .symbols) (fit .symbols) on extends (f .holds));
-      least = λ x more h. absurd (nil-cons h);
+      least = λ x more h. no-cons h;
     })
 
 best-character : (c : ℕ) (p : List Element) (cs : List Condition) (text : Bytes) (bound fit : Bindings) → Fits (letter (character c) ∷ p) cs text fit →

@@ -79,7 +79,7 @@ pub record Allows (text : Bytes) (t : Table) : Type 0 where
   pub derived : IsProgram (tokens text) t
   pub within : allowed t ≡ true
 
-no-refusal : {A : Type 0} (n k : ℕ) (t : Table) → refused n k ≡ accepted t → A
+pub no-refusal : {A : Type 0} (n k : ℕ) (t : Table) → refused n k ≡ accepted t → A
 no-refusal n k t e = let z : _≡_ {A = ℕ} 0 1 = cc in absurd (omega arith)
 
 known-accepted : (o : Option ℕ) (t u : Table) → known o t ≡ accepted u → (o ≡ none) × (t ≡ u)

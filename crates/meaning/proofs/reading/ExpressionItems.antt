@@ -14,7 +14,7 @@ use Rattle.meaning.specs.Tree.{Expression}
 use Rattle.meaning.specs.Allowed.{isByte, member, itemsIn, nesting, spelledItems, comingAfter, comingAfterAll, whereSome, spelledIdentifier, maxItems, maxNesting, maxIdentifier}
 use Rattle.meaning.specs.Grammar.{written}
 use Rattle.meaning.specs.Reading.{Item, characters, symbolItem, partItem, noItem, isItem, Progress, itemCount, comingPast, comingOr, pastItem, itemFault, faultUnless, thenItem}
-use Rattle.meaning.proofs.reading.Basics.{both-left, both-right, both-true, impossible, passed}
+use Rattle.meaning.proofs.reading.Basics.{both-left, both-right, both-true, impossible, no-value, passed}
 use Rattle.meaning.proofs.laws.Choosing.{both-some, same-bytes}
 use Rattle.meaning.proofs.reading.Lists.{both-assoc, member-every}
 use Rattle.meaning.proofs.reading.Sound.{soundItem, spelled-identifier-short}
@@ -156,7 +156,7 @@ coming-step f false x y ys later same h e go = go e
 pub coming-every : (f : Name → Bool) (x : Name) (coming : List Name) {then : List Name}
     → every f coming ≡ true → comingAfter x coming ≡ some then → (f x ≡ true) × (every f then ≡ true)
 unfolding comingAfter every
-coming-every f x [] h e = let z : _≡_ {A = ℕ} 0 1 = cc in absurd (omega arith)
+coming-every f x [] h e = no-value e
 coming-every f x (y ∷ ys) h e =
     coming-step f (sameBytes x y) x y ys (comingAfter x ys) refl h e (λ g. coming-every f x ys (both-right (f y) (every f ys) h) g)
 

@@ -16,6 +16,7 @@ use Rattle.meaning.specs.Grammar.{IsProgram}
 use Rattle.meaning.specs.Reading.{Parsed, stopped, parsed, functions, unknownIn, known, verdict, refused, read}
 use Rattle.meaning.proofs.reading.TokensSound.{tokens-sound}
 use Rattle.meaning.proofs.reading.Tables.{functions-sound}
+use Rattle.meaning.proofs.reading.Accepted.{no-refusal}
 use Rattle.meaning.proofs.reading.Streams.{ended, Family, Stop}
 use Rattle.meaning.proofs.reading.StreamsReaders.{Stopped, functions-stop}
 use Rattle.meaning.proofs.reading.Lexing.{tokens-ended}
@@ -32,7 +33,7 @@ pub record RefusedAt (text : Bytes) (n k : ℕ) : Type 0 where
       → read other ≡ refused n k
 
 known-refused : (o : Option ℕ) (t : Table) (n k : ℕ) → n ≤ 7 → {A : Type 0} → known o t ≡ refused n k → A
-known-refused none t n k h e = let z : _≡_ {A = ℕ} 0 1 = cc in absurd (omega arith)
+known-refused none t n k h e = no-refusal n k t (sym e)
 known-refused (some place) t n k h e = let z : 8 ≡ n = cc in absurd (omega arith)
 
 verdict-refused : (r : Parsed Table) (n k : ℕ) → n ≤ 7 → verdict r ≡ refused n k → r ≡ stopped n k
@@ -84,7 +85,7 @@ pub data Refusal (text : Bytes) (n k : ℕ) : Type 0 where
 
 module _ (text : Bytes) (s : every isByte text ≡ true) (n k : ℕ) where
   known-refusal : (t : Table) (o : Option ℕ) → unknownIn t t ≡ o → IsProgram (tokens text) t → known o t ≡ refused n k → Refusal text n k
-  known-refusal t none p d e = let z : _≡_ {A = ℕ} 0 1 = cc in absurd (omega arith)
+  known-refusal t none p d e = no-refusal n k t (sym e)
   known-refusal t (some place) p d e =
       let same : place ≡ k = cc in
       let number : 8 ≡ n = cc in

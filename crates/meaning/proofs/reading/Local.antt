@@ -11,6 +11,7 @@ use Rattle.meaning.specs.Choice.{Bytes, pick}
 use Rattle.meaning.specs.Classes.{inClass, alphabetic}
 use Rattle.meaning.specs.Allowed.{wordByte, nameByte}
 use Rattle.meaning.specs.Tokens.{Mode, outside, inside, naming, Token, functionName, word, Placed, Lexed, lexed, ahead, Gap, between, opening, commented, starred, gapAfter, Skipped, found, skipOn, skip, Run, run, wordAt, Quoting, plain, Turn, goesOn, closes, breaks, turn, Quotation, quoteOn, quotation, quotedAt, bracketAt, tokenAt, tokenPast, lex, modeAfter, isLast, tokensFrom}
+use Rattle.meaning.proofs.laws.Choosing.{no-cons}
 use Rattle.meaning.proofs.reading.Lexing.{run-within, quotation-within, token-within, skip-eats, skip-beyond, lex-eats}
 
 -- bytes from a place on that agree up to another place, or to their common end
@@ -27,8 +28,8 @@ agree-itself until at (b ∷ xs) = same (agree-itself until (suc at) xs)
 pub agree-take : (until n at : ℕ) (xs ys : Bytes) → until ≡ n + at → take n xs ≡ take n ys → AgreeTo until at xs ys
 agree-take until zero at xs ys p e = reached {at = at} (omega arith)
 agree-take until (suc n) at [] [] p e = together
-agree-take until (suc n) at [] (y ∷ ys) p e = let z : _≡_ {A = ℕ} 0 1 = cc in absurd (omega arith)
-agree-take until (suc n) at (x ∷ xs) [] p e = let z : _≡_ {A = ℕ} 0 1 = cc in absurd (omega arith)
+agree-take until (suc n) at [] (y ∷ ys) p e = no-cons e
+agree-take until (suc n) at (x ∷ xs) [] p e = no-cons (sym e)
 agree-take until (suc n) at (x ∷ xs) (y ∷ ys) p e =
     let first : x ≡ y = cc in
     let rest : take n xs ≡ take n ys = cc in
@@ -171,8 +172,8 @@ lex-local mode until at xs ys d l = skip-local mode until between at d l
 -- THE TOKENS UP TO ONE
 
 pub not-nothing : {A : Type 0} (used : List Placed) (t : Placed) (others : List Placed) → _≡_ {A = List Placed} [] (used ++ t ∷ others) → A
-not-nothing [] t others e = let z : _≡_ {A = ℕ} 0 1 = cc in absurd (omega arith)
-not-nothing (u ∷ used) t others e = let z : _≡_ {A = ℕ} 0 1 = cc in absurd (omega arith)
+not-nothing [] t others e = no-cons e
+not-nothing (u ∷ used) t others e = no-cons e
 
 later-token : (b : Bool) (later used : List Placed) (t : Placed) (others : List Placed) → pick b [] later ≡ used ++ t ∷ others
     → (b ≡ false) × (later ≡ used ++ t ∷ others)

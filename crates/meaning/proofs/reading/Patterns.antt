@@ -11,6 +11,7 @@ use Rattle.meaning.specs.Allowed.{partsOf, parted}
 use Rattle.meaning.specs.Tokens.{Token, Placed}
 use Rattle.meaning.specs.Grammar.{standing, symbolWord, partWord, charactersOf, IsLetters, stringLetters, variableLetter, IsTemplate, lettersAlone, lettersThen, IsTemplateOrNone, noTemplate, someTemplate, IsPattern, noPart, onePart, twoParts}
 use Rattle.meaning.specs.Reading.{parsed, check, Item, noItem, itemOf, isItem, elementsOf, patternFault, pattern}
+use Rattle.meaning.proofs.laws.Choosing.{no-cons}
 use Rattle.meaning.proofs.reading.Basics.{impossible, never-both, check-parsed, TokenView, aString, aSymbol, aPart, another, view}
 use Rattle.meaning.proofs.reading.Sound.{soundTokens, sound-first, sound-rest, item-sound}
 use Rattle.meaning.proofs.reading.PatternFacts.{PatternFacts, parts-append, characters-parts}
@@ -139,9 +140,6 @@ pub record Cut (ts : List Placed) (q : List Element) (rest : List Placed) (x : N
   pub letters : partsOf first ≡ []
   pub after : IsItems between last rest
   pub later : partsOf last ≡ xs
-
-no-cons : {A : Type 0} {B : Type 0} {x : A} {xs : List A} → _≡_ {A = List A} [] (x ∷ xs) → B
-no-cons e = let z : _≡_ {A = ℕ} 0 1 = cc in absurd (omega arith)
 
 no-item : {B : Type 0} (item : Item) → item ≡ noItem → isItem item ≡ true → B
 no-item item e i = impossible (rw e at i)

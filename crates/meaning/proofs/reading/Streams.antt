@@ -10,7 +10,7 @@ use lib.ListN.{length, length-append}
 use Rattle.meaning.specs.Choice.{pick, every}
 use Rattle.meaning.specs.Tokens.{Placed, isLast}
 use Rattle.meaning.specs.Reading.{Parsed, stopped, parsed, follow, check}
-use Rattle.meaning.proofs.reading.Basics.{both-left, both-right, both-true, impossible}
+use Rattle.meaning.proofs.reading.Basics.{both-left, both-right, both-true, impossible, no-value}
 use Rattle.meaning.proofs.reading.Lists.{every-append}
 use Rattle.meaning.proofs.reading.Sound.{isNil}
 
@@ -216,7 +216,7 @@ module _ {A : Type 0} (r : Family A) (t : Placed) (ts : List Placed) where
   at-look v same = record { used = []; shape = refl; over = refl; again = λ b more e h l. look b more h l }
     where
       look : (b : ℕ) (more : List Placed) → some t ≡ headOf more → length more ≤ b → r b more ≡ parsed v more
-      look b [] h l = let z : _≡_ {A = ℕ} 0 1 = cc in absurd (omega arith)
+      look b [] h l = no-value (sym h)
       look b (u ∷ more) h l = let one : t ≡ u = cc in subst (λ z. r b (z ∷ more) ≡ parsed v (z ∷ more)) one (same b more l)
 
 -- the reader at this token and some more is another at those, unless the token has a fault
@@ -268,7 +268,7 @@ module _ {A : Type 0} (r other : Family A) (t : Placed) (ts : List Placed)
     (same : (b : ℕ) (more : List Placed) → r b (t ∷ more) ≡ other b (t ∷ more))
   where
     on-head : (b : ℕ) (us : List Placed) → some t ≡ headOf us → r b us ≡ other b us
-    on-head b [] h = let z : _≡_ {A = ℕ} 0 1 = cc in absurd (omega arith)
+    on-head b [] h = no-value (sym h)
     on-head b (u ∷ us) h = let one : t ≡ u = cc in subst (λ z. r b (z ∷ us) ≡ other b (z ∷ us)) one (same b us)
 
     -- at this token it is another

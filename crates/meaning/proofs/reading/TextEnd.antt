@@ -12,7 +12,7 @@ use Rattle.meaning.specs.Classes.{inClass, alphabetic}
 use Rattle.meaning.specs.Allowed.{wordByte, nameByte}
 use Rattle.meaning.specs.Tokens.{Mode, outside, inside, naming, quoted, sign, malformed, Placed, Lexed, lexed, ahead, Gap, between, opening, commented, starred, gapAfter, Skipped, found, skippedEnd, skipOn, skip, run, wordAt, Quoting, plain, Turn, goesOn, closes, breaks, turn, Quotation, quoteOn, quotation, quotedAt, bracketAt, tokenAt, tokenPast, lex, modeAfter, tokensFrom, tokens}
 use Rattle.meaning.specs.Reading.{isTextEnd}
-use Rattle.meaning.proofs.laws.Choosing.{of-either}
+use Rattle.meaning.proofs.laws.Choosing.{no-cons, of-either}
 use Rattle.meaning.proofs.reading.Basics.{impossible}
 use Rattle.meaning.proofs.reading.Local.{not-nothing, tokens-later}
 
@@ -136,8 +136,8 @@ text-end text before t after e p = end-among (suc (length text)) outside 0 text 
 -- a text that agrees with another one byte past its end is that text
 pub take-whole : (text other : Bytes) → take (suc (length text)) other ≡ take (suc (length text)) text → other ≡ text
 take-whole [] [] e = refl
-take-whole [] (c ∷ other) e = let z : _≡_ {A = ℕ} 0 1 = cc in absurd (omega arith)
-take-whole (b ∷ text) [] e = let z : _≡_ {A = ℕ} 0 1 = cc in absurd (omega arith)
+take-whole [] (c ∷ other) e = no-cons (sym e)
+take-whole (b ∷ text) [] e = no-cons e
 take-whole (b ∷ text) (c ∷ other) e =
     let first : c ≡ b = cc in
     let rest : take (suc (length text)) other ≡ take (suc (length text)) text = cc in
