@@ -25,7 +25,7 @@ span-of-requires-3 : tie.Need-span-of-requires-3
 span-of-requires-3 c κs = search needs
 
 returns : tie.Need-returns
-returns c = rw (c .before .before .enum-told3 .given .1, c .before .if1 .taken) (c .span-of3 .ensures)
+returns c = cc
 
 add-span-of-2 : tie.Need-add-span-of-2
 add-span-of-2 c = search needs
@@ -34,13 +34,13 @@ span-of-requires-4 : tie.Need-span-of-requires-4
 span-of-requires-4 c κs = search needs
 
 returns-2 : tie.Need-returns-2
-returns-2 c = rw (c .before .enum-told .given .1) (c .span-of .ensures)
+returns-2 c = cc
 
 returns-3 : tie.Need-returns-3
-returns-3 c = rw (c .before .before .enum-told2 .given .1) (c .span-of2 .ensures)
+returns-3 c = cc
 
 returns-4 : tie.Need-returns-4
-returns-4 c = rw (c .before .before .before .enum-told3 .given .1, c .before .before .if1 .left) (c .span-of4 .ensures)
+returns-4 c = cc
 
 pub piece-span-spec : {M : Type 1} → statement M
 piece-span-spec =
