@@ -24,7 +24,7 @@ use Rattle.expressions.specs.declared.expression.Walk.{Walk}
 use Rattle.expressions.specs.declared.expression.Manner.{Manner}
 use Rattle.expressions.specs.declared.expression.Manner.the-variants.{Emits, Replaces, Nests}
 use Rattle.templates.specs.Words.{carried, headName, headNames, itemAt}
-use Rattle.expressions.specs.Levels.{placeIn, Levels, stopped, onCurrent, firstOf, othersOf, opened, levelsIn}
+use Rattle.expressions.specs.Levels.{placeIn, Levels, stopped, onCurrent, firstOf, othersOf, opened, itemBy, levelsIn}
 use Rattle.templates.specs.Writing.{Wrote, Same}
 use Rattle.templates.specs.Finding.{numberAmong}
 use Rattle.templates.specs.Measuring.{flag, variableOf}
@@ -37,21 +37,21 @@ use Rattle.expressions.proofs.laws.Spanned.{rest-span, passage-spans}
 use Rattle.expressions.proofs.laws.Items.{stops, Reads, Told, told, levels-at, levels-past, levels-stop, stops-below, last-item}
 use Rattle.expressions.proofs.laws.Resumed.{resume-character, resume-symbol, resume-part, resume-call, resume-end, resume-last, open-more, open-less, open-none}
 
--- the item where a walk stands
-abbrev Stands : List ℕ → Walk → Item → Type 0
-Stands ws w it = itemAt (drop (w .next) ws) (w .depth) (w .items) ≡ it
+-- the innermost open call is known
+pub innermost : {ws calls : List ℕ} {w : Walk} → InItems ws calls w → 0 < w .depth
+    → (1 ≤ w .depth) × (w .depth ≤ length calls) × (getD calls (w .depth - 1) 0 < length ws)
+innermost {w = w} within deep = (deep, omega (arith, within .depth, within .room), within .opened (w .depth - 1) (omega arith))
 
-module _ {ws calls : List ℕ} {w : Walk} (within : InItems ws calls w) where
-  pub tells : (it : Item) → Stands ws w it → Told ws (w .next) (w .depth) (w .items) it
-  tells = told ws (w .next) (w .depth) (w .items)
+-- `it` is the item where a walk stands
+module _ (ws heads names : List ℕ) (m : Pattern) (calls : List ℕ) (w : Walk) (within : InItems ws calls w) {it : Item}
+    (is : it ≡ itemAt (drop (w .next) ws) (w .depth) (w .items)) where
+  tells : (k : Item) → it ≡ k → Told ws (w .next) (w .depth) (w .items) k
+  tells k e = told ws (w .next) (w .depth) (w .items) k (sym is ∙ e)
 
-  -- the innermost open call is known
-  pub innermost : 0 < w .depth → (1 ≤ w .depth) × (w .depth ≤ length calls) × (getD calls (w .depth - 1) 0 < length ws)
-  innermost deep = (deep, omega (arith, within .depth, within .room), within .opened (w .depth - 1) (omega arith))
-
-module _ (ws heads names : List ℕ) (m : Pattern) (calls : List ℕ) (w : Walk) (within : InItems ws calls w) where
-  abbrev At : Item → Type 0
-  At = Stands ws w
+  -- what is read from an item on
+  reads : (k : Item) → w .next < length ws → it ≡ k → levelsNow ws w
+      ≡ itemBy k (w .depth) (w .items) (getD ws (w .next) 0) (drop (w .next + 1) ws) (λ d n skip. levelsIn d n skip (drop (w .next + 1) ws))
+  reads k inside e = levels-at ws (w .next) (w .depth) (w .items) k inside (sym is ∙ e)
 
   abbrev size : ℕ
   size = length (headName ws (w .next))
@@ -64,15 +64,16 @@ module _ (ws heads names : List ℕ) (m : Pattern) (calls : List ℕ) (w : Walk)
   after n = levelsIn (w .depth) (w .items + 1) 0 (drop (w .next + 1 + n) ws)
 
   -- an item of so many words after its first is written, and leads to those levels
-  item-on : {code code′ words calls′ : List ℕ} {at depth : ℕ} {stand : Stand} (n : ℕ) → Reads ws (w .next) (w .items) → w .next + 1 + n ≤ length ws
-      → levelsNow ws w .rest ≡ levelsNow ws (itemDone w n at depth stand) .rest
+  item-on : {code code′ words calls′ : List ℕ} {r : Walk} {depth : ℕ} {stand : Stand} (n : ℕ) → Reads ws (w .next) (w .items) → w .next + 1 + n ≤ length ws
+      → levelsNow ws w .rest ≡ levelsNow ws (itemDone w n (r .at) depth stand) .rest
       → ((t : Table) (s : Shape) (ss : List (Named Site)) → Means ws heads names m t s ss
-      → remaining true t s ss ws calls w ≡ words ++ remaining true t s ss ws calls′ (itemDone w n at depth stand))
-      → Wrote code (w .at) words code′ at → length calls′ ≡ 16 → ((k : ℕ) → k < depth → getD calls′ k 0 < length ws) → depth ≤ 16
+      → remaining true t s ss ws calls w ≡ words ++ remaining true t s ss ws calls′ (itemDone w n (r .at) depth stand))
+      → Wrote code (w .at) words code′ (r .at) → r ≡ itemDone w n (r .at) depth stand
+      → length calls′ ≡ 16 → ((k : ℕ) → k < depth → getD calls′ k 0 < length ws) → depth ≤ 16
       → depth ≤ w .depth + 1 → length words + 260 * depth ≤ 260 * w .depth + 270
-      → ItemsOn ws heads names m calls code w calls′ code′ (itemDone w n at depth stand)
-  item-on {code} n read fits rest same wrote long known deep one few =
-      record {
+      → ItemsOn ws heads names m calls code w calls′ code′ r
+  item-on {code} n read fits rest same wrote done long known deep one few =
+      rw done record {
         same = λ t s ss means. same-wrote _ (same-words (same-refl code (w .at) _) (same t s ss means)) wrote;
         rest = sym rest;
         within = record { room = long; opened = known; depth = deep; items = omega (arith, read .room); next = omega arith };
@@ -81,13 +82,14 @@ module _ (ws heads names : List ℕ) (m : Pattern) (calls : List ℕ) (w : Walk)
       }
 
   -- one that opens no call
-  plain-on : {code code′ words : List ℕ} {at : ℕ} {stand : Stand} (n : ℕ) → Reads ws (w .next) (w .items) → w .next + 1 + n ≤ length ws
+  plain-on : {code code′ words : List ℕ} {r : Walk} {stand : Stand} (n : ℕ) → Reads ws (w .next) (w .items) → w .next + 1 + n ≤ length ws
       → levelsNow ws w .rest ≡ after n .rest
       → ((t : Table) (s : Shape) (ss : List (Named Site)) → Means ws heads names m t s ss
-      → remaining true t s ss ws calls w ≡ words ++ remaining true t s ss ws calls (itemDone w n at (w .depth) stand))
-      → Wrote code (w .at) words code′ at → length words ≤ 270 → ItemsOn ws heads names m calls code w calls code′ (itemDone w n at (w .depth) stand)
-  plain-on n read fits rest same wrote few =
-      item-on n read fits rest same wrote (within .room) (within .opened) (within .depth) (omega arith) (omega arith)
+      → remaining true t s ss ws calls w ≡ words ++ remaining true t s ss ws calls (itemDone w n (r .at) (w .depth) stand))
+      → Wrote code (w .at) words code′ (r .at) → r ≡ itemDone w n (r .at) (w .depth) stand → length words ≤ 270
+      → ItemsOn ws heads names m calls code w calls code′ r
+  plain-on n read fits rest same wrote done few =
+      item-on n read fits rest same wrote done (within .room) (within .opened) (within .depth) (omega arith) (omega arith)
 
   -- a variable, whichever it is
   variable-now : (variable : Name → Expression → Expression) → Reads ws (w .next) (w .items)
@@ -98,46 +100,47 @@ module _ (ws heads names : List ℕ) (m : Pattern) (calls : List ℕ) (w : Walk)
   variable-now variable read now =
       now ∙ rw (levels-past (w .depth) (w .items + 1) ws (w .next) (read .inside), ← (name-here ws (w .next) (read .inside)))
 
-  pub character-on : {code code′ : List ℕ} {at : ℕ} → At Byte → Wrote code (w .at) (word 8 (getD ws (w .next) 0) 0 0 ∷ []) code′ at
-      → ItemsOn ws heads names m calls code w calls code′ (itemDone w 0 at (w .depth) (w .stand))
+  pub character-on : {code code′ : List ℕ} {r : Walk} → it ≡ Byte → Wrote code (w .at) (word 8 (getD ws (w .next) 0) 0 0 ∷ []) code′ (r .at)
+      → r ≡ itemDone w 0 (r .at) (w .depth) (w .stand) → ItemsOn ws heads names m calls code w calls code′ r
   unfolding packActions
-  character-on e wrote =
-      let read = tells within Byte e .0 in
+  character-on e wrote done =
+      let read = tells Byte e .0 in
       let z : w .next + 1 + 0 ≡ w .next + 1 = omega arith in
-      let now : levelsNow ws w ≡ onCurrent (thenCharacter (getD ws (w .next) 0)) (after 0) = levels-at ws (w .next) (w .depth) (w .items) Byte (read .inside) e ∙ rw z in
+      let now : levelsNow ws w ≡ onCurrent (thenCharacter (getD ws (w .next) 0)) (after 0) = reads Byte (read .inside) e ∙ rw z in
       plain-on 0 read (omega (arith, read .inside)) (ap (λ (l : Levels). l .rest) now)
       (λ t s ss means.
       rw now (ap packActions (resume-character t s ss (openNames ws calls (w .depth)) (getD ws (w .next) 0) (after 0 .current) (after 0 .outer) (meantStand (w .stand)))))
-      wrote (omega arith)
+      wrote done (omega arith)
 
-  pub value-on : {code code′ : List ℕ} {at : ℕ} → At Symbol → Wrote code (w .at) (word 9 (numberAmong 0 (headNames ws names) name - 1) 0 0 ∷ []) code′ at
-      → ItemsOn ws heads names m calls code w calls code′ (itemDone w size at (w .depth) (w .stand))
+  pub value-on : {code code′ : List ℕ} {r : Walk} → it ≡ Symbol
+      → Wrote code (w .at) (word 9 (numberAmong 0 (headNames ws names) name - 1) 0 0 ∷ []) code′ (r .at)
+      → r ≡ itemDone w size (r .at) (w .depth) (w .stand) → ItemsOn ws heads names m calls code w calls code′ r
   unfolding packActions
-  value-on e wrote =
-      let read = tells within Symbol e in
-      let now = variable-now thenSymbol read (levels-at ws (w .next) (w .depth) (w .items) Symbol (read .inside) e) in
+  value-on e wrote done =
+      let read = tells Symbol e in
+      let now = variable-now thenSymbol read (reads Symbol (read .inside) e) in
       plain-on size read (name-fits-here ws (w .next) (read .inside)) (ap (λ (l : Levels). l .rest) now)
       (λ t s ss means.
       let value : valueNumber ss name ≡ numberAmong 0 (headNames ws names) name - 1 =
       value-among 0 ss name ∙ ap (λ (l : List Name). numberAmong 0 l name - 1) (means .symbols) in
       rw now (ap packActions (resume-symbol t s ss (openNames ws calls (w .depth)) name (after size .current) (after size .outer) (meantStand (w .stand)))
       ∙ ap (λ (v : ℕ). word 9 v 0 0 ∷ packActions (resume t s ss (openNames ws calls (w .depth)) (after size .current) (after size .outer) (meantStand (w .stand)))) value))
-      wrote (omega arith)
+      wrote done (omega arith)
 
   abbrev first : Bool
   first = sameBytes name (headName ws (m .variable))
 
-  pub part-on : {code code′ : List ℕ} {at : ℕ} → At Part → Wrote code (w .at) (partWords (m .lengths) first (w .stand)) code′ at
-      → ItemsOn ws heads names m calls code w calls code′ (itemDone w size at (w .depth) (standAfter (m .lengths .parts) first (w .stand)))
+  pub part-on : {code code′ : List ℕ} {r : Walk} → it ≡ Part → Wrote code (w .at) (partWords (m .lengths) first (w .stand)) code′ (r .at)
+      → r ≡ itemDone w size (r .at) (w .depth) (standAfter (m .lengths .parts) first (w .stand)) → ItemsOn ws heads names m calls code w calls code′ r
   unfolding packActions
-  part-on e wrote =
-      let read = tells within Part e in
-      let now = variable-now thenPart read (levels-at ws (w .next) (w .depth) (w .items) Part (read .inside) e) in
+  part-on e wrote done =
+      let read = tells Part e in
+      let now = variable-now thenPart read (reads Part (read .inside) e) in
       plain-on size read (name-fits-here ws (w .next) (read .inside)) (ap (λ (l : Levels). l .rest) now)
       (λ t s ss means.
       rw now (ap packActions (resume-part t s ss (openNames ws calls (w .depth)) name (after size .current) (after size .outer) (meantStand (w .stand)))
       ∙ part-words t s ss means))
-      wrote (omega arith)
+      wrote done (omega arith)
     where
       part-words : (t : Table) (s : Shape) (ss : List (Named Site)) → Means ws heads names m t s ss
           → packActions (go (passage s name (meantStand (w .stand)) .gap) ∷ select (passage s name (meantStand (w .stand)) .piece) ∷ out ∷
@@ -157,20 +160,21 @@ module _ (ws heads names : List ℕ) (m : Pattern) (calls : List ℕ) (w : Walk)
           ap₂ (λ (l : Lengths) (b : Bool). meantStand (standAfter (l .parts) b st)) (means .lengths) f ∙ spans .2 in
           rw (gap, piece, then)
 
-  pub open-on : {code code′ : List ℕ} {at : ℕ} → At Call → Wrote code (w .at) (word 10 0 0 0 ∷ []) code′ at
-      → ItemsOn ws heads names m calls code w (set calls (w .depth) (w .next)) code′ (itemDone w size at (w .depth + 1) (w .stand))
+  pub open-on : {calls′ code code′ : List ℕ} {r : Walk} → it ≡ Call → Wrote code (w .at) (word 10 0 0 0 ∷ []) code′ (r .at)
+      → r ≡ itemDone w size (r .at) (w .depth + 1) (w .stand) → calls′ ≡ set calls (w .depth) (w .next)
+      → ItemsOn ws heads names m calls code w calls′ code′ r
   unfolding packActions
-  open-on e wrote =
-      let (read, deep) = tells within Call e in
+  open-on e wrote done more =
+      let (read, deep) = tells Call e in
       let later = levelsIn (w .depth + 1) (w .items + 1) 0 (drop (w .next + 1 + size) ws) in
       let now : levelsNow ws w ≡ opened (placeIn (getD ws (w .next) 0)) name later =
-      levels-at ws (w .next) (w .depth) (w .items) Call (read .inside) e
+      reads Call (read .inside) e
       ∙ rw (levels-past (w .depth + 1) (w .items + 1) ws (w .next) (read .inside), ← (name-here ws (w .next) (read .inside))) in
-      item-on size read (name-fits-here ws (w .next) (read .inside)) (ap (λ (l : Levels). l .rest) now)
+      rw more (item-on size read (name-fits-here ws (w .next) (read .inside)) (ap (λ (l : Levels). l .rest) now)
       (λ t s ss means.
       rw (now, open-more ws calls (w .depth) (w .next) (omega (arith, within .room)))
       (ap packActions (resume-call t s ss (openNames ws calls (w .depth)) (placeIn (getD ws (w .next) 0)) name (later .current) (later .outer) (meantStand (w .stand)))))
-      wrote (length-set calls (w .depth) (w .next) ∙ within .room) (still deep (read .inside)) (omega arith) (omega arith) (omega arith)
+      wrote done (length-set calls (w .depth) (w .next) ∙ within .room) (still deep (read .inside)) (omega arith) (omega arith) (omega arith))
     where
       still : w .depth < 16 → w .next < length ws → (k : ℕ) → k < w .depth + 1 → getD (set calls (w .depth) (w .next)) k 0 < length ws
       still deep inside k h = elim (ℕ-discrete k (w .depth)) [
@@ -182,11 +186,11 @@ module _ (ws heads names : List ℕ) (m : Pattern) (calls : List ℕ) (w : Walk)
       → restWord (m .lengths) (w .stand) ≡ spanWord 5 (restOf s (meantStand (w .stand)))
   rest-word t s ss means = ap (λ (l : Lengths). restWord l (w .stand)) (means .lengths) ∙ ap (spanWords 5) (rest-span s (w .stand))
 
-  pub pass-on : {code : List ℕ} → At Pass → ItemsOn ws heads names m calls code w calls code (wordDone w)
-  pass-on {code} e =
-      let inside = tells within Pass e .inside in
-      let now : levelsNow ws w ≡ levelsIn (w .depth) (w .items) 0 (drop (w .next + 1) ws) = levels-at ws (w .next) (w .depth) (w .items) Pass inside e in
-      record {
+  pub pass-on : {code : List ℕ} {r : Walk} → it ≡ Pass → r ≡ wordDone w → ItemsOn ws heads names m calls code w calls code r
+  pass-on {code} e done =
+      let inside = tells Pass e .inside in
+      let now = reads Pass inside e in
+      rw done record {
         same = λ t s ss means. same-words (same-refl code (w .at) _)
             (ap (λ (l : Levels). packActions (resume t s ss (openNames ws calls (w .depth)) (l .current) (l .outer) (meantStand (w .stand)))) now);
         rest = sym (ap (λ (l : Levels). l .rest) now);
@@ -196,13 +200,13 @@ module _ (ws heads names : List ℕ) (m : Pattern) (calls : List ℕ) (w : Walk)
         grown = omega arith;
       }
 
-  pub end-on : {code code′ : List ℕ} {at : ℕ} → At Stop → Wrote code (w .at) (restWord (m .lengths) (w .stand) ∷ 15 ∷ []) code′ at
-      → ItemsOn ws heads names m calls code w calls code′ (callDone w (w .next) at false)
+  pub end-on : {code code′ : List ℕ} {r : Walk} → it ≡ Stop → Wrote code (w .at) (restWord (m .lengths) (w .stand) ∷ 15 ∷ []) code′ (r .at)
+      → r ≡ callDone w (w .next) (r .at) false → ItemsOn ws heads names m calls code w calls code′ r
   unfolding packActions openNames
-  end-on {code} e wrote =
-      let none = tells within Stop e in
-      let now : levelsNow ws w ≡ stopped (drop (w .next) ws) = levels-stop ws (w .next) (w .depth) (w .items) (ap stops e) in
-      record {
+  end-on {code} e wrote done =
+      let none = tells Stop e in
+      let now : levelsNow ws w ≡ stopped (drop (w .next) ws) = levels-stop ws (w .next) (w .depth) (w .items) (ap stops (sym is ∙ e)) in
+      rw done record {
         same = λ t s ss means. same-wrote []
             (same-words (same-refl code (w .at) _)
             (rw (now, none) (ap packActions (resume-last t s ss [] (meantStand (w .stand)))
@@ -311,12 +315,12 @@ module _ (ws heads names : List ℕ) (m : Pattern) (calls : List ℕ) (w : Walk)
     more-same t s ss true at h g = rw (h, g)
     more-same t s ss false at h g = refl
 
-    close-on : {code code′ : List ℕ} {at : ℕ} → levelsNow ws w ≡ record { current = end; outer = outer; rest = later .rest }
+    close-on : {code code′ : List ℕ} {r : Walk} → levelsNow ws w ≡ record { current = end; outer = outer; rest = later .rest }
         → firstOf outer ≡ later .current → othersOf outer ≡ later .outer → w .next ≤ next → next ≤ length ws + 1
-        → Wrote code (w .at) (endingWords ws heads (m .lengths) calls next w) code′ at
-        → ItemsOn ws heads names m calls code w calls code′ (callDone w next at (goesOn manner))
-    close-on {code} {at = at} now h g forward fits wrote =
-        record {
+        → Wrote code (w .at) (endingWords ws heads (m .lengths) calls next w) code′ (r .at) → r ≡ callDone w next (r .at) (goesOn manner)
+        → ItemsOn ws heads names m calls code w calls code′ r
+    close-on {code} {r = r} now h g forward fits wrote done =
+        rw done record {
           same = λ t s ss means.
               let number : numberOf t called ≡ numberAmong 0 (headNames ws heads) called =
               number-among 0 t called ∙ ap (λ (l : List Name). numberAmong 0 l called) (means .functions) in
@@ -328,9 +332,9 @@ module _ (ws heads names : List ℕ) (m : Pattern) (calls : List ℕ) (w : Walk)
               (ap packActions (resume-end t s ss called (openNames ws calls under) outer st)
               ∙ ap₂ (λ (k : MeantManner) (f : ℕ). packActions (calling s k f called st more)) (manner-same h) number
               ∙ calling-words t s ss means manner (numberAmong 0 (headNames ws heads) called) more
-              ∙ ap (λ (r : Words). endingWords ws heads (m .lengths) calls next w ++ r) (more-same t s ss (goesOn manner) at h g))))
+              ∙ ap (λ (r : Words). endingWords ws heads (m .lengths) calls next w ++ r) (more-same t s ss (goesOn manner) (r .at) h g))))
               wrote;
-          rest = rest-same manner at refl ∙ sym (ap (λ (l : Levels). l .rest) now);
+          rest = rest-same manner (r .at) refl ∙ sym (ap (λ (l : Levels). l .rest) now);
           within =
               record {
                 room = within .room;
@@ -347,23 +351,25 @@ module _ (ws heads names : List ℕ) (m : Pattern) (calls : List ℕ) (w : Walk)
         flag-small true = omega arith
         flag-small false = omega arith
 
-  pub closed-on : {code code′ : List ℕ} {at : ℕ} → At Close → Wrote code (w .at) (endingWords ws heads (m .lengths) calls (w .next + 1) w) code′ at
-      → ItemsOn ws heads names m calls code w calls code′ (callDone w (w .next + 1) at (goesOn (mannerNow ws calls (w .next + 1) w)))
-  closed-on e wrote =
-      let (inside, deep) = tells within Close e in
+  pub closed-on : {code code′ : List ℕ} {r : Walk} → it ≡ Close
+      → Wrote code (w .at) (endingWords ws heads (m .lengths) calls (w .next + 1) w) code′ (r .at)
+      → r ≡ callDone w (w .next + 1) (r .at) (goesOn (mannerNow ws calls (w .next + 1) w)) → ItemsOn ws heads names m calls code w calls code′ r
+  closed-on e wrote done =
+      let (inside, deep) = tells Close e in
       let l = levelsIn under (w .items) 0 (drop (w .next + 1) ws) in
       close-on (w .next + 1) deep (l .current ∷ l .outer)
-      (levels-at ws (w .next) (w .depth) (w .items) Close inside e) refl refl (omega arith) (omega arith) wrote
+      (reads Close inside e) refl refl (omega arith) (omega arith) wrote done
 
-  pub unclosed-on : {code code′ : List ℕ} {at : ℕ} → At Unclosed → Wrote code (w .at) (endingWords ws heads (m .lengths) calls (w .next) w) code′ at
-      → ItemsOn ws heads names m calls code w calls code′ (callDone w (w .next) at (goesOn (mannerNow ws calls (w .next) w)))
-  unclosed-on e wrote =
-      let deep = tells within Unclosed e in
+  pub unclosed-on : {code code′ : List ℕ} {r : Walk} → it ≡ Unclosed
+      → Wrote code (w .at) (endingWords ws heads (m .lengths) calls (w .next) w) code′ (r .at)
+      → r ≡ callDone w (w .next) (r .at) (goesOn (mannerNow ws calls (w .next) w)) → ItemsOn ws heads names m calls code w calls code′ r
+  unclosed-on e wrote done =
+      let deep = tells Unclosed e in
       let below : levelsIn under (w .items) 0 (drop (w .next) ws) ≡ stopped (drop (w .next) ws) =
-      levels-stop ws (w .next) under (w .items) (stops-below ws (w .next) (w .depth) (w .items) e) in
+      levels-stop ws (w .next) under (w .items) (stops-below ws (w .next) (w .depth) (w .items) (sym is ∙ e)) in
       close-on (w .next) deep []
-      (levels-stop ws (w .next) (w .depth) (w .items) (ap stops e) ∙ ap (λ (r : List ℕ). stopped r) (sym (ap (λ (l : Levels). l .rest) below)))
-      (sym (ap (λ (l : Levels). l .current) below)) (sym (ap (λ (l : Levels). l .outer) below)) (omega arith) (within .next) wrote
+      (levels-stop ws (w .next) (w .depth) (w .items) (ap stops (sym is ∙ e)) ∙ ap (λ (r : List ℕ). stopped r) (sym (ap (λ (l : Levels). l .rest) below)))
+      (sym (ap (λ (l : Levels). l .current) below)) (sym (ap (λ (l : Levels). l .outer) below)) (omega arith) (within .next) wrote done
 
 -- ALL OF THEM
 
