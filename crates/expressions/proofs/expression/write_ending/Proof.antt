@@ -1,10 +1,38 @@
 -- `expression::write_ending` meets its contract.
+use Prim.Native.Nat.{ℕ, _+_, _≤_, _<_}
 use native.Mathlib.Omega.{arith}
+use mathlib.Core.Path.{_≡_}
+use mathlib.Core.List.{List}
+use lib.ListN.{length}
+use Rattle.templates.specs.Words.{headName, headNames}
+use Rattle.templates.specs.Writing.{Wrote}
+use Rattle.templates.specs.Finding.{numberAmong}
+use Rattle.expressions.specs.declared.expression.Manner.{Manner}
+use Rattle.expressions.specs.declared.expression.Manner.the-variants.{Emits, Replaces, Nests}
+use Rattle.expressions.specs.Resuming.{callWords}
 use Rattle.templates.proofs.laws.Names.{name-fits-here}
 use Rattle.expressions.proofs.laws.Naming.{name-short, name-words, found-among}
 use borrow.Author.Needs.{needs}
 use Rattle.expressions.proofs.expression.write_ending.Statement.{statement}
 use Rattle.expressions.proofs.expression.write_ending.Tie as tie
+
+-- the name's words are on the tape, and few
+named : (c : tie.After-name-size) → let a = c .before .before .before .before .args in
+    (a .head + 1 + c .name-size .result ≤ length (a .tape .now)) × (c .name-size .result < 256)
+named c =
+    let entry = c .before .before .before .before in
+    let a = entry .args in
+    rw (c .name-size .ensures) (name-fits-here (a .tape .now) (a .head) (entry .pre .0), name-short (a .tape .now) (a .head))
+
+-- the words of the call's manner, with the number that was found
+written : (c : tie.After-find) (k : Manner) {code : List ℕ} {r : ℕ} → let a = c .before .before .before .before .before .args in
+    a .manner ≡ k → Wrote (a .code .now) (a .at) (callWords k (a .lengths) (a .stand) (c .find .result) (headName (a .tape .now) (a .head))) code r
+    → Wrote (a .code .now) (a .at)
+    (callWords (a .manner) (a .lengths) (a .stand) (numberAmong 0 (headNames (a .tape .now) (a .heads .now)) (headName (a .tape .now) (a .head)))
+    (headName (a .tape .now) (a .head))) code r
+written c k e wrote =
+    let a = c .before .before .before .before .before .args in
+    rw (e, ← (found-among (a .tape .now) (a .heads .now) (a .head) (c .before .name-size .result) (c .find .result) (c .find .ensures .0) (c .before .name-size .ensures))) wrote
 
 add-from : tie.Need-add-from
 add-from c = search needs
@@ -13,18 +41,13 @@ name-size-requires : tie.Need-name-size-requires
 name-size-requires c κs = search needs
 
 find-requires : tie.Need-find-requires
-find-requires c κs =
-    let entry = c .before .before .before .before in
-    omega (arith, name-fits-here (entry .args .tape .now) (entry .args .head) (entry .pre .0), c .name-size .ensures)
+find-requires c κs = omega (arith, named c)
 
 enum-told : tie.Need-enum-told
 enum-told c = search needs
 
 write-emission-requires : tie.Need-write-emission-requires
-write-emission-requires c κs =
-    let at-name-size = c .before .before .before .before in
-    let entry = at-name-size .before .before .before .before in
-    omega (arith, name-fits-here (entry .args .tape .now) (entry .args .head) (entry .pre .0), name-short (entry .args .tape .now) (entry .args .head), at-name-size .name-size .ensures, entry .pre)
+write-emission-requires c κs = omega (arith, named (search))
 
 enum-told-2 : tie.Need-enum-told-2
 enum-told-2 c = search needs
@@ -43,46 +66,21 @@ same-length c = search needs
 
 returns : tie.Need-returns
 returns c =
-    let at-write-emission = c .before .before in
-    let at-enum-told = at-write-emission .before .before in
-    let at-name-size = at-enum-told .before .before .before in
-    let entry = at-name-size .before .before .before .before in
-    rw (at-enum-told .enum-told .given .1) (rw (
-      name-words (entry .args .tape .now) (entry .args .head) (at-name-size .name-size .result) (at-name-size .name-size .ensures),
-      at-name-size .name-size .ensures,
-    ) at (at-write-emission .write-emission .ensures))
+    let at-name-size : tie.After-name-size = search in
+    written (search) Emits (search)
+    (rw (name-words _ _ _ (at-name-size .name-size .ensures), at-name-size .name-size .ensures) at (c .before .before .write-emission .ensures))
 
 same-length-2 : tie.Need-same-length-2
 same-length-2 c = search needs
 
 returns-2 : tie.Need-returns-2
-returns-2 c =
-    let at-write-tail-call = c .before .before in
-    let at-enum-told2 = at-write-tail-call .before .before in
-    let at-find = at-enum-told2 .before .before in
-    let at-name-size = at-find .before in
-    let entry = at-name-size .before .before .before .before in
-    rw (
-      at-enum-told2 .enum-told2 .given .1,
-      ← (found-among (entry .args .tape .now) (entry .args .heads .now) (entry .args .head) (at-name-size .name-size .result) (at-find .find .result)
-          (at-find .find .ensures .0) (at-name-size .name-size .ensures)),
-    ) (at-write-tail-call .write-tail-call .ensures)
+returns-2 c = written (search) Replaces (search) (search)
 
 same-length-3 : tie.Need-same-length-3
 same-length-3 c = search needs
 
 returns-3 : tie.Need-returns-3
-returns-3 c =
-    let at-write-call = c .before .before in
-    let at-enum-told3 = at-write-call .before .before in
-    let at-find = at-enum-told3 .before .before in
-    let at-name-size = at-find .before in
-    let entry = at-name-size .before .before .before .before in
-    rw (
-      at-enum-told3 .enum-told3 .given .1,
-      ← (found-among (entry .args .tape .now) (entry .args .heads .now) (entry .args .head) (at-name-size .name-size .result) (at-find .find .result)
-          (at-find .find .ensures .0) (at-name-size .name-size .ensures)),
-    ) (at-write-call .write-call .ensures)
+returns-3 c = written (search) Nests (search) (search)
 
 pub write-ending-spec : {M : Type 1} → statement M
 write-ending-spec =
