@@ -1,11 +1,12 @@
 // A sentence's expression as actions: item by item, with the open calls in an array.
+use crate::naming::number_of;
+use crate::naming::size_of;
 use crate::spans::Span;
 use crate::spans::Stand;
 use crate::spans::gap_of;
 use crate::spans::piece_span;
 use crate::spans::rest_of;
 use crate::spans::stand_after;
-use templates::names::find;
 use templates::names::is_emission;
 use templates::names::name_is;
 use templates::pattern::Lengths;
@@ -13,7 +14,6 @@ use templates::pattern::Pattern;
 use templates::tape::Item;
 use templates::tape::item_at;
 use templates::tape::less;
-use templates::tape::name_size;
 use templates::tape::word_at;
 use templates::writing::put;
 use templates::writing::put_name;
@@ -87,8 +87,8 @@ fn write_value(tape: &[u32], names: &[usize], code: &mut [u32], walk: Walk) -> W
         (word 9 (numberAmong 0 (headNames (now (tape .entry)) (now (names .entry))) (headName (now (tape .entry)) (walk .next)) - 1) 0 0 ∷ []) (now (code .exit)) (r .at) ⌝ }
     ensures { λ r. ⌜ r ≡ itemDone walk (length (headName (now (tape .entry)) (walk .next))) (r .at) (walk .depth) (walk .stand) ⌝ }
 {
-    let size = name_size(tape, walk.next);
-    let value = less(find(tape, names, names.len(), walk.next + 1, size), 1);
+    let size = size_of(tape, walk.next);
+    let value = less(number_of(tape, names, walk.next, size), 1);
     let at = put_operands(code, walk.at, 9, value, 0, 0);
     let stand = walk.stand;
     past_item(walk, size, at, walk.depth, stand)
@@ -111,7 +111,7 @@ fn write_part(tape: &[u32], m: Pattern, code: &mut [u32], walk: Walk) -> Walk
     ensures { λ r. ⌜ r ≡ itemDone walk (length (headName (now (tape .entry)) (walk .next))) (r .at) (walk .depth)
         (standAfter (m .lengths .parts) (sameBytes (headName (now (tape .entry)) (walk .next)) (headName (now (tape .entry)) (m .variable))) (walk .stand)) ⌝ }
 {
-    let size = name_size(tape, walk.next);
+    let size = size_of(tape, walk.next);
     let first = name_is(tape, m.variable, walk.next + 1, size);
     let lengths = m.lengths;
     let parts = lengths.parts;
@@ -129,7 +129,7 @@ fn open_call(tape: &[u32], calls: &mut [usize], code: &mut [u32], walk: Walk) ->
     let depth = walk.depth;
     calls[depth] = walk.next;
     let at = put_operands(code, walk.at, 10, 0, 0, 0);
-    let size = name_size(tape, walk.next);
+    let size = size_of(tape, walk.next);
     let stand = walk.stand;
     past_item(walk, size, at, depth + 1, stand)
 }
@@ -281,11 +281,10 @@ fn write_ending(
     ensures { λ r. ⌜ Wrote (now (code .entry)) at (callWords manner lengths stand
         (numberAmong 0 (headNames (now (tape .entry)) (now (heads .entry))) (headName (now (tape .entry)) head)) (headName (now (tape .entry)) head)) (now (code .exit)) r ⌝ }
 {
-    let from = head + 1;
-    let size = name_size(tape, head);
-    let number = find(tape, heads, heads.len(), from, size);
+    let size = size_of(tape, head);
+    let number = number_of(tape, heads, head, size);
     match manner {
-        Manner::Emits => write_emission(tape, from, size, code, at),
+        Manner::Emits => write_emission(tape, head + 1, size, code, at),
         Manner::Replaces => write_tail_call(lengths, stand, number, code, at),
         Manner::Nests => write_call(number, code, at),
     }
@@ -309,7 +308,7 @@ fn close_call(
 {
     let depth = walk.depth - 1;
     let head = calls[depth];
-    let size = name_size(tape, head);
+    let size = size_of(tape, head);
     let emission = is_emission(tape, head + 1, size);
     let manner = manner_of(emission, is_last(tape, next, depth, walk.items));
     let stand = walk.stand;

@@ -15,12 +15,9 @@ use Rattle.meaning.specs.Instructions.{Site}
 use Rattle.meaning.specs.Translation.{valueFrom}
 use Rattle.templates.specs.Words.{carried, headName, headNames}
 use Rattle.templates.specs.Finding.{numberAmong}
+use Rattle.expressions.specs.Naming.{Sized}
 use Rattle.templates.proofs.laws.Lists.{reached}
-use Rattle.templates.proofs.laws.Names.{by-place, name-here, name-nowhere, name-part}
-
--- the name after a word, with the length that was worked out
-pub name-words : (ws : List ℕ) (p size : ℕ) → size ≡ length (headName ws p) → take size (drop (p + 1) ws) ≡ headName ws p
-name-words ws p size e = rw e (sym (name-part ws p))
+use Rattle.templates.proofs.laws.Names.{by-place, name-here, name-nowhere, name-part, name-fits-here}
 
 pub name-short : (ws : List ℕ) (p : ℕ) → length (headName ws p) < 256
 name-short ws p =
@@ -28,11 +25,20 @@ name-short ws p =
     (λ h. omega (arith, ap length (name-here ws p h) ∙ reached (carried (getD ws p 0)) (p + 1) ws))
     (λ h. omega (arith, ap length (name-nowhere ws p h)))
 
+pub sized : {ws : List ℕ} {p size : ℕ} → p < length ws → size ≡ length (headName ws p) → Sized ws p size
+sized {ws} {p} h e =
+    record {
+      long = e;
+      words = rw e (sym (name-part ws p));
+      fits = omega (arith, name-fits-here ws p h);
+      short = omega (arith, name-short ws p);
+    }
+
 -- among all heads, the name after a word
-pub found-among : (ws heads : List ℕ) (p size r : ℕ) → r ≡ numberAmong 0 (headNames ws (take (length heads) heads)) (take size (drop (p + 1) ws))
-    → size ≡ length (headName ws p) → r ≡ numberAmong 0 (headNames ws heads) (headName ws p)
-found-among ws heads p size r e h =
-    e ∙ ap₂ (λ (l : List ℕ) (x : Name). numberAmong 0 (headNames ws l) x) (take-length heads) (name-words ws p size h)
+pub found-among : {ws : List ℕ} (heads : List ℕ) {p size r : ℕ} → Sized ws p size
+    → r ≡ numberAmong 0 (headNames ws (take (length heads) heads)) (take size (drop (p + 1) ws)) → r ≡ numberAmong 0 (headNames ws heads) (headName ws p)
+found-among {ws} heads s e =
+    e ∙ ap₂ (λ (l : List ℕ) (x : Name). numberAmong 0 (headNames ws l) x) (take-length heads) (s .words)
 
 -- a function's number, by the names of the table's functions
 pub number-among : (k : ℕ) (t : Table) (n : Name) → numberFrom k t n ≡ numberAmong k (namesOf t) n

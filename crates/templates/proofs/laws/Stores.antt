@@ -40,3 +40,7 @@ wrote-more {a} {i = i} {x = x} {y = y} v w =
       left = w .left ∙ rw (v .left, v .next) (sets-append a i x y);
       next = rw (w .next, v .next, length-append) (omega arith);
     }
+
+-- both of them, found among what is known
+pub wrote-both : {a b c : List ℕ} {i j k : ℕ} {x y z : List ℕ} → Wrote a i x b j → Wrote b j y c k → z ≡ x ++ y → Wrote a i z c k
+wrote-both v w e = rw e (wrote-more v w)

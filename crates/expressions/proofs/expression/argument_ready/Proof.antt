@@ -1,5 +1,5 @@
 -- `expression::argument_ready` meets its contract.
-use Rattle.templates.proofs.laws.Stores.{wrote-more}
+use Rattle.templates.proofs.laws.Stores.{wrote-both}
 use borrow.Author.Needs.{needs}
 use Rattle.expressions.proofs.expression.argument_ready.Statement.{statement}
 use Rattle.expressions.proofs.expression.argument_ready.Tie as tie
@@ -14,10 +14,7 @@ same-length : tie.Need-same-length
 same-length c = search needs
 
 returns : tie.Need-returns
-returns c =
-    let at-put-operands2 = c .before .before in
-    let at-put-operands = at-put-operands2 .before .before .before .before in
-    wrote-more (at-put-operands .put-operands .ensures) (at-put-operands2 .put-operands2 .ensures)
+returns c = search wrote-both
 
 pub argument-ready-spec : {M : Type 1} → statement M
 argument-ready-spec =

@@ -1,10 +1,5 @@
 -- `expression::close_call` meets its contract.
-use native.Mathlib.Omega.{arith}
 use mathlib.Core.Path.{refl, ap, _∙_}
-use Rattle.templates.proofs.laws.Names.{name-fits-here}
-use Rattle.expressions.proofs.laws.Naming.{name-words}
-use Prim.Native.Nat.{_-_}
-use lib.ListN.{getD}
 use Rattle.meaning.specs.Names.{isEmission}
 use borrow.Author.Needs.{needs}
 use Rattle.expressions.proofs.expression.close_call.Statement.{statement}
@@ -19,16 +14,14 @@ mul-head c = search needs
 shared-slice-read-head : tie.Need-shared-slice-read-head
 shared-slice-read-head c = search needs
 
-name-size-requires : tie.Need-name-size-requires
-name-size-requires c κs = search needs
+size-of-requires : tie.Need-size-of-requires
+size-of-requires c κs = search needs
 
 add-is-emission : tie.Need-add-is-emission
 add-is-emission c = search needs
 
 is-emission-requires : tie.Need-is-emission-requires
-is-emission-requires c κs =
-    let entry = c .before .before .before .before .before .before .before in
-    omega (arith, name-fits-here (entry .args .tape .now) (getD (entry .args .calls .now) (entry .args .walk .depth - 1) 0) (entry .pre .0 .2), c .name-size .ensures)
+is-emission-requires c κs = search needs
 
 is-last-requires : tie.Need-is-last-requires
 is-last-requires c κs = search needs
@@ -54,11 +47,7 @@ returns c =
     let at-manner-of = at-write-ending .before .before in
     let at-is-last = at-manner-of .before in
     let at-is-emission = at-is-last .before in
-    let at-name-size = at-is-emission .before in
-    let entry = at-name-size .before .before .before .before .before .before .before in
-    let emission = at-is-emission .is-emission .ensures ∙ ap isEmission
-    (name-words (entry .args .tape .now) (getD (entry .args .calls .now) (entry .args .walk .depth - 1) 0) (at-name-size .name-size .result)
-    (at-name-size .name-size .ensures)) in
+    let emission = at-is-emission .is-emission .ensures ∙ ap isEmission (at-is-emission .before .size-of .ensures .words) in
     rw (c .past-call .ensures, ← emission, ← (at-is-last .is-last .ensures), c .before .goes-on .ensures, ← (at-manner-of .manner-of .ensures))
     (at-write-ending .write-ending .ensures, refl)
 
@@ -69,7 +58,7 @@ close-call-spec =
     sub-depth
     mul-head
     shared-slice-read-head
-    name-size-requires
+    size-of-requires
     add-is-emission
     is-emission-requires
     is-last-requires

@@ -1,7 +1,5 @@
 -- `expression::open_call` meets its contract.
-use native.Mathlib.Omega.{arith}
 use mathlib.Core.Path.{refl}
-use Rattle.templates.proofs.laws.Names.{name-fits-here}
 use borrow.Author.Needs.{needs}
 use Rattle.expressions.proofs.expression.open_call.Statement.{statement}
 use Rattle.expressions.proofs.expression.open_call.Tie as tie
@@ -15,16 +13,14 @@ slice-write-calls c = search needs
 put-operands-requires : tie.Need-put-operands-requires
 put-operands-requires c κs = search needs
 
-name-size-requires : tie.Need-name-size-requires
-name-size-requires c κs = search needs
+size-of-requires : tie.Need-size-of-requires
+size-of-requires c κs = search needs
 
 add-past-item : tie.Need-add-past-item
 add-past-item c = search needs
 
 past-item-requires : tie.Need-past-item-requires
-past-item-requires c κs =
-    let entry = c .before .before .before .before .before .before .before .before in
-    omega (arith, name-fits-here (entry .args .tape .now) (entry .args .walk .next) (entry .pre .1), c .name-size .ensures)
+past-item-requires c κs = search needs
 
 same-length : tie.Need-same-length
 same-length c = search needs
@@ -33,7 +29,7 @@ same-length-2 : tie.Need-same-length-2
 same-length-2 c = search needs
 
 returns : tie.Need-returns
-returns c = rw (c .past-item .ensures, ← (c .before .name-size .ensures)) (c .before .before .before .before .put-operands .ensures, (refl, refl))
+returns c = rw (c .past-item .ensures, ← (c .before .size-of .ensures .long)) (c .before .before .before .before .put-operands .ensures, (refl, refl))
 
 pub open-call-spec : {M : Type 1} → statement M
 open-call-spec =
@@ -42,7 +38,7 @@ open-call-spec =
     mul-calls
     slice-write-calls
     put-operands-requires
-    name-size-requires
+    size-of-requires
     add-past-item
     past-item-requires
     same-length

@@ -1,5 +1,5 @@
 -- `expression::write_call` meets its contract.
-use Rattle.templates.proofs.laws.Stores.{wrote-more}
+use Rattle.templates.proofs.laws.Stores.{wrote-both}
 use borrow.Author.Needs.{needs}
 use Rattle.expressions.proofs.expression.write_call.Statement.{statement}
 use Rattle.expressions.proofs.expression.write_call.Tie as tie
@@ -20,10 +20,7 @@ same-length : tie.Need-same-length
 same-length c = search needs
 
 returns : tie.Need-returns
-returns c =
-    let at-put = c .before .before in
-    let at-argument-ready = at-put .before .before .before .before in
-    wrote-more (at-argument-ready .argument-ready .ensures) (at-put .put .ensures)
+returns c = search wrote-both
 
 pub write-call-spec : {M : Type 1} → statement M
 write-call-spec =
