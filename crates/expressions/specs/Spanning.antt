@@ -1,5 +1,5 @@
 -- Spans by number, as the code works them out from a pattern's lengths: meaning's passages and rests.
-use Prim.Native.Nat.{ℕ, _+_}
+use Prim.Native.Nat.{ℕ, _+_, _≤_}
 use mathlib.Core.Bool.{Bool, true, false}
 use Rattle.meaning.specs.Instructions.{Span as MeantSpan}
 use Rattle.meaning.specs.Packing.{lengthNumber}
@@ -58,3 +58,9 @@ restBy One l AfterSecond = spanOf 0 0 0
 restBy Two l AtStart = spanOf 1 0 0
 restBy Two l AfterFirst = spanOf 3 0 0
 restBy Two l AfterSecond = spanOf 0 (l .third) 0
+
+-- its numbers fit a word's operands
+pub record SmallSpan (s : Span) : Type 0 where
+  pub register : s .register ≤ 3
+  pub add : s .add ≤ 64
+  pub back : s .back ≤ 64

@@ -29,7 +29,7 @@ ghost use Rattle.templates.specs.Words.{headName, headNames};
 ghost use Rattle.templates.specs.Writing.{Wrote};
 ghost use Rattle.templates.specs.Finding.{numberAmong};
 ghost use Rattle.templates.specs.Testing.{total};
-ghost use Rattle.expressions.specs.Spanning.{standAfter};
+ghost use Rattle.expressions.specs.Spanning.{standAfter, SmallSpan};
 ghost use Rattle.expressions.specs.Resuming.{itemDone, wordDone, callDone, spanWords, partWords, restWord, readyWords, callWords, isStop, lastCall, mannerBy, mannerNow, goesOn, endingWords, InItems, ItemsOn, ItemsAll};
 
 // Where the writing of an expression stands: the tape's next word, the code's, the items so far, the open calls, and where p stands.
@@ -50,7 +50,7 @@ pub enum Manner {
 }
 
 fn put_span(code: &mut [u32], at: usize, number: usize, span: Span) -> usize
-    requires { ⌜ (spanWords number span < 2 ^ 32) × (at < 2 ^ 62) ⌝ }
+    requires { ⌜ SmallSpan span × (number < 256) × (at < 2 ^ 62) ⌝ }
     ensures { λ r. ⌜ Wrote (now (code .entry)) at (spanWords number span ∷ []) (now (code .exit)) r ⌝ }
 {
     put_operands(code, at, number, span.register, span.add, span.back)

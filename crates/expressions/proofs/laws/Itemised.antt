@@ -82,14 +82,15 @@ module _ (ws heads names : List ℕ) (m : Pattern) (calls : List ℕ) (w : Walk)
       }
 
   -- one that opens no call
-  plain-on : {code code′ words : List ℕ} {r : Walk} {stand : Stand} (n : ℕ) → Reads ws (w .next) (w .items) → w .next + 1 + n ≤ length ws
-      → levelsNow ws w .rest ≡ after n .rest
+  plain-on : {code code′ words : List ℕ} {r : Walk} {stand : Stand} (item : Expression → Expression) (n : ℕ) → Reads ws (w .next) (w .items)
+      → w .next + 1 + n ≤ length ws → levelsNow ws w ≡ onCurrent item (after n)
       → ((t : Table) (s : Shape) (ss : List (Named Site)) → Means ws heads names m t s ss
-      → remaining true t s ss ws calls w ≡ words ++ remaining true t s ss ws calls (itemDone w n (r .at) (w .depth) stand))
+      → packActions (resume t s ss (openNames ws calls (w .depth)) (item (after n .current)) (after n .outer) (meantStand (w .stand)))
+      ≡ words ++ remaining true t s ss ws calls (itemDone w n (r .at) (w .depth) stand))
       → Wrote code (w .at) words code′ (r .at) → r ≡ itemDone w n (r .at) (w .depth) stand → length words ≤ 270
       → ItemsOn ws heads names m calls code w calls code′ r
-  plain-on n read fits rest same wrote done few =
-      item-on n read fits rest same wrote done (within .room) (within .opened) (within .depth) (omega arith) (omega arith)
+  plain-on item n read fits now same wrote done few =
+      item-on n read fits (ap (λ (l : Levels). l .rest) now) (λ t s ss means. rw now (same t s ss means)) wrote done (within .room) (within .opened) (within .depth) (omega arith) (omega arith)
 
   -- a variable, whichever it is
   variable-now : (variable : Name → Expression → Expression) → Reads ws (w .next) (w .items)
@@ -107,9 +108,9 @@ module _ (ws heads names : List ℕ) (m : Pattern) (calls : List ℕ) (w : Walk)
       let read = tells Byte e .0 in
       let z : w .next + 1 + 0 ≡ w .next + 1 = omega arith in
       let now : levelsNow ws w ≡ onCurrent (thenCharacter (getD ws (w .next) 0)) (after 0) = reads Byte (read .inside) e ∙ rw z in
-      plain-on 0 read (omega (arith, read .inside)) (ap (λ (l : Levels). l .rest) now)
+      plain-on (thenCharacter (getD ws (w .next) 0)) 0 read (omega (arith, read .inside)) now
       (λ t s ss means.
-      rw now (ap packActions (resume-character t s ss (openNames ws calls (w .depth)) (getD ws (w .next) 0) (after 0 .current) (after 0 .outer) (meantStand (w .stand)))))
+      ap packActions (resume-character t s ss (openNames ws calls (w .depth)) (getD ws (w .next) 0) (after 0 .current) (after 0 .outer) (meantStand (w .stand))))
       wrote done (omega arith)
 
   pub value-on : {code code′ : List ℕ} {r : Walk} → it ≡ Symbol
@@ -119,12 +120,12 @@ module _ (ws heads names : List ℕ) (m : Pattern) (calls : List ℕ) (w : Walk)
   value-on e wrote done =
       let read = tells Symbol e in
       let now = variable-now thenSymbol read (reads Symbol (read .inside) e) in
-      plain-on size read (name-fits-here ws (w .next) (read .inside)) (ap (λ (l : Levels). l .rest) now)
+      plain-on (thenSymbol name) size read (name-fits-here ws (w .next) (read .inside)) now
       (λ t s ss means.
       let value : valueNumber ss name ≡ numberAmong 0 (headNames ws names) name - 1 =
       value-among 0 ss name ∙ ap (λ (l : List Name). numberAmong 0 l name - 1) (means .symbols) in
-      rw now (ap packActions (resume-symbol t s ss (openNames ws calls (w .depth)) name (after size .current) (after size .outer) (meantStand (w .stand)))
-      ∙ ap (λ (v : ℕ). word 9 v 0 0 ∷ packActions (resume t s ss (openNames ws calls (w .depth)) (after size .current) (after size .outer) (meantStand (w .stand)))) value))
+      ap packActions (resume-symbol t s ss (openNames ws calls (w .depth)) name (after size .current) (after size .outer) (meantStand (w .stand)))
+      ∙ ap (λ (v : ℕ). word 9 v 0 0 ∷ packActions (resume t s ss (openNames ws calls (w .depth)) (after size .current) (after size .outer) (meantStand (w .stand)))) value)
       wrote done (omega arith)
 
   abbrev first : Bool
@@ -136,10 +137,10 @@ module _ (ws heads names : List ℕ) (m : Pattern) (calls : List ℕ) (w : Walk)
   part-on e wrote done =
       let read = tells Part e in
       let now = variable-now thenPart read (reads Part (read .inside) e) in
-      plain-on size read (name-fits-here ws (w .next) (read .inside)) (ap (λ (l : Levels). l .rest) now)
+      plain-on (thenPart name) size read (name-fits-here ws (w .next) (read .inside)) now
       (λ t s ss means.
-      rw now (ap packActions (resume-part t s ss (openNames ws calls (w .depth)) name (after size .current) (after size .outer) (meantStand (w .stand)))
-      ∙ part-words t s ss means))
+      ap packActions (resume-part t s ss (openNames ws calls (w .depth)) name (after size .current) (after size .outer) (meantStand (w .stand)))
+      ∙ part-words t s ss means)
       wrote done (omega arith)
     where
       part-words : (t : Table) (s : Shape) (ss : List (Named Site)) → Means ws heads names m t s ss
@@ -281,22 +282,22 @@ module _ (ws heads names : List ℕ) (m : Pattern) (calls : List ℕ) (w : Walk)
 
     -- a tail call leaves nothing to be read
     replaces-last : (a b : Bool) → mannerBy a b ≡ Replaces → b ≡ true
-    replaces-last true b e = absurd (let z : _≡_ {A = ℕ} 0 1 = cc in omega arith)
+    replaces-last true b e = cc
     replaces-last false true e = refl
-    replaces-last false false e = absurd (let z : _≡_ {A = ℕ} 0 1 = cc in omega arith)
+    replaces-last false false e = cc
 
     last-stops : (b c : Bool) → pick b c false ≡ true → (b ≡ true) × (c ≡ true)
     last-stops true c e = (refl, e)
-    last-stops false c e = absurd (let z : _≡_ {A = ℕ} 0 1 = cc in omega arith)
+    last-stops false c e = (cc, cc)
 
     stop-stops : (it : Item) → isStop it ≡ true → stops it ≡ true
-    stop-stops Byte e = absurd (let z : _≡_ {A = ℕ} 0 1 = cc in omega arith)
-    stop-stops Symbol e = absurd (let z : _≡_ {A = ℕ} 0 1 = cc in omega arith)
-    stop-stops Part e = absurd (let z : _≡_ {A = ℕ} 0 1 = cc in omega arith)
-    stop-stops Call e = absurd (let z : _≡_ {A = ℕ} 0 1 = cc in omega arith)
-    stop-stops Pass e = absurd (let z : _≡_ {A = ℕ} 0 1 = cc in omega arith)
-    stop-stops Close e = absurd (let z : _≡_ {A = ℕ} 0 1 = cc in omega arith)
-    stop-stops Unclosed e = absurd (let z : _≡_ {A = ℕ} 0 1 = cc in omega arith)
+    stop-stops Byte e = cc
+    stop-stops Symbol e = cc
+    stop-stops Part e = cc
+    stop-stops Call e = cc
+    stop-stops Pass e = cc
+    stop-stops Close e = cc
+    stop-stops Unclosed e = cc
     stop-stops Stop e = refl
 
     rest-same : (k : Manner) (at : ℕ) → manner ≡ k → restNow (goesOn k) ws (callDone w next at (goesOn k)) ≡ later .rest

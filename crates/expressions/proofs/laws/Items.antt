@@ -17,9 +17,6 @@ use Rattle.expressions.specs.Resuming.{isStop}
 use Rattle.templates.proofs.laws.Lists.{drop-word}
 use Rattle.templates.proofs.laws.Names.{by-place, name-skip}
 
-contradiction : {A : Type 0} → true ≡ false → A
-contradiction e = absurd (let z : _≡_ {A = ℕ} 0 1 = cc in omega arith)
-
 -- nothing of it is read
 abbrev pub stops : Item → Bool
 stops Byte = false
@@ -47,12 +44,12 @@ end-below false u v h = h
 
 below-tests : (a b c d e z u v y x : Bool) → stops (itemTests a b c d e false u v y) ≡ true → stops (itemTests a b c d e z u v x) ≡ true
 below-tests true b c d e z u v y x h = end-below z u v h
-below-tests false true c d e z u v y x h = contradiction (sym h)
-below-tests false false true d e z u v y x h = contradiction (sym h)
-below-tests false false false true e z u v y x h = contradiction (sym h)
+below-tests false true c d e z u v y x h = cc
+below-tests false false true d e z u v y x h = cc
+below-tests false false false true e z u v y x h = cc
 below-tests false false false false true z u v y x h = end-below z u v h
-below-tests false false false false false z u v true x h = contradiction (sym h)
-below-tests false false false false false z u v false x h = contradiction (sym h)
+below-tests false false false false false z u v true x h = cc
+below-tests false false false false false z u v false x h = cc
 
 -- WHAT AN ITEM TELLS
 
@@ -154,12 +151,12 @@ levels-stop ws i depth items e =
     by-place ws i (λ h. at-word h (itemAt (drop i ws) depth items) refl e) (λ h. rw (drop-of-length-le ws h))
   where
     at-word : i < length ws → (it : Item) → itemAt (drop i ws) depth items ≡ it → stops it ≡ true → levelsIn depth items 0 (drop i ws) ≡ stopped (drop i ws)
-    at-word h Byte f s = contradiction (sym s)
-    at-word h Symbol f s = contradiction (sym s)
-    at-word h Part f s = contradiction (sym s)
-    at-word h Call f s = contradiction (sym s)
-    at-word h Pass f s = contradiction (sym s)
-    at-word h Close f s = contradiction (sym s)
+    at-word h Byte f s = cc
+    at-word h Symbol f s = cc
+    at-word h Part f s = cc
+    at-word h Call f s = cc
+    at-word h Pass f s = cc
+    at-word h Close f s = cc
     at-word h Unclosed f s = levels-at ws i depth items Unclosed h f ∙ rw (drop-word ws i h)
     at-word h Stop f s = levels-at ws i depth items Stop h f ∙ rw (drop-word ws i h)
 

@@ -1,5 +1,5 @@
 -- Spans by number are meaning's: for a pattern's shape, its lengths and where p stands.
-use Prim.Native.Nat.{ℕ, _+_, _≤_, _<_, _^_}
+use Prim.Native.Nat.{_≤_}
 use native.Mathlib.Omega.{arith}
 use mathlib.Core.Path.{_≡_, refl}
 use mathlib.Core.Bool.{Bool, true, false}
@@ -12,11 +12,10 @@ use Rattle.templates.specs.declared.tape.Parts.the-variants.{Zero, One, Two}
 use Rattle.templates.specs.declared.pattern.Lengths.{Lengths}
 use Rattle.expressions.specs.declared.spans.Stand.{Stand}
 use Rattle.expressions.specs.declared.spans.Stand.the-variants.{AtStart, AfterFirst, AfterSecond}
-use Rattle.meaning.specs.Packing.{word}
 use Rattle.expressions.specs.declared.spans.Span.{Span}
 use Rattle.templates.specs.Testing.{total}
 use Rattle.templates.specs.Measuring.{lengthsOf, variableOf}
-use Rattle.expressions.specs.Spanning.{meantStand, spanNumbers, spanOf, gapBy, pieceSpan, standAfter, restBy}
+use Rattle.expressions.specs.Spanning.{meantStand, spanNumbers, gapBy, pieceSpan, standAfter, restBy, SmallSpan}
 
 pub rest-span : (s : Shape) (w : Stand) → restBy (lengthsOf s .parts) (lengthsOf s) w ≡ spanNumbers (restOf s (meantStand w))
 rest-span (fixed t) w = refl
@@ -47,38 +46,33 @@ passage-spans (open₂ h y m z t) x other w = of-two h m t x y z (sameBytes x y)
 
 -- HOW LARGE THEIR NUMBERS ARE
 
-pub record SmallSpan (s : Span) : Type 0 where
-  pub register : s .register ≤ 3
-  pub add : s .add ≤ 64
-  pub back : s .back ≤ 64
+small : {s : Span} → (s .register ≤ 3) × (s .add ≤ 64) × (s .back ≤ 64) → SmallSpan s
+small h = record { register = h .0; add = h .1; back = h .2 }
 
-small-span : (r a b : ℕ) → r ≤ 3 → a ≤ 64 → b ≤ 64 → SmallSpan (spanOf r a b)
-small-span r a b h g k = record { register = h; add = g; back = k }
+-- the span that was worked out
+pub small-as : {s t : Span} → s ≡ t → SmallSpan t → SmallSpan s
+small-as e h = rw e h
 
 module _ (l : Lengths) (h : total l ≤ 64) where
   pub gap-small : (p : Parts) (first : Bool) (w : Stand) → SmallSpan (gapBy p l first w)
-  gap-small Zero first w = small-span 0 0 0 (omega arith) (omega arith) (omega arith)
-  gap-small One first w = small-span 0 (l .first) 0 (omega arith) (omega arith) (omega arith)
-  gap-small Two true w = small-span 0 (l .first) 0 (omega arith) (omega arith) (omega arith)
-  gap-small Two false AtStart = small-span 2 (l .second) 0 (omega arith) (omega arith) (omega arith)
-  gap-small Two false AfterFirst = small-span 0 (l .second) 0 (omega arith) (omega arith) (omega arith)
-  gap-small Two false AfterSecond = small-span 0 0 0 (omega arith) (omega arith) (omega arith)
+  gap-small Zero first w = small (omega arith)
+  gap-small One first w = small (omega arith)
+  gap-small Two true w = small (omega arith)
+  gap-small Two false AtStart = small (omega arith)
+  gap-small Two false AfterFirst = small (omega arith)
+  gap-small Two false AfterSecond = small (omega arith)
 
   pub piece-small : (p : Parts) (first : Bool) → SmallSpan (pieceSpan p l first)
-  piece-small Zero first = small-span 0 0 0 (omega arith) (omega arith) (omega arith)
-  piece-small One first = small-span 1 0 (l .first + l .second) (omega arith) (omega arith) (omega arith)
-  piece-small Two true = small-span 2 0 (l .first) (omega arith) (omega arith) (omega arith)
-  piece-small Two false = small-span 3 0 (l .second + l .third) (omega arith) (omega arith) (omega arith)
+  piece-small Zero first = small (omega arith)
+  piece-small One first = small (omega arith)
+  piece-small Two true = small (omega arith)
+  piece-small Two false = small (omega arith)
 
   pub rest-small : (p : Parts) (w : Stand) → SmallSpan (restBy p l w)
-  rest-small Zero w = small-span 1 0 0 (omega arith) (omega arith) (omega arith)
-  rest-small One AtStart = small-span 1 0 0 (omega arith) (omega arith) (omega arith)
-  rest-small One AfterFirst = small-span 0 (l .second) 0 (omega arith) (omega arith) (omega arith)
-  rest-small One AfterSecond = small-span 0 0 0 (omega arith) (omega arith) (omega arith)
-  rest-small Two AtStart = small-span 1 0 0 (omega arith) (omega arith) (omega arith)
-  rest-small Two AfterFirst = small-span 3 0 0 (omega arith) (omega arith) (omega arith)
-  rest-small Two AfterSecond = small-span 0 (l .third) 0 (omega arith) (omega arith) (omega arith)
-
--- so a span's word is one of 32 bits
-pub span-fits : (number : ℕ) (s t : Span) → number < 256 → s ≡ t → SmallSpan t → word number (s .register) (s .add) (s .back) < 2 ^ 32
-span-fits number s t h e small = rw e (omega (arith, small))
+  rest-small Zero w = small (omega arith)
+  rest-small One AtStart = small (omega arith)
+  rest-small One AfterFirst = small (omega arith)
+  rest-small One AfterSecond = small (omega arith)
+  rest-small Two AtStart = small (omega arith)
+  rest-small Two AfterFirst = small (omega arith)
+  rest-small Two AfterSecond = small (omega arith)

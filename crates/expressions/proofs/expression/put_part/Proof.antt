@@ -1,6 +1,5 @@
 -- `expression::put_part` meets its contract.
-use native.Mathlib.Omega.{arith}
-use Rattle.expressions.proofs.laws.Spanned.{gap-small, piece-small, span-fits}
+use Rattle.expressions.proofs.laws.Spanned.{small-as, gap-small, piece-small}
 use Rattle.templates.proofs.laws.Stores.{wrote-more}
 use borrow.Author.Needs.{needs}
 use Rattle.expressions.proofs.expression.put_part.Statement.{statement}
@@ -10,18 +9,13 @@ gap-of-requires : tie.Need-gap-of-requires
 gap-of-requires c κs = search needs
 
 put-span-requires : tie.Need-put-span-requires
-put-span-requires c κs = let a = c .before .before .before .args in
-    (span-fits _ _ _ (omega arith) (c .gap-of .ensures) (gap-small (a .lengths) (c .before .before .before .pre .0) (a .lengths .parts) (a .first) (a .stand)), omega arith)
+put-span-requires c κs = search (needs, small-as, gap-small)
 
 piece-span-requires : tie.Need-piece-span-requires
 piece-span-requires c κs = search needs
 
 put-span-requires-2 : tie.Need-put-span-requires-2
-put-span-requires-2 c κs =
-    let at-put-span = c .before .before .before .before in
-    let entry = at-put-span .before .before .before .before in
-    let a = entry .args in
-    (span-fits _ _ _ (omega arith) (c .piece-span .ensures) (piece-small (a .lengths) (entry .pre .0) (a .lengths .parts) (a .first)), omega (arith, at-put-span .put-span .ensures .next))
+put-span-requires-2 c κs = search (needs, small-as, piece-small)
 
 put-operands-requires : tie.Need-put-operands-requires
 put-operands-requires c κs = search needs

@@ -1,7 +1,7 @@
 -- `expression::write_tail_call` meets its contract.
 use native.Mathlib.Omega.{arith}
 use Rattle.templates.proofs.laws.Stores.{wrote-more}
-use Rattle.expressions.proofs.laws.Spanned.{rest-small, span-fits}
+use Rattle.expressions.proofs.laws.Spanned.{small-as, rest-small}
 use borrow.Author.Needs.{needs}
 use Rattle.expressions.proofs.expression.write_tail_call.Statement.{statement}
 use Rattle.expressions.proofs.expression.write_tail_call.Tie as tie
@@ -10,8 +10,7 @@ rest-of-requires : tie.Need-rest-of-requires
 rest-of-requires c κs = search needs
 
 put-span-requires : tie.Need-put-span-requires
-put-span-requires c κs = let a = c .before .before .before .args in
-    (span-fits _ _ _ (omega arith) (c .rest-of .ensures) (rest-small (a .lengths) (c .before .before .before .pre .0) (a .lengths .parts) (a .stand)), omega arith)
+put-span-requires c κs = search (needs, small-as, rest-small)
 
 argument-ready-requires : tie.Need-argument-ready-requires
 argument-ready-requires c κs = omega (arith, c .before .before .before .put-span .ensures .next)
