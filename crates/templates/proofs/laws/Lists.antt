@@ -6,6 +6,10 @@ use mathlib.Core.Path.{_≡_, refl, ap}
 use mathlib.Core.List.{List, [], _∷_}
 use lib.ListN.{length, take, drop, getD, length-take, length-drop}
 use lib.Seq.{drop-cons}
+use borrow.Author.Tests.{eq-eqb, ne-eqb, le-leb, lt-leb, lt-ltb, le-ltb}
+
+-- a test of two numbers, by what is known of them
+pub ruleset tests = (eq-eqb, ne-eqb, le-leb, lt-leb, lt-ltb, le-ltb)
 
 pub drop-word : (ws : List ℕ) (i : ℕ) → i < length ws → drop i ws ≡ getD ws i 0 ∷ drop (i + 1) ws
 drop-word ws i h = rw add-one (drop-cons ws i 0 h)

@@ -2,8 +2,8 @@
 use Prim.Native.Nat.{ℕ, suc, _+_, _≤_, _<_}
 use native.Mathlib.Omega.{arith}
 use native.Mathlib.Nat.{zero-add}
-use mathlib.Core.Path.{_≡_, refl, ap, ap₂, _∙_}
-use mathlib.Core.Bool.{true, false}
+use mathlib.Core.Path.{_≡_, refl, sym, ap, ap₂, _∙_}
+use mathlib.Core.Bool.{Bool, true, false}
 use mathlib.Core.List.{List, []}
 use lib.ListN.{length, drop, getD}
 use Rattle.meaning.specs.Choice.{Name}
@@ -15,8 +15,8 @@ use Rattle.templates.specs.declared.tape.Piece.{Piece}
 use Rattle.templates.specs.declared.tape.Piece.the-variants.{Character, SVariable, EVariable, PatternEnd}
 use Rattle.templates.specs.declared.pattern.Pattern.{Pattern}
 use Rattle.templates.specs.Words.{headName, pieceAt}
-use Rattle.templates.specs.Scans.{Scan, scanned, andThen, oneMore, patternIn, patternAt}
-use Rattle.templates.specs.Measuring.{lengths, lengthsOf, addFirst, addSecond, addThird, longerLengths, cutLengths, variablePlace, pastLetter, pastPart, pastAll, measuredBy, variableBy, Measured, measuring, InPattern, Measures, MeasuresAll}
+use Rattle.templates.specs.Scans.{Scan, scanned, andThen, oneMore, pieceBy, patternIn, patternAt}
+use Rattle.templates.specs.Measuring.{lengths, lengthsOf, addFirst, addSecond, addThird, longerLengths, cutLengths, variablePlace, pastLetter, pastPart, pastAll, measuredBy, variableBy, Measured, measuring, InPattern, flag, Measures, MeasuresAll}
 use Rattle.templates.proofs.laws.Names.{name-here}
 use Rattle.templates.proofs.laws.Scanning.{pattern-at, pattern-end, pattern-past, Fits, pattern-fits, NotBoth, Told, told}
 
@@ -79,13 +79,6 @@ whole-lengths (open₂ h x m y t) = rw (zero-add, zero-add, zero-add)
 
 -- THE STEPS
 
--- the piece where a measure stands
-abbrev Stands : List ℕ → Pattern → Piece → Type 0
-Stands ws m p = pieceAt (drop (m .next) ws) (m .letters) (m .lengths .parts) ≡ p
-
-pub tells : {ws : List ℕ} {m : Pattern} → InPattern ws m → (p : Piece) → Stands ws m p → Told ws (m .next) (m .letters) (m .lengths .parts) p
-tells {ws} {m} within = told ws (m .next) (m .letters) (m .lengths .parts)
-
 module _ (ws : List ℕ) (m : Pattern) where
   abbrev here : Scan (List Element)
   here = patternIn (m .letters) (m .lengths .parts) 0 (drop (m .next) ws)
@@ -128,19 +121,24 @@ module _ (ws : List ℕ) (m : Pattern) where
         end-variable (m .lengths .parts) (headName ws (m .variable)),
       )
 
-  module _ (within : InPattern ws m) where
-    abbrev At : Piece → Type 0
-    At = Stands ws m
+  -- `piece` is the one where the measure stands
+  module _ (within : InPattern ws m) {piece : Piece} (is : piece ≡ pieceAt (drop (m .next) ws) (m .letters) (m .lengths .parts)) where
+    tells : (p : Piece) → piece ≡ p → Told ws (m .next) (m .letters) (m .lengths .parts) p
+    tells p e = told ws (m .next) (m .letters) (m .lengths .parts) p (sym is ∙ e)
+
+    reads : (p : Piece) → m .next < length ws → piece ≡ p
+        → here ≡ pieceBy p (m .letters) (m .lengths .parts) (getD ws (m .next) 0) (drop (m .next + 1) ws) (λ l q skip. patternIn l q skip (drop (m .next + 1) ws))
+    reads p inside e = pattern-at ws (m .next) (m .letters) (m .lengths .parts) p inside (sym is ∙ e)
 
     sum-longer : (p : Parts) (a b c n : ℕ) → a + b + c ≡ n → addFirst p a + addSecond p b + addThird p c ≡ n + 1
     sum-longer Zero a b c n e = omega arith
     sum-longer One a b c n e = omega arith
     sum-longer Two a b c n e = omega arith
 
-    letter-measures : (size : ℕ) → m .letters < 64 → m .next + 1 + size ≤ length ws → measuring true ws (pastLetter m size) ≡ measuring true ws m
-        → Measures ws m (pastLetter m size)
-    letter-measures size room fits same =
-        record {
+    letter-measures : {r : Pattern} (size : ℕ) → m .letters < 64 → m .next + 1 + size ≤ length ws
+        → measuring true ws (pastLetter m size) ≡ measuring true ws m → r ≡ pastLetter m size → Measures ws m r
+    letter-measures size room fits same done =
+        rw done record {
           same = same;
           within =
               record {
@@ -151,37 +149,45 @@ module _ (ws : List ℕ) (m : Pattern) where
           ahead = omega arith;
         }
 
-    pub character-measures : At Character → Measures ws m (pastLetter m 0)
-    character-measures e =
-        let (inside, room, byte) = tells within Character e in
+    pub character-measures : {r : Pattern} → piece ≡ Character → r ≡ pastLetter m 0 → Measures ws m r
+    character-measures e done =
+        let (inside, room, byte) = tells Character e in
         let z : m .next + 1 + 0 ≡ m .next + 1 = omega arith in
-        letter-measures 0 room (omega arith)
-        (letter-same (character (getD ws (m .next) 0)) 0 (pattern-at ws (m .next) (m .letters) (m .lengths .parts) Character inside e ∙ rw z))
+        letter-measures 0 room (omega arith) (letter-same (character (getD ws (m .next) 0)) 0 (reads Character inside e ∙ rw z)) done
 
-    pub variable-measures : At SVariable → Measures ws m (pastLetter m (length (headName ws (m .next))))
-    variable-measures e =
-        let (named, room) = tells within SVariable e in
+    pub variable-measures : {r : Pattern} {size : ℕ} → piece ≡ SVariable → size ≡ length (headName ws (m .next)) → r ≡ pastLetter m size → Measures ws m r
+    variable-measures e long done =
+        let (named, room) = tells SVariable e in
         letter-measures (length (headName ws (m .next))) room (named .fits)
         (letter-same (symbol (headName ws (m .next))) (length (headName ws (m .next)))
-        (pattern-at ws (m .next) (m .letters) (m .lengths .parts) SVariable (named .inside) e
+        (reads SVariable (named .inside) e
         ∙ rw (pattern-past (m .letters + 1) (m .lengths .parts) ws (m .next) (named .inside), ← (name-here ws (m .next) (named .inside)))))
+        (rw long at done)
 
-    pub part-measures : At EVariable → Measures ws m (pastPart m (length (headName ws (m .next))))
-    part-measures e =
-        let (named, one) = tells within EVariable e in
-        record {
+    pub part-measures : {r : Pattern} {size : ℕ} → piece ≡ EVariable → size ≡ length (headName ws (m .next)) → r ≡ pastPart m size → Measures ws m r
+    part-measures e long done =
+        let (named, one) = tells EVariable e in
+        rw (done, long) record {
           same =
               part-same (length (headName ws (m .next)))
-              (pattern-at ws (m .next) (m .letters) (m .lengths .parts) EVariable (named .inside) e
+              (reads EVariable (named .inside) e
               ∙ rw (pattern-past (m .letters) (oneMore (m .lengths .parts)) ws (m .next) (named .inside), ← (name-here ws (m .next) (named .inside))))
               one;
           within = record { letters = within .letters; most = within .most; next = named .fits };
           ahead = omega (arith, named .inside);
         }
 
-    pub end-measures : At PatternEnd → Measures ws m (pastAll m)
-    end-measures e =
-        record { same = end-same (pattern-end ws (m .next) (m .letters) (m .lengths .parts) e); within = record { letters = within .letters; most = within .most; next = within .next }; ahead = omega arith }
+    pub end-measures : {r : Pattern} → piece ≡ PatternEnd → r ≡ pastAll m → Measures ws m r
+    end-measures e done =
+        rw done record {
+          same = end-same (pattern-end ws (m .next) (m .letters) (m .lengths .parts) (sym is ∙ e));
+          within = record { letters = within .letters; most = within .most; next = within .next };
+          ahead = omega arith;
+        }
+
+-- what is left falls where there was more
+pub falls : {more : Bool} (left before : ℕ) → more ≡ true → left < before + 1 → left < before + flag more
+falls left before e h = rw e h
 
 -- the whole
 pub measured-all : (ws : List ℕ) (start : ℕ) (r : Pattern) → r .more ≡ false → InPattern ws r

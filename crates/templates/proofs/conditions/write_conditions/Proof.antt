@@ -6,6 +6,7 @@ use lib.ListN.{length}
 use Rattle.templates.specs.Measuring.{flag}
 use Rattle.templates.specs.Testing.{held}
 use Rattle.templates.proofs.laws.Stores.{same-refl, same-size}
+use Rattle.templates.proofs.laws.Measured.{falls}
 use Rattle.templates.proofs.laws.Conditioned.{ConditionsSoFar, conditions-go-on, conditions-all}
 use Rattle.templates.proofs.conditions.write_conditions.Statement.{statement}
 use Rattle.templates.proofs.conditions.write_conditions.Tie as tie
@@ -31,14 +32,10 @@ condition-or-end-requires c κs =
     (entry .pre .0, entry .pre .1, entry .pre .2, at-loop .loop .inv .within)
 
 loop-less : tie.Need-loop-less Inv-loop μ-loop
-loop-less c = rw (c .before .before .before .before .loop-test .taken) (c .before .before .condition-or-end .ensures .ahead)
+loop-less c = search falls
 
 loop-again : tie.Need-loop-again Inv-loop μ-loop
-loop-again c =
-    let at-condition-or-end = c .before .before in
-    let at-loop-test = at-condition-or-end .before .before in
-    let at-loop = at-loop-test .before in
-    conditions-go-on (at-loop .loop .inv) (at-loop-test .loop-test .taken) (at-condition-or-end .condition-or-end .ensures)
+loop-again c = search conditions-go-on
 
 same-length : tie.Need-same-length Inv-loop μ-loop
 same-length c = same-size (c .before .loop .inv .same)

@@ -5,7 +5,7 @@ use mathlib.Core.Bool.{true}
 use Prim.Native.Nat.{_+_, _-_}
 use lib.ListN.{length}
 use Rattle.templates.specs.Measuring.{InPattern, measuring, flag}
-use Rattle.templates.proofs.laws.Measured.{measured-all}
+use Rattle.templates.proofs.laws.Measured.{falls, measured-all}
 use Rattle.templates.proofs.pattern.measure.Statement.{statement}
 use Rattle.templates.proofs.pattern.measure.Tie as tie
 
@@ -22,7 +22,7 @@ measure-piece-requires : tie.Need-measure-piece-requires Inv-loop μ-loop
 measure-piece-requires c κs = c .before .loop .inv .0
 
 loop-less : tie.Need-loop-less Inv-loop μ-loop
-loop-less c = rw (c .before .loop-test .taken) (c .measure-piece .ensures .ahead)
+loop-less c = search falls
 
 loop-again : tie.Need-loop-again Inv-loop μ-loop
 loop-again c = (c .measure-piece .ensures .within, c .measure-piece .ensures .same ∙ (rw (c .before .loop-test .taken) at (c .before .before .loop .inv .1)))

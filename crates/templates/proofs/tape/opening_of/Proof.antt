@@ -1,13 +1,13 @@
 -- `tape::opening_of` meets its contract.
-use borrow.Author.Tests.{lt-ltb, le-ltb}
+use Rattle.templates.proofs.laws.Lists.{tests}
 use Rattle.templates.proofs.tape.opening_of.Statement.{statement}
 use Rattle.templates.proofs.tape.opening_of.Tie as tie
 
 returns : tie.Need-returns
-returns c = simp (lt-ltb _ _ (c .if1 .taken))
+returns c = search tests
 
 returns-2 : tie.Need-returns-2
-returns-2 c = simp (le-ltb _ _ (c .if1 .left))
+returns-2 c = search tests
 
 pub opening-of-spec : {M : Type 1} → statement M
 opening-of-spec = tie.close (tie.spec returns returns-2)

@@ -3,6 +3,7 @@ use mathlib.Core.Path.{refl, sym, _∙_}
 use Rattle.templates.specs.Testing.{heldSites}
 use Prim.Native.Nat.{_+_, _-_}
 use Rattle.templates.proofs.laws.Stores.{same-refl, same-size}
+use Rattle.templates.proofs.laws.Measured.{falls}
 use Rattle.templates.proofs.laws.Tested.{TestsSoFar, tests-go-on, tests-all}
 use native.Mathlib.Omega.{arith}
 use lib.ListN.{length}
@@ -29,27 +30,16 @@ test-piece-requires c κs =
     (at-loop .loop .inv .within, entry .pre .1 .0)
 
 loop-less : tie.Need-loop-less Inv-loop μ-loop
-loop-less c =
-    let at-test-piece = c .before .before .before .before .before .before in
-    let at-loop-test = at-test-piece .before .before .before .before in
-    rw (at-loop-test .loop-test .taken) (at-test-piece .test-piece .ensures .ahead)
+loop-less c = search falls
 
 loop-again : tie.Need-loop-again Inv-loop μ-loop
-loop-again c =
-    let at-test-piece = c .before .before .before .before .before .before in
-    let at-loop-test = at-test-piece .before .before .before .before in
-    let at-loop = at-loop-test .before in
-    tests-go-on (at-loop .loop .inv) (at-loop-test .loop-test .taken) (at-test-piece .test-piece .ensures)
+loop-again c = search tests-go-on
 
 same-length : tie.Need-same-length Inv-loop μ-loop
-same-length c =
-    let entry = c .before .before .before .before .before .before in
-    c .before .loop .inv .within .nameRoom ∙ sym (entry .pre .0 .0)
+same-length c = omega (arith, c .before .loop .inv .within .nameRoom)
 
 same-length-2 : tie.Need-same-length-2 Inv-loop μ-loop
-same-length-2 c =
-    let entry = c .before .before .before .before .before .before in
-    c .before .loop .inv .within .siteRoom ∙ sym (entry .pre .0 .1)
+same-length-2 c = omega (arith, c .before .loop .inv .within .siteRoom)
 
 same-length-3 : tie.Need-same-length-3 Inv-loop μ-loop
 same-length-3 c = same-size (c .before .loop .inv .same)
