@@ -16,13 +16,14 @@ use Rattle.templates.specs.declared.tape.Parts.the-variants.{Zero}
 use Rattle.templates.specs.declared.tape.Piece.{Piece}
 use Rattle.templates.specs.declared.tape.Piece.the-variants.{Character, SVariable, EVariable, PatternEnd}
 use Rattle.templates.specs.declared.pattern.Lengths.{Lengths}
+use Rattle.templates.specs.declared.symbols.Site.{Site as Cell}
 use Rattle.templates.specs.declared.tests.Tests.{Tests}
 use Rattle.templates.specs.Words.{headName, headNames, pieceAt}
-use Rattle.templates.specs.Scans.{Scan, scanned, andThen, oneMore, patternIn, patternAt}
+use Rattle.templates.specs.Scans.{Scan, scanned, andThen, oneMore, pieceBy, patternIn, patternAt}
 use Rattle.templates.specs.Writing.{Wrote, Same}
 use Rattle.templates.specs.Finding.{numberAmong}
 use Rattle.templates.specs.Measuring.{flag}
-use Rattle.templates.specs.Testing.{siteAt, siteNumber, siteIn, AllSites, foundSite, held, walk, startFrom, testing, testWords, InTests, TestsOn, letterDone, partDone, testsDone, TestsAll, total}
+use Rattle.templates.specs.Testing.{siteNumbers, siteAt, siteNumber, siteIn, AllSites, foundSite, held, walk, startFrom, testing, testWords, InTests, TestsOn, letterDone, partDone, testsDone, TestsAll, total}
 use Rattle.templates.proofs.laws.Names.{name-here, name-part}
 use Rattle.templates.proofs.laws.Stores.{same-refl, same-trans, same-words, same-wrote, same-end}
 use Rattle.templates.proofs.laws.Scanning.{Told, told, pattern-at, pattern-end, pattern-past}
@@ -66,25 +67,14 @@ compare-word : (a : ℕ) (s : Site) → siteNumber (siteIn a) ≡ a
     → testWord (compare (siteIn a) s) ≡ 2 + 256 * a + 1024 * siteRegister s + 16777216 * siteOffset s
 compare-word a s e = omega (arith, e)
 
--- the piece where the tests stand
-abbrev Stands : List ℕ → Tests → Piece → Type 0
-Stands ws t p = pieceAt (drop (t .next) ws) (t .letters) (t .parts) ≡ p
-
-pub tells : {ws names sites : List ℕ} {t : Tests} → InTests ws names sites t → (p : Piece) → Stands ws t p → Told ws (t .next) (t .letters) (t .parts) p
-tells {ws} {names} {sites} {t} within = told ws (t .next) (t .letters) (t .parts)
-
 -- the cell of the next letter is near
 pub site-near : {ws names sites : List ℕ} {t : Tests} (l : Lengths) → InTests ws names sites t → total l ≤ 64
     → (siteRegister (siteAt l (t .parts) (t .offset)) ≤ 2) × (siteOffset (siteAt l (t .parts) (t .offset)) ≤ 64)
 site-near {t = t} l within small = site-small l (t .parts) (t .offset) small (omega (arith, within .offset, within .letters))
 
--- what an s-variable tells, and its cell
-pub symbol-at : {ws names sites : List ℕ} {t : Tests} (l : Lengths) → InTests ws names sites t → total l ≤ 64 → Stands ws t SVariable
-    → Told ws (t .next) (t .letters) (t .parts) SVariable
-    × ((siteRegister (siteAt l (t .parts) (t .offset)) ≤ 2) × (siteOffset (siteAt l (t .parts) (t .offset)) ≤ 64))
-symbol-at l within small e = (tells within SVariable e, site-near l within small)
-
-module _ (ws : List ℕ) (l : Lengths) (names sites : List ℕ) (t : Tests) (within : InTests ws names sites t) where
+-- `piece` is the one where the tests stand
+module _ (ws : List ℕ) (l : Lengths) (names sites : List ℕ) (t : Tests) (within : InTests ws names sites t) {piece : Piece}
+    (is : piece ≡ pieceAt (drop (t .next) ws) (t .letters) (t .parts)) where
   abbrev here : Scan (List Element)
   here = patternIn (t .letters) (t .parts) 0 (drop (t .next) ws)
 
@@ -103,8 +93,12 @@ module _ (ws : List ℕ) (l : Lengths) (names sites : List ℕ) (t : Tests) (wit
   abbrev walked : ℕ → List (Named Site) → Tested
   walked n ss = walk l (t .parts) (t .offset + 1) (afterLetter n .value) (startFrom ss)
 
-  abbrev At : Piece → Type 0
-  At = Stands ws t
+  tells : (p : Piece) → piece ≡ p → Told ws (t .next) (t .letters) (t .parts) p
+  tells p e = told ws (t .next) (t .letters) (t .parts) p (sym is ∙ e)
+
+  reads : (p : Piece) → t .next < length ws → piece ≡ p
+      → here ≡ pieceBy p (t .letters) (t .parts) (getD ws (t .next) 0) (drop (t .next + 1) ws) (λ l q skip. patternIn l q skip (drop (t .next + 1) ws))
+  reads p inside e = pattern-at ws (t .next) (t .letters) (t .parts) p inside (sym is ∙ e)
 
   -- BOUNDS AFTER A STEP
 
@@ -140,12 +134,12 @@ module _ (ws : List ℕ) (l : Lengths) (names sites : List ℕ) (t : Tests) (wit
   -- THE TWO KINDS OF STEPS
 
   -- one test is written
-  test-on : {code code′ : List ℕ} {at word : ℕ} (n : ℕ) (x : Test) → testWord x ≡ word
+  test-on : {code code′ : List ℕ} {r : Tests} {word : ℕ} (n : ℕ) (x : Test) → testWord x ≡ word
       → testing true ws l names sites t ≡ scanned (prefixed (x ∷ []) (walked n known)) (afterLetter n .rest)
-      → Wrote code (t .at) (word ∷ []) code′ at → t .letters < 64 → t .next + 1 + n ≤ length ws
-      → TestsOn ws l names sites code t names sites code′ (letterDone t (t .symbols) n at)
-  test-on {code} n x e now wrote room fits =
-      record {
+      → Wrote code (t .at) (word ∷ []) code′ (r .at) → r ≡ letterDone t (t .symbols) n (r .at) → t .letters < 64 → t .next + 1 + n ≤ length ws
+      → TestsOn ws l names sites code t names sites code′ r
+  test-on {code} n x e now wrote done room fits =
+      rw done record {
         same =
             same-wrote _ (same-words (same-refl code (t .at) _) (ap testWords now ∙ ap (λ (w : ℕ). w ∷ map testWord (walked n known .tests)) e)) wrote;
         known = sym (ap (λ (s : Scan Tested). s .value .sites) now);
@@ -173,16 +167,17 @@ module _ (ws : List ℕ) (l : Lengths) (names sites : List ℕ) (t : Tests) (wit
 
   -- A CHARACTER
 
-  pub character-on : {code code′ : List ℕ} {at : ℕ} → At Character → Wrote code (t .at) (testWord (look site (getD ws (t .next) 0)) ∷ []) code′ at
-      → TestsOn ws l names sites code t names sites code′ (letterDone t (t .symbols) 0 at)
+  pub character-on : {code code′ : List ℕ} {r : Tests} → piece ≡ Character
+      → Wrote code (t .at) (testWord (look site (getD ws (t .next) 0)) ∷ []) code′ (r .at) → r ≡ letterDone t (t .symbols) 0 (r .at)
+      → TestsOn ws l names sites code t names sites code′ r
   unfolding walk
-  character-on e wrote =
+  character-on e wrote done =
       let c = getD ws (t .next) 0 in
-      let (inside, room, byte) = tells within Character e in
+      let (inside, room, byte) = tells Character e in
       let z : t .next + 1 + 0 ≡ t .next + 1 = omega arith in
-      let now : here ≡ andThen (letter (character c)) (afterLetter 0) = pattern-at ws (t .next) (t .letters) (t .parts) Character inside e ∙ rw z in
+      let now : here ≡ andThen (letter (character c)) (afterLetter 0) = reads Character inside e ∙ rw z in
       test-on 0 (look site c) refl
-      (rw (now, walk-prefix l (afterLetter 0 .value) (t .parts) (t .offset + 1) (look site c ∷ []) known)) wrote room (omega arith)
+      (rw (now, walk-prefix l (afterLetter 0 .value) (t .parts) (t .offset + 1) (look site c ∷ []) known)) wrote done room (omega arith)
 
   -- AN S-VARIABLE
 
@@ -197,37 +192,37 @@ module _ (ws : List ℕ) (l : Lengths) (names sites : List ℕ) (t : Tests) (wit
   afterSymbol o =
       scanned (walk l (t .parts) (t .offset + 1) (afterLetter size .value) (testedSymbol o (headName ws (t .next)) site (startFrom known))) (afterLetter size .rest)
 
-  symbol-now : (o : Option Site) → At SVariable → lookup (headName ws (t .next)) known ≡ o → testing true ws l names sites t ≡ afterSymbol o
+  symbol-now : (o : Option Site) → piece ≡ SVariable → lookup (headName ws (t .next)) known ≡ o → testing true ws l names sites t ≡ afterSymbol o
   unfolding walk
   symbol-now o e h = base ∙ ap afterSymbol h
     where
       now : here ≡ andThen (letter (symbol (headName ws (t .next)))) (afterLetter size)
       now =
-          let inside = tells within SVariable e .0 .inside in
-          pattern-at ws (t .next) (t .letters) (t .parts) SVariable inside e
+          let inside = tells SVariable e .0 .inside in
+          reads SVariable inside e
           ∙ rw (pattern-past (t .letters + 1) (t .parts) ws (t .next) inside, ← (name-here ws (t .next) inside))
 
       base : testing true ws l names sites t ≡ afterSymbol (lookup (headName ws (t .next)) known)
       base = rw now
 
-  pub equal-on : {code code′ : List ℕ} {at : ℕ} → At SVariable → (found ≡ 0 → ⊥) → found ≤ t .symbols
-      → Wrote code (t .at) ((2 + 256 * foundSite found sites + 1024 * siteRegister site + 16777216 * siteOffset site) ∷ []) code′ at
-      → TestsOn ws l names sites code t names sites code′ (letterDone t (t .symbols) size at)
-  equal-on e h g wrote =
+  equal-on : {code code′ : List ℕ} {r : Tests} → piece ≡ SVariable → (found ≡ 0 → ⊥) → found ≤ t .symbols
+      → Wrote code (t .at) ((2 + 256 * foundSite found sites + 1024 * siteRegister site + 16777216 * siteOffset site) ∷ []) code′ (r .at)
+      → r ≡ letterDone t (t .symbols) size (r .at) → TestsOn ws l names sites code t names sites code′ r
+  equal-on e h g wrote done =
       let first = siteIn (foundSite found sites) in
-      let (named, room) = tells within SVariable e in
+      let (named, room) = tells SVariable e in
       let known-now : lookup (headName ws (t .next)) known ≡ some first =
       lookup-some ws names sites (t .symbols) (headName ws (t .next)) (omega (arith, symbols-fit, within .nameRoom)) (omega (arith, symbols-fit, within .siteRoom)) h g in
       test-on size (compare first site) (compare-word (foundSite found sites) site (found-good sites (within .good) found .same))
       (symbol-now (some first) e known-now
       ∙ ap (λ (d : Tested). scanned d (afterLetter size .rest)) (walk-prefix l (afterLetter size .value) (t .parts) (t .offset + 1) (compare first site ∷ []) known))
-      wrote room (named .fits)
+      wrote done room (named .fits)
 
-  pub new-on : {code : List ℕ} → At SVariable → total l ≤ 64 → found ≡ 0
+  new-on : {code : List ℕ} → piece ≡ SVariable → total l ≤ 64 → found ≡ 0
       → TestsOn ws l names sites code t (set names (t .symbols) (t .next)) (set sites (t .symbols) (siteNumber site)) code (letterDone t (t .symbols + 1) size (t .at))
   new-on e small h =
       let x = headName ws (t .next) in
-      let (named, room) = tells within SVariable e in
+      let (named, room) = tells SVariable e in
       let known-now : lookup x known ≡ none =
       lookup-none ws names sites (t .symbols) x (omega (arith, symbols-fit, within .nameRoom)) (omega (arith, symbols-fit, within .siteRoom)) h in
       let more : held ws (set names (t .symbols) (t .next)) (set sites (t .symbols) (siteNumber site)) (t .symbols + 1) ≡ known ++ record { name = x; value = site } ∷ [] =
@@ -243,26 +238,46 @@ module _ (ws : List ℕ) (l : Lengths) (names sites : List ℕ) (t : Tests) (wit
 
   -- AN E-VARIABLE, AND THE END
 
-  pub part-on : {code : List ℕ} → At EVariable → TestsOn ws l names sites code t names sites code (partDone t size)
+  pub part-on : {code : List ℕ} {r : Tests} {n : ℕ} → piece ≡ EVariable → n ≡ size → r ≡ partDone t n → TestsOn ws l names sites code t names sites code r
   unfolding walk
-  part-on e =
-      let (named, one) = tells within EVariable e in
+  part-on e long done =
+      let (named, one) = tells EVariable e in
       let now : here ≡ andThen (part (headName ws (t .next))) (patternIn (t .letters) (oneMore (t .parts)) 0 (drop (t .next + 1 + size) ws)) =
-      pattern-at ws (t .next) (t .letters) (t .parts) EVariable (named .inside) e
+      reads EVariable (named .inside) e
       ∙ rw (pattern-past (t .letters) (oneMore (t .parts)) ws (t .next) (named .inside), ← (name-here ws (t .next) (named .inside))) in
-      unwritten-on (partDone t size) refl (rw now) (kept-within (partDone t size) refl refl refl (omega arith) (named .fits)) (omega (arith, named .fits)) (omega arith)
+      rw (done, long)
+      (unwritten-on (partDone t size) refl (rw now) (kept-within (partDone t size) refl refl refl (omega arith) (named .fits)) (omega (arith, named .fits)) (omega arith))
 
-  pub end-on : {code : List ℕ} → At PatternEnd → TestsOn ws l names sites code t names sites code (testsDone t)
+  pub end-on : {code : List ℕ} {r : Tests} → piece ≡ PatternEnd → r ≡ testsDone t → TestsOn ws l names sites code t names sites code r
   unfolding walk
-  end-on e =
-      unwritten-on (testsDone t) refl (rw (pattern-end ws (t .next) (t .letters) (t .parts) e))
-      (kept-within (testsDone t) refl refl refl (within .offset) (within .next)) (omega arith) (omega arith)
+  end-on e done =
+      rw done (unwritten-on (testsDone t) refl (rw (pattern-end ws (t .next) (t .letters) (t .parts) (sym is ∙ e)))
+      (kept-within (testsDone t) refl refl refl (within .offset) (within .next)) (omega arith) (omega arith))
 
--- the name that is looked for, by its words
-pub name-found : {ws names sites : List ℕ} {t : Tests} {size : ℕ} → InTests ws names sites t → size ≡ length (headName ws (t .next))
-    → numberAmong 0 (headNames ws (take (t .symbols) names)) (take size (drop (t .next + 1) ws))
-    ≡ numberAmong 0 (headNames ws (take (t .symbols) names)) (headName ws (t .next))
-name-found {ws} {names} {sites} {t} within e = ap (numberAmong 0 (headNames ws (take (t .symbols) names))) (rw e (sym (name-part ws (t .next))))
+-- an s-variable was looked for: its cell, its length and the number under which it was found
+pub record Looked (ws : List ℕ) (l : Lengths) (names sites : List ℕ) (t : Tests) (cell : Cell) (n k : ℕ) : Type 0 where
+  pub within : InTests ws names sites t
+  pub near : total l ≤ 64
+  pub is : pieceAt (drop (t .next) ws) (t .letters) (t .parts) ≡ SVariable
+  pub sited : cell ≡ siteNumbers (siteAt l (t .parts) (t .offset))
+  pub long : n ≡ length (headName ws (t .next))
+  pub found : k ≡ numberAmong 0 (headNames ws (take (t .symbols) names)) (take n (drop (t .next + 1) ws))
+
+module _ {ws : List ℕ} {l : Lengths} {names sites : List ℕ} {t : Tests} {cell : Cell} {n k : ℕ} (s : Looked ws l names sites t cell n k) where
+  number : k ≡ numberAmong 0 (headNames ws (take (t .symbols) names)) (headName ws (t .next))
+  number = s .found ∙ ap (numberAmong 0 (headNames ws (take (t .symbols) names))) (rw (s .long) (sym (name-part ws (t .next))))
+
+  pub new-symbol-on : {names′ sites′ code : List ℕ} {r : Tests} → k ≡ 0 → r ≡ letterDone t (t .symbols + 1) n (t .at)
+      → names′ ≡ set names (t .symbols) (t .next) → sites′ ≡ set sites (t .symbols) (cell .register + 256 * cell .offset)
+      → TestsOn ws l names sites code t names′ sites′ code r
+  new-symbol-on z done named kept =
+      rw (done, named, kept, s .sited, s .long) (new-on ws l names sites t (s .within) refl (s .is) (s .near) (sym number ∙ z))
+
+  pub equal-symbol-on : {code code′ : List ℕ} {r : Tests} → (k ≡ 0 → ⊥) → k ≤ t .symbols
+      → Wrote code (t .at) ((2 + 256 * foundSite k sites + 1024 * cell .register + 16777216 * cell .offset) ∷ []) code′ (r .at)
+      → r ≡ letterDone t (t .symbols) n (r .at) → TestsOn ws l names sites code t names sites code′ r
+  equal-symbol-on h most wrote done =
+      equal-on ws l names sites t (s .within) refl (s .is) (λ z. h (number ∙ z)) (omega (arith, number)) (rw (number, s .sited) at wrote) (rw (s .long) at done)
 
 -- ALL OF THEM
 

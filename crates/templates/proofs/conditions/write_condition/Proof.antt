@@ -1,11 +1,20 @@
 -- `conditions::write_condition` meets its contract.
-use Prim.Native.Nat.{_/_, _%_}
+use Prim.Native.Nat.{_+_, _/_, _%_, _≤_}
 use native.Mathlib.Omega.{arith}
+use lib.ListN.{length}
 use Rattle.templates.proofs.laws.Held.{found-good}
 use Rattle.templates.proofs.laws.Conditioned.{condition-told, condition-written}
 use borrow.Author.Needs.{needs}
 use Rattle.templates.proofs.conditions.write_condition.Statement.{statement}
 use Rattle.templates.proofs.conditions.write_condition.Tie as tie
+
+-- the name of the condition's variable is on the tape
+name-fits : (c : tie.After-reach) → let a = c .before .before .before .before .before .before .before .args in
+    a .c .next + 1 + c .reach .result ≤ length (a .tape .now)
+name-fits c =
+    let at-word-at = c .before .before in
+    let entry = at-word-at .before .before .before .before .before in
+    omega (arith, condition-told (entry .pre .0 .3) (entry .pre .1) (at-word-at .word-at .result % 256 / 10), c .reach .ensures)
 
 word-at-requires : tie.Need-word-at-requires
 word-at-requires c κs = search needs
@@ -17,10 +26,7 @@ reach-requires : tie.Need-reach-requires
 reach-requires c κs = search needs
 
 find-requires : tie.Need-find-requires
-find-requires c κs =
-    let at-word-at = c .before .before in
-    let entry = at-word-at .before .before .before .before .before in
-    omega (arith, condition-told (entry .pre .0 .3) (entry .pre .1) (at-word-at .word-at .result % 256 / 10), c .reach .ensures, entry .pre .0)
+find-requires c κs = omega (arith, name-fits (search))
 
 found-site-requires : tie.Need-found-site-requires
 found-site-requires c κs = search needs
@@ -38,11 +44,7 @@ add-t12 : tie.Need-add-t12
 add-t12 c = search needs
 
 add-t15 : tie.Need-add-t15
-add-t15 c =
-    let at-reach = c .before .before .before .before .before .before .before .before in
-    let at-word-at = at-reach .before .before in
-    let entry = at-word-at .before .before .before .before .before in
-    omega (arith, condition-told (entry .pre .0 .3) (entry .pre .1) (at-word-at .word-at .result % 256 / 10), at-reach .reach .ensures)
+add-t15 c = omega (arith, name-fits (search))
 
 same-length : tie.Need-same-length
 same-length c = search needs

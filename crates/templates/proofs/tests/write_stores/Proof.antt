@@ -3,9 +3,9 @@ use native.Mathlib.Omega.{arith}
 use mathlib.Core.Path.{_≡_, sym, ap, _∙_}
 use Prim.Native.Nat.{_≤_, _-_, _+_}
 use mathlib.Core.List.{_∷_, map}
-use lib.ListN.{take}
+use lib.ListN.{take, getD}
 use Rattle.templates.specs.Writing.{Same}
-use Rattle.templates.specs.Testing.{storeOfSite}
+use Rattle.templates.specs.Testing.{IsSite, storeOfSite}
 use Rattle.templates.proofs.laws.Lists.{frontFrom, front-whole, front-cons, front-none}
 use Rattle.templates.proofs.laws.Stores.{same-refl, same-words, same-wrote, same-end, same-size}
 use Rattle.templates.proofs.laws.Conditioned.{store-word}
@@ -28,23 +28,17 @@ mul-put c = omega arith
 shared-slice-read-put : tie.Need-shared-slice-read-put Inv-loop μ-loop
 shared-slice-read-put c = omega arith
 
+small : (c : tie.After-shared-slice-known2 Inv-loop μ-loop) → IsSite (getD (c .before .before .before .before .before .before .args .sites .now) (c .before .before .before .loop .k) 0)
+small c = c .before .before .before .before .before .before .pre .1 (c .before .before .before .loop .k)
+
 mul-put-2 : tie.Need-mul-put-2 Inv-loop μ-loop
-mul-put-2 c =
-    let at-loop = c .before .before .before in
-    let entry = at-loop .before .before .before in
-    omega (arith, entry .pre .1 (at-loop .loop .k))
+mul-put-2 c = omega (arith, small c)
 
 add-put : tie.Need-add-put Inv-loop μ-loop
-add-put c =
-    let at-loop = c .before .before .before in
-    let entry = at-loop .before .before .before in
-    omega (arith, entry .pre .1 (at-loop .loop .k))
+add-put c = omega (arith, small c)
 
 put-requires : tie.Need-put-requires Inv-loop μ-loop
-put-requires c κs =
-    let at-loop = c .before .before .before in
-    let entry = at-loop .before .before .before in
-    omega (arith, entry .pre .1 (at-loop .loop .k))
+put-requires c κs = omega (arith, small c)
 
 add-k : tie.Need-add-k Inv-loop μ-loop
 add-k c = omega arith
