@@ -3,8 +3,9 @@ use crate::tape::name_size;
 use crate::tape::word_at;
 ghost use mathlib.Core.Path.{_≡_};
 ghost use Prim.Native.Nat.{_+_, _≤_, _<_};
-ghost use lib.ListN.{length, take, drop};
-ghost use Rattle.meaning.specs.Choice.{sameBytes};
+ghost use lib.Dec.{eqb};
+ghost use lib.ListN.{length, take, drop, getD};
+ghost use Rattle.meaning.specs.Choice.{both, sameBytes};
 ghost use Rattle.meaning.specs.Names.{isEmission};
 ghost use Rattle.templates.specs.Words.{headName, headNames};
 ghost use Rattle.templates.specs.Finding.{numberAmong};
@@ -54,6 +55,18 @@ pub fn find(tape: &[u32], heads: &[usize], count: usize, from: usize, size: usiz
     0
 }
 
+fn word_is(tape: &[u32], i: usize, word: usize) -> bool
+    ensures { λ r. ⌜ r ≡ eqb word (getD (now (tape .entry)) i 0) ⌝ }
+{
+    word == word_at(tape, i)
+}
+
+fn both(a: bool, b: bool) -> bool
+    ensures { λ r. ⌜ r ≡ both a b ⌝ }
+{
+    if a { b } else { false }
+}
+
 // It begins with Emit.
 pub fn is_emission(tape: &[u32], from: usize, size: usize) -> bool
     requires { ⌜ from + size ≤ length (now tape) ⌝ }
@@ -62,17 +75,9 @@ pub fn is_emission(tape: &[u32], from: usize, size: usize) -> bool
     if size < 4 {
         return false;
     }
-    if word_at(tape, from) != 69 {
-        return false;
-    }
-    if word_at(tape, from + 1) != 109 {
-        return false;
-    }
-    if word_at(tape, from + 2) != 105 {
-        return false;
-    }
-    if word_at(tape, from + 3) != 116 {
-        return false;
-    }
-    true
+    let e = word_is(tape, from, 69);
+    let m = word_is(tape, from + 1, 109);
+    let i = word_is(tape, from + 2, 105);
+    let t = word_is(tape, from + 3, 116);
+    both(e, both(m, both(i, t)))
 }

@@ -2,45 +2,27 @@
 use Prim.Native.Nat.{ℕ, zero, suc, _+_, _-_, _≤_, _<_, min}
 use native.Mathlib.Numerals.{add-one}
 use native.Mathlib.Omega.{arith}
-use mathlib.Core.Path.{_≡_, refl, ap}
+use mathlib.Core.Path.{_≡_, refl, ap, _∙_}
 use mathlib.Core.List.{List, [], _∷_}
 use lib.ListN.{length, take, drop, getD, length-take, length-drop}
-use lib.Seq.{drop-cons}
+use lib.Seq.{drop-cons, getD-drop}
 use borrow.Author.Tests.{eq-eqb, ne-eqb, le-leb, lt-leb, lt-ltb, le-ltb}
 
 -- a test of two numbers, by what is known of them
 pub ruleset tests = (eq-eqb, ne-eqb, le-leb, lt-leb, lt-ltb, le-ltb)
 
+-- the word at a place, and what is after it
 pub drop-word : (ws : List ℕ) (i : ℕ) → i < length ws → drop i ws ≡ getD ws i 0 ∷ drop (i + 1) ws
 drop-word ws i h = rw add-one (drop-cons ws i 0 h)
+
+pub word-here : {w : ℕ} (ws : List ℕ) (i : ℕ) → i < length ws → w ≡ getD ws i 0 → drop i ws ≡ w ∷ drop (i + 1) ws
+word-here ws i h e = rw e (drop-word ws i h)
 
 pub reached : (n from : ℕ) (ws : List ℕ) → length (take n (drop from ws)) ≡ min n (length ws - from)
 reached n from ws = simp (length-take, length-drop)
 
 pub part-length : (n from : ℕ) (ws : List ℕ) → from + n ≤ length ws → length (take n (drop from ws)) ≡ n
 part-length n from ws h = rw reached (omega arith)
-
--- the rest of a part, from its i-th word on
-abbrev pub partFrom : List ℕ → ℕ → ℕ → ℕ → List ℕ
-partFrom ws from n i = take (n - i) (drop (from + i) ws)
-
-pub part-whole : (ws : List ℕ) (from n : ℕ) → partFrom ws from n 0 ≡ take n (drop from ws)
-part-whole ws from n =
-    let a : n - 0 ≡ n = omega arith in
-    let b : from + 0 ≡ from = omega arith in
-    rw (a, b)
-
-pub part-cons : (ws : List ℕ) (from n i : ℕ) → i < n → from + n ≤ length ws
-    → partFrom ws from n i ≡ getD ws (from + i) 0 ∷ partFrom ws from n (i + 1)
-part-cons ws from n i h k =
-    let a : n - i ≡ suc (n - (i + 1)) = omega arith in
-    let b : from + i + 1 ≡ from + (i + 1) = omega arith in
-    rw (a, drop-word ws (from + i) (omega arith), b)
-
-pub part-none : (ws : List ℕ) (from n i : ℕ) → n ≤ i → partFrom ws from n i ≡ []
-part-none ws from n i h =
-    let a : n - i ≡ 0 = omega arith in
-    rw a
 
 -- what is left of the first n elements, from the k-th on
 abbrev pub frontFrom : List ℕ → ℕ → ℕ → List ℕ
@@ -60,6 +42,14 @@ pub front-none : (l : List ℕ) (n k : ℕ) → n ≤ k → frontFrom l n k ≡ 
 front-none l n k h =
     let a : n - k ≡ 0 = omega arith in
     rw a
+
+-- the same of n words from a place on
+abbrev pub partFrom : List ℕ → ℕ → ℕ → ℕ → List ℕ
+partFrom ws from = frontFrom (drop from ws)
+
+pub part-cons : (ws : List ℕ) (from n i : ℕ) → i < n → from + n ≤ length ws
+    → partFrom ws from n i ≡ getD ws (from + i) 0 ∷ partFrom ws from n (i + 1)
+part-cons ws from n i h k = front-cons (drop from ws) n i h (rw length-drop (omega arith)) ∙ rw getD-drop
 
 pub take-again : (n : ℕ) (l : List ℕ) → take (length (take n l)) l ≡ take n l
 take-again zero l = refl

@@ -15,7 +15,7 @@ use native.Mathlib.Decide.{decLe}
 use native.Mathlib.Nat.{lt-of-not-le}
 use Rattle.meaning.specs.Choice.{startsWith}
 use Rattle.meaning.specs.Names.{isEmission}
-use Rattle.templates.proofs.laws.Lists.{drop-word, reached, take-again, drop-again, partFrom, part-whole, part-cons, part-none, frontFrom, front-cons, front-none}
+use Rattle.templates.proofs.laws.Lists.{drop-word, reached, take-again, drop-again, partFrom, part-cons, frontFrom, front-whole, front-cons, front-none}
 
 abbrev pub sameFrom : List ℕ → ℕ → ℕ → ℕ → ℕ → Bool
 sameFrom ws a b n i = sameBytes (partFrom ws a n i) (partFrom ws b n i)
@@ -25,15 +25,18 @@ module _ (ws : List ℕ) (a b n : ℕ) (ha : a + n ≤ length ws) (hb : b + n �
   unfolding sameBytes
   step i h = rw (part-cons ws a n i h ha, part-cons ws b n i h hb)
 
-  pub same-again : (i : ℕ) → i < n → getD ws (a + i) 0 ≡ getD ws (b + i) 0 → sameFrom ws a b n i ≡ sameFrom ws a b n (i + 1)
-  same-again i h e = step i h ∙ rw (eq-eqb (getD ws (a + i) 0) (getD ws (b + i) 0) e)
+  -- by the two words that were read, and what is kept so far
+  pub same-again : {x y : ℕ} {t : Bool} (i : ℕ) → sameFrom ws a b n i ≡ t → i < n → x ≡ getD ws (a + i) 0 → y ≡ getD ws (b + i) 0 → x ≡ y
+      → sameFrom ws a b n (i + 1) ≡ t
+  same-again i kept h p q e = sym (step i h ∙ rw (eq-eqb (getD ws (a + i) 0) (getD ws (b + i) 0) (sym p ∙ e ∙ q))) ∙ kept
 
-  pub differ-here : (i : ℕ) → i < n → (getD ws (a + i) 0 ≡ getD ws (b + i) 0 → ⊥) → sameFrom ws a b n i ≡ false
-  differ-here i h e = step i h ∙ rw (ne-eqb (getD ws (a + i) 0) (getD ws (b + i) 0) e)
+  pub differ-here : {x y : ℕ} {t : Bool} (i : ℕ) → sameFrom ws a b n i ≡ t → i < n → x ≡ getD ws (a + i) 0 → y ≡ getD ws (b + i) 0 → (x ≡ y → ⊥)
+      → false ≡ t
+  differ-here i kept h p q e = sym (step i h ∙ rw (ne-eqb (getD ws (a + i) 0) (getD ws (b + i) 0) (λ r. e (p ∙ r ∙ sym q)))) ∙ kept
 
-  pub same-end : (i : ℕ) → n ≤ i → sameFrom ws a b n i ≡ true
+  pub same-end : {t : Bool} (i : ℕ) → sameFrom ws a b n i ≡ t → n ≤ i → true ≡ t
   unfolding sameBytes
-  same-end i h = rw (part-none ws a n i h, part-none ws b n i h)
+  same-end i kept h = rw (front-none (drop a ws) n i h, front-none (drop b ws) n i h) at kept
 
 both-none : (t : Bool) → both t false ≡ false
 both-none true = refl
@@ -95,17 +98,23 @@ module _ (ws heads : List ℕ) (count : ℕ) (n : Name) (fits : count ≤ length
   unfolding numberAmong
   search-step k h = rw (front-cons heads count k h fits)
 
-  pub found-here : (k : ℕ) → k < count → sameBytes n (headName ws (getD heads k 0)) ≡ true → searchFrom k ≡ k + 1
-  found-here k h e = search-step k h ∙ rw e
+  -- by whether the name is here, and what the search comes to so far
+  pub found-here : {r : ℕ} {is : Bool} (k : ℕ) → searchFrom k ≡ r → k < count → is ≡ sameBytes n (headName ws (getD heads k 0)) → is ≡ true → k + 1 ≡ r
+  found-here k kept h e f = sym (search-step k h ∙ rw (← e, f)) ∙ kept
 
-  pub not-here : (k : ℕ) → k < count → sameBytes n (headName ws (getD heads k 0)) ≡ false → searchFrom k ≡ searchFrom (k + 1)
-  not-here k h e = search-step k h ∙ rw e
+  pub not-here : {r : ℕ} {is : Bool} (k : ℕ) → searchFrom k ≡ r → k < count → is ≡ sameBytes n (headName ws (getD heads k 0)) → is ≡ false
+      → searchFrom (k + 1) ≡ r
+  not-here k kept h e f = sym (search-step k h ∙ rw (← e, f)) ∙ kept
 
-  pub found-none : (k : ℕ) → count ≤ k → searchFrom k ≡ 0
+  pub found-none : {r : ℕ} (k : ℕ) → searchFrom k ≡ r → count ≤ k → 0 ≡ r
   unfolding numberAmong
-  found-none k h = rw (front-none heads count k h)
+  found-none k kept h = rw (front-none heads count k h) at kept
 
 -- EMISSION
+
+both-all : (t : Bool) → both t true ≡ t
+both-all true = refl
+both-all false = refl
 
 pub emission-short : (x : Name) → length x < 4 → isEmission x ≡ false
 unfolding startsWith
@@ -116,16 +125,23 @@ emission-short (a ∷ b ∷ c ∷ []) h = rw (both-none (eqb 105 c)) (rw (both-n
 emission-short (a ∷ b ∷ c ∷ d ∷ x) h = absurd (omega arith)
 
 -- the first four words of a name decide
-abbrev pub emitWords : ℕ → ℕ → ℕ → ℕ → Bool
-emitWords a b c d = both (eqb 69 a) (both (eqb 109 b) (both (eqb 105 c) (both (eqb 116 d) true)))
-
-pub emission-words : (ws : List ℕ) (from size : ℕ) → 4 ≤ size → from + size ≤ length ws
-    → isEmission (take size (drop from ws)) ≡ emitWords (getD ws from 0) (getD ws (from + 1) 0) (getD ws (from + 2) 0) (getD ws (from + 3) 0)
+pub emission-by : (ws : List ℕ) (from size : ℕ) {e m i t x y r : Bool} → 4 ≤ size → from + size ≤ length ws
+    → e ≡ eqb 69 (getD ws from 0) → m ≡ eqb 109 (getD ws (from + 1) 0) → i ≡ eqb 105 (getD ws (from + 2) 0) → t ≡ eqb 116 (getD ws (from + 3) 0)
+    → x ≡ both i t → y ≡ both m x → r ≡ both e y → r ≡ isEmission (take size (drop from ws))
 unfolding startsWith
-emission-words ws from size h k =
-    let z : from + 0 ≡ from = omega arith in
-    ap isEmission (sym (part-whole ws from size) ∙ part-cons ws from size 0 (omega arith) k
-    ∙ ap (λ (r : List ℕ). getD ws (from + 0) 0 ∷ r) (part-cons ws from size 1 (omega arith) k
-    ∙ ap (λ (r : List ℕ). getD ws (from + 1) 0 ∷ r) (part-cons ws from size 2 (omega arith) k
-    ∙ ap (λ (r : List ℕ). getD ws (from + 2) 0 ∷ r) (part-cons ws from size 3 (omega arith) k))))
-    ∙ rw z
+emission-by ws from size {e} {m} {i} {t} h k p q u v f g s =
+    s ∙ rw (g, f) (by-words ∙ sym words)
+  where
+    z : from + 0 ≡ from
+    z = omega arith
+
+    word : (n : ℕ) → n < size → partFrom ws from size n ≡ getD ws (from + n) 0 ∷ partFrom ws from size (n + 1)
+    word n b = part-cons ws from size n b k
+
+    words : isEmission (take size (drop from ws))
+        ≡ both (eqb 69 (getD ws from 0)) (both (eqb 109 (getD ws (from + 1) 0)) (both (eqb 105 (getD ws (from + 2) 0)) (both (eqb 116 (getD ws (from + 3) 0)) true)))
+    words = rw (← (front-whole (drop from ws) size), word 0 (omega arith), word 1 (omega arith), word 2 (omega arith), word 3 (omega arith), z)
+
+    by-words : both e (both m (both i t))
+        ≡ both (eqb 69 (getD ws from 0)) (both (eqb 109 (getD ws (from + 1) 0)) (both (eqb 105 (getD ws (from + 2) 0)) (both (eqb 116 (getD ws (from + 3) 0)) true)))
+    by-words = rw (p, q, u, v, both-all (eqb 116 (getD ws (from + 3) 0)))

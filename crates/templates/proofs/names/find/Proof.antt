@@ -34,12 +34,7 @@ add-result : tie.Need-add-result Inv-loop μ-loop
 add-result c = omega arith
 
 returns : tie.Need-returns Inv-loop μ-loop
-returns c =
-    let at-loop-test = c .before .before .before in
-    let at-loop = at-loop-test .before in
-    let entry = at-loop .before .before .before in
-    let a = entry .args in
-    (sym (found-here (a .tape .now) (a .heads .now) (a .count) (take (a .size) (drop (a .from) (a .tape .now))) (entry .pre .0) (at-loop .loop .k) (at-loop-test .loop-test .taken) (sym (c .before .name-is .ensures) ∙ c .if1 .taken)) ∙ at-loop .loop .inv .1, omega arith)
+returns c = (search found-here, omega arith)
 
 add-k : tie.Need-add-k Inv-loop μ-loop
 add-k c = omega arith
@@ -48,18 +43,10 @@ loop-less : tie.Need-loop-less Inv-loop μ-loop
 loop-less c = omega arith
 
 loop-again : tie.Need-loop-again Inv-loop μ-loop
-loop-again c =
-    let at-loop-test = c .before .before .before in
-    let at-loop = at-loop-test .before in
-    let entry = at-loop .before .before .before in
-    let a = entry .args in
-    (omega arith, sym (not-here (a .tape .now) (a .heads .now) (a .count) (take (a .size) (drop (a .from) (a .tape .now))) (entry .pre .0) (at-loop .loop .k) (at-loop-test .loop-test .taken) (sym (c .before .name-is .ensures) ∙ c .if1 .left)) ∙ at-loop .loop .inv .1)
+loop-again c = (omega arith, search not-here)
 
 returns-2 : tie.Need-returns-2 Inv-loop μ-loop
-returns-2 c =
-    let entry = c .before .before .before .before in
-    let a = entry .args in
-    (sym (found-none (a .tape .now) (a .heads .now) (a .count) (take (a .size) (drop (a .from) (a .tape .now))) (entry .pre .0) (c .before .loop .k) (c .loop-test .left)) ∙ c .before .loop .inv .1, omega arith)
+returns-2 c = (search found-none, omega arith)
 
 pub find-spec : {M : Type 1} → statement M
 find-spec =

@@ -5,7 +5,7 @@ use Prim.Native.Nat.{_≤_, _-_}
 use mathlib.Core.Path.{_≡_, sym, _∙_}
 use lib.ListN.{take, drop}
 use Rattle.meaning.specs.Choice.{sameBytes}
-use Rattle.templates.proofs.laws.Lists.{part-whole}
+use Rattle.templates.proofs.laws.Lists.{front-whole}
 use Rattle.templates.proofs.laws.Names.{sameFrom, same-again, differ-here, same-end}
 use Rattle.templates.proofs.names.same_words.Statement.{statement}
 use Rattle.templates.proofs.names.same_words.Tie as tie
@@ -17,7 +17,7 @@ abbrev μ-loop : tie.MeasureT-loop
 μ-loop tape a b size i₀ i = size - i
 
 loop-holds : tie.Need-loop-holds Inv-loop μ-loop
-loop-holds c = (omega arith, rw (part-whole, part-whole))
+loop-holds c = (omega arith, rw (front-whole, front-whole))
 
 add-word-at : tie.Need-add-word-at Inv-loop μ-loop
 add-word-at c = omega arith
@@ -32,14 +32,7 @@ word-at-requires-2 : tie.Need-word-at-requires-2 Inv-loop μ-loop
 word-at-requires-2 c κs = search needs
 
 returns : tie.Need-returns Inv-loop μ-loop
-returns c =
-    let at-word-at = c .before .before in
-    let at-loop-test = at-word-at .before in
-    let at-loop = at-loop-test .before in
-    let entry = at-loop .before .before in
-    let a = entry .args in
-    sym (differ-here (a .tape .now) (a .a) (a .b) (a .size) (entry .pre .0) (entry .pre .1) (at-loop .loop .i) (at-loop-test .loop-test .taken)
-    (λ e. c .if1 .taken (at-word-at .word-at .ensures .0 ∙ e ∙ sym (c .before .word-at2 .ensures .0)))) ∙ at-loop .loop .inv .1
+returns c = search differ-here
 
 add-i : tie.Need-add-i Inv-loop μ-loop
 add-i c = omega arith
@@ -48,19 +41,10 @@ loop-less : tie.Need-loop-less Inv-loop μ-loop
 loop-less c = omega arith
 
 loop-again : tie.Need-loop-again Inv-loop μ-loop
-loop-again c =
-    let at-word-at = c .before .before in
-    let at-loop-test = at-word-at .before in
-    let at-loop = at-loop-test .before in
-    let entry = at-loop .before .before in
-    let a = entry .args in
-    (omega arith, sym (same-again (a .tape .now) (a .a) (a .b) (a .size) (entry .pre .0) (entry .pre .1) (at-loop .loop .i) (at-loop-test .loop-test .taken) (sym (at-word-at .word-at .ensures .0) ∙ c .if1 .left ∙ c .before .word-at2 .ensures .0)) ∙ at-loop .loop .inv .1)
+loop-again c = (omega arith, search same-again)
 
 returns-2 : tie.Need-returns-2 Inv-loop μ-loop
-returns-2 c =
-    let entry = c .before .before .before in
-    let a = entry .args in
-    sym (same-end (a .tape .now) (a .a) (a .b) (a .size) (entry .pre .0) (entry .pre .1) (c .before .loop .i) (c .loop-test .left)) ∙ c .before .loop .inv .1
+returns-2 c = search same-end
 
 pub same-words-spec : {M : Type 1} → statement M
 same-words-spec =

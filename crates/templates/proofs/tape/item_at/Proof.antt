@@ -1,5 +1,5 @@
 -- `tape::item_at` meets its contract.
-use Rattle.templates.proofs.laws.Lists.{drop-word}
+use Rattle.templates.proofs.laws.Lists.{word-here}
 use lib.ListN.{drop-of-length-le}
 use borrow.Author.Tests.{eq-eqb, ne-eqb}
 use borrow.Author.Needs.{needs}
@@ -13,7 +13,7 @@ item-of-requires : tie.Need-item-of-requires
 item-of-requires c κs = search needs
 
 returns : tie.Need-returns
-returns c = rw (drop-word _ _ (c .before .before .if1 .taken), ← (c .before .word-at .ensures .0)) (c .item-of .ensures)
+returns c = rw (word-here _ _ (c .before .before .if1 .taken) (c .before .word-at .ensures .0)) (c .item-of .ensures)
 
 returns-2 : tie.Need-returns-2
 returns-2 c = rw (drop-of-length-le _ (c .before .if1 .left), eq-eqb _ _ (c .if2 .taken))

@@ -1,5 +1,5 @@
 -- `tape::name_size` meets its contract.
-use Rattle.templates.proofs.laws.Lists.{drop-word}
+use Rattle.templates.proofs.laws.Lists.{word-here}
 use lib.ListN.{drop-of-length-le}
 use borrow.Author.Needs.{needs}
 use Rattle.templates.proofs.tape.name_size.Statement.{statement}
@@ -15,7 +15,7 @@ reach-requires : tie.Need-reach-requires
 reach-requires c κs = search needs
 
 returns : tie.Need-returns
-returns c = rw (drop-word _ _ (c .before .before .if1 .taken), ← (c .before .word-at .ensures .0)) (c .reach .ensures)
+returns c = rw (word-here _ _ (c .before .before .if1 .taken) (c .before .word-at .ensures .0)) (c .reach .ensures)
 
 returns-2 : tie.Need-returns-2
 returns-2 c = rw (drop-of-length-le _ (c .if1 .left))

@@ -1,5 +1,5 @@
 -- `tape::piece_at` meets its contract.
-use Rattle.templates.proofs.laws.Lists.{drop-word}
+use Rattle.templates.proofs.laws.Lists.{word-here}
 use lib.ListN.{drop-of-length-le}
 use borrow.Author.Needs.{needs}
 use Rattle.templates.proofs.tape.piece_at.Statement.{statement}
@@ -12,7 +12,7 @@ piece-of-requires : tie.Need-piece-of-requires
 piece-of-requires c κs = search needs
 
 returns : tie.Need-returns
-returns c = rw (drop-word _ _ (c .before .before .if1 .taken), ← (c .before .word-at .ensures .0)) (c .piece-of .ensures)
+returns c = rw (word-here _ _ (c .before .before .if1 .taken) (c .before .word-at .ensures .0)) (c .piece-of .ensures)
 
 returns-2 : tie.Need-returns-2
 returns-2 c = rw (drop-of-length-le _ (c .if1 .left))

@@ -6,7 +6,7 @@ use Prim.Native.Nat.{_≤_, _-_, _+_}
 use mathlib.Core.Path.{_≡_, sym, ap, _∙_}
 use lib.ListN.{take, drop}
 use Rattle.templates.specs.Writing.{Same}
-use Rattle.templates.proofs.laws.Lists.{partFrom, part-whole, part-cons, part-none}
+use Rattle.templates.proofs.laws.Lists.{partFrom, part-cons, front-whole, front-none}
 use Rattle.templates.proofs.laws.Stores.{same-refl, same-words, same-wrote, same-end, same-size}
 use Rattle.templates.proofs.writing.put_name.Statement.{statement}
 use Rattle.templates.proofs.writing.put_name.Tie as tie
@@ -19,7 +19,7 @@ abbrev μ-loop : tie.MeasureT-loop
 
 loop-holds : tie.Need-loop-holds Inv-loop μ-loop
 loop-holds c = let a = c .before .before .args in
-    (omega arith, omega arith, same-words (same-refl _ _ _) (sym (part-whole (a .tape .now) (a .from) (a .size))))
+    (omega arith, omega arith, same-words (same-refl _ _ _) (sym (front-whole (drop (a .from) (a .tape .now)) (a .size))))
 
 add-word-at : tie.Need-add-word-at Inv-loop μ-loop
 add-word-at c = omega arith
@@ -51,7 +51,7 @@ same-length c = same-size (c .before .loop .inv .2)
 
 returns : tie.Need-returns Inv-loop μ-loop
 returns c = let a = c .before .before .before .before .args in
-    same-end (same-words (c .before .loop .inv .2) (part-none (a .tape .now) (a .from) (a .size) (c .before .loop .i) (c .loop-test .left)))
+    same-end (same-words (c .before .loop .inv .2) (front-none (drop (a .from) (a .tape .now)) (a .size) (c .before .loop .i) (c .loop-test .left)))
 
 pub put-name-spec : {M : Type 1} → statement M
 put-name-spec =
