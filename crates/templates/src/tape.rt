@@ -1,5 +1,6 @@
 // A word of the tape: reading it, how long the name after it is, and what it is in a pattern and in an expression.
 ghost use mathlib.Core.Path.{_≡_};
+ghost use mathlib.Core.List.{_∷_};
 ghost use Prim.Native.Nat.{_+_, _-_, _<_, _^_, min};
 ghost use lib.ListN.{length, take, drop, getD, replicate};
 ghost use Rattle.templates.specs.Words.{headName, partPiece, pieceOf, pieceAt, endingOf, openingOf, itemOf, itemAt};
@@ -58,6 +59,14 @@ pub fn word_at(tape: &[u32], i: usize) -> usize
     if i < tape.len() { tape[i] as usize } else { 0 }
 }
 
+// The word at a place of the tape, before those after it.
+fn word_on(tape: &[u32], i: usize) -> usize
+    requires { ⌜ i < length (now tape) ⌝ }
+    ensures { λ r. ⌜ drop i (now (tape .entry)) ≡ r ∷ drop (i + 1) (now (tape .entry)) ⌝ }
+{
+    word_at(tape, i)
+}
+
 // How many of so many words from a place on the tape has.
 pub fn reach(tape: &[u32], from: usize, claimed: usize) -> usize
     ensures { λ r. ⌜ r ≡ length (take claimed (drop from (now (tape .entry)))) ⌝ }
@@ -70,7 +79,7 @@ pub fn name_size(tape: &[u32], head: usize) -> usize
     ensures { λ r. ⌜ r ≡ length (headName (now (tape .entry)) head) ⌝ }
 {
     if head < tape.len() {
-        reach(tape, head + 1, word_at(tape, head) % 256)
+        reach(tape, head + 1, word_on(tape, head) % 256)
     } else {
         0
     }
@@ -108,7 +117,7 @@ pub fn piece_at(tape: &[u32], i: usize, letters: usize, parts: Parts) -> Piece
     ensures { λ r. ⌜ r ≡ pieceAt (drop i (now (tape .entry))) letters parts ⌝ }
 {
     if i < tape.len() {
-        piece_of(word_at(tape, i), letters, parts)
+        piece_of(word_on(tape, i), letters, parts)
     } else {
         Piece::PatternEnd
     }
@@ -161,7 +170,7 @@ pub fn item_at(tape: &[u32], i: usize, depth: usize, items: usize) -> Item
     ensures { λ r. ⌜ r ≡ itemAt (drop i (now (tape .entry))) depth items ⌝ }
 {
     if i < tape.len() {
-        return item_of(word_at(tape, i), depth, items);
+        return item_of(word_on(tape, i), depth, items);
     }
     if depth == 0 {
         Item::Stop

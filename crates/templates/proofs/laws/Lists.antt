@@ -15,9 +15,6 @@ pub ruleset tests = (eq-eqb, ne-eqb, le-leb, lt-leb, lt-ltb, le-ltb)
 pub drop-word : (ws : List ℕ) (i : ℕ) → i < length ws → drop i ws ≡ getD ws i 0 ∷ drop (i + 1) ws
 drop-word ws i h = rw add-one (drop-cons ws i 0 h)
 
-pub word-here : {w : ℕ} (ws : List ℕ) (i : ℕ) → i < length ws → w ≡ getD ws i 0 → drop i ws ≡ w ∷ drop (i + 1) ws
-word-here ws i h e = rw e (drop-word ws i h)
-
 pub reached : (n from : ℕ) (ws : List ℕ) → length (take n (drop from ws)) ≡ min n (length ws - from)
 reached n from ws = simp (length-take, length-drop)
 

@@ -1,7 +1,7 @@
 -- `names::find` meets its contract. The loop keeps the number that the rest of the list gives.
 use native.Mathlib.Omega.{arith}
 use Prim.Native.Nat.{_≤_, _-_}
-use mathlib.Core.Path.{_≡_, sym, _∙_}
+use mathlib.Core.Path.{_≡_}
 use lib.ListN.{take, drop}
 use Rattle.templates.specs.Words.{headNames}
 use Rattle.templates.specs.Finding.{numberAmong}

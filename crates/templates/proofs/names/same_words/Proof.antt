@@ -2,7 +2,7 @@
 use native.Mathlib.Omega.{arith}
 use borrow.Author.Needs.{needs}
 use Prim.Native.Nat.{_≤_, _-_}
-use mathlib.Core.Path.{_≡_, sym, _∙_}
+use mathlib.Core.Path.{_≡_}
 use lib.ListN.{take, drop}
 use Rattle.meaning.specs.Choice.{sameBytes}
 use Rattle.templates.proofs.laws.Lists.{front-whole}

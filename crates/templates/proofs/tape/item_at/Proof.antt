@@ -1,19 +1,18 @@
 -- `tape::item_at` meets its contract.
-use Rattle.templates.proofs.laws.Lists.{word-here}
 use lib.ListN.{drop-of-length-le}
 use borrow.Author.Tests.{eq-eqb, ne-eqb}
 use borrow.Author.Needs.{needs}
 use Rattle.templates.proofs.tape.item_at.Statement.{statement}
 use Rattle.templates.proofs.tape.item_at.Tie as tie
 
-word-at-requires : tie.Need-word-at-requires
-word-at-requires c κs = search needs
+word-on-requires : tie.Need-word-on-requires
+word-on-requires c κs = search needs
 
 item-of-requires : tie.Need-item-of-requires
 item-of-requires c κs = search needs
 
 returns : tie.Need-returns
-returns c = rw (word-here _ _ (c .before .before .if1 .taken) (c .before .word-at .ensures .0)) (c .item-of .ensures)
+returns c = rw (c .before .word-on .ensures) (c .item-of .ensures)
 
 returns-2 : tie.Need-returns-2
 returns-2 c = rw (drop-of-length-le _ (c .before .if1 .left), eq-eqb _ _ (c .if2 .taken))
@@ -22,4 +21,4 @@ returns-3 : tie.Need-returns-3
 returns-3 c = rw (drop-of-length-le _ (c .before .if1 .left), ne-eqb _ _ (c .if2 .left))
 
 pub item-at-spec : {M : Type 1} → statement M
-item-at-spec = tie.close (tie.spec word-at-requires item-of-requires returns returns-2 returns-3)
+item-at-spec = tie.close (tie.spec word-on-requires item-of-requires returns returns-2 returns-3)

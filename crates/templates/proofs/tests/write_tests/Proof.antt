@@ -1,5 +1,5 @@
 -- `tests::write_tests` meets its contract. The loop keeps what the tests written and those still to come amount to.
-use mathlib.Core.Path.{refl, sym, _∙_}
+use mathlib.Core.Path.{refl}
 use Rattle.templates.specs.Testing.{heldSites}
 use Prim.Native.Nat.{_+_, _-_}
 use Rattle.templates.proofs.laws.Stores.{same-refl, same-size}
