@@ -1,6 +1,7 @@
 // A sentence's conditions as tests.
 use crate::names::find;
 use crate::symbols::found_site;
+use crate::tape::of_kind;
 use crate::tape::reach;
 use crate::tape::word_at;
 use crate::writing::put;
@@ -25,11 +26,7 @@ fn is_condition(tape: &[u32], i: usize, count: usize) -> bool
     if 8 <= count {
         return false;
     }
-    let word = word_at(tape, i);
-    if word < 768 {
-        return false;
-    }
-    word < 1024
+    of_kind(word_at(tape, i), 768)
 }
 
 // The test of the class and truth value that a condition's word carries, on the cell that was found.

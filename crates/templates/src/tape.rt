@@ -1,8 +1,11 @@
 // A word of the tape: reading it, how long the name after it is, and what it is in a pattern and in an expression.
 ghost use mathlib.Core.Path.{_≡_};
+ghost use mathlib.Core.Bool.{false};
 ghost use mathlib.Core.List.{_∷_};
 ghost use Prim.Native.Nat.{_+_, _-_, _<_, _^_, min};
+ghost use lib.Dec.{ltb};
 ghost use lib.ListN.{length, take, drop, getD, replicate};
+ghost use Rattle.meaning.specs.Choice.{pick};
 ghost use Rattle.templates.specs.Words.{headName, partPiece, pieceOf, pieceAt, endingOf, openingOf, itemOf, itemAt};
 
 // How many e-variables a pattern has, or has had so far.
@@ -65,6 +68,17 @@ fn word_on(tape: &[u32], i: usize) -> usize
     ensures { λ r. ⌜ drop i (now (tape .entry)) ≡ r ∷ drop (i + 1) (now (tape .entry)) ⌝ }
 {
     word_at(tape, i)
+}
+
+// It is one of the 256 words of a kind, whose first is `low`.
+pub fn of_kind(word: usize, low: usize) -> bool
+    requires { ⌜ low < 2 ^ 32 ⌝ }
+    ensures { λ r. ⌜ r ≡ pick (ltb word low) false (ltb word (low + 256)) ⌝ }
+{
+    if word < low {
+        return false;
+    }
+    word < low + 256
 }
 
 // How many of so many words from a place on the tape has.

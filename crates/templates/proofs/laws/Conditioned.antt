@@ -62,13 +62,15 @@ condition-room ws i count e =
     by-test true b g = absurd (let z : _≡_ {A = ℕ} 0 1 = cc in omega arith)
     by-test false b g = refl
 
-pub conditions-full : (count : ℕ) (l : List ℕ) → 8 ≤ count → conditionAt count l ≡ false
+pub conditions-full : (count : ℕ) (l : List ℕ) → 8 ≤ count → false ≡ conditionAt count l
 conditions-full count [] h = refl
 conditions-full count (w ∷ l) h = rw (le-leb 8 count h)
 
-pub condition-by-word : (ws : List ℕ) (i count : ℕ) → count < 8 → conditionAt count (drop i ws) ≡ pick (ltb (getD ws i 0) 768) false (ltb (getD ws i 0) 1024)
-condition-by-word ws i count h =
-    by-place ws i (λ k. rw (drop-word ws i k, lt-leb 8 count h)) (λ k. rw (drop-of-length-le ws k, List·getD-eq-default ws 0 k))
+-- by the word at a place, 0 past the end
+pub condition-by-word : (ws : List ℕ) (i count : ℕ) {word : ℕ} {r : Bool} → count < 8 → word ≡ getD ws i 0
+    → r ≡ pick (ltb word 768) false (ltb word 1024) → r ≡ conditionAt count (drop i ws)
+condition-by-word ws i count h e f =
+    f ∙ rw e (by-place ws i (λ k. rw (drop-word ws i k, lt-leb 8 count h)) (λ k. rw (drop-of-length-le ws k, List·getD-eq-default ws 0 k)))
 
 -- ITS WORD
 
