@@ -2,6 +2,7 @@
 use crate::sentences::write_function;
 use templates::tape::lesser;
 use templates::tape::name_size;
+use templates::tape::of_kind;
 use templates::tape::room;
 use templates::tape::word_at;
 use templates::writing::put;
@@ -16,10 +17,7 @@ ghost use Rattle.translating.specs.Declaring.{Inside, HeadsOn, HeadsAll,
 fn is_function(word: usize) -> bool
     ensures { λ r. ⌜ r ≡ isFunctionWord word ⌝ }
 {
-    if word < 2048 {
-        return false;
-    }
-    word < 2304
+    of_kind(word, 2048)
 }
 
 // The tape's word `i` is noted if it is a function's and there were not 64.

@@ -5,6 +5,7 @@ use templates::pattern::Lengths;
 use templates::pattern::Pattern;
 use templates::pattern::measure;
 use templates::tape::Parts;
+use templates::tape::of_kind;
 use templates::tape::room;
 use templates::tape::word_at;
 use templates::tests::write_stores;
@@ -148,11 +149,7 @@ fn follows(tape: &[u32], i: usize, count: usize) -> bool
     if 512 <= count {
         return false;
     }
-    let word = word_at(tape, i);
-    if word < 1536 {
-        return false;
-    }
-    word < 1792
+    of_kind(word_at(tape, i), 1536)
 }
 
 fn next_sentence(tape: &[u32], heads: &[usize], code: &mut [u32], s: Sentences) -> Sentences

@@ -40,12 +40,14 @@ module _ (ws : List ℕ) (i : ℕ) (heads : List ℕ) (count : ℕ) (inside : In
       let none : 64 - count ≡ 0 = omega arith in
       record { same = rw none; inside = inside; few = h }
 
-  pub head-none : count ≤ 64 → i < length ws → isFunctionWord (getD ws i 0) ≡ false → HeadsOn ws i heads count heads count
-  head-none h k e = record { same = rw (functions-at ws i false k e); inside = inside; few = h }
+  -- by the word at `i`, and whether it is a function's
+  pub head-none : {word : ℕ} {is : Bool} → count ≤ 64 → i < length ws → word ≡ getD ws i 0 → is ≡ isFunctionWord word → is ≡ false
+      → HeadsOn ws i heads count heads count
+  head-none h k p q e = record { same = rw (functions-at ws i false k (rw p at (sym q ∙ e))); inside = inside; few = h }
 
-  pub head-noted : count < 64 → length heads ≡ 64 → i < length ws → isFunctionWord (getD ws i 0) ≡ true
+  pub head-noted : {word : ℕ} {is : Bool} → count < 64 → length heads ≡ 64 → i < length ws → word ≡ getD ws i 0 → is ≡ isFunctionWord word → is ≡ true
       → HeadsOn ws i heads count (set heads count i) (count + 1)
-  head-noted h room k e =
+  head-noted h room k p q e =
       let more : 64 - count ≡ suc (64 - (count + 1)) = omega arith in
       let here : count < length heads = omega arith in
       let later = take (64 - (count + 1)) (functionsIn (drop (i + 1) ws)) in
@@ -54,7 +56,7 @@ module _ (ws : List ℕ) (i : ℕ) (heads : List ℕ) (count : ℕ) (inside : In
       record {
         same =
             ap (λ (r : List (List ℕ)). r ++ later) taken ∙ append-assoc (wordsFrom ws (take count heads)) (drop i ws ∷ []) later
-            ∙ rw (more, functions-at ws i true k e);
+            ∙ rw (more, functions-at ws i true k (rw p at (sym q ∙ e)));
         inside = λ j g. at j g (ℕ-discrete j count);
         few = omega arith;
       }

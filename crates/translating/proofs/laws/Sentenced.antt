@@ -2,10 +2,10 @@
 use Prim.Native.Nat.{ℕ, zero, suc, _+_, _-_, _*_, _≤_, _<_, _^_}
 use native.Mathlib.Omega.{arith}
 use mathlib.Core.Path.{_≡_, refl, sym, ap, _∙_}
-use mathlib.Core.Bool.{Bool, true, false}
+use mathlib.Core.Bool.{Bool, true, false, false≢true}
 use mathlib.Core.List.{List, [], _∷_, _++_, map, append-assoc, map-append, map-map}
 use lib.Dec.{leb}
-use borrow.Author.Tests.{leb-true, leb-false}
+use borrow.Author.Tests.{lt-leb, leb-true, leb-false}
 use lib.ListN.{length, take, drop, getD, replicate, length-map, drop-of-length-le, List·getD-eq-default}
 use lib.Seq.{length-take-le, drop-drop}
 use Rattle.meaning.specs.Choice.{Name, pick}
@@ -181,14 +181,17 @@ sentenced {ws} {start = start} {counts = counts} {m = m} {b} measured metric bod
 
 -- ANOTHER SENTENCE
 
-pub next-word : (ws : List ℕ) (i : ℕ) → nextAt (drop i ws) ≡ isNextWord (getD ws i 0)
-next-word ws i = by-place ws i (λ k. rw (drop-word ws i k)) (λ k. rw (drop-of-length-le ws k, List·getD-eq-default ws 0 k))
+-- by the word at a place, 0 past the end
+pub follows-by-word : (ws : List ℕ) (i count : ℕ) {word : ℕ} {r : Bool} → count < 512 → word ≡ getD ws i 0 → r ≡ isNextWord word
+    → r ≡ followsAt (leb 512 count) (drop i ws)
+follows-by-word ws i count h e f =
+    f ∙ rw (e, lt-leb 512 count h) (by-place ws i (λ k. rw (drop-word ws i k)) (λ k. rw (drop-of-length-le ws k, List·getD-eq-default ws 0 k)))
 
 -- where one follows there is a word for it, and there were not 512
 follows-inside : (ws : List ℕ) (i : ℕ) (full : Bool) → followsAt full (drop i ws) ≡ true → (i < length ws) × (full ≡ false)
-follows-inside ws i true e = absurd (let z : _≡_ {A = ℕ} 0 1 = cc in omega arith)
+follows-inside ws i true e = absurd (false≢true e)
 follows-inside ws i false e =
-    (by-place ws i (λ k. k) (λ k. absurd (let f : false ≡ true = rw (drop-of-length-le ws k) at e in let z : _≡_ {A = ℕ} 0 1 = cc in omega arith)), refl)
+    (by-place ws i (λ k. k) (λ k. absurd (false≢true (rw (drop-of-length-le ws k) at e))), refl)
 
 module _ (t : Table) (ws : List ℕ) where
   -- the words after a sentence, where the tape goes on at `i`
@@ -230,13 +233,13 @@ module _ (t : Table) (ws : List ℕ) where
       by-more true = refl
       by-more false = refl
 
-pub sentence-on : {ws heads code code′ : List ℕ} {s : Sentences} {b : Body} (more : Bool)
-    → s .count < 512 → SentenceAll ws heads (s .next) code (s .at) code′ b → followsAt (leb 512 (s .count + 1)) (drop (b .next) ws) ≡ more
+pub sentence-on : (more : Bool) {ws heads code code′ : List ℕ} {s : Sentences} {b : Body} {found : Bool}
+    → s .count < 512 → SentenceAll ws heads (s .next) code (s .at) code′ b → found ≡ followsAt (leb 512 (s .count + 1)) (drop (b .next) ws) → found ≡ more
     → SentencesOn ws heads code s code′ (sentenceDone more s b)
-sentence-on {ws} {code = code} {s = s} {b} more h all e =
+sentence-on more {ws} {code = code} {s = s} {b} h all is e =
     record {
-      same = λ t g. same-wrote _ (same-words (same-refl code (s .at) _) (sentence-first t ws s b more h (all .rest) e)) (all .wrote t g);
-      within = by-more more e;
+      same = λ t g. same-wrote _ (same-words (same-refl code (s .at) _) (sentence-first t ws s b more h (all .rest) (sym is ∙ e))) (all .wrote t g);
+      within = by-more more (sym is ∙ e);
       ahead = refl;
       grown = all .grown;
     }

@@ -1,16 +1,11 @@
 -- `functions::note_head` meets its contract.
-use mathlib.Core.Path.{sym, ap, _∙_}
-use Rattle.translating.specs.Trees.{isFunctionWord}
 use Rattle.translating.proofs.laws.Declared.{heads-full, head-noted, head-none}
 use borrow.Author.Needs.{needs}
 use Rattle.translating.proofs.functions.note_head.Statement.{statement}
 use Rattle.translating.proofs.functions.note_head.Tie as tie
 
 returns : tie.Need-returns
-returns c =
-    let entry = c .before .before .before in
-    let a = entry .args in
-    heads-full (a .tape .now) (a .i) (a .heads .now) (a .count) (entry .pre .3) (entry .pre .2) (c .if1 .taken)
+returns c = search heads-full
 
 word-at-requires : tie.Need-word-at-requires
 word-at-requires c κs = search needs
@@ -31,21 +26,10 @@ same-length : tie.Need-same-length
 same-length c = search needs
 
 returns-2 : tie.Need-returns-2
-returns-2 c =
-    let at-word-at = c .before .before in
-    let at-if1 = at-word-at .before in
-    let entry = at-if1 .before .before .before in
-    let a = entry .args in
-    head-noted (a .tape .now) (a .i) (a .heads .now) (a .count) (entry .pre .3) (at-if1 .if1 .left) (entry .pre .1) (entry .pre .0)
-    (ap isFunctionWord (sym (at-word-at .word-at .ensures .0)) ∙ sym (c .before .is-function .ensures) ∙ c .if2 .taken)
+returns-2 c = search head-noted
 
 returns-3 : tie.Need-returns-3
-returns-3 c =
-    let at-word-at = c .before .before in
-    let entry = at-word-at .before .before .before .before in
-    let a = entry .args in
-    head-none (a .tape .now) (a .i) (a .heads .now) (a .count) (entry .pre .3) (entry .pre .2) (entry .pre .0)
-    (ap isFunctionWord (sym (at-word-at .word-at .ensures .0)) ∙ sym (c .before .is-function .ensures) ∙ c .if2 .left)
+returns-3 c = search head-none
 
 pub note-head-spec : {M : Type 1} → statement M
 note-head-spec =

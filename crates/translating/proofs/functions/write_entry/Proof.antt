@@ -1,10 +1,19 @@
 -- `functions::write_entry` meets its contract.
+use Prim.Native.Nat.{_+_, _≤_}
 use native.Mathlib.Omega.{arith}
+use lib.ListN.{length, getD}
 use Rattle.templates.proofs.laws.Names.{name-fits-here}
 use Rattle.translating.proofs.laws.Declared.{entry-written}
 use borrow.Author.Needs.{needs}
 use Rattle.translating.proofs.functions.write_entry.Statement.{statement}
 use Rattle.translating.proofs.functions.write_entry.Tie as tie
+
+-- the function's name is on the tape
+name-fits : (c : tie.After-name-size) → let a = c .before .before .before .before .before .args in
+    getD (a .heads .now) (a .k) 0 + 1 + c .name-size .result ≤ length (a .tape .now)
+name-fits c =
+    let entry = c .before .before .before .before .before in
+    omega (arith, c .name-size .ensures, name-fits-here (entry .args .tape .now) _ (entry .pre .2 (entry .args .k) (entry .pre .0)))
 
 mul-head : tie.Need-mul-head
 mul-head c = search needs
@@ -22,10 +31,7 @@ name-size-requires : tie.Need-name-size-requires
 name-size-requires c κs = search needs
 
 add-start-2 : tie.Need-add-start-2
-add-start-2 c =
-    let entry = c .before .before .before .before .before in
-    let a = entry .args in
-    omega (arith, c .name-size .ensures, name-fits-here (a .tape .now) _ (entry .pre .2 (a .k) (entry .pre .0)))
+add-start-2 c = omega (arith, name-fits c)
 
 put-requires : tie.Need-put-requires
 put-requires c κs = omega (arith, c .before .before .before .before .before .before .pre .4)
@@ -54,11 +60,7 @@ part-write-function-end : tie.Need-part-write-function-end
 part-write-function-end c = search needs
 
 write-function-requires : tie.Need-write-function-requires
-write-function-requires c κs =
-    let at-name-size = c .before .before .before .before .before .before in
-    let entry = at-name-size .before .before .before .before .before in
-    let a = entry .args in
-    (entry .pre .1, omega (arith, at-name-size .name-size .ensures, name-fits-here (a .tape .now) _ (entry .pre .2 (a .k) (entry .pre .0))))
+write-function-requires c κs = (search, omega (arith, name-fits (search)))
 
 add-result : tie.Need-add-result
 add-result c =

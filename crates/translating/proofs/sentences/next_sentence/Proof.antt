@@ -1,5 +1,4 @@
 -- `sentences::next_sentence` meets its contract.
-use mathlib.Core.Path.{sym, _∙_}
 use mathlib.Core.Bool.{true, false}
 use Rattle.translating.proofs.laws.Sentenced.{sentence-on}
 use borrow.Author.Needs.{needs}
@@ -22,20 +21,13 @@ same-length : tie.Need-same-length
 same-length c = search needs
 
 returns : tie.Need-returns
-returns c =
-    let at-follows = c .before .before in
-    let at-write-sentence = at-follows .before .before .before .before in
-    let entry = at-write-sentence .before .before .before .before .before in
-    sentence-on true (entry .pre .2) (at-write-sentence .write-sentence .ensures) (sym (at-follows .follows .ensures) ∙ c .before .if1 .taken)
+returns c = search (sentence-on true)
 
 same-length-2 : tie.Need-same-length-2
 same-length-2 c = search needs
 
 returns-2 : tie.Need-returns-2
-returns-2 c =
-    let at-write-sentence = c .before .before .before .before .before in
-    let entry = at-write-sentence .before .before .before .before .before in
-    sentence-on false (entry .pre .2) (at-write-sentence .write-sentence .ensures) (sym (c .before .follows .ensures) ∙ c .if1 .left)
+returns-2 c = search (sentence-on false)
 
 pub next-sentence-spec : {M : Type 1} → statement M
 next-sentence-spec =

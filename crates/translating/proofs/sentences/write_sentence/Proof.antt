@@ -1,9 +1,18 @@
 -- `sentences::write_sentence` meets its contract.
+use Prim.Native.Nat.{_+_, _≤_, _^_}
 use native.Mathlib.Omega.{arith}
 use Rattle.translating.proofs.laws.Sentenced.{body-ahead, sentenced}
 use borrow.Author.Needs.{needs}
 use Rattle.translating.proofs.sentences.write_sentence.Statement.{statement}
 use Rattle.translating.proofs.sentences.write_sentence.Tie as tie
+
+near : (c : tie.After-put-metric) → c .put-metric .result ≤ 2 ^ 58
+near c = omega (arith, c .put-metric .ensures .next, c .before .before .before .before .before .before .before .pre .2)
+
+-- what the counts of the body are at most
+bounds : (c : tie.After-write-body) → let b = c .write-body .result in
+    (b .tests ≤ 72) × (b .symbols ≤ 64) × (b .at ≤ c .before .before .before .before .put-metric .result + 1 + 34800)
+bounds c = let e = c .write-body .ensures in (e .few .0, e .few .1, e .grown)
 
 measure-requires : tie.Need-measure-requires
 measure-requires c κs = c .before .before .before .pre .1
@@ -16,45 +25,31 @@ put-metric-requires c κs =
     (omega (arith, m .letters, m .most), omega (arith, entry .pre .2))
 
 add-from : tie.Need-add-from
-add-from c =
-    let at-put-metric = c .before .before in
-    let entry = at-put-metric .before .before .before .before .before .before .before in
-    omega (arith, at-put-metric .put-metric .ensures .next, entry .pre .2)
+add-from c = omega (arith, near (search))
 
 write-body-requires : tie.Need-write-body-requires
 write-body-requires c κs =
-    let at-put-metric = c .before .before .before in
-    let at-measure = at-put-metric .before .before .before in
-    let entry = at-measure .before .before .before .before in
-    (at-measure .measure .ensures, entry .pre .0, entry .pre .1, omega (arith, at-put-metric .put-metric .ensures .next, entry .pre .2))
+    let at-measure : tie.After-measure = search in
+    let entry : tie.Start = search in
+    (at-measure .measure .ensures, entry .pre .0, entry .pre .1, omega (arith, near (search)))
 
 sub-put : tie.Need-sub-put
 sub-put c = body-ahead (c .before .before .before .before .write-body .ensures)
 
 mul-put : tie.Need-mul-put
-mul-put c = omega (arith, c .before .before .before .before .write-body .ensures .grown)
+mul-put c = omega (arith, bounds (search))
 
 add-put : tie.Need-add-put
-add-put c =
-    let at-write-body = c .before .before .before .before .before in
-    omega (arith, at-write-body .write-body .ensures .grown, at-write-body .write-body .ensures .few)
+add-put c = omega (arith, bounds (search))
 
 mul-put-2 : tie.Need-mul-put-2
-mul-put-2 c =
-    let at-write-body = c .before .before .before .before .before in
-    omega (arith, at-write-body .write-body .ensures .grown, at-write-body .write-body .ensures .few)
+mul-put-2 c = omega (arith, bounds (search))
 
 add-put-2 : tie.Need-add-put-2
-add-put-2 c =
-    let at-write-body = c .before .before .before .before .before .before in
-    omega (arith, at-write-body .write-body .ensures .grown, at-write-body .write-body .ensures .few)
+add-put-2 c = omega (arith, bounds (search))
 
 put-requires : tie.Need-put-requires
-put-requires c κs =
-    let at-write-body = c .before .before .before .before .before .before in
-    let at-put-metric = at-write-body .before .before .before .before in
-    let entry = at-put-metric .before .before .before .before .before .before .before in
-    (omega (arith, at-write-body .write-body .ensures .grown, at-write-body .write-body .ensures .few), omega (arith, at-put-metric .put-metric .ensures .next, entry .pre .2))
+put-requires c κs = omega (arith, bounds (search), near (search))
 
 same-length : tie.Need-same-length
 same-length c = search needs
