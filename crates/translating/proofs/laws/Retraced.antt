@@ -7,7 +7,7 @@ use mathlib.Core.Bool.{Bool, true, false, not, false≢true}
 use mathlib.Core.List.{List, [], _∷_, _++_, append-assoc, map}
 use borrow.Author.Tests.{lt-ltb, le-ltb, le-leb, lt-leb, ne-eqb, leb-true, ltb-true}
 use lib.Dec.{T, eqb, leb, ltb}
-use lib.ListN.{length, take}
+use lib.ListN.{length, take, drop}
 use lib.Seq.{take-append-seam, drop-append-seam}
 use Rattle.meaning.specs.Choice.{Name, pick, both, isSome, every}
 use Rattle.meaning.specs.Names.{isReserved}
@@ -43,6 +43,18 @@ carried-back kind n h = omega arith
 
 pub place-back : (place n : ℕ) → n < 256 → placeIn (tapeWord (callKind + place) n) ≡ place
 place-back place n h = omega arith
+
+-- a name is read back, and what comes after it is read on: `read` takes so many words to be passed over first
+name-back : {A B : Type 0} (made : Name → A → B) (read : ℕ → List ℕ → A) → ((n : ℕ) (l : List ℕ) → read n l ≡ read 0 (drop n l))
+    → (x r ws : List ℕ) {a : A} → read 0 (r ++ ws) ≡ a → made (take (length x) ((x ++ r) ++ ws)) (read (length x) ((x ++ r) ++ ws)) ≡ made x a
+name-back made read skips x r ws e =
+    rw (append-assoc x r ws, take-append-seam x (r ++ ws), skips (length x) (x ++ (r ++ ws)), drop-append-seam x (r ++ ws)) (ap (made x) e)
+
+-- the same after the word that carries its length
+named-back : {A B : Type 0} (made : Name → A → B) (read : ℕ → List ℕ → A) → ((n : ℕ) (l : List ℕ) → read n l ≡ read 0 (drop n l))
+    → (kind : ℕ) (x r ws : List ℕ) {a : A} → length x < 256 → read 0 (r ++ ws) ≡ a
+    → made (take (carried (tapeWord kind (length x))) ((x ++ r) ++ ws)) (read (carried (tapeWord kind (length x))) ((x ++ r) ++ ws)) ≡ made x a
+named-back made read skips kind x r ws h e = rw (carried-back kind (length x) h) (name-back made read skips x r ws e)
 
 -- EXPRESSIONS
 
@@ -102,21 +114,6 @@ call-closed place n a e depth items ws l ih =
     let back : depth + 1 - 1 ≡ depth = omega arith in
     rw (close-item depth items, back, ih, followed-end a)
 
--- a variable's identifier is read back, and what comes after it is read on
-variable-back : (variable : Name → Expression → Expression) (kind : ℕ) (x : Name) (e : Expression) (depth items : ℕ) (ws : List ℕ) (l : Levels) → length x < 256 →
-    levelsIn depth items 0 (expressionTape e ++ ws) ≡ l →
-    onCurrent (variable (take (carried (tapeWord kind (length x))) ((x ++ expressionTape e) ++ ws)))
-    (levelsIn depth items (carried (tapeWord kind (length x))) ((x ++ expressionTape e) ++ ws)) ≡ onCurrent (variable x) l
-variable-back variable kind x e depth items ws l h ih =
-    rw (
-      carried-back kind (length x) h,
-      append-assoc x (expressionTape e) ws,
-      take-append-seam x (expressionTape e ++ ws),
-      levels-skip depth items (length x) (x ++ (expressionTape e ++ ws)),
-      drop-append-seam x (expressionTape e ++ ws),
-    )
-    (ap (onCurrent (variable x)) ih)
-
 one-more : (items n : ℕ) → items + suc n ≡ items + 1 + n
 one-more items n = omega arith
 
@@ -130,27 +127,22 @@ levels-expression (thenCharacter c e) depth items ws s h k =
     rw (byte-item depth items (omega arith) c (s .0), one-more items (itemsIn e)) (ap (onCurrent (thenCharacter c)) ih)
 levels-expression (thenSymbol x e) depth items ws s h k =
     let ih = levels-expression e depth (items + 1) ws (s .1) (omega arith) k in
-    rw (symbol-item depth items (omega arith) (length x) (s .0), one-more items (itemsIn e)) (variable-back thenSymbol symbolKind x e depth (items + 1) ws _ (s .0) ih)
+    rw (symbol-item depth items (omega arith) (length x) (s .0), one-more items (itemsIn e)) 
+    (named-back (λ y. onCurrent (thenSymbol y)) (levelsIn depth (items + 1)) (levels-skip depth (items + 1)) symbolKind x (expressionTape e) ws (s .0) ih)
 levels-expression (thenPart x e) depth items ws s h k =
     let ih = levels-expression e depth (items + 1) ws (s .1) (omega arith) k in
-    rw (part-item depth items (omega arith) (length x) (s .0), one-more items (itemsIn e)) (variable-back thenPart partKind x e depth (items + 1) ws _ (s .0) ih)
+    rw (part-item depth items (omega arith) (length x) (s .0), one-more items (itemsIn e)) 
+    (named-back (λ y. onCurrent (thenPart y)) (levelsIn depth (items + 1)) (levels-skip depth (items + 1)) partKind x (expressionTape e) ws (s .0) ih)
 levels-expression (thenCall place n a e) depth items ws s h k =
     let more = tapeWord closeKind 0 ∷ (expressionTape e ++ ws) in
     let inner = levels-expression a (depth + 1) (items + 1) more (s .1) (omega arith) (omega arith) in
     let outer = levels-expression e depth (items + 1 + itemsIn a) ws (s .2) (omega arith) (omega arith) in
     let sum : items + suc (itemsIn a + itemsIn e) ≡ items + 1 + itemsIn a + itemsIn e = omega arith in
-    rw (
-      call-item depth items (omega arith) place (length n) (s .0) (omega arith),
-      carried-back (callKind + place) (length n) (s .0),
-      place-back place (length n) (s .0),
-      append-assoc n (expressionTape a ++ tapeWord closeKind 0 ∷ expressionTape e) ws,
-      append-assoc (expressionTape a) (tapeWord closeKind 0 ∷ expressionTape e) ws,
-      take-append-seam n (expressionTape a ++ more),
-      levels-skip (depth + 1) (items + 1) (length n) (n ++ (expressionTape a ++ more)),
-      drop-append-seam n (expressionTape a ++ more),
-      sum,
-    )
-    (ap (opened place n) inner ∙ call-closed place n a e depth (items + 1 + itemsIn a) (expressionTape e ++ ws) (levelsIn depth (items + 1 + itemsIn a + itemsIn e) 0 ws) outer)
+    rw (call-item depth items (omega arith) place (length n) (s .0) (omega arith), place-back place (length n) (s .0), sum)
+    (named-back (opened place) (levelsIn (depth + 1) (items + 1)) (levels-skip (depth + 1) (items + 1)) (callKind + place) n
+    (expressionTape a ++ tapeWord closeKind 0 ∷ expressionTape e) ws (s .0)
+    (ap (levelsIn (depth + 1) (items + 1) 0) (append-assoc (expressionTape a) (tapeWord closeKind 0 ∷ expressionTape e) ws) ∙ inner)
+    ∙ call-closed place n a e depth (items + 1 + itemsIn a) (expressionTape e ++ ws) (levelsIn depth (items + 1 + itemsIn a + itemsIn e) 0 ws) outer)
 
 -- SPELLING
 
@@ -165,9 +157,9 @@ unfolding legible
 legible-short end l = tt
 legible-short (thenCharacter c e) l = (ltb-true c 256 (both-left (isByte c) (legible e) l), legible-short e (both-right (isByte c) (legible e) l))
 legible-short (thenSymbol x e) l =
-    (omega (arith, identifier-short x (both-left (spelledIdentifier x) (legible e) l)), legible-short e (both-right (spelledIdentifier x) (legible e) l))
+    (omega (arith, identifier-short x (both-left (spelledIdentifier x) _ l)), legible-short e (both-right (spelledIdentifier x) _ l))
 legible-short (thenPart x e) l =
-    (omega (arith, identifier-short x (both-left (spelledIdentifier x) (legible e) l)), legible-short e (both-right (spelledIdentifier x) (legible e) l))
+    (omega (arith, identifier-short x (both-left (spelledIdentifier x) _ l)), legible-short e (both-right (spelledIdentifier x) _ l))
 legible-short (thenCall place n a e) l =
     let others = both-right (spelledName n) (both (legible a) (legible e)) l in (
       omega (arith, name-small n (both-left (spelledName n) (both (legible a) (legible e)) l)),
@@ -213,30 +205,13 @@ pattern-back (letter (symbol x) ∷ p) letters parts ws s h k ends =
     let short = identifier-short x (both-left (spelledIdentifier x) (every spelledElement p) s) in
     let ih = pattern-back p (letters + 1) parts ws (both-right (spelledIdentifier x) (every spelledElement p) s) (omega arith) k ends in
     let w = tapeWord symbolKind (length x) in
-    rw (
-      lt-leb 768 w (omega arith),
-      lt-leb 512 w (omega arith),
-      lt-leb 64 letters (omega arith),
-      le-leb 256 w (omega arith),
-      carried-back symbolKind (length x) (omega arith),
-      append-assoc x (patternTape p) ws,
-      take-append-seam x (patternTape p ++ ws),
-      pattern-skip (letters + 1) parts (length x) (x ++ (patternTape p ++ ws)),
-      drop-append-seam x (patternTape p ++ ws),
-    )
-    (ap (andThen (letter (symbol x))) ih)
+    rw (lt-leb 768 w (omega arith), lt-leb 512 w (omega arith), lt-leb 64 letters (omega arith), le-leb 256 w (omega arith))
+    (named-back (λ y. andThen (letter (symbol y))) (patternIn (letters + 1) parts) (pattern-skip (letters + 1) parts) symbolKind x (patternTape p) ws (omega arith) ih)
 pattern-back (part x ∷ p) letters parts ws s h k ends =
     let short = identifier-short x (both-left (spelledIdentifier x) (every spelledElement p) s) in
     let ih = pattern-back p letters (oneMore parts) ws (both-right (spelledIdentifier x) (every spelledElement p) s) h (one-less parts (length (partsOf p)) k) ends in
-    rw (
-      part-piece (length x) letters parts (omega arith) (omega arith),
-      carried-back partKind (length x) (omega arith),
-      append-assoc x (patternTape p) ws,
-      take-append-seam x (patternTape p ++ ws),
-      pattern-skip letters (oneMore parts) (length x) (x ++ (patternTape p ++ ws)),
-      drop-append-seam x (patternTape p ++ ws),
-    )
-    (ap (andThen (part x)) ih)
+    rw (part-piece (length x) letters parts (omega arith) (omega arith))
+    (named-back (λ y. andThen (part y)) (patternIn letters (oneMore parts)) (pattern-skip letters (oneMore parts)) partKind x (patternTape p) ws (omega arith) ih)
 
 -- CONDITIONS
 
@@ -288,12 +263,9 @@ conditions-back (c ∷ cs) count w ws s h k =
       class-back (c .predicate),
       length-carried (length x) (classNumber (c .predicate)) (c .expected) few,
       truth-back (length x) (classNumber (c .predicate)) (c .expected) few,
-      append-assoc x (conditionsTape cs) (w ∷ ws),
-      take-append-seam x (conditionsTape cs ++ (w ∷ ws)),
-      conditions-skip (count + 1) (length x) (x ++ (conditionsTape cs ++ (w ∷ ws))),
-      drop-append-seam x (conditionsTape cs ++ (w ∷ ws)),
     )
-    (ap (andThen c) ih)
+    (name-back (λ y. andThen (record { variable = y; predicate = c .predicate; expected = c .expected })) (conditionsIn (count + 1)) (conditions-skip (count + 1)) x
+    (conditionsTape cs) (w ∷ ws) ih)
 
 -- SENTENCES
 
@@ -421,6 +393,10 @@ unfolding every
 variable-quiet w x ws h e q =
     rw (quiet-low w h) (every-append quiet x ws (bytes-quiet x (identifier-bytes x (true-passed (spelledIdentifier x) e))) q)
 
+identifier-quiet : (kind : ℕ) (x : Name) (ws : List ℕ) → kind < 8 → spelledIdentifier x ≡ true → every quiet ws ≡ true
+    → every quiet (tapeWord kind (length x) ∷ (x ++ ws)) ≡ true
+identifier-quiet kind x ws h e q = variable-quiet (tapeWord kind (length x)) x ws (omega (arith, identifier-short x e)) e q
+
 name-quiet : (n : Name) → spelledName n ≡ true → every quiet n ≡ true
 name-quiet n e = bytes-quiet n (name-bytes n (true-passed (spelledName n) e))
 
@@ -430,13 +406,9 @@ pattern-quiet [] s = refl
 pattern-quiet (letter (character c) ∷ p) s =
     rw (byte-quiet c (both-left (isByte c) (every spelledElement p) s)) (pattern-quiet p (both-right (isByte c) (every spelledElement p) s))
 pattern-quiet (letter (symbol x) ∷ p) s =
-    let spelled = both-left (spelledIdentifier x) (every spelledElement p) s in
-    variable-quiet (tapeWord symbolKind (length x)) x (patternTape p) (omega (arith, identifier-short x spelled)) spelled
-    (pattern-quiet p (both-right (spelledIdentifier x) (every spelledElement p) s))
+    identifier-quiet symbolKind x (patternTape p) (omega arith) (both-left (spelledIdentifier x) _ s) (pattern-quiet p (both-right (spelledIdentifier x) _ s))
 pattern-quiet (part x ∷ p) s =
-    let spelled = both-left (spelledIdentifier x) (every spelledElement p) s in
-    variable-quiet (tapeWord partKind (length x)) x (patternTape p) (omega (arith, identifier-short x spelled)) spelled
-    (pattern-quiet p (both-right (spelledIdentifier x) (every spelledElement p) s))
+    identifier-quiet partKind x (patternTape p) (omega arith) (both-left (spelledIdentifier x) _ s) (pattern-quiet p (both-right (spelledIdentifier x) _ s))
 
 conditions-quiet : (cs : List Condition) → every spelledCondition cs ≡ true → every quiet (conditionsTape cs) ≡ true
 unfolding every conditionsTape
@@ -453,13 +425,9 @@ unfolding every expressionTape legible
 expression-quiet end l = refl
 expression-quiet (thenCharacter c e) l = rw (byte-quiet c (both-left (isByte c) (legible e) l)) (expression-quiet e (both-right (isByte c) (legible e) l))
 expression-quiet (thenSymbol x e) l =
-    let spelled = both-left (spelledIdentifier x) (legible e) l in
-    variable-quiet (tapeWord symbolKind (length x)) x (expressionTape e) (omega (arith, identifier-short x spelled)) spelled
-    (expression-quiet e (both-right (spelledIdentifier x) (legible e) l))
+    identifier-quiet symbolKind x (expressionTape e) (omega arith) (both-left (spelledIdentifier x) _ l) (expression-quiet e (both-right (spelledIdentifier x) _ l))
 expression-quiet (thenPart x e) l =
-    let spelled = both-left (spelledIdentifier x) (legible e) l in
-    variable-quiet (tapeWord partKind (length x)) x (expressionTape e) (omega (arith, identifier-short x spelled)) spelled
-    (expression-quiet e (both-right (spelledIdentifier x) (legible e) l))
+    identifier-quiet partKind x (expressionTape e) (omega arith) (both-left (spelledIdentifier x) _ l) (expression-quiet e (both-right (spelledIdentifier x) _ l))
 expression-quiet (thenCall place n a e) l =
     let spelled = both-left (spelledName n) (both (legible a) (legible e)) l in
     let others = both-right (spelledName n) (both (legible a) (legible e)) l in
@@ -498,14 +466,8 @@ function-back f ws r = go (f .sentences) refl
     go : (ss : List Sentence) → f .sentences ≡ ss → functionIn (functionTape f ++ ws) ≡ f
     go [] e = absurd (false≢true (rw e at (r .some)))
     go (s ∷ ss) e =
-        rw (
-          carried-back functionKind (length (f .name)) short,
-          append-assoc (f .name) (sentencesTape (f .sentences)) ws,
-          take-append-seam (f .name) (sentencesTape (f .sentences) ++ ws),
-          drop-append-seam (f .name) (sentencesTape (f .sentences) ++ ws),
-        )
-        (ap (λ x. record { name = f .name; sentences = x })
-        (rw e (sentences-back s ss 512 ws (rw e at (r .each)) (rw e at (r .few)))))
+        named-back (λ n x. record { name = n; sentences = x }) (λ n l. sentencesIn 512 (drop n l)) (λ n l. refl) functionKind (f .name)
+        (sentencesTape (f .sentences)) ws short (rw e (sentences-back s ss 512 ws (rw e at (r .each)) (rw e at (r .few))))
 
 abbrev pub AllFunctions : Table → Type 0
 AllFunctions [] = Unit {0}
