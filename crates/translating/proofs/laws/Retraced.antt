@@ -127,11 +127,11 @@ levels-expression (thenCharacter c e) depth items ws s h k =
     rw (byte-item depth items (omega arith) c (s .0), one-more items (itemsIn e)) (ap (onCurrent (thenCharacter c)) ih)
 levels-expression (thenSymbol x e) depth items ws s h k =
     let ih = levels-expression e depth (items + 1) ws (s .1) (omega arith) k in
-    rw (symbol-item depth items (omega arith) (length x) (s .0), one-more items (itemsIn e)) 
+    rw (symbol-item depth items (omega arith) (length x) (s .0), one-more items (itemsIn e))
     (named-back (λ y. onCurrent (thenSymbol y)) (levelsIn depth (items + 1)) (levels-skip depth (items + 1)) symbolKind x (expressionTape e) ws (s .0) ih)
 levels-expression (thenPart x e) depth items ws s h k =
     let ih = levels-expression e depth (items + 1) ws (s .1) (omega arith) k in
-    rw (part-item depth items (omega arith) (length x) (s .0), one-more items (itemsIn e)) 
+    rw (part-item depth items (omega arith) (length x) (s .0), one-more items (itemsIn e))
     (named-back (λ y. onCurrent (thenPart y)) (levelsIn depth (items + 1)) (levels-skip depth (items + 1)) partKind x (expressionTape e) ws (s .0) ih)
 levels-expression (thenCall place n a e) depth items ws s h k =
     let more = tapeWord closeKind 0 ∷ (expressionTape e ++ ws) in

@@ -31,7 +31,7 @@ use Rattle.templates.specs.Measuring.{lengthsOf, variableOf, MeasuresAll}
 use Rattle.templates.specs.Testing.{AllSites, heldSites, held, storeOfSite, total, walk, startFrom, TestsAll}
 use Rattle.templates.specs.Conditioning.{conditionWords, ConditionsAll}
 use Rattle.expressions.specs.Resuming.{Means, ItemsAll}
-use Rattle.translating.specs.Sentencing.{metricNumber, shapeAt, testedAt, testsAt, storesAt, actionsAt, bodyAt, sentenceAt, MatchAll, BodyAll, SentenceAll, nextAt, followsAt, sentenceDone, sentencesLeft, InSentences, SentencesOn, FunctionAll}
+use Rattle.translating.specs.Sentencing.{metricNumber, shapeAt, testedAt, testsAt, storesAt, actionsAt, bodyAt, sentenceAt, MatchAll, BodyAll, SentenceAll, followsAt, sentenceDone, sentencesLeft, InSentences, SentencesOn, FunctionAll}
 use Rattle.templates.proofs.laws.Lists.{drop-word}
 use Rattle.templates.proofs.laws.Names.{by-place}
 use Rattle.templates.proofs.laws.Stores.{wrote-more, same-refl, same-trans, same-words, same-wrote, same-end}
