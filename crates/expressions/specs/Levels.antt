@@ -4,9 +4,9 @@ use mathlib.Core.List.{List, [], _∷_}
 use lib.ListN.{take}
 use Rattle.meaning.specs.Choice.{Name}
 use Rattle.meaning.specs.Tree.{Expression, end, thenCharacter, thenSymbol, thenPart, thenCall}
-use Rattle.templates.specs.declared.tape.Item.{Item}
-use Rattle.templates.specs.declared.tape.Item.the-variants.{Byte, Symbol, Part, Call, Pass, Close, Unclosed, Stop}
-use Rattle.templates.specs.Words.{carried, itemOf}
+use Rattle.words.specs.declared.tape.Item.{Item}
+use Rattle.words.specs.declared.tape.Item.the-variants.{Byte, Symbol, Part, Call, Pass, Close, Unclosed, Stop}
+use Rattle.words.specs.Words.{carried, itemOf}
 
 -- a call's word counts its kind on from 9 by the place of its name
 abbrev pub placeIn : ℕ → ℕ

@@ -12,8 +12,8 @@ use Rattle.meaning.specs.Allowed.{namesOf}
 use Rattle.meaning.specs.Instructions.{Site, Action}
 use Rattle.meaning.specs.Translation.{Shape, Stand as MeantStand, mannerOf, calling, items, passesRest, actionsOf}
 use Rattle.meaning.specs.Packing.{Words, word, packActions}
-use Rattle.templates.specs.declared.tape.Item.{Item}
-use Rattle.templates.specs.declared.tape.Item.the-variants.{Byte, Symbol, Part, Call, Pass, Close, Unclosed, Stop}
+use Rattle.words.specs.declared.tape.Item.{Item}
+use Rattle.words.specs.declared.tape.Item.the-variants.{Byte, Symbol, Part, Call, Pass, Close, Unclosed, Stop}
 use Rattle.templates.specs.declared.pattern.Lengths.{Lengths}
 use Rattle.templates.specs.declared.pattern.Pattern.{Pattern}
 use Rattle.expressions.specs.declared.spans.Stand.{Stand}
@@ -21,10 +21,10 @@ use Rattle.expressions.specs.declared.spans.Span.{Span}
 use Rattle.expressions.specs.declared.expression.Walk.{Walk}
 use Rattle.expressions.specs.declared.expression.Manner.{Manner}
 use Rattle.expressions.specs.declared.expression.Manner.the-variants.{Emits, Replaces, Nests}
-use Rattle.templates.specs.Words.{headName, headNames, itemAt}
+use Rattle.words.specs.Words.{headName, headNames, itemAt}
 use Rattle.expressions.specs.Levels.{Levels, firstOf, othersOf, levelsIn}
-use Rattle.templates.specs.Writing.{Wrote, Same}
-use Rattle.templates.specs.Finding.{numberAmong}
+use Rattle.words.specs.Writing.{Wrote, Same}
+use Rattle.words.specs.Finding.{numberAmong}
 use Rattle.templates.specs.Measuring.{flag, lengthsOf, variableOf}
 use Rattle.expressions.specs.Spanning.{meantStand, gapBy, pieceSpan, restBy}
 

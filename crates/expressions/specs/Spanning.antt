@@ -4,8 +4,8 @@ use mathlib.Core.Bool.{Bool, true, false}
 use Rattle.meaning.specs.Instructions.{Span as MeantSpan}
 use Rattle.meaning.specs.Packing.{lengthNumber}
 use Rattle.meaning.specs.Translation.{Stand as MeantStand, atStart, afterFirst, afterSecond}
-use Rattle.templates.specs.declared.tape.Parts.{Parts}
-use Rattle.templates.specs.declared.tape.Parts.the-variants.{Zero, One, Two}
+use Rattle.words.specs.declared.tape.Parts.{Parts}
+use Rattle.words.specs.declared.tape.Parts.the-variants.{Zero, One, Two}
 use Rattle.templates.specs.declared.pattern.Lengths.{Lengths}
 use Rattle.expressions.specs.declared.spans.Stand.{Stand}
 use Rattle.expressions.specs.declared.spans.Stand.the-variants.{AtStart, AfterFirst, AfterSecond}

@@ -1,11 +1,11 @@
 // The name after a word of the tape: its length, and its number among the names after other words.
-use templates::names::find;
-use templates::tape::name_size;
+use words::names::find;
+use words::tape::name_size;
 ghost use mathlib.Core.Path.{_≡_};
 ghost use Prim.Native.Nat.{_≤_, _<_};
 ghost use lib.ListN.{length};
-ghost use Rattle.templates.specs.Words.{headName, headNames};
-ghost use Rattle.templates.specs.Finding.{numberAmong};
+ghost use Rattle.words.specs.Words.{headName, headNames};
+ghost use Rattle.words.specs.Finding.{numberAmong};
 ghost use Rattle.expressions.specs.Naming.{Sized};
 
 pub fn size_of(tape: &[u32], head: usize) -> usize

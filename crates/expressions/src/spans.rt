@@ -1,6 +1,6 @@
 // Spans: from where p stands to an e-variable, the e-variable itself, and the rest of the field.
 use templates::pattern::Lengths;
-use templates::tape::Parts;
+use words::tape::Parts;
 ghost use mathlib.Core.Path.{_≡_};
 ghost use Prim.Native.Nat.{_+_, _≤_};
 ghost use Rattle.expressions.specs.Spanning.{spanOf, gapBy, pieceSpan, standAfter, restBy};

@@ -1,8 +1,4 @@
 -- Laws over plain values that the functions' proofs cite.
-pub mod Lists
-pub mod Clearing
-pub mod Stores
-pub mod Names
 pub mod Scanning
 pub mod Measured
 pub mod Held

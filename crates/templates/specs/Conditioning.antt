@@ -10,9 +10,9 @@ use Rattle.meaning.specs.Instructions.{Site}
 use Rattle.meaning.specs.Translation.{conditionTest}
 use Rattle.meaning.specs.Packing.{Words, testWord}
 use Rattle.templates.specs.declared.conditions.Conditions.{Conditions}
-use Rattle.templates.specs.Words.{carried, isConditionWord}
+use Rattle.words.specs.Words.{carried, isConditionWord}
 use Rattle.templates.specs.Scans.{Scan, scanned, conditionsIn}
-use Rattle.templates.specs.Writing.{Wrote, Same}
+use Rattle.words.specs.Writing.{Wrote, Same}
 use Rattle.templates.specs.Measuring.{flag}
 
 -- a condition stands there

@@ -6,11 +6,11 @@ use mathlib.Core.List.{List}
 use lib.ListN.{length, drop}
 use Rattle.meaning.specs.Choice.{Name}
 use Rattle.meaning.specs.Translation.{Shape, fixed, open₁, open₂, shapeOf}
-use Rattle.templates.specs.declared.tape.Parts.{Parts}
-use Rattle.templates.specs.declared.tape.Parts.the-variants.{Zero, One, Two}
+use Rattle.words.specs.declared.tape.Parts.{Parts}
+use Rattle.words.specs.declared.tape.Parts.the-variants.{Zero, One, Two}
 use Rattle.templates.specs.declared.pattern.Lengths.{Lengths}
 use Rattle.templates.specs.declared.pattern.Pattern.{Pattern}
-use Rattle.templates.specs.Words.{headName}
+use Rattle.words.specs.Words.{headName}
 use Rattle.templates.specs.Scans.{oneMore, patternIn, patternAt}
 
 abbrev pub lengths : Parts → ℕ → ℕ → ℕ → Lengths

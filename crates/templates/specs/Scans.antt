@@ -5,11 +5,11 @@ use mathlib.Core.List.{List, [], _∷_}
 use lib.Dec.{eqb}
 use lib.ListN.{take}
 use Rattle.meaning.specs.Tree.{character, symbol, Element, letter, part, Condition}
-use Rattle.templates.specs.declared.tape.Parts.{Parts}
-use Rattle.templates.specs.declared.tape.Parts.the-variants.{Zero, One, Two}
-use Rattle.templates.specs.declared.tape.Piece.{Piece}
-use Rattle.templates.specs.declared.tape.Piece.the-variants.{Character, SVariable, EVariable, PatternEnd}
-use Rattle.templates.specs.Words.{carried, pieceOf, isConditionWord, classIn}
+use Rattle.words.specs.declared.tape.Parts.{Parts}
+use Rattle.words.specs.declared.tape.Parts.the-variants.{Zero, One, Two}
+use Rattle.words.specs.declared.tape.Piece.{Piece}
+use Rattle.words.specs.declared.tape.Piece.the-variants.{Character, SVariable, EVariable, PatternEnd}
+use Rattle.words.specs.Words.{carried, pieceOf, isConditionWord, classIn}
 
 -- what was read, and the words after it
 pub record Scan (A : Type 0) : Type 0 where

@@ -10,14 +10,14 @@ use Rattle.meaning.specs.Tree.{Element, letter, part}
 use Rattle.meaning.specs.Instructions.{Site as MeantSite, fromStart, fromEnd, fromPlace, store}
 use Rattle.meaning.specs.Translation.{Tested, testedLetter}
 use Rattle.meaning.specs.Packing.{Words, siteRegister, siteOffset, testWord, storeWord}
-use Rattle.templates.specs.declared.tape.Parts.{Parts}
-use Rattle.templates.specs.declared.tape.Parts.the-variants.{Zero, One, Two}
+use Rattle.words.specs.declared.tape.Parts.{Parts}
+use Rattle.words.specs.declared.tape.Parts.the-variants.{Zero, One, Two}
 use Rattle.templates.specs.declared.pattern.Lengths.{Lengths}
 use Rattle.templates.specs.declared.symbols.Site.{Site}
 use Rattle.templates.specs.declared.tests.Tests.{Tests}
-use Rattle.templates.specs.Words.{headName}
+use Rattle.words.specs.Words.{headName}
 use Rattle.templates.specs.Scans.{Scan, scanned, oneMore, patternIn, patternAt}
-use Rattle.templates.specs.Writing.{Wrote, Same}
+use Rattle.words.specs.Writing.{Wrote, Same}
 use Rattle.templates.specs.Measuring.{flag}
 
 -- THE CELLS

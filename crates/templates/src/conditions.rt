@@ -1,10 +1,10 @@
 // A sentence's conditions as tests.
-use crate::names::find;
 use crate::symbols::found_site;
-use crate::tape::of_kind;
-use crate::tape::reach;
-use crate::tape::word_at;
-use crate::writing::put;
+use words::names::find;
+use words::tape::of_kind;
+use words::tape::reach;
+use words::tape::word_at;
+use words::writing::put;
 ghost use mathlib.Core.Path.{_≡_};
 ghost use mathlib.Core.Bool.{true};
 ghost use Prim.Native.Nat.{_+_, _*_, _/_, _%_, _≤_, _<_, _^_};

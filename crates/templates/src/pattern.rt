@@ -1,8 +1,8 @@
 // The lengths of a pattern's templates, and where its first e-variable stands.
-use crate::tape::Parts;
-use crate::tape::Piece;
-use crate::tape::name_size;
-use crate::tape::piece_at;
+use words::tape::Parts;
+use words::tape::Piece;
+use words::tape::name_size;
+use words::tape::piece_at;
 ghost use mathlib.Core.Path.{_≡_};
 ghost use mathlib.Core.Bool.{true, false};
 ghost use Prim.Native.Nat.{_+_, _≤_, _<_, _^_};

@@ -1,7 +1,7 @@
 // The cell that a letter of a pattern is tested at.
 use crate::pattern::Lengths;
-use crate::tape::Parts;
-use crate::tape::less;
+use words::tape::Parts;
+use words::tape::less;
 ghost use mathlib.Core.Path.{_≡_};
 ghost use Prim.Native.Nat.{_-_, _≤_};
 ghost use lib.ListN.{length};

@@ -1,26 +1,26 @@
 // A pattern's tests, the list of its different s-variables with the cell at which each stands first, and their stores.
-use crate::names::find;
 use crate::pattern::Lengths;
 use crate::pattern::one_more;
 use crate::symbols::Site;
 use crate::symbols::found_site;
 use crate::symbols::site_of;
-use crate::tape::Parts;
-use crate::tape::Piece;
-use crate::tape::name_size;
-use crate::tape::piece_at;
-use crate::tape::word_at;
-use crate::writing::put;
-use crate::writing::put_operands;
+use words::names::find;
+use words::tape::Parts;
+use words::tape::Piece;
+use words::tape::name_size;
+use words::tape::piece_at;
+use words::tape::word_at;
+use words::writing::put;
+use words::writing::put_operands;
 ghost use mathlib.Core.Path.{_≡_};
 ghost use mathlib.Core.List.{[], _∷_, map};
 ghost use Prim.Native.Nat.{_+_, _*_, _≤_, _<_, _^_};
 ghost use lib.ListN.{length, take, drop, getD, set};
 ghost use Rattle.meaning.specs.Instructions.{look};
 ghost use Rattle.meaning.specs.Packing.{testWord};
-ghost use Rattle.templates.specs.declared.tape.Piece.the-variants.{SVariable};
-ghost use Rattle.templates.specs.Words.{pieceAt};
-ghost use Rattle.templates.specs.Writing.{Wrote};
+ghost use Rattle.words.specs.declared.tape.Piece.the-variants.{SVariable};
+ghost use Rattle.words.specs.Words.{pieceAt};
+ghost use Rattle.words.specs.Writing.{Wrote};
 ghost use Rattle.templates.specs.Testing.{siteAt, foundSite, AllSites, InTests, TestsOn, letterDone, partDone, testsDone, TestsAll, total, storeOfSite};
 
 // Where the writing of tests stands: how many e-variables came before, the offset in this template, the letters and the different s-variables so far,

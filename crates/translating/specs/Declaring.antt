@@ -9,9 +9,9 @@ use Rattle.meaning.specs.Allowed.{namesOf, maxFunctions}
 use Rattle.meaning.specs.Instructions.{Sentences, Code}
 use Rattle.meaning.specs.Translation.{translatedSentences}
 use Rattle.meaning.specs.Packing.{packSentences, pack}
-use Rattle.templates.specs.Words.{headNames}
+use Rattle.words.specs.Words.{headNames}
 use Rattle.translating.specs.Trees.{functionsIn, functionIn}
-use Rattle.templates.specs.Writing.{Wrote}
+use Rattle.words.specs.Writing.{Wrote}
 
 -- THE HEADS: the places of the functions' words
 

@@ -10,14 +10,14 @@ use Rattle.meaning.specs.Allowed.{namesOf, maxSentences}
 use Rattle.meaning.specs.Instructions.{Test, Store, Action}
 use Rattle.meaning.specs.Translation.{Shape, shapeOf, metricOf, Tested, testedShape, testsOf, storesOf, actionsOf, translatedSentences}
 use Rattle.meaning.specs.Packing.{Words, metricWord, countsWord, testWord, storeWord, bodyWords, sentencesEnd, packSentences}
-use Rattle.templates.specs.declared.tape.Parts.{Parts}
-use Rattle.templates.specs.declared.tape.Parts.the-variants.{Zero, One, Two}
+use Rattle.words.specs.declared.tape.Parts.{Parts}
+use Rattle.words.specs.declared.tape.Parts.the-variants.{Zero, One, Two}
 use Rattle.translating.specs.declared.sentences.Body.{Body}
 use Rattle.translating.specs.declared.sentences.Sentences.{Sentences}
-use Rattle.templates.specs.Words.{headNames}
+use Rattle.words.specs.Words.{headNames}
 use Rattle.translating.specs.Trees.{isNextWord, conditionsAt, levelsAt, sentencesIn}
 use Rattle.templates.specs.Scans.{patternAt}
-use Rattle.templates.specs.Writing.{Wrote, Same}
+use Rattle.words.specs.Writing.{Wrote, Same}
 use Rattle.templates.specs.Measuring.{flag}
 
 -- the number of a metric's word, by how many e-variables there are

@@ -7,7 +7,7 @@ use lib.ListN.{take, drop}
 use Rattle.meaning.specs.Choice.{pick}
 use Rattle.meaning.specs.Tree.{Condition, Sentence, Function, Table}
 use Rattle.meaning.specs.Allowed.{maxFunctions, maxSentences}
-use Rattle.templates.specs.Words.{carried}
+use Rattle.words.specs.Words.{carried}
 use Rattle.templates.specs.Scans.{Scan, patternAt, conditionsIn}
 use Rattle.expressions.specs.Levels.{Levels, levelsIn}
 

@@ -1,16 +1,16 @@
 // The functions of a tape, and the table of their places before them.
 use crate::sentences::write_function;
-use templates::tape::lesser;
-use templates::tape::name_size;
-use templates::tape::of_kind;
-use templates::tape::room;
-use templates::tape::word_at;
-use templates::writing::put;
+use words::tape::lesser;
+use words::tape::name_size;
+use words::tape::of_kind;
+use words::tape::room;
+use words::tape::word_at;
+use words::writing::put;
 ghost use mathlib.Core.Path.{_≡_};
 ghost use Prim.Native.Nat.{_+_, _≤_, _<_, _^_};
 ghost use lib.ListN.{length, take};
 ghost use Rattle.translating.specs.Trees.{isFunctionWord};
-ghost use Rattle.templates.specs.Writing.{Wrote};
+ghost use Rattle.words.specs.Writing.{Wrote};
 ghost use Rattle.translating.specs.Leaves.{codeOf};
 ghost use Rattle.translating.specs.Declaring.{Inside, HeadsOn, HeadsAll, EntryAll, FunctionsAll};
 

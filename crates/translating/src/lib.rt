@@ -3,8 +3,8 @@ mod functions;
 mod sentences;
 
 use functions::write_table;
-use templates::tape::lesser;
-use templates::writing::clear_from;
+use words::tape::lesser;
+use words::writing::clear_from;
 ghost use lib.ListN.{length, take};
 ghost use Rattle.translating.specs.Leaves.{codeOf, Leaves};
 

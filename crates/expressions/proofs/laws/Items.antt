@@ -9,13 +9,13 @@ use lib.Dec.{leb, ltb, eqb}
 use lib.ListN.{length, drop, getD, drop-of-length-le}
 use Rattle.meaning.specs.Choice.{pick}
 use Rattle.meaning.specs.Translation.{isLast}
-use Rattle.templates.specs.declared.tape.Item.{Item}
-use Rattle.templates.specs.declared.tape.Item.the-variants.{Byte, Symbol, Part, Call, Pass, Close, Unclosed, Stop}
-use Rattle.templates.specs.Words.{carried, headName, itemOf, itemAt}
+use Rattle.words.specs.declared.tape.Item.{Item}
+use Rattle.words.specs.declared.tape.Item.the-variants.{Byte, Symbol, Part, Call, Pass, Close, Unclosed, Stop}
+use Rattle.words.specs.Words.{carried, headName, itemOf, itemAt}
 use Rattle.expressions.specs.Levels.{stopped, itemBy, levelsIn}
 use Rattle.expressions.specs.Resuming.{isStop}
-use Rattle.templates.proofs.laws.Lists.{drop-word}
-use Rattle.templates.proofs.laws.Names.{by-place, name-skip}
+use Rattle.words.proofs.laws.Lists.{drop-word}
+use Rattle.words.proofs.laws.Names.{by-place, name-skip}
 
 -- nothing of it is read
 abbrev pub stops : Item → Bool

@@ -13,11 +13,11 @@ use Rattle.meaning.specs.Names.{numberFrom}
 use Rattle.meaning.specs.Allowed.{namesOf}
 use Rattle.meaning.specs.Instructions.{Site}
 use Rattle.meaning.specs.Translation.{valueFrom}
-use Rattle.templates.specs.Words.{carried, headName, headNames}
-use Rattle.templates.specs.Finding.{numberAmong}
+use Rattle.words.specs.Words.{carried, headName, headNames}
+use Rattle.words.specs.Finding.{numberAmong}
 use Rattle.expressions.specs.Naming.{Sized}
-use Rattle.templates.proofs.laws.Lists.{reached}
-use Rattle.templates.proofs.laws.Names.{by-place, name-here, name-nowhere, name-part, name-fits-here}
+use Rattle.words.proofs.laws.Lists.{reached}
+use Rattle.words.proofs.laws.Names.{by-place, name-here, name-nowhere, name-part, name-fits-here}
 
 pub name-short : (ws : List ℕ) (p : ℕ) → length (headName ws p) < 256
 name-short ws p =

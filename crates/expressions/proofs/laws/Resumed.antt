@@ -12,7 +12,7 @@ use Rattle.meaning.specs.Tree.{Expression, end, thenCharacter, thenSymbol, then
 use Rattle.meaning.specs.Names.{numberOf}
 use Rattle.meaning.specs.Instructions.{Site, go, select, out, outCharacter, outValue, beginSequence}
 use Rattle.meaning.specs.Translation.{Shape, Stand, passage, restOf, valueNumber, mannerOf, calling, items}
-use Rattle.templates.specs.Words.{headName}
+use Rattle.words.specs.Words.{headName}
 use Rattle.expressions.specs.Levels.{firstOf, othersOf}
 use Rattle.expressions.specs.Resuming.{isNil, resume, openNames}
 

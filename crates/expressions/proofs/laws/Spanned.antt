@@ -7,8 +7,8 @@ use mathlib.Core.List.{List}
 use Rattle.meaning.specs.Choice.{Name, sameBytes}
 use Rattle.meaning.specs.Tree.{Letter}
 use Rattle.meaning.specs.Translation.{Shape, fixed, open₁, open₂, passage, restOf}
-use Rattle.templates.specs.declared.tape.Parts.{Parts}
-use Rattle.templates.specs.declared.tape.Parts.the-variants.{Zero, One, Two}
+use Rattle.words.specs.declared.tape.Parts.{Parts}
+use Rattle.words.specs.declared.tape.Parts.the-variants.{Zero, One, Two}
 use Rattle.templates.specs.declared.pattern.Lengths.{Lengths}
 use Rattle.expressions.specs.declared.spans.Stand.{Stand}
 use Rattle.expressions.specs.declared.spans.Stand.the-variants.{AtStart, AfterFirst, AfterSecond}

@@ -16,15 +16,15 @@ use Rattle.meaning.specs.Instructions.{Site, predicate}
 use Rattle.meaning.specs.Translation.{siteOr}
 use Rattle.meaning.specs.Packing.{truthBit, testWord}
 use Rattle.templates.specs.declared.conditions.Conditions.{Conditions}
-use Rattle.templates.specs.Words.{carried, headNames, isConditionWord, classIn}
+use Rattle.words.specs.Words.{carried, headNames, isConditionWord, classIn}
 use Rattle.templates.specs.Scans.{Scan, scanned, andThen, conditionIn, conditionBy, conditionsIn}
-use Rattle.templates.specs.Writing.{Wrote, Same}
-use Rattle.templates.specs.Finding.{numberAmong}
+use Rattle.words.specs.Writing.{Wrote, Same}
+use Rattle.words.specs.Finding.{numberAmong}
 use Rattle.templates.specs.Testing.{siteNumber, IsSite, AllSites, storeOfSite, foundSite, held}
 use Rattle.templates.specs.Conditioning.{conditionAt, coming, conditionWords, conditionWord, conditionDone, conditionsDone, InConditions, ConditionsOn, ConditionsAll}
-use Rattle.templates.proofs.laws.Lists.{drop-word, drop-again, reached, take-again}
-use Rattle.templates.proofs.laws.Names.{by-place}
-use Rattle.templates.proofs.laws.Stores.{same-refl, same-trans, same-words, same-wrote, same-end}
+use Rattle.words.proofs.laws.Lists.{drop-word, drop-again, reached, take-again}
+use Rattle.words.proofs.laws.Names.{by-place}
+use Rattle.words.proofs.laws.Stores.{same-refl, same-trans, same-words, same-wrote, same-end}
 use Rattle.templates.proofs.laws.Held.{lookup-none, lookup-some}
 
 -- READING

@@ -15,11 +15,11 @@ use native.Mathlib.Nat.{lt-of-not-le}
 use Rattle.meaning.specs.Choice.{Name, pick, sameBytes, Named, lookup}
 use Rattle.meaning.specs.Instructions.{Site, fromStart, fromEnd, fromPlace}
 use Rattle.meaning.specs.Packing.{siteRegister, siteOffset}
-use Rattle.templates.specs.Words.{headName, headNames}
-use Rattle.templates.specs.Finding.{numberAmong}
+use Rattle.words.specs.Words.{headName, headNames}
+use Rattle.words.specs.Finding.{numberAmong}
 use Rattle.meaning.proofs.laws.Words.{register-below}
-use Rattle.templates.specs.declared.tape.Parts.{Parts}
-use Rattle.templates.specs.declared.tape.Parts.the-variants.{Zero, One, Two}
+use Rattle.words.specs.declared.tape.Parts.{Parts}
+use Rattle.words.specs.declared.tape.Parts.the-variants.{Zero, One, Two}
 use Rattle.templates.specs.declared.pattern.Lengths.{Lengths}
 use Rattle.templates.specs.Testing.{lastOf, siteBy, siteAt, siteNumber, siteIn, IsSite, AllSites, foundSite, heldSites, held, total}
 

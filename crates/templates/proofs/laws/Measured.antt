@@ -9,15 +9,15 @@ use lib.ListN.{length, drop, getD}
 use Rattle.meaning.specs.Choice.{Name}
 use Rattle.meaning.specs.Tree.{Letter, character, symbol, Element, letter, part}
 use Rattle.meaning.specs.Translation.{Shape, fixed, open₁, open₂, withLetter, cutAt, shapeOf}
-use Rattle.templates.specs.declared.tape.Parts.{Parts}
-use Rattle.templates.specs.declared.tape.Parts.the-variants.{Zero, One, Two}
-use Rattle.templates.specs.declared.tape.Piece.{Piece}
-use Rattle.templates.specs.declared.tape.Piece.the-variants.{Character, SVariable, EVariable, PatternEnd}
+use Rattle.words.specs.declared.tape.Parts.{Parts}
+use Rattle.words.specs.declared.tape.Parts.the-variants.{Zero, One, Two}
+use Rattle.words.specs.declared.tape.Piece.{Piece}
+use Rattle.words.specs.declared.tape.Piece.the-variants.{Character, SVariable, EVariable, PatternEnd}
 use Rattle.templates.specs.declared.pattern.Pattern.{Pattern}
-use Rattle.templates.specs.Words.{headName, pieceAt}
+use Rattle.words.specs.Words.{headName, pieceAt}
 use Rattle.templates.specs.Scans.{Scan, scanned, andThen, oneMore, pieceBy, patternIn, patternAt}
 use Rattle.templates.specs.Measuring.{lengths, lengthsOf, addFirst, addSecond, addThird, longerLengths, cutLengths, variablePlace, pastLetter, pastPart, pastAll, measuredBy, variableBy, Measured, measuring, InPattern, flag, Measures, MeasuresAll}
-use Rattle.templates.proofs.laws.Names.{name-here}
+use Rattle.words.proofs.laws.Names.{name-here}
 use Rattle.templates.proofs.laws.Scanning.{pattern-at, pattern-end, pattern-past, Fits, pattern-fits, NotBoth, Told, told}
 
 -- a letter's length counts before or after

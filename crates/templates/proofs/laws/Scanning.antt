@@ -10,14 +10,14 @@ use Rattle.meaning.specs.Choice.{Name, pick}
 use Rattle.meaning.specs.Tree.{Letter, Element, letter, part}
 use Rattle.meaning.specs.Allowed.{maxLetters}
 use Rattle.meaning.specs.Translation.{Shape, fixed, open₁, open₂, withLetter, cutAt, shapeOf}
-use Rattle.templates.specs.declared.tape.Parts.{Parts}
-use Rattle.templates.specs.declared.tape.Parts.the-variants.{Zero, One, Two}
-use Rattle.templates.specs.declared.tape.Piece.{Piece}
-use Rattle.templates.specs.declared.tape.Piece.the-variants.{Character, SVariable, EVariable, PatternEnd}
-use Rattle.templates.specs.Words.{carried, headName, partPiece, pieceOf, pieceAt}
+use Rattle.words.specs.declared.tape.Parts.{Parts}
+use Rattle.words.specs.declared.tape.Parts.the-variants.{Zero, One, Two}
+use Rattle.words.specs.declared.tape.Piece.{Piece}
+use Rattle.words.specs.declared.tape.Piece.the-variants.{Character, SVariable, EVariable, PatternEnd}
+use Rattle.words.specs.Words.{carried, headName, partPiece, pieceOf, pieceAt}
 use Rattle.templates.specs.Scans.{scanned, oneMore, pieceBy, patternIn}
-use Rattle.templates.proofs.laws.Lists.{drop-word}
-use Rattle.templates.proofs.laws.Names.{by-place, name-skip, name-fits-here}
+use Rattle.words.proofs.laws.Lists.{drop-word}
+use Rattle.words.proofs.laws.Names.{by-place, name-skip, name-fits-here}
 
 -- WHAT A PIECE TELLS
 

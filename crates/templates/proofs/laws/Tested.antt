@@ -11,21 +11,21 @@ use Rattle.meaning.specs.Tree.{character, symbol, Element, letter, part}
 use Rattle.meaning.specs.Instructions.{Site, Test, look, compare}
 use Rattle.meaning.specs.Packing.{siteRegister, siteOffset, testWord}
 use Rattle.meaning.specs.Translation.{Tested, testedSymbol}
-use Rattle.templates.specs.declared.tape.Parts.{Parts}
-use Rattle.templates.specs.declared.tape.Parts.the-variants.{Zero}
-use Rattle.templates.specs.declared.tape.Piece.{Piece}
-use Rattle.templates.specs.declared.tape.Piece.the-variants.{Character, SVariable, EVariable, PatternEnd}
+use Rattle.words.specs.declared.tape.Parts.{Parts}
+use Rattle.words.specs.declared.tape.Parts.the-variants.{Zero}
+use Rattle.words.specs.declared.tape.Piece.{Piece}
+use Rattle.words.specs.declared.tape.Piece.the-variants.{Character, SVariable, EVariable, PatternEnd}
 use Rattle.templates.specs.declared.pattern.Lengths.{Lengths}
 use Rattle.templates.specs.declared.symbols.Site.{Site as Cell}
 use Rattle.templates.specs.declared.tests.Tests.{Tests}
-use Rattle.templates.specs.Words.{headName, headNames, pieceAt}
+use Rattle.words.specs.Words.{headName, headNames, pieceAt}
 use Rattle.templates.specs.Scans.{Scan, scanned, andThen, oneMore, pieceBy, patternIn, patternAt}
-use Rattle.templates.specs.Writing.{Wrote, Same}
-use Rattle.templates.specs.Finding.{numberAmong}
+use Rattle.words.specs.Writing.{Wrote, Same}
+use Rattle.words.specs.Finding.{numberAmong}
 use Rattle.templates.specs.Measuring.{flag}
 use Rattle.templates.specs.Testing.{siteNumbers, siteAt, siteNumber, siteIn, AllSites, foundSite, held, walk, startFrom, testing, testWords, InTests, TestsOn, letterDone, partDone, testsDone, TestsAll, total}
-use Rattle.templates.proofs.laws.Names.{name-here, name-part}
-use Rattle.templates.proofs.laws.Stores.{same-refl, same-trans, same-words, same-wrote, same-end}
+use Rattle.words.proofs.laws.Names.{name-here, name-part}
+use Rattle.words.proofs.laws.Stores.{same-refl, same-trans, same-words, same-wrote, same-end}
 use Rattle.templates.proofs.laws.Scanning.{Told, told, pattern-at, pattern-end, pattern-past}
 use Rattle.templates.proofs.laws.Held.{site-back, site-number, found-good, site-small, all-set, lookup-none, lookup-some, held-more}
 

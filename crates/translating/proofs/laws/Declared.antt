@@ -14,14 +14,14 @@ use Rattle.meaning.specs.Allowed.{namesOf, maxFunctions, maxSentences}
 use Rattle.meaning.specs.Instructions.{Code}
 use Rattle.meaning.specs.Translation.{translate, translatedSentences}
 use Rattle.meaning.specs.Packing.{Words, packSentences, packFunctions, placesFrom}
-use Rattle.templates.specs.Words.{nameIn, headName, headNames}
+use Rattle.words.specs.Words.{nameIn, headName, headNames}
 use Rattle.translating.specs.Trees.{isFunctionWord, functionsIn, functionIn, sentencesIn, treeOf}
-use Rattle.templates.specs.Writing.{Wrote}
+use Rattle.words.specs.Writing.{Wrote}
 use Rattle.translating.specs.Sentencing.{FunctionAll}
 use Rattle.translating.specs.Declaring.{Inside, wordsFrom, headsLeft, HeadsOn, HeadsAll, functionAt, functionsOf, EntryAll, FunctionsAll}
 use Rattle.translating.specs.Leaves.{codeOf}
-use Rattle.templates.proofs.laws.Lists.{drop-word}
-use Rattle.templates.proofs.laws.Names.{name-skip}
+use Rattle.words.proofs.laws.Lists.{drop-word}
+use Rattle.words.proofs.laws.Names.{name-skip}
 use Rattle.meaning.proofs.laws.Packing.{places-length}
 use Rattle.meaning.proofs.laws.Storing.{sets-append}
 use Rattle.translating.proofs.laws.Patching.{sets-comm, lentFrom, backFrom, sets-lent}

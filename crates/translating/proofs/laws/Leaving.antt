@@ -10,9 +10,9 @@ use lib.Dec.{leb}
 use lib.ListN.{length, take, drop, length-take, length-replicate}
 use lib.Seq.{sets-eq, length-sets}
 use Rattle.meaning.specs.Leaving.{zeros}
-use Rattle.templates.specs.Writing.{clearedFrom, Wrote}
+use Rattle.words.specs.Writing.{clearedFrom, Wrote}
 use Rattle.translating.specs.Leaves.{Leaves}
-use Rattle.templates.proofs.laws.Lists.{take-again}
+use Rattle.words.proofs.laws.Lists.{take-again}
 
 -- words past the end of the tape don't count
 pub take-counted : (tape : List ℕ) (words : ℕ) {count most : ℕ} → length tape ≡ most → count ≡ min words most → take count tape ≡ take words tape

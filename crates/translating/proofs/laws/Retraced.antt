@@ -16,11 +16,11 @@ use Rattle.meaning.specs.Tree.{character, symbol, Element, letter, part, Condit
 use Rattle.meaning.specs.Allowed.{maxFunctions, maxSentences, maxLetters, maxItems, member, distinct, parted, symbolsOf, spelledItems, comingAfterAll, allowedPattern, allowedConditions, allowedExpression, allowedSentence, allowedFunction, namesOf, allowed, isByte, spelledName, spelledIdentifier, spelledElement, lettersIn, partsOf, itemsIn, nesting, someSentence}
 use Rattle.meaning.specs.Allowed.{sentencesIn as sentencesOf}
 use Rattle.meaning.specs.Tape.{tapeWord, named, symbolKind, partKind, conditionKind, equalsKind, closeKind, nextKind, endKind, functionKind, callKind, truthNumber, patternTape, conditionsTape, expressionTape, sentenceTape, sentencesTape, functionTape, tape}
-use Rattle.templates.specs.declared.tape.Parts.{Parts}
-use Rattle.templates.specs.declared.tape.Parts.the-variants.{Zero, One, Two}
-use Rattle.templates.specs.declared.tape.Piece.the-variants.{EVariable}
-use Rattle.templates.specs.declared.tape.Item.the-variants.{Byte, Symbol, Part, Call, Close, Stop}
-use Rattle.templates.specs.Words.{carried, pieceOf, classIn, openingOf, itemOf}
+use Rattle.words.specs.declared.tape.Parts.{Parts}
+use Rattle.words.specs.declared.tape.Parts.the-variants.{Zero, One, Two}
+use Rattle.words.specs.declared.tape.Piece.the-variants.{EVariable}
+use Rattle.words.specs.declared.tape.Item.the-variants.{Byte, Symbol, Part, Call, Close, Stop}
+use Rattle.words.specs.Words.{carried, pieceOf, classIn, openingOf, itemOf}
 use Rattle.expressions.specs.Levels.{placeIn, Levels, stopped, onCurrent, opened, itemBy, levelsIn}
 use Rattle.translating.specs.Trees.{isFunctionWord, conditionsAt, levelsAt, sentenceIn, sentencesIn, functionsIn, functionIn, treeOf}
 use Rattle.templates.specs.Scans.{scanned, andThen, oneMore, patternIn, conditionBy, conditionsIn, patternAt}

@@ -14,8 +14,8 @@ use Rattle.meaning.specs.Allowed.{namesOf, maxSentences}
 use Rattle.meaning.specs.Instructions.{store}
 use Rattle.meaning.specs.Translation.{Shape, fixed, open₁, open₂, Tested, conditionTest, metricOf, translatedSentences}
 use Rattle.meaning.specs.Packing.{Words, word, testWord, storeWord, packActions, metricWord, sentencesEnd, packSentences}
-use Rattle.templates.specs.declared.tape.Parts.{Parts}
-use Rattle.templates.specs.declared.tape.Parts.the-variants.{Zero, One, Two}
+use Rattle.words.specs.declared.tape.Parts.{Parts}
+use Rattle.words.specs.declared.tape.Parts.the-variants.{Zero, One, Two}
 use Rattle.templates.specs.declared.pattern.Lengths.{Lengths}
 use Rattle.templates.specs.declared.pattern.Pattern.{Pattern}
 use Rattle.templates.specs.declared.tests.Tests.{Tests}
@@ -23,18 +23,18 @@ use Rattle.templates.specs.declared.conditions.Conditions.{Conditions}
 use Rattle.expressions.specs.declared.expression.Walk.{Walk}
 use Rattle.translating.specs.declared.sentences.Body.{Body}
 use Rattle.translating.specs.declared.sentences.Sentences.{Sentences}
-use Rattle.templates.specs.Words.{headName, headNames}
+use Rattle.words.specs.Words.{headName, headNames}
 use Rattle.translating.specs.Trees.{isNextWord, conditionsAt, levelsAt, followedBy, sentencesIn}
 use Rattle.templates.specs.Scans.{patternAt, conditionsIn}
-use Rattle.templates.specs.Writing.{Wrote, Same}
+use Rattle.words.specs.Writing.{Wrote, Same}
 use Rattle.templates.specs.Measuring.{lengthsOf, variableOf, MeasuresAll}
 use Rattle.templates.specs.Testing.{AllSites, heldSites, held, storeOfSite, total, walk, startFrom, TestsAll}
 use Rattle.templates.specs.Conditioning.{conditionWords, ConditionsAll}
 use Rattle.expressions.specs.Resuming.{Means, ItemsAll}
 use Rattle.translating.specs.Sentencing.{metricNumber, shapeAt, testedAt, testsAt, storesAt, actionsAt, bodyAt, sentenceAt, MatchAll, BodyAll, SentenceAll, followsAt, sentenceDone, sentencesLeft, InSentences, SentencesOn, FunctionAll}
-use Rattle.templates.proofs.laws.Lists.{drop-word}
-use Rattle.templates.proofs.laws.Names.{by-place}
-use Rattle.templates.proofs.laws.Stores.{wrote-more, same-refl, same-trans, same-words, same-wrote, same-end}
+use Rattle.words.proofs.laws.Lists.{drop-word}
+use Rattle.words.proofs.laws.Names.{by-place}
+use Rattle.words.proofs.laws.Stores.{wrote-more, same-refl, same-trans, same-words, same-wrote, same-end}
 use Rattle.translating.proofs.laws.Patching.{wrote-patched}
 use Rattle.translating.proofs.laws.Shapes.{walk-all}
 

@@ -1,5 +1,5 @@
 -- `expression::argument_ready` meets its contract.
-use Rattle.templates.proofs.laws.Stores.{wrote-both}
+use Rattle.words.proofs.laws.Stores.{wrote-both}
 use borrow.Author.Needs.{needs}
 use Rattle.expressions.proofs.expression.argument_ready.Statement.{statement}
 use Rattle.expressions.proofs.expression.argument_ready.Tie as tie

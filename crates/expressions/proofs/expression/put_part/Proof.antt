@@ -1,6 +1,6 @@
 -- `expression::put_part` meets its contract.
 use Rattle.expressions.proofs.laws.Spanned.{small-as, gap-small, piece-small}
-use Rattle.templates.proofs.laws.Stores.{wrote-more}
+use Rattle.words.proofs.laws.Stores.{wrote-more}
 use borrow.Author.Needs.{needs}
 use Rattle.expressions.proofs.expression.put_part.Statement.{statement}
 use Rattle.expressions.proofs.expression.put_part.Tie as tie

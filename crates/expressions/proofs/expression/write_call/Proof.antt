@@ -1,5 +1,5 @@
 -- `expression::write_call` meets its contract.
-use Rattle.templates.proofs.laws.Stores.{wrote-both}
+use Rattle.words.proofs.laws.Stores.{wrote-both}
 use borrow.Author.Needs.{needs}
 use Rattle.expressions.proofs.expression.write_call.Statement.{statement}
 use Rattle.expressions.proofs.expression.write_call.Tie as tie

@@ -1,5 +1,5 @@
 -- `expression::write_emission` meets its contract.
-use Rattle.templates.proofs.laws.Stores.{wrote-more}
+use Rattle.words.proofs.laws.Stores.{wrote-more}
 use borrow.Author.Needs.{needs}
 use Rattle.expressions.proofs.expression.write_emission.Statement.{statement}
 use Rattle.expressions.proofs.expression.write_emission.Tie as tie

@@ -6,8 +6,8 @@ use lib.ListN.{take, drop}
 use Rattle.meaning.specs.Choice.{Name}
 use Rattle.meaning.specs.Packing.{word}
 use Rattle.templates.specs.declared.pattern.Lengths.{Lengths}
-use Rattle.templates.specs.Words.{headName}
-use Rattle.templates.specs.Writing.{Wrote}
+use Rattle.words.specs.Words.{headName}
+use Rattle.words.specs.Writing.{Wrote}
 use Rattle.expressions.specs.declared.spans.Stand.{Stand}
 use Rattle.expressions.specs.declared.expression.Manner.{Manner}
 use Rattle.expressions.specs.declared.expression.Manner.the-variants.{Emits, Replaces, Nests}

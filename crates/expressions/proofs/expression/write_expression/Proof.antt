@@ -3,7 +3,7 @@ use Rattle.expressions.specs.Resuming.{resume, openNames, toGo}
 use native.Mathlib.Omega.{arith}
 use mathlib.Core.Path.{_≡_, refl, sym, _∙_}
 use lib.ListN.{length}
-use Rattle.templates.proofs.laws.Stores.{same-refl}
+use Rattle.words.proofs.laws.Stores.{same-refl}
 use Rattle.expressions.proofs.laws.Itemised.{ItemsSoFar, items-go-on, items-all}
 use Rattle.expressions.proofs.expression.write_expression.Statement.{statement}
 use Rattle.expressions.proofs.expression.write_expression.Tie as tie

@@ -3,8 +3,8 @@ use Prim.Native.Nat.{_-_, _≤_, _<_}
 use native.Mathlib.Omega.{arith}
 use lib.ListN.{length, getD}
 use mathlib.Core.Path.{_≡_, sym, _∙_}
-use Rattle.templates.specs.declared.tape.Item.{Item}
-use Rattle.templates.specs.declared.tape.Item.the-variants.{Byte, Symbol, Part, Call, Close, Unclosed}
+use Rattle.words.specs.declared.tape.Item.{Item}
+use Rattle.words.specs.declared.tape.Item.the-variants.{Byte, Symbol, Part, Call, Close, Unclosed}
 use Rattle.expressions.specs.declared.expression.Walk.{Walk}
 use Rattle.expressions.proofs.laws.Items.{Told, told}
 use Rattle.expressions.proofs.laws.Itemised.{innermost, character-on, value-on, part-on, open-on, pass-on, closed-on, unclosed-on, end-on}

@@ -1,6 +1,6 @@
 -- `expression::write_tail_call` meets its contract.
 use native.Mathlib.Omega.{arith}
-use Rattle.templates.proofs.laws.Stores.{wrote-more}
+use Rattle.words.proofs.laws.Stores.{wrote-more}
 use Rattle.expressions.proofs.laws.Spanned.{small-as, rest-small}
 use borrow.Author.Needs.{needs}
 use Rattle.expressions.proofs.expression.write_tail_call.Statement.{statement}

@@ -5,7 +5,7 @@ use Prim.Native.Nat.{_+_, _-_}
 use lib.ListN.{length}
 use Rattle.templates.specs.Measuring.{flag}
 use Rattle.templates.specs.Testing.{held}
-use Rattle.templates.proofs.laws.Stores.{same-refl, same-size}
+use Rattle.words.proofs.laws.Stores.{same-refl, same-size}
 use Rattle.templates.proofs.laws.Measured.{falls}
 use Rattle.templates.proofs.laws.Conditioned.{ConditionsSoFar, conditions-go-on, conditions-all}
 use Rattle.templates.proofs.conditions.write_conditions.Statement.{statement}

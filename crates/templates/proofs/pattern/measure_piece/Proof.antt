@@ -1,8 +1,8 @@
 -- `pattern::measure_piece` meets its contract.
 use native.Mathlib.Omega.{arith}
 use mathlib.Core.Path.{_≡_, sym, _∙_}
-use Rattle.templates.specs.declared.tape.Piece.{Piece}
-use Rattle.templates.specs.declared.tape.Piece.the-variants.{Character, SVariable, EVariable}
+use Rattle.words.specs.declared.tape.Piece.{Piece}
+use Rattle.words.specs.declared.tape.Piece.the-variants.{Character, SVariable, EVariable}
 use Rattle.templates.proofs.laws.Scanning.{Told, told}
 use Rattle.templates.proofs.laws.Measured.{character-measures, variable-measures, part-measures, end-measures}
 use borrow.Author.Needs.{needs}

@@ -1,8 +1,8 @@
 -- `symbols::site_of` meets its contract.
 use Prim.Native.Nat.{ℕ}
 use mathlib.Core.Path.{_≡_, _∙_}
-use Rattle.templates.specs.declared.tape.Parts.{Parts}
-use Rattle.templates.specs.declared.tape.Parts.the-variants.{Zero, One, Two}
+use Rattle.words.specs.declared.tape.Parts.{Parts}
+use Rattle.words.specs.declared.tape.Parts.the-variants.{Zero, One, Two}
 use Rattle.templates.specs.declared.pattern.Lengths.{Lengths}
 use Rattle.templates.specs.declared.symbols.Site.{Site}
 use Rattle.templates.specs.Testing.{siteNumbers, lastOf, siteBy, siteAt}

@@ -2,9 +2,9 @@
 use native.Mathlib.Omega.{arith}
 use mathlib.Core.Path.{_≡_, sym, _∙_}
 use lib.ListN.{drop}
-use Rattle.templates.specs.declared.tape.Piece.{Piece}
-use Rattle.templates.specs.declared.tape.Piece.the-variants.{Character, SVariable, EVariable}
-use Rattle.templates.specs.Words.{pieceAt}
+use Rattle.words.specs.declared.tape.Piece.{Piece}
+use Rattle.words.specs.declared.tape.Piece.the-variants.{Character, SVariable, EVariable}
+use Rattle.words.specs.Words.{pieceAt}
 use Rattle.templates.proofs.laws.Scanning.{Told, told}
 use Rattle.templates.proofs.laws.Tested.{character-on, part-on, end-on}
 use borrow.Author.Needs.{needs}

@@ -2,7 +2,7 @@
 use native.Mathlib.Omega.{arith}
 use Prim.Native.Nat.{_+_, _≤_, _<_}
 use lib.ListN.{length}
-use Rattle.templates.specs.declared.tape.Piece.the-variants.{SVariable}
+use Rattle.words.specs.declared.tape.Piece.the-variants.{SVariable}
 use Rattle.templates.specs.Testing.{foundSite}
 use Rattle.templates.proofs.laws.Held.{found-good}
 use Rattle.templates.proofs.laws.Scanning.{told}

@@ -4,10 +4,10 @@ use mathlib.Core.Path.{_≡_, sym, ap, _∙_}
 use Prim.Native.Nat.{_≤_, _-_, _+_}
 use mathlib.Core.List.{_∷_, map}
 use lib.ListN.{take, getD}
-use Rattle.templates.specs.Writing.{Same}
+use Rattle.words.specs.Writing.{Same}
 use Rattle.templates.specs.Testing.{IsSite, storeOfSite}
-use Rattle.templates.proofs.laws.Lists.{frontFrom, front-whole, front-cons, front-none}
-use Rattle.templates.proofs.laws.Stores.{same-refl, same-words, same-wrote, same-end, same-size}
+use Rattle.words.proofs.laws.Lists.{frontFrom, front-whole, front-cons, front-none}
+use Rattle.words.proofs.laws.Stores.{same-refl, same-words, same-wrote, same-end, same-size}
 use Rattle.templates.proofs.laws.Conditioned.{store-word}
 use Rattle.templates.proofs.tests.write_stores.Statement.{statement}
 use Rattle.templates.proofs.tests.write_stores.Tie as tie

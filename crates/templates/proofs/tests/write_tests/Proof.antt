@@ -2,7 +2,7 @@
 use mathlib.Core.Path.{refl}
 use Rattle.templates.specs.Testing.{heldSites}
 use Prim.Native.Nat.{_+_, _-_}
-use Rattle.templates.proofs.laws.Stores.{same-refl, same-size}
+use Rattle.words.proofs.laws.Stores.{same-refl, same-size}
 use Rattle.templates.proofs.laws.Measured.{falls}
 use Rattle.templates.proofs.laws.Tested.{TestsSoFar, tests-go-on, tests-all}
 use native.Mathlib.Omega.{arith}

@@ -2,7 +2,7 @@
 use Prim.Native.Nat.{_+_, _≤_}
 use native.Mathlib.Omega.{arith}
 use lib.ListN.{length, getD}
-use Rattle.templates.proofs.laws.Names.{name-fits-here}
+use Rattle.words.proofs.laws.Names.{name-fits-here}
 use Rattle.translating.proofs.laws.Declared.{entry-written}
 use borrow.Author.Needs.{needs}
 use Rattle.translating.proofs.functions.write_entry.Statement.{statement}

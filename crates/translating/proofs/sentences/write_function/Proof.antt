@@ -3,7 +3,7 @@ use Prim.Native.Nat.{_-_}
 use native.Mathlib.Omega.{arith}
 use mathlib.Core.Path.{_≡_, refl, _∙_}
 use lib.ListN.{length}
-use Rattle.templates.proofs.laws.Stores.{same-refl}
+use Rattle.words.proofs.laws.Stores.{same-refl}
 use Rattle.translating.proofs.laws.Sentenced.{SentencesSoFar, sentences-go-on, sentences-all}
 use Rattle.translating.proofs.sentences.write_function.Statement.{statement}
 use Rattle.translating.proofs.sentences.write_function.Tie as tie

@@ -1,0 +1,66 @@
+-- `names::find` meets its contract. The loop keeps the number that the rest of the list gives.
+use native.Mathlib.Omega.{arith}
+use Prim.Native.Nat.{_≤_, _-_}
+use mathlib.Core.Path.{_≡_}
+use lib.ListN.{take, drop}
+use Rattle.words.specs.Words.{headNames}
+use Rattle.words.specs.Finding.{numberAmong}
+use Rattle.words.proofs.laws.Lists.{frontFrom, front-whole}
+use Rattle.words.proofs.laws.Names.{found-here, not-here, found-none}
+use Rattle.words.proofs.names.find.Statement.{statement}
+use Rattle.words.proofs.names.find.Tie as tie
+
+abbrev Inv-loop : tie.InvT-loop
+Inv-loop tape heads count from size k₀ k = (k ≤ count) ×
+    (numberAmong k (headNames tape (frontFrom heads count k)) (take size (drop from tape)) ≡
+    numberAmong 0 (headNames tape (take count heads)) (take size (drop from tape)))
+
+abbrev μ-loop : tie.MeasureT-loop
+μ-loop tape heads count from size k₀ k = count - k
+
+loop-holds : tie.Need-loop-holds Inv-loop μ-loop
+loop-holds c = (omega arith, rw front-whole)
+
+mul-head : tie.Need-mul-head Inv-loop μ-loop
+mul-head c = omega arith
+
+shared-slice-read-head : tie.Need-shared-slice-read-head Inv-loop μ-loop
+shared-slice-read-head c = omega arith
+
+name-is-requires : tie.Need-name-is-requires Inv-loop μ-loop
+name-is-requires c κs = c .before .before .before .before .before .pre .1
+
+add-result : tie.Need-add-result Inv-loop μ-loop
+add-result c = omega arith
+
+returns : tie.Need-returns Inv-loop μ-loop
+returns c = (search found-here, omega arith)
+
+add-k : tie.Need-add-k Inv-loop μ-loop
+add-k c = omega arith
+
+loop-less : tie.Need-loop-less Inv-loop μ-loop
+loop-less c = omega arith
+
+loop-again : tie.Need-loop-again Inv-loop μ-loop
+loop-again c = (omega arith, search not-here)
+
+returns-2 : tie.Need-returns-2 Inv-loop μ-loop
+returns-2 c = (search found-none, omega arith)
+
+pub find-spec : {M : Type 1} → statement M
+find-spec =
+    tie.close
+    (tie.spec
+    Inv-loop
+    μ-loop
+    loop-holds
+    mul-head
+    shared-slice-read-head
+    name-is-requires
+    add-result
+    returns
+    add-k
+    loop-less
+    loop-again
+    returns-2)

@@ -1,0 +1,17 @@
+-- `tape::reach` meets its contract.
+use Rattle.words.proofs.laws.Lists.{reached}
+use borrow.Author.Needs.{needs}
+use Rattle.words.proofs.tape.reach.Statement.{statement}
+use Rattle.words.proofs.tape.reach.Tie as tie
+
+less-requires : tie.Need-less-requires
+less-requires c κs = search needs
+
+lesser-requires : tie.Need-lesser-requires
+lesser-requires c κs = search needs
+
+returns : tie.Need-returns
+returns c = rw (c .lesser .ensures, c .before .less .ensures, reached)
+
+pub reach-spec : {M : Type 1} → statement M
+reach-spec = tie.close (tie.spec less-requires lesser-requires returns)

@@ -1,0 +1,14 @@
+-- `tape::word_on` meets its contract.
+use Rattle.words.proofs.laws.Lists.{drop-word}
+use borrow.Author.Needs.{needs}
+use Rattle.words.proofs.tape.word_on.Statement.{statement}
+use Rattle.words.proofs.tape.word_on.Tie as tie
+
+word-at-requires : tie.Need-word-at-requires
+word-at-requires c κs = search needs
+
+returns : tie.Need-returns
+returns c = rw (c .word-at .ensures .0) (drop-word _ _ (c .before .before .pre))
+
+pub word-on-spec : {M : Type 1} → statement M
+word-on-spec = tie.close (tie.spec word-at-requires returns)
