@@ -30,8 +30,8 @@ use Rattle.words.specs.Finding.{numberAmong}
 use Rattle.templates.specs.Measuring.{flag, variableOf}
 use Rattle.expressions.specs.Spanning.{meantStand, spanNumbers, gapBy, pieceSpan, standAfter}
 use Rattle.expressions.specs.Resuming.{isNil, resume, openNames, levelsNow, remaining, restNow, itemDone, wordDone, callDone, spanWords, partWords, restWord, callWords, isStop, lastCall, mannerBy, mannerNow, goesOn, endingWords, Means, InItems, ItemsOn, ItemsAll}
-use Rattle.words.proofs.laws.Names.{name-here, name-fits-here}
-use Rattle.expressions.proofs.laws.Naming.{name-short, value-among, number-among}
+use Rattle.words.proofs.laws.Names.{name-here, name-fits-here, name-short}
+use Rattle.expressions.proofs.laws.Naming.{value-among, number-among}
 use Rattle.words.proofs.laws.Stores.{same-refl, same-trans, same-words, same-wrote, same-end}
 use Rattle.expressions.proofs.laws.Spanned.{rest-span, passage-spans}
 use Rattle.expressions.proofs.laws.Items.{stops, Reads, Told, told, levels-at, levels-past, levels-stop, stops-below, last-item}

@@ -2,10 +2,10 @@
 use Prim.Native.Nat.{ℕ, suc, _+_, _-_, _<_}
 use native.Mathlib.Numerals.{add-one}
 use native.Mathlib.Omega.{arith}
-use mathlib.Core.Path.{_≡_, refl, sym, ap, ap₂, _∙_}
+use mathlib.Core.Path.{_≡_, refl, sym, ap₂, _∙_}
 use mathlib.Core.Bool.{Bool, true, false}
 use mathlib.Core.List.{List, [], _∷_, map}
-use lib.ListN.{length, take, drop, getD}
+use lib.ListN.{length, take, drop}
 use lib.Seq.{take-length}
 use Rattle.meaning.specs.Choice.{Name, pick, Named, sameBytes}
 use Rattle.meaning.specs.Tree.{Table}
@@ -13,17 +13,10 @@ use Rattle.meaning.specs.Names.{numberFrom}
 use Rattle.meaning.specs.Allowed.{namesOf}
 use Rattle.meaning.specs.Instructions.{Site}
 use Rattle.meaning.specs.Translation.{valueFrom}
-use Rattle.words.specs.Words.{carried, headName, headNames}
+use Rattle.words.specs.Words.{headName, headNames}
 use Rattle.words.specs.Finding.{numberAmong}
 use Rattle.expressions.specs.Naming.{Sized}
-use Rattle.words.proofs.laws.Lists.{reached}
-use Rattle.words.proofs.laws.Names.{by-place, name-here, name-nowhere, name-part, name-fits-here}
-
-pub name-short : (ws : List ℕ) (p : ℕ) → length (headName ws p) < 256
-name-short ws p =
-    by-place ws p
-    (λ h. omega (arith, ap length (name-here ws p h) ∙ reached (carried (getD ws p 0)) (p + 1) ws))
-    (λ h. omega (arith, ap length (name-nowhere ws p h)))
+use Rattle.words.proofs.laws.Names.{name-part, name-fits-here, name-short}
 
 pub sized : {ws : List ℕ} {p size : ℕ} → p < length ws → size ≡ length (headName ws p) → Sized ws p size
 sized {ws} {p} h e =

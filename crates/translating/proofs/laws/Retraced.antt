@@ -152,14 +152,16 @@ identifier-short x e = short-identifier x (true-passed (spelledIdentifier x) e)
 pub name-small : (n : Name) → spelledName n ≡ true → length n ≤ 24
 name-small n e = name-short n (true-passed (spelledName n) e)
 
+-- a variable's identifier, and what comes after it
+variable-short : (x : Name) (e : Expression) → both (spelledIdentifier x) (legible e) ≡ true → (length x < 256) × (legible e ≡ true)
+variable-short x e l = (omega (arith, identifier-short x (both-left (spelledIdentifier x) _ l)), both-right (spelledIdentifier x) _ l)
+
 pub legible-short : (e : Expression) → legible e ≡ true → Short e
 unfolding legible
 legible-short end l = tt
 legible-short (thenCharacter c e) l = (ltb-true c 256 (both-left (isByte c) (legible e) l), legible-short e (both-right (isByte c) (legible e) l))
-legible-short (thenSymbol x e) l =
-    (omega (arith, identifier-short x (both-left (spelledIdentifier x) _ l)), legible-short e (both-right (spelledIdentifier x) _ l))
-legible-short (thenPart x e) l =
-    (omega (arith, identifier-short x (both-left (spelledIdentifier x) _ l)), legible-short e (both-right (spelledIdentifier x) _ l))
+legible-short (thenSymbol x e) l = let (short, more) = variable-short x e l in (short, legible-short e more)
+legible-short (thenPart x e) l = let (short, more) = variable-short x e l in (short, legible-short e more)
 legible-short (thenCall place n a e) l =
     let others = both-right (spelledName n) (both (legible a) (legible e)) l in (
       omega (arith, name-small n (both-left (spelledName n) (both (legible a) (legible e)) l)),

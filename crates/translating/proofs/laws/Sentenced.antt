@@ -195,26 +195,28 @@ follows-inside ws i false e =
 
 module _ (t : Table) (ws : List ℕ) where
   -- the words after a sentence, where the tape goes on at `i`
-  after-sentence : (i left : ℕ) (full more : Bool) → (full ≡ true → left ≡ 0) → followsAt full (drop i ws) ≡ more
-      → packSentences (translatedSentences t (followedBy (drop i ws) (λ r. sentencesIn left r)))
-      ≡ pick more (packSentences (translatedSentences t (sentencesIn left (drop (i + 1) ws)))) (sentencesEnd ∷ [])
+  abbrev wordsAfter : ℕ → ℕ → Words
+  wordsAfter i left = packSentences (translatedSentences t (followedBy (drop i ws) (λ r. sentencesIn left r)))
+
+  -- the same by whether another follows
+  abbrev wordsBy : ℕ → ℕ → Bool → Words
+  wordsBy i left more = pick more (packSentences (translatedSentences t (sentencesIn left (drop (i + 1) ws)))) (sentencesEnd ∷ [])
+
+  after-sentence : (i left : ℕ) (full more : Bool) → (full ≡ true → left ≡ 0) → followsAt full (drop i ws) ≡ more → wordsAfter i left ≡ wordsBy i left more
   unfolding packSentences translatedSentences sentencesIn
   after-sentence i left full more h e = by-place ws i here there
     where
       by-word : (full more b : Bool) → (full ≡ true → left ≡ 0) → pick full false b ≡ more
-          → packSentences (translatedSentences t (pick b (sentencesIn left (drop (i + 1) ws)) []))
-          ≡ pick more (packSentences (translatedSentences t (sentencesIn left (drop (i + 1) ws)))) (sentencesEnd ∷ [])
+          → packSentences (translatedSentences t (pick b (sentencesIn left (drop (i + 1) ws)) [])) ≡ wordsBy i left more
       by-word true more true h e = rw (← e, h refl)
       by-word true more false h e = rw (← e)
       by-word false more true h e = rw (← e)
       by-word false more false h e = rw (← e)
 
-      here : i < length ws → packSentences (translatedSentences t (followedBy (drop i ws) (λ r. sentencesIn left r)))
-          ≡ pick more (packSentences (translatedSentences t (sentencesIn left (drop (i + 1) ws)))) (sentencesEnd ∷ [])
+      here : i < length ws → wordsAfter i left ≡ wordsBy i left more
       here k = rw (drop-word ws i k) (by-word full more (isNextWord (getD ws i 0)) h (rw (drop-word ws i k) at e))
 
-      there : length ws ≤ i → packSentences (translatedSentences t (followedBy (drop i ws) (λ r. sentencesIn left r)))
-          ≡ pick more (packSentences (translatedSentences t (sentencesIn left (drop (i + 1) ws)))) (sentencesEnd ∷ [])
+      there : length ws ≤ i → wordsAfter i left ≡ wordsBy i left more
       there k = rw (drop-of-length-le ws k) (by-word full more false h (rw (drop-of-length-le ws k) at e))
 
   -- all the words still to come are the next sentence's, and those after it
@@ -228,8 +230,7 @@ module _ (t : Table) (ws : List ℕ) where
       rw (one, ← rest) (ap (λ (r : Words). sentenceAt t (drop (s .next) ws) ++ r)
       (after-sentence (b .next) left (leb 512 (s .count + 1)) more (λ f. omega (arith, leb-true 512 (s .count + 1) f)) e ∙ by-more more))
     where
-      by-more : (more : Bool) → pick more (packSentences (translatedSentences t (sentencesIn (512 - (s .count + 1)) (drop (b .next + 1) ws)))) (sentencesEnd ∷ [])
-          ≡ sentencesLeft more t ws (sentenceDone more s b)
+      by-more : (more : Bool) → wordsBy (b .next) (512 - (s .count + 1)) more ≡ sentencesLeft more t ws (sentenceDone more s b)
       by-more true = refl
       by-more false = refl
 

@@ -1,5 +1,5 @@
 -- Laws of names on the tape: comparing word by word, lengths that differ, and the search in a list of heads.
-use Prim.Native.Nat.{ℕ, suc, _+_, _≤_, _<_}
+use Prim.Native.Nat.{ℕ, suc, _+_, _-_, _≤_, _<_, min}
 use native.Mathlib.Omega.{arith}
 use mathlib.Core.Path.{_≡_, refl, sym, ap, _∙_}
 use mathlib.Core.Bool.{Bool, true, false}
@@ -71,14 +71,17 @@ pub name-part : (ws : List ℕ) (p : ℕ) → headName ws p ≡ take (length (he
 name-part ws p =
     by-place ws p (λ h. rw (name-here ws p h) (sym (take-again (carried (getD ws p 0)) (drop (p + 1) ws)))) (λ h. rw (name-nowhere ws p h))
 
-pub name-fits : (ws : List ℕ) (p : ℕ) → 0 < length (headName ws p) → p + 1 + length (headName ws p) ≤ length ws
-name-fits ws p k =
-    by-place ws p
-    (λ h. omega (arith, ap length (name-here ws p h) ∙ reached (carried (getD ws p 0)) (p + 1) ws))
-    (λ h. absurd (omega (arith, ap length (name-nowhere ws p h))))
+name-length : (ws : List ℕ) (p : ℕ) → p < length ws → length (headName ws p) ≡ min (carried (getD ws p 0)) (length ws - (p + 1))
+name-length ws p h = ap length (name-here ws p h) ∙ reached (carried (getD ws p 0)) (p + 1) ws
 
 pub name-fits-here : (ws : List ℕ) (p : ℕ) → p < length ws → p + 1 + length (headName ws p) ≤ length ws
-name-fits-here ws p h = omega (arith, ap length (name-here ws p h) ∙ reached (carried (getD ws p 0)) (p + 1) ws)
+name-fits-here ws p h = omega (arith, name-length ws p h)
+
+pub name-fits : (ws : List ℕ) (p : ℕ) → 0 < length (headName ws p) → p + 1 + length (headName ws p) ≤ length ws
+name-fits ws p k = by-place ws p (name-fits-here ws p) (λ h. absurd (omega (arith, ap length (name-nowhere ws p h))))
+
+pub name-short : (ws : List ℕ) (p : ℕ) → length (headName ws p) < 256
+name-short ws p = by-place ws p (λ h. omega (arith, name-length ws p h)) (λ h. omega (arith, ap length (name-nowhere ws p h)))
 
 -- the words after a name
 pub name-skip : (ws : List ℕ) (p : ℕ) → p < length ws
@@ -125,6 +128,10 @@ emission-short (a ∷ b ∷ c ∷ []) h = rw (both-none (eqb 105 c)) (rw (both-n
 emission-short (a ∷ b ∷ c ∷ d ∷ x) h = absurd (omega arith)
 
 -- the first four words of a name decide
+abbrev emitWords : List ℕ → ℕ → Bool
+emitWords ws from =
+    both (eqb 69 (getD ws from 0)) (both (eqb 109 (getD ws (from + 1) 0)) (both (eqb 105 (getD ws (from + 2) 0)) (both (eqb 116 (getD ws (from + 3) 0)) true)))
+
 pub emission-by : (ws : List ℕ) (from size : ℕ) {e m i t x y r : Bool} → 4 ≤ size → from + size ≤ length ws
     → e ≡ eqb 69 (getD ws from 0) → m ≡ eqb 109 (getD ws (from + 1) 0) → i ≡ eqb 105 (getD ws (from + 2) 0) → t ≡ eqb 116 (getD ws (from + 3) 0)
     → x ≡ both i t → y ≡ both m x → r ≡ both e y → r ≡ isEmission (take size (drop from ws))
@@ -138,10 +145,8 @@ emission-by ws from size {e} {m} {i} {t} h k p q u v f g s =
     word : (n : ℕ) → n < size → partFrom ws from size n ≡ getD ws (from + n) 0 ∷ partFrom ws from size (n + 1)
     word n b = part-cons ws from size n b k
 
-    words : isEmission (take size (drop from ws))
-        ≡ both (eqb 69 (getD ws from 0)) (both (eqb 109 (getD ws (from + 1) 0)) (both (eqb 105 (getD ws (from + 2) 0)) (both (eqb 116 (getD ws (from + 3) 0)) true)))
+    words : isEmission (take size (drop from ws)) ≡ emitWords ws from
     words = rw (← (front-whole (drop from ws) size), word 0 (omega arith), word 1 (omega arith), word 2 (omega arith), word 3 (omega arith), z)
 
-    by-words : both e (both m (both i t))
-        ≡ both (eqb 69 (getD ws from 0)) (both (eqb 109 (getD ws (from + 1) 0)) (both (eqb 105 (getD ws (from + 2) 0)) (both (eqb 116 (getD ws (from + 3) 0)) true)))
+    by-words : both e (both m (both i t)) ≡ emitWords ws from
     by-words = rw (p, q, u, v, both-all (eqb 116 (getD ws (from + 3) 0)))

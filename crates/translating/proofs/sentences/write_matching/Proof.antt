@@ -11,8 +11,8 @@ write-tests-requires c κs = let pre = c .before .before .before .before .before
 
 write-conditions-requires : tie.Need-write-conditions-requires
 write-conditions-requires c κs =
-    let at-write-tests = c .before .before .before .before .before .before .before .before .before in
-    let entry = at-write-tests .before .before .before .before .before .before .before .before in
+    let at-write-tests : tie.After-write-tests = search in
+    let entry : tie.Start = search in
     let t = at-write-tests .write-tests .ensures in
     let w = t .within in
     (omega (arith, w .symbols, w .letters, w .nameRoom), omega (arith, w .symbols, w .letters, w .siteRoom), w .good, w .next, omega (arith, t .grown, entry .pre .1 .3))
@@ -20,8 +20,8 @@ write-conditions-requires c κs =
 write-stores-requires : tie.Need-write-stores-requires
 write-stores-requires c κs =
     let at-write-conditions = c .before .before .before .before in
-    let at-write-tests = at-write-conditions .before .before .before .before .before .before .before .before .before .before in
-    let entry = at-write-tests .before .before .before .before .before .before .before .before in
+    let at-write-tests : tie.After-write-tests = search in
+    let entry : tie.Start = search in
     let t = at-write-tests .write-tests .ensures in
     let w = t .within in
     (omega (arith, w .symbols, w .letters, w .siteRoom), w .good, omega (arith, w .symbols, w .letters, t .grown, at-write-conditions .write-conditions .ensures .grown, entry .pre .1 .3))
@@ -29,7 +29,7 @@ write-stores-requires c κs =
 sub-t27 : tie.Need-sub-t27
 sub-t27 c =
     let at-write-conditions = c .before .before .before .before .before .before .before .before in
-    let at-write-tests = at-write-conditions .before .before .before .before .before .before .before .before .before .before in
+    let at-write-tests : tie.After-write-tests = search in
     omega (arith, at-write-tests .write-tests .ensures .wrote .next, at-write-conditions .write-conditions .ensures .wrote .next)
 
 same-length : tie.Need-same-length
@@ -45,7 +45,7 @@ returns : tie.Need-returns
 returns c =
     let at-write-stores = c .before .before .before in
     let at-write-conditions = at-write-stores .before .before .before .before .before in
-    let at-write-tests = at-write-conditions .before .before .before .before .before .before .before .before .before .before in
+    let at-write-tests : tie.After-write-tests = search in
     let entry = at-write-tests .before .before .before .before .before .before .before .before in
     matched (entry .pre .1 .0) (at-write-tests .write-tests .ensures) (at-write-conditions .write-conditions .ensures) (at-write-stores .write-stores .ensures)
 
