@@ -36,10 +36,7 @@ same-length : tie.Need-same-length
 same-length c = search needs
 
 returns : tie.Need-returns
-returns c =
-    let at-write-functions = c .before .before in
-    let at-find-heads = at-write-functions .before .before .before .before in
-    table-written (at-find-heads .find-heads .ensures) (at-write-functions .write-functions .ensures)
+returns c = search table-written
 
 pub write-table-spec : {M : Type 1} → statement M
 write-table-spec =
