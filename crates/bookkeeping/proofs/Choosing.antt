@@ -7,7 +7,7 @@ use lib.Dec.{eqb}
 use borrow.Author.Tests.{eqb-true, not-true, not-false}
 use Rattle.meaning.specs.Choice.{pick, both}
 use Rattle.meaning.specs.Reading.{faultUnless}
-use Rattle.meaning.proofs.reading.Basics.{passed, passed-on}
+use Rattle.meaning.proofs.reading.Basics.{passed}
 
 pub both-true : (b : Bool) → b ≡ both b true
 both-true true = refl
@@ -35,4 +35,4 @@ a-fault-here {is} e q n = sym q ∙ not-true is n
 
 -- a test that has no fault passed
 pub no-fault : (b : Bool) (number later : ℕ) → faultUnless b (suc number) later ≡ 0 → (b ≡ true) × (later ≡ 0)
-no-fault b number later e = (passed b (suc number) later (omega arith) e, passed-on b (suc number) later (omega arith) e)
+no-fault b number later e = passed b (suc number) later (omega arith) e
