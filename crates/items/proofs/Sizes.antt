@@ -1,20 +1,20 @@
 -- How many bytes a piece of an item takes at most.
 use Prim.Native.Nat.{ℕ, _+_, _/_, _%_, _≤_}
 use native.Mathlib.Omega.{arith}
-use mathlib.Core.Bool.{Bool, true, false}
+use mathlib.Core.Bool.{Bool}
 use mathlib.Core.List.{[], _∷_, _++_}
 use lib.Dec.{eqb, ltb}
 use lib.ListN.{length, length-append}
 use Rattle.meaning.specs.Choice.{Bytes, pick}
 use Rattle.meaning.specs.Classes.{className, digit, upper, lower, alphabetic, blank}
 use Rattle.meaning.specs.Listing.{Quoted, decimal, isCoded, isEscaped, characterText}
+use Rattle.meaning.proofs.laws.Choosing.{of-either}
 use Rattle.items.specs.declared.State.{State}
 use Rattle.items.specs.Steps.{isQuoted, isStart, ending, gap, parting, quoting, classText}
 
 -- of two texts the one that is picked is no longer than both may be
 pub pick-size : (b : Bool) (xs ys : Bytes) {n : ℕ} → length xs ≤ n → length ys ≤ n → length (pick b xs ys) ≤ n
-pick-size true xs ys p q = p
-pick-size false xs ys p q = q
+pick-size b xs ys {n} = of-either (λ l. length l ≤ n) b xs ys
 
 pub ending-size : (s : State) → length (ending s) ≤ 1
 ending-size s = pick-size (isQuoted s) (39 ∷ []) [] (omega arith) (omega arith)

@@ -10,6 +10,7 @@ use lib.ListN.{length, getD, drop}
 use Rattle.meaning.specs.Choice.{Bytes, pick, either}
 use Rattle.meaning.specs.Classes.{inClass, digit}
 use Rattle.meaning.specs.Tokens.{Quoting, plain, escaped, coded, Turn, goesOn, closes, breaks, digitValue, turn, Quotation, closed, broken, quoteOn, quotation}
+use Rattle.meaning.proofs.laws.Choosing.{of-either}
 use Rattle.lexing.specs.View.{charactersIn, quotationAt}
 use Rattle.lexing.proofs.Places.{here}
 
@@ -49,8 +50,7 @@ breaks-open : Open breaks
 breaks-open = record { never = λ all e. let z : _≡_ {A = ℕ} 0 1 = cc in omega arith }
 
 open-pick : (b : Bool) {t u : Turn} → Open t → Open u → Open (pick b t u)
-open-pick true p q = p
-open-pick false p q = q
+open-pick b {t} {u} = of-either Open b t u
 
 -- no byte after a `\` does
 escaped-open : (characters : Bytes) (c : ℕ) → Open (turn escaped characters c)

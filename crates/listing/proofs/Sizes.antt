@@ -1,12 +1,13 @@
 -- How many bytes a word adds to the listing at most.
 use Prim.Native.Nat.{ℕ, pred, _/_, _%_, _≤_}
 use native.Mathlib.Omega.{arith}
-use mathlib.Core.Bool.{Bool, true, false}
+use mathlib.Core.Bool.{Bool}
 use mathlib.Core.List.{[], _∷_}
 use lib.Dec.{eqb, ltb, leb}
 use lib.ListN.{length, length-append}
 use Rattle.meaning.specs.Choice.{Bytes, pick}
 use Rattle.meaning.specs.Tape.{symbolKind, partKind, conditionKind, equalsKind, closeKind, nextKind, endKind, functionKind}
+use Rattle.meaning.proofs.laws.Choosing.{of-either}
 use Rattle.items.specs.declared.State.{State}
 use Rattle.items.specs.declared.State.the-variants.{Start, Plain, InString, AfterCode, Name, Condition, Header}
 use Rattle.items.specs.Steps.{quotedIn, Step, step, characterStep, conditionStep, partedStep, endedStep}
@@ -21,8 +22,7 @@ record Small (x : Step) : Type 0 where
   small : length (x .bytes) ≤ widest
 
 pick-small : (b : Bool) {x y : Step} → Small x → Small y → Small (pick b x y)
-pick-small true p q = p
-pick-small false p q = q
+pick-small b {x} {y} = of-either Small b x y
 
 parted-small : (s : State) (b : ℕ) (after : State) → Small (partedStep s b after)
 parted-small s b after = record { small = rw length-append (omega (arith, parting-size s)) }

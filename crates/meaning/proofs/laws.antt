@@ -1,4 +1,5 @@
 -- Laws of the definitions.
+pub mod Remaining
 pub mod Passing
 pub mod Spelling
 pub mod Words

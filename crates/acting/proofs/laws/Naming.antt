@@ -16,7 +16,7 @@ use Rattle.meaning.specs.Allowed.{isByte}
 use Rattle.meaning.specs.Packing.{Words}
 use Rattle.decoding.specs.Decoded.{isName}
 use Rattle.meaning.proofs.laws.Choosing.{both-parts}
-use Rattle.matching.proofs.laws.Lists.{at-place}
+use Rattle.meaning.proofs.laws.Remaining.{at-place}
 
 -- WORDS THAT ARE BYTES
 

@@ -27,7 +27,7 @@ use Rattle.acting.specs.States.{Memory, memory, frameWord, localAt, ledgerOf, r
 use Rattle.applying.specs.Storing.{Stores, begun}
 use Rattle.applying.specs.Waiting.{countIn, functionsIn, returning}
 use Rattle.applying.specs.Advancing.{Ready, Advances, Starts}
-use Rattle.matching.proofs.laws.Lists.{past-end}
+use Rattle.meaning.proofs.laws.Remaining.{past-end}
 use Rattle.applying.proofs.laws.Waiting.{left-same, held-same, waiting-same, waiting-stop}
 
 -- THE FUNCTION TABLE

@@ -15,7 +15,7 @@ use Rattle.meaning.specs.Packing.{Words, storeAt, storeOf, unpackStores}
 use Rattle.applying.specs.declared.Stored.the-variants.{Before, Wrong}
 use Rattle.matching.specs.Matched.{siteCell}
 use Rattle.applying.specs.Storing.{Stores}
-use Rattle.matching.proofs.laws.Lists.{at-place}
+use Rattle.meaning.proofs.laws.Remaining.{at-place}
 
 -- a store asks for the cell at its site
 pub store-asks : (field : Bytes) (place : ℕ) (s : Option Site) → storedCell (storeAt s) field place ≡ siteCell s field place

@@ -16,7 +16,7 @@ use Rattle.decoding.specs.declared.Shift.the-variants.{Go, Select}
 use Rattle.decoding.specs.declared.Write.the-variants.{Part, Character, Value}
 use Rattle.decoding.specs.declared.Instruction.the-variants.{Shift as Shifts, Write as Writes, Begin, Use, Call as Calls, Emit, End, Unknown}
 use Rattle.decoding.specs.Decoded.{spanIn, callIn, instructionIn, registerMeant, lengthIn, actionsMeant}
-use Rattle.matching.proofs.laws.Lists.{at-place, past-end}
+use Rattle.meaning.proofs.laws.Remaining.{at-place, past-end}
 
 module _ (a b c d : Bool) where
   known : registerMeant (pick a Null (pick b Whole (pick c Left (pick d Right UnknownLength)))) ≡

@@ -14,7 +14,7 @@ use Rattle.words.specs.declared.tape.Item.the-variants.{Byte, Symbol, Part, Cal
 use Rattle.words.specs.Words.{carried, headName, itemOf, itemAt}
 use Rattle.expressions.specs.Levels.{stopped, itemBy, levelsIn}
 use Rattle.expressions.specs.Resuming.{isStop}
-use Rattle.words.proofs.laws.Lists.{drop-word}
+use Rattle.meaning.proofs.laws.Remaining.{at-place}
 use Rattle.words.proofs.laws.Names.{by-place, name-skip}
 
 -- nothing of it is read
@@ -114,7 +114,7 @@ module _ (ws : List ℕ) (i depth items : ℕ) where
     where
       on-tape : i < length ws → Told (itemAt (drop i ws) depth items)
       on-tape h =
-          rw (drop-word ws i h)
+          rw (at-place ws i h)
           (word-told (leb 128 items) (ltb word 256) (ltb word 512) (ltb word 768) (ltb word 2304) (eqb depth 0) (ltb word 1280) (ltb word 1536) (ltb depth 16)
           refl refl refl refl h)
 
@@ -131,8 +131,8 @@ pub levels-at : (ws : List ℕ) (i depth items : ℕ) (it : Item) → i < length
     → levelsIn depth items 0 (drop i ws) ≡ itemBy it depth items (getD ws i 0) (drop (i + 1) ws) (λ d n skip. levelsIn d n skip (drop (i + 1) ws))
 unfolding levelsIn
 levels-at ws i depth items it h e =
-    let f : itemOf (getD ws i 0) depth items ≡ it = rw (drop-word ws i h) at e in
-    rw (drop-word ws i h, f)
+    let f : itemOf (getD ws i 0) depth items ≡ it = rw (at-place ws i h) at e in
+    rw (at-place ws i h, f)
 
 pub levels-skip : (depth items skip : ℕ) (ws : List ℕ) → levelsIn depth items skip ws ≡ levelsIn depth items 0 (drop skip ws)
 unfolding levelsIn
@@ -157,8 +157,8 @@ levels-stop ws i depth items e =
     at-word h Call f s = cc
     at-word h Pass f s = cc
     at-word h Close f s = cc
-    at-word h Unclosed f s = levels-at ws i depth items Unclosed h f ∙ rw (drop-word ws i h)
-    at-word h Stop f s = levels-at ws i depth items Stop h f ∙ rw (drop-word ws i h)
+    at-word h Unclosed f s = levels-at ws i depth items Unclosed h f ∙ rw (at-place ws i h)
+    at-word h Stop f s = levels-at ws i depth items Stop h f ∙ rw (at-place ws i h)
 
 -- where an open call ends for want of words, nothing is read outside it either
 pub stops-below : (ws : List ℕ) (i depth items : ℕ) → itemAt (drop i ws) depth items ≡ Unclosed → stops (itemAt (drop i ws) (depth - 1) items) ≡ true
@@ -167,8 +167,8 @@ stops-below ws i depth items e =
     (λ h.
     let w = getD ws i 0 in
     let deep : eqb depth 0 ≡ false = ne-eqb depth 0 (λ z. omega (arith, told ws i depth items Unclosed e)) in
-    let now : stops (itemOf w depth items) ≡ true = rw (drop-word ws i h) at (ap stops e) in
-    rw (drop-word ws i h)
+    let now : stops (itemOf w depth items) ≡ true = rw (at-place ws i h) at (ap stops e) in
+    rw (at-place ws i h)
     (below-tests (leb 128 items) (ltb w 256) (ltb w 512) (ltb w 768) (ltb w 2304) (eqb (depth - 1) 0) (ltb w 1280) (ltb w 1536) (ltb depth 16) (ltb (depth - 1) 16)
     (rw deep at now)))
     (λ h. outside ws i (depth - 1) items h)

@@ -1,12 +1,10 @@
--- Elements and parts of lists: `nth` beside `getD`, and what is left of a list at a place.
-use Prim.Native.Nat.{ℕ, zero, suc, _+_, _≤_, _<_}
+-- Elements of lists: `nth` beside `getD`.
+use Prim.Native.Nat.{ℕ, zero, suc, _≤_, _<_}
 use native.Mathlib.Nat.{le-of-suc-le-suc, not-suc-le-zero}
-use native.Mathlib.Numerals.{add-one}
 use mathlib.Core.Path.{_≡_, refl}
 use mathlib.Core.List.{List, [], _∷_}
 use mathlib.Core.Option.{none, some}
-use lib.ListN.{length, getD, drop, drop-of-length-le}
-use lib.Seq.{drop-cons}
+use lib.ListN.{length, getD}
 use Rattle.meaning.specs.Choice.{nth}
 
 pub nth-in : (l : List ℕ) (i : ℕ) → i < length l → nth i l ≡ some (getD l i 0)
@@ -20,10 +18,3 @@ unfolding nth
 nth-out [] i h = refl
 nth-out (x ∷ l) zero h = absurd (not-suc-le-zero h)
 nth-out (x ∷ l) (suc i) h = nth-out l i (le-of-suc-le-suc h)
-
--- a list from a place on is the element there and the list from the next place on
-pub at-place : (l : List ℕ) (i : ℕ) → i < length l → drop i l ≡ getD l i 0 ∷ drop (i + 1) l
-at-place l i h = rw (add-one, drop-cons l i 0)
-
-pub past-end : (l : List ℕ) (i : ℕ) → length l ≤ i → drop i l ≡ []
-past-end l i h = drop-of-length-le l h

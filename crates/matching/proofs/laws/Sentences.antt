@@ -17,7 +17,7 @@ use Rattle.meaning.specs.Matching.{Found, foundAt, foundWrong, checkAll, search
 use Rattle.meaning.specs.Packing.{Words, numberIn, firstIn, testsIn, storesIn, bodyIn, maxStored, metricIn, sentencesEnd, unpackTests, unpackStores, unpackActions, unpackSentences, sentenceOf}
 use Rattle.matching.specs.declared.Places.the-variants.{From, Unknown}
 use Rattle.matching.specs.Matched.{placesFor, tried}
-use Rattle.matching.proofs.laws.Lists.{at-place, past-end}
+use Rattle.meaning.proofs.laws.Remaining.{at-place, past-end}
 
 -- THE PLACES OF ONE SENTENCE
 

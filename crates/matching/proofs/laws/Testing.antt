@@ -7,7 +7,7 @@ use lib.ListN.{length, getD, drop}
 use Rattle.meaning.specs.Choice.{Bytes}
 use Rattle.meaning.specs.Matching.{Checked, passed, wrong, wherePassed, check, checkAll, foundNone, settled, search}
 use Rattle.meaning.specs.Packing.{Words, testOf, unpackTests}
-use Rattle.matching.proofs.laws.Lists.{at-place, past-end}
+use Rattle.meaning.proofs.laws.Remaining.{at-place, past-end}
 
 module _ (field : Bytes) (place : ℕ) where
   -- all of so many tests from a place of the code on

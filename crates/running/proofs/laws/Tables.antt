@@ -12,7 +12,7 @@ use borrow.Author.Tests.{lt-ltb, le-ltb, ltb-true, leb-true, leb-false}
 use Rattle.meaning.specs.Choice.{pick, both, every}
 use Rattle.meaning.specs.Packing.{Words, unpack}
 use Rattle.applying.specs.Waiting.{countIn, soundIn, functionsIn}
-use Rattle.matching.proofs.laws.Lists.{at-place}
+use Rattle.meaning.proofs.laws.Remaining.{at-place}
 
 module _ (code : Words) where
   abbrev Inside : ℕ → Bool

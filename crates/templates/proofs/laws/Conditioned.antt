@@ -22,7 +22,8 @@ use Rattle.words.specs.Writing.{Wrote, Same}
 use Rattle.words.specs.Finding.{numberAmong}
 use Rattle.templates.specs.Testing.{siteNumber, IsSite, AllSites, storeOfSite, foundSite, held}
 use Rattle.templates.specs.Conditioning.{conditionAt, coming, conditionWords, conditionWord, conditionDone, conditionsDone, InConditions, ConditionsOn, ConditionsAll}
-use Rattle.words.proofs.laws.Lists.{drop-word, drop-again, reached, take-again}
+use Rattle.meaning.proofs.laws.Remaining.{at-place}
+use Rattle.words.proofs.laws.Lists.{drop-again, reached, take-again}
 use Rattle.words.proofs.laws.Names.{by-place}
 use Rattle.words.proofs.laws.Stores.{same-refl, same-trans, same-words, same-wrote, same-end}
 use Rattle.templates.proofs.laws.Held.{lookup-none, lookup-some}
@@ -33,13 +34,13 @@ pub conditions-at : (ws : List ℕ) (i count : ℕ) (b : Bool) → i < length ws
     → conditionsIn count 0 (drop i ws) ≡ conditionBy b count (getD ws i 0) (drop (i + 1) ws) (λ n skip. conditionsIn n skip (drop (i + 1) ws))
 unfolding conditionsIn
 conditions-at ws i count b h e =
-    let f : isConditionWord count (getD ws i 0) ≡ b = rw (drop-word ws i h) at e in
-    rw (drop-word ws i h, f)
+    let f : isConditionWord count (getD ws i 0) ≡ b = rw (at-place ws i h) at e in
+    rw (at-place ws i h, f)
 
 pub conditions-end : (ws : List ℕ) (i count : ℕ) → conditionAt count (drop i ws) ≡ false → conditionsIn count 0 (drop i ws) ≡ scanned [] (drop i ws)
 unfolding conditionsIn
 conditions-end ws i count e =
-    by-place ws i (λ h. conditions-at ws i count false h e ∙ rw (drop-word ws i h)) (λ h. rw (drop-of-length-le ws h))
+    by-place ws i (λ h. conditions-at ws i count false h e ∙ rw (at-place ws i h)) (λ h. rw (drop-of-length-le ws h))
 
 pub conditions-skip : (count skip : ℕ) (ws : List ℕ) → conditionsIn count skip ws ≡ conditionsIn count 0 (drop skip ws)
 unfolding conditionsIn
@@ -55,7 +56,7 @@ condition-inside ws i count e =
 pub condition-room : (ws : List ℕ) (i count : ℕ) → conditionAt count (drop i ws) ≡ true → count < 8
 condition-room ws i count e =
     let w = getD ws i 0 in
-    let f : isConditionWord count w ≡ true = rw (drop-word ws i (condition-inside ws i count e)) at e in
+    let f : isConditionWord count w ≡ true = rw (at-place ws i (condition-inside ws i count e)) at e in
     leb-false 8 count (by-test (leb 8 count) (pick (ltb w 768) false (ltb w 1024)) f)
   where
     by-test : (a b : Bool) → pick a false b ≡ true → a ≡ false
@@ -70,7 +71,7 @@ conditions-full count (w ∷ l) h = rw (le-leb 8 count h)
 pub condition-by-word : (ws : List ℕ) (i count : ℕ) {word : ℕ} {r : Bool} → count < 8 → word ≡ getD ws i 0
     → r ≡ pick (ltb word 768) false (ltb word 1024) → r ≡ conditionAt count (drop i ws)
 condition-by-word ws i count h e f =
-    f ∙ rw e (by-place ws i (λ k. rw (drop-word ws i k, lt-leb 8 count h)) (λ k. rw (drop-of-length-le ws k, List·getD-eq-default ws 0 k)))
+    f ∙ rw e (by-place ws i (λ k. rw (at-place ws i k, lt-leb 8 count h)) (λ k. rw (drop-of-length-le ws k, List·getD-eq-default ws 0 k)))
 
 -- ITS WORD
 

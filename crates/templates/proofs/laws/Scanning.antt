@@ -16,7 +16,7 @@ use Rattle.words.specs.declared.tape.Piece.{Piece}
 use Rattle.words.specs.declared.tape.Piece.the-variants.{Character, SVariable, EVariable, PatternEnd}
 use Rattle.words.specs.Words.{carried, headName, partPiece, pieceOf, pieceAt}
 use Rattle.templates.specs.Scans.{scanned, oneMore, pieceBy, patternIn}
-use Rattle.words.proofs.laws.Lists.{drop-word}
+use Rattle.meaning.proofs.laws.Remaining.{at-place}
 use Rattle.words.proofs.laws.Names.{by-place, name-skip, name-fits-here}
 
 -- WHAT A PIECE TELLS
@@ -63,7 +63,7 @@ module _ (ws : List ℕ) (i letters : ℕ) where
       on-tape : i < length ws → Told parts (pieceAt (drop i ws) letters parts)
       on-tape h =
           let w = getD ws i 0 in
-          rw (drop-word ws i h) (word-told (leb 768 w) (leb 512 w) (leb maxLetters letters) (leb 256 w) parts refl refl h)
+          rw (at-place ws i h) (word-told (leb 768 w) (leb 512 w) (leb maxLetters letters) (leb 256 w) parts refl refl h)
 
 -- READING
 
@@ -71,15 +71,15 @@ pub pattern-at : (ws : List ℕ) (i letters : ℕ) (parts : Parts) (p : Piece) �
     → patternIn letters parts 0 (drop i ws) ≡ pieceBy p letters parts (getD ws i 0) (drop (i + 1) ws) (λ l q skip. patternIn l q skip (drop (i + 1) ws))
 unfolding patternIn
 pattern-at ws i letters parts p h e =
-    let f : pieceOf (getD ws i 0) letters parts ≡ p = rw (drop-word ws i h) at e in
-    rw (drop-word ws i h, f)
+    let f : pieceOf (getD ws i 0) letters parts ≡ p = rw (at-place ws i h) at e in
+    rw (at-place ws i h, f)
 
 -- where the pattern ends it is read no further
 pub pattern-end : (ws : List ℕ) (i letters : ℕ) (parts : Parts) → pieceAt (drop i ws) letters parts ≡ PatternEnd
     → patternIn letters parts 0 (drop i ws) ≡ scanned [] (drop i ws)
 unfolding patternIn
 pattern-end ws i letters parts e =
-    by-place ws i (λ h. pattern-at ws i letters parts PatternEnd h e ∙ rw (drop-word ws i h)) (λ h. rw (drop-of-length-le ws h))
+    by-place ws i (λ h. pattern-at ws i letters parts PatternEnd h e ∙ rw (at-place ws i h)) (λ h. rw (drop-of-length-le ws h))
 
 pub pattern-skip : (letters : ℕ) (parts : Parts) (skip : ℕ) (ws : List ℕ) → patternIn letters parts skip ws ≡ patternIn letters parts 0 (drop skip ws)
 unfolding patternIn

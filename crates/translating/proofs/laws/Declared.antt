@@ -20,7 +20,7 @@ use Rattle.words.specs.Writing.{Wrote}
 use Rattle.translating.specs.Sentencing.{FunctionAll}
 use Rattle.translating.specs.Declaring.{Inside, wordsFrom, headsLeft, HeadsOn, HeadsAll, functionAt, functionsOf, EntryAll, FunctionsAll}
 use Rattle.translating.specs.Leaves.{codeOf}
-use Rattle.words.proofs.laws.Lists.{drop-word}
+use Rattle.meaning.proofs.laws.Remaining.{at-place}
 use Rattle.words.proofs.laws.Names.{name-skip}
 use Rattle.meaning.proofs.laws.Packing.{places-length}
 use Rattle.meaning.proofs.laws.Storing.{sets-append}
@@ -31,7 +31,7 @@ use Rattle.translating.proofs.laws.Patching.{sets-comm, lentFrom, backF
 functions-at : (ws : List ℕ) (i : ℕ) (b : Bool) → i < length ws → isFunctionWord (getD ws i 0) ≡ b
     → functionsIn (drop i ws) ≡ pick b (drop i ws ∷ functionsIn (drop (i + 1) ws)) (functionsIn (drop (i + 1) ws))
 unfolding functionsIn
-functions-at ws i b h e = rw (drop-word ws i h, e)
+functions-at ws i b h e = rw (at-place ws i h, e)
 
 module _ (ws : List ℕ) (i : ℕ) (heads : List ℕ) (count : ℕ) (inside : Inside ws heads count) where
   -- there were 64
@@ -96,7 +96,7 @@ heads-all {ws} {heads} {count} {i} s h =
 -- its sentences begin after its name
 function-sentences : (ws : List ℕ) (head : ℕ) → head < length ws
     → functionIn (drop head ws) .sentences ≡ sentencesIn maxSentences (drop (head + 1 + length (headName ws head)) ws)
-function-sentences ws head h = ap (λ (l : List ℕ). functionIn l .sentences) (drop-word ws head h) ∙ ap (sentencesIn maxSentences) (name-skip ws head h)
+function-sentences ws head h = ap (λ (l : List ℕ). functionIn l .sentences) (at-place ws head h) ∙ ap (sentencesIn maxSentences) (name-skip ws head h)
 
 pub entry-written : {ws heads part part₁ part₂ : List ℕ} {k at next named from size : ℕ}
     → getD heads k 0 < length ws
@@ -164,12 +164,12 @@ functions-go-on {ws} {heads} {code₀} {code} {part} {at₀} {at} {k} {from} {r}
       left = λ t g.
           rw (now t g, entry .next t g)
           (sym (entry-first t ws (getD heads k 0) (drop (k + 1) heads) k code at (omega (arith, length-drop (k + 1) heads, s .after)))
-          ∙ ap (λ (hs : List ℕ). tableLeft t ws hs k code at) (sym (drop-word heads k h)) ∙ s .left t g);
+          ∙ ap (λ (hs : List ℕ). tableLeft t ws hs k code at) (sym (at-place heads k h)) ∙ s .left t g);
       next = λ t g.
           rw (entry .next t g)
           (omega (
             arith,
-            ap (λ (hs : List ℕ). length (packFunctions (functionsOf t ws hs))) (drop-word heads k h),
+            ap (λ (hs : List ℕ). length (packFunctions (functionsOf t ws hs))) (at-place heads k h),
             functions-length t (getD heads k 0) (drop (k + 1) heads),
             s .next t g,
           ));

@@ -32,7 +32,7 @@ use Rattle.templates.specs.Testing.{AllSites, heldSites, held, storeOfSite, tot
 use Rattle.templates.specs.Conditioning.{conditionWords, ConditionsAll}
 use Rattle.expressions.specs.Resuming.{Means, ItemsAll}
 use Rattle.translating.specs.Sentencing.{metricNumber, shapeAt, testedAt, testsAt, storesAt, actionsAt, bodyAt, sentenceAt, MatchAll, BodyAll, SentenceAll, followsAt, sentenceDone, sentencesLeft, InSentences, SentencesOn, FunctionAll}
-use Rattle.words.proofs.laws.Lists.{drop-word}
+use Rattle.meaning.proofs.laws.Remaining.{at-place}
 use Rattle.words.proofs.laws.Names.{by-place}
 use Rattle.words.proofs.laws.Stores.{wrote-more, same-refl, same-trans, same-words, same-wrote, same-end}
 use Rattle.translating.proofs.laws.Patching.{wrote-patched}
@@ -185,7 +185,7 @@ sentenced {ws} {start = start} {counts = counts} {m = m} {b} measured metric bod
 pub follows-by-word : (ws : List ℕ) (i count : ℕ) {word : ℕ} {r : Bool} → count < 512 → word ≡ getD ws i 0 → r ≡ isNextWord word
     → r ≡ followsAt (leb 512 count) (drop i ws)
 follows-by-word ws i count h e f =
-    f ∙ rw (e, lt-leb 512 count h) (by-place ws i (λ k. rw (drop-word ws i k)) (λ k. rw (drop-of-length-le ws k, List·getD-eq-default ws 0 k)))
+    f ∙ rw (e, lt-leb 512 count h) (by-place ws i (λ k. rw (at-place ws i k)) (λ k. rw (drop-of-length-le ws k, List·getD-eq-default ws 0 k)))
 
 -- where one follows there is a word for it, and there were not 512
 follows-inside : (ws : List ℕ) (i : ℕ) (full : Bool) → followsAt full (drop i ws) ≡ true → (i < length ws) × (full ≡ false)
@@ -214,7 +214,7 @@ module _ (t : Table) (ws : List ℕ) where
       by-word false more false h e = rw (← e)
 
       here : i < length ws → wordsAfter i left ≡ wordsBy i left more
-      here k = rw (drop-word ws i k) (by-word full more (isNextWord (getD ws i 0)) h (rw (drop-word ws i k) at e))
+      here k = rw (at-place ws i k) (by-word full more (isNextWord (getD ws i 0)) h (rw (at-place ws i k) at e))
 
       there : length ws ≤ i → wordsAfter i left ≡ wordsBy i left more
       there k = rw (drop-of-length-le ws k) (by-word full more false h (rw (drop-of-length-le ws k) at e))

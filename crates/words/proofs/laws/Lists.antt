@@ -1,19 +1,15 @@
--- Lists by place: the word at a place and what is after it, parts word by word, and how long a part is.
+-- Lists by place: parts word by word, and how long a part is.
 use Prim.Native.Nat.{ℕ, zero, suc, _+_, _-_, _≤_, _<_, min}
-use native.Mathlib.Numerals.{add-one}
 use native.Mathlib.Omega.{arith}
 use mathlib.Core.Path.{_≡_, refl, ap, _∙_}
 use mathlib.Core.List.{List, [], _∷_}
 use lib.ListN.{length, take, drop, getD, length-take, length-drop}
-use lib.Seq.{drop-cons, getD-drop}
+use lib.Seq.{getD-drop}
+use Rattle.meaning.proofs.laws.Remaining.{at-place}
 use borrow.Author.Tests.{eq-eqb, ne-eqb, le-leb, lt-leb, lt-ltb, le-ltb}
 
 -- a test of two numbers, by what is known of them
 pub ruleset tests = (eq-eqb, ne-eqb, le-leb, lt-leb, lt-ltb, le-ltb)
-
--- the word at a place, and what is after it
-pub drop-word : (ws : List ℕ) (i : ℕ) → i < length ws → drop i ws ≡ getD ws i 0 ∷ drop (i + 1) ws
-drop-word ws i h = rw add-one (drop-cons ws i 0 h)
 
 pub reached : (n from : ℕ) (ws : List ℕ) → length (take n (drop from ws)) ≡ min n (length ws - from)
 reached n from ws = simp (length-take, length-drop)
@@ -33,7 +29,7 @@ front-whole l n =
 pub front-cons : (l : List ℕ) (n k : ℕ) → k < n → n ≤ length l → frontFrom l n k ≡ getD l k 0 ∷ frontFrom l n (k + 1)
 front-cons l n k h m =
     let a : n - k ≡ suc (n - (k + 1)) = omega arith in
-    rw (a, drop-word l k (omega arith))
+    rw (a, at-place l k (omega arith))
 
 pub front-none : (l : List ℕ) (n k : ℕ) → n ≤ k → frontFrom l n k ≡ []
 front-none l n k h =

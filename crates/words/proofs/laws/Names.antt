@@ -15,7 +15,8 @@ use native.Mathlib.Decide.{decLe}
 use native.Mathlib.Nat.{lt-of-not-le}
 use Rattle.meaning.specs.Choice.{startsWith}
 use Rattle.meaning.specs.Names.{isEmission}
-use Rattle.words.proofs.laws.Lists.{drop-word, reached, take-again, drop-again, partFrom, part-cons, frontFrom, front-whole, front-cons, front-none}
+use Rattle.meaning.proofs.laws.Remaining.{at-place}
+use Rattle.words.proofs.laws.Lists.{reached, take-again, drop-again, partFrom, part-cons, frontFrom, front-whole, front-cons, front-none}
 
 abbrev pub sameFrom : List ℕ → ℕ → ℕ → ℕ → ℕ → Bool
 sameFrom ws a b n i = sameBytes (partFrom ws a n i) (partFrom ws b n i)
@@ -62,7 +63,7 @@ pub by-place : {A : Type 0} (ws : List ℕ) (p : ℕ) → (p < length ws → A) 
 by-place ws p f g = elim (decLe (length ws) p) [ yes h ↦ g h | no h ↦ f (lt-of-not-le h) ]
 
 pub name-here : (ws : List ℕ) (p : ℕ) → p < length ws → headName ws p ≡ take (carried (getD ws p 0)) (drop (p + 1) ws)
-name-here ws p h = rw (drop-word ws p h)
+name-here ws p h = rw (at-place ws p h)
 
 pub name-nowhere : (ws : List ℕ) (p : ℕ) → length ws ≤ p → headName ws p ≡ []
 name-nowhere ws p h = rw (drop-of-length-le ws h)

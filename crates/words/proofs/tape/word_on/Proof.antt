@@ -1,5 +1,5 @@
 -- `tape::word_on` meets its contract.
-use Rattle.words.proofs.laws.Lists.{drop-word}
+use Rattle.meaning.proofs.laws.Remaining.{at-place}
 use borrow.Author.Needs.{needs}
 use Rattle.words.proofs.tape.word_on.Statement.{statement}
 use Rattle.words.proofs.tape.word_on.Tie as tie
@@ -8,7 +8,7 @@ word-at-requires : tie.Need-word-at-requires
 word-at-requires c κs = search needs
 
 returns : tie.Need-returns
-returns c = rw (c .word-at .ensures .0) (drop-word _ _ (c .before .before .pre))
+returns c = rw (c .word-at .ensures .0) (at-place _ _ (c .before .before .pre))
 
 pub word-on-spec : {M : Type 1} → statement M
 word-on-spec = tie.close (tie.spec word-at-requires returns)
