@@ -8,4 +8,3 @@ pub mod Showing
 pub mod Onward
 pub mod Stream
 pub mod Variants
-pub mod Entering

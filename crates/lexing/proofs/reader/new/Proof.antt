@@ -35,7 +35,7 @@ use Rattle.lexing.specs.declared.reader.Reader.{Reader}
 use Rattle.lexing.specs.Readers.{readerAt}
 use Rattle.lexing.proofs.reader.Reader as T
 use Rattle.lexing.proofs.reader.Reader.Laws as T′
-use Rattle.lexing.proofs.Entering.{walk-enters}
+use Rattle.walking.proofs.Entering.{walk-enters}
 use Rattle.lexing.proofs.reader.new.Key.{name as #lexing·reader·new}
 use Rattle.lexing.proofs.reader.new as new
 use Rattle.lexing.proofs.reader.new.Statement as stated

@@ -33,7 +33,7 @@ use denote.Triple.Walked.{says, Stays, stay-dropped, walkOf, goes-dropped, ends-
 use Rattle.lexing.specs.declared.reader.Reader.{Reader}
 use Rattle.lexing.proofs.reader.Reader as T
 use Rattle.lexing.proofs.reader.Reader.Laws as T′
-use Rattle.lexing.proofs.Entering.{walk-enters}
+use Rattle.walking.proofs.Entering.{walk-enters}
 use Rattle.lexing.proofs.reader.text.Key.{name as #lexing·reader·text}
 use Rattle.lexing.proofs.reader.text as text
 use Rattle.lexing.proofs.reader.text.Statement as stated

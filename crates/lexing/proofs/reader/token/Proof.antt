@@ -62,7 +62,7 @@ use Rattle.lexing.proofs.lex as lex
 use Rattle.lexing.proofs.lex.Symbol as lex-def
 use Rattle.lexing.proofs.lex.Symbol.{name as #lexing·lex}
 use Rattle.lexing.proofs.lex.Met as lex-thm
-use Rattle.lexing.proofs.Entering.{calls-framed, walk-enters}
+use Rattle.walking.proofs.Entering.{calls-framed, walk-enters}
 use Rattle.lexing.proofs.reader.token.Key.{name as #lexing·reader·token}
 use Rattle.lexing.proofs.reader.token as token
 use Rattle.lexing.proofs.reader.token.Statement as stated
