@@ -11,14 +11,14 @@ use base.Logic.{SProp, ent, sep, emp, via, fst∗, id⊢}
 use base.Fml.{Fml, ftrue, flft}
 use prog.Memory.{Memory}
 use prog.Routine.{Routine}
-use prog.Wp.{Heap, Calls, Loops, WpFn, Tables}
+use prog.Wp.{Heap, Calls, Loops, WpFn}
 use ghost.Atoms.{Atoms, sem}
 use contract.Lifetimes.{Lfts, Shares, AllOutlive, toks}
 use contract.Monad.{Fun, fact}
-use contract.Running.{givenOf, tables, tablesOf}
+use contract.Running.{givenOf}
 use types.Kit.{Given, ‵, raw, some, later, _⊛_, ⋆, _$_, _∵_, !, qed, by, move, use1, use2, split, join, pick, rewrite, fsplit, fjoin, suffices, await, done}
 use types.Run.{look, init, forget, stop, hop, from, load, addr, of-opd, and-then, no-more, assigns, land, returns, enter, alloc1, alloc0, params1, pass1, pass0, free1, free0}
-use sound.WpLaws.{FmC, fmOf, WpFn-mono}
+use sound.WpLaws.{FmC}
 use denote.RattleType.{owns}
 use denote.Laws.{Is, Ises, Are, shows}
 use denote.Builtin.{u8, u32}
@@ -31,10 +31,11 @@ use denote.Struct.Laws as LL
 use denote.Triple.Call.{calls-at}
 use denote.Triple.Clauses.{Lasts, atExit, ensured, lasts}
 use denote.Triple.Entry.{Args, Vals, onEntry}
-use denote.Triple.Spec.{Meets, tripleOf}
+use denote.Triple.Spec.{tripleOf}
 use denote.Triple.Statement.{Contract, Triple}
-use denote.Triple.Table.{entered, cited}
-use denote.Triple.Walked.{Stays, walkOf, Walks, ends-at, walked, walk-meets}
+use denote.Triple.Table.{cited}
+use denote.Triple.Walked.{Stays, walkOf, ends-at}
+use Rattle.walking.proofs.Entering.{calls-framed, walk-enters}
 use Rattle.walking.proofs.Answering.{clause}
 use Rattle.walking.proofs.Handing.{all-handed, all-fit, all-go}
 use Rattle.lexing.specs.declared.reader.Reader.{Reader}
@@ -174,30 +175,14 @@ module _ {M : Type 1} (𝓤 : URA M) (H : Heap 𝓤) (A : Atoms 𝓤) (W : Given
         free1 ! $ move ! (6 ∷ 7 ∷ []) $ free1 ! $ move ! (4 ∷ 5 ∷ []) $ free1 ! $ free0 ! $
         by ! (exits x ws v))))))))))))))))))))
 
-module _ {M : Type 1} (𝓤 : URA M) (H : Heap 𝓤) (A : Atoms 𝓤) (W : Given 𝓤 H A) (mem : Memory → SProp 𝓤) (run : Routine → Fun 𝓤) where
-  read-walks : (C : Calls 𝓤 H) (Λ : Loops 𝓤 H) → FmC 𝓤 H (W .laws) C → Triple 𝓤 (C #lexing·reader·new) (New 𝓤 H A mem run) →
-      Triple 𝓤 (C #lexing·reader·text) (Text 𝓤 H A mem run) → Triple 𝓤 (C #reading·read-text) (ReadText 𝓤 H A mem run)
-      → Walks 𝓤 H A read.ended stayed (WpFn 𝓤 H C Λ code.function) (read.clauses 𝓤 H A mem run)
-  read-walks C Λ fm known-new known-text known-read-text =
-      walked 𝓤 H A read.ended stayed (read.clauses 𝓤 H A mem run) (WpFn 𝓤 H C Λ code.function) (λ κs. (slice-vals, (ptr-vals, tt)))
-      (λ κs. (shr-slice-tells (named 0) (κs .0) u8, (mut-tells (named 1) (κs .1 .0) (Array u32 32768), tt)))
-      (λ κs qs bounds a g are. via 𝓤 _ (fst∗ 𝓤 _ (emp 𝓤)) (walk 𝓤 H A W mem run κs qs bounds a are C Λ fm known-new known-text known-read-text))
-
-read-meets : {M : Type 1} (𝓤 : URA M) (H : Heap 𝓤) (A : Atoms 𝓤) → Given 𝓤 H A → (mem : Memory → SProp 𝓤) (run : Routine → Fun 𝓤) (𝓣 : Tables 𝓤 H)
-    → Triple 𝓤 (𝓣 .C #lexing·reader·new) (New 𝓤 H A mem run) → Triple 𝓤 (𝓣 .C #lexing·reader·text) (Text 𝓤 H A mem run) →
-    Triple 𝓤 (𝓣 .C #reading·read-text) (ReadText 𝓤 H A mem run)
-    → Meets 𝓤 H A read.signature (WpFn 𝓤 H (𝓣 .C) (𝓣 .Λ) code.function) (read.spec 𝓤 H A mem run)
-read-meets 𝓤 H A W mem run 𝓣 known-new known-text known-read-text =
-    walk-meets 𝓤 H A read.ended stayed W (all-go 𝓤 H A W 2 (read.signature .params) (read.ended .kept)) (read.clauses 𝓤 H A mem run)
-    (WpFn 𝓤 H (𝓣 .C) (𝓣 .Λ) code.function) (WpFn-mono 𝓤 H (W .laws) 𝓣 code.function)
-    (read-walks 𝓤 H A W mem run (𝓣 .C) (𝓣 .Λ) (fmOf 𝓤 H (W .laws) 𝓣) known-new known-text known-read-text)
-
 pub read-spec : {M : Type 1} → stated.statement M
-unfolding code.routine tablesOf
+unfolding code.routine
 read-spec 𝓤 H 𝓜 𝓖 𝓡 =
-    entered 𝓤 H (tripleOf 𝓤 H (𝓖 .A) read.signature (read.spec 𝓤 H (𝓖 .A) (𝓜 .mem) (𝓡 .run)))
-    (tables 𝓤 H 𝓜 𝓡 code.env .C) (tables 𝓤 H 𝓜 𝓡 code.env .Λ) #reading·read code.function (code.unfolded 𝓤 H 𝓜 𝓡)
-    (read-meets 𝓤 H (𝓖 .A) (givenOf 𝓤 H 𝓜 𝓖) (𝓜 .mem) (𝓡 .run) (tablesOf 𝓤 H 𝓜 (tables 𝓤 H 𝓜 𝓡 code.env))
+    let W = givenOf 𝓤 H 𝓜 𝓖 in
+    walk-enters 𝓤 H 𝓜 𝓖 𝓡 code.env read.ended stayed (all-go 𝓤 H (𝓖 .A) W 2 (read.signature .params) (read.ended .kept)) (read.clauses 𝓤 H (𝓖 .A) (𝓜 .mem) (𝓡 .run))
+    #reading·read code.function (code.unfolded 𝓤 H 𝓜 𝓡) (λ κs. (slice-vals, (ptr-vals, tt)))
+    (λ κs. (shr-slice-tells (named 0) (κs .0) u8, (mut-tells (named 1) (κs .1 .0) (Array u32 32768), tt)))
+    (λ κs qs bounds a g are. via 𝓤 _ (fst∗ 𝓤 _ (emp 𝓤)) (walk 𝓤 H (𝓖 .A) W (𝓜 .mem) (𝓡 .run) κs qs bounds a are _ _ (calls-framed 𝓤 H 𝓜 𝓖 𝓡 code.env)
     (cited 𝓤 H (New 𝓤 H (𝓖 .A) (𝓜 .mem) (𝓡 .run)) 𝓜 𝓡 code.env #lexing·reader·new new-def.routine code.calls-lexing·reader·new (new-thm.met 𝓤 H 𝓜 𝓖 𝓡))
     (cited 𝓤 H (Text 𝓤 H (𝓖 .A) (𝓜 .mem) (𝓡 .run)) 𝓜 𝓡 code.env #lexing·reader·text text-def.routine code.calls-lexing·reader·text (text-thm.met 𝓤 H 𝓜 𝓖 𝓡))
-    (cited 𝓤 H (ReadText 𝓤 H (𝓖 .A) (𝓜 .mem) (𝓡 .run)) 𝓜 𝓡 code.env #reading·read-text read-text-def.routine code.calls-reading·read-text (read-text-thm.met 𝓤 H 𝓜 𝓖 𝓡)))
+    (cited 𝓤 H (ReadText 𝓤 H (𝓖 .A) (𝓜 .mem) (𝓡 .run)) 𝓜 𝓡 code.env #reading·read-text read-text-def.routine code.calls-reading·read-text (read-text-thm.met 𝓤 H 𝓜 𝓖 𝓡))))

@@ -13,16 +13,16 @@ use base.Logic.{SProp, ent, sep, id⊢}
 use base.Fml.{GName, Fml, flft, fobs, fbor}
 use prog.Memory.{Memory}
 use prog.Routine.{Routine}
-use prog.Wp.{Heap, Calls, Loops, WpFn, Tables}
+use prog.Wp.{Heap, Calls, Loops, WpFn}
 use ghost.Atoms.{Atoms}
 use contract.Lifetimes.{Lfts, Shares, AllOutlive, toks}
 use contract.Monad.{Fun, fact}
-use contract.Running.{givenOf, tables, tablesOf}
+use contract.Running.{givenOf}
 use types.Kit.{Given, ‵, raw, some, later, _⊛_, ⋆, _$_, _∵_, !, qed, by, move, drop, use1, split, join, pick, fsplit, fsplit3, fjoin, fjoin3, feqI, suffices, frame, await, done}
 use types.Part.{agg, whole, sub, look-in}
 use types.Run.{look, look-raw, store, store-raw, init, stop, hop, fld, from, load, addr, of-opd, and-then, no-more, assigns, land, returns, enter, params1, pass1, pass0}
 use types.SemTy.{Body}
-use sound.WpLaws.{FmC, fmOf, WpFn-mono}
+use sound.WpLaws.{FmC}
 use denote.RattleType.{owns}
 use denote.Memory.{mem}
 use denote.Laws.{Is, Ises, Are, shows}
@@ -39,10 +39,10 @@ use denote.Struct.Steps.{spelt}
 use denote.Triple.Call.{calls-at}
 use denote.Triple.Clauses.{Lasts, lasts}
 use denote.Triple.Entry.{Args, Vals, onEntry}
-use denote.Triple.Spec.{Meets, tripleOf}
+use denote.Triple.Spec.{tripleOf}
 use denote.Triple.Statement.{Contract, Triple}
-use denote.Triple.Table.{entered, cited}
-use denote.Triple.Walked.{says, Stays, stay-ref, walkOf, goes-ref, Walks, ends-at, walked, walk-meets}
+use denote.Triple.Table.{cited}
+use denote.Triple.Walked.{says, Stays, stay-ref, walkOf, goes-ref, ends-at}
 use Rattle.acting.specs.declared.registers.Registers.{Registers}
 use Rattle.acting.specs.declared.registers.Next.{Next}
 use Rattle.acting.specs.declared.registers.Status.{Status}
@@ -50,6 +50,7 @@ use Rattle.acting.specs.States.{Memory as Memories, memory}
 use Rattle.applying.specs.Advancing.{registersIn, statusIn, nextOf, Steps}
 use Rattle.stepping.proofs.laws.Statuses.{rejoined}
 use Rattle.stepping.proofs.walks.Callees.{registers-vals, RegistersOf, StatusOf, registers-said, status-said, to-parts, goes-parts}
+use Rattle.walking.proofs.Entering.{calls-framed, walk-enters}
 use Rattle.walking.proofs.Answering.{answers}
 use Rattle.walking.proofs.Locals.{placed, holds, lays-out, frees-laid}
 use Rattle.walking.proofs.Handing.{all-handed, after-first, all-fit, all-go}
@@ -228,33 +229,17 @@ module _ {M : Type 1} (𝓤 : URA M) (H : Heap 𝓤) (A : Atoms 𝓤) (W : Given
         holds (sliceVal (ptr frames) (length (now frames))) ∷ holds (vptr (ptr values .0) (ptr values .1)) ∷ holds (sliceVal (ptr values) (length (now values))) ∷ []) $
         by ! (exits ws g′ x v (subst (λ (n : Next). Told n ws) (sym (rejoined r x g′ new how)) told))))))))))))))
 
-module _ {M : Type 1} (𝓤 : URA M) (H : Heap 𝓤) (A : Atoms 𝓤) (W : Given 𝓤 H A) (mem : Memory → SProp 𝓤) (run : Routine → Fun 𝓤) where
-  step-walks : (C : Calls 𝓤 H) (Λ : Loops 𝓤 H) → FmC 𝓤 H (W .laws) C
-      → Triple 𝓤 (C #stepping·advance) (Advance 𝓤 H A mem run) → Triple 𝓤 (C #stepping·registers-of) (RegistersOf 𝓤 H A mem run) →
-      Triple 𝓤 (C #stepping·status-of) (StatusOf 𝓤 H A mem run)
-      → Walks 𝓤 H A step.ended stayed (WpFn 𝓤 H C Λ code.function) (step.clauses 𝓤 H A mem run)
-  step-walks C Λ fm known-advance known-registers known-status =
-      walked 𝓤 H A step.ended stayed (step.clauses 𝓤 H A mem run) (WpFn 𝓤 H C Λ code.function)
-      (λ κs. (ptr-vals, (ptr-vals, (slice-vals, (uint-vals w32, (slice-vals, (slice-vals, (slice-vals, (slice-vals, (slice-vals, tt))))))))))
-      (λ κs. (mut-tells (named 0) (κs .0) R.the-row, (shr-tells (named 1) (κs .1 .0) (Array u8 256), (shr-slice-tells (named 2) (κs .1 .1 .0) u32, (uint-tells w32, (mut-slice-tells (named 3) (κs .1 .1 .1 .0) u8, (mut-slice-tells (named 4) (κs .1 .1 .1 .1 .0) u8, (mut-slice-tells (named 5) (κs .1 .1 .1 .1 .1 .0) u8, (mut-slice-tells (named 6) (κs .1 .1 .1 .1 .1 .1 .0) usize, (mut-slice-tells (named 7) (κs .1 .1 .1 .1 .1 .1 .1 .0) u8, tt))))))))))
-      (λ κs qs bounds a _ are. walk 𝓤 H A W mem run κs qs bounds (a .0) (a .1 .0) (a .1 .1 .0) (a .1 .1 .1 .0) (a .1 .1 .1 .1 .0) (a .1 .1 .1 .1 .1 .0)
-      (a .1 .1 .1 .1 .1 .1 .0) (a .1 .1 .1 .1 .1 .1 .1 .0) (a .1 .1 .1 .1 .1 .1 .1 .1 .0) are C Λ fm known-advance known-registers known-status)
-
-step-meets : {M : Type 1} (𝓤 : URA M) (H : Heap 𝓤) (A : Atoms 𝓤) → Given 𝓤 H A → (mem : Memory → SProp 𝓤) (run : Routine → Fun 𝓤) (𝓣 : Tables 𝓤 H)
-    → Triple 𝓤 (𝓣 .C #stepping·advance) (Advance 𝓤 H A mem run) → Triple 𝓤 (𝓣 .C #stepping·registers-of) (RegistersOf 𝓤 H A mem run) →
-    Triple 𝓤 (𝓣 .C #stepping·status-of) (StatusOf 𝓤 H A mem run)
-    → Meets 𝓤 H A step.signature (WpFn 𝓤 H (𝓣 .C) (𝓣 .Λ) code.function) (step.spec 𝓤 H A mem run)
-step-meets 𝓤 H A W mem run 𝓣 known-advance known-registers known-status =
-    walk-meets 𝓤 H A step.ended stayed W (goes-ref 𝓤 H A W 8 0 tt (plain (λ _. R.the-row)), all-go 𝓤 H A W 8 (after-first (step.signature .params)) (step.ended .kept .1)) (step.clauses 𝓤 H A mem run)
-    (WpFn 𝓤 H (𝓣 .C) (𝓣 .Λ) code.function) (WpFn-mono 𝓤 H (W .laws) 𝓣 code.function)
-    (step-walks 𝓤 H A W mem run (𝓣 .C) (𝓣 .Λ) (fmOf 𝓤 H (W .laws) 𝓣) known-advance known-registers known-status)
-
 pub step-spec : {M : Type 1} → stated.statement M
-unfolding code.routine tablesOf
+unfolding code.routine
 step-spec 𝓤 H 𝓜 𝓖 𝓡 =
-    entered 𝓤 H (tripleOf 𝓤 H (𝓖 .A) step.signature (step.spec 𝓤 H (𝓖 .A) (𝓜 .mem) (𝓡 .run)))
-    (tables 𝓤 H 𝓜 𝓡 code.env .C) (tables 𝓤 H 𝓜 𝓡 code.env .Λ) #stepping·step code.function (code.unfolded 𝓤 H 𝓜 𝓡)
-    (step-meets 𝓤 H (𝓖 .A) (givenOf 𝓤 H 𝓜 𝓖) (𝓜 .mem) (𝓡 .run) (tablesOf 𝓤 H 𝓜 (tables 𝓤 H 𝓜 𝓡 code.env))
+    let W = givenOf 𝓤 H 𝓜 𝓖 in
+    walk-enters 𝓤 H 𝓜 𝓖 𝓡 code.env step.ended stayed
+    (goes-ref 𝓤 H (𝓖 .A) W 8 0 tt (plain (λ _. R.the-row)), all-go 𝓤 H (𝓖 .A) W 8 (after-first (step.signature .params)) (step.ended .kept .1))
+    (step.clauses 𝓤 H (𝓖 .A) (𝓜 .mem) (𝓡 .run)) #stepping·step code.function (code.unfolded 𝓤 H 𝓜 𝓡)
+    (λ κs. (ptr-vals, (ptr-vals, (slice-vals, (uint-vals w32, (slice-vals, (slice-vals, (slice-vals, (slice-vals, (slice-vals, tt))))))))))
+    (λ κs. (mut-tells (named 0) (κs .0) R.the-row, (shr-tells (named 1) (κs .1 .0) (Array u8 256), (shr-slice-tells (named 2) (κs .1 .1 .0) u32, (uint-tells w32, (mut-slice-tells (named 3) (κs .1 .1 .1 .0) u8, (mut-slice-tells (named 4) (κs .1 .1 .1 .1 .0) u8, (mut-slice-tells (named 5) (κs .1 .1 .1 .1 .1 .0) u8, (mut-slice-tells (named 6) (κs .1 .1 .1 .1 .1 .1 .0) usize, (mut-slice-tells (named 7) (κs .1 .1 .1 .1 .1 .1 .1 .0) u8, tt))))))))))
+    (λ κs qs bounds a _ are. walk 𝓤 H (𝓖 .A) W (𝓜 .mem) (𝓡 .run) κs qs bounds (a .0) (a .1 .0) (a .1 .1 .0) (a .1 .1 .1 .0) (a .1 .1 .1 .1 .0) (a .1 .1 .1 .1 .1 .0)
+    (a .1 .1 .1 .1 .1 .1 .0) (a .1 .1 .1 .1 .1 .1 .1 .0) (a .1 .1 .1 .1 .1 .1 .1 .1 .0) are _ _ (calls-framed 𝓤 H 𝓜 𝓖 𝓡 code.env)
     (cited 𝓤 H (Advance 𝓤 H (𝓖 .A) (𝓜 .mem) (𝓡 .run)) 𝓜 𝓡 code.env #stepping·advance advance-def.routine code.calls-stepping·advance (advance-thm.met 𝓤 H 𝓜 𝓖 𝓡))
     (cited 𝓤 H (RegistersOf 𝓤 H (𝓖 .A) (𝓜 .mem) (𝓡 .run)) 𝓜 𝓡 code.env #stepping·registers-of registers-of-def.routine code.calls-stepping·registers-of
     (registers-of-thm.met 𝓤 H 𝓜 𝓖 𝓡))
