@@ -18,9 +18,8 @@ use ghost.Atoms.{Atoms}
 use contract.Lifetimes.{Lfts, Shares, AllOutlive, toks}
 use contract.Monad.{Fun, fact}
 use contract.Running.{givenOf}
-use types.Kit.{Given, ‵, raw, some, later, _⊛_, ⋆, _$_, _∵_, !, qed, by, move, drop, use1, split, join, pick, fsplit, fsplit3, fjoin, fjoin3, feqI, suffices, frame, await, done}
-use types.Part.{agg, whole, sub, look-in}
-use types.Run.{look, look-raw, store, store-raw, init, stop, hop, fld, from, load, addr, of-opd, and-then, no-more, assigns, land, returns, enter, params1, pass1, pass0}
+use types.Kit.{Given, ‵, raw, some, _⊛_, ⋆, _$_, _∵_, !, qed, by, move, drop, use1, split, join, fsplit, fsplit3, fjoin, fjoin3, feqI, suffices, frame, done}
+use types.Run.{look, look-raw, store, store-raw, init, stop, hop, from, load, of-opd, no-more, assigns, land, returns, enter, params1, pass1, pass0}
 use types.SemTy.{Body}
 use sound.WpLaws.{FmC}
 use denote.RattleType.{owns}
@@ -31,7 +30,7 @@ use denote.Builtin.{u8, u32, usize}
 use denote.Array.{Array}
 use denote.Ref.{RefT, ptr, name, now, ptr-vals, mut-tells, shr-tells}
 use denote.Signature.{plain, typesAt}
-use denote.Slice.{sliceVal, slice-vals, shr-slice-tells, mut-slice-tells, shr-slice-lawful, mut-slice-lawful}
+use denote.Slice.{sliceVal, slice-vals, shr-slice-tells, mut-slice-tells}
 use denote.Steps.{opens, closes, owned, peeks, heard}
 use denote.Enum.Laws as EL
 use denote.Struct.Laws as LL
@@ -51,8 +50,9 @@ use Rattle.applying.specs.Advancing.{registersIn, statusIn, nextOf, Steps}
 use Rattle.stepping.proofs.laws.Statuses.{rejoined}
 use Rattle.stepping.proofs.walks.Callees.{registers-vals, RegistersOf, StatusOf, registers-said, status-said, to-parts, goes-parts}
 use Rattle.walking.proofs.Entering.{calls-framed, walk-enters}
-use Rattle.walking.proofs.Answering.{answers}
-use Rattle.walking.proofs.Locals.{placed, holds, lays-out, frees-laid}
+use Rattle.walking.proofs.Answering.{answers, answers-lasts}
+use Rattle.walking.proofs.Lending.{takes-slice, lends-again}
+use Rattle.walking.proofs.Locals.{Content, placed, holds, lays-out, frees-laid, counting, copies, and-copies}
 use Rattle.walking.proofs.Handing.{all-handed, after-first, all-fit, all-go}
 use Rattle.acting.proofs.registers.Registers as R
 use Rattle.acting.proofs.registers.Registers.Laws as R′
@@ -74,6 +74,13 @@ use Rattle.stepping.proofs.step.Key.{name as #stepping·step}
 use Rattle.stepping.proofs.step as step
 use Rattle.stepping.proofs.step.Statement as stated
 use Rattle.stepping.proofs.step.Code as code
+
+-- what a local holds
+abbrev pointer : {X : Type 0} → RefT X → Content
+pointer x = holds (vptr (ptr x .0) (ptr x .1))
+
+abbrev slice : {X : Type 0} → RefT (List X) → Content
+slice x = holds (sliceVal (ptr x) (length (now x)))
 
 abbrev stayed : Stays (step.ended .signature .params) (step.ended .kept)
 stayed = (stay-ref (0 ∷ []) tt (plain (λ _. R.the-row)), all-handed (after-first (step.signature .params)) (step.ended .kept .1))
@@ -150,14 +157,14 @@ module _ {M : Type 1} (𝓤 : URA M) (H : Heap 𝓤) (A : Atoms 𝓤) (W : Given
     walk =
         qed W (((‵ (flft (κs .0) (qs .0)) ⊛ raw Tokens) ⊛ ‵ Owned) ∷ raw Required ∷ []) ∵ enter ! C Λ code.function _ _ $
         lays-out ! (λ l₀ l₁ l₂ l₃ l₄ l₅ l₆ l₇ l₈ l₉ l₁₀ l₁₁ l₁₂ l₁₃ l₁₄ l₁₅ l₁₆ l₁₇ l₁₈ l₁₉ l₂₀ l₂₁. params1 ! $
-        pass1 ! (init ! 2 refl (tt, tt)) $ pass1 ! (init ! 4 refl (tt, tt)) $ pass1 !
-        (init ! 6 refl (shr-slice-lawful 𝓤 H A W (named 2) (κs .1 .1 .0) u32 .typed words _ (are .1 .1 .0) .0)) $
-        pass1 ! (init ! 8 refl (tt, record { fits = are .1 .1 .1 .0 .1 })) $
-        pass1 ! (init ! 10 refl (mut-slice-lawful 𝓤 H A W (named 3) (κs .1 .1 .1 .0) u8 .typed input _ (are .1 .1 .1 .1 .0) .0)) $
-        pass1 ! (init ! 12 refl (mut-slice-lawful 𝓤 H A W (named 4) (κs .1 .1 .1 .1 .0) u8 .typed output _ (are .1 .1 .1 .1 .1 .0) .0)) $
-        pass1 ! (init ! 14 refl (mut-slice-lawful 𝓤 H A W (named 5) (κs .1 .1 .1 .1 .1 .0) u8 .typed journal _ (are .1 .1 .1 .1 .1 .1 .0) .0)) $
-        pass1 ! (init ! 16 refl (mut-slice-lawful 𝓤 H A W (named 6) (κs .1 .1 .1 .1 .1 .1 .0) usize .typed frames _ (are .1 .1 .1 .1 .1 .1 .1 .0) .0)) $
-        pass1 ! (init ! 18 refl (mut-slice-lawful 𝓤 H A W (named 7) (κs .1 .1 .1 .1 .1 .1 .1 .0) u8 .typed values _ (are .1 .1 .1 .1 .1 .1 .1 .1 .0) .0)) $ pass0 ! $
+        pass1 ! (init ! 2 refl (tt, tt)) $ pass1 ! (init ! 4 refl (tt, tt)) $
+        takes-slice ! 6 refl tt (are .1 .1 .0 .0 .1 .0) $ pass1 ! (init ! 8 refl (tt, record { fits = are .1 .1 .1 .0 .1 })) $
+        takes-slice ! 10 refl tt (are .1 .1 .1 .1 .0 .0 .1 .0) $
+        takes-slice ! 12 refl tt (are .1 .1 .1 .1 .1 .0 .0 .1 .0) $
+        takes-slice ! 14 refl tt (are .1 .1 .1 .1 .1 .1 .0 .0 .1 .0) $
+        takes-slice ! 16 refl tt (are .1 .1 .1 .1 .1 .1 .1 .0 .0 .1 .0) $
+        takes-slice ! 18 refl tt (are .1 .1 .1 .1 .1 .1 .1 .1 .0 .0 .1 .0) $
+        pass0 ! $
         -- the registers' borrow is opened
         move ! (44 ∷ []) $ split ! $ split ! $ move ! (2 ∷ []) $ fsplit ! $ fsplit3 ! $ drop ! $ move ! (0 ∷ 1 ∷ 3 ∷ 2 ∷ 4 ∷ 49 ∷ []) $
         opens ! tt R.the-row {h = g} b o (λ vs. spelt ! R.the-row (Is R.the-row) (shows 𝓤 H A R.the-row) (LL.vals R.the-type R′.the-laws)
@@ -166,68 +173,38 @@ module _ {M : Type 1} (𝓤 : URA M) (H : Heap 𝓤) (A : Atoms 𝓤) (W : Given
         -- [the registers' cell; what they own; the open borrow; obs; auth; what the others own; the others' tokens; what is required; the locals]
         assigns ! (of-opd ! (load ! (from ! (hop ! (look ! 10 refl) (stop !))) (look-raw ! 0 refl))) (from ! (stop !))
         (init ! 30 refl (LL.lawful R.the-type R′.the-laws 𝓤 H A W .typed g _ is .0)) $
-        assigns ! (addr ! (from ! (fld ! refl (hop ! (look-in ! 18 (sub ! 0 refl (whole !))) (stop !))))) (from ! (stop !)) (init ! 32 refl (tt, tt)) $
-        assigns ! (agg ! (and-then ! (load ! (from ! (stop !)) (look ! 32 refl))
-        (and-then ! (load ! (from ! (fld ! refl (stop !))) (look-in ! 18 (sub ! 1 refl (whole !)))) (no-more !)))) (from ! (stop !))
-        (init ! 34 refl (mut-slice-lawful 𝓤 H A W (named 3) (κs .1 .1 .1 .0) u8 .typed input _ (are .1 .1 .1 .1 .0) .0)) $
-        assigns ! (addr ! (from ! (fld ! refl (hop ! (look-in ! 20 (sub ! 0 refl (whole !))) (stop !))))) (from ! (stop !)) (init ! 36 refl (tt, tt)) $
-        assigns ! (agg ! (and-then ! (load ! (from ! (stop !)) (look ! 36 refl))
-        (and-then ! (load ! (from ! (fld ! refl (stop !))) (look-in ! 20 (sub ! 1 refl (whole !)))) (no-more !)))) (from ! (stop !))
-        (init ! 38 refl (mut-slice-lawful 𝓤 H A W (named 4) (κs .1 .1 .1 .1 .0) u8 .typed output _ (are .1 .1 .1 .1 .1 .0) .0)) $
-        assigns ! (addr ! (from ! (fld ! refl (hop ! (look-in ! 22 (sub ! 0 refl (whole !))) (stop !))))) (from ! (stop !)) (init ! 40 refl (tt, tt)) $
-        assigns ! (agg ! (and-then ! (load ! (from ! (stop !)) (look ! 40 refl))
-        (and-then ! (load ! (from ! (fld ! refl (stop !))) (look-in ! 22 (sub ! 1 refl (whole !)))) (no-more !)))) (from ! (stop !))
-        (init ! 42 refl (mut-slice-lawful 𝓤 H A W (named 5) (κs .1 .1 .1 .1 .1 .0) u8 .typed journal _ (are .1 .1 .1 .1 .1 .1 .0) .0)) $
-        assigns ! (addr ! (from ! (fld ! refl (hop ! (look-in ! 24 (sub ! 0 refl (whole !))) (stop !))))) (from ! (stop !)) (init ! 44 refl (tt, tt)) $
-        assigns ! (agg ! (and-then ! (load ! (from ! (stop !)) (look ! 44 refl))
-        (and-then ! (load ! (from ! (fld ! refl (stop !))) (look-in ! 24 (sub ! 1 refl (whole !)))) (no-more !)))) (from ! (stop !))
-        (init ! 46 refl (mut-slice-lawful 𝓤 H A W (named 6) (κs .1 .1 .1 .1 .1 .1 .0) usize .typed frames _ (are .1 .1 .1 .1 .1 .1 .1 .0) .0)) $
-        assigns ! (addr ! (from ! (fld ! refl (hop ! (look-in ! 26 (sub ! 0 refl (whole !))) (stop !))))) (from ! (stop !)) (init ! 48 refl (tt, tt)) $
-        assigns ! (agg ! (and-then ! (load ! (from ! (stop !)) (look ! 48 refl))
-        (and-then ! (load ! (from ! (fld ! refl (stop !))) (look-in ! 26 (sub ! 1 refl (whole !)))) (no-more !)))) (from ! (stop !))
-        (init ! 50 refl (mut-slice-lawful 𝓤 H A W (named 7) (κs .1 .1 .1 .1 .1 .1 .1 .0) u8 .typed values _ (are .1 .1 .1 .1 .1 .1 .1 .1 .0) .0)) $
+        lends-again ! 18 32 34 refl refl refl refl refl refl tt tt (are .1 .1 .1 .1 .0 .0 .1 .0) $
+        lends-again ! 20 36 38 refl refl refl refl refl refl tt tt (are .1 .1 .1 .1 .1 .0 .0 .1 .0) $
+        lends-again ! 22 40 42 refl refl refl refl refl refl tt tt (are .1 .1 .1 .1 .1 .1 .0 .0 .1 .0) $
+        lends-again ! 24 44 46 refl refl refl refl refl refl tt tt (are .1 .1 .1 .1 .1 .1 .1 .0 .0 .1 .0) $
+        lends-again ! 26 48 50 refl refl refl refl refl refl tt tt (are .1 .1 .1 .1 .1 .1 .1 .1 .0 .0 .1 .0) $
         -- `advance` is called with the registers, and with all else as it was passed
         move ! (1 ∷ 5 ∷ []) $ fjoin ! $ move ! (5 ∷ 0 ∷ []) $ join ! $ move ! (0 ∷ 5 ∷ []) $ join ! $ use1 W (raw (Advance 𝓤 H A at-mem run .pre to-advance)) (id⊢ 𝓤 _) $
         calls-at ! fm (Advance 𝓤 H A at-mem run) known-advance to-advance
-        (and-then ! (load ! (from ! (stop !)) (look ! 27 refl))
-        (and-then ! (load ! (from ! (stop !)) (look ! 9 refl))
-        (and-then ! (load ! (from ! (stop !)) (look ! 11 refl))
-        (and-then ! (load ! (from ! (stop !)) (look ! 13 refl))
-        (and-then ! (load ! (from ! (stop !)) (look ! 31 refl))
-        (and-then ! (load ! (from ! (stop !)) (look ! 35 refl))
-        (and-then ! (load ! (from ! (stop !)) (look ! 39 refl))
-        (and-then ! (load ! (from ! (stop !)) (look ! 43 refl)) (and-then ! (load ! (from ! (stop !)) (look ! 47 refl)) (no-more !)))))))))) (λ u.
-        use1 W (later (some (λ (r : Next). (raw Tokens ⊛ ‵ (N.the-row .own r (u ∷ []))) ⊛
-        some (λ (ws : Lasts advance.ended (κs .1) (g, a .1)). ‵ (lasts advance.ended (κs .1) (g, a .1) ws) ⊛ raw (fact 𝓤 (Told r ws)))))) (id⊢ 𝓤 _) $ await ! tt $ pick ! (λ r.
-        split ! $ move ! (1 ∷ []) $ pick ! (λ ws. split ! $ move ! (1 ∷ []) $ heard ! (Told r ws) (λ told. move ! (1 ∷ []) $ split ! $ move ! (1 ∷ []) $
-        -- [what the answer owns; the others' tokens; the last lists; the registers' cell; the open borrow; obs; auth; the locals]
-        peeks ! N.the-row (Is N.the-row) (shows 𝓤 H A N.the-row) r (u ∷ [])
-        (λ is-next. land ! (from ! (stop !)) (init ! 27 refl (EL.lawful N.the-type N′.the-laws 𝓤 H A W tt .typed r _ is-next .0)) $
+        (and-copies ! 27 refl (and-copies ! 9 refl (and-copies ! 11 refl (and-copies ! 13 refl (and-copies ! 31 refl (and-copies ! 35 refl (and-copies ! 39 refl (and-copies ! 43 refl (and-copies ! 47 refl (no-more !)))))))))) (λ u.
+        answers-lasts ! tt N.the-row Tokens (Lasts advance.ended (κs .1) (g, a .1)) (lasts advance.ended (κs .1) (g, a .1)) (λ r ws. fact 𝓤 (Told r ws)) u (λ r ws is-next.
+        -- [what the answer owns; the others' tokens; the last lists; what is said; the registers' cell; the open borrow; obs; auth; the locals]
+        move ! (3 ∷ []) $ heard ! (Told r ws) (λ told. land ! (from ! (stop !)) (init ! 27 refl (EL.lawful N.the-type N′.the-laws 𝓤 H A W tt .typed r _ is-next .0)) $
         -- the new registers are stored, and the borrow is closed at them
         use1 W (raw (RegistersOf 𝓤 H A at-mem run .pre (to-parts 𝓤 H A at-mem run r u))) (goes-parts 𝓤 H A at-mem run W r u) $
-        calls-at ! fm (RegistersOf 𝓤 H A at-mem run) known-registers (to-parts 𝓤 H A at-mem run r u) (and-then ! (load ! (from ! (stop !)) (look ! 27 refl)) (no-more !)) (λ u′.
+        calls-at ! fm (RegistersOf 𝓤 H A at-mem run) known-registers (to-parts 𝓤 H A at-mem run r u) (and-copies ! 27 refl (no-more !)) (λ u′.
         answers ! tt R.the-row _ (λ g′. g′ ≡ registersIn r) (registers-said 𝓤 H A at-mem run r) u′ (λ g′ new is′.
         land ! (from ! (stop !)) (store ! 29 refl (LL.lawful R.the-type R′.the-laws 𝓤 H A W .typed g′ _ is′ .0)) $
-        assigns ! (of-opd ! (load ! (from ! (stop !)) (look ! 29 refl))) (from ! (hop ! (look ! 9 refl) (stop !)))
+        assigns ! (of-opd ! (copies ! 29 refl)) (from ! (hop ! (look ! 9 refl) (stop !)))
         (store-raw ! 3 refl (LL.lawful R.the-type R′.the-laws 𝓤 H A W .typed g′ _ is′ .0)) $
         move ! (3 ∷ 0 ∷ 4 ∷ 5 ∷ 6 ∷ []) $ closes ! tt R.the-row g′ (u′ ∷ []) b o $
         -- [obs; the borrow; its token; the others' tokens; the last lists; the locals]: how the run goes on
         owned ! N.the-row (Is N.the-row) (EL.makes N.the-type N′.the-plain 𝓤 H A) r (u ∷ []) is-next $
         use1 W (raw (StatusOf 𝓤 H A at-mem run .pre (to-parts 𝓤 H A at-mem run r u))) (goes-parts 𝓤 H A at-mem run W r u) $
-        calls-at ! fm (StatusOf 𝓤 H A at-mem run) known-status (to-parts 𝓤 H A at-mem run r u) (and-then ! (load ! (from ! (stop !)) (look ! 26 refl)) (no-more !)) (λ v.
+        calls-at ! fm (StatusOf 𝓤 H A at-mem run) known-status (to-parts 𝓤 H A at-mem run r u) (and-copies ! 26 refl (no-more !)) (λ v.
         answers ! tt S.the-row _ (λ x. x ≡ statusIn r) (status-said 𝓤 H A at-mem run r) v (λ x how is-status.
         land ! (from ! (stop !)) (init ! 6 refl (EL.lawful S.the-type S′.the-laws 𝓤 H A W tt .typed x _ is-status .0)) $ returns ! (look ! 6 refl) $
-        move ! (6 ∷ 7 ∷ 8 ∷ 9 ∷ 10 ∷ 11 ∷ 12 ∷ 13 ∷ 14 ∷ 15 ∷ 16 ∷ 17 ∷ 18 ∷ 19 ∷ 20 ∷ 21 ∷ 22 ∷ 23 ∷ 24 ∷ 25 ∷ 26 ∷ 27 ∷ 28 ∷ 29 ∷ 30 ∷ 31 ∷ 32 ∷ 33 ∷ 34 ∷ 35 ∷
-        36 ∷ 37 ∷ 38 ∷ 39 ∷ 40 ∷ 41 ∷ 42 ∷ 43 ∷ 44 ∷ 45 ∷ 46 ∷ 47 ∷ 48 ∷ 49 ∷ []) $
+        move ! (counting 6 44) $
         frees-laid ! (placed (code.function .locals) (l₀ ∷ l₁ ∷ l₂ ∷ l₃ ∷ l₄ ∷ l₅ ∷ l₆ ∷ l₇ ∷ l₈ ∷ l₉ ∷ l₁₀ ∷ l₁₁ ∷ l₁₂ ∷ l₁₃ ∷ l₁₄ ∷ l₁₅ ∷ l₁₆ ∷ l₁₇ ∷ l₁₈ ∷ l₁₉ ∷
-        l₂₀ ∷ l₂₁ ∷ [])) (holds v ∷ holds (vptr b o) ∷ holds (vptr (ptr bits .0) (ptr bits .1)) ∷ holds (sliceVal (ptr words) (length (now words))) ∷
-        holds (vint w32 allowance) ∷ holds (sliceVal (ptr input) (length (now input))) ∷ holds (sliceVal (ptr output) (length (now output))) ∷
-        holds (sliceVal (ptr journal) (length (now journal))) ∷ holds (sliceVal (ptr frames) (length (now frames))) ∷
-        holds (sliceVal (ptr values) (length (now values))) ∷ holds u ∷ holds u′ ∷ holds (vptr (ptr input .0) (ptr input .1)) ∷
-        holds (sliceVal (ptr input) (length (now input))) ∷ holds (vptr (ptr output .0) (ptr output .1)) ∷ holds (sliceVal (ptr output) (length (now output))) ∷
-        holds (vptr (ptr journal .0) (ptr journal .1)) ∷ holds (sliceVal (ptr journal) (length (now journal))) ∷ holds (vptr (ptr frames .0) (ptr frames .1)) ∷
-        holds (sliceVal (ptr frames) (length (now frames))) ∷ holds (vptr (ptr values .0) (ptr values .1)) ∷ holds (sliceVal (ptr values) (length (now values))) ∷ []) $
-        by ! (exits ws g′ x v (subst (λ (n : Next). Told n ws) (sym (rejoined r x g′ new how)) told))))))))))))))
+        l₂₀ ∷ l₂₁ ∷ [])) (holds v ∷ pointer lent ∷ pointer bits ∷ slice words ∷ holds (vint w32 allowance) ∷ slice input ∷ slice output ∷ slice journal ∷ slice frames ∷
+        slice values ∷ holds u ∷ holds u′ ∷ pointer input ∷ slice input ∷ pointer output ∷ slice output ∷ pointer journal ∷ slice journal ∷ pointer frames ∷ slice frames ∷
+        pointer values ∷ slice values ∷ []) $
+        by ! (exits ws g′ x v (subst (λ (n : Next). Told n ws) (sym (rejoined r x g′ new how)) told))))))))))))
 
 pub step-spec : {M : Type 1} → stated.statement M
 unfolding code.routine
