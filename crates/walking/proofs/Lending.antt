@@ -11,11 +11,11 @@ use mir.Syntax.{Ty, tyInt, tcons, tnil, w64, erased, Body as Code, seq, assign, 
 use mir.Val.{Val, Vals, vptr, vint, vstruct, vcons, vnil, hasTy}
 use mir.Fields.{getV, setV}
 use base.Logic.{ent, sep, ex}
-use base.Fml.{Lft, GName, Share, Fml, fat, froom, fsep, flft, fdead, fobs, fauth, flent, fobor}
+use base.Fml.{Lft, GName, Share, Fml, fat, froom, feq, fsep, flft, fdead, fobs, fauth, flent, fobor}
 use prog.Memory.{fieldAt, fieldOf}
 use prog.Wp.{Heap, Env, Calls, Loops, spotOf}
 use ghost.Atoms.{Atoms, sem}
-use types.Kit.{Goal, runs, passes, Post, Soaks, Given, Item, nth, put, Seq, Step, step, ‵, _⊛_, some, later, _$_, _∵_, !, qed, move, use1, use2, use3, drop, rewrite, split, pick, fsplit, fjoin, frame, await, updating, now as at-once, show, done}
+use types.Kit.{Goal, runs, passes, Post, Soaks, Given, Item, nth, put, Seq, Step, step, ‵, _⊛_, some, later, _$_, _∵_, !, qed, move, use1, use2, use3, drop, rewrite, split, pick, fsplit, fjoin, feqL, frame, await, updating, now as at-once, show, done}
 use types.Part.{Part, agg, whole, sub, look-in}
 use types.Run.{look, init, stop, hop, fld, from, load, addr, and-then, no-more, assigns, pass1}
 use types.SemTy.{cells, Arr}
@@ -130,3 +130,8 @@ module _ {M : Type 1} {𝓤 : URA M} {H : Heap 𝓤} {A : Atoms 𝓤} {K : Type 
       assigns t (addr t (from t (fld t (ap (λ (σ : Ty). fieldOf σ 0) s) (hop t (look-in t n (within t 0 {len = len} {p = p} _ refl (at-n ∙ spelled))) (stop t))))) (from t (stop t)) (init t m at-m (typed, tt)) $
       assigns t (agg t (and-then t (load t (from t (stop t)) (look t m there)) (and-then t (load t (from t (fld t (ap (λ (σ : Ty). fieldOf σ 1) s) (stop t)))
       (look-in t n (within t 1 {len = len} {p = p} _ refl (still ∙ spelled)))) (no-more t)))) (from t (stop t)) (init t r at-r (typed′, (tt, (record { fits = fits }, tt)))) $ z)
+
+-- of a slice's last list and those after it: as many elements as before, and what they are
+pub last-list : {M : Type 1} {𝓤 : URA M} {H : Heap 𝓤} {A : Atoms 𝓤} {K : Type 0} {W : Given 𝓤 H A} {Γ : List (Item 𝓤)} {G : Goal 𝓤 H} → K → {X : Type 0} {x y : X} {P Q : Fml}
+    → (x ≡ y → Seq K W (‵ Q ∷ ‵ P ∷ Γ) G) → Seq K W (‵ (fsep (fsep P (feq X x y)) Q) ∷ Γ) G
+last-list t k = fsplit t $ fsplit t $ move t (1 ∷ []) $ feqL t (λ e. move t (1 ∷ []) $ k e)
