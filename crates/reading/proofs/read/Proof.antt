@@ -16,8 +16,8 @@ use ghost.Atoms.{Atoms, sem}
 use contract.Lifetimes.{Lfts, Shares, AllOutlive, toks}
 use contract.Monad.{Fun, fact}
 use contract.Running.{givenOf}
-use types.Kit.{Given, ‵, raw, some, later, _⊛_, ⋆, _$_, _∵_, !, qed, by, move, use1, use2, split, join, pick, rewrite, fsplit, fjoin, suffices, await, done}
-use types.Run.{look, init, forget, stop, hop, from, load, addr, of-opd, and-then, no-more, assigns, land, returns, enter, alloc1, alloc0, params1, pass1, pass0, free1, free0}
+use types.Kit.{Given, ‵, raw, _⊛_, ⋆, _$_, _∵_, !, qed, by, move, use1, use2, split, join, rewrite, fsplit, fjoin, suffices, done}
+use types.Run.{look, init, stop, hop, from, addr, of-opd, no-more, assigns, land, returns, enter, params1, pass1, pass0}
 use sound.WpLaws.{FmC}
 use denote.RattleType.{owns}
 use denote.Laws.{Is, Ises, Are, shows}
@@ -26,7 +26,7 @@ use denote.Array.{Array}
 use denote.Ref.{RefT, NamedLft, ptr, now, ptr-vals, mut-tells}
 use denote.Signature.{typesAt}
 use denote.Slice.{sliceVal, ShrSlice, slice-vals, shr-slice-tells, shr-slice-lawful}
-use denote.Steps.{heard, peeks, nothing}
+use denote.Steps.{peeks, nothing}
 use denote.Struct.Laws as LL
 use denote.Triple.Call.{calls-at}
 use denote.Triple.Clauses.{Lasts, atExit, ensured, lasts}
@@ -36,7 +36,10 @@ use denote.Triple.Statement.{Contract, Triple}
 use denote.Triple.Table.{cited}
 use denote.Triple.Walked.{Stays, walkOf, ends-at}
 use Rattle.walking.proofs.Entering.{calls-framed, walk-enters}
-use Rattle.walking.proofs.Answering.{clause}
+use Rattle.walking.proofs.Answering.{clause, answers-back, answers-lasts}
+use Rattle.walking.proofs.Apart.{tokens-apart}
+use Rattle.walking.proofs.Lending.{takes-slice}
+use Rattle.walking.proofs.Locals.{holds, placed, lays-out, frees-laid, counting, copies, and-copies}
 use Rattle.walking.proofs.Handing.{all-handed, all-fit, all-go}
 use Rattle.lexing.specs.declared.reader.Reader.{Reader}
 use Rattle.lexing.specs.Readers.{readerAt}
@@ -104,6 +107,9 @@ module _ {M : Type 1} (𝓤 : URA M) (H : Heap 𝓤) (A : Atoms 𝓤) (W : Given
   abbrev Tokens : SProp 𝓤
   Tokens = toks 𝓤 A 2 κs qs
 
+  abbrev text-token : SProp 𝓤
+  text-token = toks 𝓤 A 1 (κs .0, tt) (qs .0, tt)
+
   -- what is said of the result and the last values
   abbrev Said : Reading → Lasts read-text.ended κs a → SProp 𝓤
   Said x ws = read-text.clauses 𝓤 H A at-mem run κs a .ensures tt x (atExit read-text.ended κs a ws)
@@ -137,43 +143,33 @@ module _ {M : Type 1} (𝓤 : URA M) (H : Heap 𝓤) (A : Atoms 𝓤) (W : Given
     walk =
         qed W ((‵ (flft (κs .0) (qs .0)) ⊛ (‵ (flft (κs .1 .0) (qs .1 .0)) ⊛ ‵ ftrue)) ∷ ‵ (owns (typesAt (read.signature .params) κs) a vss) ∷ []) ∵ enter
         ! C Λ code.function _ _ $
-        alloc1 ! (λ l₀. alloc1 ! (λ l₁. alloc1 ! (λ l₂. alloc1 ! (λ l₃. alloc1 ! (λ l₄. alloc1 ! (λ l₅. alloc1 ! (λ l₆. alloc0 ! $ params1 ! $
-        pass1 ! (init ! 10 refl (shr-slice-lawful 𝓤 H A W erased (κs .0) u8 .typed (a .0) _ (are .0) .0)) $ pass1 ! (init ! 8 refl (tt, tt)) $ pass0 ! $
+        lays-out ! (λ l₀ l₁ l₂ l₃ l₄ l₅ l₆. params1 ! $ takes-slice ! 2 refl tt (are .0 .0 .1 .0) $ pass1 ! (init ! 4 refl (tt, tt)) $ pass0 ! $
         move ! (15 ∷ []) $ fsplit ! $ move ! (16 ∷ []) $ split ! $ move ! (0 ∷ 2 ∷ []) $ use2 W (raw (New 𝓤 H A at-mem run .pre to-new)) goes-new $
-        -- [what `new` is passed; the tape's token; what the tape's borrow owns; _6; …; room for _0; …]
-        calls-at ! fm (New 𝓤 H A at-mem run) known-new to-new (and-then ! (load ! (from ! (stop !)) (look ! 13 refl)) (no-more !)) (λ u.
-        use1 W (later (some (λ (r : Reader). ((‵ (flft (κs .0) (qs .0)) ⊛ ‵ ftrue) ⊛ ‵ (T.the-row α .own r (u ∷ []))) ⊛
-        raw (ensured 𝓤 H A new.ended (new.clauses 𝓤 H A at-mem run) (κs .0, tt) (a .0, tt) tt r)))) (id⊢ 𝓤 _) $ await ! tt $ pick ! (λ r.
-        split ! $ move ! (1 ∷ []) $ use1 W (raw (fact 𝓤 (r ≡ readerAt (a .0) 0))) (new-said r) $ heard ! (r ≡ readerAt (a .0) 0) (λ made. split ! $ move ! (1 ∷ []) $
-        peeks ! (T.the-row α) (Is (T.the-row α)) (shows 𝓤 H A (T.the-row α)) r (u ∷ []) (λ is.
-        -- [what the reader owns; the text's token; the tape's token; what the tape's borrow owns; _6; …]
+        -- [what `new` is passed; the tape's token; what the tape's borrow owns; the locals]
+        calls-at ! fm (New 𝓤 H A at-mem run) known-new to-new (and-copies ! 5 refl (no-more !)) (λ u.
+        answers-back ! tt (T.the-row α) text-token _ (λ r. r ≡ readerAt (a .0) 0) new-said u (λ r made is.
+        -- [what the reader owns; the text's token; the tape's token; what the tape's borrow owns; the locals]
         land ! (from ! (stop !)) (init ! 10 refl (LL.lawful (T.the-type α) (T′.the-laws α) 𝓤 H A W .typed r _ is .0)) $
-        assigns ! (of-opd ! (load ! (from ! (stop !)) (look ! 10 refl))) (from ! (stop !)) (init ! 6 refl (LL.lawful (T.the-type α) (T′.the-laws α) 𝓤 H A W .typed r _ is .0)) $
+        assigns ! (of-opd ! (copies ! 10 refl)) (from ! (stop !)) (init ! 14 refl (LL.lawful (T.the-type α) (T′.the-laws α) 𝓤 H A W .typed r _ is .0)) $
         move ! (1 ∷ 0 ∷ []) $ use2 W (raw (Text 𝓤 H A at-mem run .pre (to-text r u))) (goes-text r u) $
-        calls-at ! fm (Text 𝓤 H A at-mem run) known-text (to-text r u) (and-then ! (load ! (from ! (stop !)) (look ! 5 refl)) (no-more !)) (λ w.
-        use1 W (later (some (λ (s : RefT (List ℕ)). ((‵ (flft (κs .0) (qs .0)) ⊛ ‵ ftrue) ⊛ ‵ (Slice s w)) ⊛
-        raw (ensured 𝓤 H A text.ended (text.clauses 𝓤 H A at-mem run) (κs .0, tt) (r, tt) tt s)))) (id⊢ 𝓤 _) $ await ! tt $ pick ! (λ s.
-        split ! $ move ! (1 ∷ []) $ use1 W (raw (fact 𝓤 (s ≡ r .text))) (text-said r s) $ heard ! (s ≡ r .text) (λ held. split ! $ move ! (1 ∷ []) $
+        calls-at ! fm (Text 𝓤 H A at-mem run) known-text (to-text r u) (and-copies ! 13 refl (no-more !)) (λ w.
+        answers-back ! tt (ShrSlice erased (κs .0) u8) text-token _ (λ s. s ≡ r .text) (text-said r) w (λ s held _.
         -- the reader's text is the text that was passed
         rewrite ! 0 (λ (x : RefT (List ℕ)). ‵ (Slice x w)) (held ∙ ap (λ (d : Reader). d .text) made) refl $
         peeks ! (ShrSlice erased (κs .0) u8) (Is (ShrSlice erased (κs .0) u8)) (shows 𝓤 H A (ShrSlice erased (κs .0) u8)) (a .0) (w ∷ []) (λ is-text.
-        land ! (from ! (stop !)) (init ! 8 refl (shr-slice-lawful 𝓤 H A W erased (κs .0) u8 .typed (a .0) _ is-text .0)) $
-        assigns ! (addr ! (from ! (hop ! (look ! 12 refl) (stop !)))) (from ! (stop !)) (init ! 4 refl (tt, tt)) $
-        -- [what the text's borrow owns; its token, and true; the tape's token; what the tape's borrow owns; _6; …]
-        move ! (0 ∷ 3 ∷ []) $ fjoin ! $ move ! (1 ∷ []) $ split ! $ move ! (0 ∷ 3 ∷ []) $ join ! $ move ! (0 ∷ 2 ∷ []) $ join ! $ join ! $
-        use1 W (raw (ReadText 𝓤 H A at-mem run .pre (to-read-text w))) (id⊢ 𝓤 _) $
-        calls-at ! fm (ReadText 𝓤 H A at-mem run) known-read-text (to-read-text w)
-        (and-then ! (load ! (from ! (stop !)) (look ! 5 refl)) (and-then ! (load ! (from ! (stop !)) (look ! 1 refl)) (no-more !))) (λ v.
-        use1 W (later (some (λ (x : Reading). (raw Tokens ⊛ ‵ (O.the-row .own x (v ∷ []))) ⊛
-        some (λ (ws : Lasts read-text.ended κs a). ‵ (lasts read-text.ended κs a ws) ⊛ raw (Said x ws))))) (id⊢ 𝓤 _) $ await ! tt $ pick ! (λ x.
-        split ! $ move ! (1 ∷ []) $ pick ! (λ ws. split ! $ move ! (2 ∷ []) $ split ! $ move ! (1 ∷ []) $
-        -- [the result; the tokens; the last values; what is said of them; _6; …]
-        peeks ! O.the-row (Is O.the-row) (shows 𝓤 H A O.the-row) x (v ∷ []) (λ is-reading.
-        land ! (from ! (stop !)) (init ! 16 refl (LL.lawful O.the-type O′.the-laws 𝓤 H A W .typed x _ is-reading .0)) $
-        returns ! (look ! 16 refl) $ forget ! 4 refl $ forget ! 6 refl $ forget ! 8 refl $ forget ! 10 refl $ forget ! 12 refl $ forget ! 14 refl $ forget ! 16 refl $
-        move ! (16 ∷ 17 ∷ []) $ free1 ! $ move ! (14 ∷ 15 ∷ []) $ free1 ! $ move ! (12 ∷ 13 ∷ []) $ free1 ! $ move ! (10 ∷ 11 ∷ []) $ free1 ! $ move ! (8 ∷ 9 ∷ []) $
-        free1 ! $ move ! (6 ∷ 7 ∷ []) $ free1 ! $ move ! (4 ∷ 5 ∷ []) $ free1 ! $ free0 ! $
-        by ! (exits x ws v))))))))))))))))))))
+        land ! (from ! (stop !)) (init ! 12 refl (shr-slice-lawful 𝓤 H A W erased (κs .0) u8 .typed (a .0) _ is-text .0)) $
+        assigns ! (addr ! (from ! (hop ! (look ! 8 refl) (stop !)))) (from ! (stop !)) (init ! 16 refl (tt, tt)) $
+        -- [what the text's borrow owns; its token; the tape's token; what the tape's borrow owns; the locals]
+        move ! (0 ∷ 3 ∷ []) $ fjoin ! $ move ! (1 ∷ []) $ tokens-apart ! 1 (κs .0, tt) (qs .0, tt) $ move ! (0 ∷ 2 ∷ []) $ join ! $ join ! $ nothing ! $
+        move ! (1 ∷ 0 ∷ []) $ join ! $ use1 W (raw (ReadText 𝓤 H A at-mem run .pre (to-read-text w))) (id⊢ 𝓤 _) $
+        calls-at ! fm (ReadText 𝓤 H A at-mem run) known-read-text (to-read-text w) (and-copies ! 9 refl (and-copies ! 13 refl (no-more !))) (λ v.
+        answers-lasts ! tt O.the-row Tokens (Lasts read-text.ended κs a) (lasts read-text.ended κs a) Said v (λ x ws is-reading.
+        -- [the result; the tokens; the last values; what is said of them; the locals]
+        land ! (from ! (stop !)) (init ! 4 refl (LL.lawful O.the-type O′.the-laws 𝓤 H A W .typed x _ is-reading .0)) $
+        returns ! (look ! 4 refl) $ move ! (counting 4 14) $
+        frees-laid ! (placed (code.function .locals) (l₀ ∷ l₁ ∷ l₂ ∷ l₃ ∷ l₄ ∷ l₅ ∷ l₆ ∷ [])) (holds v ∷ holds (sliceVal (ptr (a .0)) (length (now (a .0)))) ∷
+        holds (vptr (ptr (a .1 .0) .0) (ptr (a .1 .0) .1)) ∷ holds u ∷ holds w ∷ holds u ∷ holds (vptr (ptr (a .1 .0) .0) (ptr (a .1 .0) .1)) ∷ []) $
+        by ! (exits x ws v)))))))))
 
 pub read-spec : {M : Type 1} → stated.statement M
 unfolding code.routine

@@ -18,7 +18,7 @@ use contract.Monad.{Fun}
 use contract.Running.{givenOf}
 use types.Kit.{Given, ‵, raw, _⊛_, _$_, _∵_, !, qed, by, move, use1, fsplit, fjoin, suffices, frame, done}
 use types.Part.{agg}
-use types.Run.{look, init, forget, stop, from, load, lit, and-then, no-more, assigns, returns, enter, alloc1, alloc0, params1, pass1, pass0, free1, free0}
+use types.Run.{look, init, stop, from, lit, and-then, no-more, assigns, returns, enter, params1, pass0}
 use denote.RattleType.{owns}
 use denote.Laws.{Is}
 use denote.Plain.{uint-makes}
@@ -35,6 +35,8 @@ use Rattle.lexing.specs.declared.reader.Reader.{Reader}
 use Rattle.lexing.specs.Readers.{readerAt}
 use Rattle.lexing.proofs.reader.Reader as T
 use Rattle.lexing.proofs.reader.Reader.Laws as T′
+use Rattle.walking.proofs.Lending.{takes-slice}
+use Rattle.walking.proofs.Locals.{holds, placed, lays-out, frees-laid, and-copies}
 use Rattle.walking.proofs.Entering.{walk-enters}
 use Rattle.lexing.proofs.reader.new.Key.{name as #lexing·reader·new}
 use Rattle.lexing.proofs.reader.new as new
@@ -78,10 +80,10 @@ module _ {M : Type 1} (𝓤 : URA M) (H : Heap 𝓤) (A : Atoms 𝓤) (W : Given
     walk : Is (ShrSlice (named 0) κ u8) s (v ∷ []) → ent 𝓤 (onEntry 𝓤 H A new.signature (κ, tt) (q, tt) (s, tt) at) (WpFn 𝓤 H C Λ code.function (v ∷ []) Post)
     walk p =
         qed W (raw (onEntry 𝓤 H A new.signature (κ, tt) (q, tt) (s, tt) at) ∷ []) ∵ enter ! C Λ code.function (v ∷ []) _ $
-        alloc1 ! (λ l₀. alloc1 ! (λ l₁. alloc0 ! $ params1 ! $ pass1 ! (init ! 0 refl (shr-slice-lawful 𝓤 H A W (named 0) κ u8 .typed s (v ∷ []) p .0)) $ pass0 ! $
-        assigns ! (agg ! (and-then ! (load ! (from ! (stop !)) (look ! 0 refl)) (and-then ! (lit ! tt) (no-more !)))) (from ! (stop !))
-        (init ! 2 refl (tt, (shr-slice-lawful 𝓤 H A W (named 0) κ u8 .typed s (v ∷ []) p .0 .1, (record { fits = lit< tt }, tt)))) $
-        returns ! (look ! 2 refl) $ forget ! 0 refl $ forget ! 2 refl $ move ! (2 ∷ 3 ∷ []) $ free1 ! $ free1 ! $ free0 ! $ by ! exits))
+        lays-out ! (λ l₀ l₁. params1 ! $ takes-slice ! 2 refl tt (p .0 .1 .0) $ pass0 ! $
+        assigns ! (agg ! (and-copies ! 2 refl (and-then ! (lit ! tt) (no-more !)))) (from ! (stop !))
+        (init ! 0 refl (tt, (shr-slice-lawful 𝓤 H A W (named 0) κ u8 .typed s (v ∷ []) p .0 .1, (record { fits = lit< tt }, tt)))) $
+        returns ! (look ! 0 refl) $ frees-laid ! (placed (code.function .locals) (l₀ ∷ l₁ ∷ [])) (holds (T′.lowered made) ∷ holds v ∷ []) $ by ! exits)
 
 pub new-spec : {M : Type 1} → stated.statement M
 unfolding code.routine

@@ -18,7 +18,7 @@ use contract.Monad.{Fun}
 use contract.Running.{givenOf}
 use types.Kit.{Given, ‵, raw, given, _⊛_, _$_, _∵_, !, qed, by, move, drop, use1, split, learn, fsplit, fjoin, suffices, frame, done}
 use types.Part.{whole, sub, look-in}
-use types.Run.{look, init, forget, stop, fld, from, load, of-opd, assigns, returns, enter, alloc1, alloc0, params1, pass1, pass0, free1, free0}
+use types.Run.{look, init, stop, fld, from, load, of-opd, assigns, returns, enter, params1, pass1, pass0}
 use denote.RattleType.{RattleType, owns}
 use denote.Exit.{yes}
 use denote.Signature.{plain, namedLft}
@@ -33,6 +33,7 @@ use denote.Triple.Walked.{says, Stays, stay-dropped, walkOf, goes-dropped, ends-
 use Rattle.lexing.specs.declared.reader.Reader.{Reader}
 use Rattle.lexing.proofs.reader.Reader as T
 use Rattle.lexing.proofs.reader.Reader.Laws as T′
+use Rattle.walking.proofs.Locals.{holds, placed, lays-out, frees-laid}
 use Rattle.walking.proofs.Entering.{walk-enters}
 use Rattle.lexing.proofs.reader.text.Key.{name as #lexing·reader·text}
 use Rattle.lexing.proofs.reader.text as text
@@ -82,9 +83,9 @@ module _ {M : Type 1} (𝓤 : URA M) (H : Heap 𝓤) (A : Atoms 𝓤) (W : Given
         (WpFn 𝓤 H C Λ code.function (mach ∷ []) Post)
     walk wt =
         qed W (raw (onEntry 𝓤 H A text.signature (κ, tt) (q, tt) (d, tt) (mach ∷ [], tt)) ∷ []) ∵ enter ! C Λ code.function (mach ∷ []) _ $
-        alloc1 ! (λ l₀. alloc1 ! (λ l₁. alloc0 ! $ params1 ! $ pass1 ! (init ! 0 refl wt) $ pass0 ! $
-        assigns ! (of-opd ! (load ! (from ! (fld ! refl (stop !))) (look-in ! 0 (sub ! 0 refl (whole !))))) (from ! (stop !)) (init ! 2 refl (tt, wt .1 .0)) $
-        returns ! (look ! 2 refl) $ forget ! 0 refl $ forget ! 2 refl $ move ! (2 ∷ 3 ∷ []) $ free1 ! $ free1 ! $ free0 ! $ by ! exits))
+        lays-out ! (λ l₀ l₁. params1 ! $ pass1 ! (init ! 2 refl wt) $ pass0 ! $
+        assigns ! (of-opd ! (load ! (from ! (fld ! refl (stop !))) (look-in ! 2 (sub ! 0 refl (whole !))))) (from ! (stop !)) (init ! 0 refl (tt, wt .1 .0)) $
+        returns ! (look ! 0 refl) $ frees-laid ! (placed (code.function .locals) (l₀ ∷ l₁ ∷ [])) (holds v ∷ holds mach ∷ []) $ by ! exits)
 
 pub text-spec : {M : Type 1} → stated.statement M
 unfolding code.routine
