@@ -83,10 +83,18 @@ module _ {M : Type 1} {𝓤 : URA M} {H : Heap 𝓤} {A : Atoms 𝓤} {K : Type 
         (goes R κ q x 𝓤 H A W ν ys) $ await t z $ pick t (λ δ. split t $ k ν δ))
 
     -- the lifetime ends, and the slice is back at its last list
-    pub slice-comes-back : (ys zs : List (R .Denot)) → Room R (length ys) → length zs ≡ length ys → {ν : ℕ} {δ : GName}
+    slice-comes-back : (ys zs : List (R .Denot)) → Room R (length ys) → length zs ≡ length ys → {ν : ℕ} {δ : GName}
         → Step K W (‵ (Mine R κ q x zs) ∷ ‵ (flft κ q) ∷ Γ) G (‵ (flft (ν ∷ []) fullShare) ∷ ‵ (Away R κ q x ν δ ys) ∷ ‵ (finally R δ zs) ∷ Γ) G
     slice-comes-back ys zs room e {ν} {δ} = step (λ s. lft-end t z $ use3 W (later (‵ (Mine R κ q x zs) ⊛ ‵ (flft κ q))) (comes R κ q x 𝓤 H A W ν ys δ zs room e)
         $ await t z $ split t $ s)
+
+    -- and the local at entry n, which holds it, holds it at that list
+    pub slice-comes-back-at : (n : ℕ) {τ : Ty} {b : ℕ} (ys zs : List (R .Denot)) → Room R (length ys) → length zs ≡ length ys → {ν : ℕ} {δ : GName}
+        → nth 𝓤 H A n (‵ (Mine R κ q x zs) ∷ ‵ (flft κ q) ∷ Γ) ≡ ‵ (fat fullShare τ b 0 (sliceVal (ptr x) (length ys)))
+        → Step K W (put 𝓤 H A n (‵ (fat fullShare τ b 0 (sliceVal (ptr x) (length zs)))) (‵ (Mine R κ q x zs) ∷ ‵ (flft κ q) ∷ Γ)) G
+        (‵ (flft (ν ∷ []) fullShare) ∷ ‵ (Away R κ q x ν δ ys) ∷ ‵ (finally R δ zs) ∷ Γ) G
+    slice-comes-back-at n {τ} {b} ys zs room e at =
+        step (λ s. slice-comes-back ys zs room e $ rewrite t n (λ (m : ℕ). ‵ (fat fullShare τ b 0 (sliceVal (ptr x) m))) (sym e) at $ s)
 
 -- the cell of local i with a value in it, and the room for one
 abbrev held : {M : Type 1} (𝓤 : URA M) (H : Heap 𝓤) → Env 𝓤 H → ℕ → Val → Item 𝓤
