@@ -1,20 +1,26 @@
 -- How far a reader has come, and what it comes to.
-use Prim.Native.Nat.{ℕ, zero, suc, _+_, _≤_, _<_}
+use Prim.Native.Nat.{ℕ, zero, suc, _+_, _-_, _*_, _≤_, _<_}
 use mathlib.Core.Path.{_≡_, refl, sym, _∙_, ap}
 use mathlib.Core.Bool.{Bool, true, false, true≢false}
 use mathlib.Core.List.{List, [], _∷_, _++_, append-assoc}
 use native.Mathlib.Omega.{arith}
-use lib.Dec.{eqb}
+use lib.Dec.{T, eqb, lt→ltb}
 use lib.ListN.{length, set, length-append}
-use Rattle.meaning.specs.Choice.{Bytes}
+use Rattle.meaning.specs.Choice.{Bytes, every}
+use Rattle.meaning.specs.Tape.{named}
 use Rattle.meaning.specs.Tokens.{Placed}
 use Rattle.meaning.specs.Reading.{Parsed, stopped, parsed, follow, whether, isSign, pass, check}
+use Rattle.meaning.proofs.laws.Passing.{both-pass}
+use Rattle.lexing.specs.View as View
+use Rattle.lexing.specs.declared.Span.{Span}
 use Rattle.bookkeeping.specs.declared.progress.Fault.{Fault}
 use Rattle.bookkeeping.specs.declared.progress.Progress.{Progress}
 use Rattle.bookkeeping.specs.declared.progress.Parsed.{Parsed as CodeParsed}
 use Rattle.bookkeeping.specs.declared.progress.Parsed.the-variants.{Stopped, Done}
 use Rattle.bookkeeping.specs.Answered.{numberOf, Comes, Agrees}
-use Rattle.bookkeeping.specs.Written.{Ready, Went}
+use Rattle.bookkeeping.specs.Tables.{Inside}
+use Rattle.bookkeeping.specs.Written.{Wrote, isQuiet, Ready, Went}
+use Rattle.bookkeeping.proofs.Lengths.{part-length}
 use Rattle.bookkeeping.proofs.Words.{written-none, written-one, written-append}
 
 -- STOPPING
@@ -50,6 +56,13 @@ module _ {A : Type 0} {Reads : A → List Placed → Progress → Type 0} where
   pub has-read : (p : Parsed A) (s : Progress) → Agrees Reads p (Done s) → ReadAt Reads p s
   has-read (stopped number place) s a = absurd (a .comes)
   has-read (parsed value rest) s a = record { value = value; rest = rest; same = refl; how = a .comes }
+
+-- what stops a reader stops what begins with it
+pub stops-too : {A B : Type 0} {Reads : A → List Placed → Progress → Type 0} {Makes : B → List Placed → Progress → Type 0} {p : Parsed A} {q : Parsed B} {r : CodeParsed}
+    {fault : Fault} → Agrees Reads p r → r ≡ Stopped fault
+    → (p ≡ stopped (numberOf (fault .answer)) (fault .place) → q ≡ stopped (numberOf (fault .answer)) (fault .place))
+    → Agrees Makes q (Stopped fault)
+stops-too {fault = fault} a e begins = stops fault _ _ (begins (has-stopped _ fault (rw e at a))) refl refl
 
 -- FOLLOWING
 
@@ -105,6 +118,11 @@ pub went-none : (text : Bytes) (at words : ℕ) (tape : List ℕ) → Ready text
 went-none text at words tape r =
     record { onward = omega arith; inside = r .inside; charged = r .charged; counted = omega arith; wrote = sym (written-none tape words) }
 
+-- after what was read
+pub ready-after : {text : Bytes} {at words : ℕ} {tape : List ℕ} {at′ words′ : ℕ} {tape′ added : List ℕ} → length text ≤ 32768
+    → Went text at words tape at′ words′ tape′ added → Ready text at′ words′
+ready-after h w = record { inside = w .inside; charged = w .charged; short = h }
+
 -- from an earlier place on
 pub went-from : {text : Bytes} {at from words : ℕ} {tape : List ℕ} {at′ words′ : ℕ} {tape′ added : List ℕ}
     → at ≤ from → Went text from words tape at′ words′ tape′ added → Went text at words tape at′ words′ tape′ added
@@ -137,3 +155,21 @@ pub word-went : {text : Bytes} {at words further : ℕ} {tape tape′ : List ℕ
     → Went text at words tape further (words + 1) tape′ (word ∷ [])
 word-went {words = words} {tape = tape} {word = word} r h k e =
     record { onward = omega arith; inside = k; charged = omega (arith, r .charged); counted = refl; wrote = e ∙ written-one tape words word }
+
+-- a word of a kind and a name, charged to what stands before a further place
+module _ {text : Bytes} {n : Span} (kind : ℕ) (i : Inside text n) where
+  pub name-went : {at words further : ℕ} {word : ℕ} {tape tape′ : List ℕ} {words′ : ℕ} → at ≤ further → further ≤ length text
+      → words + (n .past - n .from) < further
+      → word ≡ kind * 256 + (n .past - n .from)
+      → Wrote tape words (word ∷ View.part text n) words′ tape′
+      → Went text at words tape further words′ tape′ (named kind (View.part text n))
+  name-went o h c e w =
+      let l = part-length text n i in
+      record { onward = o; inside = h; charged = omega (arith, w .reached, l); counted = w .reached; wrote = rw (l, ← e) (w .same) }
+
+  pub name-quiet : kind * 256 + (n .past - n .from) < 2304 → T (every isQuiet (View.part text n)) → T (every isQuiet (named kind (View.part text n)))
+  unfolding every
+  name-quiet s q =
+      both-pass (isQuiet (kind * 256 + length (View.part text n))) (every isQuiet (View.part text n))
+      (rw (part-length text n i) (lt→ltb (kind * 256 + (n .past - n .from)) 2304 s))
+      q

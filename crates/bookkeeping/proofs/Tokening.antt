@@ -29,6 +29,16 @@ use Rattle.bookkeeping.specs.Written.{Ready, Went}
 use Rattle.bookkeeping.specs.Tokened.{tokenFault, signIs, Taken, Barred}
 use Rattle.bookkeeping.proofs.Going.{stops, went-on}
 
+-- a token's fault, and a token that is no name
+abbrev pub FaultOf : Placed → Fault → Type 0
+FaultOf t fault = (numberOf (fault .answer) ≡ tokenFault (t .token)) × (fault .place ≡ t .place)
+
+abbrev allButName : List ℕ
+allButName = 1 ∷ 2 ∷ 3 ∷ 4 ∷ 5 ∷ 6 ∷ 7 ∷ []
+
+abbrev pub NoName : Token → Type 0
+NoName t = OneOf allButName (tagOf token.the-type t)
+
 module _ (text : Bytes) (place past : ℕ) where
   pub fault-same : (t : Token) → tokenFault t ≡ Reading.faultOf (tokenOf text t place past)
   fault-same =
@@ -67,7 +77,7 @@ module _ (text : Bytes) (mode : Tokens.Mode) (at : ℕ) where
       record { place = t .place; unrolled = h .0; onward = h .1; inside = c .inside }
 
   pub bars : (byte : ℕ) (t : Placed) (fault : Fault) → Comes text mode at t → signIs byte (t .token) ≡ false
-      → (numberOf (fault .answer) ≡ tokenFault (t .token)) × (fault .place ≡ t .place) → Barred text mode byte at fault
+      → FaultOf t fault → Barred text mode byte at fault
   bars byte t fault c e f =
       record {
         token = placedOf text t;
@@ -77,6 +87,11 @@ module _ (text : Bytes) (mode : Tokens.Mode) (at : ℕ) where
         number = f .0 ∙ fault-same text (t .place) (t .past) (t .token);
         place = f .1;
       }
+
+-- a token that was asked whether it is a byte, and is
+pub is-taken : {text : Bytes} {mode : Tokens.Mode} {byte at : ℕ} {t : Placed} {is : Bool} → Comes text mode at t → is ≡ signIs byte (t .token) → is ≡ true
+    → Taken text mode byte at (t .past)
+is-taken {text} {mode} {byte} {at} {t} c s e = takes text mode at byte t c (sym s ∙ e)
 
 -- PASSING
 
@@ -88,6 +103,11 @@ module _ {A : Type 0} {text : Bytes} {mode : Tokens.Mode} {byte at : ℕ} (next 
   pub passes-not : {fault : Fault} → Barred text mode byte at fault
       → Reading.pass byte (stream text mode at) next ≡ Reading.stopped (numberOf (fault .answer)) (fault .place)
   passes-not b = rw (b .unrolled, b .other, b .number, b .place)
+
+  -- a byte that isn't there stops a reader that begins with it
+  pub barred-stops : {Reads : A → List Tokens.Placed → Progress → Type 0} {fault : Fault} → Barred text mode byte at fault
+      → Agrees Reads (Reading.pass byte (stream text mode at) next) (Stopped fault)
+  barred-stops b = stops _ _ _ (passes-not b) refl refl
 
 -- NAMES
 
@@ -114,16 +134,13 @@ module _ {text : Bytes} {mode : Tokens.Mode} {at : ℕ} {t : Placed} (c : Comes 
       }
 
   -- any other token
-  abbrev allButName : List ℕ
-  allButName = 1 ∷ 2 ∷ 3 ∷ 4 ∷ 5 ∷ 6 ∷ 7 ∷ []
-
-  no-name : (k : Token) (place past : ℕ) → OneOf allButName (tagOf token.the-type k) → Reading.nameOf (tokenOf text k place past) ≡ none
+  no-name : (k : Token) (place past : ℕ) → NoName k → Reading.nameOf (tokenOf text k place past) ≡ none
   no-name k place past =
-      by-kind (λ t′. OneOf allButName (tagOf token.the-type t′) → Reading.nameOf (tokenOf text t′ place past) ≡ none) (λ n o. absurd (miss allButName 0 tt o))
+      by-kind (λ t′. NoName t′ → Reading.nameOf (tokenOf text t′ place past) ≡ none) (λ n o. absurd (miss allButName 0 tt o))
       (λ x o. refl) (λ x o. refl) (λ o. refl) (λ n o. refl) (λ b o. refl) (λ o. refl) (λ o. refl) k
 
   pub names-not : {A : Type 0} (fault : Bytes → ℕ) (next : ℕ → Bytes → List Tokens.Placed → Reading.Parsed A)
-      → OneOf allButName (tagOf token.the-type (t .token))
+      → NoName (t .token)
       → Reading.passName fault (stream text mode at) next ≡ Reading.refuse (placedOf text t)
   names-not fault next o = rw (c .unrolled, no-name (t .token) (t .place) (t .past) o)
 
@@ -131,7 +148,7 @@ module _ {text : Bytes} {mode : Tokens.Mode} {at : ℕ} {t : Placed} (c : Comes 
 pub refused : {text : Bytes} {mode : Tokens.Mode} {at : ℕ} {t : Placed} {fault : Fault} {A : Type 0} {Reads : A → List Tokens.Placed → Progress → Type 0} {p : Reading.Parsed A}
     → Comes text mode at t
     → p ≡ Reading.refuse (placedOf text t)
-    → (numberOf (fault .answer) ≡ tokenFault (t .token)) × (fault .place ≡ t .place)
+    → FaultOf t fault
     → Agrees Reads p (Stopped fault)
 refused {text} {t = t} {fault = fault} c e f = stops fault _ _ e (f .0 ∙ fault-same text (t .place) (t .past) (t .token)) (f .1)
 

@@ -22,9 +22,8 @@ use Rattle.bookkeeping.specs.Written.{Ready, Went}
 use Rattle.bookkeeping.specs.Tokened.{Taken, Barred}
 use Rattle.parsing.specs.Patterns.{symbolNames}
 use Rattle.declarations.specs.Expressions.{progressAt, Going, ExpressionRead, CalledName, opening, OpeningRead, CallRead, CloseGives, Closes}
-use Rattle.bookkeeping.proofs.Going.{stops, reads, ReadAt, has-read, went-then, word-went}
+use Rattle.bookkeeping.proofs.Going.{stops, reads, ReadAt, has-read, went-then, word-went, ready-after, stops-too}
 use Rattle.bookkeeping.proofs.Tokening.{passes-on, passes-not}
-use Rattle.declarations.proofs.Onward.{ready-after, going-on, stops-too}
 use Rattle.declarations.proofs.Opened.{openingAt, OpeningAgrees}
 
 -- THE DEFINITION
@@ -60,6 +59,11 @@ call-is argument depth so t ts =
 
 -- THE READER
 
+-- with no item more
+pub going-on : {text : Bytes} {table : List ℕ} {symbols parts : ℕ} {s : Progress} {at words : ℕ} → Going text table symbols parts s → Ready text at words
+    → Going text table symbols parts (record { at = at; words = words; count = s .count; parts = s .parts })
+going-on g r = record { variables = g .variables; passed = g .passed; few = g .few; ready = r }
+
 -- what the definition reads of a call after its `<`
 abbrev pub callAt : Bytes → List ℕ → ℕ → ℕ → ℕ → ℕ → Progress → ℕ → Parsed Reading.Called
 callAt text table symbols parts bound depth s place =
@@ -93,7 +97,7 @@ module _ (text table : List ℕ) (symbols parts bound depth : ℕ) (s : Progress
 
   pub call-unopened : {tape tape′ : List ℕ} {r : CodeParsed} {fault : Fault} → OpeningAgrees text depth s place tape tape′ r → r ≡ Stopped fault
       → CallAgrees text table symbols parts bound depth s place tape tape′ (Stopped fault)
-  call-unopened a e = stops-too _ at-opening a e
+  call-unopened a e = stops-too a e (λ h. at-opening ∙ rw h)
 
 -- the call is open
 pub record Opened (text : Bytes) (depth : ℕ) (s : Progress) (place : ℕ) (tape tape₁ : List ℕ) (start : Progress) : Type 0 where
@@ -166,7 +170,7 @@ module _ {text : Bytes} {depth : ℕ} {s : Progress} {place : ℕ} {tape tape₁
   module _ {table : List ℕ} {symbols parts : ℕ} {tape₂ : List ℕ} {r : CodeParsed} (a : ExpressionsAgree text table symbols parts (depth + 1) start tape₁ tape₂ r)
       (bound : ℕ) (h : length (stream text Tokens.naming (s .at)) ≤ bound) where
     pub argument-stops : {fault : Fault} → r ≡ Stopped fault → CallAgrees text table symbols parts bound depth s place tape tape₂ (Stopped fault)
-    argument-stops e = stops-too _ (at-argument table symbols parts bound) (a bound (omega (arith, argument-shorter))) e
+    argument-stops e = stops-too (a bound (omega (arith, argument-shorter))) e (λ q. at-argument table symbols parts bound ∙ rw q)
 
     pub call-closes : {tape₃ : List ℕ} {argument : Progress} {q : CodeParsed} → r ≡ Done argument → Closes text argument tape₂ tape₃ q
         → CallAgrees text table symbols parts bound depth s place tape tape₃ q

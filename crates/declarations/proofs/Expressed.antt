@@ -29,10 +29,9 @@ use Rattle.bookkeeping.specs.Tokened.{signIs}
 use Rattle.parsing.specs.Patterns.{symbolNames, itemAt}
 use Rattle.declarations.specs.Expressions.{progressAt, Going, CallStands, Stands, itemTape, TakenIn, TokenGives, JoinsToken, stoppedWith, callTape, CallRead}
 use Rattle.parsing.proofs.Items.{item-then}
-use Rattle.bookkeeping.proofs.Going.{check-wrong, stops, reads, ReadAt, has-stopped, has-read, went-none, went-from, went-on, went-then}
-use Rattle.bookkeeping.proofs.Tokening.{sign-shown, sign-first, takes, ready-place, ready-past}
-use Rattle.declarations.proofs.Onward.{going-on}
-use Rattle.declarations.proofs.Calling.{callAt, CallAgrees, expressionAt, ExpressionAgrees}
+use Rattle.bookkeeping.proofs.Going.{check-wrong, stops, reads, ReadAt, has-read, went-none, went-from, went-then, stops-too}
+use Rattle.bookkeeping.proofs.Tokening.{sign-shown, sign-first, takes, ready-place, ready-past, went-before}
+use Rattle.declarations.proofs.Calling.{callAt, CallAgrees, expressionAt, ExpressionAgrees, going-on}
 
 -- ITEMS AND CALLS BEFORE AN EXPRESSION
 
@@ -244,7 +243,7 @@ module _ {text table : List ℕ} {symbols parts depth : ℕ} {start : Progress} 
         shorter = b .shorter;
         went =
             rw (b .tapes end, tape-end, append-nil (b .words), e)
-            (went-on (t .place) (b .went) (q .comes .onward) (omega (arith, q .comes .forward, q .comes .inside)));
+            (went-before (b .went) (q .comes));
         progress = refl;
         going = going-on (q .so .going) (ready-place (q .so .going .ready) (q .comes));
         stands = b .stand end (stands-end text);
@@ -315,9 +314,9 @@ module _ {text table : List ℕ} {symbols parts depth : ℕ} {start : Progress} 
       (a : (left : ℕ) → length (stream text Tokens.naming (t .past)) ≤ left → CallAgrees text table symbols parts left depth opened (t .place) tape′ tape″ p) where
     pub call-stopped : {fault : Fault} {bound : ℕ} → p ≡ Stopped fault → length (stream text Tokens.inside (start .at)) ≤ bound
         → ExpressionAgrees text table symbols parts bound depth start tape₀ tape″ (Stopped fault)
-    call-stopped {fault} {bound} e h =
+    call-stopped {bound = bound} e h =
         let b = q .token .so .behind bound h in
-        stops fault _ _ (at-call b ∙ rw (has-stopped _ fault (rw e at (a (b .left - 1) (left-enough b))))) refl refl
+        stops-too (a (b .left - 1) (left-enough b)) e (λ g. at-call b ∙ rw g)
 
     module _ {next : Progress} (e : p ≡ Done next) where
       called : (left : ℕ) → length (stream text Tokens.naming (t .past)) ≤ left → ReadAt (CallRead text table symbols parts opened tape′ tape″) (calledAt left) next

@@ -4,7 +4,7 @@ use mathlib.Core.Path.{_≡_, refl, sym, _∙_, ap}
 use mathlib.Core.Bool.{Bool, true, false}
 use mathlib.Core.List.{List, [], _∷_, _++_, append-assoc, append-nil, map-append}
 use native.Mathlib.Omega.{arith}
-use lib.Dec.{T, ltb, eqb, lt→ltb}
+use lib.Dec.{T, ltb, eqb}
 use lib.ListN.{length, set, length-append, length-set}
 use types.Run.{OneOf, miss}
 use denote.Enum.Declared.{tagOf}
@@ -14,17 +14,16 @@ use Rattle.meaning.specs.Answers.{overLimit}
 use Rattle.meaning.specs.Tree.{Function, Table}
 use Rattle.meaning.specs.Allowed.{namesOf}
 use Rattle.meaning.specs.Tape as Tape
-use Rattle.meaning.specs.Tape.{tapeWord, named, functionKind, functionTape}
+use Rattle.meaning.specs.Tape.{named, functionKind, functionTape}
 use Rattle.meaning.specs.Tokens as Tokens
 use Rattle.meaning.specs.Reading as Reading
 use Rattle.meaning.specs.Reading.{Parsed, stopped, parsed, follow}
-use Rattle.meaning.proofs.laws.Passing.{both-pass}
 use Rattle.lexing.proofs.Token as token
 use Rattle.lexing.specs.View as View
 use Rattle.lexing.specs.View.{tokenOf, placedOf, stream, Comes}
 use Rattle.lexing.specs.declared.Span.{Span}
 use Rattle.lexing.specs.declared.Token.{Token}
-use Rattle.lexing.specs.declared.Token.the-variants.{Name as NameToken, Symbol, Part, Word, Quoted, Sign, End, Malformed}
+use Rattle.lexing.specs.declared.Token.the-variants.{Name as NameToken}
 use Rattle.lexing.specs.declared.Placed as Code
 use Rattle.bookkeeping.specs.declared.Answer.{Answer}
 use Rattle.bookkeeping.specs.declared.Answer.the-variants.{OverLimit}
@@ -39,12 +38,12 @@ use Rattle.bookkeeping.specs.Tokened.{signIs, Taken}
 use Rattle.declarations.specs.Expressions.{stoppedWith}
 use Rattle.declarations.specs.Sentences.{Each, SentencesRead}
 use Rattle.declarations.specs.Functions.{FunctionStands, fromBrace, declared, Declarable, BodyRead, Opening, nameFault, DeclaredRead, SpareTo, isEnd, FunctionsRead}
-use Rattle.bookkeeping.proofs.Lengths.{part-length, within}
+use Rattle.bookkeeping.proofs.Lengths.{within}
 use Rattle.bookkeeping.proofs.Tabling.{Grown, grown, entry-name, entry-inside, none-yet, no-names}
-use Rattle.bookkeeping.proofs.Going.{check-wrong, stops, reads, ReadAt, has-stopped, has-read, pass-follow, follow-alone, makes, went-none, went-from, went-on, went-then}
-use Rattle.bookkeeping.proofs.Tokening.{NameFirst, sign-shown, passes-on, name-first, names-not, refused, ready-place}
-use Rattle.declarations.proofs.Onward.{ready-after, name-went, FaultOf, NoName}
+use Rattle.bookkeeping.proofs.Going.{check-wrong, stops, reads, ReadAt, has-read, pass-follow, follow-alone, makes, went-none, went-from, went-on, went-then, ready-after, name-went, stops-too, name-quiet}
+use Rattle.bookkeeping.proofs.Tokening.{NameFirst, sign-shown, passes-on, name-first, names-not, refused, ready-place, FaultOf, NoName}
 use Rattle.declarations.proofs.Sentencing.{each-none, each-more}
+use Rattle.lexing.proofs.Variants.{by-kind}
 
 -- A FUNCTION AFTER ITS NAME
 
@@ -63,18 +62,10 @@ module _ {text : Bytes} {words : ℕ} {n : Span} {at : ℕ} (b : AfterBrace text
 
   module _ {tape tape₁ : List ℕ} {word to : ℕ} (e : word ≡ 2048 + (n .past - n .from))
       (w : Wrote tape words (word ∷ View.part text n) to tape₁ × T (every isQuiet (View.part text n))) where
-    word-is : tapeWord functionKind (length (View.part text n)) ≡ word
-    word-is = rw (part-length text n (b .name .inside), e)
-
     named-went : Went text (n .from) words tape at to tape₁ (named functionKind (View.part text n))
     named-went =
         name-went functionKind (b .name .inside) (omega (arith, b .name .inside .forward, b .taken .onward)) (b .taken .inside)
         (omega (arith, b .name .after, b .name .inside .forward, b .taken .onward)) e (w .0)
-
-    name-quiet : T (every isQuiet (named functionKind (View.part text n)))
-    unfolding every
-    name-quiet =
-        rw word-is (both-pass (isQuiet word) (every isQuiet (View.part text n)) (lt→ltb word 2304 (omega (arith, b .name .brief))) (w .1))
 
     pub body-ready : Ready text at to
     body-ready = ready-after (b .name .short) named-went
@@ -88,7 +79,7 @@ module _ {text : Bytes} {words : ℕ} {n : Span} {at : ℕ} (b : AfterBrace text
           tokens = h .tokens;
           went = went-then named-went (h .went);
           left = h .left;
-          stands = record { name = name-quiet; sentences = h .stand };
+          stands = record { name = name-quiet functionKind (b .name .inside) (omega (arith, b .name .brief)) (w .1); sentences = h .stand };
         })
         (passes-on _ (b .taken) ∙ follow-alone _)
         a
@@ -193,24 +184,13 @@ abbrev allButEnd : List ℕ
 allButEnd = 0 ∷ 1 ∷ 2 ∷ 3 ∷ 4 ∷ 5 ∷ 7 ∷ []
 
 pub no-end : (t : Token) → OneOf allButEnd (tagOf token.the-type t) → false ≡ isEnd t
-no-end (NameToken n) o = refl
-no-end (Symbol x) o = refl
-no-end (Part x) o = refl
-no-end Word o = refl
-no-end (Quoted n) o = refl
-no-end (Sign b) o = refl
-no-end End o = absurd (miss allButEnd 6 tt o)
-no-end Malformed o = refl
+no-end =
+    by-kind (λ t. OneOf allButEnd (tagOf token.the-type t) → false ≡ isEnd t) (λ n o. refl) (λ x o. refl) (λ x o. refl) (λ o. refl) (λ n o. refl) (λ b o. refl)
+    (λ o. absurd (miss allButEnd 6 tt o)) (λ o. refl)
 
 end-same : (text : Bytes) (place past : ℕ) (t : Token) → Reading.isTextEnd (tokenOf text t place past) ≡ isEnd t
-end-same text place past (NameToken n) = refl
-end-same text place past (Symbol x) = refl
-end-same text place past (Part x) = refl
-end-same text place past Word = refl
-end-same text place past (Quoted n) = refl
-end-same text place past (Sign b) = refl
-end-same text place past End = refl
-end-same text place past Malformed = refl
+end-same text place past =
+    by-kind (λ t. Reading.isTextEnd (tokenOf text t place past) ≡ isEnd t) (λ n. refl) (λ x. refl) (λ x. refl) refl (λ n. refl) (λ b. refl) refl refl
 
 -- THE DEFINITION
 
@@ -337,12 +317,11 @@ module _ {text start tape names : List ℕ} {at words count left : ℕ} {t : Cod
 
     pub function-stops : {tape′ names′ : List ℕ} {fault : Fault} {r : CodeParsed} → FunctionAgrees text names count left words t tape tape′ names′ r → r ≡ Stopped fault
         → FunctionsAgree text start tape′ names′ (Stopped fault)
-    function-stops {fault = fault} a q =
-        let h = rw (c .unrolled) at (next-is ∙ has-stopped _ fault (rw q at a)) in
-        stops fault _ _
-        (k .same
-        ∙ rw (c .unrolled) (functions-stop left (k .before) (placedOf text t) following (64 - count) count (omega (arith, few)) not-end h))
-        refl refl
+    function-stops a q =
+        stops-too a q λ h.
+        k .same
+        ∙ rw (c .unrolled)
+        (functions-stop left (k .before) (placedOf text t) following (64 - count) count (omega (arith, few)) not-end (rw (c .unrolled) at (next-is ∙ h)))
 
 -- a function was read after those
 pub record OneMore (text start tape₁ names₁ : List ℕ) (count : ℕ) (p : Progress) : Type 0 where

@@ -36,7 +36,7 @@ use Rattle.bookkeeping.proofs.Lengths.{too-long, short-enough, within}
 use Rattle.parsing.proofs.Items.{symbol-past, part-past, item-string, item-symbol, item-part}
 use Rattle.parsing.proofs.Itemed.{string-went, string-quiet, variable-went, variable-quiet}
 use Rattle.parsing.proofs.Patterning.{identifier-inside}
-use Rattle.declarations.proofs.Onward.{ready-after}
+use Rattle.bookkeeping.proofs.Going.{ready-after}
 
 -- an item with a fault
 wrongs : {text : Bytes} {table : List ℕ} {symbols parts : ℕ} {s : Progress} {tape : List ℕ} {item : Item} {past : ℕ} {tape′ : List ℕ} {answer : Answer}

@@ -1,5 +1,4 @@
 -- Laws of reading functions, sentences and expressions.
-pub mod Onward
 pub mod Joining
 pub mod Opened
 pub mod Calling

@@ -30,9 +30,8 @@ use Rattle.bookkeeping.specs.Written.{Wrote, isQuiet, Ready}
 use Rattle.declarations.specs.Expressions.{CallStands, stoppedWith, CalledName, opening, OpeningRead}
 use Rattle.bookkeeping.proofs.Choosing.{both-false}
 use Rattle.bookkeeping.proofs.Lengths.{part-length, within}
-use Rattle.bookkeeping.proofs.Going.{check-wrong, stops, reads}
-use Rattle.bookkeeping.proofs.Tokening.{NameFirst, name-first, names-not, refused}
-use Rattle.declarations.proofs.Onward.{name-went, FaultOf, NoName}
+use Rattle.bookkeeping.proofs.Going.{check-wrong, stops, reads, name-went}
+use Rattle.bookkeeping.proofs.Tokening.{NameFirst, name-first, names-not, refused, FaultOf, NoName}
 
 -- what the definition reads of a call after its `<`, up to its argument
 abbrev pub openingAt : Bytes → ℕ → Progress → ℕ → Parsed CalledName

@@ -18,7 +18,7 @@ use Rattle.meaning.specs.Reading.{Parsed, parsed, follow}
 use Rattle.lexing.proofs.Token as token
 use Rattle.lexing.specs.View.{tokenOf, placedOf, stream, Comes}
 use Rattle.lexing.specs.declared.Token.{Token}
-use Rattle.lexing.specs.declared.Token.the-variants.{Name as NameToken, Symbol, Part, Word, Quoted, Sign, End, Malformed}
+use Rattle.lexing.specs.declared.Token.the-variants.{Sign}
 use Rattle.lexing.specs.declared.Placed as Code
 use Rattle.bookkeeping.specs.declared.Answer.the-variants.{OverLimit}
 use Rattle.bookkeeping.specs.declared.progress.Fault.{Fault}
@@ -34,10 +34,10 @@ use Rattle.parsing.specs.Conditions.{ConditionsRead}
 use Rattle.declarations.specs.Expressions.{Going, stoppedWith}
 use Rattle.declarations.specs.Sentences.{fromEquals, EqualsRead, SentenceRead, beginsSentence, sentenceOf, firstSentence, FirstRead, Follows}
 use Rattle.parsing.proofs.Items.{symbol-at, part-at, symbol-variable, part-variable}
-use Rattle.bookkeeping.proofs.Going.{stops, ReadAt, has-read, follow-same, pass-follow, follow-alone, makes, went-from, went-then, word-went}
-use Rattle.bookkeeping.proofs.Tokening.{fault-same, sign-shown, passes-on, refused}
-use Rattle.declarations.proofs.Onward.{ready-after, FaultOf, stops-too}
+use Rattle.bookkeeping.proofs.Going.{stops, ReadAt, has-read, follow-same, pass-follow, follow-alone, makes, went-from, went-then, word-went, ready-after, stops-too}
+use Rattle.bookkeeping.proofs.Tokening.{fault-same, sign-shown, passes-on, refused, FaultOf}
 use Rattle.declarations.proofs.Calling.{ExpressionAgrees}
+use Rattle.lexing.proofs.Variants.{by-kind}
 
 -- WHERE A SENTENCE BEGINS
 
@@ -48,28 +48,16 @@ abbrev noBeginning : List ℕ
 noBeginning = 0 ∷ 3 ∷ 6 ∷ 7 ∷ []
 
 pub begins-other : (t : Token) → OneOf noBeginning (tagOf token.the-type t) → false ≡ beginsSentence t
-begins-other (NameToken n) o = refl
-begins-other (Symbol x) o = absurd (miss noBeginning 1 tt o)
-begins-other (Part x) o = absurd (miss noBeginning 2 tt o)
-begins-other Word o = refl
-begins-other (Quoted n) o = absurd (miss noBeginning 4 tt o)
-begins-other (Sign b) o = absurd (miss noBeginning 5 tt o)
-begins-other End o = refl
-begins-other Malformed o = refl
+begins-other =
+    by-kind (λ t. OneOf noBeginning (tagOf token.the-type t) → false ≡ beginsSentence t) (λ n o. refl) (λ x o. absurd (miss noBeginning 1 tt o))
+    (λ x o. absurd (miss noBeginning 2 tt o)) (λ o. refl) (λ n o. absurd (miss noBeginning 4 tt o)) (λ b o. absurd (miss noBeginning 5 tt o)) (λ o. refl) (λ o. refl)
 
 pub begins-same : {text : Bytes} {mode : Tokens.Mode} {at : ℕ} {t : Code.Placed} → Comes text mode at t
     → Reading.begins (tokenOf text (t .token) (t .place) (t .past)) ≡ beginsSentence (t .token)
-begins-same {text} {t = t} c = same (t .token) refl
-  where
-    same : (k : Token) → t .token ≡ k → Reading.begins (tokenOf text k (t .place) (t .past)) ≡ beginsSentence k
-    same (NameToken n) e = refl
-    same (Symbol x) e = rw (symbol-variable (symbol-at c e))
-    same (Part x) e = rw (part-variable (part-at c e))
-    same Word e = rw (rw e at (c .sound))
-    same (Quoted n) e = refl
-    same (Sign b) e = refl
-    same End e = refl
-    same Malformed e = refl
+begins-same {text} {t = t} c =
+    by-kind (λ k. t .token ≡ k → Reading.begins (tokenOf text k (t .place) (t .past)) ≡ beginsSentence k) (λ n e. refl)
+    (λ x e. rw (symbol-variable (symbol-at c e))) (λ x e. rw (part-variable (part-at c e))) (λ e. rw (rw e at (c .sound)))
+    (λ n e. refl) (λ b e. refl) (λ e. refl) (λ e. refl) (t .token) refl
 
 -- WHAT COMES AFTER A SENTENCE
 
@@ -187,7 +175,7 @@ pub record AfterConditions (text : Bytes) (from words : ℕ) (tape table : List 
 module _ {text : Bytes} {from words : ℕ} {tape table tape₁ : List ℕ} {r : CodeParsed}
     (a : Agrees (PatternRead text from words tape table tape₁) (Reading.pattern [] (stream text Tokens.inside from)) r) where
   pub pattern-stops : {fault : Fault} → r ≡ Stopped fault → SentenceAgrees text from words tape tape₁ (Stopped fault)
-  pattern-stops e = stops-too _ (sentence-is _) a e
+  pattern-stops e = stops-too a e (λ h. sentence-is _ ∙ rw h)
 
   pub pattern-done : {p : Progress} → Ready text from words → r ≡ Done p → AfterPattern text from words tape table tape₁ p
   pattern-done ready e = record { ready = ready; read = has-read _ _ (rw e at a) }
@@ -209,7 +197,7 @@ module _ {text : Bytes} {from words : ℕ} {tape table tape₁ : List ℕ} {p : 
 
   module _ {tape₂ : List ℕ} {r : CodeParsed} (a : Agrees (ConditionsRead text (p .at) (p .words) tape₁ tape₂) (conditionsAt text table p) r) where
     pub conditions-stop : {fault : Fault} → r ≡ Stopped fault → SentenceAgrees text from words tape tape₂ (Stopped fault)
-    conditions-stop e = stops-too _ at-conditions a e
+    conditions-stop e = stops-too a e (λ h. at-conditions ∙ rw h)
 
     pub conditions-done : {c : Progress} → r ≡ Done c → AfterConditions text from words tape table p tape₂ c
     conditions-done e = record { tape₁ = tape₁; pattern = k; read = has-read _ _ (rw e at a) }

@@ -21,8 +21,7 @@ use Rattle.declarations.specs.declared.sentences.Sequel.the-variants.{En
 use Rattle.bookkeeping.specs.Answered.{Agrees}
 use Rattle.bookkeeping.specs.Written.{Ready, Went}
 use Rattle.declarations.specs.Sentences.{Each, SentenceStands, sentenceOf, firstSentence, FirstRead, Follows, SentencesRead}
-use Rattle.bookkeeping.proofs.Going.{stops, reads, ReadAt, has-stopped, has-read, follow-alone, behind, behind-more, went-none, went-then, word-went}
-use Rattle.declarations.proofs.Onward.{ready-after}
+use Rattle.bookkeeping.proofs.Going.{stops, reads, ReadAt, has-read, follow-alone, behind, behind-more, went-none, went-then, word-went, ready-after, stops-too}
 
 -- it holds of none, of these and those, and of one more
 pub each-none : {A : Type 0} (holds : A → Type 0) → Each holds []
@@ -129,7 +128,7 @@ module _ {text start : List ℕ} {limit from words : ℕ} {tape : List ℕ} {at 
       → Agrees (FirstRead text left at to tape tape′) (firstSentence left (stream text Tokens.inside at)) r
       → r ≡ Stopped fault
       → SentencesAgree text limit from words start tape′ (Stopped fault)
-  sentence-stops {fault = fault} a e = stops fault _ _ (at-sentence ∙ rw (has-stopped _ fault (rw e at a))) refl refl
+  sentence-stops a e = stops-too a e (λ h. at-sentence ∙ rw h)
 
 -- a sentence was read after those
 pub record OneMore (text start : List ℕ) (limit from words left : ℕ) (tape₁ : List ℕ) (s : Progress) : Type 0 where

@@ -42,7 +42,7 @@ use Rattle.bookkeeping.specs.declared.progress.Parsed.the-variants.{Stopped, Do
 use Rattle.bookkeeping.specs.Tables.{Inside, Entries, position}
 use Rattle.bookkeeping.specs.Answered.{numberOf, Agrees}
 use Rattle.bookkeeping.specs.Written.{Wrote, isQuiet, Ready, Went}
-use Rattle.bookkeeping.specs.Tokened.{tokenFault, signIs, Taken, Barred}
+use Rattle.bookkeeping.specs.Tokened.{signIs, Taken, Barred}
 use Rattle.parsing.specs.Patterns.{symbolNames, itemAt}
 use Rattle.parsing.specs.Conditions.{conditionEnd, conditionOn, truthAt, TruthNumber, truthBetween, Standing, Before, ConditionRead, ConditionsRead}
 use Rattle.meaning.proofs.reading.Basics.{no-value}
@@ -52,10 +52,10 @@ use Rattle.bookkeeping.proofs.Naming.{classed, class-number}
 use Rattle.parsing.proofs.Faults.{later-fault-is}
 use Rattle.bookkeeping.proofs.Lengths.{too-long, short-enough, within}
 use Rattle.parsing.proofs.Patterning.{identifier-inside}
-use Rattle.bookkeeping.proofs.Going.{check-wrong, stops, reads, has-stopped, has-read, follow-alone, makes, behind, behind-more, went-none, went-from, went-then}
+use Rattle.bookkeeping.proofs.Going.{check-wrong, stops, reads, has-read, stops-too, follow-alone, makes, behind, behind-more, went-none, ready-after, went-from, went-then}
 use Rattle.parsing.proofs.Items.{symbol-at, symbol-past, item-symbol, item-then}
 use Rattle.bookkeeping.proofs.Tabling.{every-append}
-use Rattle.bookkeeping.proofs.Tokening.{NameFirst, sign-shown, takes, passes-on, passes-not, names-not, refused, ready-past, ready-taken, went-before}
+use Rattle.bookkeeping.proofs.Tokening.{FaultOf, NoName, NameFirst, sign-shown, takes, passes-on, passes-not, barred-stops, names-not, refused, ready-past, ready-taken, went-before}
 
 -- A LATER S-VARIABLE
 
@@ -175,7 +175,7 @@ pub record ClosingAt (text : Bytes) (from words : ℕ) (x : Span) (close colon :
 module _ {text : Bytes} {from words : ℕ} {x : Span} where
   pub end-no-close : Before text words from x → (c : Class) {tape tape′ : List ℕ} {fault : Fault} → Barred text Tokens.inside 62 from fault
       → EndAgrees text from words tape tape′ x c (Stopped fault)
-  end-no-close b c k = stops _ _ _ (passes-not _ k) refl refl
+  end-no-close b c k = barred-stops _ k
 
   pub end-no-colon : Before text words from x → (c : Class) {tape tape′ : List ℕ} {close : ℕ} {fault : Fault} → Taken text Tokens.inside 62 from close → Barred text Tokens.inside 58 close fault
       → EndAgrees text from words tape tape′ x c (Stopped fault)
@@ -186,7 +186,7 @@ module _ {text : Bytes} {from words : ℕ} {x : Span} where
         ≡ Reading.passTruth (stream text Tokens.inside colon) (withTruth c (View.part text x))
     at-truth = passes-on _ (a .closed) ∙ passes-on _ (a .parted)
 
-    pub end-no-truth : {tape tape′ : List ℕ} {fault : Fault} → n ≡ 1 → (numberOf (fault .answer) ≡ tokenFault (t .token)) × (fault .place ≡ t .place)
+    pub end-no-truth : {tape tape′ : List ℕ} {fault : Fault} → n ≡ 1 → FaultOf t fault
         → EndAgrees text from words tape tape′ x c (Stopped fault)
     end-no-truth e f = refused (a .first) (at-truth ∙ rw (a .first .unrolled, a .truth .same, e)) f
 
@@ -259,7 +259,7 @@ pub record OnAsked (text table : List ℕ) (symbols from words : ℕ) (t : Code.
 module _ {text table : List ℕ} {symbols from words : ℕ} {t : Code.Placed} where
   pub on-no-symbol : OnToken text table symbols from words t → (c : Class) {tape tape′ : List ℕ} {fault : Fault}
       → OneOf allButSymbol (tagOf token.the-type (t .token))
-      → (numberOf (fault .answer) ≡ tokenFault (t .token)) × (fault .place ≡ t .place)
+      → FaultOf t fault
       → OnAgrees text table symbols from words tape tape′ c (Stopped fault)
   on-no-symbol a c o f =
       let k = a .first in
@@ -332,7 +332,7 @@ module _ {text table : List ℕ} {symbols from words : ℕ} where
   pub open-not : {tape tape′ : List ℕ} {fault : Fault} → Entries text table 0 symbols → Barred text Tokens.inside 60 from fault
       → ConditionAgrees text table symbols from words tape tape′ (Stopped fault)
   unfolding Reading.condition
-  open-not known b = stops _ _ _ (passes-not _ b) refl refl
+  open-not known b = barred-stops _ b
 
   module _ {start : ℕ} {t : Code.Placed} where
     at-name : OpenedAt text table symbols from words start t
@@ -342,8 +342,8 @@ module _ {text table : List ℕ} {symbols from words : ℕ} where
     at-name a = passes-on _ (a .opened)
 
     pub name-not : {tape tape′ : List ℕ} {fault : Fault} → OpenedAt text table symbols from words start t
-        → OneOf (1 ∷ 2 ∷ 3 ∷ 4 ∷ 5 ∷ 6 ∷ 7 ∷ []) (tagOf token.the-type (t .token))
-        → (numberOf (fault .answer) ≡ tokenFault (t .token)) × (fault .place ≡ t .place)
+        → NoName (t .token)
+        → FaultOf t fault
         → ConditionAgrees text table symbols from words tape tape′ (Stopped fault)
     name-not a n f = refused (a .first) (at-name a ∙ names-not (a .first) _ _ n) f
 
@@ -404,7 +404,7 @@ pub record Conditioned (text start : List ℕ) (names : List Name) (from words :
 
 pub conditions-ready : {text start : List ℕ} {names : List Name} {from words : ℕ} {tape : List ℕ} {at to left : ℕ}
     → Conditioned text start names from words tape at to left → Ready text at to
-conditions-ready k = record { inside = k .went .inside; charged = k .went .charged; short = k .short }
+conditions-ready k = ready-after (k .short) (k .went)
 
 tape-more : (cs : List Condition) (c : Condition) → conditionsTape (cs ++ c ∷ []) ≡ conditionsTape cs ++ conditionTape c
 unfolding conditionsTape
@@ -501,5 +501,5 @@ module _ {text start : List ℕ} {names : List Name} {from words : ℕ} {tape : 
         turned : (r′ : CodeParsed)
             → Agrees (ConditionRead text (t .past) to tape tape′) (Reading.condition names (stream text Tokens.inside (t .past))) r′
             → ConditionsOn tape′ r′
-        turned (Stopped fault) e′ = stops fault _ _ (at-condition ∙ rw (has-stopped _ fault e′)) refl refl
+        turned (Stopped fault) e′ = stops-too e′ refl (λ h. at-condition ∙ rw h)
         turned (Done s) e′ = let h = has-read _ s e′ in goes-with (h .value) (h .rest) (h .same) (h .how)

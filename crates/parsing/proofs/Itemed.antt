@@ -4,17 +4,15 @@ use mathlib.Core.Path.{_≡_}
 use mathlib.Core.List.{List, _∷_}
 use native.Mathlib.Numerals.{add-one}
 use native.Mathlib.Omega.{arith}
-use lib.Dec.{T, lt→ltb}
-use lib.ListN.{length}
+use lib.Dec.{T}
 use Rattle.meaning.specs.Choice.{Bytes, every}
 use Rattle.meaning.specs.Tape.{named}
-use Rattle.meaning.proofs.laws.Passing.{both-pass}
 use Rattle.lexing.specs.View as View
 use Rattle.lexing.specs.View.{IsClosed, charactersIn, quotationAt}
 use Rattle.lexing.specs.declared.Span.{Span}
 use Rattle.bookkeeping.specs.Written.{Wrote, stringFrom, isQuiet, Ready, Went}
 use Rattle.parsing.specs.Patterns.{Identifier, StringAt}
-use Rattle.bookkeeping.proofs.Lengths.{part-length}
+use Rattle.bookkeeping.proofs.Going.{name-went, name-quiet}
 use Rattle.parsing.proofs.Patterning.{identifier-inside}
 
 -- a string
@@ -46,24 +44,11 @@ module _ {text : Bytes} {at words place past count : ℕ} (r : Ready text at wor
 
 -- a variable, of the kind 1 or 2
 module _ {text : Bytes} {at words : ℕ} {x : Span} (r : Ready text at words) (i : Identifier text at x) where
-  long : length (View.part text x) ≡ x .past - x .from
-  long = part-length text x (identifier-inside i)
-
   pub variable-went : (kind : ℕ) {word : ℕ} {tape tape′ : List ℕ} {words′ : ℕ} → word ≡ kind * 256 + (x .past - x .from)
       → Wrote tape words (word ∷ View.part text x) words′ tape′
       → Went text at words tape (x .past) words′ tape′ (named kind (View.part text x))
   variable-went kind e w =
-      record {
-        onward = omega (arith, i .after, i .some);
-        inside = i .inside;
-        charged = omega (arith, w .reached, long, r .charged, i .after, i .some);
-        counted = w .reached;
-        wrote = rw (long, ← e) (w .same);
-      }
+      name-went kind (identifier-inside i) (omega (arith, i .after, i .some)) (i .inside) (omega (arith, r .charged, i .after, i .some)) e w
 
   pub variable-quiet : (kind : ℕ) → kind * 256 + (x .past - x .from) < 2304 → T (every isQuiet (View.part text x)) → T (every isQuiet (named kind (View.part text x)))
-  unfolding every
-  variable-quiet kind s q =
-      both-pass (isQuiet (kind * 256 + length (View.part text x))) (every isQuiet (View.part text x))
-      (rw long (lt→ltb (kind * 256 + (x .past - x .from)) 2304 s))
-      q
+  variable-quiet kind s q = name-quiet kind (identifier-inside i) s q

@@ -4,8 +4,8 @@ use Rattle.declarations.proofs.functions.body.Statement.{statement}
 use Rattle.declarations.proofs.functions.body.Tie as tie
 use mathlib.Core.Path.{refl}
 use native.Mathlib.Omega.{arith}
-use Rattle.declarations.proofs.Onward.{barred-stops}
 use Rattle.declarations.proofs.Functioned.{AfterBrace, name-room, body-ready, body-reads}
+use Rattle.bookkeeping.proofs.Tokening.{barred-stops}
 
 brace-here : (c : tie.After-at) → let a = c .before .before .before .before .args in AfterBrace (a .text .now) (a .words) (a .name) (c .at .given .0 .0)
 brace-here c =

@@ -6,8 +6,8 @@ use mathlib.Core.Path.{sym, _∙_}
 use Rattle.meaning.specs.Tokens.{outside}
 use Rattle.lexing.specs.View.{Comes}
 use Rattle.lexing.proofs.Stream.{comes}
-use Rattle.declarations.proofs.Onward.{is-taken}
 use Rattle.declarations.proofs.Functioned.{spare-passed, spare-none}
+use Rattle.bookkeeping.proofs.Tokening.{is-taken}
 
 token-here : (c : tie.After-lex) → let a = c .before .before .args in Comes (a .text .now) outside (a .at) (c .lex .result)
 token-here c = comes _ outside _ _ (c .before .before .pre) (c .lex .ensures)

@@ -8,8 +8,8 @@ use Rattle.meaning.specs.Tokens.{inside}
 use Rattle.lexing.specs.View.{Comes}
 use Rattle.bookkeeping.specs.Tokened.{Taken}
 use Rattle.lexing.proofs.Stream.{comes}
-use Rattle.declarations.proofs.Onward.{is-taken}
 use Rattle.declarations.proofs.Sentenced.{ends-at-once, follows-nothing, ends-after, goes-after}
+use Rattle.bookkeeping.proofs.Tokening.{is-taken}
 
 token-here : (c : tie.After-lex) → let a = c .before .before .args in Comes (a .text .now) inside (a .from) (c .lex .result)
 token-here c = comes _ inside _ _ (c .before .before .pre) (c .lex .ensures)

@@ -3,8 +3,8 @@ use Rattle.declarations.proofs.sentences.sentence_end.Statement.{statem
 use Rattle.declarations.proofs.sentences.sentence_end.Tie as tie
 use borrow.Author.Needs.{needs}
 use native.Mathlib.Omega.{arith}
-use Rattle.declarations.proofs.Onward.{barred-stops}
 use Rattle.declarations.proofs.Sentenced.{AfterEquals, equals-room, equals-going, equals-reads}
+use Rattle.bookkeeping.proofs.Tokening.{barred-stops}
 
 equals-here : (c : tie.After-at) → let a = c .before .before .before .before .before .args in AfterEquals (a .text .now) (a .from) (a .words) (c .at .given .0 .0)
 equals-here c =
