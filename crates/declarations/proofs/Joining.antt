@@ -12,13 +12,11 @@ use Rattle.meaning.specs.Choice.{Bytes, Name, pick, both, isSome, every}
 use Rattle.meaning.specs.Answers.{overLimit, wrongLaterVariable}
 use Rattle.meaning.specs.Allowed.{maxIdentifier, comingAfter}
 use Rattle.meaning.specs.Tape.{named}
-use Rattle.meaning.specs.Tokens as Tokens
 use Rattle.meaning.specs.Reading as Reading
-use Rattle.meaning.specs.Reading.{Item, characters, symbolItem, partItem, isItem, symbolFault, faultUnless}
+use Rattle.meaning.specs.Reading.{Item, characters, symbolItem, partItem, symbolFault, faultUnless}
 use Rattle.lexing.specs.View as View
-use Rattle.lexing.specs.View.{charactersIn, quotationAt, Comes}
+use Rattle.lexing.specs.View.{charactersIn, quotationAt}
 use Rattle.lexing.specs.declared.Span.{Span}
-use Rattle.lexing.specs.declared.Token.the-variants.{Symbol, Part, Quoted}
 use Rattle.lexing.specs.declared.Placed.{Placed}
 use Rattle.bookkeeping.specs.declared.Answer.{Answer}
 use Rattle.bookkeeping.specs.declared.Answer.the-variants.{OverLimit, WrongLaterVariable}
@@ -28,12 +26,12 @@ use Rattle.declarations.specs.declared.expressions.Joined.the-variants.{
 use Rattle.bookkeeping.specs.Tables.{tableNames, Entries, position}
 use Rattle.bookkeeping.specs.Answered.{numberOf}
 use Rattle.bookkeeping.specs.Written.{Wrote, stringFrom, isQuiet, Went}
-use Rattle.parsing.specs.Patterns.{symbolNames, Identifier, StringAt, itemAt}
+use Rattle.parsing.specs.Patterns.{symbolNames, Identifier, StringAt}
 use Rattle.declarations.specs.Expressions.{progressAt, Going, itemTape, VariableTaken, ItemGives, JoinsItem, TokenGives, JoinsToken}
 use Rattle.bookkeeping.proofs.Finding.{position-coming, table-length}
 use Rattle.bookkeeping.proofs.Tabling.{entries-later, names-later}
 use Rattle.bookkeeping.proofs.Lengths.{too-long, short-enough, within}
-use Rattle.parsing.proofs.Items.{symbol-past, part-past, item-string, item-symbol, item-part}
+use Rattle.parsing.proofs.Items.{ItemHere}
 use Rattle.parsing.proofs.Itemed.{string-went, string-quiet, variable-went, variable-quiet}
 use Rattle.parsing.proofs.Patterning.{identifier-inside}
 use Rattle.bookkeeping.proofs.Going.{ready-after}
@@ -201,22 +199,6 @@ module _ {text : Bytes} {table : List ℕ} {symbols parts : ℕ} {s : Progress} 
       v
 
 -- TOKENS
-
--- a token is an item that ends where it does
-pub record ItemHere (text : Bytes) (t : Placed) (item : Item) (past : ℕ) : Type 0 where
-  pub is : itemAt text t ≡ item
-  pub some : isItem item ≡ true
-  pub ends : past ≡ t .past
-
-module _ {text : Bytes} {mode : Tokens.Mode} {at : ℕ} {t : Placed} (c : Comes text mode at t) where
-  pub string-here : {count : ℕ} → t .token ≡ Quoted count → ItemHere text t (characters (charactersIn (quotationAt text (t .place)))) (t .past)
-  string-here e = record { is = item-string c e; some = refl; ends = refl }
-
-  pub symbol-here : {x : Span} → t .token ≡ Symbol x → ItemHere text t (symbolItem (View.part text x)) (x .past)
-  symbol-here e = record { is = item-symbol c e; some = refl; ends = symbol-past c e }
-
-  pub part-here : {x : Span} → t .token ≡ Part x → ItemHere text t (partItem (View.part text x)) (x .past)
-  part-here e = record { is = item-part c e; some = refl; ends = part-past c e }
 
 -- what comes of the item comes of the token
 pub joins : {text : Bytes} {table : List ℕ} {symbols parts : ℕ} {s : Progress} {tape : List ℕ} {t : Placed} {item : Item} {past : ℕ} {tape′ : List ℕ} {r : Joined}

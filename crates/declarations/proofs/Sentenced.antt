@@ -33,7 +33,7 @@ use Rattle.parsing.specs.Patterns.{Variables, symbolNames, partNames, PatternRe
 use Rattle.parsing.specs.Conditions.{ConditionsRead}
 use Rattle.declarations.specs.Expressions.{Going, stoppedWith}
 use Rattle.declarations.specs.Sentences.{fromEquals, EqualsRead, SentenceRead, beginsSentence, sentenceOf, firstSentence, FirstRead, Follows}
-use Rattle.parsing.proofs.Items.{symbol-at, part-at, symbol-variable, part-variable}
+use Rattle.parsing.proofs.Items.{variable-of, variable-at}
 use Rattle.bookkeeping.proofs.Going.{stops, ReadAt, has-read, follow-same, pass-follow, follow-alone, makes, went-from, went-then, word-went, ready-after, stops-too}
 use Rattle.bookkeeping.proofs.Tokening.{fault-same, sign-shown, passes-on, refused, FaultOf}
 use Rattle.declarations.proofs.Calling.{ExpressionAgrees}
@@ -56,7 +56,7 @@ pub begins-same : {text : Bytes} {mode : Tokens.Mode} {at : ℕ} {t : Code.Place
     → Reading.begins (tokenOf text (t .token) (t .place) (t .past)) ≡ beginsSentence (t .token)
 begins-same {text} {t = t} c =
     by-kind (λ k. t .token ≡ k → Reading.begins (tokenOf text k (t .place) (t .past)) ≡ beginsSentence k) (λ n e. refl)
-    (λ x e. rw (symbol-variable (symbol-at c e))) (λ x e. rw (part-variable (part-at c e))) (λ e. rw (rw e at (c .sound)))
+    (λ x e. rw (variable-of (variable-at c false x e) false)) (λ x e. rw (variable-of (variable-at c true x e) true)) (λ e. rw (rw e at (c .sound)))
     (λ n e. refl) (λ b e. refl) (λ e. refl) (λ e. refl) (t .token) refl
 
 -- WHAT COMES AFTER A SENTENCE

@@ -43,7 +43,7 @@ use Rattle.bookkeeping.specs.Tables.{Inside, Entries, position}
 use Rattle.bookkeeping.specs.Answered.{numberOf, Agrees}
 use Rattle.bookkeeping.specs.Written.{Wrote, isQuiet, Ready, Went}
 use Rattle.bookkeeping.specs.Tokened.{signIs, Taken, Barred}
-use Rattle.parsing.specs.Patterns.{symbolNames, itemAt}
+use Rattle.parsing.specs.Patterns.{symbolNames}
 use Rattle.parsing.specs.Conditions.{conditionEnd, conditionOn, truthAt, TruthNumber, truthBetween, Standing, Before, ConditionRead, ConditionsRead}
 use Rattle.meaning.proofs.reading.Basics.{no-value}
 use Rattle.bookkeeping.proofs.Choosing.{both-true, fault-if-not, no-fault-here, a-fault-here}
@@ -53,7 +53,7 @@ use Rattle.parsing.proofs.Faults.{later-fault-is}
 use Rattle.bookkeeping.proofs.Lengths.{too-long, short-enough, within}
 use Rattle.parsing.proofs.Patterning.{identifier-inside}
 use Rattle.bookkeeping.proofs.Going.{check-wrong, stops, reads, has-read, stops-too, follow-alone, makes, behind, behind-more, went-none, ready-after, went-from, went-then}
-use Rattle.parsing.proofs.Items.{symbol-at, symbol-past, item-symbol, item-then}
+use Rattle.parsing.proofs.Items.{variable-at, variable-here, item-then}
 use Rattle.bookkeeping.proofs.Tabling.{every-append}
 use Rattle.bookkeeping.proofs.Tokening.{FaultOf, NoName, NameFirst, sign-shown, takes, passes-on, passes-not, barred-stops, names-not, refused, ready-past, ready-taken, went-before}
 
@@ -269,15 +269,15 @@ module _ {text table : List ℕ} {symbols from words : ℕ} {t : Code.Placed} wh
 
   module _ {x : Span} where
     pub on-inside : OnSymbol text table symbols from words t x → Inside text x
-    on-inside a = identifier-inside (symbol-at (a .on .first) (a .symbol))
+    on-inside a = identifier-inside (variable-at (a .on .first) false _ (a .symbol))
 
     at-symbol : OnSymbol text table symbols from words t x → (c : Class) → conditionOn (symbolNames text table symbols) c (stream text Tokens.inside from)
         ≡ Reading.check (symbolFault (symbolNames text table symbols) (View.part text x)) (placedOf text t)
         (conditionEnd c (View.part text x) (stream text Tokens.inside (t .past)))
     at-symbol a c =
         let k = a .on .first in
-        let i : Reading.isItem (itemAt text t) ≡ true = rw (item-symbol k (a .symbol)) in
-        rw (item-then k i .unrolled, item-symbol k (a .symbol))
+        let h = variable-here k false _ (a .symbol) in
+        rw (item-then k (rw (h .is) (h .some)) .unrolled, h .is)
 
     pub on-wrong : {answer : Answer} {is : Bool} → OnAsked text table symbols from words t x (numberOf answer) is → (c : Class) {tape tape′ : List ℕ}
         → not is ≡ true
@@ -292,12 +292,12 @@ module _ {text table : List ℕ} {symbols from words : ℕ} {t : Code.Placed} wh
       pub on-before : Ready text (t .past) words × Before text words (t .past) x
       on-before =
           let on = a .on .on in
-          let i = symbol-at (on .first) (a .on .symbol) in (
+          let i = variable-at (on .first) false _ (a .on .symbol) in (
             ready-past (on .ready) (on .first),
             record {
               after = omega (arith, on .ready .charged, i .after);
               some = i .some;
-              before = omega (arith, symbol-past (on .first) (a .on .symbol));
+              before = omega (arith, variable-here (on .first) false _ (a .on .symbol) .ends);
               short = within text x (identifier-inside i) 8 3 _ right;
             },
           )

@@ -23,59 +23,80 @@ use Rattle.lexing.specs.declared.Placed.{Placed}
 use Rattle.parsing.specs.declared.patterns.Counts.{Counts}
 use Rattle.parsing.specs.declared.patterns.Added.{Added}
 use Rattle.parsing.specs.declared.patterns.Added.the-variants.{Taken, Wrong, Other}
-use Rattle.parsing.specs.Patterns.{Identifier, StringAt, Held, itemAt, ItemGives, AddsItem, TokenGives, AddsToken}
+use Rattle.parsing.specs.Patterns.{Identifier, StringAt, itemAt, ItemGives, AddsItem, TokenGives, AddsToken}
+
+-- an s-variable or an e-variable
+abbrev variableToken : Bool → Span → Token
+variableToken false x = Symbol x
+variableToken true x = Part x
+
+abbrev variableItem : Bool → Bytes → Item
+variableItem false x = symbolItem x
+variableItem true x = partItem x
+
+abbrev variableLetter : Bool → ℕ
+variableLetter false = 115
+variableLetter true = 101
+
+-- it has at least one byte after its letter
+module _ {text : Bytes} {at : ℕ} {x : Span} (i : Identifier text at x) where
+  first : View.part text x ≡ getD text (x .from) 0 ∷ slice (suc (x .from)) (x .past) text
+  first = slice-cons (x .from) (x .past) text 0 (i .some) (i .inside)
+
+  pub variable-of : (isPart : Bool) → variableOf (variableLetter isPart ∷ View.part text x) ≡ variableItem isPart (View.part text x)
+  variable-of false = rw first
+  variable-of true = rw first
+
+-- a token is an item that ends where it does
+pub record ItemHere (text : Bytes) (t : Placed) (item : Item) (past : ℕ) : Type 0 where
+  pub is : itemAt text t ≡ item
+  pub some : isItem item ≡ true
+  pub ends : past ≡ t .past
 
 module _ {text : Bytes} {mode : Tokens.Mode} {at : ℕ} {t : Placed} (c : Comes text mode at t) where
   -- the token is known to be one
   known : {k : Token} → t .token ≡ k → Sound text k (t .place) (t .past)
   known e = rw e at (c .sound)
 
-  pub string-at : {count : ℕ} → t .token ≡ Quoted count → StringAt text at (t .place) (t .past) count
+  string-at : {count : ℕ} → t .token ≡ Quoted count → StringAt text at (t .place) (t .past) count
   string-at e =
       let s = known e in
       record { after = c .onward; closed = rw (s .0) tt; counted = s .1; charged = s .2; inside = c .inside }
 
-  identified : {x : Span} → Sound text (Symbol x) (t .place) (t .past) → Identifier text at x
-  identified s =
-      record {
-        after = omega (arith, s .0, c .onward);
-        some = omega (arith, s .0, s .1, s .2);
-        inside = omega (arith, s .1, c .inside);
-      }
+  pub string-here : {count : ℕ} → t .token ≡ Quoted count → ItemHere text t (characters (charactersIn (quotationAt text (t .place)))) (t .past)
+  string-here e = record { is = rw e; some = refl; ends = refl }
 
-  pub symbol-at : {x : Span} → t .token ≡ Symbol x → Identifier text at x
-  symbol-at e = identified (known e)
+  spans : (isPart : Bool) {x : Span} → t .token ≡ variableToken isPart x → Sound text (Symbol x) (t .place) (t .past)
+  spans false e = known e
+  spans true e = known e
 
-  pub part-at : {x : Span} → t .token ≡ Part x → Identifier text at x
-  part-at e = identified (known e)
+  module _ (isPart : Bool) (x : Span) (e : t .token ≡ variableToken isPart x) where
+    spanned : Sound text (Symbol x) (t .place) (t .past)
+    spanned = spans isPart e
 
-  pub symbol-past : {x : Span} → t .token ≡ Symbol x → x .past ≡ t .past
-  symbol-past e = known e .1
+    pub variable-at : Identifier text at x
+    variable-at =
+        record {
+          after = omega (arith, spanned .0, c .onward);
+          some = omega (arith, spanned .0, spanned .1, spanned .2);
+          inside = omega (arith, spanned .1, c .inside);
+        }
 
-  pub part-past : {x : Span} → t .token ≡ Part x → x .past ≡ t .past
-  part-past e = known e .1
+    pub variable-here : ItemHere text t (variableItem isPart (View.part text x)) (x .past)
+    variable-here = either isPart e (variable-of variable-at isPart)
+      where
+        either : (is : Bool) → t .token ≡ variableToken is x → variableOf (variableLetter is ∷ View.part text x) ≡ variableItem is (View.part text x)
+            → ItemHere text t (variableItem is (View.part text x)) (x .past)
+        either false d v = record { is = rw d v; some = refl; ends = spanned .1 }
+        either true d v = record { is = rw d v; some = refl; ends = spanned .1 }
 
--- a variable has at least one byte after its letter
-module _ {text : Bytes} {at : ℕ} {x : Span} (i : Identifier text at x) where
-  first : View.part text x ≡ getD text (x .from) 0 ∷ slice (suc (x .from)) (x .past) text
-  first = slice-cons (x .from) (x .past) text 0 (i .some) (i .inside)
+-- what is asked of a token by the function that adds it to what is held
+module _ {Held : Type 0} {text : Bytes} {mode : Tokens.Mode} {at : ℕ} {t : Placed} (pre : Held × Comes text mode at t) where
+  pub asks-string : {count : ℕ} → t .token ≡ Quoted count → Held × StringAt text at (t .place) (t .past) count
+  asks-string e = (pre .0, string-at (pre .1) e)
 
-  pub symbol-variable : variableOf (115 ∷ View.part text x) ≡ symbolItem (View.part text x)
-  symbol-variable = rw first
-
-  pub part-variable : variableOf (101 ∷ View.part text x) ≡ partItem (View.part text x)
-  part-variable = rw first
-
--- what item a token is
-module _ {text : Bytes} {mode : Tokens.Mode} {at : ℕ} {t : Placed} (c : Comes text mode at t) where
-  pub item-string : {count : ℕ} → t .token ≡ Quoted count → itemAt text t ≡ characters (charactersIn (quotationAt text (t .place)))
-  item-string e = rw e
-
-  pub item-symbol : {x : Span} → t .token ≡ Symbol x → itemAt text t ≡ symbolItem (View.part text x)
-  item-symbol e = rw e (symbol-variable (symbol-at c e))
-
-  pub item-part : {x : Span} → t .token ≡ Part x → itemAt text t ≡ partItem (View.part text x)
-  item-part e = rw e (part-variable (part-at c e))
+  pub asks-variable : (isPart : Bool) (x : Span) → t .token ≡ variableToken isPart x → Held × Identifier text at x
+  asks-variable isPart x e = (pre .0, variable-at (pre .1) isPart x e)
 
 abbrev otherTags : List ℕ
 otherTags = 0 ∷ 3 ∷ 5 ∷ 6 ∷ 7 ∷ []
@@ -92,45 +113,15 @@ pub item-other : {text : Bytes} {mode : Tokens.Mode} {at : ℕ} {t : Placed} →
 item-other {text} {t = t} c o = no-item text (t .place) (t .past) (t .token) (c .sound) o
 
 -- what comes of the item comes of the token
-adds : {text : Bytes} {table : List ℕ} {p : Counts} {tape : List ℕ} {item : Item} {past : ℕ} {table′ tape′ : List ℕ} {r : Added} (t : Placed)
-    → itemAt text t ≡ item → isItem item ≡ true → past ≡ t .past → AddsItem text table p tape item past table′ tape′ r
+pub adds : {text : Bytes} {table : List ℕ} {p : Counts} {tape : List ℕ} {t : Placed} {item : Item} {past : ℕ} {table′ tape′ : List ℕ} {r : Added}
+    → ItemHere text t item past → AddsItem text table p tape item past table′ tape′ r
     → AddsToken text table p tape t table′ tape′ r
-adds {text} {table} {p} {tape} {item} {past} {table′} {tape′} {r} t e i w a = record { gives = gives r (a .gives) }
+adds {text} {table} {p} {tape} {t} {item} {past} {table′} {tape′} {r} h a = record { gives = gives r (a .gives) }
   where
     gives : (r′ : Added) → ItemGives text table p tape item past table′ tape′ r′ → TokenGives text table p tape t table′ tape′ r′
-    gives (Taken next) g = (rw (e, ← w) g, rw e i)
-    gives (Wrong answer) g = (rw e g, rw e i)
+    gives (Taken next) g = (rw (h .is, ← h .ends) g, rw (h .is) (h .some))
+    gives (Wrong answer) g = (rw (h .is) g, rw (h .is) (h .some))
     gives Other g = absurd g
-
--- an s-variable or an e-variable
-abbrev variableToken : Bool → Span → Token
-variableToken false x = Symbol x
-variableToken true x = Part x
-
-abbrev variableItem : Bool → Bytes → Item
-variableItem false x = symbolItem x
-variableItem true x = partItem x
-
--- what is asked of a token by the function that adds it, and what comes of it
-module _ {text : Bytes} {table : List ℕ} {p : Counts} {t : Placed} (pre : Held text table p × Comes text Tokens.inside (p .at) t) where
-  pub asks-string : {count : ℕ} → t .token ≡ Quoted count → Held text table p × StringAt text (p .at) (t .place) (t .past) count
-  asks-string e = (pre .0, string-at (pre .1) e)
-
-  pub asks-variable : (isPart : Bool) (x : Span) → t .token ≡ variableToken isPart x → Held text table p × Identifier text (p .at) x
-  asks-variable false x e = (pre .0, symbol-at (pre .1) e)
-  asks-variable true x e = (pre .0, part-at (pre .1) e)
-
-  module _ {tape table′ tape′ : List ℕ} {r : Added} where
-    pub adds-string : {count : ℕ} → t .token ≡ Quoted count
-        → AddsItem text table p tape (characters (charactersIn (quotationAt text (t .place)))) (t .past) table′ tape′ r
-        → AddsToken text table p tape t table′ tape′ r
-    adds-string e a = adds t (item-string (pre .1) e) refl refl a
-
-    pub adds-variable : (isPart : Bool) (x : Span) → t .token ≡ variableToken isPart x
-        → AddsItem text table p tape (variableItem isPart (View.part text x)) (x .past) table′ tape′ r
-        → AddsToken text table p tape t table′ tape′ r
-    adds-variable false x e a = adds t (item-symbol (pre .1) e) refl (symbol-past (pre .1) e) a
-    adds-variable true x e a = adds t (item-part (pre .1) e) refl (part-past (pre .1) e) a
 
 -- after an item the tokens go on inside the sentence
 module _ (text : Bytes) (place past : ℕ) where

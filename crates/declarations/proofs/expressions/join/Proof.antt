@@ -3,41 +3,36 @@ use borrow.Author.Needs.{needs}
 use Rattle.declarations.proofs.expressions.join.Statement.{statement}
 use Rattle.declarations.proofs.expressions.join.Tie as tie
 use mathlib.Core.Path.{refl}
-use Rattle.parsing.proofs.Items.{string-at, symbol-at, part-at, item-other}
-use Rattle.declarations.proofs.Joining.{string-here, symbol-here, part-here, joins}
+use mathlib.Core.Bool.{true, false}
+use Rattle.parsing.proofs.Items.{string-here, variable-here, asks-string, asks-variable, item-other}
+use Rattle.declarations.proofs.Joining.{joins}
 
 enum-known-token : tie.Need-enum-known-token
 enum-known-token c = search needs
 
 join-string-requires : tie.Need-join-string-requires
-join-string-requires c κs =
-    let p = c .before .before .before .before .before .before .pre in
-    (p .0, string-at (p .1) (c .before .before .token .given .1))
+join-string-requires c κs = asks-string (c .before .before .before .before .before .before .pre) (c .before .before .token .given .1)
 
 enum-known-token-2 : tie.Need-enum-known-token-2
 enum-known-token-2 c = search needs
 
 join-symbol-requires : tie.Need-join-symbol-requires
-join-symbol-requires c κs =
-    let p = c .before .before .before .before .before .before .pre in
-    (p .0, symbol-at (p .1) (c .before .before .token2 .given .1))
+join-symbol-requires c κs = asks-variable (c .before .before .before .before .before .before .pre) false _ (c .before .before .token2 .given .1)
 
 enum-known-token-3 : tie.Need-enum-known-token-3
 enum-known-token-3 c = search needs
 
 join-part-requires : tie.Need-join-part-requires
-join-part-requires c κs =
-    let p = c .before .before .before .before .before .before .pre in
-    (p .0, part-at (p .1) (c .before .before .token3 .given .1))
+join-part-requires c κs = asks-variable (c .before .before .before .before .before .before .pre) true _ (c .before .before .token3 .given .1)
 
 returns : tie.Need-returns
 returns c = joins (string-here (c .before .before .before .before .before .before .before .pre .1) (c .before .before .before .token .given .1)) (c .join-string .ensures)
 
 returns-2 : tie.Need-returns-2
-returns-2 c = joins (symbol-here (c .before .before .before .before .before .before .before .pre .1) (c .before .before .before .token2 .given .1)) (c .join-symbol .ensures)
+returns-2 c = joins (variable-here (c .before .before .before .before .before .before .before .pre .1) false _ (c .before .before .before .token2 .given .1)) (c .join-symbol .ensures)
 
 returns-3 : tie.Need-returns-3
-returns-3 c = joins (part-here (c .before .before .before .before .before .before .before .pre .1) (c .before .before .before .token3 .given .1)) (c .join-part .ensures)
+returns-3 c = joins (variable-here (c .before .before .before .before .before .before .before .pre .1) true _ (c .before .before .before .token3 .given .1)) (c .join-part .ensures)
 
 returns-4 : tie.Need-returns-4
 returns-4 c = record { gives = (item-other (c .before .before .before .pre .1) (c .match .keys4), refl) }

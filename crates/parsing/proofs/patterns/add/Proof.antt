@@ -4,7 +4,7 @@ use Rattle.parsing.proofs.patterns.add.Statement.{statement}
 use Rattle.parsing.proofs.patterns.add.Tie as tie
 use mathlib.Core.Path.{refl}
 use mathlib.Core.Bool.{true, false}
-use Rattle.parsing.proofs.Items.{asks-string, asks-variable, item-other, adds-string, adds-variable}
+use Rattle.parsing.proofs.Items.{string-here, variable-here, asks-string, asks-variable, item-other, adds}
 
 enum-known-token : tie.Need-enum-known-token
 enum-known-token c = search needs
@@ -25,13 +25,13 @@ add-part-requires : tie.Need-add-part-requires
 add-part-requires c κs = asks-variable (c .before .before .before .before .before .before .pre) true _ (c .before .before .before .token3 .given .1)
 
 returns : tie.Need-returns
-returns c = adds-string (c .before .before .before .before .before .before .before .before .pre) (c .before .before .before .before .before .token .given .1) (c .add-string .ensures)
+returns c = adds (string-here (c .before .before .before .before .before .before .before .before .pre .1) (c .before .before .before .before .before .token .given .1)) (c .add-string .ensures)
 
 returns-2 : tie.Need-returns-2
-returns-2 c = adds-variable (c .before .before .before .before .before .before .before .pre) false _ (c .before .before .before .before .token2 .given .1) (c .add-symbol .ensures)
+returns-2 c = adds (variable-here (c .before .before .before .before .before .before .before .pre .1) false _ (c .before .before .before .before .token2 .given .1)) (c .add-symbol .ensures)
 
 returns-3 : tie.Need-returns-3
-returns-3 c = adds-variable (c .before .before .before .before .before .before .before .pre) true _ (c .before .before .before .before .token3 .given .1) (c .add-part .ensures)
+returns-3 c = adds (variable-here (c .before .before .before .before .before .before .before .pre .1) true _ (c .before .before .before .before .token3 .given .1)) (c .add-part .ensures)
 
 returns-4 : tie.Need-returns-4
 returns-4 c = record { gives = (item-other (c .before .before .pre .1) (c .match .keys4), refl, refl) }
