@@ -25,6 +25,7 @@ use Rattle.declarations.specs.Expressions.{progressAt, Going, Expression
 use Rattle.bookkeeping.proofs.Going.{stops, reads, ReadAt, has-read, went-then, word-went, ready-after, stops-too}
 use Rattle.bookkeeping.proofs.Tokening.{passes-on, passes-not}
 use Rattle.declarations.proofs.Opened.{openingAt, OpeningAgrees}
+use Rattle.declarations.proofs.Onward.{going-on, going-after}
 
 -- THE DEFINITION
 
@@ -58,11 +59,6 @@ call-is argument depth so t ts =
     (afterName argument (suc depth) so))
 
 -- THE READER
-
--- with no item more
-pub going-on : {text : Bytes} {table : List ℕ} {symbols parts : ℕ} {s : Progress} {at words : ℕ} → Going text table symbols parts s → Ready text at words
-    → Going text table symbols parts (record { at = at; words = words; count = s .count; parts = s .parts })
-going-on g r = record { variables = g .variables; passed = g .passed; few = g .few; ready = r }
 
 -- what the definition reads of a call after its `<`
 abbrev pub callAt : Bytes → List ℕ → ℕ → ℕ → ℕ → ℕ → Progress → ℕ → Parsed Reading.Called
@@ -109,12 +105,7 @@ module _ {text : Bytes} {depth : ℕ} {s : Progress} {place : ℕ} {tape tape₁
 
   pub argument-going : {table : List ℕ} {symbols parts : ℕ} → Going text table symbols parts s → Going text table symbols parts start
   argument-going g =
-      record {
-        variables = g .variables;
-        passed = rw (o .read .how .passed) (g .passed);
-        few = omega (arith, o .read .how .counted, o .read .how .few);
-        ready = ready-after (g .ready .short) (o .read .how .went);
-      }
+      going-after g (o .read .how .went) (omega (arith, o .read .how .counted, o .read .how .few)) (rw (o .read .how .passed) (g .passed))
 
   -- the argument was read
   pub argument-ready : {table : List ℕ} {symbols parts : ℕ} {tape₂ : List ℕ} {r : CodeParsed} {argument : Progress}

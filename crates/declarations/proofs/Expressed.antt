@@ -14,7 +14,7 @@ use Rattle.meaning.specs.Grammar.{standing, written}
 use Rattle.meaning.specs.Reading as Reading
 use Rattle.meaning.specs.Reading.{Parsed, stopped, parsed, follow, withFirst, Item, characters, symbolItem, partItem, noItem, isItem, thenItem}
 use Rattle.meaning.proofs.laws.Passing.{every-head, every-tail}
-use Rattle.lexing.specs.View.{placedOf, tokenOf, stream, Comes}
+use Rattle.lexing.specs.View.{placedOf, stream, Comes}
 use Rattle.lexing.specs.declared.Placed as Code
 use Rattle.bookkeeping.specs.declared.Answer.{Answer}
 use Rattle.bookkeeping.specs.declared.progress.Fault.{Fault}
@@ -31,7 +31,8 @@ use Rattle.declarations.specs.Expressions.{progressAt, Going, CallStands
 use Rattle.parsing.proofs.Items.{item-then}
 use Rattle.bookkeeping.proofs.Going.{check-wrong, stops, reads, ReadAt, has-read, went-none, went-from, went-then, stops-too}
 use Rattle.bookkeeping.proofs.Tokening.{sign-shown, sign-first, takes, ready-place, ready-past, went-before}
-use Rattle.declarations.proofs.Calling.{callAt, CallAgrees, expressionAt, ExpressionAgrees, going-on}
+use Rattle.declarations.proofs.Calling.{callAt, CallAgrees, expressionAt, ExpressionAgrees}
+use Rattle.declarations.proofs.Onward.{going-on}
 
 -- ITEMS AND CALLS BEFORE AN EXPRESSION
 
@@ -228,33 +229,23 @@ module _ {text table : List ℕ} {symbols parts depth : ℕ} {start : Progress} 
 
   -- THE END
 
-  end-with : {bound : ℕ} (ts : List Tokens.Placed) → Behind text table symbols parts depth start tape₀ (q .tape) s bound
-      → stream text Tokens.inside (s .at) ≡ placedOf text t ∷ ts
-      → isItem (itemAt text t) ≡ false
-      → Reading.isSign 60 (tokenOf text (t .token) (t .place) (t .past)) ≡ false
-      → tape′ ≡ q .tape
-      → ExpressionAgrees text table symbols parts bound depth start tape₀ tape′
-      (Done (record { at = t .place; words = s .words; count = s .count; parts = s .parts }))
-  end-with {bound} ts b u i n e =
-      reads (record { expression = b .first end; progress = progressAt text table parts s }) (stream text Tokens.inside (s .at))
-      (at-step b u ∙ rw (u, i, n))
-      (record {
-        tokens = sym (q .comes .again);
-        shorter = b .shorter;
-        went =
-            rw (b .tapes end, tape-end, append-nil (b .words), e)
-            (went-before (b .went) (q .comes));
-        progress = refl;
-        going = going-on (q .so .going) (ready-place (q .so .going .ready) (q .comes));
-        stands = b .stand end (stands-end text);
-      })
-
   pub expression-ends : {bound : ℕ} → r ≡ Other → signIs 60 (t .token) ≡ false → length (stream text Tokens.inside (start .at)) ≤ bound
       → ExpressionAgrees text table symbols parts bound depth start tape₀ tape′
       (Done (record { at = t .place; words = s .words; count = s .count; parts = s .parts }))
   expression-ends {bound} e n h =
       let g = given e in
-      end-with _ (q .so .behind bound h) (q .comes .unrolled) (g .0) (sign-shown text t 60 n) (g .1)
+      let b = q .so .behind bound h in
+      let u = q .comes .unrolled in
+      reads (record { expression = b .first end; progress = progressAt text table parts s }) (stream text Tokens.inside (s .at))
+      (at-step b u ∙ rw (u, g .0, sign-shown text t 60 n))
+      (record {
+        tokens = sym (q .comes .again);
+        shorter = b .shorter;
+        went = rw (b .tapes end, tape-end, append-nil (b .words), g .1) (went-before (b .went) (q .comes));
+        progress = refl;
+        going = going-on (q .so .going) (ready-place (q .so .going .ready) (q .comes));
+        stands = b .stand end (stands-end text);
+      })
 
 -- A CALL
 

@@ -175,8 +175,7 @@ spare-passed k = record { tokens = rw (k .unrolled); onward = omega (arith, k .o
 
 pub spare-none : {text : Bytes} {at : ℕ} {t : Code.Placed} → Comes text Tokens.outside at t → signIs 59 (t .token) ≡ false → SpareTo text at (t .place)
 spare-none {text} {t = t} c e =
-    let i : Reading.isSign 59 (tokenOf text (t .token) (t .place) (t .past)) ≡ false = sign-shown text t 59 e in
-    record { tokens = c .again ∙ rw (c .unrolled, i); onward = c .onward; inside = omega (arith, c .forward, c .inside) }
+    record { tokens = c .again ∙ rw (c .unrolled, sign-shown text t 59 e); onward = c .onward; inside = omega (arith, c .forward, c .inside) }
 
 -- THE END
 

@@ -34,7 +34,7 @@ use Rattle.bookkeeping.proofs.Lengths.{too-long, short-enough, within}
 use Rattle.parsing.proofs.Items.{ItemHere}
 use Rattle.parsing.proofs.Itemed.{string-went, string-quiet, variable-went, variable-quiet}
 use Rattle.parsing.proofs.Patterning.{identifier-inside}
-use Rattle.bookkeeping.proofs.Going.{ready-after}
+use Rattle.declarations.proofs.Onward.{going-after}
 
 -- an item with a fault
 wrongs : {text : Bytes} {table : List ℕ} {symbols parts : ℕ} {s : Progress} {tape : List ℕ} {item : Item} {past : ℕ} {tape′ : List ℕ} {answer : Answer}
@@ -62,13 +62,7 @@ module _ {text : Bytes} {table : List ℕ} {symbols parts : ℕ} {s : Progress} 
       record {
         gives =
             record {
-              going =
-                  record {
-                    variables = g .variables;
-                    passed = g .passed;
-                    few = few;
-                    ready = ready-after (g .ready .short) o;
-                  };
+              going = going-after g o few (g .passed);
               at = refl;
               went = o;
               quiet = string-quiet (g .ready) (p .1) (w .1);
@@ -127,13 +121,7 @@ module _ {text : Bytes} {table : List ℕ} {symbols parts : ℕ} {s : Progress} 
         gives =
             rw (v .same)
             (record {
-              going =
-                  record {
-                    variables = g .variables;
-                    passed = h;
-                    few = omega arith;
-                    ready = ready-after (g .ready .short) o;
-                  };
+              going = going-after g o (omega arith) h;
               at = refl;
               went = o;
               quiet = rw q (variable-quiet (g .ready) (p .1) kind (omega arith) (v .quiet));

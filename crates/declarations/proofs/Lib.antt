@@ -1,4 +1,5 @@
 -- Laws of reading functions, sentences and expressions.
+pub mod Onward
 pub mod Joining
 pub mod Opened
 pub mod Calling

@@ -26,7 +26,7 @@ use Rattle.bookkeeping.specs.declared.progress.Progress.{Progress}
 use Rattle.bookkeeping.specs.declared.progress.Parsed.{Parsed as CodeParsed}
 use Rattle.bookkeeping.specs.declared.progress.Parsed.the-variants.{Stopped, Done}
 use Rattle.declarations.specs.declared.sentences.Sequel.the-variants.{Ends, Another, Refused}
-use Rattle.bookkeeping.specs.Answered.{numberOf, Agrees}
+use Rattle.bookkeeping.specs.Answered.{Agrees}
 use Rattle.bookkeeping.specs.Written.{Ready}
 use Rattle.bookkeeping.specs.Tokened.{signIs, Taken}
 use Rattle.parsing.specs.Patterns.{Variables, symbolNames, partNames, PatternRead}
@@ -68,11 +68,10 @@ module _ {text : Bytes} {from : ℕ} where
   pub follows-nothing : {t : Code.Placed} {fault : Fault} → Comes text Tokens.inside from t → signIs 125 (t .token) ≡ false → signIs 59 (t .token) ≡ false
       → FaultOf t fault
       → Follows text from (Refused fault)
-  follows-nothing {t} {fault} c e d f =
-      let i : Reading.isSign 125 (tokenOf text (t .token) (t .place) (t .past)) ≡ false = sign-shown text t 125 e in
-      let j : Reading.isSign 59 (tokenOf text (t .token) (t .place) (t .past)) ≡ false = sign-shown text t 59 d in
-      let n : numberOf (fault .answer) ≡ Reading.faultOf (tokenOf text (t .token) (t .place) (t .past)) = f .0 ∙ fault-same text (t .place) (t .past) (t .token) in
-      record { gives = λ more s. rw (c .unrolled, i, j, n, f .1) }
+  follows-nothing {t} c e d f =
+      record {
+        gives = λ more s. rw (c .unrolled, sign-shown text t 125 e, sign-shown text t 59 d, f .0 ∙ fault-same text (t .place) (t .past) (t .token), f .1);
+      }
 
   module _ {next : ℕ} (k : Taken text Tokens.inside 59 from next) where
     pub ends-after : {past : ℕ} → Taken text Tokens.inside 125 next past → Follows text from (Ends past)
@@ -80,10 +79,9 @@ module _ {text : Bytes} {from : ℕ} where
 
     pub goes-after : {t : Code.Placed} → Comes text Tokens.inside next t → signIs 125 (t .token) ≡ false → Follows text from (Another (t .place))
     goes-after {t} c e =
-        let i : Reading.isSign 125 (tokenOf text (t .token) (t .place) (t .past)) ≡ false = sign-shown text t 125 e in
         record {
           gives = (
-            λ more s. rw (k .unrolled, c .again, c .unrolled, i),
+            λ more s. rw (k .unrolled, c .again, c .unrolled, sign-shown text t 125 e),
             omega (arith, k .onward, c .onward),
             omega (arith, c .forward, c .inside),
           );

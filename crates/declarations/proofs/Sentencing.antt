@@ -189,6 +189,15 @@ pub record Sequelled (text start : List ℕ) (limit from words left : ℕ) (tape
   pub follows : Follows text (s .at) q
 
 module _ {text start : List ℕ} {limit from words left : ℕ} {tape₁ : List ℕ} {s : Progress} {q : Sequel} (w : Sequelled text start limit from words left tape₁ s q) where
+  followed : {q′ : Sequel} → q ≡ q′ → Follows text (s .at) q′
+  followed e = rw e at (w .follows)
+
+  abbrev others : List Sentence
+  others = before (w .one)
+
+  abbrev newest : Sentence
+  newest = last (w .one)
+
   -- the tape has room for the word after the sentence
   pub sequel-room : goesOn q ≡ true → s .words < 32768
   sequel-room = room q (w .follows)
@@ -200,20 +209,17 @@ module _ {text start : List ℕ} {limit from words left : ℕ} {tape₁ : List �
 
   pub sequel-refused : {tape′ : List ℕ} {fault : Fault} → q ≡ Refused fault → SentencesAgree text limit from words start tape′ (Stopped fault)
   sequel-refused {fault = fault} e =
-      let f = rw e at (w .follows) in
-      stops fault _ _ (at-sequel (w .one) ∙ rw (f .gives (Reading.sentences (left - 1)) (w .one .read .value))) refl refl
+      stops fault _ _ (at-sequel (w .one) ∙ rw (followed e .gives (Reading.sentences (left - 1)) newest)) refl refl
 
   pub sequel-ends : {tape′ : List ℕ} {past : ℕ} → q ≡ Ends past → tape′ ≡ set tape₁ (s .words) 1792
       → SentencesAgree text limit from words start tape′ (Done (record { at = past; words = s .words + 1; count = left - 1; parts = 0 }))
   sequel-ends {past = past} e put =
-      let f = rw e at (w .follows) in
-      let before = w .one .others .before in
-      let last = w .one .read .value in
-      reads (before ++ last ∷ []) (stream text Tokens.outside past)
-      (at-sequel (w .one) ∙ rw (f .gives .0 (Reading.sentences (left - 1)) last))
+      let f = followed e .gives in
+      reads (others ++ newest ∷ []) (stream text Tokens.outside past)
+      (at-sequel (w .one) ∙ rw (f .0 (Reading.sentences (left - 1)) newest))
       (record {
         tokens = refl;
-        went = rw (parted-last before last) (sentence-went (w .one) (tapeWord endKind 0) (f .gives .1) (f .gives .2) put);
+        went = rw (parted-last others newest) (sentence-went (w .one) (tapeWord endKind 0) (f .1) (f .2) put);
         left = counted-more (w .one);
         stand = stand-more (w .one);
       })
@@ -221,16 +227,14 @@ module _ {text start : List ℕ} {limit from words left : ℕ} {tape₁ : List �
   pub sequel-goes : {tape′ : List ℕ} {place : ℕ} → q ≡ Another place → tape′ ≡ set tape₁ (s .words) 1536
       → Sentenced text start limit from words tape′ place (s .words + 1) (left - 1)
   sequel-goes {place = place} e put =
-      let f = rw e at (w .follows) in
-      let before = w .one .others .before in
-      let last = w .one .read .value in
+      let f = followed e .gives in
       record {
-        before = before ++ last ∷ [];
+        before = others ++ newest ∷ [];
         same =
             at-sequel (w .one)
-            ∙ rw (f .gives .0 (Reading.sentences (left - 1)) last)
-            (behind-more before last (Reading.sentences (left - 1) (stream text Tokens.inside place)));
-        went = rw (parted-more before last) (sentence-went (w .one) (tapeWord nextKind 0) (f .gives .1) (f .gives .2) put);
+            ∙ rw (f .0 (Reading.sentences (left - 1)) newest)
+            (behind-more others newest (Reading.sentences (left - 1) (stream text Tokens.inside place)));
+        went = rw (parted-more others newest) (sentence-went (w .one) (tapeWord nextKind 0) (f .1) (f .2) put);
         counted = counted-more (w .one);
         stand = stand-more (w .one);
         short = w .one .others .short;

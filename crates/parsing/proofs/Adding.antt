@@ -35,6 +35,7 @@ use Rattle.bookkeeping.proofs.Tabling.{kept-above, kept-below, grown, entry-nam
 use Rattle.parsing.proofs.Elements.{ends-with, ends-string, tape-string, tape-one}
 use Rattle.parsing.proofs.Itemed.{string-went, string-quiet, variable-went, variable-quiet}
 use Rattle.parsing.proofs.Patterning.{identifier-inside, symbol-count, part-count}
+use Rattle.bookkeeping.proofs.Going.{ready-after}
 
 -- ITEMS
 
@@ -73,7 +74,7 @@ module _ {text : Bytes} {table : List ℕ} {p : Counts} {tape : List ℕ} {item 
                   record {
                     variables = k .variables;
                     fewLetters = k .few;
-                    ready = record { inside = g .inside; charged = g .charged; short = h .ready .short };
+                    ready = ready-after (h .ready .short) g;
                   };
               at = refl;
               went = rw e g;

@@ -10,8 +10,11 @@ use Rattle.lexing.proofs.Stream.{comes}
 use Rattle.bookkeeping.proofs.Choosing.{no-fault-here, a-fault-here}
 use Rattle.declarations.proofs.Opened.{CallComes, CallName, CallNamed, too-deep, too-many, call-limited, call-nameless, named-here, call-misnamed, name-room, call-opens}
 
+abbrev start : tie.After-lex → tie.Start
+start c = c .before .before .before .before .before
+
 call-here : (c : tie.After-lex)
-    → let a = c .before .before .before .before .before .args in
+    → let a = start c .args in
     CallComes (a .text .now) (a .depth) (a .s) (a .place) (c .lex .result)
 call-here c =
     let at-if1 = c .before .before .before in
@@ -26,14 +29,14 @@ call-here c =
 
 name-here : (c : tie.After-token)
     → let at-lex = c .before .before in
-    let a = at-lex .before .before .before .before .before .args in
+    let a = start at-lex .args in
     CallName (a .text .now) (a .depth) (a .s) (a .place) (at-lex .lex .result) (c .token .given .0 .0)
 name-here c = record { call = call-here (c .before .before); is = c .token .given .1 }
 
 sound-here : (c : tie.Else3)
     → let at-token = c .before .before .before .before in
     let at-lex = at-token .before .before in
-    let a = at-lex .before .before .before .before .before .args in
+    let a = start at-lex .args in
     CallNamed (a .text .now) (a .depth) (a .s) (a .place) (at-lex .lex .result) (at-token .token .given .0 .0)
 sound-here c =
     let at-called-fault = c .before .before in
