@@ -18,7 +18,7 @@ call-here : (c : tie.After-lex)
     CallComes (a .text .now) (a .depth) (a .s) (a .place) (c .lex .result)
 call-here c =
     let at-if1 = c .before .before .before in
-    let pre = at-if1 .before .before .pre in
+    let pre = start c .pre in
     record {
       ready = pre .0;
       after = pre .1;

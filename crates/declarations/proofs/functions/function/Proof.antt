@@ -7,17 +7,20 @@ use native.Mathlib.Omega.{arith}
 use Rattle.bookkeeping.proofs.Choosing.{no-fault-here, a-fault-here}
 use Rattle.declarations.proofs.Functioned.{NameComes, Named, function-nameless, named-here, function-many, function-misnamed, declarable, function-reads}
 
+abbrev start : tie.After-token → tie.Start
+start c = c .before .before .before
+
 name-here : (c : tie.Else1)
     → let at-token = c .before .before in
-    let a = at-token .before .before .before .args in
+    let a = start at-token .args in
     NameComes (a .text .now) (a .names .now) (a .functions) (a .words) (a .t) (at-token .token .given .0 .0)
 name-here c =
     let at-token = c .before .before in
-    record { opening = at-token .before .before .before .pre; is = at-token .token .given .1; few = c .if1 .left }
+    record { opening = start at-token .pre; is = at-token .token .given .1; few = c .if1 .left }
 
 sound-here : (c : tie.Else2)
     → let at-token = c .before .before .before .before .before .before .before in
-    let a = at-token .before .before .before .args in
+    let a = start at-token .args in
     Named (a .text .now) (a .names .now) (a .functions) (a .words) (a .t) (at-token .token .given .0 .0)
 sound-here c =
     let at-declared-fault = c .before .before in
@@ -41,7 +44,7 @@ stopped-requires c κs = search needs
 returns-2 : tie.Need-returns-2
 returns-2 c =
     let at-token = c .before .before .before in
-    rw (c .stopped .ensures) (function-many (at-token .before .before .before .pre) (at-token .token .given .1) (c .before .if1 .taken))
+    rw (c .stopped .ensures) (function-many (start at-token .pre) (at-token .token .given .1) (c .before .if1 .taken))
 
 declared-fault-requires : tie.Need-declared-fault-requires
 declared-fault-requires c κs =

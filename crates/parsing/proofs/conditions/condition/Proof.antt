@@ -32,17 +32,20 @@ enum-known-token c = search needs
 refuse-requires : tie.Need-refuse-requires
 refuse-requires c κs = search needs
 
+abbrev start : tie.After-at → tie.Start
+start c = c .before .before .before .before .before
+
 opened : (c : tie.After-lex) → let at-at = c .before .before in
-    let a = at-at .before .before .before .before .before .args in
+    let a = start at-at .args in
     OpenedAt (a .text .now) (a .table .now) (a .symbols) (a .from) (a .words) (at-at .at .given .0 .0) (c .lex .result)
 opened c =
     let at-at = c .before .before in
-    let p = at-at .before .before .before .before .before .pre in
+    let p = start at-at .pre in
     let o = rw (at-at .at .given .1) at (at-at .before .before .pass .ensures) in
     record { known = p .1; ready = p .0; opened = o; first = comes _ naming _ _ (o .inside) (c .lex .ensures) }
 
 named : (c : tie.After-token) → let at-at = c .before .before .before .before in
-    let a = at-at .before .before .before .before .before .args in
+    let a = start at-at .args in
     NamedAt (a .text .now) (a .table .now) (a .symbols) (a .from) (a .words) (at-at .at .given .0 .0) (c .before .before .lex .result) (c .token .given .0 .0)
 named c = let o = opened (c .before .before) in record { bracket = o; name = name-first (o .first) (c .token .given .1) }
 

@@ -16,17 +16,20 @@ enum-known-token c = search needs
 refuse-requires : tie.Need-refuse-requires
 refuse-requires c κs = search needs
 
-looked : (c : tie.After-lex) → let a = c .before .before .before .args in OnToken (a .text .now) (a .table .now) (a .symbols) (a .from) (a .words) (c .lex .result)
+abbrev start : tie.After-lex → tie.Start
+start c = c .before .before .before
+
+looked : (c : tie.After-lex) → let a = start c .args in OnToken (a .text .now) (a .table .now) (a .symbols) (a .from) (a .words) (c .lex .result)
 looked c =
-    let p = c .before .before .before .pre in
+    let p = start c .pre in
     record { known = p .1; ready = p .0; first = comes _ inside _ _ (p .0 .inside) (c .lex .ensures) }
 
-symbol : (c : tie.After-token) → let a = c .before .before .before .before .before .args in
+symbol : (c : tie.After-token) → let a = start (c .before .before) .args in
     OnSymbol (a .text .now) (a .table .now) (a .symbols) (a .from) (a .words) (c .before .before .lex .result) (c .token .given .0 .0)
 symbol c = record { on = looked (c .before .before); symbol = c .token .given .1 }
 
 asked : (c : tie.After-is-accepted) → let at-token = c .before .before .before in
-    let a = at-token .before .before .before .before .before .args in
+    let a = start (at-token .before .before) .args in
     OnAsked (a .text .now) (a .table .now) (a .symbols) (a .from) (a .words) (at-token .before .before .lex .result) (at-token .token .given .0 .0)
     (numberOf (c .before .later-symbol-fault .result)) (c .is-accepted .result)
 asked c = record { on = symbol (c .before .before .before); fault = c .before .later-symbol-fault .ensures; accepted = c .is-accepted .ensures }
@@ -35,7 +38,7 @@ returns : tie.Need-returns
 returns c = λ k e. on-no-symbol (looked (c .before .before)) k (c .before .match .keys2) (c .refuse .ensures)
 
 later-symbol-fault-requires : tie.Need-later-symbol-fault-requires
-later-symbol-fault-requires c κs = (on-inside (symbol (c .before)), c .before .before .before .before .before .before .pre .1)
+later-symbol-fault-requires c κs = (on-inside (symbol (c .before)), start (c .before .before .before) .pre .1)
 
 is-accepted-requires : tie.Need-is-accepted-requires
 is-accepted-requires c κs = search needs
@@ -46,7 +49,7 @@ returns-2 c = λ k e. on-wrong (asked (c .before)) k (c .if1 .taken)
 condition-end-requires : tie.Need-condition-end-requires
 condition-end-requires c κs =
     let b = on-before (asked (c .before .before)) (c .before .if1 .left) in
-    (b .0, b .1, c .before .before .before .before .before .before .before .before .before .before .pre .2)
+    (b .0, b .1, start (c .before .before .before .before .before .before .before) .pre .2)
 
 returns-3 : tie.Need-returns-3
 returns-3 c = λ k e. on-reads (asked (c .before .before .before)) (c .before .before .if1 .left) k (c .condition-end .ensures k e)
