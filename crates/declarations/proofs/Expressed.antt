@@ -250,12 +250,13 @@ module _ {text table : List ℕ} {symbols parts depth : ℕ} {start : Progress} 
 -- A CALL
 
 -- the token is the `<` of a call
-pub record AtCall (text table : List ℕ) (symbols parts depth : ℕ) (start : Progress) (tape₀ : List ℕ) (s : Progress) (t : Code.Placed) (tape′ : List ℕ) : Type 0 where
-  pub token : AtToken text table symbols parts depth start tape₀ s t tape′ Other
+pub record AtCall {text table : List ℕ} {symbols parts depth : ℕ} {start : Progress} {tape₀ : List ℕ} {s : Progress} {t : Code.Placed} {tape′ : List ℕ} {r : Joined}
+    (k : AtToken text table symbols parts depth start tape₀ s t tape′ r) : Type 0 where
+  pub other : r ≡ Other
   pub angle : signIs 60 (t .token) ≡ true
 
-module _ {text table : List ℕ} {symbols parts depth : ℕ} {start : Progress} {tape₀ : List ℕ} {s : Progress} {t : Code.Placed} {tape′ : List ℕ}
-    (q : AtCall text table symbols parts depth start tape₀ s t tape′) where
+module _ {text table : List ℕ} {symbols parts depth : ℕ} {start : Progress} {tape₀ : List ℕ} {s : Progress} {t : Code.Placed} {tape′ : List ℕ} {r : Joined}
+    {k : AtToken text table symbols parts depth start tape₀ s t tape′ r} (q : AtCall k) where
   abbrev opened : Progress
   opened = record { at = t .past; words = s .words; count = s .count; parts = s .parts }
 
@@ -263,42 +264,42 @@ module _ {text table : List ℕ} {symbols parts depth : ℕ} {start : Progress} 
   calledAt left = callAt text table symbols parts left depth opened (t .place)
 
   unrolled : stream text Tokens.inside (s .at) ≡ standing (Tokens.sign 60) (t .place) (t .past) ∷ stream text Tokens.naming (t .past)
-  unrolled = sign-first text Tokens.inside (s .at) (q .token .comes) (q .angle)
+  unrolled = sign-first text Tokens.inside (s .at) (k .comes) (q .angle)
 
   passed : s .at < t .past
-  passed = takes text Tokens.inside (s .at) 60 t (q .token .comes) (q .angle) .onward
+  passed = takes text Tokens.inside (s .at) 60 t (k .comes) (q .angle) .onward
 
   -- the call begins further on in the text
   pub call-onward : (start .at < t .past) × (t .past ≤ length text)
-  call-onward = (omega (arith, q .token .so .onward, passed), q .token .comes .inside)
+  call-onward = (omega (arith, k .so .onward, passed), k .comes .inside)
 
   pub call-ready : Going text table symbols parts opened × (s .words < t .past)
   call-ready =
-      let g = q .token .so .going in
-      (going-on g (ready-past (g .ready) (q .token .comes)), omega (arith, g .ready .charged, passed))
+      let g = k .so .going in
+      (going-on g (ready-past (g .ready) (k .comes)), omega (arith, g .ready .charged, passed))
 
   -- the definition reads a call
-  at-call : {bound : ℕ} (b : Behind text table symbols parts depth start tape₀ (q .token .tape) s bound)
+  at-call : {bound : ℕ} (b : Behind text table symbols parts depth start tape₀ (k .tape) s bound)
       → expressionAt text table symbols parts bound depth start
       ≡ withFirst (b .first)
       (follow (calledAt (b .left - 1)) λ d rest.
       withFirst (thenCall (d .place) (d .name) (d .argument)) (Reading.expression (b .left - 1) (symbolNames text table symbols) depth (d .progress) rest))
   at-call b = at-step b unrolled
 
-  left-enough : {bound : ℕ} (b : Behind text table symbols parts depth start tape₀ (q .token .tape) s bound) → length (stream text Tokens.naming (t .past)) ≤ b .left - 1
+  left-enough : {bound : ℕ} (b : Behind text table symbols parts depth start tape₀ (k .tape) s bound) → length (stream text Tokens.naming (t .past)) ≤ b .left - 1
   left-enough b = omega (arith, step-enough b unrolled)
 
-  call-behind : {tape″ : List ℕ} {next : Progress} {bound : ℕ} (b : Behind text table symbols parts depth start tape₀ (q .token .tape) s bound)
+  call-behind : {tape″ : List ℕ} {next : Progress} {bound : ℕ} (b : Behind text table symbols parts depth start tape₀ (k .tape) s bound)
       → ReadAt (CallRead text table symbols parts opened tape′ tape″) (calledAt (b .left - 1)) next
       → Behind text table symbols parts depth start tape₀ tape″ next bound
-  call-behind {tape″} {next} b r =
-      let d = r .value in
-      let h = r .how in
-      let c = q .token .comes in
-      behind-more b unrolled (thenCall (d .place) (d .name) (d .argument)) (callTape d) (at-call b ∙ rw (r .same, h .progress, h .tokens)) (rw (h .tokens) at (h .shorter))
+  call-behind {tape″} {next} b read =
+      let d = read .value in
+      let h = read .how in
+      let c = k .comes in
+      behind-more b unrolled (thenCall (d .place) (d .name) (d .argument)) (callTape d) (at-call b ∙ rw (read .same, h .progress, h .tokens)) (rw (h .tokens) at (h .shorter))
       (tape-call (d .place) (d .name) (d .argument))
       (λ e g. stands-call text (d .argument) e (h .named) (h .stands) g)
-      (went-from (omega (arith, c .onward, c .forward)) (rw (q .token .joins .gives .1) at (h .went)))
+      (went-from (omega (arith, c .onward, c .forward)) (rw (given k (q .other) .1) at (h .went)))
 
   -- what the call's reader came to, with every bound that is large enough
   module _ {tape″ : List ℕ} {p : CodeParsed}
@@ -306,7 +307,7 @@ module _ {text table : List ℕ} {symbols parts depth : ℕ} {start : Progress} 
     pub call-stopped : {fault : Fault} {bound : ℕ} → p ≡ Stopped fault → length (stream text Tokens.inside (start .at)) ≤ bound
         → ExpressionAgrees text table symbols parts bound depth start tape₀ tape″ (Stopped fault)
     call-stopped {bound = bound} e h =
-        let b = q .token .so .behind bound h in
+        let b = k .so .behind bound h in
         stops-too (a (b .left - 1) (left-enough b)) e (λ g. at-call b ∙ rw g)
 
     module _ {next : Progress} (e : p ≡ Done next) where
@@ -323,9 +324,9 @@ module _ {text table : List ℕ} {symbols parts depth : ℕ} {start : Progress} 
       call-read =
           record {
             going = shown .how .going;
-            onward = omega (arith, q .token .so .onward, call-moves .0);
+            onward = omega (arith, k .so .onward, call-moves .0);
             behind =
                 λ bound l.
-                let b = q .token .so .behind bound l in
+                let b = k .so .behind bound l in
                 call-behind b (called (b .left - 1) (left-enough b));
           }

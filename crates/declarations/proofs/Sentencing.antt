@@ -184,44 +184,43 @@ module _ {text start : List ℕ} {limit from words left : ℕ} {tape₁ : List �
   stand-more = each-more (SentenceStands text) before last (o .others .stand) (read-so .read .stands)
 
 -- what comes after it is known
-pub record Sequelled (text start : List ℕ) (limit from words left : ℕ) (tape₁ : List ℕ) (s : Progress) (q : Sequel) : Type 0 where
-  pub one : OneMore text start limit from words left tape₁ s
+pub record Sequelled {text start : List ℕ} {limit from words left : ℕ} {tape₁ : List ℕ} {s : Progress} (one : OneMore text start limit from words left tape₁ s) (q : Sequel) : Type 0 where
   pub follows : Follows text (s .at) q
 
-module _ {text start : List ℕ} {limit from words left : ℕ} {tape₁ : List ℕ} {s : Progress} {q : Sequel} (w : Sequelled text start limit from words left tape₁ s q) where
+module _ {text start : List ℕ} {limit from words left : ℕ} {tape₁ : List ℕ} {s : Progress} {one : OneMore text start limit from words left tape₁ s} {q : Sequel} (w : Sequelled one q) where
   followed : {q′ : Sequel} → q ≡ q′ → Follows text (s .at) q′
   followed e = rw e at (w .follows)
 
   abbrev others : List Sentence
-  others = before (w .one)
+  others = before one
 
   abbrev newest : Sentence
-  newest = last (w .one)
+  newest = last one
 
   -- the tape has room for the word after the sentence
   pub sequel-room : goesOn q ≡ true → s .words < 32768
   sequel-room = room q (w .follows)
     where
       room : (q′ : Sequel) → Follows text (s .at) q′ → goesOn q′ ≡ true → s .words < 32768
-      room (Ends past) f e = omega (arith, sequel-ready (w .one), f .gives .1, f .gives .2)
-      room (Another place) f e = omega (arith, sequel-ready (w .one), f .gives .1, f .gives .2)
+      room (Ends past) f e = omega (arith, sequel-ready one, f .gives .1, f .gives .2)
+      room (Another place) f e = omega (arith, sequel-ready one, f .gives .1, f .gives .2)
       room (Refused fault) f e = absurd (false≢true e)
 
   pub sequel-refused : {tape′ : List ℕ} {fault : Fault} → q ≡ Refused fault → SentencesAgree text limit from words start tape′ (Stopped fault)
   sequel-refused {fault = fault} e =
-      stops fault _ _ (at-sequel (w .one) ∙ rw (followed e .gives (Reading.sentences (left - 1)) newest)) refl refl
+      stops fault _ _ (at-sequel one ∙ rw (followed e .gives (Reading.sentences (left - 1)) newest)) refl refl
 
   pub sequel-ends : {tape′ : List ℕ} {past : ℕ} → q ≡ Ends past → tape′ ≡ set tape₁ (s .words) 1792
       → SentencesAgree text limit from words start tape′ (Done (record { at = past; words = s .words + 1; count = left - 1; parts = 0 }))
   sequel-ends {past = past} e put =
       let f = followed e .gives in
       reads (others ++ newest ∷ []) (stream text Tokens.outside past)
-      (at-sequel (w .one) ∙ rw (f .0 (Reading.sentences (left - 1)) newest))
+      (at-sequel one ∙ rw (f .0 (Reading.sentences (left - 1)) newest))
       (record {
         tokens = refl;
-        went = rw (parted-last others newest) (sentence-went (w .one) (tapeWord endKind 0) (f .1) (f .2) put);
-        left = counted-more (w .one);
-        stand = stand-more (w .one);
+        went = rw (parted-last others newest) (sentence-went one (tapeWord endKind 0) (f .1) (f .2) put);
+        left = counted-more one;
+        stand = stand-more one;
       })
 
   pub sequel-goes : {tape′ : List ℕ} {place : ℕ} → q ≡ Another place → tape′ ≡ set tape₁ (s .words) 1536
@@ -231,11 +230,11 @@ module _ {text start : List ℕ} {limit from words left : ℕ} {tape₁ : List �
       record {
         before = others ++ newest ∷ [];
         same =
-            at-sequel (w .one)
+            at-sequel one
             ∙ rw (f .0 (Reading.sentences (left - 1)) newest)
             (behind-more others newest (Reading.sentences (left - 1) (stream text Tokens.inside place)));
-        went = rw (parted-more others newest) (sentence-went (w .one) (tapeWord nextKind 0) (f .1) (f .2) put);
-        counted = counted-more (w .one);
-        stand = stand-more (w .one);
-        short = w .one .others .short;
+        went = rw (parted-more others newest) (sentence-went one (tapeWord nextKind 0) (f .1) (f .2) put);
+        counted = counted-more one;
+        stand = stand-more one;
+        short = one .others .short;
       }

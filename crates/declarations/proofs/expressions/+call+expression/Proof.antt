@@ -151,18 +151,8 @@ module _ (t : ℕ) where
       record { tape = _; so = at-lex .before .loop .inv; comes = token-here at-lex; joins = c .join .ensures }
 
   call-here : (c : expression-lts.Else1 (expression-claims t) (expression-at t) expression.Post Inv-loop μ-loop)
-      → let at-join = c .before .before .before .before in
-      let at-lex = at-join .before .before in
-      let at-loop = at-lex .before in
-      let a = at-loop .before .before .before .args in
-      AtCall (a .text .now) (a .table .now) (a .symbols) (a .parts) (a .depth) (a .start) (a .tape .now) (at-loop .loop .s) (at-lex .lex .result)
-      (at-join .join .last .1 .0)
-  call-here c =
-      let at-enum-told = c .before .before in
-      record {
-        token = rw (at-enum-told .enum-told .given .1) at (joined-here (at-enum-told .before .before));
-        angle = sym (c .before .is-sign .ensures) ∙ not-false _ (c .if1 .left);
-      }
+      → AtCall (joined-here (c .before .before .before .before))
+  call-here c = record { other = c .before .before .enum-told .given .1; angle = sym (c .before .is-sign .ensures) ∙ not-false _ (c .if1 .left) }
 
   expression-loop-holds : expression-lts.Need-loop-holds (expression-claims t) (expression-at t) expression.Post Inv-loop μ-loop
   expression-loop-holds c = expression-starts _ _ _ _ _ _ _ (c .before .before .pre .1)

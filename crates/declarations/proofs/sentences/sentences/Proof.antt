@@ -21,14 +21,8 @@ read-here c =
     let at-next-sentence = c .before .before in
     one-more (at-next-sentence .before .before .loop .inv) (c .s .given .1) (at-next-sentence .next-sentence .ensures)
 
-sequel-here : (c : tie.After-after-sentence Inv-loop μ-loop)
-    → let at-s = c .before .before .before in
-    let at-next-sentence = at-s .before .before in
-    let at-loop = at-next-sentence .before .before in
-    let a = at-loop .before .before .args in
-    Sequelled (a .text .now) (a .tape .now) (a .limit) (a .from) (a .words) (at-loop .loop .left) (at-next-sentence .next-sentence .last .1 .0) (at-s .s .given .0 .0)
-    (c .after-sentence .result)
-sequel-here c = record { one = read-here (c .before .before .before); follows = c .after-sentence .ensures }
+sequel-here : (c : tie.After-after-sentence Inv-loop μ-loop) → Sequelled (read-here (c .before .before .before)) (c .after-sentence .result)
+sequel-here c = record { follows = c .after-sentence .ensures }
 
 loop-holds : tie.Need-loop-holds Inv-loop μ-loop
 loop-holds c = sentences-start _ _ _ _ _ (c .before .pre)
