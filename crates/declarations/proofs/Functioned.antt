@@ -121,21 +121,20 @@ module _ {text names : List ℕ} {functions words : ℕ} {t : Code.Placed} {n : 
         stops _ _ _ (rw (named-here .unrolled, lt-ltb functions 64 (m .few), ← f) (check-wrong (numberOf answer) _ _ w)) refl refl
 
 -- its name has no fault
-pub record Named (text names : List ℕ) (functions words : ℕ) (t : Code.Placed) (n : Span) : Type 0 where
-  pub name : NameComes text names functions words t n
+pub record Named {text names : List ℕ} {functions words : ℕ} {t : Code.Placed} {n : Span} (name : NameComes text names functions words t n) : Type 0 where
   pub sound : declaredFaultIn (tableNames text names 0 functions) (View.part text n) ≡ 0
 
-module _ {text names : List ℕ} {functions words : ℕ} {t : Code.Placed} {n : Span} (m : Named text names functions words t n) where
+module _ {text names : List ℕ} {functions words : ℕ} {t : Code.Placed} {n : Span} {name : NameComes text names functions words t n} (m : Named name) where
   abbrev here : NameFirst text Tokens.outside (t .place) t n
-  here = named-here (m .name)
+  here = named-here name
 
   pub declarable : Declarable text words n
   declarable =
       record {
-        after = omega (arith, m .name .opening .ready .charged, here .from);
+        after = omega (arith, name .opening .ready .charged, here .from);
         inside = here .inside;
         brief = within text n (here .inside) 24 3 _ (m .sound);
-        short = m .name .opening .ready .short;
+        short = name .opening .ready .short;
       }
 
   pub function-reads : {tape tape′ names′ : List ℕ} {entry limit : ℕ} {r : CodeParsed}
@@ -146,10 +145,10 @@ module _ {text names : List ℕ} {functions words : ℕ} {t : Code.Placed} {n : 
   function-reads {names′ = names′} {entry = entry} {limit} x w a =
       let brief : n .past - n .from < 32 = omega (arith, declarable .brief) in
       let inside : T (inText text entry) = rw x (entry-inside text n (here .inside) brief) in
-      let name : nameIn text entry ≡ View.part text n = rw x (entry-name text n (here .inside) brief) in
-      let o = m .name .opening in
+      let spelled : nameIn text entry ≡ View.part text n = rw x (entry-name text n (here .inside) brief) in
+      let o = name .opening in
       let g : Grown text names names′ 0 functions (View.part text n) =
-      rw (w, ← name) (grown text names 0 functions (o .entries) entry (rw (o .long) (m .name .few)) inside)
+      rw (w, ← spelled) (grown text names 0 functions (o .entries) entry (rw (o .long) (name .few)) inside)
       in
       makes (declared (View.part text n)) _
       (λ ss rest s h. record {
@@ -164,7 +163,7 @@ module _ {text names : List ℕ} {functions words : ℕ} {t : Code.Placed} {n : 
         names = g .names;
         long = rw w (length-set names functions entry ∙ o .long);
       })
-      (rw (here .unrolled, lt-ltb functions 64 (m .name .few), m .sound, ← here .past)
+      (rw (here .unrolled, lt-ltb functions 64 (name .few), m .sound, ← here .past)
       (pass-follow 123 (stream text Tokens.outside (n .past)) (λ ts. Reading.sentences limit ts) (λ ss rest. parsed (declared (View.part text n) ss) rest)))
       a
 

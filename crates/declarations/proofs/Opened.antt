@@ -71,30 +71,26 @@ module _ {text : Bytes} {depth : ℕ} {s : Progress} {place : ℕ} {t : Code.Pla
   call-nameless n f = refused (k .comes) (at-name ∙ names-not (k .comes) _ _ n) f
 
 -- the token is a name
-pub record CallName (text : Bytes) (depth : ℕ) (s : Progress) (place : ℕ) (t : Code.Placed) (n : Span) : Type 0 where
-  pub call : CallComes text depth s place t
+pub record CallName {text : Bytes} {depth : ℕ} {s : Progress} {place : ℕ} {t : Code.Placed} (call : CallComes text depth s place t) (n : Span) : Type 0 where
   pub is : t .token ≡ NameToken n
 
-module _ {text : Bytes} {depth : ℕ} {s : Progress} {place : ℕ} {t : Code.Placed} {n : Span} (m : CallName text depth s place t n) where
+module _ {text : Bytes} {depth : ℕ} {s : Progress} {place : ℕ} {t : Code.Placed} {call : CallComes text depth s place t} {n : Span} (m : CallName call n) where
   pub named-here : NameFirst text Tokens.naming (s .at) t n
-  named-here = name-first (m .call .comes) (m .is)
+  named-here = name-first (call .comes) (m .is)
 
   pub call-misnamed : {tape tape′ : List ℕ} {answer : Answer} → numberOf answer ≡ Reading.calledFault (View.part text n) → eqb (numberOf answer) 0 ≡ false
       → OpeningAgrees text depth s place tape tape′ (stoppedWith answer (t .place))
   call-misnamed {answer = answer} f w =
-      stops _ _ _ (at-name (m .call) ∙ rw (named-here .unrolled, ← f) (check-wrong (numberOf answer) _ _ w)) refl refl
+      stops _ _ _ (at-name call ∙ rw (named-here .unrolled, ← f) (check-wrong (numberOf answer) _ _ w)) refl refl
 
 -- it has no fault
-pub record CallNamed (text : Bytes) (depth : ℕ) (s : Progress) (place : ℕ) (t : Code.Placed) (n : Span) : Type 0 where
-  pub name : CallName text depth s place t n
+pub record CallNamed {text : Bytes} {depth : ℕ} {s : Progress} {place : ℕ} {t : Code.Placed} {call : CallComes text depth s place t} {n : Span} (name : CallName call n) : Type 0 where
   pub sound : Reading.calledFault (View.part text n) ≡ 0
 
-module _ {text : Bytes} {depth : ℕ} {s : Progress} {place : ℕ} {t : Code.Placed} {n : Span} (m : CallNamed text depth s place t n) where
-  abbrev call : CallComes text depth s place t
-  call = m .name .call
-
+module _ {text : Bytes} {depth : ℕ} {s : Progress} {place : ℕ} {t : Code.Placed} {call : CallComes text depth s place t} {n : Span} {name : CallName call n}
+    (m : CallNamed name) where
   abbrev here : NameFirst text Tokens.naming (s .at) t n
-  here = named-here (m .name)
+  here = named-here name
 
   name-length : length (View.part text n) ≡ n .past - n .from
   name-length = part-length text n (here .inside)

@@ -165,9 +165,7 @@ pub record AfterPattern (text : Bytes) (from words : ℕ) (tape table tape₁ : 
   pub read : ReadAt (PatternRead text from words tape table tape₁) (Reading.pattern [] (stream text Tokens.inside from)) p
 
 -- the conditions were read after it
-pub record AfterConditions (text : Bytes) (from words : ℕ) (tape table : List ℕ) (p : Progress) (tape₂ : List ℕ) (c : Progress) : Type 0 where
-  pub tape₁ : List ℕ
-  pub pattern : AfterPattern text from words tape table tape₁ p
+pub record AfterConditions {text : Bytes} {from words : ℕ} {tape table tape₁ : List ℕ} {p : Progress} (pattern : AfterPattern text from words tape table tape₁ p) (tape₂ : List ℕ) (c : Progress) : Type 0 where
   pub read : ReadAt (ConditionsRead text (p .at) (p .words) tape₁ tape₂) (conditionsAt text table p) c
 
 module _ {text : Bytes} {from words : ℕ} {tape table tape₁ : List ℕ} {r : CodeParsed}
@@ -197,26 +195,25 @@ module _ {text : Bytes} {from words : ℕ} {tape table tape₁ : List ℕ} {p : 
     pub conditions-stop : {fault : Fault} → r ≡ Stopped fault → SentenceAgrees text from words tape tape₂ (Stopped fault)
     conditions-stop e = stops-too a e (λ h. at-conditions ∙ rw h)
 
-    pub conditions-done : {c : Progress} → r ≡ Done c → AfterConditions text from words tape table p tape₂ c
-    conditions-done e = record { tape₁ = tape₁; pattern = k; read = has-read _ _ (rw e at a) }
+    pub conditions-done : {c : Progress} → r ≡ Done c → AfterConditions k tape₂ c
+    conditions-done e = record { read = has-read _ _ (rw e at a) }
 
-module _ {text : Bytes} {from words : ℕ} {tape table : List ℕ} {p : Progress} {tape₂ : List ℕ} {c : Progress}
-    (l : AfterConditions text from words tape table p tape₂ c) where
+module _ {text : Bytes} {from words : ℕ} {tape table tape₁ : List ℕ} {p : Progress} {k : AfterPattern text from words tape table tape₁ p} {tape₂ : List ℕ} {c : Progress}
+    (l : AfterConditions k tape₂ c) where
   pub conditions-ready : Ready text (c .at) (c .words)
-  conditions-ready = ready-after (l .pattern .ready .short) (l .read .how .went)
+  conditions-ready = ready-after (k .ready .short) (l .read .how .went)
 
   pub sentence-reads : {tape′ : List ℕ} {r : CodeParsed}
       → EqualsAgrees text table (p .count) (p .parts) (c .at) (c .words) tape₂ tape′ r
       → SentenceAgrees text from words tape tape′ r
   sentence-reads a =
-      let k = l .pattern .read in
-      makes (withExpression (k .value) (l .read .value)) _
+      makes (withExpression (k .read .value) (l .read .value)) _
       (λ i rest s h. record {
         tokens = h .tokens;
-        went = went-then (k .how .went) (went-then (l .read .how .went) (h .went));
-        stands = record { pattern = k .how .quiet; conditions = l .read .how .quiet; expression = h .stands };
+        went = went-then (k .read .how .went) (went-then (l .read .how .went) (h .went));
+        stands = record { pattern = k .read .how .quiet; conditions = l .read .how .quiet; expression = h .stands };
       })
-      (at-conditions (l .pattern) ∙ rw (l .read .same, l .read .how .tokens))
+      (at-conditions k ∙ rw (l .read .same, l .read .how .tokens))
       a
 
 -- THE NEXT SENTENCE

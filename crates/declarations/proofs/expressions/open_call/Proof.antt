@@ -10,15 +10,12 @@ use Rattle.lexing.proofs.Stream.{comes}
 use Rattle.bookkeeping.proofs.Choosing.{no-fault-here, a-fault-here}
 use Rattle.declarations.proofs.Opened.{CallComes, CallName, CallNamed, too-deep, too-many, call-limited, call-nameless, named-here, call-misnamed, name-room, call-opens}
 
-abbrev start : tie.After-lex → tie.Start
-start c = c .before .before .before .before .before
-
 call-here : (c : tie.After-lex)
-    → let a = start c .args in
+    → let a = c .before .before .before .before .before .args in
     CallComes (a .text .now) (a .depth) (a .s) (a .place) (c .lex .result)
 call-here c =
     let at-if1 = c .before .before .before in
-    let pre = start c .pre in
+    let pre = at-if1 .before .before .pre in
     record {
       ready = pre .0;
       after = pre .1;
@@ -27,23 +24,11 @@ call-here c =
       comes = comes _ Tokens.naming _ _ (pre .0 .inside) (c .lex .ensures);
     }
 
-name-here : (c : tie.After-token)
-    → let at-lex = c .before .before in
-    let a = start at-lex .args in
-    CallName (a .text .now) (a .depth) (a .s) (a .place) (at-lex .lex .result) (c .token .given .0 .0)
-name-here c = record { call = call-here (c .before .before); is = c .token .given .1 }
+name-here : (c : tie.After-token) → CallName (call-here (c .before .before)) (c .token .given .0 .0)
+name-here c = record { is = c .token .given .1 }
 
-sound-here : (c : tie.Else3)
-    → let at-token = c .before .before .before .before in
-    let at-lex = at-token .before .before in
-    let a = start at-lex .args in
-    CallNamed (a .text .now) (a .depth) (a .s) (a .place) (at-lex .lex .result) (at-token .token .given .0 .0)
-sound-here c =
-    let at-called-fault = c .before .before in
-    record {
-      name = name-here (at-called-fault .before .before);
-      sound = no-fault-here (at-called-fault .called-fault .ensures) (c .before .is-accepted .ensures) (c .if3 .left);
-    }
+sound-here : (c : tie.Else3) → CallNamed (name-here (c .before .before .before .before))
+sound-here c = record { sound = no-fault-here (c .before .before .called-fault .ensures) (c .before .is-accepted .ensures) (c .if3 .left) }
 
 stopped-requires : tie.Need-stopped-requires
 stopped-requires c κs = search needs
@@ -88,7 +73,7 @@ put-call-requires : tie.Need-put-call-requires
 put-call-requires c κs = name-room (sound-here (c .before))
 
 add-t19 : tie.Need-add-t19
-add-t19 c = let few = sound-here (c .before .before .before) .name .call .few in omega arith
+add-t19 c = let few = call-here (c .before .before .before .before .before .before .before .before .before) .few in omega arith
 
 returns-4 : tie.Need-returns-4
 returns-4 c = call-opens (sound-here (c .before .before .before)) (c .before .put-call .ensures)

@@ -18,16 +18,8 @@ name-here c =
     let at-token = c .before .before in
     record { opening = start at-token .pre; is = at-token .token .given .1; few = c .if1 .left }
 
-sound-here : (c : tie.Else2)
-    → let at-token = c .before .before .before .before .before .before .before in
-    let a = start at-token .args in
-    Named (a .text .now) (a .names .now) (a .functions) (a .words) (a .t) (at-token .token .given .0 .0)
-sound-here c =
-    let at-declared-fault = c .before .before in
-    record {
-      name = name-here (at-declared-fault .before .before .before);
-      sound = no-fault-here (at-declared-fault .declared-fault .ensures) (c .before .is-accepted .ensures) (c .if2 .left);
-    }
+sound-here : (c : tie.Else2) → Named (name-here (c .before .before .before .before .before))
+sound-here c = record { sound = no-fault-here (c .before .before .declared-fault .ensures) (c .before .is-accepted .ensures) (c .if2 .left) }
 
 enum-known-token : tie.Need-enum-known-token
 enum-known-token c = search needs
@@ -75,7 +67,7 @@ mul-names : tie.Need-mul-names
 mul-names c = search needs
 
 element-write-names : tie.Need-element-write-names
-element-write-names c = sound-here (c .before) .name .few
+element-write-names c = name-here (c .before .before .before .before .before .before) .few
 
 body-requires : tie.Need-body-requires
 body-requires c κs = declarable (sound-here (c .before .before))

@@ -5,28 +5,19 @@ use borrow.Author.Needs.{needs}
 use Rattle.declarations.proofs.Sentenced.{AfterPattern, AfterConditions, pattern-stops, pattern-done, pattern-ready, pattern-variables, conditions-stop, conditions-done, conditions-ready, sentence-reads}
 use mathlib.Core.Path.{sym}
 
-abbrev start : tie.After-pattern → tie.Start
-start c = c .before .before .before .before .before
-
 pattern-here : (c : tie.After-p)
     → let at-pattern = c .before .before in
-    let a = start at-pattern .args in
+    let a = at-pattern .before .before .before .before .before .args in
     let left = at-pattern .pattern .last .1 in
     AfterPattern (a .text .now) (a .from) (a .words) (a .tape .now) (left .1 .0) (left .0) (c .p .given .0 .0)
 pattern-here c =
     let at-pattern = c .before .before in
-    pattern-done (at-pattern .pattern .ensures) (start at-pattern .pre) (c .p .given .1)
+    pattern-done (at-pattern .pattern .ensures) (at-pattern .before .before .before .before .before .pre) (c .p .given .1)
 
 conditions-here : (c : tie.After-c)
     → let at-conditions = c .before .before in
-    let at-p = at-conditions .before .before .before .before in
-    let at-pattern = at-p .before .before in
-    let a = start at-pattern .args in
-    AfterConditions (a .text .now) (a .from) (a .words) (a .tape .now) (at-pattern .pattern .last .1 .1 .0) (at-p .p .given .0 .0)
-    (at-conditions .conditions .last .1 .0) (c .c .given .0 .0)
-conditions-here c =
-    let at-conditions = c .before .before in
-    conditions-done (pattern-here (at-conditions .before .before .before .before)) (at-conditions .conditions .ensures) (c .c .given .1)
+    AfterConditions (pattern-here (at-conditions .before .before .before .before)) (at-conditions .conditions .last .1 .0) (c .c .given .0 .0)
+conditions-here c = conditions-done (pattern-here (c .before .before .before .before .before .before)) (c .before .before .conditions .ensures) (c .c .given .1)
 
 variable-room-requires : tie.Need-variable-room-requires
 variable-room-requires c κs = search needs
@@ -63,12 +54,12 @@ enum-known-c : tie.Need-enum-known-c
 enum-known-c c = search needs
 
 slice-aggregate-sentence-end : tie.Need-slice-aggregate-sentence-end
-slice-aggregate-sentence-end c = sym (pattern-variables (conditions-here (c .before .before .before) .pattern) .long)
+slice-aggregate-sentence-end c = sym (pattern-variables (pattern-here (c .before .before .before .before .before .before .before .before .before)) .long)
 
 sentence-end-requires : tie.Need-sentence-end-requires
 sentence-end-requires c κs =
-    let l = conditions-here (c .before .before .before) in
-    (pattern-variables (l .pattern), conditions-ready l)
+    let at-c = c .before .before .before in
+    (pattern-variables (pattern-here (at-c .before .before .before .before .before .before)), conditions-ready (conditions-here at-c))
 
 returns-3 : tie.Need-returns-3
 returns-3 c = sentence-reads (conditions-here (c .before .before .before .before)) (c .sentence-end .ensures)
