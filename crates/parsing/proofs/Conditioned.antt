@@ -246,13 +246,11 @@ pub record OnToken (text table : List ℕ) (symbols from words : ℕ) (t : Code.
   pub first : Comes text Tokens.inside from t
 
 -- it is an s-variable
-pub record OnSymbol (text table : List ℕ) (symbols from words : ℕ) (t : Code.Placed) (x : Span) : Type 0 where
-  pub on : OnToken text table symbols from words t
+pub record OnSymbol {text table : List ℕ} {symbols from words : ℕ} {t : Code.Placed} (on : OnToken text table symbols from words t) (x : Span) : Type 0 where
   pub symbol : t .token ≡ Symbol x
 
 -- what is wrong with it, and whether that is nothing
-pub record OnAsked (text table : List ℕ) (symbols from words : ℕ) (t : Code.Placed) (x : Span) (number : ℕ) (is : Bool) : Type 0 where
-  pub on : OnSymbol text table symbols from words t x
+pub record OnAsked {text table : List ℕ} {symbols from words : ℕ} {t : Code.Placed} {on : OnToken text table symbols from words t} {x : Span} (s : OnSymbol on x) (number : ℕ) (is : Bool) : Type 0 where
   pub fault : number ≡ symbolFault (symbolNames text table symbols) (View.part text x)
   pub accepted : is ≡ eqb number 0
 
@@ -267,37 +265,35 @@ module _ {text table : List ℕ} {symbols from words : ℕ} {t : Code.Placed} wh
       (rw (k .unrolled) (symbol-not text (t .token) (t .place) (t .past) (k .sound) o (symbolNames text table symbols) (placedOf text t) _))
       f
 
-  module _ {x : Span} where
-    pub on-inside : OnSymbol text table symbols from words t x → Inside text x
-    on-inside a = identifier-inside (variable-at (a .on .first) false _ (a .symbol))
+  module _ {on : OnToken text table symbols from words t} {x : Span} where
+    pub on-inside : OnSymbol on x → Inside text x
+    on-inside a = identifier-inside (variable-at (on .first) false _ (a .symbol))
 
-    at-symbol : OnSymbol text table symbols from words t x → (c : Class) → conditionOn (symbolNames text table symbols) c (stream text Tokens.inside from)
+    at-symbol : OnSymbol on x → (c : Class) → conditionOn (symbolNames text table symbols) c (stream text Tokens.inside from)
         ≡ Reading.check (symbolFault (symbolNames text table symbols) (View.part text x)) (placedOf text t)
         (conditionEnd c (View.part text x) (stream text Tokens.inside (t .past)))
     at-symbol a c =
-        let k = a .on .first in
-        let h = variable-here k false _ (a .symbol) in
-        rw (item-then k (rw (h .is) (h .some)) .unrolled, h .is)
+        let h = variable-here (on .first) false _ (a .symbol) in
+        rw (item-then (on .first) (rw (h .is) (h .some)) .unrolled, h .is)
 
-    pub on-wrong : {answer : Answer} {is : Bool} → OnAsked text table symbols from words t x (numberOf answer) is → (c : Class) {tape tape′ : List ℕ}
+    pub on-wrong : {s : OnSymbol on x} {answer : Answer} {is : Bool} → OnAsked s (numberOf answer) is → (c : Class) {tape tape′ : List ℕ}
         → not is ≡ true
         → OnAgrees text table symbols from words tape tape′ c (Stopped (record { answer = answer; place = t .place }))
-    on-wrong {answer} a c w =
-        stops _ _ _ (at-symbol (a .on) c ∙ rw (← (a .fault)) (check-wrong (numberOf answer) (placedOf text t) _ (a-fault-here (a .fault) (a .accepted) w))) refl refl
+    on-wrong {s} {answer} a c w =
+        stops _ _ _ (at-symbol s c ∙ rw (← (a .fault)) (check-wrong (numberOf answer) (placedOf text t) _ (a-fault-here (a .fault) (a .accepted) w))) refl refl
 
-    module _ {number : ℕ} {is : Bool} (a : OnAsked text table symbols from words t x number is) (w : not is ≡ false) where
+    module _ {s : OnSymbol on x} {number : ℕ} {is : Bool} (a : OnAsked s number is) (w : not is ≡ false) where
       right : symbolFault (symbolNames text table symbols) (View.part text x) ≡ 0
       right = no-fault-here (a .fault) (a .accepted) w
 
       pub on-before : Ready text (t .past) words × Before text words (t .past) x
       on-before =
-          let on = a .on .on in
-          let i = variable-at (on .first) false _ (a .on .symbol) in (
+          let i = variable-at (on .first) false _ (s .symbol) in (
             ready-past (on .ready) (on .first),
             record {
               after = omega (arith, on .ready .charged, i .after);
               some = i .some;
-              before = omega (arith, variable-here (on .first) false _ (a .on .symbol) .ends);
+              before = omega (arith, variable-here (on .first) false _ (s .symbol) .ends);
               short = within text x (identifier-inside i) 8 3 _ right;
             },
           )
@@ -305,7 +301,7 @@ module _ {text table : List ℕ} {symbols from words : ℕ} {t : Code.Placed} wh
       -- what is read from a later place on is read from here
       pub on-reads : (c : Class) {tape tape′ : List ℕ} {r : CodeParsed} → EndAgrees text (t .past) words tape tape′ x c r
           → OnAgrees text table symbols from words tape tape′ c r
-      on-reads c e = let k = a .on .on .first in earlier (omega (arith, k .onward, k .forward)) (at-symbol (a .on) c ∙ rw right) e
+      on-reads c e = earlier (omega (arith, on .first .onward, on .first .forward)) (at-symbol s c ∙ rw right) e
 
 -- A CONDITION AFTER ITS `,`
 
@@ -324,8 +320,7 @@ pub record OpenedAt (text table : List ℕ) (symbols from words start : ℕ) (t 
   pub first : Comes text Tokens.naming start t
 
 -- it is a name
-pub record NamedAt (text table : List ℕ) (symbols from words start : ℕ) (t : Code.Placed) (n : Span) : Type 0 where
-  pub bracket : OpenedAt text table symbols from words start t
+pub record NamedAt {text table : List ℕ} {symbols from words start : ℕ} {t : Code.Placed} (o : OpenedAt text table symbols from words start t) (n : Span) : Type 0 where
   pub name : NameFirst text Tokens.naming start t n
 
 module _ {text table : List ℕ} {symbols from words : ℕ} where
@@ -347,19 +342,19 @@ module _ {text table : List ℕ} {symbols from words : ℕ} where
         → ConditionAgrees text table symbols from words tape tape′ (Stopped fault)
     name-not a n f = refused (a .first) (at-name a ∙ names-not (a .first) _ _ n) f
 
-    module _ {n : Span} (a : NamedAt text table symbols from words start t n) where
+    module _ {o : OpenedAt text table symbols from words start t} {n : Span} (a : NamedAt o n) where
       pub name-ready : Ready text (t .past) words
-      name-ready = ready-past (ready-taken (a .bracket .ready) (a .bracket .opened)) (a .bracket .first)
+      name-ready = ready-past (ready-taken (o .ready) (o .opened)) (o .first)
 
       pub name-long : {tape tape′ : List ℕ} → 24 < n .past - n .from
           → ConditionAgrees text table symbols from words tape tape′ (Stopped (record { answer = OverLimit; place = t .place }))
       name-long l =
-          stops _ _ _ (at-name (a .bracket) ∙ rw (a .name .unrolled, too-long text n (a .name .inside) 24 l)) refl refl
+          stops _ _ _ (at-name o ∙ rw (a .name .unrolled, too-long text n (a .name .inside) 24 l)) refl refl
 
       module _ (l : n .past - n .from ≤ 24) where
         at-class : Reading.condition (symbolNames text table symbols) (stream text Tokens.inside from)
             ≡ withName (symbolNames text table symbols) (t .place) (View.part text n) (stream text Tokens.inside (t .past))
-        at-class = at-name (a .bracket) ∙ rw (a .name .unrolled, short-enough text n (a .name .inside) 24 l)
+        at-class = at-name o ∙ rw (a .name .unrolled, short-enough text n (a .name .inside) 24 l)
 
         pub class-not : {tape tape′ : List ℕ} → predicateOf (View.part text n) ≡ none
             → ConditionAgrees text table symbols from words tape tape′ (Stopped (record { answer = WrongName; place = t .place }))
@@ -370,7 +365,6 @@ module _ {text table : List ℕ} {symbols from words : ℕ} where
             → ConditionAgrees text table symbols from words tape tape′ r
         class-reads class low d e =
             let c = classed class low in
-            let o = a .bracket in
             earlier (omega (arith, o .opened .onward, o .first .onward, o .first .forward)) (at-class ∙ rw (d, c .same)) (e (c .class) (c .same))
 
 -- CONDITIONS

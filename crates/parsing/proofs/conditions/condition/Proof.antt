@@ -32,22 +32,17 @@ enum-known-token c = search needs
 refuse-requires : tie.Need-refuse-requires
 refuse-requires c κs = search needs
 
-abbrev start : tie.After-at → tie.Start
-start c = c .before .before .before .before .before
-
 opened : (c : tie.After-lex) → let at-at = c .before .before in
-    let a = start at-at .args in
+    let a = at-at .before .before .before .before .before .args in
     OpenedAt (a .text .now) (a .table .now) (a .symbols) (a .from) (a .words) (at-at .at .given .0 .0) (c .lex .result)
 opened c =
     let at-at = c .before .before in
-    let p = start at-at .pre in
+    let p = at-at .before .before .before .before .before .pre in
     let o = rw (at-at .at .given .1) at (at-at .before .before .pass .ensures) in
     record { known = p .1; ready = p .0; opened = o; first = comes _ naming _ _ (o .inside) (c .lex .ensures) }
 
-named : (c : tie.After-token) → let at-at = c .before .before .before .before in
-    let a = start at-at .args in
-    NamedAt (a .text .now) (a .table .now) (a .symbols) (a .from) (a .words) (at-at .at .given .0 .0) (c .before .before .lex .result) (c .token .given .0 .0)
-named c = let o = opened (c .before .before) in record { bracket = o; name = name-first (o .first) (c .token .given .1) }
+named : (c : tie.After-token) → NamedAt (opened (c .before .before)) (c .token .given .0 .0)
+named c = record { name = name-first (opened (c .before .before) .first) (c .token .given .1) }
 
 returns-2 : tie.Need-returns-2
 returns-2 c = name-not (opened (c .before .before)) (c .before .match2 .keys2) (c .refuse .ensures)
@@ -72,8 +67,8 @@ predicate c =
 
 condition-on-requires : tie.Need-condition-on-requires
 condition-on-requires c κs =
-    let n = named (c .before .before .before .before .before .before) in
-    (name-ready n, n .bracket .known, predicate (c .before))
+    let at-token = c .before .before .before .before .before .before in
+    (name-ready (named at-token), opened (at-token .before .before) .known, predicate (c .before))
 
 returns-5 : tie.Need-returns-5
 returns-5 c =

@@ -24,15 +24,11 @@ looked c =
     let p = start c .pre in
     record { known = p .1; ready = p .0; first = comes _ inside _ _ (p .0 .inside) (c .lex .ensures) }
 
-symbol : (c : tie.After-token) → let a = start (c .before .before) .args in
-    OnSymbol (a .text .now) (a .table .now) (a .symbols) (a .from) (a .words) (c .before .before .lex .result) (c .token .given .0 .0)
-symbol c = record { on = looked (c .before .before); symbol = c .token .given .1 }
+symbol : (c : tie.After-token) → OnSymbol (looked (c .before .before)) (c .token .given .0 .0)
+symbol c = record { symbol = c .token .given .1 }
 
-asked : (c : tie.After-is-accepted) → let at-token = c .before .before .before in
-    let a = start (at-token .before .before) .args in
-    OnAsked (a .text .now) (a .table .now) (a .symbols) (a .from) (a .words) (at-token .before .before .lex .result) (at-token .token .given .0 .0)
-    (numberOf (c .before .later-symbol-fault .result)) (c .is-accepted .result)
-asked c = record { on = symbol (c .before .before .before); fault = c .before .later-symbol-fault .ensures; accepted = c .is-accepted .ensures }
+asked : (c : tie.After-is-accepted) → OnAsked (symbol (c .before .before .before)) (numberOf (c .before .later-symbol-fault .result)) (c .is-accepted .result)
+asked c = record { fault = c .before .later-symbol-fault .ensures; accepted = c .is-accepted .ensures }
 
 returns : tie.Need-returns
 returns c = λ k e. on-no-symbol (looked (c .before .before)) k (c .before .match .keys2) (c .refuse .ensures)
