@@ -291,15 +291,6 @@ module _ {text start tape names : List ℕ} {at words count left : ℕ} {t : Cod
       (k .same ∙ rw (c .unrolled) (functions-end left (k .before) (placedOf text t) following (64 - count) (end-same text (t .place) (t .past) (t .token) ∙ e)))
       (record { went = k .went; entries = k .entries; names = k .names; count = k .counted; stand = k .stand })
 
-  pub opening : Opening text names count words t
-  opening =
-      record {
-        comes = comes-again c;
-        ready = ready-place (ready-after (k .short) (k .went)) c;
-        entries = k .entries;
-        long = k .long;
-      }
-
   -- the function that comes next, by the names before it
   abbrev nextFunction : Parsed Function
   nextFunction = Reading.function (nameFault count (tableNames text names 0 count)) left (stream text Tokens.outside (t .place))
@@ -309,17 +300,33 @@ module _ {text start tape names : List ℕ} {at words count left : ℕ} {t : Cod
       ap (λ (ts : List Tokens.Placed). Reading.function (nameFault count (namesOf (k .before))) left ts) (sym (c .again))
       ∙ ap (λ (known : List Name). Reading.function (nameFault count known) left (stream text Tokens.outside (t .place))) (k .names)
 
-  module _ (e : isEnd (t .token) ≡ false) where
-    not-end : Reading.isTextEnd (tokenOf text (t .token) (t .place) (t .past)) ≡ false
-    not-end = end-same text (t .place) (t .past) (t .token) ∙ e
+-- another function comes after those
+pub record Another {text start tape names : List ℕ} {at words count left : ℕ} (others : Functioned text start tape names at words count left) (t : Code.Placed) : Type 0 where
+  pub comes : Comes text Tokens.outside at t
+  pub is : isEnd (t .token) ≡ false
 
-    pub function-stops : {tape′ names′ : List ℕ} {fault : Fault} {r : CodeParsed} → FunctionAgrees text names count left words t tape tape′ names′ r → r ≡ Stopped fault
-        → FunctionsAgree text start tape′ names′ (Stopped fault)
-    function-stops a q =
-        stops-too a q λ h.
-        k .same
-        ∙ rw (c .unrolled)
-        (functions-stop left (k .before) (placedOf text t) following (64 - count) count (omega (arith, few)) not-end (rw (c .unrolled) at (next-is ∙ h)))
+module _ {text start tape names : List ℕ} {at words count left : ℕ} {k : Functioned text start tape names at words count left} {t : Code.Placed} (n : Another k t) where
+  pub opening : Opening text names count words t
+  opening =
+      record {
+        comes = comes-again (n .comes);
+        ready = ready-place (ready-after (k .short) (k .went)) (n .comes);
+        entries = k .entries;
+        long = k .long;
+      }
+
+  not-end : Reading.isTextEnd (tokenOf text (t .token) (t .place) (t .past)) ≡ false
+  not-end = end-same text (t .place) (t .past) (t .token) ∙ n .is
+
+  pub function-stops : {tape′ names′ : List ℕ} {fault : Fault} {r : CodeParsed} → FunctionAgrees text names count left words t tape tape′ names′ r → r ≡ Stopped fault
+      → FunctionsAgree text start tape′ names′ (Stopped fault)
+  function-stops a q =
+      let c = n .comes in
+      stops-too a q λ h.
+      k .same
+      ∙ rw (c .unrolled)
+      (functions-stop left (k .before) (placedOf text t) (following k c) (64 - count) count (omega (arith, few k c)) not-end
+      (rw (c .unrolled) at (next-is k c ∙ h)))
 
 -- a function was read after those
 pub record OneMore (text start tape₁ names₁ : List ℕ) (count : ℕ) (p : Progress) : Type 0 where
@@ -330,18 +337,15 @@ pub record OneMore (text start tape₁ names₁ : List ℕ) (count : ℕ) (p : P
   pub left : ℕ
   pub token : Code.Placed
   pub others : Functioned text start tape names at words count left
-  pub comes : Comes text Tokens.outside at token
-  pub another : isEnd (token .token) ≡ false
-  pub read : ReadAt (DeclaredRead text left (token .place) words count tape tape₁ names names₁) (nextFunction others comes) p
+  pub next : Another others token
+  pub read : ReadAt (DeclaredRead text left (token .place) words count tape tape₁ names names₁) (nextFunction others (next .comes)) p
 
-pub one-more : {text start tape names tape₁ names₁ : List ℕ} {at words count left : ℕ} {t : Code.Placed} {p : Progress} {r : CodeParsed}
-    → Functioned text start tape names at words count left
-    → Comes text Tokens.outside at t
-    → isEnd (t .token) ≡ false
+pub one-more : {text start tape names tape₁ names₁ : List ℕ} {at words count left : ℕ} {k : Functioned text start tape names at words count left} {t : Code.Placed}
+    {p : Progress} {r : CodeParsed} → Another k t
     → FunctionAgrees text names count left words t tape tape₁ names₁ r
     → r ≡ Done p
     → OneMore text start tape₁ names₁ count p
-one-more k c e a q =
+one-more n a q =
     record {
       tape = _;
       names = _;
@@ -349,9 +353,8 @@ one-more k c e a q =
       words = _;
       left = _;
       token = _;
-      others = k;
-      comes = c;
-      another = e;
+      others = _;
+      next = n;
       read = has-read _ _ (rw q at a);
     }
 
@@ -363,7 +366,7 @@ module _ {text start tape₁ names₁ : List ℕ} {count : ℕ} {p : Progress} (
   at-next : Reading.functions 64 512 [] (stream text Tokens.outside 0)
       ≡ Reading.functions (64 - (count + 1)) (p .count) (o .others .before ++ o .read .value ∷ []) (Reading.passSpare (stream text Tokens.outside (p .at)))
   at-next =
-      let c = o .comes in
+      let c = o .next .comes in
       let t = placedOf text (o .token) in
       let q : Reading.function (Reading.declaredFault (o .others .before)) (o .left) (t ∷ following (o .others) c) ≡ parsed (o .read .value) (o .read .rest) =
       fault-is (o .left) (o .others .before) t (following (o .others) c) count (lt-ltb count 64 room-before) ∙ (rw (c .unrolled) at (next-is (o .others) c ∙ o .read .same))
@@ -372,7 +375,7 @@ module _ {text start tape₁ names₁ : List ℕ} {count : ℕ} {p : Progress} (
       let l : o .left - length (o .read .value .sentences) ≡ p .count = omega (arith, o .read .how .read .left) in
       o .others .same
       ∙ rw (c .unrolled)
-      (functions-next (o .left) (o .others .before) t (following (o .others) c) (64 - count) (64 - (count + 1)) n (not-end (o .others) c (o .another))
+      (functions-next (o .left) (o .others .before) t (following (o .others) c) (64 - count) (64 - (count + 1)) n (not-end (o .next))
       ∙ rw (q, o .read .how .read .tokens, l))
 
   pub function-goes : {at′ : ℕ} → SpareTo text (p .at) at′ → Functioned text start tape₁ names₁ at′ (p .words) (count + 1) (p .count)
@@ -382,7 +385,7 @@ module _ {text start tape₁ names₁ : List ℕ} {count : ℕ} {p : Progress} (
         same = at-next ∙ rw (s .tokens);
         went =
             rw (tape-more (o .others .before) (o .read .value))
-            (went-then (o .others .went) (went-on at′ (went-from (o .comes .onward) (o .read .how .read .went)) (s .onward) (s .inside)));
+            (went-then (o .others .went) (went-on at′ (went-from (o .next .comes .onward) (o .read .how .read .went)) (s .onward) (s .inside)));
         entries = o .read .how .entries;
         names = map-append (λ (f : Function). f .name) (o .others .before) (o .read .value ∷ []) ∙ rw (o .others .names) (sym (o .read .how .names));
         counted = rw (length-append (o .others .before) (o .read .value ∷ [])) (omega (arith, o .others .counted));

@@ -2,15 +2,13 @@
 use Rattle.declarations.proofs.functions.functions.Statement.{statement}
 use Rattle.declarations.proofs.functions.functions.Tie as tie
 use Prim.Native.Nat.{_-_}
-use mathlib.Core.Path.{_≡_, sym, _∙_}
-use mathlib.Core.Bool.{false}
+use mathlib.Core.Path.{sym, _∙_}
 use native.Mathlib.Omega.{arith}
 use borrow.Author.Needs.{needs}
 use Rattle.meaning.specs.Tokens.{outside}
 use Rattle.lexing.specs.View.{Comes}
-use Rattle.declarations.specs.Functions.{isEnd}
 use Rattle.lexing.proofs.Stream.{comes}
-use Rattle.declarations.proofs.Functioned.{Functioned, functions-start, functions-done, opening, function-stops, OneMore, one-more, room-before, function-goes}
+use Rattle.declarations.proofs.Functioned.{Functioned, functions-start, functions-done, Another, opening, function-stops, OneMore, one-more, room-before, function-goes}
 
 abbrev Inv-loop : tie.InvT-loop
 Inv-loop text tape₀ names₀ at₀ words₀ count₀ left₀ tape names at words count left = Functioned text tape₀ tape names at words count left
@@ -21,8 +19,8 @@ abbrev μ-loop : tie.MeasureT-loop
 token-here : (c : tie.After-lex Inv-loop μ-loop) → Comes (c .before .before .before .args .text .now) outside (c .before .loop .at) (c .lex .result)
 token-here c = comes _ outside _ _ (c .before .loop .inv .went .inside) (c .lex .ensures)
 
-another-here : (c : tie.Else1 Inv-loop μ-loop) → isEnd (c .before .before .lex .result .token) ≡ false
-another-here c = sym (c .before .is-end .ensures) ∙ c .if1 .left
+next-here : (c : tie.Else1 Inv-loop μ-loop) → Another (c .before .before .before .loop .inv) (c .before .before .lex .result)
+next-here c = record { comes = token-here (c .before .before); is = sym (c .before .is-end .ensures) ∙ c .if1 .left }
 
 -- a function was read after those before it
 function-here : (c : tie.After-f Inv-loop μ-loop)
@@ -33,9 +31,7 @@ function-here : (c : tie.After-f Inv-loop μ-loop)
     OneMore (a .text .now) (a .tape .now) (left .0) (left .1 .0) (at-loop .loop .count) (c .f .given .0 .0)
 function-here c =
     let at-function = c .before .before in
-    let at-if1 = at-function .before .before .before in
-    let at-lex = at-if1 .before .before in
-    one-more (at-lex .before .loop .inv) (token-here at-lex) (another-here at-if1) (at-function .function .ensures) (c .f .given .1)
+    one-more (next-here (at-function .before .before .before)) (at-function .function .ensures) (c .f .given .1)
 
 loop-holds : tie.Need-loop-holds Inv-loop μ-loop
 loop-holds c = functions-start _ _ _ (c .before .pre .0) (c .before .pre .1)
@@ -52,9 +48,7 @@ returns c =
     functions-done (at-lex .before .loop .inv) (token-here at-lex) (sym (c .before .is-end .ensures) ∙ c .if1 .taken)
 
 function-requires : tie.Need-function-requires Inv-loop μ-loop
-function-requires c κs =
-    let at-lex = c .before .before .before .before in
-    opening (at-lex .before .loop .inv) (token-here at-lex)
+function-requires c κs = opening (next-here (c .before .before))
 
 enum-known-fault : tie.Need-enum-known-fault Inv-loop μ-loop
 enum-known-fault c = search needs
@@ -62,9 +56,7 @@ enum-known-fault c = search needs
 returns-2 : tie.Need-returns-2 Inv-loop μ-loop
 returns-2 c =
     let at-function = c .before .before .before in
-    let at-if1 = at-function .before .before .before in
-    let at-lex = at-if1 .before .before in
-    function-stops (at-lex .before .loop .inv) (token-here at-lex) (another-here at-if1) (at-function .function .ensures) (c .before .fault .given .1)
+    function-stops (next-here (at-function .before .before .before)) (at-function .function .ensures) (c .before .fault .given .1)
 
 enum-known-f : tie.Need-enum-known-f Inv-loop μ-loop
 enum-known-f c = search needs
