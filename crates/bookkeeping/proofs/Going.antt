@@ -38,10 +38,9 @@ pub record ReadAt {A : Type 0} (Reads : A → List Placed → Progress → Type 
   pub how : Reads value rest s
 
 module _ {A : Type 0} {Reads : A → List Placed → Progress → Type 0} where
-  -- the definition stops with this number at this place
-  pub stops : {p : Parsed A} (fault : Fault) (number place : ℕ) → p ≡ stopped number place → numberOf (fault .answer) ≡ number → fault .place ≡ place
-      → Agrees Reads p (Stopped fault)
-  stops fault number place e n q = record { comes = rw e (n, q) }
+  -- the definition stops with this fault
+  pub stops : {p : Parsed A} {fault : Fault} → p ≡ stopped (numberOf (fault .answer)) (fault .place) → Agrees Reads p (Stopped fault)
+  stops e = record { comes = rw e (refl, refl) }
 
   -- the definition reads
   pub reads : {p : Parsed A} {s : Progress} (value : A) (rest : List Placed) → p ≡ parsed value rest → Reads value rest s → Agrees Reads p (Done s)
@@ -62,7 +61,7 @@ pub stops-too : {A B : Type 0} {Reads : A → List Placed → Progress → Type 
     {fault : Fault} → Agrees Reads p r → r ≡ Stopped fault
     → (p ≡ stopped (numberOf (fault .answer)) (fault .place) → q ≡ stopped (numberOf (fault .answer)) (fault .place))
     → Agrees Makes q (Stopped fault)
-stops-too {fault = fault} a e begins = stops fault _ _ (begins (has-stopped _ fault (rw e at a))) refl refl
+stops-too {fault = fault} a e begins = stops (begins (has-stopped _ fault (rw e at a)))
 
 -- FOLLOWING
 

@@ -107,7 +107,7 @@ module _ {A : Type 0} {text : Bytes} {mode : Tokens.Mode} {byte at : ℕ} (next 
   -- a byte that isn't there stops a reader that begins with it
   pub barred-stops : {Reads : A → List Tokens.Placed → Progress → Type 0} {fault : Fault} → Barred text mode byte at fault
       → Agrees Reads (Reading.pass byte (stream text mode at) next) (Stopped fault)
-  barred-stops b = stops _ _ _ (passes-not b) refl refl
+  barred-stops b = stops (passes-not b)
 
 -- NAMES
 
@@ -150,7 +150,7 @@ pub refused : {text : Bytes} {mode : Tokens.Mode} {at : ℕ} {t : Placed} {fault
     → p ≡ Reading.refuse (placedOf text t)
     → FaultOf t fault
     → Agrees Reads p (Stopped fault)
-refused {text} {t = t} {fault = fault} c e f = stops fault _ _ e (f .0 ∙ fault-same text (t .place) (t .past) (t .token)) (f .1)
+refused {text} {t = t} c e f = stops (e ∙ rw (f .0 ∙ fault-same text (t .place) (t .past) (t .token), f .1))
 
 -- a reader may go on at a token's place and after it
 module _ {text : Bytes} {mode : Tokens.Mode} {at words : ℕ} {t : Placed} (r : Ready text at words) (c : Comes text mode at t) where

@@ -129,7 +129,7 @@ module _ {text : Bytes} {depth : ℕ} {s : Progress} {place : ℕ} {tape tape₁
         (h : ReadAt (ExpressionRead text table symbols parts start tape₁ tape₂) (expressionAt text table symbols parts bound (depth + 1) start) argument) where
       close-barred : {fault : Fault} → Barred text Tokens.inside 62 (argument .at) fault
           → CallAgrees text table symbols parts bound depth s place tape tape₃ (Stopped fault)
-      close-barred x = stops _ _ _ (at-argument ∙ rw (h .same, h .how .tokens) (passes-not _ x)) refl refl
+      close-barred x = stops (at-argument ∙ rw (h .same, h .how .tokens) (passes-not _ x))
 
       close-done : {at : ℕ} → Taken text Tokens.inside 62 (argument .at) at
           → tape₃ ≡ set tape₂ (argument .words) (tapeWord closeKind 0)

@@ -221,11 +221,8 @@ module _ {text table : List ℕ} {symbols parts depth : ℕ} {start : Progress} 
       let item = itemAt text t in
       let rest = Reading.expression (b .left - 1) (symbolNames text table symbols) depth (Reading.pastItem item (progressAt text table parts s))
       (stream text Tokens.inside (t .past)) in
-      stops _ _ _
-      (at-step b (i .unrolled)
+      stops (at-step b (i .unrolled)
       ∙ rw (g .1, g .0 .fault, check-wrong (numberOf answer) (placedOf text t) (withFirst (thenItem item) rest) (g .0 .wrong)))
-      refl
-      refl
 
   -- THE END
 

@@ -100,7 +100,7 @@ module _ {text names : List ℕ} {functions words : ℕ} {t : Code.Placed} {limi
   module _ {n : Span} (e : t .token ≡ NameToken n) where
     pub function-many : {tape tape′ names′ : List ℕ} → 64 ≤ functions
         → FunctionAgrees text names functions limit words t tape tape′ names′ (stoppedWith OverLimit (t .place))
-    function-many h = stops _ _ _ (rw (name-first (o .comes) e .unrolled, le-ltb functions 64 h)) refl refl
+    function-many h = stops (rw (name-first (o .comes) e .unrolled, le-ltb functions 64 h))
 
 -- a name comes, and one more function may
 pub record NameComes (text names : List ℕ) (functions words : ℕ) (t : Code.Placed) (n : Span) : Type 0 where
@@ -118,7 +118,7 @@ module _ {text names : List ℕ} {functions words : ℕ} {t : Code.Placed} {n : 
         → eqb (numberOf answer) 0 ≡ false
         → FunctionAgrees text names functions limit words t tape tape′ names′ (stoppedWith answer (t .place))
     function-misnamed {answer = answer} f w =
-        stops _ _ _ (rw (named-here .unrolled, lt-ltb functions 64 (m .few), ← f) (check-wrong (numberOf answer) _ _ w)) refl refl
+        stops (rw (named-here .unrolled, lt-ltb functions 64 (m .few), ← f) (check-wrong (numberOf answer) _ _ w))
 
 -- its name has no fault
 pub record Named {text names : List ℕ} {functions words : ℕ} {t : Code.Placed} {n : Span} (name : NameComes text names functions words t n) : Type 0 where

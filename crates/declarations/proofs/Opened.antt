@@ -50,7 +50,7 @@ module _ (depth items : ℕ) where
 
 pub call-limited : (text : Bytes) (depth : ℕ) (s : Progress) (place : ℕ) {tape tape′ : List ℕ} → both (ltb depth 16) (leb (s .count + 1) 128) ≡ false
     → OpeningAgrees text depth s place tape tape′ (stoppedWith OverLimit place)
-call-limited text depth s place e = stops _ _ _ (rw e) refl refl
+call-limited text depth s place e = stops (rw e)
 
 -- a call may stand here, and a token comes after its `<`
 pub record CallComes (text : Bytes) (depth : ℕ) (s : Progress) (place : ℕ) (t : Code.Placed) : Type 0 where
@@ -81,7 +81,7 @@ module _ {text : Bytes} {depth : ℕ} {s : Progress} {place : ℕ} {t : Code.Pla
   pub call-misnamed : {tape tape′ : List ℕ} {answer : Answer} → numberOf answer ≡ Reading.calledFault (View.part text n) → eqb (numberOf answer) 0 ≡ false
       → OpeningAgrees text depth s place tape tape′ (stoppedWith answer (t .place))
   call-misnamed {answer = answer} f w =
-      stops _ _ _ (at-name call ∙ rw (named-here .unrolled, ← f) (check-wrong (numberOf answer) _ _ w)) refl refl
+      stops (at-name call ∙ rw (named-here .unrolled, ← f) (check-wrong (numberOf answer) _ _ w))
 
 -- it has no fault
 pub record CallNamed {text : Bytes} {depth : ℕ} {s : Progress} {place : ℕ} {t : Code.Placed} {call : CallComes text depth s place t} {n : Span} (name : CallName call n) : Type 0 where

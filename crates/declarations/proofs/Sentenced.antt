@@ -233,7 +233,7 @@ module _ (left words : ℕ) {text : Bytes} {from : ℕ} {t : Code.Placed} (c : C
 
   module _ (e : beginsSentence (t .token) ≡ true) where
     pub first-many : {tape tape′ : List ℕ} → left ≡ 0 → FirstAgrees text left from words tape tape′ (stoppedWith OverLimit (t .place))
-    first-many z = stops _ _ _ (rw (c .unrolled, begins-same c ∙ e, z)) refl refl
+    first-many z = stops (rw (c .unrolled, begins-same c ∙ e, z))
 
     pub first-reads : (left ≡ 0 → ⊥) → {tape tape′ : List ℕ} {r : CodeParsed} → SentenceAgrees text (t .place) words tape tape′ r
         → FirstAgrees text left from words tape tape′ r

@@ -207,8 +207,8 @@ module _ {text start : List ℕ} {limit from words left : ℕ} {tape₁ : List �
       room (Refused fault) f e = absurd (false≢true e)
 
   pub sequel-refused : {tape′ : List ℕ} {fault : Fault} → q ≡ Refused fault → SentencesAgree text limit from words start tape′ (Stopped fault)
-  sequel-refused {fault = fault} e =
-      stops fault _ _ (at-sequel one ∙ rw (followed e .gives (Reading.sentences (left - 1)) newest)) refl refl
+  sequel-refused e =
+      stops (at-sequel one ∙ rw (followed e .gives (Reading.sentences (left - 1)) newest))
 
   pub sequel-ends : {tape′ : List ℕ} {past : ℕ} → q ≡ Ends past → tape′ ≡ set tape₁ (s .words) 1792
       → SentencesAgree text limit from words start tape′ (Done (record { at = past; words = s .words + 1; count = left - 1; parts = 0 }))

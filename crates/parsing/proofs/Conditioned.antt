@@ -179,7 +179,7 @@ module _ {text : Bytes} {from words : ℕ} {x : Span} where
 
   pub end-no-colon : Before text words from x → (c : Class) {tape tape′ : List ℕ} {close : ℕ} {fault : Fault} → Taken text Tokens.inside 62 from close → Barred text Tokens.inside 58 close fault
       → EndAgrees text from words tape tape′ x c (Stopped fault)
-  end-no-colon b c t k = stops _ _ _ (passes-on _ t ∙ passes-not _ k) refl refl
+  end-no-colon b c t k = stops (passes-on _ t ∙ passes-not _ k)
 
   module _ {close colon : ℕ} {t : Code.Placed} {n : ℕ} (a : ClosingAt text from words x close colon t n) (c : Class) where
     at-truth : conditionEnd c (View.part text x) (stream text Tokens.inside from)
@@ -280,7 +280,7 @@ module _ {text table : List ℕ} {symbols from words : ℕ} {t : Code.Placed} wh
         → not is ≡ true
         → OnAgrees text table symbols from words tape tape′ c (Stopped (record { answer = answer; place = t .place }))
     on-wrong {s} {answer} a c w =
-        stops _ _ _ (at-symbol s c ∙ rw (← (a .fault)) (check-wrong (numberOf answer) (placedOf text t) _ (a-fault-here (a .fault) (a .accepted) w))) refl refl
+        stops (at-symbol s c ∙ rw (← (a .fault)) (check-wrong (numberOf answer) (placedOf text t) _ (a-fault-here (a .fault) (a .accepted) w)))
 
     module _ {s : OnSymbol on x} {number : ℕ} {is : Bool} (a : OnAsked s number is) (w : not is ≡ false) where
       right : symbolFault (symbolNames text table symbols) (View.part text x) ≡ 0
@@ -349,7 +349,7 @@ module _ {text table : List ℕ} {symbols from words : ℕ} where
       pub name-long : {tape tape′ : List ℕ} → 24 < n .past - n .from
           → ConditionAgrees text table symbols from words tape tape′ (Stopped (record { answer = OverLimit; place = t .place }))
       name-long l =
-          stops _ _ _ (at-name o ∙ rw (a .name .unrolled, too-long text n (a .name .inside) 24 l)) refl refl
+          stops (at-name o ∙ rw (a .name .unrolled, too-long text n (a .name .inside) 24 l))
 
       module _ (l : n .past - n .from ≤ 24) where
         at-class : Reading.condition (symbolNames text table symbols) (stream text Tokens.inside from)
@@ -358,7 +358,7 @@ module _ {text table : List ℕ} {symbols from words : ℕ} where
 
         pub class-not : {tape tape′ : List ℕ} → predicateOf (View.part text n) ≡ none
             → ConditionAgrees text table symbols from words tape tape′ (Stopped (record { answer = WrongName; place = t .place }))
-        class-not d = stops _ _ _ (at-class ∙ rw d) refl refl
+        class-not d = stops (at-class ∙ rw d)
 
         pub class-reads : {tape tape′ : List ℕ} {r : CodeParsed} (class : ℕ) → class < 5 → predicateOf (View.part text n) ≡ classOf class
             → ((c : Class) → classOf class ≡ some c → OnAgrees text table symbols (t .past) words tape tape′ c r)
@@ -451,7 +451,7 @@ module _ {text start : List ℕ} {names : List Name} {from words : ℕ} {tape : 
 
     pub conditions-many : left ≡ 0 → ConditionsAgree text start names from words tape (Stopped (record { answer = OverLimit; place = t .place }))
     conditions-many z =
-        stops _ _ _ (a .read .same ∙ rw (a .first .unrolled, z, conditions-full names (placedOf text t) _ (shown a))) refl refl
+        stops (a .read .same ∙ rw (a .first .unrolled, z, conditions-full names (placedOf text t) _ (shown a)))
 
     -- what was read of it stops the conditions, or they go on after it
     abbrev pub ConditionsOn : List ℕ → CodeParsed → Type 0

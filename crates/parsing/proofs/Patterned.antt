@@ -91,7 +91,7 @@ module _ {text start : List ℕ} {at words : ℕ} {tape table : List ℕ} {p : C
       )
   pattern-on (Wrong answer) g =
       let i = item-then c (g .1) in
-      stops _ _ _ (k .same ∙ rw (i .unrolled, g .1, g .0 .fault (k .before) (k .seen)) (check-wrong _ _ _ (g .0 .wrong))) refl refl
+      stops (k .same ∙ rw (i .unrolled, g .1, g .0 .fault (k .before) (k .seen)) (check-wrong _ _ _ (g .0 .wrong)))
   pattern-on Other g =
       reads (k .before) (stream text inside (p .at)) (k .same ∙ rw (c .unrolled, g .0))
       (record {
