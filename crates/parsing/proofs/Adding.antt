@@ -134,6 +134,10 @@ module _ {text : Bytes} {table : List ℕ} {p : Counts} {x : Span} (h : Held tex
   abbrev name : Name
   name = View.part text x
 
+  -- its entry in the table
+  abbrev entry : ℕ
+  entry = x .from * 32 + (x .past - x .from)
+
   -- a variable of a kind, whose word is written with it
   variable-taken : {tape : List ℕ} {item : Item} {table′ tape′ : List ℕ} {next : Counts} (kind : ℕ) → kind ≤ 2 → x .past - x .from ≤ 8
       → patternTape (elementsOf item) ≡ named kind name
@@ -168,7 +172,7 @@ module _ {text : Bytes} {table : List ℕ} {p : Counts} {x : Span} (h : Held tex
     is-member e = rw (← (position-member name (symbolNames text table (p .symbols))), symbol-count (h .variables), ← known-place) e
 
     remembered : x .past - x .from ≤ 8 → known < 16 → (is : Bool) → ltb known (p .symbols) ≡ is
-        → Remembered text table p name (pick is table (set table known (x .from * 32 + (x .past - x .from)))) (pick is (p .symbols) (known + 1))
+        → Remembered text table p name (pick is table (set table known entry)) (pick is (p .symbols) (known + 1))
     remembered s n true e =
         record {
           variables = h .variables;
@@ -178,7 +182,6 @@ module _ {text : Bytes} {table : List ℕ} {p : Counts} {x : Span} (h : Held tex
     remembered s n false e =
         let w : known ≡ p .symbols = omega (arith, known-low, ltb-false known (p .symbols) e) in
         let v = h .variables in
-        let entry = x .from * 32 + (x .past - x .from) in
         let g = grown text table 0 (p .symbols) (v .symbolEntries) entry (omega (arith, v .long)) (entry-inside text x (identifier-inside i) (omega arith)) in
         let r = kept-above text table 16 (16 + p .parts) (v .partEntries) (p .symbols) entry (omega arith) in
         rw w
@@ -222,7 +225,7 @@ module _ {text : Bytes} {table : List ℕ} {p : Counts} {x : Span} (h : Held tex
     pub symbol-taken : fault ≡ 0 → {tape tape′ table′ : List ℕ} {words symbols′ : ℕ}
         → Wrote tape (p .words) ((256 + (x .past - x .from)) ∷ name) words tape′ × T (every isQuiet name)
         → (symbols′ ≡ pick (ltb known (p .symbols)) (p .symbols) (known + 1))
-        × (table′ ≡ pick (ltb known (p .symbols)) table (set table known (x .from * 32 + (x .past - x .from))))
+        × (table′ ≡ pick (ltb known (p .symbols)) table (set table known entry))
         → AddsItem text table p tape (symbolItem name) (x .past) table′ tape′
         (Taken (record { at = x .past; words = words; letters = p .letters + 1; symbols = symbols′; parts = p .parts; ending = false }))
     unfolding lettersIn symbolsFrom partsOf
@@ -259,14 +262,13 @@ module _ {text : Bytes} {table : List ℕ} {p : Counts} {x : Span} (h : Held tex
 
   pub part-taken : partFault ≡ 0 → {tape tape′ : List ℕ} {words : ℕ}
       → Wrote tape (p .words) ((512 + (x .past - x .from)) ∷ name) words tape′ × T (every isQuiet name)
-      → AddsItem text table p tape (partItem name) (x .past) (set table (16 + p .parts) (x .from * 32 + (x .past - x .from))) tape′
+      → AddsItem text table p tape (partItem name) (x .past) (set table (16 + p .parts) entry) tape′
       (Taken (record { at = x .past; words = words; letters = p .letters; symbols = p .symbols; parts = p .parts + 1; ending = true }))
   unfolding lettersIn symbolsFrom partsOf
   part-taken f w =
       let v = h .variables in
       let few = part-few f in
       let short = part-short f in
-      let entry = x .from * 32 + (x .past - x .from) in
       let o =
       grown text table 16 (16 + p .parts) (v .partEntries) entry (omega (arith, v .long)) (entry-inside text x (identifier-inside i) (omega arith))
       in
