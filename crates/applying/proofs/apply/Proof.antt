@@ -24,33 +24,6 @@ meant c r e = (rw (c .before .before .wide .ensures, e) at (c .choose .ensures))
 returns : tie.Need-returns
 returns c = λ output journal. apply-spent _ _ _ _ _ (c .if1 .taken)
 
-add-next : tie.Need-add-next
-add-next c = search needs
-
-mul-wide : tie.Need-mul-wide
-mul-wide c = search needs
-
-shared-slice-read-wide : tie.Need-shared-slice-read-wide
-shared-slice-read-wide c = search needs
-
-wide-requires : tie.Need-wide-requires
-wide-requires c κs = search needs
-
-sub-choose : tie.Need-sub-choose
-sub-choose c = search needs
-
-part-choose-start : tie.Need-part-choose-start
-part-choose-start c = search needs
-
-part-choose-end : tie.Need-part-choose-end
-part-choose-end c = search needs
-
-choose-requires : tie.Need-choose-requires
-choose-requires c κs = search needs
-
-enum-known-place : tie.Need-enum-known-place
-enum-known-place c = search needs
-
 start-sentence-requires : tie.Need-start-sentence-requires
 start-sentence-requires c κs =
     let at-place = c .before .before .before in
@@ -58,18 +31,6 @@ start-sentence-requires c κs =
     let lent = entry at-choose .pre .1 .1 .1 .1 in
     let few = rw (at-place .place .given .1) at (at-choose .choose .ensures .few) in
     (lent .0, (lent .1 .0, (lent .1 .1 .0, (lent .1 .1 .1 .0, (lent .1 .1 .1 .1, few)))))
-
-enum-told : tie.Need-enum-told
-enum-told c = search needs
-
-enum-told-2 : tie.Need-enum-told-2
-enum-told-2 c = search needs
-
-same-length : tie.Need-same-length
-same-length c = search needs
-
-same-length-2 : tie.Need-same-length-2
-same-length-2 c = search needs
 
 returns-2 : tie.Need-returns-2
 returns-2 c =
@@ -91,20 +52,20 @@ apply-spec =
     tie.close
     (tie.spec
     returns
-    add-next
-    mul-wide
-    shared-slice-read-wide
-    wide-requires
-    sub-choose
-    part-choose-start
-    part-choose-end
-    choose-requires
-    enum-known-place
+    (λ c. search needs)
+    (λ c. search needs)
+    (λ c. search needs)
+    (λ c κs. search needs)
+    (λ c. search needs)
+    (λ c. search needs)
+    (λ c. search needs)
+    (λ c κs. search needs)
+    (λ c. search needs)
     start-sentence-requires
-    enum-told
-    enum-told-2
-    same-length
-    same-length-2
+    (λ c. search needs)
+    (λ c. search needs)
+    (λ c. search needs)
+    (λ c. search needs)
     returns-2
     returns-3
     returns-4)

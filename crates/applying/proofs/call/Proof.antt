@@ -17,9 +17,6 @@ entry c = c .before .before .before .before .before .before
 is : (c : tie.Else1) → isDeclared (functionsIn (entry c .args .code .now)) (entry c .args .what .function) ≡ true
 is c = sym (c .before .declared .ensures) ∙ not-false _ (c .if1 .left)
 
-declared-requires : tie.Need-declared-requires
-declared-requires c κs = search needs
-
 returns : tie.Need-returns
 returns c =
     let entry = c .before .before .before .before .before .before in
@@ -33,12 +30,6 @@ apply-requires c κs =
     let d = is-declared (entry at-if1 .args .code .now) (pre .1 .0) (entry at-if1 .args .what .function) (is at-if1) in
     (pre .0, (pre .1 .0, (d .0, (d .1, pre .1 .1))))
 
-same-length : tie.Need-same-length
-same-length c = search needs
-
-same-length-2 : tie.Need-same-length-2
-same-length-2 c = search needs
-
 returns-2 : tie.Need-returns-2
 returns-2 c =
     let at-apply = c .before .before .before .before in
@@ -51,12 +42,6 @@ framed-call-requires c κs =
     let pre = entry at-if1 .pre in
     (pre .0, (pre .1 .0, (is at-if1, pre .1 .1)))
 
-same-length-3 : tie.Need-same-length-3
-same-length-3 c = search needs
-
-same-length-4 : tie.Need-same-length-4
-same-length-4 c = search needs
-
 returns-3 : tie.Need-returns-3
 returns-3 c =
     let at-framed-call = c .before .before .before .before in
@@ -67,13 +52,13 @@ pub call-spec : {M : Type 1} → statement M
 call-spec =
     tie.close
     (tie.spec
-    declared-requires
+    (λ c κs. search needs)
     returns
     apply-requires
-    same-length
-    same-length-2
+    (λ c. search needs)
+    (λ c. search needs)
     returns-2
     framed-call-requires
-    same-length-3
-    same-length-4
+    (λ c. search needs)
+    (λ c. search needs)
     returns-3)

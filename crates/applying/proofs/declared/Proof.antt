@@ -8,12 +8,6 @@ use Rattle.applying.proofs.declared.Tie as tie
 returns : tie.Need-returns
 returns c = rw (c .if1 .taken)
 
-shared-slice-read-wide : tie.Need-shared-slice-read-wide
-shared-slice-read-wide c = search needs
-
-wide-requires : tie.Need-wide-requires
-wide-requires c κs = search needs
-
 returns-2 : tie.Need-returns-2
 returns-2 c =
     let at-if1 = c .before .before in
@@ -22,4 +16,4 @@ returns-2 c =
     rw (c .wide .ensures) (sym (declared-some (a .code .now) (entry .pre) (a .number) (at-if1 .if1 .left)))
 
 pub declared-spec : {M : Type 1} → statement M
-declared-spec = tie.close (tie.spec returns shared-slice-read-wide wide-requires returns-2)
+declared-spec = tie.close (tie.spec returns (λ c. search needs) (λ c κs. search needs) returns-2)

@@ -24,12 +24,6 @@ returns-2 c =
     let entry = c .before .before .before .before .before .before .before in
     λ output journal. call-full _ _ (entry .args .number) _ _ (entry .pre .1 .1 .0) (c .before .if1 .left) (c .if2 .taken)
 
-set-word-requires : tie.Need-set-word-requires
-set-word-requires c κs = search needs
-
-add-t17 : tie.Need-add-t17
-add-t17 c = search needs
-
 apply-requires : tie.Need-apply-requires
 apply-requires c κs =
     let at-set-word = c .before .before .before .before .before .before .before .before in
@@ -38,12 +32,6 @@ apply-requires c κs =
     let lent = pre .1 .1 .1 in
     let d = is-declared (entry at-if2 .args .code .now) (pre .1 .0) (entry at-if2 .args .number) (pre .1 .1 .0) in
     (pre .0, (pre .1 .0, (d .0, (d .1, (lent .0, (lent .1 .0, (omega (arith, at-if2 .if2 .left), (at-set-word .set-word .kept .0 ∙ lent .1 .1 .1 .0, lent .1 .1 .1 .1))))))))
-
-same-length : tie.Need-same-length
-same-length c = search needs
-
-same-length-2 : tie.Need-same-length-2
-same-length-2 c = search needs
 
 returns-3 : tie.Need-returns-3
 returns-3 c =
@@ -56,4 +44,4 @@ returns-3 c =
 pub framed-call-spec : {M : Type 1} → statement M
 framed-call-spec =
     tie.close
-    (tie.spec returns returns-2 set-word-requires add-t17 apply-requires same-length same-length-2 returns-3)
+    (tie.spec returns returns-2 (λ c κs. search needs) (λ c. search needs) apply-requires (λ c. search needs) (λ c. search needs) returns-3)

@@ -7,12 +7,6 @@ use Rattle.applying.proofs.leave.Tie as tie
 returns : tie.Need-returns
 returns c = rw (c .if1 .taken)
 
-sub-frame : tie.Need-sub-frame
-sub-frame c = search needs
-
-word-requires : tie.Need-word-requires
-word-requires c κs = search needs
-
 returns-2 : tie.Need-returns-2
 returns-2 c =
     let at-word = c .before .before .before in
@@ -21,4 +15,4 @@ returns-2 c =
     rw (at-word .word .ensures) (left-back (entry .args .g) _ (at-if1 .if1 .left))
 
 pub leave-spec : {M : Type 1} → statement M
-leave-spec = tie.close (tie.spec returns sub-frame word-requires returns-2)
+leave-spec = tie.close (tie.spec returns (λ c. search needs) (λ c κs. search needs) returns-2)

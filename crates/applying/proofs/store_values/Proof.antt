@@ -21,9 +21,6 @@ there c = c .before .before
 abbrev turn : tie.After-stored-cell Inv-loop μ-loop → tie.At-loop Inv-loop μ-loop
 turn c = there c .before .before
 
-mul-base : tie.Need-mul-base Inv-loop μ-loop
-mul-base c = search needs
-
 loop-holds : tie.Need-loop-holds Inv-loop μ-loop
 loop-holds c = storing-start _ _ _ _ _ _ _
 
@@ -33,21 +30,6 @@ same-length c = c .before .before .loop .inv .sized
 returns : tie.Need-returns Inv-loop μ-loop
 returns c = storing-cut _ _ _ _ _ _ _ _ _ _ (c .before .before .loop .inv) (c .before .loop-test .taken) (c .if1 .taken)
 
-mul-stored-cell : tie.Need-mul-stored-cell Inv-loop μ-loop
-mul-stored-cell c = search needs
-
-shared-slice-read-stored-cell : tie.Need-shared-slice-read-stored-cell Inv-loop μ-loop
-shared-slice-read-stored-cell c = search needs
-
-stored-cell-requires : tie.Need-stored-cell-requires Inv-loop μ-loop
-stored-cell-requires c κs = search needs
-
-enum-known-byte : tie.Need-enum-known-byte Inv-loop μ-loop
-enum-known-byte c = search needs
-
-enum-told : tie.Need-enum-told Inv-loop μ-loop
-enum-told c = search needs
-
 same-length-2 : tie.Need-same-length-2 Inv-loop μ-loop
 same-length-2 c = c .before .before .before .before .before .before .loop .inv .sized
 
@@ -56,21 +38,6 @@ returns-2 c =
     let at-stored-cell = c .before .before in
     storing-wrong _ _ _ _ _ _ _ _ _ _ (turn at-stored-cell .loop .inv) (there at-stored-cell .before .loop-test .taken) (there at-stored-cell .if1 .left)
     (sym (at-stored-cell .stored-cell .ensures) ∙ ap cellMeant (c .enum-told .given .1))
-
-add-values : tie.Need-add-values Inv-loop μ-loop
-add-values c = search needs
-
-slice-write-values : tie.Need-slice-write-values Inv-loop μ-loop
-slice-write-values c = search needs
-
-add-at : tie.Need-add-at Inv-loop μ-loop
-add-at c = search needs
-
-add-i : tie.Need-add-i Inv-loop μ-loop
-add-i c = search needs
-
-loop-less : tie.Need-loop-less Inv-loop μ-loop
-loop-less c = search needs
 
 loop-again : tie.Need-loop-again Inv-loop μ-loop
 loop-again c =
@@ -91,22 +58,22 @@ store-values-spec =
     (tie.spec
     Inv-loop
     μ-loop
-    mul-base
+    (λ c. search needs)
     loop-holds
     same-length
     returns
-    mul-stored-cell
-    shared-slice-read-stored-cell
-    stored-cell-requires
-    enum-known-byte
-    enum-told
+    (λ c. search needs)
+    (λ c. search needs)
+    (λ c κs. search needs)
+    (λ c. search needs)
+    (λ c. search needs)
     same-length-2
     returns-2
-    add-values
-    slice-write-values
-    add-at
-    add-i
-    loop-less
+    (λ c. search needs)
+    (λ c. search needs)
+    (λ c. search needs)
+    (λ c. search needs)
+    (λ c. search needs)
     loop-again
     same-length-3
     returns-3)

@@ -5,9 +5,6 @@ use Rattle.applying.proofs.laws.Storing.{store-asks}
 use Rattle.applying.proofs.stored_cell.Statement.{statement}
 use Rattle.applying.proofs.stored_cell.Tie as tie
 
-cell-at-requires : tie.Need-cell-at-requires
-cell-at-requires c κs = search needs
-
 returns : tie.Need-returns
 returns c = rw (c .before .if1 .taken, store-asks) (c .cell-at .ensures)
 
@@ -15,4 +12,4 @@ returns-2 : tie.Need-returns-2
 returns-2 c = rw (ne-eqb _ 4 (c .if1 .left))
 
 pub stored-cell-spec : {M : Type 1} → statement M
-stored-cell-spec = tie.close (tie.spec cell-at-requires returns returns-2)
+stored-cell-spec = tie.close (tie.spec (λ c κs. search needs) returns returns-2)

@@ -5,9 +5,6 @@ use borrow.Author.Tests.{lt-ltb, le-ltb}
 use Rattle.classes.proofs.bit.Statement.{statement}
 use Rattle.classes.proofs.bit.Tie as tie
 
-shr-result : tie.Need-shr-result
-shr-result c = search needs
-
 returns : tie.Need-returns
 unfolding bitOf
 returns c = rw (lt-ltb _ _ (c .if1 .taken))
@@ -17,4 +14,4 @@ unfolding bitOf
 returns-2 c = rw (le-ltb _ _ (c .if1 .left))
 
 pub bit-spec : {M : Type 1} → statement M
-bit-spec = tie.close (tie.spec shr-result returns returns-2)
+bit-spec = tie.close (tie.spec (λ c. search needs) returns returns-2)

@@ -6,15 +6,9 @@ use Rattle.classes.proofs.Table.{classed}
 use Rattle.classes.proofs.in_class.Statement.{statement}
 use Rattle.classes.proofs.in_class.Tie as tie
 
-array-read-entry : tie.Need-array-read-entry
-array-read-entry c = search needs
-
-bit-requires : tie.Need-bit-requires
-bit-requires c κs = search needs
-
 returns : tie.Need-returns
 unfolding bitOf
 returns c = let low : c .before .args .byte < 256 = search needs in simp classed at (c .bit .ensures)
 
 pub in-class-spec : {M : Type 1} → statement M
-in-class-spec = tie.close (tie.spec array-read-entry bit-requires returns)
+in-class-spec = tie.close (tie.spec (λ c. search needs) (λ c κs. search needs) returns)

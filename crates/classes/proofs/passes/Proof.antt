@@ -5,12 +5,6 @@ use borrow.Author.Needs.{needs}
 use Rattle.classes.proofs.passes.Statement.{statement}
 use Rattle.classes.proofs.passes.Tie as tie
 
-element-copy-out-entry : tie.Need-element-copy-out-entry
-element-copy-out-entry c = search needs
-
-bit-requires : tie.Need-bit-requires
-bit-requires c κs = search needs
-
 returns : tie.Need-returns
 returns c =
     let a = c .before .before .args in
@@ -18,4 +12,4 @@ returns c =
     c .bit .ensures ∙ c .before .before .pre .each (a .class) (a .byte) low
 
 pub passes-spec : {M : Type 1} → statement M
-passes-spec = tie.close (tie.spec element-copy-out-entry bit-requires returns)
+passes-spec = tie.close (tie.spec (λ c. search needs) (λ c κs. search needs) returns)

@@ -4,24 +4,6 @@ use borrow.Author.Tests.{ne-eqb}
 use Rattle.decoding.proofs.decode.Statement.{statement}
 use Rattle.decoding.proofs.decode.Tie as tie
 
-wide-requires : tie.Need-wide-requires
-wide-requires c κs = search needs
-
-span-of-requires : tie.Need-span-of-requires
-span-of-requires c κs = search needs
-
-span-of-requires-2 : tie.Need-span-of-requires-2
-span-of-requires-2 c κs = search needs
-
-cast-t14 : tie.Need-cast-t14
-cast-t14 c = search needs
-
-call-of-requires : tie.Need-call-of-requires
-call-of-requires c κs = search needs
-
-call-of-requires-2 : tie.Need-call-of-requires-2
-call-of-requires-2 c κs = search needs
-
 returns : tie.Need-returns
 returns c = rw (c .before .match .keys1, c .span-of .ensures)
 
@@ -74,5 +56,5 @@ returns-12 c =
 
 pub decode-spec : {M : Type 1} → statement M
 decode-spec =
-    tie.close (tie.spec wide-requires span-of-requires span-of-requires-2 cast-t14 call-of-requires call-of-requires-2 returns returns-2 returns-3 returns-4
+    tie.close (tie.spec (λ c κs. search needs) (λ c κs. search needs) (λ c κs. search needs) (λ c. search needs) (λ c κs. search needs) (λ c κs. search needs) returns returns-2 returns-3 returns-4
     returns-5 returns-6 returns-7 returns-8 returns-9 returns-10 returns-11 returns-12)

@@ -6,35 +6,11 @@ use borrow.Author.Needs.{needs}
 use Rattle.engine.proofs.translate_and_run.Statement.{statement}
 use Rattle.engine.proofs.translate_and_run.Tie as tie
 
-translate-table-requires : tie.Need-translate-table-requires
-translate-table-requires c κs = search needs
-
-same-length : tie.Need-same-length
-same-length c = search needs
-
 returns : tie.Need-returns
 returns c =
     let at-translate-table = c .before .before .before in
     let entry = at-translate-table .before .before .before .before .before .before .before .before in
     unrun-reports _ _ _ _ _ (read (entry .args .table .now)) (at-translate-table .translate-table .ensures) (c .if1 .taken)
-
-run-requires : tie.Need-run-requires
-run-requires c κs = search needs
-
-ending-number-requires : tie.Need-ending-number-requires
-ending-number-requires c κs = search needs
-
-same-length-2 : tie.Need-same-length-2
-same-length-2 c = search needs
-
-same-length-3 : tie.Need-same-length-3
-same-length-3 c = search needs
-
-same-length-4 : tie.Need-same-length-4
-same-length-4 c = search needs
-
-same-length-5 : tie.Need-same-length-5
-same-length-5 c = search needs
 
 returns-2 : tie.Need-returns-2
 returns-2 c =
@@ -50,13 +26,13 @@ pub translate-and-run-spec : {M : Type 1} → statement M
 translate-and-run-spec =
     tie.close
     (tie.spec
-    translate-table-requires
-    same-length
+    (λ c κs. search needs)
+    (λ c. search needs)
     returns
-    run-requires
-    ending-number-requires
-    same-length-2
-    same-length-3
-    same-length-4
-    same-length-5
+    (λ c κs. search needs)
+    (λ c κs. search needs)
+    (λ c. search needs)
+    (λ c. search needs)
+    (λ c. search needs)
+    (λ c. search needs)
     returns-2)

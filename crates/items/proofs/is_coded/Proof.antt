@@ -38,12 +38,6 @@ returns-4 : tie.Need-returns-4
 returns-4 c =
     rw (other-here (c .before .before), le-leb _ _ (c .before .if3 .left), lt-leb (c .before .before .before .before .args .character) 126 (omega arith))
 
-is-after-code-requires : tie.Need-is-after-code-requires
-is-after-code-requires c κs = search needs
-
-is-digit-requires : tie.Need-is-digit-requires
-is-digit-requires c κs = search needs
-
 returns-5 : tie.Need-returns-5
 returns-5 c =
     let at-is-after-code = c .before .before in
@@ -60,7 +54,7 @@ is-coded-spec =
     returns-2
     returns-3
     returns-4
-    is-after-code-requires
-    is-digit-requires
+    (λ c κs. search needs)
+    (λ c κs. search needs)
     returns-5
     returns-6)

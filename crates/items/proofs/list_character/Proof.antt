@@ -24,23 +24,11 @@ left-here c e =
       put = put-then (at-put-character .before .before .before .before .put-quoting .ensures) (at-put-character .put-character .ensures);
     }
 
-put-quoting-requires : tie.Need-put-quoting-requires
-put-quoting-requires c κs = search needs
-
 put-character-requires : tie.Need-put-character-requires
 put-character-requires c κs = omega (arith, quoting-size (c .before .before .before .before .before .before .args .state))
 
-is-coded-requires : tie.Need-is-coded-requires
-is-coded-requires c κs = search needs
-
-same-length : tie.Need-same-length
-same-length c = search needs
-
 returns : tie.Need-returns
 returns c = left-here (c .before) (rw (c .if1 .taken))
-
-same-length-2 : tie.Need-same-length-2
-same-length-2 c = search needs
 
 returns-2 : tie.Need-returns-2
 returns-2 c = left-here (c .before) (rw (c .if1 .left))
@@ -49,10 +37,10 @@ pub list-character-spec : {M : Type 1} → statement M
 list-character-spec =
     tie.close
     (tie.spec
-    put-quoting-requires
+    (λ c κs. search needs)
     put-character-requires
-    is-coded-requires
-    same-length
+    (λ c κs. search needs)
+    (λ c. search needs)
     returns
-    same-length-2
+    (λ c. search needs)
     returns-2)

@@ -7,31 +7,16 @@ use borrow.Author.Needs.{needs}
 use Rattle.items.proofs.list_condition.Statement.{statement}
 use Rattle.items.proofs.list_condition.Tie as tie
 
-put-ending-requires : tie.Need-put-ending-requires
-put-ending-requires c κs = search needs
-
-slice-aggregate-put-all : tie.Need-slice-aggregate-put-all
-slice-aggregate-put-all c = search needs
-
 put-all-requires : tie.Need-put-all-requires
 put-all-requires c κs = omega (arith, ending-size (c .before .before .before .before .before .before .before .args .state))
 
 put-class-requires : tie.Need-put-class-requires
 put-class-requires c κs = omega (arith, ending-size (c .before .before .before .before .before .before .before .before .before .before .before .args .state))
 
-slice-aggregate-put-all-2 : tie.Need-slice-aggregate-put-all-2
-slice-aggregate-put-all-2 c = search needs
-
 put-all-requires-2 : tie.Need-put-all-requires-2
 put-all-requires-2 c κs =
     let a = c .before .before .before .before .before .before .before .before .before .before .before .before .before .before .before .before .args in
     omega (arith, ending-size (a .state), class-size (a .carried % 5))
-
-truth-byte-requires : tie.Need-truth-byte-requires
-truth-byte-requires c κs = search needs
-
-same-length : tie.Need-same-length
-same-length c = search needs
 
 returns : tie.Need-returns
 returns c =
@@ -45,12 +30,12 @@ pub list-condition-spec : {M : Type 1} → statement M
 list-condition-spec =
     tie.close
     (tie.spec
-    put-ending-requires
-    slice-aggregate-put-all
+    (λ c κs. search needs)
+    (λ c. search needs)
     put-all-requires
     put-class-requires
-    slice-aggregate-put-all-2
+    (λ c. search needs)
     put-all-requires-2
-    truth-byte-requires
-    same-length
+    (λ c κs. search needs)
+    (λ c. search needs)
     returns)

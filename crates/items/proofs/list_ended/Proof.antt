@@ -7,17 +7,11 @@ use borrow.Author.Needs.{needs}
 use Rattle.items.proofs.list_ended.Statement.{statement}
 use Rattle.items.proofs.list_ended.Tie as tie
 
-put-ending-requires : tie.Need-put-ending-requires
-put-ending-requires c κs = search needs
-
 put-all-requires : tie.Need-put-all-requires
 put-all-requires c κs = omega (arith, ending-size (c .before .before .before .before .before .before .before .args .state))
-
-same-length : tie.Need-same-length
-same-length c = search needs
 
 returns : tie.Need-returns
 returns c = record { state = refl; put = put-then (c .before .before .before .before .before .before .put-ending .ensures) (c .before .before .put-all .ensures) }
 
 pub list-ended-spec : {M : Type 1} → statement M
-list-ended-spec = tie.close (tie.spec put-ending-requires put-all-requires same-length returns)
+list-ended-spec = tie.close (tie.spec (λ c κs. search needs) put-all-requires (λ c. search needs) returns)

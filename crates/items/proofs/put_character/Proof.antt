@@ -21,33 +21,12 @@ bare-here : (c : tie.Else2)
     characterText (quotedIn (a .state)) (a .character) ≡ pick (eqb (a .character) 9) (92 ∷ 116 ∷ []) (pick (eqb (a .character) 10) (92 ∷ 110 ∷ []) (a .character ∷ []))
 bare-here c = rw (uncoded-here (c .before .before), ← (c .before .is-escaped .ensures), c .if2 .left)
 
-is-coded-requires : tie.Need-is-coded-requires
-is-coded-requires c κs = search needs
-
-put-requires : tie.Need-put-requires
-put-requires c κs = search needs
-
-put-decimal-requires : tie.Need-put-decimal-requires
-put-decimal-requires c κs = search needs
-
-same-length : tie.Need-same-length
-same-length c = search needs
-
 returns : tie.Need-returns
 returns c =
     let at-put-decimal = c .before .before in
     let at-put = at-put-decimal .before .before .before .before in
     let at-if1 = at-put .before .before in
     rw (← (at-if1 .before .is-coded .ensures), at-if1 .if1 .taken) (put-then (at-put .put .ensures) (at-put-decimal .put-decimal .ensures))
-
-is-escaped-requires : tie.Need-is-escaped-requires
-is-escaped-requires c κs = search needs
-
-put-escape-requires : tie.Need-put-escape-requires
-put-escape-requires c κs = search needs
-
-same-length-2 : tie.Need-same-length-2
-same-length-2 c = search needs
 
 returns-2 : tie.Need-returns-2
 returns-2 c =
@@ -56,29 +35,11 @@ returns-2 c =
     let at-is-escaped = at-if2 .before in
     rw (uncoded-here (at-is-escaped .before), ← (at-is-escaped .is-escaped .ensures), at-if2 .if2 .taken) (at-put-escape .put-escape .ensures)
 
-put-escape-requires-2 : tie.Need-put-escape-requires-2
-put-escape-requires-2 c κs = search needs
-
-same-length-3 : tie.Need-same-length-3
-same-length-3 c = search needs
-
 returns-3 : tie.Need-returns-3
 returns-3 c = rw (bare-here (c .before .before .before .before .before), c .before .before .before .before .if3 .taken) (c .before .before .put-escape2 .ensures)
 
-put-escape-requires-3 : tie.Need-put-escape-requires-3
-put-escape-requires-3 c κs = search needs
-
-same-length-4 : tie.Need-same-length-4
-same-length-4 c = search needs
-
 returns-4 : tie.Need-returns-4
 returns-4 c = rw (bare-here (c .before .before .before .before .before .before), c .before .before .before .before .if4 .taken) (c .before .before .put-escape3 .ensures)
-
-put-requires-2 : tie.Need-put-requires-2
-put-requires-2 c κs = search needs
-
-same-length-5 : tie.Need-same-length-5
-same-length-5 c = search needs
 
 returns-5 : tie.Need-returns-5
 returns-5 c =
@@ -90,21 +51,21 @@ pub put-character-spec : {M : Type 1} → statement M
 put-character-spec =
     tie.close
     (tie.spec
-    is-coded-requires
-    put-requires
-    put-decimal-requires
-    same-length
+    (λ c κs. search needs)
+    (λ c κs. search needs)
+    (λ c κs. search needs)
+    (λ c. search needs)
     returns
-    is-escaped-requires
-    put-escape-requires
-    same-length-2
+    (λ c κs. search needs)
+    (λ c κs. search needs)
+    (λ c. search needs)
     returns-2
-    put-escape-requires-2
-    same-length-3
+    (λ c κs. search needs)
+    (λ c. search needs)
     returns-3
-    put-escape-requires-3
-    same-length-4
+    (λ c κs. search needs)
+    (λ c. search needs)
     returns-4
-    put-requires-2
-    same-length-5
+    (λ c κs. search needs)
+    (λ c. search needs)
     returns-5)

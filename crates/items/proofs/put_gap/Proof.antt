@@ -4,17 +4,8 @@ use borrow.Author.Needs.{needs}
 use Rattle.items.proofs.put_gap.Statement.{statement}
 use Rattle.items.proofs.put_gap.Tie as tie
 
-is-start-requires : tie.Need-is-start-requires
-is-start-requires c κs = search needs
-
 returns : tie.Need-returns
 returns c = rw (← (c .before .is-start .ensures), c .if1 .taken) put-none
-
-put-requires : tie.Need-put-requires
-put-requires c κs = search needs
-
-same-length : tie.Need-same-length
-same-length c = search needs
 
 returns-2 : tie.Need-returns-2
 returns-2 c =
@@ -22,4 +13,4 @@ returns-2 c =
     rw (← (at-if1 .before .is-start .ensures), at-if1 .if1 .left) (c .before .before .put .ensures)
 
 pub put-gap-spec : {M : Type 1} → statement M
-put-gap-spec = tie.close (tie.spec is-start-requires returns put-requires same-length returns-2)
+put-gap-spec = tie.close (tie.spec (λ c κs. search needs) returns (λ c κs. search needs) (λ c. search needs) returns-2)

@@ -6,17 +6,11 @@ use borrow.Author.Needs.{needs}
 use Rattle.items.proofs.put_parting.Statement.{statement}
 use Rattle.items.proofs.put_parting.Tie as tie
 
-put-ending-requires : tie.Need-put-ending-requires
-put-ending-requires c κs = search needs
-
 put-gap-requires : tie.Need-put-gap-requires
 put-gap-requires c κs = omega (arith, ending-size (c .before .before .before .before .before .before .args .state))
-
-same-length : tie.Need-same-length
-same-length c = search needs
 
 returns : tie.Need-returns
 returns c = put-then (c .before .before .before .before .before .before .put-ending .ensures) (c .before .before .put-gap .ensures)
 
 pub put-parting-spec : {M : Type 1} → statement M
-put-parting-spec = tie.close (tie.spec put-ending-requires put-gap-requires same-length returns)
+put-parting-spec = tie.close (tie.spec (λ c κs. search needs) put-gap-requires (λ c. search needs) returns)

@@ -6,20 +6,11 @@ use borrow.Author.Needs.{needs}
 use Rattle.items.proofs.put_quoting.Statement.{statement}
 use Rattle.items.proofs.put_quoting.Tie as tie
 
-is-quoted-requires : tie.Need-is-quoted-requires
-is-quoted-requires c κs = search needs
-
 returns : tie.Need-returns
 returns c = rw (← (c .before .is-quoted .ensures), c .if1 .taken) put-none
 
-put-gap-requires : tie.Need-put-gap-requires
-put-gap-requires c κs = search needs
-
 put-requires : tie.Need-put-requires
 put-requires c κs = omega (arith, gap-size (c .before .before .before .before .before .before .before .before .args .state))
-
-same-length : tie.Need-same-length
-same-length c = search needs
 
 returns-2 : tie.Need-returns-2
 returns-2 c =
@@ -31,4 +22,4 @@ returns-2 c =
 pub put-quoting-spec : {M : Type 1} → statement M
 put-quoting-spec =
     tie.close
-    (tie.spec is-quoted-requires returns put-gap-requires put-requires same-length returns-2)
+    (tie.spec (λ c κs. search needs) returns (λ c κs. search needs) put-requires (λ c. search needs) returns-2)

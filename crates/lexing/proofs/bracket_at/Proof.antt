@@ -11,18 +11,6 @@ use Rattle.meaning.specs.Classes.{inClass, alphabetic}
 use Rattle.meaning.specs.Tokens.{ahead}
 use Rattle.lexing.proofs.Showing.{shows-bracket}
 
-add-letter-ahead : tie.Need-add-letter-ahead
-add-letter-ahead c = search needs
-
-letter-ahead-requires : tie.Need-letter-ahead-requires
-letter-ahead-requires c κs = search needs
-
-add-t7 : tie.Need-add-t7
-add-t7 c = search needs
-
-add-t9 : tie.Need-add-t9
-add-t9 c = search needs
-
 after : (c : tie.After-letter-ahead) {letter : Bool} → c .letter-ahead .result ≡ letter
     → let a = c .before .before .args in letter ≡ ahead (inClass alphabetic) (drop (suc (a .at)) (a .text .now))
 after c e = sym e ∙ rw add-one at (c .letter-ahead .ensures)
@@ -35,4 +23,4 @@ returns-2 c = shows-bracket _ _ false (after (c .before) (c .if1 .left))
 
 pub bracket-at-spec : {M : Type 1} → statement M
 bracket-at-spec =
-    tie.close (tie.spec add-letter-ahead letter-ahead-requires add-t7 add-t9 returns returns-2)
+    tie.close (tie.spec (λ c. search needs) (λ c κs. search needs) (λ c. search needs) (λ c. search needs) returns returns-2)

@@ -19,12 +19,6 @@ abbrev μ-loop : tie.MeasureT-loop
 loop-holds : tie.Need-loop-holds Inv-loop μ-loop
 loop-holds c = record { same = λ characters. refl; small = c .before .pre .0; onward = omega arith; inside = c .before .pre .1 }
 
-shared-slice-read-byte : tie.Need-shared-slice-read-byte Inv-loop μ-loop
-shared-slice-read-byte c = omega arith
-
-is-digit-requires : tie.Need-is-digit-requires Inv-loop μ-loop
-is-digit-requires c κs = search needs
-
 abbrev Coded : tie.After-is-digit Inv-loop μ-loop → Bool → Type 0
 Coded c isDigit =
     let l = c .before .before .before .loop in
@@ -48,9 +42,6 @@ cast-t12 c = record { fits = c .before .before .before .before .loop .inv .small
 returns : tie.Need-returns Inv-loop μ-loop
 returns c = code-stops _ _ _ _ _ (coding (c .before) (not-true _ (c .if1 .taken)))
 
-mul-value : tie.Need-mul-value Inv-loop μ-loop
-mul-value c = omega arith
-
 sub-value : tie.Need-sub-value Inv-loop μ-loop
 sub-value c = code-digit _ _ _ _ _ (before-digit c) .low
 
@@ -60,14 +51,8 @@ cast-value c = omega (arith, code-digit _ _ _ _ _ (before-digit c))
 add-value : tie.Need-add-value Inv-loop μ-loop
 add-value c = omega (arith, code-digit _ _ _ _ _ (before-digit c))
 
-add-at : tie.Need-add-at Inv-loop μ-loop
-add-at c = omega arith
-
 returns-2 : tie.Need-returns-2 Inv-loop μ-loop
 returns-2 c = code-breaks _ _ _ _ _ (before-digit (c .before)) (c .if2 .taken)
-
-loop-less : tie.Need-loop-less Inv-loop μ-loop
-loop-less c = omega arith
 
 loop-again : tie.Need-loop-again Inv-loop μ-loop
 loop-again c = code-goes _ _ _ _ _ (before-digit (c .before)) (omega arith)
@@ -85,17 +70,17 @@ code-spec =
     Inv-loop
     μ-loop
     loop-holds
-    shared-slice-read-byte
-    is-digit-requires
+    (λ c. omega arith)
+    (λ c κs. search needs)
     cast-t12
     returns
-    mul-value
+    (λ c. omega arith)
     sub-value
     cast-value
     add-value
-    add-at
+    (λ c. omega arith)
     returns-2
-    loop-less
+    (λ c. omega arith)
     loop-again
     cast-t14
     returns-3)

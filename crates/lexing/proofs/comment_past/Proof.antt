@@ -20,15 +20,6 @@ abbrev μ-loop : tie.MeasureT-loop
 loop-holds : tie.Need-loop-holds Inv-loop μ-loop
 loop-holds c = plain-starts _ _
 
-shared-slice-read-byte : tie.Need-shared-slice-read-byte Inv-loop μ-loop
-shared-slice-read-byte c = omega arith
-
-add-byte-ahead : tie.Need-add-byte-ahead Inv-loop μ-loop
-add-byte-ahead c = omega arith
-
-byte-ahead-requires : tie.Need-byte-ahead-requires Inv-loop μ-loop
-byte-ahead-requires c κs = search needs
-
 star-stands : (c : tie.After-byte-ahead Inv-loop μ-loop) {ends : Bool} → c .byte-ahead .result ≡ ends
     → let l = c .before .before .before .before .loop in
     let a = c .before .before .before .before .before .before .args in
@@ -42,29 +33,11 @@ star-stands c e =
       slash = sym (c .byte-ahead .ensures) ∙ e;
     }
 
-add-past : tie.Need-add-past Inv-loop μ-loop
-add-past c = omega arith
-
 returns : tie.Need-returns Inv-loop μ-loop
 returns c = star-ends _ _ _ (star-stands (c .before) (c .if2 .taken))
 
-add-at : tie.Need-add-at Inv-loop μ-loop
-add-at c = omega arith
-
-loop-less : tie.Need-loop-less Inv-loop μ-loop
-loop-less c = omega arith
-
 loop-again : tie.Need-loop-again Inv-loop μ-loop
 loop-again c = star-goes _ _ _ (star-stands (c .before) (c .if2 .left))
-
-add-plain-past : tie.Need-add-plain-past Inv-loop μ-loop
-add-plain-past c = omega arith
-
-plain-past-requires : tie.Need-plain-past-requires Inv-loop μ-loop
-plain-past-requires c κs = omega arith
-
-loop-less-2 : tie.Need-loop-less-2 Inv-loop μ-loop
-loop-less-2 c = omega arith
 
 loop-again-2 : tie.Need-loop-again-2 Inv-loop μ-loop
 loop-again-2 c =
@@ -82,16 +55,16 @@ comment-past-spec =
     Inv-loop
     μ-loop
     loop-holds
-    shared-slice-read-byte
-    add-byte-ahead
-    byte-ahead-requires
-    add-past
+    (λ c. omega arith)
+    (λ c. omega arith)
+    (λ c κs. search needs)
+    (λ c. omega arith)
     returns
-    add-at
-    loop-less
+    (λ c. omega arith)
+    (λ c. omega arith)
     loop-again
-    add-plain-past
-    plain-past-requires
-    loop-less-2
+    (λ c. omega arith)
+    (λ c κs. omega arith)
+    (λ c. omega arith)
     loop-again-2
     returns-2)

@@ -11,15 +11,6 @@ use Rattle.lexing.proofs.Strings.{Digit, stands-given, stands-nothing, 
 returns : tie.Need-returns
 returns c = stands-end _ _ _ _ (c .if1 .taken)
 
-shared-slice-read-byte : tie.Need-shared-slice-read-byte
-shared-slice-read-byte c = search needs
-
-add-past : tie.Need-add-past
-add-past c = search needs
-
-is-digit-requires : tie.Need-is-digit-requires
-is-digit-requires c κs = search needs
-
 unlisted : (c : tie.After-is-digit) {isDigit : Bool} → c .is-digit .result ≡ isDigit
     → let a = c .before .before .before .before .before .args in Unlisted (getD (a .text .now) (a .at) 0) isDigit
 unlisted c e =
@@ -61,9 +52,9 @@ escape-spec =
     tie.close
     (tie.spec
     returns
-    shared-slice-read-byte
-    add-past
-    is-digit-requires
+    (λ c. search needs)
+    (λ c. search needs)
+    (λ c κs. search needs)
     sub-code
     cast-code
     code-requires

@@ -5,12 +5,6 @@ use Rattle.lexing.proofs.letter_ahead.Tie as tie
 use Rattle.lexing.proofs.Places.{ahead-here, ahead-nothing}
 use mathlib.Core.Path.{_∙_}
 
-shared-slice-read-next : tie.Need-shared-slice-read-next
-shared-slice-read-next c = search needs
-
-is-letter-requires : tie.Need-is-letter-requires
-is-letter-requires c κs = search needs
-
 returns : tie.Need-returns
 returns c = c .is-letter .ensures ∙ ahead-here _ _ _ (c .before .before .if1 .taken)
 
@@ -19,4 +13,4 @@ returns-2 c = ahead-nothing _ _ _ (c .if1 .left)
 
 pub letter-ahead-spec : {M : Type 1} → statement M
 letter-ahead-spec =
-    tie.close (tie.spec shared-slice-read-next is-letter-requires returns returns-2)
+    tie.close (tie.spec (λ c. search needs) (λ c κs. search needs) returns returns-2)

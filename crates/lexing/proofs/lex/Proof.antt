@@ -9,18 +9,6 @@ use Rattle.lexing.specs.declared.Skipped.{Skipped}
 use Rattle.lexing.specs.View.{skippedOf}
 use Rattle.lexing.proofs.Showing.{lex-past}
 
-skip-requires : tie.Need-skip-requires
-skip-requires c κs = search needs
-
-enum-known-at : tie.Need-enum-known-at
-enum-known-at c = search needs
-
-token-at-requires : tie.Need-token-at-requires
-token-at-requires c κs = search needs
-
-enum-known-slash : tie.Need-enum-known-slash
-enum-known-slash c = search needs
-
 passed : (c : tie.After-skip) {s : Skipped} → c .skip .result ≡ s
     → let a = c .before .before .args in skip between (a .from) (drop (a .from) (a .text .now)) ≡ skippedOf (a .text .now) s
 passed c e = sym (c .skip .ensures) ∙ ap (skippedOf _) e
@@ -34,4 +22,4 @@ returns-2 c = record { same = rw (lex-past _ _ _ (passed (c .before .before .bef
 pub lex-spec : {M : Type 1} → statement M
 lex-spec =
     tie.close
-    (tie.spec skip-requires enum-known-at token-at-requires enum-known-slash returns returns-2)
+    (tie.spec (λ c κs. search needs) (λ c. search needs) (λ c κs. search needs) (λ c. search needs) returns returns-2)

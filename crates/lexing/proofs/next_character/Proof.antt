@@ -10,15 +10,6 @@ use Rattle.lexing.proofs.Strings.{stands-given, stands-closed, stands-b
 returns : tie.Need-returns
 returns c = stands-end _ _ _ _ (c .if1 .taken)
 
-shared-slice-read-byte : tie.Need-shared-slice-read-byte
-shared-slice-read-byte c = search needs
-
-add-past : tie.Need-add-past
-add-past c = search needs
-
-escape-requires : tie.Need-escape-requires
-escape-requires c κs = search needs
-
 returns-2 : tie.Need-returns-2
 returns-2 c = stands-closed _ _ _ _ (omega arith) (λ characters. rw (c .match .keys1))
 
@@ -38,9 +29,9 @@ next-character-spec =
     tie.close
     (tie.spec
     returns
-    shared-slice-read-byte
-    add-past
-    escape-requires
+    (λ c. search needs)
+    (λ c. search needs)
+    (λ c κs. search needs)
     returns-2
     returns-3
     returns-4

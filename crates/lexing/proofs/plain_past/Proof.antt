@@ -20,17 +20,8 @@ loop-holds c = (search needs, plain-starts _ _)
 sub-loop : tie.Need-sub-loop Inv-loop μ-loop
 sub-loop c = c .loop .inv .0
 
-star-within-requires : tie.Need-star-within-requires Inv-loop μ-loop
-star-within-requires c κs = omega arith
-
 returns : tie.Need-returns Inv-loop μ-loop
 returns c = c .before .before .before .loop .inv .1
-
-add-at : tie.Need-add-at Inv-loop μ-loop
-add-at c = omega arith
-
-loop-less : tie.Need-loop-less Inv-loop μ-loop
-loop-less c = omega arith
 
 loop-again : tie.Need-loop-again Inv-loop μ-loop
 loop-again c = (omega arith, plain-joins _ _ _ _ (c .before .before .before .loop .inv .1) (c .before .star-within .ensures (c .if1 .left)))
@@ -46,9 +37,9 @@ plain-past-spec =
     μ-loop
     loop-holds
     sub-loop
-    star-within-requires
+    (λ c κs. omega arith)
     returns
-    add-at
-    loop-less
+    (λ c. omega arith)
+    (λ c. omega arith)
     loop-again
     returns-2)

@@ -15,21 +15,12 @@ Inv-loop text place at₀ count₀ at count = Quoted-to text place at count
 abbrev μ-loop : tie.MeasureT-loop
 μ-loop text place at₀ count₀ at count = length text - at
 
-add-at : tie.Need-add-at Inv-loop μ-loop
-add-at c = omega arith
-
 loop-holds : tie.Need-loop-holds Inv-loop μ-loop
 loop-holds c = quoted-starts _ _ (c .before .pre)
-
-next-character-requires : tie.Need-next-character-requires Inv-loop μ-loop
-next-character-requires c κs = search needs
 
 -- after the next character, whatever it is
 turned : (c : tie.After-next-character Inv-loop μ-loop) {r : Character} → c .next-character .result ≡ r → QuotedOn (c .before .loop .inv) r
 turned c {r} e = quoted-on (c .before .loop .inv) r (rw e at (c .next-character .ensures))
-
-enum-known-past : tie.Need-enum-known-past Inv-loop μ-loop
-enum-known-past c = search needs
 
 add-count : tie.Need-add-count Inv-loop μ-loop
 add-count c = let i = c .before .before .before .before .loop .inv in omega arith
@@ -40,23 +31,14 @@ loop-less c = let p = turned (c .before .before .before) (c .before .past .given
 loop-again : tie.Need-loop-again Inv-loop μ-loop
 loop-again c = turned (c .before .before .before) (c .before .past .given .1) .1
 
-enum-known-past-2 : tie.Need-enum-known-past-2 Inv-loop μ-loop
-enum-known-past-2 c = search needs
-
 loop-less-2 : tie.Need-loop-less-2 Inv-loop μ-loop
 loop-less-2 c = let p = turned (c .before .before .before) (c .before .past2 .given .1) in omega arith
 
 loop-again-2 : tie.Need-loop-again-2 Inv-loop μ-loop
 loop-again-2 c = turned (c .before .before .before) (c .before .past2 .given .1) .1
 
-enum-known-past-3 : tie.Need-enum-known-past-3 Inv-loop μ-loop
-enum-known-past-3 c = search needs
-
 returns : tie.Need-returns Inv-loop μ-loop
 returns c = turned (c .before .before .before) (c .before .past3 .given .1)
-
-enum-known-past-4 : tie.Need-enum-known-past-4 Inv-loop μ-loop
-enum-known-past-4 c = search needs
 
 returns-2 : tie.Need-returns-2 Inv-loop μ-loop
 returns-2 c = turned (c .before .before .before) (c .before .past4 .given .1)
@@ -67,17 +49,17 @@ quoted-at-spec =
     (tie.spec
     Inv-loop
     μ-loop
-    add-at
+    (λ c. omega arith)
     loop-holds
-    next-character-requires
-    enum-known-past
+    (λ c κs. search needs)
+    (λ c. search needs)
     add-count
     loop-less
     loop-again
-    enum-known-past-2
+    (λ c. search needs)
     loop-less-2
     loop-again-2
-    enum-known-past-3
+    (λ c. search needs)
     returns
-    enum-known-past-4
+    (λ c. search needs)
     returns-2)

@@ -20,12 +20,6 @@ abbrev μ-loop : tie.MeasureT-loop
 loop-holds : tie.Need-loop-holds Inv-loop μ-loop
 loop-holds c = run-starts _ _ _
 
-shared-slice-read-byte : tie.Need-shared-slice-read-byte Inv-loop μ-loop
-shared-slice-read-byte c = omega arith
-
-passes-requires : tie.Need-passes-requires Inv-loop μ-loop
-passes-requires c κs = search needs
-
 running : (c : tie.After-passes Inv-loop μ-loop) {goes : Bool} → c .passes .result ≡ goes
     → let l = c .before .before .before .loop in
     let a = c .before .before .before .before .before .args in
@@ -40,12 +34,6 @@ running c e =
 returns : tie.Need-returns Inv-loop μ-loop
 returns c = run-stops _ _ _ _ (running (c .before) (not-true _ (c .if1 .taken)))
 
-add-at : tie.Need-add-at Inv-loop μ-loop
-add-at c = omega arith
-
-loop-less : tie.Need-loop-less Inv-loop μ-loop
-loop-less c = omega arith
-
 loop-again : tie.Need-loop-again Inv-loop μ-loop
 loop-again c = run-goes _ _ _ _ (running (c .before) (not-false _ (c .if1 .left)))
 
@@ -59,10 +47,10 @@ run-past-spec =
     Inv-loop
     μ-loop
     loop-holds
-    shared-slice-read-byte
-    passes-requires
+    (λ c. omega arith)
+    (λ c κs. search needs)
     returns
-    add-at
-    loop-less
+    (λ c. omega arith)
+    (λ c. omega arith)
     loop-again
     returns-2)

@@ -22,41 +22,11 @@ abbrev μ-loop : tie.MeasureT-loop
 loop-holds : tie.Need-loop-holds Inv-loop μ-loop
 loop-holds c = refl
 
-shared-slice-read-byte : tie.Need-shared-slice-read-byte Inv-loop μ-loop
-shared-slice-read-byte c = omega arith
-
-is-blank-requires : tie.Need-is-blank-requires Inv-loop μ-loop
-is-blank-requires c κs = search needs
-
-add-at : tie.Need-add-at Inv-loop μ-loop
-add-at c = omega arith
-
-loop-less : tie.Need-loop-less Inv-loop μ-loop
-loop-less c = omega arith
-
 loop-again : tie.Need-loop-again Inv-loop μ-loop
 loop-again c =
     let at-loop-test = c .before .before .before in
     let at-loop = at-loop-test .before in
     at-loop .loop .inv ∙ blank-passed _ _ (at-loop-test .loop-test .taken) (sym (c .before .is-blank .ensures) ∙ c .if1 .taken)
-
-add-byte-ahead : tie.Need-add-byte-ahead Inv-loop μ-loop
-add-byte-ahead c = omega arith
-
-byte-ahead-requires : tie.Need-byte-ahead-requires Inv-loop μ-loop
-byte-ahead-requires c κs = search needs
-
-add-comment-past : tie.Need-add-comment-past Inv-loop μ-loop
-add-comment-past c = omega arith
-
-comment-past-requires : tie.Need-comment-past-requires Inv-loop μ-loop
-comment-past-requires c κs = search needs
-
-enum-known-past : tie.Need-enum-known-past Inv-loop μ-loop
-enum-known-past c = search needs
-
-enum-known-past-2 : tie.Need-enum-known-past-2 Inv-loop μ-loop
-enum-known-past-2 c = search needs
 
 -- after the comment, whether it has an end or not
 comment-done : (c : tie.After-comment-past Inv-loop μ-loop) (comment : Comment) → c .comment-past .result ≡ comment
@@ -107,17 +77,17 @@ skip-spec =
     Inv-loop
     μ-loop
     loop-holds
-    shared-slice-read-byte
-    is-blank-requires
-    add-at
-    loop-less
+    (λ c. omega arith)
+    (λ c κs. search needs)
+    (λ c. omega arith)
+    (λ c. omega arith)
     loop-again
-    add-byte-ahead
-    byte-ahead-requires
-    add-comment-past
-    comment-past-requires
-    enum-known-past
-    enum-known-past-2
+    (λ c. omega arith)
+    (λ c κs. search needs)
+    (λ c. omega arith)
+    (λ c κs. search needs)
+    (λ c. search needs)
+    (λ c. search needs)
     returns
     loop-less-2
     loop-again-2

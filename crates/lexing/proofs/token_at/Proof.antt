@@ -10,12 +10,6 @@ use Rattle.lexing.proofs.Showing.{ByteAt, at-end, at-letter, at-quote, 
 returns : tie.Need-returns
 returns c = record { same = rw (at-end _ _ _ (c .if1 .taken)); sound = tt }
 
-shared-slice-read-byte : tie.Need-shared-slice-read-byte
-shared-slice-read-byte c = search needs
-
-is-letter-requires : tie.Need-is-letter-requires
-is-letter-requires c κs = search needs
-
 byte-stands : (c : tie.After-is-letter) {letter : Bool} → c .is-letter .result ≡ letter
     → let a = c .before .before .before .before .args in ByteAt (a .text .now) (a .at) letter
 byte-stands c e = record { inside = c .before .before .if1 .left; class = sym (c .is-letter .ensures) ∙ e }
@@ -25,15 +19,6 @@ word-at-requires c κs = let b = byte-stands (c .before) (c .if2 .taken) in reco
 
 returns-2 : tie.Need-returns-2
 returns-2 c = rw (at-letter _ _ _ (byte-stands (c .before .before) (c .before .if2 .taken))) (c .word-at .ensures)
-
-quoted-at-requires : tie.Need-quoted-at-requires
-quoted-at-requires c κs = search needs
-
-bracket-at-requires : tie.Need-bracket-at-requires
-bracket-at-requires c κs = search needs
-
-add-t13 : tie.Need-add-t13
-add-t13 c = search needs
 
 no-letter : (c : tie.Else2) → let a = c .before .before .before .before .before .args in ByteAt (a .text .now) (a .at) false
 no-letter c = byte-stands (c .before) (c .if2 .left)
@@ -52,13 +37,13 @@ token-at-spec =
     tie.close
     (tie.spec
     returns
-    shared-slice-read-byte
-    is-letter-requires
+    (λ c. search needs)
+    (λ c κs. search needs)
     word-at-requires
     returns-2
-    quoted-at-requires
-    bracket-at-requires
-    add-t13
+    (λ c κs. search needs)
+    (λ c κs. search needs)
+    (λ c. search needs)
     returns-3
     returns-4
     returns-5)

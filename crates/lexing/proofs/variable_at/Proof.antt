@@ -5,9 +5,6 @@ use Rattle.lexing.proofs.variable_at.Tie as tie
 use native.Mathlib.Omega.{arith}
 use Rattle.lexing.proofs.Showing.{shows-word, word-some}
 
-run-end-requires : tie.Need-run-end-requires
-run-end-requires c κs = search needs
-
 word-token-requires : tie.Need-word-token-requires
 word-token-requires c κs =
     let r = c .run-end .ensures in
@@ -18,4 +15,4 @@ returns : tie.Need-returns
 returns c = shows-word _ _ _ _ (c .before .run-end .ensures) (c .word-token .ensures)
 
 pub variable-at-spec : {M : Type 1} → statement M
-variable-at-spec = tie.close (tie.spec run-end-requires word-token-requires returns)
+variable-at-spec = tie.close (tie.spec (λ c κs. search needs) word-token-requires returns)

@@ -3,24 +3,6 @@ use borrow.Author.Needs.{needs}
 use Rattle.lexing.proofs.word_at.Statement.{statement}
 use Rattle.lexing.proofs.word_at.Tie as tie
 
-enum-told : tie.Need-enum-told
-enum-told c = search needs
-
-name-at-requires : tie.Need-name-at-requires
-name-at-requires c κs = search needs
-
-enum-told-2 : tie.Need-enum-told-2
-enum-told-2 c = search needs
-
-variable-at-requires : tie.Need-variable-at-requires
-variable-at-requires c κs = search needs
-
-enum-told-3 : tie.Need-enum-told-3
-enum-told-3 c = search needs
-
-name-at-requires-2 : tie.Need-name-at-requires-2
-name-at-requires-2 c κs = search needs
-
 returns : tie.Need-returns
 returns c = rw (c .before .enum-told .given .1) (c .name-at .ensures)
 
@@ -34,12 +16,12 @@ pub word-at-spec : {M : Type 1} → statement M
 word-at-spec =
     tie.close
     (tie.spec
-    enum-told
-    name-at-requires
-    enum-told-2
-    variable-at-requires
-    enum-told-3
-    name-at-requires-2
+    (λ c. search needs)
+    (λ c κs. search needs)
+    (λ c. search needs)
+    (λ c κs. search needs)
+    (λ c. search needs)
+    (λ c κs. search needs)
     returns
     returns-2
     returns-3)

@@ -8,12 +8,6 @@ use Rattle.lexing.proofs.Words.{variable-word, letter-alone, other-word
 shared-slice-read-byte : tie.Need-shared-slice-read-byte
 shared-slice-read-byte c = let p = c .before .pre in omega arith
 
-add-if1 : tie.Need-add-if1
-add-if1 c = omega arith
-
-add-if1-2 : tie.Need-add-if1-2
-add-if1-2 c = omega arith
-
 returns : tie.Need-returns
 returns c = (refl, letter-alone _ _ _ (c .before .before .pre) (c .if1 .taken))
 
@@ -31,4 +25,4 @@ returns-4 c =
 pub word-token-spec : {M : Type 1} → statement M
 word-token-spec =
     tie.close
-    (tie.spec shared-slice-read-byte add-if1 add-if1-2 returns returns-2 returns-3 returns-4)
+    (tie.spec shared-slice-read-byte (λ c. omega arith) (λ c. omega arith) returns returns-2 returns-3 returns-4)

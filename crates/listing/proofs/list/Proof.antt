@@ -10,18 +10,6 @@ use Rattle.listing.proofs.list.Tie as tie
 words-here : (c : tie.After-list-length-arg) → let a = c .before .before .before .args in take (c .before .counted .result) (a .tape .now) ≡ take (a .words) (a .tape .now)
 words-here c = take-counted _ _ (c .list-length-arg .given .0) (c .before .counted .ensures)
 
-counted-requires : tie.Need-counted-requires
-counted-requires c κs = search needs
-
-list-length-requires : tie.Need-list-length-requires
-list-length-requires c κs = search needs
-
-list-words-requires : tie.Need-list-words-requires
-list-words-requires c κs = search needs
-
-same-length : tie.Need-same-length
-same-length c = search needs
-
 returns : tie.Need-returns
 returns c =
     let at-list-words = c .before .before in
@@ -37,9 +25,9 @@ pub list-spec : {M : Type 1} → statement M
 list-spec =
     tie.close
     (tie.spec
-    counted-requires
-    list-length-requires
-    list-words-requires
-    same-length
+    (λ c κs. search needs)
+    (λ c κs. search needs)
+    (λ c κs. search needs)
+    (λ c. search needs)
     returns
     returns-2)

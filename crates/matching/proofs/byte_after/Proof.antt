@@ -6,15 +6,6 @@ use Rattle.matching.proofs.laws.Lists.{nth-in, nth-out}
 use Rattle.matching.proofs.byte_after.Statement.{statement}
 use Rattle.matching.proofs.byte_after.Tie as tie
 
-sub-if2 : tie.Need-sub-if2
-sub-if2 c = search needs
-
-add-t9 : tie.Need-add-t9
-add-t9 c = search needs
-
-shared-slice-read-t11 : tie.Need-shared-slice-read-t11
-shared-slice-read-t11 c = search needs
-
 returns : tie.Need-returns
 returns c = sym (nth-in _ _ (omega arith))
 
@@ -25,4 +16,4 @@ returns-3 : tie.Need-returns-3
 returns-3 c = sym (nth-out _ _ (omega arith))
 
 pub byte-after-spec : {M : Type 1} → statement M
-byte-after-spec = tie.close (tie.spec sub-if2 add-t9 shared-slice-read-t11 returns returns-2 returns-3)
+byte-after-spec = tie.close (tie.spec (λ c. search needs) (λ c. search needs) (λ c. search needs) returns returns-2 returns-3)

@@ -5,9 +5,6 @@ use Rattle.matching.proofs.laws.Lists.{nth-in, nth-out}
 use Rattle.matching.proofs.byte_at.Statement.{statement}
 use Rattle.matching.proofs.byte_at.Tie as tie
 
-shared-slice-read-t7 : tie.Need-shared-slice-read-t7
-shared-slice-read-t7 c = search needs
-
 returns : tie.Need-returns
 returns c = sym (nth-in _ _ (c .before .if1 .taken))
 
@@ -15,4 +12,4 @@ returns-2 : tie.Need-returns-2
 returns-2 c = sym (nth-out _ _ (c .if1 .left))
 
 pub byte-at-spec : {M : Type 1} → statement M
-byte-at-spec = tie.close (tie.spec shared-slice-read-t7 returns returns-2)
+byte-at-spec = tie.close (tie.spec (λ c. search needs) returns returns-2)

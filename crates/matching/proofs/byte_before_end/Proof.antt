@@ -4,12 +4,6 @@ use borrow.Author.Tests.{le-leb, lt-leb}
 use Rattle.matching.proofs.byte_before_end.Statement.{statement}
 use Rattle.matching.proofs.byte_before_end.Tie as tie
 
-sub-byte-at : tie.Need-sub-byte-at
-sub-byte-at c = search needs
-
-byte-at-requires : tie.Need-byte-at-requires
-byte-at-requires c κs = search needs
-
 returns : tie.Need-returns
 returns c = rw (le-leb _ _ (c .before .if1 .taken)) (c .byte-at .ensures)
 
@@ -17,4 +11,4 @@ returns-2 : tie.Need-returns-2
 returns-2 c = rw (lt-leb _ _ (c .if1 .left))
 
 pub byte-before-end-spec : {M : Type 1} → statement M
-byte-before-end-spec = tie.close (tie.spec sub-byte-at byte-at-requires returns returns-2)
+byte-before-end-spec = tie.close (tie.spec (λ c. search needs) (λ c κs. search needs) returns returns-2)

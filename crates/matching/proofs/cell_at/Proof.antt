@@ -4,24 +4,6 @@ use Rattle.matching.proofs.laws.Fields.{site-unknown}
 use Rattle.matching.proofs.cell_at.Statement.{statement}
 use Rattle.matching.proofs.cell_at.Tie as tie
 
-wide-requires : tie.Need-wide-requires
-wide-requires c κs = search needs
-
-byte-at-requires : tie.Need-byte-at-requires
-byte-at-requires c κs = search needs
-
-wide-requires-2 : tie.Need-wide-requires-2
-wide-requires-2 c κs = search needs
-
-byte-before-end-requires : tie.Need-byte-before-end-requires
-byte-before-end-requires c κs = search needs
-
-wide-requires-3 : tie.Need-wide-requires-3
-wide-requires-3 c κs = search needs
-
-byte-after-requires : tie.Need-byte-after-requires
-byte-after-requires c κs = search needs
-
 returns : tie.Need-returns
 returns c = rw (c .before .before .match .keys1, ← (c .before .wide .ensures)) (c .byte-at .ensures)
 
@@ -35,5 +17,5 @@ returns-4 : tie.Need-returns-4
 returns-4 c = let r = c .match .rest in rw (site-unknown _ _ (r .0 .0 .1) (r .0 .1) (r .1))
 
 pub cell-at-spec : {M : Type 1} → statement M
-cell-at-spec = tie.close (tie.spec wide-requires byte-at-requires wide-requires-2 byte-before-end-requires wide-requires-3 byte-after-requires returns
+cell-at-spec = tie.close (tie.spec (λ c κs. search needs) (λ c κs. search needs) (λ c κs. search needs) (λ c κs. search needs) (λ c κs. search needs) (λ c κs. search needs) returns
     returns-2 returns-3 returns-4)

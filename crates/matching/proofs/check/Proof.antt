@@ -4,12 +4,6 @@ use Rattle.matching.proofs.laws.Fields.{test-unknown}
 use Rattle.matching.proofs.check.Statement.{statement}
 use Rattle.matching.proofs.check.Tie as tie
 
-look-requires : tie.Need-look-requires
-look-requires c κs = search needs
-
-compare-requires : tie.Need-compare-requires
-compare-requires c κs = search needs
-
 predicate-requires : tie.Need-predicate-requires
 predicate-requires c κs = c .before .before .pre
 
@@ -26,4 +20,4 @@ returns-4 : tie.Need-returns-4
 returns-4 c = let r = c .match .rest in rw (test-unknown _ (r .0 .0 .1) (r .0 .1) (r .1))
 
 pub check-spec : {M : Type 1} → statement M
-check-spec = tie.close (tie.spec look-requires compare-requires predicate-requires returns returns-2 returns-3 returns-4)
+check-spec = tie.close (tie.spec (λ c κs. search needs) (λ c κs. search needs) predicate-requires returns returns-2 returns-3 returns-4)

@@ -34,38 +34,14 @@ loop-holds c = refl
 returns : tie.Need-returns Inv-loop μ-loop
 returns c = rw (tests-run-out _ _ _ _ _ (c .before .loop-test .taken) (c .if1 .taken)) at (c .before .before .loop .inv)
 
-mul-check : tie.Need-mul-check Inv-loop μ-loop
-mul-check c = search needs
-
-shared-slice-read-check : tie.Need-shared-slice-read-check Inv-loop μ-loop
-shared-slice-read-check c = omega arith
-
 check-requires : tie.Need-check-requires Inv-loop μ-loop
 check-requires c κs = c .before .before .before .before .before .before .pre
-
-enum-told : tie.Need-enum-told Inv-loop μ-loop
-enum-told c = search needs
 
 returns-2 : tie.Need-returns-2 Inv-loop μ-loop
 returns-2 c = tested (c .before .before) _ (c .enum-told .given .1)
 
-enum-told-2 : tie.Need-enum-told-2 Inv-loop μ-loop
-enum-told-2 c = search needs
-
 returns-3 : tie.Need-returns-3 Inv-loop μ-loop
 returns-3 c = tested (c .before .before) _ (c .enum-told2 .given .1)
-
-enum-told-3 : tie.Need-enum-told-3 Inv-loop μ-loop
-enum-told-3 c = search needs
-
-add-at : tie.Need-add-at Inv-loop μ-loop
-add-at c = omega arith
-
-sub-left : tie.Need-sub-left Inv-loop μ-loop
-sub-left c = omega arith
-
-loop-less : tie.Need-loop-less Inv-loop μ-loop
-loop-less c = omega arith
 
 loop-again : tie.Need-loop-again Inv-loop μ-loop
 loop-again c = tested (c .before .before) _ (c .enum-told3 .given .1)
@@ -74,5 +50,5 @@ returns-4 : tie.Need-returns-4 Inv-loop μ-loop
 returns-4 c = rw (no-tests _ _ _ _ _ (c .loop-test .left)) at (c .before .loop .inv)
 
 pub check-all-spec : {M : Type 1} → statement M
-check-all-spec = tie.close (tie.spec Inv-loop μ-loop loop-holds returns mul-check shared-slice-read-check check-requires enum-told returns-2 enum-told-2 returns-3
-    enum-told-3 add-at sub-left loop-less loop-again returns-4)
+check-all-spec = tie.close (tie.spec Inv-loop μ-loop loop-holds returns (λ c. search needs) (λ c. omega arith) check-requires (λ c. search needs) returns-2 (λ c. search needs) returns-3
+    (λ c. search needs) (λ c. omega arith) (λ c. omega arith) (λ c. omega arith) loop-again returns-4)

@@ -49,17 +49,8 @@ counted c = omega (arith, c .shared-slice-known4 .given (c .before .before .befo
 loop-holds : tie.Need-loop-holds Inv-loop μ-loop
 loop-holds c = (refl, omega arith)
 
-mul-word : tie.Need-mul-word Inv-loop μ-loop
-mul-word c = search needs
-
-shared-slice-read-word : tie.Need-shared-slice-read-word Inv-loop μ-loop
-shared-slice-read-word c = omega arith
-
 returns : tie.Need-returns Inv-loop μ-loop
 returns c = record { same = rw (choosing-end _ _ _ _ (c .before .before .loop-test .taken) (c .if1 .taken)) at (c .before .before .before .loop .inv .0); few = tt }
-
-sub-if2 : tie.Need-sub-if2 Inv-loop μ-loop
-sub-if2 c = omega arith
 
 returns-2 : tie.Need-returns-2 Inv-loop μ-loop
 returns-2 c =
@@ -67,41 +58,14 @@ returns-2 c =
     let at-loop = at-loop-test .before in
     record { same = rw (choosing-cut _ _ _ _ (at-loop-test .loop-test .taken) (c .if2 .taken) (c .before .if1 .left)) at (at-loop .loop .inv .0); few = tt }
 
-add-counts : tie.Need-add-counts Inv-loop μ-loop
-add-counts c = omega arith
-
-mul-counts : tie.Need-mul-counts Inv-loop μ-loop
-mul-counts c = search needs
-
-shared-slice-read-counts : tie.Need-shared-slice-read-counts Inv-loop μ-loop
-shared-slice-read-counts c = omega arith
-
 try-sentence-requires : tie.Need-try-sentence-requires Inv-loop μ-loop
 try-sentence-requires c κs =
     let at-loop-test = c .before .before .before .before in
     let entry = at-loop-test .before .before .before .before in
     (entry .pre, at-loop-test .loop-test .taken)
 
-enum-told : tie.Need-enum-told Inv-loop μ-loop
-enum-told c = search needs
-
 returns-3 : tie.Need-returns-3 Inv-loop μ-loop
 returns-3 c = record { same = found (c .before .before) _ (c .enum-told .given .1); few = tt }
-
-enum-known-place : tie.Need-enum-known-place Inv-loop μ-loop
-enum-known-place c = search needs
-
-add-t18 : tie.Need-add-t18 Inv-loop μ-loop
-add-t18 c = omega arith
-
-wide-requires : tie.Need-wide-requires Inv-loop μ-loop
-wide-requires c κs = search needs
-
-add-t21 : tie.Need-add-t21 Inv-loop μ-loop
-add-t21 c = omega arith
-
-wide-requires-2 : tie.Need-wide-requires-2 Inv-loop μ-loop
-wide-requires-2 c κs = search needs
 
 returns-4 : tie.Need-returns-4 Inv-loop μ-loop
 returns-4 c =
@@ -115,23 +79,11 @@ returns-4 c =
           (rw (at-place .place .given .1) at (at-try-sentence .try-sentence .ensures)));
     }
 
-enum-told-2 : tie.Need-enum-told-2 Inv-loop μ-loop
-enum-told-2 c = search needs
-
-wide-requires-3 : tie.Need-wide-requires-3 Inv-loop μ-loop
-wide-requires-3 c κs = search needs
-
 add-at : tie.Need-add-at Inv-loop μ-loop
 add-at c = omega (arith, counted (c .before .before .before .before))
 
 add-at-2 : tie.Need-add-at-2 Inv-loop μ-loop
 add-at-2 c = omega (arith, counted (c .before .before .before .before))
-
-add-number : tie.Need-add-number Inv-loop μ-loop
-add-number c = omega arith
-
-loop-less : tie.Need-loop-less Inv-loop μ-loop
-loop-less c = omega arith
 
 loop-again : tie.Need-loop-again Inv-loop μ-loop
 loop-again c = (rw (← (c .wide3 .ensures)) at (found (c .before .before .before) _ (c .before .enum-told2 .given .1)), omega arith)
@@ -140,6 +92,6 @@ returns-5 : tie.Need-returns-5 Inv-loop μ-loop
 returns-5 c = record { same = rw (choosing-past _ _ _ _ (c .loop-test .left)) at (c .before .loop .inv .0); few = tt }
 
 pub choose-spec : {M : Type 1} → statement M
-choose-spec = tie.close (tie.spec Inv-loop μ-loop loop-holds mul-word shared-slice-read-word returns sub-if2 returns-2 add-counts mul-counts shared-slice-read-counts
-    try-sentence-requires enum-told returns-3 enum-known-place add-t18 wide-requires add-t21 wide-requires-2 returns-4 enum-told-2 wide-requires-3 add-at add-at-2
-    add-number loop-less loop-again returns-5)
+choose-spec = tie.close (tie.spec Inv-loop μ-loop loop-holds (λ c. search needs) (λ c. omega arith) returns (λ c. omega arith) returns-2 (λ c. omega arith) (λ c. search needs) (λ c. omega arith)
+    try-sentence-requires (λ c. search needs) returns-3 (λ c. search needs) (λ c. omega arith) (λ c κs. search needs) (λ c. omega arith) (λ c κs. search needs) returns-4 (λ c. search needs) (λ c κs. search needs) add-at add-at-2
+    (λ c. omega arith) (λ c. omega arith) loop-again returns-5)

@@ -22,34 +22,13 @@ first c r e =
     let word = c .before .before .args .word in
     compare-asks (siteOf (firstIn word % 4) (secondIn word)) (siteOf (firstIn word / 4) (thirdIn word)) _ _ _ (sym (ap cellMeant e) ∙ c .cell-at .ensures)
 
-cell-at-requires : tie.Need-cell-at-requires
-cell-at-requires c κs = search needs
-
-enum-known-b : tie.Need-enum-known-b
-enum-known-b c = search needs
-
-enum-told : tie.Need-enum-told
-enum-told c = search needs
-
 returns : tie.Need-returns
 returns c = sym (first (c .before .before) _ (c .enum-told .given .1))
-
-cell-at-requires-2 : tie.Need-cell-at-requires-2
-cell-at-requires-2 c κs = search needs
-
-enum-known-a : tie.Need-enum-known-a
-enum-known-a c = search needs
-
-enum-told-2 : tie.Need-enum-told-2
-enum-told-2 c = search needs
 
 returns-2 : tie.Need-returns-2
 returns-2 c =
     let at-b = c .before .before .before .before in
     rw (first (at-b .before .before) _ (at-b .b .given .1), ← (c .before .before .cell-at2 .ensures), c .enum-told2 .given .1)
-
-told-requires : tie.Need-told-requires
-told-requires c κs = search needs
 
 returns-3 : tie.Need-returns-3
 returns-3 c =
@@ -58,4 +37,4 @@ returns-3 c =
     rw (first (at-b .before .before) _ (at-b .b .given .1), ← (at-a .before .before .cell-at2 .ensures), at-a .a .given .1) (c .told .ensures)
 
 pub compare-spec : {M : Type 1} → statement M
-compare-spec = tie.close (tie.spec cell-at-requires enum-known-b enum-told returns cell-at-requires-2 enum-known-a enum-told-2 returns-2 told-requires returns-3)
+compare-spec = tie.close (tie.spec (λ c κs. search needs) (λ c. search needs) (λ c. search needs) returns (λ c κs. search needs) (λ c. search needs) (λ c. search needs) returns-2 (λ c κs. search needs) returns-3)

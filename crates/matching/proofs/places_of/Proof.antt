@@ -5,30 +5,6 @@ use Rattle.matching.proofs.laws.Fields.{metric-unknown}
 use Rattle.matching.proofs.places_of.Statement.{statement}
 use Rattle.matching.proofs.places_of.Tie as tie
 
-wide-requires : tie.Need-wide-requires
-wide-requires c κs = search needs
-
-wide-requires-2 : tie.Need-wide-requires-2
-wide-requires-2 c κs = search needs
-
-wide-requires-3 : tie.Need-wide-requires-3
-wide-requires-3 c κs = search needs
-
-one-if-requires : tie.Need-one-if-requires
-one-if-requires c κs = search needs
-
-add-one-if : tie.Need-add-one-if
-add-one-if c = omega arith
-
-one-if-requires-2 : tie.Need-one-if-requires-2
-one-if-requires-2 c κs = search needs
-
-add-places-for : tie.Need-add-places-for
-add-places-for c = omega arith
-
-add-places-for-2 : tie.Need-add-places-for-2
-add-places-for-2 c = omega arith
-
 places-for-requires : tie.Need-places-for-requires
 places-for-requires c κs = c .before .before .before .before .pre
 
@@ -52,5 +28,5 @@ returns-4 : tie.Need-returns-4
 returns-4 c = let r = c .match .rest in rw (metric-unknown _ (r .0 .0 .1) (r .0 .1) (r .1))
 
 pub places-of-spec : {M : Type 1} → statement M
-places-of-spec = tie.close (tie.spec wide-requires wide-requires-2 wide-requires-3 one-if-requires add-one-if one-if-requires-2 add-places-for add-places-for-2
+places-of-spec = tie.close (tie.spec (λ c κs. search needs) (λ c κs. search needs) (λ c κs. search needs) (λ c κs. search needs) (λ c. omega arith) (λ c κs. search needs) (λ c. omega arith) (λ c. omega arith)
     places-for-requires returns returns-2 returns-3 returns-4)

@@ -12,15 +12,6 @@ returns : tie.Need-returns
 returns c = let a = c .before .before .args in
     rw (class-unknown (thirdIn (a .word)) (c .if1 .taken), predicate-unknown (siteOf (firstIn (a .word) % 4) (secondIn (a .word))))
 
-cell-at-requires : tie.Need-cell-at-requires
-cell-at-requires c κs = search needs
-
-enum-known-b : tie.Need-enum-known-b
-enum-known-b c = search needs
-
-enum-told : tie.Need-enum-told
-enum-told c = search needs
-
 returns-2 : tie.Need-returns-2
 returns-2 c =
     let at-cell-at = c .before .before in
@@ -29,24 +20,6 @@ returns-2 c =
     let a = entry .args in
     sym (predicate-none (siteOf (firstIn (a .word) % 4) (secondIn (a .word))) (thirdIn (a .word)) _ _ _ (at-if1 .if1 .left)
     (rw (c .enum-told .given .1) at (at-cell-at .cell-at .ensures)))
-
-cast-entry : tie.Need-cast-entry
-cast-entry c = search needs
-
-element-copy-out-entry : tie.Need-element-copy-out-entry
-element-copy-out-entry c = search needs
-
-cast-bit : tie.Need-cast-bit
-cast-bit c = search needs
-
-bit-requires : tie.Need-bit-requires
-bit-requires c κs = search needs
-
-as-expected-requires : tie.Need-as-expected-requires
-as-expected-requires c κs = search needs
-
-told-requires : tie.Need-told-requires
-told-requires c κs = search needs
 
 returns-3 : tie.Need-returns-3
 returns-3 c =
@@ -65,5 +38,5 @@ returns-3 c =
     ) (c .told .ensures)
 
 pub predicate-spec : {M : Type 1} → statement M
-predicate-spec = tie.close (tie.spec returns cell-at-requires enum-known-b enum-told returns-2 cast-entry element-copy-out-entry cast-bit bit-requires
-    as-expected-requires told-requires returns-3)
+predicate-spec = tie.close (tie.spec returns (λ c κs. search needs) (λ c. search needs) (λ c. search needs) returns-2 (λ c. search needs) (λ c. search needs) (λ c. search needs) (λ c κs. search needs)
+    (λ c κs. search needs) (λ c κs. search needs) returns-3)

@@ -37,29 +37,11 @@ loop-holds c = (refl, omega arith)
 check-all-requires : tie.Need-check-all-requires Inv-loop μ-loop
 check-all-requires c κs = c .before .before .before .before .pre .0
 
-enum-told : tie.Need-enum-told Inv-loop μ-loop
-enum-told c = search needs
-
 returns : tie.Need-returns Inv-loop μ-loop
 returns c = placed (c .before .before) _ (c .enum-told .given .1)
 
-enum-told-2 : tie.Need-enum-told-2 Inv-loop μ-loop
-enum-told-2 c = search needs
-
 returns-2 : tie.Need-returns-2 Inv-loop μ-loop
 returns-2 c = placed (c .before .before) _ (c .enum-told2 .given .1)
-
-enum-told-3 : tie.Need-enum-told-3 Inv-loop μ-loop
-enum-told-3 c = search needs
-
-add-place : tie.Need-add-place Inv-loop μ-loop
-add-place c = omega arith
-
-sub-left : tie.Need-sub-left Inv-loop μ-loop
-sub-left c = omega arith
-
-loop-less : tie.Need-loop-less Inv-loop μ-loop
-loop-less c = omega arith
 
 loop-again : tie.Need-loop-again Inv-loop μ-loop
 loop-again c = (placed (c .before .before) _ (c .enum-told3 .given .1), omega arith)
@@ -68,5 +50,5 @@ returns-3 : tie.Need-returns-3 Inv-loop μ-loop
 returns-3 c = rw (no-places _ _ _ (c .loop-test .left)) at (c .before .loop .inv .0)
 
 pub search-spec : {M : Type 1} → statement M
-search-spec = tie.close (tie.spec Inv-loop μ-loop loop-holds check-all-requires enum-told returns enum-told-2 returns-2 enum-told-3 add-place sub-left
-    loop-less loop-again returns-3)
+search-spec = tie.close (tie.spec Inv-loop μ-loop loop-holds check-all-requires (λ c. search needs) returns (λ c. search needs) returns-2 (λ c. search needs) (λ c. omega arith) (λ c. omega arith)
+    (λ c. omega arith) loop-again returns-3)

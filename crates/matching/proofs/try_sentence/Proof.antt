@@ -17,15 +17,6 @@ entry c = c .before .before .before
 places : (c : tie.After-places-of) (r : Places) → c .places-of .result ≡ r → r ≡ placesFor (metricIn (entry c .args .word)) (length (entry c .args .field .now))
 places c r e = sym e ∙ c .places-of .ensures
 
-places-of-requires : tie.Need-places-of-requires
-places-of-requires c κs = search needs
-
-enum-known-first : tie.Need-enum-known-first
-enum-known-first c = search needs
-
-enum-told : tie.Need-enum-told
-enum-told c = search needs
-
 returns : tie.Need-returns
 returns c =
     let a = entry (c .before .before) .args in
@@ -34,12 +25,6 @@ returns c =
 returns-2 : tie.Need-returns-2
 returns-2 c = let a = c .before .before .before .before .before .before .before .args in
     sym (tried-many (a .counts) _ _ (metricIn (a .word)) (c .if1 .taken))
-
-add-search : tie.Need-add-search
-add-search c = omega arith
-
-wide-requires : tie.Need-wide-requires
-wide-requires c κs = search needs
 
 search-requires : tie.Need-search-requires
 search-requires c κs =
@@ -58,4 +43,4 @@ returns-3 c =
     ) (c .search .ensures)
 
 pub try-sentence-spec : {M : Type 1} → statement M
-try-sentence-spec = tie.close (tie.spec places-of-requires enum-known-first enum-told returns returns-2 add-search wide-requires search-requires returns-3)
+try-sentence-spec = tie.close (tie.spec (λ c κs. search needs) (λ c. search needs) (λ c. search needs) returns returns-2 (λ c. omega arith) (λ c κs. search needs) search-requires returns-3)

@@ -6,27 +6,6 @@ use borrow.Author.Needs.{needs}
 use Rattle.program.proofs.respond.Statement.{statement}
 use Rattle.program.proofs.respond.Tie as tie
 
-cell-room-requires : tie.Need-cell-room-requires
-cell-room-requires c κs = search needs
-
-cell-room-requires-2 : tie.Need-cell-room-requires-2
-cell-room-requires-2 c κs = search needs
-
-slice-aggregate-run-table : tie.Need-slice-aggregate-run-table
-slice-aggregate-run-table c = search needs
-
-slice-aggregate-run-table-2 : tie.Need-slice-aggregate-run-table-2
-slice-aggregate-run-table-2 c = search needs
-
-run-table-requires : tie.Need-run-table-requires
-run-table-requires c κs = search needs
-
-is-refusal-requires : tie.Need-is-refusal-requires
-is-refusal-requires c κs = search needs
-
-put-refusal-requires : tie.Need-put-refusal-requires
-put-refusal-requires c κs = search needs
-
 returns : tie.Need-returns
 returns c =
     let at-if1 = c .before .before in
@@ -34,14 +13,8 @@ returns c =
     let at-run-table = at-is-refusal .before .before .before in
     rw (at-run-table .run-table .ensures .refusal (sym (at-is-refusal .is-refusal .ensures) ∙ at-if1 .if1 .taken)) (c .put-refusal .ensures)
 
-array-share-prefix-record : tie.Need-array-share-prefix-record
-array-share-prefix-record c = search needs
-
 slice-aggregate-put-result : tie.Need-slice-aggregate-put-result
 slice-aggregate-put-result c = sym (length-take-le _ _ (c .before .before .before .before .before .before .run-table .ensures .emissions))
-
-array-share-prefix-stack-out : tie.Need-array-share-prefix-stack-out
-array-share-prefix-stack-out c = search needs
 
 slice-aggregate-put-result-2 : tie.Need-slice-aggregate-put-result-2
 slice-aggregate-put-result-2 c = sym (length-take-le _ _ (c .before .before .before .before .before .before .before .run-table .ensures .result))
@@ -67,17 +40,17 @@ pub respond-spec : {M : Type 1} → statement M
 respond-spec =
     tie.close
     (tie.spec
-    cell-room-requires
-    cell-room-requires-2
-    slice-aggregate-run-table
-    slice-aggregate-run-table-2
-    run-table-requires
-    is-refusal-requires
-    put-refusal-requires
+    (λ c κs. search needs)
+    (λ c κs. search needs)
+    (λ c. search needs)
+    (λ c. search needs)
+    (λ c κs. search needs)
+    (λ c κs. search needs)
+    (λ c κs. search needs)
     returns
-    array-share-prefix-record
+    (λ c. search needs)
     slice-aggregate-put-result
-    array-share-prefix-stack-out
+    (λ c. search needs)
     slice-aggregate-put-result-2
     put-result-requires
     returns-2)

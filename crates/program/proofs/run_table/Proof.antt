@@ -4,27 +4,6 @@ use borrow.Author.Needs.{needs}
 use Rattle.program.proofs.run_table.Statement.{statement}
 use Rattle.program.proofs.run_table.Tie as tie
 
-code-room-requires : tie.Need-code-room-requires
-code-room-requires c κs = search needs
-
-cell-room-requires : tie.Need-cell-room-requires
-cell-room-requires c κs = search needs
-
-slice-aggregate-translate-and-run : tie.Need-slice-aggregate-translate-and-run
-slice-aggregate-translate-and-run c = search needs
-
-slice-aggregate-translate-and-run-2 : tie.Need-slice-aggregate-translate-and-run-2
-slice-aggregate-translate-and-run-2 c = search needs
-
-translate-and-run-requires : tie.Need-translate-and-run-requires
-translate-and-run-requires c κs = search needs
-
-same-length : tie.Need-same-length
-same-length c = search needs
-
-same-length-2 : tie.Need-same-length-2
-same-length-2 c = search needs
-
 returns : tie.Need-returns
 returns c =
     let at-translate-and-run = c .before .before .before .before .before .before in
@@ -37,11 +16,11 @@ pub run-table-spec : {M : Type 1} → statement M
 run-table-spec =
     tie.close
     (tie.spec
-    code-room-requires
-    cell-room-requires
-    slice-aggregate-translate-and-run
-    slice-aggregate-translate-and-run-2
-    translate-and-run-requires
-    same-length
-    same-length-2
+    (λ c κs. search needs)
+    (λ c κs. search needs)
+    (λ c. search needs)
+    (λ c. search needs)
+    (λ c κs. search needs)
+    (λ c. search needs)
+    (λ c. search needs)
     returns)

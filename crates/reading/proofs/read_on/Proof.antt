@@ -16,23 +16,8 @@ table-here c =
     let at-functions = at-table .before .before in
     functions-done (at-functions .before .before .before .before .if1 .left) (at-functions .functions .ensures) (at-table .table .given .1) (search needs)
 
-refusal-requires : tie.Need-refusal-requires
-refusal-requires c κs = search needs
-
 returns : tie.Need-returns
 returns c = too-long _ (c .before .if1 .taken) (c .refusal .ensures)
-
-function-room-requires : tie.Need-function-room-requires
-function-room-requires c κs = search needs
-
-functions-requires : tie.Need-functions-requires
-functions-requires c κs = search needs
-
-enum-known-fault : tie.Need-enum-known-fault
-enum-known-fault c = search needs
-
-refusal-requires-2 : tie.Need-refusal-requires-2
-refusal-requires-2 c κs = search needs
 
 returns-2 : tie.Need-returns-2
 returns-2 c =
@@ -40,20 +25,8 @@ returns-2 c =
     let at-functions = at-fault .before .before in
     functions-stop (at-functions .before .before .before .before .if1 .left) (at-functions .functions .ensures) (at-fault .fault .given .1) (c .refusal2 .ensures)
 
-enum-known-table : tie.Need-enum-known-table
-enum-known-table c = search needs
-
 unknown-call-requires : tie.Need-unknown-call-requires
 unknown-call-requires c κs = searchable (table-here c)
-
-enum-known-place : tie.Need-enum-known-place
-enum-known-place c = search needs
-
-refusal-requires-3 : tie.Need-refusal-requires-3
-refusal-requires-3 c κs = search needs
-
-enum-told : tie.Need-enum-told
-enum-told c = search needs
 
 returns-3 : tie.Need-returns-3
 returns-3 c =
@@ -71,17 +44,17 @@ pub read-on-spec : {M : Type 1} → statement M
 read-on-spec =
     tie.close
     (tie.spec
-    refusal-requires
+    (λ c κs. search needs)
     returns
-    function-room-requires
-    functions-requires
-    enum-known-fault
-    refusal-requires-2
+    (λ c κs. search needs)
+    (λ c κs. search needs)
+    (λ c. search needs)
+    (λ c κs. search needs)
     returns-2
-    enum-known-table
+    (λ c. search needs)
     unknown-call-requires
-    enum-known-place
-    refusal-requires-3
-    enum-told
+    (λ c. search needs)
+    (λ c κs. search needs)
+    (λ c. search needs)
     returns-3
     returns-4)

@@ -28,12 +28,6 @@ sound c = sym (c .before .sound-table .ensures) ∙ not-false _ (c .if1 .left)
 starts : (c : tie.Else2) → isDeclared (functionsIn (entry (c .before .before .before) .args .code .now)) (entry (c .before .before .before) .args .start) ≡ true
 starts c = sym (c .before .declared .ensures) ∙ not-false _ (c .if2 .left)
 
-sound-table-requires : tie.Need-sound-table-requires
-sound-table-requires c κs = search needs
-
-refused-requires : tie.Need-refused-requires
-refused-requires c κs = search needs
-
 returns : tie.Need-returns
 returns c =
     let at-sound-table = c .before .before in
@@ -45,9 +39,6 @@ returns c =
 declared-requires : tie.Need-declared-requires
 declared-requires c κs = sound-counted (entry (c .before) .args .code .now) (sound c)
 
-refused-requires-2 : tie.Need-refused-requires-2
-refused-requires-2 c κs = search needs
-
 returns-2 : tie.Need-returns-2
 returns-2 c =
     let at-declared = c .before .before in
@@ -57,27 +48,12 @@ returns-2 c =
       leaving-undeclared _ _ _ (lent (at-if1 .before)) _ (sound at-if1) (sym (at-declared .declared .ensures) ∙ not-true _ (c .before .if2 .taken)),
     ) (refused-leaves NoSuchStart (lent (at-if1 .before)))
 
-refused-requires-3 : tie.Need-refused-requires-3
-refused-requires-3 c κs = search needs
-
 returns-3 : tie.Need-returns-3
 returns-3 c =
     let at-if2 = c .before .before in
     let at-if1 = at-if2 .before .before in
     rw (c .refused3 .ensures, leaving-long _ _ _ (lent (at-if1 .before)) _ (sound at-if1) (starts at-if2) (c .before .if3 .taken))
     (refused-leaves TextTooLong (lent (at-if1 .before)))
-
-frame-room-requires : tie.Need-frame-room-requires
-frame-room-requires c κs = search needs
-
-value-room-requires : tie.Need-value-room-requires
-value-room-requires c κs = search needs
-
-slice-aggregate-run-lent : tie.Need-slice-aggregate-run-lent
-slice-aggregate-run-lent c = search needs
-
-slice-aggregate-run-lent-2 : tie.Need-slice-aggregate-run-lent-2
-slice-aggregate-run-lent-2 c = search needs
 
 run-lent-requires : tie.Need-run-lent-requires
 run-lent-requires c κs =
@@ -90,15 +66,6 @@ run-lent-requires c κs =
     let d = is-declared (a .code .now) counted (a .start) (starts (at-if3 .before)) in
     (counted, (d .0, (d .1, (at-if3 .if3 .left, (at-frame-room .frame-room .ensures, at-value-room .value-room .ensures)))))
 
-same-length : tie.Need-same-length
-same-length c = search needs
-
-same-length-2 : tie.Need-same-length-2
-same-length-2 c = search needs
-
-same-length-3 : tie.Need-same-length-3
-same-length-3 c = search needs
-
 returns-4 : tie.Need-returns-4
 returns-4 c =
     let at-run-lent = c .before .before .before .before .before .before .before .before in
@@ -110,20 +77,20 @@ pub run-spec : {M : Type 1} → statement M
 run-spec =
     tie.close
     (tie.spec
-    sound-table-requires
-    refused-requires
+    (λ c κs. search needs)
+    (λ c κs. search needs)
     returns
     declared-requires
-    refused-requires-2
+    (λ c κs. search needs)
     returns-2
-    refused-requires-3
+    (λ c κs. search needs)
     returns-3
-    frame-room-requires
-    value-room-requires
-    slice-aggregate-run-lent
-    slice-aggregate-run-lent-2
+    (λ c κs. search needs)
+    (λ c κs. search needs)
+    (λ c. search needs)
+    (λ c. search needs)
     run-lent-requires
-    same-length
-    same-length-2
-    same-length-3
+    (λ c. search needs)
+    (λ c. search needs)
+    (λ c. search needs)
     returns-4)

@@ -54,52 +54,10 @@ returns c =
     let u = entry .pre .1 .1 in
     advance-unknown _ _ _ _ [] u (actions-none (a .code .now) (a .g .at .0) (c .if1 .taken)) (a .g) refl refl refl
 
-add-decode : tie.Need-add-decode
-add-decode c = search needs
-
-mul-decode : tie.Need-mul-decode
-mul-decode c = search needs
-
-shared-slice-read-decode : tie.Need-shared-slice-read-decode
-shared-slice-read-decode c = search needs
-
-decode-requires : tie.Need-decode-requires
-decode-requires c κs = search needs
-
-enum-known-what : tie.Need-enum-known-what
-enum-known-what c = search needs
-
-shift-requires : tie.Need-shift-requires
-shift-requires c κs = search needs
-
-enum-known-what-2 : tie.Need-enum-known-what-2
-enum-known-what-2 c = search needs
-
-write-requires : tie.Need-write-requires
-write-requires c κs = search needs
-
-enum-told : tie.Need-enum-told
-enum-told c = search needs
-
-begin-sequence-requires : tie.Need-begin-sequence-requires
-begin-sequence-requires c κs = search needs
-
-enum-told-2 : tie.Need-enum-told-2
-enum-told-2 c = search needs
-
-use-sequence-requires : tie.Need-use-sequence-requires
-use-sequence-requires c κs = search needs
-
-enum-known-what-3 : tie.Need-enum-known-what-3
-enum-known-what-3 c = search needs
-
 call-requires : tie.Need-call-requires
 call-requires c κs = let pre =
     c .before .before .before .before .before .before .before .before .before .before .before .before .before .before .before .before .before .before .pre in
     let r = pre .1 .1 .ready in (pre .0, (pre .1 .0, (r .ordered, (r .inside, (r .framed, (r .frameRoom, r .valueRoom))))))
-
-enum-known-length : tie.Need-enum-known-length
-enum-known-length c = search needs
 
 emit-requires : tie.Need-emit-requires
 emit-requires c κs =
@@ -108,46 +66,16 @@ emit-requires c κs =
     let r = entry .pre .1 .1 .ready in
     (omega (arith, at-if1 .if1 .left), (r .ordered, (r .inside, r .logged)))
 
-enum-told-3 : tie.Need-enum-told-3
-enum-told-3 c = search needs
-
-leave-requires : tie.Need-leave-requires
-leave-requires c κs = search needs
-
-enum-told-4 : tie.Need-enum-told-4
-enum-told-4 c = search needs
-
-same-length : tie.Need-same-length
-same-length c = search needs
-
-same-length-2 : tie.Need-same-length-2
-same-length-2 c = search needs
-
 returns-2 : tie.Need-returns-2
 returns-2 c =
     let at-what = c .before .before .before .before in
     acts (at-what .before .before) _ (at-what .what .given .1) _ _ refl (omega arith) _ _ refl (c .shift .ensures _ _ _)
-
-same-length-3 : tie.Need-same-length-3
-same-length-3 c = search needs
-
-same-length-4 : tie.Need-same-length-4
-same-length-4 c = search needs
-
-same-length-5 : tie.Need-same-length-5
-same-length-5 c = search needs
-
-same-length-6 : tie.Need-same-length-6
-same-length-6 c = search needs
 
 returns-3 : tie.Need-returns-3
 returns-3 c =
     let at-write = c .before .before in
     let at-what2 = at-write .before .before .before .before .before .before in
     acts (at-what2 .before .before) _ (at-what2 .what2 .given .1) _ _ refl (omega arith) _ _ (rw (at-write .write .kept .1 .1 .1 .0)) (at-write .write .ensures _)
-
-same-length-7 : tie.Need-same-length-7
-same-length-7 c = search needs
 
 returns-4 : tie.Need-returns-4
 returns-4 c =
@@ -157,30 +85,12 @@ returns-4 c =
     acts at-decode _ (at-enum-told .enum-told .given .1) _ _ refl (omega arith) _ _ refl
     (at-begin-sequence .begin-sequence .ensures _ _ _ _ (entry at-decode .pre .1 .1 .ready .below))
 
-same-length-8 : tie.Need-same-length-8
-same-length-8 c = search needs
-
-same-length-9 : tie.Need-same-length-9
-same-length-9 c = search needs
-
-same-length-10 : tie.Need-same-length-10
-same-length-10 c = search needs
-
 returns-5 : tie.Need-returns-5
 returns-5 c =
     let at-use-sequence = c .before .before .before .before in
     let at-enum-told2 = at-use-sequence .before .before .before .before in
     acts (at-enum-told2 .before .before) _ (at-enum-told2 .enum-told2 .given .1) _ _ refl (omega arith) _ _ (rw (at-use-sequence .use-sequence .kept .1 .0))
     (at-use-sequence .use-sequence .ensures _ _)
-
-same-length-11 : tie.Need-same-length-11
-same-length-11 c = search needs
-
-same-length-12 : tie.Need-same-length-12
-same-length-12 c = search needs
-
-same-length-13 : tie.Need-same-length-13
-same-length-13 c = search needs
 
 returns-6 : tie.Need-returns-6
 returns-6 c =
@@ -190,12 +100,6 @@ returns-6 c =
     advance-does _ _ _ _ _ (g at-decode .at .0 + 1) _ _ (within at-decode) (entry at-decode .pre .1 .1) (read at-decode _ (at-what3 .what3 .given .1))
     (at-call .call .ensures _ _)
 
-same-length-14 : tie.Need-same-length-14
-same-length-14 c = search needs
-
-same-length-15 : tie.Need-same-length-15
-same-length-15 c = search needs
-
 returns-7 : tie.Need-returns-7
 returns-7 c =
     let at-emit = c .before .before in
@@ -203,9 +107,6 @@ returns-7 c =
     let at-decode = at-length .before .before in
     let named = actions-named (words at-decode) (g at-decode .at .0 + 1) (at-length .length .given .0 .0) in
     acts at-decode _ (at-length .length .given .1) _ _ (rw named) (omega arith) _ _ (rw (at-emit .emit .kept .1 .1 .1 .1 .0)) (at-emit .emit .ensures _ _ _)
-
-same-length-16 : tie.Need-same-length-16
-same-length-16 c = search needs
 
 returns-8 : tie.Need-returns-8
 returns-8 c =
@@ -224,46 +125,46 @@ advance-spec =
     tie.close
     (tie.spec
     returns
-    add-decode
-    mul-decode
-    shared-slice-read-decode
-    decode-requires
-    enum-known-what
-    shift-requires
-    enum-known-what-2
-    write-requires
-    enum-told
-    begin-sequence-requires
-    enum-told-2
-    use-sequence-requires
-    enum-known-what-3
+    (λ c. search needs)
+    (λ c. search needs)
+    (λ c. search needs)
+    (λ c κs. search needs)
+    (λ c. search needs)
+    (λ c κs. search needs)
+    (λ c. search needs)
+    (λ c κs. search needs)
+    (λ c. search needs)
+    (λ c κs. search needs)
+    (λ c. search needs)
+    (λ c κs. search needs)
+    (λ c. search needs)
     call-requires
-    enum-known-length
+    (λ c. search needs)
     emit-requires
-    enum-told-3
-    leave-requires
-    enum-told-4
-    same-length
-    same-length-2
+    (λ c. search needs)
+    (λ c κs. search needs)
+    (λ c. search needs)
+    (λ c. search needs)
+    (λ c. search needs)
     returns-2
-    same-length-3
-    same-length-4
-    same-length-5
-    same-length-6
+    (λ c. search needs)
+    (λ c. search needs)
+    (λ c. search needs)
+    (λ c. search needs)
     returns-3
-    same-length-7
+    (λ c. search needs)
     returns-4
-    same-length-8
-    same-length-9
-    same-length-10
+    (λ c. search needs)
+    (λ c. search needs)
+    (λ c. search needs)
     returns-5
-    same-length-11
-    same-length-12
-    same-length-13
+    (λ c. search needs)
+    (λ c. search needs)
+    (λ c. search needs)
     returns-6
-    same-length-14
-    same-length-15
+    (λ c. search needs)
+    (λ c. search needs)
     returns-7
-    same-length-16
+    (λ c. search needs)
     returns-8
     returns-9)

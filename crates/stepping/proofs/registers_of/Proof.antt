@@ -3,15 +3,6 @@ use borrow.Author.Needs.{needs}
 use Rattle.stepping.proofs.registers_of.Statement.{statement}
 use Rattle.stepping.proofs.registers_of.Tie as tie
 
-enum-known-next : tie.Need-enum-known-next
-enum-known-next c = search needs
-
-enum-known-next-2 : tie.Need-enum-known-next-2
-enum-known-next-2 c = search needs
-
-enum-known-next-3 : tie.Need-enum-known-next-3
-enum-known-next-3 c = search needs
-
 returns : tie.Need-returns
 returns c = rw (c .before .next .given .1)
 
@@ -24,4 +15,4 @@ returns-3 c = rw (c .before .next3 .given .1)
 pub registers-of-spec : {M : Type 1} → statement M
 registers-of-spec =
     tie.close
-    (tie.spec enum-known-next enum-known-next-2 enum-known-next-3 returns returns-2 returns-3)
+    (tie.spec (λ c. search needs) (λ c. search needs) (λ c. search needs) returns returns-2 returns-3)

@@ -32,21 +32,6 @@ mul-journal c = omega (arith, c .before .loop .inv .3 .there)
 shared-slice-read-journal : tie.Need-shared-slice-read-journal Inv-loop μ-loop
 shared-slice-read-journal c = omega (arith, c .before .before .loop .inv .3 .there)
 
-cast-journal : tie.Need-cast-journal Inv-loop μ-loop
-cast-journal c = omega arith
-
-add-journal-2 : tie.Need-add-journal-2 Inv-loop μ-loop
-add-journal-2 c = omega arith
-
-slice-write-journal : tie.Need-slice-write-journal Inv-loop μ-loop
-slice-write-journal c = omega arith
-
-add-i : tie.Need-add-i Inv-loop μ-loop
-add-i c = omega arith
-
-loop-less : tie.Need-loop-less Inv-loop μ-loop
-loop-less c = omega arith
-
 loop-again : tie.Need-loop-again Inv-loop μ-loop
 loop-again c =
     let at-loop = c .before .before in
@@ -63,5 +48,5 @@ returns : tie.Need-returns Inv-loop μ-loop
 returns c = let e : c .before .loop .i ≡ c .before .before .args .size = omega arith in rw e at (c .before .loop .inv .0)
 
 pub copy-name-spec : {M : Type 1} → statement M
-copy-name-spec = tie.close (tie.spec Inv-loop μ-loop loop-holds add-journal mul-journal shared-slice-read-journal cast-journal add-journal-2 slice-write-journal
-    add-i loop-less loop-again same-length returns)
+copy-name-spec = tie.close (tie.spec Inv-loop μ-loop loop-holds add-journal mul-journal shared-slice-read-journal (λ c. omega arith) (λ c. omega arith) (λ c. omega arith)
+    (λ c. omega arith) (λ c. omega arith) loop-again same-length returns)

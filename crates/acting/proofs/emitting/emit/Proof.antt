@@ -24,25 +24,16 @@ is-named c = sym (c .before .named .ensures) ∙ not-false _ (c .if1 .left)
 there : (c : tie.Else1) → entry c .args .size ≤ length (entry c .args .code .now) - entry c .args .g .at .0
 there c = spelled (entry c .args .code .now) (entry c .args .g .at .0) (entry c .args .size) (is-named c) .there
 
-named-requires : tie.Need-named-requires
-named-requires c κs = search needs
-
 returns : tie.Need-returns
 returns c = let a = c .before .before .before .before .before .args in
     λ output values frames. emission-wrong (a .g) (memory (a .input .now) output (a .journal .now) frames values) (a .code .now) (a .size)
     (sym (c .before .named .ensures) ∙ not-true _ (c .if1 .taken))
-
-sub-line : tie.Need-sub-line
-sub-line c = search needs
 
 add-line : tie.Need-add-line
 add-line c = omega (arith, there c)
 
 add-line-2 : tie.Need-add-line-2
 add-line-2 c = omega (arith, there c)
-
-sub-if2 : tie.Need-sub-if2
-sub-if2 c = search needs
 
 returns-2 : tie.Need-returns-2
 returns-2 c =
@@ -51,28 +42,10 @@ returns-2 c =
     λ output values frames. emission-full (a .g) (memory (a .input .now) output (a .journal .now) frames values) (a .code .now) (a .size) (p .1 .0) (p .1 .1 .0)
     (p .1 .1 .1) (is-named (c .before)) (c .if2 .taken)
 
-sub-write-line : tie.Need-sub-write-line
-sub-write-line c = search needs
-
-part-write-line-start : tie.Need-part-write-line-start
-part-write-line-start c = search needs
-
-part-write-line-end : tie.Need-part-write-line-end
-part-write-line-end c = search needs
-
 write-line-requires : tie.Need-write-line-requires
 write-line-requires c κs =
     let at-if2 = c .before .before in
     (is-named (at-if2 .before), simp (length-take, length-drop) (omega (arith, at-if2 .if2 .left, entry (at-if2 .before) .pre)))
-
-add-t15 : tie.Need-add-t15
-add-t15 c = search needs
-
-add-t14 : tie.Need-add-t14
-add-t14 c = search needs
-
-same-length : tie.Need-same-length
-same-length c = search needs
 
 returns-3 : tie.Need-returns-3
 returns-3 c =
@@ -85,5 +58,5 @@ returns-3 c =
     (is-named (at-if2 .before)) (at-if2 .if2 .left))
 
 pub emit-spec : {M : Type 1} → statement M
-emit-spec = tie.close (tie.spec named-requires returns sub-line add-line add-line-2 sub-if2 returns-2 sub-write-line part-write-line-start part-write-line-end
-    write-line-requires add-t15 add-t14 same-length returns-3)
+emit-spec = tie.close (tie.spec (λ c κs. search needs) returns (λ c. search needs) add-line add-line-2 (λ c. search needs) returns-2 (λ c. search needs) (λ c. search needs) (λ c. search needs)
+    write-line-requires (λ c. search needs) (λ c. search needs) (λ c. search needs) returns-3)

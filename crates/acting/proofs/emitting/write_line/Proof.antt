@@ -12,28 +12,10 @@ entry c = c .before .before .before .before .before
 abbrev named : tie.After-copy-over → tie.After-copy-name
 named c = c .before .before .before .before
 
-copy-name-requires : tie.Need-copy-name-requires
-copy-name-requires c κs = search needs
-
-add-gap : tie.Need-add-gap
-add-gap c = search needs
-
-slice-write-journal : tie.Need-slice-write-journal
-slice-write-journal c = search needs
-
-add-copy-over : tie.Need-add-copy-over
-add-copy-over c = search needs
-
 copy-over-requires : tie.Need-copy-over-requires
 copy-over-requires c κs =
     let at-copy-name = c .before .before .before in
     simp length-set (omega (arith, at-copy-name .copy-name .kept .0, entry at-copy-name .pre .1))
-
-add-end : tie.Need-add-end
-add-end c = search needs
-
-add-end-2 : tie.Need-add-end-2
-add-end-2 c = search needs
 
 slice-write-journal-2 : tie.Need-slice-write-journal-2
 slice-write-journal-2 c =
@@ -57,4 +39,4 @@ returns c =
     (line-written (a .journal .now) (take (a .size) (drop (a .name .0) (a .code .now))) (a .argument .now) (a .to) (a .size) long (p .1))
 
 pub write-line-spec : {M : Type 1} → statement M
-write-line-spec = tie.close (tie.spec copy-name-requires add-gap slice-write-journal add-copy-over copy-over-requires add-end add-end-2 slice-write-journal-2 same-length returns)
+write-line-spec = tie.close (tie.spec (λ c κs. search needs) (λ c. search needs) (λ c. search needs) (λ c. search needs) copy-over-requires (λ c. search needs) (λ c. search needs) slice-write-journal-2 same-length returns)

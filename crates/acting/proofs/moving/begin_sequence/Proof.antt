@@ -5,12 +5,6 @@ use Rattle.acting.proofs.laws.Sequences.{begin-many, begin-kept}
 use Rattle.acting.proofs.moving.begin_sequence.Statement.{statement}
 use Rattle.acting.proofs.moving.begin_sequence.Tie as tie
 
-word-requires : tie.Need-word-requires
-word-requires c κs = search needs
-
-same-length : tie.Need-same-length
-same-length c = search needs
-
 returns : tie.Need-returns
 returns c =
     let entry = c .before .before .before .before in
@@ -18,21 +12,6 @@ returns c =
     let p = entry .pre in
     λ input output journal values r≤out. begin-many (a .g) (memory input output journal (a .frames .now) values) (p .0) (p .1 .0) (p .1 .1)
     (rw (c .before .word .ensures) at (c .if1 .taken))
-
-sub-set-word : tie.Need-sub-set-word
-sub-set-word c = search needs
-
-set-word-requires : tie.Need-set-word-requires
-set-word-requires c κs = search needs
-
-add-set-word : tie.Need-add-set-word
-add-set-word c = search needs
-
-set-word-requires-2 : tie.Need-set-word-requires-2
-set-word-requires-2 c κs = search needs
-
-same-length-2 : tie.Need-same-length-2
-same-length-2 c = search needs
 
 returns-2 : tie.Need-returns-2
 returns-2 c =
@@ -47,4 +26,4 @@ returns-2 c =
     (begin-kept (a .g) (memory input output journal (a .frames .now) values) (p .0) (p .1 .0) r≤out (rw (at-word .word .ensures) at (at-if1 .if1 .left)))
 
 pub begin-sequence-spec : {M : Type 1} → statement M
-begin-sequence-spec = tie.close (tie.spec word-requires same-length returns sub-set-word set-word-requires add-set-word set-word-requires-2 same-length-2 returns-2)
+begin-sequence-spec = tie.close (tie.spec (λ c κs. search needs) (λ c. search needs) returns (λ c. search needs) (λ c κs. search needs) (λ c. search needs) (λ c κs. search needs) (λ c. search needs) returns-2)

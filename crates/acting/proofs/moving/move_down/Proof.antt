@@ -18,21 +18,6 @@ abbrev μ-loop : tie.MeasureT-loop
 loop-holds : tie.Need-loop-holds Inv-loop μ-loop
 loop-holds c = (moved-none _ _ _ _, c .pre .0, omega arith, refl)
 
-sub-from : tie.Need-sub-from Inv-loop μ-loop
-sub-from c = omega arith
-
-sub-to : tie.Need-sub-to Inv-loop μ-loop
-sub-to c = omega arith
-
-shared-slice-read-input : tie.Need-shared-slice-read-input Inv-loop μ-loop
-shared-slice-read-input c = omega arith
-
-slice-write-input : tie.Need-slice-write-input Inv-loop μ-loop
-slice-write-input c = omega arith
-
-loop-less : tie.Need-loop-less Inv-loop μ-loop
-loop-less c = omega arith
-
 loop-again : tie.Need-loop-again Inv-loop μ-loop
 loop-again c = (
   moved-one _ _ _ _ _ _ _ (c .before .before .loop .inv .0) (omega arith) (omega arith) (omega arith) (omega arith) (omega arith),
@@ -48,4 +33,4 @@ returns : tie.Need-returns Inv-loop μ-loop
 returns c = let e : c .before .loop .from ≡ c .before .before .args .first .0 = omega arith in rw e at (c .before .loop .inv .0)
 
 pub move-down-spec : {M : Type 1} → statement M
-move-down-spec = tie.close (tie.spec Inv-loop μ-loop loop-holds sub-from sub-to shared-slice-read-input slice-write-input loop-less loop-again same-length returns)
+move-down-spec = tie.close (tie.spec Inv-loop μ-loop loop-holds (λ c. omega arith) (λ c. omega arith) (λ c. omega arith) (λ c. omega arith) (λ c. omega arith) loop-again same-length returns)

@@ -6,36 +6,12 @@ use Rattle.acting.proofs.laws.Acting.{shifts}
 use Rattle.acting.proofs.moving.shift.Statement.{statement}
 use Rattle.acting.proofs.moving.shift.Tie as tie
 
-enum-known-what : tie.Need-enum-known-what
-enum-known-what c = search needs
-
-reach-requires : tie.Need-reach-requires
-reach-requires c κs = search needs
-
-enum-known-to : tie.Need-enum-known-to
-enum-known-to c = search needs
-
-enum-told : tie.Need-enum-told
-enum-told c = search needs
-
 returns : tie.Need-returns
 returns c =
     let at-what = c .before .before .before .before in
     let pre = at-what .before .before .before .before .pre in
     λ output journal values. rw (at-what .what .given .1) (shifts _ _ (pre .0) (pre .1 .0) (Go (at-what .what .given .0 .0)) _
     (sym (c .enum-told .given .1) ∙ c .before .before .reach .ensures values))
-
-enum-known-what-2 : tie.Need-enum-known-what-2
-enum-known-what-2 c = search needs
-
-reach-requires-2 : tie.Need-reach-requires-2
-reach-requires-2 c κs = search needs
-
-enum-known-to-2 : tie.Need-enum-known-to-2
-enum-known-to-2 c = search needs
-
-enum-told-2 : tie.Need-enum-told-2
-enum-told-2 c = search needs
 
 returns-2 : tie.Need-returns-2
 returns-2 c =
@@ -61,5 +37,5 @@ returns-4 c =
     (sym (at-to2 .to2 .given .1) ∙ at-to2 .before .before .reach2 .ensures values))
 
 pub shift-spec : {M : Type 1} → statement M
-shift-spec = tie.close (tie.spec enum-known-what reach-requires enum-known-to enum-told returns enum-known-what-2 reach-requires-2 enum-known-to-2 enum-told-2
+shift-spec = tie.close (tie.spec (λ c. search needs) (λ c κs. search needs) (λ c. search needs) (λ c. search needs) returns (λ c. search needs) (λ c κs. search needs) (λ c. search needs) (λ c. search needs)
     returns-2 returns-3 returns-4)

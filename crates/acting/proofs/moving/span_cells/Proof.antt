@@ -3,42 +3,6 @@ use borrow.Author.Needs.{needs}
 use Rattle.acting.proofs.moving.span_cells.Statement.{statement}
 use Rattle.acting.proofs.moving.span_cells.Tie as tie
 
-word-requires : tie.Need-word-requires
-word-requires c κs = search needs
-
-word-requires-2 : tie.Need-word-requires-2
-word-requires-2 c κs = search needs
-
-enum-told : tie.Need-enum-told
-enum-told c = search needs
-
-within-requires : tie.Need-within-requires
-within-requires c κs = search needs
-
-enum-told-2 : tie.Need-enum-told-2
-enum-told-2 c = search needs
-
-within-requires-2 : tie.Need-within-requires-2
-within-requires-2 c κs = search needs
-
-enum-told-3 : tie.Need-enum-told-3
-enum-told-3 c = search needs
-
-within-requires-3 : tie.Need-within-requires-3
-within-requires-3 c κs = search needs
-
-enum-told-4 : tie.Need-enum-told-4
-enum-told-4 c = search needs
-
-less-requires : tie.Need-less-requires
-less-requires c κs = search needs
-
-within-requires-4 : tie.Need-within-requires-4
-within-requires-4 c κs = search needs
-
-enum-told-5 : tie.Need-enum-told-5
-enum-told-5 c = search needs
-
 returns : tie.Need-returns
 returns c = λ values. rw (c .before .enum-told .given .1) (c .within .ensures)
 
@@ -59,5 +23,5 @@ returns-5 : tie.Need-returns-5
 returns-5 c = λ values. rw (c .enum-told5 .given .1)
 
 pub span-cells-spec : {M : Type 1} → statement M
-span-cells-spec = tie.close (tie.spec word-requires word-requires-2 enum-told within-requires enum-told-2 within-requires-2 enum-told-3 within-requires-3 enum-told-4
-    less-requires within-requires-4 enum-told-5 returns returns-2 returns-3 returns-4 returns-5)
+span-cells-spec = tie.close (tie.spec (λ c κs. search needs) (λ c κs. search needs) (λ c. search needs) (λ c κs. search needs) (λ c. search needs) (λ c κs. search needs) (λ c. search needs) (λ c κs. search needs) (λ c. search needs)
+    (λ c κs. search needs) (λ c κs. search needs) (λ c. search needs) returns returns-2 returns-3 returns-4 returns-5)

@@ -33,29 +33,8 @@ first : (c : tie.After-lower) → let a = c .before .before .before .before .bef
     c .lower .result ≡ min (frameWord (a .g .frame) (24 - frameWord (a .g .frame) 4 (a .frames .now)) (a .frames .now)) (a .g .r .0)
 first c = rw (c .before .word2 .ensures, counted c .word .ensures) at (c .lower .ensures)
 
-word-requires : tie.Need-word-requires
-word-requires c κs = search needs
-
-same-length : tie.Need-same-length
-same-length c = search needs
-
 returns : tie.Need-returns
 returns c = λ journal values. use-none _ (lent (c .before) journal values) _ _ (bounded (c .before) journal values) (rw (c .before .word .ensures) at (c .if1 .taken))
-
-sub-word : tie.Need-sub-word
-sub-word c = search needs
-
-word-requires-2 : tie.Need-word-requires-2
-word-requires-2 c κs = search needs
-
-lower-requires : tie.Need-lower-requires
-lower-requires c κs = search needs
-
-sub-if2 : tie.Need-sub-if2
-sub-if2 c = search needs
-
-same-length-2 : tie.Need-same-length-2
-same-length-2 c = search needs
 
 returns-2 : tie.Need-returns-2
 returns-2 c =
@@ -63,23 +42,11 @@ returns-2 c =
     let at-word = counted at-lower in
     λ journal values. use-full _ (lent at-word journal values) _ _ (bounded at-word journal values) (some-open at-lower) (rw (first at-lower) at (c .if2 .taken))
 
-sub-set-word : tie.Need-sub-set-word
-sub-set-word c = search needs
-
-set-word-requires : tie.Need-set-word-requires
-set-word-requires c κs = search needs
-
 move-down-requires : tie.Need-move-down-requires
 move-down-requires c κs =
     let at-if2 = c .before .before .before .before .before in
     let at-lower = at-if2 .before .before .before .before in
     omega (arith, at-lower .lower .ensures, entry (counted at-lower) .pre, at-if2 .if2 .left)
-
-same-length-3 : tie.Need-same-length-3
-same-length-3 c = search needs
-
-same-length-4 : tie.Need-same-length-4
-same-length-4 c = search needs
 
 returns-3 : tie.Need-returns-3
 returns-3 c =
@@ -93,5 +60,5 @@ returns-3 c =
     (some-open at-lower) (at-move-down .move-down .kept .0) (rw (first at-lower) at (at-if2 .if2 .left)))
 
 pub use-sequence-spec : {M : Type 1} → statement M
-use-sequence-spec = tie.close (tie.spec word-requires same-length returns sub-word word-requires-2 lower-requires sub-if2 same-length-2 returns-2 sub-set-word
-    set-word-requires move-down-requires same-length-3 same-length-4 returns-3)
+use-sequence-spec = tie.close (tie.spec (λ c κs. search needs) (λ c. search needs) returns (λ c. search needs) (λ c κs. search needs) (λ c κs. search needs) (λ c. search needs) (λ c. search needs) returns-2 (λ c. search needs)
+    (λ c κs. search needs) move-down-requires (λ c. search needs) (λ c. search needs) returns-3)

@@ -12,17 +12,8 @@ returns c = let a = c .before .before .args in not-within (a .cells + a .add - a
 returns-2 : tie.Need-returns-2
 returns-2 c = let a = c .before .before .before .args in not-within (a .cells + a .add - a .back) (a .there) (omega arith)
 
-add-t9 : tie.Need-add-t9
-add-t9 c = search needs
-
 returns-3 : tie.Need-returns-3
 returns-3 c = let a = c .before .before .before .args in fits-within (a .cells + a .add - a .back) _ (a .there) (omega arith) (omega arith)
-
-sub-less : tie.Need-sub-less
-sub-less c = search needs
-
-less-requires : tie.Need-less-requires
-less-requires c κs = search needs
 
 returns-4 : tie.Need-returns-4
 returns-4 c = let a = c .before .before .before .args in not-within (a .cells + a .add - a .back) (a .there) (omega (arith, c .before .less .ensures))
@@ -31,4 +22,4 @@ returns-5 : tie.Need-returns-5
 returns-5 c = let a = c .before .before .before .args in fits-within (a .cells + a .add - a .back) _ (a .there) (omega (arith, c .before .less .ensures)) (omega arith)
 
 pub within-spec : {M : Type 1} → statement M
-within-spec = tie.close (tie.spec returns returns-2 add-t9 returns-3 sub-less less-requires returns-4 returns-5)
+within-spec = tie.close (tie.spec returns returns-2 (λ c. search needs) returns-3 (λ c. search needs) (λ c κs. search needs) returns-4 returns-5)

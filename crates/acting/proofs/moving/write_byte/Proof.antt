@@ -8,15 +8,6 @@ returns : tie.Need-returns
 returns c = let a = c .before .args in
     λ input journal values frames. byte-full _ _ (c .before .pre) (a .byte) (c .if1 .taken)
 
-slice-write-output : tie.Need-slice-write-output
-slice-write-output c = search needs
-
-add-t5 : tie.Need-add-t5
-add-t5 c = search needs
-
-same-length : tie.Need-same-length
-same-length c = search needs
-
 returns-2 : tie.Need-returns-2
 returns-2 c =
     let at-if1 = c .before .before .before in
@@ -25,4 +16,4 @@ returns-2 c =
     λ input journal values frames. byte-written _ _ (entry .pre) (a .byte) (at-if1 .if1 .left)
 
 pub write-byte-spec : {M : Type 1} → statement M
-write-byte-spec = tie.close (tie.spec returns slice-write-output add-t5 same-length returns-2)
+write-byte-spec = tie.close (tie.spec returns (λ c. search needs) (λ c. search needs) (λ c. search needs) returns-2)

@@ -4,27 +4,9 @@ use Rattle.acting.proofs.laws.Acting.{value-none, value-written}
 use Rattle.acting.proofs.moving.write_value.Statement.{statement}
 use Rattle.acting.proofs.moving.write_value.Tie as tie
 
-word-requires : tie.Need-word-requires
-word-requires c κs = search needs
-
 returns : tie.Need-returns
 returns c = let a = c .before .before .before .before .before .args in
     λ input journal. value-none _ _ (a .index) (rw (c .before .word .ensures) at (c .if1 .taken))
-
-mul-write-byte : tie.Need-mul-write-byte
-mul-write-byte c = search needs
-
-add-write-byte : tie.Need-add-write-byte
-add-write-byte c = search needs
-
-shared-slice-read-write-byte : tie.Need-shared-slice-read-write-byte
-shared-slice-read-write-byte c = search needs
-
-write-byte-requires : tie.Need-write-byte-requires
-write-byte-requires c κs = search needs
-
-same-length : tie.Need-same-length
-same-length c = search needs
 
 returns-2 : tie.Need-returns-2
 returns-2 c =
@@ -38,4 +20,4 @@ returns-2 c =
     (at-write-byte .write-byte .ensures input journal (a .values .now) (a .frames .now))
 
 pub write-value-spec : {M : Type 1} → statement M
-write-value-spec = tie.close (tie.spec word-requires returns mul-write-byte add-write-byte shared-slice-read-write-byte write-byte-requires same-length returns-2)
+write-value-spec = tie.close (tie.spec (λ c κs. search needs) returns (λ c. search needs) (λ c. search needs) (λ c. search needs) (λ c κs. search needs) (λ c. search needs) returns-2)

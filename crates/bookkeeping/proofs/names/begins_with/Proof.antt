@@ -27,17 +27,8 @@ add-if2 c = let m = c .before .loop .inv in omega arith
 shared-slice-read-if2 : tie.Need-shared-slice-read-if2 Inv-loop μ-loop
 shared-slice-read-if2 c = let m = c .before .before .loop .inv in omega arith
 
-shared-slice-read-if2-2 : tie.Need-shared-slice-read-if2-2 Inv-loop μ-loop
-shared-slice-read-if2-2 c = omega arith
-
 returns-2 : tie.Need-returns-2 Inv-loop μ-loop
 returns-2 c = begins-parts-ways _ _ _ _ _ (c .before .before .before .before .loop .inv) (omega arith) (c .if2 .taken)
-
-add-i : tie.Need-add-i Inv-loop μ-loop
-add-i c = omega arith
-
-loop-less : tie.Need-loop-less Inv-loop μ-loop
-loop-less c = omega arith
 
 loop-again : tie.Need-loop-again Inv-loop μ-loop
 loop-again c = begins-goes _ _ _ _ _ (c .before .before .before .before .loop .inv) (omega arith) (c .if2 .left)
@@ -56,9 +47,9 @@ begins-with-spec =
     loop-holds
     add-if2
     shared-slice-read-if2
-    shared-slice-read-if2-2
+    (λ c. omega arith)
     returns-2
-    add-i
-    loop-less
+    (λ c. omega arith)
+    (λ c. omega arith)
     loop-again
     returns-3)

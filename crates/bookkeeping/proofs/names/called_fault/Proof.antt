@@ -11,12 +11,6 @@ sub-if1 c = c .before .before .pre .forward
 returns : tie.Need-returns
 returns c = called-long _ (c .before .before .before .args .x) (c .before .before .before .pre) (c .if1 .taken)
 
-class-named-requires : tie.Need-class-named-requires
-class-named-requires c κs = search needs
-
-fault-if-requires : tie.Need-fault-if-requires
-fault-if-requires c κs = search needs
-
 returns-2 : tie.Need-returns-2
 returns-2 c =
     let at-if1 = c .before .before in
@@ -24,4 +18,4 @@ returns-2 c =
     c .fault-if .ensures ∙ called-is _ (entry .args .x) (entry .pre) (at-if1 .if1 .left) (a-predicate _ _ (c .before .class-named .ensures .0) (c .before .class-named .ensures .1))
 
 pub called-fault-spec : {M : Type 1} → statement M
-called-fault-spec = tie.close (tie.spec sub-if1 returns class-named-requires fault-if-requires returns-2)
+called-fault-spec = tie.close (tie.spec sub-if1 returns (λ c κs. search needs) (λ c κs. search needs) returns-2)

@@ -23,12 +23,6 @@ returns c =
     let i = c .before .before .before .loop .inv in
     (asked-is i (omega arith) (c .before .names-class .ensures) (c .if1 .taken), omega (arith, i .low))
 
-add-class : tie.Need-add-class Inv-loop μ-loop
-add-class c = omega arith
-
-loop-less : tie.Need-loop-less Inv-loop μ-loop
-loop-less c = omega arith
-
 loop-again : tie.Need-loop-again Inv-loop μ-loop
 loop-again c = asked-not (c .before .before .before .loop .inv) (omega arith) (c .before .names-class .ensures) (c .if1 .left)
 
@@ -44,7 +38,7 @@ class-named-spec =
     loop-holds
     names-class-requires
     returns
-    add-class
-    loop-less
+    (λ c. omega arith)
+    (λ c. omega arith)
     loop-again
     returns-2)

@@ -7,12 +7,6 @@ use Rattle.bookkeeping.specs.Answered.{numberOf}
 use Rattle.bookkeeping.proofs.Finding.{among}
 use Rattle.bookkeeping.proofs.Naming.{Asked-called, declared-wrong, declared-is, declared-known}
 
-called-fault-requires : tie.Need-called-fault-requires
-called-fault-requires c κs = search needs
-
-is-accepted-requires : tie.Need-is-accepted-requires
-is-accepted-requires c κs = search needs
-
 called : (c : tie.After-is-accepted) → let a = c .before .before .before .before .args in
     Asked-called (a .text .now) (a .x) (numberOf (c .before .called-fault .result)) (c .is-accepted .result)
 called c = record { fault = c .before .called-fault .ensures; accepted = c .is-accepted .ensures }
@@ -20,20 +14,11 @@ called c = record { fault = c .before .called-fault .ensures; accepted = c .is-a
 returns : tie.Need-returns
 returns c = declared-wrong (called (c .before)) (c .before .before .before .before .before .pre .1) (c .if1 .taken)
 
-is-emission-requires : tie.Need-is-emission-requires
-is-emission-requires c κs = search needs
-
 returns-2 : tie.Need-returns-2
 returns-2 c =
     let at-is-accepted = c .before .before .before in
     let entry = at-is-accepted .before .before .before .before in
     declared-is (called at-is-accepted) (entry .pre .1) (c .before .before .if1 .left) (sym (c .before .is-emission .ensures) ∙ c .if2 .taken) refl
-
-find-requires : tie.Need-find-requires
-find-requires c κs = search needs
-
-fault-if-requires : tie.Need-fault-if-requires
-fault-if-requires c κs = search needs
 
 returns-3 : tie.Need-returns-3
 returns-3 c =
@@ -47,11 +32,11 @@ pub declared-fault-spec : {M : Type 1} → statement M
 declared-fault-spec =
     tie.close
     (tie.spec
-    called-fault-requires
-    is-accepted-requires
+    (λ c κs. search needs)
+    (λ c κs. search needs)
     returns
-    is-emission-requires
+    (λ c κs. search needs)
     returns-2
-    find-requires
-    fault-if-requires
+    (λ c κs. search needs)
+    (λ c κs. search needs)
     returns-3)

@@ -48,9 +48,6 @@ returns c = turned (c .before) (c .if1 .taken)
 add-i : tie.Need-add-i Inv-loop μ-loop
 add-i c = let f = c .before .before .before .before .loop .inv in omega arith
 
-loop-less : tie.Need-loop-less Inv-loop μ-loop
-loop-less c = omega arith
-
 loop-again : tie.Need-loop-again Inv-loop μ-loop
 loop-again c = turned (c .before) (c .if1 .left)
 
@@ -70,6 +67,6 @@ find-spec =
     same-requires
     returns
     add-i
-    loop-less
+    (λ c. omega arith)
     loop-again
     returns-2)

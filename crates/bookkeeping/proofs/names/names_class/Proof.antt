@@ -7,36 +7,6 @@ use native.Mathlib.Omega.{arith}
 use Rattle.meaning.specs.Classes.{digit, upper, lower, alphabetic, blank}
 use Rattle.bookkeeping.proofs.Naming.{class-word}
 
-slice-aggregate-spells : tie.Need-slice-aggregate-spells
-slice-aggregate-spells c = search needs
-
-spells-requires : tie.Need-spells-requires
-spells-requires c κs = search needs
-
-slice-aggregate-spells-2 : tie.Need-slice-aggregate-spells-2
-slice-aggregate-spells-2 c = search needs
-
-spells-requires-2 : tie.Need-spells-requires-2
-spells-requires-2 c κs = search needs
-
-slice-aggregate-spells-3 : tie.Need-slice-aggregate-spells-3
-slice-aggregate-spells-3 c = search needs
-
-spells-requires-3 : tie.Need-spells-requires-3
-spells-requires-3 c κs = search needs
-
-slice-aggregate-spells-4 : tie.Need-slice-aggregate-spells-4
-slice-aggregate-spells-4 c = search needs
-
-spells-requires-4 : tie.Need-spells-requires-4
-spells-requires-4 c κs = search needs
-
-slice-aggregate-spells-5 : tie.Need-slice-aggregate-spells-5
-slice-aggregate-spells-5 c = search needs
-
-spells-requires-5 : tie.Need-spells-requires-5
-spells-requires-5 c κs = search needs
-
 returns : tie.Need-returns
 returns c = class-word _ 0 digit (c .before .before .match .keys1) refl (c .spells .ensures)
 
@@ -60,16 +30,16 @@ pub names-class-spec : {M : Type 1} → statement M
 names-class-spec =
     tie.close
     (tie.spec
-    slice-aggregate-spells
-    spells-requires
-    slice-aggregate-spells-2
-    spells-requires-2
-    slice-aggregate-spells-3
-    spells-requires-3
-    slice-aggregate-spells-4
-    spells-requires-4
-    slice-aggregate-spells-5
-    spells-requires-5
+    (λ c. search needs)
+    (λ c κs. search needs)
+    (λ c. search needs)
+    (λ c κs. search needs)
+    (λ c. search needs)
+    (λ c κs. search needs)
+    (λ c. search needs)
+    (λ c κs. search needs)
+    (λ c. search needs)
+    (λ c κs. search needs)
     returns
     returns-2
     returns-3

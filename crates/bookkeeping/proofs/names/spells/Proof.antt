@@ -11,11 +11,8 @@ sub-if1 c = c .before .before .before .pre .forward
 returns : tie.Need-returns
 returns c = spells-unlike _ _ _ (c .before .before .before .before .pre) (c .if1 .taken)
 
-begins-with-requires : tie.Need-begins-with-requires
-begins-with-requires c κs = search needs
-
 returns-2 : tie.Need-returns-2
 returns-2 c = c .begins-with .ensures ∙ spells-same _ _ _ (c .before .before .before .before .before .pre) (c .before .if1 .left)
 
 pub spells-spec : {M : Type 1} → statement M
-spells-spec = tie.close (tie.spec sub-if1 returns begins-with-requires returns-2)
+spells-spec = tie.close (tie.spec sub-if1 returns (λ c κs. search needs) returns-2)

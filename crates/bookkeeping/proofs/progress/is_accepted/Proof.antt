@@ -4,9 +4,6 @@ use Rattle.bookkeeping.proofs.progress.is_accepted.Statement.{statement
 use Rattle.bookkeeping.proofs.progress.is_accepted.Tie as tie
 use Rattle.bookkeeping.proofs.Tags.{not-accepted}
 
-enum-told : tie.Need-enum-told
-enum-told c = search needs
-
 returns : tie.Need-returns
 returns c = rw (c .enum-told .given .1)
 
@@ -14,4 +11,4 @@ returns-2 : tie.Need-returns-2
 returns-2 c = not-accepted (c .before .args .answer) (c .match .keys2)
 
 pub is-accepted-spec : {M : Type 1} → statement M
-is-accepted-spec = tie.close (tie.spec enum-told returns returns-2)
+is-accepted-spec = tie.close (tie.spec (λ c. search needs) returns returns-2)

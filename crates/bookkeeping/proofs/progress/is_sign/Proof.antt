@@ -4,9 +4,6 @@ use Rattle.bookkeeping.proofs.progress.is_sign.Statement.{statement}
 use Rattle.bookkeeping.proofs.progress.is_sign.Tie as tie
 use Rattle.bookkeeping.proofs.Tags.{no-sign}
 
-enum-known-token : tie.Need-enum-known-token
-enum-known-token c = search needs
-
 returns : tie.Need-returns
 returns c = rw (c .before .token .given .1)
 
@@ -14,4 +11,4 @@ returns-2 : tie.Need-returns-2
 returns-2 c = no-sign (c .before .args .byte) (c .before .args .t .token) (c .match .keys2)
 
 pub is-sign-spec : {M : Type 1} → statement M
-is-sign-spec = tie.close (tie.spec enum-known-token returns returns-2)
+is-sign-spec = tie.close (tie.spec (λ c. search needs) returns returns-2)

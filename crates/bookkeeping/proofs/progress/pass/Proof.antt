@@ -7,15 +7,6 @@ use Rattle.lexing.specs.View.{modeOf, Comes}
 use Rattle.lexing.proofs.Stream.{comes}
 use Rattle.bookkeeping.proofs.Tokening.{takes, bars}
 
-lex-requires : tie.Need-lex-requires
-lex-requires c κs = search needs
-
-is-sign-requires : tie.Need-is-sign-requires
-is-sign-requires c κs = search needs
-
-refuse-requires : tie.Need-refuse-requires
-refuse-requires c κs = search needs
-
 first : (c : tie.After-lex) → let a = c .before .before .args in Comes (a .text .now) (modeOf (a .mode)) (a .at) (c .lex .result)
 first c = comes _ _ _ _ (c .before .before .pre) (c .lex .ensures)
 
@@ -28,4 +19,4 @@ returns-2 c =
     bars _ _ _ _ _ _ (first (at-is-sign .before)) (sym (at-is-sign .is-sign .ensures) ∙ c .before .if1 .left) (c .refuse .ensures)
 
 pub pass-spec : {M : Type 1} → statement M
-pass-spec = tie.close (tie.spec lex-requires is-sign-requires refuse-requires returns returns-2)
+pass-spec = tie.close (tie.spec (λ c κs. search needs) (λ c κs. search needs) (λ c κs. search needs) returns returns-2)

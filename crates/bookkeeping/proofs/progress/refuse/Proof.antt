@@ -5,9 +5,6 @@ use Rattle.bookkeeping.proofs.progress.refuse.Tie as tie
 use mathlib.Core.Path.{refl}
 use Rattle.bookkeeping.proofs.Tags.{well-formed}
 
-enum-told : tie.Need-enum-told
-enum-told c = search needs
-
 returns : tie.Need-returns
 returns c = (rw (c .enum-told .given .1), refl)
 
@@ -15,4 +12,4 @@ returns-2 : tie.Need-returns-2
 returns-2 c = (well-formed (c .before .args .t .token) (c .match .keys2), refl)
 
 pub refuse-spec : {M : Type 1} → statement M
-refuse-spec = tie.close (tie.spec enum-told returns returns-2)
+refuse-spec = tie.close (tie.spec (λ c. search needs) returns returns-2)

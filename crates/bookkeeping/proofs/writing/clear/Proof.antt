@@ -5,11 +5,8 @@ use Rattle.bookkeeping.proofs.writing.clear.Tie as tie
 use mathlib.Core.Path.{_≡_}
 use lib.ListN.{length}
 
-fill-requires : tie.Need-fill-requires
-fill-requires c κs = search needs
-
 returns : tie.Need-returns
 returns c = let l : length (c .before .before .args .tape .now) ≡ 32768 = search needs in rw l at (c .fill .ensures)
 
 pub clear-spec : {M : Type 1} → statement M
-clear-spec = tie.close (tie.spec fill-requires returns)
+clear-spec = tie.close (tie.spec (λ c κs. search needs) returns)

@@ -19,18 +19,9 @@ abbrev μ-loop : tie.MeasureT-loop
 loop-holds : tie.Need-loop-holds Inv-loop μ-loop
 loop-holds c = spelling-starts _ _ _ _ (c .before .pre .0)
 
-next-character-requires : tie.Need-next-character-requires Inv-loop μ-loop
-next-character-requires c κs = search needs
-
 -- after the next character, whatever it is
 turned : (c : tie.After-next-character Inv-loop μ-loop) {r : Character} → c .next-character .result ≡ r → SpelledOn (c .before .loop .inv) r
 turned c {r} e = spelled-on (c .before .loop .inv) r (rw e at (c .next-character .ensures))
-
-enum-known-byte : tie.Need-enum-known-byte Inv-loop μ-loop
-enum-known-byte c = search needs
-
-cast-put : tie.Need-cast-put Inv-loop μ-loop
-cast-put c = search needs
 
 given : (c : tie.After-known-told Inv-loop μ-loop) → let v = c .before .byte .given .0 in SpelledOn (c .before .before .before .before .loop .inv) (Given (v .0) (v .1 .0))
 given c = turned (c .before .before .before) (c .before .byte .given .1)
@@ -47,23 +38,14 @@ loop-less c = let k = given (c .before .before) in omega arith
 loop-again : tie.Need-loop-again Inv-loop μ-loop
 loop-again c = given (c .before .before) .3 (omega arith) _ (c .put .ensures)
 
-enum-known-past : tie.Need-enum-known-past Inv-loop μ-loop
-enum-known-past c = search needs
-
 loop-less-2 : tie.Need-loop-less-2 Inv-loop μ-loop
 loop-less-2 c = let k = turned (c .before .before .before) (c .before .past .given .1) in omega arith
 
 loop-again-2 : tie.Need-loop-again-2 Inv-loop μ-loop
 loop-again-2 c = turned (c .before .before .before) (c .before .past .given .1) .1
 
-enum-told : tie.Need-enum-told Inv-loop μ-loop
-enum-told c = search needs
-
 returns : tie.Need-returns Inv-loop μ-loop
 returns c = turned (c .before .before) (c .enum-told .given .1)
-
-enum-told-2 : tie.Need-enum-told-2 Inv-loop μ-loop
-enum-told-2 c = search needs
 
 returns-2 : tie.Need-returns-2 Inv-loop μ-loop
 returns-2 c = absurd (turned (c .before .before) (c .enum-told2 .given .1) (c .before .before .before .before .before .pre .1))
@@ -75,17 +57,17 @@ put-characters-spec =
     Inv-loop
     μ-loop
     loop-holds
-    next-character-requires
-    enum-known-byte
-    cast-put
+    (λ c κs. search needs)
+    (λ c. search needs)
+    (λ c. search needs)
     put-requires
     add-to
     loop-less
     loop-again
-    enum-known-past
+    (λ c. search needs)
     loop-less-2
     loop-again-2
-    enum-told
+    (λ c. search needs)
     returns
-    enum-told-2
+    (λ c. search needs)
     returns-2)

@@ -37,9 +37,6 @@ add-to-2 c = let n = c .before .before .before .before .loop .inv in omega arith
 add-i : tie.Need-add-i Inv-loop μ-loop
 add-i c = let n = c .before .before .before .before .loop .inv in omega arith
 
-loop-less : tie.Need-loop-less Inv-loop μ-loop
-loop-less c = omega arith
-
 loop-again : tie.Need-loop-again Inv-loop μ-loop
 loop-again c =
     let at-shared-slice-known2 = c .before .before in
@@ -67,6 +64,6 @@ put-named-spec =
     put-requires-2
     add-to-2
     add-i
-    loop-less
+    (λ c. omega arith)
     loop-again
     returns)

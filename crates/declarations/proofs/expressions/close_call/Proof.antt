@@ -10,23 +10,11 @@ use Rattle.bookkeeping.specs.Tokened.{Taken}
 closed-here : (c : tie.After-at) → let a = c .before .before .before .before .args in Taken (a .text .now) inside 62 (a .s .at) (c .at .given .0 .0)
 closed-here c = rw (c .at .given .1) at (c .before .before .pass .ensures)
 
-pass-requires : tie.Need-pass-requires
-pass-requires c κs = search needs
-
-enum-known-at : tie.Need-enum-known-at
-enum-known-at c = search needs
-
 put-requires : tie.Need-put-requires
 put-requires c κs =
     let t = closed-here (c .before .before) in
     let r = c .before .before .before .before .before .before .pre in
     omega arith
-
-add-t11 : tie.Need-add-t11
-add-t11 c = search needs
-
-enum-known-fault : tie.Need-enum-known-fault
-enum-known-fault c = search needs
 
 returns : tie.Need-returns
 returns c = record { gives = (closed-here (c .before .before .before .before), refl, c .before .put .ensures) }
@@ -37,4 +25,4 @@ returns-2 c = record { gives = rw (c .before .fault .given .1) at (c .before .be
 pub close-call-spec : {M : Type 1} → statement M
 close-call-spec =
     tie.close
-    (tie.spec pass-requires enum-known-at put-requires add-t11 enum-known-fault returns returns-2)
+    (tie.spec (λ c κs. search needs) (λ c. search needs) put-requires (λ c. search needs) (λ c. search needs) returns returns-2)

@@ -7,20 +7,11 @@ use mathlib.Core.Bool.{true, false}
 use Rattle.parsing.proofs.Items.{string-here, variable-here, asks-string, asks-variable, item-other}
 use Rattle.declarations.proofs.Joining.{joins}
 
-enum-known-token : tie.Need-enum-known-token
-enum-known-token c = search needs
-
 join-string-requires : tie.Need-join-string-requires
 join-string-requires c κs = asks-string (c .before .before .before .before .before .before .pre) (c .before .before .token .given .1)
 
-enum-known-token-2 : tie.Need-enum-known-token-2
-enum-known-token-2 c = search needs
-
 join-symbol-requires : tie.Need-join-symbol-requires
 join-symbol-requires c κs = asks-variable (c .before .before .before .before .before .before .pre) false _ (c .before .before .token2 .given .1)
-
-enum-known-token-3 : tie.Need-enum-known-token-3
-enum-known-token-3 c = search needs
 
 join-part-requires : tie.Need-join-part-requires
 join-part-requires c κs = asks-variable (c .before .before .before .before .before .before .pre) true _ (c .before .before .token3 .given .1)
@@ -41,11 +32,11 @@ pub join-spec : {M : Type 1} → statement M
 join-spec =
     tie.close
     (tie.spec
-    enum-known-token
+    (λ c. search needs)
     join-string-requires
-    enum-known-token-2
+    (λ c. search needs)
     join-symbol-requires
-    enum-known-token-3
+    (λ c. search needs)
     join-part-requires
     returns
     returns-2

@@ -14,20 +14,11 @@ sought-here c =
     let at-if1 = at-if2 .before .before in
     record { here = at-if1 .before .before .before .before .pre; few = at-if2 .if2 .left; brief = at-if1 .if1 .left; found = c .find .ensures }
 
-sub-if1 : tie.Need-sub-if1
-sub-if1 c = search needs
-
 returns : tie.Need-returns
 returns c = part-long (c .before .before .before .before .pre) (c .if1 .taken)
 
 returns-2 : tie.Need-returns-2
 returns-2 c = variable-many (c .before .before .before .before .before .before .pre) (λ e. rw e) (c .if2 .taken)
-
-add-start : tie.Need-add-start
-add-start c = search needs
-
-add-end : tie.Need-add-end
-add-end c = search needs
 
 find-requires : tie.Need-find-requires
 find-requires c κs =
@@ -36,9 +27,6 @@ find-requires c κs =
 
 returns-3 : tie.Need-returns-3
 returns-3 c = part-unknown (sought-here (c .before)) (c .if3 .taken)
-
-sub-passed : tie.Need-sub-passed
-sub-passed c = search needs
 
 take-variable-requires : tie.Need-take-variable-requires
 take-variable-requires c κs =
@@ -54,13 +42,13 @@ pub join-part-spec : {M : Type 1} → statement M
 join-part-spec =
     tie.close
     (tie.spec
-    sub-if1
+    (λ c. search needs)
     returns
     returns-2
-    add-start
-    add-end
+    (λ c. search needs)
+    (λ c. search needs)
     find-requires
     returns-3
-    sub-passed
+    (λ c. search needs)
     take-variable-requires
     returns-4)

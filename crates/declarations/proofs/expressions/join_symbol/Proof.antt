@@ -9,12 +9,6 @@ use Rattle.declarations.proofs.Joining.{variable-many, symbol-bad, symb
 returns : tie.Need-returns
 returns c = variable-many (c .before .before .before .before .pre) (λ e. rw e) (c .if1 .taken)
 
-later-symbol-fault-requires : tie.Need-later-symbol-fault-requires
-later-symbol-fault-requires c κs = search needs
-
-is-accepted-requires : tie.Need-is-accepted-requires
-is-accepted-requires c κs = search needs
-
 returns-2 : tie.Need-returns-2
 returns-2 c =
     let at-later-symbol-fault = c .before .before in
@@ -42,8 +36,8 @@ join-symbol-spec =
     tie.close
     (tie.spec
     returns
-    later-symbol-fault-requires
-    is-accepted-requires
+    (λ c κs. search needs)
+    (λ c κs. search needs)
     returns-2
     take-variable-requires
     returns-3)

@@ -30,9 +30,6 @@ name-here c = record { is = c .token .given .1 }
 sound-here : (c : tie.Else3) → CallNamed (name-here (c .before .before .before .before))
 sound-here c = record { sound = no-fault-here (c .before .before .called-fault .ensures) (c .before .is-accepted .ensures) (c .if3 .left) }
 
-stopped-requires : tie.Need-stopped-requires
-stopped-requires c κs = search needs
-
 returns : tie.Need-returns
 returns c =
     let a = c .before .before .before .args in
@@ -40,26 +37,11 @@ returns c =
     (call-limited (a .text .now) (a .depth) (a .s) (a .place)
     (⊎-elim (λ w. too-deep (a .depth) (a .s .count) (w .taken)) (λ w. too-many (a .depth) (a .s .count) (leb-true 128 _ (w .2 .taken))) (c .before .if1 .came)))
 
-lex-requires : tie.Need-lex-requires
-lex-requires c κs = search needs
-
-enum-known-token : tie.Need-enum-known-token
-enum-known-token c = search needs
-
-refuse-requires : tie.Need-refuse-requires
-refuse-requires c κs = search needs
-
 returns-2 : tie.Need-returns-2
 returns-2 c = call-nameless (call-here (c .before .before)) (c .before .match .keys2) (c .refuse .ensures)
 
 called-fault-requires : tie.Need-called-fault-requires
 called-fault-requires c κs = named-here (name-here (c .before)) .inside
-
-is-accepted-requires : tie.Need-is-accepted-requires
-is-accepted-requires c κs = search needs
-
-stopped-requires-2 : tie.Need-stopped-requires-2
-stopped-requires-2 c κs = search needs
 
 returns-3 : tie.Need-returns-3
 returns-3 c =
@@ -82,15 +64,15 @@ pub open-call-spec : {M : Type 1} → statement M
 open-call-spec =
     tie.close
     (tie.spec
-    stopped-requires
+    (λ c κs. search needs)
     returns
-    lex-requires
-    enum-known-token
-    refuse-requires
+    (λ c κs. search needs)
+    (λ c. search needs)
+    (λ c κs. search needs)
     returns-2
     called-fault-requires
-    is-accepted-requires
-    stopped-requires-2
+    (λ c κs. search needs)
+    (λ c κs. search needs)
     returns-3
     put-call-requires
     add-t19

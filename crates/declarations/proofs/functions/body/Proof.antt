@@ -15,12 +15,6 @@ brace-here c =
 pass-requires : tie.Need-pass-requires
 pass-requires c κs = c .before .pre .inside .inside
 
-enum-known-at : tie.Need-enum-known-at
-enum-known-at c = search needs
-
-enum-known-fault : tie.Need-enum-known-fault
-enum-known-fault c = search needs
-
 returns : tie.Need-returns
 returns c = barred-stops _ (rw (c .before .fault .given .1) at (c .before .before .before .pass .ensures))
 
@@ -49,8 +43,8 @@ body-spec =
     tie.close
     (tie.spec
     pass-requires
-    enum-known-at
-    enum-known-fault
+    (λ c. search needs)
+    (λ c. search needs)
     returns
     sub-word
     add-word

@@ -21,17 +21,8 @@ name-here c =
 sound-here : (c : tie.Else2) → Named (name-here (c .before .before .before .before .before))
 sound-here c = record { sound = no-fault-here (c .before .before .declared-fault .ensures) (c .before .is-accepted .ensures) (c .if2 .left) }
 
-enum-known-token : tie.Need-enum-known-token
-enum-known-token c = search needs
-
-refuse-requires : tie.Need-refuse-requires
-refuse-requires c κs = search needs
-
 returns : tie.Need-returns
 returns c = function-nameless (c .before .before .before .pre) (c .before .match .keys2) (c .refuse .ensures)
-
-stopped-requires : tie.Need-stopped-requires
-stopped-requires c κs = search needs
 
 returns-2 : tie.Need-returns-2
 returns-2 c =
@@ -42,12 +33,6 @@ declared-fault-requires : tie.Need-declared-fault-requires
 declared-fault-requires c κs =
     let m = name-here (c .before .before) in
     (named-here m .inside, m .opening .entries)
-
-is-accepted-requires : tie.Need-is-accepted-requires
-is-accepted-requires c κs = search needs
-
-stopped-requires-2 : tie.Need-stopped-requires-2
-stopped-requires-2 c κs = search needs
 
 returns-3 : tie.Need-returns-3
 returns-3 c =
@@ -62,9 +47,6 @@ entry-requires : tie.Need-entry-requires
 entry-requires c κs =
     let d = declarable (sound-here c) in
     (d .inside .forward, omega (arith, d .inside .inside, d .short))
-
-mul-names : tie.Need-mul-names
-mul-names c = search needs
 
 element-write-names : tie.Need-element-write-names
 element-write-names c = name-here (c .before .before .before .before .before .before) .few
@@ -81,17 +63,17 @@ pub function-spec : {M : Type 1} → statement M
 function-spec =
     tie.close
     (tie.spec
-    enum-known-token
-    refuse-requires
+    (λ c. search needs)
+    (λ c κs. search needs)
     returns
-    stopped-requires
+    (λ c κs. search needs)
     returns-2
     declared-fault-requires
-    is-accepted-requires
-    stopped-requires-2
+    (λ c κs. search needs)
+    (λ c κs. search needs)
     returns-3
     entry-requires
-    mul-names
+    (λ c. search needs)
     element-write-names
     body-requires
     returns-4)

@@ -36,12 +36,6 @@ function-here c =
 loop-holds : tie.Need-loop-holds Inv-loop μ-loop
 loop-holds c = functions-start _ _ _ (c .before .pre .0) (c .before .pre .1)
 
-lex-requires : tie.Need-lex-requires Inv-loop μ-loop
-lex-requires c κs = search needs
-
-is-end-requires : tie.Need-is-end-requires Inv-loop μ-loop
-is-end-requires c κs = search needs
-
 returns : tie.Need-returns Inv-loop μ-loop
 returns c =
     let at-lex = c .before .before in
@@ -50,16 +44,10 @@ returns c =
 function-requires : tie.Need-function-requires Inv-loop μ-loop
 function-requires c κs = opening (next-here (c .before .before))
 
-enum-known-fault : tie.Need-enum-known-fault Inv-loop μ-loop
-enum-known-fault c = search needs
-
 returns-2 : tie.Need-returns-2 Inv-loop μ-loop
 returns-2 c =
     let at-function = c .before .before .before in
     function-stops (next-here (at-function .before .before .before)) (at-function .function .ensures) (c .before .fault .given .1)
-
-enum-known-f : tie.Need-enum-known-f Inv-loop μ-loop
-enum-known-f c = search needs
 
 pass-spare-requires : tie.Need-pass-spare-requires Inv-loop μ-loop
 pass-spare-requires c κs = function-here (c .before) .read .how .read .went .inside
@@ -80,13 +68,13 @@ functions-spec =
     Inv-loop
     μ-loop
     loop-holds
-    lex-requires
-    is-end-requires
+    (λ c κs. search needs)
+    (λ c κs. search needs)
     returns
     function-requires
-    enum-known-fault
+    (λ c. search needs)
     returns-2
-    enum-known-f
+    (λ c. search needs)
     pass-spare-requires
     add-count
     loop-less

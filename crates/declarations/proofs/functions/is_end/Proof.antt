@@ -4,14 +4,8 @@ use Rattle.declarations.proofs.functions.is_end.Statement.{statement}
 use Rattle.declarations.proofs.functions.is_end.Tie as tie
 use Rattle.declarations.proofs.Functioned.{no-end}
 
-enum-told : tie.Need-enum-told
-enum-told c = search needs
-
-returns : tie.Need-returns
-returns c = search needs
-
 returns-2 : tie.Need-returns-2
 returns-2 c = no-end (c .before .args .t .token) (c .match .keys2)
 
 pub is-end-spec : {M : Type 1} → statement M
-is-end-spec = tie.close (tie.spec enum-told returns returns-2)
+is-end-spec = tie.close (tie.spec (λ c. search needs) (λ c. search needs) returns-2)

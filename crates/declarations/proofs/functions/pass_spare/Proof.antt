@@ -12,12 +12,6 @@ use Rattle.bookkeeping.proofs.Tokening.{is-taken}
 token-here : (c : tie.After-lex) → let a = c .before .before .args in Comes (a .text .now) outside (a .at) (c .lex .result)
 token-here c = comes _ outside _ _ (c .before .before .pre) (c .lex .ensures)
 
-lex-requires : tie.Need-lex-requires
-lex-requires c κs = search needs
-
-is-sign-requires : tie.Need-is-sign-requires
-is-sign-requires c κs = search needs
-
 returns : tie.Need-returns
 returns c = spare-passed (is-taken (token-here (c .before .before)) (c .before .is-sign .ensures) (c .if1 .taken))
 
@@ -25,4 +19,4 @@ returns-2 : tie.Need-returns-2
 returns-2 c = spare-none (token-here (c .before .before)) (sym (c .before .is-sign .ensures) ∙ c .if1 .left)
 
 pub pass-spare-spec : {M : Type 1} → statement M
-pass-spare-spec = tie.close (tie.spec lex-requires is-sign-requires returns returns-2)
+pass-spare-spec = tie.close (tie.spec (λ c κs. search needs) (λ c κs. search needs) returns returns-2)

@@ -26,20 +26,8 @@ next-here : (c : tie.After-lex2)
     Comes (at-lex .before .before .args .text .now) inside (at-lex .lex .result .past) (c .lex2 .result)
 next-here c = comes _ inside _ _ (passed-here (c .before) .inside) (c .lex2 .ensures)
 
-lex-requires : tie.Need-lex-requires
-lex-requires c κs = search needs
-
-is-sign-requires : tie.Need-is-sign-requires
-is-sign-requires c κs = search needs
-
 returns : tie.Need-returns
 returns c = ends-at-once (is-taken (token-here (c .before .before)) (c .before .is-sign .ensures) (c .if1 .taken))
-
-is-sign-requires-2 : tie.Need-is-sign-requires-2
-is-sign-requires-2 c κs = search needs
-
-refuse-requires : tie.Need-refuse-requires
-refuse-requires c κs = search needs
 
 returns-2 : tie.Need-returns-2
 returns-2 c =
@@ -48,12 +36,6 @@ returns-2 c =
     let at-is-sign = at-if1 .before in
     follows-nothing (token-here (at-is-sign .before)) (sym (at-is-sign .is-sign .ensures) ∙ at-if1 .if1 .left)
     (sym (at-is-sign2 .is-sign2 .ensures) ∙ not-true _ (c .before .if2 .taken)) (c .refuse .ensures)
-
-lex-requires-2 : tie.Need-lex-requires-2
-lex-requires-2 c κs = search needs
-
-is-sign-requires-3 : tie.Need-is-sign-requires-3
-is-sign-requires-3 c κs = search needs
 
 returns-3 : tie.Need-returns-3
 returns-3 c =
@@ -69,13 +51,13 @@ pub after-sentence-spec : {M : Type 1} → statement M
 after-sentence-spec =
     tie.close
     (tie.spec
-    lex-requires
-    is-sign-requires
+    (λ c κs. search needs)
+    (λ c κs. search needs)
     returns
-    is-sign-requires-2
-    refuse-requires
+    (λ c κs. search needs)
+    (λ c κs. search needs)
     returns-2
-    lex-requires-2
-    is-sign-requires-3
+    (λ c κs. search needs)
+    (λ c κs. search needs)
     returns-3
     returns-4)

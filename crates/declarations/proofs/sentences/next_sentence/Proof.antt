@@ -18,22 +18,10 @@ token-here c = comes _ inside _ _ (c .before .before .pre .inside) (c .lex .ensu
 begins-here : (c : tie.Else1) → beginsSentence (c .before .before .lex .result .token) ≡ true
 begins-here c = sym (c .before .begins .ensures) ∙ not-false _ (c .if1 .left)
 
-lex-requires : tie.Need-lex-requires
-lex-requires c κs = search needs
-
-begins-requires : tie.Need-begins-requires
-begins-requires c κs = search needs
-
-refuse-requires : tie.Need-refuse-requires
-refuse-requires c κs = search needs
-
 returns : tie.Need-returns
 returns c =
     let at-begins = c .before .before in
     first-refused _ _ (token-here (at-begins .before)) (sym (at-begins .begins .ensures) ∙ not-true _ (c .before .if1 .taken)) (c .refuse .ensures)
-
-stopped-requires : tie.Need-stopped-requires
-stopped-requires c κs = search needs
 
 returns-2 : tie.Need-returns-2
 returns-2 c =
@@ -55,11 +43,11 @@ pub next-sentence-spec : {M : Type 1} → statement M
 next-sentence-spec =
     tie.close
     (tie.spec
-    lex-requires
-    begins-requires
-    refuse-requires
+    (λ c κs. search needs)
+    (λ c κs. search needs)
+    (λ c κs. search needs)
     returns
-    stopped-requires
+    (λ c κs. search needs)
     returns-2
     sentence-requires
     returns-3)

@@ -19,20 +19,11 @@ conditions-here : (c : tie.After-c)
     AfterConditions (pattern-here (at-conditions .before .before .before .before)) (at-conditions .conditions .last .1 .0) (c .c .given .0 .0)
 conditions-here c = conditions-done (pattern-here (c .before .before .before .before .before .before)) (c .before .before .conditions .ensures) (c .c .given .1)
 
-variable-room-requires : tie.Need-variable-room-requires
-variable-room-requires c κs = search needs
-
 pattern-requires : tie.Need-pattern-requires
 pattern-requires c κs = (c .before .before .before .before .pre, c .before .before .variable-room .ensures)
 
-enum-known-fault : tie.Need-enum-known-fault
-enum-known-fault c = search needs
-
 returns : tie.Need-returns
 returns c = pattern-stops (c .before .before .before .pattern .ensures) (c .before .fault .given .1)
-
-enum-known-p : tie.Need-enum-known-p
-enum-known-p c = search needs
 
 slice-aggregate-conditions : tie.Need-slice-aggregate-conditions
 slice-aggregate-conditions c = sym (pattern-variables (pattern-here (c .before .before .before)) .long)
@@ -42,16 +33,10 @@ conditions-requires c κs =
     let k = pattern-here (c .before .before .before) in
     (pattern-ready k, pattern-variables k .symbolEntries)
 
-enum-known-fault-2 : tie.Need-enum-known-fault-2
-enum-known-fault-2 c = search needs
-
 returns-2 : tie.Need-returns-2
 returns-2 c =
     let at-conditions = c .before .before .before in
     conditions-stop (pattern-here (at-conditions .before .before .before .before)) (at-conditions .conditions .ensures) (c .before .fault2 .given .1)
-
-enum-known-c : tie.Need-enum-known-c
-enum-known-c c = search needs
 
 slice-aggregate-sentence-end : tie.Need-slice-aggregate-sentence-end
 slice-aggregate-sentence-end c = sym (pattern-variables (pattern-here (c .before .before .before .before .before .before .before .before .before)) .long)
@@ -68,16 +53,16 @@ pub sentence-spec : {M : Type 1} → statement M
 sentence-spec =
     tie.close
     (tie.spec
-    variable-room-requires
+    (λ c κs. search needs)
     pattern-requires
-    enum-known-fault
+    (λ c. search needs)
     returns
-    enum-known-p
+    (λ c. search needs)
     slice-aggregate-conditions
     conditions-requires
-    enum-known-fault-2
+    (λ c. search needs)
     returns-2
-    enum-known-c
+    (λ c. search needs)
     slice-aggregate-sentence-end
     sentence-end-requires
     returns-3)

@@ -11,15 +11,6 @@ equals-here c =
     let at-pass = c .before .before in
     record { ready = at-pass .before .before .before .pre .1; taken = rw (c .at .given .1) at (at-pass .pass .ensures) }
 
-pass-requires : tie.Need-pass-requires
-pass-requires c κs = search needs
-
-enum-known-fault : tie.Need-enum-known-fault
-enum-known-fault c = search needs
-
-enum-known-at : tie.Need-enum-known-at
-enum-known-at c = search needs
-
 put-requires : tie.Need-put-requires
 put-requires c κs = equals-room (equals-here (c .before .before))
 
@@ -43,9 +34,9 @@ pub sentence-end-spec : {M : Type 1} → statement M
 sentence-end-spec =
     tie.close
     (tie.spec
-    pass-requires
-    enum-known-fault
-    enum-known-at
+    (λ c κs. search needs)
+    (λ c. search needs)
+    (λ c. search needs)
     put-requires
     add-t16
     expression-requires

@@ -30,16 +30,10 @@ loop-holds c = sentences-start _ _ _ _ _ (c .before .pre)
 next-sentence-requires : tie.Need-next-sentence-requires Inv-loop μ-loop
 next-sentence-requires c κs = next-ready (c .before .loop .inv)
 
-enum-known-fault : tie.Need-enum-known-fault Inv-loop μ-loop
-enum-known-fault c = search needs
-
 returns : tie.Need-returns Inv-loop μ-loop
 returns c =
     let at-next-sentence = c .before .before .before in
     sentence-stops (at-next-sentence .before .before .loop .inv) (at-next-sentence .next-sentence .ensures) (c .before .fault .given .1)
-
-enum-known-s : tie.Need-enum-known-s Inv-loop μ-loop
-enum-known-s c = search needs
 
 sub-left : tie.Need-sub-left Inv-loop μ-loop
 sub-left c = some-left (read-here (c .before))
@@ -50,17 +44,11 @@ add-to c = let r = sequel-ready (read-here (c .before .before)) in omega arith
 after-sentence-requires : tie.Need-after-sentence-requires Inv-loop μ-loop
 after-sentence-requires c κs = sequel-ready (read-here (c .before .before)) .inside
 
-enum-known-past : tie.Need-enum-known-past Inv-loop μ-loop
-enum-known-past c = search needs
-
 put-requires : tie.Need-put-requires Inv-loop μ-loop
 put-requires c κs = sequel-room (sequel-here (c .before .before .before .before)) (rw (c .before .before .past .given .1))
 
 returns-2 : tie.Need-returns-2 Inv-loop μ-loop
 returns-2 c = sequel-ends (sequel-here (c .before .before .before .before .before)) (c .before .before .before .past .given .1) (c .put .ensures)
-
-enum-known-place : tie.Need-enum-known-place Inv-loop μ-loop
-enum-known-place c = search needs
 
 put-requires-2 : tie.Need-put-requires-2 Inv-loop μ-loop
 put-requires-2 c κs = sequel-room (sequel-here (c .before .before .before .before)) (rw (c .before .before .place .given .1))
@@ -70,9 +58,6 @@ loop-less c = let r = some-left (read-here (c .before .before .before .before .b
 
 loop-again : tie.Need-loop-again Inv-loop μ-loop
 loop-again c = sequel-goes (sequel-here (c .before .before .before .before .before)) (c .before .before .before .place .given .1) (c .put2 .ensures)
-
-enum-known-fault-2 : tie.Need-enum-known-fault-2 Inv-loop μ-loop
-enum-known-fault-2 c = search needs
 
 returns-3 : tie.Need-returns-3 Inv-loop μ-loop
 returns-3 c = sequel-refused (sequel-here (c .before .before .before)) (c .before .fault2 .given .1)
@@ -85,18 +70,18 @@ sentences-spec =
     μ-loop
     loop-holds
     next-sentence-requires
-    enum-known-fault
+    (λ c. search needs)
     returns
-    enum-known-s
+    (λ c. search needs)
     sub-left
     add-to
     after-sentence-requires
-    enum-known-past
+    (λ c. search needs)
     put-requires
     returns-2
-    enum-known-place
+    (λ c. search needs)
     put-requires-2
     loop-less
     loop-again
-    enum-known-fault-2
+    (λ c. search needs)
     returns-3)

@@ -4,29 +4,8 @@ use borrow.Author.Needs.{needs}
 use Rattle.engine.proofs.tables.list_table.Statement.{statement}
 use Rattle.engine.proofs.tables.list_table.Tie as tie
 
-tape-room-requires : tie.Need-tape-room-requires
-tape-room-requires c κs = search needs
-
-read-requires : tie.Need-read-requires
-read-requires c κs = search needs
-
-number-requires : tie.Need-number-requires
-number-requires c κs = search needs
-
-tell-requires : tie.Need-tell-requires
-tell-requires c κs = search needs
-
 returns : tie.Need-returns
 returns c = rw (c .tell .ensures) (refused-listed (c .before .before .before .read .ensures) (c .before .before .number .ensures) (c .before .if1 .taken) _)
-
-list-requires : tie.Need-list-requires
-list-requires c κs = search needs
-
-tell-of-buffer-requires : tie.Need-tell-of-buffer-requires
-tell-of-buffer-requires c κs = search needs
-
-same-length : tie.Need-same-length
-same-length c = search needs
 
 returns-2 : tie.Need-returns-2
 returns-2 c =
@@ -42,12 +21,12 @@ pub list-table-spec : {M : Type 1} → statement M
 list-table-spec =
     tie.close
     (tie.spec
-    tape-room-requires
-    read-requires
-    number-requires
-    tell-requires
+    (λ c κs. search needs)
+    (λ c κs. search needs)
+    (λ c κs. search needs)
+    (λ c κs. search needs)
     returns
-    list-requires
-    tell-of-buffer-requires
-    same-length
+    (λ c κs. search needs)
+    (λ c κs. search needs)
+    (λ c. search needs)
     returns-2)

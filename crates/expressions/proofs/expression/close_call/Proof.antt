@@ -5,42 +5,6 @@ use borrow.Author.Needs.{needs}
 use Rattle.expressions.proofs.expression.close_call.Statement.{statement}
 use Rattle.expressions.proofs.expression.close_call.Tie as tie
 
-sub-depth : tie.Need-sub-depth
-sub-depth c = search needs
-
-mul-head : tie.Need-mul-head
-mul-head c = search needs
-
-shared-slice-read-head : tie.Need-shared-slice-read-head
-shared-slice-read-head c = search needs
-
-size-of-requires : tie.Need-size-of-requires
-size-of-requires c κs = search needs
-
-add-is-emission : tie.Need-add-is-emission
-add-is-emission c = search needs
-
-is-emission-requires : tie.Need-is-emission-requires
-is-emission-requires c κs = search needs
-
-is-last-requires : tie.Need-is-last-requires
-is-last-requires c κs = search needs
-
-manner-of-requires : tie.Need-manner-of-requires
-manner-of-requires c κs = search needs
-
-write-ending-requires : tie.Need-write-ending-requires
-write-ending-requires c κs = search needs
-
-goes-on-requires : tie.Need-goes-on-requires
-goes-on-requires c κs = search needs
-
-past-call-requires : tie.Need-past-call-requires
-past-call-requires c κs = search needs
-
-same-length : tie.Need-same-length
-same-length c = search needs
-
 returns : tie.Need-returns
 returns c =
     let at-write-ending = c .before .before .before .before in
@@ -55,16 +19,16 @@ pub close-call-spec : {M : Type 1} → statement M
 close-call-spec =
     tie.close
     (tie.spec
-    sub-depth
-    mul-head
-    shared-slice-read-head
-    size-of-requires
-    add-is-emission
-    is-emission-requires
-    is-last-requires
-    manner-of-requires
-    write-ending-requires
-    goes-on-requires
-    past-call-requires
-    same-length
+    (λ c. search needs)
+    (λ c. search needs)
+    (λ c. search needs)
+    (λ c κs. search needs)
+    (λ c. search needs)
+    (λ c κs. search needs)
+    (λ c κs. search needs)
+    (λ c κs. search needs)
+    (λ c κs. search needs)
+    (λ c κs. search needs)
+    (λ c κs. search needs)
+    (λ c. search needs)
     returns)

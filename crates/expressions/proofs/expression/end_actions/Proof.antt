@@ -6,20 +6,8 @@ use borrow.Author.Needs.{needs}
 use Rattle.expressions.proofs.expression.end_actions.Statement.{statement}
 use Rattle.expressions.proofs.expression.end_actions.Tie as tie
 
-rest-of-requires : tie.Need-rest-of-requires
-rest-of-requires c κs = search needs
-
 put-span-requires : tie.Need-put-span-requires
 put-span-requires c κs = search (needs, small-as, rest-small)
-
-put-requires : tie.Need-put-requires
-put-requires c κs = search needs
-
-past-call-requires : tie.Need-past-call-requires
-past-call-requires c κs = search needs
-
-same-length : tie.Need-same-length
-same-length c = search needs
 
 returns : tie.Need-returns
 returns c =
@@ -32,9 +20,9 @@ pub end-actions-spec : {M : Type 1} → statement M
 end-actions-spec =
     tie.close
     (tie.spec
-    rest-of-requires
+    (λ c κs. search needs)
     put-span-requires
-    put-requires
-    past-call-requires
-    same-length
+    (λ c κs. search needs)
+    (λ c κs. search needs)
+    (λ c. search needs)
     returns)

@@ -7,14 +7,8 @@ use Rattle.expressions.proofs.expression.is_last.Tie as tie
 returns : tie.Need-returns
 returns c = rw (ne-eqb _ _ (c .if1 .taken))
 
-item-at-requires : tie.Need-item-at-requires
-item-at-requires c κs = search needs
-
-is-stop-requires : tie.Need-is-stop-requires
-is-stop-requires c κs = search needs
-
 returns-2 : tie.Need-returns-2
 returns-2 c = rw (eq-eqb _ _ (c .before .before .if1 .left), ← (c .before .item-at .ensures)) (c .is-stop .ensures)
 
 pub is-last-spec : {M : Type 1} → statement M
-is-last-spec = tie.close (tie.spec returns item-at-requires is-stop-requires returns-2)
+is-last-spec = tie.close (tie.spec returns (λ c κs. search needs) (λ c κs. search needs) returns-2)

@@ -3,11 +3,8 @@ use borrow.Author.Needs.{needs}
 use Rattle.expressions.proofs.expression.past_call.Statement.{statement}
 use Rattle.expressions.proofs.expression.past_call.Tie as tie
 
-less-requires : tie.Need-less-requires
-less-requires c κs = search needs
-
 returns : tie.Need-returns
 returns c = rw (c .less .ensures)
 
 pub past-call-spec : {M : Type 1} → statement M
-past-call-spec = tie.close (tie.spec less-requires returns)
+past-call-spec = tie.close (tie.spec (λ c κs. search needs) returns)

@@ -5,23 +5,11 @@ use borrow.Author.Needs.{needs}
 use Rattle.expressions.proofs.expression.put_part.Statement.{statement}
 use Rattle.expressions.proofs.expression.put_part.Tie as tie
 
-gap-of-requires : tie.Need-gap-of-requires
-gap-of-requires c κs = search needs
-
 put-span-requires : tie.Need-put-span-requires
 put-span-requires c κs = search (needs, small-as, gap-small)
 
-piece-span-requires : tie.Need-piece-span-requires
-piece-span-requires c κs = search needs
-
 put-span-requires-2 : tie.Need-put-span-requires-2
 put-span-requires-2 c κs = search (needs, small-as, piece-small)
-
-put-operands-requires : tie.Need-put-operands-requires
-put-operands-requires c κs = search needs
-
-same-length : tie.Need-same-length
-same-length c = search needs
 
 returns : tie.Need-returns
 returns c =
@@ -37,10 +25,10 @@ pub put-part-spec : {M : Type 1} → statement M
 put-part-spec =
     tie.close
     (tie.spec
-    gap-of-requires
+    (λ c κs. search needs)
     put-span-requires
-    piece-span-requires
+    (λ c κs. search needs)
     put-span-requires-2
-    put-operands-requires
-    same-length
+    (λ c κs. search needs)
+    (λ c. search needs)
     returns)

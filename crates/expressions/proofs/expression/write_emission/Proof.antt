@@ -4,18 +4,6 @@ use borrow.Author.Needs.{needs}
 use Rattle.expressions.proofs.expression.write_emission.Statement.{statement}
 use Rattle.expressions.proofs.expression.write_emission.Tie as tie
 
-argument-ready-requires : tie.Need-argument-ready-requires
-argument-ready-requires c κs = search needs
-
-put-operands-requires : tie.Need-put-operands-requires
-put-operands-requires c κs = search needs
-
-put-name-requires : tie.Need-put-name-requires
-put-name-requires c κs = search needs
-
-same-length : tie.Need-same-length
-same-length c = search needs
-
 returns : tie.Need-returns
 returns c =
     let at-put-name = c .before .before in
@@ -26,4 +14,4 @@ returns c =
 pub write-emission-spec : {M : Type 1} → statement M
 write-emission-spec =
     tie.close
-    (tie.spec argument-ready-requires put-operands-requires put-name-requires same-length returns)
+    (tie.spec (λ c κs. search needs) (λ c κs. search needs) (λ c κs. search needs) (λ c. search needs) returns)

@@ -27,47 +27,11 @@ emission-written : {ws : List ℕ} {head size : ℕ} {manner : Manner} {code cod
     → Wrote code at (callWords manner l w number (headName ws head)) code′ r
 emission-written l w number e s wrote = rw e (rw (s .words, s .long) at wrote)
 
-size-of-requires : tie.Need-size-of-requires
-size-of-requires c κs = search needs
-
-number-of-requires : tie.Need-number-of-requires
-number-of-requires c κs = search needs
-
-enum-told : tie.Need-enum-told
-enum-told c = search needs
-
-add-write-emission : tie.Need-add-write-emission
-add-write-emission c = search needs
-
-write-emission-requires : tie.Need-write-emission-requires
-write-emission-requires c κs = search needs
-
-enum-told-2 : tie.Need-enum-told-2
-enum-told-2 c = search needs
-
-write-tail-call-requires : tie.Need-write-tail-call-requires
-write-tail-call-requires c κs = search needs
-
-enum-told-3 : tie.Need-enum-told-3
-enum-told-3 c = search needs
-
-write-call-requires : tie.Need-write-call-requires
-write-call-requires c κs = search needs
-
-same-length : tie.Need-same-length
-same-length c = search needs
-
 returns : tie.Need-returns
 returns c = search emission-written
 
-same-length-2 : tie.Need-same-length-2
-same-length-2 c = search needs
-
 returns-2 : tie.Need-returns-2
 returns-2 c = search (written Replaces)
-
-same-length-3 : tie.Need-same-length-3
-same-length-3 c = search needs
 
 returns-3 : tie.Need-returns-3
 returns-3 c = search (written Nests)
@@ -76,18 +40,18 @@ pub write-ending-spec : {M : Type 1} → statement M
 write-ending-spec =
     tie.close
     (tie.spec
-    size-of-requires
-    number-of-requires
-    enum-told
-    add-write-emission
-    write-emission-requires
-    enum-told-2
-    write-tail-call-requires
-    enum-told-3
-    write-call-requires
-    same-length
+    (λ c κs. search needs)
+    (λ c κs. search needs)
+    (λ c. search needs)
+    (λ c. search needs)
+    (λ c κs. search needs)
+    (λ c. search needs)
+    (λ c κs. search needs)
+    (λ c. search needs)
+    (λ c κs. search needs)
+    (λ c. search needs)
     returns
-    same-length-2
+    (λ c. search needs)
     returns-2
-    same-length-3
+    (λ c. search needs)
     returns-3)

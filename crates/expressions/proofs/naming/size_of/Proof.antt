@@ -4,11 +4,8 @@ use borrow.Author.Needs.{needs}
 use Rattle.expressions.proofs.naming.size_of.Statement.{statement}
 use Rattle.expressions.proofs.naming.size_of.Tie as tie
 
-name-size-requires : tie.Need-name-size-requires
-name-size-requires c κs = search needs
-
 returns : tie.Need-returns
 returns c = search sized
 
 pub size-of-spec : {M : Type 1} → statement M
-size-of-spec = tie.close (tie.spec name-size-requires returns)
+size-of-spec = tie.close (tie.spec (λ c κs. search needs) returns)

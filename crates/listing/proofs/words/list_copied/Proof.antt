@@ -7,14 +7,8 @@ use borrow.Author.Needs.{needs}
 use Rattle.listing.proofs.words.list_copied.Statement.{statement}
 use Rattle.listing.proofs.words.list_copied.Tie as tie
 
-put-requires : tie.Need-put-requires
-put-requires c κs = search needs
-
 put-all-requires : tie.Need-put-all-requires
 put-all-requires c κs = omega (arith, c .before .before .before .before .put .ensures .place)
-
-same-length : tie.Need-same-length
-same-length c = search needs
 
 returns : tie.Need-returns
 returns c =
@@ -31,4 +25,4 @@ returns-2 c = rw (lt-leb _ _ (c .if1 .left)) (record { state = refl; put = c .be
 
 pub list-copied-spec : {M : Type 1} → statement M
 list-copied-spec =
-    tie.close (tie.spec put-requires put-all-requires same-length returns same-length-2 returns-2)
+    tie.close (tie.spec (λ c κs. search needs) put-all-requires (λ c. search needs) returns same-length-2 returns-2)

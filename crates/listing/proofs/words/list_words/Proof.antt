@@ -16,21 +16,6 @@ abbrev μ-loop : tie.MeasureT-loop
 loop-holds : tie.Need-loop-holds Inv-loop μ-loop
 loop-holds c = lists-none
 
-mul-list-word : tie.Need-mul-list-word Inv-loop μ-loop
-mul-list-word c = omega arith
-
-shared-slice-read-list-word : tie.Need-shared-slice-read-list-word Inv-loop μ-loop
-shared-slice-read-list-word c = omega arith
-
-list-word-requires : tie.Need-list-word-requires Inv-loop μ-loop
-list-word-requires c κs = omega arith
-
-add-i : tie.Need-add-i Inv-loop μ-loop
-add-i c = omega arith
-
-loop-less : tie.Need-loop-less Inv-loop μ-loop
-loop-less c = omega arith
-
 loop-again : tie.Need-loop-again Inv-loop μ-loop
 loop-again c =
     let at-list-word = c .before .before in
@@ -53,11 +38,11 @@ list-words-spec =
     Inv-loop
     μ-loop
     loop-holds
-    mul-list-word
-    shared-slice-read-list-word
-    list-word-requires
-    add-i
-    loop-less
+    (λ c. omega arith)
+    (λ c. omega arith)
+    (λ c κs. omega arith)
+    (λ c. omega arith)
+    (λ c. omega arith)
     loop-again
     same-length
     returns)

@@ -9,28 +9,10 @@ use Rattle.lexing.proofs.Stream.{comes}
 use Rattle.bookkeeping.proofs.Tokening.{name-first}
 use Rattle.parsing.proofs.Conditioned.{OpenedAt, NamedAt, open-not, name-not, name-ready, name-long, class-not, class-reads}
 
-pass-requires : tie.Need-pass-requires
-pass-requires c κs = search needs
-
-enum-known-at : tie.Need-enum-known-at
-enum-known-at c = search needs
-
-enum-known-fault : tie.Need-enum-known-fault
-enum-known-fault c = search needs
-
 returns : tie.Need-returns
 returns c =
     let at-pass = c .before .before .before in
     open-not (at-pass .before .before .before .pre .1) (rw (c .before .fault .given .1) at (at-pass .pass .ensures))
-
-lex-requires : tie.Need-lex-requires
-lex-requires c κs = search needs
-
-enum-known-token : tie.Need-enum-known-token
-enum-known-token c = search needs
-
-refuse-requires : tie.Need-refuse-requires
-refuse-requires c κs = search needs
 
 opened : (c : tie.After-lex) → let at-at = c .before .before in
     let a = at-at .before .before .before .before .before .args in
@@ -81,13 +63,13 @@ pub condition-spec : {M : Type 1} → statement M
 condition-spec =
     tie.close
     (tie.spec
-    pass-requires
-    enum-known-at
-    enum-known-fault
+    (λ c κs. search needs)
+    (λ c. search needs)
+    (λ c. search needs)
     returns
-    lex-requires
-    enum-known-token
-    refuse-requires
+    (λ c κs. search needs)
+    (λ c. search needs)
+    (λ c κs. search needs)
     returns-2
     sub-if1
     returns-3

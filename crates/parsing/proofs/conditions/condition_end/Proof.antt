@@ -9,15 +9,6 @@ use Rattle.lexing.proofs.Stream.{comes}
 use Rattle.bookkeeping.specs.Tokened.{Taken}
 use Rattle.parsing.proofs.Conditioned.{ClosingAt, end-no-close, end-no-colon, end-no-truth, end-reads}
 
-pass-requires : tie.Need-pass-requires
-pass-requires c κs = search needs
-
-enum-known-at : tie.Need-enum-known-at
-enum-known-at c = search needs
-
-enum-known-fault : tie.Need-enum-known-fault
-enum-known-fault c = search needs
-
 returns : tie.Need-returns
 returns c =
     let at-pass = c .before .before .before in
@@ -32,20 +23,11 @@ closed c = rw (c .at .given .1) at (c .before .before .pass .ensures)
 pass-requires-2 : tie.Need-pass-requires-2
 pass-requires-2 c κs = closed (c .before) .inside
 
-enum-known-at-2 : tie.Need-enum-known-at-2
-enum-known-at-2 c = search needs
-
-enum-known-fault-2 : tie.Need-enum-known-fault-2
-enum-known-fault-2 c = search needs
-
 returns-2 : tie.Need-returns-2
 returns-2 c =
     let at-pass2 = c .before .before .before in
     let at-at = at-pass2 .before .before in
     λ k e. end-no-colon (start at-at .pre .1) k (closed at-at) (rw (c .before .fault2 .given .1) at (at-pass2 .pass2 .ensures))
-
-lex-requires : tie.Need-lex-requires
-lex-requires c κs = search needs
 
 parted : (c : tie.After-at2) → let at-at = c .before .before .before .before in
     let a = start at-at .args in
@@ -70,32 +52,8 @@ closing c =
 truth-in-requires : tie.Need-truth-in-requires
 truth-in-requires c κs = let m = first c in record { forward = m .forward; inside = m .inside; sound = m .sound }
 
-refuse-requires : tie.Need-refuse-requires
-refuse-requires c κs = search needs
-
 returns-3 : tie.Need-returns-3
 returns-3 c = λ k e. end-no-truth (closing (c .before .before)) k (c .before .if1 .taken) (c .refuse .ensures)
-
-sub-word : tie.Need-sub-word
-sub-word c = search needs
-
-mul-word : tie.Need-mul-word
-mul-word c = search needs
-
-add-word : tie.Need-add-word
-add-word c = search needs
-
-add-word-2 : tie.Need-add-word-2
-add-word-2 c = search needs
-
-add-word-3 : tie.Need-add-word-3
-add-word-3 c = search needs
-
-cast-word : tie.Need-cast-word
-cast-word c = search needs
-
-put-named-requires : tie.Need-put-named-requires
-put-named-requires c κs = search needs
 
 returns-4 : tie.Need-returns-4
 returns-4 c =
@@ -106,23 +64,23 @@ pub condition-end-spec : {M : Type 1} → statement M
 condition-end-spec =
     tie.close
     (tie.spec
-    pass-requires
-    enum-known-at
-    enum-known-fault
+    (λ c κs. search needs)
+    (λ c. search needs)
+    (λ c. search needs)
     returns
     pass-requires-2
-    enum-known-at-2
-    enum-known-fault-2
+    (λ c. search needs)
+    (λ c. search needs)
     returns-2
-    lex-requires
+    (λ c κs. search needs)
     truth-in-requires
-    refuse-requires
+    (λ c κs. search needs)
     returns-3
-    sub-word
-    mul-word
-    add-word
-    add-word-2
-    add-word-3
-    cast-word
-    put-named-requires
+    (λ c. search needs)
+    (λ c. search needs)
+    (λ c. search needs)
+    (λ c. search needs)
+    (λ c. search needs)
+    (λ c. search needs)
+    (λ c κs. search needs)
     returns-4)

@@ -7,15 +7,6 @@ use Rattle.lexing.proofs.Stream.{comes}
 use Rattle.bookkeeping.specs.Answered.{numberOf}
 use Rattle.parsing.proofs.Conditioned.{OnToken, OnSymbol, OnAsked, on-no-symbol, on-inside, on-wrong, on-before, on-reads}
 
-lex-requires : tie.Need-lex-requires
-lex-requires c κs = search needs
-
-enum-known-token : tie.Need-enum-known-token
-enum-known-token c = search needs
-
-refuse-requires : tie.Need-refuse-requires
-refuse-requires c κs = search needs
-
 abbrev start : tie.After-lex → tie.Start
 start c = c .before .before .before
 
@@ -36,9 +27,6 @@ returns c = λ k e. on-no-symbol (looked (c .before .before)) k (c .before .matc
 later-symbol-fault-requires : tie.Need-later-symbol-fault-requires
 later-symbol-fault-requires c κs = (on-inside (symbol (c .before)), start (c .before .before .before) .pre .1)
 
-is-accepted-requires : tie.Need-is-accepted-requires
-is-accepted-requires c κs = search needs
-
 returns-2 : tie.Need-returns-2
 returns-2 c = λ k e. on-wrong (asked (c .before)) k (c .if1 .taken)
 
@@ -54,12 +42,12 @@ pub condition-on-spec : {M : Type 1} → statement M
 condition-on-spec =
     tie.close
     (tie.spec
-    lex-requires
-    enum-known-token
-    refuse-requires
+    (λ c κs. search needs)
+    (λ c. search needs)
+    (λ c κs. search needs)
     returns
     later-symbol-fault-requires
-    is-accepted-requires
+    (λ c κs. search needs)
     returns-2
     condition-end-requires
     returns-3)

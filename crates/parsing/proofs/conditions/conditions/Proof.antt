@@ -22,12 +22,6 @@ abbrev μ-loop : tie.MeasureT-loop
 loop-holds : tie.Need-loop-holds Inv-loop μ-loop
 loop-holds c = conditions-start _ _ _ _ _ (c .before .before .pre .0)
 
-lex-requires : tie.Need-lex-requires Inv-loop μ-loop
-lex-requires c κs = search needs
-
-is-sign-requires : tie.Need-is-sign-requires Inv-loop μ-loop
-is-sign-requires c κs = search needs
-
 abbrev Look : tie.After-is-sign Inv-loop μ-loop → Bool → Type 0
 Look c comma =
     let l = c .before .before .loop in
@@ -57,14 +51,8 @@ turned : (c : tie.After-condition Inv-loop μ-loop) {r : Parsed} → c .conditio
     → ConditionsOn (at-comma (c .before .before .before)) (c .condition .last .1 .0) r
 turned c {r} e = conditions-on (at-comma (c .before .before .before)) (c .before .before .if2 .left) r (rw e at (c .condition .ensures))
 
-enum-known-fault : tie.Need-enum-known-fault Inv-loop μ-loop
-enum-known-fault c = search needs
-
 returns-3 : tie.Need-returns-3 Inv-loop μ-loop
 returns-3 c = turned (c .before .before .before) (c .before .fault .given .1)
-
-enum-known-next : tie.Need-enum-known-next Inv-loop μ-loop
-enum-known-next c = search needs
 
 sub-left : tie.Need-sub-left Inv-loop μ-loop
 sub-left c = let z = c .before .before .before .before .before .if2 .left in omega arith
@@ -82,14 +70,14 @@ conditions-spec =
     Inv-loop
     μ-loop
     loop-holds
-    lex-requires
-    is-sign-requires
+    (λ c κs. search needs)
+    (λ c κs. search needs)
     returns
     returns-2
     condition-requires
-    enum-known-fault
+    (λ c. search needs)
     returns-3
-    enum-known-next
+    (λ c. search needs)
     sub-left
     loop-less
     loop-again)

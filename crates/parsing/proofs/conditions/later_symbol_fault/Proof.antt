@@ -5,17 +5,8 @@ use Rattle.parsing.proofs.conditions.later_symbol_fault.Tie as tie
 use mathlib.Core.Path.{refl, _∙_}
 use Rattle.parsing.proofs.Conditioned.{later-long, later-is}
 
-sub-if1 : tie.Need-sub-if1
-sub-if1 c = search needs
-
 returns : tie.Need-returns
 returns c = later-long (c .before .before .before .before .pre) (c .if1 .taken)
-
-find-requires : tie.Need-find-requires
-find-requires c κs = search needs
-
-fault-if-requires : tie.Need-fault-if-requires
-fault-if-requires c κs = search needs
 
 returns-2 : tie.Need-returns-2
 returns-2 c =
@@ -23,4 +14,4 @@ returns-2 c =
     c .fault-if .ensures ∙ later-is (at-if1 .before .before .before .before .pre) (at-if1 .if1 .left) _ (c .before .find .ensures) refl
 
 pub later-symbol-fault-spec : {M : Type 1} → statement M
-later-symbol-fault-spec = tie.close (tie.spec sub-if1 returns find-requires fault-if-requires returns-2)
+later-symbol-fault-spec = tie.close (tie.spec (λ c. search needs) returns (λ c κs. search needs) (λ c κs. search needs) returns-2)

@@ -5,9 +5,6 @@ use Rattle.parsing.proofs.conditions.truth_in.Tie as tie
 use native.Mathlib.Omega.{arith}
 use Rattle.parsing.proofs.Conditioned.{truth-none, truth-long, truth-three}
 
-enum-told : tie.Need-enum-told
-enum-told c = search needs
-
 returns : tie.Need-returns
 returns c = truth-none (c .before .before .args .text .now) (c .before .before .args .t) (c .match .keys2)
 
@@ -20,15 +17,6 @@ returns-2 c =
     let entry = at-enum-told .before .before .before in
     truth-long (entry .args .text .now) (entry .args .t) _ (at-enum-told .enum-told .given .1) (c .if1 .taken)
 
-add-truth-between : tie.Need-add-truth-between
-add-truth-between c = search needs
-
-shared-slice-read-truth-between : tie.Need-shared-slice-read-truth-between
-shared-slice-read-truth-between c = search needs
-
-truth-between-requires : tie.Need-truth-between-requires
-truth-between-requires c κs = search needs
-
 returns-3 : tie.Need-returns-3
 returns-3 c =
     let at-if1 = c .before .before .before in
@@ -40,11 +28,11 @@ pub truth-in-spec : {M : Type 1} → statement M
 truth-in-spec =
     tie.close
     (tie.spec
-    enum-told
+    (λ c. search needs)
     returns
     add-three
     returns-2
-    add-truth-between
-    shared-slice-read-truth-between
-    truth-between-requires
+    (λ c. search needs)
+    (λ c. search needs)
+    (λ c κs. search needs)
     returns-3)

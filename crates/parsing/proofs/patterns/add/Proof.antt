@@ -6,20 +6,11 @@ use mathlib.Core.Path.{refl}
 use mathlib.Core.Bool.{true, false}
 use Rattle.parsing.proofs.Items.{string-here, variable-here, asks-string, asks-variable, item-other, adds}
 
-enum-known-token : tie.Need-enum-known-token
-enum-known-token c = search needs
-
 add-string-requires : tie.Need-add-string-requires
 add-string-requires c κs = asks-string (c .before .before .before .before .before .before .before .pre) (c .before .before .before .before .token .given .1)
 
-enum-known-token-2 : tie.Need-enum-known-token-2
-enum-known-token-2 c = search needs
-
 add-symbol-requires : tie.Need-add-symbol-requires
 add-symbol-requires c κs = asks-variable (c .before .before .before .before .before .before .pre) false _ (c .before .before .before .token2 .given .1)
-
-enum-known-token-3 : tie.Need-enum-known-token-3
-enum-known-token-3 c = search needs
 
 add-part-requires : tie.Need-add-part-requires
 add-part-requires c κs = asks-variable (c .before .before .before .before .before .before .pre) true _ (c .before .before .before .token3 .given .1)
@@ -40,11 +31,11 @@ pub add-spec : {M : Type 1} → statement M
 add-spec =
     tie.close
     (tie.spec
-    enum-known-token
+    (λ c. search needs)
     add-string-requires
-    enum-known-token-2
+    (λ c. search needs)
     add-symbol-requires
-    enum-known-token-3
+    (λ c. search needs)
     add-part-requires
     returns
     returns-2

@@ -7,25 +7,10 @@ use native.Mathlib.Omega.{arith}
 use Rattle.bookkeeping.proofs.Choosing.{no-fault-here}
 use Rattle.parsing.proofs.Adding.{item-wrong, partFault, part-faulted, part-few, part-taken}
 
-part-fault-requires : tie.Need-part-fault-requires
-part-fault-requires c κs = search needs
-
-is-accepted-requires : tie.Need-is-accepted-requires
-is-accepted-requires c κs = search needs
-
 returns : tie.Need-returns
 returns c =
     let p = c .before .before .before .before .before .before .pre in
     item-wrong (part-faulted (p .0) (p .1)) (c .before .before .part-fault .ensures) (c .before .is-accepted .ensures) (c .if1 .taken)
-
-add-last : tie.Need-add-last
-add-last c = search needs
-
-entry-requires : tie.Need-entry-requires
-entry-requires c κs = search needs
-
-mul-table : tie.Need-mul-table
-mul-table c = search needs
 
 right : (c : tie.Else1) → let p = c .before .before .before .before .before .before .pre in partFault (p .0) (p .1) ≡ 0
 right c = no-fault-here (c .before .before .part-fault .ensures) (c .before .is-accepted .ensures) (c .if1 .left)
@@ -35,12 +20,6 @@ element-write-table c =
     let p = c .before .before .before .before .before .before .before .pre in
     let f = part-few (p .0) (p .1) (right (c .before)) in
     omega arith
-
-put-name-requires : tie.Need-put-name-requires
-put-name-requires c κs = search needs
-
-add-t14 : tie.Need-add-t14
-add-t14 c = search needs
 
 returns-2 : tie.Need-returns-2
 returns-2 c =
@@ -52,13 +31,13 @@ pub add-part-spec : {M : Type 1} → statement M
 add-part-spec =
     tie.close
     (tie.spec
-    part-fault-requires
-    is-accepted-requires
+    (λ c κs. search needs)
+    (λ c κs. search needs)
     returns
-    add-last
-    entry-requires
-    mul-table
+    (λ c. search needs)
+    (λ c κs. search needs)
+    (λ c. search needs)
     element-write-table
-    put-name-requires
-    add-t14
+    (λ c κs. search needs)
+    (λ c. search needs)
     returns-2)

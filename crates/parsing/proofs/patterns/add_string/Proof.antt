@@ -5,23 +5,11 @@ use Rattle.parsing.proofs.patterns.add_string.Tie as tie
 use Rattle.parsing.proofs.Adding.{string-wrong, string-taken}
 use Rattle.parsing.proofs.Itemed.{string-ready}
 
-add-if1 : tie.Need-add-if1
-add-if1 c = search needs
-
 returns : tie.Need-returns
 returns c = string-wrong (c .before .before .before .before .pre) (c .if1 .taken)
 
-add-put-characters : tie.Need-add-put-characters
-add-put-characters c = search needs
-
 put-characters-requires : tie.Need-put-characters-requires
 put-characters-requires c κs = let p = c .before .before .before .before .before .pre in string-ready (p .0 .ready) (p .1)
-
-still-ending-requires : tie.Need-still-ending-requires
-still-ending-requires c κs = search needs
-
-add-t10 : tie.Need-add-t10
-add-t10 c = search needs
 
 returns-2 : tie.Need-returns-2
 returns-2 c =
@@ -33,10 +21,10 @@ pub add-string-spec : {M : Type 1} → statement M
 add-string-spec =
     tie.close
     (tie.spec
-    add-if1
+    (λ c. search needs)
     returns
-    add-put-characters
+    (λ c. search needs)
     put-characters-requires
-    still-ending-requires
-    add-t10
+    (λ c κs. search needs)
+    (λ c. search needs)
     returns-2)

@@ -15,28 +15,16 @@ symbol-fault-requires c κs =
     let p = c .before .before .before .before .before .before .pre in
     (p .0, p .1, known-place (p .0) (p .1) _ (c .before .before .find .ensures))
 
-is-accepted-requires : tie.Need-is-accepted-requires
-is-accepted-requires c κs = search needs
-
 returns : tie.Need-returns
 returns c =
     let p = c .before .before .before .before .before .before .before .before .before .pre in
     item-wrong (symbol-faulted (p .0) (p .1)) (c .before .before .symbol-fault .ensures) (c .before .is-accepted .ensures) (c .if1 .taken)
-
-entry-requires : tie.Need-entry-requires
-entry-requires c κs = search needs
 
 remember-requires : tie.Need-remember-requires
 remember-requires c κs =
     let at-find = c .before .before .before .before .before .before .before in
     let p = at-find .before .before .before .before .pre in
     omega (arith, known-low (p .0) (p .1) _ (at-find .find .ensures), p .0 .variables .fewSymbols)
-
-put-name-requires : tie.Need-put-name-requires
-put-name-requires c κs = search needs
-
-add-t17 : tie.Need-add-t17
-add-t17 c = search needs
 
 returns-2 : tie.Need-returns-2
 returns-2 c =
@@ -56,10 +44,10 @@ add-symbol-spec =
     (tie.spec
     find-requires
     symbol-fault-requires
-    is-accepted-requires
+    (λ c κs. search needs)
     returns
-    entry-requires
+    (λ c κs. search needs)
     remember-requires
-    put-name-requires
-    add-t17
+    (λ c κs. search needs)
+    (λ c. search needs)
     returns-2)

@@ -10,14 +10,8 @@ use Rattle.parsing.proofs.Patterning.{PartFound, part-third, part-long,
 returns : tie.Need-returns
 returns c = part-third (c .before .before .before .before .pre) (c .if1 .taken)
 
-sub-if2 : tie.Need-sub-if2
-sub-if2 c = search needs
-
 returns-2 : tie.Need-returns-2
 returns-2 c = part-long (c .before .before .before .before .before .before .pre) (omega arith) (c .if2 .taken)
-
-find-requires : tie.Need-find-requires
-find-requires c κs = search needs
 
 found : (c : tie.After-find) → let a = c .before .before .before .before .before .before .before .args in PartFound (a .text .now) (a .table .now) (a .p) (a .x) (c .find .result)
 found c = record { pre = c .before .before .before .before .before .before .before .pre; few = omega arith; short = omega arith; place = c .find .ensures }
@@ -25,19 +19,10 @@ found c = record { pre = c .before .before .before .before .before .before .befo
 returns-3 : tie.Need-returns-3
 returns-3 c = part-is (found (c .before .before)) (lt-ltb _ _ (c .if3 .taken)) refl refl refl
 
-add-parts : tie.Need-add-parts
-add-parts c = search needs
-
-find-requires-2 : tie.Need-find-requires-2
-find-requires-2 c κs = search needs
-
 returns-4 : tie.Need-returns-4
 returns-4 c =
     let at-if3 = c .before .before .before in
     part-is (found (at-if3 .before .before)) (le-ltb _ _ (at-if3 .if3 .left)) (c .before .find2 .ensures) (lt-ltb _ _ (c .if4 .taken)) refl
-
-fault-if-requires : tie.Need-fault-if-requires
-fault-if-requires c κs = search needs
 
 returns-5 : tie.Need-returns-5
 returns-5 c =
@@ -49,12 +34,12 @@ part-fault-spec =
     tie.close
     (tie.spec
     returns
-    sub-if2
+    (λ c. search needs)
     returns-2
-    find-requires
+    (λ c κs. search needs)
     returns-3
-    add-parts
-    find-requires-2
+    (λ c. search needs)
+    (λ c κs. search needs)
     returns-4
-    fault-if-requires
+    (λ c κs. search needs)
     returns-5)

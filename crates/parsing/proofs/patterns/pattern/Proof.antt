@@ -21,9 +21,6 @@ abbrev μ-loop : tie.MeasureT-loop
 loop-holds : tie.Need-loop-holds Inv-loop μ-loop
 loop-holds c = pattern-starts _ _ _ _ _ (c .before .pre .0) (c .before .pre .1)
 
-lex-requires : tie.Need-lex-requires Inv-loop μ-loop
-lex-requires c κs = search needs
-
 first : (c : tie.After-lex Inv-loop μ-loop) → let l = c .before .loop in
     let a = c .before .before .before .args in
     Comes (a .text .now) inside (l .p .at) (c .lex .result)
@@ -40,23 +37,14 @@ turned c {r} e =
     let at-lex = c .before .before .before in
     pattern-on (at-lex .before .loop .inv) (first at-lex) _ _ r (rw e at (c .add .ensures .gives))
 
-enum-known-next : tie.Need-enum-known-next Inv-loop μ-loop
-enum-known-next c = search needs
-
 loop-less : tie.Need-loop-less Inv-loop μ-loop
 loop-less c = let m = turned (c .before .before .before) (c .before .next .given .1) in omega arith
 
 loop-again : tie.Need-loop-again Inv-loop μ-loop
 loop-again c = turned (c .before .before .before) (c .before .next .given .1) .1
 
-enum-known-answer : tie.Need-enum-known-answer Inv-loop μ-loop
-enum-known-answer c = search needs
-
 returns : tie.Need-returns Inv-loop μ-loop
 returns c = turned (c .before .before .before) (c .before .answer .given .1)
-
-enum-told : tie.Need-enum-told Inv-loop μ-loop
-enum-told c = search needs
 
 returns-2 : tie.Need-returns-2 Inv-loop μ-loop
 returns-2 c = turned (c .before .before) (c .enum-told .given .1)
@@ -68,12 +56,12 @@ pattern-spec =
     Inv-loop
     μ-loop
     loop-holds
-    lex-requires
+    (λ c κs. search needs)
     add-requires
-    enum-known-next
+    (λ c. search needs)
     loop-less
     loop-again
-    enum-known-answer
+    (λ c. search needs)
     returns
-    enum-told
+    (λ c. search needs)
     returns-2)

@@ -7,17 +7,8 @@ use borrow.Author.Tests.{lt-ltb, le-ltb}
 returns : tie.Need-returns
 returns c = let e = lt-ltb _ _ (c .if1 .taken) in (rw e, rw e)
 
-mul-table : tie.Need-mul-table
-mul-table c = search needs
-
-element-write-table : tie.Need-element-write-table
-element-write-table c = search needs
-
-add-result : tie.Need-add-result
-add-result c = search needs
-
 returns-2 : tie.Need-returns-2
 returns-2 c = let e = le-ltb _ _ (c .if1 .left) in (rw e, rw e)
 
 pub remember-spec : {M : Type 1} → statement M
-remember-spec = tie.close (tie.spec returns mul-table element-write-table add-result returns-2)
+remember-spec = tie.close (tie.spec returns (λ c. search needs) (λ c. search needs) (λ c. search needs) returns-2)

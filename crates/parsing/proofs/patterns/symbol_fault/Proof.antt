@@ -6,9 +6,6 @@ use mathlib.Core.Path.{refl, _∙_}
 use native.Mathlib.Omega.{arith}
 use Rattle.parsing.proofs.Patterning.{symbol-long, symbol-many, symbol-new, symbol-is}
 
-sub-if1 : tie.Need-sub-if1
-sub-if1 c = search needs
-
 returns : tie.Need-returns
 returns c = symbol-long (c .before .before .before .before .pre) (c .if1 .taken)
 
@@ -17,15 +14,6 @@ returns-2 c = symbol-many (c .before .before .before .before .before .before .pr
 
 returns-3 : tie.Need-returns-3
 returns-3 c = symbol-new (c .before .before .before .before .before .before .before .pre) (omega arith) (omega arith) (c .if3 .taken)
-
-add-parts : tie.Need-add-parts
-add-parts c = search needs
-
-find-requires : tie.Need-find-requires
-find-requires c κs = search needs
-
-fault-if-requires : tie.Need-fault-if-requires
-fault-if-requires c κs = search needs
 
 returns-4 : tie.Need-returns-4
 returns-4 c =
@@ -36,4 +24,4 @@ returns-4 c =
 pub symbol-fault-spec : {M : Type 1} → statement M
 symbol-fault-spec =
     tie.close
-    (tie.spec sub-if1 returns returns-2 returns-3 add-parts find-requires fault-if-requires returns-4)
+    (tie.spec (λ c. search needs) returns returns-2 returns-3 (λ c. search needs) (λ c κs. search needs) (λ c κs. search needs) returns-4)

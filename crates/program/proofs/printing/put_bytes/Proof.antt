@@ -4,15 +4,6 @@ use borrow.Author.Needs.{needs}
 use Rattle.program.proofs.printing.put_bytes.Statement.{statement}
 use Rattle.program.proofs.printing.put_bytes.Tie as tie
 
-copy-over-requires : tie.Need-copy-over-requires
-copy-over-requires c κs = search needs
-
-add-result : tie.Need-add-result
-add-result c = search needs
-
-same-length : tie.Need-same-length
-same-length c = search needs
-
 returns : tie.Need-returns
 returns c =
     let at-copy-over = c .before .before in
@@ -20,4 +11,4 @@ returns c =
     pasted-put (entry .pre) (at-copy-over .copy-over .ensures)
 
 pub put-bytes-spec : {M : Type 1} → statement M
-put-bytes-spec = tie.close (tie.spec copy-over-requires add-result same-length returns)
+put-bytes-spec = tie.close (tie.spec (λ c κs. search needs) (λ c. search needs) (λ c. search needs) returns)

@@ -6,23 +6,11 @@ use borrow.Author.Needs.{needs}
 use Rattle.program.proofs.printing.put_number.Statement.{statement}
 use Rattle.program.proofs.printing.put_number.Tie as tie
 
-decimal-requires : tie.Need-decimal-requires
-decimal-requires c κs = search needs
-
-array-share-prefix-digits : tie.Need-array-share-prefix-digits
-array-share-prefix-digits c = search needs
-
-slice-aggregate-put-bytes : tie.Need-slice-aggregate-put-bytes
-slice-aggregate-put-bytes c = search needs
-
 put-bytes-requires : tie.Need-put-bytes-requires
 put-bytes-requires c κs =
     let at-decimal = c .before .before in
     let entry = at-decimal .before .before .before in
     omega (arith, at-decimal .decimal .ensures .0 .1, entry .pre, fewest-short (at-decimal .decimal .result) (entry .args .n) (at-decimal .decimal .ensures .1 .0) (entry .fits .n))
-
-slice-aggregate-put-bytes-2 : tie.Need-slice-aggregate-put-bytes-2
-slice-aggregate-put-bytes-2 c = search needs
 
 put-bytes-requires-2 : tie.Need-put-bytes-requires-2
 put-bytes-requires-2 c κs =
@@ -30,9 +18,6 @@ put-bytes-requires-2 c κs =
     let at-decimal = at-put-bytes .before .before .before in
     let entry = at-decimal .before .before .before in
     omega (arith, at-decimal .decimal .ensures .0 .1, entry .pre, at-put-bytes .put-bytes .ensures .place, fewest-short (at-decimal .decimal .result) (entry .args .n) (at-decimal .decimal .ensures .1 .0) (entry .fits .n))
-
-same-length : tie.Need-same-length
-same-length c = search needs
 
 returns : tie.Need-returns
 returns c =
@@ -47,11 +32,11 @@ pub put-number-spec : {M : Type 1} → statement M
 put-number-spec =
     tie.close
     (tie.spec
-    decimal-requires
-    array-share-prefix-digits
-    slice-aggregate-put-bytes
+    (λ c κs. search needs)
+    (λ c. search needs)
+    (λ c. search needs)
     put-bytes-requires
-    slice-aggregate-put-bytes-2
+    (λ c. search needs)
     put-bytes-requires-2
-    same-length
+    (λ c. search needs)
     returns)

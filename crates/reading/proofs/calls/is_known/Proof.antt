@@ -14,12 +14,6 @@ name-here c = record { forward = omega arith; inside = c .before .before .before
 returns : tie.Need-returns
 returns c = no-call _ _ _ (c .if1 .taken)
 
-sub-place : tie.Need-sub-place
-sub-place c = omega arith
-
-add-past : tie.Need-add-past
-add-past c = omega arith
-
 is-emission-requires : tie.Need-is-emission-requires
 is-emission-requires c κs = name-here c
 
@@ -39,4 +33,4 @@ returns-3 c =
 pub is-known-spec : {M : Type 1} → statement M
 is-known-spec =
     tie.close
-    (tie.spec returns sub-place add-past is-emission-requires returns-2 find-requires returns-3)
+    (tie.spec returns (λ c. omega arith) (λ c. omega arith) is-emission-requires returns-2 find-requires returns-3)

@@ -26,12 +26,6 @@ unknown-here c = sym (c .before .is-known .ensures) ∙ not-true _ (c .if1 .take
 loop-holds : tie.Need-loop-holds Inv-loop μ-loop
 loop-holds c = search-starts (c .before .before .pre .0) (c .before .before .pre .1)
 
-mul-word : tie.Need-mul-word Inv-loop μ-loop
-mul-word c = omega arith
-
-shared-slice-read-word : tie.Need-shared-slice-read-word Inv-loop μ-loop
-shared-slice-read-word c = omega arith
-
 cast-word : tie.Need-cast-word Inv-loop μ-loop
 cast-word c = omega (arith, c .shared-slice-known3 .given (c .before .before .loop .i))
 
@@ -49,12 +43,6 @@ returns c =
     let at-loop-test = c .before .before .before .before in
     λ t h. ap unknownAs (sym (search-finds (at-loop-test .before .loop .inv) (at-loop-test .loop-test .taken) (unknown-here c)) ∙ table-found h)
 
-add-i : tie.Need-add-i Inv-loop μ-loop
-add-i c = omega arith
-
-loop-less : tie.Need-loop-less Inv-loop μ-loop
-loop-less c = omega arith
-
 loop-again : tie.Need-loop-again Inv-loop μ-loop
 loop-again c =
     let at-loop-test = c .before .before .before .before in
@@ -70,13 +58,13 @@ unknown-call-spec =
     Inv-loop
     μ-loop
     loop-holds
-    mul-word
-    shared-slice-read-word
+    (λ c. omega arith)
+    (λ c. omega arith)
     cast-word
     is-known-requires
     sub-place
     returns
-    add-i
-    loop-less
+    (λ c. omega arith)
+    (λ c. omega arith)
     loop-again
     returns-2)

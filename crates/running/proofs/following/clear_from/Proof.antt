@@ -17,12 +17,6 @@ abbrev μ-loop : tie.MeasureT-loop
 loop-holds : tie.Need-loop-holds Inv-loop μ-loop
 loop-holds c = let a = c .args in (omega arith, c .pre, cleared-none (a .cells .now) (a .start) (c .pre), refl)
 
-slice-write-cells : tie.Need-slice-write-cells Inv-loop μ-loop
-slice-write-cells c = search needs
-
-add-i : tie.Need-add-i Inv-loop μ-loop
-add-i c = omega arith
-
 loop-less : tie.Need-loop-less Inv-loop μ-loop
 loop-less c = omega (arith, c .before .loop .inv .3)
 
@@ -44,8 +38,8 @@ clear-from-spec =
     Inv-loop
     μ-loop
     loop-holds
-    slice-write-cells
-    add-i
+    (λ c. search needs)
+    (λ c. omega arith)
     loop-less
     loop-again
     same-length

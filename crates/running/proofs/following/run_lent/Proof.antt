@@ -43,16 +43,10 @@ left c =
     let cells = c .follow .last .1 .1 .1 .1 in
     memory (cells .0) (cells .1 .0) (cells .1 .1 .0) (cells .1 .1 .1 .0) (cells .1 .1 .1 .1 .0)
 
-loaded-requires : tie.Need-loaded-requires
-loaded-requires c κs = search needs
-
 copy-over-requires : tie.Need-copy-over-requires
 copy-over-requires c κs =
     let pre = c .before .before .before .before .before .before .before .before .before .pre in
     rw (c .before .loaded .ensures) (omega (arith, pre .1 .1 .1 .0))
-
-class-table-requires : tie.Need-class-table-requires
-class-table-requires c κs = search needs
 
 apply-requires : tie.Need-apply-requires
 apply-requires c κs =
@@ -72,12 +66,6 @@ follow-requires c κs =
     let ready = ready-start _ _ _ (on-in (loading at-apply)) _ _ _ _ (a .code .now) (a .start) _ (pre .1 .1 .1 .1 .0) (pre .1 .1 .1 .1 .1) in
     (at-class-table .class-table .ensures, (pre .0, applied at-apply _ _ ready .leads .keeps))
 
-reported-requires : tie.Need-reported-requires
-reported-requires c κs = search needs
-
-clear-from-requires : tie.Need-clear-from-requires
-clear-from-requires c κs = search needs
-
 clear-from-requires-2 : tie.Need-clear-from-requires-2
 clear-from-requires-2 c κs =
     let at-reported = c .before .before .before .before .before in
@@ -89,18 +77,6 @@ same-length c =
     let at-clear-from = c .before .before .before .before .before .before in
     let at-follow = at-clear-from .before .before .before .before .before .before .before .before .before .before .before .before .before in
     at-clear-from .clear-from .kept .0 ∙ at-follow .follow .kept .1 .1 .1 .1 .0 ∙ loading (applying at-follow) .copy-over .kept .0
-
-same-length-2 : tie.Need-same-length-2
-same-length-2 c = search needs
-
-same-length-3 : tie.Need-same-length-3
-same-length-3 c = search needs
-
-same-length-4 : tie.Need-same-length-4
-same-length-4 c = search needs
-
-same-length-5 : tie.Need-same-length-5
-same-length-5 c = search needs
 
 returns : tie.Need-returns
 returns c =
@@ -119,17 +95,17 @@ pub run-lent-spec : {M : Type 1} → statement M
 run-lent-spec =
     tie.close
     (tie.spec
-    loaded-requires
+    (λ c κs. search needs)
     copy-over-requires
-    class-table-requires
+    (λ c κs. search needs)
     apply-requires
     follow-requires
-    reported-requires
-    clear-from-requires
+    (λ c κs. search needs)
+    (λ c κs. search needs)
     clear-from-requires-2
     same-length
-    same-length-2
-    same-length-3
-    same-length-4
-    same-length-5
+    (λ c. search needs)
+    (λ c. search needs)
+    (λ c. search needs)
+    (λ c. search needs)
     returns)

@@ -26,15 +26,6 @@ within c = omega (arith, c .before .loop .inv .0, c .loop-test .taken)
 returns : tie.Need-returns Inv-loop μ-loop
 returns c = sound-short (c .before .before .args .code .now) (omega (arith, c .if1 .taken))
 
-shared-slice-read-wide : tie.Need-shared-slice-read-wide Inv-loop μ-loop
-shared-slice-read-wide c = search needs
-
-wide-requires : tie.Need-wide-requires Inv-loop μ-loop
-wide-requires c κs = search needs
-
-sub-if2 : tie.Need-sub-if2 Inv-loop μ-loop
-sub-if2 c = omega arith
-
 returns-2 : tie.Need-returns-2 Inv-loop μ-loop
 returns-2 c = sound-short (c .before .before .before .before .before .args .code .now) (omega (arith, c .if2 .taken, c .before .wide .ensures))
 
@@ -44,26 +35,14 @@ loop-holds c = (c .before .wide .ensures, omega (arith, c .if2 .left, c .before 
 add-wide : tie.Need-add-wide Inv-loop μ-loop
 add-wide c = omega (arith, c .before .loop .inv .1, within c)
 
-mul-wide : tie.Need-mul-wide Inv-loop μ-loop
-mul-wide c = search needs
-
 shared-slice-read-wide-2 : tie.Need-shared-slice-read-wide-2 Inv-loop μ-loop
 shared-slice-read-wide-2 c = omega (arith, c .before .before .loop .inv .1, within (c .before))
-
-wide-requires-2 : tie.Need-wide-requires-2 Inv-loop μ-loop
-wide-requires-2 c κs = search needs
 
 returns-3 : tie.Need-returns-3 Inv-loop μ-loop
 returns-3 c =
     let at-entry = c .before .before .before in
     let v = at-entry .before .loop .inv in
     sound-wrong (words at-entry) (v .1) _ (within at-entry) (v .3) (omega (arith, c .if3 .taken, c .before .wide2 .ensures))
-
-add-i : tie.Need-add-i Inv-loop μ-loop
-add-i c = omega arith
-
-loop-less : tie.Need-loop-less Inv-loop μ-loop
-loop-less c = omega arith
 
 loop-again : tie.Need-loop-again Inv-loop μ-loop
 loop-again c =
@@ -84,17 +63,17 @@ sound-table-spec =
     Inv-loop
     μ-loop
     returns
-    shared-slice-read-wide
-    wide-requires
-    sub-if2
+    (λ c. search needs)
+    (λ c κs. search needs)
+    (λ c. omega arith)
     returns-2
     loop-holds
     add-wide
-    mul-wide
+    (λ c. search needs)
     shared-slice-read-wide-2
-    wide-requires-2
+    (λ c κs. search needs)
     returns-3
-    add-i
-    loop-less
+    (λ c. omega arith)
+    (λ c. omega arith)
     loop-again
     returns-4)

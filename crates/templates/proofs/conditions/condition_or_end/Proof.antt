@@ -5,23 +5,11 @@ use borrow.Author.Needs.{needs}
 use Rattle.templates.proofs.conditions.condition_or_end.Statement.{statement}
 use Rattle.templates.proofs.conditions.condition_or_end.Tie as tie
 
-is-condition-requires : tie.Need-is-condition-requires
-is-condition-requires c κs = search needs
-
 write-condition-requires : tie.Need-write-condition-requires
 write-condition-requires c κs =
     let at-is-condition = c .before .before in
     let entry = at-is-condition .before .before .before .before .before in
     (entry .pre, sym (at-is-condition .is-condition .ensures) ∙ c .before .if1 .taken)
-
-conditions-end-requires : tie.Need-conditions-end-requires
-conditions-end-requires c κs = search needs
-
-same-length : tie.Need-same-length
-same-length c = search needs
-
-returns : tie.Need-returns
-returns c = search needs
 
 returns-2 : tie.Need-returns-2
 returns-2 c =
@@ -34,9 +22,9 @@ pub condition-or-end-spec : {M : Type 1} → statement M
 condition-or-end-spec =
     tie.close
     (tie.spec
-    is-condition-requires
+    (λ c κs. search needs)
     write-condition-requires
-    conditions-end-requires
-    same-length
-    returns
+    (λ c κs. search needs)
+    (λ c. search needs)
+    (λ c. search needs)
     returns-2)

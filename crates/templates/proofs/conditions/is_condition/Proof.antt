@@ -7,15 +7,9 @@ use Rattle.templates.proofs.conditions.is_condition.Tie as tie
 returns : tie.Need-returns
 returns c = search conditions-full
 
-word-at-requires : tie.Need-word-at-requires
-word-at-requires c κs = search needs
-
-of-kind-requires : tie.Need-of-kind-requires
-of-kind-requires c κs = search needs
-
 returns-2 : tie.Need-returns-2
 returns-2 c = search condition-by-word
 
 pub is-condition-spec : {M : Type 1} → statement M
 is-condition-spec =
-    tie.close (tie.spec returns word-at-requires of-kind-requires returns-2)
+    tie.close (tie.spec returns (λ c κs. search needs) (λ c κs. search needs) returns-2)

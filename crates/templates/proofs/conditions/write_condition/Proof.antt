@@ -16,20 +16,8 @@ name-fits c =
     let entry = at-word-at .before .before .before .before .before in
     omega (arith, condition-told (entry .pre .0 .3) (entry .pre .1) (at-word-at .word-at .result % 256 / 10), c .reach .ensures)
 
-word-at-requires : tie.Need-word-at-requires
-word-at-requires c κs = search needs
-
-add-from : tie.Need-add-from
-add-from c = search needs
-
-reach-requires : tie.Need-reach-requires
-reach-requires c κs = search needs
-
 find-requires : tie.Need-find-requires
 find-requires c κs = omega (arith, name-fits (search))
-
-found-site-requires : tie.Need-found-site-requires
-found-site-requires c κs = search needs
 
 condition-word-requires : tie.Need-condition-word-requires
 condition-word-requires c κs =
@@ -37,17 +25,8 @@ condition-word-requires c κs =
     let entry = at-find .before .before .before .before .before .before .before .before in
     omega (arith, c .before .found-site .ensures, found-good (entry .args .sites .now) (entry .pre .0 .2) (at-find .find .result))
 
-put-requires : tie.Need-put-requires
-put-requires c κs = search needs
-
-add-t12 : tie.Need-add-t12
-add-t12 c = search needs
-
 add-t15 : tie.Need-add-t15
 add-t15 c = omega (arith, name-fits (search))
-
-same-length : tie.Need-same-length
-same-length c = search needs
 
 returns : tie.Need-returns
 returns c =
@@ -66,14 +45,14 @@ pub write-condition-spec : {M : Type 1} → statement M
 write-condition-spec =
     tie.close
     (tie.spec
-    word-at-requires
-    add-from
-    reach-requires
+    (λ c κs. search needs)
+    (λ c. search needs)
+    (λ c κs. search needs)
     find-requires
-    found-site-requires
+    (λ c κs. search needs)
     condition-word-requires
-    put-requires
-    add-t12
+    (λ c κs. search needs)
+    (λ c. search needs)
     add-t15
-    same-length
+    (λ c. search needs)
     returns)

@@ -14,38 +14,14 @@ told-here : (c : tie.After-piece-at) (p : Piece) → c .piece-at .result ≡ p �
     Told (a .tape .now) (a .m .next) (a .m .letters) (a .m .lengths .parts) p
 told-here c p e = told _ _ _ _ p (sym (c .piece-at .ensures) ∙ e)
 
-piece-at-requires : tie.Need-piece-at-requires
-piece-at-requires c κs = search needs
-
-enum-told : tie.Need-enum-told
-enum-told c = search needs
-
 measure-letter-requires : tie.Need-measure-letter-requires
 measure-letter-requires c κs = omega (arith, told-here (search) Character (search))
-
-enum-told-2 : tie.Need-enum-told-2
-enum-told-2 c = search needs
-
-name-size-requires : tie.Need-name-size-requires
-name-size-requires c κs = search needs
 
 measure-letter-requires-2 : tie.Need-measure-letter-requires-2
 measure-letter-requires-2 c κs = omega (arith, told-here (search) SVariable (search))
 
-enum-told-3 : tie.Need-enum-told-3
-enum-told-3 c = search needs
-
-name-size-requires-2 : tie.Need-name-size-requires-2
-name-size-requires-2 c κs = search needs
-
 measure-part-requires : tie.Need-measure-part-requires
 measure-part-requires c κs = omega (arith, told-here (search) EVariable (search))
-
-enum-told-4 : tie.Need-enum-told-4
-enum-told-4 c = search needs
-
-measure-end-requires : tie.Need-measure-end-requires
-measure-end-requires c κs = search needs
 
 returns : tie.Need-returns
 returns c = search character-measures
@@ -63,17 +39,17 @@ pub measure-piece-spec : {M : Type 1} → statement M
 measure-piece-spec =
     tie.close
     (tie.spec
-    piece-at-requires
-    enum-told
+    (λ c κs. search needs)
+    (λ c. search needs)
     measure-letter-requires
-    enum-told-2
-    name-size-requires
+    (λ c. search needs)
+    (λ c κs. search needs)
     measure-letter-requires-2
-    enum-told-3
-    name-size-requires-2
+    (λ c. search needs)
+    (λ c κs. search needs)
     measure-part-requires
-    enum-told-4
-    measure-end-requires
+    (λ c. search needs)
+    (λ c κs. search needs)
     returns
     returns-2
     returns-3

@@ -7,18 +7,9 @@ use Rattle.templates.proofs.symbols.found_site.Tie as tie
 returns : tie.Need-returns
 returns c = rw (eq-eqb _ _ (c .if1 .taken))
 
-sub-index : tie.Need-sub-index
-sub-index c = search needs
-
-mul-result : tie.Need-mul-result
-mul-result c = search needs
-
-shared-slice-read-result : tie.Need-shared-slice-read-result
-shared-slice-read-result c = search needs
-
 returns-2 : tie.Need-returns-2
 returns-2 c = rw (ne-eqb _ _ (c .before .if1 .left))
 
 pub found-site-spec : {M : Type 1} → statement M
 found-site-spec =
-    tie.close (tie.spec returns sub-index mul-result shared-slice-read-result returns-2)
+    tie.close (tie.spec returns (λ c. search needs) (λ c. search needs) (λ c. search needs) returns-2)

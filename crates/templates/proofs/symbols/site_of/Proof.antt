@@ -15,33 +15,6 @@ placed : (k p : Parts) (l : Lengths) (template : Parts) (o : ℕ) {r : Site} →
     → r ≡ siteNumbers (siteBy p k (lastOf (l .parts) l) o) → r ≡ siteNumbers (siteAt l template o)
 placed k p l template o e f h = h ∙ rw (e, f)
 
-enum-told : tie.Need-enum-told
-enum-told c = search needs
-
-enum-told-2 : tie.Need-enum-told-2
-enum-told-2 c = search needs
-
-enum-told-3 : tie.Need-enum-told-3
-enum-told-3 c = search needs
-
-from-end-requires : tie.Need-from-end-requires
-from-end-requires c κs = search needs
-
-enum-told-4 : tie.Need-enum-told-4
-enum-told-4 c = search needs
-
-from-end-requires-2 : tie.Need-from-end-requires-2
-from-end-requires-2 c κs = search needs
-
-enum-told-5 : tie.Need-enum-told-5
-enum-told-5 c = search needs
-
-enum-told-6 : tie.Need-enum-told-6
-enum-told-6 c = search needs
-
-from-end-requires-3 : tie.Need-from-end-requires-3
-from-end-requires-3 c κs = search needs
-
 returns : tie.Need-returns
 returns c = rw (c .enum-told .given .1)
 
@@ -61,15 +34,15 @@ pub site-of-spec : {M : Type 1} → statement M
 site-of-spec =
     tie.close
     (tie.spec
-    enum-told
-    enum-told-2
-    enum-told-3
-    from-end-requires
-    enum-told-4
-    from-end-requires-2
-    enum-told-5
-    enum-told-6
-    from-end-requires-3
+    (λ c. search needs)
+    (λ c. search needs)
+    (λ c. search needs)
+    (λ c κs. search needs)
+    (λ c. search needs)
+    (λ c κs. search needs)
+    (λ c. search needs)
+    (λ c. search needs)
+    (λ c κs. search needs)
     returns
     returns-2
     returns-3

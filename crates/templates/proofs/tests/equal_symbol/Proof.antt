@@ -40,9 +40,6 @@ put-requires c κs = omega (arith, bounds (search))
 past-letter-requires : tie.Need-past-letter-requires
 past-letter-requires c κs = c .before .before .before .before .before .before .before .before .before .pre .1
 
-same-length : tie.Need-same-length
-same-length c = search needs
-
 returns : tie.Need-returns
 returns c =
     let at-put = c .before .before .before in
@@ -62,5 +59,5 @@ equal-symbol-spec =
     add-put-3
     put-requires
     past-letter-requires
-    same-length
+    (λ c. search needs)
     returns)

@@ -6,24 +6,12 @@ use borrow.Author.Needs.{needs}
 use Rattle.templates.proofs.tests.test_character.Statement.{statement}
 use Rattle.templates.proofs.tests.test_character.Tie as tie
 
-site-of-requires : tie.Need-site-of-requires
-site-of-requires c κs = search needs
-
-word-at-requires : tie.Need-word-at-requires
-word-at-requires c κs = search needs
-
 put-operands-requires : tie.Need-put-operands-requires
 put-operands-requires c κs =
     let at-site-of = c .before .before in
     let entry = at-site-of .before .before .before in
     let small = site-small (entry .args .lengths) (entry .args .t .parts) (entry .args .t .offset) (entry .pre .0) (entry .pre .1) in
     omega (arith, ap (λ s. s .register) (at-site-of .site-of .ensures), ap (λ s. s .offset) (at-site-of .site-of .ensures), c .word-at .ensures, entry .pre)
-
-past-letter-requires : tie.Need-past-letter-requires
-past-letter-requires c κs = search needs
-
-same-length : tie.Need-same-length
-same-length c = search needs
 
 returns : tie.Need-returns
 returns c =
@@ -41,9 +29,9 @@ pub test-character-spec : {M : Type 1} → statement M
 test-character-spec =
     tie.close
     (tie.spec
-    site-of-requires
-    word-at-requires
+    (λ c κs. search needs)
+    (λ c κs. search needs)
     put-operands-requires
-    past-letter-requires
-    same-length
+    (λ c κs. search needs)
+    (λ c. search needs)
     returns)

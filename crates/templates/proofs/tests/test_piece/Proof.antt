@@ -22,53 +22,17 @@ module _ (c : tie.After-piece-at) (p : Piece) (e : c .piece-at .result ≡ p) wh
   told-here : Told (a .args .tape .now) (a .args .t .next) (a .args .t .letters) (a .args .t .parts) p
   told-here = told _ _ _ _ p is-here
 
-piece-at-requires : tie.Need-piece-at-requires
-piece-at-requires c κs = search needs
-
-enum-told : tie.Need-enum-told
-enum-told c = search needs
-
 test-character-requires : tie.Need-test-character-requires
 test-character-requires c κs = omega (arith, told-here (search) Character (search))
-
-enum-told-2 : tie.Need-enum-told-2
-enum-told-2 c = search needs
 
 test-symbol-requires : tie.Need-test-symbol-requires
 test-symbol-requires c κs = (search, is-here (search) SVariable (search))
 
-enum-told-3 : tie.Need-enum-told-3
-enum-told-3 c = search needs
-
-name-size-requires : tie.Need-name-size-requires
-name-size-requires c κs = search needs
-
 past-part-requires : tie.Need-past-part-requires
 past-part-requires c κs = omega (arith, told-here (search) EVariable (search))
 
-enum-told-4 : tie.Need-enum-told-4
-enum-told-4 c = search needs
-
-tests-end-requires : tie.Need-tests-end-requires
-tests-end-requires c κs = search needs
-
-same-length : tie.Need-same-length
-same-length c = search needs
-
 returns : tie.Need-returns
 returns c = search character-on
-
-same-length-2 : tie.Need-same-length-2
-same-length-2 c = search needs
-
-same-length-3 : tie.Need-same-length-3
-same-length-3 c = search needs
-
-same-length-4 : tie.Need-same-length-4
-same-length-4 c = search needs
-
-returns-2 : tie.Need-returns-2
-returns-2 c = search needs
 
 returns-3 : tie.Need-returns-3
 returns-3 c = search part-on
@@ -80,21 +44,21 @@ pub test-piece-spec : {M : Type 1} → statement M
 test-piece-spec =
     tie.close
     (tie.spec
-    piece-at-requires
-    enum-told
+    (λ c κs. search needs)
+    (λ c. search needs)
     test-character-requires
-    enum-told-2
+    (λ c. search needs)
     test-symbol-requires
-    enum-told-3
-    name-size-requires
+    (λ c. search needs)
+    (λ c κs. search needs)
     past-part-requires
-    enum-told-4
-    tests-end-requires
-    same-length
+    (λ c. search needs)
+    (λ c κs. search needs)
+    (λ c. search needs)
     returns
-    same-length-2
-    same-length-3
-    same-length-4
-    returns-2
+    (λ c. search needs)
+    (λ c. search needs)
+    (λ c. search needs)
+    (λ c. search needs)
     returns-3
     returns-4)

@@ -38,12 +38,6 @@ looked c =
       found = c .find .ensures .0;
     }
 
-site-of-requires : tie.Need-site-of-requires
-site-of-requires c κs = search needs
-
-name-size-requires : tie.Need-name-size-requires
-name-size-requires c κs = search needs
-
 add-find : tie.Need-add-find
 add-find c = omega (arith, bounds (search))
 
@@ -53,26 +47,11 @@ find-requires c κs = omega (arith, bounds (search))
 new-symbol-requires : tie.Need-new-symbol-requires
 new-symbol-requires c κs = omega (arith, bounds (search))
 
-same-length : tie.Need-same-length
-same-length c = search needs
-
-same-length-2 : tie.Need-same-length-2
-same-length-2 c = search needs
-
 returns : tie.Need-returns
 returns c = search (new-symbol-on (looked (search)))
 
 equal-symbol-requires : tie.Need-equal-symbol-requires
 equal-symbol-requires c κs = omega (arith, bounds (search), found-here (search))
-
-same-length-3 : tie.Need-same-length-3
-same-length-3 c = search needs
-
-same-length-4 : tie.Need-same-length-4
-same-length-4 c = search needs
-
-same-length-5 : tie.Need-same-length-5
-same-length-5 c = search needs
 
 returns-2 : tie.Need-returns-2
 returns-2 c = search (equal-symbol-on (looked (search)))
@@ -81,16 +60,16 @@ pub test-symbol-spec : {M : Type 1} → statement M
 test-symbol-spec =
     tie.close
     (tie.spec
-    site-of-requires
-    name-size-requires
+    (λ c κs. search needs)
+    (λ c κs. search needs)
     add-find
     find-requires
     new-symbol-requires
-    same-length
-    same-length-2
+    (λ c. search needs)
+    (λ c. search needs)
     returns
     equal-symbol-requires
-    same-length-3
-    same-length-4
-    same-length-5
+    (λ c. search needs)
+    (λ c. search needs)
+    (λ c. search needs)
     returns-2)

@@ -22,12 +22,6 @@ abbrev μ-loop : tie.MeasureT-loop
 loop-holds : tie.Need-loop-holds Inv-loop μ-loop
 loop-holds c = (omega arith, omega arith, same-words (same-refl _ _ _) (ap (map storeOfSite) (sym (front-whole (c .before .before .args .sites .now) (c .before .before .args .symbols)))))
 
-mul-put : tie.Need-mul-put Inv-loop μ-loop
-mul-put c = omega arith
-
-shared-slice-read-put : tie.Need-shared-slice-read-put Inv-loop μ-loop
-shared-slice-read-put c = omega arith
-
 small : (c : tie.After-shared-slice-known2 Inv-loop μ-loop) → IsSite (getD (c .before .before .before .before .before .before .args .sites .now) (c .before .before .before .loop .k) 0)
 small c = c .before .before .before .before .before .before .pre .1 (c .before .before .before .loop .k)
 
@@ -39,12 +33,6 @@ add-put c = omega (arith, small c)
 
 put-requires : tie.Need-put-requires Inv-loop μ-loop
 put-requires c κs = omega (arith, small c)
-
-add-k : tie.Need-add-k Inv-loop μ-loop
-add-k c = omega arith
-
-loop-less : tie.Need-loop-less Inv-loop μ-loop
-loop-less c = omega arith
 
 loop-again : tie.Need-loop-again Inv-loop μ-loop
 loop-again c =
@@ -69,13 +57,13 @@ write-stores-spec =
     Inv-loop
     μ-loop
     loop-holds
-    mul-put
-    shared-slice-read-put
+    (λ c. omega arith)
+    (λ c. omega arith)
     mul-put-2
     add-put
     put-requires
-    add-k
-    loop-less
+    (λ c. omega arith)
+    (λ c. omega arith)
     loop-again
     same-length
     returns)

@@ -20,12 +20,6 @@ note-head-requires : tie.Need-note-head-requires Inv-loop μ-loop
 note-head-requires c κs = let so-far = c .before .before .loop .inv in
     (c .before .loop-test .taken, so-far .room, so-far .few, so-far .inside)
 
-add-i : tie.Need-add-i Inv-loop μ-loop
-add-i c = omega arith
-
-loop-less : tie.Need-loop-less Inv-loop μ-loop
-loop-less c = omega arith
-
 loop-again : tie.Need-loop-again Inv-loop μ-loop
 loop-again c =
     let at-note-head = c .before .before in
@@ -47,8 +41,8 @@ find-heads-spec =
     μ-loop
     loop-holds
     note-head-requires
-    add-i
-    loop-less
+    (λ c. omega arith)
+    (λ c. omega arith)
     loop-again
     same-length
     returns)

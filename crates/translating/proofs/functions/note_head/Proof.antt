@@ -7,24 +7,6 @@ use Rattle.translating.proofs.functions.note_head.Tie as tie
 returns : tie.Need-returns
 returns c = search heads-full
 
-word-at-requires : tie.Need-word-at-requires
-word-at-requires c κs = search needs
-
-is-function-requires : tie.Need-is-function-requires
-is-function-requires c κs = search needs
-
-mul-heads : tie.Need-mul-heads
-mul-heads c = search needs
-
-slice-write-heads : tie.Need-slice-write-heads
-slice-write-heads c = search needs
-
-add-result : tie.Need-add-result
-add-result c = search needs
-
-same-length : tie.Need-same-length
-same-length c = search needs
-
 returns-2 : tie.Need-returns-2
 returns-2 c = search head-noted
 
@@ -36,11 +18,11 @@ note-head-spec =
     tie.close
     (tie.spec
     returns
-    word-at-requires
-    is-function-requires
-    mul-heads
-    slice-write-heads
-    add-result
-    same-length
+    (λ c κs. search needs)
+    (λ c κs. search needs)
+    (λ c. search needs)
+    (λ c. search needs)
+    (λ c. search needs)
+    (λ c. search needs)
     returns-2
     returns-3)

@@ -15,9 +15,6 @@ name-fits c =
     let entry = c .before .before .before .before .before in
     omega (arith, c .name-size .ensures, name-fits-here (entry .args .tape .now) _ (entry .pre .2 (entry .args .k) (entry .pre .0)))
 
-mul-head : tie.Need-mul-head
-mul-head c = search needs
-
 shared-slice-read-head : tie.Need-shared-slice-read-head
 shared-slice-read-head c = omega (arith, c .before .before .before .before .pre .0)
 
@@ -26,9 +23,6 @@ add-start c =
     let entry = c .before .before .before .before in
     let a = entry .args in
     omega (arith, entry .pre .2 (a .k) (entry .pre .0))
-
-name-size-requires : tie.Need-name-size-requires
-name-size-requires c κs = search needs
 
 add-start-2 : tie.Need-add-start-2
 add-start-2 c = omega (arith, name-fits c)
@@ -44,20 +38,11 @@ add-lesser c =
 sub-lesser : tie.Need-sub-lesser
 sub-lesser c = omega (arith, c .before .before .before .before .before .before .before .before .before .pre .3)
 
-lesser-requires : tie.Need-lesser-requires
-lesser-requires c κs = search needs
-
-mul-write-function : tie.Need-mul-write-function
-mul-write-function c = search needs
-
 sub-write-function : tie.Need-sub-write-function
 sub-write-function c = omega (arith, c .lesser .ensures)
 
 part-write-function-start : tie.Need-part-write-function-start
 part-write-function-start c = omega (arith, c .lesser .ensures)
-
-part-write-function-end : tie.Need-part-write-function-end
-part-write-function-end c = search needs
 
 write-function-requires : tie.Need-write-function-requires
 write-function-requires c κs = (search, omega (arith, name-fits (search)))
@@ -67,9 +52,6 @@ add-result c =
     let at-write-function = c .before .before in
     let entry = at-write-function .before .before .before .before .before .before .before .before .before .before .before .before in
     omega (arith, at-write-function .write-function .ensures .grown, entry .pre .4)
-
-same-length : tie.Need-same-length
-same-length c = search needs
 
 returns : tie.Need-returns
 returns c =
@@ -85,20 +67,20 @@ pub write-entry-spec : {M : Type 1} → statement M
 write-entry-spec =
     tie.close
     (tie.spec
-    mul-head
+    (λ c. search needs)
     shared-slice-read-head
     add-start
-    name-size-requires
+    (λ c κs. search needs)
     add-start-2
     put-requires
     add-lesser
     sub-lesser
-    lesser-requires
-    mul-write-function
+    (λ c κs. search needs)
+    (λ c. search needs)
     sub-write-function
     part-write-function-start
-    part-write-function-end
+    (λ c. search needs)
     write-function-requires
     add-result
-    same-length
+    (λ c. search needs)
     returns)

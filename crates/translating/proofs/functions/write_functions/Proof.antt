@@ -12,9 +12,6 @@ Inv-loop tape heads code₀ count at₀ k₀ code at k = FunctionsSoFar tape hea
 abbrev μ-loop : tie.MeasureT-loop
 μ-loop tape heads code₀ count at₀ k₀ code at k = count - k
 
-put-requires : tie.Need-put-requires Inv-loop μ-loop
-put-requires c κs = omega arith
-
 add-at : tie.Need-add-at Inv-loop μ-loop
 add-at c = omega (arith, c .before .before .put .ensures .next)
 
@@ -23,9 +20,6 @@ loop-holds c =
     let at-put = c .before .before in
     let entry = at-put .before .before .before .before .before in
     functions-none _ _ _ _ (omega (arith, at-put .put .ensures .next)) (entry .pre .0)
-
-add-lesser : tie.Need-add-lesser Inv-loop μ-loop
-add-lesser c = omega arith
 
 lesser-requires : tie.Need-lesser-requires Inv-loop μ-loop
 lesser-requires c κs = tt
@@ -39,9 +33,6 @@ sub-write-entry c = omega (arith, c .lesser .ensures)
 part-write-entry-start : tie.Need-part-write-entry-start Inv-loop μ-loop
 part-write-entry-start c = omega (arith, c .lesser .ensures)
 
-part-write-entry-end : tie.Need-part-write-entry-end Inv-loop μ-loop
-part-write-entry-end c = omega arith
-
 write-entry-requires : tie.Need-write-entry-requires Inv-loop μ-loop
 write-entry-requires c κs =
     let at-loop-test = c .before .before in
@@ -49,12 +40,6 @@ write-entry-requires c κs =
     let entry = at-loop .before .before .before .before .before .before .before .before in
     let so-far = at-loop .loop .inv in
     (at-loop-test .loop-test .taken, entry .pre .0, entry .pre .1, omega (arith, so-far .after), omega (arith, so-far .grown, so-far .few))
-
-add-k : tie.Need-add-k Inv-loop μ-loop
-add-k c = omega arith
-
-loop-less : tie.Need-loop-less Inv-loop μ-loop
-loop-less c = omega arith
 
 loop-again : tie.Need-loop-again Inv-loop μ-loop
 loop-again c =
@@ -76,18 +61,18 @@ write-functions-spec =
     (tie.spec
     Inv-loop
     μ-loop
-    put-requires
+    (λ c κs. omega arith)
     add-at
     loop-holds
-    add-lesser
+    (λ c. omega arith)
     lesser-requires
     mul-write-entry
     sub-write-entry
     part-write-entry-start
-    part-write-entry-end
+    (λ c. omega arith)
     write-entry-requires
-    add-k
-    loop-less
+    (λ c. omega arith)
+    (λ c. omega arith)
     loop-again
     same-length
     returns)

@@ -11,18 +11,6 @@ use Rattle.translating.proofs.functions.write_table.Tie as tie
 slice-aggregate-used : tie.Need-slice-aggregate-used
 slice-aggregate-used c = sym (length-take-le _ _ (c .before .before .before .pre))
 
-room-requires : tie.Need-room-requires
-room-requires c κs = search needs
-
-slice-aggregate-find-heads : tie.Need-slice-aggregate-find-heads
-slice-aggregate-find-heads c = search needs
-
-find-heads-requires : tie.Need-find-heads-requires
-find-heads-requires c κs = search needs
-
-array-share-prefix-heads : tie.Need-array-share-prefix-heads
-array-share-prefix-heads c = search needs
-
 slice-aggregate-write-functions : tie.Need-slice-aggregate-write-functions
 slice-aggregate-write-functions c = let f = c .before .before .find-heads in
     sym (length-take-le _ _ (omega (arith, f .ensures .few, f .kept .1 .0, ap length (c .before .before .before .before .room .ensures))))
@@ -32,9 +20,6 @@ write-functions-requires c κs = let f = c .before .before .before .find-heads i
     let few = length-take (f .result) (f .last .1 .0) in
     (omega (arith, few, f .ensures .few), λ k h. rw (getD-take (f .result) (f .last .1 .0) k 0 (omega (arith, few))) (f .ensures .inside k (omega (arith, few))))
 
-same-length : tie.Need-same-length
-same-length c = search needs
-
 returns : tie.Need-returns
 returns c = search table-written
 
@@ -43,11 +28,11 @@ write-table-spec =
     tie.close
     (tie.spec
     slice-aggregate-used
-    room-requires
-    slice-aggregate-find-heads
-    find-heads-requires
-    array-share-prefix-heads
+    (λ c κs. search needs)
+    (λ c. search needs)
+    (λ c κs. search needs)
+    (λ c. search needs)
     slice-aggregate-write-functions
     write-functions-requires
-    same-length
+    (λ c. search needs)
     returns)

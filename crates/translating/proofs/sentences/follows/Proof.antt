@@ -8,14 +8,8 @@ use Rattle.translating.proofs.sentences.follows.Tie as tie
 returns : tie.Need-returns
 returns c = rw (le-leb 512 _ (c .if1 .taken))
 
-word-at-requires : tie.Need-word-at-requires
-word-at-requires c κs = search needs
-
-of-kind-requires : tie.Need-of-kind-requires
-of-kind-requires c κs = search needs
-
 returns-2 : tie.Need-returns-2
 returns-2 c = search follows-by-word
 
 pub follows-spec : {M : Type 1} → statement M
-follows-spec = tie.close (tie.spec returns word-at-requires of-kind-requires returns-2)
+follows-spec = tie.close (tie.spec returns (λ c κs. search needs) (λ c κs. search needs) returns-2)

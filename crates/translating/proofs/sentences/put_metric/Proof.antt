@@ -5,21 +5,15 @@ use borrow.Author.Needs.{needs}
 use Rattle.translating.proofs.sentences.put_metric.Statement.{statement}
 use Rattle.translating.proofs.sentences.put_metric.Tie as tie
 
-metric-number-requires : tie.Need-metric-number-requires
-metric-number-requires c κs = search needs
-
 put-operands-requires : tie.Need-put-operands-requires
 put-operands-requires c κs =
     let entry = c .before .before .before in
     let a = entry .args in
     (metric-fits (a .lengths) (c .before .metric-number .result) (c .before .metric-number .ensures) (entry .pre .0), omega arith)
 
-same-length : tie.Need-same-length
-same-length c = search needs
-
 returns : tie.Need-returns
 returns c = rw (← (c .before .before .before .before .metric-number .ensures)) (c .before .before .put-operands .ensures)
 
 pub put-metric-spec : {M : Type 1} → statement M
 put-metric-spec =
-    tie.close (tie.spec metric-number-requires put-operands-requires same-length returns)
+    tie.close (tie.spec (λ c κs. search needs) put-operands-requires (λ c. search needs) returns)

@@ -8,18 +8,6 @@ use borrow.Author.Needs.{needs}
 use Rattle.translating.proofs.sentences.write_body.Statement.{statement}
 use Rattle.translating.proofs.sentences.write_body.Tie as tie
 
-room-requires : tie.Need-room-requires
-room-requires c κs = search needs
-
-room-requires-2 : tie.Need-room-requires-2
-room-requires-2 c κs = search needs
-
-slice-aggregate-write-matching : tie.Need-slice-aggregate-write-matching
-slice-aggregate-write-matching c = search needs
-
-slice-aggregate-write-matching-2 : tie.Need-slice-aggregate-write-matching-2
-slice-aggregate-write-matching-2 c = search needs
-
 write-matching-requires : tie.Need-write-matching-requires
 write-matching-requires c κs =
     let at-room2 = c .before .before .before in
@@ -28,18 +16,12 @@ write-matching-requires c κs =
     let pre = entry .pre in
     ((ap length (at-room .room .ensures), ap length (at-room2 .room2 .ensures), λ k. rw (at-room2 .room2 .ensures) (all-zero 64 k)), (pre .0 .lengths, omega (arith, pre .0 .within .letters, pre .0 .within .most), pre .2, pre .3))
 
-array-share-prefix-names : tie.Need-array-share-prefix-names
-array-share-prefix-names c = search needs
-
 slice-aggregate-write-expression : tie.Need-slice-aggregate-write-expression
 slice-aggregate-write-expression c =
     let at-write-matching = c .before .before .before .before .before in
     let at-room = at-write-matching .before .before .before .before .before in
     let m = at-write-matching .write-matching in
     sym (length-take-le _ _ (omega (arith, m .ensures .few .1, m .kept .1 .1 .0, ap length (at-room .room .ensures))))
-
-add-write-expression : tie.Need-add-write-expression
-add-write-expression c = search needs
 
 write-expression-requires : tie.Need-write-expression-requires
 write-expression-requires c κs =
@@ -48,9 +30,6 @@ write-expression-requires c κs =
     let pre = entry .pre in
     let m = at-write-matching .write-matching in
     (pre .1, omega (arith, length-take (m .result .symbols) (m .last .1 .1 .0), m .ensures .few .1), omega (arith, pre .0 .within .letters, pre .0 .within .most), omega (arith, m .ensures .next), omega (arith, m .ensures .grown, pre .3))
-
-same-length : tie.Need-same-length
-same-length c = search needs
 
 returns : tie.Need-returns
 returns c =
@@ -63,14 +42,14 @@ pub write-body-spec : {M : Type 1} → statement M
 write-body-spec =
     tie.close
     (tie.spec
-    room-requires
-    room-requires-2
-    slice-aggregate-write-matching
-    slice-aggregate-write-matching-2
+    (λ c κs. search needs)
+    (λ c κs. search needs)
+    (λ c. search needs)
+    (λ c. search needs)
     write-matching-requires
-    array-share-prefix-names
+    (λ c. search needs)
     slice-aggregate-write-expression
-    add-write-expression
+    (λ c. search needs)
     write-expression-requires
-    same-length
+    (λ c. search needs)
     returns)

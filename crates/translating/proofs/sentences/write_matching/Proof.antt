@@ -32,15 +32,6 @@ sub-t27 c =
     let at-write-tests : tie.After-write-tests = search in
     omega (arith, at-write-tests .write-tests .ensures .wrote .next, at-write-conditions .write-conditions .ensures .wrote .next)
 
-same-length : tie.Need-same-length
-same-length c = search needs
-
-same-length-2 : tie.Need-same-length-2
-same-length-2 c = search needs
-
-same-length-3 : tie.Need-same-length-3
-same-length-3 c = search needs
-
 returns : tie.Need-returns
 returns c =
     let at-write-stores = c .before .before .before in
@@ -57,7 +48,7 @@ write-matching-spec =
     write-conditions-requires
     write-stores-requires
     sub-t27
-    same-length
-    same-length-2
-    same-length-3
+    (λ c. search needs)
+    (λ c. search needs)
+    (λ c. search needs)
     returns)

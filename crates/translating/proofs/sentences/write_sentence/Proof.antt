@@ -51,9 +51,6 @@ add-put-2 c = omega (arith, bounds (search))
 put-requires : tie.Need-put-requires
 put-requires c κs = omega (arith, bounds (search), near (search))
 
-same-length : tie.Need-same-length
-same-length c = search needs
-
 returns : tie.Need-returns
 returns c =
     let at-put = c .before .before in
@@ -76,5 +73,5 @@ write-sentence-spec =
     mul-put-2
     add-put-2
     put-requires
-    same-length
+    (λ c. search needs)
     returns)

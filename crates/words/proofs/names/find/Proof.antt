@@ -21,26 +21,11 @@ abbrev μ-loop : tie.MeasureT-loop
 loop-holds : tie.Need-loop-holds Inv-loop μ-loop
 loop-holds c = (omega arith, rw front-whole)
 
-mul-head : tie.Need-mul-head Inv-loop μ-loop
-mul-head c = omega arith
-
-shared-slice-read-head : tie.Need-shared-slice-read-head Inv-loop μ-loop
-shared-slice-read-head c = omega arith
-
 name-is-requires : tie.Need-name-is-requires Inv-loop μ-loop
 name-is-requires c κs = c .before .before .before .before .before .pre .1
 
-add-result : tie.Need-add-result Inv-loop μ-loop
-add-result c = omega arith
-
 returns : tie.Need-returns Inv-loop μ-loop
 returns c = (search found-here, omega arith)
-
-add-k : tie.Need-add-k Inv-loop μ-loop
-add-k c = omega arith
-
-loop-less : tie.Need-loop-less Inv-loop μ-loop
-loop-less c = omega arith
 
 loop-again : tie.Need-loop-again Inv-loop μ-loop
 loop-again c = (omega arith, search not-here)
@@ -55,12 +40,12 @@ find-spec =
     Inv-loop
     μ-loop
     loop-holds
-    mul-head
-    shared-slice-read-head
+    (λ c. omega arith)
+    (λ c. omega arith)
     name-is-requires
-    add-result
+    (λ c. omega arith)
     returns
-    add-k
-    loop-less
+    (λ c. omega arith)
+    (λ c. omega arith)
     loop-again
     returns-2)

@@ -20,9 +20,6 @@ fits c =
     let s : length (headName (a .tape .now) (a .head)) ≡ a .size = same-size c in
     omega (arith, name-fits (a .tape .now) (a .head) (omega (arith, c .if2 .left)))
 
-name-size-requires : tie.Need-name-size-requires
-name-size-requires c κs = search needs
-
 returns : tie.Need-returns
 returns c =
     let entry = c .before .before .before in
@@ -50,4 +47,4 @@ returns-3 c = rw (name-part _ _, same-size (search)) (search)
 pub name-is-spec : {M : Type 1} → statement M
 name-is-spec =
     tie.close
-    (tie.spec name-size-requires returns returns-2 add-same-words same-words-requires returns-3)
+    (tie.spec (λ c κs. search needs) returns returns-2 add-same-words same-words-requires returns-3)

@@ -3,11 +3,8 @@ use borrow.Author.Needs.{needs}
 use Rattle.words.proofs.names.word_is.Statement.{statement}
 use Rattle.words.proofs.names.word_is.Tie as tie
 
-word-at-requires : tie.Need-word-at-requires
-word-at-requires c κs = search needs
-
 returns : tie.Need-returns
 returns c = rw (c .word-at .ensures .0)
 
 pub word-is-spec : {M : Type 1} → statement M
-word-is-spec = tie.close (tie.spec word-at-requires returns)
+word-is-spec = tie.close (tie.spec (λ c κs. search needs) returns)

@@ -5,12 +5,6 @@ use borrow.Author.Needs.{needs}
 use Rattle.words.proofs.tape.item_at.Statement.{statement}
 use Rattle.words.proofs.tape.item_at.Tie as tie
 
-word-on-requires : tie.Need-word-on-requires
-word-on-requires c κs = search needs
-
-item-of-requires : tie.Need-item-of-requires
-item-of-requires c κs = search needs
-
 returns : tie.Need-returns
 returns c = rw (c .before .word-on .ensures) (c .item-of .ensures)
 
@@ -21,4 +15,4 @@ returns-3 : tie.Need-returns-3
 returns-3 c = rw (drop-of-length-le _ (c .before .if1 .left), ne-eqb _ _ (c .if2 .left))
 
 pub item-at-spec : {M : Type 1} → statement M
-item-at-spec = tie.close (tie.spec word-on-requires item-of-requires returns returns-2 returns-3)
+item-at-spec = tie.close (tie.spec (λ c κs. search needs) (λ c κs. search needs) returns returns-2 returns-3)

@@ -7,11 +7,8 @@ use Rattle.words.proofs.tape.of_kind.Tie as tie
 returns : tie.Need-returns
 returns c = search tests
 
-add-result : tie.Need-add-result
-add-result c = search needs
-
 returns-2 : tie.Need-returns-2
 returns-2 c = search tests
 
 pub of-kind-spec : {M : Type 1} → statement M
-of-kind-spec = tie.close (tie.spec returns add-result returns-2)
+of-kind-spec = tie.close (tie.spec returns (λ c. search needs) returns-2)

@@ -4,12 +4,6 @@ use borrow.Author.Needs.{needs}
 use Rattle.words.proofs.tape.piece_at.Statement.{statement}
 use Rattle.words.proofs.tape.piece_at.Tie as tie
 
-word-on-requires : tie.Need-word-on-requires
-word-on-requires c κs = search needs
-
-piece-of-requires : tie.Need-piece-of-requires
-piece-of-requires c κs = search needs
-
 returns : tie.Need-returns
 returns c = rw (c .before .word-on .ensures) (c .piece-of .ensures)
 
@@ -17,4 +11,4 @@ returns-2 : tie.Need-returns-2
 returns-2 c = rw (drop-of-length-le _ (c .if1 .left))
 
 pub piece-at-spec : {M : Type 1} → statement M
-piece-at-spec = tie.close (tie.spec word-on-requires piece-of-requires returns returns-2)
+piece-at-spec = tie.close (tie.spec (λ c κs. search needs) (λ c κs. search needs) returns returns-2)

@@ -7,9 +7,6 @@ use Rattle.words.proofs.tape.piece_of.Tie as tie
 returns : tie.Need-returns
 returns c = search tests
 
-part-piece-requires : tie.Need-part-piece-requires
-part-piece-requires c κs = search needs
-
 returns-2 : tie.Need-returns-2
 returns-2 c = search tests
 
@@ -24,4 +21,4 @@ returns-5 c = search tests
 
 pub piece-of-spec : {M : Type 1} → statement M
 piece-of-spec =
-    tie.close (tie.spec returns part-piece-requires returns-2 returns-3 returns-4 returns-5)
+    tie.close (tie.spec returns (λ c κs. search needs) returns-2 returns-3 returns-4 returns-5)

@@ -4,14 +4,8 @@ use borrow.Author.Needs.{needs}
 use Rattle.words.proofs.tape.reach.Statement.{statement}
 use Rattle.words.proofs.tape.reach.Tie as tie
 
-less-requires : tie.Need-less-requires
-less-requires c κs = search needs
-
-lesser-requires : tie.Need-lesser-requires
-lesser-requires c κs = search needs
-
 returns : tie.Need-returns
 returns c = rw (c .lesser .ensures, c .before .less .ensures, reached)
 
 pub reach-spec : {M : Type 1} → statement M
-reach-spec = tie.close (tie.spec less-requires lesser-requires returns)
+reach-spec = tie.close (tie.spec (λ c κs. search needs) (λ c κs. search needs) returns)

@@ -16,18 +16,6 @@ abbrev μ-loop : tie.MeasureT-loop
 loop-holds : tie.Need-loop-holds Inv-loop μ-loop
 loop-holds c = (omega arith, omega arith, refl, cleared-none (c .args .code .now) (c .args .start))
 
-mul-code : tie.Need-mul-code Inv-loop μ-loop
-mul-code c = omega arith
-
-slice-write-code : tie.Need-slice-write-code Inv-loop μ-loop
-slice-write-code c = omega arith
-
-add-i : tie.Need-add-i Inv-loop μ-loop
-add-i c = omega arith
-
-loop-less : tie.Need-loop-less Inv-loop μ-loop
-loop-less c = omega arith
-
 loop-again : tie.Need-loop-again Inv-loop μ-loop
 loop-again c = let v = c .before .loop .inv in
     (omega arith, omega arith, simp length-set (v .2), rw (v .3) (cleared-one (c .before .before .args .code .now) (c .before .before .args .start) (c .before .loop .i) (omega arith) (omega arith)))
@@ -46,10 +34,10 @@ clear-from-spec =
     Inv-loop
     μ-loop
     loop-holds
-    mul-code
-    slice-write-code
-    add-i
-    loop-less
+    (λ c. omega arith)
+    (λ c. omega arith)
+    (λ c. omega arith)
+    (λ c. omega arith)
     loop-again
     same-length
     returns)

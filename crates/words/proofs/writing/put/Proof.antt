@@ -8,18 +8,6 @@ use borrow.Author.Needs.{needs}
 use Rattle.words.proofs.writing.put.Statement.{statement}
 use Rattle.words.proofs.writing.put.Tie as tie
 
-cast-code : tie.Need-cast-code
-cast-code c = search needs
-
-mul-code : tie.Need-mul-code
-mul-code c = search needs
-
-slice-write-code : tie.Need-slice-write-code
-slice-write-code c = search needs
-
-add-result : tie.Need-add-result
-add-result c = search needs
-
 same-length : tie.Need-same-length
 same-length c = ⊎-elim (λ w. ap length (w .1) ∙ simp length-set) (λ w. ap length (w .1)) (c .if1 .came)
 
@@ -30,4 +18,4 @@ returns c = record {
 }
 
 pub put-spec : {M : Type 1} → statement M
-put-spec = tie.close (tie.spec cast-code mul-code slice-write-code add-result same-length returns)
+put-spec = tie.close (tie.spec (λ c. search needs) (λ c. search needs) (λ c. search needs) (λ c. search needs) same-length returns)
