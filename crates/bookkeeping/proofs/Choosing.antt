@@ -7,7 +7,7 @@ use lib.Dec.{eqb}
 use borrow.Author.Tests.{eqb-true, not-true, not-false}
 use Rattle.meaning.specs.Choice.{pick, both}
 use Rattle.meaning.specs.Reading.{faultUnless}
-use Rattle.meaning.proofs.reading.Basics.{passed}
+use Rattle.accepting.proofs.reading.Basics.{passed}
 
 pub both-true : (b : Bool) → b ≡ both b true
 both-true true = refl

@@ -10,7 +10,7 @@ use lib.ListN.{length, take, drop, set, length-set}
 use lib.Seq.{slice, slice-empty, take-suc-set, take-set-le, take-set-lt, drop-set-lt, drop-append-le, length-take-le, drop-drop}
 use Rattle.meaning.specs.Choice.{Bytes, Name, every}
 use Rattle.meaning.proofs.laws.Passing.{both-right, both-pass}
-use Rattle.meaning.proofs.reading.Lists.{every-append as every-both}
+use Rattle.accepting.proofs.reading.Lists.{every-append as every-both}
 use Rattle.lexing.specs.View.{part}
 use Rattle.lexing.specs.declared.Span.{Span}
 use Rattle.bookkeeping.specs.Tables.{Inside, nameIn, namesIn, inText, tableNames, Entries}

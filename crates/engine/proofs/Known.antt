@@ -13,9 +13,9 @@ use Rattle.meaning.specs.Choice.{Bytes, every}
 use Rattle.meaning.specs.Allowed.{isByte, allowed}
 use Rattle.meaning.specs.Reading.{Read, accepted, refused, read}
 use Rattle.meaning.proofs.agreement.Choosing.{true-passed}
-use Rattle.meaning.proofs.reading.Basics.{both-true}
-use Rattle.meaning.proofs.reading.Accepted.{accepted-allows}
-use Rattle.meaning.proofs.reading.Leftmost.{Refusal, tooLong, atToken, atCall, refusal}
+use Rattle.accepting.proofs.reading.Basics.{both-true}
+use Rattle.accepting.proofs.reading.Accepted.{accepted-allows}
+use Rattle.accepting.proofs.reading.Leftmost.{Refusal, tooLong, atToken, atCall, refusal}
 
 -- what is known of a lent slice of bytes
 abbrev pub AreBytes : Bytes → Type 0

@@ -17,7 +17,7 @@ use Rattle.meaning.specs.Grammar.{truthByte}
 use Rattle.meaning.specs.Listing.{Quoted, unquoted, inString, afterCode, closeQuote, isCoded, afterCharacter, quotedCharacter, symbolText, patternText, conditionText, conditionsText, expressionText, withoutBlank, sentenceText, sentencesText, functionText, listing}
 use Rattle.meaning.proofs.laws.Passing.{both-left, both-right, every-head, every-tail}
 use Rattle.meaning.proofs.laws.Words.{by-class, class-below}
-use Rattle.meaning.proofs.roundtrip.Legible.{legible}
+use Rattle.accepting.proofs.roundtrip.Legible.{legible}
 use Rattle.items.specs.declared.State.{State}
 use Rattle.items.specs.declared.State.the-variants.{Start, Plain, InString, AfterCode, Name as NameLeft, Condition as ConditionLeft, Header}
 use Rattle.items.specs.Steps.{Step, step, ending, parting, characterStep, classText, truthText, partedStep, endedStep}

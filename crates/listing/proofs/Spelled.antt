@@ -12,9 +12,9 @@ use Rattle.meaning.specs.Allowed.{maxName, isByte, spelledName, spelledIdentifi
 use Rattle.meaning.proofs.laws.Passing.{both-left, both-right, every-weaken, passed}
 use Rattle.meaning.proofs.laws.Spelling.{name-bytes, name-short, identifier-bytes, identifier-short}
 use Rattle.meaning.proofs.agreement.Choosing.{true-passed}
-use Rattle.meaning.proofs.reading.Lists.{member-every}
-use Rattle.meaning.proofs.reading.Sentences.{symbols-spelled, parts-spelled}
-use Rattle.meaning.proofs.roundtrip.Legible.{legible, allowed-legible}
+use Rattle.accepting.proofs.reading.Lists.{member-every}
+use Rattle.accepting.proofs.reading.Sentences.{symbols-spelled, parts-spelled}
+use Rattle.accepting.proofs.roundtrip.Legible.{legible, allowed-legible}
 
 pub record Short (x : Name) : Type 0 where
   pub filled : 0 < length x

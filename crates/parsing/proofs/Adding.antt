@@ -14,8 +14,8 @@ use Rattle.meaning.specs.Answers.{overLimit}
 use Rattle.meaning.specs.Allowed.{added, member, symbolsFrom, partsOf, lettersIn}
 use Rattle.meaning.specs.Tape.{named, patternTape}
 use Rattle.meaning.specs.Reading.{Item, characters, symbolItem, partItem, elementsOf, endsInPart, faultUnless, patternFault}
-use Rattle.meaning.proofs.reading.Basics.{both-left, both-right}
-use Rattle.meaning.proofs.reading.PatternFacts.{parts-append, letters-append, symbols-append, characters-parts, characters-letters, characters-symbols}
+use Rattle.accepting.proofs.reading.Basics.{both-left, both-right}
+use Rattle.accepting.proofs.reading.PatternFacts.{parts-append, letters-append, symbols-append, characters-parts, characters-letters, characters-symbols}
 use Rattle.lexing.specs.View as View
 use Rattle.lexing.specs.View.{charactersIn, quotationAt}
 use Rattle.lexing.specs.declared.Span.{Span}

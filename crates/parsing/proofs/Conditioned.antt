@@ -45,7 +45,7 @@ use Rattle.bookkeeping.specs.Written.{Wrote, isQuiet, Ready, Went}
 use Rattle.bookkeeping.specs.Tokened.{signIs, Taken, Barred}
 use Rattle.parsing.specs.Patterns.{symbolNames}
 use Rattle.parsing.specs.Conditions.{conditionEnd, conditionOn, truthAt, TruthNumber, truthBetween, Standing, Before, ConditionRead, ConditionsRead}
-use Rattle.meaning.proofs.reading.Basics.{no-value}
+use Rattle.accepting.proofs.reading.Basics.{no-value}
 use Rattle.bookkeeping.proofs.Choosing.{both-true, fault-if-not, no-fault-here, a-fault-here}
 use Rattle.bookkeeping.proofs.Finding.{among}
 use Rattle.bookkeeping.proofs.Naming.{classed, class-number}

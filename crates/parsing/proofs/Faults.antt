@@ -13,7 +13,7 @@ use Rattle.meaning.specs.Allowed.{member, added, maxIdentifier, maxSymbols}
 use Rattle.meaning.specs.Reading.{faultUnless, symbolFault}
 use Rattle.bookkeeping.specs.Tables.{position}
 use Rattle.parsing.specs.Patterns.{patternSymbolFault, patternPartFault}
-use Rattle.meaning.proofs.reading.Lists.{member-append}
+use Rattle.accepting.proofs.reading.Lists.{member-append}
 use Rattle.bookkeeping.proofs.Finding.{position-member}
 
 -- there is room for a name where its position leaves some

@@ -17,7 +17,7 @@ use Rattle.meaning.specs.Allowed.{member, namesOf}
 use Rattle.meaning.specs.Tape.{tapeWord, symbolKind, partKind, equalsKind, closeKind, nextKind, endKind, functionKind, callKind, named, patternTape, conditionsTape, expressionTape, sentenceTape, sentencesTape, functionTape, tape}
 use Rattle.meaning.specs.Reading.{unknownCall, unknownInSentences, unknownIn}
 use Rattle.meaning.proofs.laws.Passing.{every-head, every-tail}
-use Rattle.meaning.proofs.reading.Lists.{either-left-false}
+use Rattle.accepting.proofs.reading.Lists.{either-left-false}
 use Rattle.lexing.specs.View as View
 use Rattle.bookkeeping.specs.Written.{isQuiet}
 use Rattle.declarations.specs.Expressions.{CallStands, Stands}

@@ -27,13 +27,13 @@ use Rattle.templates.specs.Scans.{scanned, andThen, oneMore, patternIn, conditi
 use Rattle.templates.proofs.laws.Scanning.{pattern-skip}
 use Rattle.templates.proofs.laws.Conditioned.{conditions-skip}
 use Rattle.expressions.proofs.laws.Items.{levels-skip}
-use Rattle.meaning.proofs.reading.Basics.{both-left, both-right}
+use Rattle.accepting.proofs.reading.Basics.{both-left, both-right}
 use Rattle.meaning.proofs.agreement.Choosing.{passed-true, true-passed}
 use Rattle.meaning.proofs.laws.Spelling.{name-short, name-bytes, identifier-bytes, identifier-short as short-identifier}
 use Rattle.meaning.proofs.laws.Words.{by-class, class-below}
-use Rattle.meaning.proofs.roundtrip.Legible.{legible, allowed-legible}
-use Rattle.meaning.proofs.reading.Sentences.{symbols-spelled, parts-spelled}
-use Rattle.meaning.proofs.reading.Lists.{member-every}
+use Rattle.accepting.proofs.roundtrip.Legible.{legible, allowed-legible}
+use Rattle.accepting.proofs.reading.Sentences.{symbols-spelled, parts-spelled}
+use Rattle.accepting.proofs.reading.Lists.{member-every}
 
 -- WORDS
 

@@ -1,0 +1,1 @@
+// What the reader of tables accepts, refuses and reads back: no code, only theorems about the definitions.
