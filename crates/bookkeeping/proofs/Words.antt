@@ -10,11 +10,12 @@ use lib.ListN.{length, getD, set, take, drop, replicate, length-append, length-s
 use lib.Seq.{slice, slice-empty, length-slice, take-suc-set, take-all, length-take-le}
 use Rattle.meaning.specs.Choice.{Bytes, every}
 use Rattle.meaning.specs.Tokens as Tokens
-use Rattle.lexing.specs.View.{IsClosed, charactersIn, continued, Passes, Stands}
-use Rattle.lexing.specs.declared.Character.{Character}
-use Rattle.lexing.specs.declared.Character.the-variants.{Given, Nothing, Closed, Broken}
+use Rattle.lexing.specs.View.{IsClosed, charactersIn}
+use Rattle.characters.specs.View.{continued, Passes, Stands}
+use Rattle.characters.specs.declared.Character.{Character}
+use Rattle.characters.specs.declared.Character.the-variants.{Given, Nothing, Closed, Broken}
 use Rattle.lexing.specs.declared.Span.{Span}
-use Rattle.lexing.proofs.Places.{slice-suc}
+use Rattle.meaning.proofs.laws.Places.{slice-suc}
 use Rattle.bookkeeping.specs.Tables.{Inside}
 use Rattle.bookkeeping.specs.Written.{written, Wrote, stringFrom, cleared, isQuiet, Ready}
 use Rattle.bookkeeping.proofs.Tabling.{every-append, every-one}

@@ -1,7 +1,7 @@
 // Writing on the tape.
-use lexing::Character;
+use characters::Character;
+use characters::next_character;
 use lexing::Span;
-use lexing::next_character;
 ghost use mathlib.Core.Path.{_≡_};
 ghost use mathlib.Core.List.{_∷_};
 ghost use Prim.Native.Nat.{_+_, _-_, _≤_, _<_};

@@ -1,6 +1,4 @@
 -- Laws of the tokens at places of a text.
-pub mod Places
-pub mod Gaps
 pub mod Words
 pub mod Strings
 pub mod Shortest

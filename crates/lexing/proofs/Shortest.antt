@@ -12,7 +12,7 @@ use Rattle.meaning.specs.Classes.{inClass, digit}
 use Rattle.meaning.specs.Tokens.{Quoting, plain, escaped, coded, Turn, goesOn, closes, breaks, digitValue, turn, Quotation, closed, broken, quoteOn, quotation}
 use Rattle.meaning.proofs.laws.Choosing.{of-either}
 use Rattle.lexing.specs.View.{charactersIn, quotationAt}
-use Rattle.lexing.proofs.Places.{here}
+use Rattle.meaning.proofs.laws.Places.{here}
 
 never-closed : {A : Type 0} {at past : ℕ} {rest all rest′ : Bytes} → broken at rest ≡ closed all past rest′ → A
 never-closed e = let z : _≡_ {A = ℕ} 0 1 = cc in absurd (omega arith)

@@ -15,7 +15,7 @@ use Rattle.meaning.specs.Tokens as Tokens
 use Rattle.lexing.specs.View.{RunsTo, LetterAt, quotationAt, tokenOf, Sound, Shows}
 use Rattle.lexing.specs.declared.Token.{Token}
 use Rattle.lexing.specs.declared.Token.the-variants.{Name, Sign, Malformed}
-use Rattle.lexing.proofs.Places.{here, nothing}
+use Rattle.meaning.proofs.laws.Places.{here, nothing}
 use Rattle.lexing.proofs.Words.{letter-word}
 
 -- a run never goes back

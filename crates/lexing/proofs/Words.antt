@@ -14,7 +14,7 @@ use Rattle.meaning.specs.Allowed.{wordByte}
 use Rattle.meaning.specs.Tokens.{word, run}
 use Rattle.meaning.specs.Reading.{variableOf, noItem}
 use Rattle.lexing.specs.View.{RunsTo}
-use Rattle.lexing.proofs.Places.{here, nothing, slice-suc}
+use Rattle.meaning.proofs.laws.Places.{here, nothing, slice-suc}
 
 -- the run from the start is that from here
 pub record Running (text : Bytes) (fits : ℕ → Bool) (from at : ℕ) : Type 0 where

@@ -1,7 +1,7 @@
 -- The tokens of the code as those of the definitions: what a scanner hands back, seen in the text.
 use Prim.Native.Nat.{ℕ, suc, _+_, _≤_, _<_}
 use mathlib.Core.Path.{_≡_}
-use mathlib.Core.List.{List, [], _∷_, _++_}
+use mathlib.Core.List.{List, [], _∷_}
 use lib.ListN.{length, getD, drop}
 use mathlib.Core.Bool.{Bool, true, not}
 use lib.Dec.{T}
@@ -16,42 +16,11 @@ use Rattle.lexing.specs.declared.Span.{Span}
 use Rattle.lexing.specs.declared.Token.{Token}
 use Rattle.lexing.specs.declared.Token.the-variants.{Name, Symbol, Part, Word, Quoted, Sign, End, Malformed}
 use Rattle.lexing.specs.declared.Placed.{Placed}
-use Rattle.lexing.specs.declared.Comment.{Comment}
-use Rattle.lexing.specs.declared.Comment.the-variants.{Ended, Endless}
-use Rattle.lexing.specs.declared.Skipped.{Skipped}
-use Rattle.lexing.specs.declared.Skipped.the-variants.{Found, Unclosed}
-use Rattle.lexing.specs.declared.Character.{Character}
-use Rattle.lexing.specs.declared.Character.the-variants.{Given, Nothing, Closed, Broken}
 
 abbrev pub modeOf : Mode → Tokens.Mode
 modeOf Outside = Tokens.outside
 modeOf Inside = Tokens.inside
 modeOf Naming = Tokens.naming
-
--- GAPS
-
-abbrev pub skippedOf : Bytes → Skipped → Tokens.Skipped
-skippedOf text (Found at) = Tokens.found at (drop at text)
-skippedOf text (Unclosed slash past) = Tokens.unclosed slash past
-
--- inside a comment nothing changes from a place to another
-pub record Plain (text : Bytes) (from past : ℕ) : Type 0 where
-  pub same : (slash : ℕ) → Tokens.skip (Tokens.commented slash) from (drop from text) ≡ Tokens.skip (Tokens.commented slash) past (drop past text)
-  pub onward : from ≤ past
-
--- what comes after the comment whose `/` stands at a place
-abbrev pub commentOf : Bytes → ℕ → Comment → Tokens.Skipped
-commentOf text slash (Ended past) = Tokens.skip Tokens.between past (drop past text)
-commentOf text slash (Endless past) = Tokens.unclosed slash past
-
-abbrev pub EndsAfter : ℕ → Comment → Type 0
-EndsAfter from (Ended past) = from ≤ past
-EndsAfter from (Endless past) = Unit {0}
-
--- where the comment ends inside which a place is
-pub record Ends (text : Bytes) (from : ℕ) (comment : Comment) : Type 0 where
-  pub same : (slash : ℕ) → Tokens.skip (Tokens.commented slash) from (drop from text) ≡ commentOf text slash comment
-  pub after : EndsAfter from comment
 
 -- WORDS
 
@@ -67,25 +36,6 @@ pub record LetterAt (text : Bytes) (at : ℕ) : Type 0 where
   pub letter : inClass alphabetic (getD text at 0) ≡ true
 
 -- STRINGS
-
--- how a string with these characters so far goes on after what stands at a place
-abbrev pub continued : Bytes → Character → Bytes → Tokens.Quotation
-continued text (Given b past) characters = Tokens.quotation Tokens.plain (characters ++ b ∷ []) past (drop past text)
-continued text (Nothing past) characters = Tokens.quotation Tokens.plain characters past (drop past text)
-continued text (Closed past) characters = Tokens.closed characters past (drop past text)
-continued text (Broken past) characters = Tokens.broken past (drop past text)
-
--- each but a fault ends at a place or after it, in the text
-abbrev pub Passes : Bytes → ℕ → Character → Type 0
-Passes text low (Given b past) = (low ≤ past) × (past ≤ length text)
-Passes text low (Nothing past) = (low ≤ past) × (past ≤ length text)
-Passes text low (Closed past) = (low ≤ past) × (past ≤ length text)
-Passes text low (Broken past) = Unit {0}
-
--- what stands at a place of a string in a state, whatever its characters so far, up to another place at least
-pub record Stands (text : Bytes) (state : Tokens.Quoting) (at low : ℕ) (character : Character) : Type 0 where
-  pub same : (characters : Bytes) → Tokens.quotation state characters at (drop at text) ≡ continued text character characters
-  pub passes : Passes text low character
 
 -- the characters of a string that is well formed
 abbrev pub charactersIn : Tokens.Quotation → Bytes

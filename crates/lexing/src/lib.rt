@@ -1,23 +1,23 @@
 // The tokens of a table text.
 pub mod reader;
 
+use characters::Character;
+use characters::next_character;
 use classes::class_table;
-use classes::is_blank;
-use classes::is_digit;
 use classes::is_letter;
 use classes::passes;
+use gaps::Skipped;
+use gaps::skip;
 ghost use mathlib.Core.Path.{_≡_};
-ghost use mathlib.Core.Bool.{false};
 ghost use mathlib.Core.List.{[]};
 ghost use Prim.Native.Nat.{suc, _+_, _≤_, _<_};
-ghost use lib.Dec.{eqb};
 ghost use lib.ListN.{length, drop};
 ghost use lib.Seq.{slice};
 ghost use Rattle.classes.specs.Tests.{classTest, Answers};
 ghost use Rattle.meaning.specs.Classes.{inClass, alphabetic};
 ghost use Rattle.meaning.specs.Tokens as Tokens;
 ghost use Rattle.meaning.specs.Allowed.{wordByte, nameByte};
-ghost use Rattle.lexing.specs.View.{modeOf, skippedOf, Plain, Ends, RunsTo, LetterAt, Stands, quotationAt, tokenOf, Sound, Shows};
+ghost use Rattle.lexing.specs.View.{modeOf, RunsTo, LetterAt, quotationAt, tokenOf, Sound, Shows};
 
 // How a word is read: outside sentences and directly after `<` by the rule of function names, inside a sentence by that of variables.
 pub enum Mode {
@@ -55,29 +55,6 @@ pub struct Placed {
     pub past: usize,
 }
 
-// Where a comment ends: the place after its `*/`, or the end of the text where it has none.
-enum Comment {
-    Ended(usize),
-    Endless(usize),
-}
-
-// A token begins at a place, or the comment that begins at a place has no end in the text, which ends at another.
-enum Skipped {
-    Found(usize),
-    Unclosed(usize, usize),
-}
-
-fn byte_ahead(text: &[u8], at: usize, byte: u8) -> bool
-    ensures { λ r. ⌜ r ≡ Tokens.ahead (eqb byte) (drop at (now (text .entry))) ⌝ }
-{
-    if at < text.len() {
-        let next = text[at];
-        byte == next
-    } else {
-        false
-    }
-}
-
 fn letter_ahead(text: &[u8], at: usize) -> bool
     ensures { λ r. ⌜ r ≡ Tokens.ahead (inClass alphabetic) (drop at (now (text .entry))) ⌝ }
 {
@@ -87,81 +64,6 @@ fn letter_ahead(text: &[u8], at: usize) -> bool
     } else {
         false
     }
-}
-
-// Whether one of sixteen bytes is a `*`: no byte ends the loop early, so that all are compared at once.
-fn star_within(text: &[u8], from: usize) -> bool
-    requires { ⌜ from + 16 ≤ length (now text) ⌝ }
-    ensures { λ r. ⌜ (r ≡ false → Plain (now (text .entry)) from (from + 16)) ⌝ }
-{
-    let mut any = false;
-    let mut at = from;
-    while at < from + 16 {
-        let byte = text[at];
-        any = any | (byte == 42);
-        at += 1;
-    }
-    any
-}
-
-// The place after the bytes without a `*`, sixteen by sixteen.
-fn plain_past(text: &[u8], from: usize) -> usize
-    requires { ⌜ from ≤ length (now text) ⌝ }
-    ensures { λ r. ⌜ Plain (now (text .entry)) from r ⌝ }
-{
-    let mut at = from;
-    while 16 <= text.len() - at {
-        if star_within(text, at) {
-            return at;
-        }
-        at += 16;
-    }
-    at
-}
-
-// Passes a comment from the place after its `/*` on.
-fn comment_past(text: &[u8], from: usize) -> Comment
-    ensures { λ r. ⌜ Ends (now (text .entry)) from r ⌝ }
-{
-    let mut at = from;
-    while at < text.len() {
-        let byte = text[at];
-        if byte == 42 {
-            if byte_ahead(text, at + 1, 47) {
-                let past = at + 2;
-                return Comment::Ended(past);
-            }
-            at += 1;
-        } else {
-            at = plain_past(text, at + 1);
-        }
-    }
-    Comment::Endless(at)
-}
-
-// Passes blanks and comments.
-fn skip(text: &[u8], from: usize) -> Skipped
-    ensures { λ r. ⌜ skippedOf (now (text .entry)) r ≡ Tokens.skip Tokens.between from (drop from (now (text .entry))) ⌝ }
-{
-    let mut at = from;
-    while at < text.len() {
-        let byte = text[at];
-        if is_blank(byte) {
-            at += 1;
-        } else if byte == 47 && byte_ahead(text, at + 1, 42) {
-            match comment_past(text, at + 2) {
-                Comment::Ended(past) => {
-                    at = past;
-                }
-                Comment::Endless(past) => {
-                    return Skipped::Unclosed(at, past);
-                }
-            }
-        } else {
-            return Skipped::Found(at);
-        }
-    }
-    Skipped::Found(at)
 }
 
 // The place after the bytes that pass a test of the class table, as long as they go.
@@ -243,75 +145,6 @@ fn word_at(text: &[u8], at: usize, mode: Mode) -> Placed
         Mode::Outside => name_at(text, at),
         Mode::Inside => variable_at(text, at),
         Mode::Naming => name_at(text, at),
-    }
-}
-
-// What stands at a place of a string: a character, a line end that gives nothing, the closing quote, or what may not stand there; with the place after it.
-pub enum Character {
-    Given(u8, usize),
-    Nothing(usize),
-    Closed(usize),
-    Broken(usize),
-}
-
-// A code: decimal digits as long as they go, from the value of those before.
-fn code(text: &[u8], from: usize, first: usize) -> Character
-    requires { ⌜ (first < 256) × (from ≤ length (now text)) ⌝ }
-    ensures { λ r. ⌜ Stands (now (text .entry)) (Tokens.coded first) from from r ⌝ }
-{
-    let mut value = first;
-    let mut at = from;
-    while at < text.len() {
-        let byte = text[at];
-        if !is_digit(byte) {
-            return Character::Given(value as u8, at);
-        }
-        value = value * 10 + (byte - 48) as usize;
-        at += 1;
-        if 255 < value {
-            return Character::Broken(at);
-        }
-    }
-    Character::Given(value as u8, at)
-}
-
-// After a `\`.
-fn escape(text: &[u8], at: usize) -> Character
-    ensures { λ r. ⌜ Stands (now (text .entry)) Tokens.escaped at at r ⌝ }
-{
-    if text.len() <= at {
-        return Character::Broken(at);
-    }
-    let byte = text[at];
-    let past = at + 1;
-    match byte {
-        34 | 39 | 92 => Character::Given(byte, past),
-        110 => Character::Given(10, past),
-        116 => Character::Given(9, past),
-        10 => Character::Nothing(past),
-        _ => {
-            if is_digit(byte) {
-                code(text, past, (byte - 48) as usize)
-            } else {
-                Character::Broken(past)
-            }
-        }
-    }
-}
-
-pub fn next_character(text: &[u8], at: usize) -> Character
-    ensures { λ r. ⌜ Stands (now (text .entry)) Tokens.plain at (at + 1) r ⌝ }
-{
-    if text.len() <= at {
-        return Character::Broken(at);
-    }
-    let byte = text[at];
-    let past = at + 1;
-    match byte {
-        39 => Character::Closed(past),
-        34 => Character::Broken(past),
-        92 => escape(text, past),
-        _ => Character::Given(byte, past),
     }
 }
 

@@ -1,6 +1,7 @@
 -- Laws of the definitions.
 pub mod Remaining
 pub mod Passing
+pub mod Places
 pub mod Spelling
 pub mod Words
 pub mod Storing

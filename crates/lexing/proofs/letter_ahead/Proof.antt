@@ -2,7 +2,7 @@
 use borrow.Author.Needs.{needs}
 use Rattle.lexing.proofs.letter_ahead.Statement.{statement}
 use Rattle.lexing.proofs.letter_ahead.Tie as tie
-use Rattle.lexing.proofs.Places.{ahead-here, ahead-nothing}
+use Rattle.meaning.proofs.laws.Places.{ahead-here, ahead-nothing}
 use mathlib.Core.Path.{_∙_}
 
 returns : tie.Need-returns

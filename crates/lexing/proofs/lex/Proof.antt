@@ -5,8 +5,8 @@ use Rattle.lexing.proofs.lex.Tie as tie
 use mathlib.Core.Path.{_≡_, sym, _∙_, ap}
 use lib.ListN.{drop}
 use Rattle.meaning.specs.Tokens.{between, skip}
-use Rattle.lexing.specs.declared.Skipped.{Skipped}
-use Rattle.lexing.specs.View.{skippedOf}
+use Rattle.gaps.specs.declared.Skipped.{Skipped}
+use Rattle.gaps.specs.View.{skippedOf}
 use Rattle.lexing.proofs.Showing.{lex-past}
 
 passed : (c : tie.After-skip) {s : Skipped} → c .skip .result ≡ s

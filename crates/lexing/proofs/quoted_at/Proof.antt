@@ -6,7 +6,7 @@ use mathlib.Core.Path.{_≡_}
 use native.Mathlib.Omega.{arith}
 use lib.ListN.{length}
 use borrow.Author.Needs.{needs}
-use Rattle.lexing.specs.declared.Character.{Character}
+use Rattle.characters.specs.declared.Character.{Character}
 use Rattle.lexing.proofs.Strings.{Quoted-to, quoted-starts, QuotedOn, quoted-on}
 
 abbrev Inv-loop : tie.InvT-loop

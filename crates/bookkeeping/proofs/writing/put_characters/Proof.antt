@@ -6,8 +6,8 @@ use mathlib.Core.Path.{_≡_}
 use native.Mathlib.Omega.{arith}
 use lib.ListN.{length}
 use borrow.Author.Needs.{needs}
-use Rattle.lexing.specs.declared.Character.{Character}
-use Rattle.lexing.specs.declared.Character.the-variants.{Given}
+use Rattle.characters.specs.declared.Character.{Character}
+use Rattle.characters.specs.declared.Character.the-variants.{Given}
 use Rattle.bookkeeping.proofs.Words.{Spelled-to, spelling-starts, SpelledOn, spelled-on}
 
 abbrev Inv-loop : tie.InvT-loop

@@ -1,12 +1,12 @@
--- `lexing::star_within` meets its contract.
-use Rattle.lexing.proofs.star_within.Statement.{statement}
-use Rattle.lexing.proofs.star_within.Tie as tie
+-- `gaps::star_within` meets its contract.
+use Rattle.gaps.proofs.star_within.Statement.{statement}
+use Rattle.gaps.proofs.star_within.Tie as tie
 use Prim.Native.Nat.{_+_, _-_, _≤_}
 use mathlib.Core.Path.{_≡_, sym}
 use mathlib.Core.Bool.{false}
 use native.Mathlib.Omega.{arith}
-use Rattle.lexing.specs.View.{Plain}
-use Rattle.lexing.proofs.Gaps.{plain-starts, plain-still}
+use Rattle.gaps.specs.View.{Plain}
+use Rattle.gaps.proofs.Gaps.{plain-starts, plain-still}
 
 abbrev Inv-loop : tie.InvT-loop
 Inv-loop text from any₀ at₀ any at = (at ≤ from + 16) × (any ≡ false → Plain text from at)

@@ -12,10 +12,10 @@ use borrow.Author.Tests.{eqb-true, eqb-false, eq-eqb, ne-eqb}
 use Rattle.meaning.specs.Choice.{Bytes, both}
 use Rattle.meaning.specs.Classes.{isBlankByte}
 use Rattle.meaning.specs.Tokens.{Gap, between, opening, commented, starred, ahead, skip, found}
-use Rattle.lexing.specs.View.{Plain, Ends, commentOf}
-use Rattle.lexing.specs.declared.Comment.{Comment}
-use Rattle.lexing.specs.declared.Comment.the-variants.{Ended, Endless}
-use Rattle.lexing.proofs.Places.{here, nothing}
+use Rattle.gaps.specs.View.{Plain, Ends, commentOf}
+use Rattle.gaps.specs.declared.Comment.{Comment}
+use Rattle.gaps.specs.declared.Comment.the-variants.{Ended, Endless}
+use Rattle.meaning.proofs.laws.Places.{here, nothing}
 
 -- the byte after the next one
 two-on : (text : Bytes) (at : ℕ) (gap : Gap) → skip gap (suc (at + 1)) (drop 1 (drop (at + 1) text)) ≡ skip gap (at + 2) (drop (at + 2) text)

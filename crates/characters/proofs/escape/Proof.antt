@@ -1,12 +1,12 @@
--- `lexing::escape` meets its contract: what each byte does after a `\`.
+-- `characters::escape` meets its contract: what each byte does after a `\`.
 use borrow.Author.Needs.{needs}
-use Rattle.lexing.proofs.escape.Statement.{statement}
-use Rattle.lexing.proofs.escape.Tie as tie
+use Rattle.characters.proofs.escape.Statement.{statement}
+use Rattle.characters.proofs.escape.Tie as tie
 use mathlib.Core.Path.{_≡_, sym, _∙_}
 use mathlib.Core.Bool.{Bool}
 use native.Mathlib.Omega.{arith}
 use lib.ListN.{getD}
-use Rattle.lexing.proofs.Strings.{Digit, stands-given, stands-nothing, stands-broken, stands-later, stands-end, escape-same, Unlisted, unlisted-digit, escape-digit, escape-other}
+use Rattle.characters.proofs.Strings.{Digit, stands-given, stands-nothing, stands-broken, stands-later, stands-end, escape-same, Unlisted, unlisted-digit, escape-digit, escape-other}
 
 returns : tie.Need-returns
 returns c = stands-end _ _ _ _ (c .if1 .taken)

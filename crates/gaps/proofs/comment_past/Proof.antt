@@ -1,6 +1,6 @@
--- `lexing::comment_past` meets its contract.
-use Rattle.lexing.proofs.comment_past.Statement.{statement}
-use Rattle.lexing.proofs.comment_past.Tie as tie
+-- `gaps::comment_past` meets its contract.
+use Rattle.gaps.proofs.comment_past.Statement.{statement}
+use Rattle.gaps.proofs.comment_past.Tie as tie
 use Prim.Native.Nat.{_-_}
 use mathlib.Core.Path.{_≡_, sym, _∙_}
 use mathlib.Core.Bool.{Bool}
@@ -8,8 +8,8 @@ use native.Mathlib.Omega.{arith}
 use lib.ListN.{length}
 use borrow.Author.Needs.{needs}
 use borrow.Author.Tests.{eq-eqb, ne-eqb}
-use Rattle.lexing.specs.View.{Plain}
-use Rattle.lexing.proofs.Gaps.{plain-starts, plain-goes, plain-joins, StarAt, star-goes, star-ends, endless}
+use Rattle.gaps.specs.View.{Plain}
+use Rattle.gaps.proofs.Gaps.{plain-starts, plain-goes, plain-joins, StarAt, star-goes, star-ends, endless}
 
 abbrev Inv-loop : tie.InvT-loop
 Inv-loop text from at₀ at = Plain text from at

@@ -1,8 +1,8 @@
--- `lexing::byte_ahead` meets its contract.
+-- `gaps::byte_ahead` meets its contract.
 use borrow.Author.Needs.{needs}
-use Rattle.lexing.proofs.byte_ahead.Statement.{statement}
-use Rattle.lexing.proofs.byte_ahead.Tie as tie
-use Rattle.lexing.proofs.Places.{ahead-here, ahead-nothing}
+use Rattle.gaps.proofs.byte_ahead.Statement.{statement}
+use Rattle.gaps.proofs.byte_ahead.Tie as tie
+use Rattle.meaning.proofs.laws.Places.{ahead-here, ahead-nothing}
 
 returns : tie.Need-returns
 returns c = ahead-here _ _ _ (c .before .if1 .taken)

@@ -1,12 +1,12 @@
--- `lexing::plain_past` meets its contract.
-use Rattle.lexing.proofs.plain_past.Statement.{statement}
-use Rattle.lexing.proofs.plain_past.Tie as tie
+-- `gaps::plain_past` meets its contract.
+use Rattle.gaps.proofs.plain_past.Statement.{statement}
+use Rattle.gaps.proofs.plain_past.Tie as tie
 use Prim.Native.Nat.{_-_, _≤_}
 use native.Mathlib.Omega.{arith}
 use lib.ListN.{length}
 use borrow.Author.Needs.{needs}
-use Rattle.lexing.specs.View.{Plain}
-use Rattle.lexing.proofs.Gaps.{plain-starts, plain-joins}
+use Rattle.gaps.specs.View.{Plain}
+use Rattle.gaps.proofs.Gaps.{plain-starts, plain-joins}
 
 abbrev Inv-loop : tie.InvT-loop
 Inv-loop text from at₀ at = (at ≤ length text) × Plain text from at

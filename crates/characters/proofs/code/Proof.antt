@@ -1,6 +1,6 @@
--- `lexing::code` meets its contract: the code from the start on is that from here.
-use Rattle.lexing.proofs.code.Statement.{statement}
-use Rattle.lexing.proofs.code.Tie as tie
+-- `characters::code` meets its contract: the code from the start on is that from here.
+use Rattle.characters.proofs.code.Statement.{statement}
+use Rattle.characters.proofs.code.Tie as tie
 use Prim.Native.Nat.{_-_}
 use mathlib.Core.Path.{_≡_, refl, sym, _∙_}
 use mathlib.Core.Bool.{Bool, true}
@@ -8,7 +8,7 @@ use native.Mathlib.Omega.{arith}
 use borrow.Author.Needs.{needs}
 use borrow.Author.Tests.{not-true, not-false}
 use lib.ListN.{length}
-use Rattle.lexing.proofs.Strings.{Coding, CodingAt, code-digit, code-goes, code-breaks, code-stops, code-ends}
+use Rattle.characters.proofs.Strings.{Coding, CodingAt, code-digit, code-goes, code-breaks, code-stops, code-ends}
 
 abbrev Inv-loop : tie.InvT-loop
 Inv-loop text from first value₀ at₀ value at = Coding text first from value at

@@ -1,11 +1,11 @@
--- `lexing::next_character` meets its contract: what each byte does in a string.
+-- `characters::next_character` meets its contract: what each byte does in a string.
 use borrow.Author.Needs.{needs}
-use Rattle.lexing.proofs.next_character.Statement.{statement}
-use Rattle.lexing.proofs.next_character.Tie as tie
+use Rattle.characters.proofs.next_character.Statement.{statement}
+use Rattle.characters.proofs.next_character.Tie as tie
 use native.Mathlib.Omega.{arith}
 use borrow.Author.Tests.{ne-eqb}
 use Rattle.meaning.specs.Tokens.{escaped}
-use Rattle.lexing.proofs.Strings.{stands-given, stands-closed, stands-broken, stands-later, stands-end}
+use Rattle.characters.proofs.Strings.{stands-given, stands-closed, stands-broken, stands-later, stands-end}
 
 returns : tie.Need-returns
 returns c = stands-end _ _ _ _ (c .if1 .taken)

@@ -1,6 +1,6 @@
--- `lexing::skip` meets its contract: what is passed from the start on is what is passed from here.
-use Rattle.lexing.proofs.skip.Statement.{statement}
-use Rattle.lexing.proofs.skip.Tie as tie
+-- `gaps::skip` meets its contract: what is passed from the start on is what is passed from here.
+use Rattle.gaps.proofs.skip.Statement.{statement}
+use Rattle.gaps.proofs.skip.Tie as tie
 use Prim.Native.Nat.{_+_, _-_, _≤_}
 use mathlib.Core.Path.{_≡_, refl, sym, _∙_, ap, subst}
 use mathlib.Core.Logic.{⊎-elim}
@@ -9,9 +9,9 @@ use lib.ListN.{length, drop}
 use borrow.Author.Needs.{needs}
 use borrow.Author.Tests.{eq-eqb, ne-eqb}
 use Rattle.meaning.specs.Tokens as Tokens
-use Rattle.lexing.specs.declared.Comment.{Comment}
-use Rattle.lexing.specs.View.{commentOf, EndsAfter}
-use Rattle.lexing.proofs.Gaps.{blank-passed, comment-passed, token-found, text-ends}
+use Rattle.gaps.specs.declared.Comment.{Comment}
+use Rattle.gaps.specs.View.{commentOf, EndsAfter}
+use Rattle.gaps.proofs.Gaps.{blank-passed, comment-passed, token-found, text-ends}
 
 abbrev Inv-loop : tie.InvT-loop
 Inv-loop text from at₀ at = Tokens.skip Tokens.between from (drop from text) ≡ Tokens.skip Tokens.between at (drop at text)

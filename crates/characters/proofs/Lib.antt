@@ -1,0 +1,2 @@
+-- Laws of the characters of a string.
+pub mod Strings

@@ -1,0 +1,2 @@
+-- Laws of the gaps between tokens.
+pub mod Gaps
