@@ -24,7 +24,7 @@ use Rattle.running.specs.Leaving.{Tells, Leaves}
 use Rattle.engine.specs.declared.Report.{Report}
 use Rattle.engine.specs.Told.{Runs}
 use Rattle.engine.specs.TableRuns.{TableRun, tableLeaving, withoutCode, withCode, tableRun, Reports}
-use Rattle.engine.proofs.Known.{Known}
+use Rattle.tables.proofs.Known.{Known}
 
 -- what a run answers as words
 abbrev ranWords : Ran → List ℕ

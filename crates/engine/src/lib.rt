@@ -1,6 +1,4 @@
 // The public entry points over reading, listing, translating and running, and their exports for C and Rust.
-mod tables;
-
 use acting::registers::ending_number;
 use tables::list_table;
 use tables::read_table;

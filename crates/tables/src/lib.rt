@@ -3,7 +3,7 @@ ghost use mathlib.Core.Path.{_≡_};
 ghost use lib.ListN.{length};
 ghost use Rattle.meaning.specs.Reading.{read};
 ghost use Rattle.meaning.specs.Entries.{answered, readAnswer, written, listed, translated};
-ghost use Rattle.engine.specs.Told.{toldWords, bufferAnswer};
+ghost use Rattle.tables.specs.Told.{toldWords, bufferAnswer};
 
 // 01's number, the place of the fault, and what is counted: functions, bytes of the listing or words of code.
 pub struct Told {

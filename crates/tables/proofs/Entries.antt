@@ -30,8 +30,8 @@ use Rattle.listing.proofs.Lists.{tape-listed}
 use Rattle.translating.specs.declared.Translated.{Translated}
 use Rattle.translating.specs.Leaves.{codeOf, Leaves as Translates}
 use Rattle.translating.proofs.Translates.{tape-translated}
-use Rattle.engine.specs.Told.{bufferAnswer}
-use Rattle.engine.proofs.Known.{AreBytes, Known, read-known}
+use Rattle.tables.specs.Told.{bufferAnswer}
+use Rattle.tables.proofs.Known.{AreBytes, Known, read-known}
 
 -- a lent buffer is long enough, or is not
 buffered : (b : Bool) (n : ℕ) (after before : List ℕ) {fits : Bool} {count : ℕ} {now : List ℕ}

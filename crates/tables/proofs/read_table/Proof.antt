@@ -1,7 +1,7 @@
--- `engine::tables::read_table` meets its contract.
+-- `tables::read_table` meets its contract.
 use borrow.Author.Needs.{needs}
-use Rattle.engine.proofs.tables.read_table.Statement.{statement}
-use Rattle.engine.proofs.tables.read_table.Tie as tie
+use Rattle.tables.proofs.read_table.Statement.{statement}
+use Rattle.tables.proofs.read_table.Tie as tie
 
 returns : tie.Need-returns
 returns c = rw (c .tell .ensures, c .before .number .ensures) (c .before .before .read .ensures .answer)

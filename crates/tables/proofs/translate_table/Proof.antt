@@ -1,8 +1,8 @@
--- `engine::tables::translate_table` meets its contract.
-use Rattle.engine.proofs.Entries.{refused-translated, accepted-translated}
+-- `tables::translate_table` meets its contract.
+use Rattle.tables.proofs.Entries.{refused-translated, accepted-translated}
 use borrow.Author.Needs.{needs}
-use Rattle.engine.proofs.tables.translate_table.Statement.{statement}
-use Rattle.engine.proofs.tables.translate_table.Tie as tie
+use Rattle.tables.proofs.translate_table.Statement.{statement}
+use Rattle.tables.proofs.translate_table.Tie as tie
 
 returns : tie.Need-returns
 returns c =

@@ -1,8 +1,8 @@
--- `engine::tables::list_table` meets its contract.
-use Rattle.engine.proofs.Entries.{refused-listed, accepted-listed}
+-- `tables::list_table` meets its contract.
+use Rattle.tables.proofs.Entries.{refused-listed, accepted-listed}
 use borrow.Author.Needs.{needs}
-use Rattle.engine.proofs.tables.list_table.Statement.{statement}
-use Rattle.engine.proofs.tables.list_table.Tie as tie
+use Rattle.tables.proofs.list_table.Statement.{statement}
+use Rattle.tables.proofs.list_table.Tie as tie
 
 returns : tie.Need-returns
 returns c = rw (c .tell .ensures) (refused-listed (c .before .before .before .read .ensures) (c .before .before .number .ensures) (c .before .if1 .taken) _)

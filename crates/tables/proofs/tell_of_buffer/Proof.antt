@@ -1,7 +1,7 @@
--- `engine::tables::tell_of_buffer` meets its contract.
+-- `tables::tell_of_buffer` meets its contract.
 use borrow.Author.Needs.{needs}
-use Rattle.engine.proofs.tables.tell_of_buffer.Statement.{statement}
-use Rattle.engine.proofs.tables.tell_of_buffer.Tie as tie
+use Rattle.tables.proofs.tell_of_buffer.Statement.{statement}
+use Rattle.tables.proofs.tell_of_buffer.Tie as tie
 
 returns : tie.Need-returns
 returns c = rw (c .before .if1 .taken) (c .tell .ensures)

@@ -1,0 +1,3 @@
+-- Laws that the proofs of what is told of a table cite.
+pub mod Known
+pub mod Entries
