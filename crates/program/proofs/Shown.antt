@@ -19,7 +19,8 @@ use Rattle.meaning.proofs.laws.Choosing.{of-either}
 use Rattle.running.specs.Leaving.{cells}
 use Rattle.engine.specs.declared.Report.{Report}
 use Rattle.engine.specs.TableRuns.{TableRun, hasFunction, withoutCode, withCode, tableRun, Reports}
-use Rattle.program.specs.Printed.{isRefusal, refusalText, resultOf, resultText, runText, lentCells, Shows}
+use Rattle.printing.specs.Texts.{isRefusal, refusalText, resultText}
+use Rattle.program.specs.Printed.{resultOf, runText, lentCells, Shows}
 
 -- the emissions stand at the front of the record, and the result at the front of out
 record Kept (leaving : Leaving) : Type 0 where

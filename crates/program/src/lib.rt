@@ -1,15 +1,15 @@
 // The program: a table and a text in, what the run of the table's code answers out.
-mod printing;
-
 use engine::Report;
 use libc::STDIN_FILENO;
 use libc::STDOUT_FILENO;
+use printing::is_refusal;
 use printing::put_refusal;
 use printing::put_result;
 ghost use mathlib.Core.Path.{_≡_};
 ghost use lib.ListN.{length};
 ghost use Rattle.io.specs.Counts.{Counts};
-ghost use Rattle.program.specs.Printed.{lentBytes, isRefusal, printed, Prints, Shows};
+ghost use Rattle.printing.specs.Texts.{Prints};
+ghost use Rattle.program.specs.Printed.{lentBytes, printed, Shows};
 
 // Arrays in functions of their own, so that no caller's facts hold their elements.
 fn code_room() -> [u32; 16384]
@@ -36,19 +36,6 @@ fn output_room() -> [u8; 65600]
     ensures { λ r. ⌜ length r ≡ 65600 ⌝ }
 {
     [0u8; 65600]
-}
-
-// 1 to 8 and 17 are answered before any run.
-fn is_refusal(number: u64) -> bool
-    ensures { λ r. ⌜ r ≡ isRefusal number ⌝ }
-{
-    if number == 0 {
-        return false;
-    }
-    if number < 9 {
-        return true;
-    }
-    number == 17
 }
 
 // Runs a table's code on what the program lends; the emissions and the result are left in the record and in out.
@@ -84,7 +71,14 @@ pub fn respond(table: &[u8], text: &[u8], out: &mut [u8; 65600]) -> usize
     }
     let emissions = report.emissions;
     let length = report.text;
-    put_result(out, report, &record[..emissions], &stack_out[..length])
+    put_result(
+        out,
+        answer,
+        report.function,
+        report.steps,
+        &record[..emissions],
+        &stack_out[..length],
+    )
 }
 
 // `table.rf` in the current folder; one that can't be opened counts as empty.

@@ -1,10 +1,10 @@
--- `program::printing::put_refusal` meets its contract.
+-- `printing::put_refusal` meets its contract.
 use native.Mathlib.Omega.{arith}
 use Rattle.items.proofs.Writing.{put-then}
-use Rattle.program.proofs.Putting.{put-prints}
+use Rattle.printing.proofs.Putting.{put-prints}
 use borrow.Author.Needs.{needs}
-use Rattle.program.proofs.printing.put_refusal.Statement.{statement}
-use Rattle.program.proofs.printing.put_refusal.Tie as tie
+use Rattle.printing.proofs.put_refusal.Statement.{statement}
+use Rattle.printing.proofs.put_refusal.Tie as tie
 
 returns : tie.Need-returns
 returns c =

@@ -1,10 +1,10 @@
--- `program::printing::put_number` meets its contract.
-use Rattle.program.proofs.Numerals.{fewest-short}
+-- `printing::put_number` meets its contract.
+use Rattle.printing.proofs.Numerals.{fewest-short}
 use native.Mathlib.Omega.{arith}
-use Rattle.program.proofs.Putting.{counted-put}
+use Rattle.printing.proofs.Putting.{counted-put}
 use borrow.Author.Needs.{needs}
-use Rattle.program.proofs.printing.put_number.Statement.{statement}
-use Rattle.program.proofs.printing.put_number.Tie as tie
+use Rattle.printing.proofs.put_number.Statement.{statement}
+use Rattle.printing.proofs.put_number.Tie as tie
 
 put-bytes-requires : tie.Need-put-bytes-requires
 put-bytes-requires c κs =

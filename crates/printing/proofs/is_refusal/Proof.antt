@@ -1,4 +1,4 @@
--- `program::is_refusal` meets its contract.
+-- `printing::is_refusal` meets its contract.
 use Prim.Native.Nat.{ℕ}
 use native.Mathlib.Omega.{arith}
 use mathlib.Core.Path.{_≡_}
@@ -6,9 +6,9 @@ use mathlib.Core.Bool.{Bool}
 use lib.Dec.{ltb, eqb}
 use borrow.Author.Tests.{lt-ltb, le-ltb}
 use Rattle.meaning.specs.Choice.{either}
-use Rattle.program.specs.Printed.{isRefusal}
-use Rattle.program.proofs.is_refusal.Statement.{statement}
-use Rattle.program.proofs.is_refusal.Tie as tie
+use Rattle.printing.specs.Texts.{isRefusal}
+use Rattle.printing.proofs.is_refusal.Statement.{statement}
+use Rattle.printing.proofs.is_refusal.Tie as tie
 
 returns : tie.Need-returns
 returns c = rw (c .if1 .taken)

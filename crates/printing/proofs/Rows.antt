@@ -1,7 +1,7 @@
 -- Worked rows of what is printed.
 use mathlib.Core.Path.{_≡_, refl}
 use mathlib.Core.List.{[], _∷_}
-use Rattle.program.specs.Printed.{numeralOf, numeral, refusalText, resultText}
+use Rattle.printing.specs.Texts.{numeralOf, numeral, refusalText, resultText}
 
 pub numerals : (numeral 0 ≡ 48 ∷ []) × (numeral 10 ≡ 49 ∷ 48 ∷ []) × (numeral 100000 ≡ 49 ∷ 48 ∷ 48 ∷ 48 ∷ 48 ∷ 48 ∷ [])
 unfolding numeralOf

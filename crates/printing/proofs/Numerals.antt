@@ -9,7 +9,7 @@ use mir.Val.{Fits}
 use mir.Syntax.{w64}
 use borrow.Author.Tests.{lt-ltb, le-ltb, leb-true, leb-false}
 use Rattle.io.specs.Digits.{glyph, digits, Fewest}
-use Rattle.program.specs.Printed.{numeralOf, numeral}
+use Rattle.printing.specs.Texts.{numeralOf, numeral}
 
 glyph-digit : (n : ℕ) → glyph (n % 10) ≡ 48 + n % 10
 glyph-digit n = rw (lt-ltb (n % 10) 10 (omega arith))

@@ -1,8 +1,8 @@
--- `program::printing::put_bytes` meets its contract.
-use Rattle.program.proofs.Putting.{pasted-put}
+-- `printing::put_bytes` meets its contract.
+use Rattle.printing.proofs.Putting.{pasted-put}
 use borrow.Author.Needs.{needs}
-use Rattle.program.proofs.printing.put_bytes.Statement.{statement}
-use Rattle.program.proofs.printing.put_bytes.Tie as tie
+use Rattle.printing.proofs.put_bytes.Statement.{statement}
+use Rattle.printing.proofs.put_bytes.Tie as tie
 
 returns : tie.Need-returns
 returns c =

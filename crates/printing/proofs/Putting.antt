@@ -12,8 +12,8 @@ use Rattle.meaning.specs.Choice.{Bytes}
 use Rattle.io.specs.Digits.{digits, Fewest}
 use Rattle.items.specs.Put.{Put}
 use Rattle.items.proofs.Writing.{put-then}
-use Rattle.program.specs.Printed.{Prints, Counted}
-use Rattle.program.proofs.Numerals.{fewest-numeral, fewest-short}
+use Rattle.printing.specs.Texts.{Prints, Counted}
+use Rattle.printing.proofs.Numerals.{fewest-numeral, fewest-short}
 
 pub pasted-put : {old bytes new : Bytes} {at : ℕ} → at + length bytes ≤ length old → new ≡ paste old at bytes (length bytes)
     → Put at old bytes (at + length bytes) new

@@ -1,10 +1,10 @@
--- `program::printing::put_result` meets its contract.
+-- `printing::put_result` meets its contract.
 use native.Mathlib.Omega.{arith}
 use Rattle.items.proofs.Writing.{put-then}
-use Rattle.program.proofs.Putting.{put-prints}
+use Rattle.printing.proofs.Putting.{put-prints}
 use borrow.Author.Needs.{needs}
-use Rattle.program.proofs.printing.put_result.Statement.{statement}
-use Rattle.program.proofs.printing.put_result.Tie as tie
+use Rattle.printing.proofs.put_result.Statement.{statement}
+use Rattle.printing.proofs.put_result.Tie as tie
 
 returns : tie.Need-returns
 returns c =
@@ -12,7 +12,7 @@ returns c =
     let at-put-bytes2 = at-put-bytes3 .before .before .before .before .before in
     let at-put-bytes = at-put-bytes2 .before .before .before .before in
     let at-put-number3 = at-put-bytes .before .before .before .before in
-    let at-put-number2 = at-put-number3 .before .before .before .before .before in
+    let at-put-number2 = at-put-number3 .before .before .before .before in
     let at-put-number = at-put-number2 .before .before .before .before in
     let entry = at-put-number .before .before .before .before .before in
     put-prints (put-then (at-put-number .put-number .ensures .put)
@@ -27,7 +27,6 @@ put-result-spec =
     (tie.spec
     (λ c κs. search needs)
     (λ c κs. search needs)
-    (λ c. search needs)
     (λ c κs. search needs)
     (λ c κs. search needs)
     (λ c κs. search needs)

@@ -1,10 +1,23 @@
 // Writing what is printed into lent cells.
 use acting::copying::copy_over;
-use engine::Report;
+ghost use mathlib.Core.Path.{_≡_};
 ghost use Prim.Native.Nat.{_+_, _≤_};
 ghost use lib.ListN.{length};
 ghost use Rattle.items.specs.Put.{Put};
-ghost use Rattle.program.specs.Printed.{Prints, Counted, refusalText, resultText, resultOf};
+ghost use Rattle.printing.specs.Texts.{isRefusal, Prints, Counted, refusalText, resultText, resultFrom};
+
+// 1 to 8 and 17 are answered before any run.
+pub fn is_refusal(number: u64) -> bool
+    ensures { λ r. ⌜ r ≡ isRefusal number ⌝ }
+{
+    if number == 0 {
+        return false;
+    }
+    if number < 9 {
+        return true;
+    }
+    number == 17
+}
 
 fn put_bytes(out: &mut [u8], at: usize, bytes: &[u8]) -> usize
     requires { ⌜ at + length (now bytes) ≤ length (now out) ⌝ }
@@ -35,13 +48,20 @@ pub fn put_refusal(out: &mut [u8], number: u64, place: usize) -> usize
 }
 
 // Answer, function and steps, the emissions, the result.
-pub fn put_result(out: &mut [u8], report: Report, emissions: &[u8], text: &[u8]) -> usize
+pub fn put_result(
+    out: &mut [u8],
+    answer: u64,
+    function: usize,
+    steps: u32,
+    emissions: &[u8],
+    text: &[u8],
+) -> usize
     requires { ⌜ 64 + length (now emissions) + length (now text) ≤ length (now out) ⌝ }
-    ensures { λ r. ⌜ Prints (resultText (resultOf report (now (emissions .entry)) (now (text .entry)))) (now (out .entry)) r (now (out .exit)) ⌝ }
+    ensures { λ r. ⌜ Prints (resultText (resultFrom answer function steps (now (emissions .entry)) (now (text .entry)))) (now (out .entry)) r (now (out .exit)) ⌝ }
 {
-    let function = put_number(out, 0, report.answer, b' ');
-    let steps = put_number(out, function, report.function as u64, b' ');
-    let line = put_number(out, steps, report.steps as u64, b'\n');
+    let first = put_number(out, 0, answer, b' ');
+    let second = put_number(out, first, function as u64, b' ');
+    let line = put_number(out, second, steps as u64, b'\n');
     let result = put_bytes(out, line, emissions);
     let end = put_bytes(out, result, text);
     put_bytes(out, end, b"\n")
