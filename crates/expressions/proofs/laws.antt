@@ -1,6 +1,5 @@
 -- Laws over plain values that the functions' proofs cite.
 pub mod Naming
 pub mod Items
-pub mod Spanned
 pub mod Resumed
 pub mod Itemised

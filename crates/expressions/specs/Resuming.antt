@@ -16,8 +16,7 @@ use Rattle.words.specs.declared.tape.Item.{Item}
 use Rattle.words.specs.declared.tape.Item.the-variants.{Byte, Symbol, Part, Call, Pass, Close, Unclosed, Stop}
 use Rattle.templates.specs.declared.pattern.Lengths.{Lengths}
 use Rattle.templates.specs.declared.pattern.Pattern.{Pattern}
-use Rattle.expressions.specs.declared.spans.Stand.{Stand}
-use Rattle.expressions.specs.declared.spans.Span.{Span}
+use Rattle.spans.specs.declared.Stand.{Stand}
 use Rattle.expressions.specs.declared.expression.Walk.{Walk}
 use Rattle.expressions.specs.declared.expression.Manner.{Manner}
 use Rattle.expressions.specs.declared.expression.Manner.the-variants.{Emits, Replaces, Nests}
@@ -26,7 +25,8 @@ use Rattle.expressions.specs.Levels.{Levels, firstOf, othersOf, levelsIn
 use Rattle.words.specs.Writing.{Wrote, Same}
 use Rattle.words.specs.Finding.{numberAmong}
 use Rattle.templates.specs.Measuring.{flag, lengthsOf, variableOf}
-use Rattle.expressions.specs.Spanning.{meantStand, gapBy, pieceSpan, restBy}
+use Rattle.spans.specs.Spanning.{meantStand}
+use Rattle.calls.specs.ActionWords.{restWord, readyWords}
 
 -- WHAT IS STILL TO COME
 
@@ -72,21 +72,6 @@ wordDone w = record { next = w .next + 1; at = w .at; items = w .items; depth = 
 abbrev pub callDone : Walk → ℕ → ℕ → Bool → Walk
 callDone w next at more =
     record { next = next; at = at; items = w .items; depth = w .depth - 1; stand = w .stand; more = more }
-
-abbrev pub spanWords : ℕ → Span → ℕ
-spanWords number s = word number (s .register) (s .add) (s .back)
-
--- an e-variable's three words: Go to it, Select it, Out of it
-abbrev pub partWords : Lengths → Bool → Stand → Words
-partWords l first w =
-    spanWords 5 (gapBy (l .parts) l first w) ∷ spanWords 6 (pieceSpan (l .parts) l first) ∷ word 7 0 0 0 ∷ []
-
-abbrev pub restWord : Lengths → Stand → ℕ
-restWord l w = spanWords 5 (restBy (l .parts) l w)
-
--- UseSeq, and Select of nothing more
-abbrev pub readyWords : Words → Words
-readyWords more = word 11 0 0 0 ∷ word 6 0 0 0 ∷ more
 
 -- what follows a call's argument
 abbrev pub callWords : Manner → Lengths → Stand → ℕ → Name → Words

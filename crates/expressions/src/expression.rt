@@ -1,12 +1,14 @@
 // A sentence's expression as actions: item by item, with the open calls in an array.
 use crate::naming::number_of;
 use crate::naming::size_of;
-use crate::spans::Span;
-use crate::spans::Stand;
-use crate::spans::gap_of;
-use crate::spans::piece_span;
-use crate::spans::rest_of;
-use crate::spans::stand_after;
+use calls::put_part;
+use calls::put_span;
+use calls::write_call;
+use calls::write_emission;
+use calls::write_tail_call;
+use spans::Stand;
+use spans::rest_of;
+use spans::stand_after;
 use templates::pattern::Lengths;
 use templates::pattern::Pattern;
 use words::names::is_emission;
@@ -16,21 +18,21 @@ use words::tape::item_at;
 use words::tape::less;
 use words::tape::word_at;
 use words::writing::put;
-use words::writing::put_name;
 use words::writing::put_operands;
 ghost use mathlib.Core.Path.{_≡_};
 ghost use mathlib.Core.Bool.{true, false};
 ghost use mathlib.Core.List.{[], _∷_};
-ghost use Prim.Native.Nat.{_+_, _-_, _*_, _≤_, _<_, _^_};
-ghost use lib.ListN.{length, take, drop, getD, set};
+ghost use Prim.Native.Nat.{_+_, _-_, _≤_, _<_, _^_};
+ghost use lib.ListN.{length, drop, getD, set};
 ghost use Rattle.meaning.specs.Choice.{sameBytes};
 ghost use Rattle.meaning.specs.Packing.{word};
 ghost use Rattle.words.specs.Words.{headName, headNames};
 ghost use Rattle.words.specs.Writing.{Wrote};
 ghost use Rattle.words.specs.Finding.{numberAmong};
 ghost use Rattle.templates.specs.Testing.{total};
-ghost use Rattle.expressions.specs.Spanning.{standAfter, SmallSpan};
-ghost use Rattle.expressions.specs.Resuming.{itemDone, wordDone, callDone, spanWords, partWords, restWord, readyWords, callWords, isStop, lastCall, mannerBy, mannerNow, goesOn, endingWords, InItems, ItemsOn, ItemsAll};
+ghost use Rattle.spans.specs.Spanning.{standAfter};
+ghost use Rattle.calls.specs.ActionWords.{partWords, restWord};
+ghost use Rattle.expressions.specs.Resuming.{itemDone, wordDone, callDone, callWords, isStop, lastCall, mannerBy, mannerNow, goesOn, endingWords, InItems, ItemsOn, ItemsAll};
 
 // Where the writing of an expression stands: the tape's next word, the code's, the items so far, the open calls, and where p stands.
 pub struct Walk {
@@ -47,13 +49,6 @@ pub enum Manner {
     Emits,
     Replaces,
     Nests,
-}
-
-fn put_span(code: &mut [u32], at: usize, number: usize, span: Span) -> usize
-    requires { ⌜ SmallSpan span × (number < 256) × (at < 2 ^ 62) ⌝ }
-    ensures { λ r. ⌜ Wrote (now (code .entry)) at (spanWords number span ∷ []) (now (code .exit)) r ⌝ }
-{
-    put_operands(code, at, number, span.register, span.add, span.back)
 }
 
 // Past an item.
@@ -92,16 +87,6 @@ fn write_value(tape: &[u32], names: &[usize], code: &mut [u32], walk: Walk) -> W
     let at = put_operands(code, walk.at, 9, value, 0, 0);
     let stand = walk.stand;
     past_item(walk, size, at, walk.depth, stand)
-}
-
-// Go to an e-variable, Select it, Out of it.
-fn put_part(lengths: Lengths, first: bool, stand: Stand, code: &mut [u32], at: usize) -> usize
-    requires { ⌜ (total lengths ≤ 64) × (at < 2 ^ 61) ⌝ }
-    ensures { λ r. ⌜ Wrote (now (code .entry)) at (partWords lengths first stand) (now (code .exit)) r ⌝ }
-{
-    let gone = put_span(code, at, 5, gap_of(lengths, first, stand));
-    let selected = put_span(code, gone, 6, piece_span(lengths, first));
-    put_operands(code, selected, 7, 0, 0, 0)
 }
 
 fn write_part(tape: &[u32], m: Pattern, code: &mut [u32], walk: Walk) -> Walk
@@ -185,48 +170,6 @@ fn manner_of(emission: bool, last: bool) -> Manner
     } else {
         Manner::Nests
     }
-}
-
-// UseSeq, and Select of nothing more.
-fn argument_ready(code: &mut [u32], at: usize) -> usize
-    requires { ⌜ at < 2 ^ 61 + 8 ⌝ }
-    ensures { λ r. ⌜ Wrote (now (code .entry)) at (readyWords []) (now (code .exit)) r ⌝ }
-{
-    let used = put_operands(code, at, 11, 0, 0, 0);
-    put_operands(code, used, 6, 0, 0, 0)
-}
-
-fn write_emission(tape: &[u32], from: usize, size: usize, code: &mut [u32], at: usize) -> usize
-    requires { ⌜ (from + size ≤ length (now tape)) × (size < 256) × (at < 2 ^ 61) ⌝ }
-    ensures { λ r. ⌜ Wrote (now (code .entry)) at (readyWords (word 14 size 0 0 ∷ take size (drop from (now (tape .entry))))) (now (code .exit)) r ⌝ }
-{
-    let ready = argument_ready(code, at);
-    let named = put_operands(code, ready, 14, size, 0, 0);
-    put_name(tape, from, size, code, named)
-}
-
-fn write_tail_call(
-    lengths: Lengths,
-    stand: Stand,
-    number: usize,
-    code: &mut [u32],
-    at: usize,
-) -> usize
-    requires { ⌜ (total lengths ≤ 64) × (number ≤ 64) × (at < 2 ^ 61) ⌝ }
-    ensures { λ r. ⌜ Wrote (now (code .entry)) at (restWord lengths stand ∷ readyWords ((13 + 256 * number) ∷ 15 ∷ [])) (now (code .exit)) r ⌝ }
-{
-    let gone = put_span(code, at, 5, rest_of(lengths, stand));
-    let ready = argument_ready(code, gone);
-    let called = put(code, ready, 13 + 256 * number);
-    put(code, called, 15)
-}
-
-fn write_call(number: usize, code: &mut [u32], at: usize) -> usize
-    requires { ⌜ (number ≤ 64) × (at < 2 ^ 61) ⌝ }
-    ensures { λ r. ⌜ Wrote (now (code .entry)) at (readyWords ((12 + 256 * number) ∷ [])) (now (code .exit)) r ⌝ }
-{
-    let ready = argument_ready(code, at);
-    put(code, ready, 12 + 256 * number)
 }
 
 // Past the end of a call, or past all actions.

@@ -1,4 +1,3 @@
 // A sentence's right side as code: the actions of its expression.
 pub mod expression;
 mod naming;
-mod spans;

@@ -19,7 +19,7 @@ use Rattle.words.specs.declared.tape.Item.{Item}
 use Rattle.words.specs.declared.tape.Item.the-variants.{Byte, Symbol, Part, Call, Pass, Close, Unclosed, Stop}
 use Rattle.templates.specs.declared.pattern.Lengths.{Lengths}
 use Rattle.templates.specs.declared.pattern.Pattern.{Pattern}
-use Rattle.expressions.specs.declared.spans.Stand.{Stand}
+use Rattle.spans.specs.declared.Stand.{Stand}
 use Rattle.expressions.specs.declared.expression.Walk.{Walk}
 use Rattle.expressions.specs.declared.expression.Manner.{Manner}
 use Rattle.expressions.specs.declared.expression.Manner.the-variants.{Emits, Replaces, Nests}
@@ -28,12 +28,13 @@ use Rattle.expressions.specs.Levels.{placeIn, Levels, stopped, onCurrent
 use Rattle.words.specs.Writing.{Wrote, Same}
 use Rattle.words.specs.Finding.{numberAmong}
 use Rattle.templates.specs.Measuring.{flag, variableOf}
-use Rattle.expressions.specs.Spanning.{meantStand, spanNumbers, gapBy, pieceSpan, standAfter}
-use Rattle.expressions.specs.Resuming.{isNil, resume, openNames, levelsNow, remaining, restNow, itemDone, wordDone, callDone, spanWords, partWords, restWord, callWords, isStop, lastCall, mannerBy, mannerNow, goesOn, endingWords, Means, InItems, ItemsOn, ItemsAll}
+use Rattle.calls.specs.ActionWords.{spanWords, partWords, restWord}
+use Rattle.spans.specs.Spanning.{meantStand, spanNumbers, gapBy, pieceSpan, standAfter}
+use Rattle.expressions.specs.Resuming.{isNil, resume, openNames, levelsNow, remaining, restNow, itemDone, wordDone, callDone, callWords, isStop, lastCall, mannerBy, mannerNow, goesOn, endingWords, Means, InItems, ItemsOn, ItemsAll}
 use Rattle.words.proofs.laws.Names.{name-here, name-fits-here, name-short}
 use Rattle.expressions.proofs.laws.Naming.{value-among, number-among}
 use Rattle.words.proofs.laws.Stores.{same-refl, same-trans, same-words, same-wrote, same-end}
-use Rattle.expressions.proofs.laws.Spanned.{rest-span, passage-spans}
+use Rattle.spans.proofs.Spanned.{rest-span, passage-spans}
 use Rattle.expressions.proofs.laws.Items.{stops, Reads, Told, told, levels-at, levels-past, levels-stop, stops-below, last-item}
 use Rattle.expressions.proofs.laws.Resumed.{resume-character, resume-symbol, resume-part, resume-call, resume-end, resume-last, open-more, open-less, open-none}
 

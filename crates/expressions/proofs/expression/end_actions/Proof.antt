@@ -1,7 +1,7 @@
 -- `expression::end_actions` meets its contract.
 use mathlib.Core.Path.{refl}
 use Rattle.words.proofs.laws.Stores.{wrote-more}
-use Rattle.expressions.proofs.laws.Spanned.{small-as, rest-small}
+use Rattle.spans.proofs.Spanned.{small-as, rest-small}
 use borrow.Author.Needs.{needs}
 use Rattle.expressions.proofs.expression.end_actions.Statement.{statement}
 use Rattle.expressions.proofs.expression.end_actions.Tie as tie

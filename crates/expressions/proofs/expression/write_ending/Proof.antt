@@ -8,11 +8,12 @@ use Rattle.meaning.specs.Packing.{word}
 use Rattle.templates.specs.declared.pattern.Lengths.{Lengths}
 use Rattle.words.specs.Words.{headName}
 use Rattle.words.specs.Writing.{Wrote}
-use Rattle.expressions.specs.declared.spans.Stand.{Stand}
+use Rattle.spans.specs.declared.Stand.{Stand}
 use Rattle.expressions.specs.declared.expression.Manner.{Manner}
 use Rattle.expressions.specs.declared.expression.Manner.the-variants.{Emits, Replaces, Nests}
 use Rattle.expressions.specs.Naming.{Sized}
-use Rattle.expressions.specs.Resuming.{readyWords, callWords}
+use Rattle.expressions.specs.Resuming.{callWords}
+use Rattle.calls.specs.ActionWords.{readyWords}
 use borrow.Author.Needs.{needs}
 use Rattle.expressions.proofs.expression.write_ending.Statement.{statement}
 use Rattle.expressions.proofs.expression.write_ending.Tie as tie

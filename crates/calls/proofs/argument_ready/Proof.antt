@@ -1,8 +1,8 @@
--- `expression::argument_ready` meets its contract.
+-- `calls::argument_ready` meets its contract.
 use Rattle.words.proofs.laws.Stores.{wrote-both}
 use borrow.Author.Needs.{needs}
-use Rattle.expressions.proofs.expression.argument_ready.Statement.{statement}
-use Rattle.expressions.proofs.expression.argument_ready.Tie as tie
+use Rattle.calls.proofs.argument_ready.Statement.{statement}
+use Rattle.calls.proofs.argument_ready.Tie as tie
 
 returns : tie.Need-returns
 returns c = search wrote-both

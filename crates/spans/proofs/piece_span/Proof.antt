@@ -1,7 +1,7 @@
 -- `spans::piece_span` meets its contract.
 use borrow.Author.Needs.{needs}
-use Rattle.expressions.proofs.spans.piece_span.Statement.{statement}
-use Rattle.expressions.proofs.spans.piece_span.Tie as tie
+use Rattle.spans.proofs.piece_span.Statement.{statement}
+use Rattle.spans.proofs.piece_span.Tie as tie
 
 returns : tie.Need-returns
 returns c = cc

@@ -1,8 +1,8 @@
--- `expression::write_emission` meets its contract.
+-- `calls::write_emission` meets its contract.
 use Rattle.words.proofs.laws.Stores.{wrote-more}
 use borrow.Author.Needs.{needs}
-use Rattle.expressions.proofs.expression.write_emission.Statement.{statement}
-use Rattle.expressions.proofs.expression.write_emission.Tie as tie
+use Rattle.calls.proofs.write_emission.Statement.{statement}
+use Rattle.calls.proofs.write_emission.Tie as tie
 
 returns : tie.Need-returns
 returns c =

@@ -7,9 +7,9 @@ use Rattle.meaning.specs.Translation.{Stand as MeantStand, atStart, afterFirst,
 use Rattle.words.specs.declared.tape.Parts.{Parts}
 use Rattle.words.specs.declared.tape.Parts.the-variants.{Zero, One, Two}
 use Rattle.templates.specs.declared.pattern.Lengths.{Lengths}
-use Rattle.expressions.specs.declared.spans.Stand.{Stand}
-use Rattle.expressions.specs.declared.spans.Stand.the-variants.{AtStart, AfterFirst, AfterSecond}
-use Rattle.expressions.specs.declared.spans.Span.{Span}
+use Rattle.spans.specs.declared.Stand.{Stand}
+use Rattle.spans.specs.declared.Stand.the-variants.{AtStart, AfterFirst, AfterSecond}
+use Rattle.spans.specs.declared.Span.{Span}
 
 abbrev pub meantStand : Stand → MeantStand
 meantStand AtStart = atStart

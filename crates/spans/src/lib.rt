@@ -3,7 +3,7 @@ use templates::pattern::Lengths;
 use words::tape::Parts;
 ghost use mathlib.Core.Path.{_≡_};
 ghost use Prim.Native.Nat.{_+_, _≤_};
-ghost use Rattle.expressions.specs.Spanning.{spanOf, gapBy, pieceSpan, standAfter, restBy};
+ghost use Rattle.spans.specs.Spanning.{spanOf, gapBy, pieceSpan, standAfter, restBy};
 
 // Where p stands: at the field's start, or just after its first or second e-variable.
 pub enum Stand {

@@ -1,9 +1,9 @@
--- `expression::put_part` meets its contract.
-use Rattle.expressions.proofs.laws.Spanned.{small-as, gap-small, piece-small}
+-- `calls::put_part` meets its contract.
+use Rattle.spans.proofs.Spanned.{small-as, gap-small, piece-small}
 use Rattle.words.proofs.laws.Stores.{wrote-more}
 use borrow.Author.Needs.{needs}
-use Rattle.expressions.proofs.expression.put_part.Statement.{statement}
-use Rattle.expressions.proofs.expression.put_part.Tie as tie
+use Rattle.calls.proofs.put_part.Statement.{statement}
+use Rattle.calls.proofs.put_part.Tie as tie
 
 put-span-requires : tie.Need-put-span-requires
 put-span-requires c κs = search (needs, small-as, gap-small)

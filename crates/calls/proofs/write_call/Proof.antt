@@ -1,8 +1,8 @@
--- `expression::write_call` meets its contract.
+-- `calls::write_call` meets its contract.
 use Rattle.words.proofs.laws.Stores.{wrote-both}
 use borrow.Author.Needs.{needs}
-use Rattle.expressions.proofs.expression.write_call.Statement.{statement}
-use Rattle.expressions.proofs.expression.write_call.Tie as tie
+use Rattle.calls.proofs.write_call.Statement.{statement}
+use Rattle.calls.proofs.write_call.Tie as tie
 
 returns : tie.Need-returns
 returns c = search wrote-both

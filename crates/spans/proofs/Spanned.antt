@@ -10,12 +10,12 @@ use Rattle.meaning.specs.Translation.{Shape, fixed, open₁, open₂, passage, 
 use Rattle.words.specs.declared.tape.Parts.{Parts}
 use Rattle.words.specs.declared.tape.Parts.the-variants.{Zero, One, Two}
 use Rattle.templates.specs.declared.pattern.Lengths.{Lengths}
-use Rattle.expressions.specs.declared.spans.Stand.{Stand}
-use Rattle.expressions.specs.declared.spans.Stand.the-variants.{AtStart, AfterFirst, AfterSecond}
-use Rattle.expressions.specs.declared.spans.Span.{Span}
+use Rattle.spans.specs.declared.Stand.{Stand}
+use Rattle.spans.specs.declared.Stand.the-variants.{AtStart, AfterFirst, AfterSecond}
+use Rattle.spans.specs.declared.Span.{Span}
 use Rattle.templates.specs.Testing.{total}
 use Rattle.templates.specs.Measuring.{lengthsOf, variableOf}
-use Rattle.expressions.specs.Spanning.{meantStand, spanNumbers, gapBy, pieceSpan, standAfter, restBy, SmallSpan}
+use Rattle.spans.specs.Spanning.{meantStand, spanNumbers, gapBy, pieceSpan, standAfter, restBy, SmallSpan}
 
 pub rest-span : (s : Shape) (w : Stand) → restBy (lengthsOf s .parts) (lengthsOf s) w ≡ spanNumbers (restOf s (meantStand w))
 rest-span (fixed t) w = refl

@@ -1,7 +1,7 @@
--- `spans::rest_of` meets its contract.
+-- `spans::gap_of` meets its contract.
 use borrow.Author.Needs.{needs}
-use Rattle.expressions.proofs.spans.rest_of.Statement.{statement}
-use Rattle.expressions.proofs.spans.rest_of.Tie as tie
+use Rattle.spans.proofs.gap_of.Statement.{statement}
+use Rattle.spans.proofs.gap_of.Tie as tie
 
 returns : tie.Need-returns
 returns c = cc
@@ -21,23 +21,10 @@ returns-5 c = cc
 returns-6 : tie.Need-returns-6
 returns-6 c = cc
 
-returns-7 : tie.Need-returns-7
-returns-7 c = cc
-
-pub rest-of-spec : {M : Type 1} → statement M
-rest-of-spec =
+pub gap-of-spec : {M : Type 1} → statement M
+gap-of-spec =
     tie.close
     (tie.spec
-    (λ c. search needs)
-    (λ c κs. search needs)
-    (λ c. search needs)
-    (λ c. search needs)
-    (λ c κs. search needs)
-    (λ c. search needs)
-    (λ c κs. search needs)
-    (λ c. search needs)
-    (λ c κs. search needs)
-    (λ c. search needs)
     (λ c. search needs)
     (λ c κs. search needs)
     (λ c. search needs)
@@ -45,9 +32,14 @@ rest-of-spec =
     (λ c. search needs)
     (λ c κs. search needs)
     returns
+    (λ c. search needs)
+    (λ c κs. search needs)
+    (λ c. search needs)
+    (λ c κs. search needs)
+    (λ c. search needs)
+    (λ c κs. search needs)
     returns-2
     returns-3
     returns-4
     returns-5
-    returns-6
-    returns-7)
+    returns-6)

@@ -1,10 +1,10 @@
--- `expression::write_tail_call` meets its contract.
+-- `calls::write_tail_call` meets its contract.
 use native.Mathlib.Omega.{arith}
 use Rattle.words.proofs.laws.Stores.{wrote-more}
-use Rattle.expressions.proofs.laws.Spanned.{small-as, rest-small}
+use Rattle.spans.proofs.Spanned.{small-as, rest-small}
 use borrow.Author.Needs.{needs}
-use Rattle.expressions.proofs.expression.write_tail_call.Statement.{statement}
-use Rattle.expressions.proofs.expression.write_tail_call.Tie as tie
+use Rattle.calls.proofs.write_tail_call.Statement.{statement}
+use Rattle.calls.proofs.write_tail_call.Tie as tie
 
 put-span-requires : tie.Need-put-span-requires
 put-span-requires c κs = search (needs, small-as, rest-small)

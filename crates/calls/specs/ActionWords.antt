@@ -1,0 +1,24 @@
+-- The code words of an e-variable's actions, of the rest of the field and of a call's argument.
+use Prim.Native.Nat.{ℕ}
+use mathlib.Core.Bool.{Bool}
+use mathlib.Core.List.{[], _∷_}
+use Rattle.meaning.specs.Packing.{Words, word}
+use Rattle.templates.specs.declared.pattern.Lengths.{Lengths}
+use Rattle.spans.specs.declared.Stand.{Stand}
+use Rattle.spans.specs.declared.Span.{Span}
+use Rattle.spans.specs.Spanning.{gapBy, pieceSpan, restBy}
+
+abbrev pub spanWords : ℕ → Span → ℕ
+spanWords number s = word number (s .register) (s .add) (s .back)
+
+-- an e-variable's three words: Go to it, Select it, Out of it
+abbrev pub partWords : Lengths → Bool → Stand → Words
+partWords l first w =
+    spanWords 5 (gapBy (l .parts) l first w) ∷ spanWords 6 (pieceSpan (l .parts) l first) ∷ word 7 0 0 0 ∷ []
+
+abbrev pub restWord : Lengths → Stand → ℕ
+restWord l w = spanWords 5 (restBy (l .parts) l w)
+
+-- UseSeq, and Select of nothing more
+abbrev pub readyWords : Words → Words
+readyWords more = word 11 0 0 0 ∷ word 6 0 0 0 ∷ more
