@@ -9,3 +9,5 @@ pub mod Naming
 pub mod Words
 pub mod Tabling
 pub mod Going
+pub mod Items
+pub mod Itemed

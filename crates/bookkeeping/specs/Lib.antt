@@ -3,3 +3,4 @@ pub mod Tables
 pub mod Answered
 pub mod Written
 pub mod Tokened
+pub mod Items

@@ -20,7 +20,7 @@ use Rattle.bookkeeping.specs.declared.progress.Parsed.the-variants.{Stopped, Do
 use Rattle.bookkeeping.specs.Answered.{Agrees}
 use Rattle.bookkeeping.specs.Written.{Ready, Went}
 use Rattle.bookkeeping.specs.Tokened.{Taken, Barred}
-use Rattle.parsing.specs.Patterns.{symbolNames}
+use Rattle.bookkeeping.specs.Items.{symbolNames}
 use Rattle.declarations.specs.Expressions.{progressAt, Going, ExpressionRead, CalledName, opening, OpeningRead, CallRead, CloseGives, Closes}
 use Rattle.bookkeeping.proofs.Going.{stops, reads, ReadAt, has-read, went-then, word-went, ready-after, stops-too}
 use Rattle.bookkeeping.proofs.Tokening.{passes-on, passes-not}

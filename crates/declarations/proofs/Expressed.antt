@@ -26,9 +26,9 @@ use Rattle.declarations.specs.declared.expressions.Joined.the-variants.{
 use Rattle.bookkeeping.specs.Answered.{numberOf}
 use Rattle.bookkeeping.specs.Written.{isQuiet, Went}
 use Rattle.bookkeeping.specs.Tokened.{signIs}
-use Rattle.parsing.specs.Patterns.{symbolNames, itemAt}
+use Rattle.bookkeeping.specs.Items.{symbolNames, itemAt}
 use Rattle.declarations.specs.Expressions.{progressAt, Going, CallStands, Stands, itemTape, TakenIn, TokenGives, JoinsToken, stoppedWith, callTape, CallRead}
-use Rattle.parsing.proofs.Items.{item-then}
+use Rattle.bookkeeping.proofs.Items.{item-then}
 use Rattle.bookkeeping.proofs.Going.{check-wrong, stops, reads, ReadAt, has-read, went-none, went-from, went-then, stops-too}
 use Rattle.bookkeeping.proofs.Tokening.{sign-shown, sign-first, takes, ready-place, ready-past, went-before}
 use Rattle.declarations.proofs.Calling.{callAt, CallAgrees, expressionAt, ExpressionAgrees}

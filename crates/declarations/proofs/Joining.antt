@@ -26,14 +26,14 @@ use Rattle.declarations.specs.declared.expressions.Joined.the-variants.{
 use Rattle.bookkeeping.specs.Tables.{tableNames, Entries, position}
 use Rattle.bookkeeping.specs.Answered.{numberOf}
 use Rattle.bookkeeping.specs.Written.{Wrote, stringFrom, isQuiet, Went}
-use Rattle.parsing.specs.Patterns.{symbolNames, Identifier, StringAt}
+use Rattle.bookkeeping.specs.Items.{symbolNames, Identifier, StringAt}
 use Rattle.declarations.specs.Expressions.{progressAt, Going, itemTape, VariableTaken, ItemGives, JoinsItem, TokenGives, JoinsToken}
 use Rattle.bookkeeping.proofs.Finding.{position-coming, table-length}
 use Rattle.bookkeeping.proofs.Tabling.{entries-later, names-later}
 use Rattle.bookkeeping.proofs.Lengths.{too-long, short-enough, within}
-use Rattle.parsing.proofs.Items.{ItemHere}
-use Rattle.parsing.proofs.Itemed.{string-went, string-quiet, variable-went, variable-quiet}
-use Rattle.parsing.proofs.Patterning.{identifier-inside}
+use Rattle.bookkeeping.proofs.Items.{ItemHere}
+use Rattle.bookkeeping.proofs.Itemed.{string-went, string-quiet, variable-went, variable-quiet}
+use Rattle.bookkeeping.proofs.Items.{identifier-inside}
 use Rattle.declarations.proofs.Onward.{going-after}
 
 -- an item with a fault

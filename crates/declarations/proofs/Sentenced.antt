@@ -29,11 +29,12 @@ use Rattle.declarations.specs.declared.sentences.Sequel.the-variants.{En
 use Rattle.bookkeeping.specs.Answered.{Agrees}
 use Rattle.bookkeeping.specs.Written.{Ready}
 use Rattle.bookkeeping.specs.Tokened.{signIs, Taken}
-use Rattle.parsing.specs.Patterns.{Variables, symbolNames, partNames, PatternRead}
-use Rattle.parsing.specs.Conditions.{ConditionsRead}
+use Rattle.bookkeeping.specs.Items.{Variables, symbolNames, partNames}
+use Rattle.patterns.specs.Patterns.{PatternRead}
+use Rattle.conditions.specs.Conditions.{ConditionsRead}
 use Rattle.declarations.specs.Expressions.{Going, stoppedWith}
 use Rattle.declarations.specs.Sentences.{fromEquals, EqualsRead, SentenceRead, beginsSentence, sentenceOf, firstSentence, FirstRead, Follows}
-use Rattle.parsing.proofs.Items.{variable-of, variable-at}
+use Rattle.bookkeeping.proofs.Items.{variable-of, variable-at}
 use Rattle.bookkeeping.proofs.Going.{stops, ReadAt, has-read, follow-same, pass-follow, follow-alone, makes, went-from, went-then, word-went, ready-after, stops-too}
 use Rattle.bookkeeping.proofs.Tokening.{fault-same, sign-shown, passes-on, refused, FaultOf}
 use Rattle.declarations.proofs.Calling.{ExpressionAgrees}

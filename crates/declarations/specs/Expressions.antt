@@ -25,7 +25,7 @@ use Rattle.bookkeeping.specs.declared.progress.Parsed.the-variants.{Stopped, Do
 use Rattle.bookkeeping.specs.Answered.{numberOf}
 use Rattle.bookkeeping.specs.Tokened.{Taken, Barred}
 use Rattle.bookkeeping.specs.Written.{Wrote, isQuiet, Ready, Went}
-use Rattle.parsing.specs.Patterns.{Variables, symbolNames, itemAt}
+use Rattle.bookkeeping.specs.Items.{Variables, symbolNames, itemAt}
 
 -- how far an expression is: its items, and the e-variables of the table that may still come
 abbrev pub progressAt : Bytes → List ℕ → ℕ → Progress → Reading.Progress

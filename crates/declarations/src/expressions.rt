@@ -17,12 +17,12 @@ use bookkeeping::writing::SYMBOL_WORD;
 use bookkeeping::writing::put;
 use bookkeeping::writing::put_characters;
 use bookkeeping::writing::put_named;
+use conditions::later_symbol_fault;
 use lexing::Mode;
 use lexing::Placed;
 use lexing::Span;
 use lexing::Token;
 use lexing::lex;
-use parsing::conditions::later_symbol_fault;
 ghost use Prim.Native.Nat.{ℕ, _+_, _-_, _*_, _≤_, _<_};
 ghost use lib.Dec.{T};
 ghost use lib.ListN.{length};
@@ -35,7 +35,7 @@ ghost use Rattle.lexing.specs.View.{charactersIn, quotationAt, part, stream, Co
 ghost use Rattle.bookkeeping.specs.Answered.{Agrees};
 ghost use Rattle.bookkeeping.specs.Tables.{Inside};
 ghost use Rattle.bookkeeping.specs.Written.{Wrote, isQuiet, Ready};
-ghost use Rattle.parsing.specs.Patterns.{symbolNames, Identifier, StringAt};
+ghost use Rattle.bookkeeping.specs.Items.{symbolNames, Identifier, StringAt};
 ghost use Rattle.declarations.specs.Expressions.{progressAt, Going, VariableTaken, JoinsItem, JoinsToken, ExpressionRead, opening, OpeningRead, CallRead, Closes};
 
 // An expression with a token joined to it, what is wrong with the token, or that it is no item.

@@ -14,12 +14,12 @@ use bookkeeping::writing::END_WORD;
 use bookkeeping::writing::EQUALS_WORD;
 use bookkeeping::writing::NEXT_WORD;
 use bookkeeping::writing::put;
+use conditions::conditions;
 use lexing::Mode;
 use lexing::Placed;
 use lexing::Token;
 use lexing::lex;
-use parsing::conditions::conditions;
-use parsing::patterns::pattern;
+use patterns::pattern;
 ghost use mathlib.Core.Path.{_≡_};
 ghost use Prim.Native.Nat.{_≤_};
 ghost use lib.ListN.{length};
@@ -28,7 +28,7 @@ ghost use Rattle.meaning.specs.Reading as Reading;
 ghost use Rattle.lexing.specs.View.{stream};
 ghost use Rattle.bookkeeping.specs.Answered.{Agrees};
 ghost use Rattle.bookkeeping.specs.Written.{Ready};
-ghost use Rattle.parsing.specs.Patterns.{Variables, symbolNames, partNames};
+ghost use Rattle.bookkeeping.specs.Items.{Variables, symbolNames, partNames};
 ghost use Rattle.declarations.specs.Sentences.{fromEquals, EqualsRead, SentenceRead, beginsSentence, firstSentence, FirstRead, Follows, SentencesRead};
 
 // A sentence from its `=` on.

@@ -4,7 +4,7 @@ use Rattle.declarations.proofs.expressions.join.Statement.{statement}
 use Rattle.declarations.proofs.expressions.join.Tie as tie
 use mathlib.Core.Path.{refl}
 use mathlib.Core.Bool.{true, false}
-use Rattle.parsing.proofs.Items.{string-here, variable-here, asks-string, asks-variable, item-other}
+use Rattle.bookkeeping.proofs.Items.{string-here, variable-here, asks-string, asks-variable, item-other}
 use Rattle.declarations.proofs.Joining.{joins}
 
 join-string-requires : tie.Need-join-string-requires

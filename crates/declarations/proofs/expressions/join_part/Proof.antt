@@ -3,7 +3,7 @@ use borrow.Author.Needs.{needs}
 use Rattle.declarations.proofs.expressions.join_part.Statement.{statement}
 use Rattle.declarations.proofs.expressions.join_part.Tie as tie
 use native.Mathlib.Omega.{arith}
-use Rattle.parsing.proofs.Patterning.{identifier-inside}
+use Rattle.bookkeeping.proofs.Items.{identifier-inside}
 use Rattle.declarations.proofs.Joining.{Sought, variable-many, part-long, coming-entries, part-unknown, part-joined}
 
 sought-here : (c : tie.After-find)

@@ -2,7 +2,7 @@
 use borrow.Author.Needs.{needs}
 use Rattle.declarations.proofs.expressions.join_string.Statement.{statement}
 use Rattle.declarations.proofs.expressions.join_string.Tie as tie
-use Rattle.parsing.proofs.Itemed.{string-ready}
+use Rattle.bookkeeping.proofs.Itemed.{string-ready}
 use Rattle.declarations.proofs.Joining.{string-many, string-joined}
 
 returns : tie.Need-returns

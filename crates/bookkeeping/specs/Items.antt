@@ -1,0 +1,43 @@
+-- Items of a sentence: the table of its variables, and where an identifier and a string stand.
+use Prim.Native.Nat.{ℕ, _+_, _≤_, _<_}
+use mathlib.Core.Path.{_≡_}
+use mathlib.Core.List.{List}
+use lib.ListN.{length}
+use Rattle.meaning.specs.Choice.{Bytes, Name}
+use Rattle.meaning.specs.Reading.{Item, itemOf}
+use Rattle.lexing.specs.View.{IsClosed, charactersIn, quotationAt, tokenOf}
+use Rattle.lexing.specs.declared.Span.{Span}
+use Rattle.lexing.specs.declared.Placed.{Placed}
+use Rattle.bookkeeping.specs.Tables.{tableNames, Entries}
+
+-- a table of variables: s-variables from entry 0, at most 16, and e-variables from entry 16, at most 2
+pub record Variables (text : Bytes) (table : List ℕ) (symbols parts : ℕ) : Type 0 where
+  pub symbolEntries : Entries text table 0 symbols
+  pub partEntries : Entries text table 16 (16 + parts)
+  pub fewSymbols : symbols ≤ 16
+  pub fewParts : parts ≤ 2
+  pub long : length table ≡ 18
+
+abbrev pub symbolNames : Bytes → List ℕ → ℕ → List Name
+symbolNames text table symbols = tableNames text table 0 symbols
+
+abbrev pub partNames : Bytes → List ℕ → ℕ → List Name
+partNames text table parts = tableNames text table 16 (16 + parts)
+
+-- the identifier of a variable that stands after a place
+pub record Identifier (text : Bytes) (at : ℕ) (x : Span) : Type 0 where
+  pub after : at < x .from
+  pub some : x .from < x .past
+  pub inside : x .past ≤ length text
+
+-- a string of so many characters that stands after a place
+pub record StringAt (text : Bytes) (at place past count : ℕ) : Type 0 where
+  pub after : at ≤ place
+  pub closed : IsClosed (quotationAt text place)
+  pub counted : length (charactersIn (quotationAt text place)) ≡ count
+  pub charged : place + count + 2 ≤ past
+  pub inside : past ≤ length text
+
+-- a token as an item
+abbrev pub itemAt : Bytes → Placed → Item
+itemAt text t = itemOf (tokenOf text (t .token) (t .place) (t .past))

@@ -1,0 +1,2 @@
+-- Laws of the conditions' reader.
+pub mod Conditioned

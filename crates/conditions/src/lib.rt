@@ -1,0 +1,219 @@
+// The conditions' reader.
+use bookkeeping::Answer;
+use bookkeeping::names::LONGEST_NAME;
+use bookkeeping::names::class_named;
+use bookkeeping::names::find;
+use bookkeeping::progress::Fault;
+use bookkeeping::progress::Parsed;
+use bookkeeping::progress::Passed;
+use bookkeeping::progress::Progress;
+use bookkeeping::progress::fault_if;
+use bookkeeping::progress::is_accepted;
+use bookkeeping::progress::is_sign;
+use bookkeeping::progress::pass;
+use bookkeeping::progress::refuse;
+use bookkeeping::writing::CONDITION_WORD;
+use bookkeeping::writing::put_named;
+use lexing::Mode;
+use lexing::Placed;
+use lexing::Span;
+use lexing::Token;
+use lexing::lex;
+ghost use mathlib.Core.Path.{_≡_};
+ghost use mathlib.Core.Option.{some};
+ghost use Prim.Native.Nat.{_+_, _<_};
+ghost use lib.Dec.{eqb};
+ghost use Rattle.meaning.specs.Classes.{Class};
+ghost use Rattle.meaning.specs.Tokens as Tokens;
+ghost use Rattle.meaning.specs.Reading as Reading;
+ghost use Rattle.meaning.specs.Packing.{classOf};
+ghost use Rattle.lexing.specs.View.{tokenOf, part, stream};
+ghost use Rattle.bookkeeping.specs.Answered.{numberOf, Agrees};
+ghost use Rattle.bookkeeping.specs.Tables.{Inside, Entries};
+ghost use Rattle.bookkeeping.specs.Written.{Ready};
+ghost use Rattle.bookkeeping.specs.Items.{symbolNames};
+ghost use Rattle.conditions.specs.Conditions.{conditionEnd, conditionOn, truthBetween, TruthNumber, TruthIs, Standing, Before, ConditionRead, ConditionsRead};
+
+// What is wrong with an s-variable after the pattern.
+pub fn later_symbol_fault(text: &[u8], table: &[usize], symbols: usize, x: Span) -> Answer
+    requires { ⌜ Inside (now text) x × Entries (now text) (now table) 0 symbols ⌝ }
+    ensures { λ r. ⌜ numberOf r ≡ Reading.symbolFault (symbolNames (now (text .entry)) (now (table .entry)) symbols) (part (now (text .entry)) x) ⌝ }
+{
+    if 8 < x.past - x.from {
+        return Answer::OverLimit;
+    }
+    let known = find(text, table, 0, symbols, x) < symbols;
+    fault_if(!known, Answer::WrongLaterVariable)
+}
+
+// The truth value of the byte between a closing string's quotes: 5 for T, 0 for F, and 1 for any other.
+fn truth_between(byte: u8) -> usize
+    ensures { λ r. ⌜ TruthNumber (truthBetween byte) r ⌝ }
+{
+    if byte == b'T' {
+        return 5;
+    }
+    if byte == b'F' {
+        return 0;
+    }
+    1
+}
+
+// The closing string's truth value by the same numbers; 1 for any other token.
+fn truth_in(text: &[u8], t: Placed) -> usize
+    requires { ⌜ Standing (now text) t ⌝ }
+    ensures { λ r. ⌜ TruthIs (tokenOf (now (text .entry)) (t .token) (t .place) (t .past)) (eqb (t .past) (t .place + 3)) r ⌝ }
+{
+    let token = t.token;
+    let Token::Quoted(_) = token else {
+        return 1;
+    };
+    let past = t.past;
+    let three = t.place + 3;
+    if past != three {
+        return 1;
+    }
+    truth_between(text[t.place + 1])
+}
+
+// A condition after its variable: `>`, `:` and the closing string.
+fn condition_end(
+    text: &[u8],
+    tape: &mut [u32; 32768],
+    from: usize,
+    words: usize,
+    class: usize,
+    x: Span,
+) -> Parsed
+    requires { ⌜ Ready (now text) from words × Before (now text) words from x × (class < 5) ⌝ }
+    ensures { λ r. ⌜ ((c : Class) → classOf class ≡ some c → Agrees (ConditionRead (now (text .entry)) from words (now (tape .entry)) (now (tape .exit)))
+        (conditionEnd c (part (now (text .entry)) x) (stream (now (text .entry)) Tokens.inside from)) r) ⌝ }
+{
+    let close = match pass(text, from, Mode::Inside, b'>') {
+        Passed::Past(at) => at,
+        Passed::Refused(fault) => return Parsed::Stopped(fault),
+    };
+    let colon = match pass(text, close, Mode::Inside, b':') {
+        Passed::Past(at) => at,
+        Passed::Refused(fault) => return Parsed::Stopped(fault),
+    };
+    let t = lex(text, colon, Mode::Inside);
+    let truth = truth_in(text, t);
+    if truth == 1 {
+        return Parsed::Stopped(refuse(t));
+    }
+    let word = (CONDITION_WORD + (x.past - x.from) * 10 + truth + class) as u32;
+    let after = put_named(text, tape, words, word, x);
+    Parsed::Done(Progress {
+        at: t.past,
+        words: after,
+        count: 0,
+        parts: 0,
+    })
+}
+
+// A condition after its predicate. Inside a sentence a word that is no variable is refused with 3.
+fn condition_on(
+    text: &[u8],
+    tape: &mut [u32; 32768],
+    table: &[usize],
+    symbols: usize,
+    from: usize,
+    words: usize,
+    class: usize,
+) -> Parsed
+    requires { ⌜ Ready (now text) from words × Entries (now text) (now table) 0 symbols × (class < 5) ⌝ }
+    ensures { λ r. ⌜ ((c : Class) → classOf class ≡ some c → Agrees (ConditionRead (now (text .entry)) from words (now (tape .entry)) (now (tape .exit)))
+        (conditionOn (symbolNames (now (text .entry)) (now (table .entry)) symbols) c (stream (now (text .entry)) Tokens.inside from)) r) ⌝ }
+{
+    let t = lex(text, from, Mode::Inside);
+    let token = t.token;
+    let Token::Symbol(x) = token else {
+        return Parsed::Stopped(refuse(t));
+    };
+    let fault = later_symbol_fault(text, table, symbols, x);
+    if !is_accepted(fault) {
+        return Parsed::Stopped(Fault {
+            answer: fault,
+            place: t.place,
+        });
+    }
+    condition_end(text, tape, t.past, words, class, x)
+}
+
+// A condition after its `,`.
+fn condition(
+    text: &[u8],
+    tape: &mut [u32; 32768],
+    table: &[usize],
+    symbols: usize,
+    from: usize,
+    words: usize,
+) -> Parsed
+    requires { ⌜ Ready (now text) from words × Entries (now text) (now table) 0 symbols ⌝ }
+    ensures { λ r. ⌜ Agrees (ConditionRead (now (text .entry)) from words (now (tape .entry)) (now (tape .exit)))
+        (Reading.condition (symbolNames (now (text .entry)) (now (table .entry)) symbols) (stream (now (text .entry)) Tokens.inside from)) r ⌝ }
+{
+    let open = match pass(text, from, Mode::Inside, b'<') {
+        Passed::Past(at) => at,
+        Passed::Refused(fault) => return Parsed::Stopped(fault),
+    };
+    let t = lex(text, open, Mode::Naming);
+    let token = t.token;
+    let Token::Name(name) = token else {
+        return Parsed::Stopped(refuse(t));
+    };
+    if LONGEST_NAME < name.past - name.from {
+        return Parsed::Stopped(Fault {
+            answer: Answer::OverLimit,
+            place: t.place,
+        });
+    }
+    let class = class_named(text, name);
+    if class == 5 {
+        return Parsed::Stopped(Fault {
+            answer: Answer::WrongName,
+            place: t.place,
+        });
+    }
+    condition_on(text, tape, table, symbols, t.past, words, class)
+}
+
+// Reads conditions, at most eight.
+pub fn conditions(
+    text: &[u8],
+    tape: &mut [u32; 32768],
+    table: &[usize],
+    symbols: usize,
+    from: usize,
+    words: usize,
+) -> Parsed
+    requires { ⌜ Ready (now text) from words × Entries (now text) (now table) 0 symbols ⌝ }
+    ensures { λ r. ⌜ Agrees (ConditionsRead (now (text .entry)) from words (now (tape .entry)) (now (tape .exit)))
+        (Reading.conditions 8 (symbolNames (now (text .entry)) (now (table .entry)) symbols) (stream (now (text .entry)) Tokens.inside from)) r ⌝ }
+{
+    let mut s = Progress {
+        at: from,
+        words: words,
+        count: 0,
+        parts: 0,
+    };
+    let mut left: usize = 8;
+    loop {
+        let t = lex(text, s.at, Mode::Inside);
+        if !is_sign(t, b',') {
+            return Parsed::Done(Progress { at: t.place, ..s });
+        }
+        if left == 0 {
+            return Parsed::Stopped(Fault {
+                answer: Answer::OverLimit,
+                place: t.place,
+            });
+        }
+        match condition(text, tape, table, symbols, t.past, s.words) {
+            Parsed::Stopped(fault) => return Parsed::Stopped(fault),
+            Parsed::Done(next) => s = next,
+        }
+        left -= 1;
+    }
+}

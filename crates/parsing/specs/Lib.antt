@@ -1,3 +1,0 @@
--- The definitions that this crate's contracts cite.
-pub mod Patterns
-pub mod Conditions
