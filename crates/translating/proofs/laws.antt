@@ -1,7 +1,4 @@
 -- Laws over plain values that the functions' proofs cite.
-pub mod Patching
-pub mod Shapes
-pub mod Sentenced
 pub mod Declared
 pub mod Leaving
 pub mod Retraced

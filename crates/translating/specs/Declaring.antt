@@ -10,7 +10,7 @@ use Rattle.meaning.specs.Instructions.{Sentences, Code}
 use Rattle.meaning.specs.Translation.{translatedSentences}
 use Rattle.meaning.specs.Packing.{packSentences, pack}
 use Rattle.words.specs.Words.{headNames}
-use Rattle.translating.specs.Trees.{functionsIn, functionIn}
+use Rattle.sentences.specs.Trees.{functionsIn, functionIn}
 use Rattle.words.specs.Writing.{Wrote}
 
 -- THE HEADS: the places of the functions' words

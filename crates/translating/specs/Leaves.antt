@@ -10,7 +10,7 @@ use Rattle.meaning.specs.Leaving.{zeros, padded}
 use Rattle.meaning.specs.Translation.{translate}
 use Rattle.meaning.specs.Packing.{pack}
 use Rattle.translating.specs.declared.Translated.{Translated}
-use Rattle.translating.specs.Trees.{treeOf}
+use Rattle.sentences.specs.Trees.{treeOf}
 
 -- the code of the table that the words of a tape are read as
 abbrev pub codeOf : List ℕ → List ℕ

@@ -1,5 +1,3 @@
 -- The definitions, in the order in which they build on each other.
-pub mod Trees
-pub mod Sentencing
 pub mod Declaring
 pub mod Leaves

@@ -1,5 +1,5 @@
 // The functions of a tape, and the table of their places before them.
-use crate::sentences::write_function;
+use sentences::write_function;
 use words::tape::lesser;
 use words::tape::name_size;
 use words::tape::of_kind;
@@ -9,7 +9,7 @@ use words::writing::put;
 ghost use mathlib.Core.Path.{_≡_};
 ghost use Prim.Native.Nat.{_+_, _≤_, _<_, _^_};
 ghost use lib.ListN.{length, take};
-ghost use Rattle.translating.specs.Trees.{isFunctionWord};
+ghost use Rattle.sentences.specs.Trees.{isFunctionWord};
 ghost use Rattle.words.specs.Writing.{Wrote};
 ghost use Rattle.translating.specs.Leaves.{codeOf};
 ghost use Rattle.translating.specs.Declaring.{Inside, HeadsOn, HeadsAll, EntryAll, FunctionsAll};

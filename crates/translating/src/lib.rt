@@ -1,6 +1,5 @@
 // From the tape of a table to packed code words.
 mod functions;
-mod sentences;
 
 use functions::write_table;
 use words::tape::lesser;

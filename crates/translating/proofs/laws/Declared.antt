@@ -15,16 +15,16 @@ use Rattle.meaning.specs.Instructions.{Code}
 use Rattle.meaning.specs.Translation.{translate, translatedSentences}
 use Rattle.meaning.specs.Packing.{Words, packSentences, packFunctions, placesFrom}
 use Rattle.words.specs.Words.{nameIn, headName, headNames}
-use Rattle.translating.specs.Trees.{isFunctionWord, functionsIn, functionIn, sentencesIn, treeOf}
+use Rattle.sentences.specs.Trees.{isFunctionWord, functionsIn, functionIn, sentencesIn, treeOf}
 use Rattle.words.specs.Writing.{Wrote}
-use Rattle.translating.specs.Sentencing.{FunctionAll}
+use Rattle.sentences.specs.Sentencing.{FunctionAll}
 use Rattle.translating.specs.Declaring.{Inside, wordsFrom, headsLeft, HeadsOn, HeadsAll, functionAt, functionsOf, EntryAll, FunctionsAll}
 use Rattle.translating.specs.Leaves.{codeOf}
 use Rattle.meaning.proofs.laws.Remaining.{at-place}
 use Rattle.words.proofs.laws.Names.{name-skip}
 use Rattle.meaning.proofs.laws.Packing.{places-length}
 use Rattle.meaning.proofs.laws.Storing.{sets-append}
-use Rattle.translating.proofs.laws.Patching.{sets-comm, lentFrom, backFrom, sets-lent}
+use Rattle.sentences.proofs.Patching.{sets-comm, lentFrom, backFrom, sets-lent}
 
 -- THE HEADS
 

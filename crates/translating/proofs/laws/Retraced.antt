@@ -22,7 +22,7 @@ use Rattle.words.specs.declared.tape.Piece.the-variants.{EVariable}
 use Rattle.words.specs.declared.tape.Item.the-variants.{Byte, Symbol, Part, Call, Close, Stop}
 use Rattle.words.specs.Words.{carried, pieceOf, classIn, openingOf, itemOf}
 use Rattle.expressions.specs.Levels.{placeIn, Levels, stopped, onCurrent, opened, itemBy, levelsIn}
-use Rattle.translating.specs.Trees.{isFunctionWord, conditionsAt, levelsAt, sentenceIn, sentencesIn, functionsIn, functionIn, treeOf}
+use Rattle.sentences.specs.Trees.{isFunctionWord, conditionsAt, levelsAt, sentenceIn, sentencesIn, functionsIn, functionIn, treeOf}
 use Rattle.templates.specs.Scans.{scanned, andThen, oneMore, patternIn, conditionBy, conditionsIn, patternAt}
 use Rattle.templates.proofs.laws.Scanning.{pattern-skip}
 use Rattle.templates.proofs.laws.Conditioned.{conditions-skip}

@@ -3,10 +3,10 @@ use native.Mathlib.Omega.{arith}
 use mathlib.Core.Path.{sym, ap}
 use lib.ListN.{length, length-take}
 use lib.Seq.{length-take-le}
-use Rattle.translating.proofs.laws.Sentenced.{all-zero, bodied}
+use Rattle.sentences.proofs.Sentenced.{all-zero, bodied}
 use borrow.Author.Needs.{needs}
-use Rattle.translating.proofs.sentences.write_body.Statement.{statement}
-use Rattle.translating.proofs.sentences.write_body.Tie as tie
+use Rattle.sentences.proofs.write_body.Statement.{statement}
+use Rattle.sentences.proofs.write_body.Tie as tie
 
 write-matching-requires : tie.Need-write-matching-requires
 write-matching-requires c κs =

@@ -12,10 +12,10 @@ use Rattle.meaning.specs.Translation.{Shape, shapeOf, metricOf, Tested, testedS
 use Rattle.meaning.specs.Packing.{Words, metricWord, countsWord, testWord, storeWord, bodyWords, sentencesEnd, packSentences}
 use Rattle.words.specs.declared.tape.Parts.{Parts}
 use Rattle.words.specs.declared.tape.Parts.the-variants.{Zero, One, Two}
-use Rattle.translating.specs.declared.sentences.Body.{Body}
-use Rattle.translating.specs.declared.sentences.Sentences.{Sentences}
+use Rattle.sentences.specs.declared.Body.{Body}
+use Rattle.sentences.specs.declared.Sentences.{Sentences}
 use Rattle.words.specs.Words.{headNames}
-use Rattle.translating.specs.Trees.{isNextWord, conditionsAt, levelsAt, sentencesIn}
+use Rattle.sentences.specs.Trees.{isNextWord, conditionsAt, levelsAt, sentencesIn}
 use Rattle.templates.specs.Scans.{patternAt}
 use Rattle.words.specs.Writing.{Wrote, Same}
 use Rattle.templates.specs.Measuring.{flag}

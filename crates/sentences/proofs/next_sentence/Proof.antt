@@ -1,9 +1,9 @@
 -- `sentences::next_sentence` meets its contract.
 use mathlib.Core.Bool.{true, false}
-use Rattle.translating.proofs.laws.Sentenced.{sentence-on}
+use Rattle.sentences.proofs.Sentenced.{sentence-on}
 use borrow.Author.Needs.{needs}
-use Rattle.translating.proofs.sentences.next_sentence.Statement.{statement}
-use Rattle.translating.proofs.sentences.next_sentence.Tie as tie
+use Rattle.sentences.proofs.next_sentence.Statement.{statement}
+use Rattle.sentences.proofs.next_sentence.Tie as tie
 
 returns : tie.Need-returns
 returns c = search (sentence-on true)

@@ -1,10 +1,10 @@
 -- `sentences::write_sentence` meets its contract.
 use Prim.Native.Nat.{_+_, _≤_, _^_}
 use native.Mathlib.Omega.{arith}
-use Rattle.translating.proofs.laws.Sentenced.{body-ahead, sentenced}
+use Rattle.sentences.proofs.Sentenced.{body-ahead, sentenced}
 use borrow.Author.Needs.{needs}
-use Rattle.translating.proofs.sentences.write_sentence.Statement.{statement}
-use Rattle.translating.proofs.sentences.write_sentence.Tie as tie
+use Rattle.sentences.proofs.write_sentence.Statement.{statement}
+use Rattle.sentences.proofs.write_sentence.Tie as tie
 
 near : (c : tie.After-put-metric) → c .put-metric .result ≤ 2 ^ 58
 near c = omega (arith, c .put-metric .ensures .next, c .before .before .before .before .before .before .before .pre .2)

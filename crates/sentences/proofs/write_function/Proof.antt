@@ -4,9 +4,9 @@ use native.Mathlib.Omega.{arith}
 use mathlib.Core.Path.{_≡_, refl, _∙_}
 use lib.ListN.{length}
 use Rattle.words.proofs.laws.Stores.{same-refl}
-use Rattle.translating.proofs.laws.Sentenced.{SentencesSoFar, sentences-go-on, sentences-all}
-use Rattle.translating.proofs.sentences.write_function.Statement.{statement}
-use Rattle.translating.proofs.sentences.write_function.Tie as tie
+use Rattle.sentences.proofs.Sentenced.{SentencesSoFar, sentences-go-on, sentences-all}
+use Rattle.sentences.proofs.write_function.Statement.{statement}
+use Rattle.sentences.proofs.write_function.Tie as tie
 
 abbrev Inv-loop : tie.InvT-loop
 Inv-loop tape heads start code₀ s₀ code s = SentencesSoFar tape heads start code₀ code s × (length code ≡ length code₀)

@@ -21,22 +21,22 @@ use Rattle.templates.specs.declared.pattern.Pattern.{Pattern}
 use Rattle.templates.specs.declared.tests.Tests.{Tests}
 use Rattle.templates.specs.declared.conditions.Conditions.{Conditions}
 use Rattle.expressions.specs.declared.expression.Walk.{Walk}
-use Rattle.translating.specs.declared.sentences.Body.{Body}
-use Rattle.translating.specs.declared.sentences.Sentences.{Sentences}
+use Rattle.sentences.specs.declared.Body.{Body}
+use Rattle.sentences.specs.declared.Sentences.{Sentences}
 use Rattle.words.specs.Words.{headName, headNames}
-use Rattle.translating.specs.Trees.{isNextWord, conditionsAt, levelsAt, followedBy, sentencesIn}
+use Rattle.sentences.specs.Trees.{isNextWord, conditionsAt, levelsAt, followedBy, sentencesIn}
 use Rattle.templates.specs.Scans.{patternAt, conditionsIn}
 use Rattle.words.specs.Writing.{Wrote, Same}
 use Rattle.templates.specs.Measuring.{lengthsOf, variableOf, MeasuresAll}
 use Rattle.templates.specs.Testing.{AllSites, heldSites, held, storeOfSite, total, walk, startFrom, TestsAll}
 use Rattle.templates.specs.Conditioning.{conditionWords, ConditionsAll}
 use Rattle.expressions.specs.Resuming.{Means, ItemsAll}
-use Rattle.translating.specs.Sentencing.{metricNumber, shapeAt, testedAt, testsAt, storesAt, actionsAt, bodyAt, sentenceAt, MatchAll, BodyAll, SentenceAll, followsAt, sentenceDone, sentencesLeft, InSentences, SentencesOn, FunctionAll}
+use Rattle.sentences.specs.Sentencing.{metricNumber, shapeAt, testedAt, testsAt, storesAt, actionsAt, bodyAt, sentenceAt, MatchAll, BodyAll, SentenceAll, followsAt, sentenceDone, sentencesLeft, InSentences, SentencesOn, FunctionAll}
 use Rattle.meaning.proofs.laws.Remaining.{at-place}
 use Rattle.words.proofs.laws.Names.{by-place}
 use Rattle.words.proofs.laws.Stores.{wrote-more, same-refl, same-trans, same-words, same-wrote, same-end}
-use Rattle.translating.proofs.laws.Patching.{wrote-patched}
-use Rattle.translating.proofs.laws.Shapes.{walk-all}
+use Rattle.sentences.proofs.Patching.{wrote-patched}
+use Rattle.sentences.proofs.Shapes.{walk-all}
 
 -- THE METRIC
 

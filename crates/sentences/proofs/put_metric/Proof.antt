@@ -1,9 +1,9 @@
 -- `sentences::put_metric` meets its contract.
 use native.Mathlib.Omega.{arith}
-use Rattle.translating.proofs.laws.Sentenced.{metric-fits}
+use Rattle.sentences.proofs.Sentenced.{metric-fits}
 use borrow.Author.Needs.{needs}
-use Rattle.translating.proofs.sentences.put_metric.Statement.{statement}
-use Rattle.translating.proofs.sentences.put_metric.Tie as tie
+use Rattle.sentences.proofs.put_metric.Statement.{statement}
+use Rattle.sentences.proofs.put_metric.Tie as tie
 
 put-operands-requires : tie.Need-put-operands-requires
 put-operands-requires c κs =

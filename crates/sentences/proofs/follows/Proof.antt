@@ -1,9 +1,9 @@
 -- `sentences::follows` meets its contract.
 use borrow.Author.Tests.{le-leb}
-use Rattle.translating.proofs.laws.Sentenced.{follows-by-word}
+use Rattle.sentences.proofs.Sentenced.{follows-by-word}
 use borrow.Author.Needs.{needs}
-use Rattle.translating.proofs.sentences.follows.Statement.{statement}
-use Rattle.translating.proofs.sentences.follows.Tie as tie
+use Rattle.sentences.proofs.follows.Statement.{statement}
+use Rattle.sentences.proofs.follows.Tie as tie
 
 returns : tie.Need-returns
 returns c = rw (le-leb 512 _ (c .if1 .taken))

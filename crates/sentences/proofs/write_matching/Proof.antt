@@ -1,9 +1,9 @@
 -- `sentences::write_matching` meets its contract.
 use native.Mathlib.Omega.{arith}
-use Rattle.translating.proofs.laws.Sentenced.{matched}
+use Rattle.sentences.proofs.Sentenced.{matched}
 use borrow.Author.Needs.{needs}
-use Rattle.translating.proofs.sentences.write_matching.Statement.{statement}
-use Rattle.translating.proofs.sentences.write_matching.Tie as tie
+use Rattle.sentences.proofs.write_matching.Statement.{statement}
+use Rattle.sentences.proofs.write_matching.Tie as tie
 
 write-tests-requires : tie.Need-write-tests-requires
 write-tests-requires c κs = let pre = c .before .before .before .before .before .before .before .pre in

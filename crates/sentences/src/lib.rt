@@ -21,7 +21,7 @@ ghost use Rattle.meaning.specs.Packing.{word};
 ghost use Rattle.words.specs.Writing.{Wrote};
 ghost use Rattle.templates.specs.Measuring.{lengthsOf, MeasuresAll};
 ghost use Rattle.templates.specs.Testing.{total, AllSites};
-ghost use Rattle.translating.specs.Sentencing.{metricNumber, shapeAt, followsAt, MatchAll, BodyAll, SentenceAll, SentencesOn, FunctionAll};
+ghost use Rattle.sentences.specs.Sentencing.{metricNumber, shapeAt, followsAt, MatchAll, BodyAll, SentenceAll, SentencesOn, FunctionAll};
 
 // What was written of a sentence: how many tests, how many stores, the tape's next word, and the code's.
 pub struct Body {
