@@ -1,3 +1,2 @@
--- The laws that the proofs of the functions cite.
-pub mod Writing
+-- Laws that this crate's proofs cite.
 pub mod Sizes

@@ -1,3 +1,2 @@
 -- The definitions that this crate's contracts cite.
-pub mod Put
 pub mod Steps

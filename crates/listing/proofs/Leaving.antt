@@ -9,7 +9,7 @@ use borrow.Author.Tests.{le-leb, lt-leb}
 use lib.ListN.{length, take}
 use lib.Seq.{sets-eq}
 use Rattle.meaning.specs.Choice.{Bytes}
-use Rattle.items.specs.Put.{Put}
+use Rattle.putting.specs.Put.{Put}
 use Rattle.listing.specs.Words.{mostWords}
 use Rattle.listing.specs.Leaves.{holds, Leaves}
 

@@ -18,9 +18,10 @@ use Rattle.meaning.specs.Listing.{Quoted, unquoted, inString, afterCode, closeQ
 use Rattle.meaning.proofs.laws.Passing.{both-left, both-right, every-head, every-tail}
 use Rattle.meaning.proofs.laws.Words.{by-class, class-below}
 use Rattle.accepting.proofs.roundtrip.Legible.{legible}
-use Rattle.items.specs.declared.State.{State}
-use Rattle.items.specs.declared.State.the-variants.{Start, Plain, InString, AfterCode, Name as NameLeft, Condition as ConditionLeft, Header}
-use Rattle.items.specs.Steps.{Step, step, ending, parting, characterStep, classText, truthText, partedStep, endedStep}
+use Rattle.strings.specs.declared.State.{State}
+use Rattle.strings.specs.declared.State.the-variants.{Start, Plain, InString, AfterCode, Name as NameLeft, Condition as ConditionLeft, Header}
+use Rattle.strings.specs.Steps.{Step, step, characterStep}
+use Rattle.items.specs.Steps.{ending, parting, classText, truthText, partedStep, endedStep}
 use Rattle.listing.specs.Words.{kindStep, itemStep, copyStep, wordStep, listFrom}
 use Rattle.listing.proofs.Stepping.{others, other-kind}
 use Rattle.listing.proofs.Spelled.{Short, short-name, short-identifier, spelledVariable, Written, sentence-written}

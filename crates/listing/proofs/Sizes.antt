@@ -8,10 +8,12 @@ use lib.ListN.{length, length-append}
 use Rattle.meaning.specs.Choice.{Bytes, pick}
 use Rattle.meaning.specs.Tape.{symbolKind, partKind, conditionKind, equalsKind, closeKind, nextKind, endKind, functionKind}
 use Rattle.meaning.proofs.laws.Choosing.{of-either}
-use Rattle.items.specs.declared.State.{State}
-use Rattle.items.specs.declared.State.the-variants.{Start, Plain, InString, AfterCode, Name, Condition, Header}
-use Rattle.items.specs.Steps.{quotedIn, Step, step, characterStep, conditionStep, partedStep, endedStep}
-use Rattle.items.proofs.Sizes.{ending-size, parting-size, quoting-size, character-size, class-size}
+use Rattle.strings.specs.declared.State.{State}
+use Rattle.strings.specs.declared.State.the-variants.{Start, Plain, InString, AfterCode, Name, Condition, Header}
+use Rattle.strings.specs.Steps.{quotedIn, Step, step, characterStep}
+use Rattle.items.specs.Steps.{conditionStep, partedStep, endedStep}
+use Rattle.strings.proofs.Sizes.{quoting-size, character-size}
+use Rattle.items.proofs.Sizes.{ending-size, parting-size, class-size}
 use Rattle.listing.specs.Words.{kindStep, itemStep, copyStep, wordStep}
 
 -- no word adds more bytes than this

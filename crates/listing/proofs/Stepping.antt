@@ -9,14 +9,15 @@ use lib.Seq.{drop-cons}
 use borrow.Author.Tests.{ne-eqb}
 use types.Run.{OneOf, miss}
 use denote.Enum.Declared.{tagOf}
-use Rattle.items.proofs.State as state
-use Rattle.items.specs.declared.State.{State}
-use Rattle.items.specs.declared.State.the-variants.{Start, Plain, InString, AfterCode, Name, Condition, Header}
-use Rattle.items.specs.declared.Stepped.{Stepped}
-use Rattle.items.specs.Put.{Put}
-use Rattle.items.specs.Steps.{partedStep, Wrote}
+use Rattle.strings.proofs.State as state
+use Rattle.strings.specs.declared.State.{State}
+use Rattle.strings.specs.declared.State.the-variants.{Start, Plain, InString, AfterCode, Name, Condition, Header}
+use Rattle.strings.specs.declared.Stepped.{Stepped}
+use Rattle.putting.specs.Put.{Put}
+use Rattle.strings.specs.Steps.{Wrote}
+use Rattle.items.specs.Steps.{partedStep}
 use Rattle.listing.specs.Words.{kindStep, itemStep, wordStep, listFrom}
-use Rattle.items.proofs.Writing.{put-none, put-then, put-length}
+use Rattle.putting.proofs.Writing.{put-none, put-then, put-length}
 use Rattle.listing.proofs.Sizes.{widest, word-size}
 
 -- where no name is being copied a word is an item

@@ -6,9 +6,10 @@ use lib.Dec.{ltb, leb, eqb}
 use lib.ListN.{length}
 use Rattle.meaning.specs.Choice.{Bytes, pick}
 use Rattle.meaning.specs.Tape.{symbolKind, partKind, conditionKind, equalsKind, closeKind, nextKind, endKind, functionKind}
-use Rattle.items.specs.declared.State.{State}
-use Rattle.items.specs.declared.State.the-variants.{Start, Plain, InString, AfterCode, Name, Condition, Header}
-use Rattle.items.specs.Steps.{Step, step, characterStep, conditionStep, partedStep, endedStep}
+use Rattle.strings.specs.declared.State.{State}
+use Rattle.strings.specs.declared.State.the-variants.{Start, Plain, InString, AfterCode, Name, Condition, Header}
+use Rattle.strings.specs.Steps.{Step, step, characterStep}
+use Rattle.items.specs.Steps.{conditionStep, partedStep, endedStep}
 
 -- a word of a kind, with what it carries
 abbrev pub kindStep : State → ℕ → ℕ → Step

@@ -8,7 +8,7 @@ ghost use Prim.Native.Nat.{min};
 ghost use lib.ListN.{take};
 ghost use Rattle.listing.specs.Words.{mostWords, listFrom};
 ghost use Rattle.listing.specs.Leaves.{Leaves};
-ghost use Rattle.items.specs.declared.State.the-variants.{Start};
+ghost use Rattle.strings.specs.declared.State.the-variants.{Start};
 
 // Whether the lent buffer holds the listing (if not, the answer is 17), and then its length.
 pub struct Listed {

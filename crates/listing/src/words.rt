@@ -1,18 +1,18 @@
 // The words of the tape one after another.
-use items::State;
-use items::Stepped;
-use items::list_character;
 use items::list_condition;
 use items::list_ended;
 use items::list_parted;
-use items::put::put;
-use items::put::put_all;
+use putting::put;
+use putting::put_all;
+use strings::State;
+use strings::Stepped;
+use strings::list_character;
 ghost use mathlib.Core.Path.{_≡_};
 ghost use Prim.Native.Nat.{pred, _+_, _<_};
 ghost use lib.ListN.{length, take};
-ghost use Rattle.items.specs.Put.{Put, farthest};
-ghost use Rattle.items.specs.Steps.{Wrote};
-ghost use Rattle.items.specs.declared.State.the-variants.{Start};
+ghost use Rattle.putting.specs.Put.{Put, farthest};
+ghost use Rattle.strings.specs.Steps.{Wrote};
+ghost use Rattle.strings.specs.declared.State.the-variants.{Start};
 ghost use Rattle.listing.specs.Words.{kindStep, itemStep, copyStep, wordStep, listFrom, Listable};
 
 // A word of a kind.

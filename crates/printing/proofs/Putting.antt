@@ -10,8 +10,8 @@ use mir.Syntax.{w64}
 use lib.Seq.{paste, sets-eq, take-length}
 use Rattle.meaning.specs.Choice.{Bytes}
 use Rattle.io.specs.Digits.{digits, Fewest}
-use Rattle.items.specs.Put.{Put}
-use Rattle.items.proofs.Writing.{put-then}
+use Rattle.putting.specs.Put.{Put}
+use Rattle.putting.proofs.Writing.{put-then}
 use Rattle.printing.specs.Texts.{Prints, Counted}
 use Rattle.printing.proofs.Numerals.{fewest-numeral, fewest-short}
 

@@ -9,7 +9,7 @@ use Rattle.meaning.specs.Choice.{Bytes, pick, both, either}
 use Rattle.meaning.specs.Answers.{noSuchStart, bufferTooShort}
 use Rattle.meaning.specs.Outcome.{Result}
 use Rattle.meaning.specs.Leaving.{over}
-use Rattle.items.specs.Put.{Put}
+use Rattle.putting.specs.Put.{Put}
 
 -- a number in decimal, if it has no more digits than this
 unfoldable pub numeralOf : ℕ → ℕ → Bytes

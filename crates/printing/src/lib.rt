@@ -3,7 +3,7 @@ use acting::copying::copy_over;
 ghost use mathlib.Core.Path.{_≡_};
 ghost use Prim.Native.Nat.{_+_, _≤_};
 ghost use lib.ListN.{length};
-ghost use Rattle.items.specs.Put.{Put};
+ghost use Rattle.putting.specs.Put.{Put};
 ghost use Rattle.printing.specs.Texts.{isRefusal, Prints, Counted, refusalText, resultText, resultFrom};
 
 // 1 to 8 and 17 are answered before any run.

@@ -22,7 +22,7 @@ use Rattle.reading.specs.declared.Reading.{Reading}
 use Rattle.bookkeeping.specs.Answered.{numberOf}
 use Rattle.reading.specs.Reads.{Reads}
 use Rattle.reading.proofs.Verdict.{tree-words}
-use Rattle.items.specs.declared.State.the-variants.{Start}
+use Rattle.strings.specs.declared.State.the-variants.{Start}
 use Rattle.listing.specs.declared.Listed.{Listed}
 use Rattle.listing.specs.Words.{listFrom}
 use Rattle.listing.specs.Leaves.{Leaves as Lists}

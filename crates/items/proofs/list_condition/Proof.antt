@@ -1,5 +1,5 @@
 -- `items::list_condition` meets its contract.
-use Rattle.items.proofs.Writing.{put-then}
+use Rattle.putting.proofs.Writing.{put-then}
 use Prim.Native.Nat.{_%_}
 use native.Mathlib.Omega.{arith}
 use Rattle.items.proofs.Sizes.{ending-size, class-size}

@@ -1,5 +1,5 @@
 -- `items::list_parted` meets its contract.
-use Rattle.items.proofs.Writing.{put-then}
+use Rattle.putting.proofs.Writing.{put-then}
 use native.Mathlib.Omega.{arith}
 use mathlib.Core.Path.{refl}
 use Rattle.items.proofs.Sizes.{parting-size}

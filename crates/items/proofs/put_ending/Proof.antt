@@ -1,5 +1,5 @@
 -- `items::put_ending` meets its contract.
-use Rattle.items.proofs.Writing.{put-none}
+use Rattle.putting.proofs.Writing.{put-none}
 use borrow.Author.Needs.{needs}
 use Rattle.items.proofs.put_ending.Statement.{statement}
 use Rattle.items.proofs.put_ending.Tie as tie

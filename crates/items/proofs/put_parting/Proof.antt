@@ -1,6 +1,6 @@
 -- `items::put_parting` meets its contract.
 use Rattle.items.proofs.Sizes.{ending-size}
-use Rattle.items.proofs.Writing.{put-then}
+use Rattle.putting.proofs.Writing.{put-then}
 use native.Mathlib.Omega.{arith}
 use borrow.Author.Needs.{needs}
 use Rattle.items.proofs.put_parting.Statement.{statement}

@@ -1,6 +1,6 @@
 -- `printing::put_result` meets its contract.
 use native.Mathlib.Omega.{arith}
-use Rattle.items.proofs.Writing.{put-then}
+use Rattle.putting.proofs.Writing.{put-then}
 use Rattle.printing.proofs.Putting.{put-prints}
 use borrow.Author.Needs.{needs}
 use Rattle.printing.proofs.put_result.Statement.{statement}

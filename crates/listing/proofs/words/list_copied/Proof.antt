@@ -1,5 +1,5 @@
 -- `listing::words::list_copied` meets its contract.
-use Rattle.items.proofs.Writing.{put-then, put-length}
+use Rattle.putting.proofs.Writing.{put-then, put-length}
 use borrow.Author.Tests.{le-leb, lt-leb}
 use native.Mathlib.Omega.{arith}
 use mathlib.Core.Path.{refl}

@@ -1,5 +1,5 @@
 -- `listing::words::list_kind` meets its contract.
-use Rattle.items.proofs.Writing.{put-none}
+use Rattle.putting.proofs.Writing.{put-none}
 use Rattle.listing.proofs.Stepping.{other-kind}
 use mathlib.Core.Path.{refl}
 use borrow.Author.Needs.{needs}

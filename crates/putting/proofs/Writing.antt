@@ -8,7 +8,7 @@ use mathlib.Core.List.{List, [], _∷_, _++_}
 use lib.ListN.{length, drop, getD, drop-of-length-le, length-append}
 use lib.Seq.{sets, length-sets, drop-cons}
 use Rattle.meaning.proofs.laws.Storing.{sets-append}
-use Rattle.items.specs.Put.{Put}
+use Rattle.putting.specs.Put.{Put}
 
 -- a text of which i bytes are written, the next going to `next`: the rest written from here gives what the whole gives from the start
 pub record Writes (out₀ : List ℕ) (at : ℕ) (text : List ℕ) (out : List ℕ) (i next : ℕ) : Type 0 where

@@ -1,4 +1,4 @@
--- `items::is_coded` meets its contract.
+-- `strings::is_coded` meets its contract.
 use mathlib.Core.Path.{_≡_, _∙_}
 use mathlib.Core.Bool.{not}
 use borrow.Author.Tests.{le-leb, lt-leb, ne-eqb}
@@ -7,9 +7,9 @@ use native.Mathlib.Omega.{arith}
 use Rattle.meaning.specs.Choice.{either, both}
 use Rattle.meaning.specs.Classes.{within, inClass, digit}
 use Rattle.meaning.specs.Listing.{isAfterCode, isCoded}
-use Rattle.items.specs.Steps.{quotedIn}
-use Rattle.items.proofs.is_coded.Statement.{statement}
-use Rattle.items.proofs.is_coded.Tie as tie
+use Rattle.strings.specs.Steps.{quotedIn}
+use Rattle.strings.proofs.is_coded.Statement.{statement}
+use Rattle.strings.proofs.is_coded.Tie as tie
 
 -- neither 9 nor 10, and from 32 to 126
 other-here : (c : tie.Else2)

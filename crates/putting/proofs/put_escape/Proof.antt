@@ -1,8 +1,8 @@
--- `items::put_escape` meets its contract.
-use Rattle.items.proofs.Writing.{put-then}
+-- `putting::put_escape` meets its contract.
+use Rattle.putting.proofs.Writing.{put-then}
 use borrow.Author.Needs.{needs}
-use Rattle.items.proofs.put_escape.Statement.{statement}
-use Rattle.items.proofs.put_escape.Tie as tie
+use Rattle.putting.proofs.put_escape.Statement.{statement}
+use Rattle.putting.proofs.put_escape.Tie as tie
 
 returns : tie.Need-returns
 returns c = put-then (c .before .before .before .before .before .before .put .ensures) (c .before .before .put2 .ensures)

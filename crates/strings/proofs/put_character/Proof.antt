@@ -1,5 +1,5 @@
--- `items::put_character` meets its contract.
-use Rattle.items.proofs.Writing.{put-then}
+-- `strings::put_character` meets its contract.
+use Rattle.putting.proofs.Writing.{put-then}
 use borrow.Author.Tests.{ne-eqb}
 use borrow.Author.Needs.{needs}
 use mathlib.Core.Path.{_≡_, sym, _∙_}
@@ -8,9 +8,9 @@ use mathlib.Core.List.{[], _∷_}
 use lib.Dec.{eqb}
 use Rattle.meaning.specs.Choice.{pick}
 use Rattle.meaning.specs.Listing.{isCoded, characterText}
-use Rattle.items.specs.Steps.{quotedIn}
-use Rattle.items.proofs.put_character.Statement.{statement}
-use Rattle.items.proofs.put_character.Tie as tie
+use Rattle.strings.specs.Steps.{quotedIn}
+use Rattle.strings.proofs.put_character.Statement.{statement}
+use Rattle.strings.proofs.put_character.Tie as tie
 
 -- a character that is not coded, and one that isn't escaped either
 uncoded-here : (c : tie.Else1) → let a = c .before .before .before .args in isCoded (quotedIn (a .state)) (a .character) ≡ false

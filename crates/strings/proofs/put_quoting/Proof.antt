@@ -1,10 +1,10 @@
--- `items::put_quoting` meets its contract.
-use Rattle.items.proofs.Writing.{put-none, put-then}
+-- `strings::put_quoting` meets its contract.
+use Rattle.putting.proofs.Writing.{put-none, put-then}
 use native.Mathlib.Omega.{arith}
-use Rattle.items.proofs.Sizes.{gap-size}
+use Rattle.strings.proofs.Sizes.{gap-size}
 use borrow.Author.Needs.{needs}
-use Rattle.items.proofs.put_quoting.Statement.{statement}
-use Rattle.items.proofs.put_quoting.Tie as tie
+use Rattle.strings.proofs.put_quoting.Statement.{statement}
+use Rattle.strings.proofs.put_quoting.Tie as tie
 
 returns : tie.Need-returns
 returns c = rw (← (c .before .is-quoted .ensures), c .if1 .taken) put-none

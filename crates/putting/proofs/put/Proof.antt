@@ -1,9 +1,9 @@
--- `items::put::put` meets its contract: a byte past the buffer's end changes nothing.
+-- `putting::put` meets its contract: a byte past the buffer's end changes nothing.
 use borrow.Author.Needs.{needs}
 use mathlib.Core.Path.{sym, refl}
 use lib.Seq.{set-out}
-use Rattle.items.proofs.put.put.Statement.{statement}
-use Rattle.items.proofs.put.put.Tie as tie
+use Rattle.putting.proofs.put.Statement.{statement}
+use Rattle.putting.proofs.put.Tie as tie
 
 returns : tie.Need-returns
 returns c = record { place = refl; cells = refl }

@@ -1,11 +1,11 @@
--- `items::put::put_all` meets its contract: what is left of the text, written from here, gives what the whole text gives from the start.
+-- `putting::put_all` meets its contract: what is left of the text, written from here, gives what the whole text gives from the start.
 use Prim.Native.Nat.{_-_}
 use native.Mathlib.Omega.{arith}
 use mathlib.Core.Path.{refl}
 use lib.ListN.{length}
-use Rattle.items.proofs.Writing.{Writes, writes-byte, writes-length, writes-all}
-use Rattle.items.proofs.put.put_all.Statement.{statement}
-use Rattle.items.proofs.put.put_all.Tie as tie
+use Rattle.putting.proofs.Writing.{Writes, writes-byte, writes-length, writes-all}
+use Rattle.putting.proofs.put_all.Statement.{statement}
+use Rattle.putting.proofs.put_all.Tie as tie
 
 abbrev Inv-loop : tie.InvT-loop
 Inv-loop out₀ at text i₀ next₀ out i next = Writes out₀ at text out i next

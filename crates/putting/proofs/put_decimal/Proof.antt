@@ -1,12 +1,12 @@
--- `items::put_decimal` meets its contract.
+-- `putting::put_decimal` meets its contract.
 use Prim.Native.Nat.{_/_, _%_}
 use native.Mathlib.Omega.{arith}
 use mathlib.Core.Path.{_≡_}
 use borrow.Author.Tests.{lt-ltb, le-ltb}
-use Rattle.items.proofs.Writing.{put-then}
+use Rattle.putting.proofs.Writing.{put-then}
 use borrow.Author.Needs.{needs}
-use Rattle.items.proofs.put_decimal.Statement.{statement}
-use Rattle.items.proofs.put_decimal.Tie as tie
+use Rattle.putting.proofs.put_decimal.Statement.{statement}
+use Rattle.putting.proofs.put_decimal.Tie as tie
 
 returns : tie.Need-returns
 returns c = rw (lt-ltb _ _ (c .before .before .before .before .if1 .taken)) (c .before .before .put .ensures)

@@ -1,15 +1,15 @@
--- `items::list_character` meets its contract.
-use Rattle.items.proofs.Writing.{put-then}
+-- `strings::list_character` meets its contract.
+use Rattle.putting.proofs.Writing.{put-then}
 use native.Mathlib.Omega.{arith}
 use mathlib.Core.Path.{_≡_, sym, _∙_}
 use Rattle.meaning.specs.Choice.{pick}
-use Rattle.items.specs.declared.State.{State}
-use Rattle.items.specs.declared.State.the-variants.{InString, AfterCode}
-use Rattle.items.specs.Steps.{characterStep, Wrote}
-use Rattle.items.proofs.Sizes.{quoting-size}
+use Rattle.strings.specs.declared.State.{State}
+use Rattle.strings.specs.declared.State.the-variants.{InString, AfterCode}
+use Rattle.strings.specs.Steps.{characterStep, Wrote}
+use Rattle.strings.proofs.Sizes.{quoting-size}
 use borrow.Author.Needs.{needs}
-use Rattle.items.proofs.list_character.Statement.{statement}
-use Rattle.items.proofs.list_character.Tie as tie
+use Rattle.strings.proofs.list_character.Statement.{statement}
+use Rattle.strings.proofs.list_character.Tie as tie
 
 -- the string goes on as it was asked
 left-here : (c : tie.After-is-coded) {after : State} → pick (c .is-coded .result) AfterCode InString ≡ after

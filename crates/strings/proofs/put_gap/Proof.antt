@@ -1,8 +1,8 @@
--- `items::put_gap` meets its contract.
-use Rattle.items.proofs.Writing.{put-none}
+-- `strings::put_gap` meets its contract.
+use Rattle.putting.proofs.Writing.{put-none}
 use borrow.Author.Needs.{needs}
-use Rattle.items.proofs.put_gap.Statement.{statement}
-use Rattle.items.proofs.put_gap.Tie as tie
+use Rattle.strings.proofs.put_gap.Statement.{statement}
+use Rattle.strings.proofs.put_gap.Tie as tie
 
 returns : tie.Need-returns
 returns c = rw (← (c .before .is-start .ensures), c .if1 .taken) put-none

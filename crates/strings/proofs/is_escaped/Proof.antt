@@ -1,7 +1,7 @@
--- `items::is_escaped` meets its contract.
+-- `strings::is_escaped` meets its contract.
 use borrow.Author.Tests.{ne-eqb}
-use Rattle.items.proofs.is_escaped.Statement.{statement}
-use Rattle.items.proofs.is_escaped.Tie as tie
+use Rattle.strings.proofs.is_escaped.Statement.{statement}
+use Rattle.strings.proofs.is_escaped.Tie as tie
 
 returns : tie.Need-returns
 returns c = rw (c .if1 .taken)
