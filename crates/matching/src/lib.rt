@@ -4,7 +4,8 @@ ghost use mathlib.Core.Path.{_≡_};
 ghost use lib.Dec.{eqb};
 ghost use lib.ListN.{length, drop};
 ghost use Rattle.meaning.specs.Choice.{nth, pick};
-ghost use Rattle.meaning.specs.Instructions.{fromEnd};
+ghost use Rattle.meaning.specs.Instructions.{fromStart, fromEnd};
+ghost use Rattle.meaning.specs.Instructions.{look as looking};
 ghost use Rattle.meaning.specs.Rewriting.{sameTruth};
 ghost use Rattle.meaning.specs.Matching.{cellAt, checked, checkAll, chooseFrom};
 ghost use Rattle.meaning.specs.Matching.{check as tested, search as searched};
@@ -122,6 +123,17 @@ fn look(field: &[u8], place: usize, word: u32) -> Checked
     told((word / 16777216 % 256) as u8 == b)
 }
 
+// Look at a cell counted from p, the commonest of the tests.
+fn look_ahead(field: &[u8], word: u32) -> Checked
+    ensures { λ r. ⌜ checkedMeant r ≡ tested (looking (fromStart (secondIn word)) (thirdIn word)) (now (field .entry)) 0 ⌝ }
+{
+    let offset = wide(word / 65536 % 256);
+    if field.len() <= offset {
+        return Checked::Wrong;
+    }
+    told((word / 16777216 % 256) as u8 == field[offset])
+}
+
 // The bytes at two sites are equal.
 fn compare(field: &[u8], place: usize, word: u32) -> Checked
     ensures { λ r. ⌜ checkedMeant r ≡ tested (compareOf (siteOf (firstIn word % 4) (secondIn word)) (siteOf (firstIn word / 4) (thirdIn word))) (now (field .entry)) place ⌝ }
@@ -167,6 +179,9 @@ fn check(bits: &[u8; 256], field: &[u8], place: usize, word: u32) -> Checked
     requires { ⌜ Answers (now bits) ⌝ }
     ensures { λ r. ⌜ checkedMeant r ≡ tested (testOf word) (now (field .entry)) place ⌝ }
 {
+    if word % 65536 == 1 {
+        return look_ahead(field, word);
+    }
     let number = word % 256;
     match number {
         1 => look(field, place, word),

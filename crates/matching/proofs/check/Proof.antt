@@ -1,23 +1,27 @@
 -- `check` meets its contract.
 use borrow.Author.Needs.{needs}
-use Rattle.matching.proofs.laws.Fields.{test-unknown}
+use Rattle.matching.proofs.laws.Fields.{test-ahead, test-unknown}
 use Rattle.matching.proofs.check.Statement.{statement}
 use Rattle.matching.proofs.check.Tie as tie
 
-predicate-requires : tie.Need-predicate-requires
-predicate-requires c κs = c .before .before .pre
-
 returns : tie.Need-returns
-returns c = rw (c .before .match .keys1) (c .look .ensures)
+returns c = rw (test-ahead _ (c .before .if1 .taken)) (c .look-ahead .ensures)
+
+predicate-requires : tie.Need-predicate-requires
+predicate-requires c κs = c .before .before .before .pre
 
 returns-2 : tie.Need-returns-2
-returns-2 c = rw (c .before .match .keys2) (c .compare .ensures)
+returns-2 c = rw (c .before .match .keys1) (c .look .ensures)
 
 returns-3 : tie.Need-returns-3
-returns-3 c = rw (c .before .match .keys3) (c .predicate .ensures)
+returns-3 c = rw (c .before .match .keys2) (c .compare .ensures)
 
 returns-4 : tie.Need-returns-4
-returns-4 c = let r = c .match .rest in rw (test-unknown _ (r .0 .0 .1) (r .0 .1) (r .1))
+returns-4 c = rw (c .before .match .keys3) (c .predicate .ensures)
+
+returns-5 : tie.Need-returns-5
+returns-5 c = let r = c .match .rest in rw (test-unknown _ (r .0 .0 .1) (r .0 .1) (r .1))
 
 pub check-spec : {M : Type 1} → statement M
-check-spec = tie.close (tie.spec (λ c κs. search needs) (λ c κs. search needs) predicate-requires returns returns-2 returns-3 returns-4)
+check-spec =
+    tie.close (tie.spec (λ c κs. search needs) returns (λ c κs. search needs) (λ c κs. search needs) predicate-requires returns-2 returns-3 returns-4 returns-5)

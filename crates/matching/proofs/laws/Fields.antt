@@ -1,17 +1,18 @@
 -- The cells of a field and the tests on them, as matching asks for them.
-use Prim.Native.Nat.{ℕ, zero, suc, _≤_, _<_}
+use Prim.Native.Nat.{ℕ, zero, suc, _+_, _*_, _≤_, _<_, _%_}
 use native.Mathlib.Omega.{arith}
 use mathlib.Core.Path.{_≡_, refl}
 use mathlib.Core.Bool.{Bool}
 use mathlib.Core.Option.{Option, none, some}
+use lib.Arith.{mod-mul}
 use lib.Dec.{eqb}
 use borrow.Author.Tests.{ne-eqb}
 use Rattle.meaning.specs.Choice.{Bytes, pick}
 use Rattle.meaning.specs.Classes.{Class, digit, upper, lower, alphabetic, blank, inClass}
 use Rattle.meaning.specs.Rewriting.{sameTruth}
-use Rattle.meaning.specs.Instructions.{Site, unknownTest}
+use Rattle.meaning.specs.Instructions.{Site, fromStart, look, unknownTest}
 use Rattle.meaning.specs.Matching.{checked, asked, wrong, check}
-use Rattle.meaning.specs.Packing.{numberIn, classOf, siteOf, lookOf, compareOf, predicateFor, testOf, metricIn}
+use Rattle.meaning.specs.Packing.{numberIn, firstIn, secondIn, thirdIn, classOf, siteOf, lookOf, compareOf, predicateFor, testOf, metricIn}
 use Rattle.classes.specs.Tests.{classTest}
 use Rattle.matching.specs.Matched.{siteCell}
 
@@ -85,3 +86,11 @@ metric-unknown w = none-of (numberIn w) 16 17 18 _ _ _ none
 
 pub test-unknown : (w : ℕ) → (numberIn w ≡ 1 → ⊥) → (numberIn w ≡ 2 → ⊥) → (numberIn w ≡ 3 → ⊥) → testOf w ≡ unknownTest
 test-unknown w = none-of (numberIn w) 1 2 3 _ _ _ unknownTest
+
+-- a word whose number is 1 and whose register is 0
+pub test-ahead : (w : ℕ) → w % 65536 ≡ 1 → testOf w ≡ look (fromStart (secondIn w)) (thirdIn w)
+test-ahead w h =
+    let halves : w % 65536 ≡ firstIn w * 256 + numberIn w = mod-mul w {m = 256} {c = 256} (omega arith) (omega arith) in
+    let number : numberIn w ≡ 1 = omega arith in
+    let register : firstIn w ≡ 0 = omega arith in
+    rw (number, register)
