@@ -8,7 +8,7 @@ ghost use Rattle.meaning.specs.Instructions.{out, outCharacter, outValue, begin
 ghost use Rattle.decoding.specs.Decoded.{registerMeant, shiftMeant, writeMeant};
 ghost use Rattle.acting.specs.States.{memory, frameWord, localAt, Acts};
 ghost use Rattle.acting.specs.Spans.{withinCells, cellsOf, reachedBy};
-ghost use Rattle.acting.specs.Copied.{MovedDown};
+ghost use Rattle.acting.specs.Copied.{MovedDown, FewToMove, MovedFew};
 use crate::copying::copy_over;
 use crate::frames::set_word;
 use crate::frames::word;
@@ -225,6 +225,65 @@ pub fn begin_sequence(g: Registers, frames: &mut [usize]) -> Next
     Next::Onward(g)
 }
 
+// Four bytes of out moved to just below p, where so many are left; how many are moved. Then two, and one.
+fn move_four(input: &mut [u8], p: InCell, output: &[u8], first: OutCell, r: OutCell) -> usize
+    requires { ⌜ FewToMove 8 (now input) (p .0) (now output) (first .0) (r .0) ⌝ }
+    ensures { λ n. ⌜ MovedFew 4 (now (input .entry)) (p .0) (now (output .entry)) (first .0) (r .0) n (now (input .exit)) ⌝ }
+{
+    if r.0 - first.0 < 4 {
+        return 0;
+    }
+    let to = p.0;
+    let from = r.0;
+    input[to - 1] = output[from - 1];
+    input[to - 2] = output[from - 2];
+    input[to - 3] = output[from - 3];
+    input[to - 4] = output[from - 4];
+    4
+}
+
+fn move_two(input: &mut [u8], p: InCell, output: &[u8], first: OutCell, r: OutCell) -> usize
+    requires { ⌜ FewToMove 4 (now input) (p .0) (now output) (first .0) (r .0) ⌝ }
+    ensures { λ n. ⌜ MovedFew 2 (now (input .entry)) (p .0) (now (output .entry)) (first .0) (r .0) n (now (input .exit)) ⌝ }
+{
+    if r.0 - first.0 < 2 {
+        return 0;
+    }
+    let to = p.0;
+    let from = r.0;
+    input[to - 1] = output[from - 1];
+    input[to - 2] = output[from - 2];
+    2
+}
+
+fn move_one(input: &mut [u8], p: InCell, output: &[u8], first: OutCell, r: OutCell) -> usize
+    requires { ⌜ FewToMove 2 (now input) (p .0) (now output) (first .0) (r .0) ⌝ }
+    ensures { λ n. ⌜ MovedFew 1 (now (input .entry)) (p .0) (now (output .entry)) (first .0) (r .0) n (now (input .exit)) ⌝ }
+{
+    if r.0 - first.0 < 1 {
+        return 0;
+    }
+    let to = p.0;
+    let from = r.0;
+    input[to - 1] = output[from - 1];
+    1
+}
+
+// Fewer than eight bytes of out moved so, without a loop, which for so few would cost more than the moving.
+fn move_few(input: &mut [u8], p: InCell, output: &[u8], first: OutCell, r: OutCell) -> InCell
+    requires { ⌜ FewToMove 8 (now input) (p .0) (now output) (first .0) (r .0) ⌝ }
+    ensures { λ to. ⌜ MovedDown (now (input .entry)) (p .0) (now (output .entry)) (first .0) (r .0) (to .0) (now (input .exit)) ⌝ }
+{
+    let four = move_four(input, p, output, first, r);
+    let p = InCell(p.0 - four);
+    let r = OutCell(r.0 - four);
+    let two = move_two(input, p, output, first, r);
+    let p = InCell(p.0 - two);
+    let r = OutCell(r.0 - two);
+    let one = move_one(input, p, output, first, r);
+    InCell(p.0 - one)
+}
+
 // Bytes of out moved to just below p, from the last down to the first.
 fn move_down(input: &mut [u8], p: InCell, output: &[u8], first: OutCell, r: OutCell) -> InCell
     requires { ⌜ first .0 ≤ r .0 ⌝ }
@@ -236,6 +295,9 @@ fn move_down(input: &mut [u8], p: InCell, output: &[u8], first: OutCell, r: OutC
     let mut to = p.0;
     let mut from = r.0;
     let stop = first.0;
+    if from - stop < 8 {
+        return move_few(input, p, output, first, r);
+    }
     while stop < from {
         from -= 1;
         to -= 1;

@@ -1,5 +1,6 @@
 -- `moving::move_down` meets its contract. The loop's invariant, after each byte: the bytes moved stand in order just below the old p, the others are
 -- still on out, and no other cell of in has changed.
+use borrow.Author.Needs.{needs}
 use native.Mathlib.Omega.{arith}
 use Prim.Native.Nat.{_≤_}
 use mathlib.Core.Path.{_≡_, refl}
@@ -16,7 +17,7 @@ abbrev μ-loop : tie.MeasureT-loop
 μ-loop input₀ output to₀ from₀ stop input to from = from
 
 loop-holds : tie.Need-loop-holds Inv-loop μ-loop
-loop-holds c = (moved-none _ _ _ _, c .pre .0, omega arith, refl)
+loop-holds c = (moved-none _ _ _ _, c .before .before .before .pre .0, omega arith, refl)
 
 loop-again : tie.Need-loop-again Inv-loop μ-loop
 loop-again c = (
@@ -26,11 +27,16 @@ loop-again c = (
   rw length-set (c .before .before .loop .inv .3),
 )
 
-same-length : tie.Need-same-length Inv-loop μ-loop
-same-length c = c .before .loop .inv .3
+same-length-2 : tie.Need-same-length-2 Inv-loop μ-loop
+same-length-2 c = c .before .loop .inv .3
 
-returns : tie.Need-returns Inv-loop μ-loop
-returns c = let e : c .before .loop .from ≡ c .before .before .args .first .0 = omega arith in rw e at (c .before .loop .inv .0)
+returns-2 : tie.Need-returns-2 Inv-loop μ-loop
+returns-2 c =
+    let at-loop = c .before in
+    let e : at-loop .loop .from ≡ at-loop .before .before .before .before .args .first .0 = omega arith in
+    rw e at (at-loop .loop .inv .0)
 
 pub move-down-spec : {M : Type 1} → statement M
-move-down-spec = tie.close (tie.spec Inv-loop μ-loop loop-holds (λ c. omega arith) (λ c. omega arith) (λ c. omega arith) (λ c. omega arith) (λ c. omega arith) loop-again same-length returns)
+move-down-spec =
+    tie.close (tie.spec Inv-loop μ-loop (λ c. search needs) (λ c κs. search needs) (λ c. search needs) (λ c. search needs)
+    loop-holds (λ c. omega arith) (λ c. omega arith) (λ c. omega arith) (λ c. omega arith) (λ c. omega arith) loop-again same-length-2 returns-2)
