@@ -2,7 +2,8 @@
 use Prim.Native.Nat.{ℕ, suc, _+_, _*_, _-_, _≤_, _<_}
 use mathlib.Core.Path.{_≡_}
 use mathlib.Core.List.{List}
-use lib.ListN.{length, getD, take, drop}
+use mathlib.Core.Bool.{Bool, true, false}
+use lib.ListN.{length, getD, take, drop, set}
 use Rattle.meaning.specs.Choice.{Bytes}
 use Rattle.meaning.specs.Outcome.{Outcome, done, stop}
 use Rattle.meaning.specs.Instructions.{Action, Code}
@@ -26,7 +27,7 @@ abbrev pub memory : Bytes → Bytes → Bytes → List ℕ → Bytes → Memory
 memory input output journal frames values =
     record { input = input; output = output; journal = journal; frames = frames; values = values }
 
--- a frame's words: where its call returns to, d, dl, the number of values, the number of open sequences; and from the end back r at each BeginSeq
+-- a frame's words: the lengths of null, d, dl and dr, the number of values, the number of open sequences, where its call returns to; and from the end back r at each BeginSeq
 abbrev pub frameWord : ℕ → ℕ → List ℕ → ℕ
 frameWord k i frames = getD frames (24 * k + i) 0
 
@@ -35,9 +36,26 @@ localAt k frames values =
     record {
       field = frameWord k 1 frames;
       place = frameWord k 2 frames;
-      values = take (frameWord k 3 frames) (drop (16 * k) (take (16 * k + 16) values));
-      opened = drop (24 * k + 24 - frameWord k 4 frames) (take (24 * k + 24) frames);
+      values = take (frameWord k 4 frames) (drop (16 * k) (take (16 * k + 16) values));
+      opened = drop (24 * k + 24 - frameWord k 5 frames) (take (24 * k + 24) frames);
     }
+
+-- a frame's words agree with each other, and it keeps no more than it has room for
+pub record Held (k : ℕ) (frames : List ℕ) : Type 0 where
+  pub null : frameWord k 0 frames ≡ 0
+  pub right : frameWord k 3 frames ≡ frameWord k 1 frames - frameWord k 2 frames
+  pub stored : frameWord k 4 frames ≤ 16
+  pub opened : frameWord k 5 frames ≤ 16
+
+-- a sequence opened at a cell of out, if one more may be open
+abbrev pub openedAt : ℕ → ℕ → List ℕ → List ℕ
+openedAt k r frames =
+    let count = frameWord k 5 frames in
+    set (set frames (24 * k + (23 - count)) r) (24 * k + 5) (count + 1)
+
+abbrev pub Opens : ℕ → ℕ → List ℕ → List ℕ → Bool → Type 0
+Opens k r before after true = (frameWord k 5 before < 16) × (after ≡ openedAt k r before)
+Opens k r before after false = (16 ≤ frameWord k 5 before) × (after ≡ before)
 
 abbrev pub localOf : Registers → Memory → Local
 localOf g m = localAt (g .frame) (m .frames) (m .values)
@@ -70,6 +88,7 @@ movedTo g p q r =
       at = g .at;
       steps = g .steps;
       emitted = g .emitted;
+      callee = g .callee;
     }
 
 -- the registers stay within what is lent
@@ -79,8 +98,7 @@ pub record Fits (g : Registers) (m : Memory) : Type 0 where
   pub below : g .r .0 ≤ length (m .output)
   pub logged : g .emitted ≤ length (m .journal)
   pub framed : g .frame < maxFrames
-  pub stored : frameWord (g .frame) 3 (m .frames) ≤ 16
-  pub opened : frameWord (g .frame) 4 (m .frames) ≤ 16
+  pub held : Held (g .frame) (m .frames)
   pub frameRoom : length (m .frames) ≡ 6144
   pub valueRoom : length (m .values) ≡ 4096
 
@@ -103,6 +121,7 @@ pub record Stayed (at : ℕ) (g : Registers) (m : Memory) (h : Registers) (n : M
   pub frame : h .frame ≡ g .frame
   pub place : h .at .0 ≡ at
   pub steps : h .steps ≡ g .steps
+  pub callee : h .callee ≡ g .callee
   pub waiting : take (24 * g .frame) (n .frames) ≡ take (24 * g .frame) (m .frames)
   pub values : n .values ≡ m .values
   pub beyond : (old : Bytes) → drop (g .emitted) (m .journal) ≡ drop (g .emitted) old → drop (h .emitted) (n .journal) ≡ drop (h .emitted) old

@@ -1,12 +1,13 @@
 // The instructions that move text: Go, Select, Out, OutC, OutV, BeginSeq, UseSeq.
-ghost use Prim.Native.Nat.{ℕ, _+_, _-_, _≤_, _<_, min};
+ghost use Prim.Native.Nat.{ℕ, _+_, _-_, _≤_, _<_, _^_, min};
 ghost use mathlib.Core.Path.{_≡_};
 ghost use mathlib.Core.List.{List};
 ghost use lib.ListN.{length};
 ghost use Rattle.meaning.specs.Choice.{Bytes};
-ghost use Rattle.meaning.specs.Instructions.{out, outCharacter, outValue, beginSequence, useSequence};
-ghost use Rattle.decoding.specs.Decoded.{registerMeant, shiftMeant, writeMeant};
-ghost use Rattle.acting.specs.States.{memory, frameWord, localAt, Acts};
+ghost use Rattle.meaning.specs.Instructions.{go as going, select as selecting, out, outCharacter, outValue, beginSequence, useSequence};
+ghost use Rattle.meaning.specs.Packing.{firstIn, secondIn, thirdIn, lengthOf};
+ghost use Rattle.decoding.specs.Decoded.{spanMeant, writeMeant};
+ghost use Rattle.acting.specs.States.{memory, localAt, Held, Opens, Acts};
 ghost use Rattle.acting.specs.Spans.{withinCells, cellsOf, reachedBy};
 ghost use Rattle.acting.specs.Copied.{MovedDown, FewToMove, MovedFew};
 use crate::copying::copy_over;
@@ -17,10 +18,8 @@ use crate::registers::InCell;
 use crate::registers::Next;
 use crate::registers::OutCell;
 use crate::registers::Registers;
-use decoding::Length;
-use decoding::Shift;
-use decoding::Span;
 use decoding::Write;
+use matching::wide;
 
 // How many cells a span counts, where they are there.
 pub enum Cells {
@@ -33,7 +32,7 @@ pub enum Reached {
     Wrong,
 }
 
-fn less(a: usize, b: usize) -> usize
+pub fn less(a: usize, b: usize) -> usize
     ensures { λ r. ⌜ r ≡ a - b ⌝ }
 {
     if b < a { a - b } else { 0 }
@@ -41,50 +40,44 @@ fn less(a: usize, b: usize) -> usize
 
 // cells + add - back, if that many cells are there
 fn within(cells: usize, add: usize, back: usize, there: usize) -> Cells
+    requires { ⌜ back < 256 ⌝ }
+    requires { ⌜ there < 2 ^ 63 ⌝ }
     ensures { λ r. ⌜ r ≡ withinCells (cells + add - back) there ⌝ }
 {
-    if back <= add {
-        let more = add - back;
-        if there < more {
-            return Cells::Wrong;
-        }
-        if there - more < cells {
-            return Cells::Wrong;
-        }
-        return Cells::Count(cells + more);
-    }
-    let count = less(cells, back - add);
-    if there < count {
+    let limit = there + back;
+    if limit < add {
         return Cells::Wrong;
     }
-    Cells::Count(count)
+    if limit - add < cells {
+        return Cells::Wrong;
+    }
+    Cells::Count(less(cells + add, back))
 }
 
-fn span_cells(frames: &[usize], frame: usize, span: Span, there: usize) -> Cells
+// The cells of a span: a register's length, with an addition, less what stays back.
+fn span_cells(frames: &[usize], frame: usize, span: u32, there: usize) -> Cells
     requires { ⌜ frame < 256 ⌝ }
     requires { ⌜ length (now frames) ≡ 6144 ⌝ }
-    ensures { λ r. ⌜ ((values : Bytes) → r ≡ cellsOf (registerMeant (span .register)) (span .add) (span .back) (localAt frame (now (frames .entry)) values) there) ⌝ }
+    requires { ⌜ Held frame (now frames) ⌝ }
+    requires { ⌜ there < 2 ^ 63 ⌝ }
+    ensures { λ r. ⌜ ((values : Bytes) → r ≡ cellsOf (lengthOf (firstIn span)) (secondIn span) (thirdIn span) (localAt frame (now (frames .entry)) values) there) ⌝ }
 {
-    let register = span.register;
-    let add = span.add;
-    let back = span.back;
-    let field = word(frames, frame, 1);
-    let place = word(frames, frame, 2);
-    match register {
-        Length::Null => within(0, add, back, there),
-        Length::Whole => within(field, add, back, there),
-        Length::Left => within(place, add, back, there),
-        Length::Right => within(less(field, place), add, back, there),
-        Length::Unknown => Cells::Wrong,
+    let register = wide(span / 256 % 256);
+    if 3 < register {
+        return Cells::Wrong;
     }
+    let add = wide(span / 65536 % 256);
+    let back = wide(span / 16777216 % 256);
+    within(word(frames, frame, register), add, back, there)
 }
 
 // The cell that a span's cells lead to from another.
-fn reach(from: InCell, span: Span, frame: usize, input: &[u8], frames: &[usize]) -> Reached
+fn reach(from: InCell, span: u32, frame: usize, input: &[u8], frames: &[usize]) -> Reached
     requires { ⌜ from .0 ≤ length (now input) ⌝ }
     requires { ⌜ frame < 256 ⌝ }
     requires { ⌜ length (now frames) ≡ 6144 ⌝ }
-    ensures { λ r. ⌜ ((values : Bytes) → r ≡ reachedBy (cellsOf (registerMeant (span .register)) (span .add) (span .back)
+    requires { ⌜ Held frame (now frames) ⌝ }
+    ensures { λ r. ⌜ ((values : Bytes) → r ≡ reachedBy (cellsOf (lengthOf (firstIn span)) (secondIn span) (thirdIn span)
         (localAt frame (now (frames .entry)) values) (length (now (input .entry)) - from .0)) (from .0)) ⌝ }
 {
     let at = from.0;
@@ -94,32 +87,39 @@ fn reach(from: InCell, span: Span, frame: usize, input: &[u8], frames: &[usize])
     }
 }
 
-// Go: p moves on by a span's cells, and q to p. Select: q moves on.
-pub fn shift(g: Registers, what: Shift, input: &[u8], frames: &[usize]) -> Next
+// Go: p moves on by a span's cells, and q to p.
+pub fn go(g: Registers, span: u32, input: &[u8], frames: &[usize]) -> Next
     requires { ⌜ g .p .0 ≤ g .q .0 ⌝ }
     requires { ⌜ g .q .0 ≤ length (now input) ⌝ }
     requires { ⌜ g .frame < 256 ⌝ }
     requires { ⌜ length (now frames) ≡ 6144 ⌝ }
-    ensures { λ r. ⌜ ((output journal values : Bytes) → Acts (shiftMeant what) (g .at .0) g (memory (now (input .entry)) output journal (now (frames .entry)) values)
+    requires { ⌜ Held (g .frame) (now frames) ⌝ }
+    ensures { λ r. ⌜ ((output journal values : Bytes) → Acts (spanMeant going span) (g .at .0) g (memory (now (input .entry)) output journal (now (frames .entry)) values)
         r (memory (now (input .entry)) output journal (now (frames .entry)) values)) ⌝ }
 {
-    match what {
-        Shift::Go(span) => {
-            let Reached::At(to) = reach(g.p, span, g.frame, input, frames) else {
-                return Next::Stopped(g, Ending::NoInstruction, 0);
-            };
-            Next::Onward(Registers { p: to, q: to, ..g })
-        }
-        Shift::Select(span) => {
-            let Reached::At(to) = reach(g.q, span, g.frame, input, frames) else {
-                return Next::Stopped(g, Ending::NoInstruction, 0);
-            };
-            Next::Onward(Registers { q: to, ..g })
-        }
-    }
+    let Reached::At(to) = reach(g.p, span, g.frame, input, frames) else {
+        return Next::Stopped(g, Ending::NoInstruction, 0);
+    };
+    Next::Onward(Registers { p: to, q: to, ..g })
 }
 
-fn write_part(g: Registers, input: &[u8], output: &mut [u8]) -> Next
+// Select: q moves on by a span's cells.
+pub fn select(g: Registers, span: u32, input: &[u8], frames: &[usize]) -> Next
+    requires { ⌜ g .p .0 ≤ g .q .0 ⌝ }
+    requires { ⌜ g .q .0 ≤ length (now input) ⌝ }
+    requires { ⌜ g .frame < 256 ⌝ }
+    requires { ⌜ length (now frames) ≡ 6144 ⌝ }
+    requires { ⌜ Held (g .frame) (now frames) ⌝ }
+    ensures { λ r. ⌜ ((output journal values : Bytes) → Acts (spanMeant selecting span) (g .at .0) g (memory (now (input .entry)) output journal (now (frames .entry)) values)
+        r (memory (now (input .entry)) output journal (now (frames .entry)) values)) ⌝ }
+{
+    let Reached::At(to) = reach(g.q, span, g.frame, input, frames) else {
+        return Next::Stopped(g, Ending::NoInstruction, 0);
+    };
+    Next::Onward(Registers { q: to, ..g })
+}
+
+pub fn write_part(g: Registers, input: &[u8], output: &mut [u8]) -> Next
     requires { ⌜ g .p .0 ≤ g .q .0 ⌝ }
     requires { ⌜ g .q .0 ≤ length (now input) ⌝ }
     requires { ⌜ g .r .0 ≤ length (now output) ⌝ }
@@ -141,7 +141,7 @@ fn write_part(g: Registers, input: &[u8], output: &mut [u8]) -> Next
     })
 }
 
-fn write_byte(g: Registers, byte: u8, output: &mut [u8]) -> Next
+pub fn write_byte(g: Registers, byte: u8, output: &mut [u8]) -> Next
     requires { ⌜ g .r .0 ≤ length (now output) ⌝ }
     ensures { λ r. ⌜ ((input journal values : Bytes) (frames : List ℕ) → Acts (outCharacter byte) (g .at .0) g
         (memory input (now (output .entry)) journal frames values) r (memory input (now (output .exit)) journal frames values)) ⌝ }
@@ -167,14 +167,14 @@ fn write_value(
     requires { ⌜ g .r .0 ≤ length (now output) ⌝ }
     requires { ⌜ g .frame < 256 ⌝ }
     requires { ⌜ length (now frames) ≡ 6144 ⌝ }
-    requires { ⌜ frameWord (g .frame) 3 (now frames) ≤ 16 ⌝ }
+    requires { ⌜ Held (g .frame) (now frames) ⌝ }
     requires { ⌜ length (now values) ≡ 4096 ⌝ }
     ensures { λ r. ⌜ ((input journal : Bytes) → Acts (outValue index) (g .at .0) g
         (memory input (now (output .entry)) journal (now (frames .entry)) (now (values .entry))) r
         (memory input (now (output .exit)) journal (now (frames .entry)) (now (values .entry)))) ⌝ }
 {
     let frame = g.frame;
-    if word(frames, frame, 3) <= index {
+    if word(frames, frame, 4) <= index {
         return Next::Stopped(g, Ending::NoInstruction, 0);
     }
     write_byte(g, values[16 * frame + index], output)
@@ -194,7 +194,7 @@ pub fn write(
     requires { ⌜ g .r .0 ≤ length (now output) ⌝ }
     requires { ⌜ g .frame < 256 ⌝ }
     requires { ⌜ length (now frames) ≡ 6144 ⌝ }
-    requires { ⌜ frameWord (g .frame) 3 (now frames) ≤ 16 ⌝ }
+    requires { ⌜ Held (g .frame) (now frames) ⌝ }
     requires { ⌜ length (now values) ≡ 4096 ⌝ }
     ensures { λ r. ⌜ ((journal : Bytes) → Acts (writeMeant what) (g .at .0) g
         (memory (now (input .entry)) (now (output .entry)) journal (now (frames .entry)) (now (values .entry))) r
@@ -207,21 +207,33 @@ pub fn write(
     }
 }
 
-// BeginSeq: r is kept; a frame's words end with what it keeps, the latest first.
+// Keeps r as a sequence begins, if one more may be open; a frame's words end with what it keeps, the latest first.
+pub fn open_sequence(frames: &mut [usize], frame: usize, r: OutCell) -> bool
+    requires { ⌜ frame < 256 ⌝ }
+    requires { ⌜ length (now frames) ≡ 6144 ⌝ }
+    requires { ⌜ Held frame (now frames) ⌝ }
+    ensures { λ ok. ⌜ Opens frame (r .0) (now (frames .entry)) (now (frames .exit)) ok ⌝ }
+{
+    let opened = word(frames, frame, 5);
+    if 16 <= opened {
+        return false;
+    }
+    set_word(frames, frame, 23 - opened, r.0);
+    set_word(frames, frame, 5, opened + 1);
+    true
+}
+
+// BeginSeq: r is kept.
 pub fn begin_sequence(g: Registers, frames: &mut [usize]) -> Next
     requires { ⌜ g .frame < 256 ⌝ }
     requires { ⌜ length (now frames) ≡ 6144 ⌝ }
-    requires { ⌜ frameWord (g .frame) 4 (now frames) ≤ 16 ⌝ }
+    requires { ⌜ Held (g .frame) (now frames) ⌝ }
     ensures { λ r. ⌜ ((input output journal values : Bytes) → g .r .0 ≤ length output →
         Acts beginSequence (g .at .0) g (memory input output journal (now (frames .entry)) values) r (memory input output journal (now (frames .exit)) values)) ⌝ }
 {
-    let frame = g.frame;
-    let opened = word(frames, frame, 4);
-    if 16 <= opened {
+    if !open_sequence(frames, g.frame, g.r) {
         return Next::Stopped(g, Ending::NoInstruction, 0);
     }
-    set_word(frames, frame, 23 - opened, g.r.0);
-    set_word(frames, frame, 4, opened + 1);
     Next::Onward(g)
 }
 
@@ -292,16 +304,15 @@ fn move_down(input: &mut [u8], p: InCell, output: &[u8], first: OutCell, r: OutC
     requires { ⌜ p .0 ≤ length (now input) ⌝ }
     ensures { λ to. ⌜ MovedDown (now (input .entry)) (p .0) (now (output .entry)) (first .0) (r .0) (to .0) (now (input .exit)) ⌝ }
 {
-    let mut to = p.0;
-    let mut from = r.0;
-    let stop = first.0;
-    if from - stop < 8 {
+    let from = first.0;
+    let mut left = r.0 - from;
+    if left < 8 {
         return move_few(input, p, output, first, r);
     }
-    while stop < from {
-        from -= 1;
-        to -= 1;
-        input[to] = output[from];
+    let to = p.0 - left;
+    while 0 < left {
+        left -= 1;
+        input[to + left] = output[from + left];
     }
     InCell(to)
 }
@@ -319,13 +330,13 @@ pub fn use_sequence(g: Registers, input: &mut [u8], output: &[u8], frames: &mut 
     requires { ⌜ g .r .0 ≤ length (now output) ⌝ }
     requires { ⌜ g .frame < 256 ⌝ }
     requires { ⌜ length (now frames) ≡ 6144 ⌝ }
-    requires { ⌜ frameWord (g .frame) 4 (now frames) ≤ 16 ⌝ }
+    requires { ⌜ Held (g .frame) (now frames) ⌝ }
     ensures { λ r. ⌜ ((journal values : Bytes) → Acts useSequence (g .at .0) g
         (memory (now (input .entry)) (now (output .entry)) journal (now (frames .entry)) values) r
         (memory (now (input .exit)) (now (output .entry)) journal (now (frames .exit)) values)) ⌝ }
 {
     let frame = g.frame;
-    let opened = word(frames, frame, 4);
+    let opened = word(frames, frame, 5);
     if opened == 0 {
         return Next::Stopped(g, Ending::NoInstruction, 0);
     }
@@ -333,7 +344,7 @@ pub fn use_sequence(g: Registers, input: &mut [u8], output: &[u8], frames: &mut 
     if g.p.0 < g.r.0 - first.0 {
         return Next::Stopped(g, Ending::InFull, 0);
     }
-    set_word(frames, frame, 4, opened - 1);
+    set_word(frames, frame, 5, opened - 1);
     let start = move_down(input, g.p, output, first, g.r);
     let end = g.p;
     Next::Onward(Registers {

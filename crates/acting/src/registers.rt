@@ -9,7 +9,7 @@ pub struct InCell(pub usize);
 pub struct OutCell(pub usize);
 
 // 000's p, q and r; the current frame, as the number of frames that wait below it; the next code word; the steps made and the length of
-// the emissions.
+// the emissions; and the function whose application is to begin, 0 while the actions of one are done.
 pub struct Registers {
     pub p: InCell,
     pub q: InCell,
@@ -18,6 +18,7 @@ pub struct Registers {
     pub at: CodePlace,
     pub steps: u32,
     pub emitted: usize,
+    pub callee: usize,
 }
 
 // 01's answers to a run.

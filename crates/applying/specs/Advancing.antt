@@ -12,18 +12,14 @@ use Rattle.meaning.specs.Machine.{started, ranPaid}
 use Rattle.meaning.specs.Runs.{lent}
 use Rattle.meaning.specs.Packing.{Words, unpackStores, unpackActions}
 use Rattle.meaning.specs.Leaving.{maxFrames}
+use Rattle.decoding.specs.Decoded.{Numbered}
 use Rattle.acting.specs.declared.registers.Registers.{Registers}
 use Rattle.acting.specs.declared.registers.Next.{Next}
 use Rattle.acting.specs.declared.registers.Next.the-variants.{Onward, Done, Stopped}
 use Rattle.acting.specs.declared.registers.Status.{Status}
 use Rattle.acting.specs.declared.registers.Status.the-variants as status
-use Rattle.acting.specs.States.{Memory, frameWord, stacksOf, ledgerOf, roomOf, Outcomes}
+use Rattle.acting.specs.States.{Memory, memory, Held, stacksOf, ledgerOf, roomOf, Outcomes}
 use Rattle.applying.specs.Waiting.{functionsIn, entering, returning, comesTo, performing, leftBelow, leftToDo}
-
--- a frame keeps no more than it has room for
-pub record Held (k : ℕ) (frames : List ℕ) : Type 0 where
-  pub stored : frameWord k 3 frames ≤ 16
-  pub opened : frameWord k 4 frames ≤ 16
 
 -- the registers stay within what is lent and allowed, and so do the frames that wait: an application may begin
 pub record Ready (allowance : ℕ) (g : Registers) (m : Memory) : Type 0 where
@@ -37,10 +33,22 @@ pub record Ready (allowance : ℕ) (g : Registers) (m : Memory) : Type 0 where
   pub paid : g .steps ≤ allowance
   pub held : (k : ℕ) → k < g .frame → Held k (m .frames)
 
--- and so does the current frame: an instruction may come next
+-- and so does the current frame: an application or an instruction may come next
 pub record Underway (allowance : ℕ) (g : Registers) (m : Memory) : Type 0 where
   pub ready : Ready allowance g m
   pub current : Held (g .frame) (m .frames)
+
+-- no application is to begin: an instruction comes next
+pub record Acting (allowance : ℕ) (g : Registers) (m : Memory) : Type 0 where
+  pub underway : Underway allowance g m
+  pub idle : g .callee ≡ 0
+
+-- the same, whatever is allowed, recorded and stored
+pub record Ongoing (g : Registers) (input output : Bytes) (frames : List ℕ) : Type 0 where
+  pub allowance : ℕ
+  pub journal : Bytes
+  pub values : Bytes
+  pub acting : Acting allowance g (memory input output journal frames values)
 
 pub record Ended (g : Registers) (m : Memory) : Type 0 where
   pub below : g .r .0 ≤ length (m .output)
@@ -85,10 +93,75 @@ pub record Advances (words : Words) (allowance : ℕ) (tocome : Outcomes) (bound
   pub leads : Leads words allowance tocome g m next n
   pub falls : leftToDo (length words) allowance next n < bound
 
--- one instruction of the loop
+-- actions come next, if the run goes on
+abbrev pub Idle : Next → Type 0
+Idle (Onward g) = g .callee ≡ 0
+Idle (Done g) = Unit {0}
+Idle (Stopped g ending function) = Unit {0}
+
+-- an application begun: what comes after it are its actions
+pub record Begins (words : Words) (allowance : ℕ) (tocome : Outcomes) (bound : ℕ) (g : Registers) (m : Memory) (next : Next) (n : Memory) : Type 0 where
+  pub advances : Advances words allowance tocome bound g m next n
+  pub idle : Idle next
+
+-- one turn of the loop
 abbrev pub Steps : Words → ℕ → Registers → Memory → Next → Memory → Type 0
 Steps words allowance g m next n =
     Advances words allowance (comesTo (roomOf m) allowance words (Onward g) m) (leftToDo (length words) allowance (Onward g) m) g m next n
+
+-- INSTRUCTIONS THAT ARE TRIED, each where it comes next
+
+-- the registers at the place after a word
+abbrev pub stepped : Registers → Registers
+stepped g =
+    record {
+      p = g .p;
+      q = g .q;
+      r = g .r;
+      frame = g .frame;
+      at = record { 0 = g .at .0 + 1 };
+      steps = g .steps;
+      emitted = g .emitted;
+      callee = g .callee;
+    }
+
+-- the registers after an action, or those before it where it stops
+abbrev pub keptOf : Next → Registers → Registers
+keptOf (Onward h) g = h
+keptOf (Done h) g = g
+keptOf (Stopped h ending function) g = g
+
+-- all is as it was, or less is left to do
+pub data Moved (size allowance : ℕ) (g : Registers) (m : Memory) (h : Registers) (n : Memory) : Type 0 where
+  still : h ≡ g → n ≡ m → Moved size allowance g m h n
+  onwards : leftToDo size allowance (Onward h) n < leftToDo size allowance (Onward g) m → Moved size allowance g m h n
+
+pub record Tried (words : Words) (allowance : ℕ) (g : Registers) (m : Memory) (h : Registers) (n : Memory) : Type 0 where
+  pub leads : Leads words allowance (comesTo (roomOf m) allowance words (Onward g) m) g m (Onward h) n
+  pub idle : h .callee ≡ 0
+  pub moved : Moved (length words) allowance g m h n
+
+abbrev pub Tries : Words → ℕ → Registers → Memory → Registers → Memory → Type 0
+Tries words allowance g m h n = Acting allowance g m → Tried words allowance g m h n
+
+-- UseSeq's number
+abbrev pub useNumber : ℕ
+useNumber = 11
+
+-- UseSeq done where it comes next, or another instruction comes next
+pub data Used (words : Words) (allowance : ℕ) (g : Registers) (m : Memory) (next : Next) (n : Memory) : Type 0 where
+  other : (Numbered words (g .at .0) useNumber → ⊥) → next ≡ Onward g → n ≡ m → Used words allowance g m next n
+  used : Steps words allowance g m next n → Idle next → Used words allowance g m next n
+
+abbrev pub Uses : Words → ℕ → Registers → Memory → Next → Memory → Type 0
+Uses words allowance g m next n = Acting allowance g m → Used words allowance g m next n
+
+-- one instruction done, any but UseSeq; before UseSeq less must be left to do already
+abbrev pub Does : Words → ℕ → Registers → Memory → Next → Memory → Type 0
+Does words allowance g m next n =
+    (bound : ℕ) → leftToDo (length words) allowance (Onward g) m ≤ bound →
+    (Numbered words (g .at .0) useNumber → leftToDo (length words) allowance (Onward g) m < bound) →
+    Advances words allowance (comesTo (roomOf m) allowance words (Onward g) m) bound g m next n
 
 -- an instruction does the machine's action, the registers being at the place after its word, and leads on to a place
 abbrev pub Performs : Words → ℕ → Action → ℕ → Registers → Memory → Next → Memory → Type 0
@@ -100,7 +173,7 @@ Performs words allowance action at g m next n =
 abbrev pub Applies : Words → ℕ → ℕ → Registers → Memory → Next → Memory → Type 0
 Applies words allowance number g m next n =
     Ready allowance g m →
-    Advances words allowance
+    Begins words allowance
     (returning (roomOf m) allowance words g m
     (ranPaid (lent (roomOf m)) (functionsIn words) (entering (roomOf m) allowance words) (suc (g .frame)) number (stacksOf g m) (ledgerOf allowance g m)
     (pay (ledgerOf allowance g m .tally))))
@@ -111,13 +184,19 @@ Applies words allowance number g m next n =
 abbrev pub Starts : Words → ℕ → ℕ → ℕ → ℕ → Registers → Memory → Next → Memory → Type 0
 Starts words allowance at stores stored g m next n =
     Ready allowance g m →
-    Advances words allowance
+    Begins words allowance
     (returning (roomOf m) allowance words g m
     (started (lent (roomOf m)) (functionsIn words) (entering (roomOf m) allowance words) (suc (g .frame)) (unpackActions 0 (drop (stores + stored) words)) at
     (storedValues (unpackStores stored (drop stores words)) (take (g .q .0 - g .p .0) (drop (g .p .0) (m .input))) at)
     (stacksOf g m) (ledgerOf allowance g m)))
     (leftBelow (length words) allowance g m + suc (suc (length words)))
     g m next n
+
+-- the application that is to begin, if there is one
+abbrev pub Enters : Words → ℕ → Registers → Memory → Next → Memory → Type 0
+Enters words allowance g m next n =
+    Underway allowance g m →
+    Begins words allowance (comesTo (roomOf m) allowance words (Onward g) m) (suc (leftToDo (length words) allowance (Onward g) m)) g m next n
 
 -- a run that has ended
 abbrev pub IsOver : Next → Type 0

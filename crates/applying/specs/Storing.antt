@@ -1,5 +1,5 @@
 -- What the beginning of an application leaves in its frame: the values of its stores, and the words of the frame.
-use Prim.Native.Nat.{ℕ, _+_, _*_}
+use Prim.Native.Nat.{ℕ, _+_, _*_, _-_}
 use mathlib.Core.Path.{_≡_}
 use mathlib.Core.Option.{Option, none, some}
 use mathlib.Core.List.{List}
@@ -24,7 +24,7 @@ pub record Stores (base count next : ℕ) (values : Option Bytes) (before after 
   pub below : take base after ≡ take base before
   pub above : drop (base + count) after ≡ drop (base + count) before
 
--- a frame's words as its application begins: d, dl, the number of values, and no sequence open
+-- a frame's words as its application begins: the lengths of the registers by their numbers, the number of values, and no sequence open
 abbrev pub begun : ℕ → ℕ → ℕ → ℕ → List ℕ → List ℕ
 begun frame field place stored frames =
-    set (set (set (set frames (24 * frame + 1) field) (24 * frame + 2) place) (24 * frame + 3) stored) (24 * frame + 4) 0
+    set (set (set (set (set (set frames (24 * frame + 0) 0) (24 * frame + 1) field) (24 * frame + 2) place) (24 * frame + 3) (field - place)) (24 * frame + 4) stored) (24 * frame + 5) 0

@@ -4,10 +4,10 @@ use mathlib.Core.Bool.{Bool}
 use mathlib.Core.List.{List}
 use lib.Dec.{ltb}
 use lib.ListN.{length, getD, take, drop}
-use Rattle.meaning.specs.Choice.{Bytes, both, every}
-use Rattle.meaning.specs.Outcome.{done, stop, andThen}
+use Rattle.meaning.specs.Choice.{Bytes, both, every, pick}
+use Rattle.meaning.specs.Outcome.{done, stop, andThen, pay}
 use Rattle.meaning.specs.Instructions.{Action, Code}
-use Rattle.meaning.specs.Machine.{Stacks, withSelected, perform, process, enter}
+use Rattle.meaning.specs.Machine.{Stacks, withSelected, isDeclared, perform, process, ranPaid, enter}
 use Rattle.meaning.specs.Runs.{Room, lent}
 use Rattle.meaning.specs.Packing.{Words, functionsAt, unpackActions}
 use Rattle.acting.specs.declared.registers.Registers.{Registers}
@@ -40,14 +40,25 @@ module _ (room : Room) (allowance : ℕ) (words : Words) where
   unfoldable pub waiting : ℕ → List ℕ → Bytes → Outcomes → Outcomes
   waiting zero frames values o = o
   waiting (suc k) frames values o =
-      waiting k frames values (andThen o (λ s g. going k (frameWord k 0 frames) (localAt k frames values) (withSelected 0 s) g))
+      waiting k frames values (andThen o (λ s g. going k (frameWord k 6 frames) (localAt k frames values) (withSelected 0 s) g))
 
   -- what comes of an outcome in the current frame
   abbrev pub returning : Registers → Memory → Outcomes → Outcomes
   returning g m o = waiting (g .frame) (m .frames) (m .values) o
 
+  -- what comes next there: the application of a function, where the registers name one that is declared, or else actions
+  abbrev pub applied : Registers → Memory → Outcomes
+  applied g m =
+      ranPaid (lent room) (functionsIn words) entering (suc (g .frame)) (g .callee) (stacksOf g m) (ledgerOf allowance g m) (pay (ledgerOf allowance g m .tally))
+
+  abbrev pub acted : Registers → Memory → Outcomes
+  acted g m = going (g .frame) (g .at .0) (localOf g m) (stacksOf g m) (ledgerOf allowance g m)
+
   abbrev pub comesTo : Next → Memory → Outcomes
-  comesTo (Onward g) m = returning g m (going (g .frame) (g .at .0) (localOf g m) (stacksOf g m) (ledgerOf allowance g m))
+  comesTo (Onward g) m =
+      let application = applied g m in
+      let actions = acted g m in
+      returning g m (pick (isDeclared (functionsIn words) (g .callee)) application actions)
   comesTo (Done g) m = done (stacksOf g m) (ledgerOf allowance g m)
   comesTo (Stopped g ending function) m = stop (endingNumber ending) function (ledgerOf allowance g m)
 
@@ -63,7 +74,7 @@ performing room allowance words action at g m =
 -- the words left in the frames that wait
 unfoldable pub leftWaiting : ℕ → ℕ → List ℕ → ℕ
 leftWaiting size zero frames = 0
-leftWaiting size (suc k) frames = size - frameWord k 0 frames + leftWaiting size k frames
+leftWaiting size (suc k) frames = size - frameWord k 6 frames + leftWaiting size k frames
 
 abbrev pub leftBelow : ℕ → ℕ → Registers → Memory → ℕ
 leftBelow size allowance g m = (allowance - g .steps) * suc size + leftWaiting size (g .frame) (m .frames)
@@ -82,9 +93,10 @@ backIn k g frames =
       q = g .p;
       r = g .r;
       frame = k;
-      at = record { 0 = frameWord k 0 frames };
+      at = record { 0 = frameWord k 6 frames };
       steps = g .steps;
       emitted = g .emitted;
+      callee = g .callee;
     }
 
 abbrev pub leftFrom : ℕ → Registers → List ℕ → Next

@@ -17,6 +17,7 @@ ghost use Rattle.applying.specs.Waiting.{countIn, functionsIn, leftBy};
 ghost use Rattle.applying.specs.Advancing.{Performs, Applies, Starts};
 use acting::frames::set_word;
 use acting::frames::word;
+use acting::moving::less;
 use acting::registers::Ending;
 use acting::registers::Next;
 use acting::registers::Registers;
@@ -87,15 +88,17 @@ fn stored_cell(field: &[u8], place: usize, word: u32) -> Cell
 }
 
 // A frame's own numbers as its application begins.
-fn begin_frame(frames: &mut [usize], frame: usize, field: usize, place: usize, stored: usize)
+pub fn begin_frame(frames: &mut [usize], frame: usize, field: usize, place: usize, stored: usize)
     requires { ⌜ frame < 256 ⌝ }
     requires { ⌜ length (now frames) ≡ 6144 ⌝ }
     ensures { λ _. ⌜ now (frames .exit) ≡ begun frame field place stored (now (frames .entry)) ⌝ }
 {
+    set_word(frames, frame, 0, 0);
     set_word(frames, frame, 1, field);
     set_word(frames, frame, 2, place);
-    set_word(frames, frame, 3, stored);
-    set_word(frames, frame, 4, 0);
+    set_word(frames, frame, 3, less(field, place));
+    set_word(frames, frame, 4, stored);
+    set_word(frames, frame, 5, 0);
 }
 
 // The actions of the sentence chosen for the field are next, in the frame of the registers.
@@ -136,6 +139,7 @@ fn start_sentence(
     Next::Onward(Registers {
         q: none,
         at: actions,
+        callee: 0,
         ..g
     })
 }
@@ -182,28 +186,19 @@ pub fn apply(
     }
 }
 
-// A call that adds a frame; the caller's waits for it.
+// A call that adds a frame, which is empty until the application begins; the caller's waits for it.
 fn framed_call(
     g: Registers,
-    bits: &[u8; 256],
     code: &[u32],
     number: usize,
     allowance: u32,
-    input: &[u8],
     frames: &mut [usize],
-    values: &mut [u8],
 ) -> Next
-    requires { ⌜ Answers (now bits) ⌝ }
-    requires { ⌜ countIn (now code) < length (now code) ⌝ }
     requires { ⌜ isDeclared (functionsIn (now code)) number ≡ true ⌝ }
-    requires { ⌜ g .p .0 ≤ g .q .0 ⌝ }
-    requires { ⌜ g .q .0 ≤ length (now input) ⌝ }
     requires { ⌜ g .frame < 256 ⌝ }
     requires { ⌜ length (now frames) ≡ 6144 ⌝ }
-    requires { ⌜ length (now values) ≡ 4096 ⌝ }
-    ensures { λ r. ⌜ ((output journal : Bytes) → Performs (now (code .entry)) allowance (calling number) (g .at .0) g
-        (memory (now (input .entry)) output journal (now (frames .entry)) (now (values .entry))) r
-        (memory (now (input .entry)) output journal (now (frames .exit)) (now (values .exit)))) ⌝ }
+    ensures { λ r. ⌜ ((input output journal values : Bytes) → Performs (now (code .entry)) allowance (calling number) (g .at .0) g
+        (memory input output journal (now (frames .entry)) values) r (memory input output journal (now (frames .exit)) values)) ⌝ }
 {
     if allowance <= g.steps {
         return Next::Stopped(g, Ending::AllowanceSpent, 0);
@@ -212,44 +207,36 @@ fn framed_call(
     if 255 <= frame {
         return Next::Stopped(g, Ending::FramesFull, 0);
     }
-    set_word(frames, frame, 0, g.at.0);
-    let next = Registers {
+    set_word(frames, frame, 6, g.at.0);
+    begin_frame(frames, frame + 1, 0, 0, 0);
+    Next::Onward(Registers {
         frame: frame + 1,
+        at: CodePlace(code.len()),
+        callee: number,
         ..g
-    };
-    apply(next, bits, code, number, allowance, input, frames, values)
+    })
 }
 
-// A call, or a tail call, which takes the caller's frame.
-pub fn call(
-    g: Registers,
-    bits: &[u8; 256],
-    code: &[u32],
-    what: Call,
-    allowance: u32,
-    input: &[u8],
-    frames: &mut [usize],
-    values: &mut [u8],
-) -> Next
-    requires { ⌜ Answers (now bits) ⌝ }
+// A call, or a tail call, which takes the caller's frame: its function's application is to begin next, at no place of the code.
+pub fn call(g: Registers, code: &[u32], what: Call, allowance: u32, frames: &mut [usize]) -> Next
     requires { ⌜ countIn (now code) < length (now code) ⌝ }
-    requires { ⌜ g .p .0 ≤ g .q .0 ⌝ }
-    requires { ⌜ g .q .0 ≤ length (now input) ⌝ }
     requires { ⌜ g .frame < 256 ⌝ }
     requires { ⌜ length (now frames) ≡ 6144 ⌝ }
-    requires { ⌜ length (now values) ≡ 4096 ⌝ }
-    ensures { λ r. ⌜ ((output journal : Bytes) → Performs (now (code .entry)) allowance (callMeant what) (g .at .0) g
-        (memory (now (input .entry)) output journal (now (frames .entry)) (now (values .entry))) r
-        (memory (now (input .entry)) output journal (now (frames .exit)) (now (values .exit)))) ⌝ }
+    ensures { λ r. ⌜ ((input output journal values : Bytes) → Performs (now (code .entry)) allowance (callMeant what) (g .at .0) g
+        (memory input output journal (now (frames .entry)) values) r (memory input output journal (now (frames .exit)) values)) ⌝ }
 {
     let number = what.function;
     if !declared(code, number) {
         return Next::Stopped(g, Ending::NoInstruction, 0);
     }
     if what.tail {
-        return apply(g, bits, code, number, allowance, input, frames, values);
+        return Next::Onward(Registers {
+            at: CodePlace(code.len()),
+            callee: number,
+            ..g
+        });
     }
-    framed_call(g, bits, code, number, allowance, input, frames, values)
+    framed_call(g, code, number, allowance, frames)
 }
 
 // The end of an application: the frame below goes on, or the run is done.
@@ -262,7 +249,7 @@ pub fn leave(g: Registers, frames: &[usize]) -> Next
         return Next::Done(g);
     }
     let frame = g.frame - 1;
-    let back = CodePlace(word(frames, frame, 0));
+    let back = CodePlace(word(frames, frame, 6));
     let none = g.p;
     Next::Onward(Registers {
         q: none,

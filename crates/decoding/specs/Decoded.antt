@@ -1,31 +1,22 @@
 -- What a code word says, as a decoded instruction: the words of meaning's Packing read into the enums of decoding, and what these mean.
-use Prim.Native.Nat.{ℕ, _/_}
+use Prim.Native.Nat.{ℕ, _+_, _/_, _<_}
+use mathlib.Core.Path.{_≡_}
 use mathlib.Core.List.{List, [], _∷_}
-use mathlib.Core.Option.{Option, none, some}
 use mathlib.Core.Bool.{Bool, true, false}
 use lib.Dec.{leb, eqb}
-use lib.ListN.{length, take}
+use lib.ListN.{length, getD, take}
 use Rattle.meaning.specs.Choice.{pick, both, every}
 use Rattle.meaning.specs.Allowed.{isByte}
-use Rattle.meaning.specs.Instructions.{null, whole, left, right, Action, go, select, out, outCharacter, outValue, beginSequence, useSequence, call, tailCall, unknownAction}
-use Rattle.meaning.specs.Instructions.{Length as Register}
-use Rattle.meaning.specs.Packing.{Words, numberIn, firstIn, secondIn, thirdIn, actionsEnd, spanAction, emissionOf, unpackActions}
-use Rattle.decoding.specs.declared.Length.{Length}
-use Rattle.decoding.specs.declared.Length.the-variants.{Null, Whole, Left, Right, Unknown as UnknownLength}
-use Rattle.decoding.specs.declared.Span.{Span}
-use Rattle.decoding.specs.declared.Shift.{Shift}
-use Rattle.decoding.specs.declared.Shift.the-variants.{Go, Select}
+use Rattle.meaning.specs.Instructions.{Span, Action, go, select, out, outCharacter, outValue, beginSequence, useSequence, call, tailCall, unknownAction}
+use Rattle.meaning.specs.Packing.{Words, numberIn, firstIn, secondIn, thirdIn, actionsEnd, lengthOf, spanAction, emissionOf, unpackActions}
+use Rattle.matching.specs.declared.CodePlace.{CodePlace}
+use Rattle.decoding.specs.declared.Found.{Found}
+use Rattle.decoding.specs.declared.Found.the-variants.{Word, Other}
 use Rattle.decoding.specs.declared.Call.{Call}
 use Rattle.decoding.specs.declared.Write.{Write}
 use Rattle.decoding.specs.declared.Write.the-variants.{Part, Character, Value}
 use Rattle.decoding.specs.declared.Instruction.{Instruction}
-use Rattle.decoding.specs.declared.Instruction.the-variants.{Shift as Shifts, Write as Writes, Begin, Use, Call as Calls, Emit, End, Unknown}
-
-abbrev pub lengthIn : ℕ → Length
-lengthIn n = pick (eqb n 0) Null (pick (eqb n 1) Whole (pick (eqb n 2) Left (pick (eqb n 3) Right UnknownLength)))
-
-abbrev pub spanIn : ℕ → Span
-spanIn w = record { register = lengthIn (firstIn w); add = secondIn w; back = thirdIn w }
+use Rattle.decoding.specs.declared.Instruction.the-variants.{Go, Select, Write as Writes, Begin, Use, Call as Calls, Emit, End, Unknown}
 
 abbrev pub callIn : Bool → ℕ → Call
 callIn tail w = record { tail = tail; function = w / 256 }
@@ -34,8 +25,8 @@ abbrev pub instructionIn : ℕ → Instruction
 instructionIn w =
     pick (eqb (numberIn w) actionsEnd) End
     (pick (eqb (numberIn w) 14) (Emit (firstIn w))
-    (pick (eqb (numberIn w) 5) (Shifts (Go (spanIn w)))
-    (pick (eqb (numberIn w) 6) (Shifts (Select (spanIn w)))
+    (pick (eqb (numberIn w) 5) (Go w)
+    (pick (eqb (numberIn w) 6) (Select w)
     (pick (eqb (numberIn w) 7) (Writes Part)
     (pick (eqb (numberIn w) 8) (Writes (Character (firstIn w)))
     (pick (eqb (numberIn w) 9) (Writes (Value (firstIn w)))
@@ -45,18 +36,26 @@ instructionIn w =
     (pick (eqb (numberIn w) 13) (Calls (callIn true w))
     Unknown))))))))))
 
+-- the word at a place has a number
+pub record Numbered (words : Words) (at n : ℕ) : Type 0 where
+  pub within : at < length words
+  pub number : numberIn (getD words at 0) ≡ n
+
+-- it is found, and the place after it
+pub record Taken (words : Words) (at n w : ℕ) (next : CodePlace) : Type 0 where
+  pub numbered : Numbered words at n
+  pub word : w ≡ getD words at 0
+  pub after : next ≡ record { 0 = at + 1 }
+
+abbrev pub Finds : Words → ℕ → ℕ → Found → Type 0
+Finds words at n (Word w next) = Taken words at n w next
+Finds words at n Other = Numbered words at n → ⊥
+
 -- WHAT AN INSTRUCTION MEANS
 
-abbrev pub registerMeant : Length → Option Register
-registerMeant Null = some null
-registerMeant Whole = some whole
-registerMeant Left = some left
-registerMeant Right = some right
-registerMeant UnknownLength = none
-
-abbrev pub shiftMeant : Shift → Action
-shiftMeant (Go s) = spanAction go (registerMeant (s .register)) (s .add) (s .back)
-shiftMeant (Select s) = spanAction select (registerMeant (s .register)) (s .add) (s .back)
+-- what moves p or q, by a span that the word holds
+abbrev pub spanMeant : (Span → Action) → ℕ → Action
+spanMeant f w = spanAction f (lengthOf (firstIn w)) (secondIn w) (thirdIn w)
 
 abbrev pub writeMeant : Write → Action
 writeMeant Part = out
@@ -68,7 +67,8 @@ callMeant c = pick (c .tail) (tailCall (c .function)) (call (c .function))
 
 -- the actions from an instruction on, given the words after its first
 abbrev pub actionsMeant : Instruction → Words → List Action
-actionsMeant (Shifts s) ws = shiftMeant s ∷ unpackActions 0 ws
+actionsMeant (Go w) ws = spanMeant go w ∷ unpackActions 0 ws
+actionsMeant (Select w) ws = spanMeant select w ∷ unpackActions 0 ws
 actionsMeant (Writes x) ws = writeMeant x ∷ unpackActions 0 ws
 actionsMeant Begin ws = beginSequence ∷ unpackActions 0 ws
 actionsMeant Use ws = useSequence ∷ unpackActions 0 ws

@@ -1,29 +1,8 @@
 // Code words as instructions.
+use matching::CodePlace;
 use matching::wide;
 ghost use mathlib.Core.Path.{_≡_};
-ghost use Rattle.decoding.specs.Decoded.{lengthIn, spanIn, callIn, instructionIn};
-
-// A register of the Process part; Unknown stands for a number that is none.
-pub enum Length {
-    Null,
-    Whole,
-    Left,
-    Right,
-    Unknown,
-}
-
-// A register's length, with an addition, less what stays back.
-pub struct Span {
-    pub register: Length,
-    pub add: usize,
-    pub back: usize,
-}
-
-// What moves p or q.
-pub enum Shift {
-    Go(Span),
-    Select(Span),
-}
+ghost use Rattle.decoding.specs.Decoded.{callIn, instructionIn, Finds};
 
 // What writes to out: the selected cells, a character, a stored value.
 pub enum Write {
@@ -38,9 +17,16 @@ pub struct Call {
     pub function: usize,
 }
 
-// An instruction of the Process part. An emission holds the length of its name.
+// A word that has the number that is asked for, and the place after it.
+pub enum Found {
+    Word(u32, CodePlace),
+    Other,
+}
+
+// An instruction of the Process part. Go and Select hold their words, an emission the length of its name.
 pub enum Instruction {
-    Shift(Shift),
+    Go(u32),
+    Select(u32),
     Write(Write),
     Begin,
     Use,
@@ -48,28 +34,6 @@ pub enum Instruction {
     Emit(usize),
     End,
     Unknown,
-}
-
-fn length_of(number: u32) -> Length
-    ensures { λ r. ⌜ r ≡ lengthIn number ⌝ }
-{
-    match number {
-        0 => Length::Null,
-        1 => Length::Whole,
-        2 => Length::Left,
-        3 => Length::Right,
-        _ => Length::Unknown,
-    }
-}
-
-fn span_of(word: u32) -> Span
-    ensures { λ r. ⌜ r ≡ spanIn word ⌝ }
-{
-    Span {
-        register: length_of(word / 256 % 256),
-        add: wide(word / 65536 % 256),
-        back: wide(word / 16777216 % 256),
-    }
 }
 
 fn call_of(tail: bool, word: u32) -> Call
@@ -88,8 +52,8 @@ pub fn decode(word: u32) -> Instruction
     let number = word % 256;
     let first = wide(word / 256 % 256);
     match number {
-        5 => Instruction::Shift(Shift::Go(span_of(word))),
-        6 => Instruction::Shift(Shift::Select(span_of(word))),
+        5 => Instruction::Go(word),
+        6 => Instruction::Select(word),
         7 => Instruction::Write(Write::Part),
         8 => Instruction::Write(Write::Character((word / 256 % 256) as u8)),
         9 => Instruction::Write(Write::Value(first)),
@@ -101,4 +65,19 @@ pub fn decode(word: u32) -> Instruction
         15 => Instruction::End,
         _ => Instruction::Unknown,
     }
+}
+
+// The word at a place, where it has a number, and the place after it.
+pub fn find_word(code: &[u32], at: CodePlace, number: u32) -> Found
+    ensures { λ r. ⌜ Finds (now (code .entry)) (at .0) number r ⌝ }
+{
+    let from = at.0;
+    if code.len() <= from {
+        return Found::Other;
+    }
+    let word = code[from];
+    if word % 256 != number {
+        return Found::Other;
+    }
+    Found::Word(word, CodePlace(from + 1))
 }

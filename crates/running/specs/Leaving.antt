@@ -44,9 +44,9 @@ reportedOf (Stopped g ending function) = record { ending = ending; function = fu
 abbrev pub clearedFrom : ℕ → Bytes → Bytes
 clearedFrom start bytes = take start bytes ++ zeros (length bytes - start)
 
--- the registers as a run begins: the text lies on in as the field, out is empty, and nothing is counted yet
-abbrev pub loadedWith : ℕ → ℕ → Registers
-loadedWith count text =
+-- the registers as a run begins: the text lies on in as the field, out is empty, nothing is counted yet, and the start's application is to begin
+abbrev pub loadedWith : ℕ → ℕ → ℕ → Registers
+loadedWith count text start =
     record {
       p = record { 0 = count - text };
       q = record { 0 = count };
@@ -55,4 +55,5 @@ loadedWith count text =
       at = record { 0 = 0 };
       steps = 0;
       emitted = 0;
+      callee = start;
     }

@@ -16,7 +16,7 @@ use acting::registers::Next;
 use acting::registers::OutCell;
 use acting::registers::Ran;
 use acting::registers::Registers;
-use applying::apply;
+use applying::begin_frame;
 use matching::CodePlace;
 use matching::wide;
 use stepping::is_onward;
@@ -134,10 +134,10 @@ fn reported(next: Next) -> Ran
     }
 }
 
-// The text lies on in as the field, out is empty, and nothing is counted yet.
-fn loaded(cells: usize, text: usize) -> Registers
+// The text lies on in as the field, out is empty, nothing is counted yet, and the start's application is to begin.
+fn loaded(cells: usize, text: usize, start: usize) -> Registers
     requires { ⌜ text ≤ cells ⌝ }
-    ensures { λ r. ⌜ r ≡ loadedWith cells text ⌝ }
+    ensures { λ r. ⌜ r ≡ loadedWith cells text start ⌝ }
 {
     Registers {
         p: InCell(cells - text),
@@ -147,6 +147,7 @@ fn loaded(cells: usize, text: usize) -> Registers
         at: CodePlace(0),
         steps: 0,
         emitted: 0,
+        callee: start,
     }
 }
 
@@ -169,12 +170,12 @@ pub fn run_lent(
     requires { ⌜ length (now values) ≡ 4096 ⌝ }
     ensures { λ r. ⌜ Leaves r (cells (now (input .exit)) (now (output .exit)) (now (journal .exit))) (left (runLent (roomOfCells (cells (now (input .entry)) (now (output .entry)) (now (journal .entry)))) (functionsIn (now (code .entry))) start (now (text .entry)) allowance) (cells (now (input .entry)) (now (output .entry)) (now (journal .entry)))) ⌝ }
 {
-    let g = loaded(input.len(), text.len());
+    let g = loaded(input.len(), text.len(), start);
     copy_over(input, g.p.0, text);
+    begin_frame(frames, 0, 0, 0, 0);
     let bits = classes::class_table();
-    let first = apply(g, &bits, code, start, allowance, input, frames, values);
     let last = follow(
-        first,
+        Next::Onward(g),
         &bits,
         code,
         allowance,

@@ -1,27 +1,238 @@
 // One instruction of a run: on registers by value, and on registers that are lent.
-ghost use Prim.Native.Nat.{_<_};
+ghost use Prim.Native.Nat.{ℕ, _≤_, _<_};
 ghost use mathlib.Core.Path.{_≡_};
+ghost use mathlib.Core.List.{List};
 ghost use lib.ListN.{length};
+ghost use Rattle.meaning.specs.Choice.{Bytes};
 ghost use Rattle.classes.specs.Tests.{Answers};
-ghost use Rattle.acting.specs.States.{memory};
+ghost use Rattle.acting.specs.States.{memory, Held};
 ghost use Rattle.applying.specs.Waiting.{countIn};
-ghost use Rattle.applying.specs.Advancing.{Underway, registersIn, statusIn, nextOf, onward, Steps};
+ghost use Rattle.applying.specs.Advancing.{Underway, Acting, Ongoing, registersIn, statusIn, nextOf, onward, Steps, keptOf, Tries, Uses, Does, Enters};
 use acting::emitting::emit;
 use acting::moving::begin_sequence;
-use acting::moving::shift;
+use acting::moving::go;
+use acting::moving::open_sequence;
+use acting::moving::select;
 use acting::moving::use_sequence;
 use acting::moving::write;
+use acting::moving::write_byte;
+use acting::moving::write_part;
 use acting::registers::Ending;
 use acting::registers::Next;
 use acting::registers::Registers;
 use acting::registers::Status;
+use applying::apply;
 use applying::call;
+use applying::declared;
 use applying::leave;
+use decoding::Found;
 use decoding::Instruction;
 use decoding::decode;
+use decoding::find_word;
 use matching::CodePlace;
 
-// One instruction.
+// The application that is to begin, if there is one; after it actions come.
+fn enter(
+    g: Registers,
+    bits: &[u8; 256],
+    code: &[u32],
+    allowance: u32,
+    input: &[u8],
+    frames: &mut [usize],
+    values: &mut [u8],
+) -> Next
+    requires { ⌜ Answers (now bits) ⌝ }
+    requires { ⌜ countIn (now code) < length (now code) ⌝ }
+    requires { ⌜ g .p .0 ≤ g .q .0 ⌝ }
+    requires { ⌜ g .q .0 ≤ length (now input) ⌝ }
+    requires { ⌜ g .frame < 256 ⌝ }
+    requires { ⌜ length (now frames) ≡ 6144 ⌝ }
+    requires { ⌜ length (now values) ≡ 4096 ⌝ }
+    ensures { λ r. ⌜ ((output journal : Bytes) → Enters (now (code .entry)) allowance g (memory (now (input .entry)) output journal (now (frames .entry)) (now (values .entry)))
+        r (memory (now (input .entry)) output journal (now (frames .exit)) (now (values .exit)))) ⌝ }
+{
+    let number = g.callee;
+    if !declared(code, number) {
+        return Next::Onward(Registers { callee: 0, ..g });
+    }
+    apply(g, bits, code, number, allowance, input, frames, values)
+}
+
+// The registers after an action that was tried, those before it where it can't be done.
+fn kept(next: Next, g: Registers) -> Registers
+    ensures { λ r. ⌜ r ≡ keptOf next g ⌝ }
+{
+    match next {
+        Next::Onward(h) => h,
+        Next::Done(_) => g,
+        Next::Stopped(_, _, _) => g,
+    }
+}
+
+// Go, where it comes next.
+fn try_go(g: Registers, code: &[u32], input: &[u8], frames: &[usize]) -> Registers
+    requires { ⌜ g .p .0 ≤ g .q .0 ⌝ }
+    requires { ⌜ g .q .0 ≤ length (now input) ⌝ }
+    requires { ⌜ g .frame < 256 ⌝ }
+    requires { ⌜ length (now frames) ≡ 6144 ⌝ }
+    requires { ⌜ Held (g .frame) (now frames) ⌝ }
+    ensures { λ h. ⌜ ((allowance : ℕ) (output journal values : Bytes) → Tries (now (code .entry)) allowance g (memory (now (input .entry)) output journal (now (frames .entry)) values)
+        h (memory (now (input .entry)) output journal (now (frames .entry)) values)) ⌝ }
+{
+    let Found::Word(word, next) = find_word(code, g.at, 5) else {
+        return g;
+    };
+    let h = Registers { at: next, ..g };
+    kept(go(h, word, input, frames), g)
+}
+
+// Select, where it comes next.
+fn try_select(g: Registers, code: &[u32], input: &[u8], frames: &[usize]) -> Registers
+    requires { ⌜ g .p .0 ≤ g .q .0 ⌝ }
+    requires { ⌜ g .q .0 ≤ length (now input) ⌝ }
+    requires { ⌜ g .frame < 256 ⌝ }
+    requires { ⌜ length (now frames) ≡ 6144 ⌝ }
+    requires { ⌜ Held (g .frame) (now frames) ⌝ }
+    ensures { λ h. ⌜ ((allowance : ℕ) (output journal values : Bytes) → Tries (now (code .entry)) allowance g (memory (now (input .entry)) output journal (now (frames .entry)) values)
+        h (memory (now (input .entry)) output journal (now (frames .entry)) values)) ⌝ }
+{
+    let Found::Word(word, next) = find_word(code, g.at, 6) else {
+        return g;
+    };
+    let h = Registers { at: next, ..g };
+    kept(select(h, word, input, frames), g)
+}
+
+// BeginSeq, where it comes next.
+fn try_begin(g: Registers, code: &[u32], frames: &mut [usize]) -> Registers
+    requires { ⌜ g .frame < 256 ⌝ }
+    requires { ⌜ length (now frames) ≡ 6144 ⌝ }
+    requires { ⌜ Held (g .frame) (now frames) ⌝ }
+    ensures { λ h. ⌜ ((allowance : ℕ) (input output journal values : Bytes) → Tries (now (code .entry)) allowance g (memory input output journal (now (frames .entry)) values)
+        h (memory input output journal (now (frames .exit)) values)) ⌝ }
+{
+    let Found::Word(_, next) = find_word(code, g.at, 10) else {
+        return g;
+    };
+    if open_sequence(frames, g.frame, g.r) {
+        return Registers { at: next, ..g };
+    }
+    g
+}
+
+// Out, where it comes next.
+fn try_part(g: Registers, code: &[u32], input: &[u8], output: &mut [u8]) -> Registers
+    requires { ⌜ g .p .0 ≤ g .q .0 ⌝ }
+    requires { ⌜ g .q .0 ≤ length (now input) ⌝ }
+    requires { ⌜ g .r .0 ≤ length (now output) ⌝ }
+    ensures { λ h. ⌜ ((allowance : ℕ) (journal values : Bytes) (frames : List ℕ) → Tries (now (code .entry)) allowance g (memory (now (input .entry)) (now (output .entry)) journal frames values)
+        h (memory (now (input .entry)) (now (output .exit)) journal frames values)) ⌝ }
+{
+    let Found::Word(_, next) = find_word(code, g.at, 7) else {
+        return g;
+    };
+    let h = Registers { at: next, ..g };
+    kept(write_part(h, input, output), g)
+}
+
+// OutC, where it comes next.
+fn try_character(g: Registers, code: &[u32], output: &mut [u8]) -> Registers
+    requires { ⌜ g .r .0 ≤ length (now output) ⌝ }
+    ensures { λ h. ⌜ ((allowance : ℕ) (input journal values : Bytes) (frames : List ℕ) → Tries (now (code .entry)) allowance g (memory input (now (output .entry)) journal frames values)
+        h (memory input (now (output .exit)) journal frames values)) ⌝ }
+{
+    let Found::Word(word, next) = find_word(code, g.at, 8) else {
+        return g;
+    };
+    let h = Registers { at: next, ..g };
+    let byte = (word / 256 % 256) as u8;
+    kept(write_byte(h, byte, output), g)
+}
+
+// UseSeq, where it comes next.
+fn try_use(
+    g: Registers,
+    code: &[u32],
+    input: &mut [u8],
+    output: &[u8],
+    frames: &mut [usize],
+) -> Next
+    requires { ⌜ g .p .0 ≤ g .q .0 ⌝ }
+    requires { ⌜ g .q .0 ≤ length (now input) ⌝ }
+    requires { ⌜ g .r .0 ≤ length (now output) ⌝ }
+    requires { ⌜ g .frame < 256 ⌝ }
+    requires { ⌜ length (now frames) ≡ 6144 ⌝ }
+    requires { ⌜ Held (g .frame) (now frames) ⌝ }
+    ensures { λ r. ⌜ ((allowance : ℕ) (journal values : Bytes) → Uses (now (code .entry)) allowance g (memory (now (input .entry)) (now (output .entry)) journal (now (frames .entry)) values)
+        r (memory (now (input .exit)) (now (output .entry)) journal (now (frames .exit)) values)) ⌝ }
+{
+    let Found::Word(_, next) = find_word(code, g.at, 11) else {
+        return Next::Onward(g);
+    };
+    let h = Registers { at: next, ..g };
+    use_sequence(h, input, output, frames)
+}
+
+// One instruction, whatever it is but UseSeq, which is left for the next turn.
+fn act(
+    g: Registers,
+    code: &[u32],
+    allowance: u32,
+    input: &[u8],
+    output: &mut [u8],
+    journal: &mut [u8],
+    frames: &mut [usize],
+    values: &[u8],
+) -> Next
+    requires { ⌜ countIn (now code) < length (now code) ⌝ }
+    requires { ⌜ Acting allowance g (memory (now input) (now output) (now journal) (now frames) (now values)) ⌝ }
+    ensures { λ r. ⌜ Does (now (code .entry)) allowance g
+        (memory (now (input .entry)) (now (output .entry)) (now (journal .entry)) (now (frames .entry)) (now (values .entry))) r
+        (memory (now (input .entry)) (now (output .exit)) (now (journal .exit)) (now (frames .exit)) (now (values .entry))) ⌝ }
+{
+    let at = g.at.0;
+    if code.len() <= at {
+        return Next::Stopped(g, Ending::NoInstruction, 0);
+    }
+    let h = Registers {
+        at: CodePlace(at + 1),
+        ..g
+    };
+    match decode(code[at]) {
+        Instruction::Go(span) => go(h, span, input, frames),
+        Instruction::Select(span) => select(h, span, input, frames),
+        Instruction::Write(what) => write(h, what, input, output, frames, values),
+        Instruction::Begin => begin_sequence(h, frames),
+        Instruction::Use => Next::Onward(g),
+        Instruction::Call(what) => call(h, code, what, allowance, frames),
+        Instruction::Emit(length) => emit(h, code, length, input, journal),
+        Instruction::End => leave(h, frames),
+        Instruction::Unknown => Next::Stopped(h, Ending::NoInstruction, 0),
+    }
+}
+
+// A sequence begun, a part and a character written, and the text after the part passed, as far as these come next.
+fn write_items(
+    g: Registers,
+    code: &[u32],
+    input: &[u8],
+    output: &mut [u8],
+    frames: &mut [usize],
+) -> Registers
+    requires { ⌜ Ongoing g (now input) (now output) (now frames) ⌝ }
+    ensures { λ h. ⌜ ((allowance : ℕ) (journal values : Bytes) → Tries (now (code .entry)) allowance g (memory (now (input .entry)) (now (output .entry)) journal (now (frames .entry)) values)
+        h (memory (now (input .entry)) (now (output .exit)) journal (now (frames .exit)) values)) ⌝ }
+{
+    let begun = try_begin(g, code, frames);
+    let gone = try_go(begun, code, input, frames);
+    let selected = try_select(gone, code, input, frames);
+    let written = try_part(selected, code, input, output);
+    let lettered = try_character(written, code, output);
+    try_go(lettered, code, input, frames)
+}
+
+// One turn of the run: an application that is to begin, and instructions in the order in which an expression mostly has them, each where
+// it comes next, so that few turns are taken; then one more.
 fn advance(
     g: Registers,
     bits: &[u8; 256],
@@ -40,24 +251,26 @@ fn advance(
         (memory (now (input .entry)) (now (output .entry)) (now (journal .entry)) (now (frames .entry)) (now (values .entry))) r
         (memory (now (input .exit)) (now (output .exit)) (now (journal .exit)) (now (frames .exit)) (now (values .exit))) ⌝ }
 {
-    let at = g.at.0;
-    if code.len() <= at {
-        return Next::Stopped(g, Ending::NoInstruction, 0);
-    }
-    let h = Registers {
-        at: CodePlace(at + 1),
-        ..g
+    let entered = enter(g, bits, code, allowance, input, frames, values);
+    let Next::Onward(g1) = entered else {
+        return entered;
     };
-    match decode(code[at]) {
-        Instruction::Shift(what) => shift(h, what, input, frames),
-        Instruction::Write(what) => write(h, what, input, output, frames, values),
-        Instruction::Begin => begin_sequence(h, frames),
-        Instruction::Use => use_sequence(h, input, output, frames),
-        Instruction::Call(what) => call(h, bits, code, what, allowance, input, frames, values),
-        Instruction::Emit(length) => emit(h, code, length, input, journal),
-        Instruction::End => leave(h, frames),
-        Instruction::Unknown => Next::Stopped(h, Ending::NoInstruction, 0),
-    }
+    let written = write_items(g1, code, input, output, frames);
+    let used = try_use(written, code, input, output, frames);
+    let Next::Onward(g2) = used else {
+        return used;
+    };
+    let selected = try_select(g2, code, input, frames);
+    act(
+        selected,
+        code,
+        allowance,
+        input,
+        output,
+        journal,
+        frames,
+        values,
+    )
 }
 
 // An answer's registers, how it says that the run goes on, and both put together.

@@ -14,7 +14,7 @@ use Rattle.meaning.specs.Instructions.{Length as Register}
 use Rattle.meaning.specs.Machine.{Stacks, registerOf, perform}
 use Rattle.meaning.specs.Outcome.{stop}
 use Rattle.meaning.specs.Runs.{lent}
-use Rattle.meaning.specs.Packing.{spanAction}
+use Rattle.meaning.specs.Packing.{firstIn, secondIn, thirdIn, lengthOf, spanAction}
 use Rattle.acting.specs.declared.registers.Registers.{Registers}
 use Rattle.acting.specs.declared.registers.Ending.{Ending}
 use Rattle.acting.specs.declared.registers.Ending.the-variants.{NoInstruction, OutFull}
@@ -25,10 +25,7 @@ use Rattle.acting.specs.declared.moving.Cells.{Cells}
 use Rattle.acting.specs.declared.moving.Cells.the-variants.{Wrong}
 use Rattle.acting.specs.declared.moving.Reached.{Reached}
 use Rattle.acting.specs.declared.moving.Reached.the-variants.{At, Wrong as NotThere}
-use Rattle.decoding.specs.declared.Span.{Span}
-use Rattle.decoding.specs.declared.Shift.{Shift}
-use Rattle.decoding.specs.declared.Shift.the-variants.{Go, Select}
-use Rattle.decoding.specs.Decoded.{registerMeant, shiftMeant}
+use Rattle.decoding.specs.Decoded.{spanMeant}
 use Rattle.acting.specs.Endings.{endingNumber}
 use Rattle.acting.specs.Spans.{cellsOf, reachedBy}
 use Rattle.acting.specs.States.{Memory, memory, frameWord, localOf, stacksOf, Ledgers, ledgerOf, roomOf, movedTo, Fits, Outcomes, Going, Stayed, Acts}
@@ -72,14 +69,14 @@ module _ (g : Registers) (m : Memory) where
           below = b f;
           logged = f .logged;
           framed = f .framed;
-          stored = f .stored;
-          opened = f .opened;
+          held = f .held;
           frameRoom = f .frameRoom;
           valueRoom = f .valueRoom;
         };
         frame = refl;
         place = refl;
         steps = refl;
+        callee = refl;
         waiting = refl;
         values = refl;
         beyond = λ old e. e;
@@ -135,27 +132,26 @@ module _ (g : Registers) (m : Memory) where
           stays = stayed _ _ _ (m .input) (m .output) (λ f. omega (arith, l .sum)) (λ f. omega (arith, t .enough, l .sum)) (λ f. f .below);
         }
 
-  -- the cell that a shift starts from, and where it leads, if the cells are there
-  abbrev pub startOf : Shift → ℕ
-  startOf (Go s) = g .p .0
-  startOf (Select s) = g .q .0
+  module _ (p≤q : g .p .0 ≤ g .q .0) (q≤in : g .q .0 ≤ length (m .input)) (w : ℕ) where
+    -- where a span leads from a cell, if the cells are there
+    abbrev pub Leading : ℕ → Reached
+    Leading from = reachedBy (cellsOf (lengthOf (firstIn w)) (secondIn w) (thirdIn w) (localOf g m) (length (m .input) - from)) from
 
-  abbrev pub spanOf : Shift → Span
-  spanOf (Go s) = s
-  spanOf (Select s) = s
+    abbrev pub gone : Reached → Next
+    gone NotThere = Stopped g NoInstruction 0
+    gone (At to) = Onward (movedTo g (to .0) (to .0) (g .r .0))
 
-  abbrev pub shifted : Shift → Reached → Next
-  shifted what NotThere = Stopped g NoInstruction 0
-  shifted (Go s) (At to) = Onward (movedTo g (to .0) (to .0) (g .r .0))
-  shifted (Select s) (At to) = Onward (movedTo g (g .p .0) (to .0) (g .r .0))
+    pub goes : (r : Reached) → r ≡ Leading (g .p .0) → Acts (spanMeant go w) (g .at .0) g m (gone r) m
+    goes NotThere e = go-none p≤q q≤in (secondIn w) (thirdIn w) (lengthOf (firstIn w)) (not-led _ _ e)
+    goes (At to) e = go-moved p≤q q≤in (secondIn w) (thirdIn w) (lengthOf (firstIn w)) to e
 
-  pub shifts : g .p .0 ≤ g .q .0 → g .q .0 ≤ length (m .input) → (what : Shift) (r : Reached) →
-      r ≡ reachedBy (cellsOf (registerMeant (spanOf what .register)) (spanOf what .add) (spanOf what .back) (localOf g m) (length (m .input) - startOf what)) (startOf what) →
-      Acts (shiftMeant what) (g .at .0) g m (shifted what r) m
-  shifts p≤q q≤in (Go s) NotThere e = go-none p≤q q≤in (s .add) (s .back) (registerMeant (s .register)) (not-led _ _ e)
-  shifts p≤q q≤in (Go s) (At to) e = go-moved p≤q q≤in (s .add) (s .back) (registerMeant (s .register)) to e
-  shifts p≤q q≤in (Select s) NotThere e = select-none p≤q q≤in (s .add) (s .back) (registerMeant (s .register)) (not-led _ _ e)
-  shifts p≤q q≤in (Select s) (At to) e = select-moved p≤q q≤in (s .add) (s .back) (registerMeant (s .register)) to e
+    abbrev pub selected : Reached → Next
+    selected NotThere = Stopped g NoInstruction 0
+    selected (At to) = Onward (movedTo g (g .p .0) (to .0) (g .r .0))
+
+    pub selects : (r : Reached) → r ≡ Leading (g .q .0) → Acts (spanMeant select w) (g .at .0) g m (selected r) m
+    selects NotThere e = select-none p≤q q≤in (secondIn w) (thirdIn w) (lengthOf (firstIn w)) (not-led _ _ e)
+    selects (At to) e = select-moved p≤q q≤in (secondIn w) (thirdIn w) (lengthOf (firstIn w)) to e
 
   -- OUT, OUTC, OUTV
 
@@ -211,14 +207,14 @@ module _ (g : Registers) (m : Memory) where
         }
 
   -- a stored value is written as a character is
-  pub value-none : (k : ℕ) → frameWord (g .frame) 3 (m .frames) ≤ k → Acts (outValue k) (g .at .0) g m (Stopped g NoInstruction 0) m
+  pub value-none : (k : ℕ) → frameWord (g .frame) 4 (m .frames) ≤ k → Acts (outValue k) (g .at .0) g m (Stopped g NoInstruction 0) m
   value-none k h = stops _ _ NoInstruction (λ allowance code enter next. rw (nth-out (localOf g m .values) k (rw length-take (omega arith))))
 
-  pub value-written : (k : ℕ) (next : Next) (n : Memory) → k < frameWord (g .frame) 3 (m .frames) → frameWord (g .frame) 3 (m .frames) ≤ 16 → g .frame < 256 →
+  pub value-written : (k : ℕ) (next : Next) (n : Memory) → k < frameWord (g .frame) 4 (m .frames) → frameWord (g .frame) 4 (m .frames) ≤ 16 → g .frame < 256 →
       length (m .values) ≡ 4096 → Acts (outCharacter (getD (m .values) (16 * g .frame + k) 0)) (g .at .0) g m next n →
       Acts (outValue k) (g .at .0) g m next n
   value-written k next n h few framed room a =
       record {
-        same = λ allowance code enter k′. rw (stored-value (g .frame) k (frameWord (g .frame) 3 (m .frames)) (m .values) h few framed room) (a .same allowance code enter k′);
+        same = λ allowance code enter k′. rw (stored-value (g .frame) k (frameWord (g .frame) 4 (m .frames)) (m .values) h few framed room) (a .same allowance code enter k′);
         stays = a .stays;
       }

@@ -59,6 +59,11 @@ module _ (before out : Bytes) (p r : ℕ) where
       turn : (from′ to′ : ℕ) → from ≡ suc from′ → to ≡ suc to′ → MovedDown before p out from r to now → MovedDown before p out (suc from′) r (suc to′) now
       turn from′ to′ e e′ m = rw (← e, ← e′) m
 
+  -- the same move, with its places counted otherwise
+  pub moved-at : {p′ from from′ r′ to to′ : ℕ} {now : Bytes} → p ≡ p′ → from ≡ from′ → r ≡ r′ → to ≡ to′ → MovedDown before p out from r to now →
+      MovedDown before p′ out from′ r′ to′ now
+  moved-at ep ef er et m = rw (← ep, ← ef, ← er, ← et) m
+
   -- so many bytes more moved
   moved-on : (n : ℕ) (from to from′ to′ : ℕ) (now : Bytes) → MovedDown before p out from r to now → from′ + n ≡ from → to′ + n ≡ to → from ≤ r → from ≤ length out →
       to ≤ length before → MovedDown before p out from′ r to′ (moved n now to out from)

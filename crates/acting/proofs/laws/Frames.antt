@@ -7,7 +7,7 @@ use mathlib.Core.Path.{_≡_, sym}
 use mathlib.Core.List.{List, [], _∷_}
 use lib.ListN.{length, take, drop, set, length-drop, length-take, drop-of-length-le}
 use lib.Seq.{getD-set-same, getD-set-other, getD-take, drop-cons, take-set-le, set-split, drop-at, length-take-le, take-all, take-nil, take-length, drop-length}
-use Rattle.acting.specs.States.{frameWord}
+use Rattle.acting.specs.States.{frameWord, Held}
 
 -- LISTS
 
@@ -67,6 +67,26 @@ module _ (frames : List ℕ) (k : ℕ) (framed : k < 256) (room : length frames 
 
 pub word-kept : (frames : List ℕ) (k i j v : ℕ) → (i ≡ j → ⊥) → frameWord k j (set frames (24 * k + i) v) ≡ frameWord k j frames
 word-kept frames k i j v ne = getD-set-other frames (24 * k + i) (24 * k + j) v 0 (λ e. ne (omega arith))
+
+-- a store past a frame's counts leaves what holds of them
+pub held-past : (frames : List ℕ) (k i v : ℕ) → 5 < i → Held k frames → Held k (set frames (24 * k + i) v)
+held-past frames k i v h held =
+    record {
+      null = rw (word-kept frames k i 0 v (omega arith)) (held .null);
+      right = rw (word-kept frames k i 1 v (omega arith), word-kept frames k i 2 v (omega arith), word-kept frames k i 3 v (omega arith)) (held .right);
+      stored = rw (word-kept frames k i 4 v (omega arith)) (held .stored);
+      opened = rw (word-kept frames k i 5 v (omega arith)) (held .opened);
+    }
+
+-- and so does another count of open sequences
+pub held-count : (frames : List ℕ) (k n : ℕ) → k < 256 → length frames ≡ 6144 → n ≤ 16 → Held k frames → Held k (set frames (24 * k + 5) n)
+held-count frames k n framed room h held =
+    record {
+      null = rw (word-kept frames k 5 0 n (omega arith)) (held .null);
+      right = rw (word-kept frames k 5 1 n (omega arith), word-kept frames k 5 2 n (omega arith), word-kept frames k 5 3 n (omega arith)) (held .right);
+      stored = rw (word-kept frames k 5 4 n (omega arith)) (held .stored);
+      opened = rw (word-set frames k framed room 5 n (omega arith)) h;
+    }
 
 -- frames that wait below are not touched
 pub waiting-kept : (frames : List ℕ) (k i v : ℕ) → take (24 * k) (set frames (24 * k + i) v) ≡ take (24 * k) frames

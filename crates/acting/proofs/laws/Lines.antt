@@ -63,6 +63,7 @@ module _ (g : Registers) (m : Memory) (words : Words) (n : ℕ) where
           at = record { 0 = g .at .0 + n };
           steps = g .steps;
           emitted = g .emitted + size;
+          callee = g .callee;
         }))
         (memory (m .input) (m .output) (paste (m .journal) (g .emitted) line size) (m .frames) (m .values))
     emission-written h =
@@ -89,14 +90,14 @@ module _ (g : Registers) (m : Memory) (words : Words) (n : ℕ) where
               below = f .below;
               logged = rw (length-paste (m .journal) (g .emitted) line size there long) there;
               framed = f .framed;
-              stored = f .stored;
-              opened = f .opened;
+              held = f .held;
               frameRoom = f .frameRoom;
               valueRoom = f .valueRoom;
             };
             frame = refl;
             place = refl;
             steps = refl;
+            callee = refl;
             waiting = refl;
             values = refl;
             beyond = λ old e. drop-paste (m .journal) (g .emitted) line size logged long ∙ further (m .journal) old (g .emitted) size e;

@@ -12,25 +12,25 @@ use Rattle.meaning.specs.Machine.{withOpened}
 use Rattle.acting.specs.declared.registers.Registers.{Registers}
 use Rattle.acting.specs.declared.registers.Ending.the-variants.{NoInstruction, InFull}
 use Rattle.acting.specs.declared.registers.Next.the-variants.{Onward, Stopped}
-use Rattle.acting.specs.States.{Memory, memory, frameWord, localAt, movedTo, Acts}
+use Rattle.acting.specs.States.{Memory, memory, frameWord, localAt, openedAt, movedTo, Acts}
 use Rattle.acting.specs.Copied.{MovedDown}
-use Rattle.acting.proofs.laws.Frames.{drop-take, drop-min, take-min, drop-set-here, word-set, word-kept, openedOf, opened-count, opened-none, opened-next, waiting-kept}
+use Rattle.acting.proofs.laws.Frames.{drop-take, drop-min, take-min, drop-set-here, word-set, word-kept, openedOf, opened-count, opened-none, opened-next, held-past, held-count, waiting-kept}
 use Rattle.acting.proofs.laws.Acting.{stops}
 
 module _ (frames : List ℕ) (values : Bytes) (k : ℕ) (framed : k < 256) (room : length frames ≡ 6144) where
   -- the number of open sequences stored anew
   local-count : (n : ℕ) → n ≤ 16 →
-      localAt k (set frames (24 * k + 4) n) values ≡ withOpened (openedOf frames k framed room n) (localAt k frames values)
+      localAt k (set frames (24 * k + 5) n) values ≡ withOpened (openedOf frames k framed room n) (localAt k frames values)
   local-count n h =
-      let low : 24 * k + 4 < 24 * k + 24 = omega arith in
-      let apart : 24 * k + 4 < 24 * k + 24 - n = omega arith in
+      let low : 24 * k + 5 < 24 * k + 24 = omega arith in
+      let apart : 24 * k + 5 < 24 * k + 24 - n = omega arith in
       rw (
-        word-kept frames k 4 1 n (omega arith),
-        word-kept frames k 4 2 n (omega arith),
-        word-kept frames k 4 3 n (omega arith),
-        word-set frames k framed room 4 n (omega arith),
-        take-set-lt (24 * k + 24) frames (24 * k + 4) n low,
-        drop-set-lt (24 * k + 24 - n) (take (24 * k + 24) frames) (24 * k + 4) n apart,
+        word-kept frames k 5 1 n (omega arith),
+        word-kept frames k 5 2 n (omega arith),
+        word-kept frames k 5 4 n (omega arith),
+        word-set frames k framed room 5 n (omega arith),
+        take-set-lt (24 * k + 24) frames (24 * k + 5) n low,
+        drop-set-lt (24 * k + 24 - n) (take (24 * k + 24) frames) (24 * k + 5) n apart,
       )
 
   opened-more : (n r : ℕ) → n < 16 → (room′ : length (set frames (24 * k + (23 - n)) r) ≡ 6144) →
@@ -51,25 +51,22 @@ module _ (frames : List ℕ) (values : Bytes) (k : ℕ) (framed : k < 256) (room
         opened-more n r h room′,
         word-kept frames k (23 - n) 1 r (omega arith),
         word-kept frames k (23 - n) 2 r (omega arith),
-        word-kept frames k (23 - n) 3 r (omega arith),
+        word-kept frames k (23 - n) 4 r (omega arith),
       )
 
 module _ (g : Registers) (m : Memory) (framed : g .frame < 256) (room : length (m .frames) ≡ 6144) where
   -- the number of sequences that are open
   abbrev count : ℕ
-  count = frameWord (g .frame) 4 (m .frames)
+  count = frameWord (g .frame) 5 (m .frames)
 
   -- BEGINSEQ
-
-  abbrev pub afterBegin : List ℕ
-  afterBegin = set (set (m .frames) (24 * g .frame + (23 - count)) (g .r .0)) (24 * g .frame + 4) (count + 1)
 
   pub begin-many : count ≤ 16 → 16 ≤ count → Acts beginSequence (g .at .0) g m (Stopped g NoInstruction 0) m
   begin-many few h =
       stops g m _ _ NoInstruction (λ allowance code enter k. rw (opened-count (m .frames) (g .frame) framed room count (omega arith), le-ltb count 16 h))
 
   pub begin-kept : g .r .0 ≤ length (m .output) → count < 16 →
-      Acts beginSequence (g .at .0) g m (Onward g) (memory (m .input) (m .output) (m .journal) afterBegin (m .values))
+      Acts beginSequence (g .at .0) g m (Onward g) (memory (m .input) (m .output) (m .journal) (openedAt (g .frame) (g .r .0) (m .frames)) (m .values))
   begin-kept r≤out h =
       let frames₁ = set (m .frames) (24 * g .frame + (23 - count)) (g .r .0) in
       let room₁ : length frames₁ ≡ 6144 = rw length-set room in
@@ -89,15 +86,15 @@ module _ (g : Registers) (m : Memory) (framed : g .frame < 256) (room : length (
             below = f .below;
             logged = f .logged;
             framed = f .framed;
-            stored = rw (word-kept frames₁ (g .frame) 4 3 (count + 1) (omega arith), word-kept (m .frames) (g .frame) (23 - count) 3 (g .r .0) (omega arith)) (f .stored);
-            opened = rw (word-set frames₁ (g .frame) framed room₁ 4 (count + 1) (omega arith)) (omega arith);
+            held = held-count frames₁ (g .frame) (count + 1) framed room₁ (omega arith) (held-past (m .frames) (g .frame) (23 - count) (g .r .0) (omega arith) (f .held));
             frameRoom = rw length-set room₁;
             valueRoom = f .valueRoom;
           };
           frame = refl;
           place = refl;
           steps = refl;
-          waiting = waiting-kept frames₁ (g .frame) 4 (count + 1) ∙ waiting-kept (m .frames) (g .frame) (23 - count) (g .r .0);
+          callee = refl;
+          waiting = waiting-kept frames₁ (g .frame) 5 (count + 1) ∙ waiting-kept (m .frames) (g .frame) (23 - count) (g .r .0);
           values = refl;
           beyond = λ old e. e;
         };
@@ -135,7 +132,7 @@ module _ (g : Registers) (m : Memory) (framed : g .frame < 256) (room : length (
     -- the argument leaves out, and stands just below p
     module _ (to : ℕ) (input : Bytes) (down : MovedDown (m .input) (g .p .0) (m .output) (min mark (g .r .0)) (g .r .0) to input) where
       abbrev pub afterUse : Memory
-      afterUse = memory input (m .output) (m .journal) (set (m .frames) (24 * g .frame + 4) (count - 1)) (m .values)
+      afterUse = memory input (m .output) (m .journal) (set (m .frames) (24 * g .frame + 5) (count - 1)) (m .values)
 
       -- out up to r, cut where the sequence begins
       argument : drop mark (take (g .r .0) (m .output)) ≡ take (g .r .0 - min mark (g .r .0)) (drop (min mark (g .r .0)) (m .output))
@@ -177,15 +174,15 @@ module _ (g : Registers) (m : Memory) (framed : g .frame < 256) (room : length (
                 below = omega arith;
                 logged = f .logged;
                 framed = f .framed;
-                stored = rw (word-kept (m .frames) (g .frame) 4 3 (count - 1) (omega arith)) (f .stored);
-                opened = rw (word-set (m .frames) (g .frame) framed room 4 (count - 1) (omega arith)) (omega arith);
+                held = held-count (m .frames) (g .frame) (count - 1) framed room (omega arith) (f .held);
                 frameRoom = rw length-set room;
                 valueRoom = f .valueRoom;
               };
               frame = refl;
               place = refl;
               steps = refl;
-              waiting = waiting-kept (m .frames) (g .frame) 4 (count - 1);
+              callee = refl;
+              waiting = waiting-kept (m .frames) (g .frame) 5 (count - 1);
               values = refl;
               beyond = λ old e. e;
             };

@@ -1,18 +1,21 @@
 -- What a span's count says of its register and of the cells that are there.
-use Prim.Native.Nat.{ℕ, _+_, _-_, _≤_, _<_}
+use Prim.Native.Nat.{ℕ, zero, suc, _+_, _-_, _≤_, _<_}
 use native.Mathlib.Omega.{arith}
 use mathlib.Core.Path.{_≡_, refl, ap}
 use mathlib.Core.Bool.{Bool, true, false}
 use mathlib.Core.Option.{Option, none, some}
 use lib.Dec.{leb}
-use borrow.Author.Tests.{le-leb, lt-leb, leb-true, leb-false}
-use Rattle.meaning.specs.Choice.{pick}
+use borrow.Author.Tests.{le-leb, lt-leb, leb-true, leb-false, ne-eqb}
+use mathlib.Core.List.{List}
+use Rattle.meaning.specs.Choice.{Bytes, pick}
+use Rattle.meaning.specs.Packing.{lengthOf}
 use Rattle.meaning.specs.Instructions.{Length as Register}
 use Rattle.meaning.specs.Machine.{Local, registerOf}
 use Rattle.acting.specs.declared.moving.Cells.{Cells}
 use Rattle.acting.specs.declared.moving.Cells.the-variants.{Count, Wrong}
 use Rattle.acting.specs.declared.registers.InCell.{InCell}
 use Rattle.acting.specs.declared.moving.Reached.the-variants.{At, Wrong as NotThere}
+use Rattle.acting.specs.States.{frameWord, localAt, Held}
 use Rattle.acting.specs.Spans.{withinCells, cellsOf, reachedBy}
 
 pub fits-within : (n m there : ℕ) → n ≡ m → m ≤ there → Count m ≡ withinCells n there
@@ -46,6 +49,19 @@ wrong-picked false m there p e = leb-false m there p
 -- a span that isn't counted has no register, or its cells are not there
 pub not-counted : (n there : ℕ) → Wrong ≡ withinCells n there → there < n
 not-counted n there e = wrong-picked (leb n there) n there refl e
+
+-- the lengths of the registers stand in a frame by the registers' numbers
+pub by-number : (k : ℕ) (frames : List ℕ) (values : Bytes) → Held k frames → (add back there n : ℕ) → n ≤ 3 →
+    withinCells (frameWord k n frames + add - back) there ≡ cellsOf (lengthOf n) add back (localAt k frames values) there
+by-number k frames values held add back there zero h = rw (held .null)
+by-number k frames values held add back there (suc zero) h = refl
+by-number k frames values held add back there (suc (suc zero)) h = refl
+by-number k frames values held add back there (suc (suc (suc zero))) h = rw (held .right)
+by-number k frames values held add back there (suc (suc (suc (suc n)))) h = absurd (omega arith)
+
+-- another number is that of no register
+pub no-number : (n : ℕ) → 3 < n → lengthOf n ≡ none
+no-number n h = simp (ne-eqb n 0 (omega arith), ne-eqb n 1 (omega arith), ne-eqb n 2 (omega arith), ne-eqb n 3 (omega arith))
 
 -- a cell that is reached is as many cells on as were counted
 pub record Led (cells : Cells) (from : ℕ) (to : InCell) : Type 0 where

@@ -1,47 +1,44 @@
--- `applying::framed_call` meets its contract.
-use native.Mathlib.Omega.{arith}
-use mathlib.Core.Path.{_∙_}
-use Rattle.applying.proofs.laws.Applying.{is-declared}
-use Rattle.applying.proofs.laws.Calling.{call-spent, call-full, call-applies}
+-- `framed_call` meets its contract.
 use borrow.Author.Needs.{needs}
+use Prim.Native.Nat.{suc, _+_, _*_, _<_}
+use native.Mathlib.Numerals.{add-one}
+use native.Mathlib.Omega.{arith}
+use mathlib.Core.Path.{_≡_, _∙_}
+use lib.ListN.{length, set, length-set}
+use Rattle.applying.specs.Storing.{begun}
+use Rattle.applying.proofs.laws.Applying.{begun-length, begun-below, begun-held}
+use Rattle.applying.proofs.laws.Calling.{call-spent, call-full, call-enters}
 use Rattle.applying.proofs.framed_call.Statement.{statement}
 use Rattle.applying.proofs.framed_call.Tie as tie
 
--- where the call has a frame
-abbrev framed : tie.After-set-word → tie.Else2
-framed c = c .before .before
-
-abbrev entry : tie.Else2 → tie.Start
-entry c = c .before .before .before .before .before .before .before
-
 returns : tie.Need-returns
-returns c =
-    let entry = c .before .before .before .before .before .before in
-    λ output journal. call-spent _ _ (entry .args .number) _ _ (entry .pre .1 .1 .0) (c .if1 .taken)
+returns c = λ input output journal values. call-spent _ _ (c .before .before .before .before .args .number) _ _ (c .before .before .before .before .pre .0) (c .if1 .taken)
 
 returns-2 : tie.Need-returns-2
-returns-2 c =
-    let entry = c .before .before .before .before .before .before .before in
-    λ output journal. call-full _ _ (entry .args .number) _ _ (entry .pre .1 .1 .0) (c .before .if1 .left) (c .if2 .taken)
-
-apply-requires : tie.Need-apply-requires
-apply-requires c κs =
-    let at-set-word = c .before .before .before .before .before .before .before .before in
-    let at-if2 = framed at-set-word in
-    let pre = entry at-if2 .pre in
-    let lent = pre .1 .1 .1 in
-    let d = is-declared (entry at-if2 .args .code .now) (pre .1 .0) (entry at-if2 .args .number) (pre .1 .1 .0) in
-    (pre .0, (pre .1 .0, (d .0, (d .1, (lent .0, (lent .1 .0, (omega (arith, at-if2 .if2 .left), (at-set-word .set-word .kept .0 ∙ lent .1 .1 .1 .0, lent .1 .1 .1 .1))))))))
+returns-2 c = λ input output journal values. call-full _ _ (c .before .before .before .before .before .args .number) _ _ (c .before .before .before .before .before .pre .0) (c .before .if1 .left) (c .if2 .taken)
 
 returns-3 : tie.Need-returns-3
 returns-3 c =
-    let at-apply = c .before .before .before .before in
-    let at-set-word = at-apply .before .before .before .before .before .before .before .before .before in
-    let at-if2 = framed at-set-word in
-    λ output journal. call-applies _ _ _ _ _ output journal _ _ (entry at-if2 .pre .1 .1 .0) (at-if2 .before .if1 .left) (at-if2 .if2 .left) _ _
-    (rw (at-set-word .set-word .ensures) at (at-apply .apply .ensures output journal))
+    let entry = c .before .before .before .before .before .before .before .before .before .before .before .before .before .before .before .before in
+    let a = entry .args in
+    let k = a .g .frame in
+    let calling = set (a .frames .now) (24 * k + 6) (a .g .at .0) in
+    let sized : length calling ≡ 6144 = length-set (a .frames .now) (24 * k + 6) (a .g .at .0) ∙ entry .pre .1 .1 in
+    let few : suc k < 256 = omega (arith, c .before .before .before .before .before .before .before .before .before .before .before .if2 .left) in
+    λ input output journal values. rw (c .before .before .before .before .before .begin-frame .ensures, c .before .before .before .before .before .before .before .before .before .set-word .ensures, add-one k)
+    (call-enters _ _ (a .number) (a .g) input output journal (a .frames .now) values (entry .pre .0) (c .before .before .before .before .before .before .before .before .before .before .before .before .if1 .left) (c .before .before .before .before .before .before .before .before .before .before .before .if2 .left)
+    (begun (suc k) 0 0 0 calling) (begun-length calling (suc k) 0 0 0 sized few ∙ sized) (begun-below calling (suc k) 0 0 0 sized few)
+    (begun-held calling (suc k) 0 0 0 sized few (omega arith)))
 
 pub framed-call-spec : {M : Type 1} → statement M
 framed-call-spec =
     tie.close
-    (tie.spec returns returns-2 (λ c κs. search needs) (λ c. search needs) apply-requires (λ c. search needs) (λ c. search needs) returns-3)
+    (tie.spec
+    returns
+    returns-2
+    (λ c κs. search needs)
+    (λ c. search needs)
+    (λ c κs. search needs)
+    (λ c. search needs)
+    (λ c. search needs)
+    returns-3)

@@ -5,7 +5,8 @@ use mathlib.Core.Path.{_≡_, refl, sym, ap, _∙_}
 use mathlib.Core.List.{List, [], _∷_}
 use lib.ListN.{length, drop}
 use Rattle.meaning.specs.Instructions.{Action, unknownAction}
-use Rattle.meaning.specs.Machine.{process}
+use mathlib.Core.Bool.{false}
+use Rattle.meaning.specs.Machine.{isDeclared, process}
 use Rattle.meaning.specs.Packing.{Words, unpackActions}
 use Rattle.acting.specs.declared.registers.Registers.{Registers}
 use Rattle.acting.specs.declared.registers.Ending.the-variants.{NoInstruction}
@@ -13,7 +14,7 @@ use Rattle.acting.specs.declared.registers.Next.{Next}
 use Rattle.acting.specs.declared.registers.Next.the-variants.{Onward, Done, Stopped}
 use Rattle.acting.specs.States.{Memory, roomOf, Outcomes, Fits, Stayed, Acts}
 use Rattle.applying.specs.Waiting.{functionsIn, entering, going, returning, comesTo, leftWaiting, leftToDo, leftFrom, leftBy}
-use Rattle.applying.specs.Advancing.{Ready, Underway, Ended, Keeps, registersIn, Leads, Steps, Performs}
+use Rattle.applying.specs.Advancing.{Ready, Underway, Ended, Keeps, registersIn, Leads, Steps, stepped, Performs}
 use Rattle.applying.proofs.laws.Waiting.{left-same, held-same, waiting-same, waiting-stop, waiting-done}
 
 -- WHAT AN INSTRUCTION KEEPS UP
@@ -26,8 +27,7 @@ fits-of u =
       below = u .ready .below;
       logged = u .ready .logged;
       framed = u .ready .framed;
-      stored = u .current .stored;
-      opened = u .current .opened;
+      held = u .current;
       frameRoom = u .ready .frameRoom;
       valueRoom = u .ready .valueRoom;
     }
@@ -53,7 +53,7 @@ module _ (allowance at : ℕ) (g : Registers) (m : Memory) (h : Registers) (n : 
               paid = fewer;
               held = λ k l. held-same (m .frames) (n .frames) (g .frame) (sym (s .waiting)) (u .ready .held) k (rw (s .frame) at l);
             };
-        current = record { stored = f .stored; opened = f .opened };
+        current = f .held;
       }
 
   less-stayed : (size : ℕ) → g .at .0 ≤ at → leftToDo size allowance (Onward h) n < suc (leftToDo size allowance (Onward g) m)
@@ -62,7 +62,7 @@ module _ (allowance at : ℕ) (g : Registers) (m : Memory) (h : Registers) (n : 
 
 -- AN INSTRUCTION THAT NEITHER CALLS NOR RETURNS
 
-module _ (words : Words) (allowance : ℕ) (action : Action) (at : ℕ) (g : Registers) (m n : Memory) (room : roomOf n ≡ roomOf m) (l : g .at .0 ≤ at) where
+module _ (words : Words) (allowance : ℕ) (action : Action) (at : ℕ) (g : Registers) (m n : Memory) (room : roomOf n ≡ roomOf m) (l : g .at .0 ≤ at) (idle : g .callee ≡ 0) where
   pub acts-performs : (next : Next) → Acts action at g m next n → Performs words allowance action at g m next n
   acts-performs (Onward h) a u =
       let s = a .stays in
@@ -72,7 +72,7 @@ module _ (words : Words) (allowance : ℕ) (action : Action) (at : ℕ) (g : Reg
             record {
               same =
                   ap (returning (roomOf m) allowance words g m) (a .same allowance (functionsIn words) enters (going (roomOf m) allowance words (g .frame) at)) ∙
-                  rw (s .frame, s .place)
+                  rw (s .callee, idle, s .frame, s .place)
                   (waiting-same (roomOf m) allowance words (m .frames) (n .frames) (m .values) (n .values) (g .frame) (sym (s .waiting)) (rw (s .values)) _);
               keeps = underway-stayed allowance at g m h n s u;
               room = room;
@@ -100,19 +100,6 @@ module _ (words : Words) (allowance : ℕ) (action : Action) (at : ℕ) (g : Reg
 
 -- ONE INSTRUCTION OF THE LOOP
 
--- the registers at the place after a word
-abbrev pub stepped : Registers → Registers
-stepped g =
-    record {
-      p = g .p;
-      q = g .q;
-      r = g .r;
-      frame = g .frame;
-      at = record { 0 = g .at .0 + 1 };
-      steps = g .steps;
-      emitted = g .emitted;
-    }
-
 pub underway-stepped : {allowance : ℕ} {g : Registers} {m : Memory} → Underway allowance g m → Underway allowance (stepped g) m
 underway-stepped u =
     record {
@@ -131,7 +118,7 @@ underway-stepped u =
       current = u .current;
     }
 
-module _ (words : Words) (allowance : ℕ) (g : Registers) (m : Memory) where
+module _ (words : Words) (allowance : ℕ) (g : Registers) (m : Memory) (idle : g .callee ≡ 0) where
   pub advance-does : (action : Action) (at : ℕ) (next : Next) (n : Memory) → g .at .0 < length words → Underway allowance g m →
       unpackActions 0 (drop (g .at .0) words) ≡ action ∷ unpackActions 0 (drop at words) →
       Performs words allowance action at (stepped g) m next n → Steps words allowance g m next n
@@ -139,7 +126,7 @@ module _ (words : Words) (allowance : ℕ) (g : Registers) (m : Memory) where
   advance-does action at next n h u e does =
       let d = does (underway-stepped u) in
       record {
-        leads = record { same = rw e (d .leads .same); keeps = d .leads .keeps; room = d .leads .room; beyond = d .leads .beyond };
+        leads = record { same = rw (idle, e) (d .leads .same); keeps = d .leads .keeps; room = d .leads .room; beyond = d .leads .beyond };
         falls = omega (arith, d .falls);
       }
 
@@ -151,7 +138,7 @@ module _ (words : Words) (allowance : ℕ) (g : Registers) (m : Memory) where
       record {
         leads =
             record {
-              same = rw (e, steps, emitted) (waiting-stop (roomOf m) allowance words (g .frame) (m .frames) (m .values) _ _ _);
+              same = rw (idle, e, steps, emitted) (waiting-stop (roomOf m) allowance words (g .frame) (m .frames) (m .values) _ _ _);
               keeps = record { below = rw r (u .ready .below); logged = rw emitted (u .ready .logged) };
               room = refl;
               beyond = λ old b. rw emitted b;
@@ -163,7 +150,7 @@ module _ (words : Words) (allowance : ℕ) (g : Registers) (m : Memory) where
       unpackActions 0 (drop (g .at .0) words) ≡ action ∷ unpackActions 0 (drop at words) → roomOf n ≡ roomOf m → g .at .0 + 1 ≤ at →
       Acts action at (stepped g) m next n → Steps words allowance g m next n
   advance-acts action at next n h u e room l a =
-      advance-does action at next n h u e (acts-performs words allowance action at (stepped g) m n room l next a)
+      advance-does action at next n h u e (acts-performs words allowance action at (stepped g) m n room l idle next a)
 
   -- THE END OF AN APPLICATION
 
@@ -199,10 +186,11 @@ module _ (words : Words) (allowance : ℕ) (g : Registers) (m : Memory) where
     pub advance-leaves : unpackActions 0 (drop (g .at .0) words) ≡ [] → Steps words allowance g m (leftBy (stepped g) (m .frames)) m
     unfolding process
     advance-leaves e =
+        let none : isDeclared (functionsIn words) (g .callee) ≡ false = rw idle in
         record {
           leads =
               record {
-                same = rw e (waiting-done (roomOf m) allowance words (g .frame) (stepped g) m);
+                same = rw (none, e) (waiting-done (roomOf m) allowance words (g .frame) (stepped g) m idle);
                 keeps = keeps-left (g .frame) refl;
                 room = refl;
                 beyond = λ old b. rw (left-emitted (g .frame)) b;

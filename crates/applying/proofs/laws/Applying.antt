@@ -8,7 +8,7 @@ use mathlib.Core.List.{List, [], _∷_, map}
 use mathlib.Core.Option.{Option, some}
 use lib.Dec.{leb}
 use lib.ListN.{length, getD, take, drop, set, length-take, length-drop, length-set, length-map}
-use lib.Seq.{getD-take, getD-drop, getD-set-same, getD-set-other, take-set-le, take-take, take-add, drop-at, length-take-le}
+use lib.Seq.{getD-take, getD-drop, take-take, take-add, drop-at, length-take-le}
 use borrow.Author.Tests.{lt-ltb, leb-true}
 use Rattle.meaning.specs.Choice.{Bytes, nth}
 use Rattle.meaning.specs.Outcome.{stop}
@@ -23,10 +23,11 @@ use Rattle.acting.specs.declared.registers.Next.the-variants.{Onward, Stopped}
 use Rattle.matching.specs.declared.CodePlace.{CodePlace}
 use Rattle.applying.specs.declared.Stored.the-variants.{Before, Wrong}
 use Rattle.acting.specs.Endings.{endingNumber}
-use Rattle.acting.specs.States.{Memory, memory, frameWord, localAt, ledgerOf, roomOf, Outcomes}
+use Rattle.acting.specs.States.{Memory, memory, frameWord, localAt, Held, ledgerOf, roomOf, Outcomes}
+use Rattle.acting.proofs.laws.Frames.{word-set, word-kept, waiting-kept}
 use Rattle.applying.specs.Storing.{Stores, begun}
 use Rattle.applying.specs.Waiting.{countIn, functionsIn, returning}
-use Rattle.applying.specs.Advancing.{Ready, Advances, Starts}
+use Rattle.applying.specs.Advancing.{Ready, Advances, Begins, Starts}
 use Rattle.meaning.proofs.laws.Remaining.{past-end}
 use Rattle.applying.proofs.laws.Waiting.{left-same, held-same, waiting-same, waiting-stop}
 
@@ -85,56 +86,70 @@ module _ (words : Words) (allowance : ℕ) (g : Registers) (m n : Memory) (r : R
         falls = b;
       }
 
+-- it begins nothing
+pub begins-stop : (words : Words) (allowance : ℕ) (tocome : Outcomes) (bound : ℕ) (g : Registers) (m : Memory) (h : Registers) (ending : Ending) (function : ℕ) (n : Memory) →
+    Advances words allowance tocome bound g m (Stopped h ending function) n → Begins words allowance tocome bound g m (Stopped h ending function) n
+begins-stop words allowance tocome bound g m h ending function n a = record { advances = a; idle = tt }
+
 -- A SENTENCE BEGUN
 
 module _ (frames : List ℕ) (k field place stored : ℕ) (room : length frames ≡ 6144) (framed : k < 256) where
+  -- the words stored one after the other
   abbrev First : List ℕ
-  First = set frames (24 * k + 1) field
+  First = set frames (24 * k + 0) 0
 
   abbrev Second : List ℕ
-  Second = set First (24 * k + 2) place
+  Second = set First (24 * k + 1) field
 
   abbrev Third : List ℕ
-  Third = set Second (24 * k + 3) stored
+  Third = set Second (24 * k + 2) place
+
+  abbrev Fourth : List ℕ
+  Fourth = set Third (24 * k + 3) (field - place)
+
+  abbrev Fifth : List ℕ
+  Fifth = set Fourth (24 * k + 4) stored
 
   abbrev Begun : List ℕ
   Begun = begun k field place stored frames
 
-  begun-length : length Begun ≡ length frames
+  pub begun-length : length Begun ≡ length frames
   begun-length = simp length-set
 
-  begun-below : take (24 * k) Begun ≡ take (24 * k) frames
+  pub begun-below : take (24 * k) Begun ≡ take (24 * k) frames
   begun-below =
-      rw (
-        take-set-le (24 * k) Third (24 * k + 4) 0 (omega arith),
-        take-set-le (24 * k) Second (24 * k + 3) stored (omega arith),
-        take-set-le (24 * k) First (24 * k + 2) place (omega arith),
-        take-set-le (24 * k) frames (24 * k + 1) field (omega arith),
-      )
+      waiting-kept Fifth k 5 0 ∙ waiting-kept Fourth k 4 stored ∙ waiting-kept Third k 3 (field - place) ∙ waiting-kept Second k 2 place ∙
+      waiting-kept First k 1 field ∙ waiting-kept frames k 0 0
+
+  word-0 : frameWord k 0 Begun ≡ 0
+  word-0 =
+      word-kept Fifth k 5 0 0 (omega arith) ∙ word-kept Fourth k 4 0 stored (omega arith) ∙ word-kept Third k 3 0 (field - place) (omega arith) ∙
+      word-kept Second k 2 0 place (omega arith) ∙ word-kept First k 1 0 field (omega arith) ∙ word-set frames k framed room 0 0 (omega arith)
 
   word-1 : frameWord k 1 Begun ≡ field
   word-1 =
-      rw (
-        getD-set-other Third (24 * k + 4) (24 * k + 1) 0 0 (λ e. omega arith),
-        getD-set-other Second (24 * k + 3) (24 * k + 1) stored 0 (λ e. omega arith),
-        getD-set-other First (24 * k + 2) (24 * k + 1) place 0 (λ e. omega arith),
-      ) (getD-set-same frames (24 * k + 1) field 0 (omega arith))
+      word-kept Fifth k 5 1 0 (omega arith) ∙ word-kept Fourth k 4 1 stored (omega arith) ∙ word-kept Third k 3 1 (field - place) (omega arith) ∙
+      word-kept Second k 2 1 place (omega arith) ∙ word-set First k framed (simp length-set room) 1 field (omega arith)
 
   word-2 : frameWord k 2 Begun ≡ place
   word-2 =
-      rw (
-        getD-set-other Third (24 * k + 4) (24 * k + 2) 0 0 (λ e. omega arith),
-        getD-set-other Second (24 * k + 3) (24 * k + 2) stored 0 (λ e. omega arith),
-      )
-      (getD-set-same First (24 * k + 2) place 0 (simp length-set (omega arith)))
+      word-kept Fifth k 5 2 0 (omega arith) ∙ word-kept Fourth k 4 2 stored (omega arith) ∙ word-kept Third k 3 2 (field - place) (omega arith) ∙
+      word-set Second k framed (simp length-set room) 2 place (omega arith)
 
-  word-3 : frameWord k 3 Begun ≡ stored
+  word-3 : frameWord k 3 Begun ≡ field - place
   word-3 =
-      rw (getD-set-other Third (24 * k + 4) (24 * k + 3) 0 0 (λ e. omega arith))
-      (getD-set-same Second (24 * k + 3) stored 0 (simp length-set (omega arith)))
+      word-kept Fifth k 5 3 0 (omega arith) ∙ word-kept Fourth k 4 3 stored (omega arith) ∙
+      word-set Third k framed (simp length-set room) 3 (field - place) (omega arith)
 
-  word-4 : frameWord k 4 Begun ≡ 0
-  word-4 = getD-set-same Third (24 * k + 4) 0 0 (simp length-set (omega arith))
+  word-4 : frameWord k 4 Begun ≡ stored
+  word-4 = word-kept Fifth k 5 4 0 (omega arith) ∙ word-set Fourth k framed (simp length-set room) 4 stored (omega arith)
+
+  word-5 : frameWord k 5 Begun ≡ 0
+  word-5 = word-set Fifth k framed (simp length-set room) 5 0 (omega arith)
+
+  pub begun-held : stored ≤ 16 → Held k Begun
+  begun-held few =
+      record { null = word-0; right = rw (word-1, word-2, word-3); stored = rw word-4 few; opened = rw word-5 (omega arith) }
 
   -- the first values of a frame are the first from its place on
   frame-values : (values : Bytes) → length values ≡ 4096 → stored ≤ 16 →
@@ -149,7 +164,7 @@ module _ (frames : List ℕ) (k field place stored : ℕ) (room : length frames 
   begun-local : (values : Bytes) → length values ≡ 4096 → stored ≤ 16 →
       localAt k Begun values ≡ record { field = field; place = place; values = take stored (drop (16 * k) values); opened = [] }
   begun-local values sized h =
-      rw (word-1, word-2, word-3, word-4, frame-values values sized h)
+      rw (word-1, word-2, word-4, word-5, frame-values values sized h)
       (ap (λ rest. record { field = field; place = place; values = take stored (drop (16 * k) values); opened = rest })
       (past-end (take (24 * k + 24) Begun) (24 * k + 24 - 0) (rw (length-take (24 * k + 24) Begun) (omega arith))))
 
@@ -165,13 +180,14 @@ module _ (words : Words) (allowance place stores stored : ℕ) (g : Registers) (
   pub starts-wrong : Stores (16 * g .frame) stored (stores + stored) Kept values values′ Wrong →
       Starts words allowance place stores stored g Before-start (Stopped g NoInstruction 0) (memory input output journal frames values′)
   starts-wrong s r =
-      stopping words allowance g Before-start (memory input output journal frames values′) r _ _ NoInstruction 0 g (omega arith)
-      (rw (← (s .same))) refl refl refl refl refl
+      begins-stop words allowance _ _ g Before-start g NoInstruction 0 _
+      (stopping words allowance g Before-start (memory input output journal frames values′) r _ _ NoInstruction 0 g (omega arith)
+      (rw (← (s .same))) refl refl refl refl refl)
 
   -- the registers at a sentence's actions
   abbrev pub startedAt : CodePlace → Registers
   startedAt actions =
-      record { p = g .p; q = g .p; r = g .r; frame = g .frame; at = actions; steps = g .steps; emitted = g .emitted }
+      record { p = g .p; q = g .p; r = g .r; frame = g .frame; at = actions; steps = g .steps; emitted = g .emitted; callee = 0 }
 
   pub starts-right : (actions : CodePlace) → length values′ ≡ length values → Stores (16 * g .frame) stored (stores + stored) Kept values values′ (Before actions) →
       Starts words allowance place stores stored g Before-start (Onward (startedAt actions))
@@ -182,33 +198,32 @@ module _ (words : Words) (allowance place stores stored : ℕ) (g : Registers) (
       let frames′ = begun k d place stored frames in
       let kept : take (24 * k) frames′ ≡ take (24 * k) frames = begun-below frames k d place stored (r .frameRoom) (r .framed) in
       record {
-        leads =
-            record {
-              same =
-                  rw (← (s .same), s .ends, begun-local frames k d place stored (r .frameRoom) (r .framed) values′ (sized ∙ r .valueRoom) few, sub-self (g .p .0))
-                  (waiting-same (roomOf Before-start) allowance words frames frames′ values values′ k (sym kept) (sym (s .below)) _);
-              keeps =
-                  record {
-                    ready =
-                        record {
-                          ordered = omega arith;
-                          inside = omega (arith, r .ordered, r .inside);
-                          below = r .below;
-                          logged = r .logged;
-                          framed = r .framed;
-                          frameRoom = begun-length frames k d place stored (r .frameRoom) (r .framed) ∙ r .frameRoom;
-                          valueRoom = sized ∙ r .valueRoom;
-                          paid = r .paid;
-                          held = held-same frames frames′ k (sym kept) (r .held);
-                        };
-                    current =
-                        record {
-                          stored = rw (word-3 frames k d place stored (r .frameRoom) (r .framed)) few;
-                          opened = rw (word-4 frames k d place stored (r .frameRoom) (r .framed)) (omega arith);
-                        };
-                  };
-              room = refl;
-              beyond = λ old b. b;
-            };
-        falls = rw (left-same frames′ frames (length words) k kept) (omega arith);
+        advances = record {
+          leads =
+              record {
+                same =
+                    rw (← (s .same), s .ends, begun-local frames k d place stored (r .frameRoom) (r .framed) values′ (sized ∙ r .valueRoom) few, sub-self (g .p .0))
+                    (waiting-same (roomOf Before-start) allowance words frames frames′ values values′ k (sym kept) (sym (s .below)) _);
+                keeps =
+                    record {
+                      ready =
+                          record {
+                            ordered = omega arith;
+                            inside = omega (arith, r .ordered, r .inside);
+                            below = r .below;
+                            logged = r .logged;
+                            framed = r .framed;
+                            frameRoom = begun-length frames k d place stored (r .frameRoom) (r .framed) ∙ r .frameRoom;
+                            valueRoom = sized ∙ r .valueRoom;
+                            paid = r .paid;
+                            held = held-same frames frames′ k (sym kept) (r .held);
+                          };
+                      current = begun-held frames k d place stored (r .frameRoom) (r .framed) few;
+                    };
+                room = refl;
+                beyond = λ old b. b;
+              };
+          falls = rw (left-same frames′ frames (length words) k kept) (omega arith);
+        };
+        idle = refl;
       }

@@ -7,8 +7,8 @@ use mathlib.Core.Path.{_≡_, refl, sym, ap, _∙_}
 use mathlib.Core.Bool.{Bool, true, false}
 use mathlib.Core.List.{List}
 use lib.Dec.{ltb}
-use lib.ListN.{length, getD, take, drop, set, length-set}
-use lib.Seq.{getD-set-same, getD-set-other, take-set-le, take-set-lt, drop-set-lt}
+use lib.ListN.{length, getD, take, drop, set}
+use lib.Seq.{take-set-lt, drop-set-lt}
 use borrow.Author.Tests.{lt-ltb, le-ltb, ltb-true, ltb-false}
 use Rattle.meaning.specs.Choice.{Bytes, pick}
 use Rattle.meaning.specs.Answers.{noInstruction}
@@ -22,13 +22,15 @@ use Rattle.acting.specs.declared.registers.Registers.{Registers}
 use Rattle.acting.specs.declared.registers.Ending.{Ending}
 use Rattle.acting.specs.declared.registers.Ending.the-variants.{AllowanceSpent, FramesFull, NoInstruction}
 use Rattle.acting.specs.declared.registers.Next.{Next}
-use Rattle.acting.specs.declared.registers.Next.the-variants.{Stopped}
+use Rattle.acting.specs.declared.registers.Next.the-variants.{Onward, Stopped}
 use Rattle.acting.specs.Endings.{endingNumber}
-use Rattle.acting.specs.States.{Memory, memory, frameWord, localAt, localOf, stacksOf, ledgerOf, roomOf, Outcomes}
+use Rattle.acting.specs.States.{Memory, memory, frameWord, localAt, localOf, Held, stacksOf, ledgerOf, roomOf, Outcomes}
+use Rattle.acting.proofs.laws.Frames.{word-set, word-kept, held-past, waiting-kept}
+use Rattle.applying.specs.Storing.{begun}
 use Rattle.applying.specs.Waiting.{countIn, functionsIn, entering, going, waiting, performing, leftWaiting}
-use Rattle.applying.specs.Advancing.{Held, Ready, Underway, Performs, Applies, Starts}
+use Rattle.applying.specs.Advancing.{Ready, Performs, Applies, Starts}
 use Rattle.applying.proofs.laws.Waiting.{left-same, held-same, waiting-same, entering-paid}
-use Rattle.applying.proofs.laws.Applying.{code-at, stopping}
+use Rattle.applying.proofs.laws.Applying.{code-at, stopping, begins-stop}
 
 -- THE STEP
 
@@ -43,7 +45,7 @@ none-left h = omega arith
 -- one step paid
 abbrev pub paidOf : Registers → Registers
 paidOf g =
-    record { p = g .p; q = g .q; r = g .r; frame = g .frame; at = g .at; steps = g .steps + 1; emitted = g .emitted }
+    record { p = g .p; q = g .q; r = g .r; frame = g .frame; at = g .at; steps = g .steps + 1; emitted = g .emitted; callee = g .callee }
 
 -- the sentence chosen for the field
 abbrev pub Chosen : Words → ℕ → Registers → Bytes → Choice
@@ -59,7 +61,8 @@ pub record Payable (words : Words) (allowance number : ℕ) (g : Registers) : Ty
 module _ (words : Words) (allowance number : ℕ) (g : Registers) (m : Memory) where
   pub apply-spent : allowance ≤ g .steps → Applies words allowance number g m (Stopped g AllowanceSpent 0) m
   apply-spent h r =
-      stopping words allowance g m m r _ _ AllowanceSpent 0 g (omega arith) (rw (none-left h)) refl refl refl refl refl
+      begins-stop words allowance _ _ g m g AllowanceSpent 0 m
+      (stopping words allowance g m m r _ _ AllowanceSpent 0 g (omega arith) (rw (none-left h)) refl refl refl refl refl)
 
   module _ (may : Payable words allowance number g) where
     paying : (choice : Choice) → choice ≡ Chosen words number g (m .input) →
@@ -76,7 +79,8 @@ module _ (words : Words) (allowance number : ℕ) (g : Registers) (m : Memory) w
         (ledgerOf allowance (paidOf g) m) ≡ stop (endingNumber ending) function (ledgerOf allowance (paidOf g) m) →
         Applies words allowance number g m (Stopped (paidOf g) ending function) m
     apply-stops choice e ending function ends r =
-        stopping words allowance g m m r _ _ ending function (paidOf g) (omega arith) (paying choice e ∙ ends) refl refl refl refl refl
+        begins-stop words allowance _ _ g m (paidOf g) ending function m
+        (stopping words allowance g m m r _ _ ending function (paidOf g) (omega arith) (paying choice e ∙ ends) refl refl refl refl refl)
 
     ready-paid : Ready allowance g m → Ready allowance (paidOf g) m
     ready-paid r =
@@ -96,49 +100,58 @@ module _ (words : Words) (allowance number : ℕ) (g : Registers) (m : Memory) w
         chosen sentence place (unpackStores stored (drop stores words)) (unpackActions 0 (drop (stores + stored) words)) ≡ Chosen words number g (m .input) →
         Starts words allowance place stores stored (paidOf g) m next n → Applies words allowance number g m next n
     apply-starts sentence place stores stored next n e starts r =
-        let d = starts (ready-paid r) in
+        let begins = starts (ready-paid r) in
+        let d = begins .advances in
         let one : allowance - g .steps ≡ suc (allowance - (g .steps + 1)) = omega (arith, may .left) in
         let times : (allowance - g .steps) * suc (length words) ≡ (allowance - (g .steps + 1)) * suc (length words) + suc (length words) =
         rw one (suc-mul (allowance - (g .steps + 1)) (suc (length words))) in
         record {
-          leads =
-              record {
-                same =
-                    ap (waiting (roomOf m) allowance words (g .frame) (m .frames) (m .values))
-                    (paying (chosen sentence place (unpackStores stored (drop stores words)) (unpackActions 0 (drop (stores + stored) words))) e) ∙
-                    d .leads .same;
-                keeps = d .leads .keeps;
-                room = d .leads .room;
-                beyond = d .leads .beyond;
-              };
-          falls = omega (arith, d .falls, times);
+          advances = record {
+            leads =
+                record {
+                  same =
+                      ap (waiting (roomOf m) allowance words (g .frame) (m .frames) (m .values))
+                      (paying (chosen sentence place (unpackStores stored (drop stores words)) (unpackActions 0 (drop (stores + stored) words))) e) ∙
+                      d .leads .same;
+                  keeps = d .leads .keeps;
+                  room = d .leads .room;
+                  beyond = d .leads .beyond;
+                };
+            falls = omega (arith, d .falls, times);
+          };
+          idle = begins .idle;
         }
 
 -- A CALL
 
-module _ (frames : List ℕ) (k at : ℕ) (room : length frames ≡ 6144) (framed : k < 256) where
+-- where a function's application is to begin: its frame, at no place of the code
+abbrev pub calledIn : ℕ → ℕ → ℕ → Registers → Registers
+calledIn frame size number g =
+    record { p = g .p; q = g .q; r = g .r; frame = frame; at = record { 0 = size }; steps = g .steps; emitted = g .emitted; callee = number }
+
+module _ (frames : List ℕ) (k at : ℕ) (room : length frames ≡ 6144) (framed : k < 255) where
   -- the caller's frame keeps where its call returns to
   abbrev Calling : List ℕ
-  Calling = set frames (24 * k + 0) at
+  Calling = set frames (24 * k + 6) at
 
   called-below : take (24 * k) Calling ≡ take (24 * k) frames
-  called-below = take-set-le (24 * k) frames (24 * k + 0) at (omega arith)
+  called-below = waiting-kept frames k 6 at
 
-  called-back : frameWord k 0 Calling ≡ at
-  called-back = getD-set-same frames (24 * k + 0) at 0 (omega arith)
+  called-back : frameWord k 6 Calling ≡ at
+  called-back = word-set frames k (omega arith) room 6 at (omega arith)
 
-  called-word : (i : ℕ) → 0 < i → frameWord k i Calling ≡ frameWord k i frames
-  called-word i h = getD-set-other frames (24 * k + 0) (24 * k + i) at 0 (λ e. omega arith)
+  called-word : (i : ℕ) → i ≤ 5 → frameWord k i Calling ≡ frameWord k i frames
+  called-word i h = word-kept frames k 6 i at (λ e. omega arith)
 
   called-local : (values : Bytes) → Held k frames → localAt k Calling values ≡ localAt k frames values
   called-local values held =
       rw (
         called-word 1 (omega arith),
         called-word 2 (omega arith),
-        called-word 3 (omega arith),
         called-word 4 (omega arith),
-        take-set-lt (24 * k + 24) frames (24 * k + 0) at (omega arith),
-        drop-set-lt (24 * k + 24 - frameWord k 4 frames) (take (24 * k + 24) frames) (24 * k + 0) at (omega (arith, held .opened)),
+        called-word 5 (omega arith),
+        take-set-lt (24 * k + 24) frames (24 * k + 6) at (omega arith),
+        drop-set-lt (24 * k + 24 - frameWord k 5 frames) (take (24 * k + 24) frames) (24 * k + 6) at (omega (arith, held .opened)),
       )
 
   called-held : ((i : ℕ) → i < k → Held i frames) → Held k frames → (i : ℕ) → i < suc k → Held i Calling
@@ -146,23 +159,26 @@ module _ (frames : List ℕ) (k at : ℕ) (room : length frames ≡ 6144) (frame
     where
       by : (b : Bool) → ltb i k ≡ b → Held i Calling
       by true e = held-same frames Calling k (sym called-below) held i (ltb-true i k e)
-      by false e =
-          let here : i ≡ k = omega (arith, ltb-false i k e) in
-          rw here
-          (record { stored = rw (called-word 3 (omega arith)) (current .stored); opened = rw (called-word 4 (omega arith)) (current .opened) })
+      by false e = let here : i ≡ k = omega (arith, ltb-false i k e) in rw here (held-past frames k 6 at (omega arith) current)
 
-  module _ (roomy : Room) (allowance : ℕ) (words : Words) where
-    called-left : (size : ℕ) → leftWaiting size (suc k) Calling ≡ size - at + leftWaiting size k frames
-    unfolding leftWaiting
-    called-left size = rw (called-back, left-same Calling frames size k called-below)
+  -- the frame above may be any
+  module _ (above : List ℕ) (same : take (24 * suc k) above ≡ take (24 * suc k) Calling) where
+    above-held : ((i : ℕ) → i < k → Held i frames) → Held k frames → (i : ℕ) → i < suc k → Held i above
+    above-held held current = held-same Calling above (suc k) (sym same) (called-held held current)
 
-    called-waiting : (values : Bytes) → Held k frames → (o : Outcomes) →
-        waiting roomy allowance words k frames values (andThen o (λ s l. going roomy allowance words k at (localAt k frames values) (withSelected 0 s) l)) ≡
-        waiting roomy allowance words (suc k) Calling values o
-    unfolding waiting
-    called-waiting values held o =
-        rw (called-back, called-local values held)
-        (waiting-same roomy allowance words frames Calling values values k (sym called-below) refl _)
+    module _ (roomy : Room) (allowance : ℕ) (words : Words) where
+      above-left : (size : ℕ) → leftWaiting size (suc k) above ≡ size - at + leftWaiting size k frames
+      unfolding leftWaiting
+      above-left size = left-same above Calling size (suc k) same ∙ rw (called-back, left-same Calling frames size k called-below)
+
+      above-waiting : (values : Bytes) → Held k frames → (o : Outcomes) →
+          waiting roomy allowance words k frames values (andThen o (λ s l. going roomy allowance words k at (localAt k frames values) (withSelected 0 s) l)) ≡
+          waiting roomy allowance words (suc k) above values o
+      unfolding waiting
+      above-waiting values held o =
+          rw (called-back, called-local values held)
+          (waiting-same roomy allowance words frames Calling values values k (sym called-below) refl _) ∙
+          waiting-same roomy allowance words Calling above values values (suc k) (sym same) refl o
 
 module _ (words : Words) (allowance number : ℕ) (g : Registers) (m : Memory) where
   pub undeclared : (tail : Bool) → isDeclared (functionsIn words) number ≡ false →
@@ -176,6 +192,22 @@ module _ (words : Words) (allowance number : ℕ) (g : Registers) (m : Memory) w
       stops true = rw e
       stops false = rw e
 
+  -- the registers of a function that is called keep within what is lent, as its caller's do
+  called-ready : (frame size : ℕ) (frames : List ℕ) → frame < 256 → length frames ≡ 6144 → ((i : ℕ) → i < frame → Held i frames) → Ready allowance g m →
+      Ready allowance (calledIn frame size number g) (memory (m .input) (m .output) (m .journal) frames (m .values))
+  called-ready frame size frames framed sized held r =
+      record {
+        ordered = r .ordered;
+        inside = r .inside;
+        below = r .below;
+        logged = r .logged;
+        framed = framed;
+        frameRoom = sized;
+        valueRoom = r .valueRoom;
+        paid = r .paid;
+        held = held;
+      }
+
   module _ (declared : isDeclared (functionsIn words) number ≡ true) where
     pub call-spent : allowance ≤ g .steps → Performs words allowance (call number) (g .at .0) g m (Stopped g AllowanceSpent 0) m
     call-spent h u =
@@ -187,72 +219,53 @@ module _ (words : Words) (allowance number : ℕ) (g : Registers) (m : Memory) w
         (rw (declared, one-left h, lt-ltb 256 (suc (suc (g .frame))) (omega arith))) refl refl refl refl refl
 
     -- a tail call is an application in the caller's frame
-    pub tail-applies : (next : Next) (n : Memory) → Applies words allowance number g m next n → Performs words allowance (tailCall number) (g .at .0) g m next n
-    tail-applies next n applies u =
-        let d = applies (u .ready) in
+    pub tail-enters : Performs words allowance (tailCall number) (g .at .0) g m (Onward (calledIn (g .frame) (length words) number g)) m
+    tail-enters u =
+        let r = u .ready in
         record {
           leads =
               record {
                 same =
-                    rw (declared, entering-paid (roomOf m) allowance words (suc (g .frame)) number (stacksOf g m) (ledgerOf allowance g m) (omega arith))
-                    (d .leads .same);
-                keeps = d .leads .keeps;
-                room = d .leads .room;
-                beyond = d .leads .beyond;
+                    rw (declared, entering-paid (roomOf m) allowance words (suc (g .frame)) number (stacksOf g m) (ledgerOf allowance g m) (omega arith));
+                keeps = record { ready = called-ready (g .frame) (length words) (m .frames) (r .framed) (r .frameRoom) (r .held) r; current = u .current };
+                room = refl;
+                beyond = λ old e. e;
               };
-          falls = omega (arith, d .falls);
+          falls = omega arith;
         }
-
--- the registers of the called frame
-abbrev pub calledFrom : Registers → Registers
-calledFrom g =
-    record { p = g .p; q = g .q; r = g .r; frame = g .frame + 1; at = g .at; steps = g .steps; emitted = g .emitted }
 
 module _ (words : Words) (allowance number : ℕ) (g : Registers) (input output journal : Bytes) (frames : List ℕ) (values : Bytes) where
   abbrev Caller : Memory
   Caller = memory input output journal frames values
 
-  -- the frames with the caller's waiting
-  abbrev Called : Memory
-  Called = memory input output journal (set frames (24 * g .frame + 0) (g .at .0)) values
-
-  ready-called : g .frame < 255 → Underway allowance g Caller → Ready allowance (calledFrom g) Called
-  ready-called l u =
-      let r = u .ready in
-      record {
-        ordered = r .ordered;
-        inside = r .inside;
-        below = r .below;
-        logged = r .logged;
-        framed = omega arith;
-        frameRoom = rw (length-set frames (24 * g .frame + 0) (g .at .0)) (r .frameRoom);
-        valueRoom = r .valueRoom;
-        paid = r .paid;
-        held = λ i h. called-held frames (g .frame) (g .at .0) (r .frameRoom) (r .framed) (r .held) (u .current) i (rw (add-one (g .frame)) at h);
-      }
-
-  pub call-applies : isDeclared (functionsIn words) number ≡ true → g .steps < allowance → g .frame < 255 → (next : Next) (n : Memory) →
-      Applies words allowance number (calledFrom g) Called next n → Performs words allowance (call number) (g .at .0) g Caller next n
-  call-applies declared h l next n applies u =
-      let d = applies (ready-called l u) in
+  -- a call is an application in the frame above
+  pub call-enters : isDeclared (functionsIn words) number ≡ true → g .steps < allowance → g .frame < 255 → (above : List ℕ) → length above ≡ 6144 →
+      take (24 * suc (g .frame)) above ≡ take (24 * suc (g .frame)) (set frames (24 * g .frame + 6) (g .at .0)) → Held (suc (g .frame)) above →
+      Performs words allowance (call number) (g .at .0) g Caller (Onward (calledIn (suc (g .frame)) (length words) number g)) (memory input output journal above values)
+  call-enters declared h l above sized same empty u =
       let k = g .frame in
       let room = roomOf Caller in
       let r = u .ready in
+      let application = entering room allowance words (suc (suc k)) number (stacksOf g Caller) (ledgerOf allowance g Caller) in
       let entered = entering-paid room allowance words (suc (suc k)) number (stacksOf g Caller) (ledgerOf allowance g Caller) (omega arith) in
-      let left = called-left frames k (g .at .0) (r .frameRoom) (r .framed) room allowance words (length words) in
+      let left = above-left frames k (g .at .0) (r .frameRoom) l above same room allowance words (length words) in
       record {
         leads =
             record {
               same =
                   opens declared (one-left h) (le-ltb 256 (suc (suc k)) (omega arith)) ∙
-                  called-waiting frames k (g .at .0) (r .frameRoom) (r .framed) room allowance words values (u .current) _ ∙
-                  ap (waiting room allowance words (suc k) (set frames (24 * k + 0) (g .at .0)) values) entered ∙
-                  rw (add-one k) at (d .leads .same);
-              keeps = d .leads .keeps;
-              room = d .leads .room;
-              beyond = d .leads .beyond;
+                  above-waiting frames k (g .at .0) (r .frameRoom) l above same room allowance words values (u .current) application ∙
+                  rw declared (ap (waiting room allowance words (suc k) above values) entered);
+              keeps =
+                  record {
+                    ready = called-ready words allowance number g Caller (suc k) (length words) above (omega arith) sized
+                        (above-held frames k (g .at .0) (r .frameRoom) l above same (r .held) (u .current)) r;
+                    current = empty;
+                  };
+              room = refl;
+              beyond = λ old e. e;
             };
-        falls = omega (arith, rw (add-one k, left) at (d .falls));
+        falls = rw left (omega arith);
       }
     where
       -- a call that is declared, paid for and has a frame enters its function

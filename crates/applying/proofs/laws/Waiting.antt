@@ -14,9 +14,8 @@ use Rattle.meaning.specs.Packing.{Words}
 use Rattle.meaning.proofs.laws.Depth.{enter-step}
 use Rattle.acting.specs.declared.registers.Registers.{Registers}
 use Rattle.acting.specs.declared.registers.Next.the-variants.{Onward}
-use Rattle.acting.specs.States.{Memory, frameWord, localAt, stacksOf, Ledgers, ledgerOf, Outcomes}
+use Rattle.acting.specs.States.{Memory, frameWord, localAt, Held, stacksOf, Ledgers, ledgerOf, Outcomes}
 use Rattle.applying.specs.Waiting.{functionsIn, entering, waiting, comesTo, leftWaiting, backIn, leftFrom, leftBy}
-use Rattle.applying.specs.Advancing.{Held}
 
 -- A FRAME DEPENDS ON ITS OWN WORDS AND VALUES ALONE
 
@@ -27,15 +26,11 @@ module _ (frames : List ℕ) (n : ℕ) where
   left-within : (size k : ℕ) → 24 * k ≤ n → leftWaiting size k (take n frames) ≡ leftWaiting size k frames
   unfolding leftWaiting
   left-within size zero h = refl
-  left-within size (suc k) h = rw (word-within k 0 (omega arith), left-within size k (omega arith))
+  left-within size (suc k) h = rw (word-within k 6 (omega arith), left-within size k (omega arith))
 
-  held-within : (k : ℕ) → 24 * k + 24 ≤ n → Held k (take n frames) → Held k frames
-  held-within k h e =
-      record { stored = rw (word-within k 3 (omega arith)) at (e .stored); opened = rw (word-within k 4 (omega arith)) at (e .opened) }
-
-  within-held : (k : ℕ) → 24 * k + 24 ≤ n → Held k frames → Held k (take n frames)
-  within-held k h e =
-      record { stored = rw (word-within k 3 (omega arith)) (e .stored); opened = rw (word-within k 4 (omega arith)) (e .opened) }
+  -- what holds of a frame's words is told by those words
+  words-within : (k : ℕ) → 24 * k + 24 ≤ n → (i : ℕ) → i < 24 → frameWord k i (take n frames) ≡ frameWord k i frames
+  words-within k h i l = word-within k i (omega arith)
 
   module _ (values : Bytes) (m : ℕ) where
     local-within : (k : ℕ) → 24 * k + 24 ≤ n → 16 * k + 16 ≤ m → localAt k (take n frames) (take m values) ≡ localAt k frames values
@@ -43,8 +38,8 @@ module _ (frames : List ℕ) (n : ℕ) where
         rw (
           word-within k 1 (omega arith),
           word-within k 2 (omega arith),
-          word-within k 3 (omega arith),
           word-within k 4 (omega arith),
+          word-within k 5 (omega arith),
           take-take (24 * k + 24) n frames h,
           take-take (16 * k + 16) m values h′,
         )
@@ -55,7 +50,17 @@ module _ (frames : List ℕ) (n : ℕ) where
       unfolding waiting
       waiting-within zero h h′ o = refl
       waiting-within (suc k) h h′ o =
-          rw (word-within k 0 (omega arith), local-within k (omega arith) (omega arith)) (waiting-within k (omega arith) (omega arith) _)
+          rw (word-within k 6 (omega arith), local-within k (omega arith) (omega arith)) (waiting-within k (omega arith) (omega arith) _)
+
+-- a frame with the same words up to its counts holds the same
+pub same-held : (k : ℕ) (frames frames′ : List ℕ) → Held k frames → ((i : ℕ) → i ≤ 5 → frameWord k i frames ≡ frameWord k i frames′) → Held k frames′
+same-held k frames frames′ held e =
+    record {
+      null = rw (← (e 0 (omega arith))) (held .null);
+      right = rw (← (e 1 (omega arith)), ← (e 2 (omega arith)), ← (e 3 (omega arith))) (held .right);
+      stored = rw (← (e 4 (omega arith))) (held .stored);
+      opened = rw (← (e 5 (omega arith))) (held .opened);
+    }
 
 pub left-same : (frames frames′ : List ℕ) (size k : ℕ) → take (24 * k) frames ≡ take (24 * k) frames′ → leftWaiting size k frames ≡ leftWaiting size k frames′
 left-same frames frames′ size k e =
@@ -63,7 +68,8 @@ left-same frames frames′ size k e =
 
 pub held-same : (frames frames′ : List ℕ) (k : ℕ) → take (24 * k) frames ≡ take (24 * k) frames′ → ((i : ℕ) → i < k → Held i frames) → (i : ℕ) → i < k → Held i frames′
 held-same frames frames′ k e held i h =
-    held-within frames′ (24 * k) i (omega arith) (rw e at (within-held frames (24 * k) i (omega arith) (held i h)))
+    same-held i frames frames′ (held i h)
+    (λ j l. sym (words-within frames (24 * k) i (omega arith) j (omega arith)) ∙ rw e (words-within frames′ (24 * k) i (omega arith) j (omega arith)))
 
 module _ (room : Room) (allowance : ℕ) (words : Words) where
   pub waiting-same : (frames frames′ : List ℕ) (values values′ : Bytes) (k : ℕ) → take (24 * k) frames ≡ take (24 * k) frames′ →
@@ -87,12 +93,12 @@ module _ (room : Room) (allowance : ℕ) (words : Words) where
   entering-paid frame f s l h = enter-step (lent room) allowance allowance (functionsIn words) frame f s l h (omega arith)
 
   -- the end of an application
-  pub waiting-done : (k : ℕ) (g : Registers) (m : Memory) →
+  pub waiting-done : (k : ℕ) (g : Registers) (m : Memory) → g .callee ≡ 0 →
       waiting room allowance words k (m .frames) (m .values) (done (stacksOf g m) (ledgerOf allowance g m)) ≡
       comesTo room allowance words (leftFrom k g (m .frames)) m
   unfolding waiting
-  waiting-done zero g m = refl
-  waiting-done (suc k) g m = rw (sub-self (g .p .0))
+  waiting-done zero g m idle = refl
+  waiting-done (suc k) g m idle = rw (sub-self (g .p .0), idle)
 
 -- a frame that is not the lowest is left for the one below it
 pub left-back : (g : Registers) (frames : List ℕ) → (g .frame ≡ 0 → ⊥) → Onward (backIn (g .frame - 1) g frames) ≡ leftBy g frames

@@ -1,38 +1,22 @@
 -- The instruction at a place of the code, as the actions from there on.
 use Prim.Native.Nat.{ℕ, zero, suc, _+_, _/_, _≤_, _<_}
-use mathlib.Core.Path.{_≡_, refl}
+use native.Mathlib.Omega.{arith}
+use mathlib.Core.Path.{_≡_, refl, ap, _∙_}
 use mathlib.Core.Bool.{Bool, true, false}
 use mathlib.Core.List.{List, [], _∷_}
-use mathlib.Core.Option.{none, some}
 use lib.Dec.{eqb}
 use lib.ListN.{length, getD, drop}
 use lib.Seq.{drop-drop}
+use borrow.Author.Tests.{eqb-true}
+use Rattle.matching.specs.declared.CodePlace.{CodePlace}
 use Rattle.meaning.specs.Choice.{pick}
-use Rattle.meaning.specs.Instructions.{null, whole, left, right, Action, go, select, out, outCharacter, outValue, beginSequence, useSequence, call, tailCall, unknownAction}
+use Rattle.meaning.specs.Instructions.{Action, go, select, out, outCharacter, outValue, beginSequence, useSequence, call, tailCall, unknownAction}
 use Rattle.meaning.specs.Packing.{Words, numberIn, firstIn, secondIn, thirdIn, lengthOf, spanAction, emissionOf, unpackActions}
-use Rattle.decoding.specs.declared.Length.the-variants.{Null, Whole, Left, Right, Unknown as UnknownLength}
 use Rattle.decoding.specs.declared.Instruction.{Instruction}
-use Rattle.decoding.specs.declared.Shift.the-variants.{Go, Select}
 use Rattle.decoding.specs.declared.Write.the-variants.{Part, Character, Value}
-use Rattle.decoding.specs.declared.Instruction.the-variants.{Shift as Shifts, Write as Writes, Begin, Use, Call as Calls, Emit, End, Unknown}
-use Rattle.decoding.specs.Decoded.{spanIn, callIn, instructionIn, registerMeant, lengthIn, actionsMeant}
+use Rattle.decoding.specs.declared.Instruction.the-variants.{Go, Select, Write as Writes, Begin, Use, Call as Calls, Emit, End, Unknown}
+use Rattle.decoding.specs.Decoded.{callIn, instructionIn, Numbered, Taken, actionsMeant}
 use Rattle.meaning.proofs.laws.Remaining.{at-place, past-end}
-
-module _ (a b c d : Bool) where
-  known : registerMeant (pick a Null (pick b Whole (pick c Left (pick d Right UnknownLength)))) ≡
-      pick a (some null) (pick b (some whole) (pick c (some left) (pick d (some right) none)))
-  known = by a b c d
-    where
-      by : (a b c d : Bool) → registerMeant (pick a Null (pick b Whole (pick c Left (pick d Right UnknownLength)))) ≡
-          pick a (some null) (pick b (some whole) (pick c (some left) (pick d (some right) none)))
-      by true b c d = refl
-      by false true c d = refl
-      by false false true d = refl
-      by false false false true = refl
-      by false false false false = refl
-
-register-meant : (n : ℕ) → registerMeant (lengthIn n) ≡ lengthOf n
-register-meant n = known (eqb n 0) (eqb n 1) (eqb n 2) (eqb n 3)
 
 module _ (w : ℕ) (ws : Words) where
   abbrev Later : List Action
@@ -52,8 +36,8 @@ module _ (w : ℕ) (ws : Words) where
       actionsMeant
       (pick b₁₅ End
       (pick b₁₄ (Emit (firstIn w))
-      (pick b₅ (Shifts (Go (spanIn w)))
-      (pick b₆ (Shifts (Select (spanIn w)))
+      (pick b₅ (Go w)
+      (pick b₆ (Select w)
       (pick b₇ (Writes Part)
       (pick b₈ (Writes (Character (firstIn w)))
       (pick b₉ (Writes (Value (firstIn w)))
@@ -62,8 +46,8 @@ module _ (w : ℕ) (ws : Words) where
       ws
   asked true b₁₄ b₅ b₆ b₇ b₈ b₉ b₁₀ b₁₁ b₁₂ b₁₃ = refl
   asked false true b₅ b₆ b₇ b₈ b₉ b₁₀ b₁₁ b₁₂ b₁₃ = refl
-  asked false false true b₆ b₇ b₈ b₉ b₁₀ b₁₁ b₁₂ b₁₃ = rw (register-meant (firstIn w))
-  asked false false false true b₇ b₈ b₉ b₁₀ b₁₁ b₁₂ b₁₃ = rw (register-meant (firstIn w))
+  asked false false true b₆ b₇ b₈ b₉ b₁₀ b₁₁ b₁₂ b₁₃ = refl
+  asked false false false true b₇ b₈ b₉ b₁₀ b₁₁ b₁₂ b₁₃ = refl
   asked false false false false true b₈ b₉ b₁₀ b₁₁ b₁₂ b₁₃ = refl
   asked false false false false false true b₉ b₁₀ b₁₁ b₁₂ b₁₃ = refl
   asked false false false false false false true b₁₀ b₁₁ b₁₂ b₁₃ = refl
@@ -79,10 +63,53 @@ module _ (w : ℕ) (ws : Words) where
       let n = numberIn w in
       asked (eqb n 15) (eqb n 14) (eqb n 5) (eqb n 6) (eqb n 7) (eqb n 8) (eqb n 9) (eqb n 10) (eqb n 11) (eqb n 12) (eqb n 13)
 
+-- only UseSeq's number gives UseSeq
+module _ (w : ℕ) where
+  used : (b₁₅ b₁₄ b₅ b₆ b₇ b₈ b₉ b₁₀ b₁₁ b₁₂ b₁₃ : Bool) →
+      pick b₁₅ End
+      (pick b₁₄ (Emit (firstIn w))
+      (pick b₅ (Go w)
+      (pick b₆ (Select w)
+      (pick b₇ (Writes Part)
+      (pick b₈ (Writes (Character (firstIn w)))
+      (pick b₉ (Writes (Value (firstIn w)))
+      (pick b₁₀ Begin (pick b₁₁ Use (pick b₁₂ (Calls (callIn false w)) (pick b₁₃ (Calls (callIn true w)) Unknown))))))))))
+      ≡ Use → b₁₁ ≡ true
+  used true b₁₄ b₅ b₆ b₇ b₈ b₉ b₁₀ b₁₁ b₁₂ b₁₃ e = let z : _≡_ {A = ℕ} 0 1 = cc in absurd (omega arith)
+  used false true b₅ b₆ b₇ b₈ b₉ b₁₀ b₁₁ b₁₂ b₁₃ e = let z : _≡_ {A = ℕ} 0 1 = cc in absurd (omega arith)
+  used false false true b₆ b₇ b₈ b₉ b₁₀ b₁₁ b₁₂ b₁₃ e = let z : _≡_ {A = ℕ} 0 1 = cc in absurd (omega arith)
+  used false false false true b₇ b₈ b₉ b₁₀ b₁₁ b₁₂ b₁₃ e = let z : _≡_ {A = ℕ} 0 1 = cc in absurd (omega arith)
+  used false false false false true b₈ b₉ b₁₀ b₁₁ b₁₂ b₁₃ e = let z : _≡_ {A = ℕ} 0 1 = cc in absurd (omega arith)
+  used false false false false false true b₉ b₁₀ b₁₁ b₁₂ b₁₃ e = let z : _≡_ {A = ℕ} 0 1 = cc in absurd (omega arith)
+  used false false false false false false true b₁₀ b₁₁ b₁₂ b₁₃ e = let z : _≡_ {A = ℕ} 0 1 = cc in absurd (omega arith)
+  used false false false false false false false true b₁₁ b₁₂ b₁₃ e = let z : _≡_ {A = ℕ} 0 1 = cc in absurd (omega arith)
+  used false false false false false false false false true b₁₂ b₁₃ e = refl
+  used false false false false false false false false false true b₁₃ e = let z : _≡_ {A = ℕ} 0 1 = cc in absurd (omega arith)
+  used false false false false false false false false false false true e = let z : _≡_ {A = ℕ} 0 1 = cc in absurd (omega arith)
+  used false false false false false false false false false false false e = let z : _≡_ {A = ℕ} 0 1 = cc in absurd (omega arith)
+
+pub use-numbered : (words : Words) (at : ℕ) → at < length words → instructionIn (getD words at 0) ≡ Use → Numbered words at 11
+use-numbered words at h e =
+    let w = getD words at 0 in
+    let n = numberIn w in
+    record {
+      within = h;
+      number = eqb-true n 11
+          (used w (eqb n 15) (eqb n 14) (eqb n 5) (eqb n 6) (eqb n 7) (eqb n 8) (eqb n 9) (eqb n 10) (eqb n 11) (eqb n 12) (eqb n 13) e);
+    }
+
 -- the actions from a place of the code on
 pub actions-at : (words : Words) (at : ℕ) (i : Instruction) → i ≡ instructionIn (getD words at 0) → at < length words →
     unpackActions 0 (drop at words) ≡ actionsMeant i (drop (at + 1) words)
 actions-at words at i e h = rw (at-place words at h, e) (meant (getD words at 0) (drop (at + 1) words))
+
+-- a word that is found, as the actions from its place on
+pub found-means : {words : Words} {at n w : ℕ} {next : CodePlace} → Taken words at n w next → (i : Instruction) → i ≡ instructionIn w →
+    unpackActions 0 (drop at words) ≡ actionsMeant i (drop (at + 1) words)
+found-means {words} {at} t i e = actions-at words at i (e ∙ ap instructionIn (t .word)) (t .numbered .within)
+
+pub found-number : {words : Words} {at n w : ℕ} {next : CodePlace} → Taken words at n w next → numberIn w ≡ n
+found-number t = ap numberIn (t .word) ∙ t .numbered .number
 
 pub actions-none : (words : Words) (at : ℕ) → length words ≤ at → unpackActions 0 (drop at words) ≡ unknownAction ∷ []
 unfolding unpackActions

@@ -21,9 +21,9 @@ use Rattle.acting.specs.declared.registers.Ending.{Ending}
 use Rattle.acting.specs.declared.registers.Next.{Next}
 use Rattle.acting.specs.declared.registers.Next.the-variants.{Onward, Done, Stopped}
 use Rattle.acting.specs.Endings.{endingNumber}
-use Rattle.acting.specs.States.{Memory, memory, stacksOf, roomOf, Outcomes}
+use Rattle.acting.specs.States.{Memory, memory, Held, stacksOf, roomOf, Outcomes}
 use Rattle.applying.specs.Waiting.{soundIn, functionsIn, waiting, comesTo}
-use Rattle.applying.specs.Advancing.{Ready, Keeps, registersIn, Leads, Applies, IsOver}
+use Rattle.applying.specs.Advancing.{Underway, Keeps, registersIn, Leads, IsOver}
 use Rattle.running.specs.Leaving.{cells, Tells, Leaves, refusedWith, reportedOf, clearedFrom, loadedWith}
 use Rattle.applying.proofs.laws.Waiting.{entering-paid}
 use Rattle.running.proofs.laws.Tables.{unpacked}
@@ -142,7 +142,7 @@ module _ (text input input′ : Bytes) (l : Loaded text input input′) where
     Start = memory input′ output journal frames values
 
     abbrev Beginning : Registers
-    Beginning = loadedWith (length input) (length text)
+    Beginning = loadedWith (length input) (length text) start
 
     loaded-stacks : stacksOf Beginning Start ≡ loaded text
     loaded-stacks = let whole : length input - (length input - length text) ≡ length text = omega (arith, l .fits) in rw (loaded-text, whole)
@@ -151,33 +151,36 @@ module _ (text input input′ : Bytes) (l : Loaded text input input′) where
     abbrev pub Whole : Outcomes
     Whole = from (lent (roomOf Start)) (functionsIn words) start text allowance tt
 
-    pub ready-start : length frames ≡ 6144 → length values ≡ 4096 → Ready allowance Beginning Start
-    ready-start f v =
+    pub underway-start : length frames ≡ 6144 → length values ≡ 4096 → Held 0 frames → Underway allowance Beginning Start
+    underway-start f v empty =
         record {
-          ordered = omega arith;
-          inside = omega (arith, l .sized);
-          below = omega arith;
-          logged = omega arith;
-          framed = omega arith;
-          frameRoom = f;
-          valueRoom = v;
-          paid = omega arith;
-          held = λ k h. absurd (omega arith);
+          ready =
+              record {
+                ordered = omega arith;
+                inside = omega (arith, l .sized);
+                below = omega arith;
+                logged = omega arith;
+                framed = omega arith;
+                frameRoom = f;
+                valueRoom = v;
+                paid = omega arith;
+                held = λ k h. absurd (omega arith);
+              };
+          current = empty;
         }
 
-    -- the run is followed from its first application
-    pub starting : length frames ≡ 6144 → length values ≡ 4096 → (first : Next) (m : Memory) → Applies words allowance start Beginning Start first m →
-        Leads words allowance Whole Beginning Start first m
+    -- the run is followed from where its first application is to begin
+    pub starting : Underway allowance Beginning Start → isDeclared (functionsIn words) start ≡ true →
+        Leads words allowance Whole Beginning Start (Onward Beginning) Start
     unfolding waiting
-    starting f v first m applies =
-        let d = applies (ready-start f v) .leads in
+    starting underway declared =
         record {
           same =
               entering-paid (roomOf Start) allowance words 1 start (loaded text) (record { tally = fresh allowance; mark = tt }) (omega arith) ∙
-              rw (loaded-stacks, sub-zero allowance) at (d .same);
-          keeps = d .keeps;
-          room = d .room;
-          beyond = d .beyond;
+              rw (declared, loaded-stacks, sub-zero allowance);
+          keeps = underway;
+          room = refl;
+          beyond = λ old e. e;
         }
 
     -- and leaves what it should when it has been followed to its end

@@ -1,170 +1,192 @@
 -- `stepping::advance` meets its contract.
-use Prim.Native.Nat.{ℕ, _+_, _<_, _≤_}
-use native.Mathlib.Omega.{arith}
-use mathlib.Core.Path.{_≡_, refl, _∙_}
-use mathlib.Core.List.{[], _∷_}
-use lib.ListN.{length, drop}
-use Rattle.meaning.specs.Instructions.{Action}
-use Rattle.meaning.specs.Packing.{Words, unpackActions}
-use Rattle.decoding.specs.declared.Instruction.{Instruction}
-use Rattle.decoding.specs.declared.Instruction.the-variants.{Shift as Shifts, Write as Writes, Begin, Use, Call as Calls, Emit, End, Unknown}
-use Rattle.decoding.specs.Decoded.{callMeant, actionsMeant}
-use Rattle.decoding.proofs.laws.Reading.{actions-at, actions-none, actions-named}
+use Prim.Native.Nat.{suc}
+use mathlib.Core.Path.{subst, _∙_}
+use lib.ListN.{length}
+use Rattle.meaning.specs.Packing.{Words}
 use Rattle.acting.specs.declared.registers.Registers.{Registers}
 use Rattle.acting.specs.declared.registers.Next.{Next}
-use Rattle.acting.specs.States.{Memory, memory, roomOf, Acts}
-use Rattle.applying.specs.Advancing.{Underway, Steps}
-use Rattle.applying.proofs.laws.Advancing.{stepped, advance-does, advance-acts, advance-unknown, advance-leaves}
+use Rattle.acting.specs.declared.registers.Next.the-variants.{Onward}
+use Rattle.acting.specs.States.{Memory, memory, roomOf}
+use Rattle.applying.specs.Waiting.{comesTo, leftToDo}
+use Rattle.applying.specs.Advancing.{Acting, Begins, Tried, Used}
 use borrow.Author.Needs.{needs}
+use Rattle.stepping.proofs.laws.Statuses.{over-tagged}
+use Rattle.stepping.proofs.laws.Trying.{acting-on, acting-used, turn-begun, turn-used, turn-done}
 use Rattle.stepping.proofs.advance.Statement.{statement}
 use Rattle.stepping.proofs.advance.Tie as tie
 
--- WHERE A WORD IS DECODED: the registers, the code and what is lent, and the instruction as the actions from there on
+-- WHERE AN APPLICATION HAS BEGUN: the registers, the code and what was lent at the entry
 
-abbrev entry : tie.After-decode → tie.Start
-entry c = c .before .before .before .before .before .before .before .before .before .before .before .before
+abbrev entry : tie.After-enter → tie.Start
+entry c = c .before .before .before .before .before .before .before .before .before .before
 
-abbrev g : tie.After-decode → Registers
-g c = entry c .args .g
+abbrev words : tie.Start → Words
+words e = e .args .code .now
 
-abbrev words : tie.After-decode → Words
-words c = entry c .args .code .now
+abbrev lent : tie.Start → Memory
+lent e = memory (e .args .input .now) (e .args .output .now) (e .args .journal .now) (e .args .frames .now) (e .args .values .now)
 
-abbrev lent : tie.After-decode → Memory
-lent c = memory (entry c .args .input .now) (entry c .args .output .now) (entry c .args .journal .now) (entry c .args .frames .now) (entry c .args .values .now)
+-- what the application left
+abbrev entered : tie.After-enter → Memory
+entered c =
+    let a = entry c .args in
+    memory (a .input .now) (a .output .now) (a .journal .now) (c .enter .last .1 .1 .1 .1 .1 .0) (c .enter .last .1 .1 .1 .1 .1 .1 .0)
 
-within : (c : tie.After-decode) → g c .at .0 < length (words c)
-within c = c .before .before .before .before .before .if1 .left
+abbrev BeginsTo : tie.Start → Next → Memory → Type 0
+BeginsTo e next n =
+    Begins (words e) (e .args .allowance) (comesTo (roomOf (lent e)) (e .args .allowance) (words e) (Onward (e .args .g)) (lent e))
+    (suc (leftToDo (length (words e)) (e .args .allowance) (Onward (e .args .g)) (lent e))) (e .args .g) (lent e) next n
 
-read : (c : tie.After-decode) (i : Instruction) → c .decode .result ≡ i → unpackActions 0 (drop (g c .at .0) (words c)) ≡ actionsMeant i (drop (g c .at .0 + 1) (words c))
-read c i e = actions-at (words c) (g c .at .0) i (rw e at (c .decode .ensures)) (within c)
+begun : (c : tie.After-enter) → BeginsTo (entry c) (c .enter .result) (entered c)
+begun c = c .enter .ensures _ _ (entry c .pre .1 .1)
 
--- an instruction that is one action, and leads on to a place
-acts : (c : tie.After-decode) (i : Instruction) → c .decode .result ≡ i → (action : Action) (at : ℕ) →
-    actionsMeant i (drop (g c .at .0 + 1) (words c)) ≡ action ∷ unpackActions 0 (drop at (words c)) → g c .at .0 + 1 ≤ at →
-    (next : Next) (n : Memory) → roomOf n ≡ roomOf (lent c) → Acts action at (stepped (g c)) (lent c) next n →
-    Steps (words c) (entry c .args .allowance) (g c) (lent c) next n
-acts c i e action at means l next n room a =
-    advance-acts (words c) _ (g c) (lent c) action at next n (within c) (entry c .pre .1 .1) (read c i e ∙ means) room l a
+-- where the run goes on, at the application's first action
+abbrev before-first : tie.After-entered → tie.After-enter
+before-first c = c .before .before .before .before .before .before
+
+abbrev first : tie.After-entered → Registers
+first c = c .entered .given .0 .0
+
+begun-first : (c : tie.After-entered) → BeginsTo (entry (before-first c)) (Onward (first c)) (entered (before-first c))
+begun-first c =
+    subst (λ (next : Next). BeginsTo (entry (before-first c)) next (entered (before-first c))) (c .entered .given .1) (begun (before-first c))
+
+acting-first : (c : tie.After-entered) → Acting (entry (before-first c) .args .allowance) (first c) (entered (before-first c))
+acting-first c = record { underway = begun-first c .advances .leads .keeps; idle = begun-first c .idle }
+
+-- WHERE ITEMS ARE WRITTEN, WHERE USESEQ WAS TRIED, AND WHERE SELECT WAS
+
+abbrev before-items : tie.After-write-items → tie.After-entered
+before-items c = c .before .before .before .before .before
+
+abbrev start : tie.After-write-items → tie.Start
+start c = entry (before-first (before-items c))
+
+abbrev written-in : tie.After-write-items → Memory
+written-in c =
+    let m = entered (before-first (before-items c)) in
+    memory (m .input) (c .write-items .last .1 .1 .1 .0) (m .journal) (c .write-items .last .1 .1 .1 .1 .0) (m .values)
+
+written : (c : tie.After-write-items) →
+    Tried (words (start c)) (start c .args .allowance) (first (before-items c)) (entered (before-first (before-items c))) (c .write-items .result) (written-in c)
+written c = c .write-items .ensures _ _ _ (acting-first (before-items c))
+
+abbrev before-use : tie.After-try-use → tie.After-write-items
+before-use c = c .before .before .before .before .before .before .before .before
+
+abbrev used-in : tie.After-try-use → Memory
+used-in c =
+    let m = written-in (before-use c) in
+    memory (c .try-use .last .1 .1 .0) (m .output) (m .journal) (c .try-use .last .1 .1 .1 .1 .0) (m .values)
+
+-- what UseSeq, or another instruction in its place, was told to lead to
+abbrev UsedTo : tie.After-try-use → Next → Type 0
+UsedTo c next =
+    Used (words (start (before-use c))) (start (before-use c) .args .allowance) (before-use c .write-items .result) (written-in (before-use c)) next (used-in c)
+
+used : (c : tie.After-try-use) → UsedTo c (c .try-use .result)
+used c = c .try-use .ensures _ _ _ (acting-on _ _ (written (before-use c)))
+
+abbrev before-second : tie.After-used → tie.After-try-use
+before-second c = c .before .before .before .before .before .before
+
+abbrev second : tie.After-used → Registers
+second c = c .used .given .0 .0
+
+used-second : (c : tie.After-used) → UsedTo (before-second c) (Onward (second c))
+used-second c = subst (UsedTo (before-second c)) (c .used .given .1) (used (before-second c))
+
+acting-second : (c : tie.After-used) → Acting (start (before-use (before-second c)) .args .allowance) (second c) (used-in (before-second c))
+acting-second c = acting-used _ _ (acting-on _ _ (written (before-use (before-second c)))) (used-second c)
+
+abbrev before-select : tie.After-try-select → tie.After-used
+before-select c = c .before .before .before .before
+
+selected : (c : tie.After-try-select) → let at-use = before-second (before-select c) in
+    Tried (words (start (before-use at-use))) (start (before-use at-use) .args .allowance) (second (before-select c)) (used-in at-use) (c .try-select .result) (used-in at-use)
+selected c = c .try-select .ensures _ _ _ _ (acting-second (before-select c))
+
+enter-requires : tie.Need-enter-requires
+enter-requires c κs =
+    let pre = c .before .before .before .before .before .before .before .before .before .pre in
+    let r = pre .1 .1 .ready in
+    (pre .0, (pre .1 .0, (r .ordered, (r .inside, (r .framed, (r .frameRoom, r .valueRoom))))))
 
 returns : tie.Need-returns
 returns c =
-    let entry = c .before .before .before .before .before .before .before in
-    let a = entry .args in
-    let u = entry .pre .1 .1 in
-    advance-unknown _ _ _ _ [] u (actions-none (a .code .now) (a .g .at .0) (c .if1 .taken)) (a .g) refl refl refl
+    let at-enter = (c .before .before .before .before .before) in
+    turn-begun _ _ (over-tagged _ (entry at-enter .args .allowance) (at-enter .enter .result) (entered at-enter) (c .match .keys2)) (begun at-enter)
 
-call-requires : tie.Need-call-requires
-call-requires c κs = let pre =
-    c .before .before .before .before .before .before .before .before .before .before .before .before .before .before .before .before .before .before .pre in
-    let r = pre .1 .1 .ready in (pre .0, (pre .1 .0, (r .ordered, (r .inside, (r .framed, (r .frameRoom, r .valueRoom))))))
+write-items-requires : tie.Need-write-items-requires
+write-items-requires c κs =
+    let at-first = (c .before .before .before .before) in
+    let a = entry (before-first at-first) .args in
+    record { allowance = a .allowance; journal = a .journal .now; values = entered (before-first at-first) .values; acting = acting-first at-first }
 
-emit-requires : tie.Need-emit-requires
-emit-requires c κs =
-    let at-if1 = c .before .before .before .before .before .before .before .before .before .before in
-    let entry = at-if1 .before .before .before .before .before .before .before in
-    let r = entry .pre .1 .1 .ready in
-    (omega (arith, at-if1 .if1 .left), (r .ordered, (r .inside, r .logged)))
+try-use-requires : tie.Need-try-use-requires
+try-use-requires c κs =
+    let u = acting-on _ _ (written (c .before .before .before .before .before .before .before)) .underway in
+    (u .ready .ordered, (u .ready .inside, (u .ready .below, (u .ready .framed, (u .ready .frameRoom, u .current)))))
+
+same-length-6 : tie.Need-same-length-6
+same-length-6 c = c .before .before .before .before .before .try-use .kept .1 .1 .1 .1 .0 ∙ c .before .before .before .before .before .before .before .before .before .before .before .before .before .write-items .kept .1 .1 .1 .1 .0 ∙ c .before .before .before .before .before .before .before .before .before .before .before .before .before .before .before .before .before .before .before .before .before .before .before .before .enter .kept .1 .1 .1 .1 .1 .0
 
 returns-2 : tie.Need-returns-2
 returns-2 c =
-    let at-what = c .before .before .before .before in
-    acts (at-what .before .before) _ (at-what .what .given .1) _ _ refl (omega arith) _ _ refl (c .shift .ensures _ _ _)
+    let at-use = (c .before .before .before .before .before) in
+    turn-used _ _ (begun-first (before-items (before-use at-use))) (written (before-use at-use))
+    (over-tagged _ (start (before-use at-use) .args .allowance) (at-use .try-use .result) (used-in at-use) (c .match2 .keys2)) (used at-use)
+
+try-select-requires : tie.Need-try-select-requires
+try-select-requires c κs =
+    let u = acting-second (c .before .before .before) .underway in
+    (u .ready .ordered, (u .ready .inside, (u .ready .framed, (u .ready .frameRoom, u .current))))
+
+act-requires : tie.Need-act-requires
+act-requires c κs = (c .before .before .before .before .before .before .before .before .before .before .before .before .before .before .before .before .before .before .before .before .before .before .before .before .before .before .before .before .before .before .before .before .before .before .before .before .before .before .before .before .before .before .before .before .pre .1 .0, acting-on _ _ (selected (c .before .before .before .before .before)))
+
+same-length-8 : tie.Need-same-length-8
+same-length-8 c = c .before .before .before .before .before .before .before .before .before .before .before .before .before .before .before .before .before .before .before .before .before .before .try-use .kept .1 .1 .0
+
+same-length-9 : tie.Need-same-length-9
+same-length-9 c = c .before .before .before .before .before .before .act .kept .1 .1 .1 .1 .0 ∙ c .before .before .before .before .before .before .before .before .before .before .before .before .before .before .before .before .before .before .before .before .before .before .before .before .before .before .before .before .before .before .write-items .kept .1 .1 .1 .0
+
+same-length-11 : tie.Need-same-length-11
+same-length-11 c =
+    c .before .before .before .before .before .before .act .kept .1 .1 .1 .1 .1 .1 .0 ∙ c .before .before .before .before .before .before .before .before .before .before .before .before .before .before .before .before .before .before .before .before .before .before .try-use .kept .1 .1 .1 .1 .0 ∙ c .before .before .before .before .before .before .before .before .before .before .before .before .before .before .before .before .before .before .before .before .before .before .before .before .before .before .before .before .before .before .write-items .kept .1 .1 .1 .1 .0 ∙ c .before .before .before .before .before .before .before .before .before .before .before .before .before .before .before .before .before .before .before .before .before .before .before .before .before .before .before .before .before .before .before .before .before .before .before .before .before .before .before .before .before .enter .kept .1 .1 .1 .1 .1 .0
+
+same-length-12 : tie.Need-same-length-12
+same-length-12 c = c .before .before .before .before .before .before .before .before .before .before .before .before .before .before .before .before .before .before .before .before .before .before .before .before .before .before .before .before .before .before .before .before .before .before .before .before .before .before .before .before .before .enter .kept .1 .1 .1 .1 .1 .1 .0
 
 returns-3 : tie.Need-returns-3
 returns-3 c =
-    let at-write = c .before .before in
-    let at-what2 = at-write .before .before .before .before .before .before in
-    acts (at-what2 .before .before) _ (at-what2 .what2 .given .1) _ _ refl (omega arith) _ _ (rw (at-write .write .kept .1 .1 .1 .0)) (at-write .write .ensures _)
-
-returns-4 : tie.Need-returns-4
-returns-4 c =
-    let at-begin-sequence = c .before .before in
-    let at-enum-told = at-begin-sequence .before .before in
-    let at-decode = at-enum-told .before .before in
-    acts at-decode _ (at-enum-told .enum-told .given .1) _ _ refl (omega arith) _ _ refl
-    (at-begin-sequence .begin-sequence .ensures _ _ _ _ (entry at-decode .pre .1 .1 .ready .below))
-
-returns-5 : tie.Need-returns-5
-returns-5 c =
-    let at-use-sequence = c .before .before .before .before in
-    let at-enum-told2 = at-use-sequence .before .before .before .before in
-    acts (at-enum-told2 .before .before) _ (at-enum-told2 .enum-told2 .given .1) _ _ refl (omega arith) _ _ (rw (at-use-sequence .use-sequence .kept .1 .0))
-    (at-use-sequence .use-sequence .ensures _ _)
-
-returns-6 : tie.Need-returns-6
-returns-6 c =
-    let at-call = c .before .before .before .before in
-    let at-what3 = at-call .before .before .before .before .before in
-    let at-decode = at-what3 .before .before in
-    advance-does _ _ _ _ _ (g at-decode .at .0 + 1) _ _ (within at-decode) (entry at-decode .pre .1 .1) (read at-decode _ (at-what3 .what3 .given .1))
-    (at-call .call .ensures _ _)
-
-returns-7 : tie.Need-returns-7
-returns-7 c =
-    let at-emit = c .before .before in
-    let at-length = at-emit .before .before .before .before in
-    let at-decode = at-length .before .before in
-    let named = actions-named (words at-decode) (g at-decode .at .0 + 1) (at-length .length .given .0 .0) in
-    acts at-decode _ (at-length .length .given .1) _ _ (rw named) (omega arith) _ _ (rw (at-emit .emit .kept .1 .1 .1 .1 .0)) (at-emit .emit .ensures _ _ _)
-
-returns-8 : tie.Need-returns-8
-returns-8 c =
-    let at-enum-told3 = c .before .before in
-    let at-decode = at-enum-told3 .before .before in
-    rw (c .leave .ensures)
-    (advance-leaves _ _ _ _ (within at-decode) (entry at-decode .pre .1 .1) (read at-decode _ (at-enum-told3 .enum-told3 .given .1)))
-
-returns-9 : tie.Need-returns-9
-returns-9 c =
-    let at-decode = c .before .before in
-    advance-unknown _ _ _ _ _ (entry at-decode .pre .1 .1) (read at-decode _ (c .enum-told4 .given .1)) (stepped (g at-decode)) refl refl refl
+    let at-select = (c .before .before .before .before .before .before .before .before .before .before .before .before) in
+    let at-items = before-use (before-second (before-select at-select)) in
+    turn-done _ _ (begun-first (before-items at-items)) (written at-items) (used-second (before-select at-select)) (selected at-select) (c .before .before .before .before .before .before .act .ensures)
 
 pub advance-spec : {M : Type 1} → statement M
 advance-spec =
     tie.close
     (tie.spec
+    enter-requires
+    (λ c. search needs)
+    (λ c. search needs)
+    (λ c. search needs)
+    (λ c. search needs)
     returns
+    write-items-requires
+    try-use-requires
     (λ c. search needs)
     (λ c. search needs)
     (λ c. search needs)
-    (λ c κs. search needs)
-    (λ c. search needs)
-    (λ c κs. search needs)
-    (λ c. search needs)
-    (λ c κs. search needs)
-    (λ c. search needs)
-    (λ c κs. search needs)
-    (λ c. search needs)
-    (λ c κs. search needs)
-    (λ c. search needs)
-    call-requires
-    (λ c. search needs)
-    emit-requires
-    (λ c. search needs)
-    (λ c κs. search needs)
-    (λ c. search needs)
-    (λ c. search needs)
+    same-length-6
     (λ c. search needs)
     returns-2
+    try-select-requires
+    act-requires
+    same-length-8
+    same-length-9
     (λ c. search needs)
-    (λ c. search needs)
-    (λ c. search needs)
-    (λ c. search needs)
-    returns-3
-    (λ c. search needs)
-    returns-4
-    (λ c. search needs)
-    (λ c. search needs)
-    (λ c. search needs)
-    returns-5
-    (λ c. search needs)
-    (λ c. search needs)
-    (λ c. search needs)
-    returns-6
-    (λ c. search needs)
-    (λ c. search needs)
-    returns-7
-    (λ c. search needs)
-    returns-8
-    returns-9)
+    same-length-11
+    same-length-12
+    returns-3)

@@ -2,6 +2,7 @@
 use Prim.Native.Nat.{ℕ}
 use mathlib.Core.Path.{_≡_, refl, sym, ap, subst, _∙_}
 use mathlib.Core.Bool.{true, false}
+use mathlib.Core.Logic.{_⊎_, inl, inr}
 use lib.Dec.{T, eqb}
 use denote.Enum.Declared.{tagOf}
 use Rattle.acting.specs.declared.registers.Registers.{Registers}
@@ -9,7 +10,10 @@ use Rattle.acting.specs.declared.registers.Next.{Next}
 use Rattle.acting.specs.declared.registers.Next.the-variants.{Onward, Done, Stopped}
 use Rattle.acting.specs.declared.registers.Status.{Status}
 use Rattle.acting.specs.declared.registers.Status.the-variants as status
+use Rattle.acting.proofs.registers.Next as next-declared
 use Rattle.acting.proofs.registers.Status as status-declared
+use Rattle.acting.specs.States.{Memory}
+use Rattle.applying.specs.Waiting.{leftToDo}
 use Rattle.applying.specs.Advancing.{registersIn, statusIn, nextOf, onward, IsOver}
 
 parts-join : (r : Next) → nextOf (statusIn r) (registersIn r) ≡ r
@@ -29,6 +33,13 @@ pub is-over : (x : Status) (g : Registers) → onward x ≡ false → IsOver (ne
 is-over status.Onward g e = absurd (subst T e tt)
 is-over status.Done g e = tt
 is-over (status.Stopped ending function) g e = tt
+
+-- where an answer says that the run is over, nothing is left to do
+pub over-tagged : (size allowance : ℕ) (r : Next) (n : Memory) → (tagOf next-declared.the-type r ≡ 1) ⊎ (tagOf next-declared.the-type r ≡ 2) → leftToDo size allowance r n ≡ 0
+over-tagged size allowance (Onward g) n (inl e) = absurd (subst (λ (k : ℕ). T (eqb 0 k)) e tt)
+over-tagged size allowance (Onward g) n (inr e) = absurd (subst (λ (k : ℕ). T (eqb 0 k)) e tt)
+over-tagged size allowance (Done g) n e = refl
+over-tagged size allowance (Stopped g ending function) n e = refl
 
 -- the tag tells how the run goes on
 pub onward-tagged : (x : Status) (g : Registers) → tagOf status-declared.the-type x ≡ 0 → Onward g ≡ nextOf x g

@@ -4,7 +4,7 @@ use native.Mathlib.Omega.{arith}
 use Prim.Native.Nat.{_-_}
 use mathlib.Core.List.{[]}
 use lib.ListN.{length}
-use Rattle.decoding.specs.Decoded.{registerMeant}
+use Rattle.meaning.specs.Packing.{firstIn, secondIn, thirdIn, lengthOf}
 use Rattle.acting.specs.States.{localAt}
 use Rattle.acting.proofs.laws.Spanning.{counted}
 use Rattle.acting.proofs.moving.reach.Statement.{statement}
@@ -15,7 +15,7 @@ add-t12 c =
     let at-span-cells = c .before .before .before in
     let entry = at-span-cells .before .before .before in
     let a = entry .args in
-    omega (arith, counted (a .span .add) (a .span .back) (localAt (a .frame) (a .frames .now) []) (length (a .input .now) - a .from .0) (registerMeant (a .span .register)) _ (rw (c .before .n .given .1) at (at-span-cells .span-cells .ensures [])) .enough)
+    omega (arith, counted (secondIn (a .span)) (thirdIn (a .span)) (localAt (a .frame) (a .frames .now) []) (length (a .input .now) - a .from .0) (lengthOf (firstIn (a .span))) _ (rw (c .before .n .given .1) at (at-span-cells .span-cells .ensures [])) .enough)
 
 returns : tie.Need-returns
 returns c = λ values. rw (← (c .before .before .before .span-cells .ensures values), c .before .n .given .1)

@@ -21,16 +21,16 @@ bounded : (c : tie.After-word) (journal values : Bytes) →
     Bounded (entry c .args .g) (lent c journal values) (entry c .pre .1 .1 .1 .0) (entry c .pre .1 .1 .1 .1 .0)
 bounded c journal values =
     let p = entry c .pre in
-    record { p≤q = p .0; q≤in = p .1 .0; r≤out = p .1 .1 .0; few = p .1 .1 .1 .1 .1 }
+    record { p≤q = p .0; q≤in = p .1 .0; r≤out = p .1 .1 .0; few = p .1 .1 .1 .1 .1 .opened }
 
 abbrev counted : tie.After-lower → tie.After-word
 counted c = c .before .before .before .before
 
-some-open : (c : tie.After-lower) → frameWord (entry (counted c) .args .g .frame) 4 (entry (counted c) .args .frames .now) ≡ 0 → ⊥
+some-open : (c : tie.After-lower) → frameWord (entry (counted c) .args .g .frame) 5 (entry (counted c) .args .frames .now) ≡ 0 → ⊥
 some-open c = rw (counted c .word .ensures) at (c .before .before .before .if1 .left)
 
 first : (c : tie.After-lower) → let a = c .before .before .before .before .before .before .before .before .before .args in
-    c .lower .result ≡ min (frameWord (a .g .frame) (24 - frameWord (a .g .frame) 4 (a .frames .now)) (a .frames .now)) (a .g .r .0)
+    c .lower .result ≡ min (frameWord (a .g .frame) (24 - frameWord (a .g .frame) 5 (a .frames .now)) (a .frames .now)) (a .g .r .0)
 first c = rw (c .before .word2 .ensures, counted c .word .ensures) at (c .lower .ensures)
 
 returns : tie.Need-returns

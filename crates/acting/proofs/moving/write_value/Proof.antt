@@ -16,7 +16,7 @@ returns-2 c =
     let entry = at-word .before .before .before .before in
     let a = entry .args in
     let p = entry .pre in
-    λ input journal. value-written _ _ (a .index) _ _ (rw (at-word .word .ensures) at (at-if1 .if1 .left)) (p .1 .1 .1 .0) (p .1 .0) (p .1 .1 .1 .1)
+    λ input journal. value-written _ _ (a .index) _ _ (rw (at-word .word .ensures) at (at-if1 .if1 .left)) (p .1 .1 .1 .0 .stored) (p .1 .0) (p .1 .1 .1 .1)
     (at-write-byte .write-byte .ensures input journal (a .values .now) (a .frames .now))
 
 pub write-value-spec : {M : Type 1} → statement M

@@ -1,0 +1,18 @@
+-- `kept` meets its contract.
+use borrow.Author.Needs.{needs}
+use Rattle.stepping.proofs.kept.Statement.{statement}
+use Rattle.stepping.proofs.kept.Tie as tie
+
+returns : tie.Need-returns
+returns c = rw (c .before .next .given .1)
+
+pub kept-spec : {M : Type 1} → statement M
+kept-spec =
+    tie.close
+    (tie.spec
+    (λ c. search needs)
+    (λ c. search needs)
+    (λ c. search needs)
+    returns
+    (λ c. search needs)
+    (λ c. search needs))
