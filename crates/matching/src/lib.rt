@@ -4,7 +4,7 @@ ghost use mathlib.Core.Path.{_≡_};
 ghost use lib.Dec.{eqb};
 ghost use lib.ListN.{length, drop};
 ghost use Rattle.meaning.specs.Choice.{nth, pick};
-ghost use Rattle.meaning.specs.Instructions.{fromStart, fromEnd};
+ghost use Rattle.meaning.specs.Instructions.{fromStart, fromEnd, fromPlace};
 ghost use Rattle.meaning.specs.Instructions.{look as looking};
 ghost use Rattle.meaning.specs.Rewriting.{sameTruth};
 ghost use Rattle.meaning.specs.Matching.{cellAt, checked, checkAll, chooseFrom};
@@ -248,6 +248,57 @@ fn search(
     Found::Nowhere
 }
 
+// The leftmost of so many places so far before a byte: a Look from the middle template's place is the only test.
+fn scan(field: &[u8], word: u32, first: usize, places: usize) -> Found
+    requires { ⌜ first + places ≤ length (now field) + 256 ⌝ }
+    ensures { λ r. ⌜ foundMeant r ≡ searched (tested (looking (fromPlace (secondIn word)) (thirdIn word)) (now (field .entry))) places first ⌝ }
+{
+    let offset = wide(word / 65536 % 256);
+    let byte = (word / 16777216 % 256) as u8;
+    let mut here = first;
+    let mut left = places;
+    while 0 < left {
+        let index = here + offset;
+        if field.len() <= index {
+            return Found::Wrong;
+        }
+        if field[index] == byte {
+            return Found::At(here);
+        }
+        here += 1;
+        left -= 1;
+    }
+    Found::Nowhere
+}
+
+// The same search, where one Look decides by scanning for its byte.
+fn find_place(
+    bits: &[u8; 256],
+    code: &[u32],
+    tests: CodePlace,
+    count: usize,
+    field: &[u8],
+    first: usize,
+    places: usize,
+) -> Found
+    requires { ⌜ Answers (now bits) ⌝ }
+    requires { ⌜ first + places ≤ length (now field) + 256 ⌝ }
+    ensures { λ r. ⌜ foundMeant r ≡ searched (checkAll (unpackTests count (drop (tests .0) (now (code .entry)))) (now (field .entry))) places first ⌝ }
+{
+    let at = tests.0;
+    if 1 < places {
+        if count == 1 {
+            if at < code.len() {
+                let word = code[at];
+                if word % 65536 == 513 {
+                    return scan(field, word, first, places);
+                }
+            }
+        }
+    }
+    search(bits, code, tests, count, field, first, places)
+}
+
 fn one_if(ok: bool) -> usize
     ensures { λ r. ⌜ r ≡ pick ok 1 0 ⌝ }
 {
@@ -308,7 +359,7 @@ fn try_sentence(
         return Found::Wrong;
     }
     let tests = CodePlace(at.0 + 2);
-    search(bits, code, tests, wide(counts % 256), field, first, count)
+    find_place(bits, code, tests, wide(counts % 256), field, first, count)
 }
 
 // The sentence chosen for a field among those from a place on.

@@ -1,11 +1,11 @@
 -- `check` meets its contract.
 use borrow.Author.Needs.{needs}
-use Rattle.matching.proofs.laws.Fields.{test-ahead, test-unknown}
+use Rattle.matching.proofs.laws.Fields.{look-from, test-unknown}
 use Rattle.matching.proofs.check.Statement.{statement}
 use Rattle.matching.proofs.check.Tie as tie
 
 returns : tie.Need-returns
-returns c = rw (test-ahead _ (c .before .if1 .taken)) (c .look-ahead .ensures)
+returns c = rw (look-from _ 0 (c .before .if1 .taken)) (c .look-ahead .ensures)
 
 predicate-requires : tie.Need-predicate-requires
 predicate-requires c κs = c .before .before .before .pre

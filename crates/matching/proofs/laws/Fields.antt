@@ -10,7 +10,7 @@ use borrow.Author.Tests.{ne-eqb}
 use Rattle.meaning.specs.Choice.{Bytes, pick}
 use Rattle.meaning.specs.Classes.{Class, digit, upper, lower, alphabetic, blank, inClass}
 use Rattle.meaning.specs.Rewriting.{sameTruth}
-use Rattle.meaning.specs.Instructions.{Site, fromStart, look, unknownTest}
+use Rattle.meaning.specs.Instructions.{Site, unknownTest}
 use Rattle.meaning.specs.Matching.{checked, asked, wrong, check}
 use Rattle.meaning.specs.Packing.{numberIn, firstIn, secondIn, thirdIn, classOf, siteOf, lookOf, compareOf, predicateFor, testOf, metricIn}
 use Rattle.classes.specs.Tests.{classTest}
@@ -87,10 +87,10 @@ metric-unknown w = none-of (numberIn w) 16 17 18 _ _ _ none
 pub test-unknown : (w : ℕ) → (numberIn w ≡ 1 → ⊥) → (numberIn w ≡ 2 → ⊥) → (numberIn w ≡ 3 → ⊥) → testOf w ≡ unknownTest
 test-unknown w = none-of (numberIn w) 1 2 3 _ _ _ unknownTest
 
--- a word whose number is 1 and whose register is 0
-pub test-ahead : (w : ℕ) → w % 65536 ≡ 1 → testOf w ≡ look (fromStart (secondIn w)) (thirdIn w)
-test-ahead w h =
+-- a word whose number is 1, by its register
+pub look-from : (w register : ℕ) → w % 65536 ≡ register * 256 + 1 → testOf w ≡ lookOf (siteOf register (secondIn w)) (thirdIn w)
+look-from w register h =
     let halves : w % 65536 ≡ firstIn w * 256 + numberIn w = mod-mul w {m = 256} {c = 256} (omega arith) (omega arith) in
     let number : numberIn w ≡ 1 = omega arith in
-    let register : firstIn w ≡ 0 = omega arith in
-    rw (number, register)
+    let same : firstIn w ≡ register = omega arith in
+    rw (number, same)

@@ -2,12 +2,16 @@
 use Prim.Native.Nat.{ℕ, zero, suc, _+_, _-_, _≤_, _<_}
 use native.Mathlib.Nat.{not-suc-le-zero}
 use native.Mathlib.Numerals.{add-one, sub-one}
-use mathlib.Core.Path.{_≡_, refl}
+use native.Mathlib.Omega.{arith}
+use mathlib.Core.Path.{_≡_, refl, sym}
+use borrow.Author.Tests.{eq-eqb, ne-eqb}
+use Rattle.meaning.specs.Instructions.{fromPlace, look}
 use lib.ListN.{length, getD, drop}
 use Rattle.meaning.specs.Choice.{Bytes}
-use Rattle.meaning.specs.Matching.{Checked, passed, wrong, wherePassed, check, checkAll, foundNone, settled, search}
+use Rattle.meaning.specs.Matching.{Checked, passed, failed, wrong, wherePassed, check, checkAll, Found, foundAt, foundNone, foundWrong, settled, search}
 use Rattle.meaning.specs.Packing.{Words, testOf, unpackTests}
 use Rattle.meaning.proofs.laws.Remaining.{at-place, past-end}
+use Rattle.matching.proofs.laws.Lists.{nth-in, nth-out}
 
 module _ (field : Bytes) (place : ℕ) where
   -- all of so many tests from a place of the code on
@@ -40,3 +44,45 @@ module _ (test : ℕ → Checked) where
   unfolding search
   next-place zero place h = absurd (not-suc-le-zero h)
   next-place (suc n) place h = rw (sub-one, add-one)
+
+-- tests that say the same at each place find the same
+pub search-same : (test test′ : ℕ → Checked) → ((place : ℕ) → test place ≡ test′ place) → (left place : ℕ) → search test left place ≡ search test′ left place
+unfolding search
+search-same test test′ e zero place = refl
+search-same test test′ e (suc n) place = rw (e place, search-same test test′ e n (suc place))
+
+-- one test is all of them
+pub one-test : (field : Bytes) (words : Words) (at : ℕ) → at < length words → (place : ℕ) →
+    testing field place words at 1 ≡ check (testOf (getD words at 0)) field place
+one-test field words at h place =
+    rw (next-test field place words at 1 (omega arith) h, no-tests field place words (at + 1) 0 (omega arith)) (last (check (testOf (getD words at 0)) field place))
+  where
+    last : (c : Checked) → wherePassed c passed ≡ c
+    last passed = refl
+    last failed = refl
+    last wrong = refl
+
+-- a look from the middle template's place as the only test: the field has no such cell, the byte stands there, or the search goes on
+module _ (field : Bytes) (offset byte left place : ℕ) (some : 0 < left) where
+  abbrev pub scanning : ℕ → ℕ → Found
+  scanning left place = search (check (look (fromPlace offset) byte) field) left place
+
+  pub scan-past : length field ≤ place + offset → scanning left place ≡ foundWrong
+  scan-past h = rw (next-place (check (look (fromPlace offset) byte) field) left place some, nth-out field (place + offset) h)
+
+  module _ (h : place + offset < length field) where
+    pub scan-here : getD field (place + offset) 0 ≡ byte → scanning left place ≡ foundAt place
+    scan-here e =
+        rw (
+          next-place (check (look (fromPlace offset) byte) field) left place some,
+          nth-in field (place + offset) h,
+          eq-eqb byte (getD field (place + offset) 0) (sym e),
+        )
+
+    pub scan-on : (getD field (place + offset) 0 ≡ byte → ⊥) → scanning left place ≡ scanning (left - 1) (place + 1)
+    scan-on ne =
+        rw (
+          next-place (check (look (fromPlace offset) byte) field) left place some,
+          nth-in field (place + offset) h,
+          ne-eqb byte (getD field (place + offset) 0) (λ e. ne (sym e)),
+        )

@@ -26,8 +26,8 @@ returns-2 : tie.Need-returns-2
 returns-2 c = let a = c .before .before .before .before .before .before .before .args in
     sym (tried-many (a .counts) _ _ (metricIn (a .word)) (c .if1 .taken))
 
-search-requires : tie.Need-search-requires
-search-requires c κs =
+find-place-requires : tie.Need-find-place-requires
+find-place-requires c κs =
     let at-first = c .before .before .before .before in
     let at-places-of = at-first .before .before in
     (entry at-places-of .pre .0, places-few (entry at-places-of .args .word) _ _ _ (places at-places-of _ (at-first .first .given .1)))
@@ -40,7 +40,7 @@ returns-3 c =
     rw (
       tried-places (a .counts) _ _ (metricIn (a .word)) _ _ (places (at-first .before .before) _ (at-first .first .given .1)) (at-if1 .if1 .left),
       ← (c .before .wide .ensures),
-    ) (c .search .ensures)
+    ) (c .find-place .ensures)
 
 pub try-sentence-spec : {M : Type 1} → statement M
-try-sentence-spec = tie.close (tie.spec (λ c κs. search needs) (λ c. search needs) (λ c. search needs) returns returns-2 (λ c. omega arith) (λ c κs. search needs) search-requires returns-3)
+try-sentence-spec = tie.close (tie.spec (λ c κs. search needs) (λ c. search needs) (λ c. search needs) returns returns-2 (λ c. omega arith) (λ c κs. search needs) find-place-requires returns-3)

@@ -1,0 +1,18 @@
+-- `find_place` meets its contract.
+use borrow.Author.Needs.{needs}
+use Rattle.matching.proofs.laws.Fields.{look-from}
+use Rattle.matching.proofs.laws.Testing.{search-same, one-test}
+use Rattle.matching.proofs.find_place.Statement.{statement}
+use Rattle.matching.proofs.find_place.Tie as tie
+
+returns : tie.Need-returns
+returns c =
+    let a = c .before .before .before .before .before .before .before .before .args in
+    let one = one-test (a .field .now) (a .code .now) (a .tests .0) (c .before .before .before .if3 .taken) in
+    rw (c .before .before .before .before .if2 .taken, search-same _ _ one (a .places) (a .first), look-from _ 2 (c .before .if4 .taken)) (c .scan .ensures)
+
+returns-2 : tie.Need-returns-2
+returns-2 c = c .search .ensures
+
+pub find-place-spec : {M : Type 1} → statement M
+find-place-spec = tie.close (tie.spec (λ c. search needs) (λ c. search needs) (λ c κs. search needs) returns (λ c κs. search needs) returns-2)
