@@ -58,7 +58,7 @@ pub fn sound_table(code: &[u32]) -> bool
     true
 }
 
-// The run from an answer on, instruction by instruction, to its end.
+// The run from an answer on, turn by turn, to its end.
 fn follow(
     first: Next,
     bits: &[u8; 256],

@@ -1,4 +1,4 @@
-// One instruction of a run: on registers by value, and on registers that are lent.
+// One turn of a run: on registers by value, and on registers that are lent.
 ghost use Prim.Native.Nat.{ℕ, _≤_, _<_};
 ghost use mathlib.Core.Path.{_≡_};
 ghost use mathlib.Core.List.{List};
@@ -252,15 +252,15 @@ fn advance(
         (memory (now (input .exit)) (now (output .exit)) (now (journal .exit)) (now (frames .exit)) (now (values .exit))) ⌝ }
 {
     let entered = enter(g, bits, code, allowance, input, frames, values);
-    let Next::Onward(g1) = entered else {
+    let Next::Onward(begun) = entered else {
         return entered;
     };
-    let written = write_items(g1, code, input, output, frames);
+    let written = write_items(begun, code, input, output, frames);
     let used = try_use(written, code, input, output, frames);
-    let Next::Onward(g2) = used else {
+    let Next::Onward(ready) = used else {
         return used;
     };
-    let selected = try_select(g2, code, input, frames);
+    let selected = try_select(ready, code, input, frames);
     act(
         selected,
         code,
@@ -314,7 +314,7 @@ pub fn is_onward(status: Status) -> bool
     }
 }
 
-// One instruction: the new values are stored in the registers, and it is said how the run goes on.
+// One turn: the new values are stored in the registers, and it is said how the run goes on.
 pub fn step(
     g: &mut Registers,
     bits: &[u8; 256],
