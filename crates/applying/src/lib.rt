@@ -122,7 +122,6 @@ fn start_sentence(
 {
     let p = g.p.0;
     let q = g.q.0;
-    let frame = g.frame;
     let Stored::Before(actions) = store_values(
         code,
         stores,
@@ -130,11 +129,11 @@ fn start_sentence(
         &input[p..q],
         place,
         values,
-        frame,
+        g.frame,
     ) else {
         return Next::Stopped(g, Ending::NoInstruction, 0);
     };
-    begin_frame(frames, frame, q - p, place, stored);
+    begin_frame(frames, g.frame, q - p, place, stored);
     let none = g.p;
     Next::Onward(Registers {
         q: none,
