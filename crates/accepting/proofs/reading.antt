@@ -14,10 +14,6 @@ pub mod Functions
 pub mod Tables
 pub mod TokensSound
 pub mod Accepted
-pub mod Streams
-pub mod StreamsTokens
-pub mod StreamsReaders
 pub mod Lexing
 pub mod Local
-pub mod Leftmost
 pub mod TextEnd

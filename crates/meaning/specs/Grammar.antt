@@ -10,7 +10,7 @@ use Rattle.meaning.specs.Choice.{Bytes, Name}
 use Rattle.meaning.specs.Classes.{Class}
 use Rattle.meaning.specs.Tree.{character, symbol, Element, letter, part, Condition, Expression, end, thenCharacter, thenSymbol, thenPart, thenCall, Sentence, Function, Table}
 use Rattle.meaning.specs.Names.{predicateOf}
-use Rattle.meaning.specs.Tokens.{Token, functionName, word, quoted, sign, textEnd, Placed}
+use Rattle.meaning.specs.Tokens.{Token, functionName, word, quoted, sign, textEnd, Placed, Item, characters, symbolItem, partItem, noItem}
 
 abbrev pub standing : Token → ℕ → ℕ → Placed
 standing token place past = record { token = token; place = place; past = past }
@@ -38,6 +38,13 @@ truthString truth place = standing (quoted (truthByte truth ∷ [])) place (plac
 -- the characters of a string in a pattern
 abbrev pub charactersOf : Bytes → List Element
 charactersOf text = map (λ c. letter (character c)) text
+
+-- what an item leaves in a pattern
+abbrev pub elementsOf : Item → List Element
+elementsOf (characters text) = charactersOf text
+elementsOf (symbolItem x) = letter (symbol x) ∷ []
+elementsOf (partItem x) = part x ∷ []
+elementsOf noItem = []
 
 -- "Строка | s-Переменная"
 pub data IsLetters : Token → List Element → Type 0 where

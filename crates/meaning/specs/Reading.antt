@@ -8,12 +8,14 @@ use lib.Dec.{leb, ltb, eqb}
 use lib.ListN.{length}
 use Rattle.meaning.specs.Choice.{Bytes, Name, pick, both, either, orElse, isSome, sameBytes}
 use Rattle.meaning.specs.Classes.{Class}
-use Rattle.meaning.specs.Tree.{symbol, Element, letter, part, Condition, Expression, end, thenCharacter, thenSymbol, thenPart, thenCall, Sentence, Function, Table}
+use Rattle.meaning.specs.Tree.{Element, letter, part, Condition, Expression, end, thenCharacter, thenSymbol, thenPart, thenCall, Sentence, Function, Table}
 use Rattle.meaning.specs.Names.{isEmission, isPredicate, isReserved, predicateOf, numberOf}
 use Rattle.meaning.specs.Answers.{tableTooLong, malformedToken, notAllowedHere, overLimit, wrongName, wrongPatternVariable, wrongLaterVariable, undeclaredName}
 use Rattle.meaning.specs.Allowed.{maxTable, maxFunctions, maxSentences, maxName, maxIdentifier, maxLetters, maxSymbols, maxConditions, maxItems, maxNesting, member, added, symbolsOf, partsOf, lettersIn, comingAfter, namesOf}
 use Rattle.meaning.specs.Tokens.{Token, functionName, word, quoted, sign, textEnd, malformed, Placed, tokens}
-use Rattle.meaning.specs.Grammar.{charactersOf, written}
+pub use Rattle.meaning.specs.Tokens.{isSign, isTextEnd, nameOf, Item, characters, symbolItem, partItem, noItem, variableOf, itemOf, isItem, begins}
+use Rattle.meaning.specs.Grammar.{written}
+pub use Rattle.meaning.specs.Grammar.{elementsOf}
 
 -- what every reader comes to: the number and place of a fault, or what was read and the tokens after it
 pub data Parsed (A : Type 0) : Type 0 where
@@ -60,30 +62,6 @@ faultUnless false number later = number
 
 -- SINGLE TOKENS
 
-abbrev pub isSign : ℕ → Token → Bool
-isSign c (functionName n) = false
-isSign c (word w) = false
-isSign c (quoted text) = false
-isSign c (sign b) = eqb b c
-isSign c textEnd = false
-isSign c malformed = false
-
-abbrev pub isTextEnd : Token → Bool
-isTextEnd (functionName n) = false
-isTextEnd (word w) = false
-isTextEnd (quoted text) = false
-isTextEnd (sign b) = false
-isTextEnd textEnd = true
-isTextEnd malformed = false
-
-abbrev pub nameOf : Token → Option Name
-nameOf (functionName n) = some n
-nameOf (word w) = none
-nameOf (quoted text) = none
-nameOf (sign b) = none
-nameOf textEnd = none
-nameOf malformed = none
-
 -- a byte that stands for itself
 abbrev pub pass : {A : Type 0} → ℕ → List Placed → (List Placed → Parsed A) → Parsed A
 pass b [] next = cutShort
@@ -102,39 +80,7 @@ passName fault (t ∷ ts) next = nameOn (nameOf (t .token)) fault t (λ n. next 
 abbrev pub lengthFault : Name → ℕ → ℕ
 lengthFault n later = faultUnless (leb (length n) maxName) overLimit later
 
--- what a pattern and an expression are made of, calls apart
-pub data Item : Type 0 where
-  characters : Bytes → Item
-  symbolItem partItem : Name → Item
-  noItem : Item
-
--- "Variable: `s` or `e`, then at least one letter or digit ... Inside a sentence a word that is no variable is refused with 3"
-abbrev pub variableOf : Bytes → Item
-variableOf [] = noItem
-variableOf (b ∷ []) = noItem
-variableOf (b ∷ c ∷ x) = pick (eqb b 115) (symbolItem (c ∷ x)) (pick (eqb b 101) (partItem (c ∷ x)) noItem)
-
-abbrev pub itemOf : Token → Item
-itemOf (functionName n) = noItem
-itemOf (word w) = variableOf w
-itemOf (quoted text) = characters text
-itemOf (sign b) = noItem
-itemOf textEnd = noItem
-itemOf malformed = noItem
-
-abbrev pub isItem : Item → Bool
-isItem (characters text) = true
-isItem (symbolItem x) = true
-isItem (partItem x) = true
-isItem noItem = false
-
 -- THE PATTERN
-
-abbrev pub elementsOf : Item → List Element
-elementsOf (characters text) = charactersOf text
-elementsOf (symbolItem x) = letter (symbol x) ∷ []
-elementsOf (partItem x) = part x ∷ []
-elementsOf noItem = []
 
 unfoldable pub endsInPart : List Element → Bool
 endsInPart [] = false
@@ -347,10 +293,6 @@ sentence ts =
     pass 61 ts₂ λ ts₃.
     follow (expression (length ts₃) (symbolsOf p) 0 (record { items = 0; coming = partsOf p }) ts₃) λ e rest.
     parsed (record { pattern = p; conditions = cs; expression = e .expression }) rest
-
--- a token that a sentence can begin with
-abbrev pub begins : Token → Bool
-begins token = either (isItem (itemOf token)) (either (isSign 44 token) (isSign 61 token))
 
 -- a sentence is read where one can begin
 abbrev pub atSentence : List Placed → (Placed → Parsed (List Sentence)) → Parsed (List Sentence)

@@ -15,6 +15,32 @@ use Rattle.meaning.specs.Allowed.{wordByte, nameByte}
 pub data Mode : Type 0 where
   outside inside naming : Mode
 
+-- the signs of the grammar
+abbrev pub leftBrace : ℕ
+leftBrace = 123
+
+abbrev pub rightBrace : ℕ
+rightBrace = 125
+
+abbrev pub semicolon : ℕ
+semicolon = 59
+
+abbrev pub comma : ℕ
+comma = 44
+
+abbrev pub colon : ℕ
+colon = 58
+
+abbrev pub equals : ℕ
+equals = 61
+
+-- they stand round a call
+abbrev pub lessThan : ℕ
+lessThan = 60
+
+abbrev pub greaterThan : ℕ
+greaterThan = 62
+
 pub data Token : Type 0 where
   -- "a letter, then letters, digits, _ or -"
   functionName : Name → Token
@@ -177,7 +203,7 @@ quotedAt at (broken past rest) = lexed malformed at past rest
 
 -- `<` and the name directly after it are two tokens
 abbrev pub bracketAt : ℕ → Bytes → Bool → Lexed
-bracketAt at rest true = lexed (sign 60) at (suc at) rest
+bracketAt at rest true = lexed (sign lessThan) at (suc at) rest
 bracketAt at rest false = lexed malformed at (suc at) rest
 
 -- the token that begins at a place
@@ -186,7 +212,7 @@ tokenAt mode at [] = lexed textEnd at at []
 tokenAt mode at (b ∷ rest) =
     pick (inClass alphabetic b) (wordAt mode at (b ∷ rest))
     (pick (eqb b 39) (quotedAt at (quotation plain [] (suc at) rest))
-    (pick (eqb b 60) (bracketAt at rest (ahead (inClass alphabetic) rest))
+    (pick (eqb b lessThan) (bracketAt at rest (ahead (inClass alphabetic) rest))
     (lexed (sign b) at (suc at) rest)))
 
 abbrev pub tokenPast : Mode → Skipped → Lexed
@@ -208,7 +234,8 @@ abbrev pub modeAfter : Mode → Token → Mode
 modeAfter mode (functionName n) = afterName mode
 modeAfter mode (word w) = mode
 modeAfter mode (quoted characters) = mode
-modeAfter mode (sign b) = pick (eqb b 123) inside (pick (eqb b 125) outside (pick (eqb b 60) naming mode))
+modeAfter mode (sign b) =
+    pick (eqb b leftBrace) inside (pick (eqb b rightBrace) outside (pick (eqb b lessThan) naming mode))
 modeAfter mode textEnd = mode
 modeAfter mode malformed = mode
 
@@ -234,3 +261,63 @@ tokensFrom (suc bound) mode at bytes = tokensPast (tokensFrom bound) mode (lex m
 -- the tokens of a text, to its end or to the first malformed one
 abbrev pub tokens : Bytes → List Placed
 tokens text = tokensFrom (suc (length text)) outside 0 text
+
+-- SINGLE TOKENS
+
+-- a byte that stands for itself
+abbrev pub isSign : ℕ → Token → Bool
+isSign c (functionName n) = false
+isSign c (word w) = false
+isSign c (quoted text) = false
+isSign c (sign b) = eqb b c
+isSign c textEnd = false
+isSign c malformed = false
+
+abbrev pub isTextEnd : Token → Bool
+isTextEnd (functionName n) = false
+isTextEnd (word w) = false
+isTextEnd (quoted text) = false
+isTextEnd (sign b) = false
+isTextEnd textEnd = true
+isTextEnd malformed = false
+
+-- the name of a function
+abbrev pub nameOf : Token → Option Name
+nameOf (functionName n) = some n
+nameOf (word w) = none
+nameOf (quoted text) = none
+nameOf (sign b) = none
+nameOf textEnd = none
+nameOf malformed = none
+
+-- what a pattern and an expression are made of, calls apart
+pub data Item : Type 0 where
+  characters : Bytes → Item
+  symbolItem partItem : Name → Item
+  noItem : Item
+
+-- "Variable: `s` or `e`, then at least one letter or digit ... Inside a sentence a word that is no variable is refused with 3"
+abbrev pub variableOf : Bytes → Item
+variableOf [] = noItem
+variableOf (b ∷ []) = noItem
+variableOf (b ∷ c ∷ x) = pick (eqb b 115) (symbolItem (c ∷ x)) (pick (eqb b 101) (partItem (c ∷ x)) noItem)
+
+-- the item that a token is
+abbrev pub itemOf : Token → Item
+itemOf (functionName n) = noItem
+itemOf (word w) = variableOf w
+itemOf (quoted text) = characters text
+itemOf (sign b) = noItem
+itemOf textEnd = noItem
+itemOf malformed = noItem
+
+-- the token is one
+abbrev pub isItem : Item → Bool
+isItem (characters text) = true
+isItem (symbolItem x) = true
+isItem (partItem x) = true
+isItem noItem = false
+
+-- a token that a sentence can begin with
+abbrev pub begins : Token → Bool
+begins token = either (isItem (itemOf token)) (either (isSign comma token) (isSign equals token))

@@ -15,7 +15,7 @@ use Rattle.meaning.specs.Reading.{Read, accepted, refused, read}
 use Rattle.meaning.proofs.agreement.Choosing.{true-passed}
 use Rattle.accepting.proofs.reading.Basics.{both-true}
 use Rattle.accepting.proofs.reading.Accepted.{accepted-allows}
-use Rattle.accepting.proofs.reading.Leftmost.{Refusal, tooLong, atToken, atCall, refusal}
+use Rattle.refusing.proofs.Refusals.{refused-exactly, refusal-numbers}
 
 -- what is known of a lent slice of bytes
 abbrev pub AreBytes : Bytes → Type 0
@@ -30,14 +30,11 @@ abbrev pub Known : Read → Type 0
 Known (accepted t) = T (allowed t)
 Known (refused number place) = number ≡ 0 → ⊥
 
-above-zero : {text : Bytes} {n k : ℕ} → Refusal text n k → n ≡ 0 → ⊥
-above-zero (tooLong long number place) e = omega arith
-above-zero (atToken low high) e = omega arith
-above-zero (atCall t derived unknown number) e = omega arith
-
 pub read-known : (text : Bytes) → AreBytes text → Known (read text)
 read-known text h = by (read text) refl
   where
     by : (x : Read) → read text ≡ x → Known x
     by (accepted t) e = true-passed (allowed t) (accepted-allows text t (bytes-known text h) e .within)
-    by (refused number place) e = above-zero (refusal text (bytes-known text h) number place e)
+    by (refused number place) e =
+        let low = refusal-numbers (refused-exactly text (bytes-known text h) number place .0 e) .0 in
+        λ z. omega arith

@@ -13,8 +13,8 @@ use Rattle.meaning.specs.Allowed.{wordByte, nameByte}
 use Rattle.meaning.specs.Tokens.{Mode, outside, inside, naming, Token, functionName, word, malformed, Placed, Lexed, lexed, ahead, Gap, between, opening, commented, starred, gapAfter, Skipped, found, skippedEnd, skipOn, skip, Run, run, wordAt, Quoting, plain, Turn, goesOn, closes, breaks, turn, Quotation, quoteOn, quotation, quotedAt, bracketAt, tokenAt, tokenPast, lex, modeAfter, isLast, tokensFrom}
 use Rattle.meaning.proofs.laws.Choosing.{of-either}
 use Rattle.accepting.proofs.reading.Basics.{impossible}
+use Rattle.accepting.proofs.reading.Sound.{isNil}
 use Rattle.accepting.proofs.reading.TokensSound.{run-first}
-use Rattle.accepting.proofs.reading.Streams.{ended}
 
 -- a token that ends no earlier than a place, with no more bytes after it than a number
 pub record Within (at size : ℕ) (l : Lexed) : Type 0 where
@@ -130,6 +130,11 @@ unfolding lex
 lex-eats mode at bytes = skip-eats mode between at bytes
 
 -- THE TOKENS OF A TEXT
+
+-- the last token is one after which none comes, and no other is
+unfoldable pub ended : List Placed → Bool
+ended [] = false
+ended (t ∷ ts) = pick (isLast (t .token)) (isNil ts) (ended ts)
 
 ended-cases : (t : Placed) (b : Bool) (later : List Placed) → isLast (t .token) ≡ b → (isLast (t .token) ≡ false → ended later ≡ true)
     → ended (t ∷ pick b [] later) ≡ true

@@ -30,13 +30,13 @@ spelled-both a e f = both-parts (every spelledElement a) (spelledElement e) (rw 
 -- CHARACTERS
 
 module _ (a : List Element) (text : Bytes) where
-  characters-same-parts : partsOf (a ++ charactersOf text) ≡ partsOf a
+  pub characters-same-parts : partsOf (a ++ charactersOf text) ≡ partsOf a
   characters-same-parts = rw (parts-append, characters-parts, append-nil)
 
-  characters-same-symbols : symbolsOf (a ++ charactersOf text) ≡ symbolsOf a
+  pub characters-same-symbols : symbolsOf (a ++ charactersOf text) ≡ symbolsOf a
   characters-same-symbols = rw (symbols-append, characters-symbols)
 
-  characters-more-letters : lettersIn (a ++ charactersOf text) ≡ lettersIn a + length text
+  pub characters-more-letters : lettersIn (a ++ charactersOf text) ≡ lettersIn a + length text
   characters-more-letters = rw (letters-append, characters-letters)
 
   characters-all-spelled : every spelledElement (a ++ charactersOf text) ≡ both (every spelledElement a) (every isByte text)
@@ -69,12 +69,12 @@ module _ (a : List Element) (text : Bytes) where
 
 -- AN S-VARIABLE
 
-added-different : (b : Bool) (x : Name) (xs ys : List Name) → member x xs ≡ b → distinct (xs ++ ys) ≡ true → not (member x ys) ≡ true
+pub added-different : (b : Bool) (x : Name) (xs ys : List Name) → member x xs ≡ b → distinct (xs ++ ys) ≡ true → not (member x ys) ≡ true
     → distinct (pick b xs (xs ++ x ∷ []) ++ ys) ≡ true
 added-different true x xs ys m d n = d
 added-different false x xs ys m d n = rw (distinct-between x xs ys m) (both-true d n)
 
-added-before : (b : Bool) (x : Name) (xs ys : List Name) → member x xs ≡ b
+pub added-before : (b : Bool) (x : Name) (xs ys : List Name) → member x xs ≡ b
     → distinct (pick b xs (xs ++ x ∷ []) ++ ys) ≡ true → (distinct (xs ++ ys) ≡ true) × (not (member x ys) ≡ true)
 added-before true x xs ys m d = (d, ap not (distinct-apart x xs ys d m))
 added-before false x xs ys m d = both-parts (distinct (xs ++ ys)) (not (member x ys)) (rw (distinct-between x xs ys m) at d)
@@ -84,15 +84,15 @@ added-longer true x xs = omega arith
 added-longer false x xs = rw (length-append xs (x ∷ [])) (omega arith)
 
 module _ (a : List Element) (x : Name) where
-  symbol-same-parts : partsOf (a ++ letter (symbol x) ∷ []) ≡ partsOf a
+  pub symbol-same-parts : partsOf (a ++ letter (symbol x) ∷ []) ≡ partsOf a
   unfolding partsOf
   symbol-same-parts = rw (parts-append a (letter (symbol x) ∷ []), append-nil)
 
-  symbol-adds : symbolsOf (a ++ letter (symbol x) ∷ []) ≡ added x (symbolsOf a)
+  pub symbol-adds : symbolsOf (a ++ letter (symbol x) ∷ []) ≡ added x (symbolsOf a)
   unfolding symbolsFrom
   symbol-adds = symbols-append [] a (letter (symbol x) ∷ [])
 
-  symbol-more-letters : lettersIn (a ++ letter (symbol x) ∷ []) ≡ lettersIn a + 1
+  pub symbol-more-letters : lettersIn (a ++ letter (symbol x) ∷ []) ≡ lettersIn a + 1
   unfolding lettersIn
   symbol-more-letters = letters-append a (letter (symbol x) ∷ [])
 
@@ -137,24 +137,24 @@ module _ (a : List Element) (x : Name) where
 -- AN E-VARIABLE
 
 module _ (a : List Element) (x : Name) where
-  part-adds : partsOf (a ++ part x ∷ []) ≡ partsOf a ++ x ∷ []
+  pub part-adds : partsOf (a ++ part x ∷ []) ≡ partsOf a ++ x ∷ []
   unfolding partsOf
   part-adds = parts-append a (part x ∷ [])
 
-  part-same-symbols : symbolsOf (a ++ part x ∷ []) ≡ symbolsOf a
+  pub part-same-symbols : symbolsOf (a ++ part x ∷ []) ≡ symbolsOf a
   unfolding symbolsFrom
   part-same-symbols = symbols-append [] a (part x ∷ [])
 
-  part-same-letters : lettersIn (a ++ part x ∷ []) ≡ lettersIn a
+  pub part-same-letters : lettersIn (a ++ part x ∷ []) ≡ lettersIn a
   unfolding lettersIn
   part-same-letters = letters-append a (part x ∷ []) ∙ add-zero (lettersIn a)
 
-  part-different : distinct (symbolsOf (a ++ part x ∷ []) ++ partsOf (a ++ part x ∷ []))
+  pub part-different : distinct (symbolsOf (a ++ part x ∷ []) ++ partsOf (a ++ part x ∷ []))
       ≡ both (distinct (symbolsOf a ++ partsOf a)) (not (member x (symbolsOf a ++ partsOf a)))
   part-different =
       rw (part-same-symbols, part-adds, ← append-assoc (symbolsOf a) (partsOf a) (x ∷ [])) (distinct-after x (symbolsOf a ++ partsOf a))
 
-  part-length : length (partsOf (a ++ part x ∷ [])) ≡ length (partsOf a) + 1
+  pub part-length : length (partsOf (a ++ part x ∷ [])) ≡ length (partsOf a) + 1
   part-length = rw part-adds (length-append (partsOf a) (x ∷ []))
 
   part-allowed : PatternFacts a → spelledIdentifier x ≡ true → length (partsOf a) < 2

@@ -93,7 +93,7 @@ pub record FunctionsRead (left sentencesLeft : ℕ) (before : Table) (ts : List 
   pub few : length others ≤ left
   pub short : sentencesIn others ≤ sentencesLeft
 
-names-append : (a b : Table) → namesOf (a ++ b) ≡ namesOf a ++ namesOf b
+pub names-append : (a b : Table) → namesOf (a ++ b) ≡ namesOf a ++ namesOf b
 names-append [] b = refl
 names-append (f ∷ a) b = rw (names-append a b)
 

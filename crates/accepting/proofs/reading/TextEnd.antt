@@ -6,26 +6,24 @@ use mathlib.Core.List.{List, [], _∷_, _++_}
 use mathlib.Core.Option.{Option, none, some}
 use native.Mathlib.Omega.{arith}
 use lib.Dec.{eqb}
-use lib.ListN.{length, take}
+use lib.ListN.{length}
 use Rattle.meaning.specs.Choice.{Bytes, pick}
 use Rattle.meaning.specs.Classes.{inClass, alphabetic}
 use Rattle.meaning.specs.Allowed.{wordByte, nameByte}
 use Rattle.meaning.specs.Tokens.{Mode, outside, inside, naming, quoted, sign, malformed, Placed, Lexed, lexed, ahead, Gap, between, opening, commented, starred, gapAfter, Skipped, found, skippedEnd, skipOn, skip, run, wordAt, Quoting, plain, Turn, goesOn, closes, breaks, turn, Quotation, quoteOn, quotation, quotedAt, bracketAt, tokenAt, tokenPast, lex, modeAfter, tokensFrom, tokens}
 use Rattle.meaning.specs.Reading.{isTextEnd}
-use Rattle.meaning.proofs.laws.Choosing.{no-cons, of-either}
+use Rattle.meaning.proofs.laws.Choosing.{of-either}
 use Rattle.accepting.proofs.reading.Basics.{impossible}
 use Rattle.accepting.proofs.reading.Local.{not-nothing, tokens-later}
 
--- the place after a token and the bytes after it make the whole; the end of the text takes no place of its own and has nothing after it
+-- the place after a token and the bytes after it make the whole; the end of the text stands at its end
 pub record Whole (total : ℕ) (l : Lexed) : Type 0 where
   pub kept : l .first .past + length (l .rest) ≡ total
   pub last-place : isTextEnd (l .first .token) ≡ true → l .first .place ≡ total
-  pub last-past : isTextEnd (l .first .token) ≡ true → l .first .past ≡ total
 
 -- a token that isn't the end of the text
 inner : (total : ℕ) (l : Lexed) → l .first .past + length (l .rest) ≡ total → isTextEnd (l .first .token) ≡ false → Whole total l
-inner total l k n =
-    record { kept = k; last-place = λ e. impossible (sym n ∙ e); last-past = λ e. impossible (sym n ∙ e) }
+inner total l k n = record { kept = k; last-place = λ e. impossible (sym n ∙ e) }
 
 -- WORDS
 
@@ -70,7 +68,7 @@ bracket-whole at total rest true k = inner total (bracketAt at rest true) k refl
 bracket-whole at total rest false k = inner total (bracketAt at rest false) k refl
 
 token-whole : (mode : Mode) (at : ℕ) (bytes : Bytes) → Whole (at + length bytes) (tokenAt mode at bytes)
-token-whole mode at [] = record { kept = refl; last-place = λ e. omega arith; last-past = λ e. omega arith }
+token-whole mode at [] = record { kept = refl; last-place = λ e. omega arith }
 token-whole mode at (b ∷ rest) =
     let total = at + length (b ∷ rest) in
     of-either (Whole total) (inClass alphabetic b) (wordAt mode at (b ∷ rest)) _ (word-whole mode at (b ∷ rest))
@@ -105,13 +103,9 @@ lex-whole mode at bytes = skip-whole mode between at bytes (at + length bytes) r
 
 -- THE END OF THE TEXT
 
-pub record AtTextEnd (total : ℕ) (t : Placed) : Type 0 where
-  pub place : t .place ≡ total
-  pub past : t .past ≡ total
-
 end-among : (b : ℕ) (mode : Mode) (at : ℕ) (bytes : Bytes) (total : ℕ) → at + length bytes ≡ total
     → (used : List Placed) (t : Placed) (others : List Placed) → tokensFrom b mode at bytes ≡ used ++ t ∷ others → isTextEnd (t .token) ≡ true
-    → AtTextEnd total t
+    → t .place ≡ total
 unfolding tokensFrom
 end-among zero mode at bytes total k used t others e p = not-nothing used t others e
 end-among (suc b) mode at bytes total k [] t others e p =
@@ -119,10 +113,7 @@ end-among (suc b) mode at bytes total k [] t others e p =
     let w = lex-whole mode at bytes in
     let one : x .first ≡ t = cc in
     let q : isTextEnd (x .first .token) ≡ true = rw one p in
-    record {
-      place = rw (← one) (omega (arith, w .last-place q));
-      past = rw (← one) (omega (arith, w .last-past q));
-    }
+    rw (← one) (omega (arith, w .last-place q))
 end-among (suc b) mode at bytes total k (u ∷ used) t others e p =
     let x = lex mode at bytes in
     let later = tokens-later b mode at bytes used t others e .1 in
@@ -130,16 +121,5 @@ end-among (suc b) mode at bytes total k (u ∷ used) t others e p =
 
 -- 01: "end of text: its length"
 pub text-end : (text : Bytes) (before : List Placed) (t : Placed) (after : List Placed) → tokens text ≡ before ++ t ∷ after → isTextEnd (t .token) ≡ true
-    → AtTextEnd (length text) t
+    → t .place ≡ length text
 text-end text before t after e p = end-among (suc (length text)) outside 0 text (length text) (omega arith) before t after e p
-
--- a text that agrees with another one byte past its end is that text
-pub take-whole : (text other : Bytes) → take (suc (length text)) other ≡ take (suc (length text)) text → other ≡ text
-take-whole [] [] e = refl
-take-whole [] (c ∷ other) e = no-cons (sym e)
-take-whole (b ∷ text) [] e = no-cons e
-take-whole (b ∷ text) (c ∷ other) e =
-    let first : c ≡ b = cc in
-    let rest : take (suc (length text)) other ≡ take (suc (length text)) text = cc in
-    let later = take-whole text other rest in
-    cc

@@ -1,0 +1,3 @@
+-- Which texts are refused, with which number and at which place.
+pub mod Looking
+pub mod Faults
