@@ -226,7 +226,8 @@ sentence-more s t =
       grown-count r t (isSign greaterThan) (anyOf (isSign equals) s),
     )
 
-sentence-parted : (q : Bool) (s : List Placed) (t : Placed) → sentenceOf (pick q [] (s ++ t ∷ [])) ≡ pick q noSentence (grow (sentenceOf s) (t .token))
+sentence-parted : (q : Bool) (s : List Placed) (t : Placed)
+    → sentenceOf (pick q [] (s ++ t ∷ [])) ≡ pick q noSentence (grow (sentenceOf s) (t .token))
 unfolding anyOf beforeFirst afterFirst count namesFrom lastIs elementsIn
 sentence-parted true s t = refl
 sentence-parted false s t = sentence-more s t

@@ -11,13 +11,13 @@ use Rattle.meaning.specs.Choice.{Bytes, Name, pick, isSome, sameBytes}
 use Rattle.meaning.specs.Classes.{Class, digit, className}
 use Rattle.meaning.specs.Tree.{Element, Condition, Expression, Sentence, Table}
 use Rattle.meaning.specs.Names.{predicateOf, classNamed}
-use Rattle.meaning.specs.Tokens.{leftBrace, rightBrace, semicolon, comma, colon, equals, lessThan, greaterThan, Token, functionName, word, quoted, sign, textEnd, malformed, Placed}
+use Rattle.meaning.specs.Tokens.{leftBrace, rightBrace, semicolon, comma, colon, equals, lessThan, greaterThan, Token, functionName, quoted, sign, textEnd, Placed}
 use Rattle.meaning.specs.Grammar.{standing, symbolWord, partWord, truthString, IsLetters, stringLetters, variableLetter, IsTemplate, lettersAlone, lettersThen, IsTemplateOrNone, noTemplate, someTemplate, IsPattern, noPart, onePart, twoParts, isCondition, IsConditions, noConditions, conditionThen, IsExpression, noItems, stringThen, symbolThen, partThen, callThen, isSentence, IsSentences, lastSentence, lastSentenceParted, sentenceThen, isFunction, IsProgram, noFunctions, functionThen, functionPartedThen}
 use Rattle.meaning.specs.Reading.{isSign, isTextEnd, nameOf, itemOf, truthOf}
-use Rattle.accepting.proofs.reading.Basics.{impossible, sign-of, name-of, standing-as, TokenView, aString, aSymbol, aPart, another, view}
+use Rattle.accepting.proofs.reading.Basics.{sign-of, name-of, standing-as, TokenView, aString, aSymbol, aPart, another, view}
 use Rattle.accepting.proofs.reading.Conditions.{truth-of}
 use Rattle.refusing.specs.Faults.{Like, nothing, same, otherName, emptyString, Viable}
-use Rattle.refusing.proofs.Stages.{Stage, start, afterFunction, named, opened, afterSemicolon, inPattern, afterCondition, atBracket, atPredicate, atVariable, atClose, atColon, atTruth, inExpression, atCalled, finished, failed, outsideStep, conditionStep, patternStep, symbolStep, endStep, step, run}
+use Rattle.refusing.proofs.Stages.{end-of, Stage, start, afterFunction, named, opened, afterSemicolon, inPattern, afterCondition, atBracket, atPredicate, atVariable, atClose, atColon, atTruth, inExpression, atCalled, finished, failed, outsideStep, conditionStep, patternStep, symbolStep, endStep, step, run}
 
 -- WHAT MAY FOLLOW
 
@@ -44,7 +44,8 @@ data InExpression : ℕ → List Placed → Type 0 where
       → IsExpression us e (standing (sign greaterThan) place past ∷ rest) → InExpression depth rest → InExpression (suc depth) us
 
 data AtCalled : ℕ → List Placed → Type 0 where
-  called : {depth : ℕ} {us : List Placed} {n : Name} {place past : ℕ} → InExpression (suc depth) us → AtCalled depth (standing (functionName n) place past ∷ us)
+  called : {depth : ℕ} {us : List Placed} {n : Name} {place past : ℕ} → InExpression (suc depth) us
+      → AtCalled depth (standing (functionName n) place past ∷ us)
 
 data InConditions : List Placed → Type 0 where
   conditionsThen : {us rest : List Placed} {cs : List Condition} {place past : ℕ}
@@ -179,24 +180,19 @@ sign-before X c t s other false p f yes₁ no₁ = no₁ f
 -- what follows after a name
 name-before : (X : List Placed → Type 0) (t : Placed) (s other : Stage) {ts us : List Placed} (o : Option Name) → nameOf (t .token) ≡ o → Like ts us
     → Follows (pick (isSome o) s other) us
-    → ((n : Name) → Follows s us → Goes X (standing (functionName n) (t .place) (t .past) ∷ ts)) → (Follows other us → Goes X (t ∷ ts)) → Goes X (t ∷ ts)
+    → ((n : Name) → Follows s us → Goes X (standing (functionName n) (t .place) (t .past) ∷ ts)) → (Follows other us → Goes X (t ∷ ts))
+    → Goes X (t ∷ ts)
 name-before X t s other {ts} (some n) p l f yes₁ no₁ = subst (λ z. Goes X (z ∷ ts)) (sym (standing-as t (name-of (t .token) p))) (yes₁ n f)
 name-before X t s other none p l f yes₁ no₁ = no₁ f
 
-text-end : (token : Token) → isTextEnd token ≡ true → token ≡ textEnd
-text-end (functionName n) e = impossible e
-text-end (word w) e = impossible e
-text-end (quoted text) e = impossible e
-text-end (sign b) e = impossible e
-text-end textEnd e = refl
-text-end malformed e = impossible e
-
-end-before : (t : Placed) {us : List Placed} (b : Bool) → isTextEnd (t .token) ≡ b → Follows (pick b finished failed) us → (x : Table) × IsProgram (t ∷ us) x
+end-before : (t : Placed) {us : List Placed} (b : Bool) → isTextEnd (t .token) ≡ b → Follows (pick b finished failed) us
+    → (x : Table) × IsProgram (t ∷ us) x
 unfolding Follows
-end-before t true p f = ([], rw (standing-as t (text-end (t .token) p), f) noFunctions)
+end-before t true p f = ([], rw (standing-as t (end-of (t .token) p), f) noFunctions)
 end-before t false p f = absurd f
 
-outside-before : (t : Placed) {ts us : List Placed} → Like ts us → Follows (outsideStep (t .token)) us → Goes (λ us. (x : Table) × IsProgram us x) (t ∷ ts)
+outside-before : (t : Placed) {ts us : List Placed} → Like ts us → Follows (outsideStep (t .token)) us
+    → Goes (λ us. (x : Table) × IsProgram us x) (t ∷ ts)
 unfolding Follows
 outside-before t l f =
     name-before (λ us. (x : Table) × IsProgram us x) t named (pick (isTextEnd (t .token)) finished failed) (nameOf (t .token)) refl l f
@@ -207,7 +203,8 @@ conditions-before : (t : Placed) {us : List Placed} → Follows (conditionStep (
 unfolding Follows
 conditions-before t f =
     sign-before InConditions comma t atBracket _ (isSign comma (t .token)) refl f (condition-before (t .place) (t .past))
-    (λ g. sign-before InConditions equals t (inExpression 0) failed (isSign equals (t .token)) refl g (λ e. conditionsThen noConditions e) (λ o. absurd o))
+    (λ g.
+    sign-before InConditions equals t (inExpression 0) failed (isSign equals (t .token)) refl g (λ e. conditionsThen noConditions e) (λ o. absurd o))
 
 no-items : (n : ℕ) {us : List Placed} → InConditions us → InPattern n us
 no-items zero c = wholeThen (noPart noTemplate) c
@@ -225,7 +222,8 @@ pattern-step n place past (aPart b x) {ts} {us} l f = go (ltb n 2) refl f
     go false p f = absurd f
 pattern-step n place past (another token i) l f = goes _ l (no-items n (conditions-before (standing token place past) (rw i at f)))
 
-symbol-step : {token : Token} (place past : ℕ) → TokenView token → {us : List Placed} → Follows (symbolStep (itemOf token)) us → AtVariable (standing token place past ∷ us)
+symbol-step : {token : Token} (place past : ℕ) → TokenView token → {us : List Placed} → Follows (symbolStep (itemOf token)) us
+    → AtVariable (standing token place past ∷ us)
 unfolding Follows
 symbol-step place past (aString text) f = absurd f
 symbol-step place past (aSymbol b x) f = variableThen f
@@ -245,9 +243,11 @@ ends : (depth : ℕ) (t : Placed) {us : List Placed} → Follows (endStep depth 
 unfolding Follows
 ends zero t f =
     sign-before (InExpression 0) semicolon t afterSemicolon _ (isSign semicolon (t .token)) refl f (λ a. partedThen noItems a)
-    (λ g. sign-before (InExpression 0) rightBrace t afterFunction failed (isSign rightBrace (t .token)) refl g (λ a. lastThen noItems a) (λ o. absurd o))
+    (λ g.
+    sign-before (InExpression 0) rightBrace t afterFunction failed (isSign rightBrace (t .token)) refl g (λ a. lastThen noItems a) (λ o. absurd o))
 ends (suc depth) t f =
-    sign-before (InExpression (suc depth)) greaterThan t (inExpression depth) failed (isSign greaterThan (t .token)) refl f (λ a. argumentThen noItems a) (λ o. absurd o)
+    sign-before (InExpression (suc depth)) greaterThan t (inExpression depth) failed (isSign greaterThan (t .token)) refl f
+    (λ a. argumentThen noItems a) (λ o. absurd o)
 
 expression-step : (depth : ℕ) {token : Token} (place past : ℕ) → TokenView token → {us : List Placed}
     → Follows (step (inExpression depth) (standing token place past)) us → InExpression depth (standing token place past ∷ us)
@@ -263,7 +263,8 @@ expression-step depth place past (another token i) f =
 after-before : (t : Placed) {ts us : List Placed} → Like ts us → (b : Bool) → isSign semicolon (t .token) ≡ b
     → Follows (pick b start (outsideStep (t .token))) us → Goes AfterFunction (t ∷ ts)
 unfolding Follows
-after-before t {ts} {us} l true p f = goes t l (subst (λ z. AfterFunction (z ∷ us)) (sym (standing-as t (sign-of semicolon (t .token) p))) (spare (f .1)))
+after-before t {ts} {us} l true p f =
+    goes t l (subst (λ z. AfterFunction (z ∷ us)) (sym (standing-as t (sign-of semicolon (t .token) p))) (spare (f .1)))
 after-before t l false p f =
     let g = outside-before t l f in
     record { like = g .like; alike = g .alike; follows = others (g .follows .1) }
@@ -271,13 +272,15 @@ after-before t l false p f =
 semicolon-before : (t : Placed) {ts us : List Placed} → Like ts us → (b : Bool) → isSign rightBrace (t .token) ≡ b
     → Follows (pick b afterFunction (patternStep 0 (t .token))) us → Goes AfterSemicolon (t ∷ ts)
 unfolding Follows
-semicolon-before t {ts} {us} l true p f = goes t l (subst (λ z. AfterSemicolon (z ∷ us)) (sym (standing-as t (sign-of rightBrace (t .token) p))) (closing f))
+semicolon-before t {ts} {us} l true p f =
+    goes t l (subst (λ z. AfterSemicolon (z ∷ us)) (sym (standing-as t (sign-of rightBrace (t .token) p))) (closing f))
 semicolon-before t l false p f =
     let g = pattern-step 0 (t .place) (t .past) (view (t .token)) l f in
     record { like = g .like; alike = g .alike; follows = further (pattern-before (g .follows)) }
 
 -- a predicate's name stands for any
-predicate-before : (n : Name) (place past : ℕ) {ts us : List Placed} → Like ts us → AtVariable us → Goes AtPredicate (standing (functionName n) place past ∷ ts)
+predicate-before : (n : Name) (place past : ℕ) {ts us : List Placed} → Like ts us → AtVariable us
+    → Goes AtPredicate (standing (functionName n) place past ∷ ts)
 unfolding classNamed sameBytes
 predicate-before n place past {us = us} l a =
     record {
@@ -292,15 +295,19 @@ unfolding Follows
 before start t l f = outside-before t l f
 before afterFunction t l f = after-before t l (isSign semicolon (t .token)) refl f
 before named t l f = goes t l (sign-before AfterName leftBrace t opened failed (isSign leftBrace (t .token)) refl f (λ a. brace a) (λ o. absurd o))
-before opened t l f = let g = pattern-step 0 (t .place) (t .past) (view (t .token)) l f in record { like = g .like; alike = g .alike; follows = pattern-before (g .follows) }
+before opened t l f =
+    let g = pattern-step 0 (t .place) (t .past) (view (t .token)) l f in
+    record { like = g .like; alike = g .alike; follows = pattern-before (g .follows) }
 before afterSemicolon t l f = semicolon-before t l (isSign rightBrace (t .token)) refl f
 before (inPattern n) t l f = pattern-step n (t .place) (t .past) (view (t .token)) l f
 before afterCondition t l f = goes t l (conditions-before t f)
-before atBracket t l f = goes t l (sign-before AtBracket lessThan t atPredicate failed (isSign lessThan (t .token)) refl f (λ a. bracketThen a) (λ o. absurd o))
+before atBracket t l f =
+    goes t l (sign-before AtBracket lessThan t atPredicate failed (isSign lessThan (t .token)) refl f (λ a. bracketThen a) (λ o. absurd o))
 before atPredicate t l f =
     name-before AtPredicate t atVariable failed (nameOf (t .token)) refl l f (λ n a. predicate-before n (t .place) (t .past) l a) (λ o. absurd o)
 before atVariable t l f = goes t l (symbol-step (t .place) (t .past) (view (t .token)) f)
-before atClose t l f = goes t l (sign-before AtClose greaterThan t atColon failed (isSign greaterThan (t .token)) refl f (λ a. closeThen a) (λ o. absurd o))
+before atClose t l f =
+    goes t l (sign-before AtClose greaterThan t atColon failed (isSign greaterThan (t .token)) refl f (λ a. closeThen a) (λ o. absurd o))
 before atColon t l f = goes t l (sign-before AtColon colon t atTruth failed (isSign colon (t .token)) refl f (λ a. colonThen a) (λ o. absurd o))
 before atTruth t l f = goes t l (truth-step t (truthOf (t .token) (eqb (t .past) (t .place + 3))) refl f)
 before (inExpression depth) t l f = goes t l (expression-step depth (t .place) (t .past) (view (t .token)) f)

@@ -149,7 +149,8 @@ module _ (quota : Quota) (ts : List Placed) where
 
   same-later : rightLater ts
       ≡ both (symbolsRight (sumOf ts .sentence .pattern) (sumOf ts .sentence .middle))
-      (both (symbolsRight (sumOf ts .sentence .pattern) (sumOf ts .sentence .items)) (partsRight (sumOf ts .sentence .pattern) (sumOf ts .sentence .items)))
+      (both (symbolsRight (sumOf ts .sentence .pattern) (sumOf ts .sentence .items))
+      (partsRight (sumOf ts .sentence .pattern) (sumOf ts .sentence .items)))
   unfolding symbolsRight partsRight
   same-later = refl
 

@@ -74,7 +74,8 @@ module _ (quota : Quota) (text : Bytes) where
     call-refused k h u (stopped (suc m) p) q r = absurd (no-first quota (tokens text) (suc m) p h (stops-first quota (tokens text) m p r))
     call-refused k h u (parsed t rest) q r = rw (sym (unknown-same t rest q) ∙ u)
 
-    from-result : (n k : ℕ) → length text ≤ maxTable → (x : Parsed Table) → result ≡ x → Tells x → verdict x ≡ refused n k → RefusedWithin quota text n k
+    from-result : (n k : ℕ) → length text ≤ maxTable → (x : Parsed Table) → result ≡ x → Tells x → verdict x ≡ refused n k
+        → RefusedWithin quota text n k
     from-result n k l (stopped zero p) q r e = absurd (never-cut quota (tokens text) ends r)
     from-result n k l (stopped (suc m) p) q r e =
         let number : suc m ≡ n = cc in
@@ -99,5 +100,6 @@ module _ (quota : Quota) (text : Bytes) where
     to-text n k (atToken l f) = rw (le-leb (length text) maxTable l) (token-refused n k f result tells)
     to-text _ k (afterReading l h u) = rw (le-leb (length text) maxTable l) (call-refused k h u result refl tells)
 
-    pub refused-so : (n k : ℕ) → (verdict (pick (leb (length text) maxTable) result (stopped tableTooLong 0)) ≡ refused n k) ↔ RefusedWithin quota text n k
+    pub refused-so : (n k : ℕ)
+        → (verdict (pick (leb (length text) maxTable) result (stopped tableTooLong 0)) ≡ refused n k) ↔ RefusedWithin quota text n k
     refused-so n k = (λ e. from-text (leb (length text) maxTable) n k refl e, to-text n k)

@@ -73,7 +73,8 @@ not-less n m a b = by (leb n m) refl (leb m n) refl
     by true x false y = absurd (a (omega (arith, leb-false m n y)))
 
 -- tokens that come to an end have a last one
-last-step : (q : Bool) (ts : List Placed) → (ended ts ≡ true → lastIs isLast q ts ≡ true) → pick q (isNil ts) (ended ts) ≡ true → lastIs isLast q ts ≡ true
+last-step : (q : Bool) (ts : List Placed) → (ended ts ≡ true → lastIs isLast q ts ≡ true) → pick q (isNil ts) (ended ts) ≡ true
+    → lastIs isLast q ts ≡ true
 unfolding lastIs
 last-step true [] others e = refl
 last-step true (t ∷ ts) others e = impossible e
@@ -151,7 +152,8 @@ module _ (quota : Quota) where
       by-case : Apart (f .before) (f .token) (g .before) (g .token) → (n ≡ m) × (k ≡ p)
       by-case (alike x y) =
           let same : f .before ++ f .token ∷ [] ≡ g .before ++ g .token ∷ [] = cc in (
-            not-less n m (λ l. g .lowest n l (subst (λ z. Fault quota z n) same (f .fault))) (λ l. f .lowest m l (subst (λ z. Fault quota z m) (sym same) (g .fault))),
+            not-less n m (λ l. g .lowest n l (subst (λ z. Fault quota z n) same (f .fault)))
+                (λ l. f .lowest m l (subst (λ z. Fault quota z m) (sym same) (g .fault))),
             sym (f .place) ∙ (ap (λ z. z .place) y ∙ g .place),
           )
       by-case (sooner vs e) = absurd (g .sound (f .before ++ f .token ∷ []) vs e n (f .fault))

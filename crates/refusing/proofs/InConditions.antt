@@ -33,11 +33,13 @@ every-one : (f : Name → Bool) (xs : List Name) (x : Name) → every f xs ≡ t
 unfolding every
 every-one f xs x h = every-append f xs (x ∷ []) ∙ rw h (both-unit (f x))
 
-every-added : (f : Name → Bool) (b : Bool) (x : Name) (xs : List Name) → member x xs ≡ b → every f xs ≡ true → every f (pick b xs (xs ++ x ∷ [])) ≡ f x
+every-added : (f : Name → Bool) (b : Bool) (x : Name) (xs : List Name) → member x xs ≡ b → every f xs ≡ true
+    → every f (pick b xs (xs ++ x ∷ [])) ≡ f x
 every-added f true x xs m h = h ∙ sym (member-every f x xs h m)
 every-added f false x xs m h = every-one f xs x h
 
-pub symbol-known : (p es : List Element) (x : Name) → symbolsRight p es ≡ true → symbolsRight p (es ++ letter (symbol x) ∷ []) ≡ member x (symbolsOf p)
+pub symbol-known : (p es : List Element) (x : Name) → symbolsRight p es ≡ true
+    → symbolsRight p (es ++ letter (symbol x) ∷ []) ≡ member x (symbolsOf p)
 unfolding symbolsRight
 symbol-known p es x h =
     rw (symbol-adds es x) (every-added (λ y. member y (symbolsOf p)) (member x (symbolsOf es)) x (symbolsOf es) refl h)
@@ -246,7 +248,8 @@ module _ (quota : Quota) (names : List Name) (begun : ℕ) (p : List Element) wh
             middle-number atClose (leb (length (d ∷ x)) maxIdentifier) false false false later refl
             ∙ rw (f .few, f .predicates, symbol-known p (c .elements) (d ∷ x) (f .known), both-unit (leb (length (d ∷ x)) maxIdentifier))
             in
-            told-check quota (ConditionLeft (c .commas)) (next m t) b t ts at (symbolFault (symbolsOf p) (d ∷ x)) (afterVariable class (d ∷ x) ts) refl value
+            told-check quota (ConditionLeft (c .commas)) (next m t) b t ts at (symbolFault (symbolsOf p) (d ∷ x))
+            (afterVariable class (d ∷ x) ts) refl value
             (λ z at₁.
             let g = fine quota (next m t) (value ∙ z) in
             close-told class (d ∷ x) later (record { few = f .few; predicates = f .predicates; known = g .middle }) (b ++ t ∷ []) ts
@@ -268,11 +271,18 @@ module _ (quota : Quota) (names : List Name) (begun : ℕ) (p : List Element) wh
         m = next (middleAt atPredicate true c) t
 
         name-number : (n : Name) → t .token ≡ functionName n
-            → number quota (next (middleAt atPredicate true c) t) ≡ faultUnless (leb (length n) maxName) overLimit (faultUnless (isPredicate n) wrongName 0)
+            → number quota (next (middleAt atPredicate true c) t) ≡ faultUnless (leb (length n) maxName) overLimit
+            (faultUnless (isPredicate n) wrongName 0)
         name-number n e =
             rw e
             (middle-number atVariable (both (leb (length n) maxName) true) false false false (withName c n) refl
-            ∙ rw (f .few, f .known, predicate-known (c .names) n (f .predicates), both-unit (leb (length n) maxName), both-unit (leb (length n) maxName)))
+            ∙ rw (
+              f .few,
+              f .known,
+              predicate-known (c .names) n (f .predicates),
+              both-unit (both (leb (length n) maxName) true),
+              both-unit (leb (length n) maxName),
+            ))
 
         by-class : (n : Name) → t .token ≡ functionName n → (l : Bool) → leb (length n) maxName ≡ l → (o : Option Class) → predicateOf n ≡ o
             → Told quota (ConditionLeft (c .commas)) b (t ∷ ts)
@@ -280,7 +290,8 @@ module _ (quota : Quota) (names : List Name) (begun : ℕ) (p : List Element) wh
         by-class n e false l o q = told-stop quota (ConditionLeft (c .commas)) m b t ts here _ (name-number n e ∙ rw l)
         by-class n e true l none q = told-stop quota (ConditionLeft (c .commas)) m b t ts here _ (name-number n e ∙ rw (l, q))
         by-class n e true l (some class) q =
-            told-pass quota (ConditionLeft (c .commas)) m b t ts here (passSymbol symbols ts (afterVariable class)) (rw e) (name-number n e ∙ rw (l, q))
+            told-pass quota (ConditionLeft (c .commas)) m b t ts here (passSymbol symbols ts (afterVariable class)) (rw e)
+            (name-number n e ∙ rw (l, q))
             (λ at.
             symbol-told class (withName c n)
             (record { few = f .few; predicates = predicate-known (c .names) n (f .predicates) ∙ ap isSome q; known = f .known })
@@ -314,7 +325,9 @@ module _ (quota : Quota) (names : List Name) (begun : ℕ) (p : List Element) wh
         record {
           on-comma = λ e. here ∙ rw (sign-of comma (t .token) e);
           on-equals = λ e. (false, here ∙ rw (sign-of equals (t .token) e));
-          on-other = λ q r. ap (number quota) here ∙ refused-number quota (patternAt names begun p) t refl (no-item-step _ t (itemOf (t .token)) refl n q r);
+          on-other =
+              λ q r. ap (number quota) here ∙ refused-number quota (patternAt names begun p) t refl
+              (no-item-step _ t (itemOf (t .token)) refl n q r);
         }
 
     waiting-middle : (c : Middle) (b ts : List Placed) → At (middleAt afterCondition false c) b ts → Waiting c b ts

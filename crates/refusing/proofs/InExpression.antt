@@ -255,7 +255,8 @@ module _ (quota : Quota) (names : List Name) (begun : ℕ) (p : List Element) (a
           )
       item-next place past (another token n) i g = impossible (rw n at i)
 
-      bracket-number : (place past : ℕ) → number quota (next (here (inExpression depth) false r) (standing (sign lessThan) place past)) ≡ callFault depth so
+      bracket-number : (place past : ℕ)
+          → number quota (next (here (inExpression depth) false r) (standing (sign lessThan) place past)) ≡ callFault depth so
       bracket-number place past =
           right-number (atCalled depth) true true false true (withBracket r) refl ∙ rw (call-limits p r f depth so tied, f .calls, f .known, f .order)
 
@@ -293,7 +294,8 @@ module _ (quota : Quota) (names : List Name) (begun : ℕ) (p : List Element) (a
         → At (here (inExpression depth) false r) b ts → Told quota (ExpressionLeft depth) b ts (expression bound (symbolsOf p) depth so ts)
 
     close-told : (depth place : ℕ) (n : Name) (given : Items) (r : Right) → RightFits p r → Tied p r (suc depth) (given .progress)
-        → (b ts : List Placed) → At (here (inExpression (suc depth)) false r) b ts → NoMore ts → Told quota (CallLeft depth) b ts (closing place n given ts)
+        → (b ts : List Placed) → At (here (inExpression (suc depth)) false r) b ts → NoMore ts
+        → Told quota (CallLeft depth) b ts (closing place n given ts)
     close-told depth place n given r f tied b [] at e = told-cut quota (CallLeft depth) at
     close-told depth place n given r f tied b (t ∷ ts) at e = by-sign (isSign greaterThan (t .token)) refl
       where
@@ -324,7 +326,8 @@ module _ (quota : Quota) (names : List Name) (begun : ℕ) (p : List Element) (a
         (λ n place past b₁ us shorter z at₁.
         let g = fine quota (next (here (atCalled depth) true r) (standing (functionName n) place past)) (called-number depth r f n place past ∙ z) in
         let fits : RightFits p (withCall r n) = record { limits = f .limits; calls = g .calls; known = f .known; order = f .order } in
-        told-follow quota (CallLeft depth) (ExpressionLeft (suc depth)) b₁ us (expression bound (symbolsOf p) (suc depth) (pastCall so) us) (closing place n)
+        told-follow quota (CallLeft depth) (ExpressionLeft (suc depth)) b₁ us (expression bound (symbolsOf p) (suc depth) (pastCall so) us)
+        (closing place n)
         (tells (suc depth) (pastCall so) (withCall r n) fits
         (record { items = tied .items; depth-is = tied .depth-is; coming = tied .coming }) b₁ us (omega arith)
         (subst (λ w. At w b₁ us) (rw (g .short)) at₁))
@@ -340,7 +343,8 @@ module _ (quota : Quota) (names : List Name) (begun : ℕ) (p : List Element) (a
         (pick i
         (check (itemFault (symbolsOf p) so (itemOf (t .token))) t
         (withFirst (thenItem (itemOf (t .token))) (expression bound (symbolsOf p) depth (pastItem (itemOf (t .token)) so) ts)))
-        (pick o (follow (call (expression bound (symbolsOf p)) depth so t ts) (outside bound depth)) (parsed (record { expression = end; progress = so }) (t ∷ ts))))
+        (pick o (follow (call (expression bound (symbolsOf p)) depth so t ts) (outside bound depth))
+        (parsed (record { expression = end; progress = so }) (t ∷ ts))))
     expression-step bound tells depth so r f tied b t ts l at true o q s =
         let item = itemOf (t .token) in
         let m = next (here (inExpression depth) false r) t in
@@ -375,4 +379,5 @@ module _ (quota : Quota) (names : List Name) (begun : ℕ) (p : List Element) (a
     expression-told zero depth so r f tied b (t ∷ ts) l at = absurd (omega arith)
     expression-told (suc bound) depth so r f tied b [] l at = told-cut quota (ExpressionLeft depth) at
     expression-told (suc bound) depth so r f tied b (t ∷ ts) l at =
-        expression-step bound (expression-told bound) depth so r f tied b t ts (omega arith) at (isItem (itemOf (t .token))) (isSign lessThan (t .token)) refl refl
+        expression-step bound (expression-told bound) depth so r f tied b t ts (omega arith) at (isItem (itemOf (t .token)))
+        (isSign lessThan (t .token)) refl refl

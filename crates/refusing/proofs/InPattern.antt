@@ -154,23 +154,14 @@ module _ (quota : Quota) where
       item-number : {token : Token} (place past : ℕ) → TokenView token → isItem (itemOf token) ≡ true
           → number quota (next (patternAt names begun p) (standing token place past)) ≡ patternFault p (itemOf token)
       item-number place past (aString text) i =
-          rw (a .table, a .declared, string-limits p h text, string-right p h text, no-limits, no-predicates, no-calls, no-symbols, no-parts, both-unit)
+          rw (a .table, a .declared, string-limits p h text, string-right p h text)
+          (rw (no-limits, no-predicates, no-calls, no-symbols, no-parts, both-unit))
       item-number place past (aSymbol b x) i =
-          rw (a .table, a .declared, symbol-limits p h (b ∷ x), symbol-right p h (b ∷ x), no-limits, no-predicates, no-calls, no-symbols, no-parts, both-unit)
+          rw (a .table, a .declared, symbol-limits p h (b ∷ x), symbol-right p h (b ∷ x))
+          (rw (no-limits, no-predicates, no-calls, no-symbols, no-parts, both-unit))
       item-number place past (aPart b x) i =
-          rw (
-            a .table,
-            a .declared,
-            part-limits p h (b ∷ x),
-            part-right p h (b ∷ x),
-            no-limits,
-            no-predicates,
-            no-calls,
-            no-symbols,
-            no-parts,
-            both-unit,
-            going-pick,
-          )
+          rw (a .table, a .declared, part-limits p h (b ∷ x), part-right p h (b ∷ x))
+          (rw (no-limits, no-predicates, no-calls, no-symbols, no-parts, both-unit, going-pick))
       item-number place past (another token n) i = impossible (rw n at i)
 
       item-next : {token : Token} (place past : ℕ) → TokenView token → isItem (itemOf token) ≡ true

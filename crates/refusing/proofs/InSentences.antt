@@ -93,7 +93,8 @@ semicolon-open names begun t e = rw e
 module _ (quota : Quota) where
   -- what a table comes to between sentences
   pub table-number : (s : Stage) (short led : Bool) (names : List Name) (begun : ℕ) → going s ≡ true
-      → number quota (record { stage = s; formed = true; short = short; names = names; begun = begun; bracket = false; led = led; sentence = noSentence })
+      → number quota
+      (record { stage = s; formed = true; short = short; names = names; begun = begun; bracket = false; led = led; sentence = noSentence })
       ≡ faultUnless (both short (tableLimits quota names begun)) overLimit (faultUnless (declaredRight names) wrongName 0)
   table-number s short led names begun g =
       let p = no-pattern in
@@ -114,7 +115,8 @@ module _ (quota : Quota) where
       → number quota (tableAt s led names begun) ≡ 0
   table-fine s led names begun g a = table-number s true led names begun g ∙ rw (a .table, a .declared)
 
-  pub over-limit : (m : Sum) → m .formed ≡ true → going (m .stage) ≡ true → tableLimits quota (m .names) (m .begun) ≡ false → number quota m ≡ overLimit
+  pub over-limit : (m : Sum) → m .formed ≡ true → going (m .stage) ≡ true → tableLimits quota (m .names) (m .begun) ≡ false
+      → number quota m ≡ overLimit
   over-limit m f g l = rw (f, g, l, both-false (m .short))
 
   -- ONE SENTENCE
@@ -155,7 +157,8 @@ module _ (quota : Quota) where
             let (any, e) = l .here .on-equals q in
             let f = no-right p in
             told-pass quota SentenceLeft (rightAt quota names begun p any (inExpression 0) false (l .so) noRight) b t ts e
-            (afterEquals p cs ts) (sign-inner equals (t .token) q) (quiet quota names begun p any (l .so) a h (l .fits) (inExpression 0) false noRight refl f)
+            (afterEquals p cs ts) (sign-inner equals (t .token) q)
+            (quiet quota names begun p any (l .so) a h (l .fits) (inExpression 0) false noRight refl f)
             (λ at.
             told-follow quota SentenceLeft (ExpressionLeft quota names begun p any (l .so) 0) (b ++ t ∷ []) ts
             (expression (length ts) (symbolsOf p) 0 (progress (partsOf p)) ts) (afterExpression p cs)
@@ -169,7 +172,8 @@ module _ (quota : Quota) where
     sentence-told : (b ts : List Placed) → At (patternAt names begun []) b ts → Told quota SentenceLeft b ts (sentence ts)
     unfolding sentence
     sentence-told b ts at =
-        told-follow quota SentenceLeft (PatternLeft names begun) b ts (pattern [] ts) afterPattern (pattern-told quota names begun a [] no-pattern b ts at)
+        told-follow quota SentenceLeft (PatternLeft names begun) b ts (pattern [] ts) afterPattern
+        (pattern-told quota names begun a [] no-pattern b ts at)
         (λ p b₁ us r l.
         told-follow quota SentenceLeft (ConditionsLeft quota names begun p) b₁ us (conditions maxConditions (symbolsOf p) us) (afterConditions p)
         (conditions-told quota names begun p a (l .fits) maxConditions noMiddle refl
@@ -266,7 +270,8 @@ module _ (quota : Quota) where
           told-stop quota (SentencesLeft names begun 0) (next (tableAt opened true names begun) t) b t ts at _
           (over-number names begun t q (lt-leb (suc begun) (quota .sentences) (omega arith)))
       by-begin false q =
-          told-refuse quota (SentencesLeft names begun 0) (tableAt opened true names begun) refl b t ts at (no-begin (t .place) (t .past) (view (t .token)) q)
+          told-refuse quota (SentencesLeft names begun 0) (tableAt opened true names begun) refl b t ts at
+          (no-begin (t .place) (t .past) (view (t .token)) q)
   sentences-told (suc left) names begun a l b [] at = told-cut quota (SentencesLeft names begun (suc left)) at
   sentences-told (suc left) names begun a l b (t ∷ ts) at = by-begin (sentences-told left) (begins (t .token)) refl
     where

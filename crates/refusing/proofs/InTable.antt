@@ -13,7 +13,7 @@ use Rattle.meaning.specs.Names.{isReserved}
 use Rattle.meaning.specs.Answers.{overLimit, wrongName}
 use Rattle.meaning.specs.Tree.{Function, Table}
 use Rattle.meaning.specs.Allowed.{maxName, distinct, member, namesOf}
-use Rattle.meaning.specs.Tokens.{Token, functionName, word, quoted, sign, textEnd, malformed, Placed, isLast, leftBrace, semicolon, isSign, isTextEnd, nameOf}
+use Rattle.meaning.specs.Tokens.{Placed, isLast, leftBrace, semicolon, isSign, isTextEnd, nameOf}
 use Rattle.meaning.specs.Reading.{Parsed, parsed, cutShort, follow, check, faultOf, nameOn, sentences, passSpare, declaredFault, function, functions}
 use Rattle.accepting.proofs.reading.Basics.{impossible, passed, both-left, both-right, both-true, sign-of, name-of}
 use Rattle.accepting.proofs.reading.Lists.{every-append, distinct-after, both-comm}
@@ -21,7 +21,7 @@ use Rattle.accepting.proofs.reading.Tables.{declared, afterBrace, afterName, af
 use Rattle.accepting.proofs.reading.Lexing.{ended}
 use Rattle.accepting.proofs.reading.Sound.{isNil}
 use Rattle.refusing.specs.Faults.{Quota}
-use Rattle.refusing.proofs.Stages.{start, afterFunction, named, opened, finished}
+use Rattle.refusing.proofs.Stages.{end-of, start, afterFunction, named, opened, finished}
 use Rattle.refusing.proofs.Sums.{Sum, noSentence, tallyFrom, tally, number, tableLimits, declaredRight}
 use Rattle.refusing.proofs.Told.{lastIs, Open, At, at-tally, Trace, stay, go, Told, told-follow, told-done, told-cut, told-stop, told-pass, told-fault, told-sign, refused-number, sign-inner, name-inner}
 use Rattle.refusing.proofs.InPattern.{both-unit, Around}
@@ -49,21 +49,14 @@ closed-tail t ts e = by-last (isLast (t .token)) e
     by-last true e = subst Closed (sym (is-nil ts e)) tt
     by-last false e = ended-closed ts e
 
-text-end : (token : Token) → isTextEnd token ≡ true → token ≡ textEnd
-text-end (functionName n) e = impossible e
-text-end (word w) e = impossible e
-text-end (quoted text) e = impossible e
-text-end (sign b) e = impossible e
-text-end textEnd e = refl
-text-end malformed e = impossible e
-
 last-one : (t : Placed) (ts : List Placed) → Closed (t ∷ ts) → isTextEnd (t .token) ≡ true → ts ≡ []
 unfolding ended
-last-one t ts c e = is-nil ts (rw (text-end (t .token) e) at c)
+last-one t ts c e = is-nil ts (rw (end-of (t .token) e) at c)
 
 -- ONE FUNCTION
 
-declared-more : (names : List Name) (n : Name) → declaredRight names ≡ true → declaredRight (names ++ n ∷ []) ≡ both (not (isReserved n)) (not (member n names))
+declared-more : (names : List Name) (n : Name) → declaredRight names ≡ true
+    → declaredRight (names ++ n ∷ []) ≡ both (not (isReserved n)) (not (member n names))
 unfolding declaredRight every
 declared-more names n h =
     rw (
@@ -107,13 +100,14 @@ module _ (quota : Quota) where
   Outside names begun b [] = Open b
   Outside names begun b (t ∷ ts) = OutsideAt names begun b t
 
-  outside-start : (names : List Name) (begun : ℕ) (led : Bool) → Around quota names begun → (b ts : List Placed) → At (tableAt start led names begun) b ts
+  outside-start : (names : List Name) (begun : ℕ) (led : Bool) → Around quota names begun → (b ts : List Placed)
+      → At (tableAt start led names begun) b ts
       → Outside names begun b ts
   outside-start names begun led a b [] at = at
   outside-start names begun led a b (t ∷ ts) at =
       record {
         on-name = λ n q. at ∙ rw (name-of (t .token) q, both-false led);
-        on-end = λ q. ap (number quota) at ∙ rw (text-end (t .token) q, both-false led) (table-fine quota finished false names begun refl a);
+        on-end = λ q. ap (number quota) at ∙ rw (end-of (t .token) q, both-false led) (table-fine quota finished false names begun refl a);
         on-other = λ q r. ap (number quota) at ∙ refused-number quota (tableAt start led names begun) t refl (rw (q, r));
       }
 
@@ -122,7 +116,7 @@ module _ (quota : Quota) where
   outside-after names begun a b t ts at o =
       record {
         on-name = λ n q. at ∙ rw (name-of (t .token) q);
-        on-end = λ q. ap (number quota) at ∙ rw (text-end (t .token) q) (table-fine quota finished false names begun refl a);
+        on-end = λ q. ap (number quota) at ∙ rw (end-of (t .token) q) (table-fine quota finished false names begun refl a);
         on-other = λ q r. ap (number quota) at ∙ refused-number quota (tableAt afterFunction false names begun) t refl (rw (o, q, r));
       }
 
@@ -156,10 +150,12 @@ module _ (quota : Quota) where
         let more : Around quota (names ++ n ∷ []) begun =
         record {
           table = names-limit names begun n (a .table) few;
-          declared = declared-more names n (a .declared) ∙ passed (both (not (isReserved n)) (not (member n names))) wrongName 0 (omega arith) right .0;
+          declared =
+              declared-more names n (a .declared) ∙ passed (both (not (isReserved n)) (not (member n names))) wrongName 0 (omega arith) right .0;
         }
         in
-        told-sign quota (FunctionLeft names begun left) (tableAt named false (names ++ n ∷ []) begun) refl b leftBrace ts (afterBrace left n) at (λ t e. rw e)
+        told-sign quota (FunctionLeft names begun left) (tableAt named false (names ++ n ∷ []) begun) refl b leftBrace ts (afterBrace left n) at
+        (λ t e. rw e)
         (λ place past. table-fine quota opened true (names ++ n ∷ []) begun refl more)
         (λ place past b₁ us at₁.
         told-follow quota (FunctionLeft names begun left) (SentencesLeft quota (names ++ n ∷ []) begun left) b₁ us (sentences left us) (declared n)
@@ -205,7 +201,8 @@ module _ (quota : Quota) where
   Whole v b rest = rest ≡ []
 
   -- where the text ends, or what comes else
-  end-told : (before : Table) (begun : ℕ) (b : List Placed) (t : Placed) (ts : List Placed) (later : Parsed Table) → OutsideAt (namesOf before) begun b t
+  end-told : (before : Table) (begun : ℕ) (b : List Placed) (t : Placed) (ts : List Placed) (later : Parsed Table)
+      → OutsideAt (namesOf before) begun b t
       → Closed (t ∷ ts) → (q : Bool) → isTextEnd (t .token) ≡ q → (isTextEnd (t .token) ≡ false → Told quota Whole b (t ∷ ts) later)
       → Told quota Whole b (t ∷ ts) (pick q (parsed before ts) later)
   end-told before begun b t ts later w c true q others =
@@ -221,7 +218,8 @@ module _ (quota : Quota) where
   -- a spare `;`
   spare-told : (left : ℕ) → TellsFunctions left → (sentencesLeft : ℕ) (before : Table) (begun : ℕ) → Around quota (namesOf before) begun
       → length before + left ≡ quota .functions → begun + sentencesLeft ≡ quota .sentences → (b ts : List Placed)
-      → At (tableAt afterFunction false (namesOf before) begun) b ts → Closed ts → Told quota Whole b ts (functions left sentencesLeft before (passSpare ts))
+      → At (tableAt afterFunction false (namesOf before) begun) b ts → Closed ts
+      → Told quota Whole b ts (functions left sentencesLeft before (passSpare ts))
   spare-told left tells sentencesLeft before begun a l m b [] here c = tells sentencesLeft before begun a l m b [] here tt
   spare-told left tells sentencesLeft before begun a l m b (t ∷ ts) here c = by-sign (isSign semicolon (t .token)) refl
     where
@@ -230,7 +228,8 @@ module _ (quota : Quota) where
           told-pass quota Whole (tableAt start true (namesOf before) begun) b t ts (here ∙ rw (sign-of semicolon (t .token) q))
           (functions left sentencesLeft before ts) (sign-inner semicolon (t .token) q) (table-fine quota start true (namesOf before) begun refl a)
           (λ at.
-          tells sentencesLeft before begun a l m (b ++ t ∷ []) ts (outside-start (namesOf before) begun true a (b ++ t ∷ []) ts at) (closed-tail t ts c))
+          tells sentencesLeft before begun a l m (b ++ t ∷ []) ts (outside-start (namesOf before) begun true a (b ++ t ∷ []) ts at)
+          (closed-tail t ts c))
       by-sign false q = tells sentencesLeft before begun a l m b (t ∷ ts) (outside-after (namesOf before) begun a b t ts here q) c
 
   functions-told : (left : ℕ) → TellsFunctions left
@@ -250,7 +249,8 @@ module _ (quota : Quota) where
   functions-told (suc left) sentencesLeft before begun a l m b [] w c = told-cut quota Whole w
   functions-told (suc left) sentencesLeft before begun a l m b (t ∷ ts) w c =
       end-told before begun b t ts
-      (follow (function (declaredFault before) sentencesLeft (t ∷ ts)) (goingOn (functions left) sentencesLeft before)) w c (isTextEnd (t .token)) refl
+      (follow (function (declaredFault before) sentencesLeft (t ∷ ts)) (goingOn (functions left) sentencesLeft before)) w c
+      (isTextEnd (t .token)) refl
       (λ e.
       told-follow quota Whole (FunctionLeft (namesOf before) begun sentencesLeft) b (t ∷ ts) (function (declaredFault before) sentencesLeft (t ∷ ts))
       (goingOn (functions left) sentencesLeft before)

@@ -14,3 +14,4 @@ pub mod Deciding
 pub mod First
 pub mod Exactly
 pub mod Refusals
+pub mod Rows

@@ -1,4 +1,5 @@
--- Demand 2 on refusals: which number and place a refused text gets, told without the reader. With `accepted-exactly` both outcomes of reading are fixed.
+-- Demand 2 on refusals: which number and place a refused text gets, told without the reader. With `accepted-exactly` both outcomes of reading are
+-- fixed.
 use Prim.Native.Nat.{ℕ, suc, _≤_}
 use mathlib.Core.Path.{_≡_, sym}
 use mathlib.Core.Logic.{_↔_}
@@ -12,20 +13,25 @@ use Rattle.meaning.specs.Tokens.{outside, Placed, tokens, isTextEnd}
 use Rattle.meaning.specs.Reading.{read, readFunctions, verdict, refused}
 use Rattle.accepting.proofs.reading.Local.{agree-take, tokens-local}
 use Rattle.accepting.proofs.reading.TextEnd.{text-end}
-use Rattle.refusing.specs.Faults.{Viable, quotaAfter, Fault, notFormed, notViable, notWithin, notNamed, notPattern, notLater, FirstFault, RefusedWithin, Refused, tooLong, atToken, afterReading}
-use Rattle.refusing.proofs.Deciding.{viable-unless}
+use Rattle.refusing.specs.Faults.{Viable, Quota, quotaAfter, Fault, notFormed, notViable, notWithin, notNamed, notPattern, notLater, FirstFault, RefusedWithin, Refused, tooLong, atToken, afterReading}
+use Rattle.refusing.proofs.Deciding.{Among, faultsOf, decided, viable-unless}
 use Rattle.refusing.proofs.Exactly.{refused-so}
 
--- A text of bytes is refused with a number at a place exactly when the definition of refused texts says so: with 1 at 0 where it is too long; with 2 to 7
--- where the shortest beginning of its tokens that has a fault ends, with the lowest of its faults; with 8 at the first undeclared call where no beginning
--- has one.
+-- A text of bytes is refused with a number at a place exactly when the definition of refused texts says so: with 1 at 0 where it is too long; with 2
+-- to 7 where the shortest beginning of its tokens that has a fault ends, with the lowest of its faults; with 8 at the first undeclared call where no
+-- beginning has one.
 pub refused-exactly : (text : Bytes) → every isByte text ≡ true → (n k : ℕ) → (read text ≡ refused n k) ↔ Refused text n k
 refused-exactly = refused-so (quotaAfter 0 0)
 
 -- The same for a text that is read after other functions and sentences, with the limits that are left.
 pub refused-after : (functionsBefore sentencesBefore : ℕ) (text : Bytes) → every isByte text ≡ true → (n k : ℕ)
-    → (verdict (readFunctions functionsBefore sentencesBefore text) ≡ refused n k) ↔ RefusedWithin (quotaAfter functionsBefore sentencesBefore) text n k
+    → (verdict (readFunctions functionsBefore sentencesBefore text) ≡ refused n k) ↔ RefusedWithin
+    (quotaAfter functionsBefore sentencesBefore) text n k
 refused-after functionsBefore sentencesBefore = refused-so (quotaAfter functionsBefore sentencesBefore)
+
+-- The faults of tokens are those that are computed for the worked rows.
+pub faults-computed : (quota : Quota) (ts : List Placed) (n : ℕ) → Fault quota ts n ↔ Among n (faultsOf quota ts)
+faults-computed = decided
 
 -- Every number is one of 01's.
 pub refusal-numbers : {text : Bytes} {n k : ℕ} → Refused text n k → (1 ≤ n) × (n ≤ 8)
@@ -41,8 +47,8 @@ refusal-numbers (atToken l f) = fault-numbers (f .fault)
     fault-numbers (notLater e) = (omega arith, omega arith)
 refusal-numbers (afterReading l h u) = (omega arith, omega arith)
 
--- What a refusal with 2 to 7 says besides: the tokens before its token go on to a program of the grammar (but for names and empty strings), and it depends
--- on the text only up to one byte past its token: every text that agrees up to there is refused alike.
+-- What a refusal with 2 to 7 says besides: the tokens before its token go on to a program of the grammar (but for names and empty strings), and it
+-- depends on the text only up to one byte past its token: every text that agrees up to there is refused alike.
 pub record AtToken (text : Bytes) (n k : ℕ) : Type 0 where
   pub before : List Placed
   pub token : Placed

@@ -120,9 +120,18 @@ unfolding run
 run-failed [] = refl
 run-failed (t ∷ ts) = run-failed ts
 
+pub end-of : (token : Token) → isTextEnd token ≡ true → token ≡ textEnd
+end-of (functionName n) e = impossible e
+end-of (word w) e = impossible e
+end-of (quoted text) e = impossible e
+end-of (sign b) e = impossible e
+end-of textEnd e = refl
+end-of malformed e = impossible e
+
 -- THE GRAMMAR LEADS ON
 
-letters-lead : (n : ℕ) {token : Token} {p : List Element} (place past : ℕ) → IsLetters token p → step (inPattern n) (standing token place past) ≡ inPattern n
+letters-lead : (n : ℕ) {token : Token} {p : List Element} (place past : ℕ) → IsLetters token p
+    → step (inPattern n) (standing token place past) ≡ inPattern n
 letters-lead n place past stringLetters = refl
 letters-lead n place past variableLetter = refl
 
@@ -146,20 +155,18 @@ unfolding run sameBytes
 condition-leads (isCondition {truth = true} {at₆ = at₆} known) = rw (eq-eqb (at₆ + 3) (at₆ + 3) refl)
 condition-leads (isCondition {truth = false} {at₆ = at₆} known) = rw (eq-eqb (at₆ + 3) (at₆ + 3) refl)
 
-conditions-lead : {ts rest : List Placed} {cs : List Condition} {place past : ℕ} → IsConditions ts cs (standing (sign equals) place past ∷ rest)
-    → run afterCondition ts ≡ run (inExpression 0) rest
+-- after a pattern or after a condition
+conditions-lead : (s : Stage) → ((place past : ℕ) → step s (standing (sign comma) place past) ≡ atBracket)
+    → ((place past : ℕ) → step s (standing (sign equals) place past) ≡ inExpression 0)
+    → {ts rest : List Placed} {cs : List Condition} {place past : ℕ} → IsConditions ts cs (standing (sign equals) place past ∷ rest)
+    → run s ts ≡ run (inExpression 0) rest
 unfolding run
-conditions-lead noConditions = refl
-conditions-lead (conditionThen c d) = condition-leads c ∙ conditions-lead d
+conditions-lead s on-comma on-equals {place = place} {past = past} noConditions = rw (on-equals place past)
+conditions-lead s on-comma on-equals (conditionThen {place = place} {past = past} c d) =
+    rw (on-comma place past) (condition-leads c ∙ conditions-lead afterCondition (λ at end. refl) (λ at end. refl) d)
 
--- after a pattern they are the same
-conditions-lead-first : (n : ℕ) {ts rest : List Placed} {cs : List Condition} {place past : ℕ} → IsConditions ts cs (standing (sign equals) place past ∷ rest)
-    → run (inPattern n) ts ≡ run (inExpression 0) rest
-unfolding run
-conditions-lead-first n noConditions = refl
-conditions-lead-first n (conditionThen c d) = condition-leads c ∙ conditions-lead d
-
-expression-leads : (depth : ℕ) {ts rest : List Placed} {e : Expression} → IsExpression ts e rest → run (inExpression depth) ts ≡ run (inExpression depth) rest
+expression-leads : (depth : ℕ) {ts rest : List Placed} {e : Expression} → IsExpression ts e rest
+    → run (inExpression depth) ts ≡ run (inExpression depth) rest
 unfolding run
 expression-leads depth noItems = refl
 expression-leads depth (stringThen d) = expression-leads depth d
@@ -170,12 +177,7 @@ expression-leads depth (callThen d e) = expression-leads (suc depth) d ∙ expre
 sentence-leads : {ts rest : List Placed} {s : Sentence} → IsSentence ts s rest → run (inPattern 0) ts ≡ run (inExpression 0) rest
 sentence-leads (isSentence d e f) =
     let p = pattern-leads d in
-    p .1 ∙ (conditions-lead-first (p .0) e ∙ expression-leads 0 f)
-
--- a token that a sentence begins with
-begin-open : (t : Placed) (ts : List Placed) → run opened (t ∷ ts) ≡ run (inPattern 0) (t ∷ ts)
-unfolding run
-begin-open t ts = refl
+    p .1 ∙ (conditions-lead (inPattern (p .0)) (λ at end. refl) (λ at end. refl) e ∙ expression-leads 0 f)
 
 no-brace : (token : Token) → begins token ≡ true → isSign rightBrace token ≡ false
 no-brace (functionName n) e = refl
@@ -287,5 +289,6 @@ like-leads s (emptyString {place = place} {past = past} {ts = ts} l) e =
 -- tokens that go on to a program have not failed
 pub viable-runs : (ts : List Placed) → Viable ts → run start ts ≡ failed → ⊥
 viable-runs ts v e =
+    let whole : run start (ts ++ v .more) ≡ finished = like-leads start (v .alike) (program-leads (v .derived) .0) in
     failed-finished
-    (sym (run-failed (v .more)) ∙ (ap (λ z. run z (v .more)) (sym e) ∙ (sym (run-append start ts (v .more)) ∙ like-leads start (v .alike) (program-leads (v .derived) .0))))
+    (sym (run-failed (v .more)) ∙ (ap (λ z. run z (v .more)) (sym e) ∙ (sym (run-append start ts (v .more)) ∙ whole)))

@@ -1,5 +1,5 @@
--- What the looks along the tokens up to a place come to, as one record that the next token changes, and the number of their lowest fault by it: a device
--- of the proofs, which go along the tokens with the reader.
+-- What the looks along the tokens up to a place come to, as one record that the next token changes, and the number of their lowest fault by it: a
+-- device of the proofs, which go along the tokens with the reader.
 use Prim.Native.Nat.{ℕ, suc, _+_}
 use mathlib.Core.Path.{_≡_, refl}
 use mathlib.Core.Bool.{Bool, true, false, not}

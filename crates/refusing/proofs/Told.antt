@@ -106,8 +106,9 @@ module _ (quota : Quota) where
         record { used = s .used; first = s .first; others = s .others; trace = trace-join r (s .trace); place = s .place; fault = s .fault }
     told-after r (parsed v rest) s = record { used = s .used; trace = trace-join r (s .trace); holds = s .holds }
 
-    pub told-follow : {B : Type 0} (first : B → List Placed → List Placed → Type 0) (b ts : List Placed) (x : Parsed B) (k : B → List Placed → Parsed A)
-        → Told first b ts x → ((v : B) (b₁ rest : List Placed) → Trace b ts b₁ rest → first v b₁ rest → Told reads b₁ rest (k v rest))
+    pub told-follow : {B : Type 0} (first : B → List Placed → List Placed → Type 0) (b ts : List Placed) (x : Parsed B)
+        (k : B → List Placed → Parsed A) → Told first b ts x
+        → ((v : B) (b₁ rest : List Placed) → Trace b ts b₁ rest → first v b₁ rest → Told reads b₁ rest (k v rest))
         → Told reads b ts (follow x k)
     told-follow first b ts (stopped zero p) k s later = s
     told-follow first b ts (stopped (suc n) p) k s later = s
@@ -160,7 +161,8 @@ module _ (quota : Quota) where
       by-token malformed = refl
 
   module _ {A : Type 0} (reads : A → List Placed → List Placed → Type 0) (m : Sum) (f : m .formed ≡ true) where
-    pub told-refuse : (b : List Placed) (t : Placed) (ts : List Placed) → At m b (t ∷ ts) → step (m .stage) t ≡ failed → Told reads b (t ∷ ts) (refuse t)
+    pub told-refuse : (b : List Placed) (t : Placed) (ts : List Placed) → At m b (t ∷ ts) → step (m .stage) t ≡ failed
+        → Told reads b (t ∷ ts) (refuse t)
     told-refuse b t ts a e = told-fault reads (next m t) b t ts a (refused-number m t f e)
 
     -- a sign that must come, with no fault of its own
@@ -175,7 +177,8 @@ module _ (quota : Quota) where
         by-test : (q : Bool) → isSign c (t .token) ≡ q → Told reads b (t ∷ ts) (whether q t (later ts))
         by-test true p =
             let same = standing-as t (sign-of c (t .token) p) in
-            told-pass reads (next m t) b t ts a (later ts) (sign-inner c (t .token) p) (ap (λ z. number quota (next m z)) same ∙ quiet (t .place) (t .past))
+            told-pass reads (next m t) b t ts a (later ts) (sign-inner c (t .token) p)
+            (ap (λ z. number quota (next m z)) same ∙ quiet (t .place) (t .past))
             (λ a₁. told (t .place) (t .past) (b ++ t ∷ []) ts (subst (λ z. At (next m z) (b ++ t ∷ []) ts) same a₁))
         by-test false p = told-refuse b t ts a (others t p)
 

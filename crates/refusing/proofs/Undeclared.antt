@@ -26,7 +26,8 @@ record Look (R : Type 0) : Type 0 where
   declare : Name → R → R
   callIt : ℕ → Name → R → R
   quiet : (t : Placed) (ts : List Placed) → nameOf (t .token) ≡ none → scan false (t ∷ ts) ≡ scan (isSign lessThan (t .token)) ts
-  predicate : (n : Name) (place past : ℕ) (ts : List Placed) → isPredicate n ≡ true → scan true (standing (functionName n) place past ∷ ts) ≡ scan false ts
+  predicate : (n : Name) (place past : ℕ) (ts : List Placed) → isPredicate n ≡ true
+      → scan true (standing (functionName n) place past ∷ ts) ≡ scan false ts
   declares : (n : Name) (place past : ℕ) (ts : List Placed) → scan false (standing (functionName n) place past ∷ ts) ≡ declare n (scan false ts)
   calls : (n : Name) (place past : ℕ) (ts : List Placed) → scan true (standing (functionName n) place past ∷ ts) ≡ callIt place n (scan false ts)
 
@@ -49,7 +50,8 @@ module _ {R : Type 0} (k : Look R) where
   abbrev from : List Placed → R
   from ts = k .scan false ts
 
-  letters-scan : {token : Token} {p : List Element} (place past : ℕ) (ts : List Placed) → IsLetters token p → from (standing token place past ∷ ts) ≡ from ts
+  letters-scan : {token : Token} {p : List Element} (place past : ℕ) (ts : List Placed) → IsLetters token p
+      → from (standing token place past ∷ ts) ≡ from ts
   letters-scan place past ts (stringLetters {text = text}) = k .quiet (standing (quoted text) place past) ts refl
   letters-scan place past ts (variableLetter {b = b} {x = x}) = k .quiet (standing (symbolWord b x) place past) ts refl
 
@@ -99,7 +101,8 @@ module _ {R : Type 0} (k : Look R) where
   sentences-scan (lastSentenceParted {s = s} d) = sentence-scan d ∙ ap (overExpression (s .expression)) (k .quiet _ _ refl ∙ k .quiet _ _ refl)
   sentences-scan (sentenceThen {s = s} d e) = sentence-scan d ∙ ap (overExpression (s .expression)) (k .quiet _ _ refl ∙ sentences-scan e)
 
-  function-scan : {ts rest : List Placed} {f : Function} → IsFunction ts f rest → from ts ≡ k .declare (f .name) (overSentences (f .sentences) (from rest))
+  function-scan : {ts rest : List Placed} {f : Function} → IsFunction ts f rest
+      → from ts ≡ k .declare (f .name) (overSentences (f .sentences) (from rest))
   function-scan (isFunction {n = n} d) = k .declares n _ _ _ ∙ ap (k .declare n) (k .quiet _ _ refl ∙ sentences-scan d)
 
   program-scan : {ts : List Placed} {t : Table} → IsProgram ts t → from ts ≡ overTable t (from [])

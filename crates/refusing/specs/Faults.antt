@@ -1,6 +1,6 @@
--- Which texts are refused, with which number and at which place: told by what stands in the tokens up to a place, not by
--- a reader. 01, 'Where each thing is checked': "For 2 to 7 the leftmost token decides, then the lowest number." So the
--- shortest beginning of the tokens that has a fault decides, and then the lowest of its faults.
+-- Which texts are refused, with which number and at which place: told by what stands in the tokens up to a place, not
+-- by a reader. 01, 'Where each thing is checked': "For 2 to 7 the leftmost token decides, then the lowest number." So
+-- the shortest beginning of the tokens that has a fault decides, and then the lowest of its faults.
 use Prim.Native.Nat.{ℕ, _+_, _-_, _≤_, _<_}
 use mathlib.Core.Path.{_≡_}
 use mathlib.Core.Bool.{Bool, true, false, not}
@@ -17,8 +17,8 @@ use Rattle.meaning.specs.Tokens.{Token, functionName, word, quoted, sign, textE
 use Rattle.meaning.specs.Grammar.{standing, IsProgram}
 use Rattle.refusing.specs.Looking.{count, declared, called, begun, elementsIn, leftSide, rightSide, patternIn, conditionsIn}
 
--- 2: "comment or string without an end, escape not listed or over 255, bare double quote in a string, `<` with no letter
--- right after it"
+-- 2: "comment or string without an end, escape not listed or over 255, bare double quote in a string, `<` with no
+-- letter right after it"
 
 abbrev pub isMalformed : Token → Bool
 isMalformed (functionName n) = false
@@ -33,8 +33,8 @@ wellFormed ts = every (λ t. not (isMalformed (t .token))) ts
 
 -- 3: "not allowed here by the grammar"
 
--- Tokens that are the same to 3: which name stands where a name may is a matter of 5, and whether anything stands between
--- two e-variables one of 6.
+-- Tokens that are the same to 3: which name stands where a name may is a matter of 5, and whether anything stands
+-- between two e-variables one of 6.
 pub data Like : List Placed → List Placed → Type 0 where
   nothing : Like [] []
   same : {t : Placed} {ts us : List Placed} → Like ts us → Like (t ∷ ts) (t ∷ us)
@@ -103,7 +103,8 @@ rightPattern ts = both (distinct (symbolsOf (patternIn ts) ++ partsOf (patternIn
 
 -- 7: "not in the pattern, or e repeated or out of order"
 
--- the e-variables that may still come after some, or none where one of these is repeated, out of order or not the pattern's
+-- the e-variables that may still come after some, or none where one of these is repeated, out of order or not the
+-- pattern's
 unfoldable pub comingAfterEach : List Name → List Name → Option (List Name)
 comingAfterEach [] coming = some coming
 comingAfterEach (x ∷ xs) coming = whereSome (comingAfter x coming) (comingAfterEach xs)

@@ -1,5 +1,5 @@
--- Looks along the tokens of a text, from left to right and with no memory but a flag: what stands before and after a sign, which names
--- stand there, how many sentences begin, and the sentence that the tokens end in.
+-- Looks along the tokens of a text, from left to right and with no memory but a flag: what stands before and after a
+-- sign, which names stand there, how many sentences begin, and the sentence that the tokens end in.
 use Prim.Native.Nat.{ℕ, _+_}
 use mathlib.Core.Bool.{Bool, false, not}
 use mathlib.Core.List.{List, [], _∷_, _++_}
@@ -34,7 +34,8 @@ listed (some n) = n ∷ []
 -- the names that stand so: right after a `<`, or not; the flag says whether a `<` stands right before the tokens
 unfoldable pub namesFrom : (Bool → Bool) → Bool → List Placed → List Name
 namesFrom so after [] = []
-namesFrom so after (t ∷ ts) = pick (so after) (listed (nameOf (t .token))) [] ++ namesFrom so (isSign lessThan (t .token)) ts
+namesFrom so after (t ∷ ts) =
+    pick (so after) (listed (nameOf (t .token))) [] ++ namesFrom so (isSign lessThan (t .token)) ts
 
 abbrev pub called : List Placed → List Name
 called ts = namesFrom (λ after. after) false ts
