@@ -1,4 +1,4 @@
--- The faults of tokens by computing, all of them and the lowest; it is the number that the sums come to.
+-- The computed faults of tokens are their faults, and the first is the lowest: it is the number that the sums come to.
 use Prim.Native.Nat.{ℕ, suc, _≤_}
 use mathlib.Core.Path.{_≡_, refl, sym, ap, _∙_, subst}
 use mathlib.Core.Logic.{_↔_}
@@ -7,7 +7,7 @@ use mathlib.Core.List.{List, [], _∷_}
 use native.Mathlib.Omega.{arith}
 use lib.Dec.{leb}
 use Rattle.meaning.specs.Choice.{both}
-use Rattle.meaning.specs.Answers.{malformedToken, notAllowedHere, overLimit, wrongName, wrongPatternVariable, wrongLaterVariable}
+use Rattle.meaning.specs.Answers.{notAllowedHere}
 use Rattle.meaning.specs.Allowed.{maxConditions}
 use Rattle.meaning.specs.Tokens.{Placed}
 use Rattle.meaning.specs.Reading.{faultUnless}
@@ -15,16 +15,12 @@ use Rattle.meaning.proofs.laws.Choosing.{not-both, is-false, no-cons}
 use Rattle.accepting.proofs.reading.Lists.{both-assoc}
 use Rattle.refusing.specs.Faults.{Viable, wellFormed, Quota, withinLimits, rightNames, rightPattern, rightLater, Fault, notFormed, notViable, notWithin, notNamed, notPattern, notLater}
 use Rattle.refusing.proofs.Stages.{start, going, going-failed, run, viable-runs}
+use Rattle.refusing.proofs.Computed.{orElseFault, viable, faultsOf}
 use Rattle.refusing.proofs.Completing.{runs-viable}
 use Rattle.refusing.proofs.Sums.{tally, number, tableLimits, patternLimits, itemLimits, declaredRight, predicatesRight, callsRight, patternRight, symbolsRight, partsRight}
 use Rattle.refusing.proofs.Agreeing.{sumOf, tally-sum}
 
 -- LISTS OF NUMBERS
-
--- with a number before others where a test fails
-abbrev orElseFault : Bool → ℕ → List ℕ → List ℕ
-orElseFault true n later = later
-orElseFault false n later = n ∷ later
 
 pub data Among (n : ℕ) : List ℕ → Type 0 where
   here : {ns : List ℕ} → Among n (n ∷ ns)
@@ -72,20 +68,6 @@ first-or true n ns = refl
 first-or false n ns = refl
 
 -- THE FAULTS
-
--- viability by the stages
-abbrev pub viable : List Placed → Bool
-viable ts = going (run start ts)
-
--- the numbers of all faults
-abbrev pub faultsOf : Quota → List Placed → List ℕ
-faultsOf quota ts =
-    orElseFault (wellFormed ts) malformedToken
-    (orElseFault (viable ts) notAllowedHere
-    (orElseFault (withinLimits quota ts) overLimit
-    (orElseFault (rightNames ts) wrongName
-    (orElseFault (rightPattern ts) wrongPatternVariable
-    (orElseFault (rightLater ts) wrongLaterVariable [])))))
 
 module _ (ts : List Placed) where
   pub viable-there : viable ts ≡ true → Viable ts

@@ -14,7 +14,8 @@ use Rattle.meaning.specs.Reading.{read, readFunctions, verdict, refused}
 use Rattle.accepting.proofs.reading.Local.{agree-take, tokens-local}
 use Rattle.accepting.proofs.reading.TextEnd.{text-end}
 use Rattle.refusing.specs.Faults.{Viable, Quota, quotaAfter, Fault, notFormed, notViable, notWithin, notNamed, notPattern, notLater, FirstFault, RefusedWithin, Refused, tooLong, atToken, afterReading}
-use Rattle.refusing.proofs.Deciding.{Among, faultsOf, decided, viable-unless}
+use Rattle.refusing.proofs.Computed.{faultsOf}
+use Rattle.refusing.proofs.Deciding.{Among, decided, viable-unless}
 use Rattle.refusing.proofs.Exactly.{refused-so}
 
 -- A text of bytes is refused with a number at a place exactly when the definition of refused texts says so: with 1 at 0 where it is too long; with 2

@@ -13,7 +13,7 @@ use Rattle.meaning.proofs.rows.Read.{bytes, again, hold}
 use Rattle.refusing.specs.Looking.{beforeFirst, afterFirst, afterLast, count, namesFrom, begunFrom, elementsIn}
 use Rattle.refusing.specs.Faults.{Quota, quotaAfter, comingAfterEach, unknownFrom, undeclared}
 use Rattle.refusing.proofs.Stages.{run}
-use Rattle.refusing.proofs.Deciding.{faultsOf}
+use Rattle.refusing.proofs.Computed.{faultsOf}
 
 -- a text with its number and place, 0 and 0 where it is accepted; the faults of its tokens up to that place, and of all of them; its first
 -- undeclared call
