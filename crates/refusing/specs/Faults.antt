@@ -62,12 +62,14 @@ abbrev pub quotaAfter : ℕ → ℕ → Quota
 quotaAfter functionsBefore sentencesBefore =
     record { functions = maxFunctions - functionsBefore; sentences = maxSentences - sentencesBefore }
 
+-- "identifier after s or e 8"
 abbrev pub shortItem : Item → Bool
 shortItem (characters text) = true
 shortItem (symbolItem x) = leb (length x) maxIdentifier
 shortItem (partItem x) = leb (length x) maxIdentifier
 shortItem noItem = true
 
+-- "name 24 bytes"
 abbrev pub shortName : Option Name → Bool
 shortName none = true
 shortName (some n) = leb (length n) maxName
@@ -75,7 +77,9 @@ shortName (some n) = leb (length n) maxName
 abbrev pub shortToken : Token → Bool
 shortToken token = both (shortName (nameOf token)) (shortItem (itemOf token))
 
--- a call is an item at its `<`; calls that stand one inside another are those whose `>` hasn't come
+-- "64 functions; 512 sentences in all; ... pattern 64 characters and s-variables, of which 16 different; 8 conditions;
+-- expression 128 items (character, variable, call), those inside calls included", "at most 16 calls one inside
+-- another": a call counts from its `<` on, and those stand one inside another whose `>` hasn't come.
 abbrev pub withinLimits : Quota → List Placed → Bool
 withinLimits quota ts =
     both (every (λ t. shortToken (t .token)) ts)

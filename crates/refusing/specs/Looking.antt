@@ -31,11 +31,12 @@ abbrev pub listed : Option Name → List Name
 listed none = []
 listed (some n) = n ∷ []
 
--- the names that stand so: right after a `<`, or not; the flag says whether a `<` stands right before the tokens
+-- the names that stand right after a `<`, or the others, as a test on that says; the flag says whether a `<` stands
+-- right before the tokens
 unfoldable pub namesFrom : (Bool → Bool) → Bool → List Placed → List Name
-namesFrom so after [] = []
-namesFrom so after (t ∷ ts) =
-    pick (so after) (listed (nameOf (t .token))) [] ++ namesFrom so (isSign lessThan (t .token)) ts
+namesFrom wanted after [] = []
+namesFrom wanted after (t ∷ ts) =
+    pick (wanted after) (listed (nameOf (t .token))) [] ++ namesFrom wanted (isSign lessThan (t .token)) ts
 
 abbrev pub called : List Placed → List Name
 called ts = namesFrom (λ after. after) false ts
@@ -43,8 +44,8 @@ called ts = namesFrom (λ after. after) false ts
 abbrev pub declared : List Placed → List Name
 declared ts = namesFrom not false ts
 
--- how many sentences begin: with a token that one can begin with, right after a `{` or a `;`, which the flag tells of
--- what stands right before the tokens
+-- how many sentences begin: with a token that one can begin with, right after a `{` or a `;`; the flag says whether one
+-- of these stands right before the tokens
 abbrev pub leads : Token → Bool
 leads token = either (isSign leftBrace token) (isSign semicolon token)
 
