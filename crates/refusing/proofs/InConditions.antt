@@ -126,7 +126,7 @@ abbrev pub NoCommaNext : List Placed → Type 0
 NoCommaNext [] = Unit {0}
 NoCommaNext (t ∷ ts) = isSign comma (t .token) ≡ false
 
-module _ (quota : Quota) (names : List Name) (begun : ℕ) (p : List Element) where
+module _ (names : List Name) (begun : ℕ) (p : List Element) where
   -- in a sentence of that pattern
   abbrev pub sentenceAt : Stage → Bool → Bool → Bool → SentenceSum → Sum
   sentenceAt s short bracket led sentence =
@@ -145,235 +145,238 @@ module _ (quota : Quota) (names : List Name) (begun : ℕ) (p : List Element) wh
     fits : MiddleFits p so
     here : At (middleAt afterCondition false so) b rest
 
-  -- between conditions, as far as the next token shows
-  pub record WaitingAt (c : Middle) (b : List Placed) (t : Placed) : Type 0 where
-    pub on-comma : isSign comma (t .token) ≡ true → tally (b ++ t ∷ []) ≡ middleAt atBracket false (withComma c)
-    pub on-equals : isSign equals (t .token) ≡ true → (any : Bool) × (tally (b ++ t ∷ []) ≡ rightAt any (inExpression 0) false c noRight)
-    pub on-other : isSign comma (t .token) ≡ false → isSign equals (t .token) ≡ false → number quota (tally (b ++ t ∷ [])) ≡ faultOf (t .token)
+  module _ (quota : Quota) where
+    -- between conditions, as far as the next token shows
+    pub record WaitingAt (c : Middle) (b : List Placed) (t : Placed) : Type 0 where
+      pub on-comma : isSign comma (t .token) ≡ true → tally (b ++ t ∷ []) ≡ middleAt atBracket false (withComma c)
+      pub on-equals : isSign equals (t .token) ≡ true → (any : Bool) × (tally (b ++ t ∷ []) ≡ rightAt any (inExpression 0) false c noRight)
+      pub on-other : isSign comma (t .token) ≡ false → isSign equals (t .token) ≡ false → number quota (tally (b ++ t ∷ [])) ≡ faultOf (t .token)
 
-  abbrev pub Waiting : Middle → List Placed → List Placed → Type 0
-  Waiting c b [] = Open b
-  Waiting c b (t ∷ ts) = WaitingAt c b t
+    abbrev pub Waiting : Middle → List Placed → List Placed → Type 0
+    Waiting c b [] = Open b
+    Waiting c b (t ∷ ts) = WaitingAt c b t
 
-  -- what the conditions' reader leaves
-  pub record ConditionsLeft (v : List Condition) (b rest : List Placed) : Type 0 where
-    pub so : Middle
-    pub fits : MiddleFits p so
-    pub here : Waiting so b rest
-    pub ended : NoCommaNext rest
+    -- what the conditions' reader leaves
+    pub record ConditionsLeft (v : List Condition) (b rest : List Placed) : Type 0 where
+      pub so : Middle
+      pub fits : MiddleFits p so
+      pub here : Waiting so b rest
+      pub ended : NoCommaNext rest
 
-  module _ (a : Around quota names begun) (h : Patterned p) where
-    -- what tokens come to among the conditions
-    middle-number : (s : Stage) (short bracket led inner : Bool) (c : Middle) → going s ≡ true
-        → number quota (sentenceAt s short bracket led (middleSentence p c inner))
-        ≡ faultUnless (both short (leb (c .commas) maxConditions)) overLimit
-        (faultUnless (predicatesRight (c .names)) wrongName (faultUnless (symbolsRight p (c .elements)) wrongLaterVariable 0))
-    middle-number s short bracket led inner c g =
-        rw (
-          g,
-          a .table,
-          a .declared,
-          h .limits,
-          h .right,
-          no-limits,
-          no-calls,
-          no-symbols p,
-          no-parts p,
-          both-unit (leb (c .commas) maxConditions),
-          both-unit (predicatesRight (c .names)),
-          both-unit (symbolsRight p (c .elements)),
-        )
+    module _ (a : Around quota names begun) (h : Patterned p) where
+      -- what tokens come to among the conditions
+      middle-number : (s : Stage) (short bracket led inner : Bool) (c : Middle) → going s ≡ true
+          → number quota (sentenceAt s short bracket led (middleSentence p c inner))
+          ≡ faultUnless (both short (leb (c .commas) maxConditions)) overLimit
+          (faultUnless (predicatesRight (c .names)) wrongName (faultUnless (symbolsRight p (c .elements)) wrongLaterVariable 0))
+      middle-number s short bracket led inner c g =
+          rw (
+            g,
+            a .table,
+            a .declared,
+            h .limits,
+            h .right,
+            no-limits,
+            no-calls,
+            no-symbols p,
+            no-parts p,
+            both-unit (leb (c .commas) maxConditions),
+            both-unit (predicatesRight (c .names)),
+            both-unit (symbolsRight p (c .elements)),
+          )
 
-    -- a token that adds nothing
-    quiet : (s : Stage) (bracket : Bool) (c : Middle) → going s ≡ true → MiddleFits p c → number quota (middleAt s bracket c) ≡ 0
-    quiet s bracket c g f = middle-number s true bracket false bracket c g ∙ rw (f .few, f .predicates, f .known)
+      -- a token that adds nothing
+      quiet : (s : Stage) (bracket : Bool) (c : Middle) → going s ≡ true → MiddleFits p c → number quota (middleAt s bracket c) ≡ 0
+      quiet s bracket c g f = middle-number s true bracket false bracket c g ∙ rw (f .few, f .predicates, f .known)
 
-    symbols : List Name
-    symbols = symbolsOf p
+      symbols : List Name
+      symbols = symbolsOf p
 
-    -- THE CLOSING STRING
+      -- THE CLOSING STRING
 
-    truth-told : (class : Class) (x : Name) (c : Middle) → MiddleFits p c → (b ts : List Placed) → At (middleAt atTruth false c) b ts
-        → Told quota (ConditionLeft (c .commas)) b ts (passTruth ts (afterTruth class x))
-    truth-told class x c f b [] here = told-cut quota (ConditionLeft (c .commas)) here
-    truth-told class x c f b (t ∷ ts) here = by-truth (truthOf (t .token) (eqb (t .past) (t .place + 3))) refl
-      where
-        passes : (truth : Bool) → t .token ≡ quoted (truthByte truth ∷ []) → truthOf (t .token) (eqb (t .past) (t .place + 3)) ≡ some truth
-            → next (middleAt atTruth false c) t ≡ middleAt afterCondition false (withElements c (charactersOf (truthByte truth ∷ [])))
-        passes truth e q = rw (q, e)
+      truth-told : (class : Class) (x : Name) (c : Middle) → MiddleFits p c → (b ts : List Placed) → At (middleAt atTruth false c) b ts
+          → Told quota (ConditionLeft (c .commas)) b ts (passTruth ts (afterTruth class x))
+      truth-told class x c f b [] here = told-cut quota (ConditionLeft (c .commas)) here
+      truth-told class x c f b (t ∷ ts) here = by-truth (truthOf (t .token) (eqb (t .past) (t .place + 3))) refl
+        where
+          passes : (truth : Bool) → t .token ≡ quoted (truthByte truth ∷ []) → truthOf (t .token) (eqb (t .past) (t .place + 3)) ≡ some truth
+              → next (middleAt atTruth false c) t ≡ middleAt afterCondition false (withElements c (charactersOf (truthByte truth ∷ [])))
+          passes truth e q = rw (q, e)
 
-        by-truth : (o : Option Bool) → truthOf (t .token) (eqb (t .past) (t .place + 3)) ≡ o
-            → Told quota (ConditionLeft (c .commas)) b (t ∷ ts) (truthOn o t (λ truth. afterTruth class x truth ts))
-        by-truth none q = told-refuse quota (ConditionLeft (c .commas)) (middleAt atTruth false c) refl b t ts here (rw q)
-        by-truth (some truth) q =
-            let later = withElements c (charactersOf (truthByte truth ∷ [])) in
-            let fits : MiddleFits p later =
-            record { few = f .few; predicates = f .predicates; known = string-known p (c .elements) (truthByte truth ∷ []) ∙ f .known }
-            in
-            let (three, token) = truth-of (t .token) (eqb (t .past) (t .place + 3)) q in
-            told-pass quota (ConditionLeft (c .commas)) (middleAt afterCondition false later) b t ts (here ∙ passes truth token q)
-            (afterTruth class x truth ts) (rw token) (quiet afterCondition false later refl fits)
-            (λ at.
-            told-done quota (ConditionLeft (c .commas)) (record { predicate = class; variable = x; expected = truth })
-            (record { so = later; same = refl; fits = fits; here = at }))
+          by-truth : (o : Option Bool) → truthOf (t .token) (eqb (t .past) (t .place + 3)) ≡ o
+              → Told quota (ConditionLeft (c .commas)) b (t ∷ ts) (truthOn o t (λ truth. afterTruth class x truth ts))
+          by-truth none q = told-refuse quota (ConditionLeft (c .commas)) (middleAt atTruth false c) refl b t ts here (rw q)
+          by-truth (some truth) q =
+              let later = withElements c (charactersOf (truthByte truth ∷ [])) in
+              let fits : MiddleFits p later =
+              record { few = f .few; predicates = f .predicates; known = string-known p (c .elements) (truthByte truth ∷ []) ∙ f .known }
+              in
+              let (three, token) = truth-of (t .token) (eqb (t .past) (t .place + 3)) q in
+              told-pass quota (ConditionLeft (c .commas)) (middleAt afterCondition false later) b t ts (here ∙ passes truth token q)
+              (afterTruth class x truth ts) (rw token) (quiet afterCondition false later refl fits)
+              (λ at.
+              told-done quota (ConditionLeft (c .commas)) (record { predicate = class; variable = x; expected = truth })
+              (record { so = later; same = refl; fits = fits; here = at }))
 
-    close-told : (class : Class) (x : Name) (c : Middle) → MiddleFits p c → (b ts : List Placed) → At (middleAt atClose false c) b ts
-        → Told quota (ConditionLeft (c .commas)) b ts (afterVariable class x ts)
-    close-told class x c f b ts here =
-        told-sign quota (ConditionLeft (c .commas)) (middleAt atClose false c) refl b greaterThan ts (afterClose class x) here (λ t e. rw e)
-        (λ place past. quiet atColon false c refl f)
-        (λ place past b₁ us at.
-        told-sign quota (ConditionLeft (c .commas)) (middleAt atColon false c) refl b₁ colon us (afterColon class x) at (λ t e. rw e)
-        (λ place past. quiet atTruth false c refl f)
-        (λ place past b₂ vs at₁. truth-told class x c f b₂ vs at₁))
+      close-told : (class : Class) (x : Name) (c : Middle) → MiddleFits p c → (b ts : List Placed) → At (middleAt atClose false c) b ts
+          → Told quota (ConditionLeft (c .commas)) b ts (afterVariable class x ts)
+      close-told class x c f b ts here =
+          told-sign quota (ConditionLeft (c .commas)) (middleAt atClose false c) refl b greaterThan ts (afterClose class x) here (λ t e. rw e)
+          (λ place past. quiet atColon false c refl f)
+          (λ place past b₁ us at.
+          told-sign quota (ConditionLeft (c .commas)) (middleAt atColon false c) refl b₁ colon us (afterColon class x) at (λ t e. rw e)
+          (λ place past. quiet atTruth false c refl f)
+          (λ place past b₂ vs at₁. truth-told class x c f b₂ vs at₁))
 
-    -- THE VARIABLE
+      -- THE VARIABLE
 
-    symbol-told : (class : Class) (c : Middle) → MiddleFits p c → (b ts : List Placed) → At (middleAt atVariable false c) b ts
-        → Told quota (ConditionLeft (c .commas)) b ts (passSymbol symbols ts (afterVariable class))
-    unfolding symbols
-    symbol-told class c f b [] here = told-cut quota (ConditionLeft (c .commas)) here
-    symbol-told class c f b (t ∷ ts) here = by-view (t .place) (t .past) (view (t .token)) here
-      where
-        by-view : {token : Token} (place past : ℕ) → TokenView token → At (middleAt atVariable false c) b (standing token place past ∷ ts)
-            → Told quota (ConditionLeft (c .commas)) b (standing token place past ∷ ts)
-            (passSymbol symbols (standing token place past ∷ ts) (afterVariable class))
-        by-view place past (aString text) at =
-            told-refuse quota (ConditionLeft (c .commas)) (middleAt atVariable false c) refl b (standing (quoted text) place past) ts at refl
-        by-view place past (aSymbol d x) at =
-            let m = middleAt atVariable false c in
-            let t = standing (symbolWord d x) place past in
-            let later = withElements c (letter (symbol (d ∷ x)) ∷ []) in
-            let value : number quota (next m t) ≡ symbolFault (symbolsOf p) (d ∷ x) =
-            middle-number atClose (leb (length (d ∷ x)) maxIdentifier) false false false later refl
-            ∙ rw (f .few, f .predicates, symbol-known p (c .elements) (d ∷ x) (f .known), both-unit (leb (length (d ∷ x)) maxIdentifier))
-            in
-            told-check quota (ConditionLeft (c .commas)) (next m t) b t ts at (symbolFault (symbolsOf p) (d ∷ x))
-            (afterVariable class (d ∷ x) ts) refl value
-            (λ z at₁.
-            let g = fine quota (next m t) (value ∙ z) in
-            close-told class (d ∷ x) later (record { few = f .few; predicates = f .predicates; known = g .middle }) (b ++ t ∷ []) ts
-            (subst (λ w. At w (b ++ t ∷ []) ts) (rw (g .short)) at₁))
-        by-view place past (aPart d x) at =
-            told-refuse quota (ConditionLeft (c .commas)) (middleAt atVariable false c) refl b (standing (partWord d x) place past) ts at refl
-        by-view place past (another token n) at =
-            rw n (told-refuse quota (ConditionLeft (c .commas)) (middleAt atVariable false c) refl b (standing token place past) ts at (rw n))
+      symbol-told : (class : Class) (c : Middle) → MiddleFits p c → (b ts : List Placed) → At (middleAt atVariable false c) b ts
+          → Told quota (ConditionLeft (c .commas)) b ts (passSymbol symbols ts (afterVariable class))
+      unfolding symbols
+      symbol-told class c f b [] here = told-cut quota (ConditionLeft (c .commas)) here
+      symbol-told class c f b (t ∷ ts) here = by-view (t .place) (t .past) (view (t .token)) here
+        where
+          by-view : {token : Token} (place past : ℕ) → TokenView token → At (middleAt atVariable false c) b (standing token place past ∷ ts)
+              → Told quota (ConditionLeft (c .commas)) b (standing token place past ∷ ts)
+              (passSymbol symbols (standing token place past ∷ ts) (afterVariable class))
+          by-view place past (aString text) at =
+              told-refuse quota (ConditionLeft (c .commas)) (middleAt atVariable false c) refl b (standing (quoted text) place past) ts at refl
+          by-view place past (aSymbol d x) at =
+              let m = middleAt atVariable false c in
+              let t = standing (symbolWord d x) place past in
+              let later = withElements c (letter (symbol (d ∷ x)) ∷ []) in
+              let value : number quota (next m t) ≡ symbolFault (symbolsOf p) (d ∷ x) =
+              middle-number atClose (leb (length (d ∷ x)) maxIdentifier) false false false later refl
+              ∙ rw (f .few, f .predicates, symbol-known p (c .elements) (d ∷ x) (f .known), both-unit (leb (length (d ∷ x)) maxIdentifier))
+              in
+              told-check quota (ConditionLeft (c .commas)) (next m t) b t ts at (symbolFault (symbolsOf p) (d ∷ x))
+              (afterVariable class (d ∷ x) ts) refl value
+              (λ z at₁.
+              let g = fine quota (next m t) (value ∙ z) in
+              close-told class (d ∷ x) later (record { few = f .few; predicates = f .predicates; known = g .middle }) (b ++ t ∷ []) ts
+              (subst (λ w. At w (b ++ t ∷ []) ts) (rw (g .short)) at₁))
+          by-view place past (aPart d x) at =
+              told-refuse quota (ConditionLeft (c .commas)) (middleAt atVariable false c) refl b (standing (partWord d x) place past) ts at refl
+          by-view place past (another token n) at =
+              rw n (told-refuse quota (ConditionLeft (c .commas)) (middleAt atVariable false c) refl b (standing token place past) ts at (rw n))
 
-    -- THE PREDICATE
+      -- THE PREDICATE
 
-    name-told : (c : Middle) → MiddleFits p c → (b ts : List Placed) → At (middleAt atPredicate true c) b ts
-        → Told quota (ConditionLeft (c .commas)) b ts (afterOpen symbols ts)
-    unfolding symbols
-    name-told c f b [] here = told-cut quota (ConditionLeft (c .commas)) here
-    name-told c f b (t ∷ ts) here = by-name (nameOf (t .token)) refl
-      where
-        m : Sum
-        m = next (middleAt atPredicate true c) t
+      name-told : (c : Middle) → MiddleFits p c → (b ts : List Placed) → At (middleAt atPredicate true c) b ts
+          → Told quota (ConditionLeft (c .commas)) b ts (afterOpen symbols ts)
+      unfolding symbols
+      name-told c f b [] here = told-cut quota (ConditionLeft (c .commas)) here
+      name-told c f b (t ∷ ts) here = by-name (nameOf (t .token)) refl
+        where
+          m : Sum
+          m = next (middleAt atPredicate true c) t
 
-        name-number : (n : Name) → t .token ≡ functionName n
-            → number quota (next (middleAt atPredicate true c) t) ≡ faultUnless (leb (length n) maxName) overLimit
-            (faultUnless (isPredicate n) wrongName 0)
-        name-number n e =
-            rw e
-            (middle-number atVariable (both (leb (length n) maxName) true) false false false (withName c n) refl
-            ∙ rw (
-              f .few,
-              f .known,
-              predicate-known (c .names) n (f .predicates),
-              both-unit (both (leb (length n) maxName) true),
-              both-unit (leb (length n) maxName),
-            ))
+          name-number : (n : Name) → t .token ≡ functionName n
+              → number quota (next (middleAt atPredicate true c) t) ≡ faultUnless (leb (length n) maxName) overLimit
+              (faultUnless (isPredicate n) wrongName 0)
+          name-number n e =
+              rw e
+              (middle-number atVariable (both (leb (length n) maxName) true) false false false (withName c n) refl
+              ∙ rw (
+                f .few,
+                f .known,
+                predicate-known (c .names) n (f .predicates),
+                both-unit (both (leb (length n) maxName) true),
+                both-unit (leb (length n) maxName),
+              ))
 
-        by-class : (n : Name) → t .token ≡ functionName n → (l : Bool) → leb (length n) maxName ≡ l → (o : Option Class) → predicateOf n ≡ o
-            → Told quota (ConditionLeft (c .commas)) b (t ∷ ts)
-            (check (faultUnless l overLimit 0) t (withClass o (t .place) (λ class. passSymbol symbols ts (afterVariable class))))
-        by-class n e false l o q = told-stop quota (ConditionLeft (c .commas)) m b t ts here _ (name-number n e ∙ rw l)
-        by-class n e true l none q = told-stop quota (ConditionLeft (c .commas)) m b t ts here _ (name-number n e ∙ rw (l, q))
-        by-class n e true l (some class) q =
-            told-pass quota (ConditionLeft (c .commas)) m b t ts here (passSymbol symbols ts (afterVariable class)) (rw e)
-            (name-number n e ∙ rw (l, q))
-            (λ at.
-            symbol-told class (withName c n)
-            (record { few = f .few; predicates = predicate-known (c .names) n (f .predicates) ∙ ap isSome q; known = f .known })
-            (b ++ t ∷ []) ts (subst (λ w. At w (b ++ t ∷ []) ts) (rw (e, l)) at))
+          by-class : (n : Name) → t .token ≡ functionName n → (l : Bool) → leb (length n) maxName ≡ l → (o : Option Class) → predicateOf n ≡ o
+              → Told quota (ConditionLeft (c .commas)) b (t ∷ ts)
+              (check (faultUnless l overLimit 0) t (withClass o (t .place) (λ class. passSymbol symbols ts (afterVariable class))))
+          by-class n e false l o q = told-stop quota (ConditionLeft (c .commas)) m b t ts here _ (name-number n e ∙ rw l)
+          by-class n e true l none q = told-stop quota (ConditionLeft (c .commas)) m b t ts here _ (name-number n e ∙ rw (l, q))
+          by-class n e true l (some class) q =
+              told-pass quota (ConditionLeft (c .commas)) m b t ts here (passSymbol symbols ts (afterVariable class)) (rw e)
+              (name-number n e ∙ rw (l, q))
+              (λ at.
+              symbol-told class (withName c n)
+              (record { few = f .few; predicates = predicate-known (c .names) n (f .predicates) ∙ ap isSome q; known = f .known })
+              (b ++ t ∷ []) ts (subst (λ w. At w (b ++ t ∷ []) ts) (rw (e, l)) at))
 
-        by-name : (o : Option Name) → nameOf (t .token) ≡ o
-            → Told quota (ConditionLeft (c .commas)) b (t ∷ ts) (nameOn o (λ n. lengthFault n 0) t (λ n. afterPredicate symbols (t .place) n ts))
-        by-name none q = told-refuse quota (ConditionLeft (c .commas)) (middleAt atPredicate true c) refl b t ts here (rw q)
-        by-name (some n) q = by-class n (name-of (t .token) q) (leb (length n) maxName) refl (predicateOf n) refl
+          by-name : (o : Option Name) → nameOf (t .token) ≡ o
+              → Told quota (ConditionLeft (c .commas)) b (t ∷ ts) (nameOn o (λ n. lengthFault n 0) t (λ n. afterPredicate symbols (t .place) n ts))
+          by-name none q = told-refuse quota (ConditionLeft (c .commas)) (middleAt atPredicate true c) refl b t ts here (rw q)
+          by-name (some n) q = by-class n (name-of (t .token) q) (leb (length n) maxName) refl (predicateOf n) refl
 
-    condition-told : (c : Middle) → MiddleFits p c → (b ts : List Placed) → At (middleAt atBracket false c) b ts
-        → Told quota (ConditionLeft (c .commas)) b ts (condition symbols ts)
-    unfolding condition
-    condition-told c f b ts here =
-        told-sign quota (ConditionLeft (c .commas)) (middleAt atBracket false c) refl b lessThan ts (afterOpen symbols) here (λ t e. rw e)
-        (λ place past. quiet atPredicate true c refl f)
-        (λ place past b₁ us at. name-told c f b₁ us at)
+      condition-told : (c : Middle) → MiddleFits p c → (b ts : List Placed) → At (middleAt atBracket false c) b ts
+          → Told quota (ConditionLeft (c .commas)) b ts (condition symbols ts)
+      unfolding condition
+      condition-told c f b ts here =
+          told-sign quota (ConditionLeft (c .commas)) (middleAt atBracket false c) refl b lessThan ts (afterOpen symbols) here (λ t e. rw e)
+          (λ place past. quiet atPredicate true c refl f)
+          (λ place past b₁ us at. name-told c f b₁ us at)
 
-    -- ALL CONDITIONS
+      -- ALL CONDITIONS
 
-    no-item-step : (n : ℕ) (t : Placed) (item : Item) → itemOf (t .token) ≡ item → isItem item ≡ false
-        → isSign comma (t .token) ≡ false → isSign equals (t .token) ≡ false → step (inPattern n) t ≡ failed
-    no-item-step n t (characters text) e i q r = impossible (sym i)
-    no-item-step n t (symbolItem x) e i q r = impossible (sym i)
-    no-item-step n t (partItem x) e i q r = impossible (sym i)
-    no-item-step n t noItem e i q r = rw (e, q, r)
+      no-item-step : (n : ℕ) (t : Placed) (item : Item) → itemOf (t .token) ≡ item → isItem item ≡ false
+          → isSign comma (t .token) ≡ false → isSign equals (t .token) ≡ false → step (inPattern n) t ≡ failed
+      no-item-step n t (characters text) e i q r = impossible (sym i)
+      no-item-step n t (symbolItem x) e i q r = impossible (sym i)
+      no-item-step n t (partItem x) e i q r = impossible (sym i)
+      no-item-step n t noItem e i q r = rw (e, q, r)
 
-    pub waiting-pattern : (b ts : List Placed) → At (patternAt names begun p) b ts → NoItemNext ts → Waiting noMiddle b ts
-    waiting-pattern b [] here n = here
-    waiting-pattern b (t ∷ ts) here n =
-        record {
-          on-comma = λ e. here ∙ rw (sign-of comma (t .token) e);
-          on-equals = λ e. (false, here ∙ rw (sign-of equals (t .token) e));
-          on-other =
-              λ q r. ap (number quota) here ∙ refused-number quota (patternAt names begun p) t refl
-              (no-item-step _ t (itemOf (t .token)) refl n q r);
-        }
+      pub waiting-pattern : (b ts : List Placed) → At (patternAt names begun p) b ts → NoItemNext ts → Waiting noMiddle b ts
+      waiting-pattern b [] here n = here
+      waiting-pattern b (t ∷ ts) here n =
+          record {
+            on-comma = λ e. here ∙ rw (sign-of comma (t .token) e);
+            on-equals = λ e. (false, here ∙ rw (sign-of equals (t .token) e));
+            on-other =
+                λ q r. ap (number quota) here ∙ refused-number quota (patternAt names begun p) t refl
+                (no-item-step _ t (itemOf (t .token)) refl n q r);
+          }
 
-    waiting-middle : (c : Middle) (b ts : List Placed) → At (middleAt afterCondition false c) b ts → Waiting c b ts
-    waiting-middle c b [] here = here
-    waiting-middle c b (t ∷ ts) here =
-        record {
-          on-comma = λ e. here ∙ rw (sign-of comma (t .token) e);
-          on-equals = λ e. (true, here ∙ rw (sign-of equals (t .token) e));
-          on-other = λ q r. ap (number quota) here ∙ refused-number quota (middleAt afterCondition false c) t refl (rw (q, r));
-        }
+      waiting-middle : (c : Middle) (b ts : List Placed) → At (middleAt afterCondition false c) b ts → Waiting c b ts
+      waiting-middle c b [] here = here
+      waiting-middle c b (t ∷ ts) here =
+          record {
+            on-comma = λ e. here ∙ rw (sign-of comma (t .token) e);
+            on-equals = λ e. (true, here ∙ rw (sign-of equals (t .token) e));
+            on-other = λ q r. ap (number quota) here ∙ refused-number quota (middleAt afterCondition false c) t refl (rw (q, r));
+          }
 
-    comma-told : (c : Middle) (b : List Placed) (t : Placed) (ts : List Placed) (q : Bool) (later : Parsed (List Condition)) → MiddleFits p c
-        → isSign comma (t .token) ≡ q → WaitingAt c b t
-        → (isSign comma (t .token) ≡ true → tally (b ++ t ∷ []) ≡ middleAt atBracket false (withComma c) → Told quota ConditionsLeft b (t ∷ ts) later)
-        → Told quota ConditionsLeft b (t ∷ ts) (pick q later (parsed [] (t ∷ ts)))
-    comma-told c b t ts true later f e w go = go e (w .on-comma e)
-    comma-told c b t ts false later f e w go = told-done quota ConditionsLeft [] (record { so = c; fits = f; here = w; ended = e })
+      comma-told : (c : Middle) (b : List Placed) (t : Placed) (ts : List Placed) (q : Bool) (later : Parsed (List Condition)) → MiddleFits p c
+          → isSign comma (t .token) ≡ q → WaitingAt c b t
+          → (isSign comma (t .token) ≡ true → tally (b ++ t ∷ []) ≡ middleAt atBracket false (withComma c)
+          → Told quota ConditionsLeft b (t ∷ ts) later)
+          → Told quota ConditionsLeft b (t ∷ ts) (pick q later (parsed [] (t ∷ ts)))
+      comma-told c b t ts true later f e w go = go e (w .on-comma e)
+      comma-told c b t ts false later f e w go = told-done quota ConditionsLeft [] (record { so = c; fits = f; here = w; ended = e })
 
-    comma-number : (c : Middle) → MiddleFits p c
-        → number quota (middleAt atBracket false (withComma c)) ≡ faultUnless (leb (suc (c .commas)) maxConditions) overLimit 0
-    comma-number c f = middle-number atBracket true false false false (withComma c) refl ∙ rw (f .predicates, f .known)
+      comma-number : (c : Middle) → MiddleFits p c
+          → number quota (middleAt atBracket false (withComma c)) ≡ faultUnless (leb (suc (c .commas)) maxConditions) overLimit 0
+      comma-number c f = middle-number atBracket true false false false (withComma c) refl ∙ rw (f .predicates, f .known)
 
-    pub conditions-told : (left : ℕ) (c : Middle) → c .commas + left ≡ maxConditions → MiddleFits p c → (b ts : List Placed) → Waiting c b ts
-        → Told quota ConditionsLeft b ts (conditions left (symbolsOf p) ts)
-    unfolding conditions symbols
-    conditions-told zero c l f b [] w = told-cut quota ConditionsLeft w
-    conditions-told zero c l f b (t ∷ ts) w =
-        comma-told c b t ts (isSign comma (t .token)) (stopped overLimit (t .place)) f refl w
-        (λ q e.
-        told-stop quota ConditionsLeft (middleAt atBracket false (withComma c)) b t ts e _
-        (let full : c .commas ≡ maxConditions = omega arith in comma-number c f ∙ rw full))
-    conditions-told (suc left) c l f b [] w = told-cut quota ConditionsLeft w
-    conditions-told (suc left) c l f b (t ∷ ts) w =
-        comma-told c b t ts (isSign comma (t .token)) (inCondition left (symbolsOf p) t ts) f refl w
-        (λ q e.
-        let m = withComma c in
-        let room : leb (suc (c .commas)) maxConditions ≡ true = le-leb (suc (c .commas)) maxConditions (omega arith) in
-        let fits : MiddleFits p m = record { few = room; predicates = f .predicates; known = f .known } in
-        told-pass quota ConditionsLeft (middleAt atBracket false m) b t ts e (inCondition left (symbolsOf p) t ts)
-        (sign-inner comma (t .token) q) (comma-number c f ∙ rw room)
-        (λ at.
-        told-follow quota ConditionsLeft (ConditionLeft (m .commas)) (b ++ t ∷ []) ts (condition (symbolsOf p) ts) (goingOn left (symbolsOf p))
-        (condition-told m fits (b ++ t ∷ []) ts at)
-        (λ v b₁ us r l₁.
-        let same = l₁ .same in
-        told-follow quota ConditionsLeft ConditionsLeft b₁ us (conditions left (symbolsOf p) us) (joining v)
-        (conditions-told left (l₁ .so) (omega arith) (l₁ .fits) b₁ us (waiting-middle (l₁ .so) b₁ us (l₁ .here)))
-        (λ vs b₂ vs₁ r₁ l₂.
-        told-done quota ConditionsLeft {b = b₂} {ts = vs₁} (v ∷ vs) (record { so = l₂ .so; fits = l₂ .fits; here = l₂ .here; ended = l₂ .ended })))))
+      pub conditions-told : (left : ℕ) (c : Middle) → c .commas + left ≡ maxConditions → MiddleFits p c → (b ts : List Placed) → Waiting c b ts
+          → Told quota ConditionsLeft b ts (conditions left (symbolsOf p) ts)
+      unfolding conditions symbols
+      conditions-told zero c l f b [] w = told-cut quota ConditionsLeft w
+      conditions-told zero c l f b (t ∷ ts) w =
+          comma-told c b t ts (isSign comma (t .token)) (stopped overLimit (t .place)) f refl w
+          (λ q e.
+          told-stop quota ConditionsLeft (middleAt atBracket false (withComma c)) b t ts e _
+          (let full : c .commas ≡ maxConditions = omega arith in comma-number c f ∙ rw full))
+      conditions-told (suc left) c l f b [] w = told-cut quota ConditionsLeft w
+      conditions-told (suc left) c l f b (t ∷ ts) w =
+          comma-told c b t ts (isSign comma (t .token)) (inCondition left (symbolsOf p) t ts) f refl w
+          (λ q e.
+          let m = withComma c in
+          let room : leb (suc (c .commas)) maxConditions ≡ true = le-leb (suc (c .commas)) maxConditions (omega arith) in
+          let fits : MiddleFits p m = record { few = room; predicates = f .predicates; known = f .known } in
+          told-pass quota ConditionsLeft (middleAt atBracket false m) b t ts e (inCondition left (symbolsOf p) t ts)
+          (sign-inner comma (t .token) q) (comma-number c f ∙ rw room)
+          (λ at.
+          told-follow quota ConditionsLeft (ConditionLeft (m .commas)) (b ++ t ∷ []) ts (condition (symbolsOf p) ts) (goingOn left (symbolsOf p))
+          (condition-told m fits (b ++ t ∷ []) ts at)
+          (λ v b₁ us r l₁.
+          let same = l₁ .same in
+          told-follow quota ConditionsLeft ConditionsLeft b₁ us (conditions left (symbolsOf p) us) (joining v)
+          (conditions-told left (l₁ .so) (omega arith) (l₁ .fits) b₁ us (waiting-middle (l₁ .so) b₁ us (l₁ .here)))
+          (λ vs b₂ vs₁ r₁ l₂.
+          told-done quota ConditionsLeft {b = b₂} {ts = vs₁} (v ∷ vs)
+          (record { so = l₂ .so; fits = l₂ .fits; here = l₂ .here; ended = l₂ .ended })))))

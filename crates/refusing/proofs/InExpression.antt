@@ -150,9 +150,9 @@ follow-check : {A B : Type 0} (n : ℕ) (t : Placed) (x : Parsed A) (k : A → L
 follow-check zero t x k = refl
 follow-check (suc n) t x k = refl
 
-module _ (quota : Quota) (names : List Name) (begun : ℕ) (p : List Element) (any : Bool) (c : Middle) where
+module _ (names : List Name) (begun : ℕ) (p : List Element) (any : Bool) (c : Middle) where
   abbrev here : Stage → Bool → Right → Sum
-  here s bracket r = rightAt quota names begun p any s bracket c r
+  here s bracket r = rightAt names begun p any s bracket c r
 
   pub record ExpressionLeft (depth : ℕ) (v : Items) (b rest : List Placed) : Type 0 where
     pub so : Right
@@ -167,10 +167,10 @@ module _ (quota : Quota) (names : List Name) (begun : ℕ) (p : List Element) (a
     tied : Tied p so depth (v .progress)
     at : At (here (inExpression depth) false so) b rest
 
-  module _ (a : Around quota names begun) (h : Patterned p) (k : MiddleFits p c) where
+  module _ (quota : Quota) (a : Around quota names begun) (h : Patterned p) (k : MiddleFits p c) where
     -- what tokens come to in the expression
     right-number : (s : Stage) (short bracket led inner : Bool) (r : Right) → going s ≡ true
-        → number quota (sentenceAt quota names begun p s short bracket led (rightSentence any p c r inner))
+        → number quota (sentenceAt names begun p s short bracket led (rightSentence any p c r inner))
         ≡ faultUnless (both short (itemLimits (r .items) (r .opens) (r .closes))) overLimit
         (faultUnless (callsRight (r .calls)) wrongName
         (faultUnless (both (symbolsRight p (r .items)) (partsRight p (r .items))) wrongLaterVariable 0))

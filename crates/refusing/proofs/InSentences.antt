@@ -136,18 +136,18 @@ module _ (quota : Quota) where
     SentenceLeft s b rest = Ending names begun b rest
 
     ending : (p : List Element) (c : Middle) (any : Bool) (v : Items) (b rest : List Placed)
-        → ExpressionLeft quota names begun p any c 0 v b rest → Ending names begun b rest
+        → ExpressionLeft names begun p any c 0 v b rest → Ending names begun b rest
     ending p c any v b [] l = l .at
     ending p c any v b (t ∷ ts) l =
         let e = l .ended in
-        let m = rightAt quota names begun p any (inExpression 0) false c (l .so) in
+        let m = rightAt names begun p any (inExpression 0) false c (l .so) in
         record {
           on-brace = λ q. l .at ∙ rw (sign-of rightBrace (t .token) q);
           on-semicolon = λ q. l .at ∙ rw (sign-of semicolon (t .token) q);
           on-other = λ q r. ap (number quota) (l .at) ∙ refused-number quota m t refl (rw (e .0, e .1, q, r));
         }
 
-    equals-told : (p : List Element) (h : Patterned p) (cs : List Condition) (b ts : List Placed) → ConditionsLeft quota names begun p cs b ts
+    equals-told : (p : List Element) (h : Patterned p) (cs : List Condition) (b ts : List Placed) → ConditionsLeft names begun p quota cs b ts
         → Told quota SentenceLeft b ts (afterConditions p cs ts)
     equals-told p h cs b [] l = told-cut quota SentenceLeft (l .here)
     equals-told p h cs b (t ∷ ts) l = by-sign (isSign equals (t .token)) refl
@@ -156,13 +156,13 @@ module _ (quota : Quota) where
         by-sign true q =
             let (any, e) = l .here .on-equals q in
             let f = no-right p in
-            told-pass quota SentenceLeft (rightAt quota names begun p any (inExpression 0) false (l .so) noRight) b t ts e
+            told-pass quota SentenceLeft (rightAt names begun p any (inExpression 0) false (l .so) noRight) b t ts e
             (afterEquals p cs ts) (sign-inner equals (t .token) q)
-            (quiet quota names begun p any (l .so) a h (l .fits) (inExpression 0) false noRight refl f)
+            (quiet names begun p any (l .so) quota a h (l .fits) (inExpression 0) false noRight refl f)
             (λ at.
-            told-follow quota SentenceLeft (ExpressionLeft quota names begun p any (l .so) 0) (b ++ t ∷ []) ts
+            told-follow quota SentenceLeft (ExpressionLeft names begun p any (l .so) 0) (b ++ t ∷ []) ts
             (expression (length ts) (symbolsOf p) 0 (progress (partsOf p)) ts) (afterExpression p cs)
-            (expression-told quota names begun p any (l .so) a h (l .fits) (length ts) 0 (progress (partsOf p)) noRight f (none-tied p)
+            (expression-told names begun p any (l .so) quota a h (l .fits) (length ts) 0 (progress (partsOf p)) noRight f (none-tied p)
             (b ++ t ∷ []) ts (omega arith) at)
             (λ v b₁ us r l₁.
             told-done quota SentenceLeft {b = b₁} {ts = us} (record { pattern = p; conditions = cs; expression = v .expression })
@@ -175,10 +175,10 @@ module _ (quota : Quota) where
         told-follow quota SentenceLeft (PatternLeft names begun) b ts (pattern [] ts) afterPattern
         (pattern-told quota names begun a [] no-pattern b ts at)
         (λ p b₁ us r l.
-        told-follow quota SentenceLeft (ConditionsLeft quota names begun p) b₁ us (conditions maxConditions (symbolsOf p) us) (afterConditions p)
-        (conditions-told quota names begun p a (l .fits) maxConditions noMiddle refl
+        told-follow quota SentenceLeft (ConditionsLeft names begun p quota) b₁ us (conditions maxConditions (symbolsOf p) us) (afterConditions p)
+        (conditions-told names begun p quota a (l .fits) maxConditions noMiddle refl
         (record { few = refl; predicates = no-predicates; known = no-symbols p }) b₁ us
-        (waiting-pattern quota names begun p a (l .fits) b₁ us (l .here) (l .ended)))
+        (waiting-pattern names begun p quota a (l .fits) b₁ us (l .here) (l .ended)))
         (λ cs b₂ vs r₁ l₁. equals-told p (l .fits) cs b₂ vs l₁))
 
   -- THE SENTENCES OF A FUNCTION
