@@ -27,7 +27,7 @@ abbrev pub memory : Bytes → Bytes → Bytes → List ℕ → Bytes → Memory
 memory input output journal frames values =
     record { input = input; output = output; journal = journal; frames = frames; values = values }
 
--- a frame's words: the lengths of null, d, dl and dr, the number of values, the number of open sequences, where its call returns to; and from the end back r at each BeginSeq
+-- a frame's words: the lengths of null, d, dl and dr, the number of values, the number of open sequences, where its call returns to and q there; and from the end back r at each BeginSeq
 abbrev pub frameWord : ℕ → ℕ → List ℕ → ℕ
 frameWord k i frames = getD frames (24 * k + i) 0
 

@@ -1,5 +1,5 @@
 // The frames, of which at most 256 are in use. A frame's 24 words: the lengths that the registers have by their numbers (0, d, dl and dr),
-// how many values are stored, how many sequences are open, where its call returns to, one spare, and r at each open BeginSeq, the latest
+// how many values are stored, how many sequences are open, where its call returns to and q there, and r at each open BeginSeq, the latest
 // first, up to the end.
 // A frame's 16 bytes: the stored values.
 ghost use Prim.Native.Nat.{_+_, _*_, _<_};

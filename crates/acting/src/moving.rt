@@ -346,7 +346,7 @@ pub fn use_sequence(g: Registers, input: &mut [u8], output: &[u8], frames: &mut 
     }
     set_word(frames, frame, 5, opened - 1);
     let start = move_down(input, g.p, output, first, g.r);
-    let end = g.p;
+    let end = g.q;
     Next::Onward(Registers {
         p: start,
         q: end,

@@ -19,7 +19,7 @@ use Rattle.acting.specs.declared.registers.Next.the-variants.{Onward, Done, Sto
 use Rattle.acting.specs.declared.registers.Status.{Status}
 use Rattle.acting.specs.declared.registers.Status.the-variants as status
 use Rattle.acting.specs.States.{Memory, memory, Held, stacksOf, ledgerOf, roomOf, Outcomes}
-use Rattle.applying.specs.Waiting.{functionsIn, entering, returning, comesTo, performing, leftBelow, leftToDo}
+use Rattle.applying.specs.Waiting.{functionsIn, entering, returning, comesTo, Waits, performing, leftBelow, leftToDo}
 
 -- the registers stay within what is lent and allowed, and so do the frames that wait: an application may begin
 pub record Ready (allowance : ℕ) (g : Registers) (m : Memory) : Type 0 where
@@ -31,7 +31,7 @@ pub record Ready (allowance : ℕ) (g : Registers) (m : Memory) : Type 0 where
   pub frameRoom : length (m .frames) ≡ 6144
   pub valueRoom : length (m .values) ≡ 4096
   pub paid : g .steps ≤ allowance
-  pub held : (k : ℕ) → k < g .frame → Held k (m .frames)
+  pub waits : (k : ℕ) → k < g .frame → Waits (length (m .input)) k (m .frames)
 
 -- and so does the current frame: an application or an instruction may come next
 pub record Underway (allowance : ℕ) (g : Registers) (m : Memory) : Type 0 where

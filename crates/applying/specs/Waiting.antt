@@ -1,5 +1,5 @@
 -- What a run under way will come to: what is left to do in the current frame, and then in each frame that waits for the one above it.
-use Prim.Native.Nat.{ℕ, zero, suc, _+_, _*_, _-_}
+use Prim.Native.Nat.{ℕ, zero, suc, _+_, _*_, _-_, _≤_, max}
 use mathlib.Core.Bool.{Bool}
 use mathlib.Core.List.{List}
 use lib.Dec.{ltb}
@@ -7,14 +7,14 @@ use lib.ListN.{length, getD, take, drop}
 use Rattle.meaning.specs.Choice.{Bytes, both, every, pick}
 use Rattle.meaning.specs.Outcome.{done, stop, andThen, pay}
 use Rattle.meaning.specs.Instructions.{Action, Code}
-use Rattle.meaning.specs.Machine.{Stacks, withSelected, isDeclared, perform, process, ranPaid, enter}
+use Rattle.meaning.specs.Machine.{Stacks, returned, isDeclared, perform, process, ranPaid, enter}
 use Rattle.meaning.specs.Runs.{Room, lent}
 use Rattle.meaning.specs.Packing.{Words, functionsAt, unpackActions}
 use Rattle.acting.specs.declared.registers.Registers.{Registers}
 use Rattle.acting.specs.declared.registers.Next.{Next}
 use Rattle.acting.specs.declared.registers.Next.the-variants.{Onward, Done, Stopped}
 use Rattle.acting.specs.Endings.{endingNumber}
-use Rattle.acting.specs.States.{Memory, frameWord, localAt, localOf, stacksOf, Ledgers, ledgerOf, Outcomes, Going}
+use Rattle.acting.specs.States.{Memory, frameWord, localAt, localOf, Held, stacksOf, Ledgers, ledgerOf, Outcomes, Going}
 
 -- how many functions the table tells, and whether it is sound
 abbrev pub countIn : Words → ℕ
@@ -36,11 +36,11 @@ module _ (room : Room) (allowance : ℕ) (words : Words) where
   abbrev pub going : ℕ → ℕ → Going
   going k at = process (lent room) (functionsIn words) entering (suc k) (unpackActions 0 (drop at words))
 
-  -- the frames that wait, the uppermost first: each goes on where its call returns to, with q at p
+  -- the frames that wait, the uppermost first: each goes on where its call returns to, with q where it was
   unfoldable pub waiting : ℕ → List ℕ → Bytes → Outcomes → Outcomes
   waiting zero frames values o = o
   waiting (suc k) frames values o =
-      waiting k frames values (andThen o (λ s g. going k (frameWord k 6 frames) (localAt k frames values) (withSelected 0 s) g))
+      waiting k frames values (andThen o (λ s g. going k (frameWord k 6 frames) (localAt k frames values) (returned (room .inCells - frameWord k 7 frames) s) g))
 
   -- what comes of an outcome in the current frame
   abbrev pub returning : Registers → Memory → Outcomes → Outcomes
@@ -61,6 +61,11 @@ module _ (room : Room) (allowance : ℕ) (words : Words) where
       returning g m (pick (isDeclared (functionsIn words) (g .callee)) application actions)
   comesTo (Done g) m = done (stacksOf g m) (ledgerOf allowance g m)
   comesTo (Stopped g ending function) m = stop (endingNumber ending) function (ledgerOf allowance g m)
+
+-- a frame that waits holds what it should, and its q is a cell of in or the end
+pub record Waits (cells k : ℕ) (frames : List ℕ) : Type 0 where
+  pub held : Held k frames
+  pub kept : frameWord k 7 frames ≤ cells
 
 -- what one instruction comes to in its frame, which then goes on at a place
 abbrev pub performing : Room → ℕ → Words → Action → ℕ → Registers → Memory → Outcomes
@@ -84,13 +89,13 @@ leftToDo size allowance (Onward g) m = suc (leftBelow size allowance g m + (size
 leftToDo size allowance (Done g) m = 0
 leftToDo size allowance (Stopped g ending function) m = 0
 
--- THE END OF AN APPLICATION: the frame below goes on, or the run is done
+-- THE END OF AN APPLICATION: the frame below goes on, its q where it was or at p where that has passed it, or the run is done
 
 abbrev pub backIn : ℕ → Registers → List ℕ → Registers
 backIn k g frames =
     record {
       p = g .p;
-      q = g .p;
+      q = record { 0 = max (g .p .0) (frameWord k 7 frames) };
       r = g .r;
       frame = k;
       at = record { 0 = frameWord k 6 frames };

@@ -1,5 +1,5 @@
 // An application of a function: the start, a call, a tail call, and its end.
-ghost use Prim.Native.Nat.{ℕ, _+_, _*_, _-_, _≤_, _<_};
+ghost use Prim.Native.Nat.{ℕ, _+_, _*_, _-_, _≤_, _<_, max};
 ghost use mathlib.Core.Path.{_≡_};
 ghost use mathlib.Core.Bool.{true};
 ghost use lib.ListN.{length, drop};
@@ -19,6 +19,7 @@ use acting::frames::set_word;
 use acting::frames::word;
 use acting::moving::less;
 use acting::registers::Ending;
+use acting::registers::InCell;
 use acting::registers::Next;
 use acting::registers::Registers;
 use decoding::Call;
@@ -207,6 +208,7 @@ fn framed_call(
         return Next::Stopped(g, Ending::FramesFull, 0);
     }
     set_word(frames, frame, 6, g.at.0);
+    set_word(frames, frame, 7, g.q.0);
     begin_frame(frames, frame + 1, 0, 0, 0);
     Next::Onward(Registers {
         frame: frame + 1,
@@ -238,7 +240,14 @@ pub fn call(g: Registers, code: &[u32], what: Call, allowance: u32, frames: &mut
     framed_call(g, code, number, allowance, frames)
 }
 
-// The end of an application: the frame below goes on, or the run is done.
+// The one of two cells that stands further to the right.
+fn later(a: InCell, b: InCell) -> InCell
+    ensures { λ r. ⌜ r .0 ≡ max (a .0) (b .0) ⌝ }
+{
+    if a.0 < b.0 { b } else { a }
+}
+
+// The end of an application: the frame below goes on, its q where it was unless p has passed it, or the run is done.
 pub fn leave(g: Registers, frames: &[usize]) -> Next
     requires { ⌜ g .frame < 256 ⌝ }
     requires { ⌜ length (now frames) ≡ 6144 ⌝ }
@@ -249,9 +258,9 @@ pub fn leave(g: Registers, frames: &[usize]) -> Next
     }
     let frame = g.frame - 1;
     let back = CodePlace(word(frames, frame, 6));
-    let none = g.p;
+    let end = later(g.p, InCell(word(frames, frame, 7)));
     Next::Onward(Registers {
-        q: none,
+        q: end,
         frame: frame,
         at: back,
         ..g

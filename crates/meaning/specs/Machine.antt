@@ -81,14 +81,22 @@ withOutput bytes s = record { input = s .input; selected = s .selected; output =
 abbrev pub withOpened : List ℕ → Local → Local
 withOpened rs l = record { field = l .field; place = l .place; values = l .values; opened = rs }
 
--- UseSeq: in[p-(r-r0)..p-1] := out[r0..r-1]; p := p-(r-r0); r := r0; q stays where p was
+-- UseSeq: in[p-(r-r0)..p-1] := out[r0..r-1]; p := p-(r-r0); r := r0; q stays where it is
 abbrev pub moved : ℕ → Stacks → Stacks
 moved r s =
     record {
       input = drop r (s .output) ++ s .input;
-      selected = length (drop r (s .output));
+      selected = s .selected + length (drop r (s .output));
       output = take r (s .output);
     }
+
+-- the cells from q to in's right end
+abbrev pub afterField : Stacks → ℕ
+afterField s = length (s .input) - s .selected
+
+-- back from a Call: q is where it was, so many cells before in's right end, or at p where the callee passed it
+abbrev pub returned : ℕ → Stacks → Stacks
+returned after s = withSelected (length (s .input) - after) s
 
 module _ (W : Watch) where
   -- what a run comes to: the stacks, with what was counted
@@ -158,7 +166,7 @@ module _ (W : Watch) where
       (λ r rs. noting (inCells (length (drop r (s .output)) + length (s .input))) g (next (withOpened rs l) (moved r s)))
   perform code enter next frame (call f) l s g =
       let ran = noting (frames (suc frame)) g
-      (λ g₁. andThen (enter (suc frame) f s g₁) (λ s₁ g₂. next l (withSelected 0 s₁) g₂)) in
+      (λ g₁. andThen (enter (suc frame) f s g₁) (λ s₁ g₂. next l (returned (afterField s) s₁) g₂)) in
       let payable = wherePayable (pay (g .tally)) g ran in
       whereThere (isDeclared code f) g payable
   perform code enter next frame (tailCall f) l s g =

@@ -149,10 +149,10 @@ module _ (g : Registers) (m : Memory) (framed : g .frame < 256) (room : length (
       below-p = rw (down .cells) (drop-at (take to (m .input)) _ to (length-take-le to (m .input) (omega (arith, down .start))))
 
       pub use-moved : (count ≡ 0 → ⊥) → length input ≡ length (m .input) → g .r .0 - min mark (g .r .0) ≤ g .p .0 →
-          Acts useSequence (g .at .0) g m (Onward (movedTo g to (g .p .0) (min mark (g .r .0)))) afterUse
+          Acts useSequence (g .at .0) g m (Onward (movedTo g to (g .q .0) (min mark (g .r .0)))) afterUse
       use-moved ne long h =
           let there : (g .r .0 - mark) + (length (m .input) - g .p .0) ≤ length (m .input) = omega arith in
-          let selected : g .r .0 - mark ≡ g .p .0 - to = omega (arith, down .start) in
+          let selected : (g .q .0 - g .p .0) + (g .r .0 - mark) ≡ g .q .0 - to = omega (arith, down .start, b .p≤q) in
           record {
             same = λ allowance code enter k.
                 rw (

@@ -1,13 +1,13 @@
 -- `framed_call` meets its contract.
 use borrow.Author.Needs.{needs}
-use Prim.Native.Nat.{suc, _+_, _*_, _<_}
+use Prim.Native.Nat.{suc, _<_}
 use native.Mathlib.Numerals.{add-one}
 use native.Mathlib.Omega.{arith}
 use mathlib.Core.Path.{_≡_, _∙_}
-use lib.ListN.{length, set, length-set}
+use lib.ListN.{length, length-set}
 use Rattle.applying.specs.Storing.{begun}
 use Rattle.applying.proofs.laws.Applying.{begun-length, begun-below, begun-held}
-use Rattle.applying.proofs.laws.Calling.{call-spent, call-full, call-enters}
+use Rattle.applying.proofs.laws.Calling.{call-spent, call-full, callingFrom, call-enters}
 use Rattle.applying.proofs.framed_call.Statement.{statement}
 use Rattle.applying.proofs.framed_call.Tie as tie
 
@@ -19,14 +19,14 @@ returns-2 c = λ input output journal values. call-full _ _ (c .before .before .
 
 returns-3 : tie.Need-returns-3
 returns-3 c =
-    let entry = c .before .before .before .before .before .before .before .before .before .before .before .before .before .before .before .before in
-    let a = entry .args in
+    let entry = c .before .before .before .before .before .before .before .before .before .before .before .before .before .before .before .before .before .before .before .before in
+    let a = c .before .before .before .before .before .before .before .before .before .before .before .before .before .before .before .before .before .before .before .before .args in
     let k = a .g .frame in
-    let calling = set (a .frames .now) (24 * k + 6) (a .g .at .0) in
-    let sized : length calling ≡ 6144 = length-set (a .frames .now) (24 * k + 6) (a .g .at .0) ∙ entry .pre .1 .1 in
-    let few : suc k < 256 = omega (arith, c .before .before .before .before .before .before .before .before .before .before .before .if2 .left) in
-    λ input output journal values. rw (c .before .before .before .before .before .begin-frame .ensures, c .before .before .before .before .before .before .before .before .before .set-word .ensures, add-one k)
-    (call-enters _ _ (a .number) (a .g) input output journal (a .frames .now) values (entry .pre .0) (c .before .before .before .before .before .before .before .before .before .before .before .before .if1 .left) (c .before .before .before .before .before .before .before .before .before .before .before .if2 .left)
+    let calling = callingFrom k (a .g .at .0) (a .g .q .0) (a .frames .now) in
+    let sized : length calling ≡ 6144 = simp length-set (entry .pre .1 .1) in
+    let few : suc k < 256 = omega (arith, c .before .before .before .before .before .before .before .before .before .before .before .before .before .before .before .if2 .left) in
+    λ input output journal values. rw (c .before .before .before .before .before .begin-frame .ensures, c .before .before .before .before .before .before .before .before .before .set-word2 .ensures, c .before .before .before .before .before .before .before .before .before .before .before .before .before .set-word .ensures, add-one k)
+    (call-enters _ _ (a .number) (a .g) input output journal (a .frames .now) values (entry .pre .0) (c .before .before .before .before .before .before .before .before .before .before .before .before .before .before .before .before .if1 .left) (c .before .before .before .before .before .before .before .before .before .before .before .before .before .before .before .if2 .left)
     (begun (suc k) 0 0 0 calling) (begun-length calling (suc k) 0 0 0 sized few ∙ sized) (begun-below calling (suc k) 0 0 0 sized few)
     (begun-held calling (suc k) 0 0 0 sized few (omega arith)))
 
@@ -36,6 +36,7 @@ framed-call-spec =
     (tie.spec
     returns
     returns-2
+    (λ c κs. search needs)
     (λ c κs. search needs)
     (λ c. search needs)
     (λ c κs. search needs)

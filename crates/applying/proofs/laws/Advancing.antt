@@ -15,7 +15,7 @@ use Rattle.acting.specs.declared.registers.Next.the-variants.{Onward, Done, Sto
 use Rattle.acting.specs.States.{Memory, roomOf, Outcomes, Fits, Stayed, Acts}
 use Rattle.applying.specs.Waiting.{functionsIn, entering, going, returning, comesTo, leftWaiting, leftToDo, leftFrom, leftBy}
 use Rattle.applying.specs.Advancing.{Ready, Underway, Ended, Keeps, registersIn, Leads, Steps, stepped, Performs}
-use Rattle.applying.proofs.laws.Waiting.{left-same, held-same, waiting-same, waiting-stop, waiting-done}
+use Rattle.applying.proofs.laws.Waiting.{left-same, waits-same, waiting-same, waiting-stop, waiting-done}
 
 -- WHAT AN INSTRUCTION KEEPS UP
 
@@ -35,11 +35,12 @@ fits-of u =
 pub ended-of : {allowance : ℕ} {g : Registers} {m : Memory} → Ready allowance g m → Ended g m
 ended-of u = record { below = u .below; logged = u .logged }
 
-module _ (allowance at : ℕ) (g : Registers) (m : Memory) (h : Registers) (n : Memory) (s : Stayed at g m h n) (u : Underway allowance g m) where
+module _ (allowance at : ℕ) (g : Registers) (m : Memory) (h : Registers) (n : Memory) (room : roomOf n ≡ roomOf m) (s : Stayed at g m h n) (u : Underway allowance g m) where
   underway-stayed : Underway allowance h n
   underway-stayed =
       let f = s .fits (fits-of u) in
       let fewer : h .steps ≤ allowance = rw (s .steps) (u .ready .paid) in
+      let sized : length (n .input) ≡ length (m .input) = ap (λ r. r .inCells) room in
       record {
         ready =
             record {
@@ -51,7 +52,7 @@ module _ (allowance at : ℕ) (g : Registers) (m : Memory) (h : Registers) (n : 
               frameRoom = f .frameRoom;
               valueRoom = f .valueRoom;
               paid = fewer;
-              held = λ k l. held-same (m .frames) (n .frames) (g .frame) (sym (s .waiting)) (u .ready .held) k (rw (s .frame) at l);
+              waits = λ k l. rw sized (waits-same (length (m .input)) (m .frames) (n .frames) (g .frame) (sym (s .waiting)) (u .ready .waits) k (rw (s .frame) at l));
             };
         current = f .held;
       }
@@ -74,11 +75,11 @@ module _ (words : Words) (allowance : ℕ) (action : Action) (at : ℕ) (g : Reg
                   ap (returning (roomOf m) allowance words g m) (a .same allowance (functionsIn words) enters (going (roomOf m) allowance words (g .frame) at)) ∙
                   rw (s .callee, idle, s .frame, s .place)
                   (waiting-same (roomOf m) allowance words (m .frames) (n .frames) (m .values) (n .values) (g .frame) (sym (s .waiting)) (rw (s .values)) _);
-              keeps = underway-stayed allowance at g m h n s u;
+              keeps = underway-stayed allowance at g m h n room s u;
               room = room;
               beyond = s .beyond;
             };
-        falls = less-stayed allowance at g m h n s u (length words) l;
+        falls = less-stayed allowance at g m h n room s u (length words) l;
       }
   acts-performs (Done h) a u = absurd (a .stays)
   acts-performs (Stopped h ending function) a u =
@@ -113,7 +114,7 @@ underway-stepped u =
             frameRoom = u .ready .frameRoom;
             valueRoom = u .ready .valueRoom;
             paid = u .ready .paid;
-            held = u .ready .held;
+            waits = u .ready .waits;
           };
       current = u .current;
     }
@@ -162,16 +163,16 @@ module _ (words : Words) (allowance : ℕ) (g : Registers) (m : Memory) (idle : 
           ready =
               record {
                 ordered = omega arith;
-                inside = omega (arith, u .ready .ordered, u .ready .inside);
+                inside = omega (arith, u .ready .ordered, u .ready .inside, u .ready .waits k (omega arith) .kept);
                 below = u .ready .below;
                 logged = u .ready .logged;
                 framed = omega (arith, u .ready .framed);
                 frameRoom = u .ready .frameRoom;
                 valueRoom = u .ready .valueRoom;
                 paid = u .ready .paid;
-                held = λ i l. u .ready .held i (omega arith);
+                waits = λ i l. u .ready .waits i (omega arith);
               };
-          current = u .ready .held k (omega arith);
+          current = u .ready .waits k (omega arith) .held;
         }
 
     left-emitted : (k : ℕ) → registersIn (leftFrom k (stepped g) (m .frames)) .emitted ≡ g .emitted
@@ -190,7 +191,7 @@ module _ (words : Words) (allowance : ℕ) (g : Registers) (m : Memory) (idle : 
         record {
           leads =
               record {
-                same = rw (none, e) (waiting-done (roomOf m) allowance words (g .frame) (stepped g) m idle);
+                same = rw (none, e) (waiting-done allowance words (g .frame) (stepped g) m idle (omega (arith, u .ready .ordered, u .ready .inside)) (u .ready .waits));
                 keeps = keeps-left (g .frame) refl;
                 room = refl;
                 beyond = λ old b. rw (left-emitted (g .frame)) b;

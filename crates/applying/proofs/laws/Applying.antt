@@ -29,7 +29,7 @@ use Rattle.applying.specs.Storing.{Stores, begun}
 use Rattle.applying.specs.Waiting.{countIn, functionsIn, returning}
 use Rattle.applying.specs.Advancing.{Ready, Advances, Begins, Starts}
 use Rattle.meaning.proofs.laws.Remaining.{past-end}
-use Rattle.applying.proofs.laws.Waiting.{left-same, held-same, waiting-same, waiting-stop}
+use Rattle.applying.proofs.laws.Waiting.{left-same, waits-same, waiting-same, waiting-stop}
 
 -- THE FUNCTION TABLE
 
@@ -216,7 +216,7 @@ module _ (words : Words) (allowance place stores stored : ℕ) (g : Registers) (
                             frameRoom = begun-length frames k d place stored (r .frameRoom) (r .framed) ∙ r .frameRoom;
                             valueRoom = sized ∙ r .valueRoom;
                             paid = r .paid;
-                            held = held-same frames frames′ k (sym kept) (r .held);
+                            waits = waits-same (length input) frames frames′ k (sym kept) (r .waits);
                           };
                       current = begun-held frames k d place stored (r .frameRoom) (r .framed) few;
                     };

@@ -7,7 +7,7 @@ use mathlib.Core.Path.{_≡_, refl, sym, ap, _∙_}
 use mathlib.Core.Bool.{Bool, true, false}
 use mathlib.Core.List.{List}
 use lib.Dec.{ltb}
-use lib.ListN.{length, getD, take, drop, set}
+use lib.ListN.{length, getD, take, drop, set, length-drop, length-set}
 use lib.Seq.{take-set-lt, drop-set-lt}
 use borrow.Author.Tests.{lt-ltb, le-ltb, ltb-true, ltb-false}
 use Rattle.meaning.specs.Choice.{Bytes, pick}
@@ -15,7 +15,7 @@ use Rattle.meaning.specs.Answers.{noInstruction}
 use Rattle.meaning.specs.Outcome.{pay, stop, andThen}
 use Rattle.meaning.specs.Instructions.{call, tailCall}
 use Rattle.meaning.specs.Matching.{Choice, chosen, chooseFrom}
-use Rattle.meaning.specs.Machine.{perform, isDeclared, withSelected, ranPaid, ranChoice}
+use Rattle.meaning.specs.Machine.{perform, isDeclared, returned, ranPaid, ranChoice}
 use Rattle.meaning.specs.Runs.{Room, lent}
 use Rattle.meaning.specs.Packing.{Words, unpackSentences, unpackStores, unpackActions}
 use Rattle.acting.specs.declared.registers.Registers.{Registers}
@@ -27,9 +27,9 @@ use Rattle.acting.specs.Endings.{endingNumber}
 use Rattle.acting.specs.States.{Memory, memory, frameWord, localAt, localOf, Held, stacksOf, ledgerOf, roomOf, Outcomes}
 use Rattle.acting.proofs.laws.Frames.{word-set, word-kept, held-past, waiting-kept}
 use Rattle.applying.specs.Storing.{begun}
-use Rattle.applying.specs.Waiting.{countIn, functionsIn, entering, going, waiting, performing, leftWaiting}
+use Rattle.applying.specs.Waiting.{countIn, functionsIn, entering, going, waiting, Waits, performing, leftWaiting}
 use Rattle.applying.specs.Advancing.{Ready, Performs, Applies, Starts}
-use Rattle.applying.proofs.laws.Waiting.{left-same, held-same, waiting-same, entering-paid}
+use Rattle.applying.proofs.laws.Waiting.{left-same, waits-same, waiting-same, entering-paid}
 use Rattle.applying.proofs.laws.Applying.{code-at, stopping, begins-stop}
 
 -- THE STEP
@@ -93,7 +93,7 @@ module _ (words : Words) (allowance number : ℕ) (g : Registers) (m : Memory) w
           frameRoom = r .frameRoom;
           valueRoom = r .valueRoom;
           paid = omega (arith, may .left);
-          held = r .held;
+          waits = r .waits;
         }
 
     pub apply-starts : (sentence place stores stored : ℕ) (next : Next) (n : Memory) →
@@ -129,42 +129,57 @@ abbrev pub calledIn : ℕ → ℕ → ℕ → Registers → Registers
 calledIn frame size number g =
     record { p = g .p; q = g .q; r = g .r; frame = frame; at = record { 0 = size }; steps = g .steps; emitted = g .emitted; callee = number }
 
-module _ (frames : List ℕ) (k at : ℕ) (room : length frames ≡ 6144) (framed : k < 255) where
-  -- the caller's frame keeps where its call returns to
+-- a store between a frame's counts and its open sequences leaves what its application keeps
+local-past : (frames : List ℕ) (k i v : ℕ) → 5 < i → i < 8 → Held k frames → (values : Bytes) → localAt k (set frames (24 * k + i) v) values ≡ localAt k frames values
+local-past frames k i v h l held values =
+    rw (
+      word-kept frames k i 1 v (omega arith),
+      word-kept frames k i 2 v (omega arith),
+      word-kept frames k i 4 v (omega arith),
+      word-kept frames k i 5 v (omega arith),
+      take-set-lt (24 * k + 24) frames (24 * k + i) v (omega arith),
+      drop-set-lt (24 * k + 24 - frameWord k 5 frames) (take (24 * k + 24) frames) (24 * k + i) v (omega (arith, held .opened)),
+    )
+
+-- the caller's frame keeps where its call returns to, and q
+abbrev pub callingFrom : ℕ → ℕ → ℕ → List ℕ → List ℕ
+callingFrom k at end frames = set (set frames (24 * k + 6) at) (24 * k + 7) end
+
+module _ (frames : List ℕ) (k at end : ℕ) (room : length frames ≡ 6144) (framed : k < 255) where
+  abbrev Returning : List ℕ
+  Returning = set frames (24 * k + 6) at
+
   abbrev Calling : List ℕ
-  Calling = set frames (24 * k + 6) at
+  Calling = callingFrom k at end frames
 
   called-below : take (24 * k) Calling ≡ take (24 * k) frames
-  called-below = waiting-kept frames k 6 at
+  called-below = waiting-kept Returning k 7 end ∙ waiting-kept frames k 6 at
 
   called-back : frameWord k 6 Calling ≡ at
-  called-back = word-set frames k (omega arith) room 6 at (omega arith)
+  called-back = word-kept Returning k 7 6 end (omega arith) ∙ word-set frames k (omega arith) room 6 at (omega arith)
 
-  called-word : (i : ℕ) → i ≤ 5 → frameWord k i Calling ≡ frameWord k i frames
-  called-word i h = word-kept frames k 6 i at (λ e. omega arith)
+  called-end : frameWord k 7 Calling ≡ end
+  called-end = word-set Returning k (omega arith) (length-set frames (24 * k + 6) at ∙ room) 7 end (omega arith)
 
   called-local : (values : Bytes) → Held k frames → localAt k Calling values ≡ localAt k frames values
   called-local values held =
-      rw (
-        called-word 1 (omega arith),
-        called-word 2 (omega arith),
-        called-word 4 (omega arith),
-        called-word 5 (omega arith),
-        take-set-lt (24 * k + 24) frames (24 * k + 6) at (omega arith),
-        drop-set-lt (24 * k + 24 - frameWord k 5 frames) (take (24 * k + 24) frames) (24 * k + 6) at (omega (arith, held .opened)),
-      )
+      local-past Returning k 7 end (omega arith) (omega arith) (held-past frames k 6 at (omega arith) held) values ∙
+      local-past frames k 6 at (omega arith) (omega arith) held values
 
-  called-held : ((i : ℕ) → i < k → Held i frames) → Held k frames → (i : ℕ) → i < suc k → Held i Calling
-  called-held held current i h = by (ltb i k) refl
-    where
-      by : (b : Bool) → ltb i k ≡ b → Held i Calling
-      by true e = held-same frames Calling k (sym called-below) held i (ltb-true i k e)
-      by false e = let here : i ≡ k = omega (arith, ltb-false i k e) in rw here (held-past frames k 6 at (omega arith) current)
+  module _ (cells : ℕ) (within : end ≤ cells) (waits : (i : ℕ) → i < k → Waits cells i frames) (current : Held k frames) where
+    called-waits : (i : ℕ) → i < suc k → Waits cells i Calling
+    called-waits i h = by (ltb i k) refl
+      where
+        by : (b : Bool) → ltb i k ≡ b → Waits cells i Calling
+        by true e = waits-same cells frames Calling k (sym called-below) waits i (ltb-true i k e)
+        by false e =
+            let here : i ≡ k = omega (arith, ltb-false i k e) in
+            rw here (record { held = held-past Returning k 7 end (omega arith) (held-past frames k 6 at (omega arith) current); kept = rw called-end within })
 
   -- the frame above may be any
   module _ (above : List ℕ) (same : take (24 * suc k) above ≡ take (24 * suc k) Calling) where
-    above-held : ((i : ℕ) → i < k → Held i frames) → Held k frames → (i : ℕ) → i < suc k → Held i above
-    above-held held current = held-same Calling above (suc k) (sym same) (called-held held current)
+    above-waits : (cells : ℕ) → end ≤ cells → ((i : ℕ) → i < k → Waits cells i frames) → Held k frames → (i : ℕ) → i < suc k → Waits cells i above
+    above-waits cells within waits current = waits-same cells Calling above (suc k) (sym same) (called-waits cells within waits current)
 
     module _ (roomy : Room) (allowance : ℕ) (words : Words) where
       above-left : (size : ℕ) → leftWaiting size (suc k) above ≡ size - at + leftWaiting size k frames
@@ -172,11 +187,12 @@ module _ (frames : List ℕ) (k at : ℕ) (room : length frames ≡ 6144) (frame
       above-left size = left-same above Calling size (suc k) same ∙ rw (called-back, left-same Calling frames size k called-below)
 
       above-waiting : (values : Bytes) → Held k frames → (o : Outcomes) →
-          waiting roomy allowance words k frames values (andThen o (λ s l. going roomy allowance words k at (localAt k frames values) (withSelected 0 s) l)) ≡
+          waiting roomy allowance words k frames values (andThen o (λ s l. going roomy allowance words k at (localAt k frames values)
+          (returned (roomy .inCells - end) s) l)) ≡
           waiting roomy allowance words (suc k) above values o
       unfolding waiting
       above-waiting values held o =
-          rw (called-back, called-local values held)
+          rw (called-back, called-end, called-local values held)
           (waiting-same roomy allowance words frames Calling values values k (sym called-below) refl _) ∙
           waiting-same roomy allowance words Calling above values values (suc k) (sym same) refl o
 
@@ -193,9 +209,10 @@ module _ (words : Words) (allowance number : ℕ) (g : Registers) (m : Memory) w
       stops false = rw e
 
   -- the registers of a function that is called keep within what is lent, as its caller's do
-  called-ready : (frame size : ℕ) (frames : List ℕ) → frame < 256 → length frames ≡ 6144 → ((i : ℕ) → i < frame → Held i frames) → Ready allowance g m →
+  called-ready : (frame size : ℕ) (frames : List ℕ) → frame < 256 → length frames ≡ 6144 → ((i : ℕ) → i < frame → Waits (length (m .input)) i frames) →
+      Ready allowance g m →
       Ready allowance (calledIn frame size number g) (memory (m .input) (m .output) (m .journal) frames (m .values))
-  called-ready frame size frames framed sized held r =
+  called-ready frame size frames framed sized waits r =
       record {
         ordered = r .ordered;
         inside = r .inside;
@@ -205,7 +222,7 @@ module _ (words : Words) (allowance number : ℕ) (g : Registers) (m : Memory) w
         frameRoom = sized;
         valueRoom = r .valueRoom;
         paid = r .paid;
-        held = held;
+        waits = waits;
       }
 
   module _ (declared : isDeclared (functionsIn words) number ≡ true) where
@@ -227,7 +244,7 @@ module _ (words : Words) (allowance number : ℕ) (g : Registers) (m : Memory) w
               record {
                 same =
                     rw (declared, entering-paid (roomOf m) allowance words (suc (g .frame)) number (stacksOf g m) (ledgerOf allowance g m) (omega arith));
-                keeps = record { ready = called-ready (g .frame) (length words) (m .frames) (r .framed) (r .frameRoom) (r .held) r; current = u .current };
+                keeps = record { ready = called-ready (g .frame) (length words) (m .frames) (r .framed) (r .frameRoom) (r .waits) r; current = u .current };
                 room = refl;
                 beyond = λ old e. e;
               };
@@ -240,7 +257,7 @@ module _ (words : Words) (allowance number : ℕ) (g : Registers) (input output 
 
   -- a call is an application in the frame above
   pub call-enters : isDeclared (functionsIn words) number ≡ true → g .steps < allowance → g .frame < 255 → (above : List ℕ) → length above ≡ 6144 →
-      take (24 * suc (g .frame)) above ≡ take (24 * suc (g .frame)) (set frames (24 * g .frame + 6) (g .at .0)) → Held (suc (g .frame)) above →
+      take (24 * suc (g .frame)) above ≡ take (24 * suc (g .frame)) (callingFrom (g .frame) (g .at .0) (g .q .0) frames) → Held (suc (g .frame)) above →
       Performs words allowance (call number) (g .at .0) g Caller (Onward (calledIn (suc (g .frame)) (length words) number g)) (memory input output journal above values)
   call-enters declared h l above sized same empty u =
       let k = g .frame in
@@ -248,18 +265,19 @@ module _ (words : Words) (allowance number : ℕ) (g : Registers) (input output 
       let r = u .ready in
       let application = entering room allowance words (suc (suc k)) number (stacksOf g Caller) (ledgerOf allowance g Caller) in
       let entered = entering-paid room allowance words (suc (suc k)) number (stacksOf g Caller) (ledgerOf allowance g Caller) (omega arith) in
-      let left = above-left frames k (g .at .0) (r .frameRoom) l above same room allowance words (length words) in
+      let left = above-left frames k (g .at .0) (g .q .0) (r .frameRoom) l above same room allowance words (length words) in
+      let selected : length input - g .p .0 - (g .q .0 - g .p .0) ≡ length input - g .q .0 = omega (arith, r .ordered, r .inside) in
       record {
         leads =
             record {
               same =
-                  opens declared (one-left h) (le-ltb 256 (suc (suc k)) (omega arith)) ∙
-                  above-waiting frames k (g .at .0) (r .frameRoom) l above same room allowance words values (u .current) application ∙
+                  opens declared (one-left h) (le-ltb 256 (suc (suc k)) (omega arith)) (length-drop (g .p .0) input) selected ∙
+                  above-waiting frames k (g .at .0) (g .q .0) (r .frameRoom) l above same room allowance words values (u .current) application ∙
                   rw declared (ap (waiting room allowance words (suc k) above values) entered);
               keeps =
                   record {
                     ready = called-ready words allowance number g Caller (suc k) (length words) above (omega arith) sized
-                        (above-held frames k (g .at .0) (r .frameRoom) l above same (r .held) (u .current)) r;
+                        (above-waits frames k (g .at .0) (g .q .0) (r .frameRoom) l above same (length input) (r .inside) (r .waits) (u .current)) r;
                     current = empty;
                   };
               room = refl;
@@ -270,8 +288,9 @@ module _ (words : Words) (allowance number : ℕ) (g : Registers) (input output 
     where
       -- a call that is declared, paid for and has a frame enters its function
       opens : {n : ℕ} → isDeclared (functionsIn words) number ≡ true → allowance - g .steps ≡ suc n → ltb 256 (suc (suc (g .frame))) ≡ false →
+          length (drop (g .p .0) input) ≡ length input - g .p .0 → length input - g .p .0 - (g .q .0 - g .p .0) ≡ length input - g .q .0 →
           performing (roomOf Caller) allowance words (call number) (g .at .0) g Caller ≡
           waiting (roomOf Caller) allowance words (g .frame) frames values
           (andThen (entering (roomOf Caller) allowance words (suc (suc (g .frame))) number (stacksOf g Caller) (ledgerOf allowance g Caller))
-          (λ s l. going (roomOf Caller) allowance words (g .frame) (g .at .0) (localAt (g .frame) frames values) (withSelected 0 s) l))
-      opens e e′ e″ = rw (e, e′, e″)
+          (λ s l. going (roomOf Caller) allowance words (g .frame) (g .at .0) (localAt (g .frame) frames values) (returned (length input - g .q .0) s) l))
+      opens e e′ e″ long selected = rw (e, e′, e″, long, selected)

@@ -1,10 +1,9 @@
 -- The frames that wait: what they depend on, and how they take up an outcome.
-use Prim.Native.Nat.{ℕ, zero, suc, _+_, _*_, _-_, _≤_, _<_}
-use native.Mathlib.Nat.{sub-self}
+use Prim.Native.Nat.{ℕ, zero, suc, _+_, _*_, _-_, _≤_, _<_, max}
 use native.Mathlib.Omega.{arith}
 use mathlib.Core.Path.{_≡_, refl, sym, _∙_}
 use mathlib.Core.List.{List}
-use lib.ListN.{take}
+use lib.ListN.{length, take, length-drop}
 use lib.Seq.{getD-take, take-take}
 use Rattle.meaning.specs.Choice.{Bytes}
 use Rattle.meaning.specs.Outcome.{stop, done, pay}
@@ -14,8 +13,8 @@ use Rattle.meaning.specs.Packing.{Words}
 use Rattle.meaning.proofs.laws.Depth.{enter-step}
 use Rattle.acting.specs.declared.registers.Registers.{Registers}
 use Rattle.acting.specs.declared.registers.Next.the-variants.{Onward}
-use Rattle.acting.specs.States.{Memory, frameWord, localAt, Held, stacksOf, Ledgers, ledgerOf, Outcomes}
-use Rattle.applying.specs.Waiting.{functionsIn, entering, waiting, comesTo, leftWaiting, backIn, leftFrom, leftBy}
+use Rattle.acting.specs.States.{Memory, frameWord, localAt, Held, stacksOf, Ledgers, ledgerOf, roomOf, Outcomes}
+use Rattle.applying.specs.Waiting.{functionsIn, entering, waiting, comesTo, Waits, leftWaiting, backIn, leftFrom, leftBy}
 
 -- A FRAME DEPENDS ON ITS OWN WORDS AND VALUES ALONE
 
@@ -50,7 +49,8 @@ module _ (frames : List ℕ) (n : ℕ) where
       unfolding waiting
       waiting-within zero h h′ o = refl
       waiting-within (suc k) h h′ o =
-          rw (word-within k 6 (omega arith), local-within k (omega arith) (omega arith)) (waiting-within k (omega arith) (omega arith) _)
+          rw (word-within k 6 (omega arith), word-within k 7 (omega arith), local-within k (omega arith) (omega arith))
+          (waiting-within k (omega arith) (omega arith) _)
 
 -- a frame with the same words up to its counts holds the same
 pub same-held : (k : ℕ) (frames frames′ : List ℕ) → Held k frames → ((i : ℕ) → i ≤ 5 → frameWord k i frames ≡ frameWord k i frames′) → Held k frames′
@@ -66,10 +66,13 @@ pub left-same : (frames frames′ : List ℕ) (size k : ℕ) → take (24 * k) f
 left-same frames frames′ size k e =
     sym (left-within frames (24 * k) size k (omega arith)) ∙ rw e (left-within frames′ (24 * k) size k (omega arith))
 
-pub held-same : (frames frames′ : List ℕ) (k : ℕ) → take (24 * k) frames ≡ take (24 * k) frames′ → ((i : ℕ) → i < k → Held i frames) → (i : ℕ) → i < k → Held i frames′
-held-same frames frames′ k e held i h =
-    same-held i frames frames′ (held i h)
-    (λ j l. sym (words-within frames (24 * k) i (omega arith) j (omega arith)) ∙ rw e (words-within frames′ (24 * k) i (omega arith) j (omega arith)))
+pub waits-same : (cells : ℕ) (frames frames′ : List ℕ) (k : ℕ) → take (24 * k) frames ≡ take (24 * k) frames′ → ((i : ℕ) → i < k → Waits cells i frames) →
+    (i : ℕ) → i < k → Waits cells i frames′
+waits-same cells frames frames′ k e waits i h =
+    record { held = same-held i frames frames′ (waits i h .held) (λ j l. same j (omega arith)); kept = rw (← (same 7 (omega arith))) (waits i h .kept) }
+  where
+    same : (j : ℕ) → j < 24 → frameWord i j frames ≡ frameWord i j frames′
+    same j l = sym (words-within frames (24 * k) i (omega arith) j l) ∙ rw e (words-within frames′ (24 * k) i (omega arith) j l)
 
 module _ (room : Room) (allowance : ℕ) (words : Words) where
   pub waiting-same : (frames frames′ : List ℕ) (values values′ : Bytes) (k : ℕ) → take (24 * k) frames ≡ take (24 * k) frames′ →
@@ -92,13 +95,18 @@ module _ (room : Room) (allowance : ℕ) (words : Words) where
       ranPaid (lent room) (functionsIn words) (entering room allowance words) frame f s l (pay (l .tally))
   entering-paid frame f s l h = enter-step (lent room) allowance allowance (functionsIn words) frame f s l h (omega arith)
 
-  -- the end of an application
-  pub waiting-done : (k : ℕ) (g : Registers) (m : Memory) → g .callee ≡ 0 →
-      waiting room allowance words k (m .frames) (m .values) (done (stacksOf g m) (ledgerOf allowance g m)) ≡
-      comesTo room allowance words (leftFrom k g (m .frames)) m
-  unfolding waiting
-  waiting-done zero g m idle = refl
-  waiting-done (suc k) g m idle = rw (sub-self (g .p .0), idle)
+-- the end of an application
+pub waiting-done : (allowance : ℕ) (words : Words) (k : ℕ) (g : Registers) (m : Memory) → g .callee ≡ 0 → g .p .0 ≤ length (m .input) →
+    ((i : ℕ) → i < k → Waits (length (m .input)) i (m .frames)) →
+    waiting (roomOf m) allowance words k (m .frames) (m .values) (done (stacksOf g m) (ledgerOf allowance g m)) ≡
+    comesTo (roomOf m) allowance words (leftFrom k g (m .frames)) m
+unfolding waiting
+waiting-done allowance words zero g m idle h waits = refl
+waiting-done allowance words (suc k) g m idle h waits =
+    let kept = frameWord k 7 (m .frames) in
+    let selected : length (m .input) - g .p .0 - (length (m .input) - kept) ≡ max (g .p .0) kept - g .p .0 =
+    omega (arith, waits k (omega arith) .kept) in
+    rw (length-drop (g .p .0) (m .input), selected, idle)
 
 -- a frame that is not the lowest is left for the one below it
 pub left-back : (g : Registers) (frames : List ℕ) → (g .frame ≡ 0 → ⊥) → Onward (backIn (g .frame - 1) g frames) ≡ leftBy g frames

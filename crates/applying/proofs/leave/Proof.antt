@@ -1,5 +1,7 @@
--- `frames::leave` meets its contract.
+-- `applying::leave` meets its contract.
 use Rattle.applying.proofs.laws.Waiting.{left-back}
+use Prim.Native.Nat.{max}
+use mathlib.Core.Path.{_≡_, ap}
 use borrow.Author.Needs.{needs}
 use Rattle.applying.proofs.leave.Statement.{statement}
 use Rattle.applying.proofs.leave.Tie as tie
@@ -9,10 +11,8 @@ returns c = rw (c .if1 .taken)
 
 returns-2 : tie.Need-returns-2
 returns-2 c =
-    let at-word = c .before .before .before in
-    let at-if1 = at-word .before .before in
-    let entry = at-if1 .before .before .before in
-    rw (at-word .word .ensures) (left-back (entry .args .g) _ (at-if1 .if1 .left))
+    let end : c .before .before .later .result ≡ record { 0 = max (c .before .before .before .before .before .before .before .before .before .args .g .p .0) (c .before .before .before .word2 .result) } = ap (λ cell. record { 0 = cell }) (c .before .before .later .ensures) in
+    rw (end, c .before .before .before .word2 .ensures, c .before .before .before .before .word .ensures) (left-back (c .before .before .before .before .before .before .before .before .before .args .g) _ (c .before .before .before .before .before .before .if1 .left))
 
 pub leave-spec : {M : Type 1} → statement M
-leave-spec = tie.close (tie.spec returns (λ c. search needs) (λ c κs. search needs) returns-2)
+leave-spec = tie.close (tie.spec returns (λ c. search needs) (λ c κs. search needs) (λ c κs. search needs) (λ c κs. search needs) returns-2)

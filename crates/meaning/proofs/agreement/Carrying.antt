@@ -1,5 +1,5 @@
 -- Outcomes of rewriting carried over to the machine without end, and what its instructions do there to stacks of a known form.
-use Prim.Native.Nat.{ℕ, suc, _+_, _≤_, _<_}
+use Prim.Native.Nat.{ℕ, suc, _+_, _-_, _≤_, _<_}
 use native.Mathlib.Omega.{arith}
 use mathlib.Core.Path.{_≡_, refl}
 use mathlib.Core.Bool.{true}
@@ -12,7 +12,7 @@ use Rattle.meaning.specs.Choice.{Bytes, nth}
 use Rattle.meaning.specs.Outcome.{Tally, pay, emitted, Outcome, done, stop, andThen}
 use Rattle.meaning.specs.Rewriting.{before}
 use Rattle.meaning.specs.Instructions.{Length, null, whole, left, right, Span, Action, go, select, out, outCharacter, outValue, beginSequence, useSequence, call, tailCall, emission, Code}
-use Rattle.meaning.specs.Machine.{Ledger, Stacks, Local, Ran, registerOf, spanOf, isDeclared, withSelected, withOpened, maxOpened, wherePayable, process}
+use Rattle.meaning.specs.Machine.{Ledger, Stacks, Local, Ran, registerOf, spanOf, isDeclared, afterField, returned, withOpened, maxOpened, wherePayable, process}
 use Rattle.meaning.specs.Runs.{endless}
 
 abbrev pub Endless : Type 0
@@ -102,11 +102,13 @@ module _ (code : Code) (enter : Applying) (frame : ℕ) (more : List Action) (l 
   begin-law i o n h = rw (le-leb (suc (length (l .opened))) maxOpened h)
 
   -- the argument moves from out to just below p
-  pub use-law : (rs : List ℕ) (i o argument : Bytes) (n : ℕ) →
-      doing code enter frame (useSequence ∷ more) (withOpened (length o ∷ rs) l) (stacks i n (o ++ argument)) t ≡
+  pub use-law : (rs : List ℕ) (i o argument : Bytes) →
+      doing code enter frame (useSequence ∷ more) (withOpened (length o ∷ rs) l) (stacks i 0 (o ++ argument)) t ≡
       doing code enter frame more (withOpened rs l) (stacks (argument ++ i) (length argument) o) t
   unfolding process
-  use-law rs i o argument n = rw (take-append-seam, drop-append-seam)
+  use-law rs i o argument =
+      let e : 0 + length argument ≡ length argument = omega arith in
+      rw (take-append-seam, drop-append-seam, e)
 
   pub emission-law : (name argument below o : Bytes) →
       doing code enter frame (emission name ∷ more) l (stacks (argument ++ below) (length argument) o) t ≡
@@ -117,13 +119,20 @@ module _ (code : Code) (enter : Applying) (frame : ℕ) (more : List Action) (l 
   pub call-law : (f : ℕ) (s : Stacks) → isDeclared code f ≡ true →
       doing code enter frame (call f ∷ more) l s t ≡
       wherePayable endless (pay t) (ledger t)
-      (andThen (enter (suc frame) f s (ledger t)) (λ s₁ g₁. process endless code enter frame more l (withSelected 0 s₁) g₁))
+      (andThen (enter (suc frame) f s (ledger t)) (λ s₁ g₁. process endless code enter frame more l (returned (afterField s) s₁) g₁))
   unfolding process
   call-law f s e = rw e
 
   pub tail-law : (f : ℕ) (s : Stacks) → isDeclared code f ≡ true → doing code enter frame (tailCall f ∷ more) l s t ≡ enter frame f s (ledger t)
   unfolding process
   tail-law f s e = rw e
+
+-- a callee that took just its argument from in leaves q at p
+pub returned-law : (argument below o o₁ : Bytes) →
+    returned (afterField (stacks (argument ++ below) (length argument) o)) (stacks below 0 o₁) ≡ stacks below 0 o₁
+returned-law argument below o o₁ =
+    let e : length below - (length (argument ++ below) - length argument) ≡ 0 = omega (arith, length-append argument below) in
+    rw e
 
 -- what comes after a call, on the stacks that it leaves
 pub carried-andThen : (below o : Bytes) (r : Outcome Bytes Tally) (k : Stacks → Ledger (Unit {0}) → Endless) →

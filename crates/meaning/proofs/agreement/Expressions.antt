@@ -16,12 +16,12 @@ use Rattle.meaning.specs.Outcome.{Tally, pay, emitted, Outcome, done, st
 use Rattle.meaning.specs.Rewriting.{Bindings, before, evaluate, callNamed}
 use Rattle.meaning.specs.Allowed.{nesting}
 use Rattle.meaning.specs.Instructions.{Site, Action, go, select, out, call, tailCall, emission, Code}
-use Rattle.meaning.specs.Machine.{Stacks, Local, isDeclared, withSelected, withOpened, maxOpened, wherePayable, process}
+use Rattle.meaning.specs.Machine.{Stacks, Local, isDeclared, afterField, returned, withOpened, maxOpened, wherePayable, process}
 use Rattle.meaning.specs.Runs.{endless}
 use Rattle.meaning.specs.Translation.{Shape, Stand, atStart, passage, restOf, nowhere, emits, replaces, nests, isLast, mannerOf, valueNumber, argumentReady, calling, items, passesRest, translatedSentences, translate}
 use Rattle.meaning.proofs.agreement.Choosing.{passed-true}
 use Rattle.meaning.proofs.laws.Translated.{number-low}
-use Rattle.meaning.proofs.agreement.Carrying.{Endless, ledger, stacks, into, carried, carried-andThen, into-andThen, into-written, into-same, Applying, doing, span-opened, go-law, select-law, out-law, character-law, value-law, begin-law, use-law, emission-law, call-law, tail-law}
+use Rattle.meaning.proofs.agreement.Carrying.{Endless, ledger, stacks, into, carried, returned-law, carried-andThen, into-andThen, into-written, into-same, Applying, doing, span-opened, go-law, select-law, out-law, character-law, value-law, begin-law, use-law, emission-law, call-law, tail-law}
 use Rattle.meaning.proofs.agreement.Standing.{Move, Standing}
 use Rattle.meaning.proofs.agreement.Sound.{Sound, theEnd, aCharacter, aSymbol, aPart, aCall}
 
@@ -86,7 +86,7 @@ module _ (table : Table) (shape : Shape) (sites : List (Named Site)) (bound : Bi
       doing (translate table) enter frame (argumentReady more) (withOpened (length o ∷ opened) l) (stacks i 0 (o ++ argument)) t ≡
       doing (translate table) enter frame more (withOpened opened l) (stacks (argument ++ i) (length argument) o) t
   ready-law more opened i o argument t =
-      use-law (translate table) enter frame (select nowhere ∷ more) l t opened i o argument 0 ∙
+      use-law (translate table) enter frame (select nowhere ∷ more) l t opened i o argument ∙
       select-law (translate table) enter frame more (withOpened opened l) t nowhere argument i o (length argument) (omega arith)
 
   -- a declared call, in a frame of its own or as a tail call
@@ -110,11 +110,13 @@ module _ (table : Table) (shape : Shape) (sites : List (Named Site)) (bound : Bi
       paid : (p : Option Tally) → pay t ≡ p →
           wherePayable endless p (ledger t)
           (andThen (enter (suc frame) number (stacks (argument ++ (standing .remaining w ++ below)) (length argument) o) (ledger t))
-          (λ s₁ g₁. process endless (translate table) enter frame more (withOpened opened l) (withSelected 0 s₁) g₁)) ≡
+          (λ s₁ g₁. process endless (translate table) enter frame more (withOpened opened l)
+          (returned (afterField (stacks (argument ++ (standing .remaining w ++ below)) (length argument) o)) s₁) g₁)) ≡
           into (apply number argument t) (λ given t₁. from opened more w (o ++ given) t₁)
       paid none q = rw (callee .spent number argument t q)
       paid (some t₁) q = rw (callee .same (suc frame) number argument (standing .remaining w ++ below) o t)
-          (carried-andThen (standing .remaining w ++ below) o (apply number argument t) _)
+          (carried-andThen (standing .remaining w ++ below) o (apply number argument t) _ ∙
+          into-same (apply number argument t) _ _ (λ given t₂. rw (returned-law argument (standing .remaining w ++ below) o (o ++ given))))
 
   -- any call, by whether its name is an emission's and whether it is the last item outermost: both tests are taken as variables
   any-call : (emits? last : Bool) (n : Name) (w : Stand) (more : List Action) (opened : List ℕ) (o argument : Bytes) (t : Tally) →

@@ -12,7 +12,7 @@ use Rattle.meaning.specs.Answers.{noSentenceFits, allowanceSpent, noInst
 use Rattle.meaning.specs.Outcome.{Tally, pay, emitted, emittedLine, done, stop, andThen}
 use Rattle.meaning.specs.Instructions.{Action, go, select, out, outCharacter, outValue, beginSequence, useSequence, call, tailCall, emission, unknownAction, Code}
 use Rattle.meaning.specs.Matching.{Choice, chosen, chosenNone, chosenWrong, storedValues}
-use Rattle.meaning.specs.Machine.{Need, inCells, outCells, recordBytes, frames, Watch, Ledger, Stacks, Local, Ran, Next, withTally, noting, whereThere, whereStored, whereOpened, wherePayable, maxOpened, spanOf, isDeclared, movedOn, withSelected, withOutput, withOpened, moved, writing, perform, process, started, ranChoice, ranPaid, enter}
+use Rattle.meaning.specs.Machine.{Need, inCells, outCells, recordBytes, frames, Watch, Ledger, Stacks, Local, Ran, Next, withTally, noting, whereThere, whereStored, whereOpened, wherePayable, maxOpened, spanOf, isDeclared, movedOn, withSelected, withOutput, withOpened, moved, afterField, returned, writing, perform, process, started, ranChoice, ranPaid, enter}
 
 -- the answers that a run gives whatever is lent: 11, 12 and 18
 pub data Own (answer : ℕ) : Type 0 where
@@ -96,9 +96,9 @@ module _ (W U : Watch) (R : Relation W U) (closed : Closed W U R) where
         there (isDeclared code f) _ _
         (closed .affords _ _
         (closed .notes (λ t. frames (suc frame)) _ _
-        (closed .chains (e (suc frame) f s) (e′ (suc frame) f s) (λ s₁ g. next l (withSelected 0 s₁) g) (λ s₁ g. next′ l (withSelected 0 s₁) g)
+        (closed .chains (e (suc frame) f s) (e′ (suc frame) f s) (λ s₁ g. next l (returned (afterField s) s₁) g) (λ s₁ g. next′ l (returned (afterField s) s₁) g)
         (entering (suc frame) f s)
-        (λ s₁. r l (withSelected 0 s₁)))))
+        (λ s₁. r l (returned (afterField s) s₁)))))
     performs next next′ frame r (tailCall f) l s = there (isDeclared code f) _ _ (entering frame f s)
     performs next next′ frame r (emission n) l s =
         closed .notes (λ t. recordBytes (length (t .emissions) + length (emittedLine n (take (s .selected) (s .input))))) _ _

@@ -164,7 +164,7 @@ module _ (text input input′ : Bytes) (l : Loaded text input input′) where
                 frameRoom = f;
                 valueRoom = v;
                 paid = omega arith;
-                held = λ k h. absurd (omega arith);
+                waits = λ k h. absurd (omega arith);
               };
           current = empty;
         }

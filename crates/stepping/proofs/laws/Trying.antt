@@ -112,7 +112,7 @@ module _ (words : Words) (allowance : ℕ) where
                                   frameRoom = u .ready .frameRoom;
                                   valueRoom = u .ready .valueRoom;
                                   paid = u .ready .paid;
-                                  held = u .ready .held;
+                                  waits = u .ready .waits;
                                 };
                             current = u .current;
                           };
