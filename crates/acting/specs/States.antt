@@ -27,9 +27,19 @@ abbrev pub memory : Bytes → Bytes → Bytes → List ℕ → Bytes → Memory
 memory input output journal frames values =
     record { input = input; output = output; journal = journal; frames = frames; values = values }
 
+-- the words of a frame, and those of all frames and of their stored values
+abbrev pub frameWords : ℕ
+frameWords = 24
+
+abbrev pub roomOfFrames : ℕ
+roomOfFrames = maxFrames * frameWords
+
+abbrev pub roomOfValues : ℕ
+roomOfValues = maxFrames * 16
+
 -- a frame's words: the lengths of null, d, dl and dr, the number of values, the number of open sequences, where its call returns to and q there; and from the end back r at each BeginSeq
 abbrev pub frameWord : ℕ → ℕ → List ℕ → ℕ
-frameWord k i frames = getD frames (24 * k + i) 0
+frameWord k i frames = getD frames (frameWords * k + i) 0
 
 abbrev pub localAt : ℕ → List ℕ → Bytes → Local
 localAt k frames values =
@@ -46,6 +56,15 @@ pub record Held (k : ℕ) (frames : List ℕ) : Type 0 where
   pub right : frameWord k 3 frames ≡ frameWord k 1 frames - frameWord k 2 frames
   pub stored : frameWord k 4 frames ≤ 16
   pub opened : frameWord k 5 frames ≤ 16
+
+-- a frame's words as its application begins: the lengths of the registers by their numbers, the number of values, and no sequence open
+abbrev pub begun : ℕ → ℕ → ℕ → ℕ → List ℕ → List ℕ
+begun frame field place stored frames =
+    set (set (set (set (set (set frames (24 * frame + 0) 0) (24 * frame + 1) field) (24 * frame + 2) place) (24 * frame + 3) (field - place)) (24 * frame + 4) stored) (24 * frame + 5) 0
+
+-- the caller's frame keeps where its call returns to, and q
+abbrev pub callingFrom : ℕ → ℕ → ℕ → List ℕ → List ℕ
+callingFrom k at end frames = set (set frames (24 * k + 6) at) (24 * k + 7) end
 
 -- a sequence opened at a cell of out, if one more may be open
 abbrev pub openedAt : ℕ → ℕ → List ℕ → List ℕ
@@ -99,8 +118,8 @@ pub record Fits (g : Registers) (m : Memory) : Type 0 where
   pub logged : g .emitted ≤ length (m .journal)
   pub framed : g .frame < maxFrames
   pub held : Held (g .frame) (m .frames)
-  pub frameRoom : length (m .frames) ≡ 6144
-  pub valueRoom : length (m .values) ≡ 4096
+  pub frameRoom : length (m .frames) ≡ roomOfFrames
+  pub valueRoom : length (m .values) ≡ roomOfValues
 
 -- what a run comes to, and what is left to do in a frame
 abbrev pub Outcomes : Type 0

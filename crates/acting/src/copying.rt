@@ -1,9 +1,15 @@
-// Copying bytes.
+// Copying bytes onto in, onto out and into the journal: one loop for all three.
 ghost use mathlib.Core.Path.{_≡_};
 ghost use Prim.Native.Nat.{_+_, _≤_, _<_};
 ghost use lib.ListN.{length};
 ghost use lib.Seq.{paste};
 ghost use Rattle.acting.specs.Copied.{FewToCopy, CopiedFew};
+use crate::registers::InCell;
+use crate::registers::JournalByte;
+use crate::registers::OutCell;
+
+// So few bytes are copied and moved without a loop, which for them would cost more than the copying.
+pub const FEW: usize = 8;
 
 // Four bytes more, where so many are left; how many are copied. Then two, and one.
 fn copy_four(to: &mut [u8], at: usize, from: &[u8], i: usize) -> usize
@@ -47,7 +53,7 @@ fn copy_one(to: &mut [u8], at: usize, from: &[u8], i: usize) -> usize
     1
 }
 
-// Fewer than eight bytes, copied without a loop, which for so few would cost more than the copying.
+// Fewer than eight bytes.
 fn copy_few(to: &mut [u8], at: usize, from: &[u8])
     requires { ⌜ at + length (now from) ≤ length (now to) ⌝ }
     requires { ⌜ length (now from) < 8 ⌝ }
@@ -58,12 +64,12 @@ fn copy_few(to: &mut [u8], at: usize, from: &[u8])
     copy_one(to, at, from, i);
 }
 
-// Bytes copied over those from a place on.
+// Bytes copied over those from a place on. On a stack and in the journal the functions below copy, which take their kinds of place.
 pub fn copy_over(to: &mut [u8], at: usize, from: &[u8])
     requires { ⌜ at + length (now from) ≤ length (now to) ⌝ }
     ensures { λ _. ⌜ now (to .exit) ≡ paste (now (to .entry)) at (now (from .entry)) (length (now (from .entry))) ⌝ }
 {
-    if from.len() < 8 {
+    if from.len() < FEW {
         copy_few(to, at, from);
         return;
     }
@@ -72,4 +78,25 @@ pub fn copy_over(to: &mut [u8], at: usize, from: &[u8])
         to[at + i] = from[i];
         i += 1;
     }
+}
+
+pub fn copy_to_in(input: &mut [u8], at: InCell, from: &[u8])
+    requires { ⌜ at .0 + length (now from) ≤ length (now input) ⌝ }
+    ensures { λ _. ⌜ now (input .exit) ≡ paste (now (input .entry)) (at .0) (now (from .entry)) (length (now (from .entry))) ⌝ }
+{
+    copy_over(input, at.0, from);
+}
+
+pub fn copy_to_out(output: &mut [u8], at: OutCell, from: &[u8])
+    requires { ⌜ at .0 + length (now from) ≤ length (now output) ⌝ }
+    ensures { λ _. ⌜ now (output .exit) ≡ paste (now (output .entry)) (at .0) (now (from .entry)) (length (now (from .entry))) ⌝ }
+{
+    copy_over(output, at.0, from);
+}
+
+pub fn copy_to_journal(journal: &mut [u8], at: JournalByte, from: &[u8])
+    requires { ⌜ at .0 + length (now from) ≤ length (now journal) ⌝ }
+    ensures { λ _. ⌜ now (journal .exit) ≡ paste (now (journal .entry)) (at .0) (now (from .entry)) (length (now (from .entry))) ⌝ }
+{
+    copy_over(journal, at.0, from);
 }

@@ -10,8 +10,10 @@ ghost use Rattle.meaning.specs.Outcome.{emittedLine};
 ghost use Rattle.meaning.specs.Packing.{emissionOf};
 ghost use Rattle.decoding.specs.Decoded.{isName};
 ghost use Rattle.acting.specs.States.{memory, Acts};
-use crate::copying::copy_over;
+use crate::cells::part;
+use crate::copying::copy_to_journal;
 use crate::registers::Ending;
+use crate::registers::JournalByte;
 use crate::registers::Next;
 use crate::registers::Registers;
 use matching::CodePlace;
@@ -35,15 +37,16 @@ fn named(code: &[u32], name: CodePlace, size: usize) -> bool
     true
 }
 
-fn copy_name(journal: &mut [u8], to: usize, code: &[u32], name: CodePlace, size: usize)
+fn copy_name(journal: &mut [u8], to: JournalByte, code: &[u32], name: CodePlace, size: usize)
     requires { ⌜ isName size (drop (name .0) (now code)) ≡ true ⌝ }
-    requires { ⌜ to + size ≤ length (now journal) ⌝ }
-    ensures { λ _. ⌜ now (journal .exit) ≡ paste (now (journal .entry)) to (take size (drop (name .0) (now (code .entry)))) size ⌝ }
+    requires { ⌜ to .0 + size ≤ length (now journal) ⌝ }
+    ensures { λ _. ⌜ now (journal .exit) ≡ paste (now (journal .entry)) (to .0) (take size (drop (name .0) (now (code .entry)))) size ⌝ }
 {
     let at = name.0;
+    let first = to.0;
     let mut i = 0;
     while i < size {
-        journal[to + i] = (code[at + i] % 256) as u8;
+        journal[first + i] = (code[at + i] % 256) as u8;
         i += 1;
     }
 }
@@ -51,21 +54,21 @@ fn copy_name(journal: &mut [u8], to: usize, code: &[u32], name: CodePlace, size:
 // Name, byte 32, argument, byte 10.
 fn write_line(
     journal: &mut [u8],
-    to: usize,
+    to: JournalByte,
     code: &[u32],
     name: CodePlace,
     size: usize,
     argument: &[u8],
 )
     requires { ⌜ isName size (drop (name .0) (now code)) ≡ true ⌝ }
-    requires { ⌜ to + (size + length (now argument) + 2) ≤ length (now journal) ⌝ }
-    ensures { λ _. ⌜ now (journal .exit) ≡ paste (now (journal .entry)) to (emittedLine (take size (drop (name .0) (now (code .entry)))) (now (argument .entry)))
+    requires { ⌜ to .0 + (size + length (now argument) + 2) ≤ length (now journal) ⌝ }
+    ensures { λ _. ⌜ now (journal .exit) ≡ paste (now (journal .entry)) (to .0) (emittedLine (take size (drop (name .0) (now (code .entry)))) (now (argument .entry)))
         (size + length (now (argument .entry)) + 2) ⌝ }
 {
     copy_name(journal, to, code, name, size);
-    let gap = to + size;
+    let gap = to.0 + size;
     journal[gap] = 32;
-    copy_over(journal, gap + 1, argument);
+    copy_to_journal(journal, JournalByte(gap + 1), argument);
     let end = gap + 1 + argument.len();
     journal[end] = 10;
 }
@@ -81,14 +84,13 @@ pub fn emit(g: Registers, code: &[u32], size: usize, input: &[u8], journal: &mut
     if !named(code, g.at, size) {
         return Next::Stopped(g, Ending::NoInstruction, 0);
     }
-    let p = g.p.0;
-    let q = g.q.0;
+    let argument = part(input, g.p, g.q);
     let emitted = g.emitted;
-    let line = size + (q - p) + 2;
+    let line = size + argument.len() + 2;
     if journal.len() - emitted < line {
         return Next::Stopped(g, Ending::JournalFull, 0);
     }
-    write_line(journal, emitted, code, g.at, size, &input[p..q]);
+    write_line(journal, JournalByte(emitted), code, g.at, size, argument);
     let to = g.q;
     Next::Onward(Registers {
         p: to,

@@ -1,39 +1,168 @@
-// The frames, of which at most 256 are in use. A frame's 24 words: the lengths that the registers have by their numbers (0, d, dl and dr),
-// how many values are stored, how many sequences are open, where its call returns to and q there, and r at each open BeginSeq, the latest
-// first, up to the end.
-// A frame's 16 bytes: the stored values.
-ghost use Prim.Native.Nat.{_+_, _*_, _<_};
+// The frames, and the words that each keeps: written and read here alone, each as what it is.
+ghost use Prim.Native.Nat.{_+_, _*_, _-_, _≤_, _<_};
 ghost use mathlib.Core.Path.{_≡_};
 ghost use lib.ListN.{length, set};
-ghost use Rattle.acting.specs.States.{frameWord};
+ghost use Rattle.meaning.specs.Leaving.{maxFrames};
+ghost use Rattle.acting.specs.States.{frameWords, roomOfFrames, roomOfValues, frameWord, begun, callingFrom};
+use crate::cells::less;
+use crate::registers::InCell;
+use crate::registers::OutCell;
+use matching::CodePlace;
 
-pub fn frame_room() -> [usize; 6144]
-    ensures { λ r. ⌜ length r ≡ 6144 ⌝ }
+// The start is frame 0.
+pub const FRAMES: usize = 256;
+// How many lengths a span may name, by their numbers: 0, d, dl and dr.
+pub const LENGTHS: usize = 4;
+// How many sequences may be open in one frame.
+pub const OPEN_SEQUENCES: usize = 16;
+// How many values a frame stores.
+pub const FRAME_VALUES: usize = 16;
+
+// A frame's words: the lengths by their numbers, how many values are stored, how many sequences are open, where its call returns to, q as
+// the call was made; and r at each open BeginSeq, the latest first, up to the end.
+const FRAME_WORDS: usize = 24;
+
+const NULL: usize = 0;
+
+const WHOLE: usize = 1;
+
+const LEFT: usize = 2;
+
+const RIGHT: usize = 3;
+
+const STORED: usize = 4;
+
+const OPENED: usize = 5;
+
+const RETURN: usize = 6;
+
+const SELECTION: usize = 7;
+
+const FRAME_ROOM: usize = FRAMES * FRAME_WORDS;
+
+const VALUE_ROOM: usize = FRAMES * FRAME_VALUES;
+
+pub fn frame_room() -> [usize; FRAME_ROOM]
+    ensures { λ r. ⌜ length r ≡ roomOfFrames ⌝ }
 {
-    [0usize; 6144]
+    [0usize; FRAME_ROOM]
 }
 
-pub fn value_room() -> [u8; 4096]
-    ensures { λ r. ⌜ length r ≡ 4096 ⌝ }
+pub fn value_room() -> [u8; VALUE_ROOM]
+    ensures { λ r. ⌜ length r ≡ roomOfValues ⌝ }
 {
-    [0u8; 4096]
+    [0u8; VALUE_ROOM]
 }
 
-// A word of a frame.
-pub fn word(frames: &[usize], frame: usize, index: usize) -> usize
-    requires { ⌜ frame < 256 ⌝ }
-    requires { ⌜ index < 24 ⌝ }
-    requires { ⌜ length (now frames) ≡ 6144 ⌝ }
+fn word(frames: &[usize], frame: usize, index: usize) -> usize
+    requires { ⌜ frame < maxFrames ⌝ }
+    requires { ⌜ index < frameWords ⌝ }
+    requires { ⌜ length (now frames) ≡ roomOfFrames ⌝ }
     ensures { λ r. ⌜ r ≡ frameWord frame index (now (frames .entry)) ⌝ }
 {
-    frames[24 * frame + index]
+    frames[FRAME_WORDS * frame + index]
 }
 
-pub fn set_word(frames: &mut [usize], frame: usize, index: usize, value: usize)
-    requires { ⌜ frame < 256 ⌝ }
-    requires { ⌜ index < 24 ⌝ }
-    requires { ⌜ length (now frames) ≡ 6144 ⌝ }
-    ensures { λ _. ⌜ now (frames .exit) ≡ set (now (frames .entry)) (24 * frame + index) value ⌝ }
+fn set_word(frames: &mut [usize], frame: usize, index: usize, value: usize)
+    requires { ⌜ frame < maxFrames ⌝ }
+    requires { ⌜ index < frameWords ⌝ }
+    requires { ⌜ length (now frames) ≡ roomOfFrames ⌝ }
+    ensures { λ _. ⌜ now (frames .exit) ≡ set (now (frames .entry)) (frameWords * frame + index) value ⌝ }
 {
-    frames[24 * frame + index] = value;
+    frames[FRAME_WORDS * frame + index] = value;
+}
+
+// A frame's own numbers as its application begins.
+pub fn begin_frame(frames: &mut [usize], frame: usize, field: usize, place: usize, stored: usize)
+    requires { ⌜ frame < maxFrames ⌝ }
+    requires { ⌜ length (now frames) ≡ roomOfFrames ⌝ }
+    ensures { λ _. ⌜ now (frames .exit) ≡ begun frame field place stored (now (frames .entry)) ⌝ }
+{
+    set_word(frames, frame, NULL, 0);
+    set_word(frames, frame, WHOLE, field);
+    set_word(frames, frame, LEFT, place);
+    set_word(frames, frame, RIGHT, less(field, place));
+    set_word(frames, frame, STORED, stored);
+    set_word(frames, frame, OPENED, 0);
+}
+
+// The length that has a number.
+pub fn length_numbered(frames: &[usize], frame: usize, number: usize) -> usize
+    requires { ⌜ frame < maxFrames ⌝ }
+    requires { ⌜ number < 4 ⌝ }
+    requires { ⌜ length (now frames) ≡ roomOfFrames ⌝ }
+    ensures { λ r. ⌜ r ≡ frameWord frame number (now (frames .entry)) ⌝ }
+{
+    word(frames, frame, number)
+}
+
+pub fn stored_values(frames: &[usize], frame: usize) -> usize
+    requires { ⌜ frame < maxFrames ⌝ }
+    requires { ⌜ length (now frames) ≡ roomOfFrames ⌝ }
+    ensures { λ r. ⌜ r ≡ frameWord frame 4 (now (frames .entry)) ⌝ }
+{
+    word(frames, frame, STORED)
+}
+
+pub fn open_sequences(frames: &[usize], frame: usize) -> usize
+    requires { ⌜ frame < maxFrames ⌝ }
+    requires { ⌜ length (now frames) ≡ roomOfFrames ⌝ }
+    ensures { λ r. ⌜ r ≡ frameWord frame 5 (now (frames .entry)) ⌝ }
+{
+    word(frames, frame, OPENED)
+}
+
+pub fn set_open_sequences(frames: &mut [usize], frame: usize, opened: usize)
+    requires { ⌜ frame < maxFrames ⌝ }
+    requires { ⌜ length (now frames) ≡ roomOfFrames ⌝ }
+    ensures { λ _. ⌜ now (frames .exit) ≡ set (now (frames .entry)) (frameWords * frame + 5) opened ⌝ }
+{
+    set_word(frames, frame, OPENED, opened);
+}
+
+// Where the latest of so many open sequences begins on out.
+pub fn sequence_start(frames: &[usize], frame: usize, opened: usize) -> OutCell
+    requires { ⌜ frame < maxFrames ⌝ }
+    requires { ⌜ 0 < opened ⌝ }
+    requires { ⌜ opened ≤ 16 ⌝ }
+    requires { ⌜ length (now frames) ≡ roomOfFrames ⌝ }
+    ensures { λ r. ⌜ r .0 ≡ frameWord frame (frameWords - opened) (now (frames .entry)) ⌝ }
+{
+    OutCell(word(frames, frame, FRAME_WORDS - opened))
+}
+
+// A further sequence begins, so many being open.
+pub fn keep_sequence_start(frames: &mut [usize], frame: usize, opened: usize, r: OutCell)
+    requires { ⌜ frame < maxFrames ⌝ }
+    requires { ⌜ opened < 16 ⌝ }
+    requires { ⌜ length (now frames) ≡ roomOfFrames ⌝ }
+    ensures { λ _. ⌜ now (frames .exit) ≡ set (now (frames .entry)) (frameWords * frame + (23 - opened)) (r .0) ⌝ }
+{
+    set_word(frames, frame, FRAME_WORDS - 1 - opened, r.0);
+}
+
+// As a frame calls: where the call returns to, and its q.
+pub fn keep_caller(frames: &mut [usize], frame: usize, back: CodePlace, q: InCell)
+    requires { ⌜ frame < maxFrames ⌝ }
+    requires { ⌜ length (now frames) ≡ roomOfFrames ⌝ }
+    ensures { λ _. ⌜ now (frames .exit) ≡ callingFrom frame (back .0) (q .0) (now (frames .entry)) ⌝ }
+{
+    set_word(frames, frame, RETURN, back.0);
+    set_word(frames, frame, SELECTION, q.0);
+}
+
+pub fn return_place(frames: &[usize], frame: usize) -> CodePlace
+    requires { ⌜ frame < maxFrames ⌝ }
+    requires { ⌜ length (now frames) ≡ roomOfFrames ⌝ }
+    ensures { λ r. ⌜ r .0 ≡ frameWord frame 6 (now (frames .entry)) ⌝ }
+{
+    CodePlace(word(frames, frame, RETURN))
+}
+
+pub fn kept_selection(frames: &[usize], frame: usize) -> InCell
+    requires { ⌜ frame < maxFrames ⌝ }
+    requires { ⌜ length (now frames) ≡ roomOfFrames ⌝ }
+    ensures { λ r. ⌜ r .0 ≡ frameWord frame 7 (now (frames .entry)) ⌝ }
+{
+    InCell(word(frames, frame, SELECTION))
 }

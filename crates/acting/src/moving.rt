@@ -1,18 +1,40 @@
 // The instructions that move text: Go, Select, Out, OutC, OutV, BeginSeq, UseSeq.
-ghost use Prim.Native.Nat.{ℕ, _+_, _-_, _≤_, _<_, _^_, min};
+ghost use Prim.Native.Nat.{ℕ, _+_, _-_, _≤_, _<_, _^_};
 ghost use mathlib.Core.Path.{_≡_};
 ghost use mathlib.Core.List.{List};
 ghost use lib.ListN.{length};
 ghost use Rattle.meaning.specs.Choice.{Bytes};
 ghost use Rattle.meaning.specs.Instructions.{go as going, select as selecting, out, outCharacter, outValue, beginSequence, useSequence};
+ghost use Rattle.meaning.specs.Leaving.{maxFrames};
 ghost use Rattle.meaning.specs.Packing.{firstIn, secondIn, thirdIn, lengthOf};
 ghost use Rattle.decoding.specs.Decoded.{spanMeant, writeMeant};
-ghost use Rattle.acting.specs.States.{memory, localAt, Held, Opens, Acts};
+ghost use Rattle.acting.specs.States.{memory, roomOfFrames, roomOfValues, localAt, Held, Opens, Acts};
 ghost use Rattle.acting.specs.Spans.{withinCells, cellsOf, reachedBy};
 ghost use Rattle.acting.specs.Copied.{MovedDown, FewToMove, MovedFew};
-use crate::copying::copy_over;
-use crate::frames::set_word;
-use crate::frames::word;
+use crate::cells::bytes_between;
+use crate::cells::cell_after;
+use crate::cells::cell_before;
+use crate::cells::cells_below;
+use crate::cells::cells_from;
+use crate::cells::earlier;
+use crate::cells::less;
+use crate::cells::move_byte;
+use crate::cells::out_after;
+use crate::cells::out_before;
+use crate::cells::part;
+use crate::cells::put;
+use crate::cells::room_from;
+use crate::copying::FEW;
+use crate::copying::copy_to_out;
+use crate::frames::FRAME_VALUES;
+use crate::frames::LENGTHS;
+use crate::frames::OPEN_SEQUENCES;
+use crate::frames::keep_sequence_start;
+use crate::frames::length_numbered;
+use crate::frames::open_sequences;
+use crate::frames::sequence_start;
+use crate::frames::set_open_sequences;
+use crate::frames::stored_values;
 use crate::registers::Ending;
 use crate::registers::InCell;
 use crate::registers::Next;
@@ -30,12 +52,6 @@ pub enum Cells {
 pub enum Reached {
     At(InCell),
     Wrong,
-}
-
-pub fn less(a: usize, b: usize) -> usize
-    ensures { λ r. ⌜ r ≡ a - b ⌝ }
-{
-    if b < a { a - b } else { 0 }
 }
 
 // cells + add - back, if that many cells are there
@@ -56,33 +72,32 @@ fn within(cells: usize, add: usize, back: usize, there: usize) -> Cells
 
 // The cells of a span: a register's length, with an addition, less what stays back.
 fn span_cells(frames: &[usize], frame: usize, span: u32, there: usize) -> Cells
-    requires { ⌜ frame < 256 ⌝ }
-    requires { ⌜ length (now frames) ≡ 6144 ⌝ }
+    requires { ⌜ frame < maxFrames ⌝ }
+    requires { ⌜ length (now frames) ≡ roomOfFrames ⌝ }
     requires { ⌜ Held frame (now frames) ⌝ }
     requires { ⌜ there < 2 ^ 63 ⌝ }
     ensures { λ r. ⌜ ((values : Bytes) → r ≡ cellsOf (lengthOf (firstIn span)) (secondIn span) (thirdIn span) (localAt frame (now (frames .entry)) values) there) ⌝ }
 {
     let register = wide(span / 256 % 256);
-    if 3 < register {
+    if LENGTHS <= register {
         return Cells::Wrong;
     }
     let add = wide(span / 65536 % 256);
     let back = wide(span / 16777216 % 256);
-    within(word(frames, frame, register), add, back, there)
+    within(length_numbered(frames, frame, register), add, back, there)
 }
 
 // The cell that a span's cells lead to from another.
 fn reach(from: InCell, span: u32, frame: usize, input: &[u8], frames: &[usize]) -> Reached
     requires { ⌜ from .0 ≤ length (now input) ⌝ }
-    requires { ⌜ frame < 256 ⌝ }
-    requires { ⌜ length (now frames) ≡ 6144 ⌝ }
+    requires { ⌜ frame < maxFrames ⌝ }
+    requires { ⌜ length (now frames) ≡ roomOfFrames ⌝ }
     requires { ⌜ Held frame (now frames) ⌝ }
     ensures { λ r. ⌜ ((values : Bytes) → r ≡ reachedBy (cellsOf (lengthOf (firstIn span)) (secondIn span) (thirdIn span)
         (localAt frame (now (frames .entry)) values) (length (now (input .entry)) - from .0)) (from .0)) ⌝ }
 {
-    let at = from.0;
-    match span_cells(frames, frame, span, input.len() - at) {
-        Cells::Count(n) => Reached::At(InCell(at + n)),
+    match span_cells(frames, frame, span, cells_from(input, from)) {
+        Cells::Count(n) => Reached::At(cell_after(from, n)),
         Cells::Wrong => Reached::Wrong,
     }
 }
@@ -91,8 +106,8 @@ fn reach(from: InCell, span: u32, frame: usize, input: &[u8], frames: &[usize]) 
 pub fn go(g: Registers, span: u32, input: &[u8], frames: &[usize]) -> Next
     requires { ⌜ g .p .0 ≤ g .q .0 ⌝ }
     requires { ⌜ g .q .0 ≤ length (now input) ⌝ }
-    requires { ⌜ g .frame < 256 ⌝ }
-    requires { ⌜ length (now frames) ≡ 6144 ⌝ }
+    requires { ⌜ g .frame < maxFrames ⌝ }
+    requires { ⌜ length (now frames) ≡ roomOfFrames ⌝ }
     requires { ⌜ Held (g .frame) (now frames) ⌝ }
     ensures { λ r. ⌜ ((output journal values : Bytes) → Acts (spanMeant going span) (g .at .0) g (memory (now (input .entry)) output journal (now (frames .entry)) values)
         r (memory (now (input .entry)) output journal (now (frames .entry)) values)) ⌝ }
@@ -107,8 +122,8 @@ pub fn go(g: Registers, span: u32, input: &[u8], frames: &[usize]) -> Next
 pub fn select(g: Registers, span: u32, input: &[u8], frames: &[usize]) -> Next
     requires { ⌜ g .p .0 ≤ g .q .0 ⌝ }
     requires { ⌜ g .q .0 ≤ length (now input) ⌝ }
-    requires { ⌜ g .frame < 256 ⌝ }
-    requires { ⌜ length (now frames) ≡ 6144 ⌝ }
+    requires { ⌜ g .frame < maxFrames ⌝ }
+    requires { ⌜ length (now frames) ≡ roomOfFrames ⌝ }
     requires { ⌜ Held (g .frame) (now frames) ⌝ }
     ensures { λ r. ⌜ ((output journal values : Bytes) → Acts (spanMeant selecting span) (g .at .0) g (memory (now (input .entry)) output journal (now (frames .entry)) values)
         r (memory (now (input .entry)) output journal (now (frames .entry)) values)) ⌝ }
@@ -126,19 +141,14 @@ pub fn write_part(g: Registers, input: &[u8], output: &mut [u8]) -> Next
     ensures { λ r. ⌜ ((journal values : Bytes) (frames : List ℕ) → Acts out (g .at .0) g (memory (now (input .entry)) (now (output .entry)) journal frames values) r
         (memory (now (input .entry)) (now (output .exit)) journal frames values)) ⌝ }
 {
-    let p = g.p.0;
-    let q = g.q.0;
-    let r = g.r.0;
-    if output.len() - r < q - p {
+    let selected = part(input, g.p, g.q);
+    if room_from(output, g.r) < selected.len() {
         return Next::Stopped(g, Ending::OutFull, 0);
     }
-    copy_over(output, r, &input[p..q]);
+    copy_to_out(output, g.r, selected);
     let to = g.q;
-    Next::Onward(Registers {
-        p: to,
-        r: OutCell(r + (q - p)),
-        ..g
-    })
+    let end = out_after(g.r, selected.len());
+    Next::Onward(Registers { p: to, r: end, ..g })
 }
 
 pub fn write_byte(g: Registers, byte: u8, output: &mut [u8]) -> Next
@@ -146,15 +156,12 @@ pub fn write_byte(g: Registers, byte: u8, output: &mut [u8]) -> Next
     ensures { λ r. ⌜ ((input journal values : Bytes) (frames : List ℕ) → Acts (outCharacter byte) (g .at .0) g
         (memory input (now (output .entry)) journal frames values) r (memory input (now (output .exit)) journal frames values)) ⌝ }
 {
-    let r = g.r.0;
-    if output.len() <= r {
+    if room_from(output, g.r) == 0 {
         return Next::Stopped(g, Ending::OutFull, 0);
     }
-    output[r] = byte;
-    Next::Onward(Registers {
-        r: OutCell(r + 1),
-        ..g
-    })
+    put(output, g.r, byte);
+    let end = out_after(g.r, 1);
+    Next::Onward(Registers { r: end, ..g })
 }
 
 fn write_value(
@@ -165,19 +172,19 @@ fn write_value(
     values: &[u8],
 ) -> Next
     requires { ⌜ g .r .0 ≤ length (now output) ⌝ }
-    requires { ⌜ g .frame < 256 ⌝ }
-    requires { ⌜ length (now frames) ≡ 6144 ⌝ }
+    requires { ⌜ g .frame < maxFrames ⌝ }
+    requires { ⌜ length (now frames) ≡ roomOfFrames ⌝ }
     requires { ⌜ Held (g .frame) (now frames) ⌝ }
-    requires { ⌜ length (now values) ≡ 4096 ⌝ }
+    requires { ⌜ length (now values) ≡ roomOfValues ⌝ }
     ensures { λ r. ⌜ ((input journal : Bytes) → Acts (outValue index) (g .at .0) g
         (memory input (now (output .entry)) journal (now (frames .entry)) (now (values .entry))) r
         (memory input (now (output .exit)) journal (now (frames .entry)) (now (values .entry)))) ⌝ }
 {
     let frame = g.frame;
-    if word(frames, frame, 4) <= index {
+    if stored_values(frames, frame) <= index {
         return Next::Stopped(g, Ending::NoInstruction, 0);
     }
-    write_byte(g, values[16 * frame + index], output)
+    write_byte(g, values[FRAME_VALUES * frame + index], output)
 }
 
 // Out, OutC, OutV
@@ -192,10 +199,10 @@ pub fn write(
     requires { ⌜ g .p .0 ≤ g .q .0 ⌝ }
     requires { ⌜ g .q .0 ≤ length (now input) ⌝ }
     requires { ⌜ g .r .0 ≤ length (now output) ⌝ }
-    requires { ⌜ g .frame < 256 ⌝ }
-    requires { ⌜ length (now frames) ≡ 6144 ⌝ }
+    requires { ⌜ g .frame < maxFrames ⌝ }
+    requires { ⌜ length (now frames) ≡ roomOfFrames ⌝ }
     requires { ⌜ Held (g .frame) (now frames) ⌝ }
-    requires { ⌜ length (now values) ≡ 4096 ⌝ }
+    requires { ⌜ length (now values) ≡ roomOfValues ⌝ }
     ensures { λ r. ⌜ ((journal : Bytes) → Acts (writeMeant what) (g .at .0) g
         (memory (now (input .entry)) (now (output .entry)) journal (now (frames .entry)) (now (values .entry))) r
         (memory (now (input .entry)) (now (output .exit)) journal (now (frames .entry)) (now (values .entry)))) ⌝ }
@@ -209,24 +216,24 @@ pub fn write(
 
 // Keeps r as a sequence begins, if one more may be open; a frame's words end with what it keeps, the latest first.
 pub fn open_sequence(frames: &mut [usize], frame: usize, r: OutCell) -> bool
-    requires { ⌜ frame < 256 ⌝ }
-    requires { ⌜ length (now frames) ≡ 6144 ⌝ }
+    requires { ⌜ frame < maxFrames ⌝ }
+    requires { ⌜ length (now frames) ≡ roomOfFrames ⌝ }
     requires { ⌜ Held frame (now frames) ⌝ }
     ensures { λ ok. ⌜ Opens frame (r .0) (now (frames .entry)) (now (frames .exit)) ok ⌝ }
 {
-    let opened = word(frames, frame, 5);
-    if 16 <= opened {
+    let opened = open_sequences(frames, frame);
+    if OPEN_SEQUENCES <= opened {
         return false;
     }
-    set_word(frames, frame, 23 - opened, r.0);
-    set_word(frames, frame, 5, opened + 1);
+    keep_sequence_start(frames, frame, opened, r);
+    set_open_sequences(frames, frame, opened + 1);
     true
 }
 
 // BeginSeq: r is kept.
 pub fn begin_sequence(g: Registers, frames: &mut [usize]) -> Next
-    requires { ⌜ g .frame < 256 ⌝ }
-    requires { ⌜ length (now frames) ≡ 6144 ⌝ }
+    requires { ⌜ g .frame < maxFrames ⌝ }
+    requires { ⌜ length (now frames) ≡ roomOfFrames ⌝ }
     requires { ⌜ Held (g .frame) (now frames) ⌝ }
     ensures { λ r. ⌜ ((input output journal values : Bytes) → g .r .0 ≤ length output →
         Acts beginSequence (g .at .0) g (memory input output journal (now (frames .entry)) values) r (memory input output journal (now (frames .exit)) values)) ⌝ }
@@ -242,15 +249,13 @@ fn move_four(input: &mut [u8], p: InCell, output: &[u8], first: OutCell, r: OutC
     requires { ⌜ FewToMove 8 (now input) (p .0) (now output) (first .0) (r .0) ⌝ }
     ensures { λ n. ⌜ MovedFew 4 (now (input .entry)) (p .0) (now (output .entry)) (first .0) (r .0) n (now (input .exit)) ⌝ }
 {
-    if r.0 - first.0 < 4 {
+    if bytes_between(first, r) < 4 {
         return 0;
     }
-    let to = p.0;
-    let from = r.0;
-    input[to - 1] = output[from - 1];
-    input[to - 2] = output[from - 2];
-    input[to - 3] = output[from - 3];
-    input[to - 4] = output[from - 4];
+    move_byte(input, p, output, r, 1);
+    move_byte(input, p, output, r, 2);
+    move_byte(input, p, output, r, 3);
+    move_byte(input, p, output, r, 4);
     4
 }
 
@@ -258,13 +263,11 @@ fn move_two(input: &mut [u8], p: InCell, output: &[u8], first: OutCell, r: OutCe
     requires { ⌜ FewToMove 4 (now input) (p .0) (now output) (first .0) (r .0) ⌝ }
     ensures { λ n. ⌜ MovedFew 2 (now (input .entry)) (p .0) (now (output .entry)) (first .0) (r .0) n (now (input .exit)) ⌝ }
 {
-    if r.0 - first.0 < 2 {
+    if bytes_between(first, r) < 2 {
         return 0;
     }
-    let to = p.0;
-    let from = r.0;
-    input[to - 1] = output[from - 1];
-    input[to - 2] = output[from - 2];
+    move_byte(input, p, output, r, 1);
+    move_byte(input, p, output, r, 2);
     2
 }
 
@@ -272,28 +275,26 @@ fn move_one(input: &mut [u8], p: InCell, output: &[u8], first: OutCell, r: OutCe
     requires { ⌜ FewToMove 2 (now input) (p .0) (now output) (first .0) (r .0) ⌝ }
     ensures { λ n. ⌜ MovedFew 1 (now (input .entry)) (p .0) (now (output .entry)) (first .0) (r .0) n (now (input .exit)) ⌝ }
 {
-    if r.0 - first.0 < 1 {
+    if bytes_between(first, r) < 1 {
         return 0;
     }
-    let to = p.0;
-    let from = r.0;
-    input[to - 1] = output[from - 1];
+    move_byte(input, p, output, r, 1);
     1
 }
 
-// Fewer than eight bytes of out moved so, without a loop, which for so few would cost more than the moving.
+// Fewer than eight bytes of out moved so.
 fn move_few(input: &mut [u8], p: InCell, output: &[u8], first: OutCell, r: OutCell) -> InCell
     requires { ⌜ FewToMove 8 (now input) (p .0) (now output) (first .0) (r .0) ⌝ }
     ensures { λ to. ⌜ MovedDown (now (input .entry)) (p .0) (now (output .entry)) (first .0) (r .0) (to .0) (now (input .exit)) ⌝ }
 {
     let four = move_four(input, p, output, first, r);
-    let p = InCell(p.0 - four);
-    let r = OutCell(r.0 - four);
+    let p = cell_before(p, four);
+    let r = out_before(r, four);
     let two = move_two(input, p, output, first, r);
-    let p = InCell(p.0 - two);
-    let r = OutCell(r.0 - two);
+    let p = cell_before(p, two);
+    let r = out_before(r, two);
     let one = move_one(input, p, output, first, r);
-    InCell(p.0 - one)
+    cell_before(p, one)
 }
 
 // Bytes of out moved to just below p, from the last down to the first.
@@ -304,23 +305,16 @@ fn move_down(input: &mut [u8], p: InCell, output: &[u8], first: OutCell, r: OutC
     requires { ⌜ p .0 ≤ length (now input) ⌝ }
     ensures { λ to. ⌜ MovedDown (now (input .entry)) (p .0) (now (output .entry)) (first .0) (r .0) (to .0) (now (input .exit)) ⌝ }
 {
-    let from = first.0;
-    let mut left = r.0 - from;
-    if left < 8 {
+    let count = bytes_between(first, r);
+    if count < FEW {
         return move_few(input, p, output, first, r);
     }
-    let to = p.0 - left;
-    while 0 < left {
-        left -= 1;
-        input[to + left] = output[from + left];
+    let mut back = 0;
+    while back < count {
+        back += 1;
+        move_byte(input, p, output, r, back);
     }
-    InCell(to)
-}
-
-fn lower(a: usize, b: usize) -> usize
-    ensures { λ r. ⌜ r ≡ min a b ⌝ }
-{
-    if a < b { a } else { b }
+    cell_before(p, count)
 }
 
 // UseSeq: in[p-(r-r0)..p-1] := out[r0..r-1], with r0 kept by the latest BeginSeq
@@ -328,23 +322,23 @@ pub fn use_sequence(g: Registers, input: &mut [u8], output: &[u8], frames: &mut 
     requires { ⌜ g .p .0 ≤ g .q .0 ⌝ }
     requires { ⌜ g .q .0 ≤ length (now input) ⌝ }
     requires { ⌜ g .r .0 ≤ length (now output) ⌝ }
-    requires { ⌜ g .frame < 256 ⌝ }
-    requires { ⌜ length (now frames) ≡ 6144 ⌝ }
+    requires { ⌜ g .frame < maxFrames ⌝ }
+    requires { ⌜ length (now frames) ≡ roomOfFrames ⌝ }
     requires { ⌜ Held (g .frame) (now frames) ⌝ }
     ensures { λ r. ⌜ ((journal values : Bytes) → Acts useSequence (g .at .0) g
         (memory (now (input .entry)) (now (output .entry)) journal (now (frames .entry)) values) r
         (memory (now (input .exit)) (now (output .entry)) journal (now (frames .exit)) values)) ⌝ }
 {
     let frame = g.frame;
-    let opened = word(frames, frame, 5);
+    let opened = open_sequences(frames, frame);
     if opened == 0 {
         return Next::Stopped(g, Ending::NoInstruction, 0);
     }
-    let first = OutCell(lower(word(frames, frame, 24 - opened), g.r.0));
-    if g.p.0 < g.r.0 - first.0 {
+    let first = earlier(sequence_start(frames, frame, opened), g.r);
+    if cells_below(g.p) < bytes_between(first, g.r) {
         return Next::Stopped(g, Ending::InFull, 0);
     }
-    set_word(frames, frame, 5, opened - 1);
+    set_open_sequences(frames, frame, opened - 1);
     let start = move_down(input, g.p, output, first, g.r);
     let end = g.q;
     Next::Onward(Registers {

@@ -18,7 +18,7 @@ use Rattle.acting.specs.declared.registers.Next.{Next}
 use Rattle.acting.specs.declared.registers.Next.the-variants.{Onward, Done, Stopped}
 use Rattle.acting.specs.declared.registers.Status.{Status}
 use Rattle.acting.specs.declared.registers.Status.the-variants as status
-use Rattle.acting.specs.States.{Memory, memory, Held, stacksOf, ledgerOf, roomOf, Outcomes}
+use Rattle.acting.specs.States.{roomOfFrames, roomOfValues, Memory, memory, Held, stacksOf, ledgerOf, roomOf, Outcomes}
 use Rattle.applying.specs.Waiting.{functionsIn, entering, returning, comesTo, Waits, performing, leftBelow, leftToDo}
 
 -- the registers stay within what is lent and allowed, and so do the frames that wait: an application may begin
@@ -28,8 +28,8 @@ pub record Ready (allowance : ℕ) (g : Registers) (m : Memory) : Type 0 where
   pub below : g .r .0 ≤ length (m .output)
   pub logged : g .emitted ≤ length (m .journal)
   pub framed : g .frame < maxFrames
-  pub frameRoom : length (m .frames) ≡ 6144
-  pub valueRoom : length (m .values) ≡ 4096
+  pub frameRoom : length (m .frames) ≡ roomOfFrames
+  pub valueRoom : length (m .values) ≡ roomOfValues
   pub paid : g .steps ≤ allowance
   pub waits : (k : ℕ) → k < g .frame → Waits (length (m .input)) k (m .frames)
 

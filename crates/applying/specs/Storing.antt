@@ -1,9 +1,8 @@
--- What the beginning of an application leaves in its frame: the values of its stores, and the words of the frame.
-use Prim.Native.Nat.{ℕ, _+_, _*_, _-_}
+-- What the beginning of an application leaves in its frame: the values of its stores.
+use Prim.Native.Nat.{ℕ, _+_}
 use mathlib.Core.Path.{_≡_}
 use mathlib.Core.Option.{Option, none, some}
-use mathlib.Core.List.{List}
-use lib.ListN.{take, drop, set}
+use lib.ListN.{take, drop}
 use Rattle.meaning.specs.Choice.{Bytes}
 use Rattle.applying.specs.declared.Stored.{Stored}
 use Rattle.applying.specs.declared.Stored.the-variants.{Before, Wrong}
@@ -23,8 +22,3 @@ pub record Stores (base count next : ℕ) (values : Option Bytes) (before after 
   pub ends : EndsAt next stored
   pub below : take base after ≡ take base before
   pub above : drop (base + count) after ≡ drop (base + count) before
-
--- a frame's words as its application begins: the lengths of the registers by their numbers, the number of values, and no sequence open
-abbrev pub begun : ℕ → ℕ → ℕ → ℕ → List ℕ → List ℕ
-begun frame field place stored frames =
-    set (set (set (set (set (set frames (24 * frame + 0) 0) (24 * frame + 1) field) (24 * frame + 2) place) (24 * frame + 3) (field - place)) (24 * frame + 4) stored) (24 * frame + 5) 0

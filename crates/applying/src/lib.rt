@@ -1,5 +1,5 @@
 // An application of a function: the start, a call, a tail call, and its end.
-ghost use Prim.Native.Nat.{ℕ, _+_, _*_, _-_, _≤_, _<_, max};
+ghost use Prim.Native.Nat.{ℕ, _+_, _*_, _-_, _≤_, _<_};
 ghost use mathlib.Core.Path.{_≡_};
 ghost use mathlib.Core.Bool.{true};
 ghost use lib.ListN.{length, drop};
@@ -7,19 +7,24 @@ ghost use Rattle.meaning.specs.Choice.{Bytes};
 ghost use Rattle.meaning.specs.Matching.{storedCell, storedValues};
 ghost use Rattle.meaning.specs.Machine.{isDeclared};
 ghost use Rattle.meaning.specs.Instructions.{call as calling};
+ghost use Rattle.meaning.specs.Leaving.{maxFrames};
 ghost use Rattle.meaning.specs.Packing.{storeOf, unpackStores};
 ghost use Rattle.classes.specs.Tests.{Answers};
 ghost use Rattle.matching.specs.Matched.{cellMeant};
-ghost use Rattle.applying.specs.Storing.{Stores, begun};
+ghost use Rattle.applying.specs.Storing.{Stores};
 ghost use Rattle.decoding.specs.Decoded.{callMeant};
-ghost use Rattle.acting.specs.States.{memory};
+ghost use Rattle.acting.specs.States.{roomOfFrames, roomOfValues, memory};
 ghost use Rattle.applying.specs.Waiting.{countIn, functionsIn, leftBy};
 ghost use Rattle.applying.specs.Advancing.{Performs, Applies, Starts};
-use acting::frames::set_word;
-use acting::frames::word;
-use acting::moving::less;
+use acting::cells::later;
+use acting::cells::part;
+use acting::frames::FRAME_VALUES;
+use acting::frames::FRAMES;
+use acting::frames::begin_frame;
+use acting::frames::keep_caller;
+use acting::frames::kept_selection;
+use acting::frames::return_place;
 use acting::registers::Ending;
-use acting::registers::InCell;
 use acting::registers::Next;
 use acting::registers::Registers;
 use decoding::Call;
@@ -60,7 +65,7 @@ fn store_values(
     ensures { λ r. ⌜ Stores (16 * frame) count (stores .0 + count)
         (storedValues (unpackStores count (drop (stores .0) (now (code .entry)))) (now (field .entry)) place) (now (values .entry)) (now (values .exit)) r ⌝ }
 {
-    let base = 16 * frame;
+    let base = FRAME_VALUES * frame;
     let mut at = stores.0;
     let mut i = 0;
     while i < count {
@@ -88,20 +93,6 @@ fn stored_cell(field: &[u8], place: usize, word: u32) -> Cell
     }
 }
 
-// A frame's own numbers as its application begins.
-pub fn begin_frame(frames: &mut [usize], frame: usize, field: usize, place: usize, stored: usize)
-    requires { ⌜ frame < 256 ⌝ }
-    requires { ⌜ length (now frames) ≡ 6144 ⌝ }
-    ensures { λ _. ⌜ now (frames .exit) ≡ begun frame field place stored (now (frames .entry)) ⌝ }
-{
-    set_word(frames, frame, 0, 0);
-    set_word(frames, frame, 1, field);
-    set_word(frames, frame, 2, place);
-    set_word(frames, frame, 3, less(field, place));
-    set_word(frames, frame, 4, stored);
-    set_word(frames, frame, 5, 0);
-}
-
 // The actions of the sentence chosen for the field are next, in the frame of the registers.
 fn start_sentence(
     g: Registers,
@@ -115,26 +106,18 @@ fn start_sentence(
 ) -> Next
     requires { ⌜ g .p .0 ≤ g .q .0 ⌝ }
     requires { ⌜ g .q .0 ≤ length (now input) ⌝ }
-    requires { ⌜ g .frame < 256 ⌝ }
-    requires { ⌜ length (now frames) ≡ 6144 ⌝ }
-    requires { ⌜ length (now values) ≡ 4096 ⌝ }
+    requires { ⌜ g .frame < maxFrames ⌝ }
+    requires { ⌜ length (now frames) ≡ roomOfFrames ⌝ }
+    requires { ⌜ length (now values) ≡ roomOfValues ⌝ }
     requires { ⌜ stored ≤ 16 ⌝ }
     ensures { λ r. ⌜ ((allowance : ℕ) (output journal : Bytes) → Starts (now (code .entry)) allowance place (stores .0) stored g (memory (now (input .entry)) output journal (now (frames .entry)) (now (values .entry))) r (memory (now (input .entry)) output journal (now (frames .exit)) (now (values .exit)))) ⌝ }
 {
-    let p = g.p.0;
-    let q = g.q.0;
-    let Stored::Before(actions) = store_values(
-        code,
-        stores,
-        stored,
-        &input[p..q],
-        place,
-        values,
-        g.frame,
-    ) else {
+    let field = part(input, g.p, g.q);
+    let Stored::Before(actions) = store_values(code, stores, stored, field, place, values, g.frame)
+    else {
         return Next::Stopped(g, Ending::NoInstruction, 0);
     };
-    begin_frame(frames, g.frame, q - p, place, stored);
+    begin_frame(frames, g.frame, field.len(), place, stored);
     let none = g.p;
     Next::Onward(Registers {
         q: none,
@@ -161,9 +144,9 @@ pub fn apply(
     requires { ⌜ number ≤ countIn (now code) ⌝ }
     requires { ⌜ g .p .0 ≤ g .q .0 ⌝ }
     requires { ⌜ g .q .0 ≤ length (now input) ⌝ }
-    requires { ⌜ g .frame < 256 ⌝ }
-    requires { ⌜ length (now frames) ≡ 6144 ⌝ }
-    requires { ⌜ length (now values) ≡ 4096 ⌝ }
+    requires { ⌜ g .frame < maxFrames ⌝ }
+    requires { ⌜ length (now frames) ≡ roomOfFrames ⌝ }
+    requires { ⌜ length (now values) ≡ roomOfValues ⌝ }
     ensures { λ r. ⌜ ((output journal : Bytes) → Applies (now (code .entry)) allowance number g (memory (now (input .entry)) output journal (now (frames .entry)) (now (values .entry))) r (memory (now (input .entry)) output journal (now (frames .exit)) (now (values .exit)))) ⌝ }
 {
     let steps = g.steps;
@@ -172,9 +155,8 @@ pub fn apply(
     }
     let next = steps + 1;
     let paid = Registers { steps: next, ..g };
-    let p = g.p.0;
-    let q = g.q.0;
-    match choose(bits, code, CodePlace(wide(code[number])), &input[p..q]) {
+    let field = part(input, g.p, g.q);
+    match choose(bits, code, CodePlace(wide(code[number])), field) {
         Choice::Sentence {
             number: _,
             place,
@@ -195,8 +177,8 @@ fn framed_call(
     frames: &mut [usize],
 ) -> Next
     requires { ⌜ isDeclared (functionsIn (now code)) number ≡ true ⌝ }
-    requires { ⌜ g .frame < 256 ⌝ }
-    requires { ⌜ length (now frames) ≡ 6144 ⌝ }
+    requires { ⌜ g .frame < maxFrames ⌝ }
+    requires { ⌜ length (now frames) ≡ roomOfFrames ⌝ }
     ensures { λ r. ⌜ ((input output journal values : Bytes) → Performs (now (code .entry)) allowance (calling number) (g .at .0) g
         (memory input output journal (now (frames .entry)) values) r (memory input output journal (now (frames .exit)) values)) ⌝ }
 {
@@ -204,11 +186,10 @@ fn framed_call(
         return Next::Stopped(g, Ending::AllowanceSpent, 0);
     }
     let frame = g.frame;
-    if 255 <= frame {
+    if FRAMES <= frame + 1 {
         return Next::Stopped(g, Ending::FramesFull, 0);
     }
-    set_word(frames, frame, 6, g.at.0);
-    set_word(frames, frame, 7, g.q.0);
+    keep_caller(frames, frame, g.at, g.q);
     begin_frame(frames, frame + 1, 0, 0, 0);
     Next::Onward(Registers {
         frame: frame + 1,
@@ -221,8 +202,8 @@ fn framed_call(
 // A call, or a tail call, which takes the caller's frame: its function's application is to begin next, at no place of the code.
 pub fn call(g: Registers, code: &[u32], what: Call, allowance: u32, frames: &mut [usize]) -> Next
     requires { ⌜ countIn (now code) < length (now code) ⌝ }
-    requires { ⌜ g .frame < 256 ⌝ }
-    requires { ⌜ length (now frames) ≡ 6144 ⌝ }
+    requires { ⌜ g .frame < maxFrames ⌝ }
+    requires { ⌜ length (now frames) ≡ roomOfFrames ⌝ }
     ensures { λ r. ⌜ ((input output journal values : Bytes) → Performs (now (code .entry)) allowance (callMeant what) (g .at .0) g
         (memory input output journal (now (frames .entry)) values) r (memory input output journal (now (frames .exit)) values)) ⌝ }
 {
@@ -240,25 +221,18 @@ pub fn call(g: Registers, code: &[u32], what: Call, allowance: u32, frames: &mut
     framed_call(g, code, number, allowance, frames)
 }
 
-// The one of two cells that stands further to the right.
-fn later(a: InCell, b: InCell) -> InCell
-    ensures { λ r. ⌜ r .0 ≡ max (a .0) (b .0) ⌝ }
-{
-    if a.0 < b.0 { b } else { a }
-}
-
 // The end of an application: the frame below goes on, its q where it was unless p has passed it, or the run is done.
 pub fn leave(g: Registers, frames: &[usize]) -> Next
-    requires { ⌜ g .frame < 256 ⌝ }
-    requires { ⌜ length (now frames) ≡ 6144 ⌝ }
+    requires { ⌜ g .frame < maxFrames ⌝ }
+    requires { ⌜ length (now frames) ≡ roomOfFrames ⌝ }
     ensures { λ r. ⌜ r ≡ leftBy g (now (frames .entry)) ⌝ }
 {
     if g.frame == 0 {
         return Next::Done(g);
     }
     let frame = g.frame - 1;
-    let back = CodePlace(word(frames, frame, 6));
-    let end = later(g.p, InCell(word(frames, frame, 7)));
+    let back = return_place(frames, frame);
+    let end = later(g.p, kept_selection(frames, frame));
     Next::Onward(Registers {
         q: end,
         frame: frame,

@@ -34,10 +34,13 @@ pub record Leaves (ran : Ran) (now : Cells) (should : Leaving) : Type 0 where
 abbrev pub refusedWith : Ending → Ran
 refusedWith ending = record { ending = ending; function = 0; steps = 0; text = 0; emissions = 0 }
 
--- what is reported of the end of a run
+-- what is reported of a run that is done, and of the end of any run
+abbrev pub finishedWith : Registers → Ran
+finishedWith g = record { ending = Finished; function = 0; steps = g .steps; text = g .r .0; emissions = g .emitted }
+
 abbrev pub reportedOf : Next → Ran
-reportedOf (Onward g) = record { ending = Finished; function = 0; steps = g .steps; text = g .r .0; emissions = g .emitted }
-reportedOf (Done g) = record { ending = Finished; function = 0; steps = g .steps; text = g .r .0; emissions = g .emitted }
+reportedOf (Onward g) = finishedWith g
+reportedOf (Done g) = finishedWith g
 reportedOf (Stopped g ending function) = record { ending = ending; function = function; steps = g .steps; text = 0; emissions = g .emitted }
 
 -- the cells up to a place, and zeros after it

@@ -5,18 +5,19 @@ ghost use lib.ListN.{length};
 ghost use Rattle.classes.specs.Tests.{Answers};
 ghost use Rattle.meaning.specs.Runs.{runLent};
 ghost use Rattle.meaning.specs.Leaving.{roomOf as roomOfCells, left};
-ghost use Rattle.acting.specs.States.{memory};
+ghost use Rattle.acting.specs.States.{roomOfFrames, roomOfValues, memory};
 ghost use Rattle.applying.specs.Waiting.{countIn, soundIn, functionsIn};
 ghost use Rattle.applying.specs.Advancing.{Keeps, Follows};
-ghost use Rattle.running.specs.Leaving.{cells, Leaves, refusedWith, reportedOf, clearedFrom, loadedWith};
-use acting::copying::copy_over;
+ghost use Rattle.running.specs.Leaving.{cells, Leaves, refusedWith, finishedWith, reportedOf, clearedFrom, loadedWith};
+use acting::cells::bytes_up_to;
+use acting::copying::copy_to_in;
+use acting::frames::begin_frame;
 use acting::registers::Ending;
 use acting::registers::InCell;
 use acting::registers::Next;
 use acting::registers::OutCell;
 use acting::registers::Ran;
 use acting::registers::Registers;
-use applying::begin_frame;
 use matching::CodePlace;
 use matching::wide;
 use stepping::is_onward;
@@ -106,24 +107,25 @@ fn clear_from(cells: &mut [u8], start: usize)
     }
 }
 
+// A run that is done gives the text on out.
+fn finished(g: Registers) -> Ran
+    ensures { λ r. ⌜ r ≡ finishedWith g ⌝ }
+{
+    Ran {
+        ending: Ending::Finished,
+        function: 0,
+        steps: g.steps,
+        text: bytes_up_to(g.r),
+        emissions: g.emitted,
+    }
+}
+
 fn reported(next: Next) -> Ran
     ensures { λ r. ⌜ r ≡ reportedOf next ⌝ }
 {
     match next {
-        Next::Onward(g) => Ran {
-            ending: Ending::Finished,
-            function: 0,
-            steps: g.steps,
-            text: g.r.0,
-            emissions: g.emitted,
-        },
-        Next::Done(g) => Ran {
-            ending: Ending::Finished,
-            function: 0,
-            steps: g.steps,
-            text: g.r.0,
-            emissions: g.emitted,
-        },
+        Next::Onward(g) => finished(g),
+        Next::Done(g) => finished(g),
         Next::Stopped(g, ending, function) => Ran {
             ending: ending,
             function: function,
@@ -166,12 +168,12 @@ pub fn run_lent(
     requires { ⌜ 0 < start ⌝ }
     requires { ⌜ start ≤ countIn (now code) ⌝ }
     requires { ⌜ length (now text) ≤ length (now input) ⌝ }
-    requires { ⌜ length (now frames) ≡ 6144 ⌝ }
-    requires { ⌜ length (now values) ≡ 4096 ⌝ }
+    requires { ⌜ length (now frames) ≡ roomOfFrames ⌝ }
+    requires { ⌜ length (now values) ≡ roomOfValues ⌝ }
     ensures { λ r. ⌜ Leaves r (cells (now (input .exit)) (now (output .exit)) (now (journal .exit))) (left (runLent (roomOfCells (cells (now (input .entry)) (now (output .entry)) (now (journal .entry)))) (functionsIn (now (code .entry))) start (now (text .entry)) allowance) (cells (now (input .entry)) (now (output .entry)) (now (journal .entry)))) ⌝ }
 {
     let g = loaded(input.len(), text.len(), start);
-    copy_over(input, g.p.0, text);
+    copy_to_in(input, g.p, text);
     begin_frame(frames, 0, 0, 0, 0);
     let bits = classes::class_table();
     let last = follow(

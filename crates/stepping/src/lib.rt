@@ -5,7 +5,8 @@ ghost use mathlib.Core.List.{List};
 ghost use lib.ListN.{length};
 ghost use Rattle.meaning.specs.Choice.{Bytes};
 ghost use Rattle.classes.specs.Tests.{Answers};
-ghost use Rattle.acting.specs.States.{memory, Held};
+ghost use Rattle.meaning.specs.Leaving.{maxFrames};
+ghost use Rattle.acting.specs.States.{roomOfFrames, roomOfValues, memory, Held};
 ghost use Rattle.applying.specs.Waiting.{countIn};
 ghost use Rattle.applying.specs.Advancing.{Underway, Acting, Ongoing, registersIn, statusIn, nextOf, onward, Steps, keptOf, Tries, Uses, Does, Enters};
 use acting::emitting::emit;
@@ -45,9 +46,9 @@ fn enter(
     requires { ⌜ countIn (now code) < length (now code) ⌝ }
     requires { ⌜ g .p .0 ≤ g .q .0 ⌝ }
     requires { ⌜ g .q .0 ≤ length (now input) ⌝ }
-    requires { ⌜ g .frame < 256 ⌝ }
-    requires { ⌜ length (now frames) ≡ 6144 ⌝ }
-    requires { ⌜ length (now values) ≡ 4096 ⌝ }
+    requires { ⌜ g .frame < maxFrames ⌝ }
+    requires { ⌜ length (now frames) ≡ roomOfFrames ⌝ }
+    requires { ⌜ length (now values) ≡ roomOfValues ⌝ }
     ensures { λ r. ⌜ ((output journal : Bytes) → Enters (now (code .entry)) allowance g (memory (now (input .entry)) output journal (now (frames .entry)) (now (values .entry)))
         r (memory (now (input .entry)) output journal (now (frames .exit)) (now (values .exit)))) ⌝ }
 {
@@ -73,8 +74,8 @@ fn kept(next: Next, g: Registers) -> Registers
 fn try_go(g: Registers, code: &[u32], input: &[u8], frames: &[usize]) -> Registers
     requires { ⌜ g .p .0 ≤ g .q .0 ⌝ }
     requires { ⌜ g .q .0 ≤ length (now input) ⌝ }
-    requires { ⌜ g .frame < 256 ⌝ }
-    requires { ⌜ length (now frames) ≡ 6144 ⌝ }
+    requires { ⌜ g .frame < maxFrames ⌝ }
+    requires { ⌜ length (now frames) ≡ roomOfFrames ⌝ }
     requires { ⌜ Held (g .frame) (now frames) ⌝ }
     ensures { λ h. ⌜ ((allowance : ℕ) (output journal values : Bytes) → Tries (now (code .entry)) allowance g (memory (now (input .entry)) output journal (now (frames .entry)) values)
         h (memory (now (input .entry)) output journal (now (frames .entry)) values)) ⌝ }
@@ -90,8 +91,8 @@ fn try_go(g: Registers, code: &[u32], input: &[u8], frames: &[usize]) -> Registe
 fn try_select(g: Registers, code: &[u32], input: &[u8], frames: &[usize]) -> Registers
     requires { ⌜ g .p .0 ≤ g .q .0 ⌝ }
     requires { ⌜ g .q .0 ≤ length (now input) ⌝ }
-    requires { ⌜ g .frame < 256 ⌝ }
-    requires { ⌜ length (now frames) ≡ 6144 ⌝ }
+    requires { ⌜ g .frame < maxFrames ⌝ }
+    requires { ⌜ length (now frames) ≡ roomOfFrames ⌝ }
     requires { ⌜ Held (g .frame) (now frames) ⌝ }
     ensures { λ h. ⌜ ((allowance : ℕ) (output journal values : Bytes) → Tries (now (code .entry)) allowance g (memory (now (input .entry)) output journal (now (frames .entry)) values)
         h (memory (now (input .entry)) output journal (now (frames .entry)) values)) ⌝ }
@@ -105,8 +106,8 @@ fn try_select(g: Registers, code: &[u32], input: &[u8], frames: &[usize]) -> Reg
 
 // BeginSeq, where it comes next.
 fn try_begin(g: Registers, code: &[u32], frames: &mut [usize]) -> Registers
-    requires { ⌜ g .frame < 256 ⌝ }
-    requires { ⌜ length (now frames) ≡ 6144 ⌝ }
+    requires { ⌜ g .frame < maxFrames ⌝ }
+    requires { ⌜ length (now frames) ≡ roomOfFrames ⌝ }
     requires { ⌜ Held (g .frame) (now frames) ⌝ }
     ensures { λ h. ⌜ ((allowance : ℕ) (input output journal values : Bytes) → Tries (now (code .entry)) allowance g (memory input output journal (now (frames .entry)) values)
         h (memory input output journal (now (frames .exit)) values)) ⌝ }
@@ -160,8 +161,8 @@ fn try_use(
     requires { ⌜ g .p .0 ≤ g .q .0 ⌝ }
     requires { ⌜ g .q .0 ≤ length (now input) ⌝ }
     requires { ⌜ g .r .0 ≤ length (now output) ⌝ }
-    requires { ⌜ g .frame < 256 ⌝ }
-    requires { ⌜ length (now frames) ≡ 6144 ⌝ }
+    requires { ⌜ g .frame < maxFrames ⌝ }
+    requires { ⌜ length (now frames) ≡ roomOfFrames ⌝ }
     requires { ⌜ Held (g .frame) (now frames) ⌝ }
     ensures { λ r. ⌜ ((allowance : ℕ) (journal values : Bytes) → Uses (now (code .entry)) allowance g (memory (now (input .entry)) (now (output .entry)) journal (now (frames .entry)) values)
         r (memory (now (input .exit)) (now (output .entry)) journal (now (frames .exit)) values)) ⌝ }

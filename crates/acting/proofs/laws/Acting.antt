@@ -3,7 +3,7 @@ use Prim.Native.Nat.{ℕ, suc, _+_, _*_, _-_, _≤_, _<_}
 use native.Mathlib.Nat.{sub-self}
 use native.Mathlib.Numerals.{add-one}
 use native.Mathlib.Omega.{arith}
-use mathlib.Core.Path.{_≡_, refl}
+use mathlib.Core.Path.{_≡_, refl, ap, _∙_}
 use mathlib.Core.Option.{Option, none, some}
 use lib.ListN.{length, getD, take, drop, set, length-drop, length-take, length-set}
 use lib.Seq.{drop-drop, length-take-le, take-suc-set, paste, take-paste, length-paste, take-take, getD-take, getD-drop}
@@ -28,12 +28,16 @@ use Rattle.acting.specs.declared.moving.Reached.the-variants.{At, Wrong 
 use Rattle.decoding.specs.Decoded.{spanMeant}
 use Rattle.acting.specs.Endings.{endingNumber}
 use Rattle.acting.specs.Spans.{cellsOf, reachedBy}
-use Rattle.acting.specs.States.{Memory, memory, frameWord, localOf, stacksOf, Ledgers, ledgerOf, roomOf, movedTo, Fits, Outcomes, Going, Stayed, Acts}
+use Rattle.acting.specs.States.{Memory, memory, frameWord, localOf, stacksOf, Ledgers, ledgerOf, roomOf, movedTo, Fits, Outcomes, Going, Stayed, Acts, roomOfValues}
 use Rattle.matching.proofs.laws.Lists.{nth-in, nth-out}
 use Rattle.acting.proofs.laws.Spanning.{counted, not-counted, led, not-led}
 
+-- the cells from one to another
+pub part-long : (l : Bytes) (p q : ℕ) → q ≤ length l → length (take (q - p) (drop p l)) ≡ q - p
+part-long l p q h = length-take-le (q - p) (drop p l) (rw length-drop (omega arith))
+
 -- the value that a frame stored under a number
-stored-value : (frame k n : ℕ) (values : Bytes) → k < n → n ≤ 16 → frame < 256 → length values ≡ 4096 →
+stored-value : (frame k n : ℕ) (values : Bytes) → k < n → n ≤ 16 → frame < 256 → length values ≡ roomOfValues →
     nth k (take n (drop (16 * frame) (take (16 * frame + 16) values))) ≡ some (getD values (16 * frame + k) 0)
 stored-value frame k n values h few framed room =
     let within : k < length (take n (drop (16 * frame) (take (16 * frame + 16) values))) = simp (length-take, length-drop, room) (omega arith) in
@@ -181,13 +185,12 @@ module _ (g : Registers) (m : Memory) where
         let full : length (m .output) < g .r .0 + (g .q .0 - g .p .0) = omega arith in
         stops _ _ OutFull (λ allowance code enter k. rw (length-take-le (g .r .0) (m .output) r≤out, lt-ltb _ _ full))
 
-    pub part-written : g .p .0 ≤ g .q .0 → g .q .0 ≤ length (m .input) → g .q .0 - g .p .0 ≤ length (m .output) - g .r .0 →
-        let part : Bytes = take (g .q .0 - g .p .0) (drop (g .p .0) (m .input)) in
+    pub part-written : (part : Bytes) → part ≡ take (g .q .0 - g .p .0) (drop (g .p .0) (m .input)) →
+        g .p .0 ≤ g .q .0 → g .q .0 ≤ length (m .input) → g .q .0 - g .p .0 ≤ length (m .output) - g .r .0 →
         Acts out (g .at .0) g m (Onward (movedTo g (g .q .0) (g .q .0) (g .r .0 + (g .q .0 - g .p .0))))
-        (memory (m .input) (paste (m .output) (g .r .0) part (length part)) (m .journal) (m .frames) (m .values))
-    part-written o i h =
-        let part = take (g .q .0 - g .p .0) (drop (g .p .0) (m .input)) in
-        let long : length part ≡ g .q .0 - g .p .0 = length-take-le _ _ (rw length-drop (omega arith)) in
+        (memory (m .input) (paste (m .output) (g .r .0) part (g .q .0 - g .p .0)) (m .journal) (m .frames) (m .values))
+    part-written part e o i h =
+        let long : length part ≡ g .q .0 - g .p .0 = ap length e ∙ part-long (m .input) (g .p .0) (g .q .0) i in
         let there : g .r .0 + (g .q .0 - g .p .0) ≤ length (m .output) = omega arith in
         let end : g .p .0 + (g .q .0 - g .p .0) ≡ g .q .0 = omega arith in
         record {
@@ -198,12 +201,12 @@ module _ (g : Registers) (m : Memory) where
                 drop-drop (g .q .0 - g .p .0) (g .p .0) (m .input),
                 end,
                 sub-self (g .q .0),
-                long,
                 take-paste (m .output) (g .r .0) part (g .q .0 - g .p .0) r≤out (omega (arith, long)),
+                e,
                 take-take (g .q .0 - g .p .0) (g .q .0 - g .p .0) (drop (g .p .0) (m .input)) (omega arith),
               );
           stays = stayed _ _ _ (m .input) _ (λ f. omega arith) (λ f. i)
-              (λ f. rw (long, length-paste (m .output) (g .r .0) part (g .q .0 - g .p .0) there (omega (arith, long))) there);
+              (λ f. rw (length-paste (m .output) (g .r .0) part (g .q .0 - g .p .0) there (omega (arith, long))) there);
         }
 
   -- a stored value is written as a character is
@@ -211,7 +214,7 @@ module _ (g : Registers) (m : Memory) where
   value-none k h = stops _ _ NoInstruction (λ allowance code enter next. rw (nth-out (localOf g m .values) k (rw length-take (omega arith))))
 
   pub value-written : (k : ℕ) (next : Next) (n : Memory) → k < frameWord (g .frame) 4 (m .frames) → frameWord (g .frame) 4 (m .frames) ≤ 16 → g .frame < 256 →
-      length (m .values) ≡ 4096 → Acts (outCharacter (getD (m .values) (16 * g .frame + k) 0)) (g .at .0) g m next n →
+      length (m .values) ≡ roomOfValues → Acts (outCharacter (getD (m .values) (16 * g .frame + k) 0)) (g .at .0) g m next n →
       Acts (outValue k) (g .at .0) g m next n
   value-written k next n h few framed room a =
       record {

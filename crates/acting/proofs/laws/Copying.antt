@@ -33,7 +33,7 @@ module _ (to from : Bytes) (at : ℕ) (room : at + length from ≤ length to) wh
 
 module _ (before out : Bytes) (p r : ℕ) where
   -- nothing moved yet
-  pub moved-none : MovedDown before p out r r p before
+  moved-none : MovedDown before p out r r p before
   moved-none = record { start = rw (sub-self, add-zero); cells = rw sub-self (sym (take-append-drop p before)) }
 
   one-down : (from to : ℕ) (now : Bytes) → MovedDown before p out (suc from) r (suc to) now → suc from ≤ r → from < length out → to < length before →
@@ -48,22 +48,6 @@ module _ (before out : Bytes) (p r : ℕ) where
             (set-at (take to before) (getD before to 0) rest (getD out from 0) to (length-take-le to before (omega arith)));
       }
 
-  -- one byte more moved, the last of those that are still on out
-  pub moved-one : (from to : ℕ) (now : Bytes) → MovedDown before p out from r to now → 0 < from → 0 < to → from ≤ r → from ≤ length out → to ≤ length before →
-      MovedDown before p out (from - 1) r (to - 1) (set now (to - 1) (getD out (from - 1) 0))
-  moved-one from to now m f t h hf ht =
-      let ef : from ≡ suc (from - 1) = omega arith in
-      let et : to ≡ suc (to - 1) = omega arith in
-      one-down (from - 1) (to - 1) now (turn (from - 1) (to - 1) ef et m) (omega arith) (omega arith) (omega arith)
-    where
-      turn : (from′ to′ : ℕ) → from ≡ suc from′ → to ≡ suc to′ → MovedDown before p out from r to now → MovedDown before p out (suc from′) r (suc to′) now
-      turn from′ to′ e e′ m = rw (← e, ← e′) m
-
-  -- the same move, with its places counted otherwise
-  pub moved-at : {p′ from from′ r′ to to′ : ℕ} {now : Bytes} → p ≡ p′ → from ≡ from′ → r ≡ r′ → to ≡ to′ → MovedDown before p out from r to now →
-      MovedDown before p′ out from′ r′ to′ now
-  moved-at ep ef er et m = rw (← ep, ← ef, ← er, ← et) m
-
   -- so many bytes more moved
   moved-on : (n : ℕ) (from to from′ to′ : ℕ) (now : Bytes) → MovedDown before p out from r to now → from′ + n ≡ from → to′ + n ≡ to → from ≤ r → from ≤ length out →
       to ≤ length before → MovedDown before p out from′ r to′ (moved n now to out from)
@@ -77,6 +61,11 @@ module _ (before out : Bytes) (p r : ℕ) where
       rw (ef, et)
       (one-down from′ to′ _ (moved-on n from to (suc from′) (suc to′) now m (omega arith) (omega arith) h hf ht) (omega arith) (omega arith) (omega arith))
 
+  -- all bytes moved
+  pub moved-down : {first n : ℕ} {now : Bytes} → now ≡ moved n before p out r → n ≡ r - first → first ≤ r → r ≤ length out → n ≤ p → p ≤ length before →
+      MovedDown before p out first r (p - n) now
+  moved-down {first} {n} e s h hf hp ht = rw e (moved-on n r p first (p - n) before moved-none (omega arith) (omega arith) (omega arith) hf ht)
+
   -- the three parts of a short move, and one of them
   moved-part : {few stop from to n : ℕ} {now next : Bytes} → FewToMove 8 before p out stop r → MovedDown before p out from r to now → from ≤ r →
       MovedFew few now to out stop from n next → MovedDown before p out (from - n) r (to - n) next
@@ -89,3 +78,8 @@ module _ (before out : Bytes) (p r : ℕ) where
   moved-few {stop} {four} {two} {one} b f t o =
       let end : r - four - two - one ≡ stop = omega arith in
       rw end at (moved-part b (moved-part b (moved-part b moved-none (omega arith) f) (omega arith) t) (omega arith) o)
+
+-- after a part of a short move fewer bytes are left
+pub few-left : {few fewer p first r n : ℕ} {before out now : Bytes} → FewToMove few before p out first r → MovedFew fewer before p out first r n now →
+    length now ≡ length before → FewToMove fewer now (p - n) out first (r - n)
+few-left b m e = record { order = omega arith; there = omega arith; room = omega arith; inside = omega arith; left = omega arith }

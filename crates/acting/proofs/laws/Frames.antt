@@ -7,7 +7,7 @@ use mathlib.Core.Path.{_≡_, sym}
 use mathlib.Core.List.{List, [], _∷_}
 use lib.ListN.{length, take, drop, set, length-drop, length-take, drop-of-length-le}
 use lib.Seq.{getD-set-same, getD-set-other, getD-take, drop-cons, take-set-le, set-split, drop-at, length-take-le, take-all, take-nil, take-length, drop-length}
-use Rattle.acting.specs.States.{frameWord, Held}
+use Rattle.acting.specs.States.{frameWord, Held, roomOfFrames}
 
 -- LISTS
 
@@ -43,7 +43,7 @@ drop-set-here l i v h = rw (set-split l i v h) (drop-at (take i l) (v ∷ drop (
 
 -- A FRAME'S WORDS
 
-module _ (frames : List ℕ) (k : ℕ) (framed : k < 256) (room : length frames ≡ 6144) where
+module _ (frames : List ℕ) (k : ℕ) (framed : k < 256) (room : length frames ≡ roomOfFrames) where
   pub word-set : (i v : ℕ) → i < 24 → frameWord k i (set frames (24 * k + i) v) ≡ v
   word-set i v h = getD-set-same frames (24 * k + i) v 0 (omega arith)
 
@@ -79,7 +79,7 @@ held-past frames k i v h held =
     }
 
 -- and so does another count of open sequences
-pub held-count : (frames : List ℕ) (k n : ℕ) → k < 256 → length frames ≡ 6144 → n ≤ 16 → Held k frames → Held k (set frames (24 * k + 5) n)
+pub held-count : (frames : List ℕ) (k n : ℕ) → k < 256 → length frames ≡ roomOfFrames → n ≤ 16 → Held k frames → Held k (set frames (24 * k + 5) n)
 held-count frames k n framed room h held =
     record {
       null = rw (word-kept frames k 5 0 n (omega arith)) (held .null);

@@ -4,7 +4,7 @@ use native.Mathlib.Nat.{sub-self}
 use native.Mathlib.Omega.{arith}
 use mathlib.Core.Path.{_≡_, refl, sym, _∙_}
 use mathlib.Core.Bool.{true, false}
-use lib.ListN.{length, take, drop, length-drop}
+use lib.ListN.{length, take, drop}
 use lib.Seq.{drop-drop, length-take-le, paste, take-paste, drop-paste, length-paste, take-all}
 use borrow.Author.Tests.{lt-ltb, le-ltb}
 use Rattle.meaning.specs.Choice.{Bytes}
@@ -15,12 +15,8 @@ use Rattle.acting.specs.declared.registers.Ending.the-variants.{NoInstru
 use Rattle.acting.specs.declared.registers.Next.the-variants.{Onward, Stopped}
 use Rattle.decoding.specs.Decoded.{isName}
 use Rattle.acting.specs.States.{Memory, memory, Acts}
-use Rattle.acting.proofs.laws.Acting.{stops}
+use Rattle.acting.proofs.laws.Acting.{part-long, stops}
 use Rattle.acting.proofs.laws.Naming.{spelled, spelled-long, length-line}
-
--- the cells from one to another
-pub part-long : (l : Bytes) (p q : ℕ) → q ≤ length l → length (take (q - p) (drop p l)) ≡ q - p
-part-long l p q h = length-take-le (q - p) (drop p l) (rw length-drop (omega arith))
 
 -- what is alike from a place on is alike from a later place on
 further : (a b : Bytes) (i n : ℕ) → drop i a ≡ drop i b → drop (i + n) a ≡ drop (i + n) b

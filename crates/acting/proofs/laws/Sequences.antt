@@ -12,12 +12,12 @@ use Rattle.meaning.specs.Machine.{withOpened}
 use Rattle.acting.specs.declared.registers.Registers.{Registers}
 use Rattle.acting.specs.declared.registers.Ending.the-variants.{NoInstruction, InFull}
 use Rattle.acting.specs.declared.registers.Next.the-variants.{Onward, Stopped}
-use Rattle.acting.specs.States.{Memory, memory, frameWord, localAt, openedAt, movedTo, Acts}
+use Rattle.acting.specs.States.{Memory, memory, frameWord, localAt, openedAt, movedTo, Acts, roomOfFrames}
 use Rattle.acting.specs.Copied.{MovedDown}
 use Rattle.acting.proofs.laws.Frames.{drop-take, drop-min, take-min, drop-set-here, word-set, word-kept, openedOf, opened-count, opened-none, opened-next, held-past, held-count, waiting-kept}
 use Rattle.acting.proofs.laws.Acting.{stops}
 
-module _ (frames : List ℕ) (values : Bytes) (k : ℕ) (framed : k < 256) (room : length frames ≡ 6144) where
+module _ (frames : List ℕ) (values : Bytes) (k : ℕ) (framed : k < 256) (room : length frames ≡ roomOfFrames) where
   -- the number of open sequences stored anew
   local-count : (n : ℕ) → n ≤ 16 →
       localAt k (set frames (24 * k + 5) n) values ≡ withOpened (openedOf frames k framed room n) (localAt k frames values)
@@ -33,7 +33,7 @@ module _ (frames : List ℕ) (values : Bytes) (k : ℕ) (framed : k < 256) (room
         drop-set-lt (24 * k + 24 - n) (take (24 * k + 24) frames) (24 * k + 5) n apart,
       )
 
-  opened-more : (n r : ℕ) → n < 16 → (room′ : length (set frames (24 * k + (23 - n)) r) ≡ 6144) →
+  opened-more : (n r : ℕ) → n < 16 → (room′ : length (set frames (24 * k + (23 - n)) r) ≡ roomOfFrames) →
       openedOf (set frames (24 * k + (23 - n)) r) k framed room′ (n + 1) ≡ r ∷ openedOf frames k framed room n
   opened-more n r h room′ =
       let here : 24 * k + 24 - (n + 1) ≡ 24 * k + (23 - n) = omega arith in
@@ -43,7 +43,7 @@ module _ (frames : List ℕ) (values : Bytes) (k : ℕ) (framed : k < 256) (room
       rw (here, take-set-lt (24 * k + 24) frames (24 * k + (23 - n)) r low, drop-set-here (take (24 * k + 24) frames) (24 * k + (23 - n)) r within, next)
 
   -- a sequence opened at a cell of out
-  local-opened : (n r : ℕ) → n < 16 → (room′ : length (set frames (24 * k + (23 - n)) r) ≡ 6144) →
+  local-opened : (n r : ℕ) → n < 16 → (room′ : length (set frames (24 * k + (23 - n)) r) ≡ roomOfFrames) →
       withOpened (openedOf (set frames (24 * k + (23 - n)) r) k framed room′ (n + 1)) (localAt k (set frames (24 * k + (23 - n)) r) values) ≡
       withOpened (r ∷ openedOf frames k framed room n) (localAt k frames values)
   local-opened n r h room′ =
@@ -54,7 +54,7 @@ module _ (frames : List ℕ) (values : Bytes) (k : ℕ) (framed : k < 256) (room
         word-kept frames k (23 - n) 4 r (omega arith),
       )
 
-module _ (g : Registers) (m : Memory) (framed : g .frame < 256) (room : length (m .frames) ≡ 6144) where
+module _ (g : Registers) (m : Memory) (framed : g .frame < 256) (room : length (m .frames) ≡ roomOfFrames) where
   -- the number of sequences that are open
   abbrev count : ℕ
   count = frameWord (g .frame) 5 (m .frames)
@@ -69,7 +69,7 @@ module _ (g : Registers) (m : Memory) (framed : g .frame < 256) (room : length (
       Acts beginSequence (g .at .0) g m (Onward g) (memory (m .input) (m .output) (m .journal) (openedAt (g .frame) (g .r .0) (m .frames)) (m .values))
   begin-kept r≤out h =
       let frames₁ = set (m .frames) (24 * g .frame + (23 - count)) (g .r .0) in
-      let room₁ : length frames₁ ≡ 6144 = rw length-set room in
+      let room₁ : length frames₁ ≡ roomOfFrames = rw length-set room in
       record {
         same = λ allowance code enter k.
             rw (

@@ -51,7 +51,7 @@ pub not-counted : (n there : ℕ) → Wrong ≡ withinCells n there → there < 
 not-counted n there e = wrong-picked (leb n there) n there refl e
 
 -- the lengths of the registers stand in a frame by the registers' numbers
-pub by-number : (k : ℕ) (frames : List ℕ) (values : Bytes) → Held k frames → (add back there n : ℕ) → n ≤ 3 →
+pub by-number : (k : ℕ) (frames : List ℕ) (values : Bytes) → Held k frames → (add back there n : ℕ) → n < 4 →
     withinCells (frameWord k n frames + add - back) there ≡ cellsOf (lengthOf n) add back (localAt k frames values) there
 by-number k frames values held add back there zero h = rw (held .null)
 by-number k frames values held add back there (suc zero) h = refl
@@ -60,7 +60,7 @@ by-number k frames values held add back there (suc (suc (suc zero))) h = rw (hel
 by-number k frames values held add back there (suc (suc (suc (suc n)))) h = absurd (omega arith)
 
 -- another number is that of no register
-pub no-number : (n : ℕ) → 3 < n → lengthOf n ≡ none
+pub no-number : (n : ℕ) → 4 ≤ n → lengthOf n ≡ none
 no-number n h = simp (ne-eqb n 0 (omega arith), ne-eqb n 1 (omega arith), ne-eqb n 2 (omega arith), ne-eqb n 3 (omega arith))
 
 -- a cell that is reached is as many cells on as were counted

@@ -1,5 +1,8 @@
 -- `applying::apply` meets its contract.
-use mathlib.Core.Path.{_≡_, refl}
+use mathlib.Core.Path.{_≡_, refl, ap, _∙_}
+use lib.ListN.{getD, drop}
+use Rattle.meaning.specs.Matching.{chooseFrom}
+use Rattle.meaning.specs.Packing.{unpackSentences}
 use Rattle.matching.specs.declared.Choice.{Choice}
 use Rattle.matching.specs.Matched.{choiceMeant}
 use Rattle.applying.proofs.laws.Calling.{Payable, apply-spent, Chosen, apply-stops, apply-starts}
@@ -19,7 +22,10 @@ may c =
 
 meant : (c : tie.After-choose) (r : Choice) → c .choose .result ≡ r → choiceMeant (entry c .args .code .now) r ≡
     Chosen (entry c .args .code .now) (entry c .args .number) (entry c .args .g) (entry c .args .input .now)
-meant c r e = (rw (c .before .before .wide .ensures, e) at (c .choose .ensures)) .same
+meant c r e =
+    let code = entry c .args .code .now in
+    (rw (c .before .wide .ensures, e) at (c .choose .ensures)) .same ∙
+    ap (chooseFrom 0 (unpackSentences 0 (drop (getD code (entry c .args .number) 0) code))) (c .before .before .before .part .ensures)
 
 returns : tie.Need-returns
 returns c = λ output journal. apply-spent _ _ _ _ _ (c .if1 .taken)
@@ -53,12 +59,10 @@ apply-spec =
     (tie.spec
     returns
     (λ c. search needs)
-    (λ c. search needs)
-    (λ c. search needs)
     (λ c κs. search needs)
     (λ c. search needs)
     (λ c. search needs)
-    (λ c. search needs)
+    (λ c κs. search needs)
     (λ c κs. search needs)
     (λ c. search needs)
     start-sentence-requires

@@ -5,9 +5,9 @@ use native.Mathlib.Numerals.{add-one}
 use native.Mathlib.Omega.{arith}
 use mathlib.Core.Path.{_≡_, _∙_}
 use lib.ListN.{length, length-set}
-use Rattle.applying.specs.Storing.{begun}
+use Rattle.acting.specs.States.{roomOfFrames, begun, callingFrom}
 use Rattle.applying.proofs.laws.Applying.{begun-length, begun-below, begun-held}
-use Rattle.applying.proofs.laws.Calling.{call-spent, call-full, callingFrom, call-enters}
+use Rattle.applying.proofs.laws.Calling.{call-spent, call-full, call-enters}
 use Rattle.applying.proofs.framed_call.Statement.{statement}
 use Rattle.applying.proofs.framed_call.Tie as tie
 
@@ -15,18 +15,18 @@ returns : tie.Need-returns
 returns c = λ input output journal values. call-spent _ _ (c .before .before .before .before .args .number) _ _ (c .before .before .before .before .pre .0) (c .if1 .taken)
 
 returns-2 : tie.Need-returns-2
-returns-2 c = λ input output journal values. call-full _ _ (c .before .before .before .before .before .args .number) _ _ (c .before .before .before .before .before .pre .0) (c .before .if1 .left) (c .if2 .taken)
+returns-2 c = λ input output journal values. call-full _ _ (c .before .before .before .before .before .args .number) _ _ (c .before .before .before .before .before .pre .0) (c .before .if1 .left) (omega (arith, c .if2 .taken))
 
 returns-3 : tie.Need-returns-3
 returns-3 c =
-    let entry = c .before .before .before .before .before .before .before .before .before .before .before .before .before .before .before .before .before .before .before .before in
-    let a = c .before .before .before .before .before .before .before .before .before .before .before .before .before .before .before .before .before .before .before .before .args in
+    let entry = c .before .before .before .before .before .before .before .before .before .before .before .before .before .before .before .before in
+    let a = c .before .before .before .before .before .before .before .before .before .before .before .before .before .before .before .before .args in
     let k = a .g .frame in
     let calling = callingFrom k (a .g .at .0) (a .g .q .0) (a .frames .now) in
-    let sized : length calling ≡ 6144 = simp length-set (entry .pre .1 .1) in
-    let few : suc k < 256 = omega (arith, c .before .before .before .before .before .before .before .before .before .before .before .before .before .before .before .if2 .left) in
-    λ input output journal values. rw (c .before .before .before .before .before .begin-frame .ensures, c .before .before .before .before .before .before .before .before .before .set-word2 .ensures, c .before .before .before .before .before .before .before .before .before .before .before .before .before .set-word .ensures, add-one k)
-    (call-enters _ _ (a .number) (a .g) input output journal (a .frames .now) values (entry .pre .0) (c .before .before .before .before .before .before .before .before .before .before .before .before .before .before .before .before .if1 .left) (c .before .before .before .before .before .before .before .before .before .before .before .before .before .before .before .if2 .left)
+    let sized : length calling ≡ roomOfFrames = simp length-set (entry .pre .1 .1) in
+    let few : suc k < 256 = omega (arith, c .before .before .before .before .before .before .before .before .before .before .before .if2 .left) in
+    λ input output journal values. rw (c .before .before .before .before .before .begin-frame .ensures, c .before .before .before .before .before .before .before .before .before .keep-caller .ensures, add-one k)
+    (call-enters _ _ (a .number) (a .g) input output journal (a .frames .now) values (entry .pre .0) (c .before .before .before .before .before .before .before .before .before .before .before .before .if1 .left) (omega (arith, c .before .before .before .before .before .before .before .before .before .before .before .if2 .left))
     (begun (suc k) 0 0 0 calling) (begun-length calling (suc k) 0 0 0 sized few ∙ sized) (begun-below calling (suc k) 0 0 0 sized few)
     (begun-held calling (suc k) 0 0 0 sized few (omega arith)))
 
@@ -35,8 +35,8 @@ framed-call-spec =
     tie.close
     (tie.spec
     returns
+    (λ c. search needs)
     returns-2
-    (λ c κs. search needs)
     (λ c κs. search needs)
     (λ c. search needs)
     (λ c κs. search needs)

@@ -23,9 +23,9 @@ use Rattle.acting.specs.declared.registers.Next.the-variants.{Onward, Stopped}
 use Rattle.matching.specs.declared.CodePlace.{CodePlace}
 use Rattle.applying.specs.declared.Stored.the-variants.{Before, Wrong}
 use Rattle.acting.specs.Endings.{endingNumber}
-use Rattle.acting.specs.States.{Memory, memory, frameWord, localAt, Held, ledgerOf, roomOf, Outcomes}
+use Rattle.acting.specs.States.{Memory, memory, frameWord, localAt, Held, ledgerOf, roomOf, Outcomes, roomOfFrames, roomOfValues, begun}
 use Rattle.acting.proofs.laws.Frames.{word-set, word-kept, waiting-kept}
-use Rattle.applying.specs.Storing.{Stores, begun}
+use Rattle.applying.specs.Storing.{Stores}
 use Rattle.applying.specs.Waiting.{countIn, functionsIn, returning}
 use Rattle.applying.specs.Advancing.{Ready, Advances, Begins, Starts}
 use Rattle.meaning.proofs.laws.Remaining.{past-end}
@@ -93,7 +93,7 @@ begins-stop words allowance tocome bound g m h ending function n a = record { ad
 
 -- A SENTENCE BEGUN
 
-module _ (frames : List ℕ) (k field place stored : ℕ) (room : length frames ≡ 6144) (framed : k < 256) where
+module _ (frames : List ℕ) (k field place stored : ℕ) (room : length frames ≡ roomOfFrames) (framed : k < 256) where
   -- the words stored one after the other
   abbrev First : List ℕ
   First = set frames (24 * k + 0) 0
@@ -152,7 +152,7 @@ module _ (frames : List ℕ) (k field place stored : ℕ) (room : length frames 
       record { null = word-0; right = rw (word-1, word-2, word-3); stored = rw word-4 few; opened = rw word-5 (omega arith) }
 
   -- the first values of a frame are the first from its place on
-  frame-values : (values : Bytes) → length values ≡ 4096 → stored ≤ 16 →
+  frame-values : (values : Bytes) → length values ≡ roomOfValues → stored ≤ 16 →
       take stored (drop (16 * k) (take (16 * k + 16) values)) ≡ take stored (drop (16 * k) values)
   frame-values values sized h =
       rw (
@@ -161,7 +161,7 @@ module _ (frames : List ℕ) (k field place stored : ℕ) (room : length frames 
       )
       (take-take stored 16 (drop (16 * k) values) h)
 
-  begun-local : (values : Bytes) → length values ≡ 4096 → stored ≤ 16 →
+  begun-local : (values : Bytes) → length values ≡ roomOfValues → stored ≤ 16 →
       localAt k Begun values ≡ record { field = field; place = place; values = take stored (drop (16 * k) values); opened = [] }
   begun-local values sized h =
       rw (word-1, word-2, word-4, word-5, frame-values values sized h)

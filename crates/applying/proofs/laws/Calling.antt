@@ -24,9 +24,8 @@ use Rattle.acting.specs.declared.registers.Ending.the-variants.{AllowanceSpent,
 use Rattle.acting.specs.declared.registers.Next.{Next}
 use Rattle.acting.specs.declared.registers.Next.the-variants.{Onward, Stopped}
 use Rattle.acting.specs.Endings.{endingNumber}
-use Rattle.acting.specs.States.{Memory, memory, frameWord, localAt, localOf, Held, stacksOf, ledgerOf, roomOf, Outcomes}
+use Rattle.acting.specs.States.{Memory, memory, frameWord, localAt, localOf, Held, stacksOf, ledgerOf, roomOf, Outcomes, roomOfFrames, begun, callingFrom}
 use Rattle.acting.proofs.laws.Frames.{word-set, word-kept, held-past, waiting-kept}
-use Rattle.applying.specs.Storing.{begun}
 use Rattle.applying.specs.Waiting.{countIn, functionsIn, entering, going, waiting, Waits, performing, leftWaiting}
 use Rattle.applying.specs.Advancing.{Ready, Performs, Applies, Starts}
 use Rattle.applying.proofs.laws.Waiting.{left-same, waits-same, waiting-same, entering-paid}
@@ -141,11 +140,7 @@ local-past frames k i v h l held values =
       drop-set-lt (24 * k + 24 - frameWord k 5 frames) (take (24 * k + 24) frames) (24 * k + i) v (omega (arith, held .opened)),
     )
 
--- the caller's frame keeps where its call returns to, and q
-abbrev pub callingFrom : ℕ → ℕ → ℕ → List ℕ → List ℕ
-callingFrom k at end frames = set (set frames (24 * k + 6) at) (24 * k + 7) end
-
-module _ (frames : List ℕ) (k at end : ℕ) (room : length frames ≡ 6144) (framed : k < 255) where
+module _ (frames : List ℕ) (k at end : ℕ) (room : length frames ≡ roomOfFrames) (framed : k < 255) where
   abbrev Returning : List ℕ
   Returning = set frames (24 * k + 6) at
 
@@ -209,7 +204,7 @@ module _ (words : Words) (allowance number : ℕ) (g : Registers) (m : Memory) w
       stops false = rw e
 
   -- the registers of a function that is called keep within what is lent, as its caller's do
-  called-ready : (frame size : ℕ) (frames : List ℕ) → frame < 256 → length frames ≡ 6144 → ((i : ℕ) → i < frame → Waits (length (m .input)) i frames) →
+  called-ready : (frame size : ℕ) (frames : List ℕ) → frame < 256 → length frames ≡ roomOfFrames → ((i : ℕ) → i < frame → Waits (length (m .input)) i frames) →
       Ready allowance g m →
       Ready allowance (calledIn frame size number g) (memory (m .input) (m .output) (m .journal) frames (m .values))
   called-ready frame size frames framed sized waits r =
@@ -256,7 +251,7 @@ module _ (words : Words) (allowance number : ℕ) (g : Registers) (input output 
   Caller = memory input output journal frames values
 
   -- a call is an application in the frame above
-  pub call-enters : isDeclared (functionsIn words) number ≡ true → g .steps < allowance → g .frame < 255 → (above : List ℕ) → length above ≡ 6144 →
+  pub call-enters : isDeclared (functionsIn words) number ≡ true → g .steps < allowance → g .frame < 255 → (above : List ℕ) → length above ≡ roomOfFrames →
       take (24 * suc (g .frame)) above ≡ take (24 * suc (g .frame)) (callingFrom (g .frame) (g .at .0) (g .q .0) frames) → Held (suc (g .frame)) above →
       Performs words allowance (call number) (g .at .0) g Caller (Onward (calledIn (suc (g .frame)) (length words) number g)) (memory input output journal above values)
   call-enters declared h l above sized same empty u =

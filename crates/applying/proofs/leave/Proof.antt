@@ -1,7 +1,8 @@
 -- `applying::leave` meets its contract.
 use Rattle.applying.proofs.laws.Waiting.{left-back}
-use Prim.Native.Nat.{max}
+use Prim.Native.Nat.{_-_, max}
 use mathlib.Core.Path.{_≡_, ap}
+use Rattle.acting.specs.States.{frameWord}
 use borrow.Author.Needs.{needs}
 use Rattle.applying.proofs.leave.Statement.{statement}
 use Rattle.applying.proofs.leave.Tie as tie
@@ -11,8 +12,10 @@ returns c = rw (c .if1 .taken)
 
 returns-2 : tie.Need-returns-2
 returns-2 c =
-    let end : c .before .before .later .result ≡ record { 0 = max (c .before .before .before .before .before .before .before .before .before .args .g .p .0) (c .before .before .before .word2 .result) } = ap (λ cell. record { 0 = cell }) (c .before .before .later .ensures) in
-    rw (end, c .before .before .before .word2 .ensures, c .before .before .before .before .word .ensures) (left-back (c .before .before .before .before .before .before .before .before .before .args .g) _ (c .before .before .before .before .before .before .if1 .left))
+    let end : c .before .before .later .result ≡ record { 0 = max (c .before .before .before .before .before .before .before .before .before .args .g .p .0) (c .before .before .before .kept-selection .result .0) } = ap (λ cell. record { 0 = cell }) (c .before .before .later .ensures) in
+    let back : c .before .before .before .before .return-place .result ≡ record { 0 = frameWord (c .before .before .before .before .before .before .before .before .before .args .g .frame - 1) 6 (c .before .before .before .before .before .before .before .before .before .args .frames .now) } =
+    ap (λ place. record { 0 = place }) (c .before .before .before .before .return-place .ensures) in
+    rw (end, c .before .before .before .kept-selection .ensures, back) (left-back (c .before .before .before .before .before .before .before .before .before .args .g) _ (c .before .before .before .before .before .before .if1 .left))
 
 pub leave-spec : {M : Type 1} → statement M
 leave-spec = tie.close (tie.spec returns (λ c. search needs) (λ c κs. search needs) (λ c κs. search needs) (λ c κs. search needs) returns-2)

@@ -21,7 +21,7 @@ use Rattle.acting.specs.declared.registers.Ending.{Ending}
 use Rattle.acting.specs.declared.registers.Next.{Next}
 use Rattle.acting.specs.declared.registers.Next.the-variants.{Onward, Done, Stopped}
 use Rattle.acting.specs.Endings.{endingNumber}
-use Rattle.acting.specs.States.{Memory, memory, Held, stacksOf, roomOf, Outcomes}
+use Rattle.acting.specs.States.{roomOfFrames, roomOfValues, Memory, memory, Held, stacksOf, roomOf, Outcomes}
 use Rattle.applying.specs.Waiting.{soundIn, functionsIn, waiting, comesTo}
 use Rattle.applying.specs.Advancing.{Underway, Keeps, registersIn, Leads, IsOver}
 use Rattle.running.specs.Leaving.{cells, Tells, Leaves, refusedWith, reportedOf, clearedFrom, loadedWith}
@@ -151,7 +151,7 @@ module _ (text input input′ : Bytes) (l : Loaded text input input′) where
     abbrev pub Whole : Outcomes
     Whole = from (lent (roomOf Start)) (functionsIn words) start text allowance tt
 
-    pub underway-start : length frames ≡ 6144 → length values ≡ 4096 → Held 0 frames → Underway allowance Beginning Start
+    pub underway-start : length frames ≡ roomOfFrames → length values ≡ roomOfValues → Held 0 frames → Underway allowance Beginning Start
     underway-start f v empty =
         record {
           ready =

@@ -10,14 +10,14 @@ use Rattle.acting.proofs.emitting.copy_name.Statement.{statement}
 use Rattle.acting.proofs.emitting.copy_name.Tie as tie
 
 abbrev Inv-loop : tie.InvT-loop
-Inv-loop journal₀ to code size at i₀ journal i = (journal ≡ paste journal₀ to (take size (drop at code)) i) × (i ≤ size) × (length journal ≡ length journal₀) × Spelled code at size
+Inv-loop journal₀ code size at to i₀ journal i = (journal ≡ paste journal₀ to (take size (drop at code)) i) × (i ≤ size) × (length journal ≡ length journal₀) × Spelled code at size
 
 abbrev μ-loop : tie.MeasureT-loop
-μ-loop journal₀ to code size at i₀ journal i = size - i
+μ-loop journal₀ code size at to i₀ journal i = size - i
 
 loop-holds : tie.Need-loop-holds Inv-loop μ-loop
 loop-holds c = let a = c .args in (
-  paste-zero (a .journal .now) (a .to) (take (a .size) (drop (a .name .0) (a .code .now))),
+  paste-zero (a .journal .now) (a .to .0) (take (a .size) (drop (a .name .0) (a .code .now))),
   omega arith,
   refl,
   spelled (a .code .now) (a .name .0) (a .size) (c .pre .0),
@@ -39,7 +39,7 @@ loop-again c =
     let a = entry .args in
     let s = at-loop .loop .inv .3 in
     let long = spelled-long (a .code .now) (a .name .0) (a .size) s in
-    (rw (spelled-byte (a .code .now) (a .name .0) (a .size) (at-loop .loop .i) s (c .before .loop-test .taken)) (pasted-one (at-loop .loop .journal) (a .journal .now) (take (a .size) (drop (a .name .0) (a .code .now))) (a .to) (at-loop .loop .i) (at-loop .loop .inv .0) (rw long (entry .pre .1)) (rw long (c .before .loop-test .taken))), omega arith, rw length-set (at-loop .loop .inv .2), s)
+    (rw (spelled-byte (a .code .now) (a .name .0) (a .size) (at-loop .loop .i) s (c .before .loop-test .taken)) (pasted-one (at-loop .loop .journal) (a .journal .now) (take (a .size) (drop (a .name .0) (a .code .now))) (a .to .0) (at-loop .loop .i) (at-loop .loop .inv .0) (rw long (entry .pre .1)) (rw long (c .before .loop-test .taken))), omega arith, rw length-set (at-loop .loop .inv .2), s)
 
 same-length : tie.Need-same-length Inv-loop μ-loop
 same-length c = c .before .loop .inv .2

@@ -2,14 +2,15 @@
 use borrow.Author.Needs.{needs}
 use native.Mathlib.Omega.{arith}
 use Prim.Native.Nat.{_-_, _≤_}
-use mathlib.Core.Path.{_≡_, sym, _∙_}
+use mathlib.Core.Path.{_≡_, sym, ap, _∙_}
 use mathlib.Core.Bool.{true}
-use lib.ListN.{length, drop, length-take, length-drop}
+use lib.ListN.{length, drop}
 use borrow.Author.Tests.{not-true, not-false}
 use Rattle.decoding.specs.Decoded.{isName}
 use Rattle.acting.specs.States.{memory}
 use Rattle.acting.proofs.laws.Naming.{spelled}
-use Rattle.acting.proofs.laws.Lines.{part-long, emission-wrong, emission-full, emission-written}
+use Rattle.acting.proofs.laws.Acting.{part-long}
+use Rattle.acting.proofs.laws.Lines.{emission-wrong, emission-full, emission-written}
 use Rattle.acting.proofs.emitting.emit.Statement.{statement}
 use Rattle.acting.proofs.emitting.emit.Tie as tie
 
@@ -29,34 +30,44 @@ returns c = let a = c .before .before .before .before .before .args in
     λ output values frames. emission-wrong (a .g) (memory (a .input .now) output (a .journal .now) frames values) (a .code .now) (a .size)
     (sym (c .before .named .ensures) ∙ not-true _ (c .if1 .taken))
 
+-- the argument is what is selected
+selected : (c : tie.After-part) → let a = entry (c .before) .args in length (c .part .result .now) ≡ a .g .q .0 - a .g .p .0
+selected c =
+    let a = entry (c .before) .args in
+    ap length (c .part .ensures) ∙ part-long (a .input .now) (a .g .p .0) (a .g .q .0) (entry (c .before) .pre .1 .1 .0)
+
 add-line : tie.Need-add-line
-add-line c = omega (arith, there c)
+add-line c = omega (arith, there (c .before), selected c)
 
 add-line-2 : tie.Need-add-line-2
-add-line-2 c = omega (arith, there c)
+add-line-2 c = omega (arith, there (c .before), selected c)
 
 returns-2 : tie.Need-returns-2
 returns-2 c =
-    let a = entry (c .before) .args in
-    let p = entry (c .before) .pre in
+    let else = c .before .before in
+    let a = entry else .args in
+    let p = entry else .pre in
     λ output values frames. emission-full (a .g) (memory (a .input .now) output (a .journal .now) frames values) (a .code .now) (a .size) (p .1 .0) (p .1 .1 .0)
-    (p .1 .1 .1) (is-named (c .before)) (c .if2 .taken)
+    (p .1 .1 .1) (is-named else) (rw (selected (c .before)) at (c .if2 .taken))
 
 write-line-requires : tie.Need-write-line-requires
 write-line-requires c κs =
-    let at-if2 = c .before .before in
-    (is-named (at-if2 .before), simp (length-take, length-drop) (omega (arith, at-if2 .if2 .left, entry (at-if2 .before) .pre)))
+    let at-if2 = c .before in
+    let else = at-if2 .before .before in
+    (is-named else, omega (arith, at-if2 .if2 .left, entry else .pre))
 
 returns-3 : tie.Need-returns-3
 returns-3 c =
     let at-write-line = c .before .before .before .before .before .before in
-    let at-if2 = at-write-line .before .before .before in
-    let a = entry (at-if2 .before) .args in
-    let p = entry (at-if2 .before) .pre in
-    λ output values frames. rw (at-write-line .write-line .ensures, part-long (a .input .now) (a .g .p .0) (a .g .q .0) (p .1 .1 .0))
+    let at-if2 = at-write-line .before .before in
+    let at-part = at-if2 .before in
+    let else = at-part .before in
+    let a = entry else .args in
+    let p = entry else .pre in
+    λ output values frames. rw (at-write-line .write-line .ensures, selected at-part, at-part .part .ensures)
     (emission-written (a .g) (memory (a .input .now) output (a .journal .now) frames values) (a .code .now) (a .size) (p .1 .0) (p .1 .1 .0) (p .1 .1 .1)
-    (is-named (at-if2 .before)) (at-if2 .if2 .left))
+    (is-named else) (rw (selected at-part) at (at-if2 .if2 .left)))
 
 pub emit-spec : {M : Type 1} → statement M
-emit-spec = tie.close (tie.spec (λ c κs. search needs) returns (λ c. search needs) add-line add-line-2 (λ c. search needs) returns-2 (λ c. search needs) (λ c. search needs) (λ c. search needs)
-    write-line-requires (λ c. search needs) (λ c. search needs) (λ c. search needs) returns-3)
+emit-spec = tie.close (tie.spec (λ c κs. search needs) returns (λ c κs. search needs) add-line add-line-2 (λ c. search needs) returns-2 write-line-requires
+    (λ c. search needs) (λ c. search needs) (λ c. search needs) returns-3)

@@ -1,19 +1,22 @@
 -- `moving::write_byte` meets its contract.
 use borrow.Author.Needs.{needs}
+use native.Mathlib.Omega.{arith}
 use Rattle.acting.proofs.laws.Acting.{byte-full, byte-written}
 use Rattle.acting.proofs.moving.write_byte.Statement.{statement}
 use Rattle.acting.proofs.moving.write_byte.Tie as tie
 
 returns : tie.Need-returns
-returns c = let a = c .before .args in
-    λ input journal values frames. byte-full _ _ (c .before .pre) (a .byte) (c .if1 .taken)
+returns c =
+    λ input journal values frames. byte-full _ _ (c .before .before .before .before .pre) (c .before .before .before .before .args .byte) (omega (arith, c .before .room-from .ensures, c .if1 .taken))
+
+put-requires : tie.Need-put-requires
+put-requires c κs = omega (arith, c .before .before .room-from .ensures, c .before .if1 .left)
 
 returns-2 : tie.Need-returns-2
 returns-2 c =
-    let at-if1 = c .before .before .before in
-    let entry = at-if1 .before in
-    let a = entry .args in
-    λ input journal values frames. byte-written _ _ (entry .pre) (a .byte) (at-if1 .if1 .left)
+    λ input journal values frames. rw (c .before .before .before .out-after .ensures, c .before .before .before .before .before .before .put .ensures)
+    (byte-written _ _ (c .before .before .before .before .before .before .before .before .before .before .before .before .pre) (c .before .before .before .before .before .before .before .before .before .before .before .before .args .byte) (omega (arith, c .before .before .before .before .before .before .before .before .before .room-from .ensures, c .before .before .before .before .before .before .before .before .if1 .left)))
 
 pub write-byte-spec : {M : Type 1} → statement M
-write-byte-spec = tie.close (tie.spec returns (λ c. search needs) (λ c. search needs) (λ c. search needs) returns-2)
+write-byte-spec =
+    tie.close (tie.spec (λ c κs. search needs) (λ c. search needs) returns put-requires (λ c κs. search needs) (λ c. search needs) returns-2)

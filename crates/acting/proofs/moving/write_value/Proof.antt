@@ -6,17 +6,17 @@ use Rattle.acting.proofs.moving.write_value.Tie as tie
 
 returns : tie.Need-returns
 returns c = let a = c .before .before .before .before .before .args in
-    λ input journal. value-none _ _ (a .index) (rw (c .before .word .ensures) at (c .if1 .taken))
+    λ input journal. value-none _ _ (a .index) (rw (c .before .stored-values .ensures) at (c .if1 .taken))
 
 returns-2 : tie.Need-returns-2
 returns-2 c =
     let at-write-byte = c .before .before in
     let at-if1 = at-write-byte .before .before .before in
-    let at-word = at-if1 .before in
-    let entry = at-word .before .before .before .before in
+    let at-count = at-if1 .before in
+    let entry = at-count .before .before .before .before in
     let a = entry .args in
     let p = entry .pre in
-    λ input journal. value-written _ _ (a .index) _ _ (rw (at-word .word .ensures) at (at-if1 .if1 .left)) (p .1 .1 .1 .0 .stored) (p .1 .0) (p .1 .1 .1 .1)
+    λ input journal. value-written _ _ (a .index) _ _ (rw (at-count .stored-values .ensures) at (at-if1 .if1 .left)) (p .1 .1 .1 .0 .stored) (p .1 .0) (p .1 .1 .1 .1)
     (at-write-byte .write-byte .ensures input journal (a .values .now) (a .frames .now))
 
 pub write-value-spec : {M : Type 1} → statement M

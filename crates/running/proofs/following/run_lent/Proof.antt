@@ -18,28 +18,28 @@ use Rattle.running.proofs.following.run_lent.Tie as tie
 
 -- WHERE THE TEXT IS ON IN, WHERE THE FIRST FRAME IS EMPTY, AND WHERE THE RUN HAS BEEN FOLLOWED
 
-abbrev entry : tie.After-copy-over → tie.Start
+abbrev entry : tie.After-copy-to-in → tie.Start
 entry c = c .before .before .before .before .before .before .before .before .before .before
 
-abbrev loading : tie.After-begin-frame → tie.After-copy-over
+abbrev loading : tie.After-begin-frame → tie.After-copy-to-in
 loading c = c .before .before .before .before
 
 abbrev beginning : tie.After-follow → tie.After-begin-frame
 beginning c = c .before .before .before .before .before .before .before .before .before .before
 
-on-in : (c : tie.After-copy-over) → Loaded (entry c .args .text .now) (entry c .args .input .now) (c .copy-over .last .0)
+on-in : (c : tie.After-copy-to-in) → Loaded (entry c .args .text .now) (entry c .args .input .now) (c .copy-to-in .last .0)
 on-in c =
     record {
       fits = entry c .pre .1 .1 .1 .0;
-      pasted = rw (c .before .before .loaded .ensures) at (c .copy-over .ensures);
-      sized = c .copy-over .kept .0;
+      pasted = rw (c .before .before .loaded .ensures) at (c .copy-to-in .ensures);
+      sized = c .copy-to-in .kept .0;
     }
 
 -- what the run begins on
 abbrev begun-in : tie.After-begin-frame → Memory
 begun-in c =
     let a = entry (loading c) .args in
-    memory (loading c .copy-over .last .0) (a .output .now) (a .journal .now) (c .begin-frame .last .0) (a .values .now)
+    memory (loading c .copy-to-in .last .0) (a .output .now) (a .journal .now) (c .begin-frame .last .0) (a .values .now)
 
 underway : (c : tie.After-begin-frame) → let a = entry (loading c) .args in
     Underway (a .allowance) (loadedWith (length (a .input .now)) (length (a .text .now)) (a .start)) (begun-in c)
@@ -51,7 +51,7 @@ underway c =
     (rw (c .begin-frame .ensures) (begun-held (a .frames .now) 0 0 0 0 (rooms .0) (omega arith) (omega arith)))
 
 -- the start is declared
-declared : (c : tie.After-copy-over) → isDeclared (functionsIn (entry c .args .code .now)) (entry c .args .start) ≡ true
+declared : (c : tie.After-copy-to-in) → isDeclared (functionsIn (entry c .args .code .now)) (entry c .args .start) ≡ true
 declared c =
     let a = entry c .args in
     let pre = entry c .pre in
@@ -63,8 +63,8 @@ left c =
     let cells = c .follow .last .1 .1 .1 .1 in
     memory (cells .0) (cells .1 .0) (cells .1 .1 .0) (cells .1 .1 .1 .0) (cells .1 .1 .1 .1 .0)
 
-copy-over-requires : tie.Need-copy-over-requires
-copy-over-requires c κs =
+copy-to-in-requires : tie.Need-copy-to-in-requires
+copy-to-in-requires c κs =
     let pre = c .before .before .before .before .before .before .before .before .before .pre in
     rw (c .before .loaded .ensures) (omega (arith, pre .1 .1 .1 .0))
 
@@ -77,7 +77,7 @@ clear-from-requires-2 c κs =
     rw (c .before .before .before .before .before .reported .ensures) (reported-within (c .before .before .before .before .before .before .before .before .before .before .before .before .before .before .before .before .before .before .before .before .before .before .before .before .before .before .before .before .before .before .before .before .before .before .before .before .before .before .before .before .args .allowance) (at-follow .follow .result) (left at-follow) (at-follow .follow .ensures .over) (at-follow .follow .ensures .leads .keeps))
 
 same-length : tie.Need-same-length
-same-length c = c .before .before .before .before .before .before .clear-from .kept .0 ∙ c .before .before .before .before .before .before .before .before .before .before .before .before .before .before .before .before .before .before .before .follow .kept .1 .1 .1 .1 .0 ∙ c .before .before .before .before .before .before .before .before .before .before .before .before .before .before .before .before .before .before .before .before .before .before .before .before .before .before .before .before .before .before .before .before .before .copy-over .kept .0
+same-length c = c .before .before .before .before .before .before .clear-from .kept .0 ∙ c .before .before .before .before .before .before .before .before .before .before .before .before .before .before .before .before .before .before .before .follow .kept .1 .1 .1 .1 .0 ∙ c .before .before .before .before .before .before .before .before .before .before .before .before .before .before .before .before .before .before .before .before .before .before .before .before .before .before .before .before .before .before .before .before .before .copy-to-in .kept .0
 
 returns : tie.Need-returns
 returns c =
@@ -95,7 +95,7 @@ run-lent-spec =
     tie.close
     (tie.spec
     (λ c κs. search needs)
-    copy-over-requires
+    copy-to-in-requires
     (λ c κs. search needs)
     (λ c κs. search needs)
     follow-requires

@@ -1,7 +1,7 @@
--- `applying::begin_frame` meets its contract.
+-- `frames::begin_frame` meets its contract.
 use borrow.Author.Needs.{needs}
-use Rattle.applying.proofs.begin_frame.Statement.{statement}
-use Rattle.applying.proofs.begin_frame.Tie as tie
+use Rattle.acting.proofs.frames.begin_frame.Statement.{statement}
+use Rattle.acting.proofs.frames.begin_frame.Tie as tie
 
 returns : tie.Need-returns
 returns c =
