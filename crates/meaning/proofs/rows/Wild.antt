@@ -1,10 +1,10 @@
 -- Words that no translation writes: 18 in the function table changes nothing, and 18 met later ends the run like any early stop.
-use Prim.Native.Nat.{ℕ, _-_}
+use Prim.Native.Nat.{ℕ, zero, suc, _-_}
 use mathlib.Core.Path.{_≡_, refl}
 use mathlib.Core.List.{List, [], _∷_, _++_, map}
 use lib.ListN.{length, replicate}
 use Rattle.meaning.specs.Choice.{Bytes}
-use Rattle.meaning.specs.Instructions.{fromStart, look, null, whole, Span, Action, go, select, out, outCharacter, beginSequence, useSequence, call, tailCall, ends, Sentences, noMore, sentence}
+use Rattle.meaning.specs.Instructions.{fromStart, fromPlace, Test, look, Store, store, null, whole, left, right, Span, Action, go, select, out, outCharacter, outValue, beginSequence, useSequence, call, tailCall, emission, Metric, exactly, ends, Sentences, noMore, sentence}
 use Rattle.meaning.specs.Packing.{Words, word, countsWord, pack}
 use Rattle.meaning.specs.Leaving.{Cells, Leaving, leaving}
 use Rattle.meaning.proofs.rows.Computing.{computing}
@@ -20,38 +20,56 @@ cells i o j = record { stackIn = i; stackOut = o; journal = j }
 abbrev lent : Cells
 lent = cells (replicate 6 7) (replicate 3 8) (replicate 5 9)
 
-abbrev eighteen : ℕ → Bytes → Cells → Leaving
-eighteen steps emissions left =
-    record { result = record { answer = 18; function = 0; steps = steps; text = []; emissions = emissions }; cells = left }
-
--- refused before the run: nothing is changed
-abbrev unchanged : Words → Row
-unchanged words = record { words = words; text = 97 ∷ []; leaves = eighteen 0 [] lent }
-
--- stopped in the run: in and out are zero, and the record has just the emissions from before it
-abbrev stopped : ℕ → Bytes → Bytes → Words → Row
-stopped steps emissions journal words =
-    record { words = words; text = 97 ∷ []; leaves = eighteen steps emissions (cells (replicate 6 0) (replicate 3 0) journal) }
-
--- in the first application, before any emission
-abbrev wrong : Words → Row
-wrong words = stopped 1 [] (replicate 5 9) words
-
--- where the words are instructions after all: the text, the steps, and the result, which is then on out
-abbrev ended : Bytes → ℕ → Bytes → Words → Row
-ended text steps result words =
+-- a run that stopped with an answer: in and out are zero, and the record has just the emissions from before it
+abbrev stoppedWith : ℕ → Bytes → ℕ → Bytes → Words → Row
+stoppedWith answer text steps emissions words =
     record {
       words = words;
       text = text;
       leaves =
           record {
-            result = record { answer = 0; function = 0; steps = steps; text = result; emissions = [] };
-            cells = cells (replicate 6 0) (result ++ replicate (3 - length result) 0) (replicate 5 9);
+            result = record { answer = answer; function = 0; steps = steps; text = []; emissions = emissions };
+            cells = cells (replicate 6 0) (replicate 3 0) (emissions ++ replicate (5 - length emissions) 9);
           };
     }
 
+-- refused before the run: nothing is changed
+abbrev unchanged : Words → Row
+unchanged words =
+    record {
+      words = words;
+      text = 97 ∷ [];
+      leaves = record { result = record { answer = 18; function = 0; steps = 0; text = []; emissions = [] }; cells = lent };
+    }
+
+-- stopped with 18 in the first application, before any emission
+abbrev wrong : Words → Row
+wrong words = stoppedWith 18 (97 ∷ []) 1 [] words
+
+-- where the words are instructions after all: the text, the steps, the emissions, and the result, which is then on out
+abbrev endedEmitting : Bytes → ℕ → Bytes → Bytes → Words → Row
+endedEmitting text steps emissions result words =
+    record {
+      words = words;
+      text = text;
+      leaves =
+          record {
+            result = record { answer = 0; function = 0; steps = steps; text = result; emissions = emissions };
+            cells =
+                cells (replicate 6 0) (result ++ replicate (3 - length result) 0) (emissions ++ replicate (5 - length emissions) 9);
+          };
+    }
+
+abbrev ended : Bytes → ℕ → Bytes → Words → Row
+ended text steps result words = endedEmitting text steps [] result words
+
 abbrev finished : Words → Row
 finished words = ended (97 ∷ []) 1 [] words
+
+-- so many numbers from one on
+unfoldable pub counting : ℕ → ℕ → List ℕ
+counting n zero = []
+counting n (suc count) = n ∷ counting (suc n) count
 
 -- one function of one sentence, which asks for a field of one byte: its tests, stores and actions
 abbrev code : Words → Words → Words → Words
@@ -97,6 +115,10 @@ matchRows =
     wrong (stores (word 4 1 2 0 ∷ [])) ∷
     wrong (stores (replicate 17 4)) ∷
     finished (stores (replicate 16 4)) ∷ []
+    -- numbers that begin no sentence, are no test and no store
+    ++ map (λ n. wrong (1 ∷ 2 ∷ n ∷ 65536 ∷ 15 ∷ 19 ∷ [])) (counting 0 16 ++ counting 20 236)
+    ++ map (λ n. wrong (tests (n ∷ []))) (0 ∷ counting 4 252)
+    ++ map (λ n. wrong (stores (n ∷ []))) (counting 0 4 ++ counting 5 251)
 
 -- ACTIONS
 abbrev actionRows : List Row
@@ -123,20 +145,79 @@ actionRows =
     wrong (actions (word 14 1 0 0 ∷ 256 ∷ [])) ∷
     wrong (actions (word 14 4 0 0 ∷ 65 ∷ [])) ∷
     -- after an emission, and in a called function
-    stopped 1 (65 ∷ 32 ∷ 10 ∷ []) (65 ∷ 32 ∷ 10 ∷ 9 ∷ 9 ∷ []) (actions (word 14 1 0 0 ∷ 65 ∷ 0 ∷ [])) ∷
-    stopped 2 [] (replicate 5 9) (2 ∷ 3 ∷ 8 ∷ 272 ∷ 131072 ∷ 524 ∷ 15 ∷ 19 ∷ 0 ∷ []) ∷ []
+    stoppedWith 18 (97 ∷ []) 1 (65 ∷ 32 ∷ 10 ∷ []) (actions (word 14 1 0 0 ∷ 65 ∷ 0 ∷ [])) ∷
+    stoppedWith 18 (97 ∷ []) 2 [] (2 ∷ 3 ∷ 8 ∷ 272 ∷ 131072 ∷ 524 ∷ 15 ∷ 19 ∷ 0 ∷ []) ∷ []
+    -- numbers that are no action: among them would be OutS, PutC, PutV and Loop, which have none
+    ++ map (λ n. wrong (actions (n ∷ []))) (counting 0 5 ++ counting 16 240)
 
--- WHERE Q STAYS
+-- WHAT EACH INSTRUCTION DOES, in sentences for any field, on the text `ab`
 abbrev cellsOn : ℕ → Span
 cellsOn n = record { register = null; add = n; back = 0 }
 
 abbrev field : ℕ → Span
 field back = record { register = whole; add = 0; back = back }
 
--- a sentence for any field
 abbrev anyField : List Action → Sentences
 anyField actions = sentence (ends 0 0) [] [] actions noMore
 
+-- the actions of one function that stores the field's first byte, of two functions
+abbrev doing : List Action → Words
+doing actions = pack (sentence (ends 0 0) [] (store (fromStart 0) ∷ []) actions noMore ∷ [])
+
+abbrev doingBoth : List Action → List Action → Words
+doingBoth first second = pack (anyField first ∷ anyField second ∷ [])
+
+abbrev gives : Bytes → List Action → Row
+gives result actions = ended (97 ∷ 98 ∷ []) 1 result (doing actions)
+
+abbrev bothGive : Bytes → List Action → List Action → Row
+bothGive result first second = ended (97 ∷ 98 ∷ []) 2 result (doingBoth first second)
+
+abbrev doingRows : List Row
+doingRows =
+    -- Go moves q to p; Select counts on from q; Out moves p to q
+    gives [] (select (field 0) ∷ go (cellsOn 1) ∷ out ∷ []) ∷
+    gives (97 ∷ 98 ∷ []) (select (cellsOn 1) ∷ select (cellsOn 1) ∷ out ∷ out ∷ []) ∷
+    gives (98 ∷ []) (select (cellsOn 1) ∷ go (cellsOn 1) ∷ select (cellsOn 1) ∷ out ∷ []) ∷
+    -- OutC, OutV and BeginSeq leave p and q
+    gives (99 ∷ 97 ∷ []) (select (cellsOn 1) ∷ outCharacter 99 ∷ out ∷ []) ∷
+    gives (97 ∷ 97 ∷ []) (select (cellsOn 1) ∷ outValue 0 ∷ out ∷ []) ∷
+    gives (97 ∷ []) (select (cellsOn 1) ∷ beginSequence ∷ out ∷ []) ∷
+    -- UseSeq takes what came to out since the latest BeginSeq
+    gives (99 ∷ 100 ∷ []) (outCharacter 99 ∷ beginSequence ∷ outCharacter 100 ∷ useSequence ∷ out ∷ []) ∷
+    gives (99 ∷ 100 ∷ []) (beginSequence ∷ outCharacter 99 ∷ beginSequence ∷ outCharacter 100 ∷ useSequence ∷ out ∷ useSequence ∷ out ∷ []) ∷
+    -- an emission moves p to q
+    endedEmitting (97 ∷ 98 ∷ []) 1 (65 ∷ 32 ∷ 97 ∷ 10 ∷ []) (98 ∷ []) (doing (select (cellsOn 1) ∷ emission (65 ∷ []) ∷ select (cellsOn 1) ∷ out ∷ [])) ∷
+    -- nothing comes after a tail call
+    bothGive [] (tailCall 2 ∷ outCharacter 120 ∷ []) [] ∷
+    -- a sequence is open in the application that opened it alone
+    stoppedWith 18 (97 ∷ 98 ∷ []) 2 [] (doingBoth (beginSequence ∷ call 2 ∷ []) (useSequence ∷ [])) ∷
+    -- 18 comes before 14
+    stoppedWith 18 (97 ∷ 98 ∷ []) 1 [] (doing (outValue 0 ∷ outValue 0 ∷ outValue 0 ∷ outValue 1 ∷ [])) ∷
+    stoppedWith 14 (97 ∷ 98 ∷ []) 1 [] (doing (outValue 0 ∷ outValue 0 ∷ outValue 0 ∷ outValue 0 ∷ [])) ∷
+    -- a span below zero counts as zero
+    gives (97 ∷ 98 ∷ []) (go (record { register = null; add = 1; back = 3 }) ∷ select (field 0) ∷ out ∷ []) ∷
+    gives [] (select (record { register = whole; add = 0; back = 3 }) ∷ out ∷ []) ∷ []
+
+-- WITHOUT A MIDDLE TEMPLATE i is the field's first cell, so that dl is 0 and dr is d: in a test, in a store and in spans
+abbrev placeless : Metric → List Test → List Store → List Action → Words
+placeless metric tests stores actions = pack (sentence metric tests stores actions noMore ∷ [])
+
+abbrev dl : Span
+dl = record { register = left; add = 0; back = 0 }
+
+abbrev dr : Span
+dr = record { register = right; add = 0; back = 0 }
+
+abbrev placelessRows : Metric → List Row
+placelessRows metric =
+    ended (97 ∷ 98 ∷ []) 1 (98 ∷ []) (placeless metric (look (fromPlace 0) 97 ∷ look (fromPlace 1) 98 ∷ []) (store (fromPlace 1) ∷ []) (outValue 0 ∷ [])) ∷
+    stoppedWith 18 (97 ∷ 98 ∷ []) 1 [] (placeless metric (look (fromPlace 2) 97 ∷ []) [] []) ∷
+    stoppedWith 18 (97 ∷ 98 ∷ []) 1 [] (placeless metric [] (store (fromPlace 2) ∷ []) []) ∷
+    ended (97 ∷ 98 ∷ []) 1 [] (placeless metric [] [] (select dl ∷ out ∷ [])) ∷
+    ended (97 ∷ 98 ∷ []) 1 (97 ∷ 98 ∷ []) (placeless metric [] [] (select dr ∷ out ∷ [])) ∷ []
+
+-- WHERE Q STAYS
 -- 000's example 4.3.1, its first sentence (OutS as Select 1 and Out), and after it `e1 = e1`
 abbrev pathSentence : List Action → Words
 pathSentence actions =
@@ -146,7 +227,7 @@ pathSentence actions =
 
 -- function 1 selects, calls function 2 on that and writes what is selected then; function 2 has these actions
 abbrev returning : Span → List Action → Words
-returning selected callee = pack (anyField (select selected ∷ call 2 ∷ out ∷ []) ∷ anyField callee ∷ [])
+returning selected callee = doingBoth (select selected ∷ call 2 ∷ out ∷ []) callee
 
 abbrev stayRows : List Row
 stayRows =
@@ -162,9 +243,9 @@ stayRows =
     ended (97 ∷ 98 ∷ []) 2 [] (returning (cellsOn 1) (go (cellsOn 2) ∷ [])) ∷ []
 
 abbrev pub rows : List Row
-rows = tableRows ++ matchRows ++ actionRows ++ stayRows
+rows = tableRows ++ matchRows ++ actionRows ++ doingRows ++ placelessRows (exactly 2) ++ placelessRows (ends 0 0) ++ stayRows
 
 -- each is started at function 1, with five steps
 pub wild : map (λ (r : Row). leaving (r .words) 1 (r .text) lent 5) rows ≡ map (λ (r : Row). r .leaves) rows
-unfolding computing
+unfolding computing counting
 wild = refl
