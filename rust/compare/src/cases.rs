@@ -1,17 +1,14 @@
-//! The generated cases: sound tables with rooms round what they need, damaged tables, deep runs, wild words.
+//! The cases: stored ones, sound tables with rooms round what they need, damaged tables, deep runs, wild code.
 
 use crate::check;
 use crate::tally::{Subject, Tally};
-use crate::wild;
 use generate::damage::{damage, rubbish};
 use generate::dress::dress;
 use generate::edges::edge;
 use generate::random::Random;
-use generate::{texts, trees};
-use refal0_apart::corpus::{Case, Expected, Lending, outcome};
+use generate::{texts, trees, wild};
+use refal0_apart::corpus::{Case, Expected, Lending, Source, outcome};
 use refal0_apart::machine::{self, Rooms};
-use refal0_apart::reader::read;
-use refal0_apart::translation::Program;
 use refal0_apart::tree::Table;
 
 const SLACK: usize = 40;
@@ -33,23 +30,23 @@ struct Sound<'c> {
     origin: &'c str,
     text: &'c [u8],
     tree: Table,
-    program: Program,
     code: Vec<u32>,
 }
 
 impl Tally {
     /// Compares what is made of a table alone; gives what its runs need if it is accepted.
     fn table<'c>(&mut self, origin: &'c str, text: &'c [u8]) -> Option<Sound<'c>> {
-        let subject = Subject { origin, table: text, ..Subject::default() };
+        let subject = Subject { origin, table: Some(text), ..Subject::default() };
         let checked = check::table(text);
         self.note(subject, checked.as_ref().map(|_| ()).map_err(String::clone));
-        let (tree, program, code) = checked.ok()??;
-        Some(Sound { origin, text, tree, program, code })
+        let (tree, code) = checked.ok()??;
+        Some(Sound { origin, text, tree, code })
     }
 
     fn run(&mut self, sound: &Sound, lending: &Lending) {
-        let result = check::run(&sound.tree, &sound.program, &sound.code, lending);
-        self.note(Subject { origin: sound.origin, table: sound.text, lending: Some(lending), code: None }, result);
+        let result = check::run(&sound.tree, &sound.code, lending);
+        let table = Some(sound.text);
+        self.note(Subject { origin: sound.origin, table, lending: Some(lending), code: None }, result);
     }
 
     /// One case of the corpus: this system and the engine must both come to what is stored.
@@ -58,20 +55,42 @@ impl Tally {
             Expected::Run(lending, _) => Some(lending),
             Expected::Refused(_) => None,
         };
-        self.note(Subject { origin, table: &case.table, lending, code: None }, as_stored(case));
-        if let (Some(sound), Some(lending)) = (self.table(origin, &case.table), lending) {
-            self.run(&sound, lending);
+        let subject = Subject { origin, lending, ..Subject::default() };
+        match &case.source {
+            Source::Table(table) => {
+                self.note(Subject { table: Some(table), ..subject }, as_stored(case));
+                if let (Some(sound), Some(lending)) = (self.table(origin, table), lending) {
+                    self.run(&sound, lending);
+                }
+            }
+            Source::Code(code) => {
+                self.note(Subject { code: Some(code), ..subject }, as_stored(case));
+                if let Some(lending) = lending {
+                    self.wild_run(origin, code, lending);
+                }
+            }
         }
+    }
+
+    fn wild_run(&mut self, origin: &str, code: &[u32], lending: &Lending) {
+        let subject = Subject { origin, lending: Some(lending), code: Some(code), ..Subject::default() };
+        self.note(subject, check::wild_run(code, lending));
+    }
+
+    /// Wild code with a text, in rooms that are often small.
+    pub fn wild(&mut self, random: &mut Random, origin: &str) {
+        let (code, functions) = wild::code(random);
+        let lending = wild::lending(random, functions);
+        self.wild_run(origin, &code, &lending);
     }
 
     /// One generated case or a few that belong together.
     pub fn generated(&mut self, random: &mut Random, origin: &str) {
-        match random.below(24) {
+        match random.below(22) {
             0 | 1 => self.sound(random, origin),
             2 | 3 => self.deep(random, origin),
-            4 | 5 => self.wild(random, origin),
-            6 => drop(self.table(origin, &rubbish(random))),
-            7..=9 => drop(self.table(origin, &edge(random))),
+            4 => drop(self.table(origin, &rubbish(random))),
+            5..=7 => drop(self.table(origin, &edge(random))),
             _ => {
                 let tree = trees::table(random);
                 let text = dress(random, &tree);
@@ -84,7 +103,7 @@ impl Tally {
         let tree = trees::table(random);
         let text = dress(random, &tree);
         let Some(sound) = self.table(origin, &text) else { return };
-        let subject = Subject { origin, table: &text, ..Subject::default() };
+        let subject = Subject { origin, table: Some(&text), ..Subject::default() };
         let length = sound.code.len();
         for room in [length.saturating_sub(1), length + random.below(20)] {
             self.note(subject, check::translation_room(&text, &sound.code, room));
@@ -101,14 +120,14 @@ impl Tally {
         // code is often run in a buffer that is longer
         let longer = [sound.code.as_slice(), &[0; 7]].concat();
         let subject = Subject { lending: Some(&lending), code: Some(&longer), ..subject };
-        self.note(subject, check::run(&sound.tree, &sound.program, &longer, &lending));
+        self.note(subject, check::run(&sound.tree, &longer, &lending));
         self.round_need(random, &sound, lending);
     }
 
     /// Runs with rooms and allowance at, one below and one above what the run without end needs.
     fn round_need(&mut self, random: &mut Random, sound: &Sound, mut lending: Lending) {
         let Lending { start, text, allowance, .. } = &lending;
-        let (outcome, need) = machine::run(&sound.program, *start, text, *allowance, Rooms::WITHOUT_END);
+        let (outcome, need) = machine::run(&sound.code, *start, text, *allowance, Rooms::WITHOUT_END);
         let mut slack = |need: usize| need + random.below(SLACK);
         let ample = Rooms::lent(slack(need.stack_in), slack(need.stack_out), slack(need.record));
         let mut lent = vec![ample, Rooms::lent(need.stack_in, need.stack_out, need.record)];
@@ -146,35 +165,12 @@ impl Tally {
             self.round_need(random, &sound, lending);
         }
     }
-
-    fn wild(&mut self, random: &mut Random, origin: &str) {
-        let tree = trees::table(random);
-        let text = dress(random, &tree);
-        let Some(sound) = self.table(origin, &text) else { return };
-        for _ in 0..8 {
-            let function = random.below(sound.tree.functions.len());
-            let text = texts::text(random, &sound.tree.functions[function]);
-            let mut room = |least: usize| if random.one_in(3) { random.below(least + 4) } else { least + SLACK };
-            let rooms = Rooms::lent(room(text.len()), room(10), room(10));
-            let start = if random.one_in(8) { random.below(70) } else { function + 1 };
-            let lending = Lending { start, text, allowance: random.below(60) as u32, rooms };
-            let code = wild::words(random, &sound.code);
-            let result = wild::run(&code, &lending);
-            self.note(Subject { origin, table: sound.text, lending: Some(&lending), code: Some(&code) }, result);
-        }
-    }
 }
 
 fn as_stored(case: &Case) -> Result<(), String> {
-    let (same, found) = match &case.expected {
-        Expected::Refused(refusal) => {
-            let found = read(&case.table).err();
-            (found == Some(*refusal), format!("{found:?}"))
-        }
-        Expected::Run(lending, expected) => {
-            let found = outcome(&case.table, lending);
-            (found.as_ref() == Ok(expected), format!("{found:?}"))
-        }
+    let (lending, expected) = match &case.expected {
+        Expected::Refused(refusal) => (&Lending::default(), Err(*refusal)),
+        Expected::Run(lending, expected) => (lending, Ok(expected.clone())),
     };
-    if same { Ok(()) } else { Err(format!("stored: {:?}\nthis system: {found}", case.expected)) }
+    check::equal("stored, and found by this system", expected, outcome(&case.source, lending))
 }

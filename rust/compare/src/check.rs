@@ -2,11 +2,11 @@
 
 use crate::engine::{self, Left};
 use refal0_apart::corpus::Lending;
-use refal0_apart::machine;
 use refal0_apart::outcome::Outcome;
+use refal0_apart::packing::pack;
 use refal0_apart::reader::{Refusal, read};
 use refal0_apart::rewriter::rewrite;
-use refal0_apart::translation::{Program, translate};
+use refal0_apart::translation::translate;
 use refal0_apart::tree::Table;
 
 pub type Check<T = ()> = Result<T, String>;
@@ -14,11 +14,11 @@ pub type Check<T = ()> = Result<T, String>;
 /// Words lent for the code of a table that is refused.
 const REFUSED_ROOM: usize = 40;
 
-fn equal<T: PartialEq + std::fmt::Debug>(what: &str, expected: T, engine: T) -> Check {
-    if expected == engine {
+pub fn equal<T: PartialEq + std::fmt::Debug>(what: &str, expected: T, found: T) -> Check {
+    if expected == found {
         return Ok(());
     }
-    Err(format!("{what}\n  expected: {expected:?}\n  engine:   {engine:?}"))
+    Err(format!("{what}\n  expected: {expected:?}\n  found:    {found:?}"))
 }
 
 fn holds(what: &str, held: bool) -> Check {
@@ -44,18 +44,7 @@ pub fn refused_translation(table: &[u8], refusal: Refusal) -> Check {
     holds("the code buffer of a refused table is not all zero", code.iter().all(|&word| word == 0))
 }
 
-/// Translating an accepted table: the code, which keeps the bounds on its words.
-pub fn translation(table: &[u8], program: &Program) -> Check<Vec<u32>> {
-    let (found, mut code) = engine::translate(table, program.word_bound())?;
-    let words = found[2] as usize;
-    equal("translating: number, place", [0, 0], [found[0], found[1]])?;
-    holds("the code has more words than were lent", words <= code.len())?;
-    holds("a word after the code is not zero", code[words..].iter().all(|&word| word == 0))?;
-    code.truncate(words);
-    Ok(code)
-}
-
-/// Translating with a buffer of other length: at least as long as the code, or shorter.
+/// Translating with a buffer at least as long as the code, or shorter.
 pub fn translation_room(table: &[u8], code: &[u32], room: usize) -> Check {
     let (found, buffer) = engine::translate(table, room)?;
     if room < code.len() {
@@ -63,30 +52,35 @@ pub fn translation_room(table: &[u8], code: &[u32], room: usize) -> Check {
         return holds("the code buffer that is too short is not all zero", buffer.iter().all(|&word| word == 0));
     }
     equal("translating: number, place, words", answer(0, 0, code.len()), found)?;
-    holds("the code differs with the room lent for it", buffer[..code.len()] == *code)?;
+    equal("translating: words", code, &buffer[..code.len()])?;
     holds("a word after the code is not zero", buffer[code.len()..].iter().all(|&word| word == 0))
 }
 
 /// The lent run's outcome, which must be the rewriting's where the run without end keeps within the rooms.
-pub fn expected_outcome(tree: &Table, program: &Program, lending: &Lending) -> Check<Outcome> {
-    let Lending { start, text, allowance, rooms } = lending;
-    let (outcome, _) = machine::run(program, *start, text, *allowance, *rooms);
+pub fn expected_outcome(tree: &Table, code: &[u32], lending: &Lending) -> Check<Outcome> {
+    let outcome = lending.run(code);
     if !matches!(outcome.answer, 10 | 13..=16) {
-        equal("rewriter and machine of this system", rewrite(tree, *start, text, *allowance), outcome.clone())?;
+        let rewritten = rewrite(tree, lending.start, &lending.text, lending.allowance);
+        equal("rewriter and machine of this system", rewritten, outcome.clone())?;
     }
     Ok(outcome)
 }
 
-pub fn run(tree: &Table, program: &Program, code: &[u32], lending: &Lending) -> Check {
-    let expected = expected_outcome(tree, program, lending)?;
+pub fn run(tree: &Table, code: &[u32], lending: &Lending) -> Check {
+    let expected = expected_outcome(tree, code, lending)?;
     left_as_expected(&expected, &engine::run(code, lending)?)
+}
+
+/// A run of any words as code.
+pub fn wild_run(code: &[u32], lending: &Lending) -> Check {
+    left_as_expected(&lending.run(code), &engine::run(code, lending)?)
 }
 
 pub fn left_as_expected(expected: &Outcome, left: &Left) -> Check {
     let Outcome { answer, function, steps, text, record } = expected;
     let whole = [*answer, *function as u64, *steps, text.len() as u64, record.len() as u64];
     equal("running: answer, function, steps, length of text and emissions", whole, left.answer)?;
-    if matches!(answer, 9 | 10) {
+    if expected.before_run() {
         let unchanged = left.stack_in.unchanged() && left.stack_out.unchanged() && left.record.unchanged();
         return holds("a refused start has changed what was lent", unchanged);
     }
@@ -121,8 +115,8 @@ pub fn listing(table: &[u8], spare: usize) -> Check {
     holds("a listing buffer that is too short is changed", buffer.unchanged())
 }
 
-/// All that is compared of a table alone; the tree with its translation and the engine's code if it is accepted.
-pub fn table(text: &[u8]) -> Check<Option<(Table, Program, Vec<u32>)>> {
+/// All that is compared of a table alone; the tree with its code if it is accepted.
+pub fn table(text: &[u8]) -> Check<Option<(Table, Vec<u32>)>> {
     reading(text)?;
     #[cfg(feature = "listing")]
     listing(text, 5)?;
@@ -130,8 +124,9 @@ pub fn table(text: &[u8]) -> Check<Option<(Table, Program, Vec<u32>)>> {
         Err(refusal) => refused_translation(text, refusal).map(|()| None),
         Ok(tree) => {
             let program = translate(&tree);
-            let code = translation(text, &program)?;
-            Ok(Some((tree, program, code)))
+            let code = pack(&program);
+            translation_room(text, &code, program.word_bound())?;
+            Ok(Some((tree, code)))
         }
     }
 }

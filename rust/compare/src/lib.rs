@@ -6,4 +6,3 @@ pub mod engine;
 pub mod exports;
 pub mod lent;
 pub mod tally;
-pub mod wild;

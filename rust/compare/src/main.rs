@@ -1,6 +1,7 @@
-//! Compares the engine with the system written apart: the stored corpus, then generated cases.
+//! Compares the engine with the system written apart: the stored corpus, then generated cases and wild code.
 //!
-//! `compare` runs the fixed seeds; `compare --seed S --count N` runs at least N cases of one seed.
+//! `compare` runs the fixed seeds; `compare --seed S --count N` runs at least N cases of one seed, and
+//! `compare --seed S --wild N` N wild codes of it.
 
 use compare::tally::{self, Tally};
 use generate::random::Random;
@@ -10,11 +11,20 @@ use std::path::Path;
 use std::process::ExitCode;
 
 const SEEDS: [u64; 4] = [1, 2, 3, 4];
+/// Cases and wild codes of each of these seeds.
 const COUNT: u64 = 60_000;
+const WILD: u64 = 12_500;
+
+/// What is run: the seeds, and of each how many cases and how many wild codes.
+struct Plan {
+    seeds: Vec<u64>,
+    count: u64,
+    wild: u64,
+}
 
 fn main() -> ExitCode {
-    let Some((seeds, count)) = arguments() else {
-        eprintln!("usage: compare [--seed S] [--count N]");
+    let Some(Plan { seeds, count, wild }) = arguments() else {
+        eprintln!("usage: compare [--seed S] [--count N] [--wild N]");
         return ExitCode::FAILURE;
     };
     tally::watch(format!("seeds {seeds:?}"));
@@ -22,28 +32,35 @@ fn main() -> ExitCode {
     corpus(&mut tally);
     println!("corpus: {} cases", tally.count());
     for seed in seeds {
-        let before = tally.count();
+        let begun = tally.count();
         generated(&mut tally, seed, count);
-        println!("seed {seed}: {} cases", tally.count() - before);
+        let made = tally.count();
+        wild_codes(&mut tally, seed, wild);
+        println!("seed {seed}: {} cases, {} wild codes", made - begun, tally.count() - made);
     }
     println!("{} passed, {} failed", tally.passed, tally.failed);
     if tally.failed == 0 { ExitCode::SUCCESS } else { ExitCode::FAILURE }
 }
 
-/// The seeds and how many cases of each; nothing if an argument isn't known.
-fn arguments() -> Option<(Vec<u64>, u64)> {
+/// The fixed plan, or what the arguments ask for alone; nothing if an argument isn't known.
+fn arguments() -> Option<Plan> {
     let mut seeds = SEEDS.to_vec();
-    let mut count = COUNT;
+    let (mut count, mut wild) = (None, None);
     let mut arguments = std::env::args().skip(1);
     while let Some(name) = arguments.next() {
         let number = arguments.next()?.parse().ok()?;
         match name.as_str() {
             "--seed" => seeds = vec![number],
-            "--count" => count = number,
+            "--count" => count = Some(number),
+            "--wild" => wild = Some(number),
             _ => return None,
         }
     }
-    Some((seeds, count))
+    let (count, wild) = match (count, wild) {
+        (None, None) => (COUNT, WILD),
+        asked => (asked.0.unwrap_or(0), asked.1.unwrap_or(0)),
+    };
+    Some(Plan { seeds, count, wild })
 }
 
 fn corpus(tally: &mut Tally) {
@@ -68,5 +85,12 @@ fn generated(tally: &mut Tally, seed: u64, count: u64) {
             return;
         }
         tally.generated(&mut random, &format!("round {round} of seed {seed}"));
+    }
+}
+
+fn wild_codes(tally: &mut Tally, seed: u64, count: u64) {
+    let mut random = Random::new(seed);
+    for round in 0..count {
+        tally.wild(&mut random, &format!("wild code {round} of seed {seed}"));
     }
 }

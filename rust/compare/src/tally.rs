@@ -1,6 +1,7 @@
 //! Counts the cases, prints the differences, and watches that every case comes to an end.
 
 use refal0_apart::corpus::{Lending, escape};
+use refal0_apart::machine::Rooms;
 use std::sync::atomic::{AtomicU64, Ordering};
 use std::thread;
 use std::time::Duration;
@@ -20,7 +21,7 @@ pub struct Tally {
 #[derive(Clone, Copy, Default)]
 pub struct Subject<'c> {
     pub origin: &'c str,
-    pub table: &'c [u8],
+    pub table: Option<&'c [u8]>,
     pub lending: Option<&'c Lending>,
     pub code: Option<&'c [u32]>,
 }
@@ -46,16 +47,20 @@ impl Tally {
 }
 
 impl Subject<'_> {
+    /// Prints a case in the lines of a corpus file, where it can be run again.
     fn print(&self, number: u64) {
-        println!("DIFFERENCE in case {number}, {}", self.origin);
-        println!("table ({} bytes): {}", self.table.len(), escape(self.table));
-        if let Some(lending) = self.lending {
-            let Lending { start, text, allowance, rooms } = lending;
-            println!("text ({} bytes): {}", text.len(), escape(text));
-            println!("start {start}, allowance {allowance}, {rooms:?}");
+        println!("# DIFFERENCE in case {number}, {}", self.origin);
+        if let Some(table) = self.table {
+            println!("escaped: {}", escape(table));
         }
         if let Some(code) = self.code {
-            println!("code: {code:?}");
+            let words: Vec<String> = code.iter().map(u32::to_string).collect();
+            println!("code: {}", words.join(" "));
+        }
+        if let Some(Lending { start, text, allowance, rooms }) = self.lending {
+            let Rooms { stack_in, stack_out, record, .. } = rooms;
+            println!("with: start={start} allowance={allowance} in={stack_in} out={stack_out} record={record}");
+            println!("text: {}", escape(text));
         }
     }
 }

@@ -1,4 +1,4 @@
-//! Generators with seeds: trees, texts, sound tables in odd dress, tables at their limits, damaged tables.
+//! Generators with seeds: trees, texts, sound tables in odd dress, tables at their limits, damaged tables, wild code.
 #![forbid(unsafe_code)]
 
 pub mod damage;
@@ -7,3 +7,4 @@ pub mod edges;
 pub mod random;
 pub mod texts;
 pub mod trees;
+pub mod wild;

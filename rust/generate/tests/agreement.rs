@@ -8,9 +8,10 @@ use generate::{texts, trees};
 use refal0_apart::listing::list;
 use refal0_apart::machine::{self, Rooms};
 use refal0_apart::outcome::Outcome;
+use refal0_apart::packing::pack;
 use refal0_apart::reader::{TABLE_LIMIT, read};
 use refal0_apart::rewriter::rewrite;
-use refal0_apart::translation::{Program, translate};
+use refal0_apart::translation::translate;
 use std::collections::BTreeMap;
 
 const CASES: usize = 4_000;
@@ -79,9 +80,9 @@ fn damaged_tables_meet_every_refusal() {
 }
 
 /// The answers that a run may have when one room is taken below what the run without end needs.
-fn narrowed(program: &Program, start: usize, text: &[u8], allowance: u32, whole: &Outcome, need: Rooms) {
+fn narrowed(code: &[u32], start: usize, text: &[u8], allowance: u32, whole: &Outcome, need: Rooms) {
     let narrow = |rooms: Rooms, answer: u64| {
-        let (outcome, _) = machine::run(program, start, text, allowance, rooms);
+        let (outcome, _) = machine::run(code, start, text, allowance, rooms);
         assert_eq!((outcome.answer, outcome.function), (answer, 0));
         assert!(outcome.text.is_empty() && outcome.steps <= whole.steps);
         assert!(whole.record.starts_with(&outcome.record));
@@ -108,14 +109,16 @@ fn the_machine_comes_to_the_rewriting() {
     for _ in 0..5 * CASES {
         let tree = trees::table(&mut random);
         let program = translate(&tree);
+        let code = pack(&program);
+        assert!(code.len() <= program.word_bound());
         let start = 1 + random.below(tree.functions.len());
         let text = texts::text(&mut random, &tree.functions[start - 1]);
         let allowance = random.below(120) as u32;
         let rewritten = rewrite(&tree, start, &text, allowance);
-        let (outcome, need) = machine::run(&program, start, &text, allowance, Rooms::WITHOUT_END);
+        let (outcome, need) = machine::run(&code, start, &text, allowance, Rooms::WITHOUT_END);
         assert_eq!(outcome, rewritten, "{}", String::from_utf8_lossy(&list(&tree)));
-        assert_eq!(machine::run(&program, start, &text, allowance, need), (rewritten, need));
-        narrowed(&program, start, &text, allowance, &outcome, need);
+        assert_eq!(machine::run(&code, start, &text, allowance, need), (rewritten, need));
+        narrowed(&code, start, &text, allowance, &outcome, need);
         *answers.entry(outcome.answer).or_insert(0) += 1;
     }
     for answer in [0, 11, 12] {

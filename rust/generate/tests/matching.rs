@@ -3,8 +3,8 @@
 use generate::random::Random;
 use generate::{texts, trees};
 use refal0_apart::machine::{self, Rooms};
+use refal0_apart::packing::code;
 use refal0_apart::rewriter::rewrite;
-use refal0_apart::translation::translate;
 use refal0_apart::tree::{Item, Letter, Sentence, Table};
 
 /// The bytes of the s-variables and the e-variables' parts, if the text is the pattern with first part of this length.
@@ -62,7 +62,7 @@ fn the_first_fitting_parts_are_taken() {
         let sentence = &table.functions[0].sentences[0];
         let found = (0..=text.len()).find_map(|first| parted(sentence, &text, first));
         let outcome = rewrite(&table, 1, &text, 9);
-        assert_eq!(machine::run(&translate(&table), 1, &text, 9, Rooms::WITHOUT_END).0, outcome);
+        assert_eq!(machine::run(&code(&table), 1, &text, 9, Rooms::WITHOUT_END).0, outcome);
         let Some((bytes, parts)) = found else {
             assert_eq!((outcome.answer, outcome.function), (11, 1));
             continue;

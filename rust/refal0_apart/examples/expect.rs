@@ -1,7 +1,8 @@
 //! Writes a corpus file from standard input with the outcomes this system finds, for review before it is kept.
 
-use refal0_apart::corpus::{Expected, escape, key_and_value, outcome, parse};
-use refal0_apart::reader::read;
+use refal0_apart::corpus::{Expected, Lending, Source, escape, key_and_value, outcome, parse};
+use refal0_apart::outcome::Outcome;
+use refal0_apart::reader::Refusal;
 use std::io::{Read, Write};
 
 fn main() {
@@ -16,23 +17,27 @@ fn main() {
             output.push(10);
         }
         if let Some(case) = cases.iter().find(|case| case.line == number + 1) {
-            output.extend(expectation(&case.table, &case.expected).into_bytes());
+            output.extend(expectation(&case.source, &case.expected).into_bytes());
         }
     }
     std::io::stdout().write_all(&output).expect("standard output is written");
 }
 
-fn expectation(table: &[u8], expected: &Expected) -> String {
-    let Expected::Run(lending, _) = expected else {
-        return match read(table) {
-            Err(refusal) => format!("refused: {} {}\n", refusal.number, refusal.place),
-            Ok(_) => String::from("refused: 0 0\n"),
-        };
-    };
-    let outcome = match outcome(table, lending) {
-        Ok(outcome) => outcome,
-        Err(refusal) => return format!("gives: refused {} {}\n", refusal.number, refusal.place),
-    };
+fn expectation(source: &Source, expected: &Expected) -> String {
+    let refused = |key: &str, refusal: Refusal| format!("{key}: {} {}\n", refusal.number, refusal.place);
+    match expected {
+        Expected::Refused(_) => match outcome(source, &Lending::default()) {
+            Err(refusal) => refused("refused", refusal),
+            Ok(_) => refused("refused", Refusal { number: 0, place: 0 }),
+        },
+        Expected::Run(lending, _) => match outcome(source, lending) {
+            Err(refusal) => refused("gives: refused", refusal),
+            Ok(outcome) => run_lines(&outcome),
+        },
+    }
+}
+
+fn run_lines(outcome: &Outcome) -> String {
     let mut lines = format!("gives: {} {} {}\n", outcome.answer, outcome.function, outcome.steps);
     for (key, bytes) in [("result", &outcome.text), ("record", &outcome.record)] {
         if !bytes.is_empty() {

@@ -1,25 +1,13 @@
 //! Prints what room a table's run on a sheet needs: words of code, cells of in and out, bytes of the record, frames, steps.
 
 use refal0_apart::machine::{self, Rooms};
+use refal0_apart::packing;
 use refal0_apart::reader::{Refusal, read};
-use refal0_apart::translation::{Action, Code, Program, translate};
 use std::fs;
 
 const ALLOWANCE: u32 = 100_000;
 /// Far more than the program lends, yet an end for runs that grow and grow.
 const AMPLE: Rooms = Rooms { stack_in: 1 << 24, stack_out: 1 << 24, record: 1 << 24, frames: 1 << 24 };
-
-/// How many words the code takes, as docs/CODE.md counts them.
-fn words(program: &Program) -> usize {
-    let action = |action: &Action| match action {
-        Action::Emit(number) => 1 + program.emissions[*number].len(),
-        _ => 1,
-    };
-    let sentence =
-        |code: &Code| 3 + code.tests.len() + code.store.len() + code.actions.iter().map(action).sum::<usize>();
-    let function = |codes: &Vec<Code>| 2 + codes.iter().map(sentence).sum::<usize>();
-    1 + program.functions.iter().map(function).sum::<usize>()
-}
 
 fn main() {
     let paths: Vec<String> = std::env::args().skip(1).collect();
@@ -30,9 +18,9 @@ fn main() {
         Ok(tree) => tree,
         Err(Refusal { number, place }) => return println!("refused with {number} (byte {place})"),
     };
-    let program = translate(&tree);
-    let (outcome, need) = machine::run(&program, 1, &text, ALLOWANCE, AMPLE);
-    println!("code   {} words", words(&program));
+    let code = packing::code(&tree);
+    let (outcome, need) = machine::run(&code, 1, &text, ALLOWANCE, AMPLE);
+    println!("code   {} words", code.len());
     println!("in     {} bytes", need.stack_in);
     println!("out    {} bytes", need.stack_out);
     println!("record {} bytes", need.record);

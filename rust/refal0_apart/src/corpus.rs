@@ -1,23 +1,30 @@
 //! Corpus files: tables with texts and what they come to, in lines of the form `key: value`.
 //!
 //! `table: ` begins a table, `more: ` adds a line to it; `escaped: ` is a whole table with escapes,
-//! `padded: length table` one with blanks after it up to that length.
-//! `text: ` is a text for the last table; a line `with: name=number ...` before it changes what is lent.
+//! `padded: length table` one with blanks after it up to that length; `code: ` has words of code in place of a table.
+//! `text: ` is a text for the last table or code; a line `with: name=number ...` before it changes what is lent.
 //! `gives: answer function steps`, `result: ` and `record: ` (left out if empty) say what the text comes to;
 //! `refused: number place` stands for a table that is refused. Texts, results and records have the
 //! escapes `\n`, `\t`, `\\` and `\xHH`. Empty lines and lines that begin with `#` are passed over.
 
 use crate::machine::{self, Rooms};
 use crate::outcome::Outcome;
+use crate::packing;
 use crate::reader::{Refusal, read};
 use crate::rewriter::rewrite;
-use crate::translation::translate;
 
 pub struct Case {
     /// The line in the file, from 1, at which the case stands.
     pub line: usize,
-    pub table: Vec<u8>,
+    pub source: Source,
     pub expected: Expected,
+}
+
+/// What is run: a table, or any words as code.
+#[derive(Clone, PartialEq, Eq, Debug)]
+pub enum Source {
+    Table(Vec<u8>),
+    Code(Vec<u32>),
 }
 
 #[derive(Clone, PartialEq, Eq, Debug)]
@@ -42,13 +49,24 @@ impl Default for Lending {
     }
 }
 
-/// What this system makes of a table and a text: the lent run's outcome, which is the rewriting's where room suffices.
-pub fn outcome(table: &[u8], lending: &Lending) -> Result<Outcome, Refusal> {
-    let tree = read(table)?;
-    let Lending { start, text, allowance, rooms } = lending;
-    let (lent, _) = machine::run(&translate(&tree), *start, text, *allowance, *rooms);
+impl Lending {
+    /// The machine's run of these words.
+    pub fn run(&self, code: &[u32]) -> Outcome {
+        machine::run(code, self.start, &self.text, self.allowance, self.rooms).0
+    }
+}
+
+/// What this system makes of a source and a text: the lent run's outcome; a table's is the rewriting's where room
+/// suffices.
+pub fn outcome(source: &Source, lending: &Lending) -> Result<Outcome, Refusal> {
+    let tree = match source {
+        Source::Table(table) => read(table)?,
+        Source::Code(code) => return Ok(lending.run(code)),
+    };
+    let lent = lending.run(&packing::code(&tree));
     if matches!(lent.answer, 0 | 9 | 11 | 12) {
-        assert_eq!(lent, rewrite(&tree, *start, text, *allowance), "machine and rewriter differ");
+        let rewritten = rewrite(&tree, lending.start, &lending.text, lending.allowance);
+        assert_eq!(lent, rewritten, "machine and rewriter differ");
     }
     Ok(lent)
 }
@@ -61,7 +79,7 @@ pub fn key_and_value(line: &[u8]) -> Option<(&[u8], &[u8])> {
 
 /// The cases of a corpus file, or what is wrong with one of its lines.
 pub fn parse(file: &[u8]) -> Result<Vec<Case>, String> {
-    let mut parser = Parser::default();
+    let mut parser = Parser { cases: Vec::new(), source: Source::Table(Vec::new()), lending: Lending::default() };
     for (number, line) in file.split(|&byte| byte == 10).enumerate() {
         if line.is_empty() || line[0] == b'#' {
             continue;
@@ -72,27 +90,24 @@ pub fn parse(file: &[u8]) -> Result<Vec<Case>, String> {
     Ok(parser.cases)
 }
 
-#[derive(Default)]
 struct Parser {
     cases: Vec<Case>,
-    table: Vec<u8>,
+    source: Source,
     lending: Lending,
 }
 
 impl Parser {
     fn line(&mut self, number: usize, key: &[u8], value: &[u8]) -> Option<()> {
         match key {
-            b"table" => self.table = value.to_vec(),
-            b"escaped" => self.table = unescape(value)?,
-            b"padded" => {
-                let blank = value.iter().position(|&byte| byte == b' ')?;
-                self.table = value[blank + 1..].to_vec();
-                self.table.resize(numbers(&value[..blank])?[0] as usize, b' ');
-            }
+            b"table" => self.source = Source::Table(value.to_vec()),
+            b"escaped" => self.source = Source::Table(unescape(value)?),
+            b"padded" => self.source = Source::Table(padded(value)?),
             b"more" => {
-                self.table.push(10);
-                self.table.extend_from_slice(value);
+                let Source::Table(table) = &mut self.source else { return None };
+                table.push(10);
+                table.extend_from_slice(value);
             }
+            b"code" => self.source = Source::Code(words(value)?),
             b"with" => self.lending = with(value)?,
             b"text" => {
                 let lending = Lending { text: unescape(value)?, ..std::mem::take(&mut self.lending) };
@@ -108,7 +123,7 @@ impl Parser {
     }
 
     fn case(&mut self, line: usize, expected: Expected) {
-        self.cases.push(Case { line, table: self.table.clone(), expected });
+        self.cases.push(Case { line, source: self.source.clone(), expected });
     }
 
     fn result_line(&mut self, key: &[u8], value: &[u8]) -> Option<()> {
@@ -129,6 +144,20 @@ impl Parser {
 fn numbers(value: &[u8]) -> Option<Vec<u64>> {
     let value = std::str::from_utf8(value).ok()?;
     value.split(' ').map(|number| number.parse().ok()).collect()
+}
+
+fn padded(value: &[u8]) -> Option<Vec<u8>> {
+    let blank = value.iter().position(|&byte| byte == b' ')?;
+    let mut table = value[blank + 1..].to_vec();
+    table.resize(numbers(&value[..blank])?[0] as usize, b' ');
+    Some(table)
+}
+
+fn words(value: &[u8]) -> Option<Vec<u32>> {
+    if value.is_empty() {
+        return Some(Vec::new());
+    }
+    numbers(value)?.into_iter().map(|number| u32::try_from(number).ok()).collect()
 }
 
 /// What is lent for the next text; what is not named is as the program of the papers lends it.

@@ -3,10 +3,12 @@
 
 pub mod class;
 pub mod corpus;
+pub mod decoding;
 pub mod lexer;
 pub mod listing;
 pub mod machine;
 pub mod outcome;
+pub mod packing;
 pub mod reader;
 pub mod rewriter;
 pub mod translation;

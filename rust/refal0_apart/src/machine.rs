@@ -1,8 +1,10 @@
-//! The two-stack string machine on the translation, without end or on lent rooms, with what it needs.
+//! The two-stack string machine on any words of code, without end or on lent rooms, with what it needs.
 
+use crate::decoding::{Head, Trial, Words};
 use crate::outcome::{Outcome, Stop};
-use crate::reader::SYMBOL_LIMIT;
-use crate::translation::{Action, Base, Cell, Code, Length, Program, Register, Test};
+use crate::reader::{NESTING_LIMIT, SYMBOL_LIMIT};
+use crate::translation::{Action, Base, Cell, Length, Metric, Register, Test};
+use std::ops::RangeInclusive;
 
 pub const FRAMES: usize = 256;
 
@@ -25,29 +27,34 @@ impl Rooms {
 }
 
 /// The run without end, stopped before the first instruction that passes a lent room; with the most it needed.
-pub fn run(program: &Program, start: usize, text: &[u8], allowance: u32, rooms: Rooms) -> (Outcome, Rooms) {
-    let mut machine = Machine::on(program, text, allowance, rooms);
-    if start == 0 || start > program.functions.len() {
-        return (Outcome::refused(9), machine.need);
+pub fn run(code: &[u32], start: usize, text: &[u8], allowance: u32, rooms: Rooms) -> (Outcome, Rooms) {
+    let nothing = Rooms { stack_in: text.len(), stack_out: 0, record: 0, frames: 0 };
+    let Some(words) = Words::sound(code) else {
+        return (Outcome::refused(18), nothing);
+    };
+    if start == 0 || start > words.functions() {
+        return (Outcome::refused(9), nothing);
     }
     if text.len() > rooms.stack_in {
-        return (Outcome::refused(10), machine.need);
+        return (Outcome::refused(10), nothing);
     }
-    let end = machine.finish(start - 1, text.len());
+    let mut machine = Machine::on(words, text, allowance, rooms);
+    let end = machine.finish(start);
     let text = std::mem::take(&mut machine.stack_out);
     (Outcome::of(end.map(|()| text), machine.steps, machine.record), machine.need)
 }
 
-/// How many actions the run without end performs; the start is declared.
-pub fn actions(program: &Program, start: usize, text: &[u8], allowance: u32) -> u64 {
-    let mut machine = Machine::on(program, text, allowance, Rooms::WITHOUT_END);
+/// How many actions the run without end performs; the code is a translation and the start declared.
+pub fn actions(code: &[u32], start: usize, text: &[u8], allowance: u32) -> u64 {
+    let words = Words::sound(code).expect("a translation is sound");
+    let mut machine = Machine::on(words, text, allowance, Rooms::WITHOUT_END);
     // a run that stops early has performed actions too
-    let _ = machine.finish(start - 1, text.len());
+    let _ = machine.finish(start);
     machine.performed
 }
 
 struct Machine<'c> {
-    program: &'c Program,
+    words: Words<'c>,
     rooms: Rooms,
     need: Rooms,
     allowance: u64,
@@ -57,21 +64,30 @@ struct Machine<'c> {
     stack_in: Vec<u8>,
     stack_out: Vec<u8>,
     record: Vec<u8>,
-    /// The values of r kept by the BeginSeqs that are open.
+    /// The values of r kept by the BeginSeqs that are open, those of the current application last.
     sequences: Vec<usize>,
-    frames: Vec<Frame<'c>>,
+    frames: Vec<Frame>,
 }
 
-struct Frame<'c> {
-    actions: &'c [Action],
+struct Frame {
+    /// The place of the next action.
     next: usize,
-    symbols: [u8; SYMBOL_LIMIT],
+    stored: Stored,
     field: Field,
-    /// q - p while the actions run.
-    selected: usize,
+    /// How many cells of in lie from q to its right end.
+    beyond: usize,
+    /// How many BeginSeqs were open when the application began.
+    outer: usize,
 }
 
-/// d and i - p of a field; i - p has a meaning with two e-variables only.
+/// The bytes kept by the stores of a sentence.
+#[derive(Clone, Copy, Default)]
+struct Stored {
+    bytes: [u8; SYMBOL_LIMIT],
+    count: usize,
+}
+
+/// d and i - p of a field; without a middle template i is p.
 #[derive(Clone, Copy)]
 struct Field {
     d: usize,
@@ -79,6 +95,7 @@ struct Field {
 }
 
 impl Field {
+    /// How far a span reaches; below zero counts as zero.
     fn measure(self, length: Length) -> usize {
         let base = match length.base {
             Base::Null => 0,
@@ -86,16 +103,27 @@ impl Field {
             Base::Dl => self.dl,
             Base::Dr => self.d - self.dl,
         };
-        base + length.add - length.back
+        (base + length.add).saturating_sub(length.back)
     }
 
-    /// How far from p a cell lies.
-    fn distance(self, cell: Cell) -> usize {
-        match cell.register {
+    /// How far from p a cell lies, if the field has it.
+    fn distance(self, cell: Cell) -> Option<usize> {
+        let distance = match cell.register {
             Register::P => cell.offset,
-            Register::Q => self.d - cell.offset,
+            Register::Q => self.d.checked_sub(cell.offset)?,
             Register::I => self.dl + cell.offset,
-        }
+        };
+        (distance < self.d).then_some(distance)
+    }
+}
+
+/// The places from p on at which the middle template may stand, if the field has the lengths that are asked.
+fn places(metric: &Metric, d: usize) -> Option<RangeInclusive<usize>> {
+    let spare = d.checked_sub(metric.head + metric.middle + metric.tail)?;
+    match metric.parts {
+        0 if spare > 0 => None,
+        2 => Some(metric.head..=metric.head + spare),
+        _ => Some(0..=0),
     }
 }
 
@@ -108,10 +136,15 @@ fn note(most: &mut usize, need: usize, room: usize, answer: u64) -> Result<(), S
     Ok(())
 }
 
+/// Words that are no instruction, or name something that isn't there, stop the run where they are reached.
+fn there<T>(found: Option<T>) -> Result<T, Stop> {
+    found.ok_or(Stop::because(18))
+}
+
 impl<'c> Machine<'c> {
-    fn on(program: &'c Program, text: &[u8], allowance: u32, rooms: Rooms) -> Machine<'c> {
+    fn on(words: Words<'c>, text: &[u8], allowance: u32, rooms: Rooms) -> Machine<'c> {
         Machine {
-            program,
+            words,
             rooms,
             need: Rooms { stack_in: text.len(), stack_out: 0, record: 0, frames: 0 },
             allowance: u64::from(allowance),
@@ -125,68 +158,81 @@ impl<'c> Machine<'c> {
         }
     }
 
-    fn finish(&mut self, start: usize, length: usize) -> Result<(), Stop> {
-        self.apply(start, length)?;
+    fn finish(&mut self, start: usize) -> Result<(), Stop> {
+        self.apply(start, 0)?;
         while let Some(frame) = self.frames.last_mut() {
-            match frame.actions.get(frame.next) {
-                Some(&action) => {
-                    frame.next += 1;
+            match there(self.words.action(frame.next))? {
+                Some(action) => {
+                    frame.next += 1 + if let Action::Emit(name) = action { name.len() } else { 0 };
                     self.performed += 1;
                     self.perform(action)?;
                 }
-                None => drop(self.frames.pop()),
+                None => self.give_back(),
             }
         }
         Ok(())
     }
 
-    fn frame(&mut self) -> &mut Frame<'c> {
+    fn frame(&mut self) -> &mut Frame {
         self.frames.last_mut().expect("an action runs in a frame")
     }
 
-    fn perform(&mut self, action: Action) -> Result<(), Stop> {
+    /// Takes the current frame away, with the BeginSeqs that are still open in it.
+    fn drop_frame(&mut self) -> Frame {
+        let frame = self.frames.pop().expect("an application has a frame");
+        self.sequences.truncate(frame.outer);
+        frame
+    }
+
+    /// Ends the current application. Its caller's q is where it was, or p where that has passed it.
+    fn give_back(&mut self) {
+        self.drop_frame();
+        let from_p = self.stack_in.len();
+        if let Some(caller) = self.frames.last_mut() {
+            caller.beyond = caller.beyond.min(from_p);
+        }
+    }
+
+    fn perform(&mut self, action: Action<&[u32]>) -> Result<(), Stop> {
         match action {
             Action::Go(length) => self.go(length),
             Action::Select(length) => self.select(length),
-            Action::Out => self.out()?,
-            Action::OutC(byte) => self.write(byte)?,
-            Action::OutV(symbol) => {
-                let byte = self.frame().symbols[symbol];
-                self.write(byte)?;
-            }
-            Action::BeginSeq => self.sequences.push(self.stack_out.len()),
-            Action::UseSeq => self.use_seq()?,
+            Action::Out => self.out(),
+            Action::OutC(byte) => self.write(byte),
+            Action::OutV(symbol) => self.write_stored(symbol),
+            Action::BeginSeq => self.begin_seq(),
+            Action::UseSeq => self.use_seq(),
             Action::Call(function) => {
-                let length = self.frame().selected;
-                self.apply(function, length)?;
+                let beyond = self.frame().beyond;
+                self.apply(function, beyond)
             }
             Action::TailCall(function) => {
-                let length = self.frame().selected;
-                self.frames.pop();
-                self.apply(function, length)?;
+                let beyond = self.drop_frame().beyond;
+                self.apply(function, beyond)
             }
-            Action::Emit(number) => self.emit(number)?,
+            Action::Emit(name) => self.emit(name),
         }
+    }
+
+    fn go(&mut self, length: Length) -> Result<(), Stop> {
+        let passed = self.frame().field.measure(length);
+        let rest = there(self.stack_in.len().checked_sub(passed))?;
+        self.stack_in.truncate(rest);
+        self.frame().beyond = rest;
         Ok(())
     }
 
-    fn go(&mut self, length: Length) {
+    fn select(&mut self, length: Length) -> Result<(), Stop> {
         let frame = self.frame();
-        let passed = frame.field.measure(length);
-        frame.selected = 0;
-        self.stack_in.truncate(self.stack_in.len() - passed);
-    }
-
-    fn select(&mut self, length: Length) {
-        let frame = self.frame();
-        frame.selected += frame.field.measure(length);
+        frame.beyond = there(frame.beyond.checked_sub(frame.field.measure(length)))?;
+        Ok(())
     }
 
     fn out(&mut self) -> Result<(), Stop> {
-        let length = std::mem::take(&mut self.frame().selected);
+        let q = self.frame().beyond;
+        let length = self.stack_in.len() - q;
         note(&mut self.need.stack_out, self.stack_out.len() + length, self.rooms.stack_out, 14)?;
-        let rest = self.stack_in.len() - length;
-        self.stack_out.extend(self.stack_in.drain(rest..).rev());
+        self.stack_out.extend(self.stack_in.drain(q..).rev());
         Ok(())
     }
 
@@ -196,76 +242,110 @@ impl<'c> Machine<'c> {
         Ok(())
     }
 
-    fn use_seq(&mut self) -> Result<(), Stop> {
-        let begin = self.sequences.pop().expect("BeginSeq stands before UseSeq");
-        let length = self.stack_out.len() - begin;
-        note(&mut self.need.stack_in, self.stack_in.len() + length, self.rooms.stack_in, 13)?;
-        self.stack_in.extend(self.stack_out.drain(begin..).rev());
-        self.frame().selected = length;
+    fn write_stored(&mut self, symbol: usize) -> Result<(), Stop> {
+        let Stored { bytes, count } = self.frame().stored;
+        let byte = there(bytes[..count].get(symbol).copied())?;
+        self.write(byte)
+    }
+
+    /// How many BeginSeqs are open in the current application.
+    fn open(&mut self) -> usize {
+        let outer = self.frame().outer;
+        self.sequences.len() - outer
+    }
+
+    fn begin_seq(&mut self) -> Result<(), Stop> {
+        there((self.open() < NESTING_LIMIT).then_some(()))?;
+        self.sequences.push(self.stack_out.len());
         Ok(())
     }
 
-    fn emit(&mut self, number: usize) -> Result<(), Stop> {
-        let name = &self.program.emissions[number];
-        let length = std::mem::take(&mut self.frame().selected);
-        let whole = self.record.len() + name.len() + 1 + length + 1;
+    /// Moves what was written since BeginSeq to just below p; q stays where it is.
+    fn use_seq(&mut self) -> Result<(), Stop> {
+        there((self.open() > 0).then_some(()))?;
+        let begin = self.sequences.pop().expect("a BeginSeq is open");
+        let length = self.stack_out.len() - begin;
+        note(&mut self.need.stack_in, self.stack_in.len() + length, self.rooms.stack_in, 13)?;
+        self.stack_in.extend(self.stack_out.drain(begin..).rev());
+        Ok(())
+    }
+
+    /// Adds a line to the record; the name's words are bytes.
+    fn emit(&mut self, name: &[u32]) -> Result<(), Stop> {
+        let q = self.frame().beyond;
+        let whole = self.record.len() + name.len() + 1 + (self.stack_in.len() - q) + 1;
         note(&mut self.need.record, whole, self.rooms.record, 16)?;
-        self.record.extend_from_slice(name);
+        self.record.extend(name.iter().map(|&word| word as u8));
         self.record.push(32);
-        let rest = self.stack_in.len() - length;
-        self.record.extend(self.stack_in.drain(rest..).rev());
+        self.record.extend(self.stack_in.drain(q..).rev());
         self.record.push(10);
         Ok(())
     }
 
-    /// Applies a function in a new frame to the field of `d` cells from p on.
-    fn apply(&mut self, function: usize, d: usize) -> Result<(), Stop> {
+    /// Applies a function in a new frame to the field from p to q, which `beyond` cells lie right of.
+    fn apply(&mut self, function: usize, beyond: usize) -> Result<(), Stop> {
         if self.steps == self.allowance {
             return Err(Stop::because(12));
         }
         note(&mut self.need.frames, self.frames.len() + 1, self.rooms.frames, 15)?;
         self.steps += 1;
-        let program = self.program;
-        for code in &program.functions[function] {
-            if let Some(field) = self.find(code, d) {
-                let frame = self.framed(code, field);
-                self.frames.push(frame);
-                return Ok(());
+        let d = self.stack_in.len() - beyond;
+        let mut at = self.words.place(function);
+        loop {
+            let Trial::Sentence(head) = there(self.words.trial(at))? else {
+                return Err(Stop { answer: 11, function });
+            };
+            if let Some(field) = self.find(&head, d)? {
+                return self.enter(&head, field);
             }
+            at = head.next_sentence;
         }
-        Err(Stop { answer: 11, function: function + 1 })
     }
 
-    fn framed(&self, code: &'c Code, field: Field) -> Frame<'c> {
-        let mut symbols = [0; SYMBOL_LIMIT];
-        for (symbol, &cell) in symbols.iter_mut().zip(&code.store) {
-            *symbol = self.byte(field, cell);
+    /// Begins a sentence that fits: q is p at first, and no BeginSeq is open.
+    fn enter(&mut self, head: &Head, field: Field) -> Result<(), Stop> {
+        let mut stored = Stored::default();
+        for at in head.stores.clone() {
+            stored.bytes[stored.count] = self.byte(field, there(self.words.store(at))?)?;
+            stored.count += 1;
         }
-        Frame { actions: &code.actions, next: 0, symbols, field, selected: 0 }
+        let (beyond, outer) = (self.stack_in.len(), self.sequences.len());
+        self.frames.push(Frame { next: head.stores.end, stored, field, beyond, outer });
+        Ok(())
     }
 
     /// The field in which all tests hold, with the middle template at its leftmost such place.
-    fn find(&self, code: &Code, d: usize) -> Option<Field> {
-        let metric = &code.metric;
-        let spare = d.checked_sub(metric.head + metric.middle + metric.tail)?;
-        let places = match metric.parts {
-            0 if spare > 0 => return None,
-            2 => metric.head..=metric.head + spare,
-            _ => 0..=0,
-        };
-        let mut fields = places.map(|dl| Field { d, dl });
-        fields.find(|&field| code.tests.iter().all(|test| self.holds(field, test)))
-    }
-
-    fn byte(&self, field: Field, cell: Cell) -> u8 {
-        self.stack_in[self.stack_in.len() - 1 - field.distance(cell)]
-    }
-
-    fn holds(&self, field: Field, test: &Test) -> bool {
-        match *test {
-            Test::Look(cell, byte) => self.byte(field, cell) == byte,
-            Test::Compare(one, other) => self.byte(field, one) == self.byte(field, other),
-            Test::Predicate(cell, class, expected) => class.holds(self.byte(field, cell)) == expected,
+    fn find(&self, head: &Head, d: usize) -> Result<Option<Field>, Stop> {
+        let Some(places) = places(&head.metric, d) else { return Ok(None) };
+        for dl in places {
+            let field = Field { d, dl };
+            if self.tests_hold(head, field)? {
+                return Ok(Some(field));
+            }
         }
+        Ok(None)
+    }
+
+    /// Makes the tests in their order, up to the first that fails.
+    fn tests_hold(&self, head: &Head, field: Field) -> Result<bool, Stop> {
+        for at in head.tests.clone() {
+            if !self.holds(field, there(self.words.test(at))?)? {
+                return Ok(false);
+            }
+        }
+        Ok(true)
+    }
+
+    fn byte(&self, field: Field, cell: Cell) -> Result<u8, Stop> {
+        let distance = there(field.distance(cell))?;
+        Ok(self.stack_in[self.stack_in.len() - 1 - distance])
+    }
+
+    fn holds(&self, field: Field, test: Test) -> Result<bool, Stop> {
+        Ok(match test {
+            Test::Look(cell, byte) => self.byte(field, cell)? == byte,
+            Test::Compare(one, other) => self.byte(field, one)? == self.byte(field, other)?,
+            Test::Predicate(cell, class, expected) => class.holds(self.byte(field, cell)?) == expected,
+        })
     }
 }

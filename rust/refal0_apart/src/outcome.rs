@@ -29,6 +29,12 @@ impl Outcome {
         Outcome { answer, function: 0, steps: 0, text: Vec::new(), record: Vec::new() }
     }
 
+    /// Whether the run was refused before it began, and nothing lent is changed.
+    pub fn before_run(&self) -> bool {
+        // a run that has begun makes its first step before any other word is looked at
+        matches!(self.answer, 9 | 10) || (self.answer == 18 && self.steps == 0)
+    }
+
     /// The outcome of a run that finished with a text, or was stopped and has none.
     pub fn of(end: Result<Vec<u8>, Stop>, steps: u64, record: Vec<u8>) -> Outcome {
         match end {

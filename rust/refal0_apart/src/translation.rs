@@ -2,12 +2,11 @@
 
 use crate::class::Class;
 use crate::reader::NAME_LIMIT;
-use crate::tree::{Callee, Item, Letter, Name, Sentence, Table};
+use crate::tree::{Callee, Function, Item, Letter, Name, Sentence, Table};
 
 #[derive(Clone, PartialEq, Eq, Debug)]
 pub struct Program {
     pub functions: Vec<Vec<Code>>,
-    pub emissions: Vec<Name>,
 }
 
 /// The code of one sentence.
@@ -66,8 +65,9 @@ pub struct Length {
     pub back: usize,
 }
 
+/// What is done with the text; calls name a function by its number, from 1, and emissions have a name of type `N`.
 #[derive(Clone, Copy, PartialEq, Eq, Debug)]
-pub enum Action {
+pub enum Action<N = Name> {
     Go(Length),
     Select(Length),
     Out,
@@ -77,12 +77,13 @@ pub enum Action {
     UseSeq,
     Call(usize),
     TailCall(usize),
-    Emit(usize),
+    Emit(N),
 }
 
 pub fn translate(table: &Table) -> Program {
-    let code = |function: &crate::tree::Function| function.sentences.iter().map(sentence_code).collect();
-    Program { functions: table.functions.iter().map(code).collect(), emissions: table.emissions.clone() }
+    let codes =
+        |function: &Function| function.sentences.iter().map(|sentence| sentence_code(table, sentence)).collect();
+    Program { functions: table.functions.iter().map(codes).collect() }
 }
 
 impl Program {
@@ -97,7 +98,7 @@ impl Program {
     }
 }
 
-fn sentence_code(sentence: &Sentence) -> Code {
+fn sentence_code(table: &Table, sentence: &Sentence) -> Code {
     let lengths: Vec<usize> = sentence.templates.iter().map(Vec::len).collect();
     let parts = sentence.parts.len();
     let metric = Metric {
@@ -113,7 +114,7 @@ fn sentence_code(sentence: &Sentence) -> Code {
             .iter()
             .map(|condition| Test::Predicate(store[condition.symbol], condition.class, condition.expected)),
     );
-    Code { metric, tests, store, actions: expression_actions(sentence, &metric) }
+    Code { metric, tests, store, actions: expression_actions(table, sentence, &metric) }
 }
 
 /// The tests of the templates, and where each different s-variable stands first.
@@ -144,7 +145,7 @@ enum Position {
     AfterPart(usize),
 }
 
-fn expression_actions(sentence: &Sentence, metric: &Metric) -> Vec<Action> {
+fn expression_actions(table: &Table, sentence: &Sentence, metric: &Metric) -> Vec<Action> {
     let items = &sentence.expression;
     let mut actions = Vec::new();
     let mut position = Position::Start;
@@ -161,11 +162,13 @@ fn expression_actions(sentence: &Sentence, metric: &Metric) -> Vec<Action> {
             Item::Open(_) => actions.push(Action::BeginSeq),
             Item::Close(Callee::Function(function)) if number + 1 == items.len() => {
                 actions.push(Action::Go(way_to_end(metric, position)));
-                push_call(&mut actions, Action::TailCall(function));
+                push_call(&mut actions, Action::TailCall(function + 1));
                 return actions;
             }
-            Item::Close(Callee::Function(function)) => push_call(&mut actions, Action::Call(function)),
-            Item::Close(Callee::Emission(name)) => push_call(&mut actions, Action::Emit(name)),
+            Item::Close(Callee::Function(function)) => push_call(&mut actions, Action::Call(function + 1)),
+            Item::Close(Callee::Emission(number)) => {
+                push_call(&mut actions, Action::Emit(table.emissions[number].clone()));
+            }
         }
     }
     actions.push(Action::Go(way_to_end(metric, position)));
@@ -173,7 +176,7 @@ fn expression_actions(sentence: &Sentence, metric: &Metric) -> Vec<Action> {
 }
 
 fn push_call(actions: &mut Vec<Action>, call: Action) {
-    // UseSeq has selected the argument already, so nothing is added
+    // q was p before UseSeq, so the argument is selected already and nothing is added
     actions.extend([Action::UseSeq, Action::Select(length(Base::Null, 0, 0)), call]);
 }
 

@@ -1,6 +1,6 @@
 //! The stored corpus: every case comes to what is stored, none stands twice, and every answer is met.
 
-use refal0_apart::corpus::{Case, Expected, escape, outcome, parse, unescape};
+use refal0_apart::corpus::{Case, Expected, Lending, Source, escape, outcome, parse, unescape};
 use refal0_apart::listing::list;
 use refal0_apart::reader::{TABLE_LIMIT, read};
 use std::collections::BTreeSet;
@@ -24,19 +24,19 @@ fn corpus() -> Vec<(String, Case)> {
 #[test]
 fn every_case_comes_to_what_is_stored() {
     for (origin, case) in corpus() {
-        match &case.expected {
-            Expected::Refused(refusal) => assert_eq!(read(&case.table), Err(*refusal), "{origin}"),
-            Expected::Run(lending, expected) => {
-                assert_eq!(outcome(&case.table, lending), Ok(expected.clone()), "{origin}");
-            }
-        }
+        let (lending, expected) = match case.expected {
+            Expected::Refused(refusal) => (Lending::default(), Err(refusal)),
+            Expected::Run(lending, expected) => (lending, Ok(expected)),
+        };
+        assert_eq!(outcome(&case.source, &lending), expected, "{origin}");
     }
 }
 
 #[test]
 fn every_listing_is_read_back() {
     for (origin, case) in corpus() {
-        if let Ok(tree) = read(&case.table) {
+        let Source::Table(table) = &case.source else { continue };
+        if let Ok(tree) = read(table) {
             let listing = list(&tree);
             assert!(listing.len() <= TABLE_LIMIT, "{origin}");
             assert_eq!(read(&listing), Ok(tree), "{origin}");
@@ -61,9 +61,9 @@ fn the_corpus_is_large_and_various() {
                 format!("{lending:?}")
             }
         };
-        assert!(seen.insert((case.table.clone(), key)), "{origin} stands twice");
+        assert!(seen.insert((format!("{:?}", case.source), key)), "{origin} stands twice");
     }
-    assert_eq!(answers, BTreeSet::from_iter(0..=16));
+    assert_eq!(answers, BTreeSet::from_iter((0..=16).chain([18])));
 }
 
 #[test]

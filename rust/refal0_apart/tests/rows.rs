@@ -3,9 +3,9 @@
 use refal0_apart::listing::list;
 use refal0_apart::machine::{self, Rooms};
 use refal0_apart::outcome::Outcome;
+use refal0_apart::packing::code;
 use refal0_apart::reader::{Refusal, read};
 use refal0_apart::rewriter::rewrite;
-use refal0_apart::translation::translate;
 
 const Z: &[u8] = b"F { '0' e1 = <F e1>; e1 = e1 }";
 const R: &[u8] = b"G { s1 e2 = <G e2> s1; = }";
@@ -26,14 +26,14 @@ fn stopped(answer: u64, function: usize, steps: u64) -> Outcome {
 fn ample(table: &[u8], text: &[u8], allowance: u32) -> (Outcome, Rooms) {
     let tree = read(table).expect("the row's table is accepted");
     let rewritten = rewrite(&tree, 1, text, allowance);
-    let (run, need) = machine::run(&translate(&tree), 1, text, allowance, Rooms::WITHOUT_END);
+    let (run, need) = machine::run(&code(&tree), 1, text, allowance, Rooms::WITHOUT_END);
     assert_eq!(run, rewritten);
     (rewritten, need)
 }
 
 fn lent(table: &[u8], text: &[u8], rooms: Rooms) -> Outcome {
     let tree = read(table).expect("the row's table is accepted");
-    machine::run(&translate(&tree), 1, text, 100_000, rooms).0
+    machine::run(&code(&tree), 1, text, 100_000, rooms).0
 }
 
 #[test]

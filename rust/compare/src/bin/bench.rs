@@ -2,9 +2,9 @@
 
 use compare::exports::{self, Cells};
 use refal0_apart::machine::{self, Rooms};
+use refal0_apart::packing;
 use refal0_apart::reader::{TABLE_LIMIT, read};
 use refal0_apart::rewriter::rewrite;
-use refal0_apart::translation::translate;
 use std::hint::black_box;
 use std::time::{Duration, Instant};
 
@@ -65,19 +65,15 @@ fn translating(table: &[u8]) {
     exports::translate(table, &mut code, &mut answer);
     code.truncate(answer[2] as usize);
     let engine = best(|| exports::translate(black_box(table), &mut code, &mut answer));
-    let rust = best(|| drop(black_box(translate(&read(black_box(table)).expect("the table is sound")))));
+    let rust = best(|| drop(black_box(packing::code(&read(black_box(table)).expect("the table is sound")))));
     row("reading and translating it", engine, rust, None, &format!("{} words of code", answer[2]));
 }
 
 /// The engine's time for a run, on the rooms that the run needs.
 fn running(what: &str, table: &[u8], text: &[u8], allowance: u32) -> f64 {
     let tree = read(table).expect("the table is sound");
-    let program = translate(&tree);
-    let (outcome, need) = machine::run(&program, 1, text, allowance, Rooms::WITHOUT_END);
-    let mut code = vec![0; CODE_WORDS];
-    let mut words = [0; 3];
-    exports::translate(table, &mut code, &mut words);
-    code.truncate(words[2] as usize);
+    let code = packing::code(&tree);
+    let (outcome, need) = machine::run(&code, 1, text, allowance, Rooms::WITHOUT_END);
     let mut stack_in = vec![0; need.stack_in];
     let mut stack_out = vec![0; need.stack_out];
     let mut answer = [0; 5];
@@ -86,9 +82,9 @@ fn running(what: &str, table: &[u8], text: &[u8], allowance: u32) -> f64 {
         exports::run(black_box(&code), 1, black_box(text), cells, allowance, &mut answer);
     });
     let rust = best(|| drop(black_box(rewrite(&tree, 1, black_box(text), allowance))));
-    let apart = best(|| drop(black_box(machine::run(&program, 1, black_box(text), allowance, Rooms::WITHOUT_END))));
+    let apart = best(|| drop(black_box(machine::run(&code, 1, black_box(text), allowance, Rooms::WITHOUT_END))));
     assert_eq!((answer[0], answer[2]), (outcome.answer, outcome.steps), "{what}");
-    let actions = machine::actions(&program, 1, text, allowance) as f64;
+    let actions = machine::actions(&code, 1, text, allowance) as f64;
     let remark = if outcome.steps > 1 {
         let step = engine / outcome.steps as f64;
         format!("answer {}; engine {step:.2} ns a step, {:.2} ns an instruction", outcome.answer, engine / actions)
