@@ -1,18 +1,15 @@
 -- Tokens that are items: strings, s-variables and e-variables.
 use Prim.Native.Nat.{ℕ, suc, _<_}
-use mathlib.Core.Path.{_≡_, refl, _∙_, ap}
+use mathlib.Core.Path.{_≡_, refl, _∙_}
 use mathlib.Core.Bool.{Bool, true, false, not, false≢true}
 use lib.Dec.{T}
-use mathlib.Core.List.{List, [], _∷_}
+use mathlib.Core.List.{[], _∷_}
 use native.Mathlib.Omega.{arith}
 use lib.ListN.{getD}
 use lib.Seq.{slice, slice-cons}
-use types.Run.{OneOf, miss}
-use denote.Enum.Declared.{tagOf}
 use Rattle.meaning.specs.Choice.{Bytes, pick}
 use Rattle.meaning.specs.Tokens as Tokens
 use Rattle.meaning.specs.Reading.{Item, characters, symbolItem, partItem, variableOf, itemOf, isItem}
-use Rattle.lexing.proofs.Token as token
 use Rattle.lexing.specs.View as View
 use Rattle.lexing.specs.View.{charactersIn, quotationAt, tokenOf, placedOf, Sound, stream, Comes}
 use Rattle.lexing.specs.declared.Span.{Span}
@@ -98,20 +95,6 @@ module _ {Held : Type 0} {text : Bytes} {mode : Tokens.Mode} {at : ℕ} {t : Pla
 
   pub asks-variable : (isPart : Bool) (x : Span) → t .token ≡ variableToken isPart x → Held × Identifier text at x
   asks-variable isPart x e = (pre .0, variable-at (pre .1) isPart x e)
-
-abbrev otherTags : List ℕ
-otherTags = 0 ∷ 3 ∷ 5 ∷ 6 ∷ 7 ∷ []
-
-no-item : (text : Bytes) (place past : ℕ) (k : Token) → Sound text k place past → OneOf otherTags (tagOf token.the-type k)
-    → isItem (itemOf (tokenOf text k place past)) ≡ false
-no-item text place past =
-    by-kind (λ k. Sound text k place past → OneOf otherTags (tagOf token.the-type k) → isItem (itemOf (tokenOf text k place past)) ≡ false) (λ n s o. refl)
-    (λ x s o. absurd (miss otherTags 1 tt o)) (λ x s o. absurd (miss otherTags 2 tt o)) (λ s o. ap isItem s) (λ n s o. absurd (miss otherTags 4 tt o))
-    (λ b s o. refl) (λ s o. refl) (λ s o. refl)
-
-pub item-other : {text : Bytes} {mode : Tokens.Mode} {at : ℕ} {t : Placed} → Comes text mode at t → OneOf otherTags (tagOf token.the-type (t .token))
-    → isItem (itemAt text t) ≡ false
-item-other {text} {t = t} c o = no-item text (t .place) (t .past) (t .token) (c .sound) o
 
 -- after an item the tokens go on inside the sentence
 module _ (text : Bytes) (place past : ℕ) where

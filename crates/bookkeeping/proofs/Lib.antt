@@ -11,3 +11,4 @@ pub mod Tabling
 pub mod Going
 pub mod Items
 pub mod Itemed
+pub mod Refusing

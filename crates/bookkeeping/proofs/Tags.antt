@@ -14,7 +14,7 @@ use Rattle.bookkeeping.proofs.Answer as answer
 use Rattle.bookkeeping.specs.declared.Answer.{Answer}
 use Rattle.bookkeeping.specs.declared.Answer.the-variants.{Accepted, TableTooLong, MalformedToken, NotAllowedHere, OverLimit, WrongName, WrongPatternVariable, WrongLaterVariable, UndeclaredName}
 use Rattle.bookkeeping.specs.Answered.{numberOf}
-use Rattle.bookkeeping.specs.Tokened.{tokenFault, signIs}
+use Rattle.bookkeeping.specs.Tokened.{tokenFault, signIs, wordIs}
 
 abbrev allButFirst : List ℕ
 allButFirst = 1 ∷ 2 ∷ 3 ∷ 4 ∷ 5 ∷ 6 ∷ 7 ∷ 8 ∷ []
@@ -45,3 +45,11 @@ pub well-formed : (t : Token) → OneOf allButMalformed (tagOf token.the-type t)
 well-formed =
     by-kind (λ t. OneOf allButMalformed (tagOf token.the-type t) → notAllowedHere ≡ tokenFault t) (λ n k. refl) (λ x k. refl) (λ x k. refl) (λ k. refl) (λ n k. refl)
     (λ b k. refl) (λ k. refl) (λ k. absurd (miss allButMalformed 7 tt k))
+
+abbrev allButWords : List ℕ
+allButWords = 0 ∷ 4 ∷ 5 ∷ 6 ∷ 7 ∷ []
+
+pub no-word : (t : Token) → OneOf allButWords (tagOf token.the-type t) → false ≡ wordIs t
+no-word =
+    by-kind (λ t. OneOf allButWords (tagOf token.the-type t) → false ≡ wordIs t) (λ n k. refl) (λ x k. absurd (miss allButWords 1 tt k))
+    (λ x k. absurd (miss allButWords 2 tt k)) (λ k. absurd (miss allButWords 3 tt k)) (λ n k. refl) (λ b k. refl) (λ k. refl) (λ k. refl)

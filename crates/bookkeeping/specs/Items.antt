@@ -1,14 +1,19 @@
 -- Items of a sentence: the table of its variables, and where an identifier and a string stand.
 use Prim.Native.Nat.{ℕ, _+_, _≤_, _<_}
 use mathlib.Core.Path.{_≡_}
+use mathlib.Core.Bool.{true, false}
 use mathlib.Core.List.{List}
 use lib.ListN.{length}
 use Rattle.meaning.specs.Choice.{Bytes, Name}
-use Rattle.meaning.specs.Reading.{Item, itemOf}
+use Rattle.meaning.specs.Answers.{notAllowedHere}
+use Rattle.meaning.specs.Reading.{Item, itemOf, isItem}
 use Rattle.lexing.specs.View.{IsClosed, charactersIn, quotationAt, tokenOf}
 use Rattle.lexing.specs.declared.Span.{Span}
 use Rattle.lexing.specs.declared.Placed.{Placed}
+use Rattle.bookkeeping.specs.declared.progress.Fault.{Fault}
+use Rattle.bookkeeping.specs.Answered.{numberOf}
 use Rattle.bookkeeping.specs.Tables.{tableNames, Entries}
+use Rattle.bookkeeping.specs.Tokened.{isWord}
 
 -- a table of variables: s-variables from entry 0, at most 16, and e-variables from entry 16, at most 2
 pub record Variables (text : Bytes) (table : List ℕ) (symbols parts : ℕ) : Type 0 where
@@ -41,3 +46,15 @@ pub record StringAt (text : Bytes) (at place past count : ℕ) : Type 0 where
 -- a token as an item
 abbrev pub itemAt : Bytes → Placed → Item
 itemAt text t = itemOf (tokenOf text (t .token) (t .place) (t .past))
+
+-- a token is neither an item nor a word
+pub record NoItem (text : Bytes) (t : Placed) : Type 0 where
+  pub other : isItem (itemAt text t) ≡ false
+  pub wordless : isWord (tokenOf text (t .token) (t .place) (t .past)) ≡ false
+
+-- a token is a word that is no variable, which is refused with 3 at its place
+pub record WordRefused (text : Bytes) (t : Placed) (fault : Fault) : Type 0 where
+  pub other : isItem (itemAt text t) ≡ false
+  pub word : isWord (tokenOf text (t .token) (t .place) (t .past)) ≡ true
+  pub number : numberOf (fault .answer) ≡ notAllowedHere
+  pub place : fault .place ≡ t .place

@@ -1,15 +1,15 @@
--- Single tokens of the code: their faults, the bytes that stand for themselves, and passing one.
+-- Single tokens of the code: their faults, the bytes that stand for themselves, words, and passing one.
 use Prim.Native.Nat.{ℕ, _≤_, _<_}
 use mathlib.Core.Path.{_≡_}
-use mathlib.Core.Bool.{Bool, false}
-use mathlib.Core.List.{List, _∷_}
+use mathlib.Core.Bool.{Bool, true, false}
+use mathlib.Core.List.{List, [], _∷_}
 use lib.Dec.{eqb}
 use lib.ListN.{length}
-use Rattle.meaning.specs.Choice.{Bytes}
+use Rattle.meaning.specs.Choice.{Bytes, pick}
 use Rattle.meaning.specs.Answers.{malformedToken, notAllowedHere}
 use Rattle.meaning.specs.Tokens as Tokens
 use Rattle.meaning.specs.Grammar.{standing}
-use Rattle.meaning.specs.Reading.{faultOf, isSign}
+use Rattle.meaning.specs.Reading.{Parsed, stopped, parsed, faultOf, isSign}
 use Rattle.lexing.specs.View.{stream}
 use Rattle.lexing.specs.declared.Token.{Token}
 use Rattle.lexing.specs.declared.Token.the-variants.{Name, Symbol, Part, Word, Quoted, Sign, End, Malformed}
@@ -37,6 +37,31 @@ signIs byte (Quoted count) = false
 signIs byte (Sign b) = eqb b byte
 signIs byte End = false
 signIs byte Malformed = false
+
+-- a word of a sentence
+abbrev pub wordIs : Token → Bool
+wordIs (Name name) = false
+wordIs (Symbol identifier) = true
+wordIs (Part identifier) = true
+wordIs Word = true
+wordIs (Quoted count) = false
+wordIs (Sign b) = false
+wordIs End = false
+wordIs Malformed = false
+
+abbrev pub isWord : Tokens.Token → Bool
+isWord (Tokens.functionName n) = false
+isWord (Tokens.word w) = true
+isWord (Tokens.quoted text) = false
+isWord (Tokens.sign b) = false
+isWord Tokens.textEnd = false
+isWord Tokens.malformed = false
+
+-- "Inside a sentence a word that is no variable is refused with 3": what was read as long as variables went, unless a word comes after it
+abbrev pub unlessWord : {A : Type 0} → Parsed A → Parsed A
+unlessWord (stopped number place) = stopped number place
+unlessWord (parsed value []) = parsed value []
+unlessWord (parsed value (t ∷ rest)) = pick (isWord (t .token)) (stopped notAllowedHere (t .place)) (parsed value (t ∷ rest))
 
 -- the first token from a place on is this byte, and the next come from another place on
 pub record Taken (text : Bytes) (mode : Tokens.Mode) (byte at past : ℕ) : Type 0 where

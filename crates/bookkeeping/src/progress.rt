@@ -11,7 +11,7 @@ ghost use lib.ListN.{length};
 ghost use Rattle.meaning.specs.Choice.{pick};
 ghost use Rattle.lexing.specs.View.{modeOf};
 ghost use Rattle.bookkeeping.specs.Answered.{numberOf};
-ghost use Rattle.bookkeeping.specs.Tokened.{tokenFault, signIs, Passes};
+ghost use Rattle.bookkeeping.specs.Tokened.{tokenFault, signIs, wordIs, Passes};
 
 pub struct Fault {
     pub answer: Answer,
@@ -78,6 +78,19 @@ pub fn is_sign(t: Placed, byte: u8) -> bool
         b == byte
     } else {
         false
+    }
+}
+
+// Whether a token is a word inside a sentence, which must be a variable.
+pub fn is_word(t: Placed) -> bool
+    ensures { λ r. ⌜ r ≡ wordIs (t .token) ⌝ }
+{
+    let token = t.token;
+    match token {
+        Token::Symbol(_) => true,
+        Token::Part(_) => true,
+        Token::Word => true,
+        _ => false,
     }
 }
 

@@ -19,11 +19,12 @@ use Rattle.bookkeeping.specs.declared.progress.Parsed.{Parsed as CodeParsed}
 use Rattle.bookkeeping.specs.declared.progress.Parsed.the-variants.{Stopped, Done}
 use Rattle.bookkeeping.specs.Answered.{Agrees}
 use Rattle.bookkeeping.specs.Written.{Ready, Went}
-use Rattle.bookkeeping.specs.Tokened.{Taken, Barred}
+use Rattle.bookkeeping.specs.Tokened.{unlessWord, Taken, Barred}
 use Rattle.bookkeeping.specs.Items.{symbolNames}
 use Rattle.declarations.specs.Expressions.{progressAt, Going, ExpressionRead, CalledName, opening, OpeningRead, CallRead, CloseGives, Closes}
 use Rattle.bookkeeping.proofs.Going.{stops, reads, ReadAt, has-read, went-then, word-went, ready-after, stops-too}
 use Rattle.bookkeeping.proofs.Tokening.{passes-on, passes-not}
+use Rattle.bookkeeping.proofs.Refusing.{word-at-once}
 use Rattle.declarations.proofs.Opened.{openingAt, OpeningAgrees}
 use Rattle.declarations.proofs.Onward.{going-on, going-after}
 
@@ -44,12 +45,15 @@ name-follow {A} {B} fault (t ∷ ts) first next = chosen (Reading.nameOf (t .tok
     chosen none = refl
     chosen (some n) = check-follow (fault n) t (first (t .place) n ts) next
 
--- a call after its name
+-- a call after its argument, and after its name
+abbrev afterArgument : CalledName → Reading.Items → List Tokens.Placed → Parsed Reading.Called
+afterArgument n given ts =
+    Reading.pass 62 ts λ rest.
+    parsed (record { place = n .place; name = n .name; argument = given .expression; progress = given .progress }) rest
+
 abbrev afterName : (ℕ → Reading.Progress → List Tokens.Placed → Parsed Reading.Items) → ℕ → Reading.Progress → CalledName → List Tokens.Placed → Parsed Reading.Called
 afterName argument deeper so n ts =
-    follow (argument deeper (Reading.pastCall so) ts) λ given ts₁.
-    Reading.pass 62 ts₁ λ rest.
-    parsed (record { place = n .place; name = n .name; argument = given .expression; progress = given .progress }) rest
+    follow (argument deeper (Reading.pastCall so) ts) (afterArgument n)
 
 call-is : (argument : ℕ → Reading.Progress → List Tokens.Placed → Parsed Reading.Items) (depth : ℕ) (so : Reading.Progress) (t : Tokens.Placed) (ts : List Tokens.Placed)
     → Reading.call argument depth so t ts ≡ follow (opening depth (so .items) t ts) (afterName argument (suc depth) so)
@@ -77,7 +81,7 @@ expressionAt text table symbols parts bound depth start =
 
 abbrev pub ExpressionAgrees : Bytes → List ℕ → ℕ → ℕ → ℕ → ℕ → Progress → List ℕ → List ℕ → CodeParsed → Type 0
 ExpressionAgrees text table symbols parts bound depth start tape tape′ r =
-    Agrees (ExpressionRead text table symbols parts start tape tape′) (expressionAt text table symbols parts bound depth start) r
+    Agrees (ExpressionRead text table symbols parts start tape tape′) (unlessWord (expressionAt text table symbols parts bound depth start)) r
 
 -- with every bound that is large enough
 abbrev pub ExpressionsAgree : Bytes → List ℕ → ℕ → ℕ → ℕ → Progress → List ℕ → List ℕ → CodeParsed → Type 0
@@ -116,17 +120,22 @@ module _ {text : Bytes} {depth : ℕ} {s : Progress} {place : ℕ} {tape tape₁
       has-read _ _ (rw e at (a (length (stream text Tokens.inside (start .at))) (omega arith))) .how .going .ready
 
   module _ (table : List ℕ) (symbols parts bound : ℕ) where
-    at-argument : callAt text table symbols parts bound depth s place
-        ≡ follow (expressionAt text table symbols parts bound (depth + 1) start) (λ given ts.
-        Reading.pass 62 ts λ rest.
-        parsed (record { place = o .read .value .place; name = o .read .value .name; argument = given .expression; progress = given .progress }) rest)
-    at-argument =
+    from-argument : callAt text table symbols parts bound depth s place
+        ≡ follow (expressionAt text table symbols parts bound (depth + 1) start) (afterArgument (o .read .value))
+    from-argument =
         let r = o .read in
         at-opening text table symbols parts bound depth s place ∙ rw (r .same, r .how .tokens, r .how .counted, r .how .passed, add-one depth)
 
+    -- a word after the argument is no `>`
+    at-argument : callAt text table symbols parts bound depth s place
+        ≡ follow (unlessWord (expressionAt text table symbols parts bound (depth + 1) start)) (afterArgument (o .read .value))
+    at-argument =
+        from-argument
+        ∙ word-at-once (expressionAt text table symbols parts bound (depth + 1) start) (afterArgument (o .read .value)) (λ given w at past rest. refl)
+
     -- the argument is read
     module _ {tape₂ tape₃ : List ℕ} {argument : Progress}
-        (h : ReadAt (ExpressionRead text table symbols parts start tape₁ tape₂) (expressionAt text table symbols parts bound (depth + 1) start) argument) where
+        (h : ReadAt (ExpressionRead text table symbols parts start tape₁ tape₂) (unlessWord (expressionAt text table symbols parts bound (depth + 1) start)) argument) where
       close-barred : {fault : Fault} → Barred text Tokens.inside 62 (argument .at) fault
           → CallAgrees text table symbols parts bound depth s place tape tape₃ (Stopped fault)
       close-barred x = stops (at-argument ∙ rw (h .same, h .how .tokens) (passes-not _ x))

@@ -22,7 +22,7 @@ use Rattle.bookkeeping.specs.declared.progress.Progress.{Progress}
 use Rattle.bookkeeping.specs.declared.progress.Parsed.{Parsed as CodeParsed}
 use Rattle.bookkeeping.specs.declared.progress.Parsed.the-variants.{Stopped, Done}
 use Rattle.declarations.specs.declared.expressions.Joined.{Joined}
-use Rattle.declarations.specs.declared.expressions.Joined.the-variants.{Taken, Wrong, Other}
+use Rattle.declarations.specs.declared.expressions.Joined.the-variants.{Taken, Wrong, Refused, Other}
 use Rattle.bookkeeping.specs.Answered.{numberOf}
 use Rattle.bookkeeping.specs.Written.{isQuiet, Went}
 use Rattle.bookkeeping.specs.Tokened.{signIs}
@@ -31,6 +31,7 @@ use Rattle.declarations.specs.Expressions.{progressAt, Going, CallStands
 use Rattle.bookkeeping.proofs.Items.{item-then}
 use Rattle.bookkeeping.proofs.Going.{check-wrong, stops, reads, ReadAt, has-read, went-none, went-from, went-then, stops-too}
 use Rattle.bookkeeping.proofs.Tokening.{sign-shown, sign-first, takes, ready-place, ready-past, went-before}
+use Rattle.bookkeeping.proofs.Refusing.{stopped-before, word-no-sign}
 use Rattle.declarations.proofs.Calling.{callAt, CallAgrees, expressionAt, ExpressionAgrees}
 use Rattle.declarations.proofs.Onward.{going-on}
 
@@ -221,8 +222,17 @@ module _ {text table : List ℕ} {symbols parts depth : ℕ} {start : Progress} 
       let item = itemAt text t in
       let rest = Reading.expression (b .left - 1) (symbolNames text table symbols) depth (Reading.pastItem item (progressAt text table parts s))
       (stream text Tokens.inside (t .past)) in
-      stops (at-step b (i .unrolled)
-      ∙ rw (g .1, g .0 .fault, check-wrong (numberOf answer) (placedOf text t) (withFirst (thenItem item) rest) (g .0 .wrong)))
+      stops (stopped-before (at-step b (i .unrolled)
+      ∙ rw (g .1, g .0 .fault, check-wrong (numberOf answer) (placedOf text t) (withFirst (thenItem item) rest) (g .0 .wrong))))
+
+  -- A WORD
+
+  pub word-refused : {fault : Fault} {bound : ℕ} → r ≡ Refused fault → length (stream text Tokens.inside (start .at)) ≤ bound
+      → ExpressionAgrees text table symbols parts bound depth start tape₀ tape′ (Stopped fault)
+  word-refused {bound = bound} e h =
+      let g = given e in
+      let b = q .so .behind bound h in
+      stops (rw (at-step b (q .comes .unrolled), g .other, word-no-sign 60 _ (g .word), g .word, g .number, g .place))
 
   -- THE END
 
@@ -234,7 +244,7 @@ module _ {text table : List ℕ} {symbols parts depth : ℕ} {start : Progress} 
       let b = q .so .behind bound h in
       let u = q .comes .unrolled in
       reads (record { expression = b .first end; progress = progressAt text table parts s }) (stream text Tokens.inside (s .at))
-      (at-step b u ∙ rw (u, g .0, sign-shown text t 60 n))
+      (rw (at-step b u, u, g .0 .other, sign-shown text t 60 n, g .0 .wordless))
       (record {
         tokens = sym (q .comes .again);
         shorter = b .shorter;
@@ -305,7 +315,7 @@ module _ {text table : List ℕ} {symbols parts depth : ℕ} {start : Progress} 
         → ExpressionAgrees text table symbols parts bound depth start tape₀ tape″ (Stopped fault)
     call-stopped {bound = bound} e h =
         let b = k .so .behind bound h in
-        stops-too (a (b .left - 1) (left-enough b)) e (λ g. at-call b ∙ rw g)
+        stops-too (a (b .left - 1) (left-enough b)) e (λ g. stopped-before (at-call b ∙ rw g))
 
     module _ {next : Progress} (e : p ≡ Done next) where
       called : (left : ℕ) → length (stream text Tokens.naming (t .past)) ≤ left → ReadAt (CallRead text table symbols parts opened tape′ tape″) (calledAt left) next

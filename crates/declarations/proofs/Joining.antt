@@ -22,7 +22,7 @@ use Rattle.bookkeeping.specs.declared.Answer.{Answer}
 use Rattle.bookkeeping.specs.declared.Answer.the-variants.{OverLimit, WrongLaterVariable}
 use Rattle.bookkeeping.specs.declared.progress.Progress.{Progress}
 use Rattle.declarations.specs.declared.expressions.Joined.{Joined}
-use Rattle.declarations.specs.declared.expressions.Joined.the-variants.{Taken, Wrong, Other}
+use Rattle.declarations.specs.declared.expressions.Joined.the-variants.{Taken, Wrong, Refused, Other}
 use Rattle.bookkeeping.specs.Tables.{tableNames, Entries, position}
 use Rattle.bookkeeping.specs.Answered.{numberOf}
 use Rattle.bookkeeping.specs.Written.{Wrote, stringFrom, isQuiet, Went}
@@ -197,4 +197,5 @@ joins {text} {table} {symbols} {parts} {s} {tape} {t} {item} {past} {tape′} {r
     gives : (r′ : Joined) → ItemGives text table symbols parts s tape item past tape′ r′ → TokenGives text table symbols parts s tape t tape′ r′
     gives (Taken next) g = (rw (h .is, ← h .ends) g, rw (h .is) (h .some))
     gives (Wrong answer) g = (rw (h .is) g, rw (h .is) (h .some))
+    gives (Refused fault) g = absurd g
     gives Other g = absurd g

@@ -28,7 +28,7 @@ use Rattle.bookkeeping.specs.declared.progress.Parsed.the-variants.{Stopped, Do
 use Rattle.declarations.specs.declared.sentences.Sequel.the-variants.{Ends, Another, Refused}
 use Rattle.bookkeeping.specs.Answered.{Agrees}
 use Rattle.bookkeeping.specs.Written.{Ready}
-use Rattle.bookkeeping.specs.Tokened.{signIs, Taken}
+use Rattle.bookkeeping.specs.Tokened.{signIs, unlessWord, Taken}
 use Rattle.bookkeeping.specs.Items.{Variables, symbolNames, partNames}
 use Rattle.patterns.specs.Patterns.{PatternRead}
 use Rattle.conditions.specs.Conditions.{ConditionsRead}
@@ -37,6 +37,7 @@ use Rattle.declarations.specs.Sentences.{fromEquals, EqualsRead, Sentenc
 use Rattle.bookkeeping.proofs.Items.{variable-of, variable-at}
 use Rattle.bookkeeping.proofs.Going.{stops, ReadAt, has-read, follow-same, pass-follow, follow-alone, makes, went-from, went-then, word-went, ready-after, stops-too}
 use Rattle.bookkeeping.proofs.Tokening.{fault-same, sign-shown, passes-on, refused, FaultOf}
+use Rattle.bookkeeping.proofs.Refusing.{word-at-once, word-after, word-after-pass, word-after-made}
 use Rattle.declarations.proofs.Calling.{ExpressionAgrees}
 use Rattle.lexing.proofs.Variants.{by-kind}
 
@@ -139,7 +140,7 @@ module _ {text : Bytes} {from words at : ℕ} (q : AfterEquals text from words a
 
 abbrev SentenceAgrees : Bytes → ℕ → ℕ → List ℕ → List ℕ → CodeParsed → Type 0
 SentenceAgrees text from words tape tape′ r =
-    Agrees (SentenceRead text from words tape tape′) (Reading.sentence (stream text Tokens.inside from)) r
+    Agrees (SentenceRead text from words tape tape′) (unlessWord (Reading.sentence (stream text Tokens.inside from))) r
 
 -- after its pattern, and after its conditions
 abbrev withExpression : List Element → List Condition → Reading.Items → Sentence
@@ -149,12 +150,18 @@ abbrev afterPattern : List Element → List Tokens.Placed → Parsed Sentence
 afterPattern p ts =
     follow (Reading.conditions 8 (symbolsOf p) ts) λ cs ts₁.
     Reading.pass 61 ts₁ λ ts₂.
-    follow (Reading.expression (length ts₂) (symbolsOf p) 0 (record { items = 0; coming = partsOf p }) ts₂) λ i rest.
+    follow (unlessWord (Reading.expression (length ts₂) (symbolsOf p) 0 (record { items = 0; coming = partsOf p }) ts₂)) λ i rest.
     parsed (withExpression p cs i) rest
 
-sentence-is : (ts : List Tokens.Placed) → Reading.sentence ts ≡ follow (Reading.pattern [] ts) afterPattern
-unfolding Reading.sentence
-sentence-is ts = refl
+-- a word that is no variable is refused after the pattern and after the expression
+sentence-is : (ts : List Tokens.Placed) → unlessWord (Reading.sentence ts) ≡ follow (unlessWord (Reading.pattern [] ts)) afterPattern
+unfolding Reading.sentence Reading.conditions
+sentence-is ts =
+    word-after (Reading.pattern [] ts) _ afterPattern (λ p ts₁.
+    word-after (Reading.conditions 8 (symbolsOf p) ts₁) _ _ λ cs ts₂.
+    word-after-pass 61 ts₂ _ _ λ ts₃.
+    word-after-made (withExpression p cs) (Reading.expression (length ts₃) (symbolsOf p) 0 (record { items = 0; coming = partsOf p }) ts₃))
+    ∙ word-at-once (Reading.pattern [] ts) afterPattern (λ p w place past rest. refl)
 
 -- what the definition reads after the pattern
 abbrev conditionsAt : Bytes → List ℕ → Progress → Parsed (List Condition)
@@ -163,14 +170,14 @@ conditionsAt text table p = Reading.conditions 8 (symbolNames text table (p .cou
 -- the pattern was read
 pub record AfterPattern (text : Bytes) (from words : ℕ) (tape table tape₁ : List ℕ) (p : Progress) : Type 0 where
   pub ready : Ready text from words
-  pub read : ReadAt (PatternRead text from words tape table tape₁) (Reading.pattern [] (stream text Tokens.inside from)) p
+  pub read : ReadAt (PatternRead text from words tape table tape₁) (unlessWord (Reading.pattern [] (stream text Tokens.inside from))) p
 
 -- the conditions were read after it
 pub record AfterConditions {text : Bytes} {from words : ℕ} {tape table tape₁ : List ℕ} {p : Progress} (pattern : AfterPattern text from words tape table tape₁ p) (tape₂ : List ℕ) (c : Progress) : Type 0 where
   pub read : ReadAt (ConditionsRead text (p .at) (p .words) tape₁ tape₂) (conditionsAt text table p) c
 
 module _ {text : Bytes} {from words : ℕ} {tape table tape₁ : List ℕ} {r : CodeParsed}
-    (a : Agrees (PatternRead text from words tape table tape₁) (Reading.pattern [] (stream text Tokens.inside from)) r) where
+    (a : Agrees (PatternRead text from words tape table tape₁) (unlessWord (Reading.pattern [] (stream text Tokens.inside from))) r) where
   pub pattern-stops : {fault : Fault} → r ≡ Stopped fault → SentenceAgrees text from words tape tape₁ (Stopped fault)
   pattern-stops e = stops-too a e (λ h. sentence-is _ ∙ rw h)
 
@@ -184,7 +191,7 @@ module _ {text : Bytes} {from words : ℕ} {tape table tape₁ : List ℕ} {p : 
   pub pattern-variables : Variables text table (p .count) (p .parts)
   pattern-variables = k .read .how .variables
 
-  at-conditions : Reading.sentence (stream text Tokens.inside from)
+  at-conditions : unlessWord (Reading.sentence (stream text Tokens.inside from))
       ≡ follow (conditionsAt text table p) (λ cs ts. follow (fromEquals (symbolNames text table (p .count)) (partNames text table (p .parts)) ts)
       (λ i rest. parsed (withExpression (k .read .value) cs i) rest))
   at-conditions =
@@ -219,7 +226,7 @@ module _ {text : Bytes} {from words : ℕ} {tape table tape₁ : List ℕ} {p : 
 
 -- THE NEXT SENTENCE
 
-sentence-of : (left : ℕ) (t : Tokens.Placed) (ts : List Tokens.Placed) → (left ≡ 0 → ⊥) → sentenceOf left t ts ≡ Reading.sentence (t ∷ ts)
+sentence-of : (left : ℕ) (t : Tokens.Placed) (ts : List Tokens.Placed) → (left ≡ 0 → ⊥) → sentenceOf left t ts ≡ unlessWord (Reading.sentence (t ∷ ts))
 sentence-of zero t ts h = absurd (h refl)
 sentence-of (suc left) t ts h = refl
 

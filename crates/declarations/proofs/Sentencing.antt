@@ -1,6 +1,6 @@
 -- The loop over a function's sentences.
 use Prim.Native.Nat.{ℕ, zero, suc, _+_, _-_, _≤_, _<_}
-use mathlib.Core.Path.{_≡_, refl, sym, _∙_}
+use mathlib.Core.Path.{_≡_, refl, sym, _∙_, ap}
 use mathlib.Core.Bool.{Bool, true, false, false≢true}
 use mathlib.Core.List.{List, [], _∷_, _++_, append-assoc, append-nil}
 use native.Mathlib.Omega.{arith}
@@ -21,6 +21,7 @@ use Rattle.declarations.specs.declared.sentences.Sequel.the-variants.{En
 use Rattle.bookkeeping.specs.Answered.{Agrees}
 use Rattle.bookkeeping.specs.Written.{Ready, Went}
 use Rattle.declarations.specs.Sentences.{Each, SentenceStands, sentenceOf, firstSentence, FirstRead, Follows, SentencesRead}
+use Rattle.bookkeeping.proofs.Refusing.{word-at-once}
 use Rattle.bookkeeping.proofs.Going.{stops, reads, ReadAt, has-read, follow-alone, behind, behind-more, went-none, went-then, word-went, ready-after, stops-too}
 
 -- it holds of none, of these and those, and of one more
@@ -53,7 +54,10 @@ sentences-are zero (t ∷ ts) = whether-follow (Reading.begins (t .token)) t (se
 sentences-are (suc left) [] = refl
 sentences-are (suc left) (t ∷ ts) =
     let e : suc left - 1 ≡ left = omega arith in
-    rw e (whether-follow (Reading.begins (t .token)) t (sentenceOf (suc left) t ts) _)
+    let after = afterSentence (Reading.sentences left) in
+    rw e
+    (ap (λ (p : Parsed (List Sentence)). whether (Reading.begins (t .token)) t p) (word-at-once (Reading.sentence (t ∷ ts)) after (λ s w place past rest. refl))
+    ∙ whether-follow (Reading.begins (t .token)) t (sentenceOf (suc left) t ts) after)
 
 -- THE TAPE
 

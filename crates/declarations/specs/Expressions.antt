@@ -18,14 +18,14 @@ use Rattle.lexing.specs.declared.Placed.{Placed}
 use Rattle.bookkeeping.specs.declared.Answer.{Answer}
 use Rattle.bookkeeping.specs.declared.progress.Progress.{Progress}
 use Rattle.declarations.specs.declared.expressions.Joined.{Joined}
-use Rattle.declarations.specs.declared.expressions.Joined.the-variants.{Taken as Takes, Wrong, Other}
+use Rattle.declarations.specs.declared.expressions.Joined.the-variants.{Taken as Takes, Wrong, Refused, Other}
 use Rattle.bookkeeping.specs.Tables.{tableNames}
 use Rattle.bookkeeping.specs.declared.progress.Parsed.{Parsed}
 use Rattle.bookkeeping.specs.declared.progress.Parsed.the-variants.{Stopped, Done}
 use Rattle.bookkeeping.specs.Answered.{numberOf}
 use Rattle.bookkeeping.specs.Tokened.{Taken, Barred}
 use Rattle.bookkeeping.specs.Written.{Wrote, isQuiet, Ready, Went}
-use Rattle.bookkeeping.specs.Items.{Variables, symbolNames, itemAt}
+use Rattle.bookkeeping.specs.Items.{Variables, symbolNames, itemAt, NoItem, WordRefused}
 
 -- how far an expression is: its items, and the e-variables of the table that may still come
 abbrev pub progressAt : Bytes → List ℕ → ℕ → Progress → Reading.Progress
@@ -86,6 +86,7 @@ pub record WrongIn (text : Bytes) (table : List ℕ) (symbols parts : ℕ) (s : 
 abbrev pub ItemGives : Bytes → List ℕ → ℕ → ℕ → Progress → List ℕ → Item → ℕ → List ℕ → Joined → Type 0
 ItemGives text table symbols parts s tape item past tape′ (Takes next) = TakenIn text table symbols parts s tape item past tape′ next
 ItemGives text table symbols parts s tape item past tape′ (Wrong answer) = WrongIn text table symbols parts s item answer
+ItemGives text table symbols parts s tape item past tape′ (Refused fault) = ⊥
 ItemGives text table symbols parts s tape item past tape′ Other = ⊥
 
 -- what comes of an item
@@ -97,7 +98,8 @@ TokenGives text table symbols parts s tape t tape′ (Takes next) =
     TakenIn text table symbols parts s tape (itemAt text t) (t .past) tape′ next × (isItem (itemAt text t) ≡ true)
 TokenGives text table symbols parts s tape t tape′ (Wrong answer) =
     WrongIn text table symbols parts s (itemAt text t) answer × (isItem (itemAt text t) ≡ true)
-TokenGives text table symbols parts s tape t tape′ Other = (isItem (itemAt text t) ≡ false) × (tape′ ≡ tape)
+TokenGives text table symbols parts s tape t tape′ (Refused fault) = WordRefused text t fault
+TokenGives text table symbols parts s tape t tape′ Other = NoItem text t × (tape′ ≡ tape)
 
 -- what comes of a token
 pub record JoinsToken (text : Bytes) (table : List ℕ) (symbols parts : ℕ) (s : Progress) (tape : List ℕ) (t : Placed) (tape′ : List ℕ) (r : Joined) : Type 0 where

@@ -19,6 +19,7 @@ use Rattle.bookkeeping.specs.declared.progress.Progress.{Progress}
 use Rattle.declarations.specs.declared.sentences.Sequel.{Sequel}
 use Rattle.declarations.specs.declared.sentences.Sequel.the-variants.{Ends, Another, Refused}
 use Rattle.bookkeeping.specs.Answered.{numberOf}
+use Rattle.bookkeeping.specs.Tokened.{unlessWord}
 use Rattle.bookkeeping.specs.Written.{isQuiet, Went}
 use Rattle.declarations.specs.Expressions.{Stands}
 
@@ -36,7 +37,7 @@ pub record SentenceStands (text : Bytes) (s : Sentence) : Type 0 where
 -- `sentence` from its `=` on
 abbrev pub fromEquals : List Name → List Name → List Tokens.Placed → Parsed Reading.Items
 fromEquals symbols parts ts =
-    pass 61 ts λ ts₁. Reading.expression (length ts₁) symbols 0 (record { items = 0; coming = parts }) ts₁
+    pass 61 ts λ ts₁. unlessWord (Reading.expression (length ts₁) symbols 0 (record { items = 0; coming = parts }) ts₁)
 
 -- `=` and an expression were read
 pub record EqualsRead (text : Bytes) (at words : ℕ) (tape tape′ : List ℕ) (i : Reading.Items) (rest : List Tokens.Placed) (s : Progress) : Type 0 where
@@ -64,7 +65,7 @@ beginsSentence Malformed = false
 -- a sentence, if one may still come
 abbrev pub sentenceOf : ℕ → Tokens.Placed → List Tokens.Placed → Parsed Sentence
 sentenceOf zero t ts = stopped overLimit (t .place)
-sentenceOf (suc left) t ts = Reading.sentence (t ∷ ts)
+sentenceOf (suc left) t ts = unlessWord (Reading.sentence (t ∷ ts))
 
 -- `sentences` up to what comes after the first
 abbrev pub firstSentence : ℕ → List Tokens.Placed → Parsed Sentence

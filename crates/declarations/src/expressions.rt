@@ -3,11 +3,13 @@ use crate::stopped;
 use bookkeeping::Answer;
 use bookkeeping::names::called_fault;
 use bookkeeping::names::find;
+use bookkeeping::progress::Fault;
 use bookkeeping::progress::Parsed;
 use bookkeeping::progress::Passed;
 use bookkeeping::progress::Progress;
 use bookkeeping::progress::is_accepted;
 use bookkeeping::progress::is_sign;
+use bookkeeping::progress::is_word;
 use bookkeeping::progress::pass;
 use bookkeeping::progress::refuse;
 use bookkeeping::writing::CALL_KIND;
@@ -34,14 +36,16 @@ ghost use Rattle.meaning.specs.Reading as Reading;
 ghost use Rattle.lexing.specs.View.{charactersIn, quotationAt, part, stream, Comes};
 ghost use Rattle.bookkeeping.specs.Answered.{Agrees};
 ghost use Rattle.bookkeeping.specs.Tables.{Inside};
+ghost use Rattle.bookkeeping.specs.Tokened.{unlessWord};
 ghost use Rattle.bookkeeping.specs.Written.{Wrote, isQuiet, Ready};
 ghost use Rattle.bookkeeping.specs.Items.{symbolNames, Identifier, StringAt};
 ghost use Rattle.declarations.specs.Expressions.{progressAt, Going, VariableTaken, JoinsItem, JoinsToken, ExpressionRead, opening, OpeningRead, CallRead, Closes};
 
-// An expression with a token joined to it, what is wrong with the token, or that it is no item.
+// An expression with a token joined to it, what is wrong with the token, that it is a word but no variable, or that it is no item.
 pub enum Joined {
     Taken(Progress),
     Wrong(Answer),
+    Refused(Fault),
     Other,
 }
 
@@ -163,22 +167,22 @@ fn join(
     ensures { λ r. ⌜ JoinsToken (now (text .entry)) (now (table .entry)) symbols parts s (now (tape .entry)) t (now (tape .exit)) r ⌝ }
 {
     let token = t.token;
-    match token {
-        Token::Quoted(count) => join_string(
-            text,
-            tape,
-            table,
-            symbols,
-            parts,
-            s,
-            t.place,
-            t.past,
-            count,
-        ),
-        Token::Symbol(x) => join_symbol(text, tape, table, symbols, parts, s, x),
-        Token::Part(x) => join_part(text, tape, table, symbols, parts, s, x),
-        _ => Joined::Other,
+    if let Token::Quoted(count) = token {
+        return join_string(text, tape, table, symbols, parts, s, t.place, t.past, count);
     }
+    if !is_word(t) {
+        return Joined::Other;
+    }
+    if let Token::Symbol(x) = token {
+        return join_symbol(text, tape, table, symbols, parts, s, x);
+    }
+    let Token::Part(x) = token else {
+        return Joined::Refused(Fault {
+            answer: Answer::NotAllowedHere,
+            place: t.place,
+        });
+    };
+    join_part(text, tape, table, symbols, parts, s, x)
 }
 
 // The word of a call and its name, which stands at a place.
@@ -284,8 +288,8 @@ pub fn expression(
     requires { ⌜ Going (now text) (now table) symbols parts start ⌝ }
     ensures { λ r. ⌜ ((bound : ℕ) → length (stream (now (text .entry)) Tokens.inside (start .at)) ≤ bound
         → Agrees (ExpressionRead (now (text .entry)) (now (table .entry)) symbols parts start (now (tape .entry)) (now (tape .exit)))
-        (Reading.expression bound (symbolNames (now (text .entry)) (now (table .entry)) symbols) depth
-        (progressAt (now (text .entry)) (now (table .entry)) parts start) (stream (now (text .entry)) Tokens.inside (start .at))) r) ⌝ }
+        (unlessWord (Reading.expression bound (symbolNames (now (text .entry)) (now (table .entry)) symbols) depth
+        (progressAt (now (text .entry)) (now (table .entry)) parts start) (stream (now (text .entry)) Tokens.inside (start .at)))) r) ⌝ }
 {
     let mut s = start;
     loop {
@@ -295,6 +299,7 @@ pub fn expression(
                 s = next;
             }
             Joined::Wrong(answer) => return stopped(answer, t.place),
+            Joined::Refused(fault) => return Parsed::Stopped(fault),
             Joined::Other => {
                 if !is_sign(t, b'<') {
                     return Parsed::Done(Progress { at: t.place, ..s });

@@ -27,6 +27,7 @@ ghost use Rattle.meaning.specs.Tokens as Tokens;
 ghost use Rattle.meaning.specs.Reading as Reading;
 ghost use Rattle.lexing.specs.View.{stream};
 ghost use Rattle.bookkeeping.specs.Answered.{Agrees};
+ghost use Rattle.bookkeeping.specs.Tokened.{unlessWord};
 ghost use Rattle.bookkeeping.specs.Written.{Ready};
 ghost use Rattle.bookkeeping.specs.Items.{Variables, symbolNames, partNames};
 ghost use Rattle.declarations.specs.Sentences.{fromEquals, EqualsRead, SentenceRead, beginsSentence, firstSentence, FirstRead, Follows, SentencesRead};
@@ -65,7 +66,7 @@ fn sentence_end(
 fn sentence(text: &[u8], tape: &mut [u32; 32768], from: usize, words: usize) -> Parsed
     requires { ⌜ Ready (now text) from words ⌝ }
     ensures { λ r. ⌜ Agrees (SentenceRead (now (text .entry)) from words (now (tape .entry)) (now (tape .exit)))
-        (Reading.sentence (stream (now (text .entry)) Tokens.inside from)) r ⌝ }
+        (unlessWord (Reading.sentence (stream (now (text .entry)) Tokens.inside from))) r ⌝ }
 {
     let mut table = variable_room();
     let p = match pattern(text, tape, &mut table, from, words) {

@@ -24,7 +24,7 @@ use Rattle.bookkeeping.specs.declared.Answer.{Answer}
 use Rattle.bookkeeping.specs.declared.Answer.the-variants.{OverLimit}
 use Rattle.patterns.specs.declared.Counts.{Counts}
 use Rattle.patterns.specs.declared.Added.{Added}
-use Rattle.patterns.specs.declared.Added.the-variants.{Taken, Wrong, Other}
+use Rattle.patterns.specs.declared.Added.the-variants.{Taken, Wrong, Refused, Other}
 use Rattle.bookkeeping.specs.Tables.{position}
 use Rattle.bookkeeping.specs.Answered.{numberOf}
 use Rattle.bookkeeping.specs.Written.{Wrote, stringFrom, isQuiet, Went}
@@ -308,4 +308,5 @@ adds {text} {table} {p} {tape} {t} {item} {past} {table′} {tape′} {r} h a = 
     gives : (r′ : Added) → ItemGives text table p tape item past table′ tape′ r′ → TokenGives text table p tape t table′ tape′ r′
     gives (Taken next) g = (rw (h .is, ← h .ends) g, rw (h .is) (h .some))
     gives (Wrong answer) g = (rw (h .is) g, rw (h .is) (h .some))
+    gives (Refused fault) g = absurd g
     gives Other g = absurd g

@@ -18,8 +18,9 @@ use Rattle.bookkeeping.specs.declared.progress.Parsed.{Parsed}
 use Rattle.bookkeeping.specs.declared.progress.Parsed.the-variants.{Stopped, Done}
 use Rattle.patterns.specs.declared.Counts.{Counts}
 use Rattle.patterns.specs.declared.Added.{Added}
-use Rattle.patterns.specs.declared.Added.the-variants.{Taken, Wrong, Other}
+use Rattle.patterns.specs.declared.Added.the-variants.{Taken, Wrong, Refused, Other}
 use Rattle.bookkeeping.specs.Answered.{Agrees}
+use Rattle.bookkeeping.specs.Tokened.{unlessWord}
 use Rattle.bookkeeping.specs.Written.{isQuiet, Ready, Went}
 use Rattle.bookkeeping.specs.Items.{itemAt}
 use Rattle.patterns.specs.Patterns.{Held, Seen, TokenGives, PatternRead}
@@ -28,6 +29,7 @@ use Rattle.patterns.proofs.Elements.{tape-append}
 use Rattle.bookkeeping.proofs.Items.{item-then}
 use Rattle.bookkeeping.proofs.Going.{check-wrong, stops, reads, went-none, went-then}
 use Rattle.bookkeeping.proofs.Tokening.{went-before}
+use Rattle.bookkeeping.proofs.Refusing.{stopped-before}
 
 -- the pattern from the start is that from here with these elements before it
 pub record Patterned (text start : List ℕ) (at words : ℕ) (tape table : List ℕ) (p : Counts) : Type 0 where
@@ -67,11 +69,12 @@ pattern-starts text start table at words r l =
 module _ {text start : List ℕ} {at words : ℕ} {tape table : List ℕ} {p : Counts} (k : Patterned text start at words tape table p) {t : Code.Placed} (c : Comes text inside (p .at) t)
     (table′ tape′ : List ℕ) where
   abbrev Agree : Parsed → Type 0
-  Agree r = Agrees (PatternRead text at words start table′ tape′) (pattern [] (stream text inside at)) r
+  Agree r = Agrees (PatternRead text at words start table′ tape′) (unlessWord (pattern [] (stream text inside at))) r
 
   abbrev pub PatternOn : Added → Type 0
   PatternOn (Taken next) = (p .at < next .at) × Patterned text start at words tape′ table′ next
   PatternOn (Wrong answer) = Agree (Stopped (record { answer = answer; place = t .place }))
+  PatternOn (Refused fault) = Agree (Stopped fault)
   PatternOn Other = Agree (Done (record { at = t .place; words = p .words; count = p .symbols; parts = p .parts }))
 
   pub pattern-on : (r : Added) → TokenGives text table p tape t table′ tape′ r → PatternOn r
@@ -92,9 +95,10 @@ module _ {text start : List ℕ} {at words : ℕ} {tape table : List ℕ} {p : C
       )
   pattern-on (Wrong answer) g =
       let i = item-then c (g .1) in
-      stops (k .same ∙ rw (i .unrolled, g .1, g .0 .fault (k .before) (k .seen)) (check-wrong _ _ _ (g .0 .wrong)))
+      stops (stopped-before (k .same ∙ rw (i .unrolled, g .1, g .0 .fault (k .before) (k .seen)) (check-wrong _ _ _ (g .0 .wrong))))
+  pattern-on (Refused fault) g = stops (rw (k .same, c .unrolled, g .other, g .word, g .number, g .place))
   pattern-on Other g =
-      reads (k .before) (stream text inside (p .at)) (k .same ∙ rw (c .unrolled, g .0))
+      reads (k .before) (stream text inside (p .at)) (rw (k .same, c .unrolled, g .0 .other, g .0 .wordless))
       (record {
         tokens = sym (c .again);
         went = rw (g .2) (went-before (k .went) c);

@@ -18,8 +18,8 @@ use Rattle.bookkeeping.specs.declared.Answer.{Answer}
 use Rattle.bookkeeping.specs.declared.progress.Progress.{Progress}
 use Rattle.patterns.specs.declared.Counts.{Counts}
 use Rattle.patterns.specs.declared.Added.{Added}
-use Rattle.patterns.specs.declared.Added.the-variants.{Taken, Wrong, Other}
-use Rattle.bookkeeping.specs.Items.{Variables, symbolNames, partNames, itemAt}
+use Rattle.patterns.specs.declared.Added.the-variants.{Taken, Wrong, Refused, Other}
+use Rattle.bookkeeping.specs.Items.{Variables, symbolNames, partNames, itemAt, WordRefused, NoItem}
 use Rattle.bookkeeping.specs.Answered.{numberOf}
 use Rattle.bookkeeping.specs.Written.{isQuiet, Ready, Went}
 
@@ -70,6 +70,7 @@ pub record WrongIn (text : Bytes) (table : List ℕ) (p : Counts) (item : Item) 
 abbrev pub ItemGives : Bytes → List ℕ → Counts → List ℕ → Item → ℕ → List ℕ → List ℕ → Added → Type 0
 ItemGives text table p tape item past table′ tape′ (Taken next) = TakenIn text table p tape item past table′ tape′ next
 ItemGives text table p tape item past table′ tape′ (Wrong answer) = WrongIn text table p item answer
+ItemGives text table p tape item past table′ tape′ (Refused fault) = ⊥
 ItemGives text table p tape item past table′ tape′ Other = ⊥
 
 pub record AddsItem (text : Bytes) (table : List ℕ) (p : Counts) (tape : List ℕ) (item : Item) (past : ℕ) (table′ tape′ : List ℕ) (r : Added) : Type 0 where
@@ -80,7 +81,8 @@ abbrev pub TokenGives : Bytes → List ℕ → Counts → List ℕ → Placed �
 TokenGives text table p tape t table′ tape′ (Taken next) =
     TakenIn text table p tape (itemAt text t) (t .past) table′ tape′ next × (isItem (itemAt text t) ≡ true)
 TokenGives text table p tape t table′ tape′ (Wrong answer) = WrongIn text table p (itemAt text t) answer × (isItem (itemAt text t) ≡ true)
-TokenGives text table p tape t table′ tape′ Other = (isItem (itemAt text t) ≡ false) × (table′ ≡ table) × (tape′ ≡ tape)
+TokenGives text table p tape t table′ tape′ (Refused fault) = WordRefused text t fault
+TokenGives text table p tape t table′ tape′ Other = NoItem text t × (table′ ≡ table) × (tape′ ≡ tape)
 
 pub record AddsToken (text : Bytes) (table : List ℕ) (p : Counts) (tape : List ℕ) (t : Placed) (table′ tape′ : List ℕ) (r : Added) : Type 0 where
   pub gives : TokenGives text table p tape t table′ tape′ r

@@ -7,6 +7,7 @@ use bookkeeping::progress::Parsed;
 use bookkeeping::progress::Progress;
 use bookkeeping::progress::fault_if;
 use bookkeeping::progress::is_accepted;
+use bookkeeping::progress::is_word;
 use bookkeeping::writing::PART_WORD;
 use bookkeeping::writing::SYMBOL_WORD;
 use bookkeeping::writing::put_characters;
@@ -27,6 +28,7 @@ ghost use Rattle.meaning.specs.Reading as Reading;
 ghost use Rattle.lexing.specs.View.{charactersIn, quotationAt, part, stream, Comes};
 ghost use Rattle.bookkeeping.specs.Answered.{numberOf, Agrees};
 ghost use Rattle.bookkeeping.specs.Tables.{Inside, position};
+ghost use Rattle.bookkeeping.specs.Tokened.{unlessWord};
 ghost use Rattle.bookkeeping.specs.Written.{Ready};
 ghost use Rattle.bookkeeping.specs.Items.{symbolNames, partNames, Identifier, StringAt};
 ghost use Rattle.patterns.specs.Patterns.{Held, patternSymbolFault, patternPartFault, AddsItem, AddsToken, PatternRead};
@@ -41,10 +43,11 @@ pub struct Counts {
     pub ending: bool,
 }
 
-// A pattern with a token added, what is wrong with the token, or that it belongs to no pattern.
+// A pattern with a token added, what is wrong with the token, that it is a word but no variable, or that it belongs to no pattern.
 pub enum Added {
     Taken(Counts),
     Wrong(Answer),
+    Refused(Fault),
     Other,
 }
 
@@ -206,12 +209,22 @@ fn add(text: &[u8], tape: &mut [u32; 32768], table: &mut [usize; 18], p: Counts,
     ensures { λ r. ⌜ AddsToken (now (text .entry)) (now (table .entry)) p (now (tape .entry)) t (now (table .exit)) (now (tape .exit)) r ⌝ }
 {
     let token = t.token;
-    match token {
-        Token::Quoted(count) => add_string(text, tape, table, p, t.place, t.past, count),
-        Token::Symbol(x) => add_symbol(text, tape, table, p, x),
-        Token::Part(x) => add_part(text, tape, table, p, x),
-        _ => Added::Other,
+    if let Token::Quoted(count) = token {
+        return add_string(text, tape, table, p, t.place, t.past, count);
     }
+    if !is_word(t) {
+        return Added::Other;
+    }
+    if let Token::Symbol(x) = token {
+        return add_symbol(text, tape, table, p, x);
+    }
+    let Token::Part(x) = token else {
+        return Added::Refused(Fault {
+            answer: Answer::NotAllowedHere,
+            place: t.place,
+        });
+    };
+    add_part(text, tape, table, p, x)
 }
 
 // Reads a pattern and fills the table of its variables.
@@ -224,7 +237,7 @@ pub fn pattern(
 ) -> Parsed
     requires { ⌜ Ready (now text) at words × (length (now table) ≡ 18) ⌝ }
     ensures { λ r. ⌜ Agrees (PatternRead (now (text .entry)) at words (now (tape .entry)) (now (table .exit)) (now (tape .exit)))
-        (Reading.pattern [] (stream (now (text .entry)) Tokens.inside at)) r ⌝ }
+        (unlessWord (Reading.pattern [] (stream (now (text .entry)) Tokens.inside at))) r ⌝ }
 {
     let mut p = Counts {
         at: at,
@@ -244,6 +257,7 @@ pub fn pattern(
                     place: t.place,
                 });
             }
+            Added::Refused(fault) => return Parsed::Stopped(fault),
             Added::Other => {
                 return Parsed::Done(Progress {
                     at: t.place,

@@ -47,7 +47,10 @@ returns : tie.Need-returns Inv-loop μ-loop
 returns c = turned (c .before .before .before) (c .before .answer .given .1)
 
 returns-2 : tie.Need-returns-2 Inv-loop μ-loop
-returns-2 c = turned (c .before .before) (c .enum-told .given .1)
+returns-2 c = turned (c .before .before .before) (c .before .fault .given .1)
+
+returns-3 : tie.Need-returns-3 Inv-loop μ-loop
+returns-3 c = turned (c .before .before) (c .enum-told .given .1)
 
 pub pattern-spec : {M : Type 1} → statement M
 pattern-spec =
@@ -64,4 +67,6 @@ pattern-spec =
     (λ c. search needs)
     returns
     (λ c. search needs)
-    returns-2)
+    returns-2
+    (λ c. search needs)
+    returns-3)

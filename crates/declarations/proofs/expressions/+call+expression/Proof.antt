@@ -31,7 +31,7 @@ use Rattle.bookkeeping.specs.declared.progress.Progress.{Progress}
 use Rattle.lexing.proofs.Stream.{comes}
 use Rattle.bookkeeping.proofs.Going.{has-read}
 use Rattle.declarations.proofs.Calling.{Opened, call-unopened, argument-ready, argument-going, argument-stops, call-closes}
-use Rattle.declarations.proofs.Expressed.{Expressed, expression-starts, AtToken, item-moves, item-taken, item-wrong, expression-ends, AtCall, call-onward, call-ready, call-stopped, call-moves, call-read}
+use Rattle.declarations.proofs.Expressed.{Expressed, expression-starts, AtToken, item-moves, item-taken, item-wrong, word-refused, expression-ends, AtCall, call-onward, call-ready, call-stopped, call-moves, call-read}
 
 abbrev remaining : Bytes → Progress → ℕ → ℕ
 remaining text s depth = (length text - s .at) + (16 - depth)
@@ -171,7 +171,10 @@ module _ (t : ℕ) where
       λ bound h. rw (c .stopped .ensures) (item-wrong (joined-here (c .before .before .before .before)) (c .before .before .answer .given .1) h)
 
   expression-returns-2 : expression-lts.Need-returns-2 (expression-claims t) (expression-at t) expression.Post Inv-loop μ-loop
-  expression-returns-2 c =
+  expression-returns-2 c = λ bound h. word-refused (joined-here (c .before .before .before)) (c .before .fault .given .1) h
+
+  expression-returns-3 : expression-lts.Need-returns-3 (expression-claims t) (expression-at t) expression.Post Inv-loop μ-loop
+  expression-returns-3 c =
       let at-enum-told = c .before .before in
       λ bound h.
       expression-ends (joined-here (at-enum-told .before .before)) (at-enum-told .enum-told .given .1)
@@ -183,10 +186,10 @@ module _ (t : ℕ) where
       let m = c .before .before .before .before .before .before .before .before .before .before .before .pre .0 in
       (omega (arith, call-onward q), call-ready q)
 
-  expression-returns-3 : expression-lts.Need-returns-3 (expression-claims t) (expression-at t) expression.Post Inv-loop μ-loop
-  expression-returns-3 c =
+  expression-returns-4 : expression-lts.Need-returns-4 (expression-claims t) (expression-at t) expression.Post Inv-loop μ-loop
+  expression-returns-4 c =
       let at-call = c .before .before .before in
-      λ bound h. call-stopped (call-here (at-call .before .before)) (at-call .call .ensures) (c .before .fault .given .1) h
+      λ bound h. call-stopped (call-here (at-call .before .before)) (at-call .call .ensures) (c .before .fault2 .given .1) h
 
   expression-loop-less-2 : expression-lts.Need-loop-less-2 (expression-claims t) (expression-at t) expression.Post Inv-loop μ-loop
   expression-loop-less-2 c =
@@ -229,11 +232,13 @@ pub +call+expression-spec : {M : Type 1} → statement M
     (λ c κs. search needs)
     (expression-returns t)
     (λ c. search needs)
-    (λ c κs. search needs)
     (expression-returns-2 t)
+    (λ c. search needs)
+    (λ c κs. search needs)
+    (expression-returns-3 t)
     (expression-call-requires t)
     (λ c. search needs)
-    (expression-returns-3 t)
+    (expression-returns-4 t)
     (λ c. search needs)
     (expression-loop-less-2 t)
     (expression-loop-again-2 t)
