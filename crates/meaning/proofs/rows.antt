@@ -7,4 +7,5 @@ pub mod Packed
 pub mod Wild
 pub mod Example
 pub mod Read
+pub mod Texts
 pub mod Listed

@@ -30,7 +30,7 @@ function n ss = record { name = n; sentences = ss }
 abbrev pub tableZ : Table
 tableZ =
     function (70 ∷ [])
-    (plain (letter (character 48) ∷ all1) (thenCall 15 (70 ∷ []) (thenPart x1 end) end) ∷
+    (plain (letter (character 48) ∷ all1) (thenCall 14 (70 ∷ []) (thenPart x1 end) end) ∷
     plain all1 (thenPart x1 end) ∷ []) ∷ []
 
 -- R `G { s1 e2 = <G e2> s1; = }`
