@@ -9,3 +9,7 @@ pub mod Example
 pub mod Read
 pub mod Texts
 pub mod Listed
+pub mod Classes
+pub mod Entries
+pub mod Leaving
+pub mod Tape
