@@ -1,2 +1,3 @@
--- Laws that the entry points' proofs cite.
+-- Laws that the entry points' proofs cite, and worked rows.
 pub mod Runs
+pub mod Rows

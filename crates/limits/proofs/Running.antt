@@ -8,9 +8,12 @@ use Rattle.meaning.specs.Tree.{Table}
 use Rattle.meaning.specs.Outcome.{Result}
 use Rattle.meaning.specs.Runs.{runLent}
 use Rattle.meaning.specs.Translation.{translate}
+use Rattle.meaning.specs.Packing.{pack}
+use Rattle.meaning.specs.Leaving.{leaving}
 use Rattle.meaning.proofs.rows.Tables.{tableZ, tableR}
 use Rattle.meaning.proofs.rows.Starred.{most, result}
 use Rattle.meaning.proofs.rows.Edges.{framed}
+use Rattle.meaning.proofs.rows.Leaving.{cells, lent, leaves}
 use Rattle.meaning.proofs.rows.Computing.{computing}
 
 -- a row: the table, the text, the allowance and the frames; what the code gives there
@@ -39,3 +42,9 @@ rows =
 pub frames-run : map (λ (r : Row). runLent (framed (r .frames)) (translate (r .table)) 1 (r .text) (r .allowance)) rows ≡ map (λ (r : Row). r .ran) rows
 unfolding computing
 frames-run = refl
+
+-- what is left where frame 257 is asked for: "all zero if the answer isn't 0"
+pub left-without-frame : leaving (pack (translate tableR)) 1 (replicate 256 97) (lent 256 256 2) most
+    ≡ leaves (result 15 0 256 [] []) (cells (replicate 256 0) (replicate 256 0) (9 ∷ 9 ∷ []))
+unfolding computing
+left-without-frame = refl

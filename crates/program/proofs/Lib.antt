@@ -1,2 +1,3 @@
--- Laws that the program's proofs cite.
+-- Laws that the program's proofs cite, and worked rows.
 pub mod Shown
+pub mod Rows

@@ -134,6 +134,8 @@ strings :
     ∷ says "F{='a\"b'}" 2 3
     ∷ says "F{='\\" 2 3
     ∷ row (bytes "F{='" ++ (again 129 "a" ++ bytes "\"'}")) 2 3
+    -- every byte stands for itself
+    ∷ row (bytes "F{='" ++ (1 ∷ 13 ∷ 127 ∷ 128 ∷ 255 ∷ bytes "'}")) 0 0
     ∷ [])
     ≡ true
 unfolding hold
@@ -152,6 +154,7 @@ comments :
     ∷ says "F{s1/**/=/**/s1/* */}/**/" 0 0
     ∷ says "/" 3 0
     ∷ says "F{= /}" 3 4
+    ∷ row (bytes "/*" ++ (1 ∷ 127 ∷ 128 ∷ 255 ∷ bytes "*/")) 0 0
     ∷ [])
     ≡ true
 unfolding hold
@@ -173,6 +176,11 @@ words :
     ∷ says "F{=/* */" 3 8
     ∷ says "F" 3 1
     ∷ says "F{=} \t\r\n" 0 0
+    -- bytes that are no blanks, and stand nowhere outside strings and comments
+    ∷ row (bytes "F{=}" ++ 11 ∷ []) 3 4
+    ∷ row (bytes "F{=}" ++ 12 ∷ []) 3 4
+    ∷ row (bytes "F{=" ++ (255 ∷ bytes "}")) 3 3
+    ∷ row (128 ∷ []) 3 0
     ∷ [])
     ≡ true
 unfolding hold
