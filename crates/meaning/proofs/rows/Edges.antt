@@ -58,6 +58,8 @@ edges =
     -- THE ALLOWANCE
     -- with no steps the start itself is past the allowance
     same tableZ sixty 0 ample (result 12 0 0 [] []) ∷
+    -- and with the largest allowance that there is
+    same tableZ sixty 4294967295 ample (result 0 0 3 (54 ∷ 48 ∷ []) []) ∷
     -- an emission is no step: it is done after the last one
     same tableM (113 ∷ []) 2 ample (result 0 0 2 [] lines) ∷
     -- the application past the allowance comes before the emission that waits for it

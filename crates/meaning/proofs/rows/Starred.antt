@@ -51,8 +51,9 @@ ample = record { inCells = 1000; outCells = 1000; recordBytes = 1000; frames = 2
 abbrev pub cells : ℕ → ℕ → Room
 cells inn out = record { inCells = inn; outCells = out; recordBytes = 1000; frames = 256 }
 
+-- steps enough for every row
 abbrev pub most : ℕ
-most = 4294967295
+most = 1000
 
 abbrev pub result : ℕ → ℕ → ℕ → Bytes → Bytes → Result
 result answer function steps text emissions =
