@@ -13,3 +13,4 @@ pub mod Classes
 pub mod Entries
 pub mod Leaving
 pub mod Tape
+pub mod Words

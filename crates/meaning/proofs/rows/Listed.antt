@@ -7,7 +7,7 @@ use Rattle.meaning.specs.Choice.{Bytes, Name, every, sameBytes}
 use Rattle.meaning.specs.Classes.{digit, blank}
 use Rattle.meaning.specs.Tree.{character, symbol, Element, letter, part, Expression, end, thenCharacter, thenSymbol, thenPart, thenCall}
 use Rattle.meaning.specs.Grammar.{written}
-use Rattle.meaning.specs.Listing.{unquoted, patternText, conditionsText, expressionText, sentenceText, sentencesText, listing}
+use Rattle.meaning.specs.Listing.{unquoted, decimal, patternText, conditionsText, expressionText, sentenceText, sentencesText, listing}
 use Rattle.meaning.proofs.rows.Read.{bytes}
 use Rattle.meaning.proofs.rows.Tables.{x1, x2, tableZ, tableR, tableH, tableK, tableP, tableM}
 
@@ -46,6 +46,20 @@ codes :
     ≡ true
 unfolding hold
 codes = refl
+
+-- "shortest codes": no digit before the first that counts
+decimals :
+    hold
+    (lists (decimal 0) "0"
+    ∷ lists (decimal 9) "9"
+    ∷ lists (decimal 10) "10"
+    ∷ lists (decimal 99) "99"
+    ∷ lists (decimal 100) "100"
+    ∷ lists (decimal 255) "255"
+    ∷ [])
+    ≡ true
+unfolding hold
+decimals = refl
 
 -- ITEMS: parted by one blank, none before `,` `;` `:` `>`; neighbouring characters join
 

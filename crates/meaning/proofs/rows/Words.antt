@@ -1,0 +1,54 @@
+-- What any words are read as: every instruction by its number, with each register, length and class, and the numbers next to them that are none.
+use mathlib.Core.Path.{_≡_, refl}
+use mathlib.Core.Bool.{true, false}
+use mathlib.Core.List.{[], _∷_, map}
+use mathlib.Core.Option.{none, some}
+use Rattle.meaning.specs.Classes.{digit, upper, lower, alphabetic, blank}
+use Rattle.meaning.specs.Instructions.{fromStart, fromEnd, fromPlace, look, compare, predicate, unknownTest, store, unknownStore, null, whole, left, right, go, select, out, outCharacter, outValue, beginSequence, useSequence, call, tailCall, emission, unknownAction, exactly, ends, middle}
+use Rattle.meaning.specs.Translation.{span}
+use Rattle.meaning.specs.Packing.{word, testOf, storeOf, unpackActions, metricIn, countsWord, testsIn, storesIn, bodyIn}
+use Rattle.meaning.proofs.rows.Computing.{computing}
+
+looks : map testOf (word 0 0 0 0 ∷ word 1 0 5 97 ∷ word 1 1 5 97 ∷ word 1 2 5 255 ∷ word 1 3 5 97 ∷ word 4 0 5 97 ∷ []) ≡
+    unknownTest ∷ look (fromStart 5) 97 ∷ look (fromEnd 5) 97 ∷ look (fromPlace 5) 255 ∷ unknownTest ∷ unknownTest ∷ []
+looks = refl
+
+-- the registers of both cells stand in one byte
+compares : map testOf (word 2 0 5 6 ∷ word 2 6 5 6 ∷ word 2 9 5 6 ∷ word 2 3 5 6 ∷ word 2 12 5 6 ∷ []) ≡
+    compare (fromStart 5) (fromStart 6) ∷ compare (fromPlace 5) (fromEnd 6) ∷ compare (fromEnd 5) (fromPlace 6) ∷ unknownTest ∷ unknownTest ∷ []
+compares = refl
+
+-- a truth value is 1 for 'T', and anything else for 'F'
+predicates : map testOf (word 3 4 5 0 ∷ word 3 1 5 1 ∷ word 3 6 5 2 ∷ word 3 8 5 3 ∷ word 3 0 5 4 ∷ word 3 0 5 5 ∷ word 3 3 5 0 ∷ []) ≡
+    predicate (fromStart 5) digit true ∷ predicate (fromEnd 5) upper false ∷ predicate (fromPlace 5) lower true
+    ∷ predicate (fromStart 5) alphabetic false ∷ predicate (fromStart 5) blank false ∷ unknownTest ∷ unknownTest ∷ []
+predicates = refl
+
+stores : map storeOf (word 4 0 5 0 ∷ word 4 1 5 0 ∷ word 4 2 5 0 ∷ word 4 3 5 0 ∷ word 3 0 5 0 ∷ word 5 0 5 0 ∷ []) ≡
+    store (fromStart 5) ∷ store (fromEnd 5) ∷ store (fromPlace 5) ∷ unknownStore ∷ unknownStore ∷ unknownStore ∷ []
+stores = refl
+
+-- bytes of a word that an instruction doesn't use are not looked at; a called function's number stands in three
+actions :
+    unpackActions 0
+    (word 5 0 8 9 ∷ word 5 1 8 9 ∷ word 6 2 8 9 ∷ word 6 3 8 9 ∷ word 5 4 8 9 ∷
+    word 7 1 1 1 ∷ word 8 97 1 1 ∷ word 9 15 1 1 ∷ word 10 1 1 1 ∷ word 11 1 1 1 ∷ word 12 3 2 1 ∷ word 13 1 0 0 ∷
+    word 14 2 1 1 ∷ 65 ∷ 255 ∷ word 14 1 0 0 ∷ 256 ∷ word 4 0 0 0 ∷ word 16 0 0 0 ∷ word 15 1 1 1 ∷ 7 ∷ [])
+    ≡ go (span null 8 9) ∷ go (span whole 8 9) ∷ select (span left 8 9) ∷ select (span right 8 9) ∷ unknownAction
+    ∷ out ∷ outCharacter 97 ∷ outValue 15 ∷ beginSequence ∷ useSequence ∷ call 66051 ∷ tailCall 1
+    ∷ emission (65 ∷ 255 ∷ []) ∷ unknownAction ∷ unknownAction ∷ unknownAction ∷ []
+unfolding computing
+actions = refl
+
+-- words that run out are no instruction; a name's words may be the last
+ends-without : map (unpackActions 0) ([] ∷ (7 ∷ []) ∷ (word 14 1 0 0 ∷ 65 ∷ []) ∷ (word 14 1 0 0 ∷ []) ∷ []) ≡
+    (unknownAction ∷ []) ∷ (out ∷ unknownAction ∷ []) ∷ (emission (65 ∷ []) ∷ unknownAction ∷ []) ∷ (unknownAction ∷ unknownAction ∷ []) ∷ []
+unfolding computing
+ends-without = refl
+
+metrics : map metricIn (word 15 1 2 3 ∷ word 16 1 2 3 ∷ word 17 1 2 3 ∷ word 18 1 2 3 ∷ word 19 1 2 3 ∷ []) ≡
+    none ∷ some (exactly 1) ∷ some (ends 1 2) ∷ some (middle 1 2 3) ∷ none ∷ []
+metrics = refl
+
+counts : map (λ v. testsIn v ∷ storesIn v ∷ bodyIn v ∷ []) (countsWord 255 16 1000 ∷ countsWord 0 0 0 ∷ []) ≡ (255 ∷ 16 ∷ 1000 ∷ []) ∷ (0 ∷ 0 ∷ 0 ∷ []) ∷ []
+counts = refl
