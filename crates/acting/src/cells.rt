@@ -115,7 +115,7 @@ pub fn put(output: &mut [u8], r: OutCell, byte: u8)
 // FROM OUT TO IN
 
 // The byte that stands so many cells before r moved to as many before p.
-pub fn move_byte(input: &mut [u8], p: InCell, output: &[u8], r: OutCell, back: usize)
+pub fn move_before(input: &mut [u8], p: InCell, output: &[u8], r: OutCell, back: usize)
     requires { ⌜ 0 < back ⌝ }
     requires { ⌜ back ≤ p .0 ⌝ }
     requires { ⌜ p .0 ≤ length (now input) ⌝ }
@@ -126,4 +126,15 @@ pub fn move_byte(input: &mut [u8], p: InCell, output: &[u8], r: OutCell, back: u
     let to = p.0 - back;
     let from = r.0 - back;
     input[to] = output[from];
+}
+
+// The byte that stands so many cells after one of out moved to as many after one of in.
+pub fn move_after(input: &mut [u8], to: InCell, output: &[u8], from: OutCell, on: usize)
+    requires { ⌜ to .0 + on < length (now input) ⌝ }
+    requires { ⌜ from .0 + on < length (now output) ⌝ }
+    ensures { λ _. ⌜ now (input .exit) ≡ set (now (input .entry)) (to .0 + on) (getD (now (output .entry)) (from .0 + on) 0) ⌝ }
+{
+    let cell = to.0 + on;
+    let byte = from.0 + on;
+    input[cell] = output[byte];
 }

@@ -1,5 +1,5 @@
 // The emission: a whole line of the journal, or nothing of it.
-ghost use Prim.Native.Nat.{ℕ, _+_, _≤_};
+ghost use Prim.Native.Nat.{ℕ, _+_, _≤_, _<_, _^_};
 ghost use mathlib.Core.Path.{_≡_};
 ghost use mathlib.Core.Bool.{true};
 ghost use mathlib.Core.List.{List};
@@ -73,6 +73,14 @@ fn write_line(
     journal[end] = 10;
 }
 
+// The place so many words on.
+fn place_after(at: CodePlace, count: usize) -> CodePlace
+    requires { ⌜ at .0 + count < 2 ^ 64 ⌝ }
+    ensures { λ r. ⌜ r ≡ record { 0 = at .0 + count } ⌝ }
+{
+    CodePlace(at.0 + count)
+}
+
 pub fn emit(g: Registers, code: &[u32], size: usize, input: &[u8], journal: &mut [u8]) -> Next
     requires { ⌜ g .at .0 ≤ length (now code) ⌝ }
     requires { ⌜ g .p .0 ≤ g .q .0 ⌝ }
@@ -92,9 +100,10 @@ pub fn emit(g: Registers, code: &[u32], size: usize, input: &[u8], journal: &mut
     }
     write_line(journal, JournalByte(emitted), code, g.at, size, argument);
     let to = g.q;
+    let next = place_after(g.at, size);
     Next::Onward(Registers {
         p: to,
-        at: CodePlace(g.at.0 + size),
+        at: next,
         emitted: emitted + line,
         ..g
     })

@@ -18,7 +18,8 @@ use crate::cells::cells_below;
 use crate::cells::cells_from;
 use crate::cells::earlier;
 use crate::cells::less;
-use crate::cells::move_byte;
+use crate::cells::move_after;
+use crate::cells::move_before;
 use crate::cells::out_after;
 use crate::cells::out_before;
 use crate::cells::part;
@@ -252,10 +253,10 @@ fn move_four(input: &mut [u8], p: InCell, output: &[u8], first: OutCell, r: OutC
     if bytes_between(first, r) < 4 {
         return 0;
     }
-    move_byte(input, p, output, r, 1);
-    move_byte(input, p, output, r, 2);
-    move_byte(input, p, output, r, 3);
-    move_byte(input, p, output, r, 4);
+    move_before(input, p, output, r, 1);
+    move_before(input, p, output, r, 2);
+    move_before(input, p, output, r, 3);
+    move_before(input, p, output, r, 4);
     4
 }
 
@@ -266,8 +267,8 @@ fn move_two(input: &mut [u8], p: InCell, output: &[u8], first: OutCell, r: OutCe
     if bytes_between(first, r) < 2 {
         return 0;
     }
-    move_byte(input, p, output, r, 1);
-    move_byte(input, p, output, r, 2);
+    move_before(input, p, output, r, 1);
+    move_before(input, p, output, r, 2);
     2
 }
 
@@ -278,7 +279,7 @@ fn move_one(input: &mut [u8], p: InCell, output: &[u8], first: OutCell, r: OutCe
     if bytes_between(first, r) < 1 {
         return 0;
     }
-    move_byte(input, p, output, r, 1);
+    move_before(input, p, output, r, 1);
     1
 }
 
@@ -309,12 +310,13 @@ fn move_down(input: &mut [u8], p: InCell, output: &[u8], first: OutCell, r: OutC
     if count < FEW {
         return move_few(input, p, output, first, r);
     }
-    let mut back = 0;
-    while back < count {
-        back += 1;
-        move_byte(input, p, output, r, back);
+    let to = cell_before(p, count);
+    let mut left = count;
+    while 0 < left {
+        left -= 1;
+        move_after(input, to, output, first, left);
     }
-    cell_before(p, count)
+    to
 }
 
 // UseSeq: in[p-(r-r0)..p-1] := out[r0..r-1], with r0 kept by the latest BeginSeq

@@ -83,3 +83,12 @@ module _ (before out : Bytes) (p r : ℕ) where
 pub few-left : {few fewer p first r n : ℕ} {before out now : Bytes} → FewToMove few before p out first r → MovedFew fewer before p out first r n now →
     length now ≡ length before → FewToMove fewer now (p - n) out first (r - n)
 few-left b m e = record { order = omega arith; there = omega arith; room = omega arith; inside = omega arith; left = omega arith }
+
+-- one byte more moved, where so many of all are left
+pub moved-next : (before out : Bytes) (to first : ℕ) {all left : ℕ} {now : Bytes} → now ≡ moved (all - left) before (to + all) out (first + all) → 0 < left → left ≤ all →
+    set now (to + (left - 1)) (getD out (first + (left - 1)) 0) ≡ moved (all - (left - 1)) before (to + all) out (first + all)
+moved-next before out to first {all} {left} e h l =
+    let next : all - (left - 1) ≡ suc (all - left) = omega arith in
+    let cell : to + all - suc (all - left) ≡ to + (left - 1) = omega arith in
+    let byte : first + all - suc (all - left) ≡ first + (left - 1) = omega arith in
+    rw (next, cell, byte, e)

@@ -1,5 +1,6 @@
 -- Outcomes of rewriting carried over to the machine without end, and what its instructions do there to stacks of a known form.
 use Prim.Native.Nat.{ℕ, suc, _+_, _-_, _≤_, _<_}
+use native.Mathlib.Nat.{zero-add}
 use native.Mathlib.Omega.{arith}
 use mathlib.Core.Path.{_≡_, refl}
 use mathlib.Core.Bool.{true}
@@ -106,9 +107,7 @@ module _ (code : Code) (enter : Applying) (frame : ℕ) (more : List Action) (l 
       doing code enter frame (useSequence ∷ more) (withOpened (length o ∷ rs) l) (stacks i 0 (o ++ argument)) t ≡
       doing code enter frame more (withOpened rs l) (stacks (argument ++ i) (length argument) o) t
   unfolding process
-  use-law rs i o argument =
-      let e : 0 + length argument ≡ length argument = omega arith in
-      rw (take-append-seam, drop-append-seam, e)
+  use-law rs i o argument = simp (take-append-seam, drop-append-seam, zero-add)
 
   pub emission-law : (name argument below o : Bytes) →
       doing code enter frame (emission name ∷ more) l (stacks (argument ++ below) (length argument) o) t ≡

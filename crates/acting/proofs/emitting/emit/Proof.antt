@@ -56,6 +56,9 @@ write-line-requires c κs =
     let else = at-if2 .before .before in
     (is-named else, omega (arith, at-if2 .if2 .left, entry else .pre))
 
+place-after-requires : tie.Need-place-after-requires
+place-after-requires c κs = omega (arith, there (c .before .before .before .before .before .before .before))
+
 returns-3 : tie.Need-returns-3
 returns-3 c =
     let at-write-line = c .before .before .before .before .before .before in
@@ -64,10 +67,11 @@ returns-3 c =
     let else = at-part .before in
     let a = entry else .args in
     let p = entry else .pre in
-    λ output values frames. rw (at-write-line .write-line .ensures, selected at-part, at-part .part .ensures)
+    λ output values frames. rw (c .before .before .place-after .ensures, at-write-line .write-line .ensures, selected at-part, at-part .part .ensures)
     (emission-written (a .g) (memory (a .input .now) output (a .journal .now) frames values) (a .code .now) (a .size) (p .1 .0) (p .1 .1 .0) (p .1 .1 .1)
     (is-named else) (rw (selected at-part) at (at-if2 .if2 .left)))
 
 pub emit-spec : {M : Type 1} → statement M
-emit-spec = tie.close (tie.spec (λ c κs. search needs) returns (λ c κs. search needs) add-line add-line-2 (λ c. search needs) returns-2 write-line-requires
-    (λ c. search needs) (λ c. search needs) (λ c. search needs) returns-3)
+emit-spec =
+    tie.close (tie.spec (λ c κs. search needs) returns (λ c κs. search needs) add-line add-line-2 (λ c. search needs) returns-2 write-line-requires
+    place-after-requires (λ c. search needs) (λ c. search needs) returns-3)

@@ -5,22 +5,22 @@ use mathlib.Core.Path.{_∙_}
 use Rattle.acting.proofs.moving.move_two.Statement.{statement}
 use Rattle.acting.proofs.moving.move_two.Tie as tie
 
-move-byte-requires : tie.Need-move-byte-requires
-move-byte-requires c κs = omega (arith, c .before .before .before .before .before .pre, c .before .before .bytes-between .ensures, c .before .if1 .left)
+move-before-requires : tie.Need-move-before-requires
+move-before-requires c κs = omega (arith, c .before .before .before .before .before .pre, c .before .before .bytes-between .ensures, c .before .if1 .left)
 
-move-byte-requires-2 : tie.Need-move-byte-requires-2
-move-byte-requires-2 c κs = omega (arith, c .before .before .before .before .before .before .before .before .before .pre, c .before .before .before .before .before .before .bytes-between .ensures, c .before .before .before .before .before .if1 .left, c .before .before .before .move-byte .kept .0)
+move-before-requires-2 : tie.Need-move-before-requires-2
+move-before-requires-2 c κs = omega (arith, c .before .before .before .before .before .before .before .before .before .pre, c .before .before .before .before .before .before .bytes-between .ensures, c .before .before .before .before .before .if1 .left, c .before .before .before .move-before .kept .0)
 
 same-length : tie.Need-same-length
-same-length c = c .before .before .move-byte2 .kept .0 ∙ c .before .before .before .before .before .before .move-byte .kept .0
+same-length c = c .before .before .move-before2 .kept .0 ∙ c .before .before .before .before .before .before .move-before .kept .0
 
 returns-2 : tie.Need-returns-2
 returns-2 c =
     record {
-      cells = rw (c .before .before .move-byte2 .ensures, c .before .before .before .before .before .before .move-byte .ensures);
+      cells = rw (c .before .before .move-before2 .ensures, c .before .before .before .before .before .before .move-before .ensures);
       within = omega (arith, c .before .before .before .before .before .before .before .before .before .before .before .before .pre, c .before .before .before .before .before .before .before .before .before .bytes-between .ensures, c .before .before .before .before .before .before .before .before .if1 .left);
       left = omega (arith, c .before .before .before .before .before .before .before .before .before .before .before .before .pre);
     }
 
 pub move-two-spec : {M : Type 1} → statement M
-move-two-spec = tie.close (tie.spec (λ c κs. search needs) (λ c. search needs) move-byte-requires move-byte-requires-2 same-length returns-2)
+move-two-spec = tie.close (tie.spec (λ c κs. search needs) (λ c. search needs) move-before-requires move-before-requires-2 same-length returns-2)
