@@ -1,7 +1,8 @@
 -- Worked rows of what is printed.
 use mathlib.Core.Path.{_≡_, refl}
-use mathlib.Core.List.{[], _∷_}
-use Rattle.printing.specs.Texts.{numeralOf, numeral, refusalText, resultText}
+use mathlib.Core.Bool.{true, false}
+use mathlib.Core.List.{[], _∷_, map}
+use Rattle.printing.specs.Texts.{numeralOf, numeral, isRefusal, refusalText, resultText}
 
 pub numerals : (numeral 0 ≡ 48 ∷ []) × (numeral 10 ≡ 49 ∷ 48 ∷ []) × (numeral 100000 ≡ 49 ∷ 48 ∷ 48 ∷ 48 ∷ 48 ∷ 48 ∷ [])
 unfolding numeralOf
@@ -23,3 +24,7 @@ pub emissions-row : resultText (record { answer = 11; function = 2; steps = 3; t
     49 ∷ 49 ∷ 32 ∷ 50 ∷ 32 ∷ 51 ∷ 10 ∷ 69 ∷ 32 ∷ 10 ∷ 10 ∷ []
 unfolding numeralOf
 emissions-row = refl
+
+-- 1 to 8 and 17 are answered without a run
+pub refusals : map isRefusal (0 ∷ 1 ∷ 8 ∷ 9 ∷ 16 ∷ 17 ∷ 18 ∷ []) ≡ false ∷ true ∷ true ∷ false ∷ false ∷ true ∷ false ∷ []
+refusals = refl

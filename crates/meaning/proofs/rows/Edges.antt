@@ -1,9 +1,11 @@
 -- Worked rows at the edges of 01: the allowance, the middle place, full stacks, a full record, the frames, and what comes before what.
 use Prim.Native.Nat.{ℕ}
 use mathlib.Core.Path.{refl}
+use mathlib.Core.Bool.{false}
 use mathlib.Core.List.{List, [], _∷_}
 use lib.ListN.{take}
 use Rattle.meaning.specs.Choice.{Bytes}
+use Rattle.meaning.specs.Classes.{digit}
 use Rattle.meaning.specs.Tree.{character, symbol, letter, part, end, thenCharacter, thenSymbol, thenPart, thenCall, Table}
 use Rattle.meaning.specs.Outcome.{Result}
 use Rattle.meaning.specs.Runs.{Room}
@@ -33,6 +35,16 @@ tableU =
 -- `W { = <Emit> }`
 abbrev tableW : Table
 tableW = function (87 ∷ []) (plain [] (thenCall 7 (69 ∷ 109 ∷ 105 ∷ 116 ∷ []) end end) ∷ []) ∷ []
+
+-- `N { s1, <IsDigit s1>: 'F' = s1 }`
+abbrev tableN : Table
+tableN =
+    function (78 ∷ [])
+    (record {
+      pattern = letter (symbol x1) ∷ [];
+      conditions = record { predicate = digit; variable = x1; expected = false } ∷ [];
+      expression = thenSymbol x1 end;
+    } ∷ []) ∷ []
 
 -- ROOMS AND ROWS
 
@@ -68,6 +80,10 @@ edges =
     -- it may touch the end template, and the start of the field
     same tableB abc most ample (result 0 0 1 (97 ∷ 124 ∷ []) []) ∷
     same tableB (98 ∷ 99 ∷ []) most ample (result 0 0 1 (124 ∷ []) []) ∷
+    -- CONDITIONS
+    -- what a condition with 'F' asks is that the byte is not of the class
+    same tableN (47 ∷ []) most ample (result 0 0 1 (47 ∷ []) []) ∷
+    same tableN (48 ∷ []) most ample (result 11 1 1 [] []) ∷
     -- FULL STACKS
     -- an empty part is no fault where out is full
     same tableX [] most (cells 0 1) (result 0 0 1 (120 ∷ []) []) ∷

@@ -4,9 +4,9 @@ use mathlib.Core.Bool.{true, false}
 use mathlib.Core.List.{[], _∷_, map}
 use mathlib.Core.Option.{none, some}
 use Rattle.meaning.specs.Classes.{digit, upper, lower, alphabetic, blank}
-use Rattle.meaning.specs.Instructions.{fromStart, fromEnd, fromPlace, look, compare, predicate, unknownTest, store, unknownStore, null, whole, left, right, go, select, out, outCharacter, outValue, beginSequence, useSequence, call, tailCall, emission, unknownAction, exactly, ends, middle}
+use Rattle.meaning.specs.Instructions.{fromStart, fromEnd, fromPlace, look, compare, predicate, unknownTest, store, unknownStore, null, whole, left, right, go, select, out, outCharacter, outValue, beginSequence, useSequence, call, tailCall, emission, unknownAction, exactly, ends, middle, noMore, sentence, unknownSentence}
 use Rattle.meaning.specs.Translation.{span}
-use Rattle.meaning.specs.Packing.{word, testOf, storeOf, unpackActions, metricIn, countsWord, testsIn, storesIn, bodyIn}
+use Rattle.meaning.specs.Packing.{word, testOf, storeOf, unpackActions, metricIn, countsWord, testsIn, storesIn, bodyIn, unpackSentences}
 use Rattle.meaning.proofs.rows.Computing.{computing}
 
 looks : map testOf (word 0 0 0 0 ∷ word 1 0 5 97 ∷ word 1 1 5 97 ∷ word 1 2 5 255 ∷ word 1 3 5 97 ∷ word 4 0 5 97 ∷ []) ≡
@@ -52,3 +52,13 @@ metrics = refl
 
 counts : map (λ v. testsIn v ∷ storesIn v ∷ bodyIn v ∷ []) (countsWord 255 16 1000 ∷ countsWord 0 0 0 ∷ []) ≡ (255 ∷ 16 ∷ 1000 ∷ []) ∷ (0 ∷ 0 ∷ 0 ∷ []) ∷ []
 counts = refl
+
+-- a function ends with 19; where its words run out before, or are passed over, there is no sentence
+sentences :
+    map (unpackSentences 0)
+    ((19 ∷ []) ∷ [] ∷ (word 16 1 0 0 ∷ []) ∷ (word 16 1 0 0 ∷ countsWord 0 0 1 ∷ 15 ∷ []) ∷ (word 16 1 0 0 ∷ countsWord 0 0 2 ∷ 15 ∷ 19 ∷ []) ∷
+    (word 16 1 0 0 ∷ countsWord 0 0 1 ∷ 15 ∷ 19 ∷ []) ∷ [])
+    ≡ noMore ∷ unknownSentence ∷ unknownSentence ∷ sentence (exactly 1) [] [] [] unknownSentence ∷ sentence (exactly 1) [] [] [] unknownSentence
+    ∷ sentence (exactly 1) [] [] [] noMore ∷ []
+unfolding computing
+sentences = refl
