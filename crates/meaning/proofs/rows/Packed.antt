@@ -1,10 +1,10 @@
--- Packed code, word by word: the example of docs/CODE.md, and three more tables with the instructions that it lacks.
+-- Packed code, word by word: the example of docs/CODE.md, and four more tables with the instructions that it lacks.
 use mathlib.Core.Path.{_≡_, refl}
 use mathlib.Core.List.{[], _∷_, map}
 use Rattle.meaning.specs.Tree.{Table}
 use Rattle.meaning.specs.Translation.{translate}
 use Rattle.meaning.specs.Packing.{Words, pack}
-use Rattle.meaning.proofs.rows.Tables.{tableR, tableH, tableK, tableM}
+use Rattle.meaning.proofs.rows.Tables.{tableZ, tableR, tableH, tableK, tableM}
 use Rattle.meaning.proofs.rows.Computing.{computing}
 
 -- R `G { s1 e2 = <G e2> s1; = }`
@@ -13,6 +13,14 @@ wordsR =
     1 ∷ 2 ∷
     273 ∷ 721152 ∷ 4 ∷ 10 ∷ 65541 ∷ 16777478 ∷ 7 ∷ 11 ∷ 6 ∷ 268 ∷ 9 ∷ 5 ∷ 15 ∷
     16 ∷ 131072 ∷ 261 ∷ 15 ∷
+    19 ∷ []
+
+-- Z `F { '0' e1 = <F e1>; e1 = e1 }`, with a tail call
+abbrev wordsZ : Words
+wordsZ =
+    1 ∷ 2 ∷
+    273 ∷ 655361 ∷ 805306369 ∷ 10 ∷ 65541 ∷ 16777478 ∷ 7 ∷ 5 ∷ 11 ∷ 6 ∷ 269 ∷ 15 ∷
+    17 ∷ 327680 ∷ 5 ∷ 262 ∷ 7 ∷ 5 ∷ 15 ∷
     19 ∷ []
 
 -- `H { e1 s2 e3, <IsDigit s2>: 'T' = s2 }`
@@ -32,6 +40,6 @@ wordsM =
     10 ∷ 30728 ∷ 11 ∷ 6 ∷ 1294 ∷ 69 ∷ 109 ∷ 105 ∷ 116 ∷ 66 ∷ 5 ∷ 15 ∷ 19 ∷
     17 ∷ 983040 ∷ 10 ∷ 5 ∷ 262 ∷ 7 ∷ 11 ∷ 6 ∷ 1294 ∷ 69 ∷ 109 ∷ 105 ∷ 116 ∷ 67 ∷ 30984 ∷ 5 ∷ 15 ∷ 19 ∷ []
 
-pub packed : map (λ (t : Table). pack (translate t)) (tableR ∷ tableH ∷ tableK ∷ tableM ∷ []) ≡ wordsR ∷ wordsH ∷ wordsK ∷ wordsM ∷ []
+pub packed : map (λ (t : Table). pack (translate t)) (tableR ∷ tableZ ∷ tableH ∷ tableK ∷ tableM ∷ []) ≡ wordsR ∷ wordsZ ∷ wordsH ∷ wordsK ∷ wordsM ∷ []
 unfolding computing
 packed = refl
