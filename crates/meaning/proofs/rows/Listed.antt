@@ -55,6 +55,9 @@ decimals :
     ∷ lists (decimal 10) "10"
     ∷ lists (decimal 99) "99"
     ∷ lists (decimal 100) "100"
+    ∷ lists (decimal 109) "109"
+    ∷ lists (decimal 199) "199"
+    ∷ lists (decimal 200) "200"
     ∷ lists (decimal 255) "255"
     ∷ [])
     ≡ true
