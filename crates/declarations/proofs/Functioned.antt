@@ -1,7 +1,7 @@
 -- The readers of a function and of a table's functions.
 use Prim.Native.Nat.{ℕ, zero, suc, _+_, _-_, _*_, _≤_, _<_}
 use mathlib.Core.Path.{_≡_, refl, sym, _∙_, ap}
-use mathlib.Core.Bool.{Bool, true, false}
+use mathlib.Core.Bool.{Bool, true, false, false≢true}
 use mathlib.Core.List.{List, [], _∷_, _++_, append-assoc, append-nil, map-append}
 use native.Mathlib.Omega.{arith}
 use lib.Dec.{T, ltb, eqb}
@@ -31,13 +31,16 @@ use Rattle.bookkeeping.specs.declared.progress.Fault.{Fault}
 use Rattle.bookkeeping.specs.declared.progress.Progress.{Progress}
 use Rattle.bookkeeping.specs.declared.progress.Parsed.{Parsed as CodeParsed}
 use Rattle.bookkeeping.specs.declared.progress.Parsed.the-variants.{Stopped, Done}
-use Rattle.bookkeeping.specs.Tables.{Inside, nameIn, inText, tableNames, Entries, declaredFaultIn}
+use Rattle.bookkeeping.specs.Tables.{Inside, nameIn, inText, tableNames, declaredFaultIn}
 use Rattle.bookkeeping.specs.Answered.{numberOf, Agrees}
 use Rattle.bookkeeping.specs.Written.{Wrote, isQuiet, Ready, Went}
 use Rattle.bookkeeping.specs.Tokened.{signIs, Taken}
+use Rattle.declarations.specs.declared.functions.Tally.{Tally}
+use Rattle.declarations.specs.declared.functions.Stage.{Stage}
+use Rattle.declarations.specs.declared.functions.Stage.the-variants.{Onward, Over}
 use Rattle.declarations.specs.Expressions.{stoppedWith}
-use Rattle.declarations.specs.Sentences.{Each, SentencesRead}
-use Rattle.declarations.specs.Functions.{FunctionStands, fromBrace, declared, Declarable, BodyRead, Opening, nameFault, DeclaredRead, SpareTo, isEnd, FunctionsRead}
+use Rattle.declarations.specs.Sentences.{SentencesRead}
+use Rattle.declarations.specs.Functions.{FunctionStands, fromBrace, declared, Declarable, BodyRead, Opening, nameFault, DeclaredRead, SpareTo, isEnd, functionsOf, FunctionsRead, Functioned, StageIs, Underway, firstStage, readSoFar, Declares}
 use Rattle.bookkeeping.proofs.Lengths.{within}
 use Rattle.bookkeeping.proofs.Tabling.{Grown, grown, entry-name, entry-inside, none-yet, no-names}
 use Rattle.bookkeeping.proofs.Going.{check-wrong, stops, reads, ReadAt, has-read, pass-follow, follow-alone, makes, went-none, went-from, went-on, went-then, ready-after, name-went, stops-too, name-quiet}
@@ -229,25 +232,13 @@ tape-none : Tape.tape [] ≡ []
 unfolding Tape.tape
 tape-none = refl
 
--- THE LOOP
-
--- the functions from the start are those from here after these
-pub record Functioned (text start tape table : List ℕ) (at words count left : ℕ) : Type 0 where
-  pub before : Table
-  pub same : Reading.functions 64 512 [] (stream text Tokens.outside 0) ≡ Reading.functions (64 - count) left before (stream text Tokens.outside at)
-  pub went : Went text 0 0 start at words tape (Tape.tape before)
-  pub entries : Entries text table 0 count
-  pub names : namesOf before ≡ tableNames text table 0 count
-  pub counted : count ≡ length before
-  pub long : length table ≡ 64
-  pub stand : Each (FunctionStands text) before
-  pub short : length text ≤ 32768
+-- ONE AFTER ANOTHER
 
 abbrev FunctionsAgree : Bytes → List ℕ → List ℕ → List ℕ → CodeParsed → Type 0
 FunctionsAgree text start tape names r =
-    Agrees (FunctionsRead text start tape names) (Reading.functions 64 512 [] (stream text Tokens.outside 0)) r
+    Agrees (FunctionsRead text start tape names) (functionsOf text) r
 
-pub functions-start : (text start names : List ℕ) → length text ≤ 32768 → length names ≡ 64 → Functioned text start start names 0 0 0 512
+pub functions-start : (text start names : List ℕ) → length text ≤ 32768 → length names ≡ 64 → StageIs text start start names 0 firstStage
 functions-start text start names h l =
     record {
       before = [];
@@ -285,7 +276,7 @@ module _ {text start tape names : List ℕ} {at words count left : ℕ} {t : Cod
   few : count ≤ 64
   few = omega (arith, k .entries .inside, k .long)
 
-  pub functions-done : isEnd (t .token) ≡ true → FunctionsAgree text start tape names (Done (record { at = at; words = words; count = count; parts = 0 }))
+  functions-done : isEnd (t .token) ≡ true → FunctionsAgree text start tape names (Done (record { at = at; words = words; count = count; parts = 0 }))
   functions-done e =
       reads (k .before) following
       (k .same ∙ rw (c .unrolled) (functions-end left (k .before) (placedOf text t) following (64 - count) (end-same text (t .place) (t .past) (t .token) ∙ e)))
@@ -306,7 +297,7 @@ pub record Another {text start tape names : List ℕ} {at words count left : ℕ
   pub is : isEnd (t .token) ≡ false
 
 module _ {text start tape names : List ℕ} {at words count left : ℕ} {k : Functioned text start tape names at words count left} {t : Code.Placed} (n : Another k t) where
-  pub opening : Opening text names count words t
+  opening : Opening text names count words t
   opening =
       record {
         comes = comes-again (n .comes);
@@ -318,7 +309,7 @@ module _ {text start tape names : List ℕ} {at words count left : ℕ} {k : Fun
   not-end : Reading.isTextEnd (tokenOf text (t .token) (t .place) (t .past)) ≡ false
   not-end = end-same text (t .place) (t .past) (t .token) ∙ n .is
 
-  pub function-stops : {tape′ names′ : List ℕ} {fault : Fault} {r : CodeParsed} → FunctionAgrees text names count left words t tape tape′ names′ r → r ≡ Stopped fault
+  function-stops : {tape′ names′ : List ℕ} {fault : Fault} {r : CodeParsed} → FunctionAgrees text names count left words t tape tape′ names′ r → r ≡ Stopped fault
       → FunctionsAgree text start tape′ names′ (Stopped fault)
   function-stops a q =
       let c = n .comes in
@@ -340,7 +331,7 @@ pub record OneMore (text start tape₁ names₁ : List ℕ) (count : ℕ) (p : P
   pub next : Another others token
   pub read : ReadAt (DeclaredRead text left (token .place) words count tape tape₁ names names₁) (nextFunction others (next .comes)) p
 
-pub one-more : {text start tape names tape₁ names₁ : List ℕ} {at words count left : ℕ} {k : Functioned text start tape names at words count left} {t : Code.Placed}
+one-more : {text start tape names tape₁ names₁ : List ℕ} {at words count left : ℕ} {k : Functioned text start tape names at words count left} {t : Code.Placed}
     {p : Progress} {r : CodeParsed} → Another k t
     → FunctionAgrees text names count left words t tape tape₁ names₁ r
     → r ≡ Done p
@@ -360,10 +351,10 @@ one-more n a q =
 
 module _ {text start tape₁ names₁ : List ℕ} {count : ℕ} {p : Progress} (o : OneMore text start tape₁ names₁ count p) where
   -- it was one of at most 64
-  pub room-before : count < 64
+  room-before : count < 64
   room-before = omega (arith, o .read .how .entries .inside, o .read .how .long)
 
-  at-next : Reading.functions 64 512 [] (stream text Tokens.outside 0)
+  at-next : functionsOf text
       ≡ Reading.functions (64 - (count + 1)) (p .count) (o .others .before ++ o .read .value ∷ []) (Reading.passSpare (stream text Tokens.outside (p .at)))
   at-next =
       let c = o .next .comes in
@@ -378,7 +369,7 @@ module _ {text start tape₁ names₁ : List ℕ} {count : ℕ} {p : Progress} (
       (functions-next (o .left) (o .others .before) t (following (o .others) c) (64 - count) (64 - (count + 1)) n (not-end (o .next))
       ∙ rw (q, o .read .how .read .tokens, l))
 
-  pub function-goes : {at′ : ℕ} → SpareTo text (p .at) at′ → Functioned text start tape₁ names₁ at′ (p .words) (count + 1) (p .count)
+  function-goes : {at′ : ℕ} → SpareTo text (p .at) at′ → Functioned text start tape₁ names₁ at′ (p .words) (count + 1) (p .count)
   function-goes {at′} s =
       record {
         before = o .others .before ++ o .read .value ∷ [];
@@ -393,3 +384,64 @@ module _ {text start tape₁ names₁ : List ℕ} {count : ℕ} {p : Progress} (
         stand = each-more (FunctionStands text) (o .others .before) (o .read .value) (o .others .stand) (o .read .how .read .stands);
         short = o .others .short;
       }
+
+-- STAGES
+
+-- what is over stays so
+pub stage-over : {text tape names : List ℕ} {at : ℕ} {stage : Stage} {p : CodeParsed} → stage ≡ Over p → Declares text tape names at stage tape names at stage
+stage-over e = record { keeps = λ start s. s; falls = λ o. absurd (false≢true (rw e at o)) }
+
+pub place-inside : {text tape names : List ℕ} {at : ℕ} {stage : Stage} {n : Tally} → Underway text tape names at stage → stage ≡ Onward n → at ≤ length text
+place-inside u e = (rw e at (u .is)) .went .inside
+
+-- more may come, and a token does
+pub record StageAt (text tape names : List ℕ) (at : ℕ) (stage : Stage) (n : Tally) (t : Code.Placed) : Type 0 where
+  pub underway : Underway text tape names at stage
+  pub onward : stage ≡ Onward n
+  pub comes : Comes text Tokens.outside at t
+
+module _ {text tape names : List ℕ} {at : ℕ} {stage : Stage} {n : Tally} {t : Code.Placed} (k : StageAt text tape names at stage n t) where
+  functioned : {start : List ℕ} → StageIs text start tape names at stage → Functioned text start tape names at (n .words) (n .functions) (n .left)
+  functioned s = rw (k .onward) at s
+
+  abbrev so-far : Functioned text (k .underway .start) tape names at (n .words) (n .functions) (n .left)
+  so-far = functioned (k .underway .is)
+
+  abbrev Changed : List ℕ → List ℕ → ℕ → Stage → Type 0
+  Changed tape′ names′ at′ stage′ = Declares text tape names at stage tape′ names′ at′ stage′
+
+  -- the reading is over
+  ends-with : {tape′ names′ : List ℕ} {p : CodeParsed}
+      → ((start : List ℕ) → Functioned text start tape names at (n .words) (n .functions) (n .left) → FunctionsAgree text start tape′ names′ p)
+      → Changed tape′ names′ at (Over p)
+  ends-with a =
+      record { keeps = λ start s. a start (functioned s); falls = λ o. rw (k .onward) (omega (arith, few so-far (k .comes))) }
+
+  pub stage-ends : isEnd (t .token) ≡ true → Changed tape names at (Over (readSoFar n at))
+  stage-ends e = ends-with (λ start f. functions-done f (k .comes) e)
+
+  module _ (e : isEnd (t .token) ≡ false) where
+    another : {start : List ℕ} (f : Functioned text start tape names at (n .words) (n .functions) (n .left)) → Another f t
+    another f = record { comes = k .comes; is = e }
+
+    pub stage-opening : Opening text names (n .functions) (n .words) t
+    stage-opening = opening (another so-far)
+
+    module _ {tape′ names′ : List ℕ} {r : CodeParsed} (a : FunctionAgrees text names (n .functions) (n .left) (n .words) t tape tape′ names′ r) where
+      pub stage-stops : {fault : Fault} → r ≡ Stopped fault → Changed tape′ names′ at (Over (Stopped fault))
+      stage-stops q = ends-with (λ start f. function-stops (another f) a q)
+
+      module _ {p : Progress} (q : r ≡ Done p) where
+        more : {start : List ℕ} → Functioned text start tape names at (n .words) (n .functions) (n .left) → OneMore text start tape′ names′ (n .functions) p
+        more f = one-more (another f) a q
+
+        pub stage-inside : p .at ≤ length text
+        stage-inside = more so-far .read .how .read .went .inside
+
+        pub stage-few : n .functions < 64
+        stage-few = room-before (more so-far)
+
+        pub stage-goes : {at′ : ℕ} → SpareTo text (p .at) at′
+            → Changed tape′ names′ at′ (Onward (record { words = p .words; functions = n .functions + 1; left = p .count }))
+        stage-goes s =
+            record { keeps = λ start f. function-goes (more (functioned f)) s; falls = λ o. rw (k .onward) (omega (arith, stage-few)) }

@@ -30,7 +30,7 @@ use Rattle.bookkeeping.specs.Answered.{Agrees}
 use Rattle.bookkeeping.specs.Written.{Ready}
 use Rattle.bookkeeping.specs.Tokened.{signIs, unlessWord, Taken}
 use Rattle.bookkeeping.specs.Items.{Variables, symbolNames, partNames}
-use Rattle.patterns.specs.Patterns.{PatternRead}
+use Rattle.patterns.specs.Patterns.{PatternRead, PatternAgrees}
 use Rattle.conditions.specs.Conditions.{ConditionsRead}
 use Rattle.declarations.specs.Expressions.{Going, stoppedWith}
 use Rattle.declarations.specs.Sentences.{fromEquals, EqualsRead, SentenceRead, beginsSentence, sentenceOf, firstSentence, FirstRead, Follows}
@@ -177,7 +177,7 @@ pub record AfterConditions {text : Bytes} {from words : ℕ} {tape table tape₁
   pub read : ReadAt (ConditionsRead text (p .at) (p .words) tape₁ tape₂) (conditionsAt text table p) c
 
 module _ {text : Bytes} {from words : ℕ} {tape table tape₁ : List ℕ} {r : CodeParsed}
-    (a : Agrees (PatternRead text from words tape table tape₁) (unlessWord (Reading.pattern [] (stream text Tokens.inside from))) r) where
+    (a : PatternAgrees text from words tape table tape₁ r) where
   pub pattern-stops : {fault : Fault} → r ≡ Stopped fault → SentenceAgrees text from words tape tape₁ (Stopped fault)
   pattern-stops e = stops-too a e (λ h. sentence-is _ ∙ rw h)
 

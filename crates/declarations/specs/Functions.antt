@@ -1,5 +1,5 @@
 -- The functions of a table while they are read.
-use Prim.Native.Nat.{ℕ, _+_, _-_, _≤_}
+use Prim.Native.Nat.{ℕ, _+_, _-_, _≤_, _<_}
 use mathlib.Core.Path.{_≡_}
 use mathlib.Core.Bool.{Bool, true, false}
 use mathlib.Core.List.{List, [], _∷_, _++_}
@@ -20,6 +20,12 @@ use Rattle.lexing.specs.declared.Token.{Token}
 use Rattle.lexing.specs.declared.Token.the-variants.{Name as NameToken, Symbol, Part, Word, Quoted, Sign, End, Malformed}
 use Rattle.lexing.specs.declared.Placed.{Placed}
 use Rattle.bookkeeping.specs.declared.progress.Progress.{Progress}
+use Rattle.bookkeeping.specs.declared.progress.Parsed.{Parsed as CodeParsed}
+use Rattle.bookkeeping.specs.declared.progress.Parsed.the-variants.{Done}
+use Rattle.bookkeeping.specs.Answered.{Agrees}
+use Rattle.declarations.specs.declared.functions.Tally.{Tally}
+use Rattle.declarations.specs.declared.functions.Stage.{Stage}
+use Rattle.declarations.specs.declared.functions.Stage.the-variants.{Onward, Over}
 use Rattle.bookkeeping.specs.Tables.{Inside, tableNames, Entries, declaredFaultIn}
 use Rattle.bookkeeping.specs.Written.{isQuiet, Ready, Went}
 use Rattle.declarations.specs.Sentences.{Each, SentenceStands}
@@ -92,6 +98,10 @@ isEnd (Sign byte) = false
 isEnd End = true
 isEnd Malformed = false
 
+-- what the definition reads of a text's functions
+abbrev pub functionsOf : Bytes → Parsed Table
+functionsOf text = Reading.functions 64 512 [] (stream text Tokens.outside 0)
+
 -- the functions of a text were read
 pub record FunctionsRead (text : Bytes) (tape tape′ table : List ℕ) (t : Table) (rest : List Tokens.Placed) (p : Progress) : Type 0 where
   pub went : Went text 0 0 tape (p .at) (p .words) tape′ (Tape.tape t)
@@ -99,3 +109,48 @@ pub record FunctionsRead (text : Bytes) (tape tape′ table : List ℕ) (t : Tab
   pub names : namesOf t ≡ tableNames text table 0 (p .count)
   pub count : p .count ≡ length t
   pub stand : Each (FunctionStands text) t
+
+-- the functions from the start, where the tape was this, are those from a place on after these
+pub record Functioned (text start tape table : List ℕ) (at words count left : ℕ) : Type 0 where
+  pub before : Table
+  pub same : functionsOf text ≡ Reading.functions (64 - count) left before (stream text Tokens.outside at)
+  pub went : Went text 0 0 start at words tape (Tape.tape before)
+  pub entries : Entries text table 0 count
+  pub names : namesOf before ≡ tableNames text table 0 count
+  pub counted : count ≡ length before
+  pub long : length table ≡ 64
+  pub stand : Each (FunctionStands text) before
+  pub short : length text ≤ 32768
+
+-- how reading stands at a place, from a tape at the start on
+abbrev pub StageIs : Bytes → List ℕ → List ℕ → List ℕ → ℕ → Stage → Type 0
+StageIs text start tape table at (Onward n) = Functioned text start tape table at (n .words) (n .functions) (n .left)
+StageIs text start tape table at (Over p) = Agrees (FunctionsRead text start tape table) (functionsOf text) p
+
+pub record Underway (text tape table : List ℕ) (at : ℕ) (stage : Stage) : Type 0 where
+  pub start : List ℕ
+  pub is : StageIs text start tape table at stage
+
+abbrev pub firstStage : Stage
+firstStage = Onward (record { words = 0; functions = 0; left = 512 })
+
+abbrev pub onward : Stage → Bool
+onward (Onward n) = true
+onward (Over p) = false
+
+abbrev pub readSoFar : Tally → ℕ → CodeParsed
+readSoFar n at = Done (record { at = at; words = n .words; count = n .functions; parts = 0 })
+
+abbrev pub outcomeOf : Stage → CodeParsed
+outcomeOf (Onward n) = readSoFar n 0
+outcomeOf (Over p) = p
+
+-- the declarations that may still come, and the end of the text
+abbrev pub toCome : Stage → ℕ
+toCome (Onward n) = 65 - n .functions
+toCome (Over p) = 0
+
+-- a declaration was read: reading stands at the place reached as it stood before, and less may come
+pub record Declares (text tape table : List ℕ) (at : ℕ) (stage : Stage) (tape′ table′ : List ℕ) (at′ : ℕ) (stage′ : Stage) : Type 0 where
+  pub keeps : (start : List ℕ) → StageIs text start tape table at stage → StageIs text start tape′ table′ at′ stage′
+  pub falls : onward stage ≡ true → toCome stage′ < toCome stage

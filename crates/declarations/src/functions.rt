@@ -1,4 +1,4 @@
-// The readers of a function and of a table's functions.
+// The readers of a function and of a table's next function.
 use crate::sentences::sentences;
 use crate::stopped;
 use bookkeeping::Answer;
@@ -19,7 +19,6 @@ use lexing::Span;
 use lexing::Token;
 use lexing::lex;
 ghost use mathlib.Core.Path.{_≡_};
-ghost use mathlib.Core.List.{[]};
 ghost use Prim.Native.Nat.{_≤_};
 ghost use lib.ListN.{length};
 ghost use Rattle.meaning.specs.Tokens as Tokens;
@@ -27,7 +26,26 @@ ghost use Rattle.meaning.specs.Reading as Reading;
 ghost use Rattle.lexing.specs.View.{part, stream};
 ghost use Rattle.bookkeeping.specs.Answered.{Agrees};
 ghost use Rattle.bookkeeping.specs.Tables.{tableNames};
-ghost use Rattle.declarations.specs.Functions.{fromBrace, Declarable, BodyRead, Opening, nameFault, DeclaredRead, SpareTo, isEnd, FunctionsRead};
+ghost use Rattle.declarations.specs.Functions.{fromBrace, Declarable, BodyRead, Opening, nameFault, DeclaredRead, SpareTo, isEnd, firstStage, onward, readSoFar, outcomeOf, Underway, Declares};
+
+// The words on the tape, the functions that were read, and the sentences that may still come.
+pub struct Tally {
+    pub words: usize,
+    pub functions: usize,
+    pub left: usize,
+}
+
+// How the reading of a table's functions stands: another may come, or it is over.
+pub enum Stage {
+    Onward(Tally),
+    Over(Parsed),
+}
+
+// A stage, and the place in the text where it was reached.
+pub struct Reached {
+    pub stage: Stage,
+    pub at: usize,
+}
 
 // A function after its name: `{`, sentences, of which so many may still come, and `}`.
 fn body(text: &[u8], tape: &mut [u32; 32768], name: Span, limit: usize, words: usize) -> Parsed
@@ -90,33 +108,81 @@ fn is_end(t: Placed) -> bool
     if let Token::End = token { true } else { false }
 }
 
-// Reads the functions of a text and fills the table of their names.
-pub fn functions(text: &[u8], tape: &mut [u32; 32768], names: &mut [usize; 64]) -> Parsed
-    requires { ⌜ (length (now text) ≤ 32768) × (length (now names) ≡ 64) ⌝ }
-    ensures { λ r. ⌜ Agrees (FunctionsRead (now (text .entry)) (now (tape .entry)) (now (tape .exit)) (now (names .exit)))
-        (Reading.functions 64 512 [] (stream (now (text .entry)) Tokens.outside 0)) r ⌝ }
+// Before the first function.
+pub fn first_stage() -> Stage
+    ensures { λ r. ⌜ r ≡ firstStage ⌝ }
 {
-    let mut at = 0;
-    let mut words = 0;
-    let mut count = 0;
-    let mut left = 512;
-    loop {
-        let t = lex(text, at, Mode::Outside);
-        if is_end(t) {
-            return Parsed::Done(Progress {
-                at: at,
-                words: words,
-                count: count,
-                parts: 0,
-            });
+    Stage::Onward(Tally {
+        words: 0,
+        functions: 0,
+        left: 512,
+    })
+}
+
+pub fn is_onward(stage: Stage) -> bool
+    ensures { λ r. ⌜ r ≡ onward stage ⌝ }
+{
+    match stage {
+        Stage::Onward(_) => true,
+        Stage::Over(_) => false,
+    }
+}
+
+// The functions that were read up to a place.
+fn read_so_far(n: Tally, at: usize) -> Parsed
+    ensures { λ r. ⌜ r ≡ readSoFar n at ⌝ }
+{
+    Parsed::Done(Progress {
+        at: at,
+        words: n.words,
+        count: n.functions,
+        parts: 0,
+    })
+}
+
+// What reading has come to.
+pub fn outcome(stage: Stage) -> Parsed
+    ensures { λ r. ⌜ r ≡ outcomeOf stage ⌝ }
+{
+    match stage {
+        Stage::Onward(n) => read_so_far(n, 0),
+        Stage::Over(parsed) => parsed,
+    }
+}
+
+// Reads the declaration that comes at a place, with a spare `;` after it, and adds its name to the table of names.
+pub fn declaration(
+    text: &[u8],
+    at: usize,
+    tape: &mut [u32; 32768],
+    names: &mut [usize; 64],
+    stage: Stage,
+) -> Reached
+    requires { ⌜ Underway (now text) (now tape) (now names) at stage ⌝ }
+    ensures { λ r. ⌜ Declares (now (text .entry)) (now (tape .entry)) (now (names .entry)) at stage (now (tape .exit)) (now (names .exit)) (r .at) (r .stage) ⌝ }
+{
+    let Stage::Onward(n) = stage else {
+        return Reached { stage, at };
+    };
+    let t = lex(text, at, Mode::Outside);
+    if is_end(t) {
+        let stage = Stage::Over(read_so_far(n, at));
+        return Reached { stage, at };
+    }
+    match function(text, tape, names, n.functions, n.left, t, n.words) {
+        Parsed::Stopped(fault) => {
+            let stage = Stage::Over(Parsed::Stopped(fault));
+            Reached { stage, at }
         }
-        let f = match function(text, tape, names, count, left, t, words) {
-            Parsed::Stopped(fault) => return Parsed::Stopped(fault),
-            Parsed::Done(f) => f,
-        };
-        at = pass_spare(text, f.at);
-        words = f.words;
-        left = f.count;
-        count += 1;
+        Parsed::Done(f) => {
+            let past = pass_spare(text, f.at);
+            let functions = n.functions + 1;
+            let stage = Stage::Onward(Tally {
+                words: f.words,
+                functions: functions,
+                left: f.count,
+            });
+            Reached { stage, at: past }
+        }
     }
 }

@@ -19,11 +19,9 @@ use Rattle.bookkeeping.specs.declared.progress.Parsed.the-variants.{Stopped, Do
 use Rattle.patterns.specs.declared.Counts.{Counts}
 use Rattle.patterns.specs.declared.Added.{Added}
 use Rattle.patterns.specs.declared.Added.the-variants.{Taken, Wrong, Refused, Other}
-use Rattle.bookkeeping.specs.Answered.{Agrees}
-use Rattle.bookkeeping.specs.Tokened.{unlessWord}
 use Rattle.bookkeeping.specs.Written.{isQuiet, Ready, Went}
 use Rattle.bookkeeping.specs.Items.{itemAt}
-use Rattle.patterns.specs.Patterns.{Held, Seen, TokenGives, PatternRead}
+use Rattle.patterns.specs.Patterns.{Held, Seen, TokenGives, PatternAgrees}
 use Rattle.bookkeeping.proofs.Tabling.{none-yet, no-names, every-append}
 use Rattle.patterns.proofs.Elements.{tape-append}
 use Rattle.bookkeeping.proofs.Items.{item-then}
@@ -69,7 +67,7 @@ pattern-starts text start table at words r l =
 module _ {text start : List ℕ} {at words : ℕ} {tape table : List ℕ} {p : Counts} (k : Patterned text start at words tape table p) {t : Code.Placed} (c : Comes text inside (p .at) t)
     (table′ tape′ : List ℕ) where
   abbrev Agree : Parsed → Type 0
-  Agree r = Agrees (PatternRead text at words start table′ tape′) (unlessWord (pattern [] (stream text inside at))) r
+  Agree r = PatternAgrees text at words start table′ tape′ r
 
   abbrev pub PatternOn : Added → Type 0
   PatternOn (Taken next) = (p .at < next .at) × Patterned text start at words tape′ table′ next

@@ -2,7 +2,7 @@
 use Prim.Native.Nat.{ℕ, _+_, _≤_}
 use mathlib.Core.Path.{_≡_}
 use mathlib.Core.Bool.{Bool, true, false, not}
-use mathlib.Core.List.{List, _++_}
+use mathlib.Core.List.{List, [], _++_}
 use lib.Dec.{T, leb, ltb, eqb}
 use lib.ListN.{length}
 use Rattle.meaning.specs.Choice.{Bytes, Name, both, every}
@@ -11,16 +11,19 @@ use Rattle.meaning.specs.Answers.{notAllowedHere, overLimit, wrongPatternVariab
 use Rattle.meaning.specs.Allowed.{maxIdentifier, maxLetters, maxSymbols, member, added, symbolsOf, partsOf, lettersIn}
 use Rattle.meaning.specs.Tape.{patternTape}
 use Rattle.meaning.specs.Tokens as Tokens
+use Rattle.meaning.specs.Reading as Reading
 use Rattle.meaning.specs.Reading.{Item, isItem, elementsOf, endsInPart, faultUnless, patternFault}
 use Rattle.lexing.specs.View.{stream}
 use Rattle.lexing.specs.declared.Placed.{Placed}
 use Rattle.bookkeeping.specs.declared.Answer.{Answer}
 use Rattle.bookkeeping.specs.declared.progress.Progress.{Progress}
+use Rattle.bookkeeping.specs.declared.progress.Parsed.{Parsed}
 use Rattle.patterns.specs.declared.Counts.{Counts}
 use Rattle.patterns.specs.declared.Added.{Added}
 use Rattle.patterns.specs.declared.Added.the-variants.{Taken, Wrong, Refused, Other}
 use Rattle.bookkeeping.specs.Items.{Variables, symbolNames, partNames, itemAt, WordRefused, NoItem}
-use Rattle.bookkeeping.specs.Answered.{numberOf}
+use Rattle.bookkeeping.specs.Answered.{numberOf, Agrees}
+use Rattle.bookkeeping.specs.Tokened.{unlessWord}
 use Rattle.bookkeeping.specs.Written.{isQuiet, Ready, Went}
 
 -- what may come next is safe
@@ -95,3 +98,7 @@ pub record PatternRead (text : Bytes) (at words : ℕ) (tape table′ tape′ : 
   pub variables : Variables text table′ (s .count) (s .parts)
   pub symbols : symbolsOf p ≡ symbolNames text table′ (s .count)
   pub parts : partsOf p ≡ partNames text table′ (s .parts)
+
+abbrev pub PatternAgrees : Bytes → ℕ → ℕ → List ℕ → List ℕ → List ℕ → Parsed → Type 0
+PatternAgrees text at words tape table′ tape′ r =
+    Agrees (PatternRead text at words tape table′ tape′) (unlessWord (Reading.pattern [] (stream text Tokens.inside at))) r

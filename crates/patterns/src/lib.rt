@@ -18,20 +18,18 @@ use lexing::Span;
 use lexing::Token;
 use lexing::lex;
 ghost use mathlib.Core.Path.{_≡_};
-ghost use mathlib.Core.List.{[]};
 ghost use Prim.Native.Nat.{_+_, _<_};
 ghost use lib.Dec.{ltb, eqb};
 ghost use lib.ListN.{length, set};
 ghost use Rattle.meaning.specs.Choice.{pick, both};
 ghost use Rattle.meaning.specs.Tokens as Tokens;
 ghost use Rattle.meaning.specs.Reading as Reading;
-ghost use Rattle.lexing.specs.View.{charactersIn, quotationAt, part, stream, Comes};
-ghost use Rattle.bookkeeping.specs.Answered.{numberOf, Agrees};
+ghost use Rattle.lexing.specs.View.{charactersIn, quotationAt, part, Comes};
+ghost use Rattle.bookkeeping.specs.Answered.{numberOf};
 ghost use Rattle.bookkeeping.specs.Tables.{Inside, position};
-ghost use Rattle.bookkeeping.specs.Tokened.{unlessWord};
 ghost use Rattle.bookkeeping.specs.Written.{Ready};
 ghost use Rattle.bookkeeping.specs.Items.{symbolNames, partNames, Identifier, StringAt};
-ghost use Rattle.patterns.specs.Patterns.{Held, patternSymbolFault, patternPartFault, AddsItem, AddsToken, PatternRead};
+ghost use Rattle.patterns.specs.Patterns.{Held, patternSymbolFault, patternPartFault, AddsItem, AddsToken, PatternAgrees};
 
 // A pattern so far: the place in the text and the words on the tape, its letters, its different s-variables, its e-variables, and whether it ends in one.
 pub struct Counts {
@@ -236,8 +234,7 @@ pub fn pattern(
     words: usize,
 ) -> Parsed
     requires { ⌜ Ready (now text) at words × (length (now table) ≡ 18) ⌝ }
-    ensures { λ r. ⌜ Agrees (PatternRead (now (text .entry)) at words (now (tape .entry)) (now (table .exit)) (now (tape .exit)))
-        (unlessWord (Reading.pattern [] (stream (now (text .entry)) Tokens.inside at))) r ⌝ }
+    ensures { λ r. ⌜ PatternAgrees (now (text .entry)) at words (now (tape .entry)) (now (table .exit)) (now (tape .exit)) r ⌝ }
 {
     let mut p = Counts {
         at: at,

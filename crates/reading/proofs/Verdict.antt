@@ -1,7 +1,7 @@
 -- What reading a text comes to: by what its functions' reader comes to, and by the calls of the table that it gives.
 use Prim.Native.Nat.{ℕ, _+_, _≤_, _<_}
 use mathlib.Core.Path.{_≡_, refl, sym, _∙_, ap}
-use mathlib.Core.List.{List, []}
+use mathlib.Core.List.{List}
 use mathlib.Core.Option.{Option, none, some}
 use native.Mathlib.Omega.{arith}
 use borrow.Author.Tests.{lt-leb, le-leb}
@@ -11,8 +11,7 @@ use Rattle.meaning.specs.Choice.{Bytes}
 use Rattle.meaning.specs.Answers.{tableTooLong}
 use Rattle.meaning.specs.Tree.{Table}
 use Rattle.meaning.specs.Tape.{tape}
-use Rattle.meaning.specs.Tokens as Tokens
-use Rattle.meaning.specs.Reading.{Parsed, functions, unknownIn, accepted, refused, known, verdict, read}
+use Rattle.meaning.specs.Reading.{unknownIn, accepted, refused, known, verdict, read}
 use Rattle.lexing.specs.View.{stream}
 use Rattle.bookkeeping.specs.declared.Answer.{Answer}
 use Rattle.bookkeeping.specs.declared.Answer.the-variants.{Accepted, TableTooLong, UndeclaredName}
@@ -27,7 +26,7 @@ use Rattle.bookkeeping.specs.Answered.{numberOf, Agrees}
 use Rattle.bookkeeping.specs.Written.{written, cleared, Went}
 use Rattle.bookkeeping.specs.Tables.{tableNames, Entries}
 use Rattle.declarations.specs.Sentences.{Each}
-use Rattle.declarations.specs.Functions.{FunctionsRead}
+use Rattle.declarations.specs.Functions.{functionsOf, FunctionsRead}
 use Rattle.reading.specs.Calls.{unknownAs, CallWithin, Holds}
 use Rattle.reading.specs.Reads.{treeTape, tapeLeft, Reads, Begins, refusedWith}
 use Rattle.bookkeeping.proofs.Going.{ReadAt, has-stopped, has-read}
@@ -56,7 +55,7 @@ module _ (text : Bytes) where
   read-long : 32768 < length text → read text ≡ refused tableTooLong 0
   read-long h = rw (lt-leb (length text) 32768 h)
 
-  read-short : length text ≤ 32768 → read text ≡ verdict (functions 64 512 [] (stream text Tokens.outside 0))
+  read-short : length text ≤ 32768 → read text ≡ verdict (functionsOf text)
   unfolding stream
   read-short h = rw (le-leb (length text) 32768 h)
 
@@ -75,10 +74,6 @@ module _ (text : Bytes) where
   too-long h e = refuses TableTooLong 0 _ _ e (read-long h)
 
 -- THE FUNCTIONS
-
--- what the definition reads of a text's functions
-abbrev functionsOf : Bytes → Parsed Table
-functionsOf text = functions 64 512 [] (stream text Tokens.outside 0)
 
 -- a text's functions were read
 pub record TableRead (text tape′ names : List ℕ) (p : Progress) : Type 0 where

@@ -1,5 +1,6 @@
 // Reading a table text: its tree as a tape, or the number and place of its fault.
 mod calls;
+mod functions;
 
 use bookkeeping::Answer;
 use bookkeeping::names::function_room;
@@ -7,8 +8,7 @@ use bookkeeping::progress::Parsed;
 use bookkeeping::writing::clear;
 use calls::Unknown;
 use calls::unknown_call;
-use declarations::functions::functions;
-use lexing::reader;
+use functions::functions;
 ghost use mathlib.Core.Path.{_≡_};
 ghost use Rattle.bookkeeping.specs.Answered.{numberOf};
 ghost use Rattle.reading.specs.Reads.{Reads, Begins, refusedWith};
@@ -75,19 +75,11 @@ fn read_on(text: &[u8], tape: &mut [u32; 32768]) -> Reading
     }
 }
 
-// Reads a text, and clears the tape after the words of its tree.
-fn read_text(bytes: &[u8], tape: &mut [u32; 32768]) -> Reading
-    ensures { λ r. ⌜ Reads (now (bytes .entry)) r (now (tape .exit)) ⌝ }
-{
-    let reading = read_on(bytes, tape);
-    clear(tape, reading.words);
-    reading
-}
-
 // Reads a table text. The tape of an accepted text holds its tree, with zeros after it; that of a refused one is all zero.
 pub fn read(text: &[u8], tape: &mut [u32; 32768]) -> Reading
     ensures { λ r. ⌜ Reads (now (text .entry)) r (now (tape .exit)) ⌝ }
 {
-    let reader = reader::new(text);
-    read_text(reader::text(reader), tape)
+    let reading = read_on(text, tape);
+    clear(tape, reading.words);
+    reading
 }

@@ -54,7 +54,10 @@ module _ {M : Type 1} (𝓤 : URA M) (H : Heap 𝓤) (𝓜 : Model 𝓤 H) (𝓖
       (walk-meets 𝓤 H (𝓖 .A) T hs (givenOf 𝓤 H 𝓜 𝓖) gs c (WpFn 𝓤 H C Λ e) (WpFn-mono 𝓤 H (ofModel 𝓤 H 𝓜) (tablesOf 𝓤 H 𝓜 (tables 𝓤 H 𝓜 𝓡 γ)) e)
       (walked 𝓤 H (𝓖 .A) T hs c (WpFn 𝓤 H C Λ e) sp tl w))
 
--- the three facts that a function requires
+-- the one fact that a function requires, and the three
+pub required-one : {M : Type 1} (𝓤 : URA M) (H : Heap 𝓤) (A : Atoms 𝓤) → Given 𝓤 H A → (φ : Type 0) (P : SProp 𝓤) {Q : SProp 𝓤} → (φ → ent 𝓤 P Q) → ent 𝓤 (sep 𝓤 P (fact 𝓤 φ)) Q
+required-one 𝓤 H A W φ P k = qed W (raw P ∷ raw (fact 𝓤 φ) ∷ []) ∵ move ! (1 ∷ []) $ heard ! φ (λ x. by ! (k x))
+
 pub required : {M : Type 1} (𝓤 : URA M) (H : Heap 𝓤) (A : Atoms 𝓤) → Given 𝓤 H A → (φ ψ χ : Type 0) (P : SProp 𝓤) {Q : SProp 𝓤} → (φ → ψ → χ → ent 𝓤 P Q)
     → ent 𝓤 (sep 𝓤 P (sep 𝓤 (fact 𝓤 φ) (sep 𝓤 (fact 𝓤 ψ) (fact 𝓤 χ)))) Q
 required 𝓤 H A W φ ψ χ P k = qed W (raw P ∷ (raw (fact 𝓤 φ) ⊛ raw (fact 𝓤 ψ) ⊛ raw (fact 𝓤 χ)) ∷ []) ∵ move ! (1 ∷ []) $ split ! $
