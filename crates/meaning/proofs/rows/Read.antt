@@ -83,8 +83,14 @@ limits :
     ∷ row (bytes "F{e1='" ++ (again 128 "a" ++ bytes "''' e1}")) 4 138
     ∷ row (bytes "F{e1=<F '" ++ (again 126 "a" ++ bytes "'>''e1}")) 0 0
     ∷ row (bytes "F{e1=<F '" ++ (again 127 "a" ++ bytes "'>''e1}")) 4 140
+    ∷ row (bytes "F{e1=e1 '" ++ (again 127 "a" ++ bytes "'}")) 0 0
+    ∷ row (bytes "F{e1=e1 '" ++ (again 128 "a" ++ bytes "'}")) 4 8
+    ∷ row (bytes "F{e1='" ++ (again 127 "a" ++ bytes "'e1}")) 0 0
+    ∷ row (bytes "F{s1=" ++ (again 128 "s1 " ++ bytes "}")) 0 0
+    ∷ row (bytes "F{s1=" ++ (again 129 "s1 " ++ bytes "}")) 4 389
     ∷ row (bytes "F{'" ++ (again 64 "a" ++ bytes "'''e1=}")) 0 0
     ∷ row (bytes "F{'" ++ (again 65 "a" ++ bytes "'=}")) 4 2
+    ∷ row (bytes "F{'" ++ (again 63 "a" ++ bytes "'s1=}")) 0 0
     ∷ row (bytes "F{'" ++ (again 64 "a" ++ bytes "'s1=}")) 4 68
     ∷ says "F{sa sb sc sd se sf sg sh si sj sk sl sm sn so sp sa=}" 0 0
     ∷ says "F{sa sb sc sd se sf sg sh si sj sk sl sm sn so sp eq=}" 0 0
@@ -93,10 +99,11 @@ limits :
     ∷ row (again 25 "a" ++ bytes "{=}") 4 0
     ∷ row (bytes "F{=<" ++ (again 25 "a" ++ bytes ">}")) 4 4
     ∷ row (bytes "F{s1,<" ++ (again 25 "a" ++ bytes " s1>:'T'=}")) 4 6
-    ∷ says "F{s12345678 e12345679=}" 0 0
+    ∷ says "F{s12345678 e12345679,<IsDigit s12345678>:'T'=s12345678 e12345679}" 0 0
     ∷ says "F{s123456789=}" 4 2
     ∷ says "F{e123456789=}" 4 2
     ∷ says "F{=s123456789}" 4 3
+    ∷ says "F{=e123456789}" 4 3
     ∷ says "F{s1,<IsDigit s123456789>:'T'=}" 4 14
     ∷ [])
     ≡ true
