@@ -254,4 +254,3 @@ next-declaration-spec 𝓤 H 𝓜 𝓖 𝓡 =
     (λ κs qs bounds a g are. walk 𝓤 H (𝓖 .A) W (𝓜 .mem) (𝓡 .run) κs qs bounds (a .0) (a .1 .0) (a .1 .1 .0) (a .1 .1 .1 .0) are _ _ (calls-framed 𝓤 H 𝓜 𝓖 𝓡 code.env)
     (cited 𝓤 H (Declaration 𝓤 H (𝓖 .A) (𝓜 .mem) (𝓡 .run)) 𝓜 𝓡 code.env #declarations·functions·declaration declaration-def.routine
     code.calls-declarations·functions·declaration (declaration-thm.met 𝓤 H 𝓜 𝓖 𝓡)))
-
