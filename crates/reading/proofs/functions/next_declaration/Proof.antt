@@ -1,5 +1,5 @@
 -- `functions::next_declaration` meets its contract: a walk of its MIR, by hand. The reader's borrow is opened, `declaration` is called on the text and the place that lie there, the place that it reached is stored, and the borrow is closed at the reader that has gone on.
---  All else is handed on to `declaration` as it was passed. The text's borrow is Copy: what the reader owns is had twice, and one copy is kept for the exit. All that the proof knows of `declaration` is that it meets its contract.
+-- All else is handed on to `declaration` as it was passed. The text's borrow is Copy: what the reader owns is had twice, and one copy is kept for the exit. All that the proof knows of `declaration` is that it meets its contract.
 -- Positions in the context: local i stands at 2 · i, after what is put in front. Assumes nothing.
 use mathlib.Core.Path.{_≡_, refl, ap}
 use Prim.Native.Nat.{ℕ, _<_, _^_}
