@@ -1,11 +1,11 @@
 -- The registers and the lent cells as the specification's state: stack in from p on, the selected cells, stack out up to r, what was counted, and what a frame keeps.
-use Prim.Native.Nat.{ℕ, suc, _+_, _*_, _-_, _≤_, _<_}
+use Prim.Native.Nat.{ℕ, suc, pred, _+_, _*_, _-_, _≤_, _<_}
 use mathlib.Core.Path.{_≡_}
 use mathlib.Core.List.{List}
 use mathlib.Core.Bool.{Bool, true, false}
 use lib.ListN.{length, getD, take, drop, set}
 use Rattle.meaning.specs.Choice.{Bytes}
-use Rattle.meaning.specs.Outcome.{Outcome, done, stop}
+use Rattle.meaning.specs.Outcome.{maxCounted, Outcome, done, stop}
 use Rattle.meaning.specs.Instructions.{Action, Code}
 use Rattle.meaning.specs.Machine.{Ledger, Stacks, Local, perform}
 use Rattle.meaning.specs.Runs.{Room, lent}
@@ -27,12 +27,15 @@ abbrev pub memory : Bytes → Bytes → Bytes → List ℕ → Bytes → Memory
 memory input output journal frames values =
     record { input = input; output = output; journal = journal; frames = frames; values = values }
 
--- the words of a frame, and those of all frames and of their stored values
+-- the words of a frame; those of all frames, with the counts of applications behind them; and the stored values of all frames
 abbrev pub frameWords : ℕ
 frameWords = 24
 
+abbrev pub countsFrom : ℕ
+countsFrom = maxFrames * frameWords
+
 abbrev pub roomOfFrames : ℕ
-roomOfFrames = maxFrames * frameWords
+roomOfFrames = countsFrom + maxCounted
 
 abbrev pub roomOfValues : ℕ
 roomOfValues = maxFrames * 16
@@ -82,13 +85,33 @@ localOf g m = localAt (g .frame) (m .frames) (m .values)
 abbrev pub stacksOf : Registers → Memory → Stacks
 stacksOf g m = record { input = drop (g .p .0) (m .input); selected = g .q .0 - g .p .0; output = take (g .r .0) (m .output) }
 
+-- the applications of each function
+abbrev pub countsIn : List ℕ → List ℕ
+countsIn frames = drop countsFrom frames
+
+-- one application more of the function with a number; one past those that are counted has no word
+abbrev pub countedIn : ℕ → List ℕ → List ℕ
+countedIn number frames =
+    let word = countsFrom + pred number in
+    set frames word (suc (getD frames word 0))
+
+-- no count is above a number
+abbrev pub CountsWithin : ℕ → List ℕ → Type 0
+CountsWithin most frames = (i : ℕ) → getD (countsIn frames) i 0 ≤ most
+
 abbrev pub Ledgers : Type 0
 Ledgers = Ledger (Unit {0})
 
 abbrev pub ledgerOf : ℕ → Registers → Memory → Ledgers
 ledgerOf allowance g m =
     record {
-      tally = record { left = allowance - g .steps; steps = g .steps; emissions = take (g .emitted) (m .journal) };
+      tally =
+          record {
+            left = allowance - g .steps;
+            steps = g .steps;
+            counts = countsIn (m .frames);
+            emissions = take (g .emitted) (m .journal);
+          };
       mark = tt;
     }
 
@@ -142,6 +165,7 @@ pub record Stayed (at : ℕ) (g : Registers) (m : Memory) (h : Registers) (n : M
   pub steps : h .steps ≡ g .steps
   pub callee : h .callee ≡ g .callee
   pub waiting : take (24 * g .frame) (n .frames) ≡ take (24 * g .frame) (m .frames)
+  pub counts : countsIn (n .frames) ≡ countsIn (m .frames)
   pub values : n .values ≡ m .values
   pub beyond : (old : Bytes) → drop (g .emitted) (m .journal) ≡ drop (g .emitted) old → drop (h .emitted) (n .journal) ≡ drop (h .emitted) old
 

@@ -1,9 +1,10 @@
 // The frames, and the words that each keeps: written and read here alone, each as what it is.
-ghost use Prim.Native.Nat.{_+_, _*_, _-_, _≤_, _<_};
+ghost use Prim.Native.Nat.{_+_, _*_, _-_, _≤_, _<_, _^_};
 ghost use mathlib.Core.Path.{_≡_};
 ghost use lib.ListN.{length, set};
+ghost use Rattle.meaning.specs.Outcome.{maxCounted, uncounted};
 ghost use Rattle.meaning.specs.Leaving.{maxFrames};
-ghost use Rattle.acting.specs.States.{frameWords, roomOfFrames, roomOfValues, frameWord, begun, callingFrom};
+ghost use Rattle.acting.specs.States.{frameWords, roomOfFrames, roomOfValues, frameWord, countsIn, countedIn, CountsWithin, begun, callingFrom};
 use crate::cells::less;
 use crate::registers::InCell;
 use crate::registers::OutCell;
@@ -38,12 +39,18 @@ const RETURN: usize = 6;
 
 const SELECTION: usize = 7;
 
-const FRAME_ROOM: usize = FRAMES * FRAME_WORDS;
+// How many functions are counted, behind the frames.
+pub const COUNTED: usize = 64;
+
+const COUNTS_FROM: usize = FRAMES * FRAME_WORDS;
+
+const FRAME_ROOM: usize = COUNTS_FROM + COUNTED;
 
 const VALUE_ROOM: usize = FRAMES * FRAME_VALUES;
 
+// Nothing is counted yet.
 pub fn frame_room() -> [usize; FRAME_ROOM]
-    ensures { λ r. ⌜ length r ≡ roomOfFrames ⌝ }
+    ensures { λ r. ⌜ (length r ≡ roomOfFrames) × (countsIn r ≡ uncounted) ⌝ }
 {
     [0usize; FRAME_ROOM]
 }
@@ -165,4 +172,31 @@ pub fn kept_selection(frames: &[usize], frame: usize) -> InCell
     ensures { λ r. ⌜ r .0 ≡ frameWord frame 7 (now (frames .entry)) ⌝ }
 {
     InCell(word(frames, frame, SELECTION))
+}
+
+// One application more of a function.
+pub fn count_application(frames: &mut [usize], number: usize)
+    requires { ⌜ 0 < number ⌝ }
+    requires { ⌜ length (now frames) ≡ roomOfFrames ⌝ }
+    requires { ⌜ CountsWithin (2 ^ 32) (now frames) ⌝ }
+    ensures { λ _. ⌜ now (frames .exit) ≡ countedIn number (now (frames .entry)) ⌝ }
+{
+    if COUNTED < number {
+        return;
+    }
+    let word = COUNTS_FROM + (number - 1);
+    frames[word] = frames[word] + 1;
+}
+
+// The applications of each function, as they are handed back.
+pub fn copy_counts(frames: &[usize], counts: &mut [u64])
+    requires { ⌜ length (now frames) ≡ roomOfFrames ⌝ }
+    requires { ⌜ length (now counts) ≡ maxCounted ⌝ }
+    ensures { λ _. ⌜ now (counts .exit) ≡ countsIn (now (frames .entry)) ⌝ }
+{
+    let mut i = 0;
+    while i < COUNTED {
+        counts[i] = frames[COUNTS_FROM + i] as u64;
+        i += 1;
+    }
 }

@@ -18,7 +18,7 @@ use Rattle.acting.specs.declared.registers.Next.{Next}
 use Rattle.acting.specs.declared.registers.Next.the-variants.{Onward, Done, Stopped}
 use Rattle.acting.specs.declared.registers.Status.{Status}
 use Rattle.acting.specs.declared.registers.Status.the-variants as status
-use Rattle.acting.specs.States.{roomOfFrames, roomOfValues, Memory, memory, Held, stacksOf, ledgerOf, roomOf, Outcomes}
+use Rattle.acting.specs.States.{roomOfFrames, roomOfValues, Memory, memory, Held, CountsWithin, stacksOf, ledgerOf, roomOf, Outcomes}
 use Rattle.applying.specs.Waiting.{functionsIn, entering, returning, comesTo, Waits, performing, leftBelow, leftToDo}
 
 -- the registers stay within what is lent and allowed, and so do the frames that wait: an application may begin
@@ -31,6 +31,7 @@ pub record Ready (allowance : ℕ) (g : Registers) (m : Memory) : Type 0 where
   pub frameRoom : length (m .frames) ≡ roomOfFrames
   pub valueRoom : length (m .values) ≡ roomOfValues
   pub paid : g .steps ≤ allowance
+  pub counts : CountsWithin (g .steps) (m .frames)
   pub waits : (k : ℕ) → k < g .frame → Waits (length (m .input)) k (m .frames)
 
 -- and so does the current frame: an application or an instruction may come next
@@ -176,7 +177,7 @@ Applies words allowance number g m next n =
     Begins words allowance
     (returning (roomOf m) allowance words g m
     (ranPaid (lent (roomOf m)) (functionsIn words) (entering (roomOf m) allowance words) (suc (g .frame)) number (stacksOf g m) (ledgerOf allowance g m)
-    (pay (ledgerOf allowance g m .tally))))
+    (pay number (ledgerOf allowance g m .tally))))
     (suc (leftBelow (length words) allowance g m))
     g m next n
 

@@ -49,7 +49,7 @@ module _ (room : Room) (allowance : ℕ) (words : Words) where
   -- what comes next there: the application of a function, where the registers name one that is declared, or else actions
   abbrev pub applied : Registers → Memory → Outcomes
   applied g m =
-      ranPaid (lent room) (functionsIn words) entering (suc (g .frame)) (g .callee) (stacksOf g m) (ledgerOf allowance g m) (pay (ledgerOf allowance g m .tally))
+      ranPaid (lent room) (functionsIn words) entering (suc (g .frame)) (g .callee) (stacksOf g m) (ledgerOf allowance g m) (pay (g .callee) (ledgerOf allowance g m .tally))
 
   abbrev pub acted : Registers → Memory → Outcomes
   acted g m = going (g .frame) (g .at .0) (localOf g m) (stacksOf g m) (ledgerOf allowance g m)

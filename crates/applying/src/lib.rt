@@ -13,7 +13,7 @@ ghost use Rattle.classes.specs.Tests.{Answers};
 ghost use Rattle.matching.specs.Matched.{cellMeant};
 ghost use Rattle.applying.specs.Storing.{Stores};
 ghost use Rattle.decoding.specs.Decoded.{callMeant};
-ghost use Rattle.acting.specs.States.{roomOfFrames, roomOfValues, memory};
+ghost use Rattle.acting.specs.States.{roomOfFrames, roomOfValues, CountsWithin, memory};
 ghost use Rattle.applying.specs.Waiting.{countIn, functionsIn, leftBy};
 ghost use Rattle.applying.specs.Advancing.{Performs, Applies, Starts};
 use acting::cells::later;
@@ -21,6 +21,7 @@ use acting::cells::part;
 use acting::frames::FRAME_VALUES;
 use acting::frames::FRAMES;
 use acting::frames::begin_frame;
+use acting::frames::count_application;
 use acting::frames::keep_caller;
 use acting::frames::kept_selection;
 use acting::frames::return_place;
@@ -147,6 +148,7 @@ pub fn apply(
     requires { ⌜ g .frame < maxFrames ⌝ }
     requires { ⌜ length (now frames) ≡ roomOfFrames ⌝ }
     requires { ⌜ length (now values) ≡ roomOfValues ⌝ }
+    requires { ⌜ CountsWithin (g .steps) (now frames) ⌝ }
     ensures { λ r. ⌜ ((output journal : Bytes) → Applies (now (code .entry)) allowance number g (memory (now (input .entry)) output journal (now (frames .entry)) (now (values .entry))) r (memory (now (input .entry)) output journal (now (frames .exit)) (now (values .exit)))) ⌝ }
 {
     let steps = g.steps;
@@ -155,6 +157,7 @@ pub fn apply(
     }
     let next = steps + 1;
     let paid = Registers { steps: next, ..g };
+    count_application(frames, number);
     let field = part(input, g.p, g.q);
     match choose(bits, code, CodePlace(wide(code[number])), field) {
         Choice::Sentence {

@@ -13,7 +13,7 @@ use Rattle.meaning.specs.Allowed.{allowed}
 use Rattle.meaning.specs.Reading.{Read, accepted, refused}
 use Rattle.meaning.specs.Translation.{translate}
 use Rattle.meaning.specs.Packing.{Words, pack}
-use Rattle.meaning.specs.Outcome.{Result}
+use Rattle.meaning.specs.Outcome.{uncounted, Result}
 use Rattle.meaning.specs.Leaving.{Cells, Leaving, zeros, padded, roomOf, leaving}
 use Rattle.meaning.specs.Entries.{answered, written, translated, runAnswer}
 use Rattle.meaning.proofs.laws.Translated.{unpacked}
@@ -22,7 +22,7 @@ use Rattle.acting.specs.declared.registers.Ran.{Ran}
 use Rattle.acting.specs.Endings.{endingNumber}
 use Rattle.running.specs.Leaving.{Tells, Leaves}
 use Rattle.engine.specs.declared.Report.{Report}
-use Rattle.engine.specs.Told.{Runs}
+use Rattle.engine.specs.Told.{Runs, Profiles}
 use Rattle.engine.specs.TableRuns.{TableRun, tableLeaving, withoutCode, withCode, tableRun, Reports}
 use Rattle.tables.proofs.Known.{Known}
 
@@ -33,9 +33,13 @@ ranWords ran = endingNumber (ran .ending) ∷ ran .function ∷ ran .steps ∷ r
 told-words : {ran : Ran} {result : Result} → Tells ran result → ranWords ran ≡ runAnswer result
 told-words t = rw (t .answer, t .function, t .steps, t .text, t .emissions)
 
-pub runs : {ran : Ran} {after : Cells} {should : Leaving} → Leaves ran after should → {number : ℕ} → number ≡ endingNumber (ran .ending)
+pub runs : {ran : Ran} {counts : List ℕ} {after : Cells} {should : Leaving} → Leaves ran counts after should → {number : ℕ} → number ≡ endingNumber (ran .ending)
     → Runs (number ∷ ran .function ∷ ran .steps ∷ ran .text ∷ ran .emissions ∷ []) after should
 runs l e = record { answer = rw e (told-words (l .tells)); cells = l .leaves }
+
+pub profiles : {ran : Ran} {counts : List ℕ} {after : Cells} {should : Leaving} → Leaves ran counts after should → {number : ℕ} → number ≡ endingNumber (ran .ending)
+    → Profiles (number ∷ ran .function ∷ ran .steps ∷ ran .text ∷ ran .emissions ∷ []) counts after should
+profiles l e = record { runs = runs l e; counted = l .counted }
 
 -- AFTER TRANSLATING
 
@@ -62,39 +66,39 @@ ranReport number ran =
 module _ {number place count : ℕ} {code : Words} (room start : ℕ) (text : Bytes) (cells : Cells) (allowance : ℕ) where
   -- a table without code: the number and place that translating answers are reported
   without-code : {n k : ℕ} → written (answered number place count) code ≡ written (answered n k 0) (zeros room)
-      → Reports (unrunReport number place) code cells (withoutCode n k room cells)
+      → Reports (unrunReport number place) uncounted code cells (withoutCode n k room cells)
   without-code e =
       let answers = ap (λ w. w .answer) e in
-      record { answer = cc; place = cc; code = ap (λ w. w .buffer) e; cells = refl }
+      record { answer = cc; counted = refl; place = cc; code = ap (λ w. w .buffer) e; cells = refl }
 
   unfitted : (b : Bool) (n : ℕ) (full : Words) (ran : TableRun)
       → written (answered number place count) code ≡
       pick b (written (answered finished 0 n) full) (written (answered bufferTooShort 0 0) (zeros room))
-      → (number ≡ 0 → ⊥) → Reports (unrunReport number place) code cells (pick b ran (withoutCode bufferTooShort 0 room cells))
+      → (number ≡ 0 → ⊥) → Reports (unrunReport number place) uncounted code cells (pick b ran (withoutCode bufferTooShort 0 room cells))
   unfitted true n full ran e ne = let answers = ap (λ w. w .answer) e in absurd (ne (cc))
   unfitted false n full ran e ne = without-code e
 
   pub unrun-reports : (x : Read) → written (answered number place count) code ≡ translated x room → (number ≡ 0 → ⊥)
-      → Reports (unrunReport number place) code cells (tableRun x room start text cells allowance)
+      → Reports (unrunReport number place) uncounted code cells (tableRun x room start text cells allowance)
   unrun-reports (refused n k) e ne = without-code e
   unrun-reports (accepted t) e ne =
       let code = pack (translate t) in
       unfitted (leb (length code) room) (length code) (padded code room) (withCode t room start text cells allowance) e ne
 
   -- a table with code: what running it answers is reported
-  module _ {ran : Ran} {after : Cells} (leaves : Leaves ran after (leaving code start text cells allowance)) {answer : ℕ} (told : answer ≡ endingNumber (ran .ending)) (zeroed : number ≡ 0) where
+  module _ {ran : Ran} {counts : List ℕ} {after : Cells} (leaves : Leaves ran counts after (leaving code start text cells allowance)) {answer : ℕ} (told : answer ≡ endingNumber (ran .ending)) (zeroed : number ≡ 0) where
     fitted : (t : Table) → T (allowed t) → (b : Bool)
         → written (answered number place count) code ≡
         pick b (written (answered finished 0 (length (pack (translate t)))) (padded (pack (translate t)) room)) (written (answered bufferTooShort 0 0) (zeros room))
-        → Reports (ranReport answer ran) code after
+        → Reports (ranReport answer ran) counts code after
         (pick b (withCode t room start text cells allowance) (withoutCode bufferTooShort 0 room cells))
     fitted t ok true e =
         let is = ap (λ w. w .buffer) e in
         let l = rw (is, table-leaves t ok) at leaves in
-        record { answer = rw told (told-words (l .tells)); place = refl; code = is; cells = l .leaves }
+        record { answer = rw told (told-words (l .tells)); counted = l .counted; place = refl; code = is; cells = l .leaves }
     fitted t ok false e = let answers = ap (λ w. w .answer) e in let z : _≡_ {A = ℕ} 0 17 = cc in absurd (omega arith)
 
     pub run-reports : (x : Read) → Known x → written (answered number place count) code ≡ translated x room
-        → Reports (ranReport answer ran) code after (tableRun x room start text cells allowance)
+        → Reports (ranReport answer ran) counts code after (tableRun x room start text cells allowance)
     run-reports (refused n k) known e = let answers = ap (λ w. w .answer) e in absurd (known (cc))
     run-reports (accepted t) known e = fitted t known (leb (length (pack (translate t))) room) e

@@ -54,9 +54,10 @@ tableRun (accepted t) room start text cells allowance =
 abbrev pub reportWords : Report → List ℕ
 reportWords r = r .answer ∷ r .function ∷ r .steps ∷ r .text ∷ r .emissions ∷ []
 
--- what is reported, the code buffer and the cells are those of a table's run
-pub record Reports (r : Report) (words : Words) (after : Cells) (should : TableRun) : Type 0 where
+-- what is reported, the counts, the code buffer and the cells are those of a table's run
+pub record Reports (r : Report) (counts : List ℕ) (words : Words) (after : Cells) (should : TableRun) : Type 0 where
   pub answer : reportWords r ≡ runAnswer (should .leaving .result)
+  pub counted : counts ≡ should .leaving .result .counts
   pub place : r .place ≡ should .place
   pub code : words ≡ should .code
   pub cells : after ≡ should .leaving .cells

@@ -9,3 +9,8 @@ use Rattle.meaning.specs.Entries.{runAnswer}
 pub record Runs (words : List ℕ) (after : Cells) (should : Leaving) : Type 0 where
   pub answer : words ≡ runAnswer (should .result)
   pub cells : after ≡ should .cells
+
+-- and the counts are those of each function's applications: 02, T-01
+pub record Profiles (words counts : List ℕ) (after : Cells) (should : Leaving) : Type 0 where
+  pub runs : Runs words after should
+  pub counted : counts ≡ should .result .counts

@@ -1,4 +1,7 @@
 // The public entry points over reading, listing, translating and running, and their exports for C and Rust.
+pub mod profile;
+
+use crate::profile::refal0_profile;
 use acting::registers::ending_number;
 use tables::list_table;
 use tables::read_table;
@@ -39,6 +42,11 @@ pub extern "C" fn refal0_translate(table: &[u8], code: &mut [u32], answer: &mut 
     *answer = [told.number, told.place as u64, told.count as u64];
 }
 
+// Room for a run's counts, where nobody asks for them.
+fn count_room() -> [u64; 64] {
+    [0u64; 64]
+}
+
 // Answer, function, steps, length of the text, length of the emissions.
 #[no_mangle]
 pub extern "C" fn refal0_run(
@@ -54,15 +62,18 @@ pub extern "C" fn refal0_run(
     ensures { λ _. ⌜ Runs (now (answer .exit)) (cells (now («stack_in» .exit)) (now («stack_out» .exit)) (now («record» .exit)))
         (leaving (now (code .entry)) start (now (text .entry)) (cells (now («stack_in» .entry)) (now («stack_out» .entry)) (now («record» .entry))) allowance) ⌝ }
 {
-    let ran = running::run(code, start, text, stack_in, stack_out, record, allowance);
-    let ending = ran.ending;
-    *answer = [
-        ending_number(ending),
-        ran.function as u64,
-        ran.steps as u64,
-        ran.text as u64,
-        ran.emissions as u64,
-    ];
+    let mut counts = count_room();
+    refal0_profile(
+        code,
+        start,
+        text,
+        stack_in,
+        stack_out,
+        record,
+        allowance,
+        answer,
+        &mut counts,
+    );
 }
 
 // What is answered, the place of a refused table's fault, and what a run reports: the function that fits nothing, the steps, and the
@@ -76,7 +87,7 @@ pub struct Report {
     pub emissions: usize,
 }
 
-// Translates a table and runs its code.
+// Translates a table and runs its code. `counts` tells how often each function was applied.
 pub fn translate_and_run(
     table: &[u8],
     code: &mut [u32],
@@ -86,14 +97,16 @@ pub fn translate_and_run(
     stack_out: &mut [u8],
     record: &mut [u8],
     allowance: u32,
+    counts: &mut [u64; 64],
 ) -> Report
-    ensures { λ r. ⌜ Reports r (now (code .exit)) (cells (now («stack_in» .exit)) (now («stack_out» .exit)) (now («record» .exit)))
+    ensures { λ r. ⌜ Reports r (now (counts .exit)) (now (code .exit)) (cells (now («stack_in» .exit)) (now («stack_out» .exit)) (now («record» .exit)))
         (tableRun (read (now (table .entry))) (length (now (code .entry))) start (now (text .entry))
         (cells (now («stack_in» .entry)) (now («stack_out» .entry)) (now («record» .entry))) allowance) ⌝ }
 {
     let told = translate_table(table, code);
     let number = told.number;
     if number != 0 {
+        *counts = [0u64; 64];
         return Report {
             answer: number,
             place: told.place,
@@ -103,7 +116,16 @@ pub fn translate_and_run(
             emissions: 0,
         };
     }
-    let ran = running::run(code, start, text, stack_in, stack_out, record, allowance);
+    let ran = running::run(
+        code,
+        start,
+        text,
+        stack_in,
+        stack_out,
+        record,
+        allowance,
+        counts,
+    );
     let ending = ran.ending;
     Report {
         answer: ending_number(ending),

@@ -30,13 +30,13 @@ row table text allowance frames r = record { table = table; text = text; allowan
 abbrev rows : List Row
 rows =
     -- 255 bytes reach frame 256
-    row tableR (replicate 255 97) most 256 (result 0 0 256 (replicate 255 97) []) ∷
+    row tableR (replicate 255 97) most 256 (result 0 0 256 (256 ∷ []) (replicate 255 97) []) ∷
     -- 256 bytes need frame 257
-    row tableR (replicate 256 97) most 256 (result 15 0 256 [] []) ∷
+    row tableR (replicate 256 97) most 256 (result 15 0 256 (256 ∷ []) [] []) ∷
     -- 12 comes before 15
-    row tableR (replicate 256 97) 256 256 (result 12 0 256 [] []) ∷
+    row tableR (replicate 256 97) 256 256 (result 12 0 256 (256 ∷ []) [] []) ∷
     -- a tail call takes its caller's frame
-    row tableZ (replicate 300 48) most 1 (result 0 0 301 [] []) ∷ []
+    row tableZ (replicate 300 48) most 1 (result 0 0 301 (301 ∷ []) [] []) ∷ []
 
 -- rewriting would try every cut of the long texts
 pub frames-run : map (λ (r : Row). runLent (framed (r .frames)) (translate (r .table)) 1 (r .text) (r .allowance)) rows ≡ map (λ (r : Row). r .ran) rows
@@ -45,6 +45,6 @@ frames-run = refl
 
 -- what is left where frame 257 is asked for: "all zero if the answer isn't 0"
 pub left-without-frame : leaving (pack (translate tableR)) 1 (replicate 256 97) (lent 256 256 2) most
-    ≡ leaves (result 15 0 256 [] []) (cells (replicate 256 0) (replicate 256 0) (9 ∷ 9 ∷ []))
+    ≡ leaves (result 15 0 256 (256 ∷ []) [] []) (cells (replicate 256 0) (replicate 256 0) (9 ∷ 9 ∷ []))
 unfolding computing
 left-without-frame = refl

@@ -3,25 +3,27 @@
 use Prim.Native.Nat.{ℕ, _≤_}
 use mathlib.Core.Path.{_≡_, refl, sym, _∙_}
 use mathlib.Core.Logic.{_↔_}
-use mathlib.Core.List.{[], _++_}
+use mathlib.Core.List.{List, [], _++_}
 use mathlib.Core.Option.{Option, none, some}
-use lib.Dec.{T}
-use lib.ListN.{length}
+use lib.Dec.{T, leb, leb→le, ltb, ltb→lt}
+use lib.ListN.{length, length-map}
 use borrow.Author.Tests.{le-leb}
 use Rattle.meaning.specs.Choice.{Bytes}
 use Rattle.meaning.specs.Answers.{noInstruction}
 use Rattle.meaning.specs.Tree.{Table}
-use Rattle.meaning.specs.Outcome.{Tally, fresh, done}
-use Rattle.meaning.specs.Rewriting.{apply, rewrite}
+use Rattle.meaning.specs.Outcome.{maxCounted, done}
+use Rattle.meaning.specs.Rewriting.{Course, unbegun, applicationsFrom, tallyOf, apply, historyOf, rewrite}
 use Rattle.meaning.specs.Allowed.{allowed}
 use Rattle.meaning.specs.Machine.{isDeclared}
 use Rattle.meaning.specs.Runs.{Room, endless, Passed, from, runEndless, runLent, passedFirst}
-use Rattle.meaning.specs.Translation.{translate}
+use Rattle.meaning.specs.Translation.{translatedSentences, translate}
 use Rattle.meaning.specs.Packing.{Words, pack}
 use Rattle.meaning.specs.Leaving.{Cells, left, roomOf, leaving}
 use Rattle.meaning.specs.Demanded.{stoppedAt, unlessPassed, demanded}
 use Rattle.meaning.proofs.agreement.Agree.{agree-done, agree-result, agree-steps}
-use Rattle.meaning.proofs.agreement.Choosing.{passed-true}
+use Rattle.meaning.proofs.agreement.Choosing.{both-pair, passed-true}
+use Rattle.meaning.proofs.agreement.Total.{rewrite-total}
+use Rattle.meaning.proofs.laws.Counts.{total}
 use Rattle.meaning.proofs.laws.Room.{lent-equal, lent-passed, lent-exactly}
 use Rattle.meaning.proofs.laws.Known.{Agrees, equal, passing, leaving-known}
 use Rattle.meaning.proofs.laws.Translated.{unpacked}
@@ -32,14 +34,29 @@ module _ (table : Table) (ok : T (allowed table)) (start : ℕ) (text : Bytes) (
   without-end = agree-result table ok start text allowance
 
   -- at the end stack in holds nothing, and out is the text
-  pub at-the-end : (result : Bytes) (t : Tally) → apply allowance table start text (fresh allowance) ≡ done result t →
+  pub at-the-end : (result : Bytes) (t : Course) → apply allowance table start text (unbegun allowance) ≡ done result t →
       from endless (translate table) start text allowance tt ≡
-      done (record { input = []; selected = 0; output = result }) (record { tally = t; mark = tt })
+      done (record { input = []; selected = 0; output = result }) (record { tally = tallyOf t; mark = tt })
   at-the-end = agree-done table ok start text allowance
 
-  -- "Each application of a declared function is one step": both sides count the same
-  pub steps-agree : runEndless (translate table) start text allowance .steps ≡ rewrite table start text allowance .steps
-  steps-agree = agree-steps table ok start text allowance
+  abbrev history : List ℕ
+  history = historyOf (apply allowance table start text (unbegun allowance))
+
+  -- "Each application of a declared function is one step": the steps are as many as the applications in rewriting's history
+  pub steps-agree : runEndless (translate table) start text allowance .steps ≡ length history
+  steps-agree = agree-steps table ok start text allowance .0
+
+  -- 02, T-01: "Each number equals the function's applications in the rewriting's own history"
+  pub counts-agree : runEndless (translate table) start text allowance .counts ≡ applicationsFrom 1 maxCounted history
+  counts-agree = agree-steps table ok start text allowance .1
+
+  -- and for a declared start the counts of all functions add up to the steps
+  pub counts-total : T (isDeclared (translate table) start) →
+      total (runEndless (translate table) start text allowance .counts) ≡ runEndless (translate table) start text allowance .steps
+  counts-total declared =
+      let d = both-pair (ltb 0 start) (leb start (length (translate table))) declared in
+      let last : start ≤ length table = rw (length-map table (λ f. translatedSentences table (f .sentences))) at (leb→le start _ (d .1)) in
+      rw without-end (rewrite-total table ok start text allowance (ltb→lt 0 start (d .0)) last)
 
   -- 2. ON LENT CELLS: where the run without end passes nothing, the outcome is rewriting's
   pub kept-within : (room : Room) → passedFirst room (translate table) start text allowance ≡ none →

@@ -14,3 +14,4 @@ pub mod Fitting
 pub mod Facts
 pub mod Sentences
 pub mod Agree
+pub mod Total

@@ -13,6 +13,7 @@ pub mod Translated
 pub mod Narrow
 pub mod Answers
 pub mod Known
+pub mod Counts
 pub mod Related
 pub mod Depth
 pub mod Room

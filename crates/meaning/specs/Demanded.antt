@@ -6,15 +6,14 @@ use mathlib.Core.List.{[]}
 use mathlib.Core.Option.{Option, none, some}
 use Rattle.meaning.specs.Choice.{Bytes}
 use Rattle.meaning.specs.Tree.{Table}
-use Rattle.meaning.specs.Outcome.{Result}
+use Rattle.meaning.specs.Outcome.{Result, told}
 use Rattle.meaning.specs.Rewriting.{rewrite}
 use Rattle.meaning.specs.Runs.{Room, answerTo, Passed, passedFirst}
 use Rattle.meaning.specs.Translation.{translate}
 
 -- the answer where a need is passed first
 abbrev pub stoppedAt : Passed → Result
-stoppedAt p =
-    record { answer = answerTo (p .need); function = 0; steps = p .tally .steps; text = []; emissions = p .tally .emissions }
+stoppedAt p = told (answerTo (p .need)) 0 [] (p .tally)
 
 -- rewriting's outcome where nothing is passed, and else where it stops
 abbrev pub unlessPassed : Option Passed → Result → Result

@@ -6,7 +6,7 @@ use lib.Dec.{leb}
 use lib.ListN.{length, drop, replicate}
 use Rattle.meaning.specs.Choice.{Bytes, pick}
 use Rattle.meaning.specs.Answers.{noSuchStart, textTooLong, noInstruction}
-use Rattle.meaning.specs.Outcome.{Result}
+use Rattle.meaning.specs.Outcome.{fresh, Result, told}
 use Rattle.meaning.specs.Instructions.{Code}
 use Rattle.meaning.specs.Machine.{isDeclared}
 use Rattle.meaning.specs.Runs.{Room, runLent}
@@ -40,8 +40,7 @@ over bytes old = bytes ++ drop (length bytes) old
 
 -- "9 precedes 10; 18 in the function table precedes both and changes nothing, as they do"
 abbrev pub refused : ℕ → Cells → Leaving
-refused answer cells =
-    record { result = record { answer = answer; function = 0; steps = 0; text = []; emissions = [] }; cells = cells }
+refused answer cells = record { result = told answer 0 [] (fresh 0); cells = cells }
 
 -- "After every run in is zero, and out is the result with zeros after it, or all zero if the answer isn't 0. Record bytes past the emissions are unchanged"
 abbrev pub left : Result → Cells → Leaving

@@ -167,7 +167,7 @@ module _ (W : Watch) where
   perform code enter next frame (call f) l s g =
       let ran = noting (frames (suc frame)) g
       (λ g₁. andThen (enter (suc frame) f s g₁) (λ s₁ g₂. next l (returned (afterField s) s₁) g₂)) in
-      let payable = wherePayable (pay (g .tally)) g ran in
+      let payable = wherePayable (pay f (g .tally)) g ran in
       whereThere (isDeclared code f) g payable
   perform code enter next frame (tailCall f) l s g =
       let ran = enter frame f s g in
@@ -202,4 +202,4 @@ module _ (W : Watch) where
   -- One application in a frame. The depth is rewriting's: it never shows.
   unfoldable pub enter : ℕ → Code → ℕ → ℕ → Stacks → Ledger (W .Mark) → Ran
   enter zero code frame f s g = stop allowanceSpent 0 g
-  enter (suc depth) code frame f s g = ranPaid code (enter depth code) frame f s g (pay (g .tally))
+  enter (suc depth) code frame f s g = ranPaid code (enter depth code) frame f s g (pay f (g .tally))

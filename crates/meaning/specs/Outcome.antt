@@ -2,34 +2,51 @@
 -- function is one step"; "Emission adds name, byte 32, argument, byte 10 to the record". Demand 3: "Outcome means answer, text, emissions, steps
 -- and failing function".
 use Prim.Native.Nat.{ℕ, zero, suc}
-use mathlib.Core.List.{[], _∷_, _++_}
+use mathlib.Core.List.{List, [], _∷_, _++_}
+use lib.ListN.{getD, set, replicate}
 use mathlib.Core.Option.{Option, none, some}
 use Rattle.meaning.specs.Choice.{Bytes, Name}
 use Rattle.meaning.specs.Answers.{finished}
 
--- steps left of the allowance, steps made, and the record
+-- steps left of the allowance, steps made, the applications of each function, and the record
 pub record Tally : Type 0 where
   pub left : ℕ
   pub steps : ℕ
+  pub counts : List ℕ
   pub emissions : Bytes
+
+-- 02, T-01: "a count for each function", of which a table has at most 64
+abbrev pub maxCounted : ℕ
+maxCounted = 64
+
+abbrev pub uncounted : List ℕ
+uncounted = replicate maxCounted 0
+
+-- one application more of the function with a number
+abbrev pub counted : ℕ → List ℕ → List ℕ
+counted zero counts = counts
+counted (suc i) counts = set counts i (suc (getD counts i 0))
 
 -- "Steps are 0 and the record empty before the start"
 abbrev pub fresh : ℕ → Tally
-fresh allowance = record { left = allowance; steps = 0; emissions = [] }
+fresh allowance = record { left = allowance; steps = 0; counts = uncounted; emissions = [] }
 
-abbrev pub paidFrom : ℕ → Tally → Option Tally
-paidFrom zero t = none
-paidFrom (suc n) t = some (record { left = n; steps = suc (t .steps); emissions = t .emissions })
+abbrev pub paidFrom : ℕ → ℕ → Tally → Option Tally
+paidFrom zero f t = none
+paidFrom (suc n) f t =
+    some (record { left = n; steps = suc (t .steps); counts = counted f (t .counts); emissions = t .emissions })
 
--- one step taken, if one is left
-abbrev pub pay : Tally → Option Tally
-pay t = paidFrom (t .left) t
+-- one step taken for a function, if one is left
+abbrev pub pay : ℕ → Tally → Option Tally
+pay f t = paidFrom (t .left) f t
 
 abbrev pub emittedLine : Name → Bytes → Bytes
 emittedLine name argument = name ++ 32 ∷ (argument ++ 10 ∷ [])
 
 abbrev pub emitted : Name → Bytes → Tally → Tally
-emitted name argument t = record { left = t .left; steps = t .steps; emissions = t .emissions ++ emittedLine name argument }
+emitted name argument t =
+    let line = emittedLine name argument in
+    record { left = t .left; steps = t .steps; counts = t .counts; emissions = t .emissions ++ line }
 
 -- done with a value, or stopped with an answer and a function number; either with what was counted
 pub data Outcome (A L : Type 0) : Type 0 where
@@ -46,11 +63,23 @@ pub record Result : Type 0 where
   pub answer : ℕ
   pub function : ℕ
   pub steps : ℕ
+  pub counts : List ℕ
   pub text : Bytes
   pub emissions : Bytes
 
+-- an answer, a function number and a text, with what was counted
+abbrev pub told : ℕ → ℕ → Bytes → Tally → Result
+told answer function text t =
+    record {
+      answer = answer;
+      function = function;
+      steps = t .steps;
+      counts = t .counts;
+      text = text;
+      emissions = t .emissions;
+    }
+
 -- "A rewriting that ends with another answer than 0 has the empty text"
 abbrev pub resultOf : Outcome Bytes Tally → Result
-resultOf (done text t) = record { answer = finished; function = 0; steps = t .steps; text = text; emissions = t .emissions }
-resultOf (stop answer function t) =
-    record { answer = answer; function = function; steps = t .steps; text = []; emissions = t .emissions }
+resultOf (done text t) = told finished 0 text t
+resultOf (stop answer function t) = told answer function [] t

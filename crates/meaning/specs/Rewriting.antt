@@ -1,15 +1,63 @@
 -- Rewriting by Refal-0's own rules: 01 'Rewriting', 000 section 2.2. It "is fed tree, start, text and allowance, and knows no cell or frame".
-use Prim.Native.Nat.{ℕ, zero, suc, pred}
+use Prim.Native.Nat.{ℕ, zero, suc, pred, _+_}
 use mathlib.Core.Bool.{Bool, true, false}
 use mathlib.Core.List.{List, [], _∷_, _++_}
 use mathlib.Core.Option.{Option, none, some}
 use lib.Dec.{eqb}
+use lib.ListN.{length}
 use Rattle.meaning.specs.Choice.{Bytes, Name, pick, both, guard, orElse, Named, lookup, nth}
 use Rattle.meaning.specs.Classes.{inClass}
 use Rattle.meaning.specs.Tree.{character, symbol, Element, letter, part, Condition, Expression, end, thenCharacter, thenSymbol, thenPart, thenCall, Sentence, Function, Table}
 use Rattle.meaning.specs.Names.{isEmission, numberOf}
 use Rattle.meaning.specs.Answers.{noSentenceFits, allowanceSpent}
-use Rattle.meaning.specs.Outcome.{Tally, fresh, pay, emitted, Outcome, done, stop, andThen, Result, resultOf}
+use Rattle.meaning.specs.Outcome.{Tally, maxCounted, emittedLine, Outcome, done, stop, andThen, Result, resultOf}
+
+-- what rewriting may still do, and has done so far: steps left of the allowance, its history, which is the numbers of
+-- the functions applied, the latest first, and the record. "Each application of a declared function is one step", so
+-- the steps made are as many as the functions applied
+pub record Course : Type 0 where
+  pub left : ℕ
+  pub history : List ℕ
+  pub emissions : Bytes
+
+abbrev pub unbegun : ℕ → Course
+unbegun allowance = record { left = allowance; history = []; emissions = [] }
+
+abbrev pub tookFrom : ℕ → ℕ → Course → Option Course
+tookFrom zero f t = none
+tookFrom (suc n) f t = some (record { left = n; history = f ∷ t .history; emissions = t .emissions })
+
+-- an application of a function, if a step is left
+abbrev pub takeStep : ℕ → Course → Option Course
+takeStep f t = tookFrom (t .left) f t
+
+abbrev pub emitting : Name → Bytes → Course → Course
+emitting name argument t =
+    record { left = t .left; history = t .history; emissions = t .emissions ++ emittedLine name argument }
+
+-- 02, T-01: "the function's applications in the rewriting's own history"
+unfoldable pub applications : ℕ → List ℕ → ℕ
+applications f [] = 0
+applications f (g ∷ history) = let later = applications f history in pick (eqb f g) (suc later) later
+
+-- those of so many functions, from a number on
+unfoldable pub applicationsFrom : ℕ → ℕ → List ℕ → List ℕ
+applicationsFrom f zero history = []
+applicationsFrom f (suc n) history = applications f history ∷ applicationsFrom (suc f) n history
+
+-- what there is to tell of a course
+abbrev pub tallyOf : Course → Tally
+tallyOf t =
+    record {
+      left = t .left;
+      steps = length (t .history);
+      counts = applicationsFrom 1 maxCounted (t .history);
+      emissions = t .emissions;
+    }
+
+abbrev pub tallied : {A : Type 0} → Outcome A Course → Outcome A Tally
+tallied (done v t) = done v (tallyOf t)
+tallied (stop answer function t) = stop answer function (tallyOf t)
 
 -- bytes for s-variables and parts for e-variables, in the order in which the pattern first names them
 pub record Bindings : Type 0 where
@@ -98,8 +146,12 @@ partText (some piece) = piece
 abbrev pub before : {L : Type 0} → Bytes → Outcome Bytes L → Outcome Bytes L
 before text o = andThen o (λ rest t. done (text ++ rest) t)
 
+-- how a function is applied to a text, by its number or by its name
+abbrev pub Applying : Type 0 → Type 0
+Applying A = A → Bytes → Course → Outcome Bytes Course
+
 -- "its result is the expression with these put in and each call's text in the call's place ... Calls are done left to right, inner before outer"
-unfoldable pub evaluate : (Name → Bytes → Tally → Outcome Bytes Tally) → Bindings → Expression → Tally → Outcome Bytes Tally
+unfoldable pub evaluate : Applying Name → Bindings → Expression → Course → Outcome Bytes Course
 evaluate call bound end t = done [] t
 evaluate call bound (thenCharacter c e) t = before (c ∷ []) (evaluate call bound e t)
 evaluate call bound (thenSymbol x e) t = before (symbolText (lookup x (bound .symbols))) (evaluate call bound e t)
@@ -117,24 +169,31 @@ abbrev pub functionAt : Table → ℕ → List Sentence
 functionAt table number = sentencesOf (nth (pred number) table)
 
 -- "Emission ... gives the empty text"; it is no step
-abbrev pub callNamed : Table → (ℕ → Bytes → Tally → Outcome Bytes Tally) → Name → Bytes → Tally → Outcome Bytes Tally
-callNamed table apply n text t = let applied = apply (numberOf table n) text t in pick (isEmission n) (done [] (emitted n text t)) applied
+abbrev pub callNamed : Table → Applying ℕ → Name → Bytes → Course → Outcome Bytes Course
+callNamed table apply n text t =
+    let applied = apply (numberOf table n) text t in
+    pick (isEmission n) (done [] (emitting n text t)) applied
 
 -- "An application that fits no sentence counts as a step"
-abbrev pub rewritten : Table → (ℕ → Bytes → Tally → Outcome Bytes Tally) → ℕ → Option Fit → Tally → Outcome Bytes Tally
+abbrev pub rewritten : Table → Applying ℕ → ℕ → Option Fit → Course → Outcome Bytes Course
 rewritten table apply number none t = stop noSentenceFits number t
 rewritten table apply number (some f) t = evaluate (callNamed table apply) (f .bindings) (f .sentence .expression) t
 
 -- "the first application past the allowance ends the run"; "one answered 12 ... doesn't" count as a step
-abbrev pub applied : Table → (ℕ → Bytes → Tally → Outcome Bytes Tally) → ℕ → Bytes → Tally → Option Tally → Outcome Bytes Tally
+abbrev pub applied : Table → Applying ℕ → ℕ → Bytes → Course → Option Course → Outcome Bytes Course
 applied table apply number text t none = stop allowanceSpent 0 t
 applied table apply number text t (some paid) = rewritten table apply number (choose (functionAt table number) text) paid
 
 -- One application. The depth bounds how deep applications nest: each one takes a step, so a depth of the steps left is never reached before they are
 -- spent, and the depth never shows (proved in proofs/laws/Depth).
-unfoldable pub apply : ℕ → Table → ℕ → Bytes → Tally → Outcome Bytes Tally
+unfoldable pub apply : ℕ → Table → ℕ → Bytes → Course → Outcome Bytes Course
 apply zero table number text t = stop allowanceSpent 0 t
-apply (suc depth) table number text t = applied table (apply depth table) number text t (pay t)
+apply (suc depth) table number text t = applied table (apply depth table) number text t (takeStep number t)
+
+-- the functions that a rewriting applied, the latest first
+abbrev pub historyOf : Outcome Bytes Course → List ℕ
+historyOf (done text t) = t .history
+historyOf (stop answer function t) = t .history
 
 abbrev pub rewrite : Table → ℕ → Bytes → ℕ → Result
-rewrite table start text allowance = resultOf (apply allowance table start text (fresh allowance))
+rewrite table start text allowance = resultOf (tallied (apply allowance table start text (unbegun allowance)))

@@ -1,13 +1,12 @@
--- What is printed of a refusal and of a result: 01, the last paragraph of 'Runs to hold on to'.
+-- What is printed of a refusal, of a result and of the applications of each function: 01, the last paragraph of 'Runs to hold on to', and 02, T-01.
 use Prim.Native.Nat.{ℕ, zero, suc, _+_, _/_, _%_, _≤_}
 use mathlib.Core.Path.{_≡_}
 use mathlib.Core.Bool.{Bool}
-use mathlib.Core.List.{[], _∷_, _++_}
+use mathlib.Core.List.{List, [], _∷_, _++_}
 use lib.Dec.{eqb, ltb}
 use lib.ListN.{length}
-use Rattle.meaning.specs.Choice.{Bytes, pick, both, either}
+use Rattle.meaning.specs.Choice.{Bytes, Name, pick, both, either}
 use Rattle.meaning.specs.Answers.{noSuchStart, bufferTooShort}
-use Rattle.meaning.specs.Outcome.{Result}
 use Rattle.meaning.specs.Leaving.{over}
 use Rattle.putting.specs.Put.{Put}
 
@@ -21,9 +20,20 @@ numeralOf (suc more) n =
 abbrev pub numeral : ℕ → Bytes
 numeral n = numeralOf (suc n) n
 
+-- the bytes after a number or a name
+abbrev pub blank : ℕ
+blank = 32
+
+abbrev pub lineEnd : ℕ
+lineEnd = 10
+
 -- a number, and the byte after it
 abbrev pub counted : ℕ → ℕ → Bytes
 counted n after = numeral n ++ after ∷ []
+
+-- its cells at most: a number of the code has up to 20 digits
+abbrev pub numberCells : ℕ
+numberCells = 21
 
 -- 1 to 8 refuse a table, and 17 its code, where that is longer than what is lent for it
 abbrev pub isRefusal : ℕ → Bool
@@ -31,24 +41,37 @@ isRefusal number = either (both (ltb 0 number) (ltb number noSuchStart)) (eqb nu
 
 -- "For a refused table it prints number and place only"
 abbrev pub refusalText : ℕ → ℕ → Bytes
-refusalText number place = counted number 32 ++ counted place 10
+refusalText number place = counted number blank ++ counted place lineEnd
 
 -- "prints answer, function, steps; the record; the result and a line end"
-abbrev pub resultText : Result → Bytes
-resultText r =
-    counted (r .answer) 32 ++ (counted (r .function) 32 ++ (counted (r .steps) 10 ++ (r .emissions ++ (r .text ++ 10 ∷ []))))
+abbrev pub resultText : ℕ → ℕ → ℕ → Bytes → Bytes → Bytes
+resultText answer function steps emissions text =
+    counted answer blank ++ (counted function blank ++ (counted steps lineEnd ++ (emissions ++ (text ++ lineEnd ∷ []))))
 
--- a result by its numbers, with its emissions and its text
-abbrev pub resultFrom : ℕ → ℕ → ℕ → Bytes → Bytes → Result
-resultFrom answer function steps emissions text =
-    record { answer = answer; function = function; steps = steps; text = text; emissions = emissions }
+-- 02, T-01: "After the result the program prints a line for each function in declaration order, with number, name and applications"
+abbrev pub profileLine : ℕ → Name → ℕ → Bytes
+profileLine number name applications = counted number blank ++ (name ++ (blank ∷ counted applications lineEnd))
+
+-- the lines of functions numbered on after `before`, with as many counts
+unfoldable pub profileLines : ℕ → List Name → List ℕ → Bytes
+profileLines before [] counts = []
+profileLines before (name ∷ names) [] = []
+profileLines before (name ∷ names) (applications ∷ counts) =
+    profileLine (suc before) name applications ++ profileLines (suc before) names counts
+
+-- "then `total` and the steps"
+abbrev pub totalWord : Bytes
+totalWord = 116 ∷ 111 ∷ 116 ∷ 97 ∷ 108 ∷ blank ∷ []
+
+abbrev pub profileText : List Name → List ℕ → ℕ → Bytes
+profileText names counts steps = profileLines 0 names counts ++ (totalWord ++ counted steps lineEnd)
 
 -- a text stands at the front of the cells, and those after it are as they were
 pub record Prints (text old : Bytes) (count : ℕ) (new : Bytes) : Type 0 where
   pub size : count ≡ length text
   pub cells : new ≡ over text old
 
--- a number is written with the byte after it, which takes no more than 21 bytes
-pub record Counted (n after at : ℕ) (old : Bytes) (next : ℕ) (new : Bytes) : Type 0 where
-  pub put : Put at old (counted n after) next new
-  pub near : next ≤ at + 21
+-- bytes are written, so many at most
+pub record PutAtMost (most at : ℕ) (old bytes : Bytes) (next : ℕ) (new : Bytes) : Type 0 where
+  pub put : Put at old bytes next new
+  pub near : next ≤ at + most

@@ -3,10 +3,11 @@ use Prim.Native.Nat.{ℕ, _≤_}
 use native.Mathlib.Omega.{arith}
 use mathlib.Core.Path.{_≡_, refl, ap}
 use mathlib.Core.Bool.{true, false}
+use mathlib.Core.List.{List}
 use lib.Dec.{leb}
 use lib.ListN.{length, take, length-take}
 use lib.Seq.{take-at}
-use Rattle.meaning.specs.Choice.{Bytes}
+use Rattle.meaning.specs.Choice.{Bytes, Name}
 use Rattle.meaning.specs.Answers.{noSuchStart, textTooLong, bufferTooShort}
 use Rattle.meaning.specs.Outcome.{Result}
 use Rattle.meaning.specs.Demanded.{demanded}
@@ -19,8 +20,9 @@ use Rattle.meaning.proofs.laws.Choosing.{of-either}
 use Rattle.running.specs.Leaving.{cells}
 use Rattle.engine.specs.declared.Report.{Report}
 use Rattle.engine.specs.TableRuns.{TableRun, hasFunction, withoutCode, withCode, tableRun, Reports}
-use Rattle.printing.specs.Texts.{isRefusal, refusalText, resultText}
-use Rattle.program.specs.Printed.{resultOf, runText, lentCells, Shows}
+use Rattle.printing.specs.Texts.{isRefusal, refusalText}
+use Rattle.profiling.specs.Profiles.{namesRead}
+use Rattle.program.specs.Printed.{ranText, runText, lentCells, Shows}
 
 -- the emissions stand at the front of the record, and the result at the front of out
 record Kept (leaving : Leaving) : Type 0 where
@@ -48,7 +50,7 @@ table-kept (accepted t) room start text lent allowance =
 front-within : (front whole : Bytes) → take (length front) whole ≡ front → length front ≤ length whole
 front-within front whole e = omega (arith, length-take (length front) whole, ap length e)
 
-module _ {r : Report} {words : Words} {after : Cells} {run : TableRun} (reports : Reports r words after run) (kept : Kept (run .leaving)) where
+module _ {r : Report} {counts : List ℕ} {words : Words} {after : Cells} {run : TableRun} (reports : Reports r counts words after run) (kept : Kept (run .leaving)) (names : List Name) where
   journal : after .journal ≡ run .leaving .cells .journal
   journal = ap (λ c. c .journal) (reports .cells)
 
@@ -70,24 +72,25 @@ module _ {r : Report} {words : Words} {after : Cells} {run : TableRun} (reports 
   text-within : r .text ≤ length (after .stackOut)
   text-within = rw (text, out) (front-within _ _ (kept .text))
 
-  refusal-shown : isRefusal (r .answer) ≡ true → runText run ≡ refusalText (r .answer) (r .place)
+  refusal-shown : isRefusal (r .answer) ≡ true → runText names run ≡ refusalText (r .answer) (r .place)
   refusal-shown e = rw (← answer, e, ← (reports .place))
 
   result-shown : isRefusal (r .answer) ≡ false
-      → runText run ≡ resultText (resultOf r (take (r .emissions) (after .journal)) (take (r .text) (after .stackOut)))
+      → runText names run ≡ ranText names (r .answer) (r .function) (r .steps) counts (take (r .emissions) (after .journal)) (take (r .text) (after .stackOut))
   result-shown e =
       let told = reports .answer in
       let function : r .function ≡ run .leaving .result .function = cc in
       let steps : r .steps ≡ run .leaving .result .steps = cc in
-      rw (← answer, e, ← function, ← steps, emissions, journal, kept .emissions, text, out, kept .text)
+      rw (← answer, e, ← function, ← steps, ← (reports .counted), emissions, journal, kept .emissions, text, out, kept .text)
 
-pub shows : {table text : Bytes} {r : Report} {words : Words} {out journal stackIn : Bytes}
-    → Reports r words (cells stackIn out journal) (tableRun (read table) 16384 1 text lentCells 100000) → Shows table text r out journal
+pub shows : {table text : Bytes} {r : Report} {counts : List ℕ} {words : Words} {out journal stackIn : Bytes}
+    → Reports r counts words (cells stackIn out journal) (tableRun (read table) 16384 1 text lentCells 100000) → Shows table text r out journal counts
 shows {table} {text} reports =
+    let names = namesRead (read table) in
     let kept = table-kept (read table) 16384 1 text lentCells 100000 in
     record {
-      emissions = emissions-within reports kept;
-      result = text-within reports kept;
-      refusal = refusal-shown reports kept;
-      run = result-shown reports kept;
+      emissions = emissions-within reports kept names;
+      result = text-within reports kept names;
+      refusal = refusal-shown reports kept names;
+      run = result-shown reports kept names;
     }

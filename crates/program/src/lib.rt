@@ -5,6 +5,7 @@ use libc::STDOUT_FILENO;
 use printing::is_refusal;
 use printing::put_refusal;
 use printing::put_result;
+use profiling::put_profile;
 ghost use mathlib.Core.Path.{_≡_};
 ghost use lib.ListN.{length};
 ghost use Rattle.io.specs.Counts.{Counts};
@@ -31,18 +32,29 @@ fn input_room() -> [u8; 32769]
     [0u8; 32769]
 }
 
-// A line of three numbers, the emissions, the result and a line end.
-fn output_room() -> [u8; 65600]
-    ensures { λ r. ⌜ length r ≡ 65600 ⌝ }
+// A line of three numbers, the emissions, the result and a line end; a line for each of 64 functions, and the total.
+fn output_room() -> [u8; 70000]
+    ensures { λ r. ⌜ length r ≡ 70000 ⌝ }
 {
-    [0u8; 65600]
+    [0u8; 70000]
 }
 
-// Runs a table's code on what the program lends; the emissions and the result are left in the record and in out.
-fn run_table(table: &[u8], text: &[u8], stack_out: &mut [u8], record: &mut [u8]) -> Report
+fn count_room() -> [u64; 64] {
+    [0u64; 64]
+}
+
+// Runs a table's code on what the program lends; the emissions and the result are left in the record and in out, and the applications of
+// each function in the counts.
+fn run_table(
+    table: &[u8],
+    text: &[u8],
+    stack_out: &mut [u8],
+    record: &mut [u8],
+    counts: &mut [u64; 64],
+) -> Report
     requires { ⌜ now «stack_out» ≡ lentBytes ⌝ }
     requires { ⌜ now «record» ≡ lentBytes ⌝ }
-    ensures { λ r. ⌜ Shows (now (table .entry)) (now (text .entry)) r (now («stack_out» .exit)) (now («record» .exit)) ⌝ }
+    ensures { λ r. ⌜ Shows (now (table .entry)) (now (text .entry)) r (now («stack_out» .exit)) (now («record» .exit)) (now (counts .exit)) ⌝ }
 {
     let mut code = code_room();
     let mut stack_in = cell_room();
@@ -55,30 +67,34 @@ fn run_table(table: &[u8], text: &[u8], stack_out: &mut [u8], record: &mut [u8])
         stack_out,
         record,
         100000,
+        counts,
     )
 }
 
 // What is printed for a table text and a text.
-pub fn respond(table: &[u8], text: &[u8], out: &mut [u8; 65600]) -> usize
+pub fn respond(table: &[u8], text: &[u8], out: &mut [u8; 70000]) -> usize
     ensures { λ r. ⌜ Prints (printed (now (table .entry)) (now (text .entry))) (now (out .entry)) r (now (out .exit)) ⌝ }
 {
     let mut stack_out = cell_room();
     let mut record = cell_room();
-    let report = run_table(table, text, &mut stack_out, &mut record);
+    let mut counts = count_room();
+    let report = run_table(table, text, &mut stack_out, &mut record, &mut counts);
     let answer = report.answer;
     if is_refusal(answer) {
         return put_refusal(out, answer, report.place);
     }
     let emissions = report.emissions;
     let length = report.text;
-    put_result(
+    let steps = report.steps;
+    let profile = put_result(
         out,
         answer,
         report.function,
-        report.steps,
+        steps,
         &record[..emissions],
         &stack_out[..length],
-    )
+    );
+    put_profile(table, &counts, steps, out, profile)
 }
 
 // `table.rf` in the current folder; one that can't be opened counts as empty.

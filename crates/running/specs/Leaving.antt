@@ -1,7 +1,7 @@
 -- What a run answers and leaves, in the terms of meaning's Leaving.
 use Prim.Native.Nat.{ℕ, _-_}
 use mathlib.Core.Path.{_≡_}
-use mathlib.Core.List.{_++_}
+use mathlib.Core.List.{List, _++_}
 use lib.ListN.{length, take}
 use Rattle.meaning.specs.Choice.{Bytes}
 use Rattle.meaning.specs.Outcome.{Result}
@@ -25,9 +25,10 @@ pub record Tells (ran : Ran) (result : Result) : Type 0 where
   pub text : ran .text ≡ length (result .text)
   pub emissions : ran .emissions ≡ length (result .emissions)
 
--- a run answers and leaves what it should
-pub record Leaves (ran : Ran) (now : Cells) (should : Leaving) : Type 0 where
+-- a run answers, counts and leaves what it should
+pub record Leaves (ran : Ran) (counts : List ℕ) (now : Cells) (should : Leaving) : Type 0 where
   pub tells : Tells ran (should .result)
+  pub counted : counts ≡ should .result .counts
   pub leaves : now ≡ should .cells
 
 -- a refusal's numbers

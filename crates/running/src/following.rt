@@ -3,9 +3,10 @@ ghost use Prim.Native.Nat.{_-_, _≤_, _<_};
 ghost use mathlib.Core.Path.{_≡_};
 ghost use lib.ListN.{length};
 ghost use Rattle.classes.specs.Tests.{Answers};
+ghost use Rattle.meaning.specs.Outcome.{uncounted};
 ghost use Rattle.meaning.specs.Runs.{runLent};
 ghost use Rattle.meaning.specs.Leaving.{roomOf as roomOfCells, left};
-ghost use Rattle.acting.specs.States.{roomOfFrames, roomOfValues, memory};
+ghost use Rattle.acting.specs.States.{roomOfFrames, roomOfValues, countsIn, memory};
 ghost use Rattle.applying.specs.Waiting.{countIn, soundIn, functionsIn};
 ghost use Rattle.applying.specs.Advancing.{Keeps, Follows};
 ghost use Rattle.running.specs.Leaving.{cells, Leaves, refusedWith, finishedWith, reportedOf, clearedFrom, loadedWith};
@@ -170,7 +171,8 @@ pub fn run_lent(
     requires { ⌜ length (now text) ≤ length (now input) ⌝ }
     requires { ⌜ length (now frames) ≡ roomOfFrames ⌝ }
     requires { ⌜ length (now values) ≡ roomOfValues ⌝ }
-    ensures { λ r. ⌜ Leaves r (cells (now (input .exit)) (now (output .exit)) (now (journal .exit))) (left (runLent (roomOfCells (cells (now (input .entry)) (now (output .entry)) (now (journal .entry)))) (functionsIn (now (code .entry))) start (now (text .entry)) allowance) (cells (now (input .entry)) (now (output .entry)) (now (journal .entry)))) ⌝ }
+    requires { ⌜ countsIn (now frames) ≡ uncounted ⌝ }
+    ensures { λ r. ⌜ Leaves r (countsIn (now (frames .exit))) (cells (now (input .exit)) (now (output .exit)) (now (journal .exit))) (left (runLent (roomOfCells (cells (now (input .entry)) (now (output .entry)) (now (journal .entry)))) (functionsIn (now (code .entry))) start (now (text .entry)) allowance) (cells (now (input .entry)) (now (output .entry)) (now (journal .entry)))) ⌝ }
 {
     let g = loaded(input.len(), text.len(), start);
     copy_to_in(input, g.p, text);

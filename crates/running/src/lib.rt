@@ -7,13 +7,14 @@ mod following;
 use crate::following::refused;
 use crate::following::run_lent;
 use crate::following::sound_table;
+use acting::frames::copy_counts;
 use acting::frames::frame_room;
 use acting::frames::value_room;
 use acting::registers::Ending;
 use acting::registers::Ran;
 use applying::declared;
 
-// A run of code words: what is answered, and what is left in the lent cells.
+// A run of code words: what is answered, what is left in the lent cells, and how often each function was applied.
 pub fn run(
     code: &[u32],
     start: usize,
@@ -22,10 +23,12 @@ pub fn run(
     output: &mut [u8],
     journal: &mut [u8],
     allowance: u32,
+    counts: &mut [u64; 64],
 ) -> Ran
-    ensures { λ r. ⌜ Leaves r (cells (now (input .exit)) (now (output .exit)) (now (journal .exit)))
+    ensures { λ r. ⌜ Leaves r (now (counts .exit)) (cells (now (input .exit)) (now (output .exit)) (now (journal .exit)))
         (leaving (now (code .entry)) start (now (text .entry)) (cells (now (input .entry)) (now (output .entry)) (now (journal .entry))) allowance) ⌝ }
 {
+    *counts = [0u64; 64];
     if !sound_table(code) {
         return refused(Ending::NoInstruction);
     }
@@ -37,7 +40,7 @@ pub fn run(
     }
     let mut frames = frame_room();
     let mut values = value_room();
-    run_lent(
+    let ran = run_lent(
         code,
         start,
         text,
@@ -47,5 +50,7 @@ pub fn run(
         &mut frames,
         &mut values,
         allowance,
-    )
+    );
+    copy_counts(&frames, counts);
+    ran
 }

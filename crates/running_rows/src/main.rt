@@ -220,15 +220,17 @@ fn print(n: u64) {
     io::write_all(STDOUT_FILENO, b" ");
 }
 
-// Answer, function, steps; how many cells of in, of out after the text and of the journal after the emissions hold another byte than
-// they should; the emissions; the text.
-fn show(ran: Ran, input: &[u8], output: &[u8], journal: &[u8], left: u8) {
+// Answer, function, steps; the applications of the first two functions; how many cells of in, of out after the text and of the journal
+// after the emissions hold another byte than they should; the emissions; the text.
+fn show(ran: Ran, counts: &[u64; 64], input: &[u8], output: &[u8], journal: &[u8], left: u8) {
     let ending = ran.ending;
     let text = ran.text;
     let emissions = ran.emissions;
     print(ending_number(ending));
     print(ran.function as u64);
     print(ran.steps as u64);
+    print(counts[0]);
+    print(counts[1]);
     print(others(input, 0, left));
     print(others(output, text, left));
     print(others(journal, emissions, 7));
@@ -249,8 +251,18 @@ fn row_on(
     allowance: u32,
     left: u8,
 ) {
-    let ran = running::run(code, start, text, input, output, journal, allowance);
-    show(ran, input, output, journal, left);
+    let mut counts = [7u64; 64];
+    let ran = running::run(
+        code,
+        start,
+        text,
+        input,
+        output,
+        journal,
+        allowance,
+        &mut counts,
+    );
+    show(ran, &counts, input, output, journal, left);
 }
 
 fn row_from(code: &[u32], start: usize, text: &[u8], lent: Lent, left: u8) {

@@ -6,7 +6,7 @@ ghost use lib.ListN.{length};
 ghost use Rattle.meaning.specs.Choice.{Bytes};
 ghost use Rattle.classes.specs.Tests.{Answers};
 ghost use Rattle.meaning.specs.Leaving.{maxFrames};
-ghost use Rattle.acting.specs.States.{roomOfFrames, roomOfValues, memory, Held};
+ghost use Rattle.acting.specs.States.{roomOfFrames, roomOfValues, memory, Held, CountsWithin};
 ghost use Rattle.applying.specs.Waiting.{countIn};
 ghost use Rattle.applying.specs.Advancing.{Underway, Acting, Ongoing, registersIn, statusIn, nextOf, onward, Steps, keptOf, Tries, Uses, Does, Enters};
 use acting::emitting::emit;
@@ -49,6 +49,7 @@ fn enter(
     requires { ⌜ g .frame < maxFrames ⌝ }
     requires { ⌜ length (now frames) ≡ roomOfFrames ⌝ }
     requires { ⌜ length (now values) ≡ roomOfValues ⌝ }
+    requires { ⌜ CountsWithin (g .steps) (now frames) ⌝ }
     ensures { λ r. ⌜ ((output journal : Bytes) → Enters (now (code .entry)) allowance g (memory (now (input .entry)) output journal (now (frames .entry)) (now (values .entry)))
         r (memory (now (input .entry)) output journal (now (frames .exit)) (now (values .exit)))) ⌝ }
 {

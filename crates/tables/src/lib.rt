@@ -13,7 +13,7 @@ pub struct Told {
 }
 
 // The tape, in a function of its own, so that no caller's facts hold its elements.
-fn tape_room() -> [u32; 32768] {
+pub fn tape_room() -> [u32; 32768] {
     [0u32; 32768]
 }
 

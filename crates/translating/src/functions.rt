@@ -36,7 +36,7 @@ fn note_head(tape: &[u32], i: usize, heads: &mut [usize], count: usize) -> usize
 }
 
 // The places of the functions' words.
-fn find_heads(tape: &[u32], heads: &mut [usize]) -> usize
+pub fn find_heads(tape: &[u32], heads: &mut [usize]) -> usize
     requires { ⌜ length (now heads) ≡ 64 ⌝ }
     ensures { λ r. ⌜ HeadsAll (now (tape .entry)) (now (heads .exit)) r ⌝ }
 {

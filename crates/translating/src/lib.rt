@@ -1,5 +1,5 @@
 // From the tape of a table to packed code words.
-mod functions;
+pub mod functions;
 
 use functions::write_table;
 use words::tape::lesser;

@@ -67,17 +67,25 @@ pub fn expected_outcome(tree: &Table, code: &[u32], lending: &Lending) -> Check<
 }
 
 pub fn run(tree: &Table, code: &[u32], lending: &Lending) -> Check {
-    let expected = expected_outcome(tree, code, lending)?;
-    left_as_expected(&expected, &engine::run(code, lending)?)
+    runs_to(&expected_outcome(tree, code, lending)?, code, lending)
 }
 
 /// A run of any words as code.
 pub fn wild_run(code: &[u32], lending: &Lending) -> Check {
-    left_as_expected(&lending.run(code), &engine::run(code, lending)?)
+    runs_to(&lending.run(code), code, lending)
 }
 
-pub fn left_as_expected(expected: &Outcome, left: &Left) -> Check {
-    let Outcome { answer, function, steps, text, record } = expected;
+/// The engine's run comes to this outcome; profiled, it leaves the same, and the counts.
+fn runs_to(expected: &Outcome, code: &[u32], lending: &Lending) -> Check {
+    let left = engine::run(code, lending)?;
+    left_as_expected(expected, &left)?;
+    let (profiled, counts) = engine::profile(code, lending)?;
+    holds("a profiled run leaves something else than the run", profiled == left)?;
+    equal("profiling: applications by function", &expected.counts, &counts)
+}
+
+fn left_as_expected(expected: &Outcome, left: &Left) -> Check {
+    let Outcome { answer, function, steps, text, record, .. } = expected;
     let whole = [*answer, *function as u64, *steps, text.len() as u64, record.len() as u64];
     equal("running: answer, function, steps, length of text and emissions", whole, left.answer)?;
     if expected.before_run() {

@@ -3,6 +3,7 @@
 use crate::exports::{self, Cells};
 use crate::lent::Lent;
 use refal0_apart::corpus::Lending;
+use refal0_apart::outcome::Counts;
 
 const BYTE_MARK: u8 = 0xa5;
 const WORD_MARK: u32 = 0xa5a5_a5a5;
@@ -66,6 +67,7 @@ pub fn translate(table: &[u8], room: usize) -> Kept<([u64; 3], Vec<u32>)> {
 }
 
 /// What a run left behind.
+#[derive(PartialEq)]
 pub struct Left {
     /// Answer, function, steps, length of the text, length of the emissions.
     pub answer: [u64; 5],
@@ -80,6 +82,22 @@ fn used(length: usize) -> Vec<u8> {
 }
 
 pub fn run(code: &[u32], lending: &Lending) -> Kept<Left> {
+    lent_run(code, lending, |code, text, cells, answer| {
+        exports::run(code, lending.start, text, cells, lending.allowance, answer);
+    })
+}
+
+/// What a run left behind, and the functions' applications.
+pub fn profile(code: &[u32], lending: &Lending) -> Kept<(Left, Counts)> {
+    let mut counts = Answer::new();
+    let left = lent_run(code, lending, |code, text, cells, answer| {
+        exports::profile(code, lending.start, text, cells, lending.allowance, answer, counts.words());
+    })?;
+    Ok((left, Counts(Box::new(counts.kept()?))))
+}
+
+/// One call of the engine with code, text, the cells lent for a run and room for its answer.
+fn lent_run(code: &[u32], lending: &Lending, call: impl FnOnce(&[u32], &[u8], Cells, &mut [u64; 5])) -> Kept<Left> {
     let code = Lent::new(code, WORD_MARK);
     let text = Lent::new(&lending.text, BYTE_MARK);
     let mut stack_in = Lent::new(&used(lending.rooms.stack_in), BYTE_MARK);
@@ -88,7 +106,7 @@ pub fn run(code: &[u32], lending: &Lending) -> Kept<Left> {
     let mut answer = Answer::new();
     let cells =
         Cells { stack_in: stack_in.contents_mut(), stack_out: stack_out.contents_mut(), record: record.contents_mut() };
-    exports::run(code.contents(), lending.start, text.contents(), cells, lending.allowance, answer.words());
+    call(code.contents(), text.contents(), cells, answer.words());
     whole("the code", code.unchanged())?;
     whole("the text", text.unchanged())?;
     whole("stack in", stack_in.guards_whole())?;

@@ -1,4 +1,6 @@
-//! The engine's four exports, each behind a function that takes slices.
+//! The engine's exports, each behind a function that takes slices.
+
+use refal0_apart::reader::FUNCTION_LIMIT;
 
 unsafe extern "C" {
     fn refal0_read(table: *const u8, table_length: usize, answer: *mut u64);
@@ -19,6 +21,22 @@ unsafe extern "C" {
         record_length: usize,
         allowance: u32,
         answer: *mut u64,
+    );
+    fn refal0_profile(
+        code: *const u32,
+        code_length: usize,
+        start: usize,
+        text: *const u8,
+        text_length: usize,
+        stack_in: *mut u8,
+        stack_in_length: usize,
+        stack_out: *mut u8,
+        stack_out_length: usize,
+        record: *mut u8,
+        record_length: usize,
+        allowance: u32,
+        answer: *mut u64,
+        counts: *mut u64,
     );
 }
 
@@ -68,6 +86,37 @@ pub fn run(code: &[u32], start: usize, text: &[u8], cells: Cells, allowance: u32
             cells.record.len(),
             allowance,
             answer.as_mut_ptr(),
+        );
+    }
+}
+
+/// A run that answers the functions' applications besides.
+pub fn profile(
+    code: &[u32],
+    start: usize,
+    text: &[u8],
+    cells: Cells,
+    allowance: u32,
+    answer: &mut [u64; 5],
+    counts: &mut [u64; FUNCTION_LIMIT],
+) {
+    // SAFETY: pointers and lengths are those of the slices, for the time of the call
+    unsafe {
+        refal0_profile(
+            code.as_ptr(),
+            code.len(),
+            start,
+            text.as_ptr(),
+            text.len(),
+            cells.stack_in.as_mut_ptr(),
+            cells.stack_in.len(),
+            cells.stack_out.as_mut_ptr(),
+            cells.stack_out.len(),
+            cells.record.as_mut_ptr(),
+            cells.record.len(),
+            allowance,
+            answer.as_mut_ptr(),
+            counts.as_mut_ptr(),
         );
     }
 }

@@ -2,6 +2,7 @@
 
 const GUARD: usize = 32;
 
+#[derive(PartialEq)]
 pub struct Lent<T> {
     cells: Vec<T>,
     before: Vec<T>,

@@ -6,7 +6,7 @@ use refal0_apart::class::Class;
 use refal0_apart::corpus::Lending;
 use refal0_apart::machine::{FRAMES, Rooms};
 use refal0_apart::packing::{self, BASES, REGISTERS, pack};
-use refal0_apart::reader::{NAME_LIMIT, NESTING_LIMIT, SYMBOL_LIMIT};
+use refal0_apart::reader::{FUNCTION_LIMIT, NAME_LIMIT, NESTING_LIMIT, SYMBOL_LIMIT};
 use refal0_apart::translation::{Action, Base, Cell, Code, Length, Metric, Program, Register, Test};
 
 /// Few different bytes, so that tests often hold.
@@ -104,7 +104,8 @@ fn operand_changed(random: &mut Random, word: u32) -> u32 {
 
 /// Valid instructions in any order: functions that call each other, sentences with sound heads.
 fn program(random: &mut Random) -> Program {
-    let count = 1 + random.below(4);
+    // at times about as many as are counted
+    let count = if random.one_in(200) { FUNCTION_LIMIT - 1 + random.below(3) } else { 1 + random.below(4) };
     Program { functions: (0..count).map(|_| function(random, count)).collect() }
 }
 

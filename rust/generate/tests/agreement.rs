@@ -117,6 +117,7 @@ fn the_machine_comes_to_the_rewriting() {
         let rewritten = rewrite(&tree, start, &text, allowance);
         let (outcome, need) = machine::run(&code, start, &text, allowance, Rooms::WITHOUT_END);
         assert_eq!(outcome, rewritten, "{}", String::from_utf8_lossy(&list(&tree)));
+        assert_eq!(outcome.counts.0.iter().sum::<u64>(), outcome.steps);
         assert_eq!(machine::run(&code, start, &text, allowance, need), (rewritten, need));
         narrowed(&code, start, &text, allowance, &outcome, need);
         *answers.entry(outcome.answer).or_insert(0) += 1;

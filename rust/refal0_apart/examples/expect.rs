@@ -12,7 +12,7 @@ fn main() {
     let mut output = Vec::new();
     for (number, line) in file.strip_suffix(b"\n").unwrap_or(&file).split(|&byte| byte == 10).enumerate() {
         let key = key_and_value(line).map(|(key, _)| key);
-        if !matches!(key, Some(b"gives" | b"result" | b"record" | b"refused")) {
+        if !matches!(key, Some(b"gives" | b"counts" | b"result" | b"record" | b"refused")) {
             output.extend_from_slice(line);
             output.push(10);
         }
@@ -39,6 +39,10 @@ fn expectation(source: &Source, expected: &Expected) -> String {
 
 fn run_lines(outcome: &Outcome) -> String {
     let mut lines = format!("gives: {} {} {}\n", outcome.answer, outcome.function, outcome.steps);
+    let counts: Vec<String> = outcome.counts.met().iter().map(u64::to_string).collect();
+    if !counts.is_empty() {
+        lines.push_str(&format!("counts: {}\n", counts.join(" ")));
+    }
     for (key, bytes) in [("result", &outcome.text), ("record", &outcome.record)] {
         if !bytes.is_empty() {
             lines.push_str(&format!("{key}: {}\n", escape(bytes)));

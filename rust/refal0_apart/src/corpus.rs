@@ -3,12 +3,13 @@
 //! `table: ` begins a table, `more: ` adds a line to it; `escaped: ` is a whole table with escapes,
 //! `padded: length table` one with blanks after it up to that length; `code: ` has words of code in place of a table.
 //! `text: ` is a text for the last table or code; a line `with: name=number ...` before it changes what is lent.
-//! `gives: answer function steps`, `result: ` and `record: ` (left out if empty) say what the text comes to;
+//! `gives: answer function steps`, `counts: ` (the functions' applications, up to the last that isn't 0), `result: `
+//! and `record: ` (each left out if empty) say what the text comes to;
 //! `refused: number place` stands for a table that is refused. Texts, results and records have the
 //! escapes `\n`, `\t`, `\\` and `\xHH`. Empty lines and lines that begin with `#` are passed over.
 
 use crate::machine::{self, Rooms};
-use crate::outcome::Outcome;
+use crate::outcome::{Counts, Outcome};
 use crate::packing;
 use crate::reader::{Refusal, read};
 use crate::rewriter::rewrite;
@@ -133,6 +134,7 @@ impl Parser {
                 let [answer, function, steps] = numbers(value)?[..] else { return None };
                 (outcome.answer, outcome.function, outcome.steps) = (answer, function as usize, steps);
             }
+            b"counts" => outcome.counts = Counts::of(&numbers(value)?)?,
             b"result" => outcome.text = unescape(value)?,
             b"record" => outcome.record = unescape(value)?,
             _ => return None,

@@ -1,7 +1,7 @@
 //! The two-stack string machine on any words of code, without end or on lent rooms, with what it needs.
 
 use crate::decoding::{Head, Trial, Words};
-use crate::outcome::{Outcome, Stop};
+use crate::outcome::{Applications, Outcome, Stop};
 use crate::reader::{NESTING_LIMIT, SYMBOL_LIMIT};
 use crate::translation::{Action, Base, Cell, Length, Metric, Register, Test};
 use std::ops::RangeInclusive;
@@ -41,7 +41,7 @@ pub fn run(code: &[u32], start: usize, text: &[u8], allowance: u32, rooms: Rooms
     let mut machine = Machine::on(words, text, allowance, rooms);
     let end = machine.finish(start);
     let text = std::mem::take(&mut machine.stack_out);
-    (Outcome::of(end.map(|()| text), machine.steps, machine.record), machine.need)
+    (Outcome::of(end.map(|()| text), machine.applications, machine.record), machine.need)
 }
 
 /// How many actions the run without end performs; the code is a translation and the start declared.
@@ -57,8 +57,7 @@ struct Machine<'c> {
     words: Words<'c>,
     rooms: Rooms,
     need: Rooms,
-    allowance: u64,
-    steps: u64,
+    applications: Applications,
     performed: u64,
     /// Stack in from its right end to p: the cell at p is the last one here.
     stack_in: Vec<u8>,
@@ -147,8 +146,7 @@ impl<'c> Machine<'c> {
             words,
             rooms,
             need: Rooms { stack_in: text.len(), stack_out: 0, record: 0, frames: 0 },
-            allowance: u64::from(allowance),
-            steps: 0,
+            applications: Applications::allowed(allowance),
             performed: 0,
             stack_in: text.iter().rev().copied().collect(),
             stack_out: Vec::new(),
@@ -284,11 +282,9 @@ impl<'c> Machine<'c> {
 
     /// Applies a function in a new frame to the field from p to q, which `beyond` cells lie right of.
     fn apply(&mut self, function: usize, beyond: usize) -> Result<(), Stop> {
-        if self.steps == self.allowance {
-            return Err(Stop::because(12));
-        }
+        self.applications.ask()?;
         note(&mut self.need.frames, self.frames.len() + 1, self.rooms.frames, 15)?;
-        self.steps += 1;
+        self.applications.make(function);
         let d = self.stack_in.len() - beyond;
         let mut at = self.words.place(function);
         loop {

@@ -1,6 +1,6 @@
 //! The rewriter: Refal-0's own rules on the tree, without stacks in and out, cells or frames.
 
-use crate::outcome::{Outcome, Stop};
+use crate::outcome::{Applications, Outcome, Stop};
 use crate::reader::SYMBOL_LIMIT;
 use crate::tree::{Callee, Item, Letter, Sentence, Table};
 
@@ -11,8 +11,7 @@ pub fn rewrite(table: &Table, start: usize, text: &[u8], allowance: u32) -> Outc
     }
     let mut rewriter = Rewriter {
         table,
-        allowance: u64::from(allowance),
-        steps: 0,
+        applications: Applications::allowed(allowance),
         record: Vec::new(),
         result: Vec::new(),
         open: Vec::new(),
@@ -20,13 +19,12 @@ pub fn rewrite(table: &Table, start: usize, text: &[u8], allowance: u32) -> Outc
     };
     let end = rewriter.run(start - 1, text);
     let result = std::mem::take(&mut rewriter.result);
-    Outcome::of(end.map(|()| result), rewriter.steps, rewriter.record)
+    Outcome::of(end.map(|()| result), rewriter.applications, rewriter.record)
 }
 
 struct Rewriter<'t> {
     table: &'t Table,
-    allowance: u64,
-    steps: u64,
+    applications: Applications,
     record: Vec<u8>,
     /// All text that is ready, the arguments of open calls last.
     result: Vec<u8>,
@@ -104,10 +102,8 @@ impl<'t> Rewriter<'t> {
     }
 
     fn apply(&mut self, number: usize, text: Vec<u8>) -> Result<(), Stop> {
-        if self.steps == self.allowance {
-            return Err(Stop::because(12));
-        }
-        self.steps += 1;
+        self.applications.ask()?;
+        self.applications.make(number + 1);
         for sentence in &self.table.functions[number].sentences {
             if let Some(values) = fit(sentence, &text) {
                 self.waiting.push(Substitution { items: &sentence.expression, next: 0, text, values });

@@ -246,6 +246,14 @@ fn emissions_of_any_name() {
     assert_eq!((outcome.answer, outcome.record), (0, [b" a\n".as_slice(), &[255; 200], b" b\n"].concat()));
 }
 
+#[test]
+fn functions_past_the_64th_are_not_counted() {
+    // each function calls the next
+    let functions = (1..=65).map(|number| vec![always(if number < 65 { vec![Call(number + 1)] } else { vec![] })]);
+    let outcome = run(functions.collect(), b"");
+    assert_eq!((outcome.answer, outcome.steps, *outcome.counts.0), (0, 65, [1; 64]));
+}
+
 /// The example of docs/CODE.md.
 #[test]
 fn row_r_in_words() {

@@ -1,8 +1,9 @@
 //! Every row of the paper's 'Runs to hold on to', on the rewriter and on the machine.
 
+use refal0_apart::corpus::Lending;
 use refal0_apart::listing::list;
 use refal0_apart::machine::{self, Rooms};
-use refal0_apart::outcome::Outcome;
+use refal0_apart::outcome::{Counts, Outcome};
 use refal0_apart::packing::code;
 use refal0_apart::reader::{Refusal, read};
 use refal0_apart::rewriter::rewrite;
@@ -14,12 +15,14 @@ const K: &[u8] = b"K { s1 e2 s1 e3 = e2 '|' e3 }";
 const P: &[u8] = b"P { e1 = <Q 'ab' e1> } Q { e1 = e1 }";
 const M: &[u8] = b"M { e1 = <EmitA <N e1>> <EmitB 'x'> } N { e1 = <EmitC e1> 'y' }";
 
-fn done(text: &[u8], steps: u64) -> Outcome {
-    Outcome { answer: 0, function: 0, steps, text: text.to_vec(), record: Vec::new() }
+/// A run that is stopped after each function has been applied so often.
+fn stopped(answer: u64, function: usize, applications: &[u64]) -> Outcome {
+    let counts = Counts::of(applications).expect("a table has at most 64 functions");
+    Outcome { answer, function, steps: applications.iter().sum(), counts, text: Vec::new(), record: Vec::new() }
 }
 
-fn stopped(answer: u64, function: usize, steps: u64) -> Outcome {
-    Outcome { answer, function, steps, text: Vec::new(), record: Vec::new() }
+fn done(text: &[u8], applications: &[u64]) -> Outcome {
+    Outcome { text: text.to_vec(), ..stopped(0, 0, applications) }
 }
 
 /// The outcome of rewriting, which must be that of the machine without end; and what the machine needs.
@@ -39,24 +42,24 @@ fn lent(table: &[u8], text: &[u8], rooms: Rooms) -> Outcome {
 #[test]
 fn row_z() {
     let (outcome, need) = ample(Z, b"0060", 100_000);
-    assert_eq!(outcome, done(b"60", 3));
+    assert_eq!(outcome, done(b"60", &[3]));
     assert_eq!(need.stack_out, 3);
     assert_eq!(need.frames, 1);
-    assert_eq!(ample(Z, b"", 100_000).0, done(b"", 1));
-    assert_eq!(ample(Z, b"0060", 2).0, stopped(12, 0, 2));
-    assert_eq!(ample(Z, b"0060", 3).0, done(b"60", 3));
-    assert_eq!(lent(Z, b"0060", Rooms::lent(4, 3, 0)), done(b"60", 3));
-    assert_eq!(lent(Z, b"0060", Rooms::lent(4, 2, 0)), stopped(14, 0, 1));
-    assert_eq!(lent(Z, b"0060", Rooms::lent(3, 3, 0)), stopped(10, 0, 0));
+    assert_eq!(ample(Z, b"", 100_000).0, done(b"", &[1]));
+    assert_eq!(ample(Z, b"0060", 2).0, stopped(12, 0, &[2]));
+    assert_eq!(ample(Z, b"0060", 3).0, done(b"60", &[3]));
+    assert_eq!(lent(Z, b"0060", Rooms::lent(4, 3, 0)), done(b"60", &[3]));
+    assert_eq!(lent(Z, b"0060", Rooms::lent(4, 2, 0)), stopped(14, 0, &[1]));
+    assert_eq!(lent(Z, b"0060", Rooms::lent(3, 3, 0)), stopped(10, 0, &[]));
 }
 
 #[test]
 fn row_r() {
     let (outcome, need) = ample(R, b"abc", 100_000);
-    assert_eq!(outcome, done(b"cba", 4));
+    assert_eq!(outcome, done(b"cba", &[4]));
     assert_eq!(need, Rooms { stack_in: 3, stack_out: 3, record: 0, frames: 4 });
-    assert_eq!(lent(R, b"abc", Rooms::lent(3, 3, 0)), done(b"cba", 4));
-    assert_eq!(lent(R, b"abc", Rooms::lent(3, 2, 0)), stopped(14, 0, 4));
+    assert_eq!(lent(R, b"abc", Rooms::lent(3, 3, 0)), done(b"cba", &[4]));
+    assert_eq!(lent(R, b"abc", Rooms::lent(3, 2, 0)), stopped(14, 0, &[4]));
 }
 
 #[test]
@@ -64,36 +67,36 @@ fn row_r_and_frames() {
     let text: Vec<u8> = (0..=255).map(|number| b'a' + number % 26).collect();
     let turned: Vec<u8> = text[..255].iter().rev().copied().collect();
     let rooms = Rooms::lent(32_768, 32_768, 0);
-    assert_eq!(lent(R, &text[..255], rooms), done(&turned, 256));
+    assert_eq!(lent(R, &text[..255], rooms), done(&turned, &[256]));
     assert_eq!(ample(R, &text[..255], 100_000).1.frames, 256);
-    assert_eq!(lent(R, &text, rooms), stopped(15, 0, 256));
+    assert_eq!(lent(R, &text, rooms), stopped(15, 0, &[256]));
     assert_eq!(ample(R, &text, 100_000).0.steps, 257);
 }
 
 #[test]
 fn rows_h_and_k() {
-    assert_eq!(ample(H, b"ab7c9", 100_000).0, done(b"7", 1));
-    assert_eq!(ample(H, b"abc", 100_000).0, stopped(11, 1, 1));
-    assert_eq!(ample(K, b"abcab", 100_000).0, done(b"bc|b", 1));
-    assert_eq!(ample(K, b"aa", 100_000).0, done(b"|", 1));
-    assert_eq!(ample(K, b"ab", 100_000).0, stopped(11, 1, 1));
+    assert_eq!(ample(H, b"ab7c9", 100_000).0, done(b"7", &[1]));
+    assert_eq!(ample(H, b"abc", 100_000).0, stopped(11, 1, &[1]));
+    assert_eq!(ample(K, b"abcab", 100_000).0, done(b"bc|b", &[1]));
+    assert_eq!(ample(K, b"aa", 100_000).0, done(b"|", &[1]));
+    assert_eq!(ample(K, b"ab", 100_000).0, stopped(11, 1, &[1]));
 }
 
 #[test]
 fn row_p() {
-    assert_eq!(ample(P, b"c", 100_000).0, done(b"abc", 2));
-    assert_eq!(lent(P, b"c", Rooms::lent(3, 3, 0)), done(b"abc", 2));
-    assert_eq!(lent(P, b"c", Rooms::lent(2, 3, 0)), stopped(13, 0, 1));
+    assert_eq!(ample(P, b"c", 100_000).0, done(b"abc", &[1, 1]));
+    assert_eq!(lent(P, b"c", Rooms::lent(3, 3, 0)), done(b"abc", &[1, 1]));
+    assert_eq!(lent(P, b"c", Rooms::lent(2, 3, 0)), stopped(13, 0, &[1]));
 }
 
 #[test]
 fn row_m() {
     let record = b"EmitC q\nEmitA y\nEmitB x\n".to_vec();
     let (outcome, need) = ample(M, b"q", 100_000);
-    assert_eq!(outcome, Outcome { record: record.clone(), ..done(b"", 2) });
+    assert_eq!(outcome, Outcome { record: record.clone(), ..done(b"", &[1, 1]) });
     assert_eq!(need.record, record.len());
     let short = lent(M, b"q", Rooms::lent(9, 9, record.len() - 1));
-    assert_eq!(short, Outcome { record: b"EmitC q\nEmitA y\n".to_vec(), ..stopped(16, 0, 2) });
+    assert_eq!(short, Outcome { record: b"EmitC q\nEmitA y\n".to_vec(), ..stopped(16, 0, &[1, 1]) });
 }
 
 #[test]
@@ -103,7 +106,7 @@ fn rows_of_reading() {
     assert_eq!(refused(b"F{e1=e1 e1}"), Refusal { number: 7, place: 8 });
     assert_eq!(refused(b"F{=<G>}"), Refusal { number: 8, place: 4 });
     assert_eq!(refused(b"F{='\\256'}"), Refusal { number: 2, place: 3 });
-    assert_eq!(ample(b"F{='\\255'}", b"", 100_000).0, done(&[255], 1));
+    assert_eq!(ample(b"F{='\\255'}", b"", 100_000).0, done(&[255], &[1]));
     assert_eq!(refused(b"F{e1 s1='\\256'}"), Refusal { number: 6, place: 5 });
 }
 
@@ -112,17 +115,42 @@ fn listing_of_row_r() {
     assert_eq!(list(&read(R).unwrap()), b"G {\ns1 e2 = <G e2> s1;\n=;\n}\n");
 }
 
+/// What the program prints of a run: answer, function, steps; the record; the result; a line for each function; the
+/// total.
+fn printed(table: &[u8], text: &[u8]) -> String {
+    let tree = read(table).expect("the row's table is accepted");
+    let outcome = Lending { text: text.to_vec(), ..Lending::default() }.run(&code(&tree));
+    let mut output = format!("{} {} {}\n", outcome.answer, outcome.function, outcome.steps).into_bytes();
+    output.extend(&outcome.record);
+    output.extend(&outcome.text);
+    output.push(10);
+    for (number, (function, count)) in tree.functions.iter().zip(*outcome.counts.0).enumerate() {
+        let name = String::from_utf8_lossy(&function.name);
+        output.extend(format!("{} {name} {count}\n", number + 1).into_bytes());
+    }
+    output.extend(format!("total {}\n", outcome.steps).into_bytes());
+    String::from_utf8(output).expect("the row's output is readable")
+}
+
 #[test]
-fn the_program_on_row_r() {
-    let (outcome, _) = ample(R, b"abc", 100_000);
-    let head = format!("{} {} {}", outcome.answer, outcome.function, outcome.steps);
-    assert_eq!((head.as_str(), outcome.text.as_slice()), ("0 0 4", b"cba".as_slice()));
+fn the_program_on_the_rows() {
+    assert_eq!(printed(R, b"abc"), "0 0 4\ncba\n1 G 4\ntotal 4\n");
+    assert_eq!(printed(H, b"abc"), "11 1 1\n\n1 H 1\ntotal 1\n");
+    assert_eq!(printed(M, b"q"), "0 0 2\nEmitC q\nEmitA y\nEmitB x\n\n1 M 1\n2 N 1\ntotal 2\n");
+    assert_eq!(printed(b"", b"abc"), "9 0 0\n\ntotal 0\n");
+    assert_eq!(printed(P, &[b'x'; 32_769]), "10 0 0\n\n1 P 0\n2 Q 0\ntotal 0\n");
+}
+
+#[test]
+fn a_failed_application_is_counted_and_one_that_is_not_made_is_not() {
+    assert_eq!(ample(b"F{e1=<G e1>'k'}G{'x'=}", b"q", 100_000).0, stopped(11, 2, &[1, 1]));
+    assert_eq!(ample(b"F{e1=<G e1>'k'}G{'x'=}", b"q", 1).0, stopped(12, 0, &[1]));
 }
 
 #[test]
 fn the_three_wrong_turns() {
     // the place is settled together with its condition, not before it
-    assert_eq!(ample(b"F{e1 s2 'x' e3, <IsDigit s2>:'T' = s2 e3}", b"ax7xb", 9).0, done(b"7b", 1));
+    assert_eq!(ample(b"F{e1 s2 'x' e3, <IsDigit s2>:'T' = s2 e3}", b"ax7xb", 9).0, done(b"7b", &[1]));
     // byte 5 then `7`
     let tree = read(b"F{='\\5' '7'}").unwrap();
     assert_eq!(list(&tree), b"F {\n= '\\5\\55';\n}\n");
@@ -136,5 +164,5 @@ fn long_and_deep_rewriting_needs_no_native_stack() {
     let deep = rewrite(&tree, 1, &[b'a'; 30_000], 100_000);
     assert_eq!((deep.answer, deep.steps, deep.text.len()), (0, 30_001, 30_000));
     let tree = read(b"F { e1 = <F e1> }").unwrap();
-    assert_eq!(rewrite(&tree, 1, b"a", 300_000), stopped(12, 0, 300_000));
+    assert_eq!(rewrite(&tree, 1, b"a", 300_000), stopped(12, 0, &[300_000]));
 }

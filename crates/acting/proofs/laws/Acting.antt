@@ -82,6 +82,7 @@ module _ (g : Registers) (m : Memory) where
         steps = refl;
         callee = refl;
         waiting = refl;
+        counts = refl;
         values = refl;
         beyond = λ old e. e;
       }

@@ -1,13 +1,16 @@
 -- The frames' words: what a store changes of a frame, and the sequences that a frame keeps open.
-use Prim.Native.Nat.{ℕ, zero, suc, _+_, _*_, _-_, _≤_, _<_, min}
+use Prim.Native.Nat.{ℕ, zero, suc, pred, _+_, _*_, _-_, _≤_, _<_, min}
 use native.Mathlib.Nat.{min-eq-left, min-eq-right, sub-zero, zero-sub, suc-sub-suc}
-use native.Mathlib.Decide.{decLe}
+use native.Mathlib.Decide.{decLe, ℕ-discrete}
+use native.Mathlib.Numerals.{add-one}
 use native.Mathlib.Omega.{arith}
-use mathlib.Core.Path.{_≡_, sym}
+use mathlib.Core.Path.{_≡_, sym, _∙_}
 use mathlib.Core.List.{List, [], _∷_}
-use lib.ListN.{length, take, drop, set, length-drop, length-take, drop-of-length-le}
-use lib.Seq.{getD-set-same, getD-set-other, getD-take, drop-cons, take-set-le, set-split, drop-at, length-take-le, take-all, take-nil, take-length, drop-length}
-use Rattle.acting.specs.States.{frameWord, Held, roomOfFrames}
+use lib.ListN.{length, take, drop, getD, set, length-drop, length-take, drop-of-length-le}
+use lib.Seq.{getD-set-same, getD-set-other, getD-take, drop-cons, take-set-le, drop-set-lt, drop-set-add, getD-drop, set-out, take-suc, take-suc-set, set-split, drop-at, length-take-le, take-all, take-nil, take-length, drop-length}
+use Rattle.meaning.specs.Outcome.{maxCounted, counted}
+use Rattle.meaning.specs.Leaving.{maxFrames}
+use Rattle.acting.specs.States.{frameWords, frameWord, countsFrom, countsIn, countedIn, CountsWithin, Held, roomOfFrames}
 
 -- LISTS
 
@@ -91,3 +94,41 @@ held-count frames k n framed room h held =
 -- frames that wait below are not touched
 pub waiting-kept : (frames : List ℕ) (k i v : ℕ) → take (24 * k) (set frames (24 * k + i) v) ≡ take (24 * k) frames
 waiting-kept frames k i v = take-set-le (24 * k) frames (24 * k + i) v (omega arith)
+
+-- nor are the counts behind the frames
+pub counts-kept : (frames : List ℕ) (k i v : ℕ) → k < maxFrames → i < frameWords → countsIn (set frames (24 * k + i) v) ≡ countsIn frames
+counts-kept frames k i v framed h = drop-set-lt countsFrom frames (24 * k + i) v (omega arith)
+
+-- COUNTS
+
+-- a function that is counted has one application more, and no frame is touched
+pub counts-counted : (frames : List ℕ) (number : ℕ) → 0 < number → countsIn (countedIn number frames) ≡ counted number (countsIn frames)
+counts-counted frames zero h = absurd (omega arith)
+counts-counted frames (suc i) h = rw (drop-set-add countsFrom frames i, getD-drop countsFrom frames i 0)
+
+pub counted-below : (frames : List ℕ) (number k : ℕ) → k ≤ maxFrames → take (24 * k) (countedIn number frames) ≡ take (24 * k) frames
+counted-below frames number k h = take-set-le (24 * k) frames (countsFrom + pred number) _ (omega arith)
+
+-- a count is at most one more than before
+pub counted-within : (frames : List ℕ) (number most : ℕ) → 0 < number → CountsWithin most frames → CountsWithin (suc most) (countedIn number frames)
+counted-within frames zero most h within i = absurd (omega arith)
+counted-within frames (suc n) most h within i = rw (counts-counted frames (suc n) h) (by (ℕ-discrete i n) (decLe (length (countsIn frames)) n))
+  where
+    counts : List ℕ
+    counts = countsIn frames
+
+    by : Dec (i ≡ n) → Dec (length counts ≤ n) → getD (set counts n (suc (getD counts n 0))) i 0 ≤ suc most
+    by (no e) d = rw (getD-set-other counts n i (suc (getD counts n 0)) 0 e) (omega (arith, within i))
+    by (yes e) (no d) = rw (e, getD-set-same counts n (suc (getD counts n 0)) 0 (omega arith)) (omega (arith, within n))
+    by (yes e) (yes d) = rw (set-out counts n (suc (getD counts n 0)) d) (omega (arith, within i))
+
+-- one count more is copied
+pub counts-copied : (frames counts : List ℕ) (i v : ℕ) → i < length counts → i < length (countsIn frames) → v ≡ getD frames (countsFrom + i) 0
+    → take i counts ≡ take i (countsIn frames) → take (i + 1) (set counts i v) ≡ take (i + 1) (countsIn frames)
+counts-copied frames counts i v h h′ e so-far =
+    rw (add-one i, take-suc-set counts i v h, so-far, e, ← (getD-drop countsFrom frames i 0)) (sym (take-suc (countsIn frames) i 0 h′))
+
+pub counts-whole : (frames counts : List ℕ) (i : ℕ) → length frames ≡ roomOfFrames → length counts ≡ maxCounted → maxCounted ≤ i
+    → take i counts ≡ take i (countsIn frames) → counts ≡ countsIn frames
+counts-whole frames counts i room sized h e =
+    sym (take-all i counts (omega arith)) ∙ e ∙ take-all i (countsIn frames) (rw (length-drop countsFrom frames) (omega arith))

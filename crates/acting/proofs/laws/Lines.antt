@@ -95,6 +95,7 @@ module _ (g : Registers) (m : Memory) (words : Words) (n : ℕ) where
             steps = refl;
             callee = refl;
             waiting = refl;
+            counts = refl;
             values = refl;
             beyond = λ old e. drop-paste (m .journal) (g .emitted) line size logged long ∙ further (m .journal) old (g .emitted) size e;
           };

@@ -12,9 +12,9 @@ use Rattle.meaning.specs.Machine.{withOpened}
 use Rattle.acting.specs.declared.registers.Registers.{Registers}
 use Rattle.acting.specs.declared.registers.Ending.the-variants.{NoInstruction, InFull}
 use Rattle.acting.specs.declared.registers.Next.the-variants.{Onward, Stopped}
-use Rattle.acting.specs.States.{Memory, memory, frameWord, localAt, openedAt, movedTo, Acts, roomOfFrames}
+use Rattle.acting.specs.States.{Memory, memory, frameWord, localAt, openedAt, countsIn, movedTo, Acts, roomOfFrames}
 use Rattle.acting.specs.Copied.{MovedDown}
-use Rattle.acting.proofs.laws.Frames.{drop-take, drop-min, take-min, drop-set-here, word-set, word-kept, openedOf, opened-count, opened-none, opened-next, held-past, held-count, waiting-kept}
+use Rattle.acting.proofs.laws.Frames.{drop-take, drop-min, take-min, drop-set-here, word-set, word-kept, openedOf, opened-count, opened-none, opened-next, held-past, held-count, waiting-kept, counts-kept}
 use Rattle.acting.proofs.laws.Acting.{stops}
 
 module _ (frames : List ℕ) (values : Bytes) (k : ℕ) (framed : k < 256) (room : length frames ≡ roomOfFrames) where
@@ -70,6 +70,8 @@ module _ (g : Registers) (m : Memory) (framed : g .frame < 256) (room : length (
   begin-kept r≤out h =
       let frames₁ = set (m .frames) (24 * g .frame + (23 - count)) (g .r .0) in
       let room₁ : length frames₁ ≡ roomOfFrames = rw length-set room in
+      let counted : countsIn (set frames₁ (24 * g .frame + 5) (count + 1)) ≡ countsIn (m .frames) =
+      counts-kept frames₁ (g .frame) 5 (count + 1) framed (omega arith) ∙ counts-kept (m .frames) (g .frame) (23 - count) (g .r .0) framed (omega arith) in
       record {
         same = λ allowance code enter k.
             rw (
@@ -78,6 +80,7 @@ module _ (g : Registers) (m : Memory) (framed : g .frame < 256) (room : length (
               length-take-le (g .r .0) (m .output) r≤out,
               local-count frames₁ (m .values) (g .frame) framed room₁ (count + 1) (omega arith),
               local-opened (m .frames) (m .values) (g .frame) framed room count (g .r .0) h room₁,
+              counted,
             );
         stays = record {
           fits = λ f. record {
@@ -95,6 +98,7 @@ module _ (g : Registers) (m : Memory) (framed : g .frame < 256) (room : length (
           steps = refl;
           callee = refl;
           waiting = waiting-kept frames₁ (g .frame) 5 (count + 1) ∙ waiting-kept (m .frames) (g .frame) (23 - count) (g .r .0);
+          counts = counted;
           values = refl;
           beyond = λ old e. e;
         };
@@ -162,6 +166,7 @@ module _ (g : Registers) (m : Memory) (framed : g .frame < 256) (room : length (
                   length-drop (g .p .0) (m .input),
                   le-ltb (length (m .input)) _ there,
                   local-count (m .frames) (m .values) (g .frame) framed room (count - 1) (omega arith),
+                  counts-kept (m .frames) (g .frame) 5 (count - 1) framed (omega arith),
                   argument,
                   kept,
                   below-p,
@@ -183,6 +188,7 @@ module _ (g : Registers) (m : Memory) (framed : g .frame < 256) (room : length (
               steps = refl;
               callee = refl;
               waiting = waiting-kept (m .frames) (g .frame) 5 (count - 1);
+              counts = counts-kept (m .frames) (g .frame) 5 (count - 1) framed (omega arith);
               values = refl;
               beyond = λ old e. e;
             };

@@ -1,5 +1,6 @@
 -- `applying::apply` meets its contract.
 use mathlib.Core.Path.{_≡_, refl, ap, _∙_}
+use native.Mathlib.Omega.{arith}
 use lib.ListN.{getD, drop}
 use Rattle.meaning.specs.Matching.{chooseFrom}
 use Rattle.meaning.specs.Packing.{unpackSentences}
@@ -10,15 +11,21 @@ use borrow.Author.Needs.{needs}
 use Rattle.applying.proofs.apply.Statement.{statement}
 use Rattle.applying.proofs.apply.Tie as tie
 
+returns : tie.Need-returns
+returns c = λ output journal. apply-spent _ _ _ _ _ (c .if1 .taken)
+
 -- WHERE A SENTENCE IS CHOSEN: what is required of the function, the step that is left, and which sentence is meant
 
+abbrev at-count : tie.After-choose → tie.After-count-application
+at-count c = c .before .before .before .before .before .before
+
 abbrev entry : tie.After-choose → tie.Start
-entry c = c .before .before .before .before .before .before .before .before .before .before .before .before .before
+entry c = at-count c .before .before .before .before .before .before .before .before .before .before .before
 
 may : (c : tie.After-choose) → Payable (entry c .args .code .now) (entry c .args .allowance) (entry c .args .number) (entry c .args .g)
 may c =
     let pre = entry c .pre in
-    record { counted = pre .1 .0; positive = pre .1 .1 .0; within = pre .1 .1 .1 .0; left = c .before .before .before .before .before .before .before .before .if1 .left }
+    record { counted = pre .1 .0; positive = pre .1 .1 .0; within = pre .1 .1 .1 .0; left = at-count c .before .before .before .before .before .before .if1 .left }
 
 meant : (c : tie.After-choose) (r : Choice) → c .choose .result ≡ r → choiceMeant (entry c .args .code .now) r ≡
     Chosen (entry c .args .code .now) (entry c .args .number) (entry c .args .g) (entry c .args .input .now)
@@ -27,8 +34,12 @@ meant c r e =
     (rw (c .before .wide .ensures, e) at (c .choose .ensures)) .same ∙
     ap (chooseFrom 0 (unpackSentences 0 (drop (getD code (entry c .args .number) 0) code))) (c .before .before .before .part .ensures)
 
-returns : tie.Need-returns
-returns c = λ output journal. apply-spent _ _ _ _ _ (c .if1 .taken)
+count-application-requires : tie.Need-count-application-requires
+count-application-requires c κs =
+    let at-if1 = c .before .before .before .before .before in
+    let entry = at-if1 .before .before .before .before .before in
+    let pre = entry .pre in
+    (pre .1 .1 .0, (pre .1 .1 .1 .1 .1 .1 .1 .0, λ i. omega (arith, pre .1 .1 .1 .1 .1 .1 .1 .1 .1 i, at-if1 .if1 .left, entry .fits .allowance)))
 
 start-sentence-requires : tie.Need-start-sentence-requires
 start-sentence-requires c κs =
@@ -36,7 +47,8 @@ start-sentence-requires c κs =
     let at-choose = at-place .before .before in
     let lent = entry at-choose .pre .1 .1 .1 .1 in
     let few = rw (at-place .place .given .1) at (at-choose .choose .ensures .few) in
-    (lent .0, (lent .1 .0, (lent .1 .1 .0, (lent .1 .1 .1 .0, (lent .1 .1 .1 .1, few)))))
+    let sized = at-count at-choose .count-application .kept .0 ∙ lent .1 .1 .1 .0 in
+    (lent .0, (lent .1 .0, (lent .1 .1 .0, (sized, (lent .1 .1 .1 .1 .0, few)))))
 
 returns-2 : tie.Need-returns-2
 returns-2 c =
@@ -44,14 +56,16 @@ returns-2 c =
     let at-place = at-start-sentence .before .before .before .before in
     let at-choose = at-place .before .before in
     let v = at-place .place .given .0 in
-    λ output journal. apply-starts _ _ _ _ _ (may at-choose) (v .0) (v .1 .0) (v .1 .1 .0 .0) (v .1 .1 .1 .0) _ _ (meant at-choose _ (at-place .place .given .1))
+    λ output journal. apply-starts _ _ _ _ _ (may at-choose) (v .0) (v .1 .0) (v .1 .1 .0 .0) (v .1 .1 .1 .0) _ _ (at-count at-choose .count-application .ensures) (meant at-choose _ (at-place .place .given .1))
     (at-start-sentence .start-sentence .ensures _ output journal)
 
 returns-3 : tie.Need-returns-3
-returns-3 c = λ output journal. apply-stops _ _ _ _ _ (may (c .before .before)) _ (meant (c .before .before) _ (c .enum-told .given .1)) _ _ refl
+returns-3 c = λ output journal. rw (at-count (c .before .before) .count-application .ensures)
+    (apply-stops _ _ _ _ _ (may (c .before .before)) _ (meant (c .before .before) _ (c .enum-told .given .1)) _ _ refl)
 
 returns-4 : tie.Need-returns-4
-returns-4 c = λ output journal. apply-stops _ _ _ _ _ (may (c .before .before)) _ (meant (c .before .before) _ (c .enum-told2 .given .1)) _ _ refl
+returns-4 c = λ output journal. rw (at-count (c .before .before) .count-application .ensures)
+    (apply-stops _ _ _ _ _ (may (c .before .before)) _ (meant (c .before .before) _ (c .enum-told2 .given .1)) _ _ refl)
 
 pub apply-spec : {M : Type 1} → statement M
 apply-spec =
@@ -59,6 +73,7 @@ apply-spec =
     (tie.spec
     returns
     (λ c. search needs)
+    count-application-requires
     (λ c κs. search needs)
     (λ c. search needs)
     (λ c. search needs)
@@ -71,5 +86,7 @@ apply-spec =
     (λ c. search needs)
     (λ c. search needs)
     returns-2
+    (λ c. search needs)
     returns-3
+    (λ c. search needs)
     returns-4)

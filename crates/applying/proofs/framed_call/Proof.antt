@@ -6,8 +6,8 @@ use native.Mathlib.Omega.{arith}
 use mathlib.Core.Path.{_≡_, _∙_}
 use lib.ListN.{length, length-set}
 use Rattle.acting.specs.States.{roomOfFrames, begun, callingFrom}
-use Rattle.applying.proofs.laws.Applying.{begun-length, begun-below, begun-held}
-use Rattle.applying.proofs.laws.Calling.{call-spent, call-full, call-enters}
+use Rattle.applying.proofs.laws.Applying.{begun-length, begun-below, begun-counts, begun-held}
+use Rattle.applying.proofs.laws.Calling.{call-spent, call-full, calling-counts, call-enters}
 use Rattle.applying.proofs.framed_call.Statement.{statement}
 use Rattle.applying.proofs.framed_call.Tie as tie
 
@@ -27,7 +27,8 @@ returns-3 c =
     let few : suc k < 256 = omega (arith, c .before .before .before .before .before .before .before .before .before .before .before .if2 .left) in
     λ input output journal values. rw (c .before .before .before .before .before .begin-frame .ensures, c .before .before .before .before .before .before .before .before .before .keep-caller .ensures, add-one k)
     (call-enters _ _ (a .number) (a .g) input output journal (a .frames .now) values (entry .pre .0) (c .before .before .before .before .before .before .before .before .before .before .before .before .if1 .left) (omega (arith, c .before .before .before .before .before .before .before .before .before .before .before .if2 .left))
-    (begun (suc k) 0 0 0 calling) (begun-length calling (suc k) 0 0 0 sized few ∙ sized) (begun-below calling (suc k) 0 0 0 sized few)
+    (begun (suc k) 0 0 0 calling) (begun-length calling (suc k) 0 0 0 sized few ∙ sized)
+    (begun-counts calling (suc k) 0 0 0 sized few ∙ calling-counts (a .frames .now) k (a .g .at .0) (a .g .q .0) (omega arith)) (begun-below calling (suc k) 0 0 0 sized few)
     (begun-held calling (suc k) 0 0 0 sized few (omega arith)))
 
 pub framed-call-spec : {M : Type 1} → statement M

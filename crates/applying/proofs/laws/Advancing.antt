@@ -52,6 +52,7 @@ module _ (allowance at : ℕ) (g : Registers) (m : Memory) (h : Registers) (n : 
               frameRoom = f .frameRoom;
               valueRoom = f .valueRoom;
               paid = fewer;
+              counts = λ i. rw (s .counts, s .steps) (u .ready .counts i);
               waits = λ k l. rw sized (waits-same (length (m .input)) (m .frames) (n .frames) (g .frame) (sym (s .waiting)) (u .ready .waits) k (rw (s .frame) at l));
             };
         current = f .held;
@@ -114,6 +115,7 @@ underway-stepped u =
             frameRoom = u .ready .frameRoom;
             valueRoom = u .ready .valueRoom;
             paid = u .ready .paid;
+            counts = u .ready .counts;
             waits = u .ready .waits;
           };
       current = u .current;
@@ -170,6 +172,7 @@ module _ (words : Words) (allowance : ℕ) (g : Registers) (m : Memory) (idle : 
                 frameRoom = u .ready .frameRoom;
                 valueRoom = u .ready .valueRoom;
                 paid = u .ready .paid;
+                counts = u .ready .counts;
                 waits = λ i l. u .ready .waits i (omega arith);
               };
           current = u .ready .waits k (omega arith) .held;

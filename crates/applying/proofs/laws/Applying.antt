@@ -23,8 +23,8 @@ use Rattle.acting.specs.declared.registers.Next.the-variants.{Onward, Stopped}
 use Rattle.matching.specs.declared.CodePlace.{CodePlace}
 use Rattle.applying.specs.declared.Stored.the-variants.{Before, Wrong}
 use Rattle.acting.specs.Endings.{endingNumber}
-use Rattle.acting.specs.States.{Memory, memory, frameWord, localAt, Held, ledgerOf, roomOf, Outcomes, roomOfFrames, roomOfValues, begun}
-use Rattle.acting.proofs.laws.Frames.{word-set, word-kept, waiting-kept}
+use Rattle.acting.specs.States.{Memory, memory, frameWord, localAt, Held, countsIn, ledgerOf, roomOf, Outcomes, roomOfFrames, roomOfValues, begun}
+use Rattle.acting.proofs.laws.Frames.{word-set, word-kept, waiting-kept, counts-kept}
 use Rattle.applying.specs.Storing.{Stores}
 use Rattle.applying.specs.Waiting.{countIn, functionsIn, returning}
 use Rattle.applying.specs.Advancing.{Ready, Advances, Begins, Starts}
@@ -69,16 +69,16 @@ module _ (words : Words) (counted : countIn words < length words) where
 -- AN INSTRUCTION THAT ENDS THE RUN
 
 module _ (words : Words) (allowance : ℕ) (g : Registers) (m n : Memory) (r : Ready allowance g m) where
-  -- the outcome in the frame is the run's; the values and frames may have changed
+  -- the outcome in the frame is the run's; the values, the frames and the counts may have changed
   pub stopping : (tocome : Outcomes) (bound : ℕ) (ending : Ending) (function : ℕ) (h : Registers) → 0 < bound →
-      tocome ≡ stop (endingNumber ending) function (ledgerOf allowance h m) →
+      tocome ≡ stop (endingNumber ending) function (ledgerOf allowance h n) →
       h .r ≡ g .r → h .emitted ≡ g .emitted → n .input ≡ m .input → n .output ≡ m .output → n .journal ≡ m .journal →
       Advances words allowance (returning (roomOf m) allowance words g m tocome) bound g m (Stopped h ending function) n
   stopping tocome bound ending function h b e er ee ei eo ej =
       record {
         leads =
             record {
-              same = rw (e, ej) (waiting-stop (roomOf m) allowance words (g .frame) (m .frames) (m .values) _ _ _);
+              same = rw e (waiting-stop (roomOf m) allowance words (g .frame) (m .frames) (m .values) _ _ _);
               keeps = record { below = rw (er, eo) (r .below); logged = rw (ee, ej) (r .logged) };
               room = rw (ei, eo, ej);
               beyond = λ old b. rw (ee, ej) b;
@@ -120,6 +120,12 @@ module _ (frames : List ℕ) (k field place stored : ℕ) (room : length frames 
   begun-below =
       waiting-kept Fifth k 5 0 ∙ waiting-kept Fourth k 4 stored ∙ waiting-kept Third k 3 (field - place) ∙ waiting-kept Second k 2 place ∙
       waiting-kept First k 1 field ∙ waiting-kept frames k 0 0
+
+  pub begun-counts : countsIn Begun ≡ countsIn frames
+  begun-counts =
+      counts-kept Fifth k 5 0 framed (omega arith) ∙ counts-kept Fourth k 4 stored framed (omega arith) ∙
+      counts-kept Third k 3 (field - place) framed (omega arith) ∙ counts-kept Second k 2 place framed (omega arith) ∙
+      counts-kept First k 1 field framed (omega arith) ∙ counts-kept frames k 0 0 framed (omega arith)
 
   word-0 : frameWord k 0 Begun ≡ 0
   word-0 =
@@ -197,12 +203,13 @@ module _ (words : Words) (allowance place stores stored : ℕ) (g : Registers) (
       let d = g .q .0 - g .p .0 in
       let frames′ = begun k d place stored frames in
       let kept : take (24 * k) frames′ ≡ take (24 * k) frames = begun-below frames k d place stored (r .frameRoom) (r .framed) in
+      let counted : countsIn frames′ ≡ countsIn frames = begun-counts frames k d place stored (r .frameRoom) (r .framed) in
       record {
         advances = record {
           leads =
               record {
                 same =
-                    rw (← (s .same), s .ends, begun-local frames k d place stored (r .frameRoom) (r .framed) values′ (sized ∙ r .valueRoom) few, sub-self (g .p .0))
+                    rw (← (s .same), s .ends, begun-local frames k d place stored (r .frameRoom) (r .framed) values′ (sized ∙ r .valueRoom) few, sub-self (g .p .0), counted)
                     (waiting-same (roomOf Before-start) allowance words frames frames′ values values′ k (sym kept) (sym (s .below)) _);
                 keeps =
                     record {
@@ -216,6 +223,7 @@ module _ (words : Words) (allowance place stores stored : ℕ) (g : Registers) (
                             frameRoom = begun-length frames k d place stored (r .frameRoom) (r .framed) ∙ r .frameRoom;
                             valueRoom = sized ∙ r .valueRoom;
                             paid = r .paid;
+                            counts = λ i. rw counted (r .counts i);
                             waits = waits-same (length input) frames frames′ k (sym kept) (r .waits);
                           };
                       current = begun-held frames k d place stored (r .frameRoom) (r .framed) few;

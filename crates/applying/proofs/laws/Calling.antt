@@ -18,14 +18,15 @@ use Rattle.meaning.specs.Matching.{Choice, chosen, chooseFrom}
 use Rattle.meaning.specs.Machine.{perform, isDeclared, returned, ranPaid, ranChoice}
 use Rattle.meaning.specs.Runs.{Room, lent}
 use Rattle.meaning.specs.Packing.{Words, unpackSentences, unpackStores, unpackActions}
+use Rattle.meaning.specs.Leaving.{maxFrames}
 use Rattle.acting.specs.declared.registers.Registers.{Registers}
 use Rattle.acting.specs.declared.registers.Ending.{Ending}
 use Rattle.acting.specs.declared.registers.Ending.the-variants.{AllowanceSpent, FramesFull, NoInstruction}
 use Rattle.acting.specs.declared.registers.Next.{Next}
 use Rattle.acting.specs.declared.registers.Next.the-variants.{Onward, Stopped}
 use Rattle.acting.specs.Endings.{endingNumber}
-use Rattle.acting.specs.States.{Memory, memory, frameWord, localAt, localOf, Held, stacksOf, ledgerOf, roomOf, Outcomes, roomOfFrames, begun, callingFrom}
-use Rattle.acting.proofs.laws.Frames.{word-set, word-kept, held-past, waiting-kept}
+use Rattle.acting.specs.States.{Memory, memory, frameWord, countsIn, countedIn, localAt, localOf, Held, stacksOf, ledgerOf, roomOf, Outcomes, roomOfFrames, begun, callingFrom}
+use Rattle.acting.proofs.laws.Frames.{word-set, word-kept, held-past, waiting-kept, counts-kept, counts-counted, counted-below, counted-within}
 use Rattle.applying.specs.Waiting.{countIn, functionsIn, entering, going, waiting, Waits, performing, leftWaiting}
 use Rattle.applying.specs.Advancing.{Ready, Performs, Applies, Starts}
 use Rattle.applying.proofs.laws.Waiting.{left-same, waits-same, waiting-same, entering-paid}
@@ -57,6 +58,10 @@ pub record Payable (words : Words) (allowance number : ℕ) (g : Registers) : Ty
   pub within : number ≤ countIn words
   pub left : g .steps < allowance
 
+-- one application counted
+abbrev countedFor : ℕ → Memory → Memory
+countedFor number m = memory (m .input) (m .output) (m .journal) (countedIn number (m .frames)) (m .values)
+
 module _ (words : Words) (allowance number : ℕ) (g : Registers) (m : Memory) where
   pub apply-spent : allowance ≤ g .steps → Applies words allowance number g m (Stopped g AllowanceSpent 0) m
   apply-spent h r =
@@ -66,22 +71,32 @@ module _ (words : Words) (allowance number : ℕ) (g : Registers) (m : Memory) w
   module _ (may : Payable words allowance number g) where
     paying : (choice : Choice) → choice ≡ Chosen words number g (m .input) →
         ranPaid (lent (roomOf m)) (functionsIn words) (entering (roomOf m) allowance words) (suc (g .frame)) number (stacksOf g m) (ledgerOf allowance g m)
-        (pay (ledgerOf allowance g m .tally)) ≡
+        (pay number (ledgerOf allowance g m .tally)) ≡
         ranChoice (lent (roomOf m)) (functionsIn words) (entering (roomOf m) allowance words) (suc (g .frame)) number choice (stacksOf g m)
-        (ledgerOf allowance (paidOf g) m)
+        (ledgerOf allowance (paidOf g) (countedFor number m))
     paying choice e =
-        rw (one-left (may .left), add-one (g .steps), e, code-at words (may .counted) number (may .positive) (may .within))
+        rw (
+          one-left (may .left),
+          add-one (g .steps),
+          e,
+          code-at words (may .counted) number (may .positive) (may .within),
+          counts-counted (m .frames) number (may .positive),
+        )
 
     -- where no sentence is begun, the run ends
     pub apply-stops : (choice : Choice) → choice ≡ Chosen words number g (m .input) → (ending : Ending) (function : ℕ) →
         ranChoice (lent (roomOf m)) (functionsIn words) (entering (roomOf m) allowance words) (suc (g .frame)) number choice (stacksOf g m)
-        (ledgerOf allowance (paidOf g) m) ≡ stop (endingNumber ending) function (ledgerOf allowance (paidOf g) m) →
-        Applies words allowance number g m (Stopped (paidOf g) ending function) m
+        (ledgerOf allowance (paidOf g) (countedFor number m)) ≡ stop (endingNumber ending) function (ledgerOf allowance (paidOf g) (countedFor number m)) →
+        Applies words allowance number g m (Stopped (paidOf g) ending function) (countedFor number m)
     apply-stops choice e ending function ends r =
-        begins-stop words allowance _ _ g m (paidOf g) ending function m
-        (stopping words allowance g m m r _ _ ending function (paidOf g) (omega arith) (paying choice e ∙ ends) refl refl refl refl refl)
+        begins-stop words allowance _ _ g m (paidOf g) ending function (countedFor number m)
+        (stopping words allowance g m (countedFor number m) r _ _ ending function (paidOf g) (omega arith) (paying choice e ∙ ends) refl refl refl refl refl)
 
-    ready-paid : Ready allowance g m → Ready allowance (paidOf g) m
+    -- the frames that wait are not touched
+    counted-waiting : Ready allowance g m → take (24 * g .frame) (m .frames) ≡ take (24 * g .frame) (countedIn number (m .frames))
+    counted-waiting r = sym (counted-below (m .frames) number (g .frame) (omega (arith, r .framed)))
+
+    ready-paid : Ready allowance g m → Ready allowance (paidOf g) (countedFor number m)
     ready-paid r =
         record {
           ordered = r .ordered;
@@ -89,17 +104,20 @@ module _ (words : Words) (allowance number : ℕ) (g : Registers) (m : Memory) w
           below = r .below;
           logged = r .logged;
           framed = r .framed;
-          frameRoom = r .frameRoom;
+          frameRoom = length-set (m .frames) _ _ ∙ r .frameRoom;
           valueRoom = r .valueRoom;
           paid = omega (arith, may .left);
-          waits = r .waits;
+          counts = λ i. rw (add-one (g .steps)) (counted-within (m .frames) number (g .steps) (may .positive) (r .counts) i);
+          waits = waits-same (length (m .input)) (m .frames) (countedIn number (m .frames)) (g .frame) (counted-waiting r) (r .waits);
         }
 
-    pub apply-starts : (sentence place stores stored : ℕ) (next : Next) (n : Memory) →
+    -- in frames with the application counted
+    pub apply-starts : (sentence place stores stored : ℕ) (next : Next) (n : Memory) {frames : List ℕ} → frames ≡ countedIn number (m .frames) →
         chosen sentence place (unpackStores stored (drop stores words)) (unpackActions 0 (drop (stores + stored) words)) ≡ Chosen words number g (m .input) →
-        Starts words allowance place stores stored (paidOf g) m next n → Applies words allowance number g m next n
-    apply-starts sentence place stores stored next n e starts r =
-        let begins = starts (ready-paid r) in
+        Starts words allowance place stores stored (paidOf g) (memory (m .input) (m .output) (m .journal) frames (m .values)) next n →
+        Applies words allowance number g m next n
+    apply-starts sentence place stores stored next n is e starts r =
+        let begins = (rw is at starts) (ready-paid r) in
         let d = begins .advances in
         let one : allowance - g .steps ≡ suc (allowance - (g .steps + 1)) = omega (arith, may .left) in
         let times : (allowance - g .steps) * suc (length words) ≡ (allowance - (g .steps + 1)) * suc (length words) + suc (length words) =
@@ -111,12 +129,13 @@ module _ (words : Words) (allowance number : ℕ) (g : Registers) (m : Memory) w
                   same =
                       ap (waiting (roomOf m) allowance words (g .frame) (m .frames) (m .values))
                       (paying (chosen sentence place (unpackStores stored (drop stores words)) (unpackActions 0 (drop (stores + stored) words))) e) ∙
+                      waiting-same (roomOf m) allowance words (m .frames) (countedIn number (m .frames)) (m .values) (m .values) (g .frame) (counted-waiting r) refl _ ∙
                       d .leads .same;
                   keeps = d .leads .keeps;
                   room = d .leads .room;
                   beyond = d .leads .beyond;
                 };
-            falls = omega (arith, d .falls, times);
+            falls = omega (arith, d .falls, times, left-same (m .frames) (countedIn number (m .frames)) (length words) (g .frame) (counted-waiting r));
           };
           idle = begins .idle;
         }
@@ -139,6 +158,10 @@ local-past frames k i v h l held values =
       take-set-lt (24 * k + 24) frames (24 * k + i) v (omega arith),
       drop-set-lt (24 * k + 24 - frameWord k 5 frames) (take (24 * k + 24) frames) (24 * k + i) v (omega (arith, held .opened)),
     )
+
+pub calling-counts : (frames : List ℕ) (k at end : ℕ) → k < maxFrames → countsIn (callingFrom k at end frames) ≡ countsIn frames
+calling-counts frames k at end framed =
+    counts-kept (set frames (24 * k + 6) at) k 7 end framed (omega arith) ∙ counts-kept frames k 6 at framed (omega arith)
 
 module _ (frames : List ℕ) (k at end : ℕ) (room : length frames ≡ roomOfFrames) (framed : k < 255) where
   abbrev Returning : List ℕ
@@ -204,10 +227,10 @@ module _ (words : Words) (allowance number : ℕ) (g : Registers) (m : Memory) w
       stops false = rw e
 
   -- the registers of a function that is called keep within what is lent, as its caller's do
-  called-ready : (frame size : ℕ) (frames : List ℕ) → frame < 256 → length frames ≡ roomOfFrames → ((i : ℕ) → i < frame → Waits (length (m .input)) i frames) →
-      Ready allowance g m →
+  called-ready : (frame size : ℕ) (frames : List ℕ) → frame < 256 → length frames ≡ roomOfFrames → countsIn frames ≡ countsIn (m .frames) →
+      ((i : ℕ) → i < frame → Waits (length (m .input)) i frames) → Ready allowance g m →
       Ready allowance (calledIn frame size number g) (memory (m .input) (m .output) (m .journal) frames (m .values))
-  called-ready frame size frames framed sized waits r =
+  called-ready frame size frames framed sized counted waits r =
       record {
         ordered = r .ordered;
         inside = r .inside;
@@ -217,6 +240,7 @@ module _ (words : Words) (allowance number : ℕ) (g : Registers) (m : Memory) w
         frameRoom = sized;
         valueRoom = r .valueRoom;
         paid = r .paid;
+        counts = λ i. rw counted (r .counts i);
         waits = waits;
       }
 
@@ -239,7 +263,7 @@ module _ (words : Words) (allowance number : ℕ) (g : Registers) (m : Memory) w
               record {
                 same =
                     rw (declared, entering-paid (roomOf m) allowance words (suc (g .frame)) number (stacksOf g m) (ledgerOf allowance g m) (omega arith));
-                keeps = record { ready = called-ready (g .frame) (length words) (m .frames) (r .framed) (r .frameRoom) (r .waits) r; current = u .current };
+                keeps = record { ready = called-ready (g .frame) (length words) (m .frames) (r .framed) (r .frameRoom) refl (r .waits) r; current = u .current };
                 room = refl;
                 beyond = λ old e. e;
               };
@@ -251,10 +275,10 @@ module _ (words : Words) (allowance number : ℕ) (g : Registers) (input output 
   Caller = memory input output journal frames values
 
   -- a call is an application in the frame above
-  pub call-enters : isDeclared (functionsIn words) number ≡ true → g .steps < allowance → g .frame < 255 → (above : List ℕ) → length above ≡ roomOfFrames →
+  pub call-enters : isDeclared (functionsIn words) number ≡ true → g .steps < allowance → g .frame < 255 → (above : List ℕ) → length above ≡ roomOfFrames → countsIn above ≡ countsIn frames →
       take (24 * suc (g .frame)) above ≡ take (24 * suc (g .frame)) (callingFrom (g .frame) (g .at .0) (g .q .0) frames) → Held (suc (g .frame)) above →
       Performs words allowance (call number) (g .at .0) g Caller (Onward (calledIn (suc (g .frame)) (length words) number g)) (memory input output journal above values)
-  call-enters declared h l above sized same empty u =
+  call-enters declared h l above sized counted same empty u =
       let k = g .frame in
       let room = roomOf Caller in
       let r = u .ready in
@@ -268,10 +292,10 @@ module _ (words : Words) (allowance number : ℕ) (g : Registers) (input output 
               same =
                   opens declared (one-left h) (le-ltb 256 (suc (suc k)) (omega arith)) (length-drop (g .p .0) input) selected ∙
                   above-waiting frames k (g .at .0) (g .q .0) (r .frameRoom) l above same room allowance words values (u .current) application ∙
-                  rw declared (ap (waiting room allowance words (suc k) above values) entered);
+                  rw (declared, counted) (ap (waiting room allowance words (suc k) above values) entered);
               keeps =
                   record {
-                    ready = called-ready words allowance number g Caller (suc k) (length words) above (omega arith) sized
+                    ready = called-ready words allowance number g Caller (suc k) (length words) above (omega arith) sized counted
                         (above-waits frames k (g .at .0) (g .q .0) (r .frameRoom) l above same (length input) (r .inside) (r .waits) (u .current)) r;
                     current = empty;
                   };

@@ -92,7 +92,7 @@ module _ (room : Room) (allowance : ℕ) (words : Words) where
   -- an application is its one step
   pub entering-paid : (frame f : ℕ) (s : Stacks) (l : Ledgers) → l .tally .left ≤ allowance →
       entering room allowance words frame f s l ≡
-      ranPaid (lent room) (functionsIn words) (entering room allowance words) frame f s l (pay (l .tally))
+      ranPaid (lent room) (functionsIn words) (entering room allowance words) frame f s l (pay f (l .tally))
   entering-paid frame f s l h = enter-step (lent room) allowance allowance (functionsIn words) frame f s l h (omega arith)
 
 -- the end of an application

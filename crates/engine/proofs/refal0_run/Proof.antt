@@ -1,14 +1,10 @@
 -- `engine::refal0_run` meets its contract.
-use Rattle.engine.proofs.Runs.{runs}
 use borrow.Author.Needs.{needs}
 use Rattle.engine.proofs.refal0_run.Statement.{statement}
 use Rattle.engine.proofs.refal0_run.Tie as tie
 
 returns : tie.Need-returns
-returns c =
-    let at-ending-number = c .before .before in
-    let at-run = at-ending-number .before .before .before .before .before .before .before in
-    runs (at-run .run .ensures) (at-ending-number .ending-number .ensures)
+returns c = c .before .before .before .before .before .before .refal0-profile .ensures .runs
 
 pub refal0-run-spec : {M : Type 1} → statement M
 refal0-run-spec =
@@ -16,7 +12,6 @@ refal0-run-spec =
     (tie.spec
     (λ c κs. search needs)
     (λ c κs. search needs)
-    (λ c. search needs)
     (λ c. search needs)
     (λ c. search needs)
     (λ c. search needs)

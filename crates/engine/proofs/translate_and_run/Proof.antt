@@ -8,14 +8,15 @@ use Rattle.engine.proofs.translate_and_run.Tie as tie
 
 returns : tie.Need-returns
 returns c =
-    let at-translate-table = c .before .before .before in
+    let at-if1 = c .before in
+    let at-translate-table = at-if1 .before .before .before in
     let entry = at-translate-table .before .before .before .before .before .before .before .before in
-    unrun-reports _ _ _ _ _ (read (entry .args .table .now)) (at-translate-table .translate-table .ensures) (c .if1 .taken)
+    unrun-reports _ _ _ _ _ (read (entry .args .table .now)) (at-translate-table .translate-table .ensures) (at-if1 .if1 .taken)
 
 returns-2 : tie.Need-returns-2
 returns-2 c =
     let at-run = c .before .before .before .before .before .before .before in
-    let at-if1 = at-run .before .before .before .before .before in
+    let at-if1 = at-run .before .before .before .before .before .before in
     let at-translate-table = at-if1 .before .before .before in
     let at-shared-slice-known = at-translate-table .before .before .before .before .before .before .before in
     let entry = at-shared-slice-known .before in

@@ -1,22 +1,23 @@
 -- DEMAND 3 WITHOUT END: on stacks without end the machine, fed an allowed table's translation, comes to the outcome of rewriting the table: the same answer, text, emissions,
 -- steps and failing function, for every start, text and allowance. The start need not even be declared: both sides look a number up alike.
 use Prim.Native.Nat.{ℕ, zero, suc}
-use mathlib.Core.Path.{_≡_, refl, _∙_, ap}
+use mathlib.Core.Path.{_≡_, refl, sym, _∙_, ap}
 use mathlib.Core.List.{[], _++_, append-nil}
-use mathlib.Core.Option.{Option, none, some}
+use mathlib.Core.Option.{Option, none, some, Option·none-ne-some}
 use lib.Dec.{T}
 use lib.ListN.{length}
 use lib.Seq.{take-append-seam}
 use Rattle.meaning.specs.Choice.{Bytes}
 use Rattle.meaning.specs.Tree.{Table}
 use Rattle.meaning.specs.Answers.{allowanceSpent}
-use Rattle.meaning.specs.Outcome.{Tally, fresh, pay, Outcome, done, stop, Result, resultOf}
-use Rattle.meaning.specs.Rewriting.{Fit, rewritten, applied, apply, rewrite}
+use Rattle.meaning.specs.Outcome.{Tally, pay, maxCounted, Outcome, done, stop, resultOf}
+use Rattle.meaning.specs.Rewriting.{Course, unbegun, takeStep, applicationsFrom, tallyOf, tallied, Fit, rewritten, applied, apply, historyOf, rewrite}
 use Rattle.meaning.specs.Allowed.{allowed}
 use Rattle.meaning.specs.Matching.{Choice}
 use Rattle.meaning.specs.Machine.{ranChoice, ranPaid, enter}
 use Rattle.meaning.specs.Runs.{endless, from, textOf, runEndless}
 use Rattle.meaning.specs.Translation.{translate}
+use Rattle.meaning.proofs.laws.Counts.{told as toldOf, none-applied, paid-alike}
 use Rattle.meaning.proofs.agreement.Carrying.{stacks, ledger, carried}
 use Rattle.meaning.proofs.agreement.Expressions.{Callee}
 use Rattle.meaning.proofs.agreement.Facts.{facts}
@@ -24,13 +25,17 @@ use Rattle.meaning.proofs.agreement.Sentences.{Chosen, nowhere, here, c
 
 module _ (table : Table) (ok : T (allowed table)) where
   -- rewriting stops with 12 where nothing is left to pay with, at any depth
-  spent : (depth f : ℕ) (text : Bytes) (t : Tally) → pay t ≡ none → apply depth table f text t ≡ stop allowanceSpent 0 t
+  spent : (depth f : ℕ) (text : Bytes) (t : Course) → pay f (tallyOf t) ≡ none → apply depth table f text t ≡ stop allowanceSpent 0 t
   unfolding apply
   spent zero f text t e = refl
-  spent (suc depth) f text t e = rw e
+  spent (suc depth) f text t e = by (takeStep f t) (sym (paid-alike f t) ∙ e)
+    where
+      by : (o : Option Course) → toldOf o ≡ none → applied table (apply depth table) f text t o ≡ stop allowanceSpent 0 t
+      by none e = refl
+      by (some u) e = absurd (Option·none-ne-some (tallyOf u) (sym e))
 
   -- the chosen sentence is run, or 11 is answered, on both sides
-  chosen-run : (depth frame f : ℕ) (field below o : Bytes) (t : Tally) → Callee (enter endless depth (translate table)) (apply depth table) →
+  chosen-run : (depth frame f : ℕ) (field below o : Bytes) (t : Course) → Callee (enter endless depth (translate table)) (apply depth table) →
       {c : Choice} {fit : Option Fit} → Chosen table field c fit →
       ranChoice endless (translate table) (enter endless depth (translate table)) frame f c (stacks (field ++ below) (length field) o) (ledger t) ≡
       carried below o (rewritten table (apply depth table) f fit t)
@@ -39,14 +44,14 @@ module _ (table : Table) (ok : T (allowed table)) where
       rw (take-append-seam field below) (sentence-run table (enter endless depth (translate table)) (apply depth table) callee s field at bound a fits frame below o t)
 
   -- by induction on the depth: one application, in any frame, whatever lies below its field on in and before its result on out
-  pub application : (depth frame f : ℕ) (field below o : Bytes) (t : Tally) →
+  pub application : (depth frame f : ℕ) (field below o : Bytes) (t : Course) →
       enter endless depth (translate table) frame f (stacks (field ++ below) (length field) o) (ledger t) ≡ carried below o (apply depth table f field t)
   unfolding enter apply
   application zero frame f field below o t = refl
-  application (suc depth) frame f field below o t = paid (pay t) (record { same = application depth; spent = spent depth })
+  application (suc depth) frame f field below o t = rw (paid-alike f t) (paid (takeStep f t) (record { same = application depth; spent = spent depth }))
     where
-      paid : (p : Option Tally) → Callee (enter endless depth (translate table)) (apply depth table) →
-          ranPaid endless (translate table) (enter endless depth (translate table)) frame f (stacks (field ++ below) (length field) o) (ledger t) p ≡
+      paid : (p : Option Course) → Callee (enter endless depth (translate table)) (apply depth table) →
+          ranPaid endless (translate table) (enter endless depth (translate table)) frame f (stacks (field ++ below) (length field) o) (ledger t) (toldOf p) ≡
           carried below o (applied table (apply depth table) f field t p)
       paid none callee = refl
       paid (some t₁) callee =
@@ -55,21 +60,29 @@ module _ (table : Table) (ok : T (allowed table)) where
   -- The run from the start. `carried` says all of it: where rewriting is done, the machine is done, in holds nothing and out exactly the text; where rewriting stops, the
   -- machine stops with the same answer and function; and either way steps and emissions are the same.
   pub agree : (start : ℕ) (text : Bytes) (allowance : ℕ) →
-      from endless (translate table) start text allowance tt ≡ carried [] [] (apply allowance table start text (fresh allowance))
-  agree start text allowance = rw append-nil at (application allowance 1 start text [] [] (fresh allowance))
+      from endless (translate table) start text allowance tt ≡ carried [] [] (apply allowance table start text (unbegun allowance))
+  agree start text allowance = rw none-applied at (rw append-nil at (application allowance 1 start text [] [] (unbegun allowance)))
 
-  pub agree-done : (start : ℕ) (text : Bytes) (allowance : ℕ) (result : Bytes) (t : Tally) → apply allowance table start text (fresh allowance) ≡ done result t →
+  pub agree-done : (start : ℕ) (text : Bytes) (allowance : ℕ) (result : Bytes) (t : Course) → apply allowance table start text (unbegun allowance) ≡ done result t →
       from endless (translate table) start text allowance tt ≡ done (stacks [] 0 result) (ledger t)
   agree-done start text allowance result t e = agree start text allowance ∙ ap (carried [] []) e
 
   -- the outcome as 01 tells it
   pub agree-result : (start : ℕ) (text : Bytes) (allowance : ℕ) → runEndless (translate table) start text allowance ≡ rewrite table start text allowance
-  agree-result start text allowance = rw (agree start text allowance) (told (apply allowance table start text (fresh allowance)))
+  agree-result start text allowance = rw (agree start text allowance) (told (apply allowance table start text (unbegun allowance)))
     where
-      told : (r : Outcome Bytes Tally) → resultOf (textOf (carried [] [] r)) ≡ resultOf r
+      told : (r : Outcome Bytes Course) → resultOf (textOf (carried [] [] r)) ≡ resultOf (tallied r)
       told (done text t) = refl
       told (stop answer function t) = refl
 
-  -- "Each application of a declared function is one step": the run's step number is the number of applications that rewriting made
-  pub agree-steps : (start : ℕ) (text : Bytes) (allowance : ℕ) → runEndless (translate table) start text allowance .steps ≡ rewrite table start text allowance .steps
-  agree-steps start text allowance = ap (λ (r : Result). r .steps) (agree-result start text allowance)
+  -- "Each application of a declared function is one step": the run's step number is the number of applications that rewriting made, and a function's count the number of its own
+  pub agree-steps : (start : ℕ) (text : Bytes) (allowance : ℕ) →
+      let history = historyOf (apply allowance table start text (unbegun allowance)) in
+      (runEndless (translate table) start text allowance .steps ≡ length history) ×
+      (runEndless (translate table) start text allowance .counts ≡ applicationsFrom 1 maxCounted history)
+  agree-steps start text allowance = rw (agree-result start text allowance) (told (apply allowance table start text (unbegun allowance)))
+    where
+      told : (r : Outcome Bytes Course) →
+          (resultOf (tallied r) .steps ≡ length (historyOf r)) × (resultOf (tallied r) .counts ≡ applicationsFrom 1 maxCounted (historyOf r))
+      told (done text t) = (refl, refl)
+      told (stop answer function t) = (refl, refl)

@@ -10,8 +10,8 @@ use lib.ListN.{length, length-append}
 use lib.Seq.{take-append-seam, drop-append-seam}
 use borrow.Author.Tests.{le-leb}
 use Rattle.meaning.specs.Choice.{Bytes, nth}
-use Rattle.meaning.specs.Outcome.{Tally, pay, emitted, Outcome, done, stop, andThen}
-use Rattle.meaning.specs.Rewriting.{before}
+use Rattle.meaning.specs.Outcome.{pay, Outcome, done, stop, andThen}
+use Rattle.meaning.specs.Rewriting.{Course, emitting, tallyOf, before}
 use Rattle.meaning.specs.Instructions.{Length, null, whole, left, right, Span, Action, go, select, out, outCharacter, outValue, beginSequence, useSequence, call, tailCall, emission, Code}
 use Rattle.meaning.specs.Machine.{Ledger, Stacks, Local, Ran, registerOf, spanOf, isDeclared, afterField, returned, withOpened, maxOpened, wherePayable, process}
 use Rattle.meaning.specs.Runs.{endless}
@@ -20,32 +20,32 @@ abbrev pub Endless : Type 0
 Endless = Ran endless
 
 -- the run without end notes nothing
-abbrev pub ledger : Tally → Ledger (Unit {0})
-ledger t = record { tally = t; mark = tt }
+abbrev pub ledger : Course → Ledger (Unit {0})
+ledger t = record { tally = tallyOf t; mark = tt }
 
 abbrev pub stacks : Bytes → ℕ → Bytes → Stacks
 stacks input selected output = record { input = input; selected = selected; output = output }
 
 -- what comes after an outcome of rewriting, on the machine's side
-abbrev pub into : Outcome Bytes Tally → (Bytes → Tally → Endless) → Endless
+abbrev pub into : Outcome Bytes Course → (Bytes → Course → Endless) → Endless
 into (done text t) k = k text t
 into (stop answer function t) k = stop answer function (ledger t)
 
 -- an outcome of rewriting as the machine leaves it: what lay below the field on in, and the text after what out held
-abbrev pub carried : Bytes → Bytes → Outcome Bytes Tally → Endless
+abbrev pub carried : Bytes → Bytes → Outcome Bytes Course → Endless
 carried below o r = into r (λ text t. done (stacks below 0 (o ++ text)) (ledger t))
 
-pub into-andThen : (r : Outcome Bytes Tally) (k : Bytes → Tally → Outcome Bytes Tally) (j : Bytes → Tally → Endless) → into (andThen r k) j ≡ into r (λ text t. into (k text t) j)
+pub into-andThen : (r : Outcome Bytes Course) (k : Bytes → Course → Outcome Bytes Course) (j : Bytes → Course → Endless) → into (andThen r k) j ≡ into r (λ text t. into (k text t) j)
 into-andThen (done text t) k j = refl
 into-andThen (stop answer function t) k j = refl
 
 -- what is written before an outcome's text
-pub into-written : (x o : Bytes) (r : Outcome Bytes Tally) (j : Bytes → Tally → Endless) → into r (λ text t. j (o ++ x ++ text) t) ≡ into (before x r) (λ text t. j (o ++ text) t)
+pub into-written : (x o : Bytes) (r : Outcome Bytes Course) (j : Bytes → Course → Endless) → into r (λ text t. j (o ++ x ++ text) t) ≡ into (before x r) (λ text t. j (o ++ text) t)
 into-written x o (done text t) j = rw append-assoc
 into-written x o (stop answer function t) j = refl
 
 -- what comes after counts only by what it gives
-pub into-same : (r : Outcome Bytes Tally) (j k : Bytes → Tally → Endless) → ((text : Bytes) (t : Tally) → j text t ≡ k text t) → into r j ≡ into r k
+pub into-same : (r : Outcome Bytes Course) (j k : Bytes → Course → Endless) → ((text : Bytes) (t : Course) → j text t ≡ k text t) → into r j ≡ into r k
 into-same (done text t) j k h = h text t
 into-same (stop answer function t) j k h = refl
 
@@ -67,10 +67,10 @@ abbrev pub Applying : Type 0
 Applying = ℕ → ℕ → Stacks → Ledger (Unit {0}) → Endless
 
 -- the instructions from here on
-abbrev pub doing : Code → Applying → ℕ → List Action → Local → Stacks → Tally → Endless
+abbrev pub doing : Code → Applying → ℕ → List Action → Local → Stacks → Course → Endless
 doing code enter frame actions l s t = process endless code enter frame actions l s (ledger t)
 
-module _ (code : Code) (enter : Applying) (frame : ℕ) (more : List Action) (l : Local) (t : Tally) where
+module _ (code : Code) (enter : Applying) (frame : ℕ) (more : List Action) (l : Local) (t : Course) where
   pub go-law : (a : Span) (front back o : Bytes) (n : ℕ) → spanOf a l ≡ length front →
       doing code enter frame (go a ∷ more) l (stacks (front ++ back) n o) t ≡ doing code enter frame more l (stacks back 0 o) t
   unfolding process
@@ -111,13 +111,13 @@ module _ (code : Code) (enter : Applying) (frame : ℕ) (more : List Action) (l 
 
   pub emission-law : (name argument below o : Bytes) →
       doing code enter frame (emission name ∷ more) l (stacks (argument ++ below) (length argument) o) t ≡
-      doing code enter frame more l (stacks below 0 o) (emitted name argument t)
+      doing code enter frame more l (stacks below 0 o) (emitting name argument t)
   unfolding process
   emission-law name argument below o = rw (take-append-seam, drop-append-seam)
 
   pub call-law : (f : ℕ) (s : Stacks) → isDeclared code f ≡ true →
       doing code enter frame (call f ∷ more) l s t ≡
-      wherePayable endless (pay t) (ledger t)
+      wherePayable endless (pay f (tallyOf t)) (ledger t)
       (andThen (enter (suc frame) f s (ledger t)) (λ s₁ g₁. process endless code enter frame more l (returned (afterField s) s₁) g₁))
   unfolding process
   call-law f s e = rw e
@@ -134,7 +134,7 @@ returned-law argument below o o₁ =
     rw e
 
 -- what comes after a call, on the stacks that it leaves
-pub carried-andThen : (below o : Bytes) (r : Outcome Bytes Tally) (k : Stacks → Ledger (Unit {0}) → Endless) →
+pub carried-andThen : (below o : Bytes) (r : Outcome Bytes Course) (k : Stacks → Ledger (Unit {0}) → Endless) →
     andThen (carried below o r) k ≡ into r (λ given t. k (stacks below 0 (o ++ given)) (ledger t))
 carried-andThen below o (done given t) k = refl
 carried-andThen below o (stop answer function t) k = refl

@@ -12,8 +12,8 @@ use Rattle.meaning.specs.Choice.{Bytes, Name, Named, pick, either, looku
 use Rattle.meaning.specs.Tree.{Expression, end, thenCharacter, thenSymbol, thenPart, thenCall, Table}
 use Rattle.meaning.specs.Names.{isEmission, numberOf}
 use Rattle.meaning.specs.Answers.{allowanceSpent}
-use Rattle.meaning.specs.Outcome.{Tally, pay, emitted, Outcome, done, stop, andThen}
-use Rattle.meaning.specs.Rewriting.{Bindings, before, evaluate, callNamed}
+use Rattle.meaning.specs.Outcome.{Tally, pay, Outcome, done, stop, andThen}
+use Rattle.meaning.specs.Rewriting.{Course, emitting, tallyOf, Bindings, before, evaluate, callNamed}
 use Rattle.meaning.specs.Allowed.{nesting}
 use Rattle.meaning.specs.Instructions.{Site, Action, go, select, out, call, tailCall, emission, Code}
 use Rattle.meaning.specs.Machine.{Stacks, Local, isDeclared, afterField, returned, withOpened, maxOpened, wherePayable, process}
@@ -26,10 +26,10 @@ use Rattle.meaning.proofs.agreement.Standing.{Move, Standing}
 use Rattle.meaning.proofs.agreement.Sound.{Sound, theEnd, aCharacter, aSymbol, aPart, aCall}
 
 -- applying a function agrees with rewriting's application of it
-pub record Callee (enter : Applying) (apply : ℕ → Bytes → Tally → Outcome Bytes Tally) : Type 0 where
-  pub same : (frame f : ℕ) (argument below o : Bytes) (t : Tally) →
+pub record Callee (enter : Applying) (apply : ℕ → Bytes → Course → Outcome Bytes Course) : Type 0 where
+  pub same : (frame f : ℕ) (argument below o : Bytes) (t : Course) →
       enter frame f (stacks (argument ++ below) (length argument) o) (ledger t) ≡ carried below o (apply f argument t)
-  pub spent : (f : ℕ) (argument : Bytes) (t : Tally) → pay t ≡ none → apply f argument t ≡ stop allowanceSpent 0 t
+  pub spent : (f : ℕ) (argument : Bytes) (t : Course) → pay f (tallyOf t) ≡ none → apply f argument t ≡ stop allowanceSpent 0 t
 
 -- an outermost expression ends its sentence
 abbrev pub Ending : Shape → Bool → (Stand → List Action) → Type 0
@@ -43,17 +43,17 @@ numbered table n d =
     (le-leb (numberOf table n) (length table) (omega (arith, number-low 0 table n)))
 
 module _ (table : Table) (shape : Shape) (sites : List (Named Site)) (bound : Bindings) (l : Local) (standing : Standing shape sites bound l)
-    (below : Bytes) (frame : ℕ) (enter : Applying) (apply : ℕ → Bytes → Tally → Outcome Bytes Tally) (callee : Callee enter apply) where
+    (below : Bytes) (frame : ℕ) (enter : Applying) (apply : ℕ → Bytes → Course → Outcome Bytes Course) (callee : Callee enter apply) where
   -- the stacks where p stands, before an item
   abbrev pub here : Stand → Bytes → Stacks
   here w o = stacks (standing .remaining w ++ below) 0 o
 
   -- the instructions from here on, inside so many open sequences
-  abbrev pub from : List ℕ → List Action → Stand → Bytes → Tally → Endless
+  abbrev pub from : List ℕ → List Action → Stand → Bytes → Course → Endless
   from opened actions w o t = doing (translate table) enter frame actions (withOpened opened l) (here w o) t
 
   -- an e-variable's part goes to out, and p stands after it
-  part-law : (x : Name) (w : Stand) (coming : List Name) (more : List Action) (opened : List ℕ) (o : Bytes) (t : Tally)
+  part-law : (x : Name) (w : Stand) (coming : List Name) (more : List Action) (opened : List ℕ) (o : Bytes) (t : Course)
       (m : Move shape l (standing .remaining) w (passage shape x w) (lookup x (bound .parts)) coming) →
       from opened (go (passage shape x w .gap) ∷ select (passage shape x w .piece) ∷ out ∷ more) w o t ≡ from opened more (passage shape x w .after) (o ++ m .piece) t
   part-law x w coming more opened o t m =
@@ -76,13 +76,13 @@ module _ (table : Table) (shape : Shape) (sites : List (Named Site)) (bound : Bi
       onward = standing .remaining (passage shape x w .after) ++ below
 
   -- at the end p passes the rest of the field
-  finish-law : (w : Stand) (opened : List ℕ) (o : Bytes) (t : Tally) → from opened (passesRest shape w) w o t ≡ done (stacks below 0 o) (ledger t)
+  finish-law : (w : Stand) (opened : List ℕ) (o : Bytes) (t : Course) → from opened (passesRest shape w) w o t ≡ done (stacks below 0 o) (ledger t)
   unfolding process
   finish-law w opened o t =
       go-law (translate table) enter frame [] (withOpened opened l) t (restOf shape w) (standing .remaining w) below o 0 (span-opened (restOf shape w) l opened ∙ standing .toEnd w)
 
   -- an argument written after o is selected just below p
-  ready-law : (more : List Action) (opened : List ℕ) (i o argument : Bytes) (t : Tally) →
+  ready-law : (more : List Action) (opened : List ℕ) (i o argument : Bytes) (t : Course) →
       doing (translate table) enter frame (argumentReady more) (withOpened (length o ∷ opened) l) (stacks i 0 (o ++ argument)) t ≡
       doing (translate table) enter frame more (withOpened opened l) (stacks (argument ++ i) (length argument) o) t
   ready-law more opened i o argument t =
@@ -90,7 +90,7 @@ module _ (table : Table) (shape : Shape) (sites : List (Named Site)) (bound : Bi
       select-law (translate table) enter frame more (withOpened opened l) t nowhere argument i o (length argument) (omega arith)
 
   -- a declared call, in a frame of its own or as a tail call
-  declared-call : (last : Bool) (number : ℕ) (n : Name) (w : Stand) (more : List Action) (opened : List ℕ) (o argument : Bytes) (t : Tally) →
+  declared-call : (last : Bool) (number : ℕ) (n : Name) (w : Stand) (more : List Action) (opened : List ℕ) (o argument : Bytes) (t : Course) →
       isDeclared (translate table) number ≡ true → (T last → more ≡ passesRest shape w) →
       from (length o ∷ opened) (calling shape (pick last replaces nests) number n w more) w (o ++ argument) t ≡
       into (apply number argument t) (λ given t₁. from opened more w (o ++ given) t₁)
@@ -105,9 +105,9 @@ module _ (table : Table) (shape : Shape) (sites : List (Named Site)) (bound : Bi
   declared-call false number n w more opened o argument t d e =
       ready-law (call number ∷ more) opened (standing .remaining w ++ below) o argument t ∙
       call-law (translate table) enter frame more (withOpened opened l) t number (stacks (argument ++ (standing .remaining w ++ below)) (length argument) o) d ∙
-      paid (pay t) refl
+      paid (pay number (tallyOf t)) refl
     where
-      paid : (p : Option Tally) → pay t ≡ p →
+      paid : (p : Option Tally) → pay number (tallyOf t) ≡ p →
           wherePayable endless p (ledger t)
           (andThen (enter (suc frame) number (stacks (argument ++ (standing .remaining w ++ below)) (length argument) o) (ledger t))
           (λ s₁ g₁. process endless (translate table) enter frame more (withOpened opened l)
@@ -119,10 +119,10 @@ module _ (table : Table) (shape : Shape) (sites : List (Named Site)) (bound : Bi
           into-same (apply number argument t) _ _ (λ given t₂. rw (returned-law argument (standing .remaining w ++ below) o (o ++ given))))
 
   -- any call, by whether its name is an emission's and whether it is the last item outermost: both tests are taken as variables
-  any-call : (emits? last : Bool) (n : Name) (w : Stand) (more : List Action) (opened : List ℕ) (o argument : Bytes) (t : Tally) →
+  any-call : (emits? last : Bool) (n : Name) (w : Stand) (more : List Action) (opened : List ℕ) (o argument : Bytes) (t : Course) →
       T (either emits? (ltb 0 (numberOf table n))) → (T last → more ≡ passesRest shape w) →
       from (length o ∷ opened) (calling shape (pick emits? emits (pick last replaces nests)) (numberOf table n) n w more) w (o ++ argument) t ≡
-      into (pick emits? (done [] (emitted n argument t)) (apply (numberOf table n) argument t)) (λ given t₁. from opened more w (o ++ given) t₁)
+      into (pick emits? (done [] (emitting n argument t)) (apply (numberOf table n) argument t)) (λ given t₁. from opened more w (o ++ given) t₁)
   any-call true last n w more opened o argument t d e =
       ready-law (emission n ∷ more) opened (standing .remaining w ++ below) o argument t ∙
       emission-law (translate table) enter frame more (withOpened opened l) t n argument (standing .remaining w ++ below) o ∙
@@ -142,7 +142,7 @@ module _ (table : Table) (shape : Shape) (sites : List (Named Site)) (bound : Bi
   -- THE LEMMA: the items of an expression, then what follows them, come to the evaluation of the expression and then the same. What out held before and what lies below the
   -- field stay as they are; a call's argument opens one sequence more, so nesting and open sequences together stay within what the machine allows.
   pub expressed : {e : Expression} {w w₁ : Stand} (sound : Sound table shape sites bound l standing e w w₁)
-      (b : Bool) (k : Stand → List Action) (opened : List ℕ) (o : Bytes) (t : Tally) → Ending shape b k → nesting e + length opened ≤ maxOpened →
+      (b : Bool) (k : Stand → List Action) (opened : List ℕ) (o : Bytes) (t : Course) → Ending shape b k → nesting e + length opened ≤ maxOpened →
       from opened (items table shape sites b e w k) w o t ≡
       into (evaluate (callNamed table apply) bound e t) (λ text t₁. from opened (k w₁) w₁ (o ++ text) t₁)
   unfolding items evaluate nesting
@@ -176,14 +176,14 @@ module _ (table : Table) (shape : Shape) (sites : List (Named Site)) (bound : Bi
       more : Stand → List Action
       more w₁ = calling shape (mannerOf b e n) (numberOf table n) n w₁ (items table shape sites b e w₁ k)
 
-      j : Bytes → Tally → Endless
+      j : Bytes → Course → Endless
       j text t₁ = from opened (k w₂) w₂ text t₁
 
-      called : Bytes → Tally → Outcome Bytes Tally
+      called : Bytes → Course → Outcome Bytes Course
       called text t₁ = andThen (callNamed table apply n text t₁) (λ given t₂. before given (evaluate (callNamed table apply) bound e t₂))
 
   -- a sentence's whole expression, from the field's start to its end
-  pub evaluated : {e : Expression} {w : Stand} → Sound table shape sites bound l standing e atStart w → nesting e ≤ maxOpened → (o : Bytes) (t : Tally) →
+  pub evaluated : {e : Expression} {w : Stand} → Sound table shape sites bound l standing e atStart w → nesting e ≤ maxOpened → (o : Bytes) (t : Course) →
       from [] (items table shape sites true e atStart (passesRest shape)) atStart o t ≡ carried below o (evaluate (callNamed table apply) bound e t)
   evaluated {e} {w} sound h o t =
       expressed sound true (passesRest shape) [] o t (λ w. refl) (omega arith) ∙

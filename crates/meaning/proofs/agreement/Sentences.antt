@@ -6,8 +6,8 @@ use mathlib.Core.Option.{Option, none, some}
 use lib.ListN.{length}
 use Rattle.meaning.specs.Choice.{Bytes, orElse, nth}
 use Rattle.meaning.specs.Tree.{Sentence, Table}
-use Rattle.meaning.specs.Outcome.{Tally, Outcome}
-use Rattle.meaning.specs.Rewriting.{Bindings, Fit, fitted, choose, sentencesOf, functionAt, evaluate, callNamed}
+use Rattle.meaning.specs.Outcome.{Outcome}
+use Rattle.meaning.specs.Rewriting.{Course, Bindings, Fit, fitted, choose, sentencesOf, functionAt, evaluate, callNamed}
 use Rattle.meaning.specs.Matching.{Found, Choice, chosen, chosenNone, choiceOf, chooseFrom, storedValues}
 use Rattle.meaning.specs.Machine.{functionOf, codeAt, started}
 use Rattle.meaning.specs.Runs.{endless}
@@ -54,9 +54,9 @@ code-at table f = there table (pred f)
     there (f ∷ fs) (suc i) = there fs i
 
 -- a chosen sentence's instructions
-pub sentence-run : (table : Table) (enter : Applying) (apply : ℕ → Bytes → Tally → Outcome Bytes Tally) → Callee enter apply →
+pub sentence-run : (table : Table) (enter : Applying) (apply : ℕ → Bytes → Course → Outcome Bytes Course) → Callee enter apply →
     (s : Sentence) (field : Bytes) (at : ℕ) (bound : Bindings) → Allowable table s → Fitting (shapeOf (s .pattern)) (sitesOf (s .pattern)) field at bound →
-    (frame : ℕ) (below o : Bytes) (t : Tally) →
+    (frame : ℕ) (below o : Bytes) (t : Course) →
     started endless (translate table) enter frame (actionsOf table (shapeOf (s .pattern)) (sitesOf (s .pattern)) (s .expression)) at
     (storedValues (storesOf (testedShape (shapeOf (s .pattern)))) field at) (stacks (field ++ below) (length field) o) (ledger t) ≡
     carried below o (evaluate (callNamed table apply) bound (s .expression) t)

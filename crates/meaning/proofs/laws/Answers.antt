@@ -7,8 +7,8 @@ use Rattle.meaning.specs.Choice.{Bytes, Name, lookup}
 use Rattle.meaning.specs.Answers.{finished, noSentenceFits, allowanceSpent}
 use Rattle.meaning.specs.Tree.{Expression, end, thenCharacter, thenSymbol, thenPart, thenCall, Table}
 use Rattle.meaning.specs.Names.{isEmission, numberOf}
-use Rattle.meaning.specs.Outcome.{Tally, fresh, pay, emitted, Outcome, done, stop, andThen, resultOf}
-use Rattle.meaning.specs.Rewriting.{Bindings, Fit, symbolText, partText, before, evaluate, functionAt, choose, callNamed, rewritten, applied, apply, rewrite}
+use Rattle.meaning.specs.Outcome.{Outcome, done, stop, andThen, resultOf}
+use Rattle.meaning.specs.Rewriting.{Course, unbegun, takeStep, emitting, tallied, Bindings, Fit, symbolText, partText, before, evaluate, functionAt, choose, callNamed, rewritten, applied, apply, rewrite}
 use Rattle.meaning.proofs.laws.Choosing.{of-either}
 
 -- an answer with its function number
@@ -27,14 +27,14 @@ pub then-stops : {A B L : Type 0} (so : ℕ → ℕ → Type 0) (o : Outcome A L
 then-stops so (done v l) k p h = h v l
 then-stops so (stop answer function l) k p h = p
 
-abbrev pub Plain : {A : Type 0} → Outcome A Tally → Type 0
+abbrev pub Plain : {A : Type 0} → Outcome A Course → Type 0
 Plain = StopsSo Ends
 
-before-plain : (text : Bytes) (o : Outcome Bytes Tally) → Plain o → Plain (before text o)
+before-plain : (text : Bytes) (o : Outcome Bytes Course) → Plain o → Plain (before text o)
 before-plain text o p = then-stops Ends o (λ rest t. done (text ++ rest) t) p (λ v t. tt)
 
-module _ (call : Name → Bytes → Tally → Outcome Bytes Tally) (plain : (n : Name) (text : Bytes) (t : Tally) → Plain (call n text t)) (bound : Bindings) where
-  evaluate-plain : (e : Expression) (t : Tally) → Plain (evaluate call bound e t)
+module _ (call : Name → Bytes → Course → Outcome Bytes Course) (plain : (n : Name) (text : Bytes) (t : Course) → Plain (call n text t)) (bound : Bindings) where
+  evaluate-plain : (e : Expression) (t : Course) → Plain (evaluate call bound e t)
   unfolding evaluate
   evaluate-plain end t = tt
   evaluate-plain (thenCharacter c e) t = before-plain (c ∷ []) (evaluate call bound e t) (evaluate-plain e t)
@@ -45,28 +45,28 @@ module _ (call : Name → Bytes → Tally → Outcome Bytes Tally) (plain : (n :
       (λ text t₁. then-stops Ends (call n text t₁) (λ given t₂. before given (evaluate call bound e t₂)) (plain n text t₁)
       (λ given t₂. before-plain given (evaluate call bound e t₂) (evaluate-plain e t₂)))
 
-module _ (table : Table) (apply₁ : ℕ → Bytes → Tally → Outcome Bytes Tally) (plain : (number : ℕ) (text : Bytes) (t : Tally) → Plain (apply₁ number text t)) where
-  rewritten-plain : (number : ℕ) (fit : Option Fit) (t : Tally) → Plain (rewritten table apply₁ number fit t)
+module _ (table : Table) (apply₁ : ℕ → Bytes → Course → Outcome Bytes Course) (plain : (number : ℕ) (text : Bytes) (t : Course) → Plain (apply₁ number text t)) where
+  rewritten-plain : (number : ℕ) (fit : Option Fit) (t : Course) → Plain (rewritten table apply₁ number fit t)
   rewritten-plain number none t = unfitted refl
   rewritten-plain number (some f) t =
       evaluate-plain (callNamed table apply₁)
-      (λ n text t₁. of-either Plain (isEmission n) (done [] (emitted n text t₁)) (apply₁ (numberOf table n) text t₁) tt (plain (numberOf table n) text t₁))
+      (λ n text t₁. of-either Plain (isEmission n) (done [] (emitting n text t₁)) (apply₁ (numberOf table n) text t₁) tt (plain (numberOf table n) text t₁))
       (f .bindings) (f .sentence .expression) t
 
-  applied-plain : (number : ℕ) (text : Bytes) (t : Tally) (paid : Option Tally) → Plain (applied table apply₁ number text t paid)
+  applied-plain : (number : ℕ) (text : Bytes) (t : Course) (paid : Option Course) → Plain (applied table apply₁ number text t paid)
   applied-plain number text t none = spent refl refl
   applied-plain number text t (some paid) = rewritten-plain number (choose (functionAt table number) text) paid
 
-pub apply-plain : (depth : ℕ) (table : Table) (number : ℕ) (text : Bytes) (t : Tally) → Plain (apply depth table number text t)
+pub apply-plain : (depth : ℕ) (table : Table) (number : ℕ) (text : Bytes) (t : Course) → Plain (apply depth table number text t)
 unfolding apply
 apply-plain zero table number text t = spent refl refl
-apply-plain (suc depth) table number text t = applied-plain table (apply depth table) (apply-plain depth table) number text t (pay t)
+apply-plain (suc depth) table number text t = applied-plain table (apply depth table) (apply-plain depth table) number text t (takeStep number t)
 
-result-plain : (o : Outcome Bytes Tally) → Plain o → Ends (resultOf o .answer) (resultOf o .function)
+result-plain : (o : Outcome Bytes Course) → Plain o → Ends (resultOf (tallied o) .answer) (resultOf (tallied o) .function)
 result-plain (done text t) p = ended refl refl
 result-plain (stop answer function t) p = p
 
 pub rewrite-ends : (table : Table) (start : ℕ) (text : Bytes) (allowance : ℕ) →
     Ends (rewrite table start text allowance .answer) (rewrite table start text allowance .function)
 rewrite-ends table start text allowance =
-    result-plain (apply allowance table start text (fresh allowance)) (apply-plain allowance table start text (fresh allowance))
+    result-plain (apply allowance table start text (unbegun allowance)) (apply-plain allowance table start text (unbegun allowance))

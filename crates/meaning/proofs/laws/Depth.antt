@@ -4,14 +4,14 @@ use Prim.Native.Nat.{ℕ, zero, suc, _+_, _≤_}
 use native.Mathlib.Omega.{arith}
 use mathlib.Core.Path.{_≡_, refl, sym}
 use mathlib.Core.Bool.{Bool, true, false}
-use mathlib.Core.List.{[], _∷_}
+use mathlib.Core.List.{List, [], _∷_}
 use mathlib.Core.Option.{Option, none, some}
-use lib.ListN.{take}
+use lib.ListN.{length, take}
 use Rattle.meaning.specs.Choice.{Bytes, Name, pick, lookup}
-use Rattle.meaning.specs.Outcome.{Tally, fresh, pay, emitted, Outcome, done, stop, andThen}
+use Rattle.meaning.specs.Outcome.{Tally, fresh, counted, pay, emitted, Outcome, done, stop, andThen}
 use Rattle.meaning.specs.Tree.{Expression, end, thenCharacter, thenSymbol, thenPart, thenCall, Table}
 use Rattle.meaning.specs.Names.{isEmission, numberOf}
-use Rattle.meaning.specs.Rewriting.{Bindings, symbolText, partText, before, evaluate, Fit, choose, functionAt, callNamed, rewritten, applied, apply}
+use Rattle.meaning.specs.Rewriting.{Course, unbegun, takeStep, emitting, tallyOf, Bindings, symbolText, partText, before, evaluate, Fit, choose, functionAt, callNamed, rewritten, applied, apply}
 use Rattle.meaning.specs.Instructions.{Code}
 use Rattle.meaning.specs.Matching.{chooseFrom}
 use Rattle.meaning.specs.Machine.{Noted, onward, halt, Watch, Ledger, Stacks, withTally, afterNote, wherePayable, ranPaid, enter, codeAt}
@@ -30,8 +30,8 @@ pub spent-trans : {t u v : Tally} → Spent t u → Spent u v → Spent t v
 spent-trans p q = omega arith
 
 -- nothing left to pay with
-pub pay-none : (t : Tally) → t .left ≤ 0 → pay t ≡ none
-pay-none t h = let e : t .left ≡ 0 = omega arith in rw e
+pub pay-none : (f : ℕ) (t : Tally) → t .left ≤ 0 → pay f t ≡ none
+pay-none f t h = let e : t .left ≡ 0 = omega arith in rw e
 
 -- where an outcome has come to, over a reading of what was counted
 abbrev pub countedOf : {A L : Type 0} → Outcome A L → L
@@ -110,36 +110,36 @@ module _ (W : Watch) where
           ends = λ answer function own g h. unmoved;
           notes = λ need k k′ alike g h. noted g (W .note (need (g .tally)) (g .tally) (g .mark)) k k′ alike h;
           emits = λ name text k k′ alike g h. same-later (omega arith) (alike (withTally W (emitted name text (g .tally)) g) h);
-          affords = λ k k′ alike g h. afforded g (pay (g .tally)) k k′ alike h;
+          affords = λ f k k′ alike g h. afforded g (pay f (g .tally)) k k′ alike h;
           chains = λ first first′ k k′ alike later g h.
               same-then tallied (g .tally) (first g) (first′ g) k k′ (alike g h) (λ s g₁ p. later s g₁ (enough-fewer p h));
         }
 
   -- an application pays before anything else is done
-  paid-alike : (depth depth′ : ℕ) (code : Code) (frame f : ℕ) (s : Stacks) (left steps : ℕ) (emissions : Bytes) (m : W .Mark) →
+  paid-alike : (depth depth′ : ℕ) (code : Code) (frame f : ℕ) (s : Stacks) (left steps : ℕ) (counts : List ℕ) (emissions : Bytes) (m : W .Mark) →
       ((frame f : ℕ) (s : Stacks) → Alike depth depth′ (enter W depth code frame f s) (enter W depth′ code frame f s)) →
       Enough (suc depth) (suc depth′) left →
-      let g : Ledger (W .Mark) = record { tally = record { left = left; steps = steps; emissions = emissions }; mark = m } in
+      let g : Ledger (W .Mark) = record { tally = record { left = left; steps = steps; counts = counts; emissions = emissions }; mark = m } in
       Same tallied (g .tally)
-      (ranPaid W code (enter W depth code) frame f s g (pay (g .tally)))
-      (ranPaid W code (enter W depth′ code) frame f s g (pay (g .tally)))
-  paid-alike depth depth′ code frame f s zero steps emissions m alike h = unmoved
-  paid-alike depth depth′ code frame f s (suc n) steps emissions m alike h =
+      (ranPaid W code (enter W depth code) frame f s g (pay f (g .tally)))
+      (ranPaid W code (enter W depth′ code) frame f s g (pay f (g .tally)))
+  paid-alike depth depth′ code frame f s zero steps counts emissions m alike h = unmoved
+  paid-alike depth depth′ code frame f s (suc n) steps counts emissions m alike h =
       same-later (omega arith)
       (chooses W W (Alike depth depth′) (alike-closed depth depth′) code (enter W depth code) (enter W depth′ code) alike frame f
       (chooseFrom 0 (codeAt code f) (take (s .selected) (s .input)))
       s
-      (record { tally = record { left = n; steps = suc steps; emissions = emissions }; mark = m })
+      (record { tally = record { left = n; steps = suc steps; counts = counted f counts; emissions = emissions }; mark = m })
       (enough-paid h))
 
   alike-enter : (depth depth′ : ℕ) (code : Code) (frame f : ℕ) (s : Stacks) →
       Alike depth depth′ (enter W depth code frame f s) (enter W depth′ code frame f s)
   unfolding enter
   alike-enter zero zero code frame f s g h = unmoved
-  alike-enter zero (suc depth′) code frame f s g h = rw (pay-none (g .tally) (enough-none h)) (unmoved)
-  alike-enter (suc depth) zero code frame f s g h = rw (pay-none (g .tally) (enough-none (enough-turned h))) (unmoved)
+  alike-enter zero (suc depth′) code frame f s g h = rw (pay-none f (g .tally) (enough-none h)) (unmoved)
+  alike-enter (suc depth) zero code frame f s g h = rw (pay-none f (g .tally) (enough-none (enough-turned h))) (unmoved)
   alike-enter (suc depth) (suc depth′) code frame f s g h =
-      paid-alike depth depth′ code frame f s (g .tally .left) (g .tally .steps) (g .tally .emissions) (g .mark)
+      paid-alike depth depth′ code frame f s (g .tally .left) (g .tally .steps) (g .tally .counts) (g .tally .emissions) (g .mark)
       (alike-enter depth depth′ code)
       h
 
@@ -156,7 +156,7 @@ module _ (W : Watch) where
   -- An application is its one step over applications at any depth that is great enough: with one depth on both sides, an equation that `enter` solves.
   pub enter-step : (depth depth′ : ℕ) (code : Code) (frame f : ℕ) (s : Stacks) (g : Ledger (W .Mark)) →
       g .tally .left ≤ depth → g .tally .left ≤ suc depth′ →
-      enter W depth code frame f s g ≡ ranPaid W code (enter W depth′ code) frame f s g (pay (g .tally))
+      enter W depth code frame f s g ≡ ranPaid W code (enter W depth′ code) frame f s g (pay f (g .tally))
   unfolding enter
   enter-step depth depth′ code frame f s g h h′ = enter-depth depth (suc depth′) code frame f s g h h′
 
@@ -169,70 +169,70 @@ module _ (W : Watch) where
 
 -- REWRITING
 
-abbrev itself : Tally → Tally
-itself t = t
-
 -- two ways to call by name, or to apply by number, are alike where the depths come to the same
-abbrev AlikeCalls : {A : Type 0} → ℕ → ℕ → (A → Bytes → Tally → Outcome Bytes Tally) → (A → Bytes → Tally → Outcome Bytes Tally) → Type 0
-AlikeCalls {A} depth depth′ call call′ = (n : A) (text : Bytes) (t : Tally) → Enough depth depth′ (t .left) → Same itself t (call n text t) (call′ n text t)
+abbrev AlikeCalls : {A : Type 0} → ℕ → ℕ → (A → Bytes → Course → Outcome Bytes Course) → (A → Bytes → Course → Outcome Bytes Course) → Type 0
+AlikeCalls {A} depth depth′ call call′ = (n : A) (text : Bytes) (t : Course) → Enough depth depth′ (t .left) → Same tallyOf (tallyOf t) (call n text t) (call′ n text t)
 
-same-before : (text : Bytes) (t : Tally) (o o′ : Outcome Bytes Tally) → Same itself t o o′ → Same itself t (before text o) (before text o′)
-same-before text t o o′ p = same-then itself t o o′ _ _ p (λ rest t₁ h. unmoved)
+same-before : (text : Bytes) (t : Course) (o o′ : Outcome Bytes Course) → Same tallyOf (tallyOf t) o o′ → Same tallyOf (tallyOf t) (before text o) (before text o′)
+same-before text t o o′ p = same-then tallyOf (tallyOf t) o o′ _ _ p (λ rest t₁ h. unmoved)
 
-module _ (depth depth′ : ℕ) (call call′ : Name → Bytes → Tally → Outcome Bytes Tally) (alike : AlikeCalls depth depth′ call call′) (bound : Bindings) where
-  evaluate-alike : (e : Expression) (t : Tally) → Enough depth depth′ (t .left) → Same itself t (evaluate call bound e t) (evaluate call′ bound e t)
+module _ (depth depth′ : ℕ) (call call′ : Name → Bytes → Course → Outcome Bytes Course) (alike : AlikeCalls depth depth′ call call′) (bound : Bindings) where
+  evaluate-alike : (e : Expression) (t : Course) → Enough depth depth′ (t .left) → Same tallyOf (tallyOf t) (evaluate call bound e t) (evaluate call′ bound e t)
   unfolding evaluate
   evaluate-alike end t h = unmoved
   evaluate-alike (thenCharacter c e) t h = same-before (c ∷ []) t _ _ (evaluate-alike e t h)
   evaluate-alike (thenSymbol x e) t h = same-before (symbolText (lookup x (bound .symbols))) t _ _ (evaluate-alike e t h)
   evaluate-alike (thenPart x e) t h = same-before (partText (lookup x (bound .parts))) t _ _ (evaluate-alike e t h)
   evaluate-alike (thenCall place n argument e) t h =
-      same-then itself t _ _ _ _ (evaluate-alike argument t h)
-      (λ text t₁ p₁. same-then itself t₁ _ _ _ _ (alike n text t₁ (enough-fewer p₁ h))
+      same-then tallyOf (tallyOf t) _ _ _ _ (evaluate-alike argument t h)
+      (λ text t₁ p₁. same-then tallyOf (tallyOf t₁) _ _ _ _ (alike n text t₁ (enough-fewer p₁ h))
       (λ given t₂ p₂. same-before given t₂ _ _ (evaluate-alike e t₂ (enough-fewer p₂ (enough-fewer p₁ h)))))
 
-module _ (depth depth′ : ℕ) (table : Table) (apply apply′ : ℕ → Bytes → Tally → Outcome Bytes Tally) (alike : AlikeCalls depth depth′ apply apply′) where
-  picked : (b : Bool) (n : Name) (text : Bytes) (t : Tally) (o o′ : Outcome Bytes Tally) → Same itself t o o′ →
-      Same itself t (pick b (done [] (emitted n text t)) o) (pick b (done [] (emitted n text t)) o′)
+module _ (depth depth′ : ℕ) (table : Table) (apply apply′ : ℕ → Bytes → Course → Outcome Bytes Course) (alike : AlikeCalls depth depth′ apply apply′) where
+  picked : (b : Bool) (n : Name) (text : Bytes) (t : Course) (o o′ : Outcome Bytes Course) → Same tallyOf (tallyOf t) o o′ →
+      Same tallyOf (tallyOf t) (pick b (done [] (emitting n text t)) o) (pick b (done [] (emitting n text t)) o′)
   picked true n text t o o′ p = record { same = refl; spent = omega arith }
   picked false n text t o o′ p = p
 
   called-alike : AlikeCalls depth depth′ (callNamed table apply) (callNamed table apply′)
   called-alike n text t h = picked (isEmission n) n text t _ _ (alike (numberOf table n) text t h)
 
-  rewritten-alike : (number : ℕ) (fit : Option Fit) (t : Tally) → Enough depth depth′ (t .left) →
-      Same itself t (rewritten table apply number fit t) (rewritten table apply′ number fit t)
+  rewritten-alike : (number : ℕ) (fit : Option Fit) (t : Course) → Enough depth depth′ (t .left) →
+      Same tallyOf (tallyOf t) (rewritten table apply number fit t) (rewritten table apply′ number fit t)
   rewritten-alike number none t h = unmoved
   rewritten-alike number (some f) t h =
       evaluate-alike depth depth′ (callNamed table apply) (callNamed table apply′) called-alike (f .bindings) (f .sentence .expression) t h
 
-  applied-alike : (number : ℕ) (text : Bytes) (left steps : ℕ) (emissions : Bytes) → Enough (suc depth) (suc depth′) left →
-      let t : Tally = record { left = left; steps = steps; emissions = emissions } in
-      Same itself t (applied table apply number text t (pay t)) (applied table apply′ number text t (pay t))
-  applied-alike number text zero steps emissions h = unmoved
-  applied-alike number text (suc n) steps emissions h =
+  applied-alike : (number : ℕ) (text : Bytes) (left : ℕ) (history : List ℕ) (emissions : Bytes) → Enough (suc depth) (suc depth′) left →
+      let t : Course = record { left = left; history = history; emissions = emissions } in
+      Same tallyOf (tallyOf t) (applied table apply number text t (takeStep number t)) (applied table apply′ number text t (takeStep number t))
+  applied-alike number text zero history emissions h = unmoved
+  applied-alike number text (suc n) history emissions h =
       same-later (omega arith)
-      (rewritten-alike number (choose (functionAt table number) text) (record { left = n; steps = suc steps; emissions = emissions }) (enough-paid h))
+      (rewritten-alike number (choose (functionAt table number) text) (record { left = n; history = number ∷ history; emissions = emissions }) (enough-paid h))
+
+step-none : (number : ℕ) (t : Course) → t .left ≤ 0 → takeStep number t ≡ none
+step-none number t h = let e : t .left ≡ 0 = omega arith in rw e
 
 apply-alike : (depth depth′ : ℕ) (table : Table) → AlikeCalls depth depth′ (apply depth table) (apply depth′ table)
 unfolding apply
 apply-alike zero zero table number text t h = unmoved
-apply-alike zero (suc depth′) table number text t h = rw (pay-none t (enough-none h)) unmoved
-apply-alike (suc depth) zero table number text t h = rw (pay-none t (enough-none (enough-turned h))) unmoved
+apply-alike zero (suc depth′) table number text t h = rw (step-none number t (enough-none h)) unmoved
+apply-alike (suc depth) zero table number text t h = rw (step-none number t (enough-none (enough-turned h))) unmoved
 apply-alike (suc depth) (suc depth′) table number text t h =
     applied-alike depth depth′ table (apply depth table) (apply depth′ table) (apply-alike depth depth′ table)
-    number text (t .left) (t .steps) (t .emissions) h
+    number text (t .left) (t .history) (t .emissions) h
 
 -- Any depth of at least the steps left is the same depth.
-pub apply-depth : (depth depth′ : ℕ) (table : Table) (number : ℕ) (text : Bytes) (t : Tally) → t .left ≤ depth → t .left ≤ depth′ →
+pub apply-depth : (depth depth′ : ℕ) (table : Table) (number : ℕ) (text : Bytes) (t : Course) → t .left ≤ depth → t .left ≤ depth′ →
     apply depth table number text t ≡ apply depth′ table number text t
 apply-depth depth depth′ table number text t h h′ = apply-alike depth depth′ table number text t (deep h h′) .same
 
 -- At any depth an application never wins steps back, and steps and steps left keep their sum.
-pub apply-spent : (depth : ℕ) (table : Table) (number : ℕ) (text : Bytes) (t : Tally) → Spent t (countedOf (apply depth table number text t))
+pub apply-spent : (depth : ℕ) (table : Table) (number : ℕ) (text : Bytes) (t : Course) → Spent (tallyOf t) (tallyOf (countedOf (apply depth table number text t)))
 apply-spent depth table number text t = apply-alike depth depth table number text t (level refl) .spent
 
 pub rewriting-spent : (table : Table) (start : ℕ) (text : Bytes) (allowance : ℕ) →
-    let t : Tally = countedOf (apply allowance table start text (fresh allowance)) in
-    t .steps + t .left ≡ allowance
-rewriting-spent table start text allowance = omega (arith, apply-spent allowance table start text (fresh allowance) .sum)
+    let t : Course = countedOf (apply allowance table start text (unbegun allowance)) in
+    length (t .history) + t .left ≡ allowance
+rewriting-spent table start text allowance = omega (arith, apply-spent allowance table start text (unbegun allowance) .sum)

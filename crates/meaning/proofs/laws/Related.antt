@@ -35,8 +35,8 @@ pub record Closed (W U : Watch) (R : Relation W U) : Type 0 where
       R (λ g. noting W (need (g .tally)) g k) (λ g. noting U (need (g .tally)) g k′)
   pub emits : (n : Name) (text : Bytes) (k : Computation W) (k′ : Computation U) → R k k′ →
       R (λ g. k (withTally W (emitted n text (g .tally)) g)) (λ g. k′ (withTally U (emitted n text (g .tally)) g))
-  pub affords : (k : Computation W) (k′ : Computation U) → R k k′ →
-      R (λ g. wherePayable W (pay (g .tally)) g (k g)) (λ g. wherePayable U (pay (g .tally)) g (k′ g))
+  pub affords : (f : ℕ) (k : Computation W) (k′ : Computation U) → R k k′ →
+      R (λ g. wherePayable W (pay f (g .tally)) g (k g)) (λ g. wherePayable U (pay f (g .tally)) g (k′ g))
   pub chains : (first : Computation W) (first′ : Computation U) (k : Stacks → Computation W) (k′ : Stacks → Computation U) →
       R first first′ → ((s : Stacks) → R (k s) (k′ s)) → R (λ g. andThen (first g) k) (λ g. andThen (first′ g) k′)
 
@@ -49,7 +49,7 @@ abbrev pub Paying : (W U : Watch) → Relation W U → Type 0
 Paying W U R =
     (code : Code) (e : Enters W) (e′ : Enters U) (frame f : ℕ) (s : Stacks) →
     ((c : Choice) → R (ranChoice W code e frame f c s) (ranChoice U code e′ frame f c s)) →
-    R (λ g. ranPaid W code e frame f s g (pay (g .tally))) (λ g. ranPaid U code e′ frame f s g (pay (g .tally)))
+    R (λ g. ranPaid W code e frame f s g (pay f (g .tally))) (λ g. ranPaid U code e′ frame f s g (pay f (g .tally)))
 
 module _ (W U : Watch) (R : Relation W U) (closed : Closed W U R) where
   wrong : R (stop noInstruction 0) (stop noInstruction 0)
@@ -94,7 +94,7 @@ module _ (W U : Watch) (R : Relation W U) (closed : Closed W U R) where
         (λ at rs. closed .notes (λ t. inCells (length (drop at (s .output)) + length (s .input))) _ _ (r (withOpened rs l) (moved at s)))
     performs next next′ frame r (call f) l s =
         there (isDeclared code f) _ _
-        (closed .affords _ _
+        (closed .affords f _ _
         (closed .notes (λ t. frames (suc frame)) _ _
         (closed .chains (e (suc frame) f s) (e′ (suc frame) f s) (λ s₁ g. next l (returned (afterField s) s₁) g) (λ s₁ g. next′ l (returned (afterField s) s₁) g)
         (entering (suc frame) f s)

@@ -9,7 +9,7 @@ use mathlib.Core.Option.{Option, none, some}
 use lib.ListN.{take}
 use Rattle.meaning.specs.Choice.{Bytes, pick}
 use Rattle.meaning.specs.Answers.{inFull, recordFull}
-use Rattle.meaning.specs.Outcome.{Tally, fresh, pay, emitted, Outcome, done, stop, andThen, resultOf}
+use Rattle.meaning.specs.Outcome.{Tally, fresh, pay, emitted, Outcome, done, stop, andThen, told, resultOf}
 use Rattle.meaning.specs.Instructions.{Code}
 use Rattle.meaning.specs.Matching.{Choice, chooseFrom}
 use Rattle.meaning.specs.Machine.{Need, inCells, outCells, recordBytes, frames, onward, halt, Watch, Ledger, Stacks, Ran, withTally, afterNote, noting, wherePayable, ranChoice, ranPaid, enter, codeAt}
@@ -83,9 +83,9 @@ module _ (A : Type 0) (step : Need → Tally → A → A) (U : Watch) (sees : A 
             reads (withTally W (emitted n text (g .tally)) g) ∙
             resumed-with U (sees (g .mark)) (g .tally) (emitted n text (g .tally)) k′ ∙
             sym (resumed-tally U (sees (g .mark)) (g .tally) (λ t h. k′ (withTally U (emitted n text t) h)));
-        affords = λ k k′ reads g.
-            afforded (pay (g .tally)) k k′ g reads ∙
-            sym (resumed-tally U (sees (g .mark)) (g .tally) (λ t h. wherePayable U (pay t) h (k′ h)));
+        affords = λ f k k′ reads g.
+            afforded (pay f (g .tally)) k k′ g reads ∙
+            sym (resumed-tally U (sees (g .mark)) (g .tally) (λ t h. wherePayable U (pay f t) h (k′ h)));
         chains = λ first first′ k k′ reads later g.
             chained (first g) k k′ later ∙
             ap (λ o. andThen o k′) (reads g) ∙
@@ -103,8 +103,8 @@ module _ (A : Type 0) (step : Need → Tally → A → A) (U : Watch) (sees : A 
 
   reads-paying : Paying W U Reads
   reads-paying code e e′ frame f s reads g =
-      paid (pay (g .tally)) code e e′ frame f s g reads ∙
-      sym (resumed-tally U (sees (g .mark)) (g .tally) (λ t h. ranPaid U code e′ frame f s h (pay t)))
+      paid (pay f (g .tally)) code e e′ frame f s g reads ∙
+      sym (resumed-tally U (sees (g .mark)) (g .tally) (λ t h. ranPaid U code e′ frame f s h (pay f t)))
 
   -- the run that lets everything pass, read for the other watch, is the other watch's run, from where the mark says
   pub enter-read : (depth : ℕ) (code : Code) (frame f : ℕ) (s : Stacks) (g : Ledger A) →
@@ -129,7 +129,7 @@ own-closed =
       ends = λ answer function own g. own;
       notes = λ need k k′ own g. own g;
       emits = λ n text k k′ own g. own (withTally endless (emitted n text (g .tally)) g);
-      affords = λ k k′ own g. own-afforded (pay (g .tally)) g (k g) (own g);
+      affords = λ f k k′ own g. own-afforded (pay f (g .tally)) g (k g) (own g);
       chains = λ first first′ k k′ own later g. then-stops (λ answer function. Own answer) (first g) k (own g) later;
     }
 
@@ -140,7 +140,7 @@ own-paid (some t) code e frame f s g own = own (chooseFrom 0 (codeAt code f) (ta
 
 pub endless-own : (depth : ℕ) (code : Code) (frame f : ℕ) (s : Stacks) (g : Ledger (Unit {0})) → OwnStop (enter endless depth code frame f s g)
 endless-own =
-    applies endless endless OwnStops own-closed (λ code e e′ frame f s own g. own-paid (pay (g .tally)) code e frame f s g own)
+    applies endless endless OwnStops own-closed (λ code e e′ frame f s own g. own-paid (pay f (g .tally)) code e frame f s g own)
 
 -- 13 to 16
 pub record ForRoom (answer : ℕ) : Type 0 where
@@ -233,7 +233,7 @@ module _ (room : Room) where
 
     pub lent-passed : (p : Passed) → passedFirst room code start text allowance ≡ some p →
         runLent room code start text allowance ≡
-        record { answer = answerTo (p .need); function = 0; steps = p .tally .steps; text = []; emissions = p .tally .emissions }
+        told (answerTo (p .need)) 0 [] (p .tally)
     lent-passed p h = ap (λ o. resultOf (textOf o)) (lent-stops p h)
 
     -- Where something is passed, the two come to different results: so they come to the same exactly when nothing is passed.

@@ -3,7 +3,7 @@ use Prim.Native.Nat.{ℕ}
 use Rattle.meaning.specs.Choice.{every, sameBytes, startsWith, lookup, nth}
 use Rattle.meaning.specs.Names.{classNamed, numberFrom}
 use Rattle.meaning.specs.Allowed.{member, symbolsFrom, partsOf, lettersIn, parted, distinct, itemsIn, nesting, spelledItems, comingAfter, comingAfterAll, sentencesIn, callsKnown}
-use Rattle.meaning.specs.Rewriting.{hold, shortest, match, choose, evaluate, apply}
+use Rattle.meaning.specs.Rewriting.{applications, applicationsFrom, hold, shortest, match, choose, evaluate, apply}
 use Rattle.meaning.specs.Matching.{checkAll, search, storedValues, chooseFrom}
 use Rattle.meaning.specs.Machine.{process, enter}
 use Rattle.meaning.specs.Translation.{shapeOf, testedTemplate, valueFrom, items, translatedSentences}
@@ -13,7 +13,7 @@ unfoldable pub computing : ℕ
 unfolding every sameBytes startsWith lookup nth
     classNamed numberFrom
     member symbolsFrom partsOf lettersIn parted distinct itemsIn nesting spelledItems comingAfter comingAfterAll sentencesIn callsKnown
-    hold shortest match choose evaluate apply
+    applications applicationsFrom hold shortest match choose evaluate apply
     checkAll search storedValues chooseFrom
     process enter
     shapeOf testedTemplate valueFrom items translatedSentences

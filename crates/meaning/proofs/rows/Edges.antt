@@ -46,6 +46,12 @@ tableN =
       expression = thenSymbol x1 end;
     } ∷ []) ∷ []
 
+-- `F { e1 = <G e1> 'k' } G { 'x' = }`
+abbrev tableV : Table
+tableV =
+    function (70 ∷ []) (plain all1 (thenCall 10 (71 ∷ []) (thenPart x1 end) (thenCharacter 107 end)) ∷ []) ∷
+    function (71 ∷ []) (plain (letter (character 120) ∷ []) end ∷ []) ∷ []
+
 -- ROOMS AND ROWS
 
 -- the line of an emission of nothing, named Emit
@@ -69,43 +75,45 @@ abbrev edges : List Row
 edges =
     -- THE ALLOWANCE
     -- with no steps the start itself is past the allowance
-    same tableZ sixty 0 ample (result 12 0 0 [] []) ∷
+    same tableZ sixty 0 ample (result 12 0 0 [] [] []) ∷
     -- and with the largest allowance that there is
-    same tableZ sixty 4294967295 ample (result 0 0 3 (54 ∷ 48 ∷ []) []) ∷
+    same tableZ sixty 4294967295 ample (result 0 0 3 (3 ∷ []) (54 ∷ 48 ∷ []) []) ∷
     -- an emission is no step: it is done after the last one
-    same tableM (113 ∷ []) 2 ample (result 0 0 2 [] lines) ∷
+    same tableM (113 ∷ []) 2 ample (result 0 0 2 (1 ∷ 1 ∷ []) [] lines) ∷
     -- the application past the allowance comes before the emission that waits for it
-    same tableM (113 ∷ []) 1 ample (result 12 0 1 [] []) ∷
+    same tableM (113 ∷ []) 1 ample (result 12 0 1 (1 ∷ []) [] []) ∷
+    -- the failed application counts, of the function that it is of
+    same tableV (113 ∷ []) most ample (result 11 2 2 (1 ∷ 1 ∷ []) [] []) ∷
     -- THE MIDDLE PLACE
     -- it may touch the end template, and the start of the field
-    same tableB abc most ample (result 0 0 1 (97 ∷ 124 ∷ []) []) ∷
-    same tableB (98 ∷ 99 ∷ []) most ample (result 0 0 1 (124 ∷ []) []) ∷
+    same tableB abc most ample (result 0 0 1 (1 ∷ []) (97 ∷ 124 ∷ []) []) ∷
+    same tableB (98 ∷ 99 ∷ []) most ample (result 0 0 1 (1 ∷ []) (124 ∷ []) []) ∷
     -- CONDITIONS
     -- what a condition with 'F' asks is that the byte is not of the class
-    same tableN (47 ∷ []) most ample (result 0 0 1 (47 ∷ []) []) ∷
-    same tableN (48 ∷ []) most ample (result 11 1 1 [] []) ∷
+    same tableN (47 ∷ []) most ample (result 0 0 1 (1 ∷ []) (47 ∷ []) []) ∷
+    same tableN (48 ∷ []) most ample (result 11 1 1 (1 ∷ []) [] []) ∷
     -- FULL STACKS
     -- an empty part is no fault where out is full
-    same tableX [] most (cells 0 1) (result 0 0 1 (120 ∷ []) []) ∷
-    same tableZ [] most (cells 0 0) (result 0 0 1 [] []) ∷
+    same tableX [] most (cells 0 1) (result 0 0 1 (1 ∷ []) (120 ∷ []) []) ∷
+    same tableZ [] most (cells 0 0) (result 0 0 1 (1 ∷ []) [] []) ∷
     -- an empty argument is no fault where in is full
-    same tableU (97 ∷ []) most (cells 1 1) (result 0 0 2 (97 ∷ []) []) ∷
+    same tableU (97 ∷ []) most (cells 1 1) (result 0 0 2 (1 ∷ 1 ∷ []) (97 ∷ []) []) ∷
     -- THE FRAMES
     -- as many frames as there are calls one inside another, the start's among them
-    same tableR (97 ∷ []) most (framed 2) (result 0 0 2 (97 ∷ []) []) ∷
-    short tableR (97 ∷ []) (framed 1) (result 0 0 2 (97 ∷ []) []) (result 15 0 1 [] []) ∷
+    same tableR (97 ∷ []) most (framed 2) (result 0 0 2 (2 ∷ []) (97 ∷ []) []) ∷
+    short tableR (97 ∷ []) (framed 1) (result 0 0 2 (2 ∷ []) (97 ∷ []) []) (result 15 0 1 (1 ∷ []) [] []) ∷
     -- WHAT COMES FIRST
     -- the argument is written and moved before the call, so that 14 or 13 can come where rewriting says 12
-    sooner tableP (99 ∷ []) 1 (cells 1000 1) (result 12 0 1 [] []) (result 14 0 1 [] []) ∷
-    sooner tableP (99 ∷ []) 1 (cells 2 1000) (result 12 0 1 [] []) (result 13 0 1 [] []) ∷
+    sooner tableP (99 ∷ []) 1 (cells 1000 1) (result 12 0 1 (1 ∷ []) [] []) (result 14 0 1 (1 ∷ []) [] []) ∷
+    sooner tableP (99 ∷ []) 1 (cells 2 1000) (result 12 0 1 (1 ∷ []) [] []) (result 13 0 1 (1 ∷ []) [] []) ∷
     -- THE RECORD
     -- three lines of eight bytes fit 24
-    same tableM (113 ∷ []) most (recording 24) (result 0 0 2 [] lines) ∷
+    same tableM (113 ∷ []) most (recording 24) (result 0 0 2 (1 ∷ 1 ∷ []) [] lines) ∷
     -- where one byte is missing, nothing of the line is written
-    short tableM (113 ∷ []) (recording 23) (result 0 0 2 [] lines) (result 16 0 2 [] (take 16 lines)) ∷
+    short tableM (113 ∷ []) (recording 23) (result 0 0 2 (1 ∷ 1 ∷ []) [] lines) (result 16 0 2 (1 ∷ 1 ∷ []) [] (take 16 lines)) ∷
     -- an emission of nothing needs its name and two bytes
-    same tableW [] most (recording 6) (result 0 0 1 [] nothing) ∷
-    short tableW [] (recording 5) (result 0 0 1 [] nothing) (result 16 0 1 [] []) ∷ []
+    same tableW [] most (recording 6) (result 0 0 1 (1 ∷ []) [] nothing) ∷
+    short tableW [] (recording 5) (result 0 0 1 (1 ∷ []) [] nothing) (result 16 0 1 (1 ∷ []) [] []) ∷ []
 
 pub edges-hold : AllHold edges
 unfolding computing

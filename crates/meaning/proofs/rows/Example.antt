@@ -8,9 +8,10 @@ use Rattle.meaning.specs.Choice.{Bytes, Name}
 use Rattle.meaning.specs.Classes.{digit, upper}
 use Rattle.meaning.specs.Tree.{symbol, letter, part, end, thenCharacter, thenSymbol, thenPart, thenCall, Table}
 use Rattle.meaning.specs.Allowed.{allowed}
-use Rattle.meaning.specs.Outcome.{Result}
+use Rattle.meaning.specs.Outcome.{maxCounted, Result}
 use Rattle.meaning.specs.Rewriting.{rewrite}
 use Rattle.meaning.specs.Runs.{runEndless}
+use Rattle.meaning.specs.Leaving.{padded}
 use Rattle.meaning.specs.Translation.{translate}
 use Rattle.meaning.proofs.rows.Tables.{x1, x2, x3, all1, plain, function, emitName}
 use Rattle.meaning.proofs.rows.Computing.{computing}
@@ -56,6 +57,7 @@ outcome =
       answer = 0;
       function = 0;
       steps = 4;
+      counts = padded (1 ∷ 3 ∷ []) maxCounted;
       text = 98 ∷ 124 ∷ 55 ∷ 97 ∷ 97 ∷ [];
       emissions = 69 ∷ 109 ∷ 105 ∷ 116 ∷ 65 ∷ 32 ∷ 55 ∷ 10 ∷ [];
     }

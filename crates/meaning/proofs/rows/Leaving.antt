@@ -50,7 +50,7 @@ unrun words start text i o j answer =
       text = text;
       allowance = most;
       before = lent i o j;
-      after = leaves (result answer 0 0 [] []) (lent i o j);
+      after = leaves (result answer 0 0 [] [] []) (lent i o j);
     }
 
 abbrev zeros : ℕ → Bytes
@@ -69,15 +69,15 @@ wordsR = pack (translate tableR)
 abbrev pub runs : List Run
 runs =
     -- done: "out is the result with zeros after it", "Record bytes past the emissions are unchanged"
-    ran tableR 1 abc most 3 5 2 (result 0 0 4 (99 ∷ 98 ∷ 97 ∷ []) []) (99 ∷ 98 ∷ 97 ∷ 0 ∷ 0 ∷ []) (nines 2) ∷
-    ran tableM 1 (113 ∷ []) most 3 2 26 (result 0 0 2 [] lines) (zeros 2) (lines ++ nines 2) ∷
-    ran tableM 2 (113 ∷ []) most 2 3 9 (result 0 0 1 (121 ∷ []) lineC) (121 ∷ 0 ∷ 0 ∷ []) (lineC ++ nines 1) ∷
+    ran tableR 1 abc most 3 5 2 (result 0 0 4 (4 ∷ []) (99 ∷ 98 ∷ 97 ∷ []) []) (99 ∷ 98 ∷ 97 ∷ 0 ∷ 0 ∷ []) (nines 2) ∷
+    ran tableM 1 (113 ∷ []) most 3 2 26 (result 0 0 2 (1 ∷ 1 ∷ []) [] lines) (zeros 2) (lines ++ nines 2) ∷
+    ran tableM 2 (113 ∷ []) most 2 3 9 (result 0 0 1 (0 ∷ 1 ∷ []) (121 ∷ []) lineC) (121 ∷ 0 ∷ 0 ∷ []) (lineC ++ nines 1) ∷
     -- stopped: "or all zero if the answer isn't 0"
-    ran tableH 1 abc most 5 2 1 (result 11 1 1 [] []) (zeros 2) (nines 1) ∷
-    ran tableZ 1 sixty 2 4 6 1 (result 12 0 2 [] []) (zeros 6) (nines 1) ∷
-    ran tableP 1 (99 ∷ []) most 2 4 1 (result 13 0 1 [] []) (zeros 4) (nines 1) ∷
-    ran tableR 1 abc most 3 2 1 (result 14 0 4 [] []) (zeros 2) (nines 1) ∷
-    ran tableM 1 (113 ∷ []) most 3 2 23 (result 16 0 2 [] (take 16 lines)) (zeros 2) (take 16 lines ++ nines 7) ∷
+    ran tableH 1 abc most 5 2 1 (result 11 1 1 (1 ∷ []) [] []) (zeros 2) (nines 1) ∷
+    ran tableZ 1 sixty 2 4 6 1 (result 12 0 2 (2 ∷ []) [] []) (zeros 6) (nines 1) ∷
+    ran tableP 1 (99 ∷ []) most 2 4 1 (result 13 0 1 (1 ∷ []) [] []) (zeros 4) (nines 1) ∷
+    ran tableR 1 abc most 3 2 1 (result 14 0 4 (4 ∷ []) [] []) (zeros 2) (nines 1) ∷
+    ran tableM 1 (113 ∷ []) most 3 2 23 (result 16 0 2 (1 ∷ 1 ∷ []) [] (take 16 lines)) (zeros 2) (take 16 lines ++ nines 7) ∷
     -- "start 0 or above the function count", "text longer than in"
     unrun wordsR 0 abc 3 3 3 9 ∷
     unrun wordsR 2 abc 3 3 3 9 ∷

@@ -5,10 +5,11 @@ use mathlib.Core.List.{List, [], _∷_, map}
 use mathlib.Core.Option.{Option, some}
 use Rattle.meaning.specs.Choice.{Bytes}
 use Rattle.meaning.specs.Tree.{Table}
-use Rattle.meaning.specs.Outcome.{Result}
+use Rattle.meaning.specs.Outcome.{maxCounted, Result}
 use Rattle.meaning.specs.Rewriting.{rewrite}
 use Rattle.meaning.specs.Runs.{Room, runLent, runEndless}
 use Rattle.meaning.specs.Instructions.{Code}
+use Rattle.meaning.specs.Leaving.{padded}
 use Rattle.meaning.specs.Translation.{translate}
 use Rattle.meaning.specs.Packing.{pack, unpack}
 use Rattle.meaning.proofs.rows.Tables.{tableZ, tableR, tableH, tableK, tableP, tableM}
@@ -55,9 +56,17 @@ cells inn out = record { inCells = inn; outCells = out; recordBytes = 1000; fram
 abbrev pub most : ℕ
 most = 1000
 
-abbrev pub result : ℕ → ℕ → ℕ → Bytes → Bytes → Result
-result answer function steps text emissions =
-    record { answer = answer; function = function; steps = steps; text = text; emissions = emissions }
+-- the counts of the first functions, and 0 for the others
+abbrev pub result : ℕ → ℕ → ℕ → List ℕ → Bytes → Bytes → Result
+result answer function steps counts text emissions =
+    record {
+      answer = answer;
+      function = function;
+      steps = steps;
+      counts = padded counts maxCounted;
+      text = text;
+      emissions = emissions;
+    }
 
 -- a row whose code does what rewriting does
 abbrev pub same : Table → Bytes → ℕ → Room → Result → Row
@@ -85,20 +94,20 @@ lines =
 
 abbrev pub rows : List Row
 rows =
-    same tableZ sixty most (cells 1000 3) (result 0 0 3 (54 ∷ 48 ∷ []) []) ∷
-    same tableZ [] most ample (result 0 0 1 [] []) ∷
-    same tableZ sixty 2 ample (result 12 0 2 [] []) ∷
-    same tableZ sixty 3 ample (result 0 0 3 (54 ∷ 48 ∷ []) []) ∷
-    same tableR abc most (cells 3 3) (result 0 0 4 (99 ∷ 98 ∷ 97 ∷ []) []) ∷
-    short tableR abc (cells 3 2) (result 0 0 4 (99 ∷ 98 ∷ 97 ∷ []) []) (result 14 0 4 [] []) ∷
-    same tableH (97 ∷ 98 ∷ 55 ∷ 99 ∷ 57 ∷ []) most ample (result 0 0 1 (55 ∷ []) []) ∷
-    same tableH abc most ample (result 11 1 1 [] []) ∷
-    same tableK (97 ∷ 98 ∷ 99 ∷ 97 ∷ 98 ∷ []) most ample (result 0 0 1 (98 ∷ 99 ∷ 124 ∷ 98 ∷ []) []) ∷
-    same tableK (97 ∷ 97 ∷ []) most ample (result 0 0 1 (124 ∷ []) []) ∷
-    same tableK (97 ∷ 98 ∷ []) most ample (result 11 1 1 [] []) ∷
-    same tableP (99 ∷ []) most (cells 3 3) (result 0 0 2 abc []) ∷
-    short tableP (99 ∷ []) (cells 2 1000) (result 0 0 2 abc []) (result 13 0 1 [] []) ∷
-    same tableM (113 ∷ []) most ample (result 0 0 2 [] lines) ∷ []
+    same tableZ sixty most (cells 1000 3) (result 0 0 3 (3 ∷ []) (54 ∷ 48 ∷ []) []) ∷
+    same tableZ [] most ample (result 0 0 1 (1 ∷ []) [] []) ∷
+    same tableZ sixty 2 ample (result 12 0 2 (2 ∷ []) [] []) ∷
+    same tableZ sixty 3 ample (result 0 0 3 (3 ∷ []) (54 ∷ 48 ∷ []) []) ∷
+    same tableR abc most (cells 3 3) (result 0 0 4 (4 ∷ []) (99 ∷ 98 ∷ 97 ∷ []) []) ∷
+    short tableR abc (cells 3 2) (result 0 0 4 (4 ∷ []) (99 ∷ 98 ∷ 97 ∷ []) []) (result 14 0 4 (4 ∷ []) [] []) ∷
+    same tableH (97 ∷ 98 ∷ 55 ∷ 99 ∷ 57 ∷ []) most ample (result 0 0 1 (1 ∷ []) (55 ∷ []) []) ∷
+    same tableH abc most ample (result 11 1 1 (1 ∷ []) [] []) ∷
+    same tableK (97 ∷ 98 ∷ 99 ∷ 97 ∷ 98 ∷ []) most ample (result 0 0 1 (1 ∷ []) (98 ∷ 99 ∷ 124 ∷ 98 ∷ []) []) ∷
+    same tableK (97 ∷ 97 ∷ []) most ample (result 0 0 1 (1 ∷ []) (124 ∷ []) []) ∷
+    same tableK (97 ∷ 98 ∷ []) most ample (result 11 1 1 (1 ∷ []) [] []) ∷
+    same tableP (99 ∷ []) most (cells 3 3) (result 0 0 2 (1 ∷ 1 ∷ []) abc []) ∷
+    short tableP (99 ∷ []) (cells 2 1000) (result 0 0 2 (1 ∷ 1 ∷ []) abc []) (result 13 0 1 (1 ∷ []) [] []) ∷
+    same tableM (113 ∷ []) most ample (result 0 0 2 (1 ∷ 1 ∷ []) [] lines) ∷ []
 
 pub starred : AllHold rows
 unfolding computing

@@ -7,6 +7,7 @@ use Rattle.meaning.specs.Choice.{Bytes}
 use Rattle.meaning.specs.Instructions.{fromStart, fromPlace, Test, look, Store, store, null, whole, left, right, Span, Action, go, select, out, outCharacter, outValue, beginSequence, useSequence, call, tailCall, emission, Metric, exactly, ends, Sentences, noMore, sentence}
 use Rattle.meaning.specs.Packing.{Words, word, countsWord, pack}
 use Rattle.meaning.specs.Leaving.{Cells, Leaving, leaving}
+use Rattle.meaning.proofs.rows.Starred.{result}
 use Rattle.meaning.proofs.rows.Computing.{computing}
 
 pub record Row : Type 0 where
@@ -20,7 +21,8 @@ cells i o j = record { stackIn = i; stackOut = o; journal = j }
 abbrev lent : Cells
 lent = cells (replicate 6 7) (replicate 3 8) (replicate 5 9)
 
--- a run that stopped with an answer: in and out are zero, and the record has just the emissions from before it
+-- a run that stopped with an answer, each function that was applied having been so once: in and out are zero, and the record has just the
+-- emissions from before it
 abbrev stoppedWith : ℕ → Bytes → ℕ → Bytes → Words → Row
 stoppedWith answer text steps emissions words =
     record {
@@ -28,7 +30,7 @@ stoppedWith answer text steps emissions words =
       text = text;
       leaves =
           record {
-            result = record { answer = answer; function = 0; steps = steps; text = []; emissions = emissions };
+            result = result answer 0 steps (replicate steps 1) [] emissions;
             cells = cells (replicate 6 0) (replicate 3 0) (emissions ++ replicate (5 - length emissions) 9);
           };
     }
@@ -39,29 +41,33 @@ unchanged words =
     record {
       words = words;
       text = 97 ∷ [];
-      leaves = record { result = record { answer = 18; function = 0; steps = 0; text = []; emissions = [] }; cells = lent };
+      leaves = record { result = result 18 0 0 [] [] []; cells = lent };
     }
 
 -- stopped with 18 in the first application, before any emission
 abbrev wrong : Words → Row
 wrong words = stoppedWith 18 (97 ∷ []) 1 [] words
 
--- where the words are instructions after all: the text, the steps, the emissions, and the result, which is then on out
-abbrev endedEmitting : Bytes → ℕ → Bytes → Bytes → Words → Row
-endedEmitting text steps emissions result words =
+-- where the words are instructions after all: the text, the steps, the counts, the emissions, and what is given, which is then on out
+abbrev endedCounting : Bytes → ℕ → List ℕ → Bytes → Bytes → Words → Row
+endedCounting text steps counts emissions given words =
     record {
       words = words;
       text = text;
       leaves =
           record {
-            result = record { answer = 0; function = 0; steps = steps; text = result; emissions = emissions };
+            result = result 0 0 steps counts given emissions;
             cells =
-                cells (replicate 6 0) (result ++ replicate (3 - length result) 0) (emissions ++ replicate (5 - length emissions) 9);
+                cells (replicate 6 0) (given ++ replicate (3 - length given) 0) (emissions ++ replicate (5 - length emissions) 9);
           };
     }
 
+-- each function that was applied was so once
+abbrev endedEmitting : Bytes → ℕ → Bytes → Bytes → Words → Row
+endedEmitting text steps emissions given words = endedCounting text steps (replicate steps 1) emissions given words
+
 abbrev ended : Bytes → ℕ → Bytes → Words → Row
-ended text steps result words = endedEmitting text steps [] result words
+ended text steps given words = endedEmitting text steps [] given words
 
 abbrev finished : Words → Row
 finished words = ended (97 ∷ []) 1 [] words
@@ -232,7 +238,7 @@ returning selected callee = doingBoth (select selected ∷ call 2 ∷ out ∷ []
 abbrev stayRows : List Row
 stayRows =
     -- UseSeq: /../ab gives /ab
-    ended (47 ∷ 46 ∷ 46 ∷ 47 ∷ 97 ∷ 98 ∷ []) 2 (47 ∷ 97 ∷ 98 ∷ [])
+    endedCounting (47 ∷ 46 ∷ 46 ∷ 47 ∷ 97 ∷ 98 ∷ []) 2 (2 ∷ []) [] (47 ∷ 97 ∷ 98 ∷ [])
     (pathSentence (beginSequence ∷ select (cellsOn 1) ∷ out ∷ go (cellsOn 3) ∷ select (field 4) ∷ useSequence ∷ tailCall 1 ∷ [])) ∷
     -- Call: the callee leaves p where it was
     ended (97 ∷ 98 ∷ []) 2 (97 ∷ 98 ∷ []) (returning (field 0) []) ∷

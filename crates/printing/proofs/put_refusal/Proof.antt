@@ -1,7 +1,5 @@
 -- `printing::put_refusal` meets its contract.
-use native.Mathlib.Omega.{arith}
-use Rattle.putting.proofs.Writing.{put-then}
-use Rattle.printing.proofs.Putting.{put-prints}
+use Rattle.printing.proofs.Putting.{at-most-then}
 use borrow.Author.Needs.{needs}
 use Rattle.printing.proofs.put_refusal.Statement.{statement}
 use Rattle.printing.proofs.put_refusal.Tie as tie
@@ -10,8 +8,7 @@ returns : tie.Need-returns
 returns c =
     let at-put-number2 = c .before .before in
     let at-put-number = at-put-number2 .before .before .before .before in
-    put-prints (put-then (at-put-number .put-number .ensures .put) (at-put-number2 .put-number2 .ensures .put))
-    (omega (arith, at-put-number .put-number .ensures .near, at-put-number2 .put-number2 .ensures .near))
+    at-most-then (at-put-number .put-number .ensures) (at-put-number2 .put-number2 .ensures)
 
 pub put-refusal-spec : {M : Type 1} → statement M
 put-refusal-spec =

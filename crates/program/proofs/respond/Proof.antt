@@ -1,7 +1,10 @@
 -- `program::respond` meets its contract.
+use Prim.Native.Nat.{_+_, _≤_}
 use native.Mathlib.Omega.{arith}
 use mathlib.Core.Path.{sym, _∙_}
+use lib.ListN.{length, take}
 use lib.Seq.{length-take-le}
+use Rattle.printing.proofs.Putting.{at-most-then, put-prints}
 use borrow.Author.Needs.{needs}
 use Rattle.program.proofs.respond.Statement.{statement}
 use Rattle.program.proofs.respond.Tie as tie
@@ -11,7 +14,9 @@ returns c =
     let at-if1 = c .before .before in
     let at-is-refusal = at-if1 .before in
     let at-run-table = at-is-refusal .before .before .before in
-    rw (at-run-table .run-table .ensures .refusal (sym (at-is-refusal .is-refusal .ensures) ∙ at-if1 .if1 .taken)) (c .put-refusal .ensures)
+    let put = c .put-refusal .ensures in
+    rw (at-run-table .run-table .ensures .refusal (sym (at-is-refusal .is-refusal .ensures) ∙ at-if1 .if1 .taken))
+    (put-prints (put .put) (omega (arith, put .near, c .before .put-refusal-arg .given .0)))
 
 slice-aggregate-put-result : tie.Need-slice-aggregate-put-result
 slice-aggregate-put-result c = sym (length-take-le _ _ (c .before .before .before .before .before .before .run-table .ensures .emissions))
@@ -19,27 +24,38 @@ slice-aggregate-put-result c = sym (length-take-le _ _ (c .before .before .befor
 slice-aggregate-put-result-2 : tie.Need-slice-aggregate-put-result-2
 slice-aggregate-put-result-2 c = sym (length-take-le _ _ (c .before .before .before .before .before .before .before .run-table .ensures .result))
 
-put-result-requires : tie.Need-put-result-requires
-put-result-requires c κs =
-    let at-put-result-arg = c .before .before in
-    let at-record2 = at-put-result-arg .before .before .before in
-    let at-stack-out2 = at-record2 .before in
-    let at-run-table = at-stack-out2 .before in
-    let told = at-run-table .run-table .ensures in
+-- the emissions and the result are together no longer than record and out
+shown : (c : tie.After-record2) → let ran = c .before .before .run-table in
+    length (take (ran .result .emissions) (ran .last .1 .1 .1 .0)) + length (take (ran .result .text) (ran .last .1 .1 .0)) ≤ 65536
+shown c =
+    let told = c .before .before .run-table .ensures in
     rw (length-take-le _ _ (told .emissions), length-take-le _ _ (told .result))
-    (omega (arith, at-record2 .record2 .given, at-stack-out2 .stack-out2 .given, at-put-result-arg .put-result-arg .given .0 .1))
+    (omega (arith, told .emissions, told .result, c .record2 .given, c .before .stack-out2 .given))
+
+put-result-requires : tie.Need-put-result-requires
+put-result-requires c κs = omega (arith, shown (c .before .before .before .before .before))
+
+put-profile-requires : tie.Need-put-profile-requires
+put-profile-requires c κs =
+    let at-put-result = c .before .before in
+    omega (arith, at-put-result .put-result .ensures .near, shown (at-put-result .before .before .before .before .before .before))
 
 returns-2 : tie.Need-returns-2
 returns-2 c =
-    let at-if1 = c .before .before .before .before in
+    let at-put-result = c .before .before .before in
+    let at-put-result-arg = at-put-result .before .before .before in
+    let at-if1 = at-put-result-arg .before in
     let at-is-refusal = at-if1 .before in
     let at-run-table = at-is-refusal .before .before .before in
-    rw (at-run-table .run-table .ensures .run (sym (at-is-refusal .is-refusal .ensures) ∙ at-if1 .if1 .left)) (c .put-result .ensures)
+    let put = at-most-then (at-put-result .put-result .ensures) (c .put-profile .ensures) in
+    rw (at-run-table .run-table .ensures .run (sym (at-is-refusal .is-refusal .ensures) ∙ at-if1 .if1 .left))
+    (put-prints (put .put) (omega (arith, put .near, shown (at-is-refusal .before), at-put-result-arg .put-result-arg .given .0)))
 
 pub respond-spec : {M : Type 1} → statement M
 respond-spec =
     tie.close
     (tie.spec
+    (λ c κs. search needs)
     (λ c κs. search needs)
     (λ c κs. search needs)
     (λ c. search needs)
@@ -53,4 +69,5 @@ respond-spec =
     (λ c. search needs)
     slice-aggregate-put-result-2
     put-result-requires
+    put-profile-requires
     returns-2)

@@ -7,7 +7,7 @@ use Rattle.program.proofs.run_table.Tie as tie
 returns : tie.Need-returns
 returns c =
     let at-translate-and-run = c .before .before .before .before .before .before in
-    let at-cell-room = at-translate-and-run .before .before .before .before .before in
+    let at-cell-room = at-translate-and-run .before .before .before .before .before .before in
     let at-code-room = at-cell-room .before in
     let entry = at-code-room .before .before .before .before .before in
     shows (rw (at-code-room .code-room .ensures, at-cell-room .cell-room .ensures, entry .pre .0, entry .pre .1) at (at-translate-and-run .translate-and-run .ensures))

@@ -1,16 +1,17 @@
 -- What a run begins with, and what its end leaves in the lent cells.
 use Prim.Native.Nat.{ℕ, suc, _+_, _-_, _≤_, _<_}
 use native.Mathlib.Nat.{sub-zero}
+use native.Mathlib.Decide.{decLe}
 use native.Mathlib.Numerals.{add-one}
 use native.Mathlib.Omega.{arith}
 use mathlib.Core.Path.{_≡_, refl, sym, ap, _∙_}
 use mathlib.Core.Bool.{true, false}
 use mathlib.Core.List.{List, [], _∷_, _++_, append-assoc, append-nil}
-use lib.ListN.{length, getD, take, drop, set, length-append, length-replicate, replicate-append-replicate, take-append-drop}
+use lib.ListN.{length, getD, take, drop, set, length-append, length-replicate, getD-replicate, List·getD-eq-default, replicate-append-replicate, take-append-drop}
 use lib.Seq.{drop-cons, append-snoc, set-at, drop-at, length-take-le, take-length, drop-length, paste}
 use borrow.Author.Tests.{le-leb, lt-leb}
 use Rattle.meaning.specs.Choice.{Bytes}
-use Rattle.meaning.specs.Outcome.{fresh, resultOf}
+use Rattle.meaning.specs.Outcome.{maxCounted, uncounted, fresh, resultOf}
 use Rattle.meaning.specs.Machine.{isDeclared}
 use Rattle.meaning.specs.Runs.{Room, lent, loaded, from, textOf, runLent}
 use Rattle.meaning.specs.Packing.{Words}
@@ -21,7 +22,7 @@ use Rattle.acting.specs.declared.registers.Ending.{Ending}
 use Rattle.acting.specs.declared.registers.Next.{Next}
 use Rattle.acting.specs.declared.registers.Next.the-variants.{Onward, Done, Stopped}
 use Rattle.acting.specs.Endings.{endingNumber}
-use Rattle.acting.specs.States.{roomOfFrames, roomOfValues, Memory, memory, Held, stacksOf, roomOf, Outcomes}
+use Rattle.acting.specs.States.{roomOfFrames, roomOfValues, Memory, memory, Held, countsIn, stacksOf, roomOf, Outcomes}
 use Rattle.applying.specs.Waiting.{soundIn, functionsIn, waiting, comesTo}
 use Rattle.applying.specs.Advancing.{Underway, Keeps, registersIn, Leads, IsOver}
 use Rattle.running.specs.Leaving.{cells, Tells, Leaves, refusedWith, reportedOf, clearedFrom, loadedWith}
@@ -88,6 +89,11 @@ module _ (room : Room) (allowance : ℕ) (words : Words) (m : Memory) where
         emissions = sym (length-take-le (g .emitted) (m .journal) (k .logged));
       }
 
+  counts-end : (last : Next) → IsOver last → countsIn (m .frames) ≡ resultOf (textOf (comesTo room allowance words last m)) .counts
+  counts-end (Onward g) o = absurd o
+  counts-end (Done g) o = refl
+  counts-end (Stopped g ending function) o = refl
+
   -- the cells after the stacks are cleared
   cells-end : (last : Next) (before : Cells) → IsOver last → Keeps allowance last m → roomOf m ≡ roomOfCells before →
       drop (registersIn last .emitted) (m .journal) ≡ drop (registersIn last .emitted) (before .journal) →
@@ -116,12 +122,20 @@ module _ (room : Room) (allowance : ℕ) (words : Words) (m : Memory) where
 
   pub leaves-end : (last : Next) (before : Cells) (o : Outcomes) → o ≡ comesTo room allowance words last m → IsOver last → Keeps allowance last m →
       roomOf m ≡ roomOfCells before → drop (registersIn last .emitted) (m .journal) ≡ drop (registersIn last .emitted) (before .journal) →
-      Leaves (reportedOf last) (cells (clearedFrom 0 (m .input)) (clearedFrom (reportedOf last .text) (m .output)) (m .journal))
+      Leaves (reportedOf last) (countsIn (m .frames)) (cells (clearedFrom 0 (m .input)) (clearedFrom (reportedOf last .text) (m .output)) (m .journal))
       (left (resultOf (textOf o)) before)
   leaves-end last before o e over k room beyond =
-      rw e (record { tells = tells-end last over k; leaves = cells-end last before over k room beyond })
+      rw e (record { tells = tells-end last over k; counted = counts-end last over; leaves = cells-end last before over k room beyond })
 
 -- THE START
+
+-- nothing is counted at first
+getD-zeros : (i : ℕ) → getD uncounted i 0 ≡ 0
+getD-zeros i = by (decLe maxCounted i)
+  where
+    by : Dec (maxCounted ≤ i) → getD uncounted i 0 ≡ 0
+    by (yes h) = List·getD-eq-default uncounted 0 {n = i} (rw length-replicate h)
+    by (no h) = getD-replicate maxCounted i 0 0 (omega arith)
 
 -- the text stands at the right end of in
 pub record Loaded (text input input′ : Bytes) : Type 0 where
@@ -151,8 +165,9 @@ module _ (text input input′ : Bytes) (l : Loaded text input input′) where
     abbrev pub Whole : Outcomes
     Whole = from (lent (roomOf Start)) (functionsIn words) start text allowance tt
 
-    pub underway-start : length frames ≡ roomOfFrames → length values ≡ roomOfValues → Held 0 frames → Underway allowance Beginning Start
-    underway-start f v empty =
+    pub underway-start : length frames ≡ roomOfFrames → length values ≡ roomOfValues → countsIn frames ≡ uncounted → Held 0 frames →
+        Underway allowance Beginning Start
+    underway-start f v none empty =
         record {
           ready =
               record {
@@ -164,20 +179,21 @@ module _ (text input input′ : Bytes) (l : Loaded text input input′) where
                 frameRoom = f;
                 valueRoom = v;
                 paid = omega arith;
+                counts = λ i. rw none (omega (arith, getD-zeros i));
                 waits = λ k h. absurd (omega arith);
               };
           current = empty;
         }
 
     -- the run is followed from where its first application is to begin
-    pub starting : Underway allowance Beginning Start → isDeclared (functionsIn words) start ≡ true →
+    pub starting : Underway allowance Beginning Start → countsIn frames ≡ uncounted → isDeclared (functionsIn words) start ≡ true →
         Leads words allowance Whole Beginning Start (Onward Beginning) Start
     unfolding waiting
-    starting underway declared =
+    starting underway none declared =
         record {
           same =
               entering-paid (roomOf Start) allowance words 1 start (loaded text) (record { tally = fresh allowance; mark = tt }) (omega arith) ∙
-              rw (declared, loaded-stacks, sub-zero allowance);
+              rw (declared, loaded-stacks, sub-zero allowance, none);
           keeps = underway;
           room = refl;
           beyond = λ old e. e;
@@ -185,7 +201,7 @@ module _ (text input input′ : Bytes) (l : Loaded text input input′) where
 
     -- and leaves what it should when it has been followed to its end
     pub ending : (last : Next) (m : Memory) → Leads words allowance Whole Beginning Start last m → IsOver last →
-        Leaves (reportedOf last) (cells (clearedFrom 0 (m .input)) (clearedFrom (reportedOf last .text) (m .output)) (m .journal))
+        Leaves (reportedOf last) (countsIn (m .frames)) (cells (clearedFrom 0 (m .input)) (clearedFrom (reportedOf last .text) (m .output)) (m .journal))
         (left (runLent (roomOfCells (cells input output journal)) (functionsIn words) start text allowance) (cells input output journal))
     ending last m leads over =
         rw (l .sized) at
@@ -194,9 +210,9 @@ module _ (text input input′ : Bytes) (l : Loaded text input input′) where
 
 -- BEFORE A RUN
 
-pub refused-leaves : (ending : Ending) (before : Cells) → Leaves (refusedWith ending) before (refused (endingNumber ending) before)
+pub refused-leaves : (ending : Ending) (before : Cells) → Leaves (refusedWith ending) uncounted before (refused (endingNumber ending) before)
 refused-leaves ending before =
-    record { tells = record { answer = refl; function = refl; steps = refl; text = refl; emissions = refl }; leaves = refl }
+    record { tells = record { answer = refl; function = refl; steps = refl; text = refl; emissions = refl }; counted = refl; leaves = refl }
 
 module _ (words : Words) (start : ℕ) (text : Bytes) (before : Cells) (allowance : ℕ) where
   pub leaving-unsound : soundIn words ≡ false → leaving words start text before allowance ≡ refused 18 before

@@ -1,5 +1,5 @@
 -- `run` meets its contract.
-use mathlib.Core.Path.{_≡_, sym, _∙_}
+use mathlib.Core.Path.{_≡_, refl, sym, _∙_}
 use mathlib.Core.Bool.{true}
 use borrow.Author.Tests.{not-true, not-false}
 use Rattle.acting.specs.declared.registers.Ending.the-variants.{NoSuchStart, TextTooLong, NoInstruction}
@@ -17,7 +17,7 @@ use Rattle.running.proofs.run.Tie as tie
 -- WHERE THE TABLE IS LOOKED AT, WHERE IT IS SOUND, AND WHERE THE START IS DECLARED
 
 abbrev entry : tie.After-sound-table → tie.Start
-entry c = c .before .before .before .before .before .before
+entry c = c .before .before .before .before .before .before .before
 
 abbrev lent : tie.After-sound-table → Cells
 lent c = cells (entry c .args .input .now) (entry c .args .output .now) (entry c .args .journal .now)
@@ -64,14 +64,20 @@ run-lent-requires c κs =
     let a = entry (at-if1 .before) .args in
     let counted = sound-counted (a .code .now) (sound at-if1) in
     let d = is-declared (a .code .now) counted (a .start) (starts (at-if3 .before)) in
-    (counted, (d .0, (d .1, (at-if3 .if3 .left, (at-frame-room .frame-room .ensures, at-value-room .value-room .ensures)))))
+    (counted, (d .0, (d .1, (at-if3 .if3 .left, (at-frame-room .frame-room .ensures .0, (at-value-room .value-room .ensures, at-frame-room .frame-room .ensures .1))))))
+
+copy-counts-requires : tie.Need-copy-counts-requires
+copy-counts-requires c κs =
+    let at-run-lent = c .before .before .before .before .before .before .before .before .before .before in
+    let at-frame-room = at-run-lent .before .before .before .before .before .before .before in
+    (at-run-lent .run-lent .kept .1 .1 .1 .1 .1 .1 .0 ∙ at-frame-room .frame-room .ensures .0, refl)
 
 returns-4 : tie.Need-returns-4
 returns-4 c =
-    let at-run-lent = c .before .before .before .before .before .before .before .before in
+    let at-run-lent = c .before .before .before .before .before .before .before .before .before .before .before in
     let at-if3 = at-run-lent .before .before .before .before .before .before .before .before in
     let at-if1 = at-if3 .before .before .before in
-    rw (leaving-runs _ _ _ (lent (at-if1 .before)) _ (sound at-if1) (starts (at-if3 .before)) (at-if3 .if3 .left)) (at-run-lent .run-lent .ensures)
+    rw (leaving-runs _ _ _ (lent (at-if1 .before)) _ (sound at-if1) (starts (at-if3 .before)) (at-if3 .if3 .left), c .copy-counts .ensures) (at-run-lent .run-lent .ensures)
 
 pub run-spec : {M : Type 1} → statement M
 run-spec =
@@ -90,6 +96,8 @@ run-spec =
     (λ c. search needs)
     (λ c. search needs)
     run-lent-requires
+    (λ c. search needs)
+    copy-counts-requires
     (λ c. search needs)
     (λ c. search needs)
     (λ c. search needs)

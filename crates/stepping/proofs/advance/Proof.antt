@@ -110,7 +110,7 @@ enter-requires : tie.Need-enter-requires
 enter-requires c κs =
     let pre = c .before .before .before .before .before .before .before .before .before .pre in
     let r = pre .1 .1 .ready in
-    (pre .0, (pre .1 .0, (r .ordered, (r .inside, (r .framed, (r .frameRoom, r .valueRoom))))))
+    (pre .0, (pre .1 .0, (r .ordered, (r .inside, (r .framed, (r .frameRoom, (r .valueRoom, r .counts)))))))
 
 returns : tie.Need-returns
 returns c =

@@ -112,6 +112,7 @@ module _ (words : Words) (allowance : ℕ) where
                                   frameRoom = u .ready .frameRoom;
                                   valueRoom = u .ready .valueRoom;
                                   paid = u .ready .paid;
+                                  counts = u .ready .counts;
                                   waits = u .ready .waits;
                                 };
                             current = u .current;

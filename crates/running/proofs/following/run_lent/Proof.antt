@@ -5,11 +5,12 @@ use mathlib.Core.Bool.{true}
 use lib.ListN.{length}
 use borrow.Author.Tests.{le-leb}
 use Rattle.meaning.specs.Machine.{isDeclared}
-use Rattle.acting.specs.States.{Memory, memory}
+use Rattle.meaning.specs.Outcome.{uncounted}
+use Rattle.acting.specs.States.{Memory, memory, countsIn}
 use Rattle.applying.specs.Waiting.{countIn, functionsIn}
 use Rattle.applying.specs.Advancing.{Underway}
 use Rattle.applying.proofs.laws.Advancing.{leads-on}
-use Rattle.applying.proofs.laws.Applying.{declared-some, begun-held}
+use Rattle.applying.proofs.laws.Applying.{declared-some, begun-held, begun-counts}
 use Rattle.running.specs.Leaving.{loadedWith}
 use Rattle.running.proofs.laws.Leaving.{Loaded, underway-start, starting, ending, reported-within}
 use borrow.Author.Needs.{needs}
@@ -41,13 +42,20 @@ begun-in c =
     let a = entry (loading c) .args in
     memory (loading c .copy-to-in .last .0) (a .output .now) (a .journal .now) (c .begin-frame .last .0) (a .values .now)
 
+-- nothing is counted yet
+none : (c : tie.After-begin-frame) → countsIn (begun-in c .frames) ≡ uncounted
+none c =
+    let at-copy = loading c in
+    let rooms = entry at-copy .pre .1 .1 .1 .1 in
+    rw (c .begin-frame .ensures) (begun-counts (entry at-copy .args .frames .now) 0 0 0 0 (rooms .0) (omega arith) ∙ rooms .1 .1)
+
 underway : (c : tie.After-begin-frame) → let a = entry (loading c) .args in
     Underway (a .allowance) (loadedWith (length (a .input .now)) (length (a .text .now)) (a .start)) (begun-in c)
 underway c =
     let at-copy = loading c in
     let a = entry at-copy .args in
     let rooms = entry at-copy .pre .1 .1 .1 .1 in
-    underway-start _ _ _ (on-in at-copy) _ _ _ _ (a .code .now) (a .start) _ (c .begin-frame .kept .0 ∙ rooms .0) (rooms .1)
+    underway-start _ _ _ (on-in at-copy) _ _ _ _ (a .code .now) (a .start) _ (c .begin-frame .kept .0 ∙ rooms .0) (rooms .1 .0) (none c)
     (rw (c .begin-frame .ensures) (begun-held (a .frames .now) 0 0 0 0 (rooms .0) (omega arith) (omega arith)))
 
 -- the start is declared
@@ -87,7 +95,7 @@ returns c =
     let followed = rw (at-copy .before .before .loaded .ensures) at (at-follow .follow .ensures) in
     rw (c .before .before .before .before .before .before .clear-from .ensures, c .before .before .clear-from2 .ensures, c .before .before .before .before .before .before .before .before .reported .ensures)
     (ending _ _ _ (on-in at-copy) _ _ _ _ _ _ _ _ (left at-follow)
-    (leads-on _ _ _ _ _ _ _ _ _ (starting _ _ _ (on-in at-copy) _ _ _ _ _ _ _ (underway at-begin) (declared at-copy)) (followed .leads))
+    (leads-on _ _ _ _ _ _ _ _ _ (starting _ _ _ (on-in at-copy) _ _ _ _ _ _ _ (underway at-begin) (none at-begin) (declared at-copy)) (followed .leads))
     (followed .over))
 
 pub run-lent-spec : {M : Type 1} → statement M
