@@ -15,10 +15,10 @@ const CLASSES: [u8; 256] = [
     0,
     0,
     16, // 9, tab
-    0, // 10, line end
+    16, // 10, line end
+    0, // 11, vertical tab
     0,
-    0,
-    0,
+    16, // 13, return
     0,
     0,
     0,

@@ -1,5 +1,6 @@
 -- The five byte classes that conditions ask about: 01 'Table text', "Predicates: IsDigit (48 to 57), IsUpper (65 to 90),
--- IsLower (97 to 122), IsLetter (the two before), IsBlank (32, 9)". In 000 section 2.2 they are the host program's.
+-- IsLower (97 to 122), IsLetter (the two before), IsBlank (32, 9)"; 02, T-02, "IsBlank now holds for 10 and 13 besides
+-- 32 and 9". In 000 section 2.2 they are the host program's.
 use Prim.Native.Nat.{ℕ}
 use mathlib.Core.Bool.{Bool}
 use mathlib.Core.List.{List, [], _∷_}
@@ -18,7 +19,7 @@ inClass digit b = within 48 57 b
 inClass upper b = within 65 90 b
 inClass lower b = within 97 122 b
 inClass alphabetic b = either (within 65 90 b) (within 97 122 b)
-inClass blank b = either (eqb b 32) (eqb b 9)
+inClass blank b = either (either (eqb b 32) (eqb b 9)) (either (eqb b 10) (eqb b 13))
 
 -- a class's number in the code, and its place in the class table
 abbrev pub classNumber : Class → ℕ

@@ -1,7 +1,7 @@
 //! Texts for a function: mostly such as one of its patterns fits, else random ones.
 
 use crate::random::Random;
-use crate::trees::{USUAL, usual_byte};
+use crate::trees::{LINE_ENDS, USUAL, usual_byte};
 use refal0_apart::tree::{Function, Letter, Sentence};
 
 pub fn text(random: &mut Random, function: &Function) -> Vec<u8> {
@@ -44,6 +44,7 @@ fn symbol_byte(random: &mut Random, sentence: &Sentence, symbol: usize) -> u8 {
         let mut conditions = sentence.conditions.iter().filter(|condition| condition.symbol == symbol);
         conditions.all(|condition| condition.class.holds(byte) == condition.expected)
     };
-    let usual: Vec<u8> = USUAL.iter().copied().filter(|&byte| holds(byte)).collect();
-    if usual.is_empty() { usual_byte(random) } else { random.pick(&usual) }
+    let tried = if random.one_in(4) { LINE_ENDS } else { USUAL };
+    let fitting: Vec<u8> = tried.iter().copied().filter(|&byte| holds(byte)).collect();
+    if fitting.is_empty() { usual_byte(random) } else { random.pick(&fitting) }
 }

@@ -10,10 +10,14 @@ pub const USUAL: &[u8] = b"ab01 A";
 /// Bytes that are written in a way of their own.
 const ODD: &[u8] = b"\0\x05\t\n\r\"'\\\x7f\x80\xff7";
 
+/// Blanks that end a line.
+pub const LINE_ENDS: &[u8] = b"\n\r";
+
 pub fn usual_byte(random: &mut Random) -> u8 {
     match random.below(60) {
         0 => random.byte(),
         1 | 2 => random.pick(ODD),
+        3 => random.pick(LINE_ENDS),
         _ => random.pick(USUAL),
     }
 }

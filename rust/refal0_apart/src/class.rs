@@ -32,7 +32,7 @@ impl Class {
             Class::Upper => (65..=90).contains(&byte),
             Class::Lower => (97..=122).contains(&byte),
             Class::Letter => Class::Upper.holds(byte) || Class::Lower.holds(byte),
-            Class::Blank => byte == 32 || byte == 9,
+            Class::Blank => matches!(byte, 32 | 9 | 10 | 13),
         }
     }
 }

@@ -283,5 +283,5 @@ fn classes() {
     assert_eq!(members(Class::Upper), (b'A'..=b'Z').collect::<Vec<_>>());
     assert_eq!(members(Class::Lower), (b'a'..=b'z').collect::<Vec<_>>());
     assert_eq!(members(Class::Letter), (b'A'..=b'Z').chain(b'a'..=b'z').collect::<Vec<_>>());
-    assert_eq!(members(Class::Blank), [9, 32]);
+    assert_eq!(members(Class::Blank), [9, 10, 13, 32]);
 }

@@ -25,7 +25,7 @@ turns passes [] = []
 turns true (n ∷ ns) = replicate n true ++ turns false ns
 turns false (n ∷ ns) = replicate n false ++ turns true ns
 
--- "IsDigit (48 to 57), IsUpper (65 to 90), IsLower (97 to 122), IsLetter (the two before), IsBlank (32, 9)"
+-- "IsDigit (48 to 57), IsUpper (65 to 90), IsLower (97 to 122), IsLetter (the two before)"
 digits : ofEachByte (inClass digit) ≡ turns false (48 ∷ 10 ∷ 198 ∷ [])
 digits = refl
 
@@ -38,7 +38,8 @@ small = refl
 letters : ofEachByte (inClass alphabetic) ≡ turns false (65 ∷ 26 ∷ 6 ∷ 26 ∷ 133 ∷ [])
 letters = refl
 
-blanks : ofEachByte (inClass blank) ≡ turns false (9 ∷ 1 ∷ 22 ∷ 1 ∷ 223 ∷ [])
+-- "IsBlank now holds for 10 and 13 besides 32 and 9": 11, 12, 133 and 160 are none
+blanks : ofEachByte (inClass blank) ≡ turns false (9 ∷ 2 ∷ 2 ∷ 1 ∷ 18 ∷ 1 ∷ 223 ∷ [])
 blanks = refl
 
 -- "Blanks are 32, 9, 10 and 13": 11 and 12 are none

@@ -1,12 +1,12 @@
 -- Worked rows at the edges of 01: the allowance, the middle place, full stacks, a full record, the frames, and what comes before what.
 use Prim.Native.Nat.{ℕ}
 use mathlib.Core.Path.{refl}
-use mathlib.Core.Bool.{false}
+use mathlib.Core.Bool.{Bool, true, false}
 use mathlib.Core.List.{List, [], _∷_}
 use lib.ListN.{take}
 use Rattle.meaning.specs.Choice.{Bytes}
-use Rattle.meaning.specs.Classes.{digit}
-use Rattle.meaning.specs.Tree.{character, symbol, letter, part, end, thenCharacter, thenSymbol, thenPart, thenCall, Table}
+use Rattle.meaning.specs.Classes.{Class, digit, blank}
+use Rattle.meaning.specs.Tree.{character, symbol, Element, letter, part, Expression, end, thenCharacter, thenSymbol, thenPart, thenCall, Sentence, Table}
 use Rattle.meaning.specs.Outcome.{Result}
 use Rattle.meaning.specs.Runs.{Room}
 use Rattle.meaning.proofs.rows.Tables.{x1, x2, all1, plain, function, tableZ, tableR, tableP, tableM}
@@ -36,21 +36,33 @@ tableU =
 abbrev tableW : Table
 tableW = function (87 ∷ []) (plain [] (thenCall 7 (69 ∷ 109 ∷ 105 ∷ 116 ∷ []) end end) ∷ []) ∷ []
 
--- `N { s1, <IsDigit s1>: 'F' = s1 }`
-abbrev tableN : Table
-tableN =
-    function (78 ∷ [])
-    (record {
-      pattern = letter (symbol x1) ∷ [];
-      conditions = record { predicate = digit; variable = x1; expected = false } ∷ [];
-      expression = thenSymbol x1 end;
-    } ∷ []) ∷ []
-
 -- `F { e1 = <G e1> 'k' } G { 'x' = }`
 abbrev tableV : Table
 tableV =
     function (70 ∷ []) (plain all1 (thenCall 10 (71 ∷ []) (thenPart x1 end) (thenCharacter 107 end)) ∷ []) ∷
     function (71 ∷ []) (plain (letter (character 120) ∷ []) end ∷ []) ∷ []
+
+-- a sentence with one condition, on s1
+abbrev asking : Class → Bool → List Element → Expression → Sentence
+asking class expected p e =
+    record { pattern = p; conditions = record { predicate = class; variable = x1; expected = expected } ∷ []; expression = e }
+
+-- `N { s1, <IsDigit s1>: 'F' = s1 }`
+abbrev tableN : Table
+tableN = function (78 ∷ []) (asking digit false (letter (symbol x1) ∷ []) (thenSymbol x1 end) ∷ []) ∷ []
+
+-- `F { s1 e2, <IsBlank s1>: 'T' = <F e2>; e1 = e1 }`
+abbrev blanksPassed : Table
+blanksPassed =
+    function (70 ∷ [])
+    (asking blank true (letter (symbol x1) ∷ part x2 ∷ []) (thenCall 30 (70 ∷ []) (thenPart x2 end) end) ∷
+    plain all1 (thenPart x1 end) ∷ []) ∷ []
+
+-- `F { s1, <IsBlank s1>: 'F' = 'n'; s1 = 'b' }`
+abbrev blankOrNot : Table
+blankOrNot =
+    function (70 ∷ [])
+    (asking blank false (letter (symbol x1) ∷ []) (thenCharacter 110 end) ∷ plain (letter (symbol x1) ∷ []) (thenCharacter 98 end) ∷ []) ∷ []
 
 -- ROOMS AND ROWS
 
@@ -92,6 +104,12 @@ edges =
     -- what a condition with 'F' asks is that the byte is not of the class
     same tableN (47 ∷ []) most ample (result 0 0 1 (1 ∷ []) (47 ∷ []) []) ∷
     same tableN (48 ∷ []) most ample (result 11 1 1 (1 ∷ []) [] []) ∷
+    -- BLANKS
+    -- both line ends are blank, as blank and tab are, and the vertical tab is not
+    same blanksPassed (10 ∷ 13 ∷ 11 ∷ 120 ∷ []) most ample (result 0 0 3 (3 ∷ []) (11 ∷ 120 ∷ []) []) ∷
+    same blanksPassed (32 ∷ 9 ∷ 120 ∷ []) most ample (result 0 0 3 (3 ∷ []) (120 ∷ []) []) ∷
+    same blankOrNot (13 ∷ []) most ample (result 0 0 1 (1 ∷ []) (98 ∷ []) []) ∷
+    same blankOrNot (11 ∷ []) most ample (result 0 0 1 (1 ∷ []) (110 ∷ []) []) ∷
     -- FULL STACKS
     -- an empty part is no fault where out is full
     same tableX [] most (cells 0 1) (result 0 0 1 (1 ∷ []) (120 ∷ []) []) ∷
