@@ -6,9 +6,9 @@ use mathlib.Core.Bool.{Bool, true, false}
 use mathlib.Core.List.{List, [], _∷_}
 use native.Mathlib.Omega.{arith}
 use lib.Dec.{eqb}
-use Rattle.meaning.specs.Tree.{Element, Condition, Expression, Sentence, Function, Table}
+use Rattle.meaning.specs.Tree.{Element, Subject, Condition, Expression, Sentence, Function, Table}
 use Rattle.meaning.specs.Tokens.{Token, functionName, word, quoted, sign, textEnd, malformed, Placed}
-use Rattle.meaning.specs.Grammar.{standing, truthByte, IsCondition, isCondition, IsConditions, noConditions, conditionThen, IsSentence, isSentence, IsSentences, lastSentence, lastSentenceParted, sentenceThen, IsFunction, isFunction, IsProgram, noFunctions, functionThen, functionPartedThen}
+use Rattle.meaning.specs.Grammar.{standing, truthByte, IsSubject, symbolSubject, partSubject, IsCondition, isCondition, IsConditions, noConditions, conditionThen, IsSentence, isSentence, IsSentences, lastSentence, lastSentenceParted, sentenceThen, IsFunction, isFunction, IsProgram, noFunctions, functionThen, functionPartedThen}
 use Rattle.meaning.specs.Reading.{itemOf, isItem, isSign, isTextEnd}
 use Rattle.accepting.proofs.reading.Basics.{impossible}
 use Rattle.accepting.proofs.reading.Patterns.{IsItems, noMore, itemThen, pattern-items}
@@ -80,11 +80,18 @@ same-truth true false e = absurd (omega arith)
 same-truth false true e = absurd (omega arith)
 same-truth false false e = refl
 
+same-subject : {t u : Token} {v w : Subject} → IsSubject t v → IsSubject u w → t ≡ u → v ≡ w
+same-subject symbolSubject symbolSubject e = cc
+same-subject symbolSubject partSubject e = let clash : _≡_ {A = ℕ} 115 101 = cc in absurd (omega arith)
+same-subject partSubject symbolSubject e = let clash : _≡_ {A = ℕ} 101 115 = cc in absurd (omega arith)
+same-subject partSubject partSubject e = cc
+
 same-condition : {ts us rest left : List Placed} {c d : Condition}
     → IsCondition ts c rest → IsCondition us d left → ts ≡ us → Same c d rest left
-same-condition (isCondition {truth = truth} p) (isCondition {truth = other} q) e =
+same-condition (isCondition {truth = truth} p v) (isCondition {truth = other} q w) e =
     let name = firsts (firsts e .tail) in
     let variable = firsts (name .tail) in
+    let subjects = same-subject v w (variable .token) in
     let closing = firsts (firsts (firsts (variable .tail) .tail) .tail) in
     let byte : truthByte truth ≡ truthByte other = cc in
     let same = same-truth truth other byte in

@@ -21,11 +21,11 @@ use Rattle.bookkeeping.specs.Tables.{Inside}
 use Rattle.bookkeeping.specs.Items.{Identifier, StringAt, itemAt}
 
 -- an s-variable or an e-variable
-abbrev variableToken : Bool → Span → Token
+abbrev pub variableToken : Bool → Span → Token
 variableToken false x = Symbol x
 variableToken true x = Part x
 
-abbrev variableItem : Bool → Bytes → Item
+abbrev pub variableItem : Bool → Bytes → Item
 variableItem false x = symbolItem x
 variableItem true x = partItem x
 

@@ -9,26 +9,56 @@ use lib.Dec.{T, eqb}
 use lib.ListN.{length}
 use Rattle.meaning.specs.Choice.{Bytes, Name, pick, every}
 use Rattle.meaning.specs.Classes.{Class}
-use Rattle.meaning.specs.Tree.{Condition}
+use Rattle.meaning.specs.Tree.{Subject, ofSymbol, ofPart, Condition}
 use Rattle.meaning.specs.Tape.{conditionTape, conditionsTape}
 use Rattle.meaning.specs.Tokens as Tokens
-use Rattle.meaning.specs.Reading.{Parsed, parsed, pass, passSymbol, truthOf, passTruth}
+use Rattle.meaning.specs.Reading.{Parsed, parsed, pass, passSubject, truthOf, passTruth}
 use Rattle.lexing.specs.View.{Sound, stream}
 use Rattle.lexing.specs.declared.Span.{Span}
 use Rattle.lexing.specs.declared.Placed.{Placed}
+use Rattle.lexing.specs.declared.Token.{Token}
+use Rattle.lexing.specs.declared.Token.the-variants.{Name as NameToken, Symbol, Part, Word, Quoted, Sign, End, Malformed}
 use Rattle.bookkeeping.specs.declared.progress.Progress.{Progress}
+use Rattle.bookkeeping.specs.Items.{symbolNames, partNames}
 use Rattle.bookkeeping.specs.Written.{isQuiet, Went}
+use Rattle.conditions.specs.declared.Named.{Named}
+use Rattle.conditions.specs.declared.Named.the-variants.{Variable, Other}
 
--- `condition` from its variable on, and after its variable
-abbrev pub conditionEnd : Class → Name → List Tokens.Placed → Parsed Condition
-conditionEnd class x ts =
+-- a token as a variable: whether it is an e-variable, and its identifier
+abbrev pub variableOf : Token → Named
+variableOf (NameToken name) = Other
+variableOf (Symbol identifier) = Variable false identifier
+variableOf (Part identifier) = Variable true identifier
+variableOf Word = Other
+variableOf (Quoted count) = Other
+variableOf (Sign b) = Other
+variableOf End = Other
+variableOf Malformed = Other
+
+-- the pattern's s-variables, or its e-variables
+abbrev pub variableNames : Bytes → List ℕ → ℕ → ℕ → Bool → List Name
+variableNames text table symbols parts false = symbolNames text table symbols
+variableNames text table symbols parts true = partNames text table parts
+
+-- a condition's subject by its kind, and that kind on the tape
+abbrev pub subjectOf : Bool → Name → Subject
+subjectOf false x = ofSymbol x
+subjectOf true x = ofPart x
+
+abbrev pub kindNumber : Bool → ℕ
+kindNumber false = 0
+kindNumber true = 10
+
+-- `condition` after its variable, and from its variable on
+abbrev pub conditionEnd : Class → Subject → List Tokens.Placed → Parsed Condition
+conditionEnd class v ts =
     pass 62 ts λ ts₁.
     pass 58 ts₁ λ ts₂.
     passTruth ts₂ λ truth rest.
-    parsed (record { predicate = class; variable = x; expected = truth }) rest
+    parsed (record { predicate = class; subject = v; expected = truth }) rest
 
-abbrev pub conditionOn : List Name → Class → List Tokens.Placed → Parsed Condition
-conditionOn symbols class ts = passSymbol symbols ts λ x ts₁. conditionEnd class x ts₁
+abbrev pub conditionOn : List Name → List Name → Class → List Tokens.Placed → Parsed Condition
+conditionOn symbols parts class ts = passSubject symbols parts ts λ v ts₁. conditionEnd class v ts₁
 
 -- the truth value of a closing string by its number on the tape; 1 stands for none
 abbrev pub truthAt : ℕ → Option Bool

@@ -21,29 +21,74 @@ use lexing::Token;
 use lexing::lex;
 ghost use mathlib.Core.Path.{_≡_};
 ghost use mathlib.Core.Option.{some};
-ghost use Prim.Native.Nat.{_+_, _<_};
+ghost use Prim.Native.Nat.{_+_, _≤_, _<_};
 ghost use lib.Dec.{eqb};
 ghost use Rattle.meaning.specs.Classes.{Class};
-ghost use Rattle.meaning.specs.Tokens as Tokens;
+ghost use Rattle.meaning.specs.Tokens.{inside};
 ghost use Rattle.meaning.specs.Reading as Reading;
 ghost use Rattle.meaning.specs.Packing.{classOf};
 ghost use Rattle.lexing.specs.View.{tokenOf, part, stream};
 ghost use Rattle.bookkeeping.specs.Answered.{numberOf, Agrees};
-ghost use Rattle.bookkeeping.specs.Tables.{Inside, Entries};
+ghost use Rattle.bookkeeping.specs.Tables.{Inside, tableNames, Entries};
 ghost use Rattle.bookkeeping.specs.Written.{Ready};
-ghost use Rattle.bookkeeping.specs.Items.{symbolNames};
-ghost use Rattle.conditions.specs.Conditions.{conditionEnd, conditionOn, truthBetween, TruthNumber, TruthIs, Standing, Before, ConditionRead, ConditionsRead};
+ghost use Rattle.bookkeeping.specs.Items.{Variables, symbolNames, partNames};
+ghost use Rattle.conditions.specs.Conditions.{variableOf, variableNames, subjectOf, kindNumber, conditionEnd, conditionOn, truthBetween, TruthNumber, TruthIs, Standing, Before, ConditionRead, ConditionsRead};
 
-// What is wrong with an s-variable after the pattern.
-pub fn later_symbol_fault(text: &[u8], table: &[usize], symbols: usize, x: Span) -> Answer
-    requires { ⌜ Inside (now text) x × Entries (now text) (now table) 0 symbols ⌝ }
-    ensures { λ r. ⌜ numberOf r ≡ Reading.symbolFault (symbolNames (now (text .entry)) (now (table .entry)) symbols) (part (now (text .entry)) x) ⌝ }
+// What is wrong with a variable after the pattern, whose own are in a table from one entry on and before another.
+pub fn later_fault(text: &[u8], table: &[usize], from: usize, to: usize, x: Span) -> Answer
+    requires { ⌜ Inside (now text) x × Entries (now text) (now table) from to ⌝ }
+    ensures { λ r. ⌜ numberOf r
+        ≡ Reading.subjectFault (tableNames (now (text .entry)) (now (table .entry)) from to)
+        (part (now (text .entry)) x) ⌝ }
 {
     if 8 < x.past - x.from {
         return Answer::OverLimit;
     }
-    let known = find(text, table, 0, symbols, x) < symbols;
+    let known = find(text, table, from, to, x) < to;
     fault_if(!known, Answer::WrongLaterVariable)
+}
+
+// A token as a variable: whether it is an e-variable, and its identifier.
+pub enum Named {
+    Variable(bool, Span),
+    Other,
+}
+
+fn variable_in(token: Token) -> Named
+    ensures { λ r. ⌜ r ≡ variableOf token ⌝ }
+{
+    match token {
+        Token::Symbol(x) => Named::Variable(false, x),
+        Token::Part(x) => Named::Variable(true, x),
+        _ => Named::Other,
+    }
+}
+
+// What is wrong with a condition's variable.
+fn subject_fault(
+    text: &[u8],
+    table: &[usize],
+    symbols: usize,
+    parts: usize,
+    is_part: bool,
+    x: Span,
+) -> Answer
+    requires { ⌜ Inside (now text) x × Variables (now text) (now table) symbols parts ⌝ }
+    ensures { λ r. ⌜ numberOf r
+        ≡ Reading.subjectFault (variableNames (now (text .entry)) (now (table .entry)) symbols parts «is_part»)
+        (part (now (text .entry)) x) ⌝ }
+{
+    if is_part {
+        return later_fault(text, table, 16, 16 + parts, x);
+    }
+    later_fault(text, table, 0, symbols, x)
+}
+
+// The kind of a condition's variable by its number on the tape: 10 for an e-variable.
+fn kind_number(is_part: bool) -> usize
+    ensures { λ r. ⌜ (r ≡ kindNumber «is_part») × (r ≤ 10) ⌝ }
+{
+    if is_part { 10 } else { 0 }
 }
 
 // The truth value of the byte between a closing string's quotes: 5 for T, 0 for F, and 1 for any other.
@@ -83,11 +128,13 @@ fn condition_end(
     from: usize,
     words: usize,
     class: usize,
+    is_part: bool,
     x: Span,
 ) -> Parsed
     requires { ⌜ Ready (now text) from words × Before (now text) words from x × (class < 5) ⌝ }
     ensures { λ r. ⌜ ((c : Class) → classOf class ≡ some c → Agrees (ConditionRead (now (text .entry)) from words (now (tape .entry)) (now (tape .exit)))
-        (conditionEnd c (part (now (text .entry)) x) (stream (now (text .entry)) Tokens.inside from)) r) ⌝ }
+        (conditionEnd c (subjectOf «is_part» (part (now (text .entry)) x))
+        (stream (now (text .entry)) inside from)) r) ⌝ }
 {
     let close = match pass(text, from, Mode::Inside, b'>') {
         Passed::Past(at) => at,
@@ -102,7 +149,8 @@ fn condition_end(
     if truth == 1 {
         return Parsed::Stopped(refuse(t));
     }
-    let word = (CONDITION_WORD + (x.past - x.from) * 10 + truth + class) as u32;
+    let kind = kind_number(is_part);
+    let word = (CONDITION_WORD + (x.past - x.from) * 20 + kind + truth + class) as u32;
     let after = put_named(text, tape, words, word, x);
     Parsed::Done(Progress {
         at: t.past,
@@ -118,27 +166,29 @@ fn condition_on(
     tape: &mut [u32; 32768],
     table: &[usize],
     symbols: usize,
+    parts: usize,
     from: usize,
     words: usize,
     class: usize,
 ) -> Parsed
-    requires { ⌜ Ready (now text) from words × Entries (now text) (now table) 0 symbols × (class < 5) ⌝ }
+    requires { ⌜ Ready (now text) from words × Variables (now text) (now table) symbols parts × (class < 5) ⌝ }
     ensures { λ r. ⌜ ((c : Class) → classOf class ≡ some c → Agrees (ConditionRead (now (text .entry)) from words (now (tape .entry)) (now (tape .exit)))
-        (conditionOn (symbolNames (now (text .entry)) (now (table .entry)) symbols) c (stream (now (text .entry)) Tokens.inside from)) r) ⌝ }
+        (conditionOn (symbolNames (now (text .entry)) (now (table .entry)) symbols)
+        (partNames (now (text .entry)) (now (table .entry)) parts) c (stream (now (text .entry)) inside from)) r) ⌝ }
 {
     let t = lex(text, from, Mode::Inside);
     let token = t.token;
-    let Token::Symbol(x) = token else {
+    let Named::Variable(is_part, x) = variable_in(token) else {
         return Parsed::Stopped(refuse(t));
     };
-    let fault = later_symbol_fault(text, table, symbols, x);
+    let fault = subject_fault(text, table, symbols, parts, is_part, x);
     if !is_accepted(fault) {
         return Parsed::Stopped(Fault {
             answer: fault,
             place: t.place,
         });
     }
-    condition_end(text, tape, t.past, words, class, x)
+    condition_end(text, tape, t.past, words, class, is_part, x)
 }
 
 // A condition after its `,`.
@@ -147,12 +197,14 @@ fn condition(
     tape: &mut [u32; 32768],
     table: &[usize],
     symbols: usize,
+    parts: usize,
     from: usize,
     words: usize,
 ) -> Parsed
-    requires { ⌜ Ready (now text) from words × Entries (now text) (now table) 0 symbols ⌝ }
+    requires { ⌜ Ready (now text) from words × Variables (now text) (now table) symbols parts ⌝ }
     ensures { λ r. ⌜ Agrees (ConditionRead (now (text .entry)) from words (now (tape .entry)) (now (tape .exit)))
-        (Reading.condition (symbolNames (now (text .entry)) (now (table .entry)) symbols) (stream (now (text .entry)) Tokens.inside from)) r ⌝ }
+        (Reading.condition (symbolNames (now (text .entry)) (now (table .entry)) symbols)
+        (partNames (now (text .entry)) (now (table .entry)) parts) (stream (now (text .entry)) inside from)) r ⌝ }
 {
     let open = match pass(text, from, Mode::Inside, b'<') {
         Passed::Past(at) => at,
@@ -176,7 +228,7 @@ fn condition(
             place: t.place,
         });
     }
-    condition_on(text, tape, table, symbols, t.past, words, class)
+    condition_on(text, tape, table, symbols, parts, t.past, words, class)
 }
 
 // Reads conditions, at most eight.
@@ -185,12 +237,14 @@ pub fn conditions(
     tape: &mut [u32; 32768],
     table: &[usize],
     symbols: usize,
+    parts: usize,
     from: usize,
     words: usize,
 ) -> Parsed
-    requires { ⌜ Ready (now text) from words × Entries (now text) (now table) 0 symbols ⌝ }
+    requires { ⌜ Ready (now text) from words × Variables (now text) (now table) symbols parts ⌝ }
     ensures { λ r. ⌜ Agrees (ConditionsRead (now (text .entry)) from words (now (tape .entry)) (now (tape .exit)))
-        (Reading.conditions 8 (symbolNames (now (text .entry)) (now (table .entry)) symbols) (stream (now (text .entry)) Tokens.inside from)) r ⌝ }
+        (Reading.conditions 8 (symbolNames (now (text .entry)) (now (table .entry)) symbols)
+        (partNames (now (text .entry)) (now (table .entry)) parts) (stream (now (text .entry)) inside from)) r ⌝ }
 {
     let mut s = Progress {
         at: from,
@@ -210,7 +264,7 @@ pub fn conditions(
                 place: t.place,
             });
         }
-        match condition(text, tape, table, symbols, t.past, s.words) {
+        match condition(text, tape, table, symbols, parts, t.past, s.words) {
             Parsed::Stopped(fault) => return Parsed::Stopped(fault),
             Parsed::Done(next) => s = next,
         }

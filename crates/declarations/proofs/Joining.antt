@@ -13,7 +13,7 @@ use Rattle.meaning.specs.Answers.{overLimit, wrongLaterVariable}
 use Rattle.meaning.specs.Allowed.{maxIdentifier, comingAfter}
 use Rattle.meaning.specs.Tape.{named}
 use Rattle.meaning.specs.Reading as Reading
-use Rattle.meaning.specs.Reading.{Item, characters, symbolItem, partItem, symbolFault, faultUnless}
+use Rattle.meaning.specs.Reading.{Item, characters, symbolItem, partItem, subjectFault, faultUnless}
 use Rattle.lexing.specs.View as View
 use Rattle.lexing.specs.View.{charactersIn, quotationAt}
 use Rattle.lexing.specs.declared.Span.{Span}
@@ -100,11 +100,13 @@ module _ {text : Bytes} {table : List ℕ} {symbols parts : ℕ} {s : Progress} 
 
   -- an s-variable that has room: what is wrong with it later is wrong with it here
   symbol-like : (m : s .count < 128) → {is : Bool} → short ≡ is
-      → Reading.itemFault (symbolNames text table symbols) (progressAt text table parts s) (symbolItem name) ≡ symbolFault (symbolNames text table symbols) name
+      → Reading.itemFault (symbolNames text table symbols) (progressAt text table parts s) (symbolItem name)
+      ≡ subjectFault (symbolNames text table symbols) name
   symbol-like m {is = true} e = rw (e, few-items m)
   symbol-like m {is = false} e = rw e
 
-  pub symbol-bad : s .count < 128 → {answer : Answer} → numberOf answer ≡ symbolFault (symbolNames text table symbols) name → eqb (numberOf answer) 0 ≡ false
+  pub symbol-bad : s .count < 128 → {answer : Answer} → numberOf answer ≡ subjectFault (symbolNames text table symbols) name
+      → eqb (numberOf answer) 0 ≡ false
       → {tape tape′ : List ℕ} → JoinsItem text table symbols parts s tape (symbolItem name) (x .past) tape′ (Wrong answer)
   symbol-bad m e w = wrongs w (symbol-like m refl ∙ sym e)
 
@@ -130,7 +132,7 @@ module _ {text : Bytes} {table : List ℕ} {symbols parts : ℕ} {s : Progress} 
             });
       }
 
-  pub symbol-joined : s .count < 128 → symbolFault (symbolNames text table symbols) name ≡ 0 → {tape tape′ : List ℕ} {next : Progress}
+  pub symbol-joined : s .count < 128 → subjectFault (symbolNames text table symbols) name ≡ 0 → {tape tape′ : List ℕ} {next : Progress}
       → VariableTaken text s x 256 (s .parts) tape tape′ next
       → JoinsItem text table symbols parts s tape (symbolItem name) (x .past) tape′ (Taken next)
   symbol-joined m f v =

@@ -148,7 +148,7 @@ withExpression p cs i = record { pattern = p; conditions = cs; expression = i .e
 
 abbrev afterPattern : List Element → List Tokens.Placed → Parsed Sentence
 afterPattern p ts =
-    follow (Reading.conditions 8 (symbolsOf p) ts) λ cs ts₁.
+    follow (Reading.conditions 8 (symbolsOf p) (partsOf p) ts) λ cs ts₁.
     Reading.pass 61 ts₁ λ ts₂.
     follow (unlessWord (Reading.expression (length ts₂) (symbolsOf p) 0 (record { items = 0; coming = partsOf p }) ts₂)) λ i rest.
     parsed (withExpression p cs i) rest
@@ -158,14 +158,15 @@ sentence-is : (ts : List Tokens.Placed) → unlessWord (Reading.sentence ts) ≡
 unfolding Reading.sentence Reading.conditions
 sentence-is ts =
     word-after (Reading.pattern [] ts) _ afterPattern (λ p ts₁.
-    word-after (Reading.conditions 8 (symbolsOf p) ts₁) _ _ λ cs ts₂.
+    word-after (Reading.conditions 8 (symbolsOf p) (partsOf p) ts₁) _ _ λ cs ts₂.
     word-after-pass 61 ts₂ _ _ λ ts₃.
     word-after-made (withExpression p cs) (Reading.expression (length ts₃) (symbolsOf p) 0 (record { items = 0; coming = partsOf p }) ts₃))
     ∙ word-at-once (Reading.pattern [] ts) afterPattern (λ p w place past rest. refl)
 
 -- what the definition reads after the pattern
 abbrev conditionsAt : Bytes → List ℕ → Progress → Parsed (List Condition)
-conditionsAt text table p = Reading.conditions 8 (symbolNames text table (p .count)) (stream text Tokens.inside (p .at))
+conditionsAt text table p =
+    Reading.conditions 8 (symbolNames text table (p .count)) (partNames text table (p .parts)) (stream text Tokens.inside (p .at))
 
 -- the pattern was read
 pub record AfterPattern (text : Bytes) (from words : ℕ) (tape table tape₁ : List ℕ) (p : Progress) : Type 0 where

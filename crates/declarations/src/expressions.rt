@@ -19,7 +19,7 @@ use bookkeeping::writing::SYMBOL_WORD;
 use bookkeeping::writing::put;
 use bookkeeping::writing::put_characters;
 use bookkeeping::writing::put_named;
-use conditions::later_symbol_fault;
+use conditions::later_fault;
 use lexing::Mode;
 use lexing::Placed;
 use lexing::Span;
@@ -116,7 +116,7 @@ fn join_symbol(
     if 128 <= s.count {
         return Joined::Wrong(Answer::OverLimit);
     }
-    let fault = later_symbol_fault(text, table, symbols, x);
+    let fault = later_fault(text, table, 0, symbols, x);
     if !is_accepted(fault) {
         return Joined::Wrong(fault);
     }

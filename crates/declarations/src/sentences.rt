@@ -73,7 +73,7 @@ fn sentence(text: &[u8], tape: &mut [u32; 32768], from: usize, words: usize) -> 
         Parsed::Stopped(fault) => return Parsed::Stopped(fault),
         Parsed::Done(p) => p,
     };
-    let c = match conditions(text, tape, &table, p.count, p.at, p.words) {
+    let c = match conditions(text, tape, &table, p.count, p.parts, p.at, p.words) {
         Parsed::Stopped(fault) => return Parsed::Stopped(fault),
         Parsed::Done(c) => c,
     };

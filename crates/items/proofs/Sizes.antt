@@ -9,13 +9,16 @@ use Rattle.meaning.specs.Classes.{className, digit, upper, lower, alphabetic, b
 use Rattle.strings.specs.declared.State.{State}
 use Rattle.strings.specs.Steps.{isQuoted}
 use Rattle.strings.proofs.Sizes.{pick-size, gap-size}
-use Rattle.items.specs.Steps.{ending, parting, classText}
+use Rattle.items.specs.Steps.{ending, parting, classText, letterText}
 
 pub ending-size : (s : State) → length (ending s) ≤ 1
 ending-size s = pick-size (isQuoted s) (39 ∷ []) [] (omega arith) (omega arith)
 
 pub parting-size : (s : State) → length (parting s) ≤ 2
 parting-size s = rw length-append (omega (arith, ending-size s, gap-size s))
+
+pub letter-size : (bit : ℕ) → length (letterText bit) ≤ 2
+letter-size bit = pick-size (eqb bit 1) (32 ∷ 101 ∷ []) (32 ∷ 115 ∷ []) (omega arith) (omega arith)
 
 pub class-size : (class : ℕ) → length (classText class) ≤ 8
 class-size class = named

@@ -24,15 +24,20 @@ classText class =
     (pick (eqb class 3) (className alphabetic)
     (className blank))))
 
+-- the letter of a condition's variable after a blank, and a condition's truth value, by their bits on the tape
+abbrev pub letterText : ℕ → Bytes
+letterText bit = pick (eqb bit 1) (32 ∷ 101 ∷ []) (32 ∷ 115 ∷ [])
+
 abbrev pub truthText : ℕ → ℕ
 truthText bit = pick (eqb bit 1) 84 70
 
--- , <Predicate s
-abbrev pub conditionOpening : State → ℕ → Bytes
-conditionOpening s class = ending s ++ (44 ∷ 32 ∷ 60 ∷ []) ++ classText class ++ (32 ∷ 115 ∷ [])
+-- , <Predicate s or , <Predicate e
+abbrev pub conditionOpening : State → ℕ → ℕ → Bytes
+conditionOpening s class kind = ending s ++ (44 ∷ 32 ∷ 60 ∷ []) ++ classText class ++ letterText kind
 
 abbrev pub conditionStep : State → ℕ → Step
-conditionStep s carried = step (conditionOpening s (carried % 5)) (Condition (carried / 10) (truthText (carried / 5 % 2)))
+conditionStep s carried =
+    step (conditionOpening s (carried % 5) (carried / 10 % 2)) (Condition (carried / 20) (truthText (carried / 5 % 2)))
 
 -- a byte after the blank between items
 abbrev pub partedStep : State → ℕ → State → Step

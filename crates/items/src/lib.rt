@@ -10,7 +10,7 @@ ghost use Prim.Native.Nat.{_+_, _<_};
 ghost use lib.ListN.{length};
 ghost use Rattle.putting.specs.Put.{Put, farthest};
 ghost use Rattle.strings.specs.Steps.{Wrote};
-ghost use Rattle.items.specs.Steps.{ending, parting, classText, truthText, conditionStep, partedStep, endedStep};
+ghost use Rattle.items.specs.Steps.{ending, parting, classText, letterText, truthText, conditionStep, partedStep, endedStep};
 
 // The closing quote, where a string is open.
 fn put_ending(state: State, out: &mut [u8], at: usize) -> usize
@@ -84,6 +84,17 @@ fn truth_byte(bit: usize) -> u8
     if bit == 1 { b'T' } else { b'F' }
 }
 
+// What stands before the identifier of a condition's variable: a blank and the letter of its kind.
+fn put_letter(bit: usize, out: &mut [u8], at: usize) -> usize
+    requires { ⌜ at + 2 < farthest ⌝ }
+    ensures { λ r. ⌜ Put at (now (out .entry)) (letterText bit) r (now (out .exit)) ⌝ }
+{
+    if bit == 1 {
+        return put_all(out, at, b" e");
+    }
+    put_all(out, at, b" s")
+}
+
 // A condition up to its variable's identifier.
 pub fn list_condition(state: State, carried: usize, out: &mut [u8], at: usize) -> Stepped
     requires { ⌜ at + 20 < farthest ⌝ }
@@ -92,10 +103,10 @@ pub fn list_condition(state: State, carried: usize, out: &mut [u8], at: usize) -
     let ended = put_ending(state, out, at);
     let opened = put_all(out, ended, b", <");
     let named = put_class(carried % 5, out, opened);
-    let next = put_all(out, named, b" s");
+    let next = put_letter(carried / 10 % 2, out, named);
     let truth = truth_byte(carried / 5 % 2);
     Stepped {
-        state: State::Condition(carried / 10, truth),
+        state: State::Condition(carried / 20, truth),
         at: next,
     }
 }

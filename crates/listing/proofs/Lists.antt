@@ -10,21 +10,22 @@ use lib.Dec.{T, ltb, leb, eqb, ltb→lt}
 use lib.ListN.{length, length-append}
 use Rattle.meaning.specs.Choice.{Bytes, Name, pick, both, every}
 use Rattle.meaning.specs.Classes.{Class, classNumber, className}
-use Rattle.meaning.specs.Tree.{character, symbol, Element, letter, part, Condition, Expression, end, thenCharacter, thenSymbol, thenPart, thenCall, Sentence, Function, Table}
-use Rattle.meaning.specs.Allowed.{maxName, isByte, spelledName, spelledIdentifier, spelledElement, allowedSentence, someSentence, allowedFunction, allowed}
-use Rattle.meaning.specs.Tape.{tapeWord, symbolKind, partKind, conditionKind, equalsKind, closeKind, nextKind, endKind, functionKind, callKind, named, patternTape, truthNumber, conditionTape, conditionsTape, expressionTape, sentenceTape, sentencesTape, functionTape, tape}
+use Rattle.meaning.specs.Tree.{character, symbol, Element, letter, part, Subject, ofSymbol, ofPart, Condition, Expression, end, thenCharacter, thenSymbol, thenPart, thenCall, Sentence, Function, Table}
+use Rattle.meaning.specs.Allowed.{maxIdentifier, isByte, spelledName, spelledIdentifier, spelledElement, allowedSentence, someSentence, allowedFunction, allowed}
+use Rattle.meaning.specs.Tape.{tapeWord, symbolKind, partKind, conditionKind, equalsKind, closeKind, nextKind, endKind, functionKind, callKind, named, patternTape, truthNumber, subjectTape, conditionTape, conditionsTape, expressionTape, sentenceTape, sentencesTape, functionTape, tape}
 use Rattle.meaning.specs.Grammar.{truthByte}
-use Rattle.meaning.specs.Listing.{Quoted, unquoted, inString, afterCode, closeQuote, isCoded, afterCharacter, quotedCharacter, symbolText, patternText, conditionText, conditionsText, expressionText, withoutBlank, sentenceText, sentencesText, functionText, listing}
+use Rattle.meaning.specs.Listing.{Quoted, unquoted, inString, afterCode, closeQuote, isCoded, afterCharacter, quotedCharacter, patternText, subjectText, conditionText, conditionsText, expressionText, withoutBlank, sentenceText, sentencesText, functionText, listing}
 use Rattle.meaning.proofs.laws.Passing.{both-left, both-right, every-head, every-tail}
+use Rattle.meaning.proofs.laws.Spelling.{identifier-short}
 use Rattle.meaning.proofs.laws.Words.{by-class, class-below}
 use Rattle.accepting.proofs.roundtrip.Legible.{legible}
 use Rattle.strings.specs.declared.State.{State}
 use Rattle.strings.specs.declared.State.the-variants.{Start, Plain, InString, AfterCode, Name as NameLeft, Condition as ConditionLeft, Header}
 use Rattle.strings.specs.Steps.{Step, step, characterStep}
-use Rattle.items.specs.Steps.{ending, parting, classText, truthText, partedStep, endedStep}
+use Rattle.items.specs.Steps.{ending, parting, classText, letterText, truthText, partedStep, endedStep}
 use Rattle.listing.specs.Words.{kindStep, itemStep, copyStep, wordStep, listFrom}
 use Rattle.listing.proofs.Stepping.{others, other-kind}
-use Rattle.listing.proofs.Spelled.{Short, short-name, short-identifier, spelledVariable, Written, sentence-written}
+use Rattle.listing.proofs.Spelled.{Short, short-name, short-identifier, identifierOf, spelledVariable, Written, sentence-written}
 
 -- ONE WORD
 
@@ -204,53 +205,81 @@ class-named : (k : Class) → classText (classNumber k) ≡ className k
 class-named = by-class (λ k. classText (classNumber k) ≡ className k) refl refl refl refl refl
 
 -- what a condition's word carries is read off it
-record Carries (count class : ℕ) (expected : Bool) (carried : ℕ) : Type 0 where
+record Carries (count kind class : ℕ) (expected : Bool) (carried : ℕ) : Type 0 where
   low : carried < 256
-  counted : carried / 10 ≡ count
+  counted : carried / 20 ≡ count
+  lettered : carried / 10 % 2 ≡ kind
   classed : carried % 5 ≡ class
   truth : truthText (carried / 5 % 2) ≡ truthByte expected
 
-carries-bit : {count class bit : ℕ} {expected : Bool} → count ≤ maxName → class < 5 → bit < 2 → truthText bit ≡ truthByte expected
-    → Carries count class expected (count * 10 + 5 * bit + class)
-carries-bit {count} {class} {bit} h k b e =
-    let same : (count * 10 + 5 * bit + class) / 5 % 2 ≡ bit = omega arith in
-    record { low = omega arith; counted = omega arith; classed = omega arith; truth = rw same e }
+carries-bit : {count kind class bit : ℕ} {expected : Bool} → count ≤ maxIdentifier → kind < 2 → class < 5 → bit < 2
+    → truthText bit ≡ truthByte expected
+    → Carries count kind class expected (count * 20 + 10 * kind + (5 * bit + class))
+carries-bit {count} {kind} {class} {bit} h l k b e =
+    let same : (count * 20 + 10 * kind + (5 * bit + class)) / 5 % 2 ≡ bit = omega arith in
+    record { low = omega arith; counted = omega arith; lettered = omega arith; classed = omega arith; truth = rw same e }
 
-carries : (count class : ℕ) (expected : Bool) → count ≤ maxName → class < 5 → Carries count class expected (count * 10 + truthNumber expected + class)
-carries count class true h k = carries-bit {bit = 1} h k (omega arith) refl
-carries count class false h k = carries-bit {bit = 0} h k (omega arith) refl
+carries : (count kind class : ℕ) (expected : Bool) → count ≤ maxIdentifier → kind < 2 → class < 5
+    → Carries count kind class expected (count * 20 + 10 * kind + (truthNumber expected + class))
+carries count kind class true h l k = carries-bit {bit = 1} h l k (omega arith) refl
+carries count kind class false h l k = carries-bit {bit = 0} h l k (omega arith) refl
 
--- `, <Predicate s`
-abbrev openingText : Class → Bytes
-openingText k = 44 ∷ 32 ∷ 60 ∷ (className k ++ 32 ∷ 115 ∷ [])
-
-condition-item : (s : State) {count : ℕ} (k : Class) {expected : Bool} {carried : ℕ} → Carries count (classNumber k) expected carried →
-    itemStep s (tapeWord conditionKind carried) ≡ endedStep s (openingText k) (ConditionLeft count (truthByte expected))
+condition-item : (s : State) {count kind : ℕ} (k : Class) {expected : Bool} {carried : ℕ} → Carries count kind (classNumber k) expected carried →
+    itemStep s (tapeWord conditionKind carried)
+    ≡ endedStep s (44 ∷ 32 ∷ 60 ∷ (className k ++ letterText kind)) (ConditionLeft count (truthByte expected))
 condition-item s k {carried = carried} r =
-    kind-item s conditionKind carried (omega arith) (r .low) ∙ rw (r .classed, r .counted, r .truth, class-named k) (simp append-assoc)
+    kind-item s conditionKind carried (omega arith) (r .low)
+    ∙ rw (r .classed, r .lettered, r .counted, r .truth, class-named k) (simp append-assoc)
 
-regrouped : (k x tail l : Bytes) → (k ++ 32 ∷ 115 ∷ []) ++ (x ++ (tail ++ l)) ≡ (k ++ (symbolText x ++ tail)) ++ l
-regrouped k x tail l = simp append-assoc
+-- the kind of a condition's variable on the tape, and its identifier there and in the text
+abbrev kindBit : Subject → ℕ
+kindBit (ofSymbol x) = 0
+kindBit (ofPart x) = 1
 
--- what its word carries
+kind-below : (v : Subject) → kindBit v < 2
+kind-below (ofSymbol x) = omega arith
+kind-below (ofPart x) = omega arith
+
+subject-tape : (v : Subject) (carried : ℕ)
+    → subjectTape carried v ≡ tapeWord conditionKind (length (identifierOf v) * 20 + 10 * kindBit v + carried) ∷ identifierOf v
+subject-tape (ofSymbol x) carried = ap (λ (n : ℕ). tapeWord conditionKind n ∷ x) (omega arith)
+subject-tape (ofPart x) carried = ap (λ (n : ℕ). tapeWord conditionKind n ∷ x) (omega arith)
+
+subject-text : (v : Subject) → subjectText v ≡ letterText (kindBit v) ++ identifierOf v
+subject-text (ofSymbol x) = refl
+subject-text (ofPart x) = refl
+
+-- what a condition's word carries
 abbrev carriedBy : Condition → ℕ
-carriedBy c = length (c .variable) * 10 + truthNumber (c .expected) + classNumber (c .predicate)
+carriedBy c = length (identifierOf (c .subject)) * 20 + 10 * kindBit (c .subject) + (truthNumber (c .expected) + classNumber (c .predicate))
 
-condition-word : (c : Condition) → Short (c .variable) → (s : State) →
-    itemStep s (tapeWord conditionKind (carriedBy c)) ≡ endedStep s (openingText (c .predicate)) (ConditionLeft (length (c .variable)) (truthByte (c .expected)))
-condition-word c d s =
-    condition-item s (c .predicate) (carries (length (c .variable)) (classNumber (c .predicate)) (c .expected) (d .short) (class-below (c .predicate)))
+condition-tape : (c : Condition) → conditionTape c ≡ tapeWord conditionKind (carriedBy c) ∷ identifierOf (c .subject)
+condition-tape c = subject-tape (c .subject) (truthNumber (c .expected) + classNumber (c .predicate))
 
-condition-follows : (c : Condition) → Short (c .variable) → (ws : List ℕ) → Follows (conditionTape c ++ ws) (conditionText c ++ listFrom Plain ws)
-condition-follows c d ws =
-    let x = c .variable in
-    let opening = openingText (c .predicate) in
+-- `, <Predicate s` or `e`
+abbrev openingText : Condition → Bytes
+openingText c = 44 ∷ 32 ∷ 60 ∷ (className (c .predicate) ++ letterText (kindBit (c .subject)))
+
+condition-word : (c : Condition) → T (spelledVariable c) → (s : State) → itemStep s (tapeWord conditionKind (carriedBy c))
+    ≡ endedStep s (openingText c) (ConditionLeft (length (identifierOf (c .subject))) (truthByte (c .expected)))
+condition-word c t s =
+    condition-item s (c .predicate)
+    (carries _ _ _ (c .expected) (identifier-short (identifierOf (c .subject)) t) (kind-below (c .subject)) (class-below (c .predicate)))
+
+regrouped : (k v x tail l : Bytes) → (k ++ v) ++ (x ++ (tail ++ l)) ≡ (k ++ ((v ++ x) ++ tail)) ++ l
+regrouped k v x tail l = simp append-assoc
+
+condition-follows : (c : Condition) → T (spelledVariable c) → (ws : List ℕ) → Follows (conditionTape c ++ ws) (conditionText c ++ listFrom Plain ws)
+condition-follows c t ws =
+    let x = identifierOf (c .subject) in
+    let d = short-identifier x t in
     let truth = truthByte (c .expected) in
     let tail : Bytes = 62 ∷ 58 ∷ 32 ∷ 39 ∷ truth ∷ 39 ∷ [] in
-    let spelled : opening ++ listFrom (ConditionLeft (length x) truth) (x ++ ws) ≡ conditionText c ++ listFrom Plain ws =
-    rw (copied (λ n. ConditionLeft n truth) tail Plain (λ n w. refl) x (d .filled) (d .bytes) ws)
-    (ap (λ (l : Bytes). 44 ∷ 32 ∷ 60 ∷ l) (regrouped (className (c .predicate)) x tail (listFrom Plain ws))) in
-    rw (← spelled) (ended-follows (tapeWord conditionKind (carriedBy c)) opening (ConditionLeft (length x) truth) (condition-word c d) (x ++ ws))
+    let spelled : openingText c ++ listFrom (ConditionLeft (length x) truth) (x ++ ws) ≡ conditionText c ++ listFrom Plain ws =
+    rw (copied (λ n. ConditionLeft n truth) tail Plain (λ n w. refl) x (d .filled) (d .bytes) ws, subject-text (c .subject))
+    (ap (λ (l : Bytes). 44 ∷ 32 ∷ 60 ∷ l) (regrouped (className (c .predicate)) (letterText (kindBit (c .subject))) x tail (listFrom Plain ws))) in
+    rw (condition-tape c, ← spelled)
+    (ended-follows (tapeWord conditionKind (carriedBy c)) (openingText c) (ConditionLeft (length x) truth) (condition-word c t) (x ++ ws))
 
 conditions-follow : (cs : List Condition) → T (every spelledVariable cs) → {rest : List ℕ} {after : Bytes} → Follows rest after →
     Follows (conditionsTape cs ++ rest) (conditionsText cs ++ after)
@@ -262,7 +291,7 @@ conditions-follow (c ∷ cs) t {rest} {after} f =
       append-assoc (conditionText c) (conditionsText cs) after,
       ← (conditions-follow cs (every-tail spelledVariable c cs t) f .at unquoted),
     )
-    (condition-follows c (short-identifier (c .variable) (every-head spelledVariable c cs t)) (conditionsTape cs ++ rest))
+    (condition-follows c (every-head spelledVariable c cs t) (conditionsTape cs ++ rest))
 
 -- SENTENCES
 
@@ -298,8 +327,9 @@ line-start : (p : List Element) → T (every spelledElement p) → (cs : List Co
 unfolding patternTape conditionsTape every
 line-start [] t [] u tail rest = leads (tapeWord equalsKind 0) refl refl (λ l. refl) (tail ++ rest)
 line-start [] t (c ∷ cs) u tail rest =
-    let d = short-identifier (c .variable) (every-head spelledVariable c cs u) in
-    leads (tapeWord conditionKind (carriedBy c)) (condition-word c d Start) (condition-word c d Plain) (λ l. refl) _
+    let spelled = every-head spelledVariable c cs u in
+    rw (condition-tape c)
+    (leads (tapeWord conditionKind (carriedBy c)) (condition-word c spelled Start) (condition-word c spelled Plain) (λ l. refl) _)
 line-start (letter (character c) ∷ es) t cs u tail rest =
     let h = ltb→lt c 256 (both-left (isByte c) (every spelledElement es) t) in
     leads c (character-item Start c h) (character-item Plain c h) (λ l. refl) _

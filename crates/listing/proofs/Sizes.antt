@@ -13,7 +13,7 @@ use Rattle.strings.specs.declared.State.the-variants.{Start, Plain, InString, A
 use Rattle.strings.specs.Steps.{quotedIn, Step, step, characterStep}
 use Rattle.items.specs.Steps.{conditionStep, partedStep, endedStep}
 use Rattle.strings.proofs.Sizes.{quoting-size, character-size}
-use Rattle.items.proofs.Sizes.{ending-size, parting-size, class-size}
+use Rattle.items.proofs.Sizes.{ending-size, parting-size, class-size, letter-size}
 use Rattle.listing.specs.Words.{kindStep, itemStep, copyStep, wordStep}
 
 -- no word adds more bytes than this
@@ -34,7 +34,7 @@ ended-small s bytes after h = record { small = rw length-append (omega (arith, e
 
 condition-small : (s : State) (carried : ℕ) → Small (conditionStep s carried)
 condition-small s carried =
-    record { small = simp length-append (omega (arith, ending-size s, class-size (carried % 5))) }
+    record { small = simp length-append (omega (arith, ending-size s, class-size (carried % 5), letter-size (carried / 10 % 2))) }
 
 character-small : (s : State) (c : ℕ) → Small (characterStep s c)
 character-small s c =

@@ -13,7 +13,7 @@ fn condition(out: &mut [u8]) {
             50,
             0x201,
             51,
-            0x30f,
+            0x319,
             50,
             0x400,
             0x101,
@@ -35,16 +35,16 @@ fn conditions(out: &mut [u8]) {
             120,
             49,
             98,
-            0x315,
+            0x329,
             120,
             49,
-            0x31b,
+            0x32f,
             120,
             49,
-            0x317,
+            0x32b,
             120,
             49,
-            0x31d,
+            0x331,
             120,
             49,
             0x400,
@@ -53,6 +53,44 @@ fn conditions(out: &mut [u8]) {
         ],
         out,
     );
+}
+
+// F { e1 'x' eFraction, <IsBlank eFraction>: 'T', <IsDigit e1>: 'F' = e1 }
+// The word of the first condition carries the most that one can.
+const ON_PARTS: [u32; 29] = [
+    0x801,
+    70,
+    0x201,
+    49,
+    120,
+    0x208,
+    70,
+    114,
+    97,
+    99,
+    116,
+    105,
+    111,
+    110,
+    0x3b3,
+    70,
+    114,
+    97,
+    99,
+    116,
+    105,
+    111,
+    110,
+    0x31e,
+    49,
+    0x400,
+    0x201,
+    49,
+    0x700,
+];
+
+fn conditions_on_parts(out: &mut [u8]) {
+    show(&ON_PARTS, out);
 }
 
 // Main { e1 = <F <G 'a' <H>> e1> <EmitA 'x'> <H> 'y'; s1 = s1 }
@@ -110,6 +148,7 @@ fn empty_call(out: &mut [u8]) {
 pub fn list_items() {
     condition(&mut [b'.'; 42]);
     conditions(&mut [b'.'; 108]);
+    conditions_on_parts(&mut [b'.'; 76]);
     nested_calls(&mut [b'.'; 65]);
     empty_call(&mut [b'.'; 15]);
 }

@@ -1,5 +1,6 @@
 -- Laws over plain values.
 pub mod Lists
 pub mod Fields
+pub mod Parts
 pub mod Testing
 pub mod Sentences

@@ -4,13 +4,15 @@ use mathlib.Core.Path.{_≡_}
 use mathlib.Core.Option.{Option, none, some}
 use lib.Dec.{leb}
 use lib.ListN.{drop}
-use Rattle.meaning.specs.Choice.{Bytes, pick}
+use Rattle.meaning.specs.Choice.{Bytes, pick, guard}
 use Rattle.meaning.specs.Instructions.{Site, Metric}
-use Rattle.meaning.specs.Matching.{cellAt, passed, failed, wrong, foundAt, foundNone, foundWrong, chosen, chosenNone, chosenWrong, place, placesOf, firstPlace}
+use Rattle.meaning.specs.Matching.{cellAt, cellsBefore, passed, failed, wrong, foundAt, foundNone, foundWrong, chosen, chosenNone, chosenWrong, place, placesOf, firstPlace}
 use Rattle.meaning.specs.Matching.{Checked as Outcome, Found as Finding, Choice as Choosing}
 use Rattle.meaning.specs.Packing.{Words, testsIn, storesIn, maxStored, unpackTests, unpackStores, unpackActions}
 use Rattle.matching.specs.declared.Cell.{Cell}
 use Rattle.matching.specs.declared.Cell.the-variants.{Byte, Nowhere as NoCell}
+use Rattle.matching.specs.declared.Before.{Before}
+use Rattle.matching.specs.declared.Before.the-variants.{Cells, Outside}
 use Rattle.matching.specs.declared.Checked.{Checked}
 use Rattle.matching.specs.declared.Checked.the-variants.{Passed, Failed, Wrong}
 use Rattle.matching.specs.declared.Found.{Found}
@@ -23,6 +25,19 @@ use Rattle.matching.specs.declared.Choice.the-variants.{Sentence, Nothin
 abbrev pub cellMeant : Cell → Option ℕ
 cellMeant (Byte b) = some b
 cellMeant NoCell = none
+
+abbrev pub beforeMeant : Before → Option ℕ
+beforeMeant (Cells n) = some n
+beforeMeant Outside = none
+
+-- so many cells lie before a site, if the field has as many
+abbrev pub inside : ℕ → Option ℕ → Option ℕ
+inside whole none = none
+inside whole (some n) = guard (leb n whole) (some n)
+
+abbrev pub siteBefore : Option Site → ℕ → ℕ → Option ℕ
+siteBefore none whole at = none
+siteBefore (some s) whole at = inside whole (cellsBefore s whole at)
 
 -- the cell at a site, if it is one
 abbrev pub siteCell : Option Site → Bytes → ℕ → Option ℕ

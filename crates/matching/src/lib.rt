@@ -3,15 +3,15 @@ ghost use Prim.Native.Nat.{suc, _+_, _-_, _≤_, _<_, _%_, _/_, _^_};
 ghost use mathlib.Core.Path.{_≡_};
 ghost use lib.Dec.{eqb};
 ghost use lib.ListN.{length, drop};
-ghost use Rattle.meaning.specs.Choice.{nth, pick};
+ghost use Rattle.meaning.specs.Choice.{nth, pick, every};
 ghost use Rattle.meaning.specs.Instructions.{fromStart, fromEnd, fromPlace};
 ghost use Rattle.meaning.specs.Instructions.{look as looking};
 ghost use Rattle.meaning.specs.Rewriting.{sameTruth};
-ghost use Rattle.meaning.specs.Matching.{cellAt, checked, checkAll, chooseFrom};
+ghost use Rattle.meaning.specs.Matching.{cellAt, cellsBefore, checked, checkAll, chooseFrom};
 ghost use Rattle.meaning.specs.Matching.{check as tested, search as searched};
-ghost use Rattle.meaning.specs.Packing.{firstIn, secondIn, thirdIn, siteOf, classOf, testOf, lookOf, compareOf, predicateFor, metricIn, unpackTests, unpackSentences};
-ghost use Rattle.classes.specs.Tests.{Answers};
-ghost use Rattle.matching.specs.Matched.{cellMeant, siteCell, checkedMeant, foundMeant, placesFor, tried, Chooses};
+ghost use Rattle.meaning.specs.Packing.{firstIn, secondIn, thirdIn, siteOf, classOf, testOf, lookOf, compareOf, predicateFor, predicatePartOf, metricIn, unpackTests, unpackSentences};
+ghost use Rattle.classes.specs.Tests.{classTest, Answers};
+ghost use Rattle.matching.specs.Matched.{cellMeant, siteCell, beforeMeant, inside, siteBefore, checkedMeant, foundMeant, placesFor, tried, Chooses};
 
 // A place in the code. It is counted apart from the cells of in and of out.
 pub struct CodePlace(pub usize);
@@ -20,6 +20,12 @@ pub struct CodePlace(pub usize);
 pub enum Cell {
     Byte(u8),
     Nowhere,
+}
+
+// How many cells of a field lie before a site, or that the site lies outside the field.
+pub enum Before {
+    Cells(usize),
+    Outside,
 }
 
 // A test passes, fails, or asks for something that isn't there.
@@ -174,6 +180,85 @@ fn predicate(bits: &[u8; 256], field: &[u8], place: usize, word: u32) -> Checked
     told(as_expected(expected, within))
 }
 
+// The cells before a site so far from a place, which may lie past the end.
+fn before_ahead(whole: usize, place: usize, offset: usize) -> Before
+    ensures { λ r. ⌜ beforeMeant r ≡ inside whole (cellsBefore (fromPlace offset) whole place) ⌝ }
+{
+    if place <= whole {
+        if offset <= whole - place {
+            return Before::Cells(place + offset);
+        }
+    }
+    Before::Outside
+}
+
+// The cells before a site so far back from the end; 0 is the end itself.
+fn before_back(whole: usize, back: usize) -> Before
+    ensures { λ r. ⌜ beforeMeant r ≡ inside whole (cellsBefore (fromEnd back) whole 0) ⌝ }
+{
+    if back <= whole {
+        Before::Cells(whole - back)
+    } else {
+        Before::Outside
+    }
+}
+
+// The cells of a field of a length before a site, which may lie at its end.
+fn cells_before(whole: usize, place: usize, register: u32, offset: u32) -> Before
+    ensures { λ r. ⌜ beforeMeant r ≡ siteBefore (siteOf register offset) whole place ⌝ }
+{
+    match register {
+        0 => before_ahead(whole, 0, wide(offset)),
+        1 => before_back(whole, wide(offset)),
+        2 => before_ahead(whole, place, wide(offset)),
+        _ => Before::Outside,
+    }
+}
+
+// Every byte of a part is in a class.
+fn every_in_class(bits: &[u8; 256], part: &[u8], class: u8) -> bool
+    requires { ⌜ Answers (now bits) ⌝ }
+    ensures { λ r. ⌜ r ≡ every (classTest class) (now (part .entry)) ⌝ }
+{
+    let mut at = 0;
+    while at < part.len() {
+        if classes::passes(bits, part[at], class) {
+            at += 1;
+        } else {
+            return false;
+        }
+    }
+    true
+}
+
+// The bytes from one site up to another are all in a class, or are not, as the condition has it.
+fn predicate_part(bits: &[u8; 256], field: &[u8], place: usize, word: u32) -> Checked
+    requires { ⌜ Answers (now bits) ⌝ }
+    ensures { λ r. ⌜ checkedMeant r ≡ tested (predicatePartOf (firstIn word) (secondIn word) (thirdIn word))
+        (now (field .entry)) place ⌝ }
+{
+    let operand = word / 256 % 256;
+    let class = operand / 32;
+    if 4 < class {
+        return Checked::Wrong;
+    }
+    let start = word / 65536 % 256;
+    let end = word / 16777216 % 256;
+    let whole = field.len();
+    let Before::Cells(from) = cells_before(whole, place, operand % 4, start) else {
+        return Checked::Wrong;
+    };
+    let Before::Cells(to) = cells_before(whole, place, operand / 4 % 4, end) else {
+        return Checked::Wrong;
+    };
+    if to < from {
+        return Checked::Wrong;
+    }
+    let within = every_in_class(bits, &field[from..to], class as u8);
+    let expected = operand / 16 % 2 == 1;
+    told(as_expected(expected, within))
+}
+
 // One test at a place, by its number.
 fn check(bits: &[u8; 256], field: &[u8], place: usize, word: u32) -> Checked
     requires { ⌜ Answers (now bits) ⌝ }
@@ -187,6 +272,7 @@ fn check(bits: &[u8; 256], field: &[u8], place: usize, word: u32) -> Checked
         1 => look(field, place, word),
         2 => compare(field, place, word),
         3 => predicate(bits, field, place, word),
+        20 => predicate_part(bits, field, place, word),
         _ => Checked::Wrong,
     }
 }

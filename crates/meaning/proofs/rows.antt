@@ -14,3 +14,4 @@ pub mod Entries
 pub mod Leaving
 pub mod Tape
 pub mod Words
+pub mod Parts

@@ -7,7 +7,7 @@ use lib.Dec.{leb, ltb, eqb}
 use lib.ListN.{length}
 use Rattle.meaning.specs.Choice.{Name, pick, both, either, isSome, every, sameBytes}
 use Rattle.meaning.specs.Classes.{inClass, digit, alphabetic}
-use Rattle.meaning.specs.Tree.{character, symbol, Element, letter, part, Condition, Expression, end, thenCharacter, thenSymbol, thenPart, thenCall, Sentence, Function, Table}
+use Rattle.meaning.specs.Tree.{character, symbol, Element, letter, part, Subject, ofSymbol, ofPart, Condition, Expression, end, thenCharacter, thenSymbol, thenPart, thenCall, Sentence, Function, Table}
 use Rattle.meaning.specs.Names.{isEmission, isPredicate, isReserved, numberOf}
 
 -- "table 32,768 bytes; 64 functions; 512 sentences in all; name 24 bytes; identifier after s or e 8; pattern 64 characters and s-variables, of
@@ -122,9 +122,16 @@ allowedPattern p =
 
 -- CONDITIONS
 
--- "on an s-variable of the pattern"
-abbrev pub allowedConditions : List Name → List Condition → Bool
-allowedConditions symbols cs = both (every (λ c. member (c .variable) symbols) cs) (leb (length cs) maxConditions)
+-- "on an s-variable of the pattern"; of an e-variable, "one that is not in the pattern gets 7" (T-03)
+abbrev pub ofPattern : List Name → List Name → Subject → Bool
+ofPattern symbols parts (ofSymbol x) = member x symbols
+ofPattern symbols parts (ofPart x) = member x parts
+
+abbrev pub allOfPattern : List Name → List Name → List Condition → Bool
+allOfPattern symbols parts cs = every (λ c. ofPattern symbols parts (c .subject)) cs
+
+abbrev pub allowedConditions : List Name → List Name → List Condition → Bool
+allowedConditions symbols parts cs = both (allOfPattern symbols parts cs) (leb (length cs) maxConditions)
 
 -- THE EXPRESSION
 
@@ -181,7 +188,7 @@ allowedExpression symbols parts e =
 abbrev pub allowedSentence : Sentence → Bool
 allowedSentence s =
     both (allowedPattern (s .pattern))
-    (both (allowedConditions (symbolsOf (s .pattern)) (s .conditions))
+    (both (allowedConditions (symbolsOf (s .pattern)) (partsOf (s .pattern)) (s .conditions))
     (allowedExpression (symbolsOf (s .pattern)) (partsOf (s .pattern)) (s .expression)))
 
 -- 000: a function has at least one sentence

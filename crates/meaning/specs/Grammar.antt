@@ -1,6 +1,7 @@
--- The published grammar, rule by rule: 000 section 2.1 with 01's 'Table text' for conditions, as relations between tokens and trees. `IsSentence ts s rest`
--- says that the tokens `ts` are a sentence with the tree `s`, and then the tokens `rest`. Limits, name rules and variable rules are in Allowed.
--- Strings of no characters leave nothing in the tree.
+-- The published grammar, rule by rule: 000 section 2.1 with 01's 'Table text' for conditions and T-03 for their
+-- variables, as relations between tokens and trees. `IsSentence ts s rest` says that the tokens `ts` are a sentence
+-- with the tree `s`, and then the tokens `rest`. Limits, name rules and variable rules are in Allowed. Strings of no
+-- characters leave nothing in the tree.
 use Prim.Native.Nat.{ℕ, _+_}
 use mathlib.Core.Path.{_≡_}
 use mathlib.Core.Bool.{Bool, true, false}
@@ -8,7 +9,7 @@ use mathlib.Core.List.{List, [], _∷_, _++_, map}
 use mathlib.Core.Option.{some}
 use Rattle.meaning.specs.Choice.{Bytes, Name}
 use Rattle.meaning.specs.Classes.{Class}
-use Rattle.meaning.specs.Tree.{character, symbol, Element, letter, part, Condition, Expression, end, thenCharacter, thenSymbol, thenPart, thenCall, Sentence, Function, Table}
+use Rattle.meaning.specs.Tree.{character, symbol, Element, letter, part, Subject, ofSymbol, ofPart, Condition, Expression, end, thenCharacter, thenSymbol, thenPart, thenCall, Sentence, Function, Table}
 use Rattle.meaning.specs.Names.{predicateOf}
 use Rattle.meaning.specs.Tokens.{Token, functionName, word, quoted, sign, textEnd, Placed, Item, characters, symbolItem, partItem, noItem}
 
@@ -81,20 +82,26 @@ pub data IsPattern : List Placed → List Element → List Placed → Type 0 whe
 
 -- CONDITIONS
 
+-- "(s-Переменная | е-Переменная)"
+pub data IsSubject : Token → Subject → Type 0 where
+  symbolSubject : {b : ℕ} {x : Bytes} → IsSubject (symbolWord b x) (ofSymbol (b ∷ x))
+  partSubject : {b : ℕ} {x : Bytes} → IsSubject (partWord b x) (ofPart (b ∷ x))
+
 -- "Условие = "<" ИмяФункции (s-Переменная | е-Переменная) ">" ":" ("T" | "F")", where 01 has: "`<Predicate sX>: 'T'` or `'F'`"
 pub data IsCondition : List Placed → Condition → List Placed → Type 0 where
-  isCondition : {n : Name} {class : Class} {b : ℕ} {x : Bytes} {truth : Bool} {rest : List Placed}
+  isCondition : {n : Name} {class : Class} {t : Token} {v : Subject} {truth : Bool} {rest : List Placed}
       → {at₁ past₁ at₂ past₂ at₃ past₃ at₄ past₄ at₅ past₅ at₆ : ℕ}
       → predicateOf n ≡ some class
+      → IsSubject t v
       → IsCondition
       (standing (sign 60) at₁ past₁
       ∷ standing (functionName n) at₂ past₂
-      ∷ standing (symbolWord b x) at₃ past₃
+      ∷ standing t at₃ past₃
       ∷ standing (sign 62) at₄ past₄
       ∷ standing (sign 58) at₅ past₅
       ∷ truthString truth at₆
       ∷ rest)
-      (record { predicate = class; variable = b ∷ x; expected = truth })
+      (record { predicate = class; subject = v; expected = truth })
       rest
 
 -- "{"," Условие}"

@@ -10,11 +10,13 @@ use Rattle.meaning.specs.Classes.{Class}
 pub data Site : Type 0 where
   fromStart fromEnd fromPlace : ℕ → Site
 
--- 000's Match part: Look, Compare, Predicate
+-- 000's Match part: Look, Compare, Predicate; and T-03's Predicate over a part, the cells from one site up to, not
+-- including, another
 pub data Test : Type 0 where
   look : Site → ℕ → Test
   compare : Site → Site → Test
   predicate : Site → Class → Bool → Test
+  predicatePart : Site → Site → Class → Bool → Test
   unknownTest : Test
 
 -- 000's Store part: Var

@@ -5,7 +5,7 @@ use mathlib.Core.List.{List, [], _∷_, _++_}
 use lib.Dec.{ltb, eqb}
 use Rattle.meaning.specs.Choice.{Bytes, Name, pick, both, either}
 use Rattle.meaning.specs.Classes.{className, inClass, digit, within}
-use Rattle.meaning.specs.Tree.{character, symbol, Element, letter, part, Condition, Expression, end, thenCharacter, thenSymbol, thenPart, thenCall, Sentence, Function, Table}
+use Rattle.meaning.specs.Tree.{character, symbol, Element, letter, part, Subject, ofSymbol, ofPart, Condition, Expression, end, thenCharacter, thenSymbol, thenPart, thenCall, Sentence, Function, Table}
 use Rattle.meaning.specs.Grammar.{truthByte}
 
 -- CHARACTERS
@@ -76,11 +76,15 @@ patternText state (letter (character c) ∷ es) = quotedCharacter state c ++ pat
 patternText state (letter (symbol x) ∷ es) = closeQuote state ++ (symbolText x ++ patternText unquoted es)
 patternText state (part x ∷ es) = closeQuote state ++ (partText x ++ patternText unquoted es)
 
+abbrev pub subjectText : Subject → Bytes
+subjectText (ofSymbol x) = symbolText x
+subjectText (ofPart x) = partText x
+
 -- `, <Predicate sX>: 'T'`, "with none before `,` `;` `:` `>`"
 abbrev pub conditionText : Condition → Bytes
 conditionText c =
     44 ∷ 32 ∷ 60 ∷ (className (c .predicate)
-    ++ (symbolText (c .variable) ++ 62 ∷ 58 ∷ 32 ∷ 39 ∷ truthByte (c .expected) ∷ 39 ∷ []))
+    ++ (subjectText (c .subject) ++ 62 ∷ 58 ∷ 32 ∷ 39 ∷ truthByte (c .expected) ∷ 39 ∷ []))
 
 unfoldable pub conditionsText : List Condition → Bytes
 conditionsText [] = []

@@ -5,17 +5,34 @@ use mathlib.Core.Bool.{Bool, true, false}
 use mathlib.Core.List.{List, [], _∷_}
 use mathlib.Core.Option.{Option, none, some}
 use lib.Dec.{leb, eqb}
-use lib.ListN.{length}
-use Rattle.meaning.specs.Choice.{Bytes, pick, guard, nth}
+use lib.ListN.{length, take, drop}
+use Rattle.meaning.specs.Choice.{Bytes, pick, both, guard, every, nth}
 use Rattle.meaning.specs.Classes.{inClass}
 use Rattle.meaning.specs.Rewriting.{sameTruth}
-use Rattle.meaning.specs.Instructions.{Site, fromStart, fromEnd, fromPlace, Test, look, compare, predicate, unknownTest, Store, store, unknownStore, Action, Metric, exactly, ends, middle, Sentences, noMore, sentence, unknownSentence}
+use Rattle.meaning.specs.Instructions.{Site, fromStart, fromEnd, fromPlace, Test, look, compare, predicate, predicatePart, unknownTest, Store, store, unknownStore, Action, Metric, exactly, ends, middle, Sentences, noMore, sentence, unknownSentence}
 
 -- the byte at a site of a field, the place of the middle template being counted from p; none where the field has no such cell
 abbrev pub cellAt : Site → Bytes → ℕ → Option ℕ
 cellAt (fromStart k) field place = nth k field
 cellAt (fromEnd k) field place = guard (leb k (length field)) (nth (length field - k) field)
 cellAt (fromPlace k) field place = nth (place + k) field
+
+-- how many cells of a field of a length lie before a site; none where the site would lie before p
+abbrev pub cellsBefore : Site → ℕ → ℕ → Option ℕ
+cellsBefore (fromStart k) whole place = some k
+cellsBefore (fromEnd k) whole place = guard (leb k whole) (some (whole - k))
+cellsBefore (fromPlace k) whole place = some (place + k)
+
+-- the cells after so many and before so many of a field; none where the first number is above the second, or the second
+-- above the field's length
+abbrev pub cut : Option ℕ → Option ℕ → Bytes → Option Bytes
+cut none to field = none
+cut (some from) none field = none
+cut (some from) (some to) field =
+    guard (both (leb from to) (leb to (length field))) (some (take (to - from) (drop from field)))
+
+abbrev pub cellsBetween : Site → Site → Bytes → ℕ → Option Bytes
+cellsBetween s r field place = cut (cellsBefore s (length field) place) (cellsBefore r (length field) place) field
 
 -- a test passes, fails, or asks for something that isn't there
 pub data Checked : Type 0 where
@@ -25,7 +42,7 @@ abbrev pub checked : Bool → Checked
 checked true = passed
 checked false = failed
 
-abbrev pub asked : (ℕ → Checked) → Option ℕ → Checked
+abbrev pub asked : {A : Type 0} → (A → Checked) → Option A → Checked
 asked f none = wrong
 asked f (some b) = f b
 
@@ -33,6 +50,8 @@ abbrev pub check : Test → Bytes → ℕ → Checked
 check (look s c) field place = asked (λ b. checked (eqb c b)) (cellAt s field place)
 check (compare s r) field place = asked (λ b. asked (λ a. checked (eqb b a)) (cellAt r field place)) (cellAt s field place)
 check (predicate s class expected) field place = asked (λ b. checked (sameTruth expected (inClass class b))) (cellAt s field place)
+check (predicatePart s r class expected) field place =
+    asked (λ piece. checked (sameTruth expected (every (inClass class) piece))) (cellsBetween s r field place)
 check unknownTest field place = wrong
 
 abbrev pub wherePassed : Checked → Checked → Checked

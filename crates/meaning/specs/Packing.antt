@@ -9,7 +9,7 @@ use lib.ListN.{length, take, drop}
 use Rattle.meaning.specs.Choice.{pick, both, every}
 use Rattle.meaning.specs.Classes.{Class, digit, upper, lower, alphabetic, blank, classNumber}
 use Rattle.meaning.specs.Allowed.{isByte}
-use Rattle.meaning.specs.Instructions.{Site, fromStart, fromEnd, fromPlace, Test, look, compare, predicate, unknownTest, Store, store, unknownStore, Length, null, whole, left, right, Span, Action, go, select, out, outCharacter, outValue, beginSequence, useSequence, call, tailCall, emission, unknownAction, Metric, exactly, ends, middle, Sentences, noMore, sentence, unknownSentence, Code}
+use Rattle.meaning.specs.Instructions.{Site, fromStart, fromEnd, fromPlace, Test, look, compare, predicate, predicatePart, unknownTest, Store, store, unknownStore, Length, null, whole, left, right, Span, Action, go, select, out, outCharacter, outValue, beginSequence, useSequence, call, tailCall, emission, unknownAction, Metric, exactly, ends, middle, Sentences, noMore, sentence, unknownSentence, Code}
 
 abbrev pub Words : Type 0
 Words = List ℕ
@@ -69,10 +69,16 @@ truthBit false = 0
 
 -- TESTS AND STORES
 
+-- the first operand of a Predicate over a part: both registers, the truth value and the class, at most 154
+abbrev pub partOperand : Site → Site → Class → Bool → ℕ
+partOperand s r class expected =
+    siteRegister s + 4 * siteRegister r + 16 * truthBit expected + 32 * classNumber class
+
 abbrev pub testWord : Test → ℕ
 testWord (look s c) = word 1 (siteRegister s) (siteOffset s) c
 testWord (compare s r) = word 2 (siteRegister s + 4 * siteRegister r) (siteOffset s) (siteOffset r)
 testWord (predicate s class expected) = word 3 (siteRegister s + 4 * truthBit expected) (siteOffset s) (classNumber class)
+testWord (predicatePart s r class expected) = word 20 (partOperand s r class expected) (siteOffset s) (siteOffset r)
 testWord unknownTest = 0
 
 abbrev pub lookOf : Option Site → ℕ → Test
@@ -89,12 +95,24 @@ predicateFor none class expected = unknownTest
 predicateFor (some s) none expected = unknownTest
 predicateFor (some s) (some class) expected = predicate s class expected
 
+abbrev pub predicatePartFor : Option Site → Option Site → Option Class → Bool → Test
+predicatePartFor none r class expected = unknownTest
+predicatePartFor (some s) none class expected = unknownTest
+predicatePartFor (some s) (some r) none expected = unknownTest
+predicatePartFor (some s) (some r) (some class) expected = predicatePart s r class expected
+
+abbrev pub predicatePartOf : ℕ → ℕ → ℕ → Test
+predicatePartOf first from to =
+    predicatePartFor (siteOf (first % 4) from) (siteOf (first / 4 % 4) to)
+    (classOf (first / 32)) (eqb (first / 16 % 2) 1)
+
 abbrev pub testOf : ℕ → Test
 testOf w =
     pick (eqb (numberIn w) 1) (lookOf (siteOf (firstIn w) (secondIn w)) (thirdIn w))
     (pick (eqb (numberIn w) 2) (compareOf (siteOf (firstIn w % 4) (secondIn w)) (siteOf (firstIn w / 4) (thirdIn w)))
     (pick (eqb (numberIn w) 3) (predicateFor (siteOf (firstIn w % 4) (secondIn w)) (classOf (thirdIn w)) (eqb (firstIn w / 4) 1))
-    unknownTest))
+    (pick (eqb (numberIn w) 20) (predicatePartOf (firstIn w) (secondIn w) (thirdIn w))
+    unknownTest)))
 
 abbrev pub storeWord : Store → ℕ
 storeWord (store s) = word 4 (siteRegister s) (siteOffset s) 0

@@ -8,7 +8,7 @@ use lib.Dec.{leb, ltb, eqb}
 use lib.ListN.{length}
 use Rattle.meaning.specs.Choice.{Bytes, Name, pick, both, either, orElse, isSome, sameBytes}
 use Rattle.meaning.specs.Classes.{Class}
-use Rattle.meaning.specs.Tree.{Element, letter, part, Condition, Expression, end, thenCharacter, thenSymbol, thenPart, thenCall, Sentence, Function, Table}
+use Rattle.meaning.specs.Tree.{Element, letter, part, Subject, ofSymbol, ofPart, Condition, Expression, end, thenCharacter, thenSymbol, thenPart, thenCall, Sentence, Function, Table}
 use Rattle.meaning.specs.Names.{isEmission, isPredicate, isReserved, predicateOf, numberOf}
 use Rattle.meaning.specs.Answers.{tableTooLong, malformedToken, notAllowedHere, overLimit, wrongName, wrongPatternVariable, wrongLaterVariable, undeclaredName}
 use Rattle.meaning.specs.Allowed.{maxTable, maxFunctions, maxSentences, maxName, maxIdentifier, maxLetters, maxSymbols, maxConditions, maxItems, maxNesting, member, added, symbolsOf, partsOf, lettersIn, comingAfter, namesOf}
@@ -120,20 +120,21 @@ abbrev pub withClass : {A : Type 0} → Option Class → ℕ → (Class → Pars
 withClass none place next = stopped wrongName place
 withClass (some class) place next = next class
 
--- "not in the pattern" is refused with 7
-abbrev pub symbolFault : List Name → Name → ℕ
-symbolFault symbols x =
-    faultUnless (leb (length x) maxIdentifier) overLimit (faultUnless (member x symbols) wrongLaterVariable 0)
+-- of the pattern's s-variables or e-variables, one is named; "one that is not in the pattern gets 7" (T-03)
+abbrev pub subjectFault : List Name → Name → ℕ
+subjectFault names x =
+    faultUnless (leb (length x) maxIdentifier) overLimit (faultUnless (member x names) wrongLaterVariable 0)
 
-abbrev pub symbolOn : {A : Type 0} → Item → List Name → Placed → (Name → Parsed A) → Parsed A
-symbolOn (characters text) symbols t next = refuse t
-symbolOn (symbolItem x) symbols t next = let later = next x in check (symbolFault symbols x) t later
-symbolOn (partItem x) symbols t next = refuse t
-symbolOn noItem symbols t next = refuse t
+abbrev pub subjectOn : {A : Type 0} → Item → List Name → List Name → Placed → (Subject → Parsed A) → Parsed A
+subjectOn (characters text) symbols parts t next = refuse t
+subjectOn (symbolItem x) symbols parts t next = let later = next (ofSymbol x) in check (subjectFault symbols x) t later
+subjectOn (partItem x) symbols parts t next = let later = next (ofPart x) in check (subjectFault parts x) t later
+subjectOn noItem symbols parts t next = refuse t
 
-abbrev pub passSymbol : {A : Type 0} → List Name → List Placed → (Name → List Placed → Parsed A) → Parsed A
-passSymbol symbols [] next = cutShort
-passSymbol symbols (t ∷ ts) next = symbolOn (itemOf (t .token)) symbols t (λ x. next x ts)
+abbrev pub passSubject
+    : {A : Type 0} → List Name → List Name → List Placed → (Subject → List Placed → Parsed A) → Parsed A
+passSubject symbols parts [] next = cutShort
+passSubject symbols parts (t ∷ ts) next = subjectOn (itemOf (t .token)) symbols parts t (λ v. next v ts)
 
 abbrev pub truthIn : Bytes → Option Bool
 truthIn text = pick (sameBytes text (84 ∷ [])) (some true) (pick (sameBytes text (70 ∷ [])) (some false) none)
@@ -155,17 +156,17 @@ abbrev pub passTruth : {A : Type 0} → List Placed → (Bool → List Placed �
 passTruth [] next = cutShort
 passTruth (t ∷ ts) next = truthOn (truthOf (t .token) (eqb (t .past) (t .place + 3))) t (λ truth. next truth ts)
 
--- "`, <Predicate sX>: 'T'` or `'F'`, on an s-variable of the pattern", after its `,`
-unfoldable pub condition : List Name → List Placed → Parsed Condition
-condition symbols ts =
+-- "`, <Predicate sX>: 'T'` or `'F'`, on an s-variable of the pattern", or on an e-variable of it, after its `,`
+unfoldable pub condition : List Name → List Name → List Placed → Parsed Condition
+condition symbols parts ts =
     pass 60 ts λ ts₁.
     passName (λ n. lengthFault n 0) ts₁ λ place n ts₂.
     withClass (predicateOf n) place λ class.
-    passSymbol symbols ts₂ λ x ts₃.
+    passSubject symbols parts ts₂ λ v ts₃.
     pass 62 ts₃ λ ts₄.
     pass 58 ts₄ λ ts₅.
     passTruth ts₅ λ truth rest.
-    parsed (record { predicate = class; variable = x; expected = truth }) rest
+    parsed (record { predicate = class; subject = v; expected = truth }) rest
 
 -- a condition is read where a `,` stands
 abbrev pub atComma : List Placed → (Placed → List Placed → Parsed (List Condition)) → Parsed (List Condition)
@@ -173,12 +174,12 @@ atComma [] next = cutShort
 atComma (t ∷ ts) next = let later = next t ts in pick (isSign 44 (t .token)) later (parsed [] (t ∷ ts))
 
 -- conditions, of which so many may still come; "a condition over its limit is refused at its first token (a condition's is `,`)"
-unfoldable pub conditions : ℕ → List Name → List Placed → Parsed (List Condition)
-conditions zero symbols ts = atComma ts λ comma rest. stopped overLimit (comma .place)
-conditions (suc left) symbols ts =
+unfoldable pub conditions : ℕ → List Name → List Name → List Placed → Parsed (List Condition)
+conditions zero symbols parts ts = atComma ts λ comma rest. stopped overLimit (comma .place)
+conditions (suc left) symbols parts ts =
     atComma ts λ comma ts₁.
-    follow (condition symbols ts₁) λ c ts₂.
-    follow (conditions left symbols ts₂) λ cs rest.
+    follow (condition symbols parts ts₁) λ c ts₂.
+    follow (conditions left symbols parts ts₂) λ cs rest.
     parsed (c ∷ cs) rest
 
 -- THE EXPRESSION
@@ -289,7 +290,7 @@ expression (suc bound) symbols depth so (t ∷ ts) = expressionFrom (expression 
 unfoldable pub sentence : List Placed → Parsed Sentence
 sentence ts =
     follow (pattern [] ts) λ p ts₁.
-    follow (conditions maxConditions (symbolsOf p) ts₁) λ cs ts₂.
+    follow (conditions maxConditions (symbolsOf p) (partsOf p) ts₁) λ cs ts₂.
     pass 61 ts₂ λ ts₃.
     follow (expression (length ts₃) (symbolsOf p) 0 (record { items = 0; coming = partsOf p }) ts₃) λ e rest.
     parsed (record { pattern = p; conditions = cs; expression = e .expression }) rest

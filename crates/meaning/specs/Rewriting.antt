@@ -1,13 +1,13 @@
 -- Rewriting by Refal-0's own rules: 01 'Rewriting', 000 section 2.2. It "is fed tree, start, text and allowance, and knows no cell or frame".
-use Prim.Native.Nat.{ℕ, zero, suc, pred, _+_}
+use Prim.Native.Nat.{ℕ, zero, suc, pred}
 use mathlib.Core.Bool.{Bool, true, false}
 use mathlib.Core.List.{List, [], _∷_, _++_}
 use mathlib.Core.Option.{Option, none, some}
 use lib.Dec.{eqb}
 use lib.ListN.{length}
-use Rattle.meaning.specs.Choice.{Bytes, Name, pick, both, guard, orElse, Named, lookup, nth}
-use Rattle.meaning.specs.Classes.{inClass}
-use Rattle.meaning.specs.Tree.{character, symbol, Element, letter, part, Condition, Expression, end, thenCharacter, thenSymbol, thenPart, thenCall, Sentence, Function, Table}
+use Rattle.meaning.specs.Choice.{Bytes, Name, pick, both, guard, orElse, every, Named, lookup, nth}
+use Rattle.meaning.specs.Classes.{Class, inClass}
+use Rattle.meaning.specs.Tree.{character, symbol, Element, letter, part, Subject, ofSymbol, ofPart, Condition, Expression, end, thenCharacter, thenSymbol, thenPart, thenCall, Sentence, Function, Table}
 use Rattle.meaning.specs.Names.{isEmission, numberOf}
 use Rattle.meaning.specs.Answers.{noSentenceFits, allowanceSpent}
 use Rattle.meaning.specs.Outcome.{Tally, maxCounted, emittedLine, Outcome, done, stop, andThen, Result, resultOf}
@@ -75,19 +75,25 @@ agreed (some c) x b known = guard (eqb c b) (some known)
 abbrev pub takeSymbol : Name → ℕ → List (Named ℕ) → Option (List (Named ℕ))
 takeSymbol x b known = agreed (lookup x known) x b known
 
--- "A condition ... on an s-variable of the pattern"
 abbrev pub sameTruth : Bool → Bool → Bool
 sameTruth true b = b
 sameTruth false true = false
 sameTruth false false = true
 
-abbrev pub holdsFor : Condition → Option ℕ → Bool
-holdsFor c none = false
-holdsFor c (some b) = sameTruth (c .expected) (inClass (c .predicate) b)
+-- what is asked of what a variable took
+abbrev pub askedOf : {A : Type 0} → Bool → (A → Bool) → Option A → Bool
+askedOf expected test none = false
+askedOf expected test (some taken) = sameTruth expected (test taken)
 
-unfoldable pub hold : List Condition → List (Named ℕ) → Bool
-hold [] known = true
-hold (c ∷ cs) known = both (holdsFor c (lookup (c .variable) known)) (hold cs known)
+-- of an s-variable its byte; of an e-variable its part: "It holds with 'T' when every byte of the part is in the class,
+-- the empty part included, and with 'F' otherwise" (T-03)
+abbrev pub holdsFor : Class → Bool → Bindings → Subject → Bool
+holdsFor class expected bound (ofSymbol x) = askedOf expected (inClass class) (lookup x (bound .symbols))
+holdsFor class expected bound (ofPart x) = askedOf expected (every (inClass class)) (lookup x (bound .parts))
+
+unfoldable pub hold : List Condition → Bindings → Bool
+hold [] bound = true
+hold (c ∷ cs) bound = both (holdsFor (c .predicate) (c .expected) bound (c .subject)) (hold cs bound)
 
 -- the first success among all ways to cut the text in two, the shortest first piece first
 unfoldable pub shortest : {A : Type 0} → (Bytes → Bytes → Option A) → Bytes → Bytes → Option A
@@ -108,7 +114,7 @@ matchRest k bound (some known) = k (withSymbols bound known)
 -- Parts are tried shortest first and conditions are asked of the whole match, so the middle template "takes the leftmost place at which all
 -- characters, equalities and conditions hold".
 unfoldable pub match : List Element → List Condition → Bytes → Bindings → Option Bindings
-match [] conditions [] bound = guard (hold conditions (bound .symbols)) (some bound)
+match [] conditions [] bound = guard (hold conditions bound) (some bound)
 match [] conditions (b ∷ text) bound = none
 match (letter (character c) ∷ pattern) conditions [] bound = none
 match (letter (character c) ∷ pattern) conditions (b ∷ text) bound =

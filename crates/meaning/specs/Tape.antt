@@ -6,7 +6,7 @@ use mathlib.Core.List.{List, [], _∷_, _++_}
 use lib.ListN.{length}
 use Rattle.meaning.specs.Choice.{Name}
 use Rattle.meaning.specs.Classes.{classNumber}
-use Rattle.meaning.specs.Tree.{Letter, character, symbol, Element, letter, part, Condition, Expression, end, thenCharacter, thenSymbol, thenPart, thenCall, Sentence, Function, Table}
+use Rattle.meaning.specs.Tree.{Letter, character, symbol, Element, letter, part, Subject, ofSymbol, ofPart, Condition, Expression, end, thenCharacter, thenSymbol, thenPart, thenCall, Sentence, Function, Table}
 
 -- what a word is: its number of 256, and above that what it carries
 abbrev pub tapeWord : ℕ → ℕ → ℕ
@@ -19,7 +19,8 @@ symbolKind = 1
 abbrev pub partKind : ℕ
 partKind = 2
 
--- a condition carries 10 for each byte of its variable's identifier, 5 if 'T' is expected, and its class; the identifier comes after
+-- a condition carries 20 for each byte of its variable's identifier, 10 if that is an e-variable, 5 if 'T' is expected,
+-- and its class, at most 179; the identifier comes after
 abbrev pub conditionKind : ℕ
 conditionKind = 3
 
@@ -66,9 +67,12 @@ abbrev pub truthNumber : Bool → ℕ
 truthNumber true = 5
 truthNumber false = 0
 
+abbrev pub subjectTape : ℕ → Subject → List ℕ
+subjectTape carried (ofSymbol x) = tapeWord conditionKind (length x * 20 + carried) ∷ x
+subjectTape carried (ofPart x) = tapeWord conditionKind (length x * 20 + 10 + carried) ∷ x
+
 abbrev pub conditionTape : Condition → List ℕ
-conditionTape c =
-    tapeWord conditionKind (length (c .variable) * 10 + truthNumber (c .expected) + classNumber (c .predicate)) ∷ c .variable
+conditionTape c = subjectTape (truthNumber (c .expected) + classNumber (c .predicate)) (c .subject)
 
 unfoldable pub conditionsTape : List Condition → List ℕ
 conditionsTape [] = []

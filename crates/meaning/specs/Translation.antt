@@ -7,9 +7,10 @@ use mathlib.Core.List.{List, [], _∷_, _++_, map}
 use mathlib.Core.Option.{Option, none, some}
 use lib.ListN.{length}
 use Rattle.meaning.specs.Choice.{Name, pick, Named, lookup, sameBytes}
-use Rattle.meaning.specs.Tree.{Letter, character, symbol, Element, letter, part, Condition, Expression, end, thenCharacter, thenSymbol, thenPart, thenCall, Sentence, Table}
+use Rattle.meaning.specs.Tree.{Letter, character, symbol, Element, letter, part, Subject, ofSymbol, ofPart, Condition, Expression, end, thenCharacter, thenSymbol, thenPart, thenCall, Sentence, Table}
+use Rattle.meaning.specs.Classes.{Class}
 use Rattle.meaning.specs.Names.{isEmission, numberOf}
-use Rattle.meaning.specs.Instructions.{Site, fromStart, fromEnd, fromPlace, Test, look, compare, predicate, Store, store, Length, null, whole, left, right, Span, Action, go, select, out, outCharacter, outValue, beginSequence, useSequence, call, tailCall, emission, Metric, exactly, ends, middle, Sentences, noMore, sentence, Code}
+use Rattle.meaning.specs.Instructions.{Site, fromStart, fromEnd, fromPlace, Test, look, compare, predicate, predicatePart, Store, store, Length, null, whole, left, right, Span, Action, go, select, out, outCharacter, outValue, beginSequence, useSequence, call, tailCall, emission, Metric, exactly, ends, middle, Sentences, noMore, sentence, Code}
 
 -- THE TEMPLATES
 
@@ -78,11 +79,34 @@ abbrev pub siteOr : Option Site → Site
 siteOr none = fromStart 0
 siteOr (some s) = s
 
-abbrev pub conditionTest : List (Named Site) → Condition → Test
-conditionTest sites c = predicate (siteOr (lookup (c .variable) sites)) (c .predicate) (c .expected)
+-- the site where an e-variable's part begins, and the one where what follows it begins
+pub record Bounds : Type 0 where
+  pub from : Site
+  pub to : Site
 
-abbrev pub testsOf : Tested → List Condition → List Test
-testsOf d cs = d .tests ++ map (conditionTest (d .sites)) cs
+abbrev pub between : Site → Site → Bounds
+between from to = record { from = from; to = to }
+
+-- only an e-variable of the pattern is ever asked for
+abbrev pub boundsOf : Shape → Name → Bounds
+boundsOf (fixed t) x = between (fromStart 0) (fromStart 0)
+boundsOf (open₁ h y t) x = between (fromStart (length h)) (fromEnd (length t))
+boundsOf (open₂ h y m z t) x =
+    pick (sameBytes x y) (between (fromStart (length h)) (fromPlace 0))
+    (between (fromPlace (length m)) (fromEnd (length t)))
+
+abbrev pub partTest : Bounds → Class → Bool → Test
+partTest b class expected = predicatePart (b .from) (b .to) class expected
+
+abbrev pub subjectTest : Shape → List (Named Site) → Class → Bool → Subject → Test
+subjectTest shape sites class expected (ofSymbol x) = predicate (siteOr (lookup x sites)) class expected
+subjectTest shape sites class expected (ofPart x) = partTest (boundsOf shape x) class expected
+
+abbrev pub conditionTest : Shape → List (Named Site) → Condition → Test
+conditionTest shape sites c = subjectTest shape sites (c .predicate) (c .expected) (c .subject)
+
+abbrev pub testsOf : Shape → Tested → List Condition → List Test
+testsOf shape d cs = d .tests ++ map (conditionTest shape (d .sites)) cs
 
 abbrev pub storesOf : Tested → List Store
 storesOf d = map (λ s. store (s .value)) (d .sites)
@@ -193,7 +217,8 @@ actionsOf table shape sites e = items table shape sites true e atStart (passesRe
 
 abbrev pub translatedSentence : Table → Sentence → Shape → Tested → Sentences → Sentences
 translatedSentence table s shape tested more =
-    sentence (metricOf shape) (testsOf tested (s .conditions)) (storesOf tested) (actionsOf table shape (tested .sites) (s .expression)) more
+    sentence (metricOf shape) (testsOf shape tested (s .conditions)) (storesOf tested)
+    (actionsOf table shape (tested .sites) (s .expression)) more
 
 unfoldable pub translatedSentences : Table → List Sentence → Sentences
 translatedSentences table [] = noMore

@@ -17,10 +17,14 @@ pub data Element : Type 0 where
   letter : Letter → Element
   part : Name → Element
 
--- , <Predicate sX>: 'T' or 'F'
+-- what a condition asks about: an s-variable's byte, or the bytes of an e-variable's part
+pub data Subject : Type 0 where
+  ofSymbol ofPart : Name → Subject
+
+-- , <Predicate sX>: 'T' or 'F'; or <Predicate eX>
 pub record Condition : Type 0 where
   pub predicate : Class
-  pub variable : Name
+  pub subject : Subject
   pub expected : Bool
 
 -- the items of an expression in order; a call has the place of its name in the table text, the name, its argument, and what comes after it

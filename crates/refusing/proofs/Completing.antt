@@ -9,15 +9,15 @@ use borrow.Author.Tests.{eqb-true, ltb-true}
 use lib.Dec.{ltb, eqb}
 use Rattle.meaning.specs.Choice.{Bytes, Name, pick, isSome, sameBytes}
 use Rattle.meaning.specs.Classes.{Class, digit, className}
-use Rattle.meaning.specs.Tree.{Element, Condition, Expression, Sentence, Table}
+use Rattle.meaning.specs.Tree.{Element, Subject, Condition, Expression, Sentence, Table}
 use Rattle.meaning.specs.Names.{predicateOf, classNamed}
 use Rattle.meaning.specs.Tokens.{leftBrace, rightBrace, semicolon, comma, colon, equals, lessThan, greaterThan, Token, functionName, quoted, sign, textEnd, Placed}
-use Rattle.meaning.specs.Grammar.{standing, symbolWord, partWord, truthString, IsLetters, stringLetters, variableLetter, IsTemplate, lettersAlone, lettersThen, IsTemplateOrNone, noTemplate, someTemplate, IsPattern, noPart, onePart, twoParts, isCondition, IsConditions, noConditions, conditionThen, IsExpression, noItems, stringThen, symbolThen, partThen, callThen, isSentence, IsSentences, lastSentence, lastSentenceParted, sentenceThen, isFunction, IsProgram, noFunctions, functionThen, functionPartedThen}
+use Rattle.meaning.specs.Grammar.{standing, partWord, truthString, IsLetters, stringLetters, variableLetter, IsTemplate, lettersAlone, lettersThen, IsTemplateOrNone, noTemplate, someTemplate, IsPattern, noPart, onePart, twoParts, IsSubject, symbolSubject, partSubject, isCondition, IsConditions, noConditions, conditionThen, IsExpression, noItems, stringThen, symbolThen, partThen, callThen, isSentence, IsSentences, lastSentence, lastSentenceParted, sentenceThen, isFunction, IsProgram, noFunctions, functionThen, functionPartedThen}
 use Rattle.meaning.specs.Reading.{isSign, isTextEnd, nameOf, itemOf, truthOf}
 use Rattle.accepting.proofs.reading.Basics.{sign-of, name-of, standing-as, TokenView, aString, aSymbol, aPart, another, view}
 use Rattle.accepting.proofs.reading.Conditions.{truth-of}
 use Rattle.refusing.specs.Faults.{Like, nothing, same, otherName, emptyString, Viable}
-use Rattle.refusing.proofs.Stages.{end-of, Stage, start, afterFunction, named, opened, afterSemicolon, inPattern, afterCondition, atBracket, atPredicate, atVariable, atClose, atColon, atTruth, inExpression, atCalled, finished, failed, outsideStep, conditionStep, patternStep, symbolStep, endStep, step, run}
+use Rattle.refusing.proofs.Stages.{end-of, Stage, start, afterFunction, named, opened, afterSemicolon, inPattern, afterCondition, atBracket, atPredicate, atVariable, atClose, atColon, atTruth, inExpression, atCalled, finished, failed, outsideStep, conditionStep, patternStep, subjectStep, endStep, step, run}
 
 -- WHAT MAY FOLLOW
 
@@ -61,7 +61,7 @@ data AtClose : List Placed → Type 0 where
   closeThen : {us : List Placed} {place past : ℕ} → AtColon us → AtClose (standing (sign greaterThan) place past ∷ us)
 
 data AtVariable : List Placed → Type 0 where
-  variableThen : {us : List Placed} {b place past : ℕ} {x : Bytes} → AtClose us → AtVariable (standing (symbolWord b x) place past ∷ us)
+  variableThen : {us : List Placed} {t : Token} {v : Subject} {place past : ℕ} → IsSubject t v → AtClose us → AtVariable (standing t place past ∷ us)
 
 data AtPredicate : List Placed → Type 0 where
   predicateThen : {us : List Placed} {n : Name} {class : Class} {place past : ℕ}
@@ -153,8 +153,8 @@ part-before (suc (suc n)) b x place past e l d = absurd (omega (arith, ltb-true 
 
 -- a condition from its parts
 condition-before : {us : List Placed} (place past : ℕ) → AtBracket us → InConditions (standing (sign comma) place past ∷ us)
-condition-before place past (bracketThen (predicateThen k (variableThen (closeThen (colonThen (truthThen truth (conditionsThen c e))))))) =
-    conditionsThen (conditionThen (isCondition {truth = truth} k) c) e
+condition-before place past (bracketThen (predicateThen k (variableThen is (closeThen (colonThen (truthThen truth (conditionsThen c e))))))) =
+    conditionsThen (conditionThen (isCondition {truth = truth} k is) c) e
 
 -- items before an expression
 item-before : (depth : ℕ) {token : Token} {us : List Placed} (place past : ℕ)
@@ -222,13 +222,13 @@ pattern-step n place past (aPart b x) {ts} {us} l f = go (ltb n 2) refl f
     go false p f = absurd f
 pattern-step n place past (another token i) l f = goes _ l (no-items n (conditions-before (standing token place past) (rw i at f)))
 
-symbol-step : {token : Token} (place past : ℕ) → TokenView token → {us : List Placed} → Follows (symbolStep (itemOf token)) us
+subject-step : {token : Token} (place past : ℕ) → TokenView token → {us : List Placed} → Follows (subjectStep (itemOf token)) us
     → AtVariable (standing token place past ∷ us)
 unfolding Follows
-symbol-step place past (aString text) f = absurd f
-symbol-step place past (aSymbol b x) f = variableThen f
-symbol-step place past (aPart b x) f = absurd f
-symbol-step place past (another token i) f = absurd (rw i at f)
+subject-step place past (aString text) f = absurd f
+subject-step place past (aSymbol b x) f = variableThen symbolSubject f
+subject-step place past (aPart b x) f = variableThen partSubject f
+subject-step place past (another token i) f = absurd (rw i at f)
 
 truth-step : (t : Placed) {us : List Placed} (o : Option Bool) → truthOf (t .token) (eqb (t .past) (t .place + 3)) ≡ o
     → Follows (pick (isSome o) afterCondition failed) us → AtTruth (t ∷ us)
@@ -305,7 +305,7 @@ before atBracket t l f =
     goes t l (sign-before AtBracket lessThan t atPredicate failed (isSign lessThan (t .token)) refl f (λ a. bracketThen a) (λ o. absurd o))
 before atPredicate t l f =
     name-before AtPredicate t atVariable failed (nameOf (t .token)) refl l f (λ n a. predicate-before n (t .place) (t .past) l a) (λ o. absurd o)
-before atVariable t l f = goes t l (symbol-step (t .place) (t .past) (view (t .token)) f)
+before atVariable t l f = goes t l (subject-step (t .place) (t .past) (view (t .token)) f)
 before atClose t l f =
     goes t l (sign-before AtClose greaterThan t atColon failed (isSign greaterThan (t .token)) refl f (λ a. closeThen a) (λ o. absurd o))
 before atColon t l f = goes t l (sign-before AtColon colon t atTruth failed (isSign colon (t .token)) refl f (λ a. colonThen a) (λ o. absurd o))
@@ -349,7 +349,7 @@ at-close : (us : List Placed) × AtClose us
 at-close = (_, closeThen {place = 0} {past = 0} (at-colon .1))
 
 at-variable : (us : List Placed) × AtVariable us
-at-variable = (_, variableThen {b = 49} {place = 0} {past = 0} {x = []} (at-close .1))
+at-variable = (_, variableThen {place = 0} {past = 0} (symbolSubject {b = 49} {x = []}) (at-close .1))
 
 at-predicate : (us : List Placed) × AtPredicate us
 unfolding classNamed sameBytes

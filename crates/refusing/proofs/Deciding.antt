@@ -17,7 +17,7 @@ use Rattle.refusing.specs.Faults.{Viable, wellFormed, Quota, withinLimit
 use Rattle.refusing.proofs.Stages.{start, going, going-failed, run, viable-runs}
 use Rattle.refusing.proofs.Computed.{orElseFault, viable, faultsOf}
 use Rattle.refusing.proofs.Completing.{runs-viable}
-use Rattle.refusing.proofs.Sums.{tally, number, tableLimits, patternLimits, itemLimits, declaredRight, predicatesRight, callsRight, patternRight, symbolsRight, partsRight}
+use Rattle.refusing.proofs.Sums.{tally, number, tableLimits, patternLimits, itemLimits, declaredRight, predicatesRight, callsRight, patternRight, symbolsRight, partsKnown, middleRight, partsRight}
 use Rattle.refusing.proofs.Agreeing.{sumOf, tally-sum}
 
 -- LISTS OF NUMBERS
@@ -130,11 +130,11 @@ module _ (quota : Quota) (ts : List Placed) where
   same-pattern = refl
 
   same-later : rightLater ts
-      ≡ both (symbolsRight (sumOf ts .sentence .pattern) (sumOf ts .sentence .middle))
+      ≡ both (middleRight (sumOf ts .sentence .pattern) (sumOf ts .sentence .middle))
       (both (symbolsRight (sumOf ts .sentence .pattern) (sumOf ts .sentence .items))
       (partsRight (sumOf ts .sentence .pattern) (sumOf ts .sentence .items)))
-  unfolding symbolsRight partsRight
-  same-later = refl
+  unfolding symbolsRight partsKnown middleRight partsRight
+  same-later = simp both-assoc
 
   number-first : number quota (tally ts) ≡ firstOf (faultsOf quota ts)
   number-first =

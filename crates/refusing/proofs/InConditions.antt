@@ -12,18 +12,18 @@ use Rattle.meaning.specs.Choice.{Bytes, Name, pick, both, isSome, every}
 use Rattle.meaning.specs.Classes.{Class}
 use Rattle.meaning.specs.Names.{predicateOf, isPredicate}
 use Rattle.meaning.specs.Answers.{overLimit, wrongName, wrongLaterVariable}
-use Rattle.meaning.specs.Tree.{Element, letter, symbol, Condition}
-use Rattle.meaning.specs.Allowed.{maxName, maxConditions, maxIdentifier, symbolsOf, member}
-use Rattle.meaning.specs.Tokens.{Token, functionName, quoted, Placed, comma, colon, equals, lessThan, greaterThan, isSign, nameOf, Item, characters, symbolItem, partItem, noItem, itemOf, isItem}
+use Rattle.meaning.specs.Tree.{Element, letter, symbol, part, Subject, ofSymbol, ofPart, Condition}
+use Rattle.meaning.specs.Allowed.{maxName, maxConditions, maxIdentifier, symbolsOf, partsOf, member}
+use Rattle.meaning.specs.Tokens.{Token, functionName, quoted, Placed, comma, colon, equals, lessThan, greaterThan, isSign, isLast, nameOf, Item, characters, symbolItem, partItem, noItem, itemOf, isItem}
 use Rattle.meaning.specs.Grammar.{standing, symbolWord, partWord, charactersOf, truthByte}
-use Rattle.meaning.specs.Reading.{Parsed, stopped, parsed, check, faultOf, faultUnless, nameOn, lengthFault, withClass, symbolFault, passSymbol, truthOf, truthOn, passTruth, condition, conditions}
-use Rattle.accepting.proofs.reading.Basics.{impossible, TokenView, aString, aSymbol, aPart, another, view, sign-of, name-of}
+use Rattle.meaning.specs.Reading.{Parsed, stopped, parsed, check, faultOf, faultUnless, nameOn, lengthFault, withClass, subjectFault, passSubject, truthOf, truthOn, passTruth, condition, conditions}
+use Rattle.accepting.proofs.reading.Basics.{impossible, both-left, both-right, TokenView, aString, aSymbol, aPart, another, view, sign-of, name-of}
 use Rattle.accepting.proofs.reading.Conditions.{truth-of, afterTruth, afterColon, afterClose, afterVariable, afterPredicate, afterOpen, afterCondition as goingOn, afterConditions as joining, afterComma as inCondition}
 use Rattle.accepting.proofs.reading.Lists.{every-append, member-every}
-use Rattle.accepting.proofs.reading.PatternItems.{characters-same-symbols, symbol-adds}
+use Rattle.accepting.proofs.reading.PatternItems.{characters-same-symbols, characters-same-parts, symbol-adds, symbol-same-parts, part-same-symbols, part-adds}
 use Rattle.refusing.specs.Faults.{Quota}
 use Rattle.refusing.proofs.Stages.{Stage, inPattern, afterCondition, atBracket, atPredicate, atVariable, atClose, atColon, atTruth, inExpression, failed, step, going}
-use Rattle.refusing.proofs.Sums.{SentenceSum, Sum, next, tally, number, predicatesRight, symbolsRight}
+use Rattle.refusing.proofs.Sums.{SentenceSum, Sum, next, tally, number, predicatesRight, symbolsRight, partsKnown, middleRight}
 use Rattle.refusing.proofs.Told.{Open, At, Told, told-follow, told-done, told-cut, told-stop, told-pass, told-check, told-refuse, told-sign, refused-number, sign-inner, fine}
 use Rattle.refusing.proofs.InPattern.{both-unit, Around, Patterned, patternAt, no-limits, no-calls, no-symbols, no-parts, NoItemNext}
 
@@ -47,6 +47,31 @@ symbol-known p es x h =
 pub string-known : (p es : List Element) (text : Bytes) → symbolsRight p (es ++ charactersOf text) ≡ symbolsRight p es
 unfolding symbolsRight
 string-known p es text = rw (characters-same-symbols es text)
+
+pub symbols-part : (p es : List Element) (x : Name) → symbolsRight p (es ++ part x ∷ []) ≡ symbolsRight p es
+unfolding symbolsRight
+symbols-part p es x = rw (part-same-symbols es x)
+
+part-known : (p es : List Element) (x : Name) → partsKnown p es ≡ true → partsKnown p (es ++ part x ∷ []) ≡ member x (partsOf p)
+unfolding partsKnown
+part-known p es x h = rw (part-adds es x) (every-one (λ y. member y (partsOf p)) (partsOf es) x h)
+
+-- the conditions' variables, after a string and after one more variable of either kind
+middle-string : (p es : List Element) (text : Bytes) → middleRight p (es ++ charactersOf text) ≡ middleRight p es
+unfolding middleRight partsKnown
+middle-string p es text = rw (string-known p es text, characters-same-parts es text)
+
+middle-symbol : (p es : List Element) (x : Name) → middleRight p es ≡ true
+    → middleRight p (es ++ letter (symbol x) ∷ []) ≡ member x (symbolsOf p)
+unfolding middleRight partsKnown
+middle-symbol p es x h =
+    rw (symbol-known p es x (both-left (symbolsRight p es) _ h), symbol-same-parts es x, both-right (symbolsRight p es) _ h)
+    (both-unit (member x (symbolsOf p)))
+
+middle-part : (p es : List Element) (x : Name) → middleRight p es ≡ true → middleRight p (es ++ part x ∷ []) ≡ member x (partsOf p)
+unfolding middleRight
+middle-part p es x h =
+    rw (symbols-part p es x, both-left (symbolsRight p es) _ h) (part-known p es x (both-right (symbolsRight p es) _ h))
 
 predicate-known : (names : List Name) (n : Name) → predicatesRight names ≡ true → predicatesRight (names ++ n ∷ []) ≡ isPredicate n
 unfolding predicatesRight
@@ -75,7 +100,7 @@ withElements c es = record { commas = c .commas; elements = c .elements ++ es; n
 pub record MiddleFits (p : List Element) (c : Middle) : Type 0 where
   pub few : leb (c .commas) maxConditions ≡ true
   pub predicates : predicatesRight (c .names) ≡ true
-  pub known : symbolsRight p (c .elements) ≡ true
+  pub known : middleRight p (c .elements) ≡ true
 
 abbrev middleSentence : List Element → Middle → Bool → SentenceSum
 middleSentence p c bracket =
@@ -168,7 +193,7 @@ module _ (names : List Name) (begun : ℕ) (p : List Element) where
       middle-number : (s : Stage) (short bracket led inner : Bool) (c : Middle) → going s ≡ true
           → number quota (sentenceAt s short bracket led (middleSentence p c inner))
           ≡ faultUnless (both short (leb (c .commas) maxConditions)) overLimit
-          (faultUnless (predicatesRight (c .names)) wrongName (faultUnless (symbolsRight p (c .elements)) wrongLaterVariable 0))
+          (faultUnless (predicatesRight (c .names)) wrongName (faultUnless (middleRight p (c .elements)) wrongLaterVariable 0))
       middle-number s short bracket led inner c g =
           rw (
             g,
@@ -182,89 +207,94 @@ module _ (names : List Name) (begun : ℕ) (p : List Element) where
             no-parts p,
             both-unit (leb (c .commas) maxConditions),
             both-unit (predicatesRight (c .names)),
-            both-unit (symbolsRight p (c .elements)),
+            both-unit (middleRight p (c .elements)),
           )
 
       -- a token that adds nothing
       quiet : (s : Stage) (bracket : Bool) (c : Middle) → going s ≡ true → MiddleFits p c → number quota (middleAt s bracket c) ≡ 0
       quiet s bracket c g f = middle-number s true bracket false bracket c g ∙ rw (f .few, f .predicates, f .known)
 
-      symbols : List Name
-      symbols = symbolsOf p
-
       -- THE CLOSING STRING
 
-      truth-told : (class : Class) (x : Name) (c : Middle) → MiddleFits p c → (b ts : List Placed) → At (middleAt atTruth false c) b ts
-          → Told quota (ConditionLeft (c .commas)) b ts (passTruth ts (afterTruth class x))
-      truth-told class x c f b [] here = told-cut quota (ConditionLeft (c .commas)) here
-      truth-told class x c f b (t ∷ ts) here = by-truth (truthOf (t .token) (eqb (t .past) (t .place + 3))) refl
+      truth-told : (class : Class) (v : Subject) (c : Middle) → MiddleFits p c → (b ts : List Placed) → At (middleAt atTruth false c) b ts
+          → Told quota (ConditionLeft (c .commas)) b ts (passTruth ts (afterTruth class v))
+      truth-told class v c f b [] here = told-cut quota (ConditionLeft (c .commas)) here
+      truth-told class v c f b (t ∷ ts) here = by-truth (truthOf (t .token) (eqb (t .past) (t .place + 3))) refl
         where
           passes : (truth : Bool) → t .token ≡ quoted (truthByte truth ∷ []) → truthOf (t .token) (eqb (t .past) (t .place + 3)) ≡ some truth
               → next (middleAt atTruth false c) t ≡ middleAt afterCondition false (withElements c (charactersOf (truthByte truth ∷ [])))
           passes truth e q = rw (q, e)
 
           by-truth : (o : Option Bool) → truthOf (t .token) (eqb (t .past) (t .place + 3)) ≡ o
-              → Told quota (ConditionLeft (c .commas)) b (t ∷ ts) (truthOn o t (λ truth. afterTruth class x truth ts))
+              → Told quota (ConditionLeft (c .commas)) b (t ∷ ts) (truthOn o t (λ truth. afterTruth class v truth ts))
           by-truth none q = told-refuse quota (ConditionLeft (c .commas)) (middleAt atTruth false c) refl b t ts here (rw q)
           by-truth (some truth) q =
               let later = withElements c (charactersOf (truthByte truth ∷ [])) in
               let fits : MiddleFits p later =
-              record { few = f .few; predicates = f .predicates; known = string-known p (c .elements) (truthByte truth ∷ []) ∙ f .known }
+              record { few = f .few; predicates = f .predicates; known = middle-string p (c .elements) (truthByte truth ∷ []) ∙ f .known }
               in
               let (three, token) = truth-of (t .token) (eqb (t .past) (t .place + 3)) q in
               told-pass quota (ConditionLeft (c .commas)) (middleAt afterCondition false later) b t ts (here ∙ passes truth token q)
-              (afterTruth class x truth ts) (rw token) (quiet afterCondition false later refl fits)
+              (afterTruth class v truth ts) (rw token) (quiet afterCondition false later refl fits)
               (λ at.
-              told-done quota (ConditionLeft (c .commas)) (record { predicate = class; variable = x; expected = truth })
+              told-done quota (ConditionLeft (c .commas)) (record { predicate = class; subject = v; expected = truth })
               (record { so = later; same = refl; fits = fits; here = at }))
 
-      close-told : (class : Class) (x : Name) (c : Middle) → MiddleFits p c → (b ts : List Placed) → At (middleAt atClose false c) b ts
-          → Told quota (ConditionLeft (c .commas)) b ts (afterVariable class x ts)
-      close-told class x c f b ts here =
-          told-sign quota (ConditionLeft (c .commas)) (middleAt atClose false c) refl b greaterThan ts (afterClose class x) here (λ t e. rw e)
+      close-told : (class : Class) (v : Subject) (c : Middle) → MiddleFits p c → (b ts : List Placed) → At (middleAt atClose false c) b ts
+          → Told quota (ConditionLeft (c .commas)) b ts (afterVariable class v ts)
+      close-told class v c f b ts here =
+          told-sign quota (ConditionLeft (c .commas)) (middleAt atClose false c) refl b greaterThan ts (afterClose class v) here (λ t e. rw e)
           (λ place past. quiet atColon false c refl f)
           (λ place past b₁ us at.
-          told-sign quota (ConditionLeft (c .commas)) (middleAt atColon false c) refl b₁ colon us (afterColon class x) at (λ t e. rw e)
+          told-sign quota (ConditionLeft (c .commas)) (middleAt atColon false c) refl b₁ colon us (afterColon class v) at (λ t e. rw e)
           (λ place past. quiet atTruth false c refl f)
-          (λ place past b₂ vs at₁. truth-told class x c f b₂ vs at₁))
+          (λ place past b₂ vs at₁. truth-told class v c f b₂ vs at₁))
 
       -- THE VARIABLE
 
-      symbol-told : (class : Class) (c : Middle) → MiddleFits p c → (b ts : List Placed) → At (middleAt atVariable false c) b ts
-          → Told quota (ConditionLeft (c .commas)) b ts (passSymbol symbols ts (afterVariable class))
-      unfolding symbols
-      symbol-told class c f b [] here = told-cut quota (ConditionLeft (c .commas)) here
-      symbol-told class c f b (t ∷ ts) here = by-view (t .place) (t .past) (view (t .token)) here
+      -- a variable of either kind adds its element, and its name is looked for among those of its kind
+      variable-told : (class : Class) (v : Subject) (c : Middle) → MiddleFits p c → (b : List Placed) (t : Placed) (ts : List Placed)
+          → At (middleAt atVariable false c) b (t ∷ ts) → isLast (t .token) ≡ false → (e : Element) (x : Name) (among : List Name)
+          → next (middleAt atVariable false c) t
+          ≡ sentenceAt atClose (leb (length x) maxIdentifier) false false (middleSentence p (withElements c (e ∷ [])) false)
+          → middleRight p (c .elements ++ e ∷ []) ≡ member x among
+          → Told quota (ConditionLeft (c .commas)) b (t ∷ ts) (check (subjectFault among x) t (afterVariable class v ts))
+      variable-told class v c f b t ts at inner e x among grows known =
+          let later = withElements c (e ∷ []) in
+          let m = sentenceAt atClose (leb (length x) maxIdentifier) false false (middleSentence p later false) in
+          let value : number quota m ≡ subjectFault among x =
+          middle-number atClose (leb (length x) maxIdentifier) false false false later refl
+          ∙ rw (f .few, f .predicates, known, both-unit (leb (length x) maxIdentifier))
+          in
+          told-check quota (ConditionLeft (c .commas)) m b t ts (at ∙ grows) (subjectFault among x) (afterVariable class v ts) inner value
+          (λ z at₁.
+          let g = fine quota m (value ∙ z) in
+          close-told class v later (record { few = f .few; predicates = f .predicates; known = g .middle }) (b ++ t ∷ []) ts
+          (subst (λ w. At w (b ++ t ∷ []) ts) (rw (g .short)) at₁))
+
+      subject-told : (class : Class) (c : Middle) → MiddleFits p c → (b ts : List Placed) → At (middleAt atVariable false c) b ts
+          → Told quota (ConditionLeft (c .commas)) b ts (passSubject (symbolsOf p) (partsOf p) ts (afterVariable class))
+      subject-told class c f b [] here = told-cut quota (ConditionLeft (c .commas)) here
+      subject-told class c f b (t ∷ ts) here = by-view (t .place) (t .past) (view (t .token)) here
         where
           by-view : {token : Token} (place past : ℕ) → TokenView token → At (middleAt atVariable false c) b (standing token place past ∷ ts)
               → Told quota (ConditionLeft (c .commas)) b (standing token place past ∷ ts)
-              (passSymbol symbols (standing token place past ∷ ts) (afterVariable class))
+              (passSubject (symbolsOf p) (partsOf p) (standing token place past ∷ ts) (afterVariable class))
           by-view place past (aString text) at =
               told-refuse quota (ConditionLeft (c .commas)) (middleAt atVariable false c) refl b (standing (quoted text) place past) ts at refl
           by-view place past (aSymbol d x) at =
-              let m = middleAt atVariable false c in
-              let t = standing (symbolWord d x) place past in
-              let later = withElements c (letter (symbol (d ∷ x)) ∷ []) in
-              let value : number quota (next m t) ≡ symbolFault (symbolsOf p) (d ∷ x) =
-              middle-number atClose (leb (length (d ∷ x)) maxIdentifier) false false false later refl
-              ∙ rw (f .few, f .predicates, symbol-known p (c .elements) (d ∷ x) (f .known), both-unit (leb (length (d ∷ x)) maxIdentifier))
-              in
-              told-check quota (ConditionLeft (c .commas)) (next m t) b t ts at (symbolFault (symbolsOf p) (d ∷ x))
-              (afterVariable class (d ∷ x) ts) refl value
-              (λ z at₁.
-              let g = fine quota (next m t) (value ∙ z) in
-              close-told class (d ∷ x) later (record { few = f .few; predicates = f .predicates; known = g .middle }) (b ++ t ∷ []) ts
-              (subst (λ w. At w (b ++ t ∷ []) ts) (rw (g .short)) at₁))
+              variable-told class (ofSymbol (d ∷ x)) c f b (standing (symbolWord d x) place past) ts at refl (letter (symbol (d ∷ x))) (d ∷ x)
+              (symbolsOf p) refl (middle-symbol p (c .elements) (d ∷ x) (f .known))
           by-view place past (aPart d x) at =
-              told-refuse quota (ConditionLeft (c .commas)) (middleAt atVariable false c) refl b (standing (partWord d x) place past) ts at refl
+              variable-told class (ofPart (d ∷ x)) c f b (standing (partWord d x) place past) ts at refl (part (d ∷ x)) (d ∷ x)
+              (partsOf p) refl (middle-part p (c .elements) (d ∷ x) (f .known))
           by-view place past (another token n) at =
               rw n (told-refuse quota (ConditionLeft (c .commas)) (middleAt atVariable false c) refl b (standing token place past) ts at (rw n))
 
       -- THE PREDICATE
 
       name-told : (c : Middle) → MiddleFits p c → (b ts : List Placed) → At (middleAt atPredicate true c) b ts
-          → Told quota (ConditionLeft (c .commas)) b ts (afterOpen symbols ts)
-      unfolding symbols
+          → Told quota (ConditionLeft (c .commas)) b ts (afterOpen (symbolsOf p) (partsOf p) ts)
       name-told c f b [] here = told-cut quota (ConditionLeft (c .commas)) here
       name-told c f b (t ∷ ts) here = by-name (nameOf (t .token)) refl
         where
@@ -287,27 +317,29 @@ module _ (names : List Name) (begun : ℕ) (p : List Element) where
 
           by-class : (n : Name) → t .token ≡ functionName n → (l : Bool) → leb (length n) maxName ≡ l → (o : Option Class) → predicateOf n ≡ o
               → Told quota (ConditionLeft (c .commas)) b (t ∷ ts)
-              (check (faultUnless l overLimit 0) t (withClass o (t .place) (λ class. passSymbol symbols ts (afterVariable class))))
+              (check (faultUnless l overLimit 0) t (withClass o (t .place) (λ class. passSubject (symbolsOf p) (partsOf p) ts (afterVariable class))))
           by-class n e false l o q = told-stop quota (ConditionLeft (c .commas)) m b t ts here _ (name-number n e ∙ rw l)
           by-class n e true l none q = told-stop quota (ConditionLeft (c .commas)) m b t ts here _ (name-number n e ∙ rw (l, q))
           by-class n e true l (some class) q =
-              told-pass quota (ConditionLeft (c .commas)) m b t ts here (passSymbol symbols ts (afterVariable class)) (rw e)
+              told-pass quota (ConditionLeft (c .commas)) m b t ts here (passSubject (symbolsOf p) (partsOf p) ts (afterVariable class)) (rw e)
               (name-number n e ∙ rw (l, q))
               (λ at.
-              symbol-told class (withName c n)
+              subject-told class (withName c n)
               (record { few = f .few; predicates = predicate-known (c .names) n (f .predicates) ∙ ap isSome q; known = f .known })
               (b ++ t ∷ []) ts (subst (λ w. At w (b ++ t ∷ []) ts) (rw (e, l)) at))
 
           by-name : (o : Option Name) → nameOf (t .token) ≡ o
-              → Told quota (ConditionLeft (c .commas)) b (t ∷ ts) (nameOn o (λ n. lengthFault n 0) t (λ n. afterPredicate symbols (t .place) n ts))
+              → Told quota (ConditionLeft (c .commas)) b (t ∷ ts)
+              (nameOn o (λ n. lengthFault n 0) t (λ n. afterPredicate (symbolsOf p) (partsOf p) (t .place) n ts))
           by-name none q = told-refuse quota (ConditionLeft (c .commas)) (middleAt atPredicate true c) refl b t ts here (rw q)
           by-name (some n) q = by-class n (name-of (t .token) q) (leb (length n) maxName) refl (predicateOf n) refl
 
       condition-told : (c : Middle) → MiddleFits p c → (b ts : List Placed) → At (middleAt atBracket false c) b ts
-          → Told quota (ConditionLeft (c .commas)) b ts (condition symbols ts)
+          → Told quota (ConditionLeft (c .commas)) b ts (condition (symbolsOf p) (partsOf p) ts)
       unfolding condition
       condition-told c f b ts here =
-          told-sign quota (ConditionLeft (c .commas)) (middleAt atBracket false c) refl b lessThan ts (afterOpen symbols) here (λ t e. rw e)
+          told-sign quota (ConditionLeft (c .commas)) (middleAt atBracket false c) refl b lessThan ts (afterOpen (symbolsOf p) (partsOf p)) here
+          (λ t e. rw e)
           (λ place past. quiet atPredicate true c refl f)
           (λ place past b₁ us at. name-told c f b₁ us at)
 
@@ -353,8 +385,8 @@ module _ (names : List Name) (begun : ℕ) (p : List Element) where
       comma-number c f = middle-number atBracket true false false false (withComma c) refl ∙ rw (f .predicates, f .known)
 
       pub conditions-told : (left : ℕ) (c : Middle) → c .commas + left ≡ maxConditions → MiddleFits p c → (b ts : List Placed) → Waiting c b ts
-          → Told quota ConditionsLeft b ts (conditions left (symbolsOf p) ts)
-      unfolding conditions symbols
+          → Told quota ConditionsLeft b ts (conditions left (symbolsOf p) (partsOf p) ts)
+      unfolding conditions
       conditions-told zero c l f b [] w = told-cut quota ConditionsLeft w
       conditions-told zero c l f b (t ∷ ts) w =
           comma-told c b t ts (isSign comma (t .token)) (stopped overLimit (t .place)) f refl w
@@ -363,19 +395,20 @@ module _ (names : List Name) (begun : ℕ) (p : List Element) where
           (let full : c .commas ≡ maxConditions = omega arith in comma-number c f ∙ rw full))
       conditions-told (suc left) c l f b [] w = told-cut quota ConditionsLeft w
       conditions-told (suc left) c l f b (t ∷ ts) w =
-          comma-told c b t ts (isSign comma (t .token)) (inCondition left (symbolsOf p) t ts) f refl w
+          comma-told c b t ts (isSign comma (t .token)) (inCondition left (symbolsOf p) (partsOf p) t ts) f refl w
           (λ q e.
           let m = withComma c in
           let room : leb (suc (c .commas)) maxConditions ≡ true = le-leb (suc (c .commas)) maxConditions (omega arith) in
           let fits : MiddleFits p m = record { few = room; predicates = f .predicates; known = f .known } in
-          told-pass quota ConditionsLeft (middleAt atBracket false m) b t ts e (inCondition left (symbolsOf p) t ts)
+          told-pass quota ConditionsLeft (middleAt atBracket false m) b t ts e (inCondition left (symbolsOf p) (partsOf p) t ts)
           (sign-inner comma (t .token) q) (comma-number c f ∙ rw room)
           (λ at.
-          told-follow quota ConditionsLeft (ConditionLeft (m .commas)) (b ++ t ∷ []) ts (condition (symbolsOf p) ts) (goingOn left (symbolsOf p))
+          told-follow quota ConditionsLeft (ConditionLeft (m .commas)) (b ++ t ∷ []) ts (condition (symbolsOf p) (partsOf p) ts)
+          (goingOn left (symbolsOf p) (partsOf p))
           (condition-told m fits (b ++ t ∷ []) ts at)
           (λ v b₁ us r l₁.
           let same = l₁ .same in
-          told-follow quota ConditionsLeft ConditionsLeft b₁ us (conditions left (symbolsOf p) us) (joining v)
+          told-follow quota ConditionsLeft ConditionsLeft b₁ us (conditions left (symbolsOf p) (partsOf p) us) (joining v)
           (conditions-told left (l₁ .so) (omega arith) (l₁ .fits) b₁ us (waiting-middle (l₁ .so) b₁ us (l₁ .here)))
           (λ vs b₂ vs₁ r₁ l₂.
           told-done quota ConditionsLeft {b = b₂} {ts = vs₁} (v ∷ vs)

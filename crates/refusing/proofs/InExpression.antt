@@ -18,14 +18,14 @@ use Rattle.meaning.specs.Grammar.{standing, charactersOf}
 use Rattle.meaning.specs.Reading.{Parsed, stopped, parsed, follow, check, whether, faultUnless, passName, Progress, Items, Called, comingOr, pastItem, pastCall, itemFault, callFault, calledFault, thenItem, withFirst, call, expression}
 use Rattle.accepting.proofs.reading.Basics.{impossible, passed, both-left, both-right, both-true, TokenView, aString, aSymbol, aPart, another, view, sign-of, standing-as}
 use Rattle.accepting.proofs.reading.Lists.{agree, every-append, both-comm}
-use Rattle.accepting.proofs.reading.PatternItems.{characters-same-parts, symbol-same-parts, part-adds, part-same-symbols}
+use Rattle.accepting.proofs.reading.PatternItems.{characters-same-parts, symbol-same-parts, part-adds}
 use Rattle.accepting.proofs.reading.Expressions.{argued, closing, closed}
 use Rattle.refusing.specs.Faults.{Quota, comingAfterEach}
 use Rattle.refusing.proofs.Stages.{Stage, inExpression, atCalled, going}
 use Rattle.refusing.proofs.Sums.{Sum, next, number, itemLimits, callsRight, symbolsRight, partsRight}
 use Rattle.refusing.proofs.Told.{At, Told, told-follow, told-done, told-cut, told-pass, told-check, told-refuse, told-name, sign-inner, item-inner, trace-length, Fine, fine}
 use Rattle.refusing.proofs.InPattern.{both-unit, Around, Patterned}
-use Rattle.refusing.proofs.InConditions.{Middle, MiddleFits, Right, rightSentence, sentenceAt, rightAt, symbol-known, string-known}
+use Rattle.refusing.proofs.InConditions.{Middle, MiddleFits, Right, rightSentence, sentenceAt, rightAt, symbol-known, string-known, symbols-part}
 
 -- THE TESTS WITH A TOKEN MORE
 
@@ -43,10 +43,6 @@ coming-more : (xs : List Name) (x : Name) (of : List Name) → comingAfterEach (
 unfolding comingAfterEach
 coming-more [] x of = sym (where-some (comingAfter x of))
 coming-more (y ∷ xs) x of = where-step (comingAfter y of) xs x (coming-more xs x)
-
-symbols-part : (p es : List Element) (x : Name) → symbolsRight p (es ++ part x ∷ []) ≡ symbolsRight p es
-unfolding symbolsRight
-symbols-part p es x = rw (part-same-symbols es x)
 
 parts-string : (p es : List Element) (text : Bytes) → partsRight p (es ++ charactersOf text) ≡ partsRight p es
 unfolding partsRight

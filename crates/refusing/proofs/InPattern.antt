@@ -18,7 +18,7 @@ use Rattle.accepting.proofs.reading.PatternFacts.{parted-letter, parted-part, p
 use Rattle.accepting.proofs.reading.PatternItems.{characters-same-parts, characters-same-symbols, characters-more-letters, symbol-same-parts, symbol-adds, symbol-more-letters, part-same-symbols, part-same-letters, part-different, part-length, added-different, added-before}
 use Rattle.refusing.specs.Faults.{Quota, comingAfterEach}
 use Rattle.refusing.proofs.Stages.{inPattern, failed, going}
-use Rattle.refusing.proofs.Sums.{SentenceSum, Sum, next, number, tableLimits, patternLimits, itemLimits, declaredRight, predicatesRight, callsRight, patternRight, symbolsRight, partsRight}
+use Rattle.refusing.proofs.Sums.{SentenceSum, Sum, next, number, tableLimits, patternLimits, itemLimits, declaredRight, predicatesRight, callsRight, patternRight, symbolsRight, partsKnown, middleRight, partsRight}
 use Rattle.refusing.proofs.Told.{Told, told-check, told-done, told-cut, item-inner, At, Fine, fine}
 
 pub both-unit : (b : Bool) → both b true ≡ b
@@ -42,6 +42,10 @@ no-calls = refl
 pub no-symbols : (p : List Element) → symbolsRight p [] ≡ true
 unfolding symbolsRight symbolsFrom every
 no-symbols p = refl
+
+pub no-middle : (p : List Element) → middleRight p [] ≡ true
+unfolding middleRight symbolsRight partsKnown symbolsFrom partsOf every
+no-middle p = refl
 
 pub no-parts : (p : List Element) → partsRight p [] ≡ true
 unfolding partsRight partsOf comingAfterEach
@@ -155,13 +159,13 @@ module _ (quota : Quota) where
           → number quota (next (patternAt names begun p) (standing token place past)) ≡ patternFault p (itemOf token)
       item-number place past (aString text) i =
           rw (a .table, a .declared, string-limits p h text, string-right p h text)
-          (rw (no-limits, no-predicates, no-calls, no-symbols, no-parts, both-unit))
+          (rw (no-limits, no-predicates, no-calls, no-middle, no-symbols, no-parts, both-unit))
       item-number place past (aSymbol b x) i =
           rw (a .table, a .declared, symbol-limits p h (b ∷ x), symbol-right p h (b ∷ x))
-          (rw (no-limits, no-predicates, no-calls, no-symbols, no-parts, both-unit))
+          (rw (no-limits, no-predicates, no-calls, no-middle, no-symbols, no-parts, both-unit))
       item-number place past (aPart b x) i =
           rw (a .table, a .declared, part-limits p h (b ∷ x), part-right p h (b ∷ x))
-          (rw (no-limits, no-predicates, no-calls, no-symbols, no-parts, both-unit, going-pick))
+          (rw (no-limits, no-predicates, no-calls, no-middle, no-symbols, no-parts, both-unit, going-pick))
       item-number place past (another token n) i = impossible (rw n at i)
 
       item-next : {token : Token} (place past : ℕ) → TokenView token → isItem (itemOf token) ≡ true

@@ -22,7 +22,7 @@ use Rattle.refusing.specs.Faults.{isMalformed, Quota, comingAfterEach}
 use Rattle.refusing.proofs.Stages.{Stage, afterFunction, opened, afterSemicolon as pastSemicolon, inExpression, failed, step, going}
 use Rattle.refusing.proofs.Sums.{Sum, next, noSentence, tally, number, tableLimits, patternLimits, declaredRight, patternRight}
 use Rattle.refusing.proofs.Told.{Open, At, Told, told-follow, told-done, told-cut, told-stop, told-pass, told-fault, told-refuse, refused-number, sign-inner}
-use Rattle.refusing.proofs.InPattern.{both-unit, Around, Patterned, patternAt, no-limits, no-predicates, no-calls, no-symbols, no-parts, PatternLeft, pattern-told}
+use Rattle.refusing.proofs.InPattern.{both-unit, Around, Patterned, patternAt, no-limits, no-predicates, no-calls, no-middle, no-symbols, no-parts, PatternLeft, pattern-told}
 use Rattle.refusing.proofs.InConditions.{Middle, noMiddle, noRight, rightAt, waiting-pattern, ConditionsLeft, conditions-told}
 use Rattle.refusing.proofs.InExpression.{Tied, RightFits, ExpressionLeft, quiet, expression-told}
 
@@ -105,6 +105,7 @@ module _ (quota : Quota) where
         no-limits,
         no-predicates,
         no-calls,
+        no-middle [],
         no-symbols [],
         no-parts [],
         both-unit (tableLimits quota names begun),
@@ -175,9 +176,10 @@ module _ (quota : Quota) where
         told-follow quota SentenceLeft (PatternLeft names begun) b ts (pattern [] ts) afterPattern
         (pattern-told quota names begun a [] no-pattern b ts at)
         (λ p b₁ us r l.
-        told-follow quota SentenceLeft (ConditionsLeft names begun p quota) b₁ us (conditions maxConditions (symbolsOf p) us) (afterConditions p)
+        told-follow quota SentenceLeft (ConditionsLeft names begun p quota) b₁ us (conditions maxConditions (symbolsOf p) (partsOf p) us)
+        (afterConditions p)
         (conditions-told names begun p quota a (l .fits) maxConditions noMiddle refl
-        (record { few = refl; predicates = no-predicates; known = no-symbols p }) b₁ us
+        (record { few = refl; predicates = no-predicates; known = no-middle p }) b₁ us
         (waiting-pattern names begun p quota a (l .fits) b₁ us (l .here) (l .ended)))
         (λ cs b₂ vs r₁ l₁. equals-told p (l .fits) cs b₂ vs l₁))
 

@@ -114,6 +114,24 @@ limits :
 unfolding computed
 limits = refl
 
+-- In conditions an e-variable is looked for among the pattern's: 4 comes before 7 at it, 5 stands at the predicate before it, and what is no variable
+-- is 3. No order is asked there, no e-variable is used up, and both are asked of the expression as before.
+in-conditions :
+    hold-so
+    (row (bytes "F{e1,<IsDigit e1>:'T'=e1}") 0 0 [] [] none
+    ∷ row (bytes "F{e1'a'e2,<IsDigit e2>:'T',<IsDigit e1>:'F',<IsUpper e2>:'F'=e1 e2}") 0 0 [] [] none
+    ∷ row (bytes "F{e1,<IsDigit 'a'>:'T'=}") 3 14 (3 ∷ []) (3 ∷ []) none
+    ∷ row (bytes "F{e1,<IsDigit e1 e1>:'T'=}") 3 17 (3 ∷ []) (3 ∷ []) none
+    ∷ row (bytes "F{e1,<IsDigit e123456789>:'T'=}") 4 14 (4 ∷ 7 ∷ []) (4 ∷ []) none
+    ∷ row (bytes "F{e1,<IsFoo e2>:'T'=}") 5 6 (5 ∷ []) [] (some 6)
+    ∷ row (bytes "F{e1,<IsDigit e2>:'T'=}") 7 14 (7 ∷ []) [] none
+    ∷ row (bytes "F{sX,<IsDigit eX>:'T'=}") 7 14 (7 ∷ []) [] none
+    ∷ row (bytes "F{eX,<IsDigit sX>:'T'=}") 7 14 (7 ∷ []) [] none
+    ∷ row (bytes "F{e1'a'e2,<IsDigit e1>:'T'=e2 e1}") 7 30 (7 ∷ []) [] none
+    ∷ [])
+unfolding computed
+in-conditions = refl
+
 -- of functions and of sentences, where few are left
 few : Quota
 few = quotaAfter 62 509

@@ -7,9 +7,9 @@ use native.Mathlib.Omega.{arith}
 use borrow.Author.Tests.{eq-eqb, eqb-true}
 use lib.Dec.{ltb, eqb}
 use Rattle.meaning.specs.Choice.{Name, pick, isSome, either, sameBytes}
-use Rattle.meaning.specs.Tree.{Element, Condition, Expression, Sentence, Function, Table}
+use Rattle.meaning.specs.Tree.{Element, Subject, Condition, Expression, Sentence, Function, Table}
 use Rattle.meaning.specs.Tokens.{leftBrace, rightBrace, semicolon, comma, colon, equals, lessThan, greaterThan, Token, functionName, word, quoted, sign, textEnd, malformed, Placed}
-use Rattle.meaning.specs.Grammar.{standing, IsLetters, stringLetters, variableLetter, IsTemplate, lettersAlone, lettersThen, IsTemplateOrNone, noTemplate, someTemplate, IsPattern, noPart, onePart, twoParts, IsCondition, isCondition, IsConditions, noConditions, conditionThen, IsExpression, noItems, stringThen, symbolThen, partThen, callThen, IsSentence, isSentence, IsSentences, lastSentence, lastSentenceParted, sentenceThen, IsFunction, isFunction, IsProgram, noFunctions, functionThen, functionPartedThen}
+use Rattle.meaning.specs.Grammar.{standing, IsLetters, stringLetters, variableLetter, IsTemplate, lettersAlone, lettersThen, IsTemplateOrNone, noTemplate, someTemplate, IsPattern, noPart, onePart, twoParts, IsSubject, symbolSubject, partSubject, IsCondition, isCondition, IsConditions, noConditions, conditionThen, IsExpression, noItems, stringThen, symbolThen, partThen, callThen, IsSentence, isSentence, IsSentences, lastSentence, lastSentenceParted, sentenceThen, IsFunction, isFunction, IsProgram, noFunctions, functionThen, functionPartedThen}
 use Rattle.meaning.specs.Reading.{isSign, isTextEnd, nameOf, Item, characters, symbolItem, partItem, noItem, itemOf, isItem, truthOf, begins}
 use Rattle.accepting.proofs.reading.Basics.{impossible, sign-of}
 use Rattle.accepting.proofs.reading.Sentences.{Begins, sentence-begins}
@@ -37,11 +37,11 @@ itemStep n noItem other = other
 abbrev pub patternStep : ℕ → Token → Stage
 patternStep n token = itemStep n (itemOf token) (conditionStep token)
 
-abbrev pub symbolStep : Item → Stage
-symbolStep (characters text) = failed
-symbolStep (symbolItem x) = atClose
-symbolStep (partItem x) = failed
-symbolStep noItem = failed
+abbrev pub subjectStep : Item → Stage
+subjectStep (characters text) = failed
+subjectStep (symbolItem x) = atClose
+subjectStep (partItem x) = atClose
+subjectStep noItem = failed
 
 abbrev pub endStep : ℕ → Token → Stage
 endStep zero token = pick (isSign semicolon token) afterSemicolon (pick (isSign rightBrace token) afterFunction failed)
@@ -57,7 +57,7 @@ step (inPattern n) t = patternStep n (t .token)
 step afterCondition t = conditionStep (t .token)
 step atBracket t = pick (isSign lessThan (t .token)) atPredicate failed
 step atPredicate t = pick (isSome (nameOf (t .token))) atVariable failed
-step atVariable t = symbolStep (itemOf (t .token))
+step atVariable t = subjectStep (itemOf (t .token))
 step atClose t = pick (isSign greaterThan (t .token)) atColon failed
 step atColon t = pick (isSign colon (t .token)) atTruth failed
 step atTruth t = pick (isSome (truthOf (t .token) (eqb (t .past) (t .place + 3)))) afterCondition failed
@@ -150,10 +150,14 @@ pattern-leads (noPart d) = (0, optional-leads 0 d)
 pattern-leads (onePart d e) = (1, optional-leads 0 d ∙ optional-leads 1 e)
 pattern-leads (twoParts d e f) = (2, optional-leads 0 d ∙ (template-leads 1 e ∙ optional-leads 2 f))
 
+subject-leads : {token : Token} {v : Subject} → IsSubject token v → subjectStep (itemOf token) ≡ atClose
+subject-leads symbolSubject = refl
+subject-leads partSubject = refl
+
 condition-leads : {ts rest : List Placed} {c : Condition} → IsCondition ts c rest → run atBracket ts ≡ run afterCondition rest
 unfolding run sameBytes
-condition-leads (isCondition {truth = true} {at₆ = at₆} known) = rw (eq-eqb (at₆ + 3) (at₆ + 3) refl)
-condition-leads (isCondition {truth = false} {at₆ = at₆} known) = rw (eq-eqb (at₆ + 3) (at₆ + 3) refl)
+condition-leads (isCondition {truth = true} {at₆ = at₆} known is) = rw (subject-leads is, eq-eqb (at₆ + 3) (at₆ + 3) refl)
+condition-leads (isCondition {truth = false} {at₆ = at₆} known is) = rw (subject-leads is, eq-eqb (at₆ + 3) (at₆ + 3) refl)
 
 -- after a pattern or after a condition
 conditions-lead : (s : Stage) → ((place past : ℕ) → step s (standing (sign comma) place past) ≡ atBracket)

@@ -157,6 +157,13 @@ patternRight p = both (distinct (symbolsOf p ++ partsOf p)) (parted p)
 unfoldable pub symbolsRight : List Element → List Element → Bool
 symbolsRight p es = every (λ x. member x (symbolsOf p)) (symbolsOf es)
 
+unfoldable pub partsKnown : List Element → List Element → Bool
+partsKnown p es = every (λ x. member x (partsOf p)) (partsOf es)
+
+-- conditions name variables of the pattern, in any order
+unfoldable pub middleRight : List Element → List Element → Bool
+middleRight p es = both (symbolsRight p es) (partsKnown p es)
+
 unfoldable pub partsRight : List Element → List Element → Bool
 partsRight p es = isSome (comingAfterEach (partsOf es) (partsOf p))
 
@@ -177,6 +184,6 @@ number quota m =
     wrongName
     (faultUnless (patternRight (m .sentence .pattern)) wrongPatternVariable
     (faultUnless
-    (both (symbolsRight (m .sentence .pattern) (m .sentence .middle))
+    (both (middleRight (m .sentence .pattern) (m .sentence .middle))
     (both (symbolsRight (m .sentence .pattern) (m .sentence .items)) (partsRight (m .sentence .pattern) (m .sentence .items))))
     wrongLaterVariable 0)))))

@@ -16,7 +16,7 @@ use Rattle.meaning.specs.Reading.{Parsed, stopped, parsed, cutShort, follow, fa
 use Rattle.accepting.proofs.reading.Basics.{impossible, both-left, both-right, passed, sign-of, name-of, standing-as}
 use Rattle.refusing.specs.Faults.{isMalformed, Quota}
 use Rattle.refusing.proofs.Stages.{failed, step, going}
-use Rattle.refusing.proofs.Sums.{Sum, next, tally, atFirst, tally-more, number, tableLimits, patternLimits, itemLimits, declaredRight, predicatesRight, callsRight, patternRight, symbolsRight, partsRight}
+use Rattle.refusing.proofs.Sums.{Sum, next, tally, atFirst, tally-more, number, tableLimits, patternLimits, itemLimits, declaredRight, predicatesRight, callsRight, patternRight, middleRight, symbolsRight, partsRight}
 
 -- TOKENS AFTER WHICH OTHERS COME
 
@@ -214,7 +214,7 @@ module _ (quota : Quota) where
     pub predicates : predicatesRight (m .sentence .predicates) ≡ true
     pub calls : callsRight (m .sentence .calls) ≡ true
     pub elements : patternRight (m .sentence .pattern) ≡ true
-    pub middle : symbolsRight (m .sentence .pattern) (m .sentence .middle) ≡ true
+    pub middle : middleRight (m .sentence .pattern) (m .sentence .middle) ≡ true
     pub symbols : symbolsRight (m .sentence .pattern) (m .sentence .items) ≡ true
     pub parts : partsRight (m .sentence .pattern) (m .sentence .items) ≡ true
 
@@ -230,7 +230,7 @@ module _ (quota : Quota) where
       let limits₂ = both-right (tableLimits quota (m .names) (m .begun)) _ limits₁ in
       let limits₃ = both-right (patternLimits (m .sentence .pattern)) _ limits₂ in
       let named₁ = both-right (declaredRight (m .names)) _ (named .0) in
-      let later₁ = both-right (symbolsRight (m .sentence .pattern) (m .sentence .middle)) _ (later .0) in
+      let later₁ = both-right (middleRight (m .sentence .pattern) (m .sentence .middle)) _ (later .0) in
       record {
         formed = formed .0;
         going = goes .0;
@@ -243,7 +243,7 @@ module _ (quota : Quota) where
         predicates = both-left (predicatesRight (m .sentence .predicates)) _ named₁;
         calls = both-right (predicatesRight (m .sentence .predicates)) _ named₁;
         elements = elements .0;
-        middle = both-left (symbolsRight (m .sentence .pattern) (m .sentence .middle)) _ (later .0);
+        middle = both-left (middleRight (m .sentence .pattern) (m .sentence .middle)) _ (later .0);
         symbols = both-left (symbolsRight (m .sentence .pattern) (m .sentence .items)) _ later₁;
         parts = both-right (symbolsRight (m .sentence .pattern) (m .sentence .items)) _ later₁;
       }

@@ -9,10 +9,10 @@ use borrow.Author.Tests.{lt-ltb, not-true}
 use lib.Dec.{ltb}
 use Rattle.meaning.specs.Choice.{Bytes, Name, pick, both, either, every, orElse, isSome, sameBytes}
 use Rattle.meaning.specs.Names.{isPredicate, isEmission, isReserved, numberFrom, numberOf}
-use Rattle.meaning.specs.Tree.{Element, Condition, Expression, end, thenCharacter, thenSymbol, thenPart, thenCall, Sentence, Function, Table}
-use Rattle.meaning.specs.Allowed.{isByte, member, namesOf, allowedFunction, allowedSentence, allowedPattern, allowedConditions, spelledItems, spelledName, someSentence, symbolsOf}
+use Rattle.meaning.specs.Tree.{Element, Subject, Condition, Expression, end, thenCharacter, thenSymbol, thenPart, thenCall, Sentence, Function, Table}
+use Rattle.meaning.specs.Allowed.{isByte, member, namesOf, allowedFunction, allowedSentence, allowedPattern, allowedConditions, spelledItems, spelledName, someSentence, symbolsOf, partsOf}
 use Rattle.meaning.specs.Tokens.{Token, functionName, quoted, Placed, lessThan, isSign, nameOf}
-use Rattle.meaning.specs.Grammar.{standing, symbolWord, written, IsLetters, stringLetters, variableLetter, IsTemplate, lettersAlone, lettersThen, IsTemplateOrNone, noTemplate, someTemplate, IsPattern, noPart, onePart, twoParts, IsCondition, isCondition, IsConditions, noConditions, conditionThen, IsExpression, noItems, stringThen, symbolThen, partThen, callThen, IsSentence, isSentence, IsSentences, lastSentence, lastSentenceParted, sentenceThen, IsFunction, isFunction, IsProgram, noFunctions, functionThen, functionPartedThen}
+use Rattle.meaning.specs.Grammar.{standing, symbolWord, partWord, written, IsLetters, stringLetters, variableLetter, IsTemplate, lettersAlone, lettersThen, IsTemplateOrNone, noTemplate, someTemplate, IsPattern, noPart, onePart, twoParts, IsSubject, symbolSubject, partSubject, IsCondition, isCondition, IsConditions, noConditions, conditionThen, IsExpression, noItems, stringThen, symbolThen, partThen, callThen, IsSentence, isSentence, IsSentences, lastSentence, lastSentenceParted, sentenceThen, IsFunction, isFunction, IsProgram, noFunctions, functionThen, functionPartedThen}
 use Rattle.meaning.specs.Reading.{unknownCall, unknownInSentences, unknownIn}
 use Rattle.accepting.proofs.reading.Basics.{both-left, both-right}
 use Rattle.refusing.specs.Looking.{namesFrom, declared}
@@ -68,10 +68,15 @@ module _ {R : Type 0} (k : Look R) where
   pattern-scan (onePart d e) = optional-scan d ∙ (k .quiet _ _ refl ∙ optional-scan e)
   pattern-scan (twoParts d e f) = optional-scan d ∙ (k .quiet _ _ refl ∙ (template-scan e ∙ (k .quiet _ _ refl ∙ optional-scan f)))
 
+  subject-scan : {token : Token} {v : Subject} (place past : ℕ) (ts : List Placed) → IsSubject token v
+      → from (standing token place past ∷ ts) ≡ from ts
+  subject-scan place past ts (symbolSubject {b = b} {x = x}) = k .quiet (standing (symbolWord b x) place past) ts refl
+  subject-scan place past ts (partSubject {b = b} {x = x}) = k .quiet (standing (partWord b x) place past) ts refl
+
   condition-scan : {ts rest : List Placed} {c : Condition} → IsCondition ts c rest → from ts ≡ from rest
-  condition-scan (isCondition {n = n} known) =
+  condition-scan (isCondition {n = n} known is) =
       k .quiet _ _ refl
-      ∙ (k .predicate n _ _ _ (ap isSome known) ∙ (k .quiet _ _ refl ∙ (k .quiet _ _ refl ∙ (k .quiet _ _ refl ∙ k .quiet _ _ refl))))
+      ∙ (k .predicate n _ _ _ (ap isSome known) ∙ (subject-scan _ _ _ is ∙ (k .quiet _ _ refl ∙ (k .quiet _ _ refl ∙ k .quiet _ _ refl))))
 
   conditions-scan : {ts rest : List Placed} {cs : List Condition} → IsConditions ts cs rest → from ts ≡ from rest
   conditions-scan noConditions = refl
@@ -168,7 +173,7 @@ else-assoc none p q = refl
 sentence-spelled : (s : Sentence) → allowedSentence s ≡ true → spelledItems (symbolsOf (s .pattern)) (s .expression) ≡ true
 sentence-spelled s e =
     both-left (spelledItems (symbolsOf (s .pattern)) (s .expression)) _
-    (both-right (allowedConditions (symbolsOf (s .pattern)) (s .conditions)) _ (both-right (allowedPattern (s .pattern)) _ e))
+    (both-right (allowedConditions (symbolsOf (s .pattern)) (partsOf (s .pattern)) (s .conditions)) _ (both-right (allowedPattern (s .pattern)) _ e))
 
 function-sentences : (f : Function) → allowedFunction f ≡ true → every allowedSentence (f .sentences) ≡ true
 function-sentences f e = both-right (someSentence (f .sentences)) _ (both-right (both (spelledName (f .name)) (not (isReserved (f .name)))) _ e)

@@ -105,7 +105,8 @@ rightNames ts =
 abbrev pub rightPattern : List Placed → Bool
 rightPattern ts = both (distinct (symbolsOf (patternIn ts) ++ partsOf (patternIn ts))) (parted (patternIn ts))
 
--- 7: "not in the pattern, or e repeated or out of order"
+-- 7: "not in the pattern, or e repeated or out of order", of which "repetition and order look at the expression alone"
+-- (T-03)
 
 -- the e-variables that may still come after some, or none where one of these is repeated, out of order or not the
 -- pattern's
@@ -116,8 +117,9 @@ comingAfterEach (x ∷ xs) coming = whereSome (comingAfter x coming) (comingAfte
 abbrev pub rightLater : List Placed → Bool
 rightLater ts =
     both (every (λ x. member x (symbolsOf (patternIn ts))) (symbolsOf (elementsIn (conditionsIn ts))))
+    (both (every (λ x. member x (partsOf (patternIn ts))) (partsOf (elementsIn (conditionsIn ts))))
     (both (every (λ x. member x (symbolsOf (patternIn ts))) (symbolsOf (elementsIn (rightSide ts))))
-    (isSome (comingAfterEach (partsOf (elementsIn (rightSide ts))) (partsOf (patternIn ts)))))
+    (isSome (comingAfterEach (partsOf (elementsIn (rightSide ts))) (partsOf (patternIn ts))))))
 
 -- FAULTS
 

@@ -155,12 +155,56 @@ const TABLE_M: [u32; 52] = [
     19,
 ];
 
-// Words that are no code: an unknown instruction after Out, a call past the count, and UseSeq without BeginSeq.
+// F{e1,<IsDigit e1>:'F'='f';e1='t'}
+const TABLE_NOT_DIGITS: [u32; 14] = [
+    1,
+    2,
+    17,
+    262145,
+    1044,
+    26120,
+    261,
+    15,
+    17,
+    196608,
+    29704,
+    261,
+    15,
+    19,
+];
+
+// F{'('e1')='e2'.',<IsDigit e1>:'T',<IsUpper e2>:'T'=e1 e2}
+const TABLE_ROUND: [u32; 19] = [
+    1,
+    2,
+    16908562,
+    917510,
+    671088641,
+    687866369,
+    1023476225,
+    771817729,
+    71700,
+    16922132,
+    65541,
+    16777734,
+    7,
+    131077,
+    50332422,
+    7,
+    65541,
+    15,
+    19,
+];
+
+// Words that are no code: an unknown instruction after Out, a call past the count, UseSeq without BeginSeq, and a
+// Predicate over two cells where there is one.
 const UNKNOWN: [u32; 8] = [1, 2, 17, 196608, 7, 99, 15, 19];
 
 const CALL_PAST: [u32; 7] = [1, 2, 17, 131072, 524, 15, 19];
 
 const UNOPENED: [u32; 7] = [1, 2, 17, 131072, 11, 15, 19];
+
+const PART_PAST: [u32; 7] = [1, 2, 17, 131073, 33554452, 15, 19];
 
 // What is lent, and the allowance.
 struct Lent {
@@ -321,6 +365,17 @@ fn matches() {
     row(&TABLE_K, b"ab", ample());
 }
 
+// Conditions on e-variables.
+fn parts() {
+    row(&TABLE_NOT_DIGITS, b"", ample());
+    row(&TABLE_NOT_DIGITS, b"12", ample());
+    row(&TABLE_NOT_DIGITS, b"1a", ample());
+    row(&TABLE_NOT_DIGITS, b"a1", ample());
+    row(&TABLE_ROUND, b"(12)=AB.", ample());
+    row(&TABLE_ROUND, b"()=.", ample());
+    row(&TABLE_ROUND, b"(1)=)=AB.", ample());
+}
+
 // In one cell short, emissions, and a record that is too short for the second line.
 fn emissions() {
     row(&TABLE_P, b"c", cells(3, 3));
@@ -347,11 +402,13 @@ fn refusals() {
     row(&UNKNOWN, b"c", ample());
     row(&CALL_PAST, b"c", ample());
     row(&UNOPENED, b"c", ample());
+    row(&PART_PAST, b"c", ample());
 }
 
 fn main() {
     zeros();
     matches();
+    parts();
     emissions();
     refusals();
 }

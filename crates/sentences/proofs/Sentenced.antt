@@ -29,14 +29,14 @@ use Rattle.templates.specs.Scans.{patternAt, conditionsIn}
 use Rattle.words.specs.Writing.{Wrote, Same}
 use Rattle.templates.specs.Measuring.{lengthsOf, variableOf, MeasuresAll}
 use Rattle.templates.specs.Testing.{AllSites, heldSites, held, storeOfSite, total, walk, startFrom, TestsAll}
-use Rattle.templates.specs.Conditioning.{conditionWords, ConditionsAll}
+use Rattle.templates.specs.Conditioning.{located, conditionWords, ConditionsAll}
 use Rattle.expressions.specs.Resuming.{Means, ItemsAll}
 use Rattle.sentences.specs.Sentencing.{metricNumber, shapeAt, testedAt, testsAt, storesAt, actionsAt, bodyAt, sentenceAt, MatchAll, BodyAll, SentenceAll, followsAt, sentenceDone, sentencesLeft, InSentences, SentencesOn, FunctionAll}
 use Rattle.meaning.proofs.laws.Remaining.{at-place}
 use Rattle.words.proofs.laws.Names.{by-place}
 use Rattle.words.proofs.laws.Stores.{wrote-more, same-refl, same-trans, same-words, same-wrote, same-end}
 use Rattle.sentences.proofs.Patching.{wrote-patched}
-use Rattle.sentences.proofs.Shapes.{walk-all}
+use Rattle.sentences.proofs.Shapes.{walk-all, locatedIn, conditions-same}
 
 -- THE METRIC
 
@@ -74,27 +74,30 @@ all-zero n k = rw (zero-at n k) (record { same = refl; small = omega arith })
     zero-at (suc m) zero = refl
     zero-at (suc m) (suc j) = zero-at m j
 
-pub matched : {ws names sites code code₁ code₂ code₃ : List ℕ} {l : Lengths} {start at stored : ℕ} {t : Tests} {c : Conditions}
-    → l ≡ lengthsOf (shapeAt (drop start ws))
-    → TestsAll ws l start code at names sites code₁ t
-    → ConditionsAll ws (held ws names sites (t .symbols)) (t .next) code₁ (t .at) code₂ c
+pub matched : {ws names sites code code₁ code₂ code₃ : List ℕ} {m : Pattern} {start at stored : ℕ} {t : Tests} {c : Conditions}
+    → MeasuresAll ws start m
+    → TestsAll ws (m .lengths) start code at names sites code₁ t
+    → ConditionsAll ws (located ws m names sites (t .symbols)) (t .next) code₁ (t .at) code₂ c
     → Wrote code₂ (c .at) (map storeOfSite (take (t .symbols) sites)) code₃ stored
     → MatchAll ws start code at names code₃ (record { tests = c .at - at; symbols = t .symbols; next = c .next; at = stored })
-matched {ws} {names} {sites} {code} {code₂ = code₂} {l = l} {start} {at} {t = t} {c} e tests conditions stores =
+matched {ws} {names} {sites} {code} {code₂ = code₂} {m = m} {start} {at} {t = t} {c} measured tests conditions stores =
     let l₀ = drop start ws in
     let n = t .symbols in
     let symbols : length (take n names) ≡ n = length-take-le n names (omega (arith, tests .within .symbols, tests .within .letters, tests .within .nameRoom)) in
     let cells : length (take n sites) ≡ n = length-take-le n sites (omega (arith, tests .within .symbols, tests .within .letters, tests .within .siteRoom)) in
-    let walked : walk l Zero 0 (patternAt l₀ .value) (startFrom []) ≡ testedAt l₀ = rw e (walk-all l₀) in
+    let walked : walk (m .lengths) Zero 0 (patternAt l₀ .value) (startFrom []) ≡ testedAt l₀ = rw (measured .lengths) (walk-all l₀) in
     let known : held ws names sites n ≡ testedAt l₀ .sites = tests .known ∙ ap (λ (d : Tested). d .sites) walked in
     let cs = conditionsAt l₀ .value in
-    let asked : conditionWords (held ws names sites n) (conditionsIn 0 0 (drop (t .next) ws)) ≡
-    map testWord (map (conditionTest (testedAt l₀ .sites)) cs) = rw (known, tests .rest) in
+    let lie : located ws m names sites n ≡ locatedIn (shapeAt l₀) (headName ws start) (testedAt l₀ .sites) =
+    rw (measured .lengths, measured .variable, known) in
+    let conditionTests = map (conditionTest (shapeAt l₀) (testedAt l₀ .sites)) cs in
+    let asked : conditionWords (located ws m names sites n) (conditionsIn 0 0 (drop (t .next) ws)) ≡ map testWord conditionTests =
+    rw (lie, tests .rest) (ap (map testWord) (conditions-same (shapeAt l₀) (headName ws start) (testedAt l₀ .sites) cs)) in
     let kept : map storeOfSite (take n sites) ≡ map storeWord (storesAt l₀) =
     sym (stores-held ws (take n names) (take n sites) (symbols ∙ sym cells))
     ∙ sym (map-map storeWord (λ s. store (s .value)) (held ws names sites n)) ∙ rw known in
     let tested : Wrote code at (map testWord (testsAt l₀)) code₂ (c .at) =
-    rw (map-append testWord (testedAt l₀ .tests) (map (conditionTest (testedAt l₀ .sites)) cs), ← asked, ← walked) (wrote-more (tests .wrote) (conditions .wrote)) in
+    rw (map-append testWord (testedAt l₀ .tests) conditionTests, ← asked, ← walked) (wrote-more (tests .wrote) (conditions .wrote)) in
     record {
       wrote = rw (← kept) (wrote-more tested stores);
       tests = omega (arith, tested .next, length-map (testsAt l₀) testWord);

@@ -1,17 +1,21 @@
--- The tests that are written letter by letter are the tests of the pattern's shape.
+-- The tests that are written letter by letter, and condition by condition, are those of the pattern's shape.
 use Prim.Native.Nat.{ℕ, _+_}
 use native.Mathlib.Numerals.{add-one}
-use mathlib.Core.Path.{_≡_, refl, _∙_}
-use mathlib.Core.List.{List, [], _∷_}
-use Rattle.meaning.specs.Choice.{Name}
-use Rattle.meaning.specs.Tree.{Letter, Element, letter, part}
-use Rattle.meaning.specs.Translation.{Shape, fixed, open₁, open₂, withLetter, cutAt, shapeOf, Tested, testedLetter, testedTemplate, untested, testedShape}
+use mathlib.Core.Path.{_≡_, refl, ap, _∙_}
+use mathlib.Core.Bool.{Bool, true, false}
+use mathlib.Core.List.{List, [], _∷_, map, map-congr-left}
+use Rattle.meaning.specs.Choice.{Name, Named, pick, sameBytes}
+use Rattle.meaning.specs.Classes.{Class}
+use Rattle.meaning.specs.Tree.{Letter, Element, letter, part, Subject, ofSymbol, ofPart, Condition}
+use Rattle.meaning.specs.Instructions.{Site, fromStart, fromEnd, fromPlace}
+use Rattle.meaning.specs.Translation.{Shape, fixed, open₁, open₂, withLetter, cutAt, shapeOf, Tested, testedLetter, testedTemplate, untested, testedShape, Bounds, between, boundsOf, partTest, subjectTest, conditionTest}
 use Rattle.words.specs.declared.tape.Parts.{Parts}
 use Rattle.words.specs.declared.tape.Parts.the-variants.{Zero, One, Two}
 use Rattle.templates.specs.declared.pattern.Lengths.{Lengths}
 use Rattle.templates.specs.Scans.{oneMore, patternAt}
-use Rattle.templates.specs.Measuring.{lengthsOf}
+use Rattle.templates.specs.Measuring.{lengthsOf, variableOf}
 use Rattle.templates.specs.Testing.{siteAt, walk, startFrom}
+use Rattle.templates.specs.Conditioning.{Located, boundsBy, subjectTestBy, conditionTestBy}
 use Rattle.templates.proofs.laws.Scanning.{Fits, AtMost, at-most-later, pattern-at-most, at-most-fits}
 
 module _ (l : Lengths) where
@@ -62,3 +66,29 @@ pub walk-all : (ws : List ℕ) → walk (lengthsOf (shapeOf (patternAt ws .value
 walk-all ws =
     walk-shape (lengthsOf (shapeOf (patternAt ws .value))) (patternAt ws .value) Zero 0 untested (pattern-at-most ws 0 Zero 0)
     ∙ shape-whole (shapeOf (patternAt ws .value))
+
+-- CONDITIONS
+
+-- the bounds of a part, by whether it is the pattern's first
+bounds-same : (s : Shape) (x other : Name) → boundsBy (lengthsOf s .parts) (lengthsOf s) (sameBytes x (variableOf other s)) ≡ boundsOf s x
+bounds-same (fixed t) x other = refl
+bounds-same (open₁ h y t) x other = refl
+bounds-same (open₂ h y m z t) x other = by-first (lengthsOf (open₂ h y m z t)) (sameBytes x y)
+  where
+    by-first : (l : Lengths) (first : Bool)
+        → boundsBy Two l first ≡ pick first (between (fromStart (l .first)) (fromPlace 0)) (between (fromPlace (l .second)) (fromEnd (l .third)))
+    by-first l true = refl
+    by-first l false = refl
+
+-- where a shape's variables lie; `other` stands for the first e-variable where it has none
+abbrev pub locatedIn : Shape → Name → List (Named Site) → Located
+locatedIn s other sites = record { lengths = lengthsOf s; variable = variableOf other s; sites = sites }
+
+module _ (s : Shape) (other : Name) (sites : List (Named Site)) where
+  subject-same : (class : Class) (expected : Bool) (v : Subject)
+      → subjectTestBy (locatedIn s other sites) class expected v ≡ subjectTest s sites class expected v
+  subject-same class expected (ofSymbol x) = refl
+  subject-same class expected (ofPart x) = ap (λ (b : Bounds). partTest b class expected) (bounds-same s x other)
+
+  pub conditions-same : (cs : List Condition) → map (conditionTestBy (locatedIn s other sites)) cs ≡ map (conditionTest s sites) cs
+  conditions-same cs = map-congr-left {l = cs} (λ c m. subject-same (c .predicate) (c .expected) (c .subject))

@@ -35,7 +35,7 @@ abbrev pub testedAt : List ℕ → Tested
 testedAt l = testedShape (shapeAt l)
 
 abbrev pub testsAt : List ℕ → List Test
-testsAt l = testsOf (testedAt l) (conditionsAt l .value)
+testsAt l = testsOf (shapeAt l) (testedAt l) (conditionsAt l .value)
 
 abbrev pub storesAt : List ℕ → List Store
 storesAt l = storesOf (testedAt l)

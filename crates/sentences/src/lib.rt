@@ -19,9 +19,9 @@ ghost use lib.Dec.{leb};
 ghost use lib.ListN.{length, drop};
 ghost use Rattle.meaning.specs.Packing.{word};
 ghost use Rattle.words.specs.Writing.{Wrote};
-ghost use Rattle.templates.specs.Measuring.{lengthsOf, MeasuresAll};
+ghost use Rattle.templates.specs.Measuring.{MeasuresAll};
 ghost use Rattle.templates.specs.Testing.{total, AllSites};
-ghost use Rattle.sentences.specs.Sentencing.{metricNumber, shapeAt, followsAt, MatchAll, BodyAll, SentenceAll, SentencesOn, FunctionAll};
+ghost use Rattle.sentences.specs.Sentencing.{metricNumber, followsAt, MatchAll, BodyAll, SentenceAll, SentencesOn, FunctionAll};
 
 // What was written of a sentence: how many tests, how many stores, the tape's next word, and the code's.
 pub struct Body {
@@ -68,7 +68,7 @@ fn put_metric(lengths: Lengths, code: &mut [u32], at: usize) -> usize
 // Tests, conditions and stores.
 fn write_matching(
     tape: &[u32],
-    lengths: Lengths,
+    m: Pattern,
     names: &mut [usize],
     sites: &mut [usize],
     start: usize,
@@ -76,14 +76,16 @@ fn write_matching(
     at: usize,
 ) -> Body
     requires { ⌜ (length (now names) ≡ 64) × (length (now sites) ≡ 64) × AllSites (now sites) ⌝ }
-    requires { ⌜ (lengths ≡ lengthsOf (shapeAt (drop start (now tape)))) × (total lengths ≤ 64) × (start ≤ length (now tape)) × (at < 2 ^ 59) ⌝ }
+    requires { ⌜ MeasuresAll (now tape) start m × (start ≤ length (now tape)) × (at < 2 ^ 59) ⌝ }
     ensures { λ r. ⌜ MatchAll (now (tape .entry)) start (now (code .entry)) at (now (names .exit)) (now (code .exit)) r ⌝ }
 {
+    let lengths = m.lengths;
     let t = write_tests(tape, lengths, names, sites, start, code, at);
-    let c = write_conditions(tape, names, sites, t.symbols, t.next, code, t.at);
+    let c = write_conditions(tape, m, names, sites, t.symbols, t.next, code, t.at);
     let stored = write_stores(sites, t.symbols, code, c.at);
+    let tests = c.at - at;
     Body {
-        tests: c.at - at,
+        tests,
         symbols: t.symbols,
         next: c.next,
         at: stored,
@@ -102,10 +104,9 @@ fn write_body(
     requires { ⌜ MeasuresAll (now tape) start m × (length (now heads) ≤ 64) × (start ≤ length (now tape)) × (at < 2 ^ 59) ⌝ }
     ensures { λ r. ⌜ BodyAll (now (tape .entry)) (now (heads .entry)) start (now (code .entry)) at (now (code .exit)) r ⌝ }
 {
-    let lengths = m.lengths;
     let mut names = room();
     let mut sites = room();
-    let matched = write_matching(tape, lengths, &mut names, &mut sites, start, code, at);
+    let matched = write_matching(tape, m, &mut names, &mut sites, start, code, at);
     let symbols = matched.symbols;
     let walk = write_expression(
         tape,

@@ -4,7 +4,8 @@ use mathlib.Core.Bool.{Bool, true, false}
 use mathlib.Core.List.{List, [], _∷_}
 use lib.Dec.{eqb}
 use lib.ListN.{take}
-use Rattle.meaning.specs.Tree.{character, symbol, Element, letter, part, Condition}
+use Rattle.meaning.specs.Choice.{Name}
+use Rattle.meaning.specs.Tree.{character, symbol, Element, letter, part, Subject, ofSymbol, ofPart, Condition}
 use Rattle.words.specs.declared.tape.Parts.{Parts}
 use Rattle.words.specs.declared.tape.Parts.the-variants.{Zero, One, Two}
 use Rattle.words.specs.declared.tape.Piece.{Piece}
@@ -47,16 +48,24 @@ patternAt ws = patternIn 0 Zero 0 ws
 
 -- THE CONDITIONS
 
-abbrev pub conditionIn : ℕ → List ℕ → Condition
-conditionIn w ws =
+abbrev pub subjectOf : Bool → Name → Subject
+subjectOf true x = ofPart x
+subjectOf false x = ofSymbol x
+
+-- a condition from what its word carries, and its variable's name
+abbrev pub conditionOf : ℕ → Name → Condition
+conditionOf n x =
     record {
-      predicate = classIn (carried w % 5);
-      variable = take (carried w / 10) ws;
-      expected = eqb (carried w / 5 % 2) 1;
+      predicate = classIn (n % 5);
+      subject = subjectOf (eqb (n / 10 % 2) 1) x;
+      expected = eqb (n / 5 % 2) 1;
     }
 
+abbrev pub conditionIn : ℕ → List ℕ → Condition
+conditionIn w ws = conditionOf (carried w) (take (carried w / 20) ws)
+
 abbrev pub conditionBy : Bool → ℕ → ℕ → List ℕ → (ℕ → ℕ → Scan (List Condition)) → Scan (List Condition)
-conditionBy true count w ws next = andThen (conditionIn w ws) (next (count + 1) (carried w / 10))
+conditionBy true count w ws next = andThen (conditionIn w ws) (next (count + 1) (carried w / 20))
 conditionBy false count w ws next = scanned [] (w ∷ ws)
 
 unfoldable pub conditionsIn : ℕ → ℕ → List ℕ → Scan (List Condition)

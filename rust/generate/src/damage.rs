@@ -1,6 +1,7 @@
 //! Damaged tables: small changes to a sound text, most of which the reader must refuse somewhere.
 
 use crate::random::Random;
+use refal0_apart::class::Class;
 use refal0_apart::lexer::in_name;
 use std::ops::Range;
 
@@ -10,6 +11,7 @@ const SNIPPETS: &[&str] = &[
     "0", "''", "'T'", "'F'", "'\\84'", "'\\256'", "'\\255'", "'a'", "'\\n'", "'\\q'", "e1", "e2", "s1", "s0", "s",
     "e", "S1", "x", "s1_", "e91", "e92", "s123456789", "e123456789", "s12345678", "IsDigit", "Emit", "EmitA", "F0",
     "F1", "<F0>", "<F0", "<Nowhere>", "<IsDigit s0>", ", <IsDigit s0>: 'T'", ", <F0 s0>: 'F'", ",<IsBlank e91>:'T'",
+    ",<IsDigit e92>:'F'", "<IsDigit e91>",
     "= ''", ";;", "}F0{", "} Gone { = }", "<EmitB 'x'>", "< F0>", "</**/F0>", "/* open", "NameOfTwentyFiveBytes-123",
     "<NameOfTwentyFiveBytes-123>", "'\\0000000000000000000000255'", "'a\\\nb'", "'a\\\r\nb'",
 ];
@@ -17,12 +19,13 @@ const SNIPPETS: &[&str] = &[
 pub fn damage(random: &mut Random, text: &[u8]) -> Vec<u8> {
     let mut damaged = text.to_vec();
     for _ in 0..1 + random.below(3) {
-        match random.below(7) {
+        match random.below(8) {
             0 => cut(random, &mut damaged),
             1 | 2 => insert(random, &mut damaged),
             3 => replace_byte(random, &mut damaged),
             4 => copy_span(random, &mut damaged),
             5 => swap_words(random, &mut damaged),
+            6 => turn_subject(random, &mut damaged),
             _ => truncate(random, &mut damaged),
         }
     }
@@ -69,6 +72,18 @@ fn swap_words(random: &mut Random, text: &mut Vec<u8>) {
     let to = words[random.below(words.len())].clone();
     let word = text[from].to_vec();
     text.splice(to, word);
+}
+
+/// Turns the s-variable of a condition into an e-variable, or the other way round.
+fn turn_subject(random: &mut Random, text: &mut [u8]) {
+    let words = words(text);
+    let asked = |pair: &&[Range<usize>]| Class::of_predicate(&text[pair[0].clone()]).is_some();
+    let subjects: Vec<usize> = words.windows(2).filter(asked).map(|pair| pair[1].start).collect();
+    if subjects.is_empty() {
+        return;
+    }
+    let at = random.pick(&subjects);
+    text[at] = if text[at] == b's' { b'e' } else { b's' };
 }
 
 fn words(text: &[u8]) -> Vec<Range<usize>> {

@@ -2,7 +2,7 @@
 
 use crate::random::Random;
 use refal0_apart::lexer::in_name;
-use refal0_apart::tree::{Item, Letter, Name, Sentence, Table};
+use refal0_apart::tree::{Condition, Item, Letter, Name, Sentence, Subject, Table};
 
 /// The text gets no oddities, few or many.
 pub fn dress(random: &mut Random, table: &Table) -> Vec<u8> {
@@ -99,15 +99,22 @@ impl Dresser<'_> {
         }
         self.nothing();
         for condition in &sentence.conditions {
-            self.token(b",");
-            self.token(&[b"<", condition.class.predicate()].concat());
-            self.variable(b's', &sentence.symbols[condition.symbol]);
-            self.token(b">");
-            self.token(b":");
-            self.token(if condition.expected { b"'T'" } else { b"'F'" });
+            self.condition(condition, sentence);
         }
         self.token(b"=");
         self.expression(table, sentence);
+    }
+
+    fn condition(&mut self, condition: &Condition, sentence: &Sentence) {
+        self.token(b",");
+        self.token(&[b"<", condition.class.predicate()].concat());
+        match condition.subject {
+            Subject::Symbol(symbol) => self.variable(b's', &sentence.symbols[symbol]),
+            Subject::Part(part) => self.variable(b'e', &sentence.parts[part]),
+        }
+        self.token(b">");
+        self.token(b":");
+        self.token(if condition.expected { b"'T'" } else { b"'F'" });
     }
 
     fn expression(&mut self, table: &Table, sentence: &Sentence) {

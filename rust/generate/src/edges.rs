@@ -18,7 +18,7 @@ pub fn edge(random: &mut Random) -> Vec<u8> {
             1 => identifiers(random, near(IDENTIFIER_LIMIT)),
             2 => letters(random, near(LETTER_LIMIT)),
             3 => symbols(random, near(SYMBOL_LIMIT)),
-            4 => conditions(near(CONDITION_LIMIT)),
+            4 => conditions(random, near(CONDITION_LIMIT)),
             5 => items(random, near(ITEM_LIMIT)),
             6 => nesting(random, near(NESTING_LIMIT)),
             _ => format!("F{{='{}\\{}'}}", "a".repeat(random.below(3)), near(255)),
@@ -67,12 +67,13 @@ fn names(random: &mut Random, length: usize) -> String {
 fn identifiers(random: &mut Random, length: usize) -> String {
     let one = "1".repeat(length);
     let other = random.pick(&["1", "22222222", "222222222"]);
-    match random.below(6) {
+    match random.below(7) {
         0 => format!("F{{s{one}=s{one}}}"),
         1 => format!("F{{e{one} s{other}=e{other}}}"),
         2 => format!("F{{e1 e{one}=}}"),
         3 => format!("F{{s1,<IsDigit s{one}>:'T'=}}"),
         4 => format!("F{{e1=e{one}}}"),
+        5 => format!("F{{e{one},<IsDigit e{one}>:'T',<IsBlank e{other}>:'T'=}}"),
         _ => format!("F{{e1'a'e2'b'e{one}=}}"),
     }
 }
@@ -103,8 +104,9 @@ fn symbols(random: &mut Random, count: usize) -> String {
     text + random.pick(&["e2", "", "e10", "e1"]) + "=}"
 }
 
-fn conditions(count: usize) -> String {
-    format!("F{{s1{}=}}", ",<IsUpper s1>:'F'".repeat(count))
+fn conditions(random: &mut Random, count: usize) -> String {
+    let conditions: String = (0..count).map(|_| random.pick(&[",<IsUpper s1>:'F'", ",<IsDigit e2>:'T'"])).collect();
+    format!("F{{s1 e2{conditions}=}}")
 }
 
 fn items(random: &mut Random, count: usize) -> String {

@@ -2,7 +2,11 @@
 
 use crate::random::Random;
 use crate::trees::{LINE_ENDS, USUAL, usual_byte};
-use refal0_apart::tree::{Function, Letter, Sentence};
+use refal0_apart::tree::{Function, Letter, Sentence, Subject};
+
+/// Bytes of one class, or of two.
+const FEW_CLASSES: &[&[u8]] = &[b"01", b"ab", b"A", b"aA", b" \t\n\r", b"a1", b" 1"];
+const TRIES: usize = 8;
 
 pub fn text(random: &mut Random, function: &Function) -> Vec<u8> {
     if random.one_in(4) {
@@ -19,6 +23,10 @@ pub fn text(random: &mut Random, function: &Function) -> Vec<u8> {
 
 fn filling(random: &mut Random) -> Vec<u8> {
     let length = if random.one_in(60) { random.below(400) } else { random.below(8) };
+    if random.one_in(2) {
+        let bytes = random.pick(FEW_CLASSES);
+        return (0..length).map(|_| random.pick(bytes)).collect();
+    }
     (0..length).map(|_| usual_byte(random)).collect()
 }
 
@@ -28,7 +36,7 @@ fn fitting(random: &mut Random, sentence: &Sentence) -> Vec<u8> {
     let mut text = Vec::new();
     for (number, template) in sentence.templates.iter().enumerate() {
         if number > 0 {
-            text.extend(filling(random));
+            text.extend(part_bytes(random, sentence, number - 1));
         }
         text.extend(template.iter().map(|letter| match *letter {
             Letter::Byte(byte) => byte,
@@ -38,13 +46,28 @@ fn fitting(random: &mut Random, sentence: &Sentence) -> Vec<u8> {
     text
 }
 
+/// Whether the conditions on a variable hold if it stands for these bytes.
+fn hold(sentence: &Sentence, subject: Subject, bytes: &[u8]) -> bool {
+    let mut conditions = sentence.conditions.iter().filter(|condition| condition.subject == subject);
+    conditions.all(|condition| bytes.iter().all(|&byte| condition.class.holds(byte)) == condition.expected)
+}
+
 /// A byte for which the conditions hold, if a few tries find one.
 fn symbol_byte(random: &mut Random, sentence: &Sentence, symbol: usize) -> u8 {
-    let holds = |byte: u8| {
-        let mut conditions = sentence.conditions.iter().filter(|condition| condition.symbol == symbol);
-        conditions.all(|condition| condition.class.holds(byte) == condition.expected)
-    };
     let tried = if random.one_in(4) { LINE_ENDS } else { USUAL };
-    let fitting: Vec<u8> = tried.iter().copied().filter(|&byte| holds(byte)).collect();
+    let holds = |byte: &u8| hold(sentence, Subject::Symbol(symbol), &[*byte]);
+    let fitting: Vec<u8> = tried.iter().copied().filter(holds).collect();
     if fitting.is_empty() { usual_byte(random) } else { random.pick(&fitting) }
+}
+
+/// Bytes for which the conditions hold, if a few tries find such.
+fn part_bytes(random: &mut Random, sentence: &Sentence, part: usize) -> Vec<u8> {
+    let mut bytes = filling(random);
+    for _ in 0..TRIES {
+        if hold(sentence, Subject::Part(part), &bytes) {
+            break;
+        }
+        bytes = filling(random);
+    }
+    bytes
 }

@@ -3,7 +3,7 @@
 use crate::random::Random;
 use refal0_apart::class::Class;
 use refal0_apart::reader::{CONDITION_LIMIT, ITEM_LIMIT, LETTER_LIMIT, NESTING_LIMIT, SYMBOL_LIMIT};
-use refal0_apart::tree::{Callee, Condition, Function, Item, Letter, Name, Sentence, Table};
+use refal0_apart::tree::{Callee, Condition, Function, Item, Letter, Name, Sentence, Subject, Table};
 
 /// Bytes that stand in patterns and texts most of the time.
 pub const USUAL: &[u8] = b"ab01 A";
@@ -109,19 +109,27 @@ fn letter(random: &mut Random, symbols: &mut Vec<Name>) -> Letter {
     Letter::Symbol(random.below(symbols.len()))
 }
 
-fn conditions(random: &mut Random, symbols: usize) -> Vec<Condition> {
-    if symbols == 0 || random.one_in(2) {
+fn conditions(random: &mut Random, sentence: &Sentence) -> Vec<Condition> {
+    if sentence.symbols.len() + sentence.parts.len() == 0 || random.one_in(2) {
         return Vec::new();
     }
-    let count = if random.one_in(50) { CONDITION_LIMIT } else { random.below(3) };
-    let condition =
-        |_| Condition { class: random.pick(&Class::ALL), symbol: random.below(symbols), expected: !random.one_in(3) };
-    (0..count).map(condition).collect()
+    let count = if random.one_in(50) { CONDITION_LIMIT } else { random.below(4) };
+    (0..count).map(|_| condition(random, sentence)).collect()
+}
+
+fn condition(random: &mut Random, sentence: &Sentence) -> Condition {
+    let (symbols, parts) = (sentence.symbols.len(), sentence.parts.len());
+    let subject = if symbols == 0 || (parts > 0 && random.one_in(2)) {
+        Subject::Part(random.below(parts))
+    } else {
+        Subject::Symbol(random.below(symbols))
+    };
+    Condition { class: random.pick(&Class::ALL), subject, expected: !random.one_in(3) }
 }
 
 fn sentence(random: &mut Random, table: &mut Table) -> Sentence {
     let mut sentence = pattern(random);
-    sentence.conditions = conditions(random, sentence.symbols.len());
+    sentence.conditions = conditions(random, &sentence);
     let items = if random.one_in(100) { ITEM_LIMIT } else { 1 + random.below(9) };
     let nesting = if random.one_in(50) { NESTING_LIMIT } else { 3 };
     let mut maker = ExpressionMaker { random, table, left: items, next_part: 0 };

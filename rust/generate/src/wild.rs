@@ -5,7 +5,7 @@ use crate::trees;
 use refal0_apart::class::Class;
 use refal0_apart::corpus::Lending;
 use refal0_apart::machine::{FRAMES, Rooms};
-use refal0_apart::packing::{self, BASES, REGISTERS, pack};
+use refal0_apart::packing::{self, BASES, REGISTERS, number, pack};
 use refal0_apart::reader::{FUNCTION_LIMIT, NAME_LIMIT, NESTING_LIMIT, SYMBOL_LIMIT};
 use refal0_apart::translation::{Action, Base, Cell, Code, Length, Metric, Program, Register, Test};
 
@@ -61,10 +61,15 @@ fn word(random: &mut Random) -> u32 {
         1 => u32::MAX - random.below(3) as u32,
         2 => 1 << random.below(32),
         3 => random.below(300) as u32,
-        4 => random.below(20) as u32,
+        4 => instruction(random),
         // an instruction with small operands
-        _ => (random.below(20) + (random.below(4) << 8) + (random.below(3) << 16) + (random.below(3) << 24)) as u32,
+        _ => instruction(random) + ((random.below(4) + (random.below(3) << 8) + (random.below(3) << 16)) << 8) as u32,
     }
+}
+
+/// A word's number, seldom one that no word has.
+fn instruction(random: &mut Random) -> u32 {
+    random.below(usize::from(number::LAST) + 2) as u32
 }
 
 fn changed(random: &mut Random, mut code: Vec<u32>) -> Vec<u32> {
@@ -155,11 +160,25 @@ fn cell(random: &mut Random, metric: &Metric) -> Cell {
 
 fn test(random: &mut Random, metric: &Metric) -> Test {
     let one = cell(random, metric);
-    match random.below(4) {
+    match random.below(5) {
         0 => Test::Compare(one, cell(random, metric)),
-        1 => Test::Predicate(one, random.pick(&Class::ALL), random.one_in(2)),
+        1 => part_test(random, metric),
+        2 => Test::Predicate(one, random.pick(&Class::ALL), random.one_in(2)),
         _ => Test::Look(one, random.pick(BYTES)),
     }
+}
+
+/// A test of a part between templates, at times between any two cells.
+fn part_test(random: &mut Random, metric: &Metric) -> Test {
+    let place = |register: Register, offset: usize| Cell { register, offset };
+    let (mut from, mut to) = (place(Register::P, metric.head), place(Register::Q, metric.tail));
+    match random.below(4) {
+        0 => (from, to) = (cell(random, metric), cell(random, metric)),
+        1 if metric.parts == 2 => to = place(Register::I, 0),
+        2 if metric.parts == 2 => from = place(Register::I, metric.middle),
+        _ => {}
+    }
+    Test::PredicatePart(from, to, random.pick(&Class::ALL), random.one_in(2))
 }
 
 fn actions(random: &mut Random, functions: usize, stores: usize) -> Vec<Action> {

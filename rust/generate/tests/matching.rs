@@ -5,7 +5,7 @@ use generate::{texts, trees};
 use refal0_apart::machine::{self, Rooms};
 use refal0_apart::packing::code;
 use refal0_apart::rewriter::rewrite;
-use refal0_apart::tree::{Item, Letter, Sentence, Table};
+use refal0_apart::tree::{Item, Letter, Sentence, Subject, Table};
 
 /// The bytes of the s-variables and the e-variables' parts, if the text is the pattern with first part of this length.
 fn parted(sentence: &Sentence, text: &[u8], first: usize) -> Option<(Vec<u8>, Vec<Vec<u8>>)> {
@@ -37,7 +37,13 @@ fn parted(sentence: &Sentence, text: &[u8], first: usize) -> Option<(Vec<u8>, Ve
         }
     }
     let bytes: Vec<u8> = bytes.into_iter().flatten().collect();
-    let hold = sentence.conditions.iter().all(|asked| asked.class.holds(bytes[asked.symbol]) == asked.expected);
+    let hold = sentence.conditions.iter().all(|asked| {
+        let subject = match asked.subject {
+            Subject::Symbol(symbol) => &bytes[symbol..=symbol],
+            Subject::Part(part) => &parts[part],
+        };
+        subject.iter().all(|&byte| asked.class.holds(byte)) == asked.expected
+    });
     hold.then_some((bytes, parts))
 }
 
@@ -52,7 +58,7 @@ fn show_values(sentence: &mut Sentence) {
 #[test]
 fn the_first_fitting_parts_are_taken() {
     let mut random = Random::new(5);
-    let mut fitted = 0;
+    let (mut fitted, mut fitted_by_parts) = (0, 0);
     for _ in 0..20_000 {
         let mut function = trees::table(&mut random).functions.swap_remove(0);
         function.sentences.truncate(1);
@@ -68,8 +74,11 @@ fn the_first_fitting_parts_are_taken() {
             continue;
         };
         fitted += 1;
+        let asks_part = sentence.conditions.iter().any(|asked| matches!(asked.subject, Subject::Part(_)));
+        fitted_by_parts += usize::from(asks_part);
         let shown = parts.iter().fold(bytes, |shown, part| [shown.as_slice(), b"|", part].concat());
         assert_eq!((outcome.answer, outcome.text), (0, shown));
     }
     assert!(fitted > 5_000, "{fitted} fitted");
+    assert!(fitted_by_parts > 1_000, "{fitted_by_parts} with conditions on parts fitted");
 }

@@ -73,6 +73,10 @@ impl<'c> Words<'c> {
             number::LOOK => Test::Look(cell(first, second)?, third as u8),
             number::COMPARE => Test::Compare(cell(first % 4, second)?, cell(first / 4, third)?),
             number::PREDICATE => Test::Predicate(cell(first % 4, second)?, *Class::ALL.get(third)?, first / 4 == 1),
+            number::PREDICATE_PART => {
+                let (from, to) = (cell(first % 4, second)?, cell(first / 4 % 4, third)?);
+                Test::PredicatePart(from, to, *Class::ALL.get(first / 32)?, first / 16 % 2 == 1)
+            }
             _ => return None,
         })
     }

@@ -1,6 +1,6 @@
 //! The listing of a tree, in the one form from which the same tree is read back.
 
-use crate::tree::{Condition, Item, Letter, Name, Sentence, Table};
+use crate::tree::{Condition, Item, Letter, Sentence, Subject, Table};
 
 pub fn list(table: &Table) -> Vec<u8> {
     let mut listing = Vec::new();
@@ -63,7 +63,7 @@ fn sentence_line(table: &Table, sentence: &Sentence) -> Vec<u8> {
         }
     }
     for condition in &sentence.conditions {
-        list_condition(&mut line, condition, &sentence.symbols);
+        list_condition(&mut line, condition, sentence);
     }
     line.parted(&[b"="]);
     list_expression(&mut line, table, sentence);
@@ -71,10 +71,13 @@ fn sentence_line(table: &Table, sentence: &Sentence) -> Vec<u8> {
     line.written
 }
 
-fn list_condition(line: &mut Line, condition: &Condition, symbols: &[Name]) {
+fn list_condition(line: &mut Line, condition: &Condition, sentence: &Sentence) {
     line.joined(b",");
     line.parted(&[b"<", condition.class.predicate()]);
-    line.parted(&[b"s", &symbols[condition.symbol]]);
+    match condition.subject {
+        Subject::Symbol(symbol) => line.parted(&[b"s", &sentence.symbols[symbol]]),
+        Subject::Part(part) => line.parted(&[b"e", &sentence.parts[part]]),
+    }
     line.joined(b">:");
     line.parted(&[if condition.expected { b"'T'" } else { b"'F'" }]);
 }

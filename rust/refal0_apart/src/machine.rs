@@ -105,14 +105,19 @@ impl Field {
         (base + length.add).saturating_sub(length.back)
     }
 
-    /// How far from p a cell lies, if the field has it.
-    fn distance(self, cell: Cell) -> Option<usize> {
+    /// How far from p a cell of the field lies; q is the one after the last.
+    fn bound(self, cell: Cell) -> Option<usize> {
         let distance = match cell.register {
             Register::P => cell.offset,
             Register::Q => self.d.checked_sub(cell.offset)?,
             Register::I => self.dl + cell.offset,
         };
-        (distance < self.d).then_some(distance)
+        (distance <= self.d).then_some(distance)
+    }
+
+    /// How far from p a cell lies, if the field has it.
+    fn distance(self, cell: Cell) -> Option<usize> {
+        self.bound(cell).filter(|&distance| distance < self.d)
     }
 }
 
@@ -337,11 +342,21 @@ impl<'c> Machine<'c> {
         Ok(self.stack_in[self.stack_in.len() - 1 - distance])
     }
 
+    /// The cells from one up to another, which is not among them, the last first.
+    fn part(&self, field: Field, from: Cell, to: Cell) -> Result<&[u8], Stop> {
+        let p = self.stack_in.len();
+        let (from, to) = (there(field.bound(from))?, there(field.bound(to))?);
+        there(self.stack_in.get(p - to..p - from))
+    }
+
     fn holds(&self, field: Field, test: Test) -> Result<bool, Stop> {
         Ok(match test {
             Test::Look(cell, byte) => self.byte(field, cell)? == byte,
             Test::Compare(one, other) => self.byte(field, one)? == self.byte(field, other)?,
             Test::Predicate(cell, class, expected) => class.holds(self.byte(field, cell)?) == expected,
+            Test::PredicatePart(from, to, class, expected) => {
+                self.part(field, from, to)?.iter().all(|&byte| class.holds(byte)) == expected
+            }
         })
     }
 }

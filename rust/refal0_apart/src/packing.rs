@@ -25,6 +25,9 @@ pub mod number {
     pub const ONE_PART: u8 = 17;
     pub const TWO_PARTS: u8 = 18;
     pub const END_OF_FUNCTION: u8 = 19;
+    pub const PREDICATE_PART: u8 = 20;
+    /// The highest number that a word may have.
+    pub const LAST: u8 = PREDICATE_PART;
 }
 
 pub const REGISTERS: [Register; 3] = [Register::P, Register::Q, Register::I];
@@ -91,6 +94,10 @@ fn test_word(test: &Test) -> u32 {
         }
         Test::Predicate(cell, class, expected) => {
             word(number::PREDICATE, register(cell) + 4 * usize::from(*expected), cell.offset, class_number(*class))
+        }
+        Test::PredicatePart(from, to, class, expected) => {
+            let asked = 16 * usize::from(*expected) + 32 * class_number(*class);
+            word(number::PREDICATE_PART, register(from) + 4 * register(to) + asked, from.offset, to.offset)
         }
     }
 }

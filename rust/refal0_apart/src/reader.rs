@@ -2,7 +2,7 @@
 
 use crate::class::{Class, is_emission, is_reserved};
 use crate::lexer::{Lexer, Token, WordRule, in_name, in_word};
-use crate::tree::{Callee, Condition, Function, Item, Letter, Name, Sentence, Table};
+use crate::tree::{Callee, Condition, Function, Item, Letter, Name, Sentence, Subject, Table};
 
 pub const TABLE_LIMIT: usize = 32_768;
 pub const FUNCTION_LIMIT: usize = 64;
@@ -130,7 +130,7 @@ impl<'t> Reader<'t> {
         self.pattern(&mut sentence)?;
         while self.token == Token::Mark(b',') {
             self.refuse_if(sentence.conditions.len() == CONDITION_LIMIT, 4)?;
-            let condition = self.condition(&sentence.symbols)?;
+            let condition = self.condition(&sentence)?;
             sentence.conditions.push(condition);
         }
         self.expect(b'=')?;
@@ -183,17 +183,14 @@ impl<'t> Reader<'t> {
         Ok(())
     }
 
-    fn condition(&mut self, symbols: &[Name]) -> Read<Condition> {
+    fn condition(&mut self, sentence: &Sentence) -> Read<Condition> {
         self.expect(b',')?;
         let Token::Open(name) = self.token else { return self.refuse(3) };
         self.place += 1;
         self.refuse_if(name.len() > NAME_LIMIT, 4)?;
         let Some(class) = Class::of_predicate(name) else { return self.refuse(5) };
         self.advance(in_word)?;
-        let Token::Word(word) = self.token else { return self.refuse(3) };
-        let Some((b's', identifier)) = variable(word) else { return self.refuse(3) };
-        self.refuse_if(identifier.len() > IDENTIFIER_LIMIT, 4)?;
-        let Some(symbol) = position(symbols, identifier) else { return self.refuse(7) };
+        let subject = self.subject(sentence)?;
         self.advance(in_word)?;
         self.expect(b'>')?;
         self.expect(b':')?;
@@ -203,7 +200,19 @@ impl<'t> Reader<'t> {
             _ => return self.refuse(3),
         };
         self.advance(in_word)?;
-        Ok(Condition { class, symbol, expected })
+        Ok(Condition { class, subject, expected })
+    }
+
+    /// The variable of the pattern that a condition names.
+    fn subject(&self, sentence: &Sentence) -> Read<Subject> {
+        let Token::Word(word) = self.token else { return self.refuse(3) };
+        let Some((kind, identifier)) = variable(word) else { return self.refuse(3) };
+        self.refuse_if(identifier.len() > IDENTIFIER_LIMIT, 4)?;
+        let subject = match kind {
+            b's' => position(&sentence.symbols, identifier).map(Subject::Symbol),
+            _ => position(&sentence.parts, identifier).map(Subject::Part),
+        };
+        subject.map_or_else(|| self.refuse(7), Ok)
     }
 
     /// Reads items up to a token that is none, which closes the call or the sentence.

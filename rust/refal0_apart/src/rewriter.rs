@@ -2,7 +2,7 @@
 
 use crate::outcome::{Applications, Outcome, Stop};
 use crate::reader::SYMBOL_LIMIT;
-use crate::tree::{Callee, Item, Letter, Sentence, Table};
+use crate::tree::{Callee, Item, Letter, Sentence, Subject, Table};
 
 /// Applies function `start`, counted from 1, to the text.
 pub fn rewrite(table: &Table, start: usize, text: &[u8], allowance: u32) -> Outcome {
@@ -120,11 +120,11 @@ fn fit(sentence: &Sentence, text: &[u8]) -> Option<Values> {
     let mut values = Values::default();
     let end = text.len();
     match sentence.templates.as_slice() {
-        [whole] => (spare == 0 && take(whole, text, &mut values) && hold(sentence, &values)).then_some(values),
+        [whole] => (spare == 0 && take(whole, text, &mut values) && hold(sentence, text, &values)).then_some(values),
         [head, tail] => {
             values.parts[0] = (head.len(), end - tail.len());
             let taken = take(head, text, &mut values) && take(tail, &text[end - tail.len()..], &mut values);
-            (taken && hold(sentence, &values)).then_some(values)
+            (taken && hold(sentence, text, &values)).then_some(values)
         }
         [head, middle, tail] => {
             let taken = take(head, text, &mut values) && take(tail, &text[end - tail.len()..], &mut values);
@@ -134,7 +134,7 @@ fn fit(sentence: &Sentence, text: &[u8]) -> Option<Values> {
             (head.len()..=head.len() + spare).find_map(|place| {
                 let mut tried = values;
                 tried.parts = [(head.len(), place), (place + middle.len(), end - tail.len())];
-                (take(middle, &text[place..], &mut tried) && hold(sentence, &tried)).then_some(tried)
+                (take(middle, &text[place..], &mut tried) && hold(sentence, text, &tried)).then_some(tried)
             })
         }
         _ => unreachable!("a pattern has at most two e-variables"),
@@ -149,9 +149,18 @@ fn take(template: &[Letter], text: &[u8], values: &mut Values) -> bool {
     })
 }
 
-fn hold(sentence: &Sentence, values: &Values) -> bool {
+/// An s-variable's byte is in the class, or every byte of an e-variable's part, as each condition expects it.
+fn hold(sentence: &Sentence, text: &[u8], values: &Values) -> bool {
     sentence.conditions.iter().all(|condition| {
-        let byte = values.symbols[condition.symbol].expect("a condition's variable stands in the pattern");
-        condition.class.holds(byte) == condition.expected
+        let within = match condition.subject {
+            Subject::Symbol(symbol) => {
+                condition.class.holds(values.symbols[symbol].expect("a condition's variable stands in the pattern"))
+            }
+            Subject::Part(part) => {
+                let (from, to) = values.parts[part];
+                text[from..to].iter().all(|&byte| condition.class.holds(byte))
+            }
+        };
+        within == condition.expected
     })
 }

@@ -2,7 +2,7 @@
 
 use crate::class::Class;
 use crate::reader::NAME_LIMIT;
-use crate::tree::{Callee, Function, Item, Letter, Name, Sentence, Table};
+use crate::tree::{Callee, Condition, Function, Item, Letter, Name, Sentence, Subject, Table};
 
 #[derive(Clone, PartialEq, Eq, Debug)]
 pub struct Program {
@@ -46,6 +46,8 @@ pub enum Test {
     Look(Cell, u8),
     Compare(Cell, Cell),
     Predicate(Cell, Class, bool),
+    /// Asks the cells from the first of these up to the second, which is not among them.
+    PredicatePart(Cell, Cell, Class, bool),
 }
 
 /// d = q - p, dl = i - p and dr = q - i, all as they are when the sentence has fitted.
@@ -108,13 +110,30 @@ fn sentence_code(table: &Table, sentence: &Sentence) -> Code {
         parts,
     };
     let (mut tests, store) = pattern_tests(sentence, &metric);
-    tests.extend(
-        sentence
-            .conditions
-            .iter()
-            .map(|condition| Test::Predicate(store[condition.symbol], condition.class, condition.expected)),
-    );
+    tests.extend(sentence.conditions.iter().map(|condition| condition_test(condition, &store, &metric)));
     Code { metric, tests, store, actions: expression_actions(table, sentence, &metric) }
+}
+
+fn condition_test(condition: &Condition, store: &[Cell], metric: &Metric) -> Test {
+    let Condition { class, subject, expected } = *condition;
+    match subject {
+        Subject::Symbol(symbol) => Test::Predicate(store[symbol], class, expected),
+        Subject::Part(part) => {
+            let (from, to) = part_bounds(metric, part);
+            Test::PredicatePart(from, to, class, expected)
+        }
+    }
+}
+
+/// Where an e-variable's part begins, and the cell after its last.
+fn part_bounds(metric: &Metric, part: usize) -> (Cell, Cell) {
+    let after_head = Cell { register: Register::P, offset: metric.head };
+    let tail = Cell { register: Register::Q, offset: metric.tail };
+    match (metric.parts, part) {
+        (1, _) => (after_head, tail),
+        (_, 0) => (after_head, Cell { register: Register::I, offset: 0 }),
+        (_, _) => (Cell { register: Register::I, offset: metric.middle }, tail),
+    }
 }
 
 /// The tests of the templates, and where each different s-variable stands first.

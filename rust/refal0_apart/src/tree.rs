@@ -38,8 +38,15 @@ pub enum Letter {
 #[derive(Clone, Copy, PartialEq, Eq, Debug)]
 pub struct Condition {
     pub class: Class,
-    pub symbol: usize,
+    pub subject: Subject,
     pub expected: bool,
+}
+
+/// The variable that a condition asks about: an s-variable's byte, or every byte of an e-variable's part.
+#[derive(Clone, Copy, PartialEq, Eq, Debug)]
+pub enum Subject {
+    Symbol(usize),
+    Part(usize),
 }
 
 /// A call is its opening bracket, the items of its argument and its closing bracket.

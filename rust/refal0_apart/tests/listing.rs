@@ -23,6 +23,10 @@ fn form_of_a_line() {
         "F{e1 s2 e3,<IsDigit s2>:'T',<IsBlank s2>:'F'=s2}",
         "F {\ne1 s2 e3, <IsDigit s2>: 'T', <IsBlank s2>: 'F' = s2;\n}\n",
     );
+    check(
+        "F{e1'a'e2,<IsDigit e2>:'T',<IsUpper e1>:'F'=}",
+        "F {\ne1 'a' e2, <IsDigit e2>: 'T', <IsUpper e1>: 'F' =;\n}\n",
+    );
 }
 
 #[test]

@@ -254,6 +254,16 @@ fn functions_past_the_64th_are_not_counted() {
     assert_eq!((outcome.answer, outcome.steps, *outcome.counts.0), (0, 65, [1; 64]));
 }
 
+#[test]
+fn conditions_on_parts_in_words() {
+    let words = |table: &str| code(&read(table.as_bytes()).expect("the table is sound"));
+    // p + 0 to q - 0, 'T', IsDigit
+    assert_eq!(words("F{e1,<IsDigit e1>:'T'=}"), [1, 2, 17, 196609, 5140, 261, 15, 19]);
+    // p + 1 to i + 0, 'F', IsBlank; i + 1 to q - 1, 'T', IsUpper
+    let conditions = &words("F{'a'e1'b'e2'c',<IsBlank e1>:'F',<IsUpper e2>:'T'=}")[7..9];
+    assert_eq!(conditions, [20 + 256 * (8 + 128) + 65_536, 20 + 256 * (2 + 4 + 16 + 32) + 65_536 + 16_777_216]);
+}
+
 /// The example of docs/CODE.md.
 #[test]
 fn row_r_in_words() {

@@ -10,52 +10,68 @@ use lib.Dec.{leb, eqb}
 use lib.ListN.{length}
 use Rattle.meaning.specs.Choice.{Bytes, Name, pick, every, sameBytes}
 use Rattle.meaning.specs.Classes.{Class, className, classes}
-use Rattle.meaning.specs.Tree.{Condition}
+use Rattle.meaning.specs.Tree.{Subject, ofSymbol, ofPart, Condition}
 use Rattle.meaning.specs.Names.{predicateOf, classNamed}
-use Rattle.meaning.specs.Allowed.{member, spelledIdentifier, maxIdentifier, maxName}
+use Rattle.meaning.specs.Allowed.{member, ofPattern, allOfPattern, spelledIdentifier, maxIdentifier, maxName}
 use Rattle.meaning.specs.Tokens.{Token, functionName, word, quoted, sign, textEnd, malformed, Placed}
-use Rattle.meaning.specs.Grammar.{standing, symbolWord, truthByte, truthString, IsCondition, isCondition, IsConditions, noConditions, conditionThen}
-use Rattle.meaning.specs.Reading.{Parsed, stopped, parsed, follow, isSign, passSymbol, symbolFault, passTruth, truthOn, truthOf, truthIn, withClass, condition, atComma, conditions, pass, passName, lengthFault}
+use Rattle.meaning.specs.Grammar.{standing, truthByte, truthString, IsSubject, symbolSubject, partSubject, IsCondition, isCondition, IsConditions, noConditions, conditionThen}
+use Rattle.meaning.specs.Reading.{Parsed, stopped, parsed, follow, check, isSign, passSubject, subjectFault, passTruth, truthOn, truthOf, truthIn, withClass, condition, atComma, conditions, pass, passName, lengthFault}
 use Rattle.accepting.proofs.reading.Basics.{both-left, both-right, both-true, impossible, no-value, never-both, check-parsed, passed, Followed, follow-parsed, Passed, pass-parsed, NamePassed, name-parsed, TokenView, aString, aSymbol, aPart, another, view, sign-of, standing-as}
 use Rattle.meaning.proofs.laws.Choosing.{same-bytes}
 use Rattle.meaning.proofs.laws.Words.{by-class}
 use Rattle.accepting.proofs.reading.Lists.{member-every}
 use Rattle.accepting.proofs.reading.Sound.{soundTokens, sound-rest, spelled-identifier-short}
 
-pub record SymbolPassed (A : Type 0) (symbols : List Name) (ts : List Placed) (next : Name → List Placed → Parsed A) (v : A) (rest : List Placed) : Type 0 where
-  pub byte : ℕ
-  pub bytes : Bytes
+pub record SubjectPassed (A : Type 0) (symbols parts : List Name) (ts : List Placed) (next : Subject → List Placed → Parsed A)
+    (v : A) (rest : List Placed) : Type 0 where
+  pub token : Token
+  pub subject : Subject
+  pub is : IsSubject token subject
   pub place : ℕ
   pub past : ℕ
   pub tail : List Placed
-  pub shape : ts ≡ standing (symbolWord byte bytes) place past ∷ tail
-  pub faultless : symbolFault symbols (byte ∷ bytes) ≡ 0
-  pub after : next (byte ∷ bytes) tail ≡ parsed v rest
+  pub shape : ts ≡ standing token place past ∷ tail
+  pub known : ofPattern symbols parts subject ≡ true
+  pub after : next subject tail ≡ parsed v rest
 
-symbol-step : {A : Type 0} (symbols : List Name) {token : Token} (place past : ℕ) (ts : List Placed) (next : Name → List Placed → Parsed A) {v : A} {rest : List Placed}
-    → TokenView token
-    → passSymbol symbols (standing token place past ∷ ts) next ≡ parsed v rest
-    → SymbolPassed A symbols (standing token place past ∷ ts) next v rest
-symbol-step symbols place past ts next {v} {rest} (aString text) e = never-both 3 place v rest e
-symbol-step symbols place past ts next (aSymbol b x) e =
-    let (faultless, after) = check-parsed (symbolFault symbols (b ∷ x)) (standing (symbolWord b x) place past) (next (b ∷ x) ts) e in
+subject-known : (names : List Name) (x : Name) → subjectFault names x ≡ 0 → member x names ≡ true
+subject-known names x e =
+    passed (member x names) 7 0 (omega arith) (passed (leb (length x) maxIdentifier) 4 _ (omega arith) e .1) .0
+
+-- a variable of either kind, which has no fault among the names of its kind
+variable-step : {A : Type 0} (symbols parts names : List Name) (x : Name) {token : Token} {on : Subject} (place past : ℕ) (ts : List Placed)
+    (next : Subject → List Placed → Parsed A) {v : A} {rest : List Placed}
+    → IsSubject token on → ofPattern symbols parts on ≡ member x names
+    → check (subjectFault names x) (standing token place past) (next on ts) ≡ parsed v rest
+    → SubjectPassed A symbols parts (standing token place past ∷ ts) next v rest
+variable-step symbols parts names x {token} {on} place past ts next is same e =
+    let (faultless, after) = check-parsed (subjectFault names x) (standing token place past) (next on ts) e in
     record {
-      byte = b;
-      bytes = x;
+      token = token;
+      subject = on;
+      is = is;
       place = place;
       past = past;
       tail = ts;
       shape = refl;
-      faultless = faultless;
+      known = same ∙ subject-known names x faultless;
       after = after;
     }
-symbol-step symbols place past ts next {v} {rest} (aPart b x) e = never-both 3 place v rest e
-symbol-step symbols place past ts next {v} {rest} (another token n) e = never-both _ place v rest (rw n at e)
 
-symbol-parsed : {A : Type 0} (symbols : List Name) (ts : List Placed) (next : Name → List Placed → Parsed A) {v : A} {rest : List Placed}
-    → passSymbol symbols ts next ≡ parsed v rest → SymbolPassed A symbols ts next v rest
-symbol-parsed symbols [] next {v} {rest} e = never-both 0 0 v rest e
-symbol-parsed symbols (t ∷ ts) next e = symbol-step symbols (t .place) (t .past) ts next (view (t .token)) e
+subject-step : {A : Type 0} (symbols parts : List Name) {token : Token} (place past : ℕ) (ts : List Placed) (next : Subject → List Placed → Parsed A)
+    {v : A} {rest : List Placed}
+    → TokenView token
+    → passSubject symbols parts (standing token place past ∷ ts) next ≡ parsed v rest
+    → SubjectPassed A symbols parts (standing token place past ∷ ts) next v rest
+subject-step symbols parts place past ts next {v} {rest} (aString text) e = never-both 3 place v rest e
+subject-step symbols parts place past ts next (aSymbol b x) e = variable-step symbols parts symbols (b ∷ x) place past ts next symbolSubject refl e
+subject-step symbols parts place past ts next (aPart b x) e = variable-step symbols parts parts (b ∷ x) place past ts next partSubject refl e
+subject-step symbols parts place past ts next {v} {rest} (another token n) e = never-both _ place v rest (rw n at e)
+
+subject-parsed : {A : Type 0} (symbols parts : List Name) (ts : List Placed) (next : Subject → List Placed → Parsed A) {v : A} {rest : List Placed}
+    → passSubject symbols parts ts next ≡ parsed v rest → SubjectPassed A symbols parts ts next v rest
+subject-parsed symbols parts [] next {v} {rest} e = never-both 0 0 v rest e
+subject-parsed symbols parts (t ∷ ts) next e = subject-step symbols parts (t .place) (t .past) ts next (view (t .token)) e
 
 -- the two closing strings
 truth-text : (truth : Bool) (text : Bytes) (a b : Bool) → sameBytes text (84 ∷ []) ≡ a → sameBytes text (70 ∷ []) ≡ b
@@ -114,26 +130,26 @@ class-parsed (some class) place next e = (class, refl, e)
 
 -- THE STEPS OF A CONDITION
 
-abbrev pub afterTruth : Class → Name → Bool → List Placed → Parsed Condition
-afterTruth class x truth rest = parsed (record { predicate = class; variable = x; expected = truth }) rest
+abbrev pub afterTruth : Class → Subject → Bool → List Placed → Parsed Condition
+afterTruth class v truth rest = parsed (record { predicate = class; subject = v; expected = truth }) rest
 
-abbrev pub afterColon : Class → Name → List Placed → Parsed Condition
-afterColon class x ts = passTruth ts (afterTruth class x)
+abbrev pub afterColon : Class → Subject → List Placed → Parsed Condition
+afterColon class v ts = passTruth ts (afterTruth class v)
 
-abbrev pub afterClose : Class → Name → List Placed → Parsed Condition
-afterClose class x ts = pass 58 ts (afterColon class x)
+abbrev pub afterClose : Class → Subject → List Placed → Parsed Condition
+afterClose class v ts = pass 58 ts (afterColon class v)
 
-abbrev pub afterVariable : Class → Name → List Placed → Parsed Condition
-afterVariable class x ts = pass 62 ts (afterClose class x)
+abbrev pub afterVariable : Class → Subject → List Placed → Parsed Condition
+afterVariable class v ts = pass 62 ts (afterClose class v)
 
-abbrev pub afterPredicate : List Name → ℕ → Name → List Placed → Parsed Condition
-afterPredicate symbols place n ts = withClass (predicateOf n) place (λ class. passSymbol symbols ts (afterVariable class))
+abbrev pub afterPredicate : List Name → List Name → ℕ → Name → List Placed → Parsed Condition
+afterPredicate symbols parts place n ts = withClass (predicateOf n) place (λ class. passSubject symbols parts ts (afterVariable class))
 
-abbrev pub afterOpen : List Name → List Placed → Parsed Condition
-afterOpen symbols ts = passName (λ n. lengthFault n 0) ts (afterPredicate symbols)
+abbrev pub afterOpen : List Name → List Name → List Placed → Parsed Condition
+afterOpen symbols parts ts = passName (λ n. lengthFault n 0) ts (afterPredicate symbols parts)
 
 -- the end of a condition: `>` `:` and the closing string
-record Closing (class : Class) (x : Name) (ts : List Placed) (c : Condition) (rest : List Placed) : Type 0 where
+record Closing (class : Class) (v : Subject) (ts : List Placed) (c : Condition) (rest : List Placed) : Type 0 where
   truth : Bool
   at₄ : ℕ
   past₄ : ℕ
@@ -141,14 +157,14 @@ record Closing (class : Class) (x : Name) (ts : List Placed) (c : Condition) (re
   past₅ : ℕ
   at₆ : ℕ
   shape : ts ≡ standing (sign 62) at₄ past₄ ∷ standing (sign 58) at₅ past₅ ∷ truthString truth at₆ ∷ rest
-  value : record { predicate = class; variable = x; expected = truth } ≡ c
+  value : record { predicate = class; subject = v; expected = truth } ≡ c
 
-module _ {class : Class} {x : Name} {c : Condition} {rest : List Placed} where
+module _ {class : Class} {v : Subject} {c : Condition} {rest : List Placed} where
   closing-truth : {ts : List Placed}
-      → (p₄ : Passed Condition 62 ts (afterClose class x) c rest)
-      → (p₅ : Passed Condition 58 (p₄ .tail) (afterColon class x) c rest)
-      → TruthPassed Condition (p₅ .tail) (afterTruth class x) c rest
-      → Closing class x ts c rest
+      → (p₄ : Passed Condition 62 ts (afterClose class v) c rest)
+      → (p₅ : Passed Condition 58 (p₄ .tail) (afterColon class v) c rest)
+      → TruthPassed Condition (p₅ .tail) (afterTruth class v) c rest
+      → Closing class v ts c rest
   closing-truth p₄ p₅ p₆ =
       let e = p₆ .after in
       let left : p₆ .tail ≡ rest = cc in
@@ -167,54 +183,51 @@ module _ {class : Class} {x : Name} {c : Condition} {rest : List Placed} where
         value = cc;
       }
 
-  closing : (ts : List Placed) → afterVariable class x ts ≡ parsed c rest → Closing class x ts c rest
+  closing : (ts : List Placed) → afterVariable class v ts ≡ parsed c rest → Closing class v ts c rest
   closing ts e =
-      let p₄ = pass-parsed 62 ts (afterClose class x) e in
-      let p₅ = pass-parsed 58 (p₄ .tail) (afterColon class x) (p₄ .after) in
-      closing-truth p₄ p₅ (truth-parsed (p₅ .tail) (afterTruth class x) (p₅ .after))
+      let p₄ = pass-parsed 62 ts (afterClose class v) e in
+      let p₅ = pass-parsed 58 (p₄ .tail) (afterColon class v) (p₄ .after) in
+      closing-truth p₄ p₅ (truth-parsed (p₅ .tail) (afterTruth class v) (p₅ .after))
 
-pub record ConditionRead (symbols : List Name) (ts : List Placed) (c : Condition) (rest : List Placed) : Type 0 where
+pub record ConditionRead (symbols parts : List Name) (ts : List Placed) (c : Condition) (rest : List Placed) : Type 0 where
   pub derived : IsCondition ts c rest
-  pub known : member (c .variable) symbols ≡ true
+  pub known : ofPattern symbols parts (c .subject) ≡ true
   pub sound : soundTokens rest ≡ true
 
 sound-six : (t₁ t₂ t₃ t₄ t₅ t₆ : Placed) (rest : List Placed) → soundTokens (t₁ ∷ t₂ ∷ t₃ ∷ t₄ ∷ t₅ ∷ t₆ ∷ rest) ≡ true → soundTokens rest ≡ true
 sound-six t₁ t₂ t₃ t₄ t₅ t₆ rest s =
     sound-rest _ _ (sound-rest _ _ (sound-rest _ _ (sound-rest _ _ (sound-rest _ _ (sound-rest _ _ s)))))
 
-module _ (symbols : List Name) {c : Condition} {rest : List Placed} where
+module _ (symbols parts : List Name) {c : Condition} {rest : List Placed} where
   condition-whole : {ts : List Placed} → soundTokens ts ≡ true
-      → (p₁ : Passed Condition 60 ts (afterOpen symbols) c rest)
-      → (p₂ : NamePassed Condition (λ n. lengthFault n 0) (p₁ .tail) (afterPredicate symbols) c rest)
+      → (p₁ : Passed Condition 60 ts (afterOpen symbols parts) c rest)
+      → (p₂ : NamePassed Condition (λ n. lengthFault n 0) (p₁ .tail) (afterPredicate symbols parts) c rest)
       → (class : Class) → predicateOf (p₂ .name) ≡ some class
-      → (p₃ : SymbolPassed Condition symbols (p₂ .tail) (afterVariable class) c rest)
-      → Closing class (p₃ .byte ∷ p₃ .bytes) (p₃ .tail) c rest
-      → ConditionRead symbols ts c rest
+      → (p₃ : SubjectPassed Condition symbols parts (p₂ .tail) (afterVariable class) c rest)
+      → Closing class (p₃ .subject) (p₃ .tail) c rest
+      → ConditionRead symbols parts ts c rest
   condition-whole {ts} s p₁ p₂ class known p₃ p₄ =
       let shape =
       p₁ .shape
       ∙ ap (λ z. standing (sign 60) (p₁ .place) (p₁ .past) ∷ z)
       (p₂ .shape
       ∙ ap (λ z. standing (functionName (p₂ .name)) (p₂ .place) (p₂ .past) ∷ z)
-      (p₃ .shape ∙ ap (λ z. standing (symbolWord (p₃ .byte) (p₃ .bytes)) (p₃ .place) (p₃ .past) ∷ z) (p₄ .shape)))
+      (p₃ .shape ∙ ap (λ z. standing (p₃ .token) (p₃ .place) (p₃ .past) ∷ z) (p₄ .shape)))
       in
       record {
-        derived = rw (shape, ← (p₄ .value)) (isCondition known);
-        known =
-            rw (← (p₄ .value))
-            (passed (member (p₃ .byte ∷ p₃ .bytes) symbols) 7 0 (omega arith)
-            (passed (leb (length (p₃ .byte ∷ p₃ .bytes)) maxIdentifier) 4 _ (omega arith) (p₃ .faultless) .1) .0);
+        derived = rw (shape, ← (p₄ .value)) (isCondition known (p₃ .is));
+        known = rw (← (p₄ .value)) (p₃ .known);
         sound = sound-six _ _ _ _ _ _ rest (rw shape at s);
       }
 
-  condition-sound : (ts : List Placed) → soundTokens ts ≡ true → condition symbols ts ≡ parsed c rest → ConditionRead symbols ts c rest
+  condition-sound : (ts : List Placed) → soundTokens ts ≡ true → condition symbols parts ts ≡ parsed c rest → ConditionRead symbols parts ts c rest
   unfolding condition
   condition-sound ts s e =
-      let p₁ = pass-parsed 60 ts (afterOpen symbols) e in
-      let p₂ = name-parsed (λ n. lengthFault n 0) (p₁ .tail) (afterPredicate symbols) (p₁ .after) in
-      let k = class-parsed (predicateOf (p₂ .name)) (p₂ .place) (λ class. passSymbol symbols (p₂ .tail) (afterVariable class)) (p₂ .after) in
-      let p₃ = symbol-parsed symbols (p₂ .tail) (afterVariable (k .0)) (k .2) in
-      condition-whole s p₁ p₂ (k .0) (k .1) p₃ (closing {class = k .0} {x = p₃ .byte ∷ p₃ .bytes} (p₃ .tail) (p₃ .after))
+      let p₁ = pass-parsed 60 ts (afterOpen symbols parts) e in
+      let p₂ = name-parsed (λ n. lengthFault n 0) (p₁ .tail) (afterPredicate symbols parts) (p₁ .after) in
+      let k = class-parsed (predicateOf (p₂ .name)) (p₂ .place) (λ class. passSubject symbols parts (p₂ .tail) (afterVariable class)) (p₂ .after) in
+      let p₃ = subject-parsed symbols parts (p₂ .tail) (afterVariable (k .0)) (k .2) in
+      condition-whole s p₁ p₂ (k .0) (k .1) p₃ (closing {class = k .0} {v = p₃ .subject} (p₃ .tail) (p₃ .after))
 
 -- PREDICATES' NAMES
 
@@ -244,13 +257,19 @@ unfolding sameBytes
 truth-passed true place ts next = rw (eq-eqb (place + 3) (place + 3) refl)
 truth-passed false place ts next = rw (eq-eqb (place + 3) (place + 3) refl)
 
-pub condition-complete : (symbols : List Name) → every spelledIdentifier symbols ≡ true
-    → {ts rest : List Placed} {c : Condition} → IsCondition ts c rest → member (c .variable) symbols ≡ true
-    → condition symbols ts ≡ parsed c rest
+member-short : (names : List Name) → every spelledIdentifier names ≡ true → (x : Name) → member x names ≡ true → leb (length x) maxIdentifier ≡ true
+member-short names s x m = spelled-identifier-short x (member-every spelledIdentifier x names s m)
+
+pub condition-complete : (symbols parts : List Name) → every spelledIdentifier symbols ≡ true → every spelledIdentifier parts ≡ true
+    → {ts rest : List Placed} {c : Condition} → IsCondition ts c rest → ofPattern symbols parts (c .subject) ≡ true
+    → condition symbols parts ts ≡ parsed c rest
 unfolding condition
-condition-complete symbols s (isCondition {n = n} {class = class} {b = b} {x = x} {truth = truth} {rest = rest} {at₆ = at₆} known) m =
-    rw (predicate-short n known, known, spelled-identifier-short (b ∷ x) (member-every spelledIdentifier (b ∷ x) symbols s m), m)
-    (truth-passed truth at₆ rest (afterTruth class (b ∷ x)))
+condition-complete symbols parts s q
+    (isCondition {n = n} {class = class} {truth = truth} {rest = rest} {at₆ = at₆} known (symbolSubject {b = b} {x = x})) m =
+    rw (predicate-short n known, known, member-short symbols s (b ∷ x) m, m) (truth-passed truth at₆ rest (afterTruth class (ofSymbol (b ∷ x))))
+condition-complete symbols parts s q
+    (isCondition {n = n} {class = class} {truth = truth} {rest = rest} {at₆ = at₆} known (partSubject {b = b} {x = x})) m =
+    rw (predicate-short n known, known, member-short parts q (b ∷ x) m, m) (truth-passed truth at₆ rest (afterTruth class (ofPart (b ∷ x))))
 
 -- CONDITIONS ONE AFTER ANOTHER
 
@@ -273,19 +292,16 @@ at-comma : (ts : List Placed) (next : Placed → List Placed → Parsed (List Co
 at-comma [] next {cs} {rest} e = never-both 0 0 cs rest e
 at-comma (t ∷ ts) next e = comma-step (isSign 44 (t .token)) t ts next refl e
 
-abbrev pub allKnown : List Name → List Condition → Bool
-allKnown symbols cs = every (λ c. member (c .variable) symbols) cs
-
-pub record ConditionsRead (left : ℕ) (symbols : List Name) (ts : List Placed) (cs : List Condition) (rest : List Placed) : Type 0 where
+pub record ConditionsRead (left : ℕ) (symbols parts : List Name) (ts : List Placed) (cs : List Condition) (rest : List Placed) : Type 0 where
   pub derived : IsConditions ts cs rest
-  pub known : allKnown symbols cs ≡ true
+  pub known : allOfPattern symbols parts cs ≡ true
   pub few : length cs ≤ left
   pub sound : soundTokens rest ≡ true
 
-without-comma : (left : ℕ) (symbols : List Name) {ts : List Placed} {cs : List Condition} {rest : List Placed}
-    → soundTokens ts ≡ true → [] ≡ cs → ts ≡ rest → ConditionsRead left symbols ts cs rest
+without-comma : (left : ℕ) (symbols parts : List Name) {ts : List Placed} {cs : List Condition} {rest : List Placed}
+    → soundTokens ts ≡ true → [] ≡ cs → ts ≡ rest → ConditionsRead left symbols parts ts cs rest
 unfolding every
-without-comma left symbols {ts} {cs} {rest} s e l =
+without-comma left symbols parts {ts} {cs} {rest} s e l =
     record {
       derived = rw (← e, l) noConditions;
       known = rw (← e);
@@ -296,21 +312,21 @@ without-comma left symbols {ts} {cs} {rest} s e l =
 abbrev pub afterConditions : Condition → List Condition → List Placed → Parsed (List Condition)
 afterConditions c cs rest = parsed (c ∷ cs) rest
 
-abbrev pub afterCondition : ℕ → List Name → Condition → List Placed → Parsed (List Condition)
-afterCondition left symbols c ts = follow (conditions left symbols ts) (afterConditions c)
+abbrev pub afterCondition : ℕ → List Name → List Name → Condition → List Placed → Parsed (List Condition)
+afterCondition left symbols parts c ts = follow (conditions left symbols parts ts) (afterConditions c)
 
-abbrev pub afterComma : ℕ → List Name → Placed → List Placed → Parsed (List Condition)
-afterComma left symbols comma ts = follow (condition symbols ts) (afterCondition left symbols)
+abbrev pub afterComma : ℕ → List Name → List Name → Placed → List Placed → Parsed (List Condition)
+afterComma left symbols parts comma ts = follow (condition symbols parts ts) (afterCondition left symbols parts)
 
-module _ (left : ℕ) (symbols : List Name) {cs : List Condition} {rest : List Placed}
+module _ (left : ℕ) (symbols parts : List Name) {cs : List Condition} {rest : List Placed}
     (later : (ts : List Placed) (cs : List Condition) (rest : List Placed)
-    → soundTokens ts ≡ true → conditions left symbols ts ≡ parsed cs rest → ConditionsRead left symbols ts cs rest)
+    → soundTokens ts ≡ true → conditions left symbols parts ts ≡ parsed cs rest → ConditionsRead left symbols parts ts cs rest)
   where
     with-conditions : (place past : ℕ) {ts between : List Placed} (c : Condition)
-        → ConditionRead symbols ts c between
-        → (q : Followed (List Condition) (List Condition) (conditions left symbols between) (afterConditions c) cs rest)
-        → ConditionsRead left symbols between (q .value) (q .between)
-        → ConditionsRead (suc left) symbols (standing (sign 44) place past ∷ ts) cs rest
+        → ConditionRead symbols parts ts c between
+        → (q : Followed (List Condition) (List Condition) (conditions left symbols parts between) (afterConditions c) cs rest)
+        → ConditionsRead left symbols parts between (q .value) (q .between)
+        → ConditionsRead (suc left) symbols parts (standing (sign 44) place past ∷ ts) cs rest
     unfolding every
     with-conditions place past {ts} c r q d =
         let after = q .after in
@@ -323,47 +339,51 @@ module _ (left : ℕ) (symbols : List Name) {cs : List Condition} {rest : List P
           sound = rw left at (d .sound);
         }
 
-    with-comma : (place past : ℕ) (ts : List Placed) → soundTokens ts ≡ true → afterComma left symbols (standing (sign 44) place past) ts ≡ parsed cs rest
-        → ConditionsRead (suc left) symbols (standing (sign 44) place past ∷ ts) cs rest
+    with-comma : (place past : ℕ) (ts : List Placed) → soundTokens ts ≡ true
+        → afterComma left symbols parts (standing (sign 44) place past) ts ≡ parsed cs rest
+        → ConditionsRead (suc left) symbols parts (standing (sign 44) place past ∷ ts) cs rest
     with-comma place past ts s e =
-        let p = follow-parsed (condition symbols ts) (afterCondition left symbols) e in
-        let r = condition-sound symbols ts s (p .before) in
-        let q = follow-parsed (conditions left symbols (p .between)) (afterConditions (p .value)) (p .after) in
+        let p = follow-parsed (condition symbols parts ts) (afterCondition left symbols parts) e in
+        let r = condition-sound symbols parts ts s (p .before) in
+        let q = follow-parsed (conditions left symbols parts (p .between)) (afterConditions (p .value)) (p .after) in
         with-conditions place past (p .value) r q (later (p .between) (q .value) (q .between) (r .sound) (q .before))
 
-    conditions-step : {ts : List Placed} → soundTokens ts ≡ true → AtComma ts (afterComma left symbols) cs rest → ConditionsRead (suc left) symbols ts cs rest
-    conditions-step s (without e l) = without-comma (suc left) symbols s e l
+    conditions-step : {ts : List Placed} → soundTokens ts ≡ true → AtComma ts (afterComma left symbols parts) cs rest
+        → ConditionsRead (suc left) symbols parts ts cs rest
+    conditions-step s (without e l) = without-comma (suc left) symbols parts s e l
     conditions-step s (with place past tail shape e) =
         rw shape (with-comma place past tail (sound-rest (standing (sign 44) place past) tail (rw shape at s)) e)
 
 abbrev pub overComma : Placed → List Placed → Parsed (List Condition)
 overComma comma rest = stopped 4 (comma .place)
 
-conditions-none : (symbols : List Name) {ts : List Placed} {cs : List Condition} {rest : List Placed}
-    → soundTokens ts ≡ true → AtComma ts overComma cs rest → ConditionsRead zero symbols ts cs rest
-conditions-none symbols s (without e l) = without-comma zero symbols s e l
-conditions-none symbols {cs = cs} {rest = rest} s (with place past tail shape e) = never-both 4 place cs rest e
+conditions-none : (symbols parts : List Name) {ts : List Placed} {cs : List Condition} {rest : List Placed}
+    → soundTokens ts ≡ true → AtComma ts overComma cs rest → ConditionsRead zero symbols parts ts cs rest
+conditions-none symbols parts s (without e l) = without-comma zero symbols parts s e l
+conditions-none symbols parts {cs = cs} {rest = rest} s (with place past tail shape e) = never-both 4 place cs rest e
 
 -- what the conditions' reader reads are conditions of the grammar, on variables of the pattern
-pub conditions-sound : (left : ℕ) (symbols : List Name) (ts : List Placed) {cs : List Condition} {rest : List Placed}
-    → soundTokens ts ≡ true → conditions left symbols ts ≡ parsed cs rest → ConditionsRead left symbols ts cs rest
+pub conditions-sound : (left : ℕ) (symbols parts : List Name) (ts : List Placed) {cs : List Condition} {rest : List Placed}
+    → soundTokens ts ≡ true → conditions left symbols parts ts ≡ parsed cs rest → ConditionsRead left symbols parts ts cs rest
 unfolding conditions
-conditions-sound zero symbols ts s e = conditions-none symbols s (at-comma ts overComma e)
-conditions-sound (suc left) symbols ts s e =
-    conditions-step left symbols (λ us ds more t f. conditions-sound left symbols us {cs = ds} {rest = more} t f) s (at-comma ts (afterComma left symbols) e)
+conditions-sound zero symbols parts ts s e = conditions-none symbols parts s (at-comma ts overComma e)
+conditions-sound (suc left) symbols parts ts s e =
+    conditions-step left symbols parts (λ us ds more t f. conditions-sound left symbols parts us {cs = ds} {rest = more} t f) s
+    (at-comma ts (afterComma left symbols parts) e)
 
 -- conditions that the grammar allows, on variables of the pattern, are read
-pub conditions-complete : (left : ℕ) (symbols : List Name) → every spelledIdentifier symbols ≡ true
+pub conditions-complete : (left : ℕ) (symbols parts : List Name) → every spelledIdentifier symbols ≡ true → every spelledIdentifier parts ≡ true
     → {ts rest : List Placed} {cs : List Condition} → IsConditions ts cs rest
     → (h : Placed) (more : List Placed) → rest ≡ h ∷ more → isSign 44 (h .token) ≡ false
-    → allKnown symbols cs ≡ true → length cs ≤ left
-    → conditions left symbols ts ≡ parsed cs rest
+    → allOfPattern symbols parts cs ≡ true → length cs ≤ left
+    → conditions left symbols parts ts ≡ parsed cs rest
 unfolding conditions every
-conditions-complete zero symbols s noConditions h more e n k l = rw (e, n)
-conditions-complete (suc left) symbols s noConditions h more e n k l = rw (e, n)
-conditions-complete zero symbols s (conditionThen d ds) h more e n k l = absurd (omega arith)
-conditions-complete (suc left) symbols s (conditionThen {c = c} {cs = cs} d ds) h more e n k l =
+conditions-complete zero symbols parts s q noConditions h more e n k l = rw (e, n)
+conditions-complete (suc left) symbols parts s q noConditions h more e n k l = rw (e, n)
+conditions-complete zero symbols parts s q (conditionThen d ds) h more e n k l = absurd (omega arith)
+conditions-complete (suc left) symbols parts s q (conditionThen {c = c} {cs = cs} d ds) h more e n k l =
     rw (
-      condition-complete symbols s d (both-left (member (c .variable) symbols) (allKnown symbols cs) k),
-      conditions-complete left symbols s ds h more e n (both-right (member (c .variable) symbols) (allKnown symbols cs) k) (omega arith),
+      condition-complete symbols parts s q d (both-left (ofPattern symbols parts (c .subject)) (allOfPattern symbols parts cs) k),
+      conditions-complete left symbols parts s q ds h more e n (both-right (ofPattern symbols parts (c .subject)) (allOfPattern symbols parts cs) k)
+          (omega arith),
     )

@@ -9,7 +9,7 @@ use lib.Dec.{leb}
 use lib.ListN.{length}
 use Rattle.meaning.specs.Choice.{Name, pick, every, isSome}
 use Rattle.meaning.specs.Tree.{character, symbol, Element, letter, part, Condition, Expression, Sentence}
-use Rattle.meaning.specs.Allowed.{spelledElement, spelledIdentifier, member, added, symbolsOf, symbolsFrom, partsOf, lettersIn, parted, distinct, itemsIn, nesting, spelledItems, comingAfterAll, maxItems, maxNesting, maxConditions, allowedPattern, allowedConditions, allowedExpression, allowedSentence}
+use Rattle.meaning.specs.Allowed.{spelledElement, spelledIdentifier, member, added, symbolsOf, symbolsFrom, partsOf, lettersIn, parted, distinct, itemsIn, nesting, spelledItems, comingAfterAll, maxItems, maxNesting, maxConditions, allowedPattern, allOfPattern, allowedConditions, allowedExpression, allowedSentence}
 use Rattle.meaning.specs.Tokens.{sign, Placed}
 use Rattle.meaning.specs.Grammar.{standing, IsPattern, IsConditions, noConditions, conditionThen, IsSentence, isSentence}
 use Rattle.meaning.specs.Reading.{Parsed, parsed, follow, pass, itemOf, isItem, begins, Progress, Items, pattern, conditions, expression, sentence}
@@ -19,7 +19,7 @@ use Rattle.accepting.proofs.reading.Lists.{every-append}
 use Rattle.accepting.proofs.reading.Sound.{soundTokens, sound-rest}
 use Rattle.accepting.proofs.reading.PatternFacts.{PatternFacts, pattern-facts, facts-pattern}
 use Rattle.accepting.proofs.reading.Patterns.{IsItems, noMore, itemThen, PatternRead, pattern-sound, pattern-complete, pattern-items, items-pattern}
-use Rattle.accepting.proofs.reading.Conditions.{ConditionsRead, conditions-sound, conditions-complete, allKnown}
+use Rattle.accepting.proofs.reading.Conditions.{ConditionsRead, conditions-sound, conditions-complete}
 use Rattle.accepting.proofs.reading.ExpressionItems.{Leads}
 use Rattle.accepting.proofs.reading.Expressions.{ExpressionRead, expression-sound}
 use Rattle.accepting.proofs.reading.ExpressionsComplete.{itemed, Ends, itemed-complete}
@@ -104,13 +104,14 @@ abbrev pub afterConditions : List Element → List Condition → List Placed →
 afterConditions p cs ts = pass 61 ts (afterEquals p cs)
 
 abbrev pub afterPattern : List Element → List Placed → Parsed Sentence
-afterPattern p ts = follow (conditions maxConditions (symbolsOf p) ts) (afterConditions p)
+afterPattern p ts = follow (conditions maxConditions (symbolsOf p) (partsOf p) ts) (afterConditions p)
 
 module _ {ts : List Placed} {s : Sentence} {rest : List Placed} where
   sentence-whole : (p : Followed (List Element) Sentence (pattern [] ts) afterPattern s rest)
       → PatternRead [] ts (p .value) (p .between)
-      → (q : Followed (List Condition) Sentence (conditions maxConditions (symbolsOf (p .value)) (p .between)) (afterConditions (p .value)) s rest)
-      → ConditionsRead maxConditions (symbolsOf (p .value)) (p .between) (q .value) (q .between)
+      → (q : Followed (List Condition) Sentence (conditions maxConditions (symbolsOf (p .value)) (partsOf (p .value)) (p .between))
+      (afterConditions (p .value)) s rest)
+      → ConditionsRead maxConditions (symbolsOf (p .value)) (partsOf (p .value)) (p .between) (q .value) (q .between)
       → (r : Passed Sentence 61 (q .between) (afterEquals (p .value) (q .value)) s rest)
       → (e : Followed Items Sentence (expression (length (r .tail)) (symbolsOf (p .value)) 0 (start (partsOf (p .value))) (r .tail))
       (afterExpression (p .value) (q .value)) s rest)
@@ -139,8 +140,8 @@ sentence-sound ts t read =
     let d₁ = pattern-sound [] ts empty-facts t (p .before) in
     let symbols = symbolsOf (p .value) in
     let parts = start (partsOf (p .value)) in
-    let q = follow-parsed (conditions maxConditions symbols (p .between)) (afterConditions (p .value)) (p .after) in
-    let d₂ = conditions-sound maxConditions symbols (p .between) (d₁ .sound) (q .before) in
+    let q = follow-parsed (conditions maxConditions symbols (partsOf (p .value)) (p .between)) (afterConditions (p .value)) (p .after) in
+    let d₂ = conditions-sound maxConditions symbols (partsOf (p .value)) (p .between) (d₁ .sound) (q .before) in
     let r = pass-parsed 61 (q .between) (afterEquals (p .value) (q .value)) (q .after) in
     let e = follow-parsed (expression (length (r .tail)) symbols 0 parts (r .tail)) (afterExpression (p .value) (q .value)) (r .after) in
     sentence-whole p d₁ q d₂ r e
@@ -171,13 +172,14 @@ sentence-complete (isSentence {ts = ts} {ts₂ = ts₂} {place = place} {past = 
     let a₁ = both-right (allowedPattern p) _ a in
     let first = conditions-first d₂ (sign-first 61 place past ts₂ refl) in
     let symbols = symbols-spelled [] p refl (f .spelled) in
-    let known = both-left (allowedConditions (symbolsOf p) cs) _ a₁ in
-    let (then, leads) = allowed-leads (symbolsOf p) (partsOf p) e (both-right (allowedConditions (symbolsOf p) cs) _ a₁) in
+    let known = both-left (allowedConditions (symbolsOf p) (partsOf p) cs) _ a₁ in
+    let (then, leads) = allowed-leads (symbolsOf p) (partsOf p) e (both-right (allowedConditions (symbolsOf p) (partsOf p) cs) _ a₁) in
     rw (
       pattern-complete [] (pattern-items d₁) (first .first) (first .others) (first .shape) (first .none-item) f,
-      conditions-complete maxConditions (symbolsOf p) symbols d₂ (standing (sign 61) place past) ts₂ refl refl
-          (both-left (allKnown (symbolsOf p) cs) (leb (length cs) maxConditions) known)
-          (leb-true (length cs) maxConditions (both-right (allKnown (symbolsOf p) cs) (leb (length cs) maxConditions) known)),
+      conditions-complete maxConditions (symbolsOf p) (partsOf p) symbols (parts-spelled p (f .spelled)) d₂ (standing (sign 61) place past) ts₂ refl
+          refl
+          (both-left (allOfPattern (symbolsOf p) (partsOf p) cs) (leb (length cs) maxConditions) known)
+          (leb-true (length cs) maxConditions (both-right (allOfPattern (symbolsOf p) (partsOf p) cs) (leb (length cs) maxConditions) known)),
       itemed-complete (symbolsOf p) symbols (itemed d₃) h (length ts₂) 0 (start (partsOf p)) then (parts-spelled p (f .spelled)) (omega arith) leads,
     )
 

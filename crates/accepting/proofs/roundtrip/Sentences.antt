@@ -9,17 +9,16 @@ use borrow.Author.Tests.{eqb-true}
 use lib.Dec.{eqb, leb}
 use lib.ListN.{length}
 use Rattle.meaning.specs.Choice.{Bytes, Name, every, sameBytes}
-use Rattle.meaning.specs.Classes.{Class, className}
-use Rattle.meaning.specs.Tree.{Condition, Sentence, unplacedSentence}
+use Rattle.meaning.specs.Classes.{Class, className, inClass, alphabetic}
+use Rattle.meaning.specs.Tree.{Subject, ofSymbol, ofPart, Condition, Sentence, unplacedSentence}
 use Rattle.meaning.specs.Names.{classNamed, predicateOf}
-use Rattle.meaning.specs.Allowed.{wordByte, spelledName, spelledIdentifier, member, symbolsOf, partsOf, maxConditions, allowedPattern, allowedConditions, allowedSentence}
-use Rattle.meaning.specs.Tokens.{inside, naming, quoted, sign, lexed, quotation, skip, lex}
-use Rattle.meaning.specs.Grammar.{truthByte, truthString, isCondition, IsConditions, noConditions, conditionThen, IsSentence, isSentence}
-use Rattle.meaning.specs.Listing.{unquoted, patternText, conditionsText, expressionText, withoutBlank, sentenceText}
+use Rattle.meaning.specs.Allowed.{wordByte, spelledName, spelledIdentifier, ofPattern, allOfPattern, symbolsOf, partsOf, maxConditions, allowedPattern, allowedConditions, allowedSentence}
+use Rattle.meaning.specs.Tokens.{inside, naming, word, quoted, sign, lexed, quotation, skip, lex}
+use Rattle.meaning.specs.Grammar.{truthByte, truthString, IsSubject, symbolSubject, partSubject, isCondition, IsConditions, noConditions, conditionThen, IsSentence, isSentence}
+use Rattle.meaning.specs.Listing.{unquoted, patternText, subjectText, conditionsText, expressionText, withoutBlank, sentenceText}
 use Rattle.accepting.proofs.reading.Basics.{both-left, both-right, impossible}
 use Rattle.accepting.proofs.reading.Lists.{member-every}
 use Rattle.accepting.proofs.reading.PatternFacts.{pattern-facts}
-use Rattle.accepting.proofs.reading.Conditions.{allKnown}
 use Rattle.accepting.proofs.reading.Sentences.{symbols-spelled, parts-spelled}
 use Rattle.accepting.proofs.roundtrip.Remaining.{remaining, remaining-token}
 use Rattle.meaning.proofs.laws.Words.{by-class}
@@ -56,20 +55,21 @@ record ConditionsListed (at : ℕ) (bytes : Bytes) (cs : List Condition) (rest :
   past : ℕ
   derived : IsConditions (remaining inside at bytes) cs (remaining inside past rest)
 
-condition-lists : (class : Class) (x : Name) (truth : Bool) (cs : List Condition) (text rest : Bytes) → spelledIdentifier x ≡ true →
+-- a condition on a variable that begins with the byte v: s or e
+condition-lists : (class : Class) (v b : ℕ) (x : Name) (on : Subject) (truth : Bool) (cs : List Condition) (text rest : Bytes) →
+    inClass alphabetic v ≡ true → IsSubject (word (v ∷ b ∷ x)) on → spelledIdentifier (b ∷ x) ≡ true →
     ((at : ℕ) → ConditionsListed at text cs rest) → (at : ℕ) →
     ConditionsListed at
-    (44 ∷ 32 ∷ 60 ∷ (className class ++ 32 ∷ 115 ∷ (x ++ 62 ∷ 58 ∷ 32 ∷ 39 ∷ truthByte truth ∷ 39 ∷ text)))
-    (record { predicate = class; variable = x; expected = truth } ∷ cs)
+    (44 ∷ 32 ∷ 60 ∷ (className class ++ 32 ∷ v ∷ ((b ∷ x) ++ 62 ∷ 58 ∷ 32 ∷ 39 ∷ truthByte truth ∷ 39 ∷ text)))
+    (record { predicate = class; subject = on; expected = truth } ∷ cs)
     rest
-condition-lists class [] truth cs text rest spelled later at = impossible spelled
-condition-lists class (b ∷ x) truth cs text rest spelled later at =
+condition-lists class v b x on truth cs text rest letter is spelled later at =
     let closing : Bytes = 62 ∷ 58 ∷ 32 ∷ 39 ∷ truthByte truth ∷ 39 ∷ text in
-    let named : Bytes = 32 ∷ 115 ∷ ((b ∷ x) ++ closing) in
+    let named : Bytes = 32 ∷ v ∷ ((b ∷ x) ++ closing) in
     let comma = sign-begins inside at 44 (32 ∷ 60 ∷ (className class ++ named)) refl in
     let bracket = after-blank (comma .past) 32 refl (call-begins inside (suc (comma .past)) (className class) named (class-spelled class)) in
     let name = name-begins naming (λ at bytes. refl) (bracket .past) (className class) named (class-spelled class) refl in
-    let variable = variable-begins (name .past) 115 (b ∷ x) closing refl (both-left (every wordByte (b ∷ x)) _ spelled) refl in
+    let variable = variable-begins (name .past) v (b ∷ x) closing letter (both-left (every wordByte (b ∷ x)) _ spelled) refl in
     let close = sign-begins inside (variable .past) 62 (58 ∷ 32 ∷ 39 ∷ truthByte truth ∷ 39 ∷ text) refl in
     let colon = sign-begins inside (close .past) 58 (32 ∷ 39 ∷ truthByte truth ∷ 39 ∷ text) refl in
     let l = later (suc (colon .past) + 3) in
@@ -77,25 +77,43 @@ condition-lists class (b ∷ x) truth cs text rest spelled later at =
       past = l .past;
       derived =
           rw (comma .tokens, bracket .tokens, name .tokens, variable .tokens, close .tokens, colon .tokens, truth-lexed (colon .past) truth text)
-          (conditionThen (isCondition (class-named class)) (l .derived));
+          (conditionThen (isCondition (class-named class) is) (l .derived));
     }
 
-condition-regroup : (n x truth cs rest : Bytes) → ((n ++ 32 ∷ 115 ∷ (x ++ truth)) ++ cs) ++ rest ≡ n ++ 32 ∷ 115 ∷ (x ++ (truth ++ (cs ++ rest)))
+condition-regroup : (n x truth cs rest : Bytes) → ((n ++ (x ++ truth)) ++ cs) ++ rest ≡ n ++ (x ++ (truth ++ (cs ++ rest)))
 condition-regroup n x truth cs rest =
-    append-assoc (n ++ 32 ∷ 115 ∷ (x ++ truth)) cs rest
-    ∙ (append-assoc n (32 ∷ 115 ∷ (x ++ truth)) (cs ++ rest) ∙ ap (λ z. n ++ 32 ∷ 115 ∷ z) (append-assoc x truth (cs ++ rest)))
+    append-assoc (n ++ (x ++ truth)) cs rest
+    ∙ (append-assoc n (x ++ truth) (cs ++ rest) ∙ ap (λ z. n ++ z) (append-assoc x truth (cs ++ rest)))
 
-conditions-listed : (symbols : List Name) → every spelledIdentifier symbols ≡ true → (cs : List Condition) → allKnown symbols cs ≡ true → (rest : Bytes) (at : ℕ) →
-    ConditionsListed at (conditionsText cs ++ rest) cs rest
-unfolding conditionsText every
-conditions-listed symbols known [] members rest at = record { past = at; derived = noConditions }
-conditions-listed symbols known (c ∷ cs) members rest at =
-    rw
-    (condition-regroup (className (c .predicate)) (c .variable) (62 ∷ 58 ∷ 32 ∷ 39 ∷ truthByte (c .expected) ∷ 39 ∷ []) (conditionsText cs) rest)
-    (condition-lists (c .predicate) (c .variable) (c .expected) cs (conditionsText cs ++ rest) rest
-    (member-every spelledIdentifier (c .variable) symbols known (both-left (member (c .variable) symbols) _ members))
-    (conditions-listed symbols known cs (both-right (member (c .variable) symbols) _ members) rest)
-    at)
+module _ (symbols parts : List Name) (spelledSymbols : every spelledIdentifier symbols ≡ true)
+    (spelledParts : every spelledIdentifier parts ≡ true) where
+  subject-lists : (class : Class) (on : Subject) (truth : Bool) (cs : List Condition) (text rest : Bytes) → ofPattern symbols parts on ≡ true →
+      ((at : ℕ) → ConditionsListed at text cs rest) → (at : ℕ) →
+      ConditionsListed at
+      (44 ∷ 32 ∷ 60 ∷ (className class ++ (subjectText on ++ 62 ∷ 58 ∷ 32 ∷ 39 ∷ truthByte truth ∷ 39 ∷ text)))
+      (record { predicate = class; subject = on; expected = truth } ∷ cs)
+      rest
+  subject-lists class (ofSymbol []) truth cs text rest m later at = impossible (member-every spelledIdentifier [] symbols spelledSymbols m)
+  subject-lists class (ofSymbol (b ∷ x)) truth cs text rest m later at =
+      condition-lists class 115 b x (ofSymbol (b ∷ x)) truth cs text rest refl symbolSubject
+      (member-every spelledIdentifier (b ∷ x) symbols spelledSymbols m) later at
+  subject-lists class (ofPart []) truth cs text rest m later at = impossible (member-every spelledIdentifier [] parts spelledParts m)
+  subject-lists class (ofPart (b ∷ x)) truth cs text rest m later at =
+      condition-lists class 101 b x (ofPart (b ∷ x)) truth cs text rest refl partSubject
+      (member-every spelledIdentifier (b ∷ x) parts spelledParts m) later at
+
+  conditions-listed : (cs : List Condition) → allOfPattern symbols parts cs ≡ true → (rest : Bytes) (at : ℕ) →
+      ConditionsListed at (conditionsText cs ++ rest) cs rest
+  unfolding conditionsText every
+  conditions-listed [] members rest at = record { past = at; derived = noConditions }
+  conditions-listed (c ∷ cs) members rest at =
+      rw
+      (condition-regroup (className (c .predicate)) (subjectText (c .subject)) (62 ∷ 58 ∷ 32 ∷ 39 ∷ truthByte (c .expected) ∷ 39 ∷ [])
+      (conditionsText cs) rest)
+      (subject-lists (c .predicate) (c .subject) (c .expected) cs (conditionsText cs ++ rest) rest
+      (both-left (ofPattern symbols parts (c .subject)) _ members)
+      (conditions-listed cs (both-right (ofPattern symbols parts (c .subject)) _ members) rest)
+      at)
 
 -- after a pattern comes `,` or a blank
 conditions-parted : (cs : List Condition) (rest : Bytes) → Parted rest → Parted (conditionsText cs ++ rest)
@@ -175,17 +193,19 @@ module _ (s : Sentence) (more : Bytes) (at : ℕ) where
       let others = both-right (allowedPattern p) _ allows in
       let spelled = pattern-facts p (both-left (allowedPattern p) _ allows) .spelled in
       let symbols = symbols-spelled [] p refl spelled in
-      let known = both-left (allowedConditions (symbolsOf p) (s .conditions)) _ others in
-      let members = both-left (allKnown (symbolsOf p) (s .conditions)) (leb (length (s .conditions)) maxConditions) known in
+      let known = both-left (allowedConditions (symbolsOf p) (partsOf p) (s .conditions)) _ others in
+      let members = both-left (allOfPattern (symbolsOf p) (partsOf p) (s .conditions)) (leb (length (s .conditions)) maxConditions) known in
       let legible =
       allowed-legible (symbolsOf p) (partsOf p) (s .expression) symbols (parts-spelled p spelled)
-      (both-right (allowedConditions (symbolsOf p) (s .conditions)) _ others)
+      (both-right (allowedConditions (symbolsOf p) (partsOf p) (s .conditions)) _ others)
       in
       let line = line-listed at wholeLine more in
       let first =
       pattern-listed p (both-left (allowedPattern p) _ allows) afterPattern
       (conditions-parted (s .conditions) (32 ∷ 61 ∷ afterEquals) refl) (line .start)
       in
-      let conditions = conditions-listed (symbolsOf p) symbols (s .conditions) members (32 ∷ 61 ∷ afterEquals) (first .past) in
+      let conditions =
+      conditions-listed (symbolsOf p) (partsOf p) symbols (parts-spelled p spelled) (s .conditions) members (32 ∷ 61 ∷ afterEquals) (first .past)
+      in
       let equals = after-blank (conditions .past) 32 refl (sign-begins inside (suc (conditions .past)) 61 afterEquals refl) in
       parts-listed line first conditions equals (expression-listed (s .expression) legible (59 ∷ 10 ∷ more) refl (equals .past))

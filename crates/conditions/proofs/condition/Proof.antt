@@ -16,7 +16,7 @@ returns c =
 
 opened : (c : tie.After-lex) → let at-at = c .before .before in
     let a = at-at .before .before .before .before .before .args in
-    OpenedAt (a .text .now) (a .table .now) (a .symbols) (a .from) (a .words) (at-at .at .given .0 .0) (c .lex .result)
+    OpenedAt (a .text .now) (a .table .now) (a .symbols) (a .parts) (a .from) (a .words) (at-at .at .given .0 .0) (c .lex .result)
 opened c =
     let at-at = c .before .before in
     let p = at-at .before .before .before .before .before .pre in

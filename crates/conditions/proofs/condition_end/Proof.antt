@@ -12,7 +12,8 @@ use Rattle.conditions.proofs.Conditioned.{ClosingAt, end-no-close, end-
 returns : tie.Need-returns
 returns c =
     let at-pass = c .before .before .before in
-    λ k e. end-no-close (at-pass .before .before .pre .1) k (rw (c .before .fault .given .1) at (at-pass .pass .ensures))
+    let entry = at-pass .before .before in
+    λ k e. end-no-close (entry .args .is-part) (entry .pre .1) k (rw (c .before .fault .given .1) at (at-pass .pass .ensures))
 
 abbrev start : tie.After-at → tie.Start
 start c = c .before .before .before .before
@@ -27,7 +28,8 @@ returns-2 : tie.Need-returns-2
 returns-2 c =
     let at-pass2 = c .before .before .before in
     let at-at = at-pass2 .before .before in
-    λ k e. end-no-colon (start at-at .pre .1) k (closed at-at) (rw (c .before .fault2 .given .1) at (at-pass2 .pass2 .ensures))
+    λ k e. end-no-colon (start at-at .args .is-part) (start at-at .pre .1) k (closed at-at)
+    (rw (c .before .fault2 .given .1) at (at-pass2 .pass2 .ensures))
 
 parted : (c : tie.After-at2) → let at-at = c .before .before .before .before in
     let a = start at-at .args in
@@ -38,6 +40,9 @@ first : (c : tie.After-lex) → let at-at2 = c .before .before in
     let a = start (at-at2 .before .before .before .before) .args in
     Comes (a .text .now) inside (at-at2 .at2 .given .0 .0) (c .lex .result)
 first c = comes _ inside _ _ (parted (c .before .before) .inside) (c .lex .ensures)
+
+abbrev started : tie.After-truth-in → tie.Start
+started c = start (c .before .before .before .before .before .before .before)
 
 closing : (c : tie.After-truth-in) → let at-at2 = c .before .before .before in
     let at-at = at-at2 .before .before .before .before in
@@ -53,12 +58,17 @@ truth-in-requires : tie.Need-truth-in-requires
 truth-in-requires c κs = let m = first c in record { forward = m .forward; inside = m .inside; sound = m .sound }
 
 returns-3 : tie.Need-returns-3
-returns-3 c = λ k e. end-no-truth (closing (c .before .before)) k (c .before .if1 .taken) (c .refuse .ensures)
+returns-3 c =
+    let at-truth-in = c .before .before in
+    λ k e. end-no-truth (started at-truth-in .args .is-part) (closing at-truth-in) k (c .before .if1 .taken) (c .refuse .ensures)
 
 returns-4 : tie.Need-returns-4
 returns-4 c =
-    let at-if1 = c .before .before .before in
-    λ k e. end-reads (closing (at-if1 .before)) k (start (at-if1 .before .before .before .before .before .before .before .before) .pre .2) e (at-if1 .if1 .left) refl (c .put-named .ensures)
+    let at-kind-number = c .before .before .before in
+    let at-if1 = at-kind-number .before in
+    let s = started (at-if1 .before) in
+    λ k e. end-reads (s .args .is-part) (closing (at-if1 .before)) k (s .pre .2) e (at-if1 .if1 .left) (at-kind-number .kind-number .ensures) refl
+    (c .put-named .ensures)
 
 pub condition-end-spec : {M : Type 1} → statement M
 condition-end-spec =
@@ -76,6 +86,8 @@ condition-end-spec =
     truth-in-requires
     (λ c κs. search needs)
     returns-3
+    (λ c κs. search needs)
+    (λ c. search needs)
     (λ c. search needs)
     (λ c. search needs)
     (λ c. search needs)

@@ -2,30 +2,36 @@
 use borrow.Author.Needs.{needs}
 use Rattle.conditions.proofs.condition_on.Statement.{statement}
 use Rattle.conditions.proofs.condition_on.Tie as tie
+use mathlib.Core.Path.{sym, _∙_}
 use Rattle.meaning.specs.Tokens.{inside}
 use Rattle.lexing.proofs.Stream.{comes}
 use Rattle.bookkeeping.specs.Answered.{numberOf}
-use Rattle.conditions.proofs.Conditioned.{OnToken, OnSymbol, OnAsked, on-no-symbol, on-inside, on-wrong, on-before, on-reads}
+use Rattle.conditions.proofs.Conditioned.{OnToken, OnVariable, OnAsked, on-no-variable, on-variable, on-inside, on-wrong, on-before, on-reads}
 
 abbrev start : tie.After-lex → tie.Start
 start c = c .before .before .before
 
-looked : (c : tie.After-lex) → let a = start c .args in OnToken (a .text .now) (a .table .now) (a .symbols) (a .from) (a .words) (c .lex .result)
+looked : (c : tie.After-lex) → let a = start c .args in
+    OnToken (a .text .now) (a .table .now) (a .symbols) (a .parts) (a .from) (a .words) (c .lex .result)
 looked c =
     let p = start c .pre in
     record { known = p .1; ready = p .0; first = comes _ inside _ _ (p .0 .inside) (c .lex .ensures) }
 
-symbol : (c : tie.After-token) → OnSymbol (looked (c .before .before)) (c .token .given .0 .0)
-symbol c = record { symbol = c .token .given .1 }
+variable : (c : tie.After-is-part) → let v = c .is-part .given .0 in OnVariable (looked (c .before .before .before)) (v .0) (v .1 .0)
+variable c = on-variable (sym (c .is-part .given .1) ∙ c .before .before .variable-in .ensures)
 
-asked : (c : tie.After-is-accepted) → OnAsked (symbol (c .before .before .before)) (numberOf (c .before .later-symbol-fault .result)) (c .is-accepted .result)
-asked c = record { fault = c .before .later-symbol-fault .ensures; accepted = c .is-accepted .ensures }
+asked : (c : tie.After-is-accepted)
+    → OnAsked (variable (c .before .before .before)) (numberOf (c .before .subject-fault .result)) (c .is-accepted .result)
+asked c = record { fault = c .before .subject-fault .ensures; accepted = c .is-accepted .ensures }
 
 returns : tie.Need-returns
-returns c = λ k e. on-no-symbol (looked (c .before .before)) k (c .before .match .keys2) (c .refuse .ensures)
+returns c =
+    let at-variable-in = c .before .before .before in
+    let other = sym (c .before .enum-told .given .1) ∙ at-variable-in .variable-in .ensures in
+    λ k e. on-no-variable (looked (at-variable-in .before)) k other (c .refuse .ensures)
 
-later-symbol-fault-requires : tie.Need-later-symbol-fault-requires
-later-symbol-fault-requires c κs = (on-inside (symbol (c .before)), start (c .before .before .before) .pre .1)
+subject-fault-requires : tie.Need-subject-fault-requires
+subject-fault-requires c κs = (on-inside (variable (c .before)), start (c .before .before .before .before) .pre .1)
 
 returns-2 : tie.Need-returns-2
 returns-2 c = λ k e. on-wrong (asked (c .before)) k (c .if1 .taken)
@@ -33,7 +39,7 @@ returns-2 c = λ k e. on-wrong (asked (c .before)) k (c .if1 .taken)
 condition-end-requires : tie.Need-condition-end-requires
 condition-end-requires c κs =
     let b = on-before (asked (c .before .before)) (c .before .if1 .left) in
-    (b .0, b .1, start (c .before .before .before .before .before .before .before) .pre .2)
+    (b .0, b .1, start (c .before .before .before .before .before .before .before .before) .pre .2)
 
 returns-3 : tie.Need-returns-3
 returns-3 c = λ k e. on-reads (asked (c .before .before .before)) (c .before .before .if1 .left) k (c .condition-end .ensures k e)
@@ -43,10 +49,12 @@ condition-on-spec =
     tie.close
     (tie.spec
     (λ c κs. search needs)
+    (λ c κs. search needs)
+    (λ c. search needs)
     (λ c. search needs)
     (λ c κs. search needs)
     returns
-    later-symbol-fault-requires
+    subject-fault-requires
     (λ c κs. search needs)
     returns-2
     condition-end-requires

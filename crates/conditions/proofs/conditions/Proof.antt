@@ -9,24 +9,25 @@ use borrow.Author.Tests.{not-true, not-false}
 use Rattle.meaning.specs.Tokens.{inside}
 use Rattle.lexing.proofs.Stream.{comes}
 use Rattle.bookkeeping.specs.declared.progress.Parsed.{Parsed}
-use Rattle.bookkeeping.specs.Items.{symbolNames}
+use Rattle.bookkeeping.specs.Items.{symbolNames, partNames}
 use Rattle.conditions.proofs.Conditioned.{Conditioned, LookedAt, condition-ready, conditions-start, conditions-done, conditions-many, ConditionsOn, conditions-on}
 
 abbrev Inv-loop : tie.InvT-loop
-Inv-loop text tape₀ table symbols from words s₀ left₀ tape s left =
-    Conditioned text tape₀ (symbolNames text table symbols) from words tape (s .at) (s .words) left
+Inv-loop text tape₀ table symbols parts from words s₀ left₀ tape s left =
+    Conditioned text tape₀ (symbolNames text table symbols) (partNames text table parts) from words tape (s .at) (s .words) left
 
 abbrev μ-loop : tie.MeasureT-loop
-μ-loop text tape₀ table symbols from words s₀ left₀ tape s left = left
+μ-loop text tape₀ table symbols parts from words s₀ left₀ tape s left = left
 
 loop-holds : tie.Need-loop-holds Inv-loop μ-loop
-loop-holds c = conditions-start _ _ _ _ _ (c .before .before .pre .0)
+loop-holds c = conditions-start _ _ _ _ _ _ (c .before .before .pre .0)
 
 abbrev Look : tie.After-is-sign Inv-loop μ-loop → Bool → Type 0
 Look c comma =
     let l = c .before .before .loop in
     let a = c .before .before .before .before .before .args in
-    LookedAt (a .text .now) (a .tape .now) (symbolNames (a .text .now) (a .table .now) (a .symbols)) (a .from) (a .words) (l .tape) (l .s .at) (l .s .words) (l .left)
+    LookedAt (a .text .now) (a .tape .now) (symbolNames (a .text .now) (a .table .now) (a .symbols))
+    (partNames (a .text .now) (a .table .now) (a .parts)) (a .from) (a .words) (l .tape) (l .s .at) (l .s .words) (l .left)
     (c .before .lex .result) comma
 
 looked : (c : tie.After-is-sign Inv-loop μ-loop) {comma : Bool} → c .is-sign .result ≡ comma → Look c comma

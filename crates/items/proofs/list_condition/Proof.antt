@@ -13,18 +13,19 @@ put-all-requires c κs = omega (arith, ending-size (c .before .before .before .b
 put-class-requires : tie.Need-put-class-requires
 put-class-requires c κs = omega (arith, ending-size (c .before .before .before .before .before .before .before .before .before .before .before .args .state))
 
-put-all-requires-2 : tie.Need-put-all-requires-2
-put-all-requires-2 c κs =
-    let a = c .before .before .before .before .before .before .before .before .before .before .before .before .before .before .before .before .args in
+put-letter-requires : tie.Need-put-letter-requires
+put-letter-requires c κs =
+    let a = c .before .before .before .before .before .before .before .before .before .before .before .before .before .before .before .args in
     omega (arith, ending-size (a .state), class-size (a .carried % 5))
 
 returns : tie.Need-returns
 returns c =
-    let at-put-all2 = c .before .before .before in
-    let at-put-class = at-put-all2 .before .before .before .before .before in
+    let at-put-letter = c .before .before .before in
+    let at-put-class = at-put-letter .before .before .before .before in
     let at-put-all = at-put-class .before .before .before .before in
     let opened = put-then (at-put-all .before .before .before .before .before .put-ending .ensures) (at-put-all .put-all .ensures) in
-    record { state = rw (c .truth-byte .ensures); put = put-then (put-then opened (at-put-class .put-class .ensures)) (at-put-all2 .put-all2 .ensures) }
+    let named = put-then opened (at-put-class .put-class .ensures) in
+    record { state = rw (c .truth-byte .ensures); put = put-then named (at-put-letter .put-letter .ensures) }
 
 pub list-condition-spec : {M : Type 1} → statement M
 list-condition-spec =
@@ -34,8 +35,7 @@ list-condition-spec =
     (λ c. search needs)
     put-all-requires
     put-class-requires
-    (λ c. search needs)
-    put-all-requires-2
+    put-letter-requires
     (λ c κs. search needs)
     (λ c. search needs)
     returns)

@@ -1,7 +1,7 @@
 -- The cells of a field and the tests on them, as matching asks for them.
 use Prim.Native.Nat.{ℕ, zero, suc, _+_, _*_, _≤_, _<_, _%_}
 use native.Mathlib.Omega.{arith}
-use mathlib.Core.Path.{_≡_, refl}
+use mathlib.Core.Path.{_≡_, refl, _∙_}
 use mathlib.Core.Bool.{Bool}
 use mathlib.Core.Option.{Option, none, some}
 use lib.Arith.{mod-mul}
@@ -84,8 +84,8 @@ none-of n a b c x y z other h h′ h″ = simp (ne-eqb n a h, ne-eqb n b h′, n
 pub metric-unknown : (w : ℕ) → (numberIn w ≡ 16 → ⊥) → (numberIn w ≡ 17 → ⊥) → (numberIn w ≡ 18 → ⊥) → metricIn w ≡ none
 metric-unknown w = none-of (numberIn w) 16 17 18 _ _ _ none
 
-pub test-unknown : (w : ℕ) → (numberIn w ≡ 1 → ⊥) → (numberIn w ≡ 2 → ⊥) → (numberIn w ≡ 3 → ⊥) → testOf w ≡ unknownTest
-test-unknown w = none-of (numberIn w) 1 2 3 _ _ _ unknownTest
+pub test-unknown : (w : ℕ) → (numberIn w ≡ 1 → ⊥) → (numberIn w ≡ 2 → ⊥) → (numberIn w ≡ 3 → ⊥) → (numberIn w ≡ 20 → ⊥) → testOf w ≡ unknownTest
+test-unknown w h h′ h″ last = none-of (numberIn w) 1 2 3 _ _ _ _ h h′ h″ ∙ rw (ne-eqb (numberIn w) 20 last)
 
 -- a word whose number is 1, by its register
 pub look-from : (w register : ℕ) → w % 65536 ≡ register * 256 + 1 → testOf w ≡ lookOf (siteOf register (secondIn w)) (thirdIn w)

@@ -1,14 +1,17 @@
--- The cells that a template's sites show: counted on from p, on from the middle place, or back from q, they are the bytes that lie under the template.
+-- The cells that sites show. Those of a template, counted on from p, on from the middle place, or back from q, are the bytes that lie under it; those
+-- between the two sites of an e-variable are its part.
 use Prim.Native.Nat.{ℕ, zero, suc, _+_, _-_, _<_}
 use native.Mathlib.Omega.{arith}
-use mathlib.Core.Path.{_≡_, refl}
+use mathlib.Core.Path.{_≡_, refl, ap}
 use mathlib.Core.List.{[], _∷_, _++_}
+use mathlib.Core.Option.{Option, some}
 use lib.ListN.{length, length-append}
+use lib.Seq.{take-at, drop-at}
 use borrow.Author.Tests.{le-leb}
 use Rattle.meaning.specs.Choice.{Bytes, nth}
 use Rattle.meaning.specs.Instructions.{Site, fromStart, fromEnd, fromPlace}
-use Rattle.meaning.specs.Matching.{cellAt}
-use Rattle.meaning.specs.Translation.{beforeEnd}
+use Rattle.meaning.specs.Matching.{cellAt, cellsBefore, cut, cellsBetween}
+use Rattle.meaning.specs.Translation.{beforeEnd, Bounds}
 use Rattle.meaning.specs.Packing.{siteOffset}
 
 -- what `template-tested` asks of the sites
@@ -46,3 +49,35 @@ module _ (field front bytes back : Bytes) (place : ℕ) (lies : field ≡ front 
 
   pub end-shows : (n : ℕ) → length bytes ≡ n → length back ≡ 0 → Shows field place (beforeEnd n) bytes
   end-shows n size none k h = behind (siteOffset (beforeEnd n (0 + k))) k none h (omega arith)
+
+-- PARTS
+
+-- what an e-variable took lies between its two sites
+pub record Between (field : Bytes) (place : ℕ) (b : Bounds) (o : Option Bytes) : Type 0 where
+  pub piece : Bytes
+  pub taken : o ≡ some piece
+  pub cells : cellsBetween (b .from) (b .to) field place ≡ some piece
+
+-- as many cells lie before the first site as are in front, and the piece more before the second
+module _ (field front piece back : Bytes) (place : ℕ) (lies : field ≡ front ++ (piece ++ back)) where
+  cut-shows : cut (some (length front)) (some (length front + length piece)) field ≡ some piece
+  cut-shows =
+      let long : length field ≡ length front + (length piece + length back) =
+      rw (lies, length-append front (piece ++ back), length-append piece back)
+      in
+      let size : length front + length piece - length front ≡ length piece = omega arith in
+      rw (
+        le-leb (length front) (length front + length piece) (omega arith),
+        le-leb (length front + length piece) (length field) (omega arith),
+        size,
+        lies,
+        drop-at front (piece ++ back) (length front) refl,
+        take-at piece back (length piece) refl,
+      )
+
+  pub between-shows : (b : Bounds) → cellsBefore (b .from) (length field) place ≡ some (length front) →
+      cellsBefore (b .to) (length field) place ≡ some (length front + length piece) → Between field place b (some piece)
+  between-shows b from to = record { piece = piece; taken = refl; cells = rw (from, to) cut-shows }
+
+pub end-before : (k n whole place : ℕ) → n + k ≡ whole → cellsBefore (fromEnd k) whole place ≡ some n
+end-before k n whole place e = rw (le-leb k whole (omega arith)) (ap some (omega arith))

@@ -9,7 +9,7 @@ use lib.ListN.{length}
 use Rattle.meaning.specs.Choice.{Name, Named, isSome, every, sameBytes, lookup, nth}
 use Rattle.meaning.specs.Tree.{Letter, character, symbol, Element, part, Sentence, Function, Table}
 use Rattle.meaning.specs.Rewriting.{sentencesOf, functionAt}
-use Rattle.meaning.specs.Allowed.{maxNesting, member, added, symbolsFrom, symbolsOf, partsOf, distinct, nesting, spelledItems, comingAfterAll, allowedSentence, allowedFunction, callsKnown, allowed}
+use Rattle.meaning.specs.Allowed.{maxNesting, member, added, symbolsFrom, symbolsOf, partsOf, allOfPattern, distinct, nesting, spelledItems, comingAfterAll, allowedSentence, allowedFunction, callsKnown, allowed}
 use Rattle.meaning.specs.Instructions.{Site, fromStart, fromPlace}
 use Rattle.meaning.specs.Translation.{Shape, fixed, open₁, open₂, shapeOf, Tested, testedSymbol, testedLetter, testedTemplate, beforeEnd, untested, testedShape, atStart}
 use Rattle.meaning.proofs.laws.Choosing.{given-some, same-bytes, namesIn, names-append, member-bound, distinct-second}
@@ -75,7 +75,7 @@ allowable : (table : Table) (s : Sentence) → T (allowedSentence s) → T (call
 allowable table s a calls =
     let few : T (leb (length (partsOf (s .pattern))) 2) = search (both-left, both-right) depth 8 in
     let names : T (distinct (symbolsOf (s .pattern) ++ partsOf (s .pattern))) = search (both-left, both-right) depth 8 in
-    let conditions : T (every (λ c. member (c .variable) (symbolsOf (s .pattern))) (s .conditions)) = search (both-left, both-right) depth 8 in
+    let conditions : T (allOfPattern (symbolsOf (s .pattern)) (partsOf (s .pattern)) (s .conditions)) = search (both-left, both-right) depth 8 in
     let items : T (spelledItems (symbolsOf (s .pattern)) (s .expression)) = search (both-left, both-right) depth 8 in
     let order : T (isSome (comingAfterAll (s .expression) (partsOf (s .pattern)))) = search (both-left, both-right) depth 8 in
     let deep : T (leb (nesting (s .expression)) maxNesting) = search (both-left, both-right) depth 8 in
@@ -87,7 +87,7 @@ allowable table s a calls =
       pattern = p;
       apart = named-apart (shapeOf (s .pattern)) (rw (← parts)
           (true-passed (distinct (partsOf (s .pattern))) (distinct-second (symbolsOf (s .pattern)) (partsOf (s .pattern)) (passed-true _ names))));
-      asks = rw (← symbols) conditions;
+      asks = rw (← symbols, ← parts) conditions;
       spelled = rw (← symbols) items;
       later = l .value;
       coming = rw (← parts) (l .is);

@@ -10,16 +10,16 @@ use lib.Dec.{T, leb, leb→le, eqb, eqb→eq}
 use lib.ListN.{length, take, drop, length-append, length-drop, take-append-drop}
 use lib.Seq.{length-take-le}
 use borrow.Author.Tests.{eqb-false, leb-false}
-use Rattle.meaning.specs.Choice.{Bytes, Name, Named, pick, guard, every, sameBytes}
+use Rattle.meaning.specs.Choice.{Bytes, Name, Named, pick, guard, sameBytes}
 use Rattle.meaning.specs.Tree.{Letter, part, Condition}
 use Rattle.meaning.specs.Rewriting.{Bindings, unbound, hold, shortest, withSymbols, withPart, match}
-use Rattle.meaning.specs.Allowed.{whereSome, member}
+use Rattle.meaning.specs.Allowed.{whereSome, allOfPattern}
 use Rattle.meaning.specs.Instructions.{Site, fromStart, fromPlace}
 use Rattle.meaning.specs.Matching.{Checked, wherePassed, checkAll, search, placesOf, firstPlace, place, storedValues}
 use Rattle.meaning.specs.Translation.{Shape, fixed, open₁, open₂, metricOf, Tested, testedTemplate, beforeEnd, untested, testedShape, conditionTest, testsOf, atStart}
 use Rattle.meaning.proofs.laws.Choosing.{namesIn}
 use Rattle.meaning.proofs.agreement.Choosing.{true-passed, where-same, where-none, where-strict}
-use Rattle.meaning.proofs.agreement.Standing.{Standing}
+use Rattle.meaning.proofs.agreement.Standing.{comingAt, Standing}
 use Rattle.meaning.proofs.agreement.Templates.{templateMatch, Known, nothing, Tried, fails, passes, next, checkAll-append, template-tested, conditions-tested}
 use Rattle.meaning.proofs.agreement.Patterns.{templated, elementsOf, letters-templated, letters-part, match-short, match-exact, match-template, shortest-none, shortest-one}
 use Rattle.meaning.proofs.agreement.Places.{Trial, unfit, fit, Agreeing, neither, only, search-shortest}
@@ -51,9 +51,9 @@ fitting {field} {at} {known} {parts} k laid =
       whole = laid .whole;
     }
 
--- conditions asked of what is known
-abbrev pub holding : List Condition → List (Named ℕ) → Option (List (Named ℕ))
-holding cs known = guard (hold cs known) (some known)
+-- conditions asked of what is known and of the parts
+abbrev pub holding : List Condition → List (Named Bytes) → List (Named ℕ) → Option (List (Named ℕ))
+holding cs parts known = guard (hold cs (bindings known parts)) (some known)
 
 abbrev pub boundTo : List (Named Bytes) → List (Named ℕ) → Option Bindings
 boundTo parts known = some (bindings known parts)
@@ -62,7 +62,8 @@ boundTo parts known = some (bindings known parts)
 
 -- a template at the end of the text, then the conditions
 match-last : (ls : List Letter) (cs : List Condition) (bytes : Bytes) (bound : Bindings) → length bytes ≡ length ls →
-    match (templated ls []) cs bytes bound ≡ whereSome (whereSome (templateMatch ls bytes (bound .symbols)) (holding cs)) (boundTo (bound .parts))
+    match (templated ls []) cs bytes bound ≡
+    whereSome (whereSome (templateMatch ls bytes (bound .symbols)) (holding cs (bound .parts))) (boundTo (bound .parts))
 unfolding match
 match-last ls cs bytes bound size = rw append-nil at (match-template ls [] cs bytes [] bound size) ∙ held (templateMatch ls bytes (bound .symbols))
   where
@@ -70,36 +71,44 @@ match-last ls cs bytes bound size = rw append-nil at (match-template ls [] cs by
     asked known true = refl
     asked known false = refl
 
-    held : (o : Option (List (Named ℕ))) → whereSome o (λ known. guard (hold cs known) (some (withSymbols bound known))) ≡
-        whereSome (whereSome o (holding cs)) (boundTo (bound .parts))
+    held : (o : Option (List (Named ℕ))) → whereSome o (λ known. guard (hold cs (withSymbols bound known)) (some (withSymbols bound known))) ≡
+        whereSome (whereSome o (holding cs (bound .parts))) (boundTo (bound .parts))
     held none = refl
-    held (some known) = asked known (hold cs known)
+    held (some known) = asked known (hold cs (withSymbols bound known))
 
 -- a template, an e-variable's part, and the template at the end of the text
 match-part : (ls : List Letter) (x : Name) (t : List Letter) (cs : List Condition) (bytes p ts : Bytes) (bound : Bindings) → length bytes ≡ length ls → length ts ≡ length t →
     match (templated ls (part x ∷ templated t [])) cs (bytes ++ (p ++ ts)) bound ≡
-    whereSome (whereSome (whereSome (templateMatch ls bytes (bound .symbols)) (templateMatch t ts)) (holding cs)) (boundTo (bound .parts ++ taking x p ∷ []))
+    whereSome (whereSome (whereSome (templateMatch ls bytes (bound .symbols)) (templateMatch t ts)) (holding cs (bound .parts ++ taking x p ∷ [])))
+    (boundTo (bound .parts ++ taking x p ∷ []))
 unfolding match
 match-part ls x t cs bytes p ts bound size sizeTail =
     match-template ls (part x ∷ templated t []) cs bytes (p ++ ts) bound size ∙
-    where-same (templateMatch ls bytes (bound .symbols)) _ (λ known. whereSome (whereSome (templateMatch t ts known) (holding cs)) (boundTo (bound .parts ++ taking x p ∷ [])))
+    where-same (templateMatch ls bytes (bound .symbols)) _
+    (λ known.
+    whereSome (whereSome (templateMatch t ts known) (holding cs (bound .parts ++ taking x p ∷ []))) (boundTo (bound .parts ++ taking x p ∷ [])))
     (λ known.
     shortest-one (λ piece rest. match (templated t []) cs rest (withPart (withSymbols bound known) x piece)) [] p ts
     (λ piece rest other. match-exact t cs rest (withPart (withSymbols bound known) x piece) (omega arith)) ∙
     match-last t cs ts (withPart (withSymbols bound known) x p) sizeTail) ∙
-    where-strict (λ o. whereSome (whereSome o (holding cs)) (boundTo (bound .parts ++ taking x p ∷ []))) (templateMatch ls bytes (bound .symbols)) (templateMatch t ts) refl
+    where-strict (λ o. whereSome (whereSome o (holding cs (bound .parts ++ taking x p ∷ []))) (boundTo (bound .parts ++ taking x p ∷ [])))
+    (templateMatch ls bytes (bound .symbols)) (templateMatch t ts) refl
 
 -- THE TESTS
 
 -- a sentence's tests are its templates' and then its conditions'
-tests-parted : (field : Bytes) (at : ℕ) (cs : List Condition) (d : Tested) →
-    checkAll (testsOf d cs) field at ≡ wherePassed (checkAll (d .tests) field at) (checkAll (map (conditionTest (d .sites)) cs) field at)
-tests-parted field at cs d = checkAll-append field at (d .tests) (map (conditionTest (d .sites)) cs)
+tests-parted : (field : Bytes) (at : ℕ) (cs : List Condition) (shape : Shape) (d : Tested) →
+    checkAll (testsOf shape d cs) field at ≡ wherePassed (checkAll (d .tests) field at) (checkAll (map (conditionTest shape (d .sites)) cs) field at)
+tests-parted field at cs shape d = checkAll-append field at (d .tests) (map (conditionTest shape (d .sites)) cs)
 
 -- all of them against templates and conditions
-all-tested : (field : Bytes) (at : ℕ) (cs : List Condition) (d : Tested) {o : Option (List (Named ℕ))} → T (every (λ c. member (c .variable) (namesIn (d .sites))) cs) →
-    Tried field at (d .sites) (checkAll (d .tests) field at) o → Tried field at (d .sites) (checkAll (testsOf d cs) field at) (whereSome o (holding cs))
-all-tested field at cs d m tried = rw (tests-parted field at cs d) (next field at tried (λ known k. conditions-tested field at (d .sites) cs m known k))
+all-tested : (field : Bytes) (at : ℕ) (cs : List Condition) (shape : Shape) (parts : List (Named Bytes)) (d : Tested) {o : Option (List (Named ℕ))} →
+    Laid shape field at parts → T (allOfPattern (namesIn (d .sites)) (comingAt shape atStart) cs) →
+    Tried field at (d .sites) (checkAll (d .tests) field at) o →
+    Tried field at (d .sites) (checkAll (testsOf shape d cs) field at) (whereSome o (holding cs parts))
+all-tested field at cs shape parts d laid m tried =
+    rw (tests-parted field at cs shape d)
+    (next field at tried (λ known k. conditions-tested field at shape (d .sites) (comingAt shape atStart) parts (laid .between) cs m known k))
 
 -- one place, its parts being laid there
 trial : {shape : Shape} {sites : List (Named Site)} {field : Bytes} {at : ℕ} {parts : List (Named Bytes)} {c : Checked} {o : Option (List (Named ℕ))} → Laid shape field at parts →
@@ -144,21 +153,22 @@ NamedApart (open₁ h x t) = Unit {0}
 NamedApart (open₂ h x m y t) = (z : Name) → sameBytes z x ≡ true → sameBytes z y ≡ true → ⊥
 
 module _ (cs : List Condition) where
-  -- a condition names only s-variables of the templates
+  -- a condition names only s-variables of the templates and e-variables between them
   abbrev pub Asks : Shape → Type 0
-  Asks shape = T (every (λ c. member (c .variable) (namesIn (testedShape shape .sites))) cs)
+  Asks shape = T (allOfPattern (namesIn (testedShape shape .sites)) (comingAt shape atStart) cs)
 
   -- the machine's place for the middle template and its tests, against the matcher
   abbrev pub Agrees : Shape → Bytes → Type 0
   Agrees shape field =
-      Agreeing (Fitting shape (testedShape shape .sites) field) (place (metricOf shape) (testsOf (testedShape shape) cs) field) (match (elementsOf shape) cs field unbound)
+      Agreeing (Fitting shape (testedShape shape .sites) field) (place (metricOf shape) (testsOf shape (testedShape shape) cs) field)
+      (match (elementsOf shape) cs field unbound)
 
   agrees-fixed : (t : List Letter) (field : Bytes) → Asks (fixed t) → Agrees (fixed t) field
   unfolding search checkAll
   agrees-fixed t field asks = sized (eqb (length field) (length t)) refl
     where
       tests : ℕ → Checked
-      tests = checkAll (testsOf (testedShape (fixed t)) cs) field
+      tests = checkAll (testsOf (fixed t) (testedShape (fixed t)) cs) field
 
       sized : (q : Bool) → eqb (length field) (length t) ≡ q →
           Agreeing (Fitting (fixed t) (testedShape (fixed t) .sites) field) (search tests (pick q 1 0) 0) (match (templated t []) cs field unbound)
@@ -167,21 +177,21 @@ module _ (cs : List Condition) where
           rw (match-last t cs field unbound size)
           (only _ tests 0
           (trial (laid-fixed t field)
-          (all-tested field 0 cs (testedShape (fixed t)) asks
+          (all-tested field 0 cs (fixed t) [] (testedShape (fixed t)) (laid-fixed t field) asks
           (template-tested field 0 fromStart 0 t field untested size (start-shows field [] field [] 0 (rw append-nil) refl) (passes nothing)))))
       sized false e = rw (match-exact t cs field unbound (eqb-false (length field) (length t) e)) neither
 
   -- the field is the templates' bytes round the part
   fits-open₁ : (h : List Letter) (x : Name) (t : List Letter) (hs p ts : Bytes) → length hs ≡ length h → length ts ≡ length t → Asks (open₁ h x t) →
       Agreeing (Fitting (open₁ h x t) (testedShape (open₁ h x t) .sites) (hs ++ (p ++ ts)))
-      (search (checkAll (testsOf (testedShape (open₁ h x t)) cs) (hs ++ (p ++ ts))) 1 0)
+      (search (checkAll (testsOf (open₁ h x t) (testedShape (open₁ h x t)) cs) (hs ++ (p ++ ts))) 1 0)
       (match (elementsOf (open₁ h x t)) cs (hs ++ (p ++ ts)) unbound)
   unfolding checkAll
   fits-open₁ h x t hs p ts sizeHead sizeTail asks =
       rw (match-part h x t cs hs p ts unbound sizeHead sizeTail)
-      (only _ (checkAll (testsOf (testedShape (open₁ h x t)) cs) field) 0
-      (trial (laid-open₁ h x t hs p ts sizeHead sizeTail)
-      (all-tested field 0 cs (testedShape (open₁ h x t)) asks
+      (only _ (checkAll (testsOf (open₁ h x t) (testedShape (open₁ h x t)) cs) field) 0
+      (trial laid
+      (all-tested field 0 cs (open₁ h x t) (taking x p ∷ []) (testedShape (open₁ h x t)) laid asks
       (template-tested field 0 (beforeEnd (length t)) 0 t ts (testedTemplate fromStart 0 h untested) sizeTail
       (end-shows field (hs ++ p) ts [] 0 (simp (append-assoc, append-nil)) (length t) sizeTail refl)
       (template-tested field 0 fromStart 0 h hs untested sizeHead (start-shows field [] hs (p ++ ts) 0 refl refl) (passes nothing))))))
@@ -189,13 +199,16 @@ module _ (cs : List Condition) where
       field : Bytes
       field = hs ++ (p ++ ts)
 
+      laid : Laid (open₁ h x t) field 0 (taking x p ∷ [])
+      laid = laid-open₁ h x t hs p ts sizeHead sizeTail
+
   agrees-open₁ : (h : List Letter) (x : Name) (t : List Letter) (field : Bytes) → Asks (open₁ h x t) → Agrees (open₁ h x t) field
   unfolding search
   agrees-open₁ h x t field asks = sized (leb (length h + length t) (length field)) refl
     where
       sized : (q : Bool) → leb (length h + length t) (length field) ≡ q →
           Agreeing (Fitting (open₁ h x t) (testedShape (open₁ h x t) .sites) field)
-          (search (checkAll (testsOf (testedShape (open₁ h x t)) cs) field) (pick q 1 0) 0)
+          (search (checkAll (testsOf (open₁ h x t) (testedShape (open₁ h x t)) cs) field) (pick q 1 0) 0)
           (match (elementsOf (open₁ h x t)) cs field unbound)
       sized true e =
           let a = setApart (length h) (length t) field (leb→le _ _ (true-passed _ e)) in
@@ -208,7 +221,7 @@ module _ (cs : List Condition) where
     shape₂ = open₂ h x m y t
 
     tests₂ : Bytes → ℕ → Checked
-    tests₂ field at = checkAll (testsOf (testedShape shape₂) cs) field at
+    tests₂ field at = checkAll (testsOf shape₂ (testedShape shape₂) cs) field at
 
     -- the head template, then the middle template with what follows it, at one place
     tried₂ : Bytes → Bytes → Bytes → Option Bindings
@@ -222,11 +235,14 @@ module _ (cs : List Condition) where
     place-open₂ hs p ms r ts sizeHead sizeMiddle sizeTail =
         rw (
           where-same (templateMatch h hs []) _ _ (λ known. match-part m y t cs ms r ts (withPart (bindings known []) x p) sizeMiddle sizeTail),
-          where-strict (λ o. whereSome (whereSome (whereSome o (templateMatch t ts)) (holding cs)) (boundTo (taking x p ∷ taking y r ∷ []))) (templateMatch h hs [])
-              (templateMatch m ms) refl,
+          where-strict
+              (λ o.
+              whereSome (whereSome (whereSome o (templateMatch t ts)) (holding cs (taking x p ∷ taking y r ∷ [])))
+              (boundTo (taking x p ∷ taking y r ∷ [])))
+              (templateMatch h hs []) (templateMatch m ms) refl,
         )
-        (trial (laid-open₂ h x m y t hs p ms r ts sizeHead sizeMiddle sizeTail apart)
-        (all-tested field at cs (testedShape shape₂) asks
+        (trial laid
+        (all-tested field at cs shape₂ (taking x p ∷ taking y r ∷ []) (testedShape shape₂) laid asks
         (template-tested field at (beforeEnd (length t)) 0 t ts (testedTemplate fromPlace 0 m (testedTemplate fromStart 0 h untested)) sizeTail
         (end-shows field (hs ++ (p ++ (ms ++ r))) ts [] at (simp (append-assoc, append-nil)) (length t) sizeTail refl)
         (template-tested field at fromPlace 0 m ms (testedTemplate fromStart 0 h untested) sizeMiddle
@@ -238,6 +254,9 @@ module _ (cs : List Condition) where
 
         at : ℕ
         at = length hs + length p
+
+        laid : Laid shape₂ field at (taking x p ∷ taking y r ∷ [])
+        laid = laid-open₂ h x m y t hs p ms r ts sizeHead sizeMiddle sizeTail apart
 
     -- the head template comes off before the search, or stands inside it
     match-open₂ : (hs rest : Bytes) → length hs ≡ length h → match (elementsOf shape₂) cs (hs ++ rest) unbound ≡ shortest (tried₂ hs) [] rest

@@ -1,18 +1,21 @@
 -- How a field lies under its templates and parts, and what that gives the expression: for no, one and two e-variables.
 use Prim.Native.Nat.{ℕ, _+_}
 use native.Mathlib.Omega.{arith}
-use mathlib.Core.Path.{_≡_, refl}
+use mathlib.Core.Path.{_≡_, refl, ap}
 use mathlib.Core.Bool.{Bool, true, false}
 use mathlib.Core.List.{List, [], _∷_, _++_, append-assoc}
 use mathlib.Core.Option.{none, some, Option·some-injective, Option·none-ne-some}
+use lib.Dec.{T}
 use lib.ListN.{length, length-append}
-use Rattle.meaning.specs.Choice.{Bytes, Name, Named, pick, sameBytes, lookup}
+use Rattle.meaning.specs.Choice.{Bytes, Name, Named, pick, either, sameBytes, lookup}
 use Rattle.meaning.specs.Tree.{Letter}
 use Rattle.meaning.specs.Rewriting.{Bindings}
-use Rattle.meaning.specs.Allowed.{comingAfter}
+use Rattle.meaning.specs.Allowed.{member, comingAfter}
+use Rattle.meaning.specs.Instructions.{fromStart, fromEnd, fromPlace}
 use Rattle.meaning.specs.Machine.{Local, spanOf}
-use Rattle.meaning.specs.Translation.{Shape, fixed, open₁, open₂, Stand, atStart, afterFirst, afterSecond, passageOne, passageFirst, gapToSecond, passageSecond, passage, restOf}
+use Rattle.meaning.specs.Translation.{Shape, fixed, open₁, open₂, Stand, atStart, afterFirst, afterSecond, passageOne, passageFirst, gapToSecond, passageSecond, passage, restOf, between, boundsOf}
 use Rattle.meaning.proofs.agreement.Standing.{comingAt, Move}
+use Rattle.meaning.proofs.agreement.Cells.{Between, between-shows, end-before}
 
 abbrev pub bindings : List (Named ℕ) → List (Named Bytes) → Bindings
 bindings symbols parts = record { symbols = symbols; parts = parts }
@@ -24,23 +27,25 @@ taking x piece = record { name = x; value = piece }
 abbrev pub locals : ℕ → ℕ → Bytes → Local
 locals size at values = record { field = size; place = at; values = values; opened = [] }
 
--- a Standing but for the stored values: how the parts lie on the field, the middle template being at a place
+-- a Standing but for the stored values, and what conditions ask for: how the parts lie on the field, the middle template being at a place
 pub record Laid (shape : Shape) (field : Bytes) (at : ℕ) (parts : List (Named Bytes)) : Type 0 where
   pub remaining : Stand → Bytes
   pub whole : remaining atStart ≡ field
   pub toEnd : (values : Bytes) (w : Stand) → spanOf (restOf shape w) (locals (length field) at values) ≡ length (remaining w)
   pub toPart : (values : Bytes) (x : Name) (w : Stand) (later : List Name) → comingAfter x (comingAt shape w) ≡ some later →
       Move shape (locals (length field) at values) remaining w (passage shape x w) (lookup x parts) later
+  pub between : (x : Name) → T (member x (comingAt shape atStart)) → Between field at (boundsOf shape x) (lookup x parts)
 
 -- no e-variable: p stands at the start until the end
 pub laid-fixed : (t : List Letter) (ts : Bytes) → Laid (fixed t) ts 0 []
-unfolding comingAfter
+unfolding comingAfter member
 laid-fixed t ts =
     record {
       remaining = λ w. ts;
       whole = refl;
       toEnd = λ values w. omega arith;
       toPart = λ values x w later e. absurd (Option·none-ne-some later e);
+      between = λ x m. absurd m;
     }
 
 -- one e-variable, with part p
@@ -51,9 +56,17 @@ module _ (h : List Letter) (x : Name) (t : List Letter) (hs p ts : Bytes) (sizeH
   remaining₁ afterSecond = []
 
   pub laid-open₁ : Laid (open₁ h x t) (hs ++ (p ++ ts)) 0 (taking x p ∷ [])
-  unfolding remaining₁ comingAfter lookup
-  laid-open₁ = record { remaining = remaining₁; whole = refl; toEnd = toEnd; toPart = toPart }
+  unfolding remaining₁ comingAfter lookup member
+  laid-open₁ =
+      record { remaining = remaining₁; whole = refl; toEnd = toEnd; toPart = toPart; between = λ y m. bounds (sameBytes y x) m }
     where
+      bounds : (q : Bool) → T (either q false) →
+          Between (hs ++ (p ++ ts)) 0 (between (fromStart (length h)) (fromEnd (length t))) (pick q (some p) none)
+      bounds true m =
+          between-shows (hs ++ (p ++ ts)) hs p ts 0 refl (between (fromStart (length h)) (fromEnd (length t))) (rw sizeHead)
+          (end-before (length t) _ _ 0 (simp length-append (omega arith)))
+      bounds false m = absurd m
+
       toEnd : (values : Bytes) (w : Stand) → spanOf (restOf (open₁ h x t) w) (locals (length (hs ++ (p ++ ts))) 0 values) ≡ length (remaining₁ w)
       toEnd values atStart = omega arith
       toEnd values afterFirst = omega arith
@@ -95,9 +108,22 @@ module _ (h : List Letter) (x : Name) (m : List Letter) (y : Name) (t : List Let
   remaining₂ afterSecond = ts
 
   pub laid-open₂ : Laid (open₂ h x m y t) field₂ (length hs + length p) (taking x p ∷ taking y r ∷ [])
-  unfolding remaining₂ comingAfter lookup
-  laid-open₂ = record { remaining = remaining₂; whole = refl; toEnd = toEnd; toPart = toPart }
+  unfolding remaining₂ comingAfter lookup member
+  laid-open₂ =
+      record { remaining = remaining₂; whole = refl; toEnd = toEnd; toPart = toPart; between = λ z m. bounds (sameBytes z x) (sameBytes z y) m }
     where
+      bounds : (q₁ q₂ : Bool) → T (either q₁ (either q₂ false)) →
+          Between field₂ (length hs + length p)
+          (pick q₁ (between (fromStart (length h)) (fromPlace 0)) (between (fromPlace (length m)) (fromEnd (length t))))
+          (pick q₁ (some p) (pick q₂ (some r) none))
+      bounds true q₂ in₂ =
+          between-shows field₂ hs p (ms ++ (r ++ ts)) (length hs + length p) refl (between (fromStart (length h)) (fromPlace 0)) (rw sizeHead)
+          (ap some (omega arith))
+      bounds false true in₂ =
+          between-shows field₂ (hs ++ (p ++ ms)) r ts (length hs + length p) (simp append-assoc) (between (fromPlace (length m)) (fromEnd (length t)))
+          (ap some (simp length-append (omega arith))) (end-before (length t) _ _ (length hs + length p) (simp length-append (omega arith)))
+      bounds false false in₂ = absurd in₂
+
       l : Bytes → Local
       l values = locals (length field₂) (length hs + length p) values
 

@@ -10,14 +10,16 @@ use mathlib.Core.Option.{Option, none, some}
 use lib.Dec.{T, eqb}
 use lib.ListN.{length}
 use Rattle.meaning.specs.Choice.{Bytes, Name, Named, pick, both, guard, isSome, lookup, nth, every, sameBytes}
-use Rattle.meaning.specs.Classes.{inClass}
-use Rattle.meaning.specs.Tree.{Letter, character, symbol, Condition}
-use Rattle.meaning.specs.Rewriting.{takeSymbol, sameTruth, hold}
-use Rattle.meaning.specs.Allowed.{whereSome, member}
+use Rattle.meaning.specs.Classes.{Class}
+use Rattle.meaning.specs.Tree.{Letter, character, symbol, Subject, ofSymbol, ofPart, Condition}
+use Rattle.meaning.specs.Rewriting.{takeSymbol, holdsFor, hold}
+use Rattle.meaning.specs.Allowed.{whereSome, member, ofPattern, allOfPattern}
 use Rattle.meaning.specs.Instructions.{Site, Test, look, compare}
 use Rattle.meaning.specs.Matching.{cellAt, Checked, passed, failed, wrong, checked, check, wherePassed, checkAll}
-use Rattle.meaning.specs.Translation.{Tested, testedSymbol, testedLetter, testedTemplate, conditionTest}
+use Rattle.meaning.specs.Translation.{Shape, Tested, testedSymbol, testedLetter, testedTemplate, boundsOf, subjectTest, conditionTest}
 use Rattle.meaning.proofs.laws.Choosing.{namesIn, member-bound}
+use Rattle.meaning.proofs.agreement.Cells.{Between}
+use Rattle.meaning.proofs.agreement.Layout.{bindings}
 use Rattle.meaning.proofs.agreement.Choosing.{both-left, both-right, where-last, where-again}
 
 -- one letter against one byte, and a template's letters against as many bytes
@@ -159,19 +161,27 @@ module _ (field : Bytes) (place : ℕ) where
       sited none e t = absurd t
       sited (some s) e t = record { site = s; standing = e; found = looked-some (rw e at (looked k x)) }
 
-  -- conditions are asked of the s-variables that they name
-  pub conditions-tested : (sites : List (Named Site)) (cs : List Condition) → T (every (λ c. member (c .variable) (namesIn sites)) cs) →
-      (known : List (Named ℕ)) → Known sites known →
-      Tried sites (checkAll (map (conditionTest sites) cs) field place) (guard (hold cs known) (some known))
-  unfolding checkAll hold every
-  conditions-tested sites [] m known k = passes k
-  conditions-tested sites (c ∷ cs) m known k =
-      let f = shown k (c .variable) (both-left (member (c .variable) (namesIn sites)) (every (λ c. member (c .variable) (namesIn sites)) cs) m) in
-      rw (f .standing, f .found .there, f .found .cell)
-      (asks (sameTruth (c .expected) (inClass (c .predicate) (f .found .byte)))
-      (conditions-tested sites cs (both-right (member (c .variable) (namesIn sites)) (every (λ c. member (c .variable) (namesIn sites)) cs) m) known k))
-    where
-      asks : (q : Bool) → Tried sites (checkAll (map (conditionTest sites) cs) field place) (guard (hold cs known) (some known)) →
-          Tried sites (wherePassed (checked q) (checkAll (map (conditionTest sites) cs) field place)) (guard (both q (hold cs known)) (some known))
-      asks true later = later
-      asks false later = fails
+  -- what conditions ask of the variables that they name: an s-variable's byte, and an e-variable's part, which lies between its sites
+  module _ (shape : Shape) (sites : List (Named Site)) (names : List Name) (parts : List (Named Bytes))
+      (lie : (x : Name) → T (member x names) → Between field place (boundsOf shape x) (lookup x parts)) where
+    subject-tested : (class : Class) (expected : Bool) (v : Subject) → T (ofPattern (namesIn sites) names v) →
+        (known : List (Named ℕ)) → Known sites known →
+        check (subjectTest shape sites class expected v) field place ≡ checked (holdsFor class expected (bindings known parts) v)
+    subject-tested class expected (ofSymbol x) m known k = let f = shown k x m in rw (f .standing, f .found .there, f .found .cell)
+    subject-tested class expected (ofPart x) m known k = let b = lie x m in rw (b .taken, b .cells)
+
+    pub conditions-tested : (cs : List Condition) → T (allOfPattern (namesIn sites) names cs) → (known : List (Named ℕ)) → Known sites known →
+        Tried sites (checkAll (map (conditionTest shape sites) cs) field place) (guard (hold cs (bindings known parts)) (some known))
+    unfolding checkAll hold every
+    conditions-tested [] m known k = passes k
+    conditions-tested (c ∷ cs) m known k =
+        rw (subject-tested (c .predicate) (c .expected) (c .subject) (both-left (ofPattern (namesIn sites) names (c .subject)) _ m) known k)
+        (asks (holdsFor (c .predicate) (c .expected) (bindings known parts) (c .subject))
+        (conditions-tested cs (both-right (ofPattern (namesIn sites) names (c .subject)) _ m) known k))
+      where
+        asks : (q : Bool) →
+            Tried sites (checkAll (map (conditionTest shape sites) cs) field place) (guard (hold cs (bindings known parts)) (some known)) →
+            Tried sites (wherePassed (checked q) (checkAll (map (conditionTest shape sites) cs) field place))
+            (guard (both q (hold cs (bindings known parts))) (some known))
+        asks true later = later
+        asks false later = fails

@@ -3,16 +3,17 @@ use Prim.Native.Nat.{ℕ, suc, _≤_}
 use native.Mathlib.Omega.{arith}
 use mathlib.Core.Path.{_≡_, refl, ap, _∙_}
 use mathlib.Core.Bool.{Bool, true, false, not}
-use mathlib.Core.List.{List, [], _∷_, _++_}
+use mathlib.Core.List.{List, [], _∷_, _++_, append-nil, append-assoc}
 use mathlib.Core.Option.{Option, none, some}
 use borrow.Author.Tests.{leb-true, eqb-true, eq-eqb, not-true}
 use lib.Dec.{eqb, leb}
 use lib.ListN.{length}
 use Rattle.meaning.specs.Choice.{Bytes, Name, pick, orElse, isSome, every, Named, sameBytes, lookup}
-use Rattle.meaning.specs.Tree.{Letter, character, symbol, Element, letter, part, Condition}
-use Rattle.meaning.specs.Rewriting.{Bindings, unbound, agreed, takeSymbol, holdsFor, hold, shortest, withSymbols, withPart, matchRest, match, partText}
+use Rattle.meaning.specs.Classes.{Class, inClass}
+use Rattle.meaning.specs.Tree.{Letter, character, symbol, Element, letter, part, Subject, ofSymbol, ofPart, Condition}
+use Rattle.meaning.specs.Rewriting.{Bindings, unbound, agreed, takeSymbol, askedOf, holdsFor, hold, shortest, withSymbols, withPart, matchRest, match, partText}
 use Rattle.meaning.specs.Fits.{oneByte, standsFor, joined, filled, Fits}
-use Rattle.meaning.specs.Allowed.{member, added, symbolsFrom, symbolsOf, partsOf, parted, distinct, spelledElement, allowedPattern, allowedConditions}
+use Rattle.meaning.specs.Allowed.{member, added, symbolsFrom, symbolsOf, partsOf, parted, distinct, spelledElement, allowedPattern, ofPattern, allOfPattern, allowedConditions}
 use Rattle.meaning.proofs.laws.Choosing.{Given, no-cons, not-both, is-false, either-second, some-none, both-parts, guard-some, same-itself, same-bytes, lookup-append, lookup-one, namesIn, names-append, member-bound, distinct-second}
 use Rattle.meaning.proofs.laws.Cuts.{Cut, shortest-cut, shortest-given}
 
@@ -134,7 +135,7 @@ sound : (p : List Element) (cs : List Condition) (text : Bytes) (bound later : B
     match p cs text bound ≡ some later → Found p cs text bound later
 unfolding match partsOf distinct filled member
 sound [] cs [] bound later d fresh h =
-    let t = guard-some (hold cs (bound .symbols)) (some bound) h in
+    let t = guard-some (hold cs bound) (some bound) h in
     let same : bound ≡ later = cc (t .1) in
     rw (← same) (record { fits = record { whole = refl; holds = t .0 }; symbols = λ y v g. g; parts = λ y v g. g })
 sound [] cs (b ∷ text) bound later d fresh h = absurd (some-none h refl)
@@ -181,16 +182,16 @@ record Takes (x : Name) (b : ℕ) (known later : List (Named ℕ)) : Type 0 wher
   is : takeSymbol x b known ≡ some after
   keeps : Extends after later
 
-takes-new : (x : Name) (b : ℕ) (known later : List (Named ℕ)) → lookup x later ≡ some b → Extends known later →
+takes-new : {A : Type 0} (x : Name) (b : A) (known later : List (Named A)) → lookup x later ≡ some b → Extends known later →
     Extends (known ++ record { name = x; value = b } ∷ []) later
 unfolding lookup
-takes-new x b known later h extends y v g = go (lookup y known) refl (rw lookup-append at g)
+takes-new {A} x b known later h extends y v g = go (lookup y known) refl (rw lookup-append at g)
   where
     mine : (t : Bool) → sameBytes y x ≡ t → pick t (some b) none ≡ some v → lookup y later ≡ some v
     mine true e m = let same = same-bytes y x e in cc
     mine false e m = absurd (some-none m refl)
 
-    go : (o : Option ℕ) → lookup y known ≡ o → orElse o (lookup y (record { name = x; value = b } ∷ [])) ≡ some v → lookup y later ≡ some v
+    go : (o : Option A) → lookup y known ≡ o → orElse o (lookup y (record { name = x; value = b } ∷ [])) ≡ some v → lookup y later ≡ some v
     go (some c) e m = extends y v (e ∙ m)
     go none e m = mine (sameBytes y x) refl m
 
@@ -202,21 +203,34 @@ takes x b known later (some c) e h extends =
     let same : c ≡ b = cc (extends x c e) in
     record { after = known; is = rw (e, eq-eqb c b same); keeps = extends }
 
-condition-kept : (c : Condition) (known later : List (Named ℕ)) (o : Option ℕ) → lookup (c .variable) known ≡ o → isSome o ≡ true → Extends known later →
-    holdsFor c (lookup (c .variable) later) ≡ true → holdsFor c o ≡ true
-condition-kept c known later none e bound extends h = absurd (not-both bound refl)
-condition-kept c known later (some b) e bound extends h = rw (extends (c .variable) b e) at h
+-- what is bound so far is bound alike in bindings that fit
+record Kept (bound fit : Bindings) : Type 0 where
+  symbols : Extends (bound .symbols) (fit .symbols)
+  parts : Extends (bound .parts) (fit .parts)
 
--- conditions on names that are bound ask the same of bindings that keep them
-hold-kept : (cs : List Condition) (known later : List (Named ℕ)) → every (λ c. member (c .variable) (namesIn known)) cs ≡ true → Extends known later →
-    hold cs later ≡ true → hold cs known ≡ true
+asked-kept : {A : Type 0} (expected : Bool) (test : A → Bool) (x : Name) (known later : List (Named A)) (o : Option A) → lookup x known ≡ o →
+    isSome o ≡ true → Extends known later → askedOf expected test (lookup x later) ≡ true → askedOf expected test o ≡ true
+asked-kept expected test x known later none e bound extends h = absurd (not-both bound refl)
+asked-kept expected test x known later (some v) e bound extends h = rw (extends x v e) at h
+
+-- a condition on a name that is bound asks the same of bindings that keep it
+condition-kept : (class : Class) (expected : Bool) (v : Subject) (bound fit : Bindings) → Kept bound fit →
+    ofPattern (namesIn (bound .symbols)) (namesIn (bound .parts)) v ≡ true → holdsFor class expected fit v ≡ true →
+    holdsFor class expected bound v ≡ true
+condition-kept class expected (ofSymbol x) bound fit k m h =
+    asked-kept expected (inClass class) x (bound .symbols) (fit .symbols) (lookup x (bound .symbols)) refl (rw member-bound at m) (k .symbols) h
+condition-kept class expected (ofPart x) bound fit k m h =
+    asked-kept expected (every (inClass class)) x (bound .parts) (fit .parts) (lookup x (bound .parts)) refl (rw member-bound at m) (k .parts) h
+
+hold-kept : (cs : List Condition) (bound fit : Bindings) → allOfPattern (namesIn (bound .symbols)) (namesIn (bound .parts)) cs ≡ true →
+    Kept bound fit → hold cs fit ≡ true → hold cs bound ≡ true
 unfolding hold every
-hold-kept [] known later bound extends h = refl
-hold-kept (c ∷ cs) known later bound extends h =
-    let m = both-parts (member (c .variable) (namesIn known)) (every (λ c. member (c .variable) (namesIn known)) cs) bound in
-    let t = both-parts (holdsFor c (lookup (c .variable) later)) (hold cs later) h in
-    let mine = condition-kept c known later (lookup (c .variable) known) refl (rw member-bound at (m .0)) extends (t .0) in
-    rw (mine, hold-kept cs known later (m .1) extends (t .1))
+hold-kept [] bound fit m k h = refl
+hold-kept (c ∷ cs) bound fit m k h =
+    let asks = both-parts (ofPattern (namesIn (bound .symbols)) (namesIn (bound .parts)) (c .subject)) _ m in
+    let t = both-parts (holdsFor (c .predicate) (c .expected) fit (c .subject)) (hold cs fit) h in
+    let mine = condition-kept (c .predicate) (c .expected) (c .subject) bound fit k (asks .0) (t .0) in
+    rw (mine, hold-kept cs bound fit (asks .1) k (t .1))
 
 -- what is found beside bindings that fit: the first part is no longer than theirs
 record Best (p : List Element) (cs : List Condition) (text : Bytes) (bound fit : Bindings) : Type 0 where
@@ -224,8 +238,9 @@ record Best (p : List Element) (cs : List Condition) (text : Bytes) (bound fit :
   is : match p cs text bound ≡ some value
   least : (x : Name) (more : List Name) → partsOf p ≡ x ∷ more → length (partText (lookup x (value .parts))) ≤ length (partText (lookup x (fit .parts)))
 
-abbrev OnPattern : List Name → List Element → List Condition → Type 0
-OnPattern known p cs = every (λ c. member (c .variable) (symbolsFrom known p)) cs ≡ true
+-- conditions on what is bound so far or comes in the pattern
+abbrev OnPattern : Bindings → List Element → List Condition → Type 0
+OnPattern bound p cs = allOfPattern (symbolsFrom (namesIn (bound .symbols)) p) (namesIn (bound .parts) ++ partsOf p) cs ≡ true
 
 pub record OneByte (o : Option ℕ) (piece : Bytes) : Type 0 where
   pub byte : ℕ
@@ -263,15 +278,15 @@ best-part x p cs rest piece bound fit d fresh apart mine b =
         part-step x p cs (piece ++ rest) bound (g .value) fresh apart (g .is)
         (λ piece rest. sound p cs rest (withPart bound x piece) (g .value) d)
 
-best-nothing : (cs : List Condition) (text : Bytes) (bound fit : Bindings) → OnPattern (namesIn (bound .symbols)) [] cs →
-    Extends (bound .symbols) (fit .symbols) → Fits [] cs text fit → Best [] cs text bound fit
+best-nothing : (cs : List Condition) (text : Bytes) (bound fit : Bindings) → OnPattern bound [] cs → Kept bound fit → Fits [] cs text fit →
+    Best [] cs text bound fit
 unfolding match partsOf filled symbolsFrom
-best-nothing cs text bound fit on extends f =
+best-nothing cs text bound fit on k f =
     let e : [] ≡ text = cc (f .whole) in
     rw (← e)
     (record {
       value = bound;
-      is = rw (hold-kept cs (bound .symbols) (fit .symbols) on extends (f .holds));
+      is = rw (hold-kept cs bound fit (rw append-nil at on) k (f .holds));
       least = λ x more h. no-cons h;
     })
 
@@ -287,29 +302,29 @@ best-character c p cs text bound fit f after =
     (rw (eq-eqb c c refl)))
 
 best-symbol : (x : Name) (p : List Element) (cs : List Condition) (text : Bytes) (bound fit : Bindings) →
-    OnPattern (namesIn (bound .symbols)) (letter (symbol x) ∷ p) cs → Extends (bound .symbols) (fit .symbols) → Fits (letter (symbol x) ∷ p) cs text fit →
-    ((known : List (Named ℕ)) (rest : Bytes) → OnPattern (namesIn known) p cs → Extends known (fit .symbols) → Fits p cs rest fit →
+    OnPattern bound (letter (symbol x) ∷ p) cs → Kept bound fit → Fits (letter (symbol x) ∷ p) cs text fit →
+    ((known : List (Named ℕ)) (rest : Bytes) → OnPattern (withSymbols bound known) p cs → Kept (withSymbols bound known) fit → Fits p cs rest fit →
     Best p cs rest (withSymbols bound known) fit) →
     Best (letter (symbol x) ∷ p) cs text bound fit
-unfolding match filled symbolsFrom
-best-symbol x p cs text bound fit on extends f after =
+unfolding match filled symbolsFrom partsOf
+best-symbol x p cs text bound fit on kept f after =
     let s = split (oneByte (lookup x (fit .symbols))) (filled fit p) text (f .whole) in
     let o = one-byte (lookup x (fit .symbols)) (s .piece) (s .isFirst) in
-    let k = takes x (o .byte) (bound .symbols) (fit .symbols) (lookup x (bound .symbols)) refl (o .is) extends in
+    let k = takes x (o .byte) (bound .symbols) (fit .symbols) (lookup x (bound .symbols)) refl (o .is) (kept .symbols) in
     let names = took x (o .byte) (bound .symbols) (k .after) (lookup x (bound .symbols)) refl (k .is) .names in
     let e : text ≡ o .byte ∷ s .rest = cc (s .whole, o .alone) in
     rw e
     (best-letter (symbol x) p cs (o .byte ∷ s .rest) (s .rest) bound (withSymbols bound (k .after)) fit
-    (after (k .after) (s .rest) (rw names on) (k .keeps) (record { whole = s .isLater; holds = f .holds }))
+    (after (k .after) (s .rest) (rw names on) (record { symbols = k .keeps; parts = kept .parts }) (record { whole = s .isLater; holds = f .holds }))
     (rw (k .is)))
 
 best-piece : (x : Name) (p : List Element) (cs : List Condition) (text : Bytes) (bound fit : Bindings) → distinct (x ∷ partsOf p) ≡ true →
-    Fresh (x ∷ partsOf p) (bound .parts) → Fits (part x ∷ p) cs text fit →
-    ((piece rest : Bytes) → distinct (partsOf p) ≡ true → Fresh (partsOf p) (withPart bound x piece .parts) → Fits p cs rest fit →
-    Best p cs rest (withPart bound x piece) fit) →
+    Fresh (x ∷ partsOf p) (bound .parts) → OnPattern bound (part x ∷ p) cs → Kept bound fit → Fits (part x ∷ p) cs text fit →
+    ((piece rest : Bytes) → distinct (partsOf p) ≡ true → Fresh (partsOf p) (withPart bound x piece .parts) →
+    OnPattern (withPart bound x piece) p cs → Kept (withPart bound x piece) fit → Fits p cs rest fit → Best p cs rest (withPart bound x piece) fit) →
     Best (part x ∷ p) cs text bound fit
-unfolding distinct filled
-best-piece x p cs text bound fit d fresh f after =
+unfolding distinct filled symbolsFrom partsOf
+best-piece x p cs text bound fit d fresh on k f after =
     let t = both-parts (not (member x (partsOf p))) (distinct (partsOf p)) d in
     let s = split (lookup x (fit .parts)) (filled fit p) text (f .whole) in
     let apart = not-true (member x (partsOf p)) (t .0) in
@@ -317,33 +332,38 @@ best-piece x p cs text bound fit d fresh f after =
     (best-part x p cs (s .rest) (s .piece) bound fit (t .1) fresh apart (s .isFirst)
     (after (s .piece) (s .rest) (t .1)
     (fresh-after x (s .piece) (partsOf p) (bound .parts) apart fresh)
+    (rw (names-append (bound .parts) (record { name = x; value = s .piece }), append-assoc) on)
+    (record { symbols = k .symbols; parts = takes-new x (s .piece) (bound .parts) (fit .parts) (s .isFirst) (k .parts) })
     (record { whole = s .isLater; holds = f .holds })))
 
 best : (p : List Element) (cs : List Condition) (text : Bytes) (bound fit : Bindings) → distinct (partsOf p) ≡ true → Fresh (partsOf p) (bound .parts) →
-    OnPattern (namesIn (bound .symbols)) p cs → Extends (bound .symbols) (fit .symbols) → Fits p cs text fit → Best p cs text bound fit
+    OnPattern bound p cs → Kept bound fit → Fits p cs text fit → Best p cs text bound fit
 unfolding partsOf symbolsFrom
-best [] cs text bound fit d fresh on extends f = best-nothing cs text bound fit on extends f
-best (letter (character c) ∷ p) cs text bound fit d fresh on extends f =
-    best-character c p cs text bound fit f (λ rest. best p cs rest bound fit d fresh on extends)
-best (letter (symbol x) ∷ p) cs text bound fit d fresh on extends f =
-    best-symbol x p cs text bound fit on extends f (λ known rest. best p cs rest (withSymbols bound known) fit d fresh)
-best (part x ∷ p) cs text bound fit d fresh on extends f =
-    best-piece x p cs text bound fit d fresh f (λ piece rest d fresh. best p cs rest (withPart bound x piece) fit d fresh on extends)
+best [] cs text bound fit d fresh on k f = best-nothing cs text bound fit on k f
+best (letter (character c) ∷ p) cs text bound fit d fresh on k f =
+    best-character c p cs text bound fit f (λ rest. best p cs rest bound fit d fresh on k)
+best (letter (symbol x) ∷ p) cs text bound fit d fresh on k f =
+    best-symbol x p cs text bound fit on k f (λ known rest. best p cs rest (withSymbols bound known) fit d fresh)
+best (part x ∷ p) cs text bound fit d fresh on k f =
+    best-piece x p cs text bound fit d fresh on k f (λ piece rest. best p cs rest (withPart bound x piece) fit)
 
-from-nothing : (p : List Element) (cs : List Condition) (text : Bytes) (fit : Bindings) → distinct (partsOf p) ≡ true → OnPattern [] p cs →
+from-nothing : (p : List Element) (cs : List Condition) (text : Bytes) (fit : Bindings) → distinct (partsOf p) ≡ true → OnPattern unbound p cs →
     Fits p cs text fit → Best p cs text unbound fit
 unfolding lookup
-from-nothing p cs text fit d on f = best p cs text unbound fit d (λ x m. refl) on (λ x v h. absurd (some-none h refl)) f
+from-nothing p cs text fit d on f =
+    best p cs text unbound fit d (λ x m. refl) on
+    (record { symbols = λ x v h. absurd (some-none h refl); parts = λ x v h. absurd (some-none h refl) })
+    f
 
--- With conditions on s-variables of the pattern, where nothing is found, nothing fits.
+-- With conditions on variables of the pattern, where nothing is found, nothing fits.
 pub match-none : (p : List Element) (cs : List Condition) (text : Bytes) (fit : Bindings) → distinct (partsOf p) ≡ true →
-    every (λ c. member (c .variable) (symbolsOf p)) cs ≡ true → match p cs text unbound ≡ none → Fits p cs text fit → ⊥
+    allOfPattern (symbolsOf p) (partsOf p) cs ≡ true → match p cs text unbound ≡ none → Fits p cs text fit → ⊥
 match-none p cs text fit d on h f = some-none (from-nothing p cs text fit d on f .is) h
 
 -- Of all that fits, what is found has the shortest first part: "With two e-variables the middle template takes the leftmost place at which all characters,
 -- equalities and conditions hold".
 pub match-shortest : (p : List Element) (cs : List Condition) (text : Bytes) (later fit : Bindings) (x : Name) (more : List Name) → distinct (partsOf p) ≡ true →
-    every (λ c. member (c .variable) (symbolsOf p)) cs ≡ true → partsOf p ≡ x ∷ more → match p cs text unbound ≡ some later → Fits p cs text fit →
+    allOfPattern (symbolsOf p) (partsOf p) cs ≡ true → partsOf p ≡ x ∷ more → match p cs text unbound ≡ some later → Fits p cs text fit →
     length (partText (lookup x (later .parts))) ≤ length (partText (lookup x (fit .parts)))
 match-shortest p cs text later fit x more d on e h f =
     let b = from-nothing p cs text fit d on f in
@@ -356,9 +376,10 @@ match-shortest p cs text later fit x more d on e h f =
 pub record Regular (p : List Element) (cs : List Condition) : Type 0 where
   pub apart : distinct (partsOf p) ≡ true
   pub few : length (partsOf p) ≤ 2
-  pub onPattern : every (λ c. member (c .variable) (symbolsOf p)) cs ≡ true
+  pub onPattern : allOfPattern (symbolsOf p) (partsOf p) cs ≡ true
 
-pub allowed-regular : (p : List Element) (cs : List Condition) → allowedPattern p ≡ true → allowedConditions (symbolsOf p) cs ≡ true → Regular p cs
+pub allowed-regular : (p : List Element) (cs : List Condition) → allowedPattern p ≡ true → allowedConditions (symbolsOf p) (partsOf p) cs ≡ true →
+    Regular p cs
 allowed-regular p cs h g =
     let a = both-parts (every spelledElement p) _ h .1 in
     let b = both-parts (leb (length (partsOf p)) 2) _ a in
@@ -366,5 +387,5 @@ allowed-regular p cs h g =
     record {
       apart = distinct-second (symbolsOf p) (partsOf p) (both-parts (distinct (symbolsOf p ++ partsOf p)) _ c .0);
       few = leb-true _ 2 (b .0);
-      onPattern = both-parts (every (λ c. member (c .variable) (symbolsOf p)) cs) _ g .0;
+      onPattern = both-parts (allOfPattern (symbolsOf p) (partsOf p) cs) _ g .0;
     }

@@ -7,7 +7,7 @@ use lib.ListN.{length, length-append}
 use Rattle.meaning.specs.Choice.{Name, every}
 use Rattle.meaning.specs.Tree.{Table}
 use Rattle.meaning.specs.Allowed.{isByte, allowed}
-use Rattle.meaning.specs.Instructions.{Test, look, compare, predicate, unknownTest, Store, store, unknownStore, Span, Action, go, select, out, outCharacter, outValue, beginSequence, useSequence, call, tailCall, emission, unknownAction, Metric, exactly, ends, middle, Sentences, Code}
+use Rattle.meaning.specs.Instructions.{Test, look, compare, predicate, predicatePart, unknownTest, Store, store, unknownStore, Span, Action, go, select, out, outCharacter, outValue, beginSequence, useSequence, call, tailCall, emission, unknownAction, Metric, exactly, ends, middle, Sentences, Code}
 use Rattle.meaning.specs.Translation.{translate}
 use Rattle.meaning.specs.Packing.{word, testWord, storeWord, spanWord, actionWords, packActions, maxStored, metricWord, countsWord, packSentences, packFunctions, placesFrom, pack}
 use Rattle.meaning.proofs.laws.Passing.{every-head, every-tail}
@@ -23,6 +23,7 @@ test-narrow : (t : Test) → FitsTest t → Narrow (testWord t)
 test-narrow (look s c) f = omega (arith, register-below s, f)
 test-narrow (compare s r) f = omega (arith, register-below s, register-below r, f)
 test-narrow (predicate s k e) f = omega (arith, register-below s, truth-below e, class-below k, f)
+test-narrow (predicatePart s r k e) f = omega (arith, register-below s, register-below r, truth-below e, class-below k, f)
 test-narrow unknownTest f = absurd f
 
 store-narrow : (t : Store) → FitsStore t → Narrow (storeWord t)

@@ -5,7 +5,7 @@ use lib.Dec.{T}
 use lib.ListN.{length}
 use Rattle.meaning.specs.Choice.{every}
 use Rattle.meaning.specs.Allowed.{isByte}
-use Rattle.meaning.specs.Instructions.{Site, Test, look, compare, predicate, unknownTest, Store, store, unknownStore, Span, Action, go, select, out, outCharacter, outValue, beginSequence, useSequence, call, tailCall, emission, unknownAction, Metric, exactly, ends, middle, Sentences, noMore, sentence, Code}
+use Rattle.meaning.specs.Instructions.{Site, Test, look, compare, predicate, predicatePart, unknownTest, Store, store, unknownStore, Span, Action, go, select, out, outCharacter, outValue, beginSequence, useSequence, call, tailCall, emission, unknownAction, Metric, exactly, ends, middle, Sentences, noMore, sentence, Code}
 use Rattle.meaning.specs.Packing.{siteOffset, bodyWords, maxStored}
 
 -- every element has the property
@@ -20,6 +20,7 @@ abbrev pub FitsTest : Test → Type 0
 FitsTest (look s c) = FitsSite s × (c < 256)
 FitsTest (compare s r) = FitsSite s × FitsSite r
 FitsTest (predicate s class expected) = FitsSite s
+FitsTest (predicatePart s r class expected) = FitsSite s × FitsSite r
 FitsTest unknownTest = ⊥
 
 abbrev pub FitsStore : Store → Type 0

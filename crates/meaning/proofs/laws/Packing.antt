@@ -12,10 +12,10 @@ use borrow.Author.Tests.{le-leb, lt-ltb}
 use Rattle.meaning.specs.Choice.{every}
 use Rattle.meaning.specs.Classes.{classNumber}
 use Rattle.meaning.specs.Allowed.{isByte}
-use Rattle.meaning.specs.Instructions.{Test, look, compare, predicate, unknownTest, Store, store, unknownStore, Span, Action, go, select, out, outCharacter, outValue, beginSequence, useSequence, call, tailCall, emission, unknownAction, Metric, exactly, ends, middle, Sentences, noMore, sentence, Code}
-use Rattle.meaning.specs.Packing.{Words, word, numberIn, firstIn, secondIn, thirdIn, siteRegister, siteOffset, lengthNumber, lengthOf, spanAction, truthBit, testWord, testOf, storeWord, storeOf, actionWords, actionOf, actionsEnd, packActions, emissionOf, unpackActions, metricWord, metricIn, sentencesEnd, bodyWords, countsWord, packSentences, testsIn, storesIn, bodyIn, unpackTests, unpackStores, maxStored, bodyOf, unpackSentences, packFunctions, placesFrom, pack, functionsAt, soundTable, unpack}
+use Rattle.meaning.specs.Instructions.{Test, look, compare, predicate, predicatePart, unknownTest, Store, store, unknownStore, Span, Action, go, select, out, outCharacter, outValue, beginSequence, useSequence, call, tailCall, emission, unknownAction, Metric, exactly, ends, middle, Sentences, noMore, sentence, Code}
+use Rattle.meaning.specs.Packing.{Words, word, numberIn, firstIn, secondIn, thirdIn, siteRegister, siteOffset, lengthNumber, lengthOf, spanAction, truthBit, partOperand, testWord, testOf, storeWord, storeOf, actionWords, actionOf, actionsEnd, packActions, emissionOf, unpackActions, metricWord, metricIn, sentencesEnd, bodyWords, countsWord, packSentences, testsIn, storesIn, bodyIn, unpackTests, unpackStores, maxStored, bodyOf, unpackSentences, packFunctions, placesFrom, pack, functionsAt, soundTable, unpack}
 use Rattle.meaning.proofs.laws.Passing.{passed}
-use Rattle.meaning.proofs.laws.Words.{word-holds, register-below, class-below, truth-below, length-below, look-held, compare-held, predicate-held, store-held, length-back, called-number, called-function}
+use Rattle.meaning.proofs.laws.Words.{word-holds, register-below, class-below, truth-below, length-below, look-held, compare-held, predicate-held, predicate-part-held, store-held, length-back, called-number, called-function}
 use Rattle.meaning.proofs.laws.Packable.{All, nil, cons, FitsTest, FitsStore, FitsSpan, FitsAction, FitsMetric, FitsSentence, FitsSentences, eachNone, eachMore, Packable}
 
 -- TESTS AND STORES
@@ -28,6 +28,9 @@ test-back (compare s r) f = compare-held _ s r
 test-back (predicate s k e) f =
     predicate-held _ s k e (word-holds 3 (siteRegister s + 4 * truthBit e) (siteOffset s) (classNumber k) (omega arith)
     (omega (arith, register-below s, truth-below e)) f (omega (arith, class-below k)))
+test-back (predicatePart s r k e) f =
+    predicate-part-held _ s r k e (word-holds 20 (partOperand s r k e) (siteOffset s) (siteOffset r) (omega arith)
+    (omega (arith, register-below s, register-below r, truth-below e, class-below k)) (f .0) (f .1))
 test-back unknownTest f = absurd f
 
 store-back : (t : Store) → FitsStore t → storeOf (storeWord t) ≡ t

@@ -8,11 +8,12 @@ use native.Mathlib.Omega.{arith}
 use lib.Dec.{T, leb→le, ltb→lt}
 use lib.ListN.{length, length-append, length-map}
 use Rattle.meaning.specs.Choice.{Name, Named, every, sameBytes, lookup}
-use Rattle.meaning.specs.Tree.{Letter, Condition, Expression, end, thenCharacter, thenSymbol, thenPart, thenCall, Sentence, Function, Table}
+use Rattle.meaning.specs.Tree.{Letter, Subject, ofSymbol, ofPart, Condition, Expression, end, thenCharacter, thenSymbol, thenPart, thenCall, Sentence, Function, Table}
+use Rattle.meaning.specs.Classes.{Class}
 use Rattle.meaning.specs.Names.{numberFrom, numberOf}
 use Rattle.meaning.specs.Allowed.{isByte, member, spelledName, spelledElement, lettersIn, symbolsOf, maxLetters, maxSymbols, maxConditions, maxItems, maxName, itemsIn, spelledItems, allowedSentence, allowedFunction, allowed, sentencesIn, maxFunctions, maxSentences}
 use Rattle.meaning.specs.Instructions.{Site, Test, Store, store, Span, Action, go, select, out, outCharacter, outValue, beginSequence, useSequence, call, tailCall, emission, Metric, Code}
-use Rattle.meaning.specs.Translation.{Shape, fixed, open₁, open₂, shapeOf, metricOf, Tested, testedShape, siteOr, conditionTest, testsOf, storesOf, valueFrom, valueNumber, Stand, atStart, afterFirst, afterSecond, nowhere, Passage, passageFirst, gapToSecond, passageSecond, passage, restOf, Manner, emits, replaces, nests, mannerOf, argumentReady, calling, items, passesRest, actionsOf, translatedSentences, translate}
+use Rattle.meaning.specs.Translation.{Shape, fixed, open₁, open₂, shapeOf, metricOf, Tested, testedShape, siteOr, Bounds, boundsOf, subjectTest, conditionTest, testsOf, storesOf, valueFrom, valueNumber, Stand, atStart, afterFirst, afterSecond, nowhere, Passage, passageFirst, gapToSecond, passageSecond, passage, restOf, Manner, emits, replaces, nests, mannerOf, argumentReady, calling, items, passesRest, actionsOf, translatedSentences, translate}
 use Rattle.meaning.specs.Packing.{Words, pack, unpack}
 use Rattle.meaning.proofs.laws.Choosing.{of-either}
 use Rattle.meaning.proofs.laws.Passing.{both-left, both-right, every-head, every-tail}
@@ -222,9 +223,25 @@ site-fits : (o : Option Site) → FitsFound o → FitsSite (siteOr o)
 site-fits none f = omega arith
 site-fits (some s) f = f
 
-conditions-fit : (sites : List (Named Site)) → All (λ s. FitsSite (s .value)) sites → (cs : List Condition) → All FitsTest (map (conditionTest sites) cs)
-conditions-fit sites f [] = nil
-conditions-fit sites f (c ∷ cs) = cons (site-fits (lookup (c .variable) sites) (lookup-fits (c .variable) f)) (conditions-fit sites f cs)
+abbrev FitsBounds : Bounds → Type 0
+FitsBounds b = FitsSite (b .from) × FitsSite (b .to)
+
+bounds-fit : (s : Shape) (x : Name) → Short s → FitsBounds (boundsOf s x)
+bounds-fit (fixed t) x low = omega arith
+bounds-fit (open₁ h y t) x low = omega (arith, length-append h t)
+bounds-fit (open₂ h y m z t) x low =
+    let sum = length-append h (m ++ t) in
+    let sum₁ = length-append m t in
+    of-either FitsBounds (sameBytes x y) _ _ (omega arith) (omega arith)
+
+module _ (s : Shape) (low : Short s) (sites : List (Named Site)) (f : All (λ s. FitsSite (s .value)) sites) where
+  subject-fits : (class : Class) (expected : Bool) (v : Subject) → FitsTest (subjectTest s sites class expected v)
+  subject-fits class expected (ofSymbol x) = site-fits (lookup x sites) (lookup-fits x f)
+  subject-fits class expected (ofPart x) = bounds-fit s x low
+
+  conditions-fit : (cs : List Condition) → All FitsTest (map (conditionTest s sites) cs)
+  conditions-fit [] = nil
+  conditions-fit (c ∷ cs) = cons (subject-fits (c .predicate) (c .expected) (c .subject)) (conditions-fit cs)
 
 -- at most so many words for a sentence
 abbrev pub maxSentenceWords : ℕ
@@ -239,7 +256,7 @@ module _ (s : Sentence) where
   tested = testedShape shape
 
   abbrev tests : List Test
-  tests = testsOf tested (s .conditions)
+  tests = testsOf shape tested (s .conditions)
 
   abbrev stores : List Store
   stores = storesOf tested
@@ -279,7 +296,7 @@ module _ (s : Sentence) (z : Sized s) where
     sentence-fits limit numbers =
         record {
           lengths = metric-fits (shape s) short;
-          eachTest = all-append (tested-fits .eachTest) (conditions-fit (tested s .sites) (tested-fits .eachSite) (s .conditions));
+          eachTest = all-append (tested-fits .eachTest) (conditions-fit (shape s) short (tested s .sites) (tested-fits .eachSite) (s .conditions));
           eachStore = all-map (λ x. store (x .value)) (λ x f. f) (tested-fits .eachSite);
           eachAction = sentence-all (FitsAction limit) (fitting limit table numbers);
           fewTests = omega (arith, test-words);

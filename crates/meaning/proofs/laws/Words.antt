@@ -6,8 +6,8 @@ use Prim.Native.Nat.{ℕ, _+_, _*_, _/_, _%_, _<_}
 use native.Mathlib.Omega.{arith}
 use lib.Dec.{eqb}
 use Rattle.meaning.specs.Classes.{Class, digit, upper, lower, alphabetic, blank, classNumber}
-use Rattle.meaning.specs.Instructions.{Site, fromStart, fromEnd, fromPlace, look, compare, predicate, store, Length, null, whole, left, right}
-use Rattle.meaning.specs.Packing.{word, numberIn, firstIn, secondIn, thirdIn, siteRegister, siteOffset, siteOf, lengthNumber, lengthOf, classOf, truthBit, testOf, storeOf}
+use Rattle.meaning.specs.Instructions.{Site, fromStart, fromEnd, fromPlace, look, compare, predicate, predicatePart, store, Length, null, whole, left, right}
+use Rattle.meaning.specs.Packing.{word, numberIn, firstIn, secondIn, thirdIn, siteRegister, siteOffset, siteOf, lengthNumber, lengthOf, classOf, truthBit, partOperand, testOf, storeOf}
 
 -- THE FOUR BYTES
 
@@ -75,6 +75,20 @@ low-part s m = omega (arith, register-below s)
 high-part : (s : Site) (m : ℕ) → (siteRegister s + 4 * m) / 4 ≡ m
 high-part s m = omega (arith, register-below s)
 
+-- two registers, a truth value and a class in one byte
+module _ (s r : Site) (k : Class) (e : Bool) where
+  operand-from : partOperand s r k e % 4 ≡ siteRegister s
+  operand-from = omega (arith, register-below s)
+
+  operand-to : partOperand s r k e / 4 % 4 ≡ siteRegister r
+  operand-to = omega (arith, register-below s, register-below r)
+
+  operand-truth : partOperand s r k e / 16 % 2 ≡ truthBit e
+  operand-truth = omega (arith, register-below s, register-below r, truth-below e)
+
+  operand-class : partOperand s r k e / 32 ≡ classNumber k
+  operand-class = omega (arith, register-below s, register-below r, truth-below e)
+
 -- THE INSTRUCTION THAT A WORD HOLDS
 
 module _ (w : ℕ) (s : Site) where
@@ -87,6 +101,24 @@ module _ (w : ℕ) (s : Site) where
   pub predicate-held : (k : Class) (e : Bool) → Holds w 3 (siteRegister s + 4 * truthBit e) (siteOffset s) (classNumber k) → testOf w ≡ predicate s k e
   predicate-held k e h =
       rw (h .number, h .first, h .second, h .third, low-part s, high-part s, site-back s, class-back k, truth-back e)
+
+  pub predicate-part-held : (r : Site) (k : Class) (e : Bool) → Holds w 20 (partOperand s r k e) (siteOffset s) (siteOffset r)
+      → testOf w ≡ predicatePart s r k e
+  predicate-part-held r k e h =
+      rw (
+        h .number,
+        h .first,
+        h .second,
+        h .third,
+        operand-from s r k e,
+        operand-to s r k e,
+        operand-truth s r k e,
+        operand-class s r k e,
+        site-back s,
+        site-back r,
+        class-back k,
+        truth-back e,
+      )
 
   pub store-held : Holds w 4 (siteRegister s) (siteOffset s) 0 → storeOf w ≡ store s
   store-held h = rw (h .number, h .first, h .second, site-back s)

@@ -6,7 +6,7 @@ use mathlib.Core.List.{List, [], _∷_}
 use lib.ListN.{take}
 use Rattle.meaning.specs.Choice.{Bytes}
 use Rattle.meaning.specs.Classes.{Class, digit, blank}
-use Rattle.meaning.specs.Tree.{character, symbol, Element, letter, part, Expression, end, thenCharacter, thenSymbol, thenPart, thenCall, Sentence, Table}
+use Rattle.meaning.specs.Tree.{character, symbol, Element, letter, part, ofSymbol, Expression, end, thenCharacter, thenSymbol, thenPart, thenCall, Sentence, Table}
 use Rattle.meaning.specs.Outcome.{Result}
 use Rattle.meaning.specs.Runs.{Room}
 use Rattle.meaning.proofs.rows.Tables.{x1, x2, all1, plain, function, tableZ, tableR, tableP, tableM}
@@ -45,7 +45,7 @@ tableV =
 -- a sentence with one condition, on s1
 abbrev asking : Class → Bool → List Element → Expression → Sentence
 asking class expected p e =
-    record { pattern = p; conditions = record { predicate = class; variable = x1; expected = expected } ∷ []; expression = e }
+    record { pattern = p; conditions = record { predicate = class; subject = ofSymbol x1; expected = expected } ∷ []; expression = e }
 
 -- `N { s1, <IsDigit s1>: 'F' = s1 }`
 abbrev tableN : Table

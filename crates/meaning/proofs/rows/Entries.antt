@@ -1,13 +1,14 @@
 -- What the entry points hand back and leave, for tables and buffers round the length that they need.
 use Prim.Native.Nat.{ℕ}
+use Prim.Native.String.{String}
 use mathlib.Core.Path.{_≡_, refl}
 use mathlib.Core.List.{[], _∷_, _++_, map}
 use lib.ListN.{replicate}
 use Rattle.meaning.specs.Choice.{Bytes}
-use Rattle.meaning.specs.Reading.{Read, accepted, refused}
+use Rattle.meaning.specs.Reading.{Read, accepted, refused, read}
 use Rattle.meaning.specs.Listing.{patternText, conditionsText, expressionText, sentencesText, listing}
 use Rattle.meaning.specs.Entries.{readAnswer, written, translated, listed, runAnswer}
-use Rattle.meaning.proofs.rows.Read.{bytes}
+use Rattle.meaning.proofs.rows.Read.{bytes, hold}
 use Rattle.meaning.proofs.rows.Tables.{tableR, tableM}
 use Rattle.meaning.proofs.rows.Starred.{result, abc, lines}
 use Rattle.meaning.proofs.rows.Packed.{wordsR}
@@ -21,6 +22,15 @@ wrong = refused 6 8
 tables-read : map readAnswer (accepted [] ∷ accepted tableR ∷ accepted tableM ∷ wrong ∷ []) ≡
     (0 ∷ 0 ∷ 0 ∷ []) ∷ (0 ∷ 0 ∷ 1 ∷ []) ∷ (0 ∷ 0 ∷ 2 ∷ []) ∷ (6 ∷ 8 ∷ 0 ∷ []) ∷ []
 tables-read = refl
+
+-- conditions on an e-variable
+parts-read :
+    map (λ (s : String). readAnswer (read (bytes s)))
+    ("F{e1,<IsDigit e1>:'T'=}" ∷ "F{e1,<IsDigit 'a'>:'T'=}" ∷ "F{e1,<IsDigit e123456789>:'T'=}" ∷ "F{e1,<IsFoo e1>:'T'=}"
+    ∷ "F{e1,<IsDigit e2>:'T'=}" ∷ [])
+    ≡ (0 ∷ 0 ∷ 1 ∷ []) ∷ (3 ∷ 14 ∷ 0 ∷ []) ∷ (4 ∷ 14 ∷ 0 ∷ []) ∷ (5 ∷ 6 ∷ 0 ∷ []) ∷ (7 ∷ 14 ∷ 0 ∷ []) ∷ []
+unfolding hold
+parts-read = refl
 
 -- number, place, words of code; R has 20 of them. "Words after the code are zero"; a buffer that is too short, or of a refused table, is all zero
 tables-translated : map (translated (accepted tableR)) (19 ∷ 20 ∷ 22 ∷ []) ++ translated wrong 3 ∷ [] ≡

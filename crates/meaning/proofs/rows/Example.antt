@@ -1,4 +1,5 @@
--- A table that is allowed and has something of everything: two e-variables, conditions of both truth values, equal s-variables, nested calls, an emission and tail calls.
+-- A table that is allowed and has something of everything: two e-variables, conditions on both kinds of variable and of both truth values, equal
+-- s-variables, nested calls, an emission and tail calls.
 -- So the hypothesis of the agreement can be met, and the agreement says something of such a table.
 use mathlib.Core.Path.{_≡_, refl}
 use mathlib.Core.Bool.{true, false}
@@ -6,7 +7,7 @@ use mathlib.Core.List.{[], _∷_}
 use lib.Dec.{T}
 use Rattle.meaning.specs.Choice.{Bytes, Name}
 use Rattle.meaning.specs.Classes.{digit, upper}
-use Rattle.meaning.specs.Tree.{symbol, letter, part, end, thenCharacter, thenSymbol, thenPart, thenCall, Table}
+use Rattle.meaning.specs.Tree.{ofSymbol, ofPart, symbol, letter, part, end, thenCharacter, thenSymbol, thenPart, thenCall, Table}
 use Rattle.meaning.specs.Allowed.{allowed}
 use Rattle.meaning.specs.Outcome.{maxCounted, Result}
 use Rattle.meaning.specs.Rewriting.{rewrite}
@@ -23,23 +24,26 @@ nameF = 70 ∷ []
 abbrev nameG : Name
 nameG = 71 ∷ []
 
--- `F { e1 s2 e3, <IsDigit s2>: 'T' = <EmitA s2> <G <G e1> s2 e3>; e1 = e1 } G { s1 e2 s1 e3, <IsUpper s1>: 'F' = e2 '|' <G e3>; e1 = e1 }`
+-- `F { e1 s2 e3, <IsDigit s2>: 'T', <IsUpper e3>: 'F' = <EmitA s2> <G <G e1> s2 e3>; e1 = e1 }
+-- G { s1 e2 s1 e3, <IsUpper s1>: 'F' = e2 '|' <G e3>; e1 = e1 }`
 abbrev pub table : Table
 table =
     function nameF
     (record {
       pattern = part x1 ∷ letter (symbol x2) ∷ part x3 ∷ [];
-      conditions = record { predicate = digit; variable = x2; expected = true } ∷ [];
+      conditions =
+          record { predicate = digit; subject = ofSymbol x2; expected = true } ∷
+          record { predicate = upper; subject = ofPart x3; expected = false } ∷ [];
       expression =
-          thenCall 35 (emitName 65) (thenSymbol x2 end)
-          (thenCall 46 nameG (thenCall 49 nameG (thenPart x1 end) (thenSymbol x2 (thenPart x3 end))) end);
+          thenCall 54 (emitName 65) (thenSymbol x2 end)
+          (thenCall 65 nameG (thenCall 68 nameG (thenPart x1 end) (thenSymbol x2 (thenPart x3 end))) end);
     } ∷
     plain all1 (thenPart x1 end) ∷ []) ∷
     function nameG
     (record {
       pattern = letter (symbol x1) ∷ part x2 ∷ letter (symbol x1) ∷ part x3 ∷ [];
-      conditions = record { predicate = upper; variable = x1; expected = false } ∷ [];
-      expression = thenPart x2 (thenCharacter 124 (thenCall 118 nameG (thenPart x3 end) end));
+      conditions = record { predicate = upper; subject = ofSymbol x1; expected = false } ∷ [];
+      expression = thenPart x2 (thenCharacter 124 (thenCall 137 nameG (thenPart x3 end) end));
     } ∷
     plain all1 (thenPart x1 end) ∷ []) ∷ []
 

@@ -5,7 +5,7 @@ use mathlib.Core.Bool.{Bool, true, false}
 use mathlib.Core.List.{List, [], _∷_}
 use Rattle.meaning.specs.Choice.{Bytes, Name, every, sameBytes}
 use Rattle.meaning.specs.Classes.{digit, blank}
-use Rattle.meaning.specs.Tree.{character, symbol, Element, letter, part, Expression, end, thenCharacter, thenSymbol, thenPart, thenCall}
+use Rattle.meaning.specs.Tree.{character, symbol, Element, letter, part, ofSymbol, Expression, end, thenCharacter, thenSymbol, thenPart, thenCall}
 use Rattle.meaning.specs.Grammar.{written}
 use Rattle.meaning.specs.Listing.{unquoted, decimal, patternText, conditionsText, expressionText, sentenceText, sentencesText, listing}
 use Rattle.meaning.proofs.rows.Read.{bytes}
@@ -101,7 +101,8 @@ sentences :
     (record {
       pattern = letter (symbol x1) ∷ [];
       conditions =
-          record { predicate = digit; variable = x1; expected = true } ∷ record { predicate = blank; variable = x1; expected = false } ∷ [];
+          record { predicate = digit; subject = ofSymbol x1; expected = true } ∷
+          record { predicate = blank; subject = ofSymbol x1; expected = false } ∷ [];
       expression = end;
     }))
     "s1, <IsDigit s1>: 'T', <IsBlank s1>: 'F' =;\n"

@@ -8,7 +8,7 @@ use mathlib.Core.List.{List, [], _∷_, _++_}
 use lib.Dec.{eqb}
 use Rattle.meaning.specs.Choice.{Bytes, both, every, sameBytes, startsWith}
 use Rattle.meaning.specs.Classes.{digit}
-use Rattle.meaning.specs.Tree.{symbol, letter, part, end, thenCharacter, thenSymbol, thenPart, thenCall}
+use Rattle.meaning.specs.Tree.{ofSymbol, symbol, letter, part, end, thenCharacter, thenSymbol, thenPart, thenCall}
 use Rattle.meaning.specs.Names.{classNamed, numberFrom}
 use Rattle.meaning.specs.Allowed.{member, symbolsFrom, partsOf, lettersIn, comingAfter}
 use Rattle.meaning.specs.Tokens.{skip, run, quotation, lex, tokensFrom}
@@ -37,7 +37,7 @@ pub record Row : Type 0 where
 abbrev pub row : Bytes → ℕ → ℕ → Row
 row text number place = record { text = text; number = number; place = place }
 
-abbrev says : String → ℕ → ℕ → Row
+abbrev pub says : String → ℕ → ℕ → Row
 says text number place = row (bytes text) number place
 
 abbrev pub answered : Read → ℕ → ℕ → Bool
@@ -229,8 +229,8 @@ variables :
     ∷ says "F{e1 'a' e2=<F e1> e2}" 0 0
     ∷ says "F{e1 'a' e2=<F e2> e1}" 7 19
     ∷ says "F{e1 'a' e2=<F e1 e1>}" 7 18
-    ∷ says "F{e1,<IsDigit e1>:'T'=}" 3 14
-    ∷ says "F{,<IsDigit e9>:'T'=}" 3 12
+    ∷ says "F{e1,<IsDigit e1>:'T'=}" 0 0
+    ∷ says "F{,<IsDigit e9>:'T'=}" 7 12
     ∷ says "F{s1,<IsDigit s2>:'T'=}" 7 14
     ∷ says "F{,<IsDigit s1>:'T'=}" 7 12
     ∷ says "F{s1,<IsDigit s1>:'T'=}" 0 0
@@ -278,7 +278,7 @@ tree : reading "F{s1 '' e2,<IsDigit s1>:'F'='ab' <F e2 ''> '' s1}"
       sentences =
           record {
             pattern = letter (symbol (49 ∷ [])) ∷ part (50 ∷ []) ∷ [];
-            conditions = record { predicate = digit; variable = 49 ∷ []; expected = false } ∷ [];
+            conditions = record { predicate = digit; subject = ofSymbol (49 ∷ []); expected = false } ∷ [];
             expression =
                 thenCharacter 97 (thenCharacter 98 (thenCall 34 (70 ∷ []) (thenPart (50 ∷ []) end) (thenSymbol (49 ∷ []) end)));
           }

@@ -4,7 +4,7 @@ use mathlib.Core.Bool.{true}
 use mathlib.Core.List.{List, [], _∷_}
 use Rattle.meaning.specs.Choice.{Name}
 use Rattle.meaning.specs.Classes.{digit}
-use Rattle.meaning.specs.Tree.{character, symbol, Element, letter, part, Expression, end, thenCharacter, thenSymbol, thenPart, thenCall, Sentence, Function, Table}
+use Rattle.meaning.specs.Tree.{ofSymbol, character, symbol, Element, letter, part, Expression, end, thenCharacter, thenSymbol, thenPart, thenCall, Sentence, Function, Table}
 
 abbrev pub x1 : Name
 x1 = 49 ∷ []
@@ -46,7 +46,7 @@ tableH =
     function (72 ∷ [])
     (record {
       pattern = part x1 ∷ letter (symbol x2) ∷ part x3 ∷ [];
-      conditions = record { predicate = digit; variable = x2; expected = true } ∷ [];
+      conditions = record { predicate = digit; subject = ofSymbol x2; expected = true } ∷ [];
       expression = thenSymbol x2 end;
     } ∷ []) ∷ []
 

@@ -1,10 +1,12 @@
 -- Words that no translation writes: 18 in the function table changes nothing, and 18 met later ends the run like any early stop.
 use Prim.Native.Nat.{ℕ, zero, suc, _-_}
 use mathlib.Core.Path.{_≡_, refl}
+use mathlib.Core.Bool.{true}
 use mathlib.Core.List.{List, [], _∷_, _++_, map}
 use lib.ListN.{length, replicate}
 use Rattle.meaning.specs.Choice.{Bytes}
-use Rattle.meaning.specs.Instructions.{fromStart, fromPlace, Test, look, Store, store, null, whole, left, right, Span, Action, go, select, out, outCharacter, outValue, beginSequence, useSequence, call, tailCall, emission, Metric, exactly, ends, Sentences, noMore, sentence}
+use Rattle.meaning.specs.Classes.{digit, lower}
+use Rattle.meaning.specs.Instructions.{fromStart, fromEnd, fromPlace, Test, look, predicatePart, Store, store, null, whole, left, right, Span, Action, go, select, out, outCharacter, outValue, beginSequence, useSequence, call, tailCall, emission, Metric, exactly, ends, Sentences, noMore, sentence}
 use Rattle.meaning.specs.Packing.{Words, word, countsWord, pack}
 use Rattle.meaning.specs.Leaving.{Cells, Leaving, leaving}
 use Rattle.meaning.proofs.rows.Starred.{result}
@@ -116,6 +118,16 @@ matchRows =
     wrong (tests (word 1 3 0 97 ∷ [])) ∷
     wrong (tests (word 3 4 0 5 ∷ [])) ∷
     wrong (tests (word 1 0 1 97 ∷ [])) ∷
+    -- a Predicate over a part: registers and a class that are not there, a start after its end, and cells before p or past q
+    wrong (tests (word 20 3 0 0 ∷ [])) ∷
+    wrong (tests (word 20 12 0 0 ∷ [])) ∷
+    wrong (tests (word 20 160 0 0 ∷ [])) ∷
+    wrong (tests (word 20 0 1 0 ∷ [])) ∷
+    wrong (tests (word 20 1 2 0 ∷ [])) ∷
+    wrong (tests (word 20 4 0 2 ∷ [])) ∷
+    wrong (tests (word 20 0 0 2 ∷ [])) ∷
+    -- the whole field is of small letters, and no digit; the empty part at q is of digits
+    finished (tests (word 20 84 0 0 ∷ word 20 4 0 0 ∷ word 20 20 1 0 ∷ [])) ∷
     -- a store of another number, a cell that is not there, and one store too many
     wrong (stores (word 5 0 0 0 ∷ [])) ∷
     wrong (stores (word 4 1 2 0 ∷ [])) ∷
@@ -123,7 +135,7 @@ matchRows =
     finished (stores (replicate 16 4)) ∷ []
     -- numbers that begin no sentence, are no test and no store
     ++ map (λ n. wrong (1 ∷ 2 ∷ n ∷ 65536 ∷ 15 ∷ 19 ∷ [])) (counting 0 16 ++ counting 20 236)
-    ++ map (λ n. wrong (tests (n ∷ []))) (0 ∷ counting 4 252)
+    ++ map (λ n. wrong (tests (n ∷ []))) (0 ∷ counting 4 16 ++ counting 21 235)
     ++ map (λ n. wrong (stores (n ∷ []))) (counting 0 4 ++ counting 5 251)
 
 -- ACTIONS
@@ -218,7 +230,10 @@ dr = record { register = right; add = 0; back = 0 }
 abbrev placelessRows : Metric → List Row
 placelessRows metric =
     ended (97 ∷ 98 ∷ []) 1 (98 ∷ []) (placeless metric (look (fromPlace 0) 97 ∷ look (fromPlace 1) 98 ∷ []) (store (fromPlace 1) ∷ []) (outValue 0 ∷ [])) ∷
+    ended (97 ∷ 98 ∷ []) 1 []
+    (placeless metric (predicatePart (fromPlace 0) (fromEnd 0) lower true ∷ predicatePart (fromStart 0) (fromPlace 0) digit true ∷ []) [] []) ∷
     stoppedWith 18 (97 ∷ 98 ∷ []) 1 [] (placeless metric (look (fromPlace 2) 97 ∷ []) [] []) ∷
+    stoppedWith 18 (97 ∷ 98 ∷ []) 1 [] (placeless metric (predicatePart (fromStart 0) (fromPlace 3) lower true ∷ []) [] []) ∷
     stoppedWith 18 (97 ∷ 98 ∷ []) 1 [] (placeless metric [] (store (fromPlace 2) ∷ []) []) ∷
     ended (97 ∷ 98 ∷ []) 1 [] (placeless metric [] [] (select dl ∷ out ∷ [])) ∷
     ended (97 ∷ 98 ∷ []) 1 (97 ∷ 98 ∷ []) (placeless metric [] [] (select dr ∷ out ∷ [])) ∷ []

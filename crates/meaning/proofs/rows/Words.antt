@@ -4,13 +4,14 @@ use mathlib.Core.Bool.{true, false}
 use mathlib.Core.List.{[], _∷_, map}
 use mathlib.Core.Option.{none, some}
 use Rattle.meaning.specs.Classes.{digit, upper, lower, alphabetic, blank}
-use Rattle.meaning.specs.Instructions.{fromStart, fromEnd, fromPlace, look, compare, predicate, unknownTest, store, unknownStore, null, whole, left, right, go, select, out, outCharacter, outValue, beginSequence, useSequence, call, tailCall, emission, unknownAction, exactly, ends, middle, noMore, sentence, unknownSentence}
+use Rattle.meaning.specs.Instructions.{fromStart, fromEnd, fromPlace, look, compare, predicate, predicatePart, unknownTest, store, unknownStore, null, whole, left, right, go, select, out, outCharacter, outValue, beginSequence, useSequence, call, tailCall, emission, unknownAction, exactly, ends, middle, noMore, sentence, unknownSentence}
 use Rattle.meaning.specs.Translation.{span}
 use Rattle.meaning.specs.Packing.{word, testOf, storeOf, unpackActions, metricIn, countsWord, testsIn, storesIn, bodyIn, unpackSentences}
 use Rattle.meaning.proofs.rows.Computing.{computing}
 
-looks : map testOf (word 0 0 0 0 ∷ word 1 0 5 97 ∷ word 1 1 5 97 ∷ word 1 2 5 255 ∷ word 1 3 5 97 ∷ word 4 0 5 97 ∷ []) ≡
-    unknownTest ∷ look (fromStart 5) 97 ∷ look (fromEnd 5) 97 ∷ look (fromPlace 5) 255 ∷ unknownTest ∷ unknownTest ∷ []
+looks :
+    map testOf (word 0 0 0 0 ∷ word 1 0 5 97 ∷ word 1 1 5 97 ∷ word 1 2 5 255 ∷ word 1 3 5 97 ∷ word 4 0 5 97 ∷ word 19 0 5 97 ∷ word 21 0 5 97 ∷ [])
+    ≡ unknownTest ∷ look (fromStart 5) 97 ∷ look (fromEnd 5) 97 ∷ look (fromPlace 5) 255 ∷ unknownTest ∷ unknownTest ∷ unknownTest ∷ unknownTest ∷ []
 looks = refl
 
 -- the registers of both cells stand in one byte
@@ -23,6 +24,15 @@ predicates : map testOf (word 3 4 5 0 ∷ word 3 1 5 1 ∷ word 3 6 5 2 ∷ word
     predicate (fromStart 5) digit true ∷ predicate (fromEnd 5) upper false ∷ predicate (fromPlace 5) lower true
     ∷ predicate (fromStart 5) alphabetic false ∷ predicate (fromStart 5) blank false ∷ unknownTest ∷ unknownTest ∷ []
 predicates = refl
+
+-- the registers of the part's start and end, the truth value and the class stand in one byte
+parts :
+    map testOf
+    (word 20 16 5 6 ∷ word 20 38 5 6 ∷ word 20 89 5 6 ∷ word 20 97 5 6 ∷ word 20 154 5 6 ∷ word 20 3 5 6 ∷ word 20 12 5 6 ∷ word 20 160 5 6 ∷ [])
+    ≡ predicatePart (fromStart 5) (fromStart 6) digit true ∷ predicatePart (fromPlace 5) (fromEnd 6) upper false
+    ∷ predicatePart (fromEnd 5) (fromPlace 6) lower true ∷ predicatePart (fromEnd 5) (fromStart 6) alphabetic false
+    ∷ predicatePart (fromPlace 5) (fromPlace 6) blank true ∷ unknownTest ∷ unknownTest ∷ unknownTest ∷ []
+parts = refl
 
 stores : map storeOf (word 4 0 5 0 ∷ word 4 1 5 0 ∷ word 4 2 5 0 ∷ word 4 3 5 0 ∷ word 3 0 5 0 ∷ word 5 0 5 0 ∷ []) ≡
     store (fromStart 5) ∷ store (fromEnd 5) ∷ store (fromPlace 5) ∷ unknownStore ∷ unknownStore ∷ unknownStore ∷ []

@@ -12,9 +12,10 @@ write-matching-requires : tie.Need-write-matching-requires
 write-matching-requires c κs =
     let at-room2 = c .before .before .before in
     let at-room = at-room2 .before in
-    let entry = at-room .before .before .before .before .before in
+    let entry = at-room .before .before .before .before in
     let pre = entry .pre in
-    ((ap length (at-room .room .ensures), ap length (at-room2 .room2 .ensures), λ k. rw (at-room2 .room2 .ensures) (all-zero 64 k)), (pre .0 .lengths, omega (arith, pre .0 .within .letters, pre .0 .within .most), pre .2, pre .3))
+    let zeros = at-room2 .room2 .ensures in
+    ((ap length (at-room .room .ensures), ap length zeros, λ k. rw zeros (all-zero 64 k)), (pre .0, pre .2, pre .3))
 
 slice-aggregate-write-expression : tie.Need-slice-aggregate-write-expression
 slice-aggregate-write-expression c =
@@ -26,7 +27,7 @@ slice-aggregate-write-expression c =
 write-expression-requires : tie.Need-write-expression-requires
 write-expression-requires c κs =
     let at-write-matching = c .before .before .before .before .before .before .before in
-    let entry = at-write-matching .before .before .before .before .before .before .before .before .before .before in
+    let entry = at-write-matching .before .before .before .before .before .before .before .before .before in
     let pre = entry .pre in
     let m = at-write-matching .write-matching in
     (pre .1, omega (arith, length-take (m .result .symbols) (m .last .1 .1 .0), m .ensures .few .1), omega (arith, pre .0 .within .letters, pre .0 .within .most), omega (arith, m .ensures .next), omega (arith, m .ensures .grown, pre .3))
@@ -35,7 +36,7 @@ returns : tie.Need-returns
 returns c =
     let at-write-expression = c .before .before in
     let at-write-matching = at-write-expression .before .before .before .before .before .before .before .before in
-    let entry = at-write-matching .before .before .before .before .before .before .before .before .before .before in
+    let entry = at-write-matching .before .before .before .before .before .before .before .before .before in
     bodied (entry .pre .0) (at-write-matching .write-matching .ensures) (at-write-expression .write-expression .ensures)
 
 pub write-body-spec : {M : Type 1} → statement M

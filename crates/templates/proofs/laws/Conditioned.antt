@@ -9,19 +9,24 @@ use lib.ListN.{length, take, drop, getD, drop-of-length-le, List·getD-eq-defaul
 use lib.Seq.{drop-drop}
 use borrow.Author.Tests.{eq-eqb, ne-eqb, le-leb, lt-leb, leb-false}
 use native.Mathlib.Decide.{ℕ-discrete}
-use Rattle.meaning.specs.Choice.{Name, pick, Named, lookup}
+use Rattle.meaning.specs.Choice.{Name, pick, sameBytes, lookup}
 use Rattle.meaning.specs.Classes.{classNumber}
 use Rattle.meaning.specs.Tree.{Condition}
-use Rattle.meaning.specs.Instructions.{Site, predicate}
-use Rattle.meaning.specs.Translation.{siteOr}
-use Rattle.meaning.specs.Packing.{truthBit, testWord}
+use Rattle.meaning.specs.Instructions.{predicate}
+use Rattle.meaning.specs.Translation.{siteOr, Bounds, partTest}
+use Rattle.meaning.specs.Packing.{word, siteRegister, siteOffset, truthBit, testWord}
+use Rattle.words.specs.declared.tape.Parts.{Parts}
+use Rattle.words.specs.declared.tape.Parts.the-variants.{Zero, One, Two}
+use Rattle.templates.specs.declared.pattern.Lengths.{Lengths}
+use Rattle.templates.specs.declared.pattern.Pattern.{Pattern}
+use Rattle.templates.specs.declared.symbols.Site.{Site}
 use Rattle.templates.specs.declared.conditions.Conditions.{Conditions}
 use Rattle.words.specs.Words.{carried, headNames, isConditionWord, classIn}
-use Rattle.templates.specs.Scans.{Scan, scanned, andThen, conditionIn, conditionBy, conditionsIn}
+use Rattle.templates.specs.Scans.{Scan, scanned, andThen, conditionOf, conditionIn, conditionBy, conditionsIn}
 use Rattle.words.specs.Writing.{Wrote, Same}
 use Rattle.words.specs.Finding.{numberAmong}
-use Rattle.templates.specs.Testing.{siteNumber, IsSite, AllSites, storeOfSite, foundSite, held}
-use Rattle.templates.specs.Conditioning.{conditionAt, coming, conditionWords, conditionWord, conditionDone, conditionsDone, InConditions, ConditionsOn, ConditionsAll}
+use Rattle.templates.specs.Testing.{siteNumbers, siteNumber, IsSite, storeOfSite, foundSite, held, total}
+use Rattle.templates.specs.Conditioning.{Located, located, Kept, boundsBy, conditionTestBy, conditionAt, coming, conditionWords, conditionDone, conditionsDone, InConditions, ConditionsOn, ConditionsAll}
 use Rattle.meaning.proofs.laws.Remaining.{at-place}
 use Rattle.words.proofs.laws.Lists.{drop-again, reached, take-again}
 use Rattle.words.proofs.laws.Names.{by-place}
@@ -88,21 +93,52 @@ truth-bit zero h = refl
 truth-bit (suc zero) h = refl
 truth-bit (suc (suc n)) h = absurd (omega arith)
 
-module _ (ws names sites : List ℕ) (symbols : ℕ) (hn : symbols ≤ length names) (hs : symbols ≤ length sites) (good : AllSites sites) (x : Name) where
+-- the bounds of a part fit a word's operands
+pub bounds-small : (l : Lengths) (first : Bool) {from to : Site} → total l ≤ 64 → from ≡ siteNumbers (boundsBy (l .parts) l first .from)
+    → to ≡ siteNumbers (boundsBy (l .parts) l first .to) → (from .register ≤ 2) × (from .offset ≤ 64) × (to .register ≤ 2) × (to .offset ≤ 64)
+bounds-small l first h e f = rw (e, f) (by-parts (l .parts) first)
+  where
+    by-parts : (p : Parts) (first : Bool) → let b = boundsBy p l first in
+        (siteRegister (b .from) ≤ 2) × (siteOffset (b .from) ≤ 64) × (siteRegister (b .to) ≤ 2) × (siteOffset (b .to) ≤ 64)
+    by-parts Zero first = omega arith
+    by-parts One first = omega arith
+    by-parts Two true = omega arith
+    by-parts Two false = omega arith
+
+part-word : (b : Bounds) (n : ℕ)
+    → word 20 (siteRegister (b .from) + 4 * siteRegister (b .to) + 16 * (n / 5 % 2) + 32 * (n % 5)) (siteOffset (b .from)) (siteOffset (b .to))
+    ≡ testWord (partTest b (classIn (n % 5)) (eqb (n / 5 % 2) 1))
+part-word b n = omega (arith, class-number (n % 5) (omega arith), truth-bit (n / 5 % 2) (omega arith))
+
+-- the test of a condition on an e-variable, from what the code worked out
+pub part-asked : (known : Located) (n : ℕ) (x : Name) {first : Bool} {from to : Site} {r : ℕ} → n / 10 % 2 ≡ 1 → first ≡ sameBytes x (known .variable)
+    → let b = boundsBy (known .lengths .parts) (known .lengths) first in
+    from ≡ siteNumbers (b .from) → to ≡ siteNumbers (b .to)
+    → r ≡ word 20 (from .register + 4 * to .register + 16 * (n / 5 % 2) + 32 * (n % 5)) (from .offset) (to .offset)
+    → r ≡ testWord (conditionTestBy known (conditionOf n x))
+part-asked known n x {first} k is ef et e =
+    e ∙ rw (ef, et, eq-eqb (n / 10 % 2) 1 k, ← is) (part-word (boundsBy (known .lengths .parts) (known .lengths) first) n)
+
+module _ (ws : List ℕ) (m : Pattern) (names sites : List ℕ) (symbols : ℕ) (kept : Kept m names sites symbols) (x : Name) where
   abbrev found : ℕ
   found = numberAmong 0 (headNames ws (take symbols names)) x
 
-  -- the cell of a condition's variable, by the number that it is kept as
+  -- the cell of a condition's s-variable, by the number that it is kept as
   found-number : found ≤ symbols → siteNumber (siteOr (lookup x (held ws names sites symbols))) ≡ foundSite found sites
   found-number h = elim (ℕ-discrete found 0) [
-    | yes e ↦ rw (lookup-none ws names sites symbols x hn hs e, eq-eqb found 0 e)
-    | no e ↦ rw (lookup-some ws names sites symbols x hn hs e h, ne-eqb found 0 e) (good (found - 1) .same)
+    | yes e ↦ rw (lookup-none ws names sites symbols x (kept .nameRoom) (kept .siteRoom) e, eq-eqb found 0 e)
+    | no e ↦ rw (lookup-some ws names sites symbols x (kept .nameRoom) (kept .siteRoom) e h, ne-eqb found 0 e) (kept .good (found - 1) .same)
   ]
 
-  condition-word : (w : ℕ) → found ≤ symbols
-      → testWord (predicate (siteOr (lookup x (held ws names sites symbols))) (classIn (carried w % 5)) (eqb (carried w / 5 % 2) 1)) ≡ conditionWord (foundSite found sites) w
-  condition-word w h =
-      omega (arith, found-number h, class-number (carried w % 5) (omega arith), truth-bit (carried w / 5 % 2) (omega arith))
+  symbol-word : (n : ℕ) → found ≤ symbols → 3 + 256 * foundSite found sites + 1024 * (n / 5 % 2) + 16777216 * (n % 5)
+      ≡ testWord (predicate (siteOr (lookup x (held ws names sites symbols))) (classIn (n % 5)) (eqb (n / 5 % 2) 1))
+  symbol-word n h = omega (arith, found-number h, class-number (n % 5) (omega arith), truth-bit (n / 5 % 2) (omega arith))
+
+  -- the same on an s-variable
+  pub symbol-asked : (n : ℕ) {number site r : ℕ} → (n / 10 % 2 ≡ 1 → ⊥) → number ≡ found → number ≤ symbols → site ≡ foundSite number sites
+      → r ≡ 3 + 256 * site + 1024 * (n / 5 % 2) + 16777216 * (n % 5)
+      → r ≡ testWord (conditionTestBy (located ws m names sites symbols) (conditionOf n x))
+  symbol-asked n k en h es e = e ∙ rw (es, en, ne-eqb (n / 10 % 2) 1 k) (symbol-word n (rw (← en) h))
 
 -- THE STEPS
 
@@ -113,34 +149,26 @@ condition-told {ws} {c} within e n =
     let inside = condition-inside ws (c .next) (c .count) e in
     (inside, omega (arith, reached n (c .next + 1) ws))
 
-module _ (ws names sites : List ℕ) (symbols : ℕ) (hn : symbols ≤ length names) (hs : symbols ≤ length sites) (good : AllSites sites) (c : Conditions) (within : InConditions ws c) where
-  abbrev known : List (Named Site)
-  known = held ws names sites symbols
-
-  abbrev word : ℕ
-  word = getD ws (c .next) 0
+module _ (ws : List ℕ) (known : Located) (c : Conditions) (within : InConditions ws c) where
+  abbrev here : ℕ
+  here = getD ws (c .next) 0
 
   abbrev name : Name
-  name = take (carried word / 10) (drop (c .next + 1) ws)
+  name = take (carried here / 20) (drop (c .next + 1) ws)
 
   pub condition-on : (code code′ : List ℕ) (at : ℕ) → conditionAt (c .count) (drop (c .next) ws) ≡ true
-      → numberAmong 0 (headNames ws (take symbols names)) name ≤ symbols
-      → Wrote code (c .at) (conditionWord (foundSite (numberAmong 0 (headNames ws (take symbols names)) name) sites) word ∷ []) code′ at
+      → Wrote code (c .at) (testWord (conditionTestBy known (conditionOf (carried here) name)) ∷ []) code′ at
       → ConditionsOn ws known code c code′ (conditionDone c (length name) at)
-  condition-on code code′ at e h wrote =
-      let (inside, fits) = condition-told within e (carried word / 10) in
+  condition-on code code′ at e wrote =
+      let (inside, fits) = condition-told within e (carried here / 20) in
       let room = condition-room ws (c .next) (c .count) e in
-      let after : drop (carried word / 10) (drop (c .next + 1) ws) ≡ drop (c .next + 1 + length name) ws =
-      sym (drop-again (carried word / 10) (drop (c .next + 1) ws)) ∙ drop-drop (length name) (c .next + 1) ws in
-      let now : coming true ws c ≡ andThen (conditionIn word (drop (c .next + 1) ws)) (coming true ws (conditionDone c (length name) at)) =
+      let after : drop (carried here / 20) (drop (c .next + 1) ws) ≡ drop (c .next + 1 + length name) ws =
+      sym (drop-again (carried here / 20) (drop (c .next + 1) ws)) ∙ drop-drop (length name) (c .next + 1) ws in
+      let now : coming true ws c ≡ andThen (conditionIn here (drop (c .next + 1) ws)) (coming true ws (conditionDone c (length name) at)) =
       conditions-at ws (c .next) (c .count) true inside e
-      ∙ rw (conditions-skip (c .count + 1) (carried word / 10) (drop (c .next + 1) ws), after) in
+      ∙ rw (conditions-skip (c .count + 1) (carried here / 20) (drop (c .next + 1) ws), after) in
       record {
-        same =
-            same-wrote _
-            (same-words (same-refl code (c .at) _) (ap (conditionWords known) now
-            ∙ ap (λ (w : ℕ). w ∷ conditionWords known (coming true ws (conditionDone c (length name) at))) (condition-word ws names sites symbols hn hs good name word h)))
-            wrote;
+        same = same-wrote _ (same-words (same-refl code (c .at) _) (ap (conditionWords known) now)) wrote;
         rest = sym (ap (λ (s : Scan (List Condition)). s .rest) now);
         within = record { count = omega arith; next = fits; at = omega (arith, wrote .next, within .at) };
         ahead = omega arith;
@@ -148,16 +176,18 @@ module _ (ws names sites : List ℕ) (symbols : ℕ) (hn : symbols ≤ length na
       }
 
   -- the same from what the code worked out
-  pub condition-written : {code code′ : List ℕ} {at w size number site : ℕ} → conditionAt (c .count) (drop (c .next) ws) ≡ true → w ≡ word
-      → size ≡ length (take (carried w / 10) (drop (c .next + 1) ws))
-      → number ≡ numberAmong 0 (headNames ws (take symbols names)) (take size (drop (c .next + 1) ws)) → number ≤ symbols → site ≡ foundSite number sites
-      → Wrote code (c .at) (conditionWord site w ∷ []) code′ at → ConditionsOn ws known code c code′ (conditionDone c size at)
-  condition-written {code} {code′} {at} {w} {size} {number} {site} e ew es en h ef wrote =
-      let long : size ≡ length name = es ∙ ap (λ (v : ℕ). length (take (carried v / 10) (drop (c .next + 1) ws))) ew in
+  pub condition-written : {code code′ : List ℕ} {at w size test : ℕ} → conditionAt (c .count) (drop (c .next) ws) ≡ true → w ≡ here
+      → size ≡ length (take (carried w / 20) (drop (c .next + 1) ws))
+      → test ≡ testWord (conditionTestBy known (conditionOf (carried w) (take size (drop (c .next + 1) ws))))
+      → Wrote code (c .at) (test ∷ []) code′ at → ConditionsOn ws known code c code′ (conditionDone c size at)
+  condition-written {code} {code′} {at} {w} {size} {test} e ew es et wrote =
+      let long : size ≡ length name = es ∙ ap (λ (v : ℕ). length (take (carried v / 20) (drop (c .next + 1) ws))) ew in
       let named : take size (drop (c .next + 1) ws) ≡ name =
-      ap (λ (k : ℕ). take k (drop (c .next + 1) ws)) long ∙ take-again (carried word / 10) (drop (c .next + 1) ws) in
-      let same : number ≡ numberAmong 0 (headNames ws (take symbols names)) name = en ∙ ap (numberAmong 0 (headNames ws (take symbols names))) named in
-      rw long (condition-on code code′ at e (rw (← same) h) (rw (← same, ← ef, ← ew) wrote))
+      ap (λ (k : ℕ). take k (drop (c .next + 1) ws)) long ∙ take-again (carried here / 20) (drop (c .next + 1) ws) in
+      let tested : test ≡ testWord (conditionTestBy known (conditionOf (carried here) name)) =
+      et ∙ ap (λ (v : ℕ). testWord (conditionTestBy known (conditionOf (carried v) (take size (drop (c .next + 1) ws))))) ew
+      ∙ ap (λ (x : Name). testWord (conditionTestBy known (conditionOf (carried here) x))) named in
+      rw long (condition-on code code′ at e (rw (← tested) wrote))
 
   pub conditions-over : {code : List ℕ} → conditionAt (c .count) (drop (c .next) ws) ≡ false → ConditionsOn ws known code c code (conditionsDone c)
   conditions-over {code} e =
@@ -172,13 +202,13 @@ module _ (ws names sites : List ℕ) (symbols : ℕ) (hn : symbols ≤ length na
 
 -- ALL OF THEM
 
-pub record ConditionsSoFar (ws : List ℕ) (known : List (Named Site)) (start at : ℕ) (code₀ code : List ℕ) (c : Conditions) : Type 0 where
+pub record ConditionsSoFar (ws : List ℕ) (known : Located) (start at : ℕ) (code₀ code : List ℕ) (c : Conditions) : Type 0 where
   pub same : Same code₀ at (conditionWords known (conditionsIn 0 0 (drop start ws))) code (c .at) (conditionWords known (coming (c .more) ws c))
   pub rest : coming (c .more) ws c .rest ≡ conditionsIn 0 0 (drop start ws) .rest
   pub within : InConditions ws c
   pub grown : c .at ≤ at + c .count
 
-pub conditions-go-on : {ws : List ℕ} {known : List (Named Site)} {start at : ℕ} {code₀ code code′ : List ℕ} {c r : Conditions}
+pub conditions-go-on : {ws : List ℕ} {known : Located} {start at : ℕ} {code₀ code code′ : List ℕ} {c r : Conditions}
     → ConditionsSoFar ws known start at code₀ code c → c .more ≡ true → ConditionsOn ws known code c code′ r → ConditionsSoFar ws known start at code₀ code′ r
 conditions-go-on s e o =
     record {
@@ -188,7 +218,7 @@ conditions-go-on s e o =
       grown = omega (arith, s .grown, o .grown);
     }
 
-pub conditions-all : {ws : List ℕ} {known : List (Named Site)} {start at : ℕ} {code₀ code : List ℕ} {c : Conditions}
+pub conditions-all : {ws : List ℕ} {known : Located} {start at : ℕ} {code₀ code : List ℕ} {c : Conditions}
     → ConditionsSoFar ws known start at code₀ code c → c .more ≡ false → ConditionsAll ws known start code₀ at code c
 conditions-all s e =
     record {

@@ -12,10 +12,11 @@ use lib.Seq.{take-append-seam, drop-append-seam}
 use Rattle.meaning.specs.Choice.{Name, pick, both, isSome, every}
 use Rattle.meaning.specs.Names.{isReserved}
 use Rattle.meaning.specs.Classes.{Class, classNumber}
-use Rattle.meaning.specs.Tree.{character, symbol, Element, letter, part, Condition, Expression, end, thenCharacter, thenSymbol, thenPart, thenCall, Sentence, Function, Table}
-use Rattle.meaning.specs.Allowed.{maxFunctions, maxSentences, maxLetters, maxItems, member, distinct, parted, symbolsOf, spelledItems, comingAfterAll, allowedPattern, allowedConditions, allowedExpression, allowedSentence, allowedFunction, namesOf, allowed, isByte, spelledName, spelledIdentifier, spelledElement, lettersIn, partsOf, itemsIn, nesting, someSentence}
+use Rattle.meaning.specs.Tree.{character, symbol, Element, letter, part, Subject, ofSymbol, ofPart, Condition, Expression, end, thenCharacter, thenSymbol, thenPart, thenCall, Sentence, Function, Table}
+use Rattle.meaning.specs.Allowed.{maxFunctions, maxSentences, maxLetters, maxItems, distinct, parted, symbolsOf, spelledItems, comingAfterAll, allowedPattern, ofPattern, allOfPattern, allowedConditions, allowedSentence, allowedFunction, namesOf, allowed, isByte, spelledName, spelledIdentifier, spelledElement, lettersIn, partsOf, itemsIn, nesting, someSentence}
 use Rattle.meaning.specs.Allowed.{sentencesIn as sentencesOf}
-use Rattle.meaning.specs.Tape.{tapeWord, named, symbolKind, partKind, conditionKind, equalsKind, closeKind, nextKind, endKind, functionKind, callKind, truthNumber, patternTape, conditionsTape, expressionTape, sentenceTape, sentencesTape, functionTape, tape}
+use Rattle.meaning.specs.Tape.{tapeWord, named, symbolKind, partKind, conditionKind, equalsKind, closeKind, nextKind, endKind, functionKind, callKind, truthNumber, subjectTape, patternTape, conditionsTape, expressionTape, sentenceTape, sentencesTape, functionTape, tape}
+use Rattle.meaning.specs.Packing.{truthBit}
 use Rattle.words.specs.declared.tape.Parts.{Parts}
 use Rattle.words.specs.declared.tape.Parts.the-variants.{Zero, One, Two}
 use Rattle.words.specs.declared.tape.Piece.the-variants.{EVariable}
@@ -23,14 +24,14 @@ use Rattle.words.specs.declared.tape.Item.the-variants.{Byte, Symbol, Part, Cal
 use Rattle.words.specs.Words.{carried, pieceOf, classIn, openingOf, itemOf}
 use Rattle.expressions.specs.Levels.{placeIn, Levels, stopped, onCurrent, opened, itemBy, levelsIn}
 use Rattle.sentences.specs.Trees.{isFunctionWord, conditionsAt, levelsAt, sentenceIn, sentencesIn, functionsIn, functionIn, treeOf}
-use Rattle.templates.specs.Scans.{scanned, andThen, oneMore, patternIn, conditionBy, conditionsIn, patternAt}
+use Rattle.templates.specs.Scans.{scanned, andThen, oneMore, patternIn, subjectOf, conditionBy, conditionsIn, patternAt}
 use Rattle.templates.proofs.laws.Scanning.{pattern-skip}
 use Rattle.templates.proofs.laws.Conditioned.{conditions-skip}
 use Rattle.expressions.proofs.laws.Items.{levels-skip}
 use Rattle.accepting.proofs.reading.Basics.{both-left, both-right}
 use Rattle.meaning.proofs.agreement.Choosing.{passed-true, true-passed}
 use Rattle.meaning.proofs.laws.Spelling.{name-short, name-bytes, identifier-bytes, identifier-short as short-identifier}
-use Rattle.meaning.proofs.laws.Words.{by-class, class-below}
+use Rattle.meaning.proofs.laws.Words.{by-class, class-below, truth-below}
 use Rattle.accepting.proofs.roundtrip.Legible.{legible, allowed-legible}
 use Rattle.accepting.proofs.reading.Sentences.{symbols-spelled, parts-spelled}
 use Rattle.accepting.proofs.reading.Lists.{member-every}
@@ -220,25 +221,77 @@ pattern-back (part x ∷ p) letters parts ws s h k ends =
 class-back : (c : Class) → classIn (classNumber c) ≡ c
 class-back = by-class (λ c. classIn (classNumber c) ≡ c) refl refl refl refl refl
 
-truth-few : (b : Bool) → truthNumber b ≤ 5
-truth-few true = omega arith
-truth-few false = omega arith
+truth-number : (b : Bool) → truthNumber b ≡ 5 * truthBit b
+truth-number true = refl
+truth-number false = refl
 
-truth-back : (n c : ℕ) (b : Bool) → c < 5 → eqb ((n * 10 + truthNumber b + c) / 5 % 2) 1 ≡ b
-truth-back n c true h = let e : (n * 10 + 5 + c) / 5 % 2 ≡ 1 = omega arith in rw e
-truth-back n c false h = let e : (n * 10 + 0 + c) / 5 % 2 ≡ 0 = omega arith in rw e
+bit-back : {n : ℕ} (b : Bool) → n ≡ truthBit b → eqb n 1 ≡ b
+bit-back true e = rw e
+bit-back false e = rw e
 
-class-carried : (n c : ℕ) (b : Bool) → c < 5 → (n * 10 + truthNumber b + c) % 5 ≡ c
-class-carried n c true h = omega arith
-class-carried n c false h = omega arith
+-- what a condition's word carries, by its kind of variable: true for an e-variable
+abbrev carriedBy : Bool → ℕ → ℕ → ℕ
+carriedBy true size told = size * 20 + 10 + told
+carriedBy false size told = size * 20 + told
 
-length-carried : (n c : ℕ) (b : Bool) → c < 5 → (n * 10 + truthNumber b + c) / 10 ≡ n
-length-carried n c true h = omega arith
-length-carried n c false h = omega arith
+carried-number : (kind : Bool) (size told : ℕ) → carriedBy kind size told ≡ size * 20 + 10 * truthBit kind + told
+carried-number true size told = refl
+carried-number false size told = omega arith
+
+-- and what is read back from it
+record Carries (n : ℕ) (kind : Bool) (size : ℕ) (expected : Bool) (class : ℕ) : Type 0 where
+  identifier : n / 20 ≡ size
+  part : n / 10 % 2 ≡ truthBit kind
+  truth : n / 5 % 2 ≡ truthBit expected
+  predicate : n % 5 ≡ class
+  small : n < 256
+
+carries : (kind : Bool) (size : ℕ) (expected : Bool) (class : ℕ) → size ≤ 8 → class < 5
+    → Carries (carriedBy kind size (truthNumber expected + class)) kind size expected class
+carries kind size expected class h k =
+    let number = carried-number kind size (truthNumber expected + class) in
+    let five = truth-number expected in
+    let first = truth-below kind in
+    let second = truth-below expected in
+    record { identifier = omega arith; part = omega arith; truth = omega arith; predicate = omega arith; small = omega arith }
 
 -- a condition's variable is spelled as an identifier
+abbrev identifierOf : Subject → Name
+identifierOf (ofSymbol x) = x
+identifierOf (ofPart x) = x
+
 abbrev pub spelledCondition : Condition → Bool
-spelledCondition c = spelledIdentifier (c .variable)
+spelledCondition c = spelledIdentifier (identifierOf (c .subject))
+
+-- what holds of a condition's words on either kind of variable holds of every subject's
+by-kind : (P : Name → List ℕ → Subject → Type 0) (told : ℕ)
+    → ((kind : Bool) (x : Name) → P x (tapeWord conditionKind (carriedBy kind (length x) told) ∷ x) (subjectOf kind x))
+    → (v : Subject) → P (identifierOf v) (subjectTape told v) v
+by-kind P told each (ofSymbol x) = each false x
+by-kind P told each (ofPart x) = each true x
+
+condition-back : (count : ℕ) (class : Class) (expected kind : Bool) (x : Name) (cs : List Condition) (tail ws : List ℕ)
+    → count < 8 → conditionsIn (count + 1) 0 (tail ++ ws) ≡ scanned cs ws → spelledIdentifier x ≡ true
+    → conditionsIn count 0 (tapeWord conditionKind (carriedBy kind (length x) (truthNumber expected + classNumber class)) ∷ ((x ++ tail) ++ ws))
+    ≡ scanned (record { predicate = class; subject = subjectOf kind x; expected = expected } ∷ cs) ws
+unfolding conditionsIn
+condition-back count class expected kind x cs tail ws h ih s =
+    let n = carriedBy kind (length x) (truthNumber expected + classNumber class) in
+    let told = carries kind (length x) expected (classNumber class) (identifier-short x s) (class-below class) in
+    let fits = told .small in
+    rw (
+      lt-leb 8 count h,
+      le-ltb (tapeWord conditionKind n) 768 (omega arith),
+      lt-ltb (tapeWord conditionKind n) 1024 (omega arith),
+      carried-back conditionKind n fits,
+      told .predicate,
+      class-back class,
+      told .identifier,
+      bit-back kind (told .part),
+      bit-back expected (told .truth),
+    )
+    (name-back (λ y. andThen (record { predicate = class; subject = subjectOf kind y; expected = expected })) (conditionsIn (count + 1))
+    (conditions-skip (count + 1)) x tail ws ih)
 
 pub conditions-back : (cs : List Condition) (count w : ℕ) (ws : List ℕ) → every spelledCondition cs ≡ true → count + length cs ≤ 8 → 1024 ≤ w →
     conditionsIn count 0 (conditionsTape cs ++ (w ∷ ws)) ≡ scanned cs (w ∷ ws)
@@ -249,25 +302,13 @@ conditions-back [] count w ws s h k = go (leb 8 count)
     go true = refl
     go false = rw (le-ltb w 768 (omega arith), le-ltb w 1024 k)
 conditions-back (c ∷ cs) count w ws s h k =
-    let x = c .variable in
-    let few = class-below (c .predicate) in
-    let small = truth-few (c .expected) in
-    let short = identifier-short x (both-left (spelledCondition c) (every spelledCondition cs) s) in
-    let n = length x * 10 + truthNumber (c .expected) + classNumber (c .predicate) in
-    let fits : n < 256 = omega arith in
     let ih = conditions-back cs (count + 1) w ws (both-right (spelledCondition c) (every spelledCondition cs) s) (omega arith) k in
-    rw (
-      lt-leb 8 count (omega arith),
-      le-ltb (tapeWord conditionKind n) 768 (omega arith),
-      lt-ltb (tapeWord conditionKind n) 1024 (omega arith),
-      carried-back conditionKind n fits,
-      class-carried (length x) (classNumber (c .predicate)) (c .expected) few,
-      class-back (c .predicate),
-      length-carried (length x) (classNumber (c .predicate)) (c .expected) few,
-      truth-back (length x) (classNumber (c .predicate)) (c .expected) few,
-    )
-    (name-back (λ y. andThen (record { variable = y; predicate = c .predicate; expected = c .expected })) (conditionsIn (count + 1)) (conditions-skip (count + 1)) x
-    (conditionsTape cs) (w ∷ ws) ih)
+    by-kind
+    (λ x tape v. spelledIdentifier x ≡ true → conditionsIn count 0 ((tape ++ conditionsTape cs) ++ (w ∷ ws))
+    ≡ scanned (record { predicate = c .predicate; subject = v; expected = c .expected } ∷ cs) (w ∷ ws))
+    (truthNumber (c .expected) + classNumber (c .predicate))
+    (λ kind x. condition-back count (c .predicate) (c .expected) kind x cs (conditionsTape cs) (w ∷ ws) (omega arith) ih)
+    (c .subject) (both-left (spelledCondition c) (every spelledCondition cs) s)
 
 -- SENTENCES
 
@@ -296,7 +337,9 @@ level-ends items w ws h k = go (leb 128 items)
 body-ends : (cs : List Condition) (ws : List ℕ) → PatternEnds (conditionsTape cs ++ (tapeWord equalsKind 0 ∷ ws))
 unfolding conditionsTape
 body-ends [] ws = ends-at (tapeWord equalsKind 0) ws (omega arith)
-body-ends (c ∷ cs) ws = ends-at _ _ (omega arith)
+body-ends (c ∷ cs) ws =
+    by-kind (λ x tape v. PatternEnds ((tape ++ conditionsTape cs) ++ (tapeWord equalsKind 0 ∷ ws)))
+    (truthNumber (c .expected) + classNumber (c .predicate)) (λ kind x. ends-at _ _ (omega arith)) (c .subject)
 
 module _ (s : Sentence) (r : Retraceable s) (w : ℕ) (ws : List ℕ) (h : 1536 ≤ w) (k : w < 2304) where
   rest : List ℕ
@@ -416,11 +459,13 @@ conditions-quiet : (cs : List Condition) → every spelledCondition cs ≡ true 
 unfolding every conditionsTape
 conditions-quiet [] s = refl
 conditions-quiet (c ∷ cs) s =
-    let spelled = both-left (spelledCondition c) (every spelledCondition cs) s in
-    let n = length (c .variable) * 10 + truthNumber (c .expected) + classNumber (c .predicate) in
-    let few : n < 256 = omega (arith, identifier-short (c .variable) spelled, truth-few (c .expected), class-below (c .predicate)) in
-    variable-quiet (tapeWord conditionKind n) (c .variable) (conditionsTape cs) (omega arith) spelled
-    (conditions-quiet cs (both-right (spelledCondition c) (every spelledCondition cs) s))
+    let told = truthNumber (c .expected) + classNumber (c .predicate) in
+    let later = conditions-quiet cs (both-right (spelledCondition c) (every spelledCondition cs) s) in
+    by-kind (λ x tape v. spelledIdentifier x ≡ true → every quiet (tape ++ conditionsTape cs) ≡ true) told
+    (λ kind x t.
+    let fits = carries kind (length x) (c .expected) (classNumber (c .predicate)) (identifier-short x t) (class-below (c .predicate)) .small in
+    variable-quiet (tapeWord conditionKind (carriedBy kind (length x) told)) x (conditionsTape cs) (omega arith) t later)
+    (c .subject) (both-left (spelledCondition c) (every spelledCondition cs) s)
 
 expression-quiet : (e : Expression) → legible e ≡ true → every quiet (expressionTape e) ≡ true
 unfolding every expressionTape legible
@@ -495,37 +540,44 @@ functions-back (f ∷ fs) (suc limit) r h =
 
 -- FROM THE RULES
 
-conditions-spelled : (symbols : List Name) → every spelledIdentifier symbols ≡ true → (cs : List Condition) → every (λ c. member (c .variable) symbols) cs ≡ true →
-    every spelledCondition cs ≡ true
-unfolding every
-conditions-spelled symbols k [] m = refl
-conditions-spelled symbols k (c ∷ cs) m =
-    rw (member-every spelledIdentifier (c .variable) symbols k (both-left (member (c .variable) symbols) _ m))
-    (conditions-spelled symbols k cs (both-right (member (c .variable) symbols) _ m))
+module _ (symbols parts : List Name) (s : every spelledIdentifier symbols ≡ true) (p : every spelledIdentifier parts ≡ true) where
+  subject-spelled : (v : Subject) → ofPattern symbols parts v ≡ true → spelledIdentifier (identifierOf v) ≡ true
+  subject-spelled (ofSymbol x) m = member-every spelledIdentifier x symbols s m
+  subject-spelled (ofPart x) m = member-every spelledIdentifier x parts p m
+
+  conditions-spelled : (cs : List Condition) → allOfPattern symbols parts cs ≡ true → every spelledCondition cs ≡ true
+  unfolding every
+  conditions-spelled [] m = refl
+  conditions-spelled (c ∷ cs) m =
+      rw (subject-spelled (c .subject) (both-left (ofPattern symbols parts (c .subject)) _ m))
+      (conditions-spelled cs (both-right (ofPattern symbols parts (c .subject)) _ m))
 
 sentence-retraceable : (s : Sentence) → allowedSentence s ≡ true → Retraceable s
 unfolding every
 sentence-retraceable s a =
     let p = s .pattern in
-    let ofPattern = both-left (allowedPattern p) _ a in
+    let inPattern = both-left (allowedPattern p) _ a in
     let others = both-right (allowedPattern p) _ a in
-    let ofConditions = both-left (allowedConditions (symbolsOf p) (s .conditions)) (allowedExpression (symbolsOf p) (partsOf p) (s .expression)) others in
-    let ofExpression = both-right (allowedConditions (symbolsOf p) (s .conditions)) (allowedExpression (symbolsOf p) (partsOf p) (s .expression)) others in
-    let elements = both-left (every spelledElement p) _ ofPattern in
-    let a₁ = both-right (every spelledElement p) _ ofPattern in
+    let inConditions = both-left (allowedConditions (symbolsOf p) (partsOf p) (s .conditions)) _ others in
+    let inExpression = both-right (allowedConditions (symbolsOf p) (partsOf p) (s .conditions)) _ others in
+    let elements = both-left (every spelledElement p) _ inPattern in
+    let a₁ = both-right (every spelledElement p) _ inPattern in
     let a₂ = both-right (leb (length (partsOf p)) 2) _ a₁ in
     let a₃ = both-right (parted p) _ a₂ in
     let a₄ = both-right (distinct (symbolsOf p ++ partsOf p)) _ a₃ in
-    let e₁ = both-right (spelledItems (symbolsOf p) (s .expression)) _ ofExpression in
+    let e₁ = both-right (spelledItems (symbolsOf p) (s .expression)) _ inExpression in
     let e₂ = both-right (isSome (comingAfterAll (s .expression) (partsOf p))) _ e₁ in
     let symbols = symbols-spelled [] p refl elements in
+    let parts = parts-spelled p elements in
     record {
       elements = elements;
       letters = leb-true (lettersIn p) 64 (both-left (leb (lettersIn p) maxLetters) _ a₄);
       parts = leb-true (length (partsOf p)) 2 (both-left (leb (length (partsOf p)) 2) _ a₁);
-      variables = conditions-spelled (symbolsOf p) symbols (s .conditions) (both-left (every (λ c. member (c .variable) (symbolsOf p)) (s .conditions)) _ ofConditions);
-      conditions = leb-true (length (s .conditions)) 8 (both-right (every (λ c. member (c .variable) (symbolsOf p)) (s .conditions)) _ ofConditions);
-      spelled = allowed-legible (symbolsOf p) (partsOf p) (s .expression) symbols (parts-spelled p elements) ofExpression;
+      variables =
+          conditions-spelled (symbolsOf p) (partsOf p) symbols parts (s .conditions)
+          (both-left (allOfPattern (symbolsOf p) (partsOf p) (s .conditions)) _ inConditions);
+      conditions = leb-true (length (s .conditions)) 8 (both-right (allOfPattern (symbolsOf p) (partsOf p) (s .conditions)) _ inConditions);
+      spelled = allowed-legible (symbolsOf p) (partsOf p) (s .expression) symbols parts inExpression;
       items = leb-true (itemsIn (s .expression)) 128 (both-left (leb (itemsIn (s .expression)) maxItems) _ e₂);
       nested = leb-true (nesting (s .expression)) 16 (both-right (leb (itemsIn (s .expression)) maxItems) _ e₂);
     }

@@ -25,8 +25,17 @@ fn main() {
     let late: Vec<u8> = [vec![b'x'; LONG - 1], vec![b'7']].concat();
     running("a byte found last in 30,000", b"F { e1 '7' e2 = }", &late, 1);
     running("a class found last in 30,000", b"F { e1 s2 e3, <IsDigit s2>: 'T' = s2 }", &late, 1);
+    conditions();
     let moves = running("1,000 tail calls with 30,000 bytes", b"F { e1 = <F e1> }", &[b'm'; LONG], 1_000);
     moving(moves, 1_000);
+}
+
+/// Conditions on parts: one over the whole text, and one on each part at every place.
+fn conditions() {
+    let digits = [b'7'; LONG];
+    running("a part's class over 30,000 bytes", b"F { e1, <IsDigit e1>: 'T' = }", &digits, 1);
+    let table = b"F { e1 s2 e3, <IsDigit e1>: 'T', <IsDigit e3>: 'T', <IsUpper s2>: 'T' = ; e1 = }";
+    running("a class asked of both parts at 30,000 places", table, &digits, 1);
 }
 
 /// The shortest time of some rounds, each of enough calls to be measured.

@@ -11,9 +11,9 @@ returns c = variable-many (c .before .before .before .before .pre) (λ e. rw e) 
 
 returns-2 : tie.Need-returns-2
 returns-2 c =
-    let at-later-symbol-fault = c .before .before in
-    let at-if1 = at-later-symbol-fault .before in
-    let f = at-later-symbol-fault .later-symbol-fault .ensures in
+    let at-later-fault = c .before .before in
+    let at-if1 = at-later-fault .before in
+    let f = at-later-fault .later-fault .ensures in
     symbol-bad (at-if1 .before .before .before .before .pre) (at-if1 .if1 .left) f (a-fault-here f (c .before .is-accepted .ensures) (c .if2 .taken))
 
 take-variable-requires : tie.Need-take-variable-requires
@@ -26,10 +26,10 @@ returns-3 : tie.Need-returns-3
 returns-3 c =
     let at-if2 = c .before .before in
     let at-is-accepted = at-if2 .before in
-    let at-later-symbol-fault = at-is-accepted .before in
-    let at-if1 = at-later-symbol-fault .before in
+    let at-later-fault = at-is-accepted .before in
+    let at-if1 = at-later-fault .before in
     symbol-joined (at-if1 .before .before .before .before .pre) (at-if1 .if1 .left)
-    (no-fault-here (at-later-symbol-fault .later-symbol-fault .ensures) (at-is-accepted .is-accepted .ensures) (at-if2 .if2 .left)) (c .take-variable .ensures)
+    (no-fault-here (at-later-fault .later-fault .ensures) (at-is-accepted .is-accepted .ensures) (at-if2 .if2 .left)) (c .take-variable .ensures)
 
 pub join-symbol-spec : {M : Type 1} → statement M
 join-symbol-spec =

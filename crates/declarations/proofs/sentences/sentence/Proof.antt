@@ -31,7 +31,7 @@ slice-aggregate-conditions c = sym (pattern-variables (pattern-here (c .before .
 conditions-requires : tie.Need-conditions-requires
 conditions-requires c κs =
     let k = pattern-here (c .before .before .before) in
-    (pattern-ready k, pattern-variables k .symbolEntries)
+    (pattern-ready k, pattern-variables k)
 
 returns-2 : tie.Need-returns-2
 returns-2 c =

@@ -9,14 +9,14 @@ write-condition-requires : tie.Need-write-condition-requires
 write-condition-requires c κs =
     let at-is-condition = c .before .before in
     let entry = at-is-condition .before .before .before .before .before in
-    (entry .pre, sym (at-is-condition .is-condition .ensures) ∙ c .before .if1 .taken)
+    (entry .pre .0, (entry .pre .1, sym (at-is-condition .is-condition .ensures) ∙ c .before .if1 .taken))
 
 returns-2 : tie.Need-returns-2
 returns-2 c =
     let at-is-condition = c .before .before in
     let entry = at-is-condition .before .before .before .before .before in
-    rw (c .conditions-end .ensures) (conditions-over (entry .args .tape .now) (entry .args .names .now) (entry .args .sites .now) (entry .args .symbols)
-    (entry .pre .0) (entry .pre .1) (entry .pre .2) (entry .args .c) (entry .pre .3) (sym (at-is-condition .is-condition .ensures) ∙ c .before .if1 .left))
+    rw (c .conditions-end .ensures) (conditions-over (entry .args .tape .now) _ (entry .args .c) (entry .pre .1)
+    (sym (at-is-condition .is-condition .ensures) ∙ c .before .if1 .left))
 
 pub condition-or-end-spec : {M : Type 1} → statement M
 condition-or-end-spec =

@@ -2,7 +2,6 @@
 use Prim.Native.Nat.{_+_, _/_, _%_, _≤_}
 use native.Mathlib.Omega.{arith}
 use lib.ListN.{length}
-use Rattle.templates.proofs.laws.Held.{found-good}
 use Rattle.templates.proofs.laws.Conditioned.{condition-told, condition-written}
 use borrow.Author.Needs.{needs}
 use Rattle.templates.proofs.conditions.write_condition.Statement.{statement}
@@ -14,32 +13,25 @@ name-fits : (c : tie.After-reach) → let a = c .before .before .before .before 
 name-fits c =
     let at-word-at = c .before .before in
     let entry = at-word-at .before .before .before .before .before in
-    omega (arith, condition-told (entry .pre .0 .3) (entry .pre .1) (at-word-at .word-at .result % 256 / 10), c .reach .ensures)
-
-find-requires : tie.Need-find-requires
-find-requires c κs = omega (arith, name-fits (search))
+    omega (arith, condition-told (entry .pre .1 .0) (entry .pre .1 .1) (at-word-at .word-at .result % 256 / 20), c .reach .ensures)
 
 condition-word-requires : tie.Need-condition-word-requires
 condition-word-requires c κs =
-    let at-find = c .before .before in
-    let entry = at-find .before .before .before .before .before .before .before .before in
-    omega (arith, c .before .found-site .ensures, found-good (entry .args .sites .now) (entry .pre .0 .2) (at-find .find .result))
+    let entry = c .before .before .before .before .before .before .before in
+    (entry .pre .0, (name-fits c, omega arith))
 
-add-t15 : tie.Need-add-t15
-add-t15 c = omega (arith, name-fits (search))
+add-t16 : tie.Need-add-t16
+add-t16 c = omega (arith, name-fits (search))
 
 returns : tie.Need-returns
 returns c =
     let at-put = c .before .before .before in
-    let at-condition-word = at-put .before in
-    let at-found-site = at-condition-word .before .before in
-    let at-find = at-found-site .before in
-    let at-reach = at-find .before in
+    let at-condition-word = at-put .before .before in
+    let at-reach = at-condition-word .before in
     let at-word-at = at-reach .before .before in
     let entry = at-word-at .before .before .before .before .before in
-    condition-written _ (entry .args .names .now) (entry .args .sites .now) (entry .args .symbols) (entry .pre .0 .0) (entry .pre .0 .1) (entry .pre .0 .2) _
-    (entry .pre .0 .3) (entry .pre .1) (at-word-at .word-at .ensures .0) (at-reach .reach .ensures) (at-find .find .ensures .0) (at-find .find .ensures .1)
-    (at-found-site .found-site .ensures) (rw (at-condition-word .condition-word .ensures .0) at (at-put .put .ensures))
+    condition-written _ _ _ (entry .pre .1 .0) (entry .pre .1 .1) (at-word-at .word-at .ensures .0) (at-reach .reach .ensures)
+    (at-condition-word .condition-word .ensures .0) (at-put .put .ensures)
 
 pub write-condition-spec : {M : Type 1} → statement M
 write-condition-spec =
@@ -48,11 +40,9 @@ write-condition-spec =
     (λ c κs. search needs)
     (λ c. search needs)
     (λ c κs. search needs)
-    find-requires
-    (λ c κs. search needs)
     condition-word-requires
     (λ c κs. search needs)
     (λ c. search needs)
-    add-t15
+    add-t16
     (λ c. search needs)
     returns)

@@ -4,7 +4,7 @@ use mathlib.Core.Path.{refl}
 use Prim.Native.Nat.{_+_, _-_}
 use lib.ListN.{length}
 use Rattle.templates.specs.Measuring.{flag}
-use Rattle.templates.specs.Testing.{held}
+use Rattle.templates.specs.Conditioning.{located}
 use Rattle.words.proofs.laws.Stores.{same-refl, same-size}
 use Rattle.templates.proofs.laws.Measured.{falls}
 use Rattle.templates.proofs.laws.Conditioned.{ConditionsSoFar, conditions-go-on, conditions-all}
@@ -12,16 +12,16 @@ use Rattle.templates.proofs.conditions.write_conditions.Statement.{stat
 use Rattle.templates.proofs.conditions.write_conditions.Tie as tie
 
 abbrev Inv-loop : tie.InvT-loop
-Inv-loop tape names sites symbols start code₀ at c₀ code c = ConditionsSoFar tape (held tape names sites symbols) start at code₀ code c
+Inv-loop tape m names sites symbols start code₀ at c₀ code c = ConditionsSoFar tape (located tape m names sites symbols) start at code₀ code c
 
 abbrev μ-loop : tie.MeasureT-loop
-μ-loop tape names sites symbols start code₀ at c₀ code c = length tape - c .next + flag (c .more)
+μ-loop tape m names sites symbols start code₀ at c₀ code c = length tape - c .next + flag (c .more)
 
 loop-holds : tie.Need-loop-holds Inv-loop μ-loop
 loop-holds c = record {
   same = same-refl _ _ _;
   rest = refl;
-  within = record { count = omega arith; next = c .before .before .before .before .pre .3; at = omega arith };
+  within = record { count = omega arith; next = c .before .before .before .before .pre .1 .0; at = omega arith };
   grown = omega arith;
 }
 
@@ -29,7 +29,7 @@ condition-or-end-requires : tie.Need-condition-or-end-requires Inv-loop μ-loop
 condition-or-end-requires c κs =
     let at-loop = c .before .before in
     let entry = at-loop .before .before .before .before .before in
-    (entry .pre .0, entry .pre .1, entry .pre .2, at-loop .loop .inv .within)
+    (entry .pre .0, at-loop .loop .inv .within)
 
 loop-less : tie.Need-loop-less Inv-loop μ-loop
 loop-less c = search falls

@@ -1,7 +1,7 @@
--- `conditions::later_symbol_fault` meets its contract.
+-- `conditions::later_fault` meets its contract.
 use borrow.Author.Needs.{needs}
-use Rattle.conditions.proofs.later_symbol_fault.Statement.{statement}
-use Rattle.conditions.proofs.later_symbol_fault.Tie as tie
+use Rattle.conditions.proofs.later_fault.Statement.{statement}
+use Rattle.conditions.proofs.later_fault.Tie as tie
 use mathlib.Core.Path.{refl, _∙_}
 use Rattle.conditions.proofs.Conditioned.{later-long, later-is}
 
@@ -13,5 +13,5 @@ returns-2 c =
     let at-if1 = c .before .before in
     c .fault-if .ensures ∙ later-is (at-if1 .before .before .before .before .pre) (at-if1 .if1 .left) _ (c .before .find .ensures) refl
 
-pub later-symbol-fault-spec : {M : Type 1} → statement M
-later-symbol-fault-spec = tie.close (tie.spec (λ c. search needs) returns (λ c κs. search needs) (λ c κs. search needs) returns-2)
+pub later-fault-spec : {M : Type 1} → statement M
+later-fault-spec = tie.close (tie.spec (λ c. search needs) returns (λ c κs. search needs) (λ c κs. search needs) returns-2)
