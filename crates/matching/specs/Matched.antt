@@ -2,13 +2,14 @@
 use Prim.Native.Nat.{ℕ, _+_, _≤_}
 use mathlib.Core.Path.{_≡_}
 use mathlib.Core.Option.{Option, none, some}
-use lib.Dec.{leb}
+use lib.Dec.{leb, eqb}
 use lib.ListN.{drop}
 use Rattle.meaning.specs.Choice.{Bytes, pick, guard}
-use Rattle.meaning.specs.Instructions.{Site, Metric}
+use Rattle.meaning.specs.Instructions.{Site, Test, unknownTest, Metric}
 use Rattle.meaning.specs.Matching.{cellAt, cellsBefore, passed, failed, wrong, foundAt, foundNone, foundWrong, chosen, chosenNone, chosenWrong, place, placesOf, firstPlace}
 use Rattle.meaning.specs.Matching.{Checked as Outcome, Found as Finding, Choice as Choosing}
-use Rattle.meaning.specs.Packing.{Words, testsIn, storesIn, maxStored, unpackTests, unpackStores, unpackActions}
+use Rattle.meaning.specs.Packing.{Words, numberIn, firstIn, secondIn, thirdIn, predicatePartOf}
+use Rattle.meaning.specs.Packing.{testsIn, storesIn, maxStored, unpackTests, unpackStores, unpackActions}
 use Rattle.matching.specs.declared.Cell.{Cell}
 use Rattle.matching.specs.declared.Cell.the-variants.{Byte, Nowhere as NoCell}
 use Rattle.matching.specs.declared.Before.{Before}
@@ -48,6 +49,10 @@ abbrev pub checkedMeant : Checked → Outcome
 checkedMeant Passed = passed
 checkedMeant Failed = failed
 checkedMeant Wrong = wrong
+
+-- the test of a word that is no Look, Compare or Predicate on a cell
+abbrev pub lastTest : ℕ → Test
+lastTest w = pick (eqb (numberIn w) 20) (predicatePartOf (firstIn w) (secondIn w) (thirdIn w)) unknownTest
 
 abbrev pub foundMeant : Found → Finding
 foundMeant (At at) = foundAt at

@@ -9,9 +9,10 @@ ghost use Rattle.meaning.specs.Instructions.{look as looking};
 ghost use Rattle.meaning.specs.Rewriting.{sameTruth};
 ghost use Rattle.meaning.specs.Matching.{cellAt, cellsBefore, checked, checkAll, chooseFrom};
 ghost use Rattle.meaning.specs.Matching.{check as tested, search as searched};
-ghost use Rattle.meaning.specs.Packing.{firstIn, secondIn, thirdIn, siteOf, classOf, testOf, lookOf, compareOf, predicateFor, predicatePartOf, metricIn, unpackTests, unpackSentences};
+ghost use Rattle.meaning.specs.Packing.{firstIn, secondIn, thirdIn, siteOf, classOf, testOf, lookOf, compareOf, predicateFor, metricIn, unpackTests, unpackSentences};
 ghost use Rattle.classes.specs.Tests.{classTest, Answers};
-ghost use Rattle.matching.specs.Matched.{cellMeant, siteCell, beforeMeant, inside, siteBefore, checkedMeant, foundMeant, placesFor, tried, Chooses};
+ghost use Rattle.matching.specs.Matched.{cellMeant, siteCell, beforeMeant, inside, siteBefore, checkedMeant, lastTest};
+ghost use Rattle.matching.specs.Matched.{foundMeant, placesFor, tried, Chooses};
 
 // A place in the code. It is counted apart from the cells of in and of out.
 pub struct CodePlace(pub usize);
@@ -231,15 +232,18 @@ fn every_in_class(bits: &[u8; 256], part: &[u8], class: u8) -> bool
     true
 }
 
-// The bytes from one site up to another are all in a class, or are not, as the condition has it.
+// The bytes from one site up to another are all in a class, or are not, as the condition has it. The test's number is
+// asked here, after its class, since a fourth number in `check` would slow the other three.
 fn predicate_part(bits: &[u8; 256], field: &[u8], place: usize, word: u32) -> Checked
     requires { ⌜ Answers (now bits) ⌝ }
-    ensures { λ r. ⌜ checkedMeant r ≡ tested (predicatePartOf (firstIn word) (secondIn word) (thirdIn word))
-        (now (field .entry)) place ⌝ }
+    ensures { λ r. ⌜ checkedMeant r ≡ tested (lastTest word) (now (field .entry)) place ⌝ }
 {
     let operand = word / 256 % 256;
     let class = operand / 32;
     if 4 < class {
+        return Checked::Wrong;
+    }
+    if word % 256 != 20 {
         return Checked::Wrong;
     }
     let start = word / 65536 % 256;
@@ -272,8 +276,7 @@ fn check(bits: &[u8; 256], field: &[u8], place: usize, word: u32) -> Checked
         1 => look(field, place, word),
         2 => compare(field, place, word),
         3 => predicate(bits, field, place, word),
-        20 => predicate_part(bits, field, place, word),
-        _ => Checked::Wrong,
+        _ => predicate_part(bits, field, place, word),
     }
 }
 

@@ -1,6 +1,6 @@
 -- `check` meets its contract.
 use borrow.Author.Needs.{needs}
-use Rattle.matching.proofs.laws.Fields.{look-from, test-unknown}
+use Rattle.matching.proofs.laws.Fields.{look-from, test-last}
 use Rattle.matching.proofs.check.Statement.{statement}
 use Rattle.matching.proofs.check.Tie as tie
 
@@ -23,12 +23,9 @@ returns-4 : tie.Need-returns-4
 returns-4 c = rw (c .before .match .keys3) (c .predicate .ensures)
 
 returns-5 : tie.Need-returns-5
-returns-5 c = rw (c .before .match .keys4) (c .predicate-part .ensures)
-
-returns-6 : tie.Need-returns-6
-returns-6 c = let r = c .match .rest in rw (test-unknown _ (r .0 .0 .0 .1) (r .0 .0 .1) (r .0 .1) (r .1))
+returns-5 c = let r = c .before .match .rest in rw (test-last _ (r .0 .0 .1) (r .0 .1) (r .1)) (c .predicate-part .ensures)
 
 pub check-spec : {M : Type 1} → statement M
 check-spec =
     tie.close (tie.spec (λ c κs. search needs) returns (λ c κs. search needs) (λ c κs. search needs) predicate-requires
-    predicate-part-requires returns-2 returns-3 returns-4 returns-5 returns-6)
+    predicate-part-requires returns-2 returns-3 returns-4 returns-5)

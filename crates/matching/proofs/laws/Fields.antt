@@ -1,7 +1,7 @@
 -- The cells of a field and the tests on them, as matching asks for them.
 use Prim.Native.Nat.{ℕ, zero, suc, _+_, _*_, _≤_, _<_, _%_}
 use native.Mathlib.Omega.{arith}
-use mathlib.Core.Path.{_≡_, refl, _∙_}
+use mathlib.Core.Path.{_≡_, refl}
 use mathlib.Core.Bool.{Bool}
 use mathlib.Core.Option.{Option, none, some}
 use lib.Arith.{mod-mul}
@@ -10,11 +10,11 @@ use borrow.Author.Tests.{ne-eqb}
 use Rattle.meaning.specs.Choice.{Bytes, pick}
 use Rattle.meaning.specs.Classes.{Class, digit, upper, lower, alphabetic, blank, inClass}
 use Rattle.meaning.specs.Rewriting.{sameTruth}
-use Rattle.meaning.specs.Instructions.{Site, unknownTest}
+use Rattle.meaning.specs.Instructions.{Site}
 use Rattle.meaning.specs.Matching.{checked, asked, wrong, check}
 use Rattle.meaning.specs.Packing.{numberIn, firstIn, secondIn, thirdIn, classOf, siteOf, lookOf, compareOf, predicateFor, testOf, metricIn}
 use Rattle.classes.specs.Tests.{classTest}
-use Rattle.matching.specs.Matched.{siteCell}
+use Rattle.matching.specs.Matched.{siteCell, lastTest}
 
 -- a test asks for the cell at its site
 pub look-asks : (o : Option Site) (c : ℕ) (field : Bytes) (place : ℕ) (a : Option ℕ) → a ≡ siteCell o field place →
@@ -80,12 +80,12 @@ none-of : {A : Type 0} (n a b c : ℕ) (x y z other : A) → (n ≡ a → ⊥) �
     pick (eqb n a) x (pick (eqb n b) y (pick (eqb n c) z other)) ≡ other
 none-of n a b c x y z other h h′ h″ = simp (ne-eqb n a h, ne-eqb n b h′, ne-eqb n c h″)
 
--- a sentence's first word, and a test's, that is none
+-- a sentence's first word that is none, and a test's that is none of the first three
 pub metric-unknown : (w : ℕ) → (numberIn w ≡ 16 → ⊥) → (numberIn w ≡ 17 → ⊥) → (numberIn w ≡ 18 → ⊥) → metricIn w ≡ none
 metric-unknown w = none-of (numberIn w) 16 17 18 _ _ _ none
 
-pub test-unknown : (w : ℕ) → (numberIn w ≡ 1 → ⊥) → (numberIn w ≡ 2 → ⊥) → (numberIn w ≡ 3 → ⊥) → (numberIn w ≡ 20 → ⊥) → testOf w ≡ unknownTest
-test-unknown w h h′ h″ last = none-of (numberIn w) 1 2 3 _ _ _ _ h h′ h″ ∙ rw (ne-eqb (numberIn w) 20 last)
+pub test-last : (w : ℕ) → (numberIn w ≡ 1 → ⊥) → (numberIn w ≡ 2 → ⊥) → (numberIn w ≡ 3 → ⊥) → testOf w ≡ lastTest w
+test-last w = none-of (numberIn w) 1 2 3 _ _ _ (lastTest w)
 
 -- a word whose number is 1, by its register
 pub look-from : (w register : ℕ) → w % 65536 ≡ register * 256 + 1 → testOf w ≡ lookOf (siteOf register (secondIn w)) (thirdIn w)

@@ -8,16 +8,16 @@ use mathlib.Core.Option.{Option, none, some}
 use lib.Dec.{leb}
 use lib.ListN.{length, getD, take, drop}
 use borrow.Author.Tests.{le-leb, lt-leb, leb-true, leb-false}
-use Rattle.meaning.specs.Choice.{Bytes, both, guard, every}
+use Rattle.meaning.specs.Choice.{Bytes, pick, both, guard, every}
 use Rattle.meaning.specs.Classes.{Class, inClass}
 use Rattle.meaning.specs.Rewriting.{sameTruth}
-use Rattle.meaning.specs.Instructions.{Site}
+use Rattle.meaning.specs.Instructions.{Site, unknownTest}
 use Rattle.meaning.specs.Matching.{cellsBefore, cut, Checked, checked, asked, wrong, check}
 use Rattle.meaning.specs.Packing.{classOf, predicatePartFor}
 use Rattle.meaning.proofs.laws.Remaining.{at-place, past-end}
 use Rattle.classes.specs.Tests.{classTest}
 use Rattle.matching.specs.Matched.{inside, siteBefore}
-use Rattle.matching.proofs.laws.Fields.{class-known}
+use Rattle.matching.proofs.laws.Fields.{class-unknown, class-known}
 
 -- EVERY BYTE
 
@@ -95,13 +95,18 @@ module _ (o o′ : Option Site) (expected : Bool) (field : Bytes) (place : ℕ) 
       by-sites (some s) none = rw (cut-none field (siteBefore (some s) (length field) place))
       by-sites (some s) (some r) = rw (cut-inside field (cellsBefore s (length field) place) (cellsBefore r (length field) place))
 
-  pub part-unknown : said none ≡ wrong
+  part-unknown : said none ≡ wrong
   part-unknown = by-sites o o′
     where
       by-sites : (s r : Option Site) → check (predicatePartFor s r none expected) field place ≡ wrong
       by-sites none r = refl
       by-sites (some s) none = refl
       by-sites (some s) (some r) = refl
+
+  -- whatever the word's number
+  pub class-wrong : (b : Bool) (n : ℕ) → 4 < n → check (pick b (predicatePartFor o o′ (classOf n) expected) unknownTest) field place ≡ wrong
+  class-wrong true n h = rw (class-unknown n h) part-unknown
+  class-wrong false n h = refl
 
   module _ (n : ℕ) (h : n ≤ 4) where
     part-wrong : part ≡ none → said (classOf n) ≡ wrong
