@@ -100,10 +100,10 @@ Idle (Onward g) = g .callee ≡ 0
 Idle (Done g) = Unit {0}
 Idle (Stopped g ending function) = Unit {0}
 
--- an application begun: what comes after it are its actions
-pub record Begins (words : Words) (allowance : ℕ) (tocome : Outcomes) (bound : ℕ) (g : Registers) (m : Memory) (next : Next) (n : Memory) : Type 0 where
-  pub advances : Advances words allowance tocome bound g m next n
-  pub idle : Idle next
+-- the application begun that was to begin, if there was one: actions come next, or another application, with less left to do
+pub record Begins (words : Words) (allowance : ℕ) (tocome : Outcomes) (left : ℕ) (g : Registers) (m : Memory) (next : Next) (n : Memory) : Type 0 where
+  pub advances : Advances words allowance tocome (suc left) g m next n
+  pub again : (Idle next → ⊥) → leftToDo (length words) allowance next n < left
 
 -- one turn of the loop
 abbrev pub Steps : Words → ℕ → Registers → Memory → Next → Memory → Type 0
@@ -173,8 +173,8 @@ Performs words allowance action at g m next n =
 -- an application of a function in the frame of the registers
 abbrev pub Applies : Words → ℕ → ℕ → Registers → Memory → Next → Memory → Type 0
 Applies words allowance number g m next n =
-    Ready allowance g m →
-    Begins words allowance
+    Underway allowance g m →
+    Advances words allowance
     (returning (roomOf m) allowance words g m
     (ranPaid (lent (roomOf m)) (functionsIn words) (entering (roomOf m) allowance words) (suc (g .frame)) number (stacksOf g m) (ledgerOf allowance g m)
     (pay number (ledgerOf allowance g m .tally))))
@@ -185,7 +185,7 @@ Applies words allowance number g m next n =
 abbrev pub Starts : Words → ℕ → ℕ → ℕ → ℕ → Registers → Memory → Next → Memory → Type 0
 Starts words allowance at stores stored g m next n =
     Ready allowance g m →
-    Begins words allowance
+    Advances words allowance
     (returning (roomOf m) allowance words g m
     (started (lent (roomOf m)) (functionsIn words) (entering (roomOf m) allowance words) (suc (g .frame)) (unpackActions 0 (drop (stores + stored) words)) at
     (storedValues (unpackStores stored (drop stores words)) (take (g .q .0 - g .p .0) (drop (g .p .0) (m .input))) at)
@@ -197,7 +197,7 @@ Starts words allowance at stores stored g m next n =
 abbrev pub Enters : Words → ℕ → Registers → Memory → Next → Memory → Type 0
 Enters words allowance g m next n =
     Underway allowance g m →
-    Begins words allowance (comesTo (roomOf m) allowance words (Onward g) m) (suc (leftToDo (length words) allowance (Onward g) m)) g m next n
+    Begins words allowance (comesTo (roomOf m) allowance words (Onward g) m) (leftToDo (length words) allowance (Onward g) m) g m next n
 
 -- a run that has ended
 abbrev pub IsOver : Next → Type 0

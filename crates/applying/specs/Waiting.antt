@@ -11,6 +11,7 @@ use Rattle.meaning.specs.Machine.{Stacks, returned, isDeclared, perform, proces
 use Rattle.meaning.specs.Runs.{Room, lent}
 use Rattle.meaning.specs.Packing.{Words, functionsAt, unpackActions}
 use Rattle.acting.specs.declared.registers.Registers.{Registers}
+use Rattle.acting.specs.declared.registers.Ending.the-variants.{NoSentenceFits}
 use Rattle.acting.specs.declared.registers.Next.{Next}
 use Rattle.acting.specs.declared.registers.Next.the-variants.{Onward, Done, Stopped}
 use Rattle.acting.specs.Endings.{endingNumber}
@@ -110,3 +111,15 @@ leftFrom (suc k) g frames = Onward (backIn k g frames)
 
 abbrev pub leftBy : Registers → List ℕ → Next
 leftBy g frames = leftFrom (g .frame) g frames
+
+-- AN APPLICATION THAT IS TO BEGIN
+
+-- where a function's application is to begin: its frame, at no place of the code
+abbrev pub calledIn : ℕ → ℕ → ℕ → Registers → Registers
+calledIn frame size number g =
+    record { p = g .p; q = g .q; r = g .r; frame = frame; at = record { 0 = size }; steps = g .steps; emitted = g .emitted; callee = number }
+
+-- where no sentence of a function fits: 11, or the function that recovers it is to be applied in the same frame
+abbrev pub recoveredBy : ℕ → ℕ → ℕ → Registers → Next
+recoveredBy size number zero g = Stopped g NoSentenceFits number
+recoveredBy size number (suc recoverer) g = Onward (calledIn (g .frame) size (suc recoverer) g)

@@ -14,7 +14,7 @@ ghost use Rattle.matching.specs.Matched.{cellMeant};
 ghost use Rattle.applying.specs.Storing.{Stores};
 ghost use Rattle.decoding.specs.Decoded.{callMeant};
 ghost use Rattle.acting.specs.States.{roomOfFrames, roomOfValues, CountsWithin, memory};
-ghost use Rattle.applying.specs.Waiting.{countIn, functionsIn, leftBy};
+ghost use Rattle.applying.specs.Waiting.{countIn, functionsIn, leftBy, recoveredBy};
 ghost use Rattle.applying.specs.Advancing.{Performs, Applies, Starts};
 use acting::cells::later;
 use acting::cells::part;
@@ -128,6 +128,20 @@ fn start_sentence(
     })
 }
 
+// Where no sentence fits: 11, or the function that recovers this one is to be applied next, as by a tail call.
+fn recover(g: Registers, code: &[u32], number: usize, recoverer: usize) -> Next
+    ensures { λ r. ⌜ r ≡ recoveredBy (length (now (code .entry))) number recoverer g ⌝ }
+{
+    if recoverer == 0 {
+        return Next::Stopped(g, Ending::NoSentenceFits, number);
+    }
+    Next::Onward(Registers {
+        at: CodePlace(code.len()),
+        callee: recoverer,
+        ..g
+    })
+}
+
 // One application in the frame of the registers: 12, or a step and the sentence chosen for the field.
 pub fn apply(
     g: Registers,
@@ -166,7 +180,7 @@ pub fn apply(
             stores,
             stored,
         } => start_sentence(paid, code, place, stores, stored, input, frames, values),
-        Choice::Nothing => Next::Stopped(paid, Ending::NoSentenceFits, number),
+        Choice::Nothing(recoverer) => recover(paid, code, number, recoverer),
         Choice::Wrong => Next::Stopped(paid, Ending::NoInstruction, 0),
     }
 }

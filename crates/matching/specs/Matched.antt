@@ -74,13 +74,13 @@ tried (some metric) v ws field =
 abbrev pub choiceMeant : Words → Choice → Choosing
 choiceMeant words (Sentence number at stores stored) =
     chosen number at (unpackStores stored (drop (stores .0) words)) (unpackActions 0 (drop (stores .0 + stored) words))
-choiceMeant words Nothing = chosenNone
+choiceMeant words (Nothing recoverer) = chosenNone recoverer
 choiceMeant words WrongSentence = chosenWrong
 
 -- an application stores no more values than a frame holds
 abbrev pub FewStored : Choice → Type 0
 FewStored (Sentence number at stores stored) = stored ≤ maxStored
-FewStored Nothing = Unit {0}
+FewStored (Nothing recoverer) = Unit {0}
 FewStored WrongSentence = Unit {0}
 
 -- a choice as it is meant, with few values to store

@@ -44,6 +44,7 @@ pub enum Found {
 }
 
 // The sentence's number from 0, its middle template's place, the place of its stores and how many there are; its actions follow them.
+// Nothing names the function that recovers, 0 for none.
 pub enum Choice {
     Sentence {
         number: usize,
@@ -51,7 +52,7 @@ pub enum Choice {
         stores: CodePlace,
         stored: usize,
     },
-    Nothing,
+    Nothing(usize),
     Wrong,
 }
 
@@ -461,7 +462,7 @@ pub fn choose(bits: &[u8; 256], code: &[u32], entry: CodePlace, field: &[u8]) ->
     while at < code.len() {
         let word = code[at];
         if word % 256 == 19 {
-            return Choice::Nothing;
+            return Choice::Nothing(wide(word / 256));
         }
         if code.len() - at < 2 {
             return Choice::Wrong;

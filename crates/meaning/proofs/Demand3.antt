@@ -16,7 +16,7 @@ use Rattle.meaning.specs.Rewriting.{Course, unbegun, applicationsFrom, t
 use Rattle.meaning.specs.Allowed.{allowed}
 use Rattle.meaning.specs.Machine.{isDeclared}
 use Rattle.meaning.specs.Runs.{Room, endless, Passed, from, runEndless, runLent, passedFirst}
-use Rattle.meaning.specs.Translation.{translatedSentences, translate}
+use Rattle.meaning.specs.Translation.{translatedFunction, translate}
 use Rattle.meaning.specs.Packing.{Words, pack}
 use Rattle.meaning.specs.Leaving.{Cells, left, roomOf, leaving}
 use Rattle.meaning.specs.Demanded.{stoppedAt, unlessPassed, demanded}
@@ -55,7 +55,7 @@ module _ (table : Table) (ok : T (allowed table)) (start : ℕ) (text : Bytes) (
       total (runEndless (translate table) start text allowance .counts) ≡ runEndless (translate table) start text allowance .steps
   counts-total declared =
       let d = both-pair (ltb 0 start) (leb start (length (translate table))) declared in
-      let last : start ≤ length table = rw (length-map table (λ f. translatedSentences table (f .sentences))) at (leb→le start _ (d .1)) in
+      let last : start ≤ length table = rw (length-map table (translatedFunction table)) at (leb→le start _ (d .1)) in
       rw without-end (rewrite-total table ok start text allowance (ltb→lt 0 start (d .0)) last)
 
   -- 2. ON LENT CELLS: where the run without end passes nothing, the outcome is rewriting's

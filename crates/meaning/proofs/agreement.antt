@@ -13,5 +13,6 @@ pub mod Stored
 pub mod Fitting
 pub mod Facts
 pub mod Sentences
+pub mod Recovering
 pub mod Agree
 pub mod Total

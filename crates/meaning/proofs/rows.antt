@@ -3,10 +3,11 @@ pub mod Tables
 pub mod Computing
 pub mod Starred
 pub mod Edges
+pub mod Read
+pub mod Recovery
 pub mod Packed
 pub mod Wild
 pub mod Example
-pub mod Read
 pub mod Texts
 pub mod Listed
 pub mod Classes

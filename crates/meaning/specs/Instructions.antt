@@ -54,9 +54,10 @@ pub data Metric : Type 0 where
   ends : ℕ → ℕ → Metric
   middle : ℕ → ℕ → ℕ → Metric
 
--- a function's sentences in order; `unknownSentence` stands for words that are no sentence
+-- a function's sentences in order, and at their end the number of the function that recovers it, 0 for none;
+-- `unknownSentence` stands for words that are no sentence
 pub data Sentences : Type 0 where
-  noMore : Sentences
+  noMore : ℕ → Sentences
   sentence : Metric → List Test → List Store → List Action → Sentences → Sentences
   unknownSentence : Sentences
 

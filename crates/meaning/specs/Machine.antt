@@ -58,7 +58,7 @@ abbrev pub spanOf : Span → Local → ℕ
 spanOf s l = registerOf (s .register) l + s .add - s .back
 
 abbrev pub functionOf : Option Sentences → Sentences
-functionOf none = noMore
+functionOf none = noMore 0
 functionOf (some f) = f
 
 -- the function with a number, counted from 1
@@ -187,10 +187,14 @@ module _ (W : Watch) where
   started code enter frame actions at (some values) s g =
       process code enter frame actions (record { field = s .selected; place = at; values = values; opened = [] }) (withSelected 0 s) g
 
+  -- where no sentence fits: 02, T-04, RecoverX on the same field "takes X's frame", and "11 remains for the rest"
   abbrev pub ranChoice : Code → (ℕ → ℕ → Stacks → Ledger (W .Mark) → Ran) → ℕ → ℕ → Choice → Stacks → Ledger (W .Mark) → Ran
   ranChoice code enter frame f (chosen number at stores actions) s g =
       started code enter frame actions at (storedValues stores (take (s .selected) (s .input)) at) s g
-  ranChoice code enter frame f chosenNone s g = stop noSentenceFits f g
+  ranChoice code enter frame f (chosenNone zero) s g = stop noSentenceFits f g
+  ranChoice code enter frame f (chosenNone (suc r)) s g =
+      let ran = enter frame (suc r) s g in
+      whereThere (isDeclared code (suc r)) g ran
   ranChoice code enter frame f chosenWrong s g = wrongWords g
 
   -- an application that can be paid is a step, and its field is what is selected

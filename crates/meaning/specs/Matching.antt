@@ -107,10 +107,11 @@ unfoldable pub storedValues : List Store → Bytes → ℕ → Option Bytes
 storedValues [] field at = some []
 storedValues (s ∷ ss) field at = kept (storedCell s field at) (storedValues ss field at)
 
--- the sentence chosen for a field, as its number counted from 0, where its middle template lies, its stores and its actions; or none; or words that are no sentence
+-- the sentence chosen for a field, as its number counted from 0, where its middle template lies, its stores and its
+-- actions; or none, with the number of the function that recovers this one; or words that are no sentence
 pub data Choice : Type 0 where
   chosen : ℕ → ℕ → List Store → List Action → Choice
-  chosenNone : Choice
+  chosenNone : ℕ → Choice
   chosenWrong : Choice
 
 abbrev pub choiceOf : Found → ℕ → List Store → List Action → Choice → Choice
@@ -119,7 +120,7 @@ choiceOf foundNone number stores actions later = later
 choiceOf foundWrong number stores actions later = chosenWrong
 
 unfoldable pub chooseFrom : ℕ → Sentences → Bytes → Choice
-chooseFrom number noMore field = chosenNone
+chooseFrom number (noMore r) field = chosenNone r
 chooseFrom number unknownSentence field = chosenWrong
 chooseFrom number (sentence metric tests stores actions more) field =
     let later = chooseFrom (suc number) more field in

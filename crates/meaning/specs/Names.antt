@@ -1,8 +1,8 @@
 -- Which function a name means: 01 'Table text', "Names that begin with Emit are emission. Neither kind may be declared", and the number
--- of a declared function, counted from 1 in the order of the table.
+-- of a declared function, counted from 1 in the order of the table; and which function recovers another.
 use Prim.Native.Nat.{ℕ, suc}
 use mathlib.Core.Bool.{Bool}
-use mathlib.Core.List.{List, [], _∷_}
+use mathlib.Core.List.{List, [], _∷_, _++_}
 use mathlib.Core.Option.{Option, none, some}
 use Rattle.meaning.specs.Choice.{Name, pick, either, isSome, sameBytes, startsWith}
 use Rattle.meaning.specs.Classes.{Class, className, classes}
@@ -37,3 +37,15 @@ numberFrom count (f ∷ fs) n = let later = numberFrom (suc count) fs n in pick 
 
 abbrev pub numberOf : Table → Name → ℕ
 numberOf t n = numberFrom 0 t n
+
+-- Recover
+abbrev pub recoverPrefix : Name
+recoverPrefix = 82 ∷ 101 ∷ 99 ∷ 111 ∷ 118 ∷ 101 ∷ 114 ∷ []
+
+abbrev pub isRecovering : Name → Bool
+isRecovering n = startsWith recoverPrefix n
+
+-- the number of the function that recovers the one of a name, or 0: 02, T-04, "If X fits nothing and RecoverX is
+-- declared, RecoverX is applied"; "A function whose own name begins with Recover has none"
+abbrev pub recovererOf : Table → Name → ℕ
+recovererOf t n = let r = numberOf t (recoverPrefix ++ n) in pick (isRecovering n) 0 r

@@ -192,6 +192,10 @@ metricWord (middle head med tail) = word 18 head med tail
 abbrev pub sentencesEnd : ℕ
 sentencesEnd = 19
 
+-- the word that ends a function has the number of the function that recovers it
+abbrev pub endWord : ℕ → ℕ
+endWord r = sentencesEnd + 256 * r
+
 -- a sentence's words after its two first: tests, stores, actions
 abbrev pub bodyWords : List Test → List Store → List Action → Words
 bodyWords tests stores actions = map testWord tests ++ (map storeWord stores ++ packActions actions)
@@ -201,7 +205,7 @@ abbrev pub countsWord : ℕ → ℕ → ℕ → ℕ
 countsWord tests stores body = tests + 256 * (stores + 256 * body)
 
 unfoldable pub packSentences : Sentences → Words
-packSentences noMore = sentencesEnd ∷ []
+packSentences (noMore r) = endWord r ∷ []
 packSentences (sentence metric tests stores actions more) =
     metricWord metric ∷
     countsWord (length tests) (length stores) (length (bodyWords tests stores actions)) ∷
@@ -262,7 +266,7 @@ unpackSentences skip [] = unknownSentence
 unpackSentences (suc skip) (w ∷ ws) = unpackSentences skip ws
 unpackSentences zero (w ∷ ws) =
     let more = headed w ws (unpackSentences (skipOver ws) ws) in
-    pick (eqb (numberIn w) sentencesEnd) noMore more
+    pick (eqb (numberIn w) sentencesEnd) (noMore (w / 256)) more
 
 -- THE WHOLE: the number of functions, the place of each function, and the functions
 

@@ -8,7 +8,7 @@ use lib.ListN.{length}
 use Rattle.meaning.specs.Choice.{Bytes, Name, pick, both, guard, orElse, every, Named, lookup, nth}
 use Rattle.meaning.specs.Classes.{Class, inClass}
 use Rattle.meaning.specs.Tree.{character, symbol, Element, letter, part, Subject, ofSymbol, ofPart, Condition, Expression, end, thenCharacter, thenSymbol, thenPart, thenCall, Sentence, Function, Table}
-use Rattle.meaning.specs.Names.{isEmission, numberOf}
+use Rattle.meaning.specs.Names.{isEmission, numberOf, recovererOf}
 use Rattle.meaning.specs.Answers.{noSentenceFits, allowanceSpent}
 use Rattle.meaning.specs.Outcome.{Tally, maxCounted, emittedLine, Outcome, done, stop, andThen, Result, resultOf}
 
@@ -180,15 +180,30 @@ callNamed table apply n text t =
     let applied = apply (numberOf table n) text t in
     pick (isEmission n) (done [] (emitting n text t)) applied
 
+abbrev pub recovererFor : Table → Option Function → ℕ
+recovererFor table none = 0
+recovererFor table (some f) = recovererOf table (f .name)
+
+-- the number of the function that recovers the one with a number, or 0
+abbrev pub recovererAt : Table → ℕ → ℕ
+recovererAt table number = recovererFor table (nth (pred number) table)
+
+-- 02, T-04: "RecoverX is applied to the text X was given"; "Answer 11 remains for the rest"
+abbrev pub unfitted : Applying ℕ → ℕ → ℕ → Bytes → Course → Outcome Bytes Course
+unfitted apply zero number text t = stop noSentenceFits number t
+unfitted apply (suc r) number text t = apply (suc r) text t
+
 -- "An application that fits no sentence counts as a step"
-abbrev pub rewritten : Table → Applying ℕ → ℕ → Option Fit → Course → Outcome Bytes Course
-rewritten table apply number none t = stop noSentenceFits number t
-rewritten table apply number (some f) t = evaluate (callNamed table apply) (f .bindings) (f .sentence .expression) t
+abbrev pub rewritten : Table → Applying ℕ → ℕ → Bytes → Option Fit → Course → Outcome Bytes Course
+rewritten table apply number text none t = unfitted apply (recovererAt table number) number text t
+rewritten table apply number text (some f) t =
+    evaluate (callNamed table apply) (f .bindings) (f .sentence .expression) t
 
 -- "the first application past the allowance ends the run"; "one answered 12 ... doesn't" count as a step
 abbrev pub applied : Table → Applying ℕ → ℕ → Bytes → Course → Option Course → Outcome Bytes Course
 applied table apply number text t none = stop allowanceSpent 0 t
-applied table apply number text t (some paid) = rewritten table apply number (choose (functionAt table number) text) paid
+applied table apply number text t (some paid) =
+    rewritten table apply number text (choose (functionAt table number) text) paid
 
 -- One application. The depth bounds how deep applications nest: each one takes a step, so a depth of the steps left is never reached before they are
 -- spent, and the depth never shows (proved in proofs/laws/Depth).

@@ -7,9 +7,9 @@ use mathlib.Core.List.{List, [], _∷_, _++_, map}
 use mathlib.Core.Option.{Option, none, some}
 use lib.ListN.{length}
 use Rattle.meaning.specs.Choice.{Name, pick, Named, lookup, sameBytes}
-use Rattle.meaning.specs.Tree.{Letter, character, symbol, Element, letter, part, Subject, ofSymbol, ofPart, Condition, Expression, end, thenCharacter, thenSymbol, thenPart, thenCall, Sentence, Table}
+use Rattle.meaning.specs.Tree.{Letter, character, symbol, Element, letter, part, Subject, ofSymbol, ofPart, Condition, Expression, end, thenCharacter, thenSymbol, thenPart, thenCall, Sentence, Function, Table}
 use Rattle.meaning.specs.Classes.{Class}
-use Rattle.meaning.specs.Names.{isEmission, numberOf}
+use Rattle.meaning.specs.Names.{isEmission, numberOf, recovererOf}
 use Rattle.meaning.specs.Instructions.{Site, fromStart, fromEnd, fromPlace, Test, look, compare, predicate, predicatePart, Store, store, Length, null, whole, left, right, Span, Action, go, select, out, outCharacter, outValue, beginSequence, useSequence, call, tailCall, emission, Metric, exactly, ends, middle, Sentences, noMore, sentence, Code}
 
 -- THE TEMPLATES
@@ -220,10 +220,15 @@ translatedSentence table s shape tested more =
     sentence (metricOf shape) (testsOf shape tested (s .conditions)) (storesOf tested)
     (actionsOf table shape (tested .sites) (s .expression)) more
 
-unfoldable pub translatedSentences : Table → List Sentence → Sentences
-translatedSentences table [] = noMore
-translatedSentences table (s ∷ ss) =
-    translatedSentence table s (shapeOf (s .pattern)) (testedShape (shapeOf (s .pattern))) (translatedSentences table ss)
+-- a function's sentences, and the number of the function that recovers it
+unfoldable pub translatedSentences : Table → ℕ → List Sentence → Sentences
+translatedSentences table r [] = noMore r
+translatedSentences table r (s ∷ ss) =
+    translatedSentence table s (shapeOf (s .pattern)) (testedShape (shapeOf (s .pattern)))
+    (translatedSentences table r ss)
+
+abbrev pub translatedFunction : Table → Function → Sentences
+translatedFunction table f = translatedSentences table (recovererOf table (f .name)) (f .sentences)
 
 abbrev pub translate : Table → Code
-translate table = map (λ f. translatedSentences table (f .sentences)) table
+translate table = map (translatedFunction table) table

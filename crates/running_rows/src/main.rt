@@ -196,8 +196,49 @@ const TABLE_ROUND: [u32; 19] = [
     19,
 ];
 
-// Words that are no code: an unknown instruction after Out, a call past the count, UseSeq without BeginSeq, and a
-// Predicate over two cells where there is one.
+// X{'a'=}RecoverX{e1='r'e1}
+const TABLE_X: [u32; 18] = [
+    2,
+    3,
+    9,
+    272,
+    196609,
+    1627389953,
+    261,
+    15,
+    531,
+    17,
+    393216,
+    29192,
+    5,
+    262,
+    7,
+    5,
+    15,
+    19,
+];
+
+// X{'a'=}RecoverX{'c'=}
+const TABLE_UNRECOVERED: [u32; 15] = [
+    2,
+    3,
+    9,
+    272,
+    196609,
+    1627389953,
+    261,
+    15,
+    531,
+    272,
+    196609,
+    1660944385,
+    261,
+    15,
+    19,
+];
+
+// Words that are no code: an unknown instruction after Out, a call past the count, UseSeq without BeginSeq, a
+// Predicate over two cells where there is one, and a function that recovers past the count.
 const UNKNOWN: [u32; 8] = [1, 2, 17, 196608, 7, 99, 15, 19];
 
 const CALL_PAST: [u32; 7] = [1, 2, 17, 131072, 524, 15, 19];
@@ -205,6 +246,8 @@ const CALL_PAST: [u32; 7] = [1, 2, 17, 131072, 524, 15, 19];
 const UNOPENED: [u32; 7] = [1, 2, 17, 131072, 11, 15, 19];
 
 const PART_PAST: [u32; 7] = [1, 2, 17, 131073, 33554452, 15, 19];
+
+const RECOVERER_PAST: [u32; 8] = [1, 2, 272, 196609, 1627389953, 261, 15, 531];
 
 // What is lent, and the allowance.
 struct Lent {
@@ -376,6 +419,14 @@ fn parts() {
     row(&TABLE_ROUND, b"(1)=)=AB.", ample());
 }
 
+// A function that recovers another: not asked, asked, past the allowance, and one that fits nothing itself.
+fn recoveries() {
+    row(&TABLE_X, b"a", ample());
+    row(&TABLE_X, b"b", cells(1, 2));
+    row(&TABLE_X, b"b", allowed(1));
+    row(&TABLE_UNRECOVERED, b"b", ample());
+}
+
 // In one cell short, emissions, and a record that is too short for the second line.
 fn emissions() {
     row(&TABLE_P, b"c", cells(3, 3));
@@ -403,12 +454,14 @@ fn refusals() {
     row(&CALL_PAST, b"c", ample());
     row(&UNOPENED, b"c", ample());
     row(&PART_PAST, b"c", ample());
+    row(&RECOVERER_PAST, b"c", allowed(1));
 }
 
 fn main() {
     zeros();
     matches();
     parts();
+    recoveries();
     emissions();
     refusals();
 }

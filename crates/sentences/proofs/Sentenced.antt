@@ -13,7 +13,7 @@ use Rattle.meaning.specs.Tree.{Function, Table}
 use Rattle.meaning.specs.Allowed.{namesOf, maxSentences}
 use Rattle.meaning.specs.Instructions.{store}
 use Rattle.meaning.specs.Translation.{Shape, fixed, open₁, open₂, Tested, conditionTest, metricOf, translatedSentences}
-use Rattle.meaning.specs.Packing.{Words, word, testWord, storeWord, packActions, metricWord, sentencesEnd, packSentences}
+use Rattle.meaning.specs.Packing.{Words, word, testWord, storeWord, packActions, metricWord, endWord, packSentences}
 use Rattle.words.specs.declared.tape.Parts.{Parts}
 use Rattle.words.specs.declared.tape.Parts.the-variants.{Zero, One, Two}
 use Rattle.templates.specs.declared.pattern.Lengths.{Lengths}
@@ -196,21 +196,21 @@ follows-inside ws i true e = absurd (false≢true e)
 follows-inside ws i false e =
     (by-place ws i (λ k. k) (λ k. absurd (false≢true (rw (drop-of-length-le ws k) at e))), refl)
 
-module _ (t : Table) (ws : List ℕ) where
+module _ (t : Table) (recoverer : ℕ) (ws : List ℕ) where
   -- the words after a sentence, where the tape goes on at `i`
   abbrev wordsAfter : ℕ → ℕ → Words
-  wordsAfter i left = packSentences (translatedSentences t (followedBy (drop i ws) (λ r. sentencesIn left r)))
+  wordsAfter i left = packSentences (translatedSentences t recoverer (followedBy (drop i ws) (λ r. sentencesIn left r)))
 
   -- the same by whether another follows
   abbrev wordsBy : ℕ → ℕ → Bool → Words
-  wordsBy i left more = pick more (packSentences (translatedSentences t (sentencesIn left (drop (i + 1) ws)))) (sentencesEnd ∷ [])
+  wordsBy i left more = pick more (packSentences (translatedSentences t recoverer (sentencesIn left (drop (i + 1) ws)))) (endWord recoverer ∷ [])
 
   after-sentence : (i left : ℕ) (full more : Bool) → (full ≡ true → left ≡ 0) → followsAt full (drop i ws) ≡ more → wordsAfter i left ≡ wordsBy i left more
   unfolding packSentences translatedSentences sentencesIn
   after-sentence i left full more h e = by-place ws i here there
     where
       by-word : (full more b : Bool) → (full ≡ true → left ≡ 0) → pick full false b ≡ more
-          → packSentences (translatedSentences t (pick b (sentencesIn left (drop (i + 1) ws)) [])) ≡ wordsBy i left more
+          → packSentences (translatedSentences t recoverer (pick b (sentencesIn left (drop (i + 1) ws)) [])) ≡ wordsBy i left more
       by-word true more true h e = rw (← e, h refl)
       by-word true more false h e = rw (← e)
       by-word false more true h e = rw (← e)
@@ -225,7 +225,7 @@ module _ (t : Table) (ws : List ℕ) where
   -- all the words still to come are the next sentence's, and those after it
   sentence-first : (s : Sentences) (b : Body) (more : Bool) → s .count < 512 → drop (b .next) ws ≡ levelsAt (drop (s .next) ws) .rest
       → followsAt (leb 512 (s .count + 1)) (drop (b .next) ws) ≡ more
-      → sentencesLeft true t ws s ≡ sentenceAt t (drop (s .next) ws) ++ sentencesLeft more t ws (sentenceDone more s b)
+      → sentencesLeft true t recoverer ws s ≡ sentenceAt t (drop (s .next) ws) ++ sentencesLeft more t recoverer ws (sentenceDone more s b)
   unfolding packSentences translatedSentences sentencesIn
   sentence-first s b more h rest e =
       let left = 512 - (s .count + 1) in
@@ -233,7 +233,7 @@ module _ (t : Table) (ws : List ℕ) where
       rw (one, ← rest) (ap (λ (r : Words). sentenceAt t (drop (s .next) ws) ++ r)
       (after-sentence (b .next) left (leb 512 (s .count + 1)) more (λ f. omega (arith, leb-true 512 (s .count + 1) f)) e ∙ by-more more))
     where
-      by-more : (more : Bool) → wordsBy (b .next) (512 - (s .count + 1)) more ≡ sentencesLeft more t ws (sentenceDone more s b)
+      by-more : (more : Bool) → wordsBy (b .next) (512 - (s .count + 1)) more ≡ sentencesLeft more t recoverer ws (sentenceDone more s b)
       by-more true = refl
       by-more false = refl
 
@@ -242,7 +242,8 @@ pub sentence-on : (more : Bool) {ws heads code code′ : List ℕ} {s : Sentence
     → SentencesOn ws heads code s code′ (sentenceDone more s b)
 sentence-on more {ws} {code = code} {s = s} {b} h all is e =
     record {
-      same = λ t g. same-wrote _ (same-words (same-refl code (s .at) _) (sentence-first t ws s b more h (all .rest) (sym is ∙ e))) (all .wrote t g);
+      same = λ t recoverer g.
+          same-wrote _ (same-words (same-refl code (s .at) _) (sentence-first t recoverer ws s b more h (all .rest) (sym is ∙ e))) (all .wrote t g);
       within = by-more more (sym is ∙ e);
       ahead = refl;
       grown = all .grown;
@@ -257,23 +258,26 @@ sentence-on more {ws} {code = code} {s = s} {b} h all is e =
 -- ALL OF THEM
 
 -- what is written so far and what is still to be written are the whole function's words
-pub record SentencesSoFar (ws heads : List ℕ) (start : ℕ) (code₀ code : List ℕ) (s : Sentences) : Type 0 where
+pub record SentencesSoFar (ws heads : List ℕ) (start recoverer : ℕ) (code₀ code : List ℕ) (s : Sentences) : Type 0 where
   pub same : (t : Table) → namesOf t ≡ headNames ws heads
-      → Same code₀ 0 (packSentences (translatedSentences t (sentencesIn maxSentences (drop start ws)))) code (s .at) (sentencesLeft (s .more) t ws s)
+      → Same code₀ 0 (packSentences (translatedSentences t recoverer (sentencesIn maxSentences (drop start ws)))) code (s .at)
+      (sentencesLeft (s .more) t recoverer ws s)
   pub within : InSentences ws s
   pub grown : s .at ≤ 35000 * s .count
 
-pub sentences-go-on : {ws heads : List ℕ} {start : ℕ} {code₀ code code′ : List ℕ} {s r : Sentences}
-    → SentencesSoFar ws heads start code₀ code s → s .more ≡ true → SentencesOn ws heads code s code′ r → SentencesSoFar ws heads start code₀ code′ r
-sentences-go-on s e o =
+pub sentences-go-on : {ws heads : List ℕ} {start recoverer : ℕ} {code₀ code code′ : List ℕ} {s r : Sentences}
+    → SentencesSoFar ws heads start recoverer code₀ code s → s .more ≡ true → SentencesOn ws heads code s code′ r
+    → SentencesSoFar ws heads start recoverer code₀ code′ r
+sentences-go-on {recoverer = recoverer} s e o =
     record {
-      same = λ t h. same-trans (rw e at (s .same t h)) (o .same t h);
+      same = λ t h. same-trans (rw e at (s .same t h)) (o .same t recoverer h);
       within = o .within;
       grown = omega (arith, s .grown, o .grown, o .ahead);
     }
 
-pub sentences-all : {ws heads : List ℕ} {start : ℕ} {code₀ code code′ : List ℕ} {s : Sentences} {r : ℕ}
-    → SentencesSoFar ws heads start code₀ code s → s .more ≡ false → Wrote code (s .at) (19 ∷ []) code′ r → FunctionAll ws heads start code₀ code′ r
+pub sentences-all : {ws heads : List ℕ} {start recoverer : ℕ} {code₀ code code′ : List ℕ} {s : Sentences} {r : ℕ}
+    → SentencesSoFar ws heads start recoverer code₀ code s → s .more ≡ false → Wrote code (s .at) (endWord recoverer ∷ []) code′ r
+    → FunctionAll ws heads start recoverer code₀ code′ r
 sentences-all s e w =
     record {
       wrote = λ t h. same-end (same-wrote [] (rw e at (s .same t h)) w);

@@ -9,7 +9,7 @@ use Rattle.meaning.specs.Tree.{Table}
 use Rattle.meaning.specs.Allowed.{namesOf, maxSentences}
 use Rattle.meaning.specs.Instructions.{Test, Store, Action}
 use Rattle.meaning.specs.Translation.{Shape, shapeOf, metricOf, Tested, testedShape, testsOf, storesOf, actionsOf, translatedSentences}
-use Rattle.meaning.specs.Packing.{Words, metricWord, countsWord, testWord, storeWord, bodyWords, sentencesEnd, packSentences}
+use Rattle.meaning.specs.Packing.{Words, metricWord, countsWord, testWord, storeWord, bodyWords, endWord, packSentences}
 use Rattle.words.specs.declared.tape.Parts.{Parts}
 use Rattle.words.specs.declared.tape.Parts.the-variants.{Zero, One, Two}
 use Rattle.sentences.specs.declared.Body.{Body}
@@ -95,10 +95,11 @@ pastNext false i = i
 abbrev pub sentenceDone : Bool → Sentences → Body → Sentences
 sentenceDone more s b = record { count = s .count + 1; next = pastNext more (b .next); at = b .at; more = more }
 
--- the words still to come
-abbrev pub sentencesLeft : Bool → Table → List ℕ → Sentences → Words
-sentencesLeft true t ws s = packSentences (translatedSentences t (sentencesIn (maxSentences - s .count) (drop (s .next) ws)))
-sentencesLeft false t ws s = sentencesEnd ∷ []
+-- the words still to come, of a function that another recovers
+abbrev pub sentencesLeft : Bool → Table → ℕ → List ℕ → Sentences → Words
+sentencesLeft true t recoverer ws s =
+    packSentences (translatedSentences t recoverer (sentencesIn (maxSentences - s .count) (drop (s .next) ws)))
+sentencesLeft false t recoverer ws s = endWord recoverer ∷ []
 
 pub record InSentences (ws : List ℕ) (s : Sentences) : Type 0 where
   pub count : s .count + flag (s .more) ≤ 512
@@ -106,13 +107,15 @@ pub record InSentences (ws : List ℕ) (s : Sentences) : Type 0 where
 
 -- a step keeps what the sentences come to, and goes on
 pub record SentencesOn (ws heads code : List ℕ) (s : Sentences) (code′ : List ℕ) (r : Sentences) : Type 0 where
-  pub same : (t : Table) → namesOf t ≡ headNames ws heads → Same code (s .at) (sentencesLeft true t ws s) code′ (r .at) (sentencesLeft (r .more) t ws r)
+  pub same : (t : Table) (recoverer : ℕ) → namesOf t ≡ headNames ws heads
+      → Same code (s .at) (sentencesLeft true t recoverer ws s) code′ (r .at) (sentencesLeft (r .more) t recoverer ws r)
   pub within : InSentences ws r
   pub ahead : r .count ≡ s .count + 1
   pub grown : r .at ≤ s .at + 35000
 
 -- all sentences are written, from the start of what is lent
-pub record FunctionAll (ws heads : List ℕ) (start : ℕ) (code code′ : List ℕ) (r : ℕ) : Type 0 where
+pub record FunctionAll (ws heads : List ℕ) (start recoverer : ℕ) (code code′ : List ℕ) (r : ℕ) : Type 0 where
   pub wrote : (t : Table) → namesOf t ≡ headNames ws heads
-      → Wrote code 0 (packSentences (translatedSentences t (sentencesIn maxSentences (drop start ws)))) code′ r
+      → Wrote code 0 (packSentences (translatedSentences t recoverer (sentencesIn maxSentences (drop start ws))))
+      code′ r
   pub grown : r ≤ 17920001

@@ -175,10 +175,18 @@ fn next_sentence(tape: &[u32], heads: &[usize], code: &mut [u32], s: Sentences) 
     }
 }
 
-// The sentences of a function from the tape's word `start` on, into the code from its first word on. Handed back: how many words they are.
-pub fn write_function(tape: &[u32], heads: &[usize], start: usize, code: &mut [u32]) -> usize
-    requires { ⌜ (length (now heads) ≤ 64) × (start ≤ length (now tape)) ⌝ }
-    ensures { λ r. ⌜ FunctionAll (now (tape .entry)) (now (heads .entry)) start (now (code .entry)) (now (code .exit)) r ⌝ }
+// The sentences of a function from the tape's word `start` on, into the code from its first word on, and the word that
+// ends them, with the number of the function that recovers this one. Handed back: how many words they are.
+pub fn write_function(
+    tape: &[u32],
+    heads: &[usize],
+    start: usize,
+    recoverer: usize,
+    code: &mut [u32],
+) -> usize
+    requires { ⌜ (length (now heads) ≤ 64) × (start ≤ length (now tape)) × (recoverer < 2 ^ 24) ⌝ }
+    ensures { λ r. ⌜ FunctionAll (now (tape .entry)) (now (heads .entry)) start recoverer (now (code .entry))
+        (now (code .exit)) r ⌝ }
 {
     let mut s = Sentences {
         count: 0,
@@ -189,5 +197,5 @@ pub fn write_function(tape: &[u32], heads: &[usize], start: usize, code: &mut [u
     while s.more {
         s = next_sentence(tape, heads, code, s);
     }
-    put(code, s.at, 19)
+    put(code, s.at, 19 + 256 * recoverer)
 }

@@ -32,7 +32,7 @@ use decoding::decode;
 use decoding::find_word;
 use matching::CodePlace;
 
-// The application that is to begin, if there is one; after it actions come.
+// The application that is to begin, if there is one; after it actions come, or another application.
 fn enter(
     g: Registers,
     bits: &[u8; 256],
@@ -233,8 +233,8 @@ fn write_items(
     try_go(lettered, code, input, frames)
 }
 
-// One turn of the run: an application that is to begin, and instructions in the order in which an expression mostly has them, each where
-// it comes next, so that few turns are taken; then one more.
+// One turn of the run: an application that is to begin, and, unless another is then to begin, instructions in the order in which an
+// expression mostly has them, each where it comes next, so that few turns are taken; then one more.
 fn advance(
     g: Registers,
     bits: &[u8; 256],
@@ -257,6 +257,9 @@ fn advance(
     let Next::Onward(begun) = entered else {
         return entered;
     };
+    if begun.callee != 0 {
+        return Next::Onward(begun);
+    }
     let written = write_items(begun, code, input, output, frames);
     let used = try_use(written, code, input, output, frames);
     let Next::Onward(ready) = used else {

@@ -7,7 +7,7 @@ use lib.Seq.{sets}
 use Rattle.meaning.specs.Tree.{Table}
 use Rattle.meaning.specs.Allowed.{namesOf, maxFunctions}
 use Rattle.meaning.specs.Instructions.{Sentences, Code}
-use Rattle.meaning.specs.Translation.{translatedSentences}
+use Rattle.meaning.specs.Translation.{translatedFunction}
 use Rattle.meaning.specs.Packing.{packSentences, pack}
 use Rattle.words.specs.Words.{headNames}
 use Rattle.sentences.specs.Trees.{functionsIn, functionIn}
@@ -42,7 +42,7 @@ pub record HeadsAll (ws heads : List ℕ) (r : ℕ) : Type 0 where
 -- THE FUNCTIONS
 
 abbrev pub functionAt : Table → List ℕ → ℕ → Sentences
-functionAt t ws head = translatedSentences t (functionIn (drop head ws) .sentences)
+functionAt t ws head = translatedFunction t (functionIn (drop head ws))
 
 abbrev pub functionsOf : Table → List ℕ → List ℕ → Code
 functionsOf t ws heads = map (functionAt t ws) heads

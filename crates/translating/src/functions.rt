@@ -1,5 +1,6 @@
 // The functions of a tape, and the table of their places before them.
 use sentences::write_function;
+use words::names::find_recoverer;
 use words::tape::lesser;
 use words::tape::name_size;
 use words::tape::of_kind;
@@ -56,11 +57,14 @@ fn write_entry(tape: &[u32], heads: &[usize], k: usize, part: &mut [u32], at: us
     ensures { λ r. ⌜ EntryAll (now (tape .entry)) (now (heads .entry)) k (now (part .entry)) at (now (part .exit)) r ⌝ }
 {
     let head = heads[k];
-    let start = head + 1 + name_size(tape, head);
+    let name = head + 1;
+    let size = name_size(tape, head);
+    let start = name + size;
+    let recoverer = find_recoverer(tape, heads, name, size);
     put(part, 0, at);
     let from = lesser(at - (k + 1), part.len());
-    let size = write_function(tape, heads, start, &mut part[from..]);
-    at + size
+    let words = write_function(tape, heads, start, recoverer, &mut part[from..]);
+    at + words
 }
 
 // The number of functions, the table of their places, whose entries are patched one by one, and the functions.

@@ -1,14 +1,14 @@
-// Names on the tape: comparing two, finding one in a list, and telling an emission's.
+// Names on the tape: comparing two, finding one in a list, telling an emission's, and finding who recovers a function.
 use crate::tape::name_size;
 use crate::tape::word_at;
 ghost use mathlib.Core.Path.{_≡_};
-ghost use Prim.Native.Nat.{_+_, _≤_, _<_};
-ghost use lib.Dec.{eqb};
-ghost use lib.ListN.{length, take, drop, getD};
-ghost use Rattle.meaning.specs.Choice.{both, sameBytes};
-ghost use Rattle.meaning.specs.Names.{isEmission};
+ghost use mathlib.Core.List.{_++_};
+ghost use Prim.Native.Nat.{_+_, _≤_};
+ghost use lib.ListN.{length, take, drop};
+ghost use Rattle.meaning.specs.Choice.{sameBytes, startsWith};
+ghost use Rattle.meaning.specs.Names.{isEmission, isRecovering};
 ghost use Rattle.words.specs.Words.{headName, headNames};
-ghost use Rattle.words.specs.Finding.{numberAmong};
+ghost use Rattle.words.specs.Finding.{numberAmong, recovererAmong};
 
 // So many words at two places are the same.
 fn same_words(tape: &[u32], a: usize, b: usize, size: usize) -> bool
@@ -25,29 +25,70 @@ fn same_words(tape: &[u32], a: usize, b: usize, size: usize) -> bool
     true
 }
 
+// The name of `size` words at `from` begins with a prefix.
+fn starts_with(tape: &[u32], from: usize, size: usize, prefix: &[u8]) -> bool
+    requires { ⌜ from + size ≤ length (now tape) ⌝ }
+    ensures { λ r. ⌜ r ≡ startsWith (now (prefix .entry)) (take size (drop from (now (tape .entry)))) ⌝ }
+{
+    if size < prefix.len() {
+        return false;
+    }
+    let mut i = 0;
+    while i < prefix.len() {
+        let byte = prefix[i] as usize;
+        if byte != word_at(tape, from + i) {
+            return false;
+        }
+        i += 1;
+    }
+    true
+}
+
+// The name after the word at `head` is a prefix, and then that of `size` words at `from`.
+fn is_prefixed(tape: &[u32], head: usize, prefix: &[u8], from: usize, size: usize) -> bool
+    requires { ⌜ from + size ≤ length (now tape) ⌝ }
+    ensures { λ r. ⌜ r ≡ sameBytes (now (prefix .entry) ++ take size (drop from (now (tape .entry))))
+        (headName (now (tape .entry)) head) ⌝ }
+{
+    let named = name_size(tape, head);
+    if named != prefix.len() + size {
+        return false;
+    }
+    if named == 0 {
+        return true;
+    }
+    if starts_with(tape, head + 1, named, prefix) {
+        return same_words(tape, from, head + 1 + prefix.len(), size);
+    }
+    false
+}
+
 // The name after the word at `head` is that of `size` words at `from`.
 pub fn name_is(tape: &[u32], head: usize, from: usize, size: usize) -> bool
     requires { ⌜ from + size ≤ length (now tape) ⌝ }
     ensures { λ r. ⌜ r ≡ sameBytes (take size (drop from (now (tape .entry)))) (headName (now (tape .entry)) head) ⌝ }
 {
-    if name_size(tape, head) != size {
-        return false;
-    }
-    if size == 0 {
-        return true;
-    }
-    same_words(tape, from, head + 1, size)
+    is_prefixed(tape, head, b"", from, size)
 }
 
-// The number, counted from 1, of the first of `count` heads whose name is that at `from`; 0 where there is none.
-pub fn find(tape: &[u32], heads: &[usize], count: usize, from: usize, size: usize) -> usize
+// The number, counted from 1, of the first of `count` heads whose name is a prefix, and then that at `from`; 0 where
+// there is none.
+fn find_prefixed(
+    tape: &[u32],
+    heads: &[usize],
+    count: usize,
+    prefix: &[u8],
+    from: usize,
+    size: usize,
+) -> usize
     requires { ⌜ (count ≤ length (now heads)) × (from + size ≤ length (now tape)) ⌝ }
-    ensures { λ r. ⌜ (r ≡ numberAmong 0 (headNames (now (tape .entry)) (take count (now (heads .entry)))) (take size (drop from (now (tape .entry))))) × (r ≤ count) ⌝ }
+    ensures { λ r. ⌜ (r ≡ numberAmong 0 (headNames (now (tape .entry)) (take count (now (heads .entry))))
+        (now (prefix .entry) ++ take size (drop from (now (tape .entry))))) × (r ≤ count) ⌝ }
 {
     let mut k = 0;
     while k < count {
         let head = heads[k];
-        if name_is(tape, head, from, size) {
+        if is_prefixed(tape, head, prefix, from, size) {
             return k + 1;
         }
         k += 1;
@@ -55,16 +96,13 @@ pub fn find(tape: &[u32], heads: &[usize], count: usize, from: usize, size: usiz
     0
 }
 
-fn word_is(tape: &[u32], i: usize, word: usize) -> bool
-    ensures { λ r. ⌜ r ≡ eqb word (getD (now (tape .entry)) i 0) ⌝ }
+// The same of the name at `from` alone.
+pub fn find(tape: &[u32], heads: &[usize], count: usize, from: usize, size: usize) -> usize
+    requires { ⌜ (count ≤ length (now heads)) × (from + size ≤ length (now tape)) ⌝ }
+    ensures { λ r. ⌜ (r ≡ numberAmong 0 (headNames (now (tape .entry)) (take count (now (heads .entry))))
+        (take size (drop from (now (tape .entry))))) × (r ≤ count) ⌝ }
 {
-    word == word_at(tape, i)
-}
-
-fn both(a: bool, b: bool) -> bool
-    ensures { λ r. ⌜ r ≡ both a b ⌝ }
-{
-    if a { b } else { false }
+    find_prefixed(tape, heads, count, b"", from, size)
 }
 
 // It begins with Emit.
@@ -72,12 +110,25 @@ pub fn is_emission(tape: &[u32], from: usize, size: usize) -> bool
     requires { ⌜ from + size ≤ length (now tape) ⌝ }
     ensures { λ r. ⌜ r ≡ isEmission (take size (drop from (now (tape .entry)))) ⌝ }
 {
-    if size < 4 {
-        return false;
+    starts_with(tape, from, size, b"Emit")
+}
+
+// It begins with Recover.
+fn is_recovering(tape: &[u32], from: usize, size: usize) -> bool
+    requires { ⌜ from + size ≤ length (now tape) ⌝ }
+    ensures { λ r. ⌜ r ≡ isRecovering (take size (drop from (now (tape .entry)))) ⌝ }
+{
+    starts_with(tape, from, size, b"Recover")
+}
+
+// The number of the function that recovers the one whose name stands at `from`; 0 where there is none.
+pub fn find_recoverer(tape: &[u32], heads: &[usize], from: usize, size: usize) -> usize
+    requires { ⌜ from + size ≤ length (now tape) ⌝ }
+    ensures { λ r. ⌜ (r ≡ recovererAmong (headNames (now (tape .entry)) (now (heads .entry)))
+        (take size (drop from (now (tape .entry))))) × (r ≤ length (now (heads .entry))) ⌝ }
+{
+    if is_recovering(tape, from, size) {
+        return 0;
     }
-    let e = word_is(tape, from, 69);
-    let m = word_is(tape, from + 1, 109);
-    let i = word_is(tape, from + 2, 105);
-    let t = word_is(tape, from + 3, 116);
-    both(e, both(m, both(i, t)))
+    find_prefixed(tape, heads, heads.len(), b"Recover", from, size)
 }

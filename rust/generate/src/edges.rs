@@ -1,6 +1,7 @@
 //! Tables at, just below and just above each limit of the reader.
 
 use crate::random::Random;
+use refal0_apart::class::RECOVER;
 use refal0_apart::reader::{
     CONDITION_LIMIT, FUNCTION_LIMIT, IDENTIFIER_LIMIT, ITEM_LIMIT, LETTER_LIMIT, NAME_LIMIT, NESTING_LIMIT,
     SENTENCE_LIMIT, SYMBOL_LIMIT, TABLE_LIMIT,
@@ -56,10 +57,12 @@ fn filled(random: &mut Random, length: usize) -> Vec<u8> {
 fn names(random: &mut Random, length: usize) -> String {
     let start = random.pick(&["N", "Emit", "IsDigit"]);
     let name = format!("{start}{}", "-".repeat(length - start.len()));
-    match random.below(4) {
+    let failing = "N".repeat(length - RECOVER.len());
+    match random.below(5) {
         0 => format!("{name}{{=}}"),
         1 => format!("F{{=<{name}>}}"),
         2 => format!("F{{s1,<{name} s1>:'T'=}}"),
+        3 => format!("{failing}{{'a'=}}Recover{failing}{{e1='r'}}"),
         _ => format!("{name}{{=<{name}>}}"),
     }
 }

@@ -1,8 +1,8 @@
 //! Random trees that keep all limits, with few different bytes so that patterns often fit.
 
 use crate::random::Random;
-use refal0_apart::class::Class;
-use refal0_apart::reader::{CONDITION_LIMIT, ITEM_LIMIT, LETTER_LIMIT, NESTING_LIMIT, SYMBOL_LIMIT};
+use refal0_apart::class::{Class, RECOVER};
+use refal0_apart::reader::{CONDITION_LIMIT, ITEM_LIMIT, LETTER_LIMIT, NAME_LIMIT, NESTING_LIMIT, SYMBOL_LIMIT};
 use refal0_apart::tree::{Callee, Condition, Function, Item, Letter, Name, Sentence, Subject, Table};
 
 /// Bytes that stand in patterns and texts most of the time.
@@ -25,8 +25,7 @@ pub fn usual_byte(random: &mut Random) -> u8 {
 pub fn table(random: &mut Random) -> Table {
     let count = if random.one_in(200) { 1 + random.below(64) } else { 1 + random.below(4) };
     let mut table = Table::default();
-    while table.functions.len() < count {
-        let name = function_name(random, table.functions.len());
+    for name in function_names(random, count) {
         table.functions.push(Function { name, sentences: Vec::new() });
     }
     for number in 0..count {
@@ -36,7 +35,9 @@ pub fn table(random: &mut Random) -> Table {
             let sentence = sentence(random, &mut table);
             table.functions[number].sentences.push(sentence);
         }
-        if !random.one_in(3) {
+        // a function that is recovered should often fail
+        let chances = if table.recoverer(number).is_some() { 1 } else { 3 };
+        if !random.one_in(chances) {
             let last = catch_all(random, &mut table);
             table.functions[number].sentences.truncate(7);
             table.functions[number].sentences.push(last);
@@ -57,6 +58,27 @@ fn intern_emissions(table: &mut Table) {
         }
     }
     table.functions = functions;
+}
+
+/// Different names; in a third of the tables some are Recover and another's name.
+fn function_names(random: &mut Random, count: usize) -> Vec<Name> {
+    let mut names: Vec<Name> = (0..count).map(|number| function_name(random, number)).collect();
+    let mut fixed = vec![false; count];
+    let renamed = if random.one_in(3) { 1 + random.below(count) } else { 0 };
+    for _ in 0..renamed {
+        let (failing, recovering) = (random.below(count), random.below(count));
+        let name = if random.one_in(6) { odd_recoverer(random) } else { [RECOVER, &names[failing]].concat() };
+        if failing != recovering && !fixed[recovering] && name.len() <= NAME_LIMIT && !names.contains(&name) {
+            names[recovering] = name;
+            (fixed[failing], fixed[recovering]) = (true, true);
+        }
+    }
+    names
+}
+
+/// A name that looks like a function that recovers, and recovers none.
+fn odd_recoverer(random: &mut Random) -> Name {
+    random.pick(&["Recover", "Recovery", "RecoverRecover", "RecoverEmitA", "RecoverIsDigit", "recoverF0"]).into()
 }
 
 fn function_name(random: &mut Random, number: usize) -> Name {

@@ -7,7 +7,7 @@ use refal0_apart::corpus::Lending;
 use refal0_apart::machine::{FRAMES, Rooms};
 use refal0_apart::packing::{self, BASES, REGISTERS, number, pack};
 use refal0_apart::reader::{FUNCTION_LIMIT, NAME_LIMIT, NESTING_LIMIT, SYMBOL_LIMIT};
-use refal0_apart::translation::{Action, Base, Cell, Code, Length, Metric, Program, Register, Test};
+use refal0_apart::translation::{Action, Base, Cell, Code, FunctionCode, Length, Metric, Program, Register, Test};
 
 /// Few different bytes, so that tests often hold.
 const BYTES: &[u8] = b"aab/0 ";
@@ -114,13 +114,22 @@ fn program(random: &mut Random) -> Program {
     Program { functions: (0..count).map(|_| function(random, count)).collect() }
 }
 
-fn function(random: &mut Random, functions: usize) -> Vec<Code> {
+fn function(random: &mut Random, functions: usize) -> FunctionCode {
     let count = random.below(3);
-    let mut codes: Vec<Code> = (0..count).map(|_| sentence(random, functions)).collect();
-    if !random.one_in(8) {
-        codes.push(catch_all(random, functions));
+    let mut sentences: Vec<Code> = (0..count).map(|_| sentence(random, functions)).collect();
+    if !random.one_in(6) {
+        sentences.push(catch_all(random, functions));
     }
-    codes
+    let recoverer = if random.one_in(2) { callee(random, functions) } else { 0 };
+    FunctionCode { sentences, recoverer }
+}
+
+/// The number of a function, seldom one that isn't there.
+fn callee(random: &mut Random, functions: usize) -> usize {
+    if random.one_in(40) {
+        return random.pick(&[0, functions + 1, 256, 0xff_ffff]);
+    }
+    1 + random.below(functions)
 }
 
 fn sentence(random: &mut Random, functions: usize) -> Code {
@@ -215,7 +224,7 @@ impl Actions<'_> {
             self.phrase(&[Self::span, Self::moving]);
         }
         if self.random.one_in(6) {
-            let function = self.callee();
+            let function = callee(self.random, self.functions);
             self.list.push(Action::TailCall(function));
         }
     }
@@ -296,15 +305,8 @@ impl Actions<'_> {
     }
 
     fn call(&mut self) {
-        let function = self.callee();
+        let function = callee(self.random, self.functions);
         self.list.push(Action::Call(function));
-    }
-
-    fn callee(&mut self) -> usize {
-        if self.random.one_in(40) {
-            return self.random.pick(&[0, self.functions + 1, 256, 0xff_ffff]);
-        }
-        1 + self.random.below(self.functions)
     }
 
     fn emission(&mut self) {

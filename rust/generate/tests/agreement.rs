@@ -12,6 +12,7 @@ use refal0_apart::packing::pack;
 use refal0_apart::reader::{TABLE_LIMIT, read};
 use refal0_apart::rewriter::rewrite;
 use refal0_apart::translation::translate;
+use refal0_apart::tree::Table;
 use std::collections::BTreeMap;
 
 const CASES: usize = 4_000;
@@ -102,10 +103,17 @@ fn narrowed(code: &[u32], start: usize, text: &[u8], allowance: u32, whole: &Out
     }
 }
 
+/// Whether a function and the one that recovers it were both applied.
+fn recovers(tree: &Table, outcome: &Outcome) -> bool {
+    let applied = |function: usize| outcome.counts.0[function] > 0;
+    (0..tree.functions.len()).any(|failing| applied(failing) && tree.recoverer(failing).is_some_and(applied))
+}
+
 #[test]
 fn the_machine_comes_to_the_rewriting() {
     let mut random = Random::new(4);
     let mut answers = BTreeMap::new();
+    let mut recovered = 0;
     for _ in 0..5 * CASES {
         let tree = trees::table(&mut random);
         let program = translate(&tree);
@@ -121,7 +129,9 @@ fn the_machine_comes_to_the_rewriting() {
         assert_eq!(machine::run(&code, start, &text, allowance, need), (rewritten, need));
         narrowed(&code, start, &text, allowance, &outcome, need);
         *answers.entry(outcome.answer).or_insert(0) += 1;
+        recovered += usize::from(recovers(&tree, &outcome));
     }
+    assert!(recovered > CASES / 10, "{recovered} runs recover");
     for answer in [0, 11, 12] {
         assert!(answers[&answer] > CASES / 4, "answers met: {answers:?}");
     }

@@ -1,4 +1,4 @@
-//! The five byte classes that conditions ask about, and the names that may not be declared.
+//! The five byte classes that conditions ask about, the names that may not be declared, and how a recovery is named.
 
 #[derive(Clone, Copy, PartialEq, Eq, Debug)]
 pub enum Class {
@@ -40,6 +40,9 @@ impl Class {
 pub fn is_emission(name: &[u8]) -> bool {
     name.starts_with(b"Emit")
 }
+
+/// A function whose name begins so has no function that recovers it.
+pub const RECOVER: &[u8] = b"Recover";
 
 pub fn is_reserved(name: &[u8]) -> bool {
     is_emission(name) || Class::of_predicate(name).is_some()

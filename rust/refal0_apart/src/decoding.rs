@@ -12,7 +12,8 @@ pub struct Words<'c>(&'c [u32]);
 /// What stands where a sentence is to be tried.
 pub enum Trial {
     Sentence(Head),
-    EndOfFunction,
+    /// No sentence is left; the number of the function that recovers this one, 0 for none.
+    EndOfFunction(usize),
 }
 
 /// A sentence's first two words, with the places of what follows them.
@@ -47,13 +48,19 @@ impl<'c> Words<'c> {
         Some((number, [first, second, third].map(usize::from)))
     }
 
+    /// The number of a function, if it is declared.
+    pub fn declared(self, number: usize) -> Option<usize> {
+        (1..=self.functions()).contains(&number).then_some(number)
+    }
+
     pub fn trial(self, at: usize) -> Option<Trial> {
-        let (number, [first, second, third]) = self.word(at)?;
+        let (number, operands) = self.word(at)?;
+        let [first, second, third] = operands;
         let metric = match number {
             number::NO_PART => Metric { head: first, middle: 0, tail: 0, parts: 0 },
             number::ONE_PART => Metric { head: first, middle: 0, tail: second, parts: 1 },
             number::TWO_PARTS => Metric { head: first, middle: second, tail: third, parts: 2 },
-            number::END_OF_FUNCTION => return Some(Trial::EndOfFunction),
+            number::END_OF_FUNCTION => return Some(Trial::EndOfFunction(joined(operands))),
             _ => return None,
         };
         let counts = *self.0.get(at + 1)? as usize;
@@ -88,12 +95,10 @@ impl<'c> Words<'c> {
 
     /// The action at a place, or nothing inside at the end of the actions. An emission's name stays in its words.
     pub fn action(self, at: usize) -> Option<Option<Action<&'c [u32]>>> {
-        let (number, [first, second, third]) = self.word(at)?;
+        let (number, operands) = self.word(at)?;
+        let [first, second, third] = operands;
         let length = || Some(Length { base: *BASES.get(first)?, add: second, back: third });
-        let function = || {
-            let number = first + (second << 8) + (third << 16);
-            (1..=self.functions()).contains(&number).then_some(number)
-        };
+        let function = || self.declared(joined(operands));
         Some(Some(match number {
             number::GO => Action::Go(length()?),
             number::SELECT => Action::Select(length()?),
@@ -114,6 +119,11 @@ impl<'c> Words<'c> {
         let words = self.0.get(at..at + length)?;
         words.iter().all(|&word| word <= 255).then_some(words)
     }
+}
+
+/// The number that takes all three operands.
+fn joined([first, second, third]: [usize; 3]) -> usize {
+    first + (second << 8) + (third << 16)
 }
 
 fn cell(register: usize, offset: usize) -> Option<Cell> {

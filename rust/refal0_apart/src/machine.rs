@@ -86,6 +86,12 @@ struct Stored {
     count: usize,
 }
 
+/// The sentence that fits, or the number of the function that recovers, 0 for none.
+enum Choice {
+    Fits(Head, Field),
+    Recovered(usize),
+}
+
 /// d and i - p of a field; without a middle template i is p.
 #[derive(Clone, Copy)]
 struct Field {
@@ -286,18 +292,31 @@ impl<'c> Machine<'c> {
     }
 
     /// Applies a function in a new frame to the field from p to q, which `beyond` cells lie right of.
-    fn apply(&mut self, function: usize, beyond: usize) -> Result<(), Stop> {
+    fn apply(&mut self, mut function: usize, beyond: usize) -> Result<(), Stop> {
         self.applications.ask()?;
         note(&mut self.need.frames, self.frames.len() + 1, self.rooms.frames, 15)?;
-        self.applications.make(function);
         let d = self.stack_in.len() - beyond;
+        loop {
+            self.applications.make(function);
+            function = match self.choose(function, d)? {
+                Choice::Fits(head, field) => return self.enter(&head, field),
+                Choice::Recovered(0) => return Err(Stop { answer: 11, function }),
+                Choice::Recovered(recoverer) => there(self.words.declared(recoverer))?,
+            };
+            self.applications.ask()?;
+        }
+    }
+
+    /// The first sentence of the function that fits a field of this length.
+    fn choose(&self, function: usize, d: usize) -> Result<Choice, Stop> {
         let mut at = self.words.place(function);
         loop {
-            let Trial::Sentence(head) = there(self.words.trial(at))? else {
-                return Err(Stop { answer: 11, function });
+            let head = match there(self.words.trial(at))? {
+                Trial::Sentence(head) => head,
+                Trial::EndOfFunction(recoverer) => return Ok(Choice::Recovered(recoverer)),
             };
             if let Some(field) = self.find(&head, d)? {
-                return self.enter(&head, field);
+                return Ok(Choice::Fits(head, field));
             }
             at = head.next_sentence;
         }

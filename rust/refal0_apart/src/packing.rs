@@ -1,7 +1,7 @@
 //! Code in 32-bit words, as docs/CODE.md lays them down: the packing of a translation.
 
 use crate::class::Class;
-use crate::translation::{Action, Base, Cell, Code, Length, Metric, Program, Register, Test, translate};
+use crate::translation::{Action, Base, Cell, Code, FunctionCode, Length, Metric, Program, Register, Test, translate};
 use crate::tree::Table;
 
 /// The lowest byte of a word says what it is.
@@ -39,7 +39,7 @@ pub fn code(table: &Table) -> Vec<u32> {
 }
 
 pub fn pack(program: &Program) -> Vec<u32> {
-    let functions: Vec<Vec<u32>> = program.functions.iter().map(|codes| function_words(codes)).collect();
+    let functions: Vec<Vec<u32>> = program.functions.iter().map(function_words).collect();
     let mut words = vec![functions.len() as u32];
     let mut place = 1 + functions.len();
     for function in &functions {
@@ -50,9 +50,9 @@ pub fn pack(program: &Program) -> Vec<u32> {
     words
 }
 
-fn function_words(codes: &[Code]) -> Vec<u32> {
-    let mut words: Vec<u32> = codes.iter().flat_map(sentence_words).collect();
-    words.push(bare(number::END_OF_FUNCTION));
+fn function_words(function: &FunctionCode) -> Vec<u32> {
+    let mut words: Vec<u32> = function.sentences.iter().flat_map(sentence_words).collect();
+    words.push(word(number::END_OF_FUNCTION, function.recoverer, 0, 0));
     words
 }
 

@@ -101,16 +101,19 @@ impl<'t> Rewriter<'t> {
         }
     }
 
-    fn apply(&mut self, number: usize, text: Vec<u8>) -> Result<(), Stop> {
-        self.applications.ask()?;
-        self.applications.make(number + 1);
-        for sentence in &self.table.functions[number].sentences {
-            if let Some(values) = fit(sentence, &text) {
-                self.waiting.push(Substitution { items: &sentence.expression, next: 0, text, values });
-                return Ok(());
+    /// Applies a function, and where none of its sentences fits the one that recovers it.
+    fn apply(&mut self, mut number: usize, text: Vec<u8>) -> Result<(), Stop> {
+        loop {
+            self.applications.ask()?;
+            self.applications.make(number + 1);
+            for sentence in &self.table.functions[number].sentences {
+                if let Some(values) = fit(sentence, &text) {
+                    self.waiting.push(Substitution { items: &sentence.expression, next: 0, text, values });
+                    return Ok(());
+                }
             }
+            number = self.table.recoverer(number).ok_or(Stop { answer: 11, function: number + 1 })?;
         }
-        Err(Stop { answer: 11, function: number + 1 })
     }
 }
 

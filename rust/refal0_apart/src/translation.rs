@@ -2,11 +2,19 @@
 
 use crate::class::Class;
 use crate::reader::NAME_LIMIT;
-use crate::tree::{Callee, Condition, Function, Item, Letter, Name, Sentence, Subject, Table};
+use crate::tree::{Callee, Condition, Item, Letter, Name, Sentence, Subject, Table};
 
 #[derive(Clone, PartialEq, Eq, Debug)]
 pub struct Program {
-    pub functions: Vec<Vec<Code>>,
+    pub functions: Vec<FunctionCode>,
+}
+
+/// The code of one function's sentences.
+#[derive(Clone, PartialEq, Eq, Debug)]
+pub struct FunctionCode {
+    pub sentences: Vec<Code>,
+    /// The number, from 1, of the function that recovers this one; 0 for none.
+    pub recoverer: usize,
 }
 
 /// The code of one sentence.
@@ -83,9 +91,15 @@ pub enum Action<N = Name> {
 }
 
 pub fn translate(table: &Table) -> Program {
-    let codes =
-        |function: &Function| function.sentences.iter().map(|sentence| sentence_code(table, sentence)).collect();
-    Program { functions: table.functions.iter().map(codes).collect() }
+    Program { functions: (0..table.functions.len()).map(|number| function_code(table, number)).collect() }
+}
+
+fn function_code(table: &Table, number: usize) -> FunctionCode {
+    let sentences = &table.functions[number].sentences;
+    FunctionCode {
+        sentences: sentences.iter().map(|sentence| sentence_code(table, sentence)).collect(),
+        recoverer: table.recoverer(number).map_or(0, |recoverer| recoverer + 1),
+    }
 }
 
 impl Program {
@@ -95,7 +109,7 @@ impl Program {
         let sentence_words = |code: &Code| {
             8 * (code.tests.len() + code.store.len() + 1) + code.actions.iter().map(action_words).sum::<usize>()
         };
-        let function_words = |codes: &Vec<Code>| 8 + codes.iter().map(sentence_words).sum::<usize>();
+        let function_words = |function: &FunctionCode| 8 + function.sentences.iter().map(sentence_words).sum::<usize>();
         16 + self.functions.iter().map(function_words).sum::<usize>()
     }
 }

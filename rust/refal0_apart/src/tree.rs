@@ -1,6 +1,6 @@
 //! The tree of an accepted table; functions, emissions and variables stand in it by number.
 
-use crate::class::Class;
+use crate::class::{Class, RECOVER};
 
 pub type Name = Vec<u8>;
 
@@ -95,6 +95,15 @@ impl Table {
             self.emissions.push(name.to_vec());
             self.emissions.len() - 1
         })
+    }
+
+    /// The function that is applied to the same text where none of this one's sentences fits.
+    pub fn recoverer(&self, function: usize) -> Option<usize> {
+        let name = self.functions[function].name.as_slice();
+        if name.starts_with(RECOVER) {
+            return None;
+        }
+        self.functions.iter().position(|other| other.name.strip_prefix(RECOVER) == Some(name))
     }
 
     pub fn callee_name(&self, callee: Callee) -> &[u8] {

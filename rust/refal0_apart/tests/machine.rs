@@ -6,7 +6,7 @@ use refal0_apart::machine::Rooms;
 use refal0_apart::outcome::Outcome;
 use refal0_apart::packing::{code, pack};
 use refal0_apart::reader::read;
-use refal0_apart::translation::{Action, Base, Cell, Code, Length, Metric, Program, Register, Test};
+use refal0_apart::translation::{Action, Base, Cell, Code, FunctionCode, Length, Metric, Program, Register, Test};
 
 use Action::{BeginSeq, Call, Emit, Go, Out, OutC, OutV, Select, TailCall, UseSeq};
 use Base::{D, Dl, Dr, Null};
@@ -45,8 +45,10 @@ fn always(actions: Vec<Action>) -> Code {
     looking(ANY, cell(P, 0), b"", actions)
 }
 
+/// Functions that none recovers.
 fn packed(functions: Vec<Vec<Code>>) -> Vec<u32> {
-    pack(&Program { functions })
+    let alone = |sentences: Vec<Code>| FunctionCode { sentences, recoverer: 0 };
+    pack(&Program { functions: functions.into_iter().map(alone).collect() })
 }
 
 fn run(functions: Vec<Vec<Code>>, text: &[u8]) -> Outcome {
@@ -262,6 +264,15 @@ fn conditions_on_parts_in_words() {
     // p + 1 to i + 0, 'F', IsBlank; i + 1 to q - 1, 'T', IsUpper
     let conditions = &words("F{'a'e1'b'e2'c',<IsBlank e1>:'F',<IsUpper e2>:'T'=}")[7..9];
     assert_eq!(conditions, [20 + 256 * (8 + 128) + 65_536, 20 + 256 * (2 + 4 + 16 + 32) + 65_536 + 16_777_216]);
+}
+
+#[test]
+fn the_word_that_ends_a_function_names_the_one_that_recovers_it() {
+    let words = |table: &str| code(&read(table.as_bytes()).expect("the table is sound"));
+    let ends = |table: &str| words(table).into_iter().filter(|word| word % 256 == 19).collect::<Vec<_>>();
+    assert_eq!(ends("X{=}RecoverX{=}"), [19 + 256 * 2, 19]);
+    assert_eq!(ends("RecoverX{=}X{=}"), [19, 19 + 256]);
+    assert_eq!(ends("Recover{=}RecoverRecover{=}recoverX{=}X{=}"), [19; 4]);
 }
 
 /// The example of docs/CODE.md.

@@ -148,6 +148,26 @@ fn a_failed_application_is_counted_and_one_that_is_not_made_is_not() {
 }
 
 #[test]
+fn a_recovery_is_a_step_in_the_same_frame() {
+    let alone = b"X{'a'=}RecoverX{e1='r'e1}";
+    let (outcome, need) = ample(alone, b"b", 100_000);
+    assert_eq!(outcome, done(b"rb", &[1, 1]));
+    assert_eq!(need.frames, 1);
+    assert_eq!(ample(alone, b"b", 1).0, stopped(12, 0, &[1]));
+    assert_eq!(ample(b"X{'a'=}RecoverX{'c'=}", b"b", 9).0, stopped(11, 2, &[1, 1]));
+    let inside = b"F{e1=<X e1>'k'}X{'a'=}RecoverX{e1='r'}";
+    let frames = |frames: usize| lent(inside, b"b", Rooms { frames, ..Rooms::lent(9, 9, 0) });
+    assert_eq!(frames(1), stopped(15, 0, &[1]));
+    assert_eq!(frames(2), done(b"rk", &[1, 1, 1]));
+    assert_eq!(lent(alone, b"b", Rooms { frames: 1, ..Rooms::lent(1, 2, 0) }), done(b"rb", &[1, 1]));
+}
+
+#[test]
+fn only_the_function_that_fails_is_recovered() {
+    assert_eq!(ample(b"X{e1=<Y e1>'k'}RecoverX{e1='r'}Y{'a'=}", b"b", 9).0, stopped(11, 3, &[1, 0, 1]));
+}
+
+#[test]
 fn the_three_wrong_turns() {
     // the place is settled together with its condition, not before it
     assert_eq!(ample(b"F{e1 s2 'x' e3, <IsDigit s2>:'T' = s2 e3}", b"ax7xb", 9).0, done(b"7b", &[1]));

@@ -6,11 +6,11 @@ use mathlib.Core.List.{List, [], _∷_, _++_, map}
 use lib.ListN.{length-map}
 use Rattle.meaning.specs.Choice.{Name, Named, pick, both, every, sameBytes}
 use Rattle.meaning.specs.Tree.{Expression, end, thenCharacter, thenSymbol, thenPart, thenCall, Sentence, Function, Table, unplaced, unplacedSentence, unplacedFunction, unplacedTable}
-use Rattle.meaning.specs.Names.{isPredicate, numberFrom, numberOf}
+use Rattle.meaning.specs.Names.{isPredicate, numberFrom, numberOf, recoverPrefix, recovererOf}
 use Rattle.meaning.specs.Allowed.{isByte, member, spelledName, symbolsOf, partsOf, itemsIn, nesting, spelledItems, comingAfter, whereSome, comingAfterAll, allowedSentence, someSentence, allowedFunction, sentencesIn, callsKnown, namesOf, allowed}
 use Rattle.meaning.specs.Listing.{Quoted, unquoted, closeQuote, quotedCharacter, afterCharacter, symbolText, partText, expressionText, sentencesText, listing}
 use Rattle.meaning.specs.Instructions.{Site, Action}
-use Rattle.meaning.specs.Translation.{Shape, Stand, isLast, mannerOf, calling, items, atStart, passage, passesRest, shapeOf, testedShape, translatedSentences, translate}
+use Rattle.meaning.specs.Translation.{Shape, Stand, isLast, mannerOf, calling, items, atStart, passage, passesRest, shapeOf, testedShape, translatedSentences, translatedFunction, translate}
 
 -- THE LISTING
 
@@ -151,19 +151,23 @@ module _ (t : Table) (shape : Shape) (sites : List (Named Site)) where
         actions-unplaced false a w (λ w₁. calling shape (mannerOf outermost e n) (numberOf t n) n w₁ (items t shape sites outermost e w₁ rest)),
       )
 
-sentences-unplaced : (t : Table) (ss : List Sentence) → translatedSentences (unplacedTable t) (map unplacedSentence ss) ≡ translatedSentences t ss
+sentences-unplaced : (t : Table) (r : ℕ) (ss : List Sentence) →
+    translatedSentences (unplacedTable t) r (map unplacedSentence ss) ≡ translatedSentences t r ss
 unfolding translatedSentences
-sentences-unplaced t [] = refl
-sentences-unplaced t (s ∷ ss) =
+sentences-unplaced t r [] = refl
+sentences-unplaced t r (s ∷ ss) =
     let shape = shapeOf (s .pattern) in
-    rw (actions-unplaced t shape (testedShape shape .sites) true (s .expression) atStart (passesRest shape), sentences-unplaced t ss)
+    rw (actions-unplaced t shape (testedShape shape .sites) true (s .expression) atStart (passesRest shape), sentences-unplaced t r ss)
 
 pub translate-unplaced : (t : Table) → translate (unplacedTable t) ≡ translate t
 translate-unplaced t = go t
   where
-    go : (fs : Table) → map (λ f. translatedSentences (unplacedTable t) (f .sentences)) (unplacedTable fs) ≡ map (λ f. translatedSentences t (f .sentences)) fs
+    function-translated : (f : Function) → translatedFunction (unplacedTable t) (unplacedFunction f) ≡ translatedFunction t f
+    function-translated f = rw (number-unplaced 0 t (recoverPrefix ++ f .name)) (sentences-unplaced t (recovererOf t (f .name)) (f .sentences))
+
+    go : (fs : Table) → map (translatedFunction (unplacedTable t)) (unplacedTable fs) ≡ map (translatedFunction t) fs
     go [] = refl
-    go (f ∷ fs) = ap₂ (λ y ys. y ∷ ys) (sentences-unplaced t (f .sentences)) (go fs)
+    go (f ∷ fs) = ap₂ (λ y ys. y ∷ ys) (function-translated f) (go fs)
 
 -- TREES THAT ARE EQUAL BUT FOR PLACES
 

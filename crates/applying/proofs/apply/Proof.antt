@@ -1,12 +1,12 @@
 -- `applying::apply` meets its contract.
-use mathlib.Core.Path.{_≡_, refl, ap, _∙_}
+use mathlib.Core.Path.{_≡_, ap, _∙_}
 use native.Mathlib.Omega.{arith}
 use lib.ListN.{getD, drop}
 use Rattle.meaning.specs.Matching.{chooseFrom}
 use Rattle.meaning.specs.Packing.{unpackSentences}
 use Rattle.matching.specs.declared.Choice.{Choice}
 use Rattle.matching.specs.Matched.{choiceMeant}
-use Rattle.applying.proofs.laws.Calling.{Payable, apply-spent, Chosen, apply-stops, apply-starts}
+use Rattle.applying.proofs.laws.Calling.{Payable, apply-spent, Chosen, apply-starts, apply-recovers, apply-wrong}
 use borrow.Author.Needs.{needs}
 use Rattle.applying.proofs.apply.Statement.{statement}
 use Rattle.applying.proofs.apply.Tie as tie
@@ -60,12 +60,15 @@ returns-2 c =
     (at-start-sentence .start-sentence .ensures _ output journal)
 
 returns-3 : tie.Need-returns-3
-returns-3 c = λ output journal. rw (at-count (c .before .before) .count-application .ensures)
-    (apply-stops _ _ _ _ _ (may (c .before .before)) _ (meant (c .before .before) _ (c .enum-told .given .1)) _ _ refl)
+returns-3 c =
+    let at-recoverer = c .before .before in
+    let at-choose = at-recoverer .before .before in
+    λ output journal. rw (at-count at-choose .count-application .ensures, c .recover .ensures)
+    (apply-recovers _ _ _ _ _ (may at-choose) _ (meant at-choose _ (at-recoverer .recoverer .given .1)))
 
 returns-4 : tie.Need-returns-4
 returns-4 c = λ output journal. rw (at-count (c .before .before) .count-application .ensures)
-    (apply-stops _ _ _ _ _ (may (c .before .before)) _ (meant (c .before .before) _ (c .enum-told2 .given .1)) _ _ refl)
+    (apply-wrong _ _ _ _ _ (may (c .before .before)) (meant (c .before .before) _ (c .enum-told .given .1)))
 
 pub apply-spec : {M : Type 1} → statement M
 apply-spec =
@@ -82,6 +85,7 @@ apply-spec =
     (λ c. search needs)
     start-sentence-requires
     (λ c. search needs)
+    (λ c κs. search needs)
     (λ c. search needs)
     (λ c. search needs)
     (λ c. search needs)

@@ -22,7 +22,7 @@ returns c =
     λ input output journal values. undeclared _ _ _ _ _ (a .what .tail) (sym (c .before .declared .ensures) ∙ not-true _ (c .if1 .taken))
 
 returns-2 : tie.Need-returns-2
-returns-2 c = λ input output journal values. rw (c .before .before .before .if2 .taken) (tail-enters _ _ _ _ _ (is (c .before .before .before .before)))
+returns-2 c = λ input output journal values. rw (c .before .before .before .if2 .taken) (tail-enters _ _ _ _ _)
 
 framed-call-requires : tie.Need-framed-call-requires
 framed-call-requires c κs = let pre = c .before .before .before .before .before .before .pre in (is (c .before .before), (pre .1 .0, pre .1 .1))

@@ -27,7 +27,7 @@ use Rattle.acting.specs.States.{Memory, memory, frameWord, localAt, Held, count
 use Rattle.acting.proofs.laws.Frames.{word-set, word-kept, waiting-kept, counts-kept}
 use Rattle.applying.specs.Storing.{Stores}
 use Rattle.applying.specs.Waiting.{countIn, functionsIn, returning}
-use Rattle.applying.specs.Advancing.{Ready, Advances, Begins, Starts}
+use Rattle.applying.specs.Advancing.{Ready, Advances, Starts}
 use Rattle.meaning.proofs.laws.Remaining.{past-end}
 use Rattle.applying.proofs.laws.Waiting.{left-same, waits-same, waiting-same, waiting-stop}
 
@@ -85,11 +85,6 @@ module _ (words : Words) (allowance : ℕ) (g : Registers) (m n : Memory) (r : R
             };
         falls = b;
       }
-
--- it begins nothing
-pub begins-stop : (words : Words) (allowance : ℕ) (tocome : Outcomes) (bound : ℕ) (g : Registers) (m : Memory) (h : Registers) (ending : Ending) (function : ℕ) (n : Memory) →
-    Advances words allowance tocome bound g m (Stopped h ending function) n → Begins words allowance tocome bound g m (Stopped h ending function) n
-begins-stop words allowance tocome bound g m h ending function n a = record { advances = a; idle = tt }
 
 -- A SENTENCE BEGUN
 
@@ -186,9 +181,8 @@ module _ (words : Words) (allowance place stores stored : ℕ) (g : Registers) (
   pub starts-wrong : Stores (16 * g .frame) stored (stores + stored) Kept values values′ Wrong →
       Starts words allowance place stores stored g Before-start (Stopped g NoInstruction 0) (memory input output journal frames values′)
   starts-wrong s r =
-      begins-stop words allowance _ _ g Before-start g NoInstruction 0 _
-      (stopping words allowance g Before-start (memory input output journal frames values′) r _ _ NoInstruction 0 g (omega arith)
-      (rw (← (s .same))) refl refl refl refl refl)
+      stopping words allowance g Before-start (memory input output journal frames values′) r _ _ NoInstruction 0 g (omega arith)
+      (rw (← (s .same))) refl refl refl refl refl
 
   -- the registers at a sentence's actions
   abbrev pub startedAt : CodePlace → Registers
@@ -205,33 +199,30 @@ module _ (words : Words) (allowance place stores stored : ℕ) (g : Registers) (
       let kept : take (24 * k) frames′ ≡ take (24 * k) frames = begun-below frames k d place stored (r .frameRoom) (r .framed) in
       let counted : countsIn frames′ ≡ countsIn frames = begun-counts frames k d place stored (r .frameRoom) (r .framed) in
       record {
-        advances = record {
-          leads =
-              record {
-                same =
-                    rw (← (s .same), s .ends, begun-local frames k d place stored (r .frameRoom) (r .framed) values′ (sized ∙ r .valueRoom) few, sub-self (g .p .0), counted)
-                    (waiting-same (roomOf Before-start) allowance words frames frames′ values values′ k (sym kept) (sym (s .below)) _);
-                keeps =
-                    record {
-                      ready =
-                          record {
-                            ordered = omega arith;
-                            inside = omega (arith, r .ordered, r .inside);
-                            below = r .below;
-                            logged = r .logged;
-                            framed = r .framed;
-                            frameRoom = begun-length frames k d place stored (r .frameRoom) (r .framed) ∙ r .frameRoom;
-                            valueRoom = sized ∙ r .valueRoom;
-                            paid = r .paid;
-                            counts = λ i. rw counted (r .counts i);
-                            waits = waits-same (length input) frames frames′ k (sym kept) (r .waits);
-                          };
-                      current = begun-held frames k d place stored (r .frameRoom) (r .framed) few;
-                    };
-                room = refl;
-                beyond = λ old b. b;
-              };
-          falls = rw (left-same frames′ frames (length words) k kept) (omega arith);
-        };
-        idle = refl;
+        leads =
+            record {
+              same =
+                  rw (← (s .same), s .ends, begun-local frames k d place stored (r .frameRoom) (r .framed) values′ (sized ∙ r .valueRoom) few, sub-self (g .p .0), counted)
+                  (waiting-same (roomOf Before-start) allowance words frames frames′ values values′ k (sym kept) (sym (s .below)) _);
+              keeps =
+                  record {
+                    ready =
+                        record {
+                          ordered = omega arith;
+                          inside = omega (arith, r .ordered, r .inside);
+                          below = r .below;
+                          logged = r .logged;
+                          framed = r .framed;
+                          frameRoom = begun-length frames k d place stored (r .frameRoom) (r .framed) ∙ r .frameRoom;
+                          valueRoom = sized ∙ r .valueRoom;
+                          paid = r .paid;
+                          counts = λ i. rw counted (r .counts i);
+                          waits = waits-same (length input) frames frames′ k (sym kept) (r .waits);
+                        };
+                    current = begun-held frames k d place stored (r .frameRoom) (r .framed) few;
+                  };
+              room = refl;
+              beyond = λ old b. b;
+            };
+        falls = rw (left-same frames′ frames (length words) k kept) (omega arith);
       }

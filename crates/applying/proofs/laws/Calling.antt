@@ -1,5 +1,5 @@
--- The step of an application paid, a call with its frame, and a tail call.
-use Prim.Native.Nat.{ℕ, suc, _+_, _*_, _-_, _≤_, _<_}
+-- A tail call, a function that recovers, the step of an application paid, and a call with its frame.
+use Prim.Native.Nat.{ℕ, zero, suc, _+_, _*_, _-_, _≤_, _<_}
 use native.Mathlib.Nat.{suc-mul}
 use native.Mathlib.Numerals.{add-one}
 use native.Mathlib.Omega.{arith}
@@ -14,23 +14,84 @@ use Rattle.meaning.specs.Choice.{Bytes, pick}
 use Rattle.meaning.specs.Answers.{noInstruction}
 use Rattle.meaning.specs.Outcome.{pay, stop, andThen}
 use Rattle.meaning.specs.Instructions.{call, tailCall}
-use Rattle.meaning.specs.Matching.{Choice, chosen, chooseFrom}
-use Rattle.meaning.specs.Machine.{perform, isDeclared, returned, ranPaid, ranChoice}
+use Rattle.meaning.specs.Matching.{Choice, chosen, chosenNone, chosenWrong, chooseFrom}
+use Rattle.meaning.specs.Machine.{whereThere, perform, process, isDeclared, returned, ranPaid, ranChoice}
 use Rattle.meaning.specs.Runs.{Room, lent}
 use Rattle.meaning.specs.Packing.{Words, unpackSentences, unpackStores, unpackActions}
 use Rattle.meaning.specs.Leaving.{maxFrames}
+use Rattle.decoding.proofs.laws.Reading.{actions-none}
 use Rattle.acting.specs.declared.registers.Registers.{Registers}
-use Rattle.acting.specs.declared.registers.Ending.{Ending}
-use Rattle.acting.specs.declared.registers.Ending.the-variants.{AllowanceSpent, FramesFull, NoInstruction}
+use Rattle.acting.specs.declared.registers.Ending.the-variants.{AllowanceSpent, FramesFull, NoInstruction, NoSentenceFits}
 use Rattle.acting.specs.declared.registers.Next.{Next}
 use Rattle.acting.specs.declared.registers.Next.the-variants.{Onward, Stopped}
-use Rattle.acting.specs.Endings.{endingNumber}
 use Rattle.acting.specs.States.{Memory, memory, frameWord, countsIn, countedIn, localAt, localOf, Held, stacksOf, ledgerOf, roomOf, Outcomes, roomOfFrames, begun, callingFrom}
 use Rattle.acting.proofs.laws.Frames.{word-set, word-kept, held-past, waiting-kept, counts-kept, counts-counted, counted-below, counted-within}
-use Rattle.applying.specs.Waiting.{countIn, functionsIn, entering, going, waiting, Waits, performing, leftWaiting}
-use Rattle.applying.specs.Advancing.{Ready, Performs, Applies, Starts}
-use Rattle.applying.proofs.laws.Waiting.{left-same, waits-same, waiting-same, entering-paid}
-use Rattle.applying.proofs.laws.Applying.{code-at, stopping, begins-stop}
+use Rattle.applying.specs.Waiting.{countIn, functionsIn, entering, going, waiting, returning, applied, acted, Waits, performing, leftWaiting, leftBelow, calledIn, recoveredBy}
+use Rattle.applying.specs.Advancing.{Ready, Underway, Advances, Performs, Applies, Starts}
+use Rattle.applying.proofs.laws.Waiting.{left-same, held-same, waits-same, waiting-same, entering-paid}
+use Rattle.applying.proofs.laws.Applying.{code-at, stopping}
+
+-- A TAIL CALL, AND A FUNCTION THAT RECOVERS
+
+module _ (words : Words) (allowance number : ℕ) (g : Registers) (m : Memory) where
+  -- the registers of a function that is called keep within what is lent, as its caller's do
+  called-ready : (frame size : ℕ) (frames : List ℕ) → frame < 256 → length frames ≡ roomOfFrames → countsIn frames ≡ countsIn (m .frames) →
+      ((i : ℕ) → i < frame → Waits (length (m .input)) i frames) → Ready allowance g m →
+      Ready allowance (calledIn frame size number g) (memory (m .input) (m .output) (m .journal) frames (m .values))
+  called-ready frame size frames framed sized counted waits r =
+      record {
+        ordered = r .ordered;
+        inside = r .inside;
+        below = r .below;
+        logged = r .logged;
+        framed = framed;
+        frameRoom = sized;
+        valueRoom = r .valueRoom;
+        paid = r .paid;
+        counts = λ i. rw counted (r .counts i);
+        waits = waits;
+      }
+
+  -- its application comes next if it is declared; if it isn't, no instruction comes at no place of the code
+  called-there : (declared : Bool) →
+      whereThere (lent (roomOf m)) declared (ledgerOf allowance g m)
+      (entering (roomOf m) allowance words (suc (g .frame)) number (stacksOf g m) (ledgerOf allowance g m)) ≡
+      pick declared (applied (roomOf m) allowance words (calledIn (g .frame) (length words) number g) m)
+      (acted (roomOf m) allowance words (calledIn (g .frame) (length words) number g) m)
+  unfolding process
+  called-there true = entering-paid (roomOf m) allowance words (suc (g .frame)) number (stacksOf g m) (ledgerOf allowance g m) (omega arith)
+  called-there false = rw (actions-none words (length words) (omega arith))
+
+  -- a tail call is an application in the caller's frame
+  pub tail-enters : Performs words allowance (tailCall number) (g .at .0) g m (Onward (calledIn (g .frame) (length words) number g)) m
+  tail-enters u =
+      let r = u .ready in
+      record {
+        leads =
+            record {
+              same = ap (waiting (roomOf m) allowance words (g .frame) (m .frames) (m .values)) (called-there (isDeclared (functionsIn words) number));
+              keeps = record { ready = called-ready (g .frame) (length words) (m .frames) (r .framed) (r .frameRoom) refl (r .waits) r; current = u .current };
+              room = refl;
+              beyond = λ old e. e;
+            };
+        falls = omega arith;
+      }
+
+-- what comes of a choice in the frame of the registers
+abbrev ChoiceLeads : Words → ℕ → ℕ → Choice → Registers → Memory → Next → Memory → Type 0
+ChoiceLeads words allowance number choice g m next n =
+    Advances words allowance
+    (returning (roomOf m) allowance words g m
+    (ranChoice (lent (roomOf m)) (functionsIn words) (entering (roomOf m) allowance words) (suc (g .frame)) number choice (stacksOf g m) (ledgerOf allowance g m)))
+    (leftBelow (length words) allowance g m + suc (suc (length words)))
+    g m next n
+
+-- the function that recovers is called as by a tail call
+recovers : (words : Words) (allowance number recoverer : ℕ) (g : Registers) (m : Memory) → Underway allowance g m →
+    ChoiceLeads words allowance number (chosenNone recoverer) g m (recoveredBy (length words) number recoverer g) m
+recovers words allowance number zero g m u =
+    stopping words allowance g m m (u .ready) _ _ NoSentenceFits number g (omega arith) refl refl refl refl refl refl
+recovers words allowance number (suc r) g m u = record { leads = tail-enters words allowance (suc r) g m u .leads; falls = omega arith }
 
 -- THE STEP
 
@@ -64,9 +125,8 @@ countedFor number m = memory (m .input) (m .output) (m .journal) (countedIn numb
 
 module _ (words : Words) (allowance number : ℕ) (g : Registers) (m : Memory) where
   pub apply-spent : allowance ≤ g .steps → Applies words allowance number g m (Stopped g AllowanceSpent 0) m
-  apply-spent h r =
-      begins-stop words allowance _ _ g m g AllowanceSpent 0 m
-      (stopping words allowance g m m r _ _ AllowanceSpent 0 g (omega arith) (rw (none-left h)) refl refl refl refl refl)
+  apply-spent h u =
+      stopping words allowance g m m (u .ready) _ _ AllowanceSpent 0 g (omega arith) (rw (none-left h)) refl refl refl refl refl
 
   module _ (may : Payable words allowance number g) where
     paying : (choice : Choice) → choice ≡ Chosen words number g (m .input) →
@@ -82,15 +142,6 @@ module _ (words : Words) (allowance number : ℕ) (g : Registers) (m : Memory) w
           code-at words (may .counted) number (may .positive) (may .within),
           counts-counted (m .frames) number (may .positive),
         )
-
-    -- where no sentence is begun, the run ends
-    pub apply-stops : (choice : Choice) → choice ≡ Chosen words number g (m .input) → (ending : Ending) (function : ℕ) →
-        ranChoice (lent (roomOf m)) (functionsIn words) (entering (roomOf m) allowance words) (suc (g .frame)) number choice (stacksOf g m)
-        (ledgerOf allowance (paidOf g) (countedFor number m)) ≡ stop (endingNumber ending) function (ledgerOf allowance (paidOf g) (countedFor number m)) →
-        Applies words allowance number g m (Stopped (paidOf g) ending function) (countedFor number m)
-    apply-stops choice e ending function ends r =
-        begins-stop words allowance _ _ g m (paidOf g) ending function (countedFor number m)
-        (stopping words allowance g m (countedFor number m) r _ _ ending function (paidOf g) (omega arith) (paying choice e ∙ ends) refl refl refl refl refl)
 
     -- the frames that wait are not touched
     counted-waiting : Ready allowance g m → take (24 * g .frame) (m .frames) ≡ take (24 * g .frame) (countedIn number (m .frames))
@@ -111,41 +162,58 @@ module _ (words : Words) (allowance number : ℕ) (g : Registers) (m : Memory) w
           waits = waits-same (length (m .input)) (m .frames) (countedIn number (m .frames)) (g .frame) (counted-waiting r) (r .waits);
         }
 
+    underway-paid : Underway allowance g m → Underway allowance (paidOf g) (countedFor number m)
+    underway-paid u =
+        let below = sym (counted-below (m .frames) number (suc (g .frame)) (omega (arith, u .ready .framed))) in
+        record {
+          ready = ready-paid (u .ready);
+          current = held-same (m .frames) (countedIn number (m .frames)) (suc (g .frame)) below (g .frame) (omega arith) (u .current);
+        }
+
+    -- what the choice leads to, its step paid, is what the application leads to
+    apply-leads : (choice : Choice) → choice ≡ Chosen words number g (m .input) → (next : Next) (n : Memory) →
+        (Underway allowance (paidOf g) (countedFor number m) → ChoiceLeads words allowance number choice (paidOf g) (countedFor number m) next n) →
+        Applies words allowance number g m next n
+    apply-leads choice e next n leads u =
+        let d = leads (underway-paid u) in
+        let below = counted-waiting (u .ready) in
+        let one : allowance - g .steps ≡ suc (allowance - (g .steps + 1)) = omega (arith, may .left) in
+        let times : (allowance - g .steps) * suc (length words) ≡ (allowance - (g .steps + 1)) * suc (length words) + suc (length words) =
+        rw one (suc-mul (allowance - (g .steps + 1)) (suc (length words))) in
+        record {
+          leads =
+              record {
+                same =
+                    ap (waiting (roomOf m) allowance words (g .frame) (m .frames) (m .values)) (paying choice e) ∙
+                    waiting-same (roomOf m) allowance words (m .frames) (countedIn number (m .frames)) (m .values) (m .values) (g .frame) below refl _ ∙
+                    d .leads .same;
+                keeps = d .leads .keeps;
+                room = d .leads .room;
+                beyond = d .leads .beyond;
+              };
+          falls = omega (arith, d .falls, times, left-same (m .frames) (countedIn number (m .frames)) (length words) (g .frame) below);
+        }
+
     -- in frames with the application counted
     pub apply-starts : (sentence place stores stored : ℕ) (next : Next) (n : Memory) {frames : List ℕ} → frames ≡ countedIn number (m .frames) →
         chosen sentence place (unpackStores stored (drop stores words)) (unpackActions 0 (drop (stores + stored) words)) ≡ Chosen words number g (m .input) →
         Starts words allowance place stores stored (paidOf g) (memory (m .input) (m .output) (m .journal) frames (m .values)) next n →
         Applies words allowance number g m next n
-    apply-starts sentence place stores stored next n is e starts r =
-        let begins = (rw is at starts) (ready-paid r) in
-        let d = begins .advances in
-        let one : allowance - g .steps ≡ suc (allowance - (g .steps + 1)) = omega (arith, may .left) in
-        let times : (allowance - g .steps) * suc (length words) ≡ (allowance - (g .steps + 1)) * suc (length words) + suc (length words) =
-        rw one (suc-mul (allowance - (g .steps + 1)) (suc (length words))) in
-        record {
-          advances = record {
-            leads =
-                record {
-                  same =
-                      ap (waiting (roomOf m) allowance words (g .frame) (m .frames) (m .values))
-                      (paying (chosen sentence place (unpackStores stored (drop stores words)) (unpackActions 0 (drop (stores + stored) words))) e) ∙
-                      waiting-same (roomOf m) allowance words (m .frames) (countedIn number (m .frames)) (m .values) (m .values) (g .frame) (counted-waiting r) refl _ ∙
-                      d .leads .same;
-                  keeps = d .leads .keeps;
-                  room = d .leads .room;
-                  beyond = d .leads .beyond;
-                };
-            falls = omega (arith, d .falls, times, left-same (m .frames) (countedIn number (m .frames)) (length words) (g .frame) (counted-waiting r));
-          };
-          idle = begins .idle;
-        }
+    apply-starts sentence place stores stored next n is e starts = apply-leads _ e next n (λ u. (rw is at starts) (u .ready))
+
+    -- where no sentence fits, the run ends, or the function that recovers is called
+    pub apply-recovers : (recoverer : ℕ) → chosenNone recoverer ≡ Chosen words number g (m .input) →
+        Applies words allowance number g m (recoveredBy (length words) number recoverer (paidOf g)) (countedFor number m)
+    apply-recovers recoverer e = apply-leads (chosenNone recoverer) e _ _ (recovers words allowance number recoverer (paidOf g) (countedFor number m))
+
+    -- words that are no sentence end the run
+    pub apply-wrong : chosenWrong ≡ Chosen words number g (m .input) → Applies words allowance number g m (Stopped (paidOf g) NoInstruction 0) (countedFor number m)
+    apply-wrong e =
+        apply-leads chosenWrong e _ _
+        (λ u. stopping words allowance (paidOf g) (countedFor number m) (countedFor number m) (u .ready) _ _ NoInstruction 0 (paidOf g) (omega arith)
+        refl refl refl refl refl refl)
 
 -- A CALL
-
--- where a function's application is to begin: its frame, at no place of the code
-abbrev pub calledIn : ℕ → ℕ → ℕ → Registers → Registers
-calledIn frame size number g =
-    record { p = g .p; q = g .q; r = g .r; frame = frame; at = record { 0 = size }; steps = g .steps; emitted = g .emitted; callee = number }
 
 -- a store between a frame's counts and its open sequences leaves what its application keeps
 local-past : (frames : List ℕ) (k i v : ℕ) → 5 < i → i < 8 → Held k frames → (values : Bytes) → localAt k (set frames (24 * k + i) v) values ≡ localAt k frames values
@@ -226,24 +294,6 @@ module _ (words : Words) (allowance number : ℕ) (g : Registers) (m : Memory) w
       stops true = rw e
       stops false = rw e
 
-  -- the registers of a function that is called keep within what is lent, as its caller's do
-  called-ready : (frame size : ℕ) (frames : List ℕ) → frame < 256 → length frames ≡ roomOfFrames → countsIn frames ≡ countsIn (m .frames) →
-      ((i : ℕ) → i < frame → Waits (length (m .input)) i frames) → Ready allowance g m →
-      Ready allowance (calledIn frame size number g) (memory (m .input) (m .output) (m .journal) frames (m .values))
-  called-ready frame size frames framed sized counted waits r =
-      record {
-        ordered = r .ordered;
-        inside = r .inside;
-        below = r .below;
-        logged = r .logged;
-        framed = framed;
-        frameRoom = sized;
-        valueRoom = r .valueRoom;
-        paid = r .paid;
-        counts = λ i. rw counted (r .counts i);
-        waits = waits;
-      }
-
   module _ (declared : isDeclared (functionsIn words) number ≡ true) where
     pub call-spent : allowance ≤ g .steps → Performs words allowance (call number) (g .at .0) g m (Stopped g AllowanceSpent 0) m
     call-spent h u =
@@ -253,22 +303,6 @@ module _ (words : Words) (allowance number : ℕ) (g : Registers) (m : Memory) w
     call-full h l u =
         stopping words allowance g m m (u .ready) _ _ FramesFull 0 g (omega arith)
         (rw (declared, one-left h, lt-ltb 256 (suc (suc (g .frame))) (omega arith))) refl refl refl refl refl
-
-    -- a tail call is an application in the caller's frame
-    pub tail-enters : Performs words allowance (tailCall number) (g .at .0) g m (Onward (calledIn (g .frame) (length words) number g)) m
-    tail-enters u =
-        let r = u .ready in
-        record {
-          leads =
-              record {
-                same =
-                    rw (declared, entering-paid (roomOf m) allowance words (suc (g .frame)) number (stacksOf g m) (ledgerOf allowance g m) (omega arith));
-                keeps = record { ready = called-ready (g .frame) (length words) (m .frames) (r .framed) (r .frameRoom) refl (r .waits) r; current = u .current };
-                room = refl;
-                beyond = λ old e. e;
-              };
-          falls = omega arith;
-        }
 
 module _ (words : Words) (allowance number : ℕ) (g : Registers) (input output journal : Bytes) (frames : List ℕ) (values : Bytes) where
   abbrev Caller : Memory

@@ -14,7 +14,7 @@ use Rattle.meaning.proofs.laws.Depth.{enter-step}
 use Rattle.acting.specs.declared.registers.Registers.{Registers}
 use Rattle.acting.specs.declared.registers.Next.the-variants.{Onward}
 use Rattle.acting.specs.States.{Memory, frameWord, localAt, Held, stacksOf, Ledgers, ledgerOf, roomOf, Outcomes}
-use Rattle.applying.specs.Waiting.{functionsIn, entering, waiting, comesTo, Waits, leftWaiting, backIn, leftFrom, leftBy}
+use Rattle.applying.specs.Waiting.{functionsIn, entering, waiting, comesTo, Waits, leftWaiting, backIn, leftFrom, leftBy, calledIn, recoveredBy}
 
 -- A FRAME DEPENDS ON ITS OWN WORDS AND VALUES ALONE
 
@@ -66,13 +66,18 @@ pub left-same : (frames frames′ : List ℕ) (size k : ℕ) → take (24 * k) f
 left-same frames frames′ size k e =
     sym (left-within frames (24 * k) size k (omega arith)) ∙ rw e (left-within frames′ (24 * k) size k (omega arith))
 
+-- where the words of the frames below a number are the same, so is what each of them holds
+module _ (frames frames′ : List ℕ) (k : ℕ) (e : take (24 * k) frames ≡ take (24 * k) frames′) where
+  words-same : (i : ℕ) → i < k → (j : ℕ) → j < 24 → frameWord i j frames ≡ frameWord i j frames′
+  words-same i h j l = sym (words-within frames (24 * k) i (omega arith) j l) ∙ rw e (words-within frames′ (24 * k) i (omega arith) j l)
+
+  pub held-same : (i : ℕ) → i < k → Held i frames → Held i frames′
+  held-same i h held = same-held i frames frames′ held (λ j l. words-same i h j (omega arith))
+
 pub waits-same : (cells : ℕ) (frames frames′ : List ℕ) (k : ℕ) → take (24 * k) frames ≡ take (24 * k) frames′ → ((i : ℕ) → i < k → Waits cells i frames) →
     (i : ℕ) → i < k → Waits cells i frames′
 waits-same cells frames frames′ k e waits i h =
-    record { held = same-held i frames frames′ (waits i h .held) (λ j l. same j (omega arith)); kept = rw (← (same 7 (omega arith))) (waits i h .kept) }
-  where
-    same : (j : ℕ) → j < 24 → frameWord i j frames ≡ frameWord i j frames′
-    same j l = sym (words-within frames (24 * k) i (omega arith) j l) ∙ rw e (words-within frames′ (24 * k) i (omega arith) j l)
+    record { held = held-same frames frames′ k e i h (waits i h .held); kept = rw (← (words-same frames frames′ k e i h 7 (omega arith))) (waits i h .kept) }
 
 module _ (room : Room) (allowance : ℕ) (words : Words) where
   pub waiting-same : (frames frames′ : List ℕ) (values values′ : Bytes) (k : ℕ) → take (24 * k) frames ≡ take (24 * k) frames′ →
@@ -107,6 +112,12 @@ waiting-done allowance words (suc k) g m idle h waits =
     let selected : length (m .input) - g .p .0 - (length (m .input) - kept) ≡ max (g .p .0) kept - g .p .0 =
     omega (arith, waits k (omega arith) .kept) in
     rw (length-drop (g .p .0) (m .input), selected, idle)
+
+-- a number that isn't 0 is that of a function that recovers
+pub recovers-some : (size number recoverer : ℕ) (g : Registers) → (recoverer ≡ 0 → ⊥) →
+    Onward (calledIn (g .frame) size recoverer g) ≡ recoveredBy size number recoverer g
+recovers-some size number zero g h = absurd (h refl)
+recovers-some size number (suc r) g h = refl
 
 -- a frame that is not the lowest is left for the one below it
 pub left-back : (g : Registers) (frames : List ℕ) → (g .frame ≡ 0 → ⊥) → Onward (backIn (g .frame - 1) g frames) ≡ leftBy g frames

@@ -50,7 +50,13 @@ loop-holds : tie.Need-loop-holds Inv-loop μ-loop
 loop-holds c = (refl, omega arith)
 
 returns : tie.Need-returns Inv-loop μ-loop
-returns c = record { same = rw (choosing-end _ _ _ _ (c .before .before .loop-test .taken) (c .if1 .taken)) at (c .before .before .before .loop .inv .0); few = tt }
+returns c =
+    let at-if1 = c .before in
+    let at-loop-test = at-if1 .before .before in
+    record {
+      same = rw (choosing-end _ _ _ _ (at-loop-test .loop-test .taken) (at-if1 .if1 .taken), ← (c .wide .ensures)) at (at-loop-test .before .loop .inv .0);
+      few = tt;
+    }
 
 returns-2 : tie.Need-returns-2 Inv-loop μ-loop
 returns-2 c =
@@ -73,8 +79,8 @@ returns-4 c =
     let at-try-sentence = at-place .before .before in
     let at = turn at-try-sentence .loop .at in
     record {
-      same = rw (← (c .before .wide .ensures), ← (c .wide2 .ensures)) at (found at-try-sentence _ (at-place .place .given .1));
-      few = rw (c .wide2 .ensures)
+      same = rw (← (c .before .wide2 .ensures), ← (c .wide3 .ensures)) at (found at-try-sentence _ (at-place .place .given .1));
+      few = rw (c .wide3 .ensures)
           (tried-few _ (drop (at + 2) (words at-try-sentence)) (field at-try-sentence) (metricIn (getD (words at-try-sentence) at 0)) _
           (rw (at-place .place .given .1) at (at-try-sentence .try-sentence .ensures)));
     }
@@ -86,12 +92,12 @@ add-at-2 : tie.Need-add-at-2 Inv-loop μ-loop
 add-at-2 c = omega (arith, counted (c .before .before .before .before))
 
 loop-again : tie.Need-loop-again Inv-loop μ-loop
-loop-again c = (rw (← (c .wide3 .ensures)) at (found (c .before .before .before) _ (c .before .enum-told2 .given .1)), omega arith)
+loop-again c = (rw (← (c .wide4 .ensures)) at (found (c .before .before .before) _ (c .before .enum-told2 .given .1)), omega arith)
 
 returns-5 : tie.Need-returns-5 Inv-loop μ-loop
 returns-5 c = record { same = rw (choosing-past _ _ _ _ (c .loop-test .left)) at (c .before .loop .inv .0); few = tt }
 
 pub choose-spec : {M : Type 1} → statement M
-choose-spec = tie.close (tie.spec Inv-loop μ-loop loop-holds (λ c. search needs) (λ c. omega arith) returns (λ c. omega arith) returns-2 (λ c. omega arith) (λ c. search needs) (λ c. omega arith)
+choose-spec = tie.close (tie.spec Inv-loop μ-loop loop-holds (λ c. search needs) (λ c. omega arith) (λ c κs. search needs) returns (λ c. omega arith) returns-2 (λ c. omega arith) (λ c. search needs) (λ c. omega arith)
     try-sentence-requires (λ c. search needs) returns-3 (λ c. search needs) (λ c. omega arith) (λ c κs. search needs) (λ c. omega arith) (λ c κs. search needs) returns-4 (λ c. search needs) (λ c κs. search needs) add-at add-at-2
     (λ c. omega arith) (λ c. omega arith) loop-again returns-5)

@@ -1,5 +1,5 @@
 -- A function's sentences, read off the code words: what is chosen from a place on.
-use Prim.Native.Nat.{ℕ, zero, suc, _+_, _-_, _≤_, _<_}
+use Prim.Native.Nat.{ℕ, zero, suc, _+_, _-_, _≤_, _<_, _/_}
 use native.Mathlib.Nat.{add-assoc}
 use native.Mathlib.Numerals.{add-one}
 use native.Mathlib.Omega.{arith}
@@ -97,7 +97,8 @@ module _ (words : Words) (field : Bytes) where
   unfolding unpackSentences chooseFrom
   choosing-past number at h = rw (past-end words at h)
 
-  pub choosing-end : (number at : ℕ) → at < length words → numberIn (getD words at 0) ≡ sentencesEnd → choosing number at ≡ chosenNone
+  pub choosing-end : (number at : ℕ) → at < length words → numberIn (getD words at 0) ≡ sentencesEnd →
+      choosing number at ≡ chosenNone (getD words at 0 / 256)
   unfolding unpackSentences chooseFrom
   choosing-end number at h e = rw (at-place words at h, e)
 

@@ -1,25 +1,28 @@
 -- DEMAND 3 WITHOUT END: on stacks without end the machine, fed an allowed table's translation, comes to the outcome of rewriting the table: the same answer, text, emissions,
 -- steps and failing function, for every start, text and allowance. The start need not even be declared: both sides look a number up alike.
-use Prim.Native.Nat.{ℕ, zero, suc}
+use Prim.Native.Nat.{ℕ, zero, suc, pred}
+use native.Mathlib.Omega.{arith}
 use mathlib.Core.Path.{_≡_, refl, sym, _∙_, ap}
+use mathlib.Core.Bool.{true}
 use mathlib.Core.List.{[], _++_, append-nil}
 use mathlib.Core.Option.{Option, none, some, Option·none-ne-some}
 use lib.Dec.{T}
 use lib.ListN.{length}
 use lib.Seq.{take-append-seam}
-use Rattle.meaning.specs.Choice.{Bytes}
-use Rattle.meaning.specs.Tree.{Table}
+use Rattle.meaning.specs.Choice.{Bytes, nth}
+use Rattle.meaning.specs.Tree.{Function, Table}
 use Rattle.meaning.specs.Answers.{allowanceSpent}
-use Rattle.meaning.specs.Outcome.{Tally, pay, maxCounted, Outcome, done, stop, resultOf}
-use Rattle.meaning.specs.Rewriting.{Course, unbegun, takeStep, applicationsFrom, tallyOf, tallied, Fit, rewritten, applied, apply, historyOf, rewrite}
+use Rattle.meaning.specs.Outcome.{pay, maxCounted, Outcome, done, stop, resultOf}
+use Rattle.meaning.specs.Rewriting.{Course, unbegun, takeStep, applicationsFrom, tallyOf, tallied, Fit, recovererFor, recovererAt, unfitted, rewritten, applied, apply, historyOf, rewrite}
 use Rattle.meaning.specs.Allowed.{allowed}
-use Rattle.meaning.specs.Matching.{Choice}
-use Rattle.meaning.specs.Machine.{ranChoice, ranPaid, enter}
+use Rattle.meaning.specs.Matching.{Choice, chosenNone}
+use Rattle.meaning.specs.Machine.{isDeclared, ranChoice, ranPaid, enter}
 use Rattle.meaning.specs.Runs.{endless, from, textOf, runEndless}
 use Rattle.meaning.specs.Translation.{translate}
+use Rattle.meaning.proofs.laws.Translated.{recoverer-low}
 use Rattle.meaning.proofs.laws.Counts.{told as toldOf, none-applied, paid-alike}
 use Rattle.meaning.proofs.agreement.Carrying.{stacks, ledger, carried}
-use Rattle.meaning.proofs.agreement.Expressions.{Callee}
+use Rattle.meaning.proofs.agreement.Expressions.{declared-in, Callee}
 use Rattle.meaning.proofs.agreement.Facts.{facts}
 use Rattle.meaning.proofs.agreement.Sentences.{Chosen, nowhere, here, chosen-alike, code-at, sentence-run}
 
@@ -34,12 +37,28 @@ module _ (table : Table) (ok : T (allowed table)) where
       by none e = refl
       by (some u) e = absurd (Option·none-ne-some (tallyOf u) (sym e))
 
-  -- the chosen sentence is run, or 11 is answered, on both sides
+  -- a function that recovers is one of the code
+  recoverer-there : (r : ℕ) (o : Option Function) → recovererFor table o ≡ suc r → isDeclared (translate table) (suc r) ≡ true
+  recoverer-there r none e = absurd (omega arith)
+  recoverer-there r (some f) e =
+      declared-in table (suc r) (omega arith) (omega (arith, recoverer-low table (f .name)))
+
+  -- where no sentence fits, recovery is applied, or 11 is answered, on both sides
+  unfitted-run : (depth frame f r : ℕ) (field below o : Bytes) (t : Course) → Callee (enter endless depth (translate table)) (apply depth table) →
+      recovererAt table f ≡ r →
+      ranChoice endless (translate table) (enter endless depth (translate table)) frame f (chosenNone r) (stacks (field ++ below) (length field) o)
+      (ledger t) ≡
+      carried below o (unfitted (apply depth table) r f field t)
+  unfitted-run depth frame f zero field below o t callee e = refl
+  unfitted-run depth frame f (suc r) field below o t callee e =
+      rw (recoverer-there r (nth (pred f) table) e) (callee .same frame (suc r) field below o t)
+
+  -- the chosen sentence is run on both sides
   chosen-run : (depth frame f : ℕ) (field below o : Bytes) (t : Course) → Callee (enter endless depth (translate table)) (apply depth table) →
-      {c : Choice} {fit : Option Fit} → Chosen table field c fit →
+      {c : Choice} {fit : Option Fit} → Chosen table field (recovererAt table f) c fit →
       ranChoice endless (translate table) (enter endless depth (translate table)) frame f c (stacks (field ++ below) (length field) o) (ledger t) ≡
-      carried below o (rewritten table (apply depth table) f fit t)
-  chosen-run depth frame f field below o t callee nowhere = refl
+      carried below o (rewritten table (apply depth table) f field fit t)
+  chosen-run depth frame f field below o t callee nowhere = unfitted-run depth frame f (recovererAt table f) field below o t callee refl
   chosen-run depth frame f field below o t callee (here {number} {at} {s} {bound} a fits) =
       rw (take-append-seam field below) (sentence-run table (enter endless depth (translate table)) (apply depth table) callee s field at bound a fits frame below o t)
 
@@ -55,7 +74,8 @@ module _ (table : Table) (ok : T (allowed table)) where
           carried below o (applied table (apply depth table) f field t p)
       paid none callee = refl
       paid (some t₁) callee =
-          rw (take-append-seam field below, code-at table f) (chosen-run depth frame f field below o t₁ callee (chosen-alike table field (facts table ok f) 0))
+          rw (take-append-seam field below, code-at table f)
+          (chosen-run depth frame f field below o t₁ callee (chosen-alike table field (recovererAt table f) (facts table ok f) 0))
 
   -- The run from the start. `carried` says all of it: where rewriting is done, the machine is done, in holds nothing and out exactly the text; where rewriting stops, the
   -- machine stops with the same answer and function; and either way steps and emissions are the same.

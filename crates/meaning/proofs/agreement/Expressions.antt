@@ -1,11 +1,11 @@
 -- An expression's instructions do what evaluating it does, whatever comes after them: by induction on the expression.
-use Prim.Native.Nat.{ℕ, suc, _+_, _≤_}
+use Prim.Native.Nat.{ℕ, suc, _+_, _≤_, _<_}
 use native.Mathlib.Omega.{arith}
 use mathlib.Core.Path.{_≡_, refl, sym, _∙_}
 use mathlib.Core.Bool.{Bool, true, false}
 use mathlib.Core.List.{List, [], _∷_, _++_, append-nil, append-assoc}
 use mathlib.Core.Option.{Option, none, some}
-use lib.Dec.{T, ltb}
+use lib.Dec.{T, ltb, ltb→lt}
 use lib.ListN.{length, length-map}
 use borrow.Author.Tests.{le-leb}
 use Rattle.meaning.specs.Choice.{Bytes, Name, Named, pick, either, lookup}
@@ -18,8 +18,7 @@ use Rattle.meaning.specs.Allowed.{nesting}
 use Rattle.meaning.specs.Instructions.{Site, Action, go, select, out, call, tailCall, emission, Code}
 use Rattle.meaning.specs.Machine.{Stacks, Local, isDeclared, afterField, returned, withOpened, maxOpened, wherePayable, process}
 use Rattle.meaning.specs.Runs.{endless}
-use Rattle.meaning.specs.Translation.{Shape, Stand, atStart, passage, restOf, nowhere, emits, replaces, nests, isLast, mannerOf, valueNumber, argumentReady, calling, items, passesRest, translatedSentences, translate}
-use Rattle.meaning.proofs.agreement.Choosing.{passed-true}
+use Rattle.meaning.specs.Translation.{Shape, Stand, atStart, passage, restOf, nowhere, emits, replaces, nests, isLast, mannerOf, valueNumber, argumentReady, calling, items, passesRest, translatedFunction, translate}
 use Rattle.meaning.proofs.laws.Translated.{number-low}
 use Rattle.meaning.proofs.agreement.Carrying.{Endless, ledger, stacks, into, carried, returned-law, carried-andThen, into-andThen, into-written, into-same, Applying, doing, span-opened, go-law, select-law, out-law, character-law, value-law, begin-law, use-law, emission-law, call-law, tail-law}
 use Rattle.meaning.proofs.agreement.Standing.{Move, Standing}
@@ -36,11 +35,13 @@ abbrev pub Ending : Shape → Bool → (Stand → List Action) → Type 0
 Ending shape true k = (w : Stand) → k w ≡ passesRest shape w
 Ending shape false k = Unit {0}
 
+-- the numbers of the table's functions are those of the code's
+pub declared-in : (table : Table) (f : ℕ) → 0 < f → f ≤ length table → isDeclared (translate table) f ≡ true
+declared-in table f low high = rw (le-leb 1 f low, length-map table (translatedFunction table)) (le-leb f (length table) high)
+
 -- a name with a number names a function of the code
 numbered : (table : Table) (n : Name) → T (ltb 0 (numberOf table n)) → isDeclared (translate table) (numberOf table n) ≡ true
-numbered table n d =
-    rw (passed-true (ltb 0 (numberOf table n)) d, length-map table (λ f. translatedSentences table (f .sentences)))
-    (le-leb (numberOf table n) (length table) (omega (arith, number-low 0 table n)))
+numbered table n d = declared-in table (numberOf table n) (ltb→lt 0 (numberOf table n) d) (omega (arith, number-low 0 table n))
 
 module _ (table : Table) (shape : Shape) (sites : List (Named Site)) (bound : Bindings) (l : Local) (standing : Standing shape sites bound l)
     (below : Bytes) (frame : ℕ) (enter : Applying) (apply : ℕ → Bytes → Course → Outcome Bytes Course) (callee : Callee enter apply) where

@@ -7,11 +7,11 @@ use lib.ListN.{length}
 use Rattle.meaning.specs.Choice.{Bytes, orElse, nth}
 use Rattle.meaning.specs.Tree.{Sentence, Table}
 use Rattle.meaning.specs.Outcome.{Outcome}
-use Rattle.meaning.specs.Rewriting.{Course, Bindings, Fit, fitted, choose, sentencesOf, functionAt, evaluate, callNamed}
+use Rattle.meaning.specs.Rewriting.{Course, Bindings, Fit, fitted, choose, sentencesOf, functionAt, evaluate, callNamed, recovererFor, recovererAt}
 use Rattle.meaning.specs.Matching.{Found, Choice, chosen, chosenNone, choiceOf, chooseFrom, storedValues}
 use Rattle.meaning.specs.Machine.{functionOf, codeAt, started}
 use Rattle.meaning.specs.Runs.{endless}
-use Rattle.meaning.specs.Translation.{shapeOf, testedShape, storesOf, atStart, actionsOf, translatedSentences, translate}
+use Rattle.meaning.specs.Translation.{shapeOf, testedShape, storesOf, atStart, actionsOf, translatedSentences, translatedFunction, translate}
 use Rattle.meaning.proofs.agreement.Carrying.{stacks, ledger, carried, Applying}
 use Rattle.meaning.proofs.agreement.Sound.{sounds}
 use Rattle.meaning.proofs.agreement.Expressions.{Callee, evaluated}
@@ -21,34 +21,39 @@ use Rattle.meaning.proofs.agreement.Fitting.{Fitting, agrees}
 use Rattle.meaning.proofs.agreement.Facts.{sitesOf, Allowable, Allowables, noSentence, sentences}
 
 module _ (table : Table) (field : Bytes) where
-  -- the same sentence is chosen, with the same bindings; or none
-  pub data Chosen : Choice → Option Fit → Type 0 where
-    nowhere : Chosen chosenNone none
+  -- the same sentence is chosen, with the same bindings; or none, and there is the number of the function that recovers
+  pub data Chosen (r : ℕ) : Choice → Option Fit → Type 0 where
+    nowhere : Chosen r (chosenNone r) none
     here : {number at : ℕ} {s : Sentence} {bound : Bindings} → Allowable table s → Fitting (shapeOf (s .pattern)) (sitesOf (s .pattern)) field at bound →
-        Chosen
+        Chosen r
         (chosen number at (storesOf (testedShape (shapeOf (s .pattern)))) (actionsOf table (shapeOf (s .pattern)) (sitesOf (s .pattern)) (s .expression)))
         (some (record { sentence = s; bindings = bound }))
 
   -- this sentence if it fits, else what the later ones give
-  first-fitting : {s : Sentence} {found : Found} {o : Option Bindings} (number : ℕ) {choice : Choice} {later : Option Fit} → Allowable table s →
-      Agreeing (Fitting (shapeOf (s .pattern)) (sitesOf (s .pattern)) field) found o → Chosen choice later →
-      Chosen (choiceOf found number (storesOf (testedShape (shapeOf (s .pattern)))) (actionsOf table (shapeOf (s .pattern)) (sitesOf (s .pattern)) (s .expression)) choice)
+  first-fitting : {r : ℕ} {s : Sentence} {found : Found} {o : Option Bindings} (number : ℕ) {choice : Choice} {later : Option Fit} →
+      Allowable table s → Agreeing (Fitting (shapeOf (s .pattern)) (sitesOf (s .pattern)) field) found o → Chosen r choice later →
+      Chosen r
+      (choiceOf found number (storesOf (testedShape (shapeOf (s .pattern))))
+      (actionsOf table (shapeOf (s .pattern)) (sitesOf (s .pattern)) (s .expression)) choice)
       (orElse (fitted s o) later)
   first-fitting number a neither c = c
   first-fitting number a (alike f) c = here a f
 
-  pub chosen-alike : {ss : List Sentence} → Allowables table ss → (number : ℕ) → Chosen (chooseFrom number (translatedSentences table ss) field) (choose ss field)
+  pub chosen-alike : (r : ℕ) {ss : List Sentence} → Allowables table ss → (number : ℕ) →
+      Chosen r (chooseFrom number (translatedSentences table r ss) field) (choose ss field)
   unfolding chooseFrom translatedSentences choose
-  chosen-alike noSentence number = nowhere
-  chosen-alike (sentences {s} {ss} a more) number =
-      first-fitting number a (rw (a .pattern) at (agrees (s .conditions) (shapeOf (s .pattern)) field (a .apart) (a .asks))) (chosen-alike more (suc number))
+  chosen-alike r noSentence number = nowhere
+  chosen-alike r (sentences {s} {ss} a more) number =
+      first-fitting number a (rw (a .pattern) at (agrees (s .conditions) (shapeOf (s .pattern)) field (a .apart) (a .asks)))
+      (chosen-alike r more (suc number))
 
 -- a function's code is the translation of its sentences
-pub code-at : (table : Table) (f : ℕ) → codeAt (translate table) f ≡ translatedSentences table (functionAt table f)
+pub code-at : (table : Table) (f : ℕ) → codeAt (translate table) f ≡ translatedSentences table (recovererAt table f) (functionAt table f)
 unfolding nth translatedSentences
 code-at table f = there table (pred f)
   where
-    there : (fs : Table) (i : ℕ) → functionOf (nth i (map (λ f. translatedSentences table (f .sentences)) fs)) ≡ translatedSentences table (sentencesOf (nth i fs))
+    there : (fs : Table) (i : ℕ) →
+        functionOf (nth i (map (translatedFunction table) fs)) ≡ translatedSentences table (recovererFor table (nth i fs)) (sentencesOf (nth i fs))
     there [] i = refl
     there (f ∷ fs) zero = refl
     there (f ∷ fs) (suc i) = there fs i

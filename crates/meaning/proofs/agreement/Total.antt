@@ -1,23 +1,23 @@
 -- The counts of all functions add up to the steps: every function in rewriting's history is one of the table's.
-use Prim.Native.Nat.{ℕ, zero, suc, _≤_, _<_}
+use Prim.Native.Nat.{ℕ, zero, suc, pred, _≤_, _<_}
 use native.Mathlib.Omega.{arith}
-use mathlib.Core.Path.{_≡_, refl}
+use mathlib.Core.Path.{_≡_}
 use mathlib.Core.Bool.{Bool, true, false}
-use mathlib.Core.List.{List, [], _∷_, _++_}
+use mathlib.Core.List.{[], _∷_, _++_}
 use mathlib.Core.Option.{Option, none, some}
 use lib.Dec.{T, leb, ltb, ltb→lt, leb→le}
 use lib.ListN.{length}
-use Rattle.meaning.specs.Choice.{Bytes, Name, either, pick, lookup}
-use Rattle.meaning.specs.Tree.{Expression, end, thenCharacter, thenSymbol, thenPart, thenCall, Table}
+use Rattle.meaning.specs.Choice.{Bytes, Name, either, pick, lookup, nth}
+use Rattle.meaning.specs.Tree.{Expression, end, thenCharacter, thenSymbol, thenPart, thenCall, Function, Table}
 use Rattle.meaning.specs.Names.{isEmission, numberOf}
 use Rattle.meaning.specs.Outcome.{Outcome, done, stop, andThen, resultOf}
-use Rattle.meaning.specs.Rewriting.{Course, unbegun, takeStep, tookFrom, emitting, tallied, Bindings, Fit, symbolText, partText, before, evaluate, functionAt, choose, callNamed, rewritten, applied, apply, rewrite}
+use Rattle.meaning.specs.Rewriting.{Course, unbegun, tookFrom, emitting, tallied, Bindings, Fit, symbolText, partText, before, evaluate, callNamed, recovererFor, recovererAt, unfitted, rewritten, applied, apply, rewrite}
 use Rattle.meaning.specs.Allowed.{allowed, callsKnown, maxFunctions}
 use Rattle.meaning.specs.Matching.{Choice}
 use Rattle.meaning.proofs.laws.Packable.{All, nil, cons}
 use Rattle.meaning.proofs.laws.Counts.{total, HasCount, history-total}
 use Rattle.meaning.proofs.laws.Depth.{countedOf}
-use Rattle.meaning.proofs.laws.Translated.{number-low}
+use Rattle.meaning.proofs.laws.Translated.{number-low, recoverer-low}
 use Rattle.meaning.proofs.agreement.Choosing.{both-left, both-right, both-pair}
 use Rattle.meaning.proofs.agreement.Facts.{facts}
 use Rattle.meaning.proofs.agreement.Sentences.{Chosen, nowhere, here, chosen-alike}
@@ -66,15 +66,23 @@ module _ (table : Table) (ok : T (allowed table)) where
     called-counted false n text t known c =
         counted (numberOf table n) text t (omega (arith, ltb→lt 0 (numberOf table n) known, number-low 0 table n, few)) c
 
-    rewritten-counted : (f : ℕ) (text : Bytes) (t : Course) {choice : Choice} {fit : Option Fit} → Chosen table text choice fit → Counted t →
-        StaysCounted (rewritten table apply₁ f fit t)
-    rewritten-counted f text t nowhere c = c
+    recoverer-counted : (r f : ℕ) (text : Bytes) (t : Course) → r ≤ length table → Counted t → StaysCounted (unfitted apply₁ r f text t)
+    recoverer-counted zero f text t h c = c
+    recoverer-counted (suc r) f text t h c = counted (suc r) text t (omega (arith, few)) c
+
+    recoverer-at : (o : Option Function) → recovererFor table o ≤ length table
+    recoverer-at none = omega arith
+    recoverer-at (some f) = recoverer-low table (f .name)
+
+    rewritten-counted : (f : ℕ) (text : Bytes) (t : Course) {choice : Choice} {fit : Option Fit} →
+        Chosen table text (recovererAt table f) choice fit → Counted t → StaysCounted (rewritten table apply₁ f text fit t)
+    rewritten-counted f text t nowhere c = recoverer-counted (recovererAt table f) f text t (recoverer-at (nth (pred f) table)) c
     rewritten-counted f text t (here {s} {bound} a fits) c =
         evaluate-counted (callNamed table apply₁) bound (λ n text t. called-counted (isEmission n) n text t) (s .expression) t (a .calls) c
 
     applied-counted : (left f : ℕ) (text : Bytes) (t : Course) → HasCount f → Counted t → StaysCounted (applied table apply₁ f text t (tookFrom left f t))
     applied-counted zero f text t h c = c
-    applied-counted (suc n) f text t h c = rewritten-counted f text _ (chosen-alike table text (facts table ok f) 0) (cons h c)
+    applied-counted (suc n) f text t h c = rewritten-counted f text _ (chosen-alike table text (recovererAt table f) (facts table ok f) 0) (cons h c)
 
   apply-counted : (depth f : ℕ) (text : Bytes) (t : Course) → HasCount f → Counted t → StaysCounted (apply depth table f text t)
   unfolding apply

@@ -8,7 +8,7 @@ use Rattle.meaning.specs.Answers.{finished, noSentenceFits, allowanceSpe
 use Rattle.meaning.specs.Tree.{Expression, end, thenCharacter, thenSymbol, thenPart, thenCall, Table}
 use Rattle.meaning.specs.Names.{isEmission, numberOf}
 use Rattle.meaning.specs.Outcome.{Outcome, done, stop, andThen, resultOf}
-use Rattle.meaning.specs.Rewriting.{Course, unbegun, takeStep, emitting, tallied, Bindings, Fit, symbolText, partText, before, evaluate, functionAt, choose, callNamed, rewritten, applied, apply, rewrite}
+use Rattle.meaning.specs.Rewriting.{Course, unbegun, takeStep, emitting, tallied, Bindings, Fit, symbolText, partText, before, evaluate, functionAt, choose, callNamed, recovererAt, unfitted as unfittedAt, rewritten, applied, apply, rewrite}
 use Rattle.meaning.proofs.laws.Choosing.{of-either}
 
 -- an answer with its function number
@@ -46,16 +46,20 @@ module _ (call : Name → Bytes → Course → Outcome Bytes Course) (plain : (n
       (λ given t₂. before-plain given (evaluate call bound e t₂) (evaluate-plain e t₂)))
 
 module _ (table : Table) (apply₁ : ℕ → Bytes → Course → Outcome Bytes Course) (plain : (number : ℕ) (text : Bytes) (t : Course) → Plain (apply₁ number text t)) where
-  rewritten-plain : (number : ℕ) (fit : Option Fit) (t : Course) → Plain (rewritten table apply₁ number fit t)
-  rewritten-plain number none t = unfitted refl
-  rewritten-plain number (some f) t =
+  unfitted-plain : (r number : ℕ) (text : Bytes) (t : Course) → Plain (unfittedAt apply₁ r number text t)
+  unfitted-plain zero number text t = unfitted refl
+  unfitted-plain (suc r) number text t = plain (suc r) text t
+
+  rewritten-plain : (number : ℕ) (text : Bytes) (fit : Option Fit) (t : Course) → Plain (rewritten table apply₁ number text fit t)
+  rewritten-plain number text none t = unfitted-plain (recovererAt table number) number text t
+  rewritten-plain number text (some f) t =
       evaluate-plain (callNamed table apply₁)
       (λ n text t₁. of-either Plain (isEmission n) (done [] (emitting n text t₁)) (apply₁ (numberOf table n) text t₁) tt (plain (numberOf table n) text t₁))
       (f .bindings) (f .sentence .expression) t
 
   applied-plain : (number : ℕ) (text : Bytes) (t : Course) (paid : Option Course) → Plain (applied table apply₁ number text t paid)
   applied-plain number text t none = spent refl refl
-  applied-plain number text t (some paid) = rewritten-plain number (choose (functionAt table number) text) paid
+  applied-plain number text t (some paid) = rewritten-plain number text (choose (functionAt table number) text) paid
 
 pub apply-plain : (depth : ℕ) (table : Table) (number : ℕ) (text : Bytes) (t : Course) → Plain (apply depth table number text t)
 unfolding apply

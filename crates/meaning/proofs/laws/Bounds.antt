@@ -60,26 +60,26 @@ sentenceLength tests stores actions = 3 + length tests + length stores + actions
 -- A FUNCTION: its place in the function table, and the end of its sentences
 
 unfoldable pub sentencesLength : Sentences → ℕ
-sentencesLength noMore = 0
+sentencesLength (noMore r) = 0
 sentencesLength (sentence metric tests stores actions more) = sentenceLength tests stores actions + sentencesLength more
 sentencesLength unknownSentence = 0
 
 -- words that are no sentence have no end
 unfoldable pub endLength : Sentences → ℕ
-endLength noMore = 1
+endLength (noMore r) = 1
 endLength (sentence metric tests stores actions more) = endLength more
 endLength unknownSentence = 0
 
 pub sentences-length : (s : Sentences) → length (packSentences s) ≡ endLength s + sentencesLength s
 unfolding packSentences sentencesLength endLength
-sentences-length noMore = refl
+sentences-length (noMore r) = refl
 sentences-length (sentence metric tests stores actions more) =
     omega (arith, length-append (bodyWords tests stores actions) (packSentences more), body-length tests stores actions, sentences-length more)
 sentences-length unknownSentence = refl
 
 pub end-length : (s : Sentences) → endLength s ≤ 1
 unfolding endLength
-end-length noMore = omega arith
+end-length (noMore r) = omega arith
 end-length (sentence metric tests stores actions more) = end-length more
 end-length unknownSentence = omega arith
 
@@ -106,7 +106,7 @@ actionsBound [] = 0
 actionsBound (a ∷ more) = 8 + length (nameOf a) + actionsBound more
 
 unfoldable pub sentencesBound : Sentences → ℕ
-sentencesBound noMore = 0
+sentencesBound (noMore r) = 0
 sentencesBound (sentence metric tests stores actions more) =
     8 + (8 * length tests + 8 * length stores + actionsBound actions) + sentencesBound more
 sentencesBound unknownSentence = 0
@@ -122,7 +122,7 @@ actions-within (a ∷ more) = omega (arith, action-length a, actions-within more
 
 sentences-within : (s : Sentences) → sentencesLength s ≤ sentencesBound s
 unfolding sentencesLength sentencesBound
-sentences-within noMore = omega arith
+sentences-within (noMore r) = omega arith
 sentences-within (sentence metric tests stores actions more) = omega (arith, actions-within actions, sentences-within more)
 sentences-within unknownSentence = omega arith
 

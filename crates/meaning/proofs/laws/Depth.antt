@@ -11,7 +11,7 @@ use Rattle.meaning.specs.Choice.{Bytes, Name, pick, lookup}
 use Rattle.meaning.specs.Outcome.{Tally, fresh, counted, pay, emitted, Outcome, done, stop, andThen}
 use Rattle.meaning.specs.Tree.{Expression, end, thenCharacter, thenSymbol, thenPart, thenCall, Table}
 use Rattle.meaning.specs.Names.{isEmission, numberOf}
-use Rattle.meaning.specs.Rewriting.{Course, unbegun, takeStep, emitting, tallyOf, Bindings, symbolText, partText, before, evaluate, Fit, choose, functionAt, callNamed, rewritten, applied, apply}
+use Rattle.meaning.specs.Rewriting.{Course, unbegun, takeStep, emitting, tallyOf, Bindings, symbolText, partText, before, evaluate, Fit, choose, functionAt, callNamed, recovererAt, unfitted, rewritten, applied, apply}
 use Rattle.meaning.specs.Instructions.{Code}
 use Rattle.meaning.specs.Matching.{chooseFrom}
 use Rattle.meaning.specs.Machine.{Noted, onward, halt, Watch, Ledger, Stacks, withTally, afterNote, wherePayable, ranPaid, enter, codeAt}
@@ -197,10 +197,15 @@ module _ (depth depth′ : ℕ) (table : Table) (apply apply′ : ℕ → Bytes 
   called-alike : AlikeCalls depth depth′ (callNamed table apply) (callNamed table apply′)
   called-alike n text t h = picked (isEmission n) n text t _ _ (alike (numberOf table n) text t h)
 
-  rewritten-alike : (number : ℕ) (fit : Option Fit) (t : Course) → Enough depth depth′ (t .left) →
-      Same tallyOf (tallyOf t) (rewritten table apply number fit t) (rewritten table apply′ number fit t)
-  rewritten-alike number none t h = unmoved
-  rewritten-alike number (some f) t h =
+  unfitted-alike : (r number : ℕ) (text : Bytes) (t : Course) → Enough depth depth′ (t .left) →
+      Same tallyOf (tallyOf t) (unfitted apply r number text t) (unfitted apply′ r number text t)
+  unfitted-alike zero number text t h = unmoved
+  unfitted-alike (suc r) number text t h = alike (suc r) text t h
+
+  rewritten-alike : (number : ℕ) (text : Bytes) (fit : Option Fit) (t : Course) → Enough depth depth′ (t .left) →
+      Same tallyOf (tallyOf t) (rewritten table apply number text fit t) (rewritten table apply′ number text fit t)
+  rewritten-alike number text none t h = unfitted-alike (recovererAt table number) number text t h
+  rewritten-alike number text (some f) t h =
       evaluate-alike depth depth′ (callNamed table apply) (callNamed table apply′) called-alike (f .bindings) (f .sentence .expression) t h
 
   applied-alike : (number : ℕ) (text : Bytes) (left : ℕ) (history : List ℕ) (emissions : Bytes) → Enough (suc depth) (suc depth′) left →
@@ -209,7 +214,8 @@ module _ (depth depth′ : ℕ) (table : Table) (apply apply′ : ℕ → Bytes 
   applied-alike number text zero history emissions h = unmoved
   applied-alike number text (suc n) history emissions h =
       same-later (omega arith)
-      (rewritten-alike number (choose (functionAt table number) text) (record { left = n; history = number ∷ history; emissions = emissions }) (enough-paid h))
+      (rewritten-alike number text (choose (functionAt table number) text) (record { left = n; history = number ∷ history; emissions = emissions })
+      (enough-paid h))
 
 step-none : (number : ℕ) (t : Course) → t .left ≤ 0 → takeStep number t ≡ none
 step-none number t h = let e : t .left ≡ 0 = omega arith in rw e

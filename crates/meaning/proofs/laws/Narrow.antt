@@ -83,7 +83,7 @@ module _ (limit : ℕ) (low : limit ≤ 2 ^ 24) where
 
   sentences-narrow : {s : Sentences} → FitsSentences limit s → All Narrow (packSentences s)
   unfolding packSentences
-  sentences-narrow eachNone = one (omega arith)
+  sentences-narrow (eachNone {r} h) = one (called-narrow 19 r (omega arith) h)
   sentences-narrow (eachMore {metric} f fs) =
       cons (metric-narrow metric (f .lengths))
       (cons (counts-narrow _ _ _ (f .fewTests) (f .fewStores) (f .fewWords))

@@ -58,18 +58,18 @@ pub record FitsSentence (limit : ℕ) (metric : Metric) (tests : List Test) (sto
   pub fewStores : length stores ≤ maxStored
   pub fewWords : length (bodyWords tests stores actions) < 65536
 
--- every sentence of a function has the property
-pub data EachSentence (P : Metric → List Test → List Store → List Action → Type 0) : Sentences → Type 0 where
-  eachNone : EachSentence P noMore
+-- every sentence of a function has the property, and the number at its end another
+pub data EachSentence (R : ℕ → Type 0) (P : Metric → List Test → List Store → List Action → Type 0) : Sentences → Type 0 where
+  eachNone : {r : ℕ} → R r → EachSentence R P (noMore r)
   eachMore : {metric : Metric} {tests : List Test} {stores : List Store} {actions : List Action} {more : Sentences} →
-      P metric tests stores actions → EachSentence P more → EachSentence P (sentence metric tests stores actions more)
+      P metric tests stores actions → EachSentence R P more → EachSentence R P (sentence metric tests stores actions more)
 
 abbrev pub FitsSentences : ℕ → Sentences → Type 0
-FitsSentences limit s = EachSentence (FitsSentence limit) s
+FitsSentences limit s = EachSentence (λ r. r < limit) (FitsSentence limit) s
 
 -- every action of a function has the property
 abbrev pub EachAction : (Action → Type 0) → Sentences → Type 0
-EachAction P s = EachSentence (λ metric tests stores actions. All P actions) s
+EachAction P s = EachSentence (λ r. Unit {0}) (λ metric tests stores actions. All P actions) s
 
 abbrev pub Packable : ℕ → Code → Type 0
 Packable limit code = All (FitsSentences limit) code

@@ -13,7 +13,7 @@ use Rattle.meaning.specs.Choice.{every}
 use Rattle.meaning.specs.Classes.{classNumber}
 use Rattle.meaning.specs.Allowed.{isByte}
 use Rattle.meaning.specs.Instructions.{Test, look, compare, predicate, predicatePart, unknownTest, Store, store, unknownStore, Span, Action, go, select, out, outCharacter, outValue, beginSequence, useSequence, call, tailCall, emission, unknownAction, Metric, exactly, ends, middle, Sentences, noMore, sentence, Code}
-use Rattle.meaning.specs.Packing.{Words, word, numberIn, firstIn, secondIn, thirdIn, siteRegister, siteOffset, lengthNumber, lengthOf, spanAction, truthBit, partOperand, testWord, testOf, storeWord, storeOf, actionWords, actionOf, actionsEnd, packActions, emissionOf, unpackActions, metricWord, metricIn, sentencesEnd, bodyWords, countsWord, packSentences, testsIn, storesIn, bodyIn, unpackTests, unpackStores, maxStored, bodyOf, unpackSentences, packFunctions, placesFrom, pack, functionsAt, soundTable, unpack}
+use Rattle.meaning.specs.Packing.{Words, word, numberIn, firstIn, secondIn, thirdIn, siteRegister, siteOffset, lengthNumber, lengthOf, spanAction, truthBit, partOperand, testWord, testOf, storeWord, storeOf, actionWords, actionOf, actionsEnd, packActions, emissionOf, unpackActions, metricWord, metricIn, sentencesEnd, endWord, bodyWords, countsWord, packSentences, testsIn, storesIn, bodyIn, unpackTests, unpackStores, maxStored, bodyOf, unpackSentences, packFunctions, placesFrom, pack, functionsAt, soundTable, unpack}
 use Rattle.meaning.proofs.laws.Passing.{passed}
 use Rattle.meaning.proofs.laws.Words.{word-holds, register-below, class-below, truth-below, length-below, look-held, compare-held, predicate-held, predicate-part-held, store-held, length-back, called-number, called-function}
 use Rattle.meaning.proofs.laws.Packable.{All, nil, cons, FitsTest, FitsStore, FitsSpan, FitsAction, FitsMetric, FitsSentence, FitsSentences, eachNone, eachMore, Packable}
@@ -195,13 +195,16 @@ module _ (limit : ℕ) (metric : Metric) (tests : List Test) (stores : List Stor
         le-leb _ _ (f .fewStores),
       )
 
-sentences-ended : (ws : Words) → unpackSentences 0 (sentencesEnd ∷ ws) ≡ noMore
+sentences-ended : (r : ℕ) (ws : Words) → unpackSentences 0 (endWord r ∷ ws) ≡ noMore r
 unfolding unpackSentences
-sentences-ended ws = refl
+sentences-ended r ws =
+    let number : numberIn (endWord r) ≡ sentencesEnd = omega arith in
+    let operand : endWord r / 256 ≡ r = omega arith in
+    rw (number, operand)
 
 pub sentences-back : (limit : ℕ) {s : Sentences} → FitsSentences limit s → (rest : Words) → unpackSentences 0 (packSentences s ++ rest) ≡ s
 unfolding packSentences
-sentences-back limit eachNone rest = sentences-ended rest
+sentences-back limit (eachNone {r} h) rest = sentences-ended r rest
 sentences-back limit (eachMore {metric} {tests} {stores} {actions} {more} f fs) rest =
     rw (append-assoc (bodyWords tests stores actions) (packSentences more) rest)
     (sentence-first limit metric tests stores actions f _ _ (packSentences more ++ rest) (metric-back metric (f .lengths))
@@ -213,7 +216,7 @@ sentences-back limit (eachMore {metric} {tests} {stores} {actions} {more} f fs) 
 -- a packed function has at least one word
 packed-some : (limit : ℕ) {s : Sentences} → FitsSentences limit s → 0 < length (packSentences s)
 unfolding packSentences
-packed-some limit eachNone = omega arith
+packed-some limit (eachNone h) = omega arith
 packed-some limit (eachMore f fs) = omega arith
 
 -- the functions from a place of some words on

@@ -120,7 +120,8 @@ module _ (W U : Watch) (R : Relation W U) (closed : Closed W U R) where
     pub chooses : (frame f : ℕ) (c : Choice) (s : Stacks) → R (ranChoice W code e frame f c s) (ranChoice U code e′ frame f c s)
     chooses frame f (chosen number at stores actions) s =
         starts frame actions at (storedValues stores (take (s .selected) (s .input)) at) s
-    chooses frame f chosenNone s = closed .ends noSentenceFits f (unfitting refl)
+    chooses frame f (chosenNone zero) s = closed .ends noSentenceFits f (unfitting refl)
+    chooses frame f (chosenNone (suc r)) s = there (isDeclared code (suc r)) _ _ (entering frame (suc r) s)
     chooses frame f chosenWrong s = wrong
 
   -- a relation that holds across payments holds between applications at the same depth

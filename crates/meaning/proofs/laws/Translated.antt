@@ -10,10 +10,10 @@ use lib.ListN.{length, length-append, length-map}
 use Rattle.meaning.specs.Choice.{Name, Named, every, sameBytes, lookup}
 use Rattle.meaning.specs.Tree.{Letter, Subject, ofSymbol, ofPart, Condition, Expression, end, thenCharacter, thenSymbol, thenPart, thenCall, Sentence, Function, Table}
 use Rattle.meaning.specs.Classes.{Class}
-use Rattle.meaning.specs.Names.{numberFrom, numberOf}
+use Rattle.meaning.specs.Names.{numberFrom, numberOf, recoverPrefix, isRecovering, recovererOf}
 use Rattle.meaning.specs.Allowed.{isByte, member, spelledName, spelledElement, lettersIn, symbolsOf, maxLetters, maxSymbols, maxConditions, maxItems, maxName, itemsIn, spelledItems, allowedSentence, allowedFunction, allowed, sentencesIn, maxFunctions, maxSentences}
 use Rattle.meaning.specs.Instructions.{Site, Test, Store, store, Span, Action, go, select, out, outCharacter, outValue, beginSequence, useSequence, call, tailCall, emission, Metric, Code}
-use Rattle.meaning.specs.Translation.{Shape, fixed, open₁, open₂, shapeOf, metricOf, Tested, testedShape, siteOr, Bounds, boundsOf, subjectTest, conditionTest, testsOf, storesOf, valueFrom, valueNumber, Stand, atStart, afterFirst, afterSecond, nowhere, Passage, passageFirst, gapToSecond, passageSecond, passage, restOf, Manner, emits, replaces, nests, mannerOf, argumentReady, calling, items, passesRest, actionsOf, translatedSentences, translate}
+use Rattle.meaning.specs.Translation.{Shape, fixed, open₁, open₂, shapeOf, metricOf, Tested, testedShape, siteOr, Bounds, boundsOf, subjectTest, conditionTest, testsOf, storesOf, valueFrom, valueNumber, Stand, atStart, afterFirst, afterSecond, nowhere, Passage, passageFirst, gapToSecond, passageSecond, passage, restOf, Manner, emits, replaces, nests, mannerOf, argumentReady, calling, items, passesRest, actionsOf, translatedSentences, translatedFunction, translate}
 use Rattle.meaning.specs.Packing.{Words, pack, unpack}
 use Rattle.meaning.proofs.laws.Choosing.{of-either}
 use Rattle.meaning.proofs.laws.Passing.{both-left, both-right, every-head, every-tail}
@@ -98,6 +98,11 @@ pub number-low : (count : ℕ) (table : Table) (n : Name) → numberFrom count t
 unfolding numberFrom
 number-low count [] n = omega arith
 number-low count (f ∷ fs) n = of-either (λ k. k ≤ count + length (f ∷ fs)) (sameBytes n (f .name)) (suc count) (numberFrom (suc count) fs n) (omega arith) (omega (arith, number-low (suc count) fs n))
+
+pub recoverer-low : (table : Table) (n : Name) → recovererOf table n ≤ length table
+recoverer-low table n =
+    of-either (λ k. k ≤ length table) (isRecovering n) 0 (numberOf table (recoverPrefix ++ n)) (omega arith)
+    (omega (arith, number-low 0 table (recoverPrefix ++ n)))
 
 -- THE EXPRESSION
 
@@ -311,33 +316,38 @@ abbrev Sentencewise : Table → (Metric → List Test → List Store → List Ac
 Sentencewise table P =
     (s : Sentence) → Sized s → P (metricOf (shape s)) (tests s) (stores s) (actions s table)
 
-sentences-each : (table : Table) (P : Metric → List Test → List Store → List Action → Type 0) → Sentencewise table P → (ss : List Sentence) →
-    T (every allowedSentence ss) → EachSentence P (translatedSentences table ss)
+sentences-each : (table : Table) (R : ℕ → Type 0) (P : Metric → List Test → List Store → List Action → Type 0) → Sentencewise table P →
+    (r : ℕ) → R r → (ss : List Sentence) → T (every allowedSentence ss) → EachSentence R P (translatedSentences table r ss)
 unfolding translatedSentences
-sentences-each table P each [] t = eachNone
-sentences-each table P each (s ∷ ss) t =
-    eachMore (each s (sized s (every-head allowedSentence s ss t))) (sentences-each table P each ss (every-tail allowedSentence s ss t))
+sentences-each table R P each r h [] t = eachNone h
+sentences-each table R P each r h (s ∷ ss) t =
+    eachMore (each s (sized s (every-head allowedSentence s ss t))) (sentences-each table R P each r h ss (every-tail allowedSentence s ss t))
 
-sentences-short : (table : Table) (ss : List Sentence) → T (every allowedSentence ss) → sentencesLength (translatedSentences table ss) ≤ maxSentenceWords * length ss
+sentences-short : (table : Table) (r : ℕ) (ss : List Sentence) → T (every allowedSentence ss) →
+    sentencesLength (translatedSentences table r ss) ≤ maxSentenceWords * length ss
 unfolding translatedSentences sentencesLength
-sentences-short table [] t = omega arith
-sentences-short table (s ∷ ss) t =
-    omega (arith, sentence-short s (sized s (every-head allowedSentence s ss t)) table, sentences-short table ss (every-tail allowedSentence s ss t))
+sentences-short table r [] t = omega arith
+sentences-short table r (s ∷ ss) t =
+    omega (
+      arith,
+      sentence-short s (sized s (every-head allowedSentence s ss t)) table,
+      sentences-short table r ss (every-tail allowedSentence s ss t),
+    )
 
 -- some functions of a table
 module _ (table : Table) where
   abbrev functions : List Function → Code
-  functions fs = map (λ f. translatedSentences table (f .sentences)) fs
+  functions fs = map (translatedFunction table) fs
 
   allowed-sentences : (f : Function) (fs : List Function) → T (every allowedFunction (f ∷ fs)) → T (every allowedSentence (f .sentences))
   allowed-sentences f fs t = let here = every-head allowedFunction f fs t in search (both-left, both-right)
 
-  functions-each : (P : Metric → List Test → List Store → List Action → Type 0) → Sentencewise table P → (fs : List Function) →
-      T (every allowedFunction fs) → All (EachSentence P) (functions fs)
-  functions-each P each [] t = nil
-  functions-each P each (f ∷ fs) t =
-      cons (sentences-each table P each (f .sentences) (allowed-sentences f fs t))
-      (functions-each P each fs (every-tail allowedFunction f fs t))
+  functions-each : (R : ℕ → Type 0) (P : Metric → List Test → List Store → List Action → Type 0) → Sentencewise table P →
+      ((n : Name) → R (recovererOf table n)) → (fs : List Function) → T (every allowedFunction fs) → All (EachSentence R P) (functions fs)
+  functions-each R P each recoverers [] t = nil
+  functions-each R P each recoverers (f ∷ fs) t =
+      cons (sentences-each table R P each (recovererOf table (f .name)) (recoverers (f .name)) (f .sentences) (allowed-sentences f fs t))
+      (functions-each R P each recoverers fs (every-tail allowedFunction f fs t))
 
   functions-short : (fs : List Function) → T (every allowedFunction fs) → functionsLength (functions fs) ≤ 2 * length fs + maxSentenceWords * sentencesIn fs
   unfolding functionsLength sentencesIn
@@ -345,8 +355,8 @@ module _ (table : Table) where
   functions-short (f ∷ fs) t =
       omega (
         arith,
-        end-length (translatedSentences table (f .sentences)),
-        sentences-short table (f .sentences) (allowed-sentences f fs t),
+        end-length (translatedFunction table f),
+        sentences-short table (recovererOf table (f .name)) (f .sentences) (allowed-sentences f fs t),
         functions-short fs (every-tail allowedFunction f fs t),
       )
 
@@ -385,12 +395,14 @@ module _ (table : Table) (t : T (allowed table)) where
 
   pub translated-packable : Packable numberLimit (translate table)
   translated-packable =
-      functions-each table (FitsSentence numberLimit) (λ s z. sentence-fits s z table numberLimit numbers-low) table (search both-left)
+      functions-each table (λ r. r < numberLimit) (FitsSentence numberLimit) (λ s z. sentence-fits s z table numberLimit numbers-low)
+      (λ n. omega (arith, recoverer-low table n, few-functions)) table (search both-left)
 
   -- whatever holds of each kind of instruction holds of all
   pub translated-each : (P : Action → Type 0) → Kinds table P → All (EachAction P) (translate table)
   translated-each P kinds =
-      functions-each table (λ metric tests stores actions. All P actions) (λ s z. sentence-all s z table P kinds) table (search both-left)
+      functions-each table (λ r. Unit {0}) (λ metric tests stores actions. All P actions) (λ s z. sentence-all s z table P kinds) (λ n. tt) table
+      (search both-left)
 
   -- "an emission's name up to 24 besides"
   pub translated-names : All (EachAction (λ a. length (nameOf a) ≤ maxName)) (translate table)

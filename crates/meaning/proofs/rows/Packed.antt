@@ -5,6 +5,7 @@ use Rattle.meaning.specs.Tree.{Table}
 use Rattle.meaning.specs.Translation.{translate}
 use Rattle.meaning.specs.Packing.{Words, pack}
 use Rattle.meaning.proofs.rows.Tables.{tableZ, tableR, tableH, tableK, tableM}
+use Rattle.meaning.proofs.rows.Recovery.{tableX}
 use Rattle.meaning.proofs.rows.Computing.{computing}
 
 -- R `G { s1 e2 = <G e2> s1; = }`
@@ -40,6 +41,14 @@ wordsM =
     10 ∷ 30728 ∷ 11 ∷ 6 ∷ 1294 ∷ 69 ∷ 109 ∷ 105 ∷ 116 ∷ 66 ∷ 5 ∷ 15 ∷ 19 ∷
     17 ∷ 983040 ∷ 10 ∷ 5 ∷ 262 ∷ 7 ∷ 11 ∷ 6 ∷ 1294 ∷ 69 ∷ 109 ∷ 105 ∷ 116 ∷ 67 ∷ 30984 ∷ 5 ∷ 15 ∷ 19 ∷ []
 
-pub packed : map (λ (t : Table). pack (translate t)) (tableR ∷ tableZ ∷ tableH ∷ tableK ∷ tableM ∷ []) ≡ wordsR ∷ wordsZ ∷ wordsH ∷ wordsK ∷ wordsM ∷ []
+-- `X { 'a' = } RecoverX { e1 = 'r' e1 }`: the word that ends X has the number 2
+abbrev wordsX : Words
+wordsX =
+    2 ∷ 3 ∷ 9 ∷
+    272 ∷ 196609 ∷ 1627389953 ∷ 261 ∷ 15 ∷ 531 ∷
+    17 ∷ 393216 ∷ 29192 ∷ 5 ∷ 262 ∷ 7 ∷ 5 ∷ 15 ∷ 19 ∷ []
+
+pub packed : map (λ (t : Table). pack (translate t)) (tableR ∷ tableZ ∷ tableH ∷ tableK ∷ tableM ∷ tableX ∷ [])
+    ≡ wordsR ∷ wordsZ ∷ wordsH ∷ wordsK ∷ wordsM ∷ wordsX ∷ []
 unfolding computing
 packed = refl

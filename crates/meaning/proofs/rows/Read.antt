@@ -253,6 +253,7 @@ names :
     ∷ says "emit{=}" 0 0
     ∷ says "IsDigit{=}" 5 0
     ∷ says "IsDigits{=}" 0 0
+    ∷ says "RecoverEmitA{=}RecoverIsDigit{=}" 0 0
     ∷ says "F{=}F{=}" 5 4
     ∷ says "F{=<Emit>}" 0 0
     ∷ says "F{=<G <H>>}" 8 4

@@ -7,7 +7,7 @@ use lib.ListN.{length, replicate}
 use Rattle.meaning.specs.Choice.{Bytes}
 use Rattle.meaning.specs.Classes.{digit, lower}
 use Rattle.meaning.specs.Instructions.{fromStart, fromEnd, fromPlace, Test, look, predicatePart, Store, store, null, whole, left, right, Span, Action, go, select, out, outCharacter, outValue, beginSequence, useSequence, call, tailCall, emission, Metric, exactly, ends, Sentences, noMore, sentence}
-use Rattle.meaning.specs.Packing.{Words, word, countsWord, pack}
+use Rattle.meaning.specs.Packing.{Words, word, countsWord, endWord, pack}
 use Rattle.meaning.specs.Leaving.{Cells, Leaving, leaving}
 use Rattle.meaning.proofs.rows.Starred.{result}
 use Rattle.meaning.proofs.rows.Computing.{computing}
@@ -23,19 +23,22 @@ cells i o j = record { stackIn = i; stackOut = o; journal = j }
 abbrev lent : Cells
 lent = cells (replicate 6 7) (replicate 3 8) (replicate 5 9)
 
--- a run that stopped with an answer, each function that was applied having been so once: in and out are zero, and the record has just the
--- emissions from before it
-abbrev stoppedWith : ℕ → Bytes → ℕ → Bytes → Words → Row
-stoppedWith answer text steps emissions words =
+-- a run that stopped with an answer: in and out are zero, and the record has just the emissions from before it
+abbrev stoppedCounting : ℕ → Bytes → ℕ → List ℕ → Bytes → Words → Row
+stoppedCounting answer text steps counts emissions words =
     record {
       words = words;
       text = text;
       leaves =
           record {
-            result = result answer 0 steps (replicate steps 1) [] emissions;
+            result = result answer 0 steps counts [] emissions;
             cells = cells (replicate 6 0) (replicate 3 0) (emissions ++ replicate (5 - length emissions) 9);
           };
     }
+
+-- each function that was applied was so once
+abbrev stoppedWith : ℕ → Bytes → ℕ → Bytes → Words → Row
+stoppedWith answer text steps emissions words = stoppedCounting answer text steps (replicate steps 1) emissions words
 
 -- refused before the run: nothing is changed
 abbrev unchanged : Words → Row
@@ -64,7 +67,6 @@ endedCounting text steps counts emissions given words =
           };
     }
 
--- each function that was applied was so once
 abbrev endedEmitting : Bytes → ℕ → Bytes → Bytes → Words → Row
 endedEmitting text steps emissions given words = endedCounting text steps (replicate steps 1) emissions given words
 
@@ -176,11 +178,11 @@ abbrev field : ℕ → Span
 field back = record { register = whole; add = 0; back = back }
 
 abbrev anyField : List Action → Sentences
-anyField actions = sentence (ends 0 0) [] [] actions noMore
+anyField actions = sentence (ends 0 0) [] [] actions (noMore 0)
 
 -- the actions of one function that stores the field's first byte, of two functions
 abbrev doing : List Action → Words
-doing actions = pack (sentence (ends 0 0) [] (store (fromStart 0) ∷ []) actions noMore ∷ [])
+doing actions = pack (sentence (ends 0 0) [] (store (fromStart 0) ∷ []) actions (noMore 0) ∷ [])
 
 abbrev doingBoth : List Action → List Action → Words
 doingBoth first second = pack (anyField first ∷ anyField second ∷ [])
@@ -219,7 +221,7 @@ doingRows =
 
 -- WITHOUT A MIDDLE TEMPLATE i is the field's first cell, so that dl is 0 and dr is d: in a test, in a store and in spans
 abbrev placeless : Metric → List Test → List Store → List Action → Words
-placeless metric tests stores actions = pack (sentence metric tests stores actions noMore ∷ [])
+placeless metric tests stores actions = pack (sentence metric tests stores actions (noMore 0) ∷ [])
 
 abbrev dl : Span
 dl = record { register = left; add = 0; back = 0 }
@@ -263,8 +265,22 @@ stayRows =
     ended (97 ∷ 98 ∷ []) 2 [] (returning (field 0) (go (field 0) ∷ [])) ∷
     ended (97 ∷ 98 ∷ []) 2 [] (returning (cellsOn 1) (go (cellsOn 2) ∷ [])) ∷ []
 
+-- WHERE NO SENTENCE FITS
+abbrev recoveryRows : List Row
+recoveryRows =
+    -- a function that recovers and is not there, at once and where the allowance is spent as well
+    wrong (1 ∷ 2 ∷ endWord 2 ∷ []) ∷
+    wrong (1 ∷ 2 ∷ endWord 16777215 ∷ []) ∷
+    stoppedWith 18 (97 ∷ []) 5 []
+    (5 ∷ 6 ∷ 7 ∷ 8 ∷ 9 ∷ 10 ∷ endWord 2 ∷ endWord 3 ∷ endWord 4 ∷ endWord 5 ∷ endWord 6 ∷ []) ∷
+    -- a function that recovers itself has all five steps
+    stoppedCounting 12 (97 ∷ []) 5 (5 ∷ []) [] (1 ∷ 2 ∷ endWord 1 ∷ []) ∷
+    -- one that recovers gets the field as it was
+    ended (97 ∷ []) 2 (97 ∷ []) (pack (noMore 2 ∷ anyField (select (field 0) ∷ out ∷ []) ∷ [])) ∷ []
+
 abbrev pub rows : List Row
-rows = tableRows ++ matchRows ++ actionRows ++ doingRows ++ placelessRows (exactly 2) ++ placelessRows (ends 0 0) ++ stayRows
+rows =
+    tableRows ++ matchRows ++ actionRows ++ doingRows ++ placelessRows (exactly 2) ++ placelessRows (ends 0 0) ++ stayRows ++ recoveryRows
 
 -- each is started at function 1, with five steps
 pub wild : map (λ (r : Row). leaving (r .words) 1 (r .text) lent 5) rows ≡ map (λ (r : Row). r .leaves) rows

@@ -63,12 +63,12 @@ metrics = refl
 counts : map (λ v. testsIn v ∷ storesIn v ∷ bodyIn v ∷ []) (countsWord 255 16 1000 ∷ countsWord 0 0 0 ∷ []) ≡ (255 ∷ 16 ∷ 1000 ∷ []) ∷ (0 ∷ 0 ∷ 0 ∷ []) ∷ []
 counts = refl
 
--- a function ends with 19; where its words run out before, or are passed over, there is no sentence
+-- a function ends with 19 and the number of the function that recovers it; where its words run out before, or are passed over, there is no sentence
 sentences :
     map (unpackSentences 0)
-    ((19 ∷ []) ∷ [] ∷ (word 16 1 0 0 ∷ []) ∷ (word 16 1 0 0 ∷ countsWord 0 0 1 ∷ 15 ∷ []) ∷ (word 16 1 0 0 ∷ countsWord 0 0 2 ∷ 15 ∷ 19 ∷ []) ∷
-    (word 16 1 0 0 ∷ countsWord 0 0 1 ∷ 15 ∷ 19 ∷ []) ∷ [])
-    ≡ noMore ∷ unknownSentence ∷ unknownSentence ∷ sentence (exactly 1) [] [] [] unknownSentence ∷ sentence (exactly 1) [] [] [] unknownSentence
-    ∷ sentence (exactly 1) [] [] [] noMore ∷ []
+    ((19 ∷ []) ∷ (word 19 3 2 1 ∷ []) ∷ [] ∷ (word 16 1 0 0 ∷ []) ∷ (word 16 1 0 0 ∷ countsWord 0 0 1 ∷ 15 ∷ []) ∷
+    (word 16 1 0 0 ∷ countsWord 0 0 2 ∷ 15 ∷ 19 ∷ []) ∷ (word 16 1 0 0 ∷ countsWord 0 0 1 ∷ 15 ∷ word 19 2 0 0 ∷ []) ∷ [])
+    ≡ noMore 0 ∷ noMore 66051 ∷ unknownSentence ∷ unknownSentence ∷ sentence (exactly 1) [] [] [] unknownSentence
+    ∷ sentence (exactly 1) [] [] [] unknownSentence ∷ sentence (exactly 1) [] [] [] (noMore 2) ∷ []
 unfolding computing
 sentences = refl

@@ -9,10 +9,10 @@ use Rattle.sentences.proofs.write_function.Statement.{statement}
 use Rattle.sentences.proofs.write_function.Tie as tie
 
 abbrev Inv-loop : tie.InvT-loop
-Inv-loop tape heads start code₀ s₀ code s = SentencesSoFar tape heads start code₀ code s × (length code ≡ length code₀)
+Inv-loop tape heads start recoverer code₀ s₀ code s = SentencesSoFar tape heads start recoverer code₀ code s × (length code ≡ length code₀)
 
 abbrev μ-loop : tie.MeasureT-loop
-μ-loop tape heads start code₀ s₀ code s = 512 - s .count
+μ-loop tape heads start recoverer code₀ s₀ code s = 512 - s .count
 
 loop-holds : tie.Need-loop-holds Inv-loop μ-loop
 loop-holds c = (record { same = λ t h. same-refl _ _ _; within = record { count = omega arith; next = omega arith }; grown = omega arith }, refl)
@@ -40,8 +40,17 @@ loop-again c =
     let at-loop = at-loop-test .before in
     (sentences-go-on (at-loop .loop .inv .0) (at-loop-test .loop-test .taken) (at-next-sentence .next-sentence .ensures), at-next-sentence .next-sentence .kept .1 .1 .0 ∙ at-loop .loop .inv .1)
 
+mul-put : tie.Need-mul-put Inv-loop μ-loop
+mul-put c = omega (arith, c .before .before .before .before .before .before .pre .2)
+
+add-put : tie.Need-add-put Inv-loop μ-loop
+add-put c = omega (arith, c .before .before .before .before .before .before .pre .2)
+
 put-requires : tie.Need-put-requires Inv-loop μ-loop
-put-requires c κs = omega (arith, c .before .before .loop .inv .0 .grown, c .before .before .loop .inv .0 .within .count)
+put-requires c κs =
+    let at-loop = c .before .before in
+    let entry = at-loop .before .before .before .before in
+    omega (arith, at-loop .loop .inv .0 .grown, at-loop .loop .inv .0 .within .count, entry .pre .2)
 
 same-length : tie.Need-same-length Inv-loop μ-loop
 same-length c =
@@ -66,6 +75,8 @@ write-function-spec =
     next-sentence-requires
     loop-less
     loop-again
+    mul-put
+    add-put
     put-requires
     same-length
     returns)

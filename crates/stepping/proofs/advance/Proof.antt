@@ -1,5 +1,4 @@
 -- `stepping::advance` meets its contract.
-use Prim.Native.Nat.{suc}
 use mathlib.Core.Path.{subst, _∙_}
 use lib.ListN.{length}
 use Rattle.meaning.specs.Packing.{Words}
@@ -11,7 +10,7 @@ use Rattle.applying.specs.Waiting.{comesTo, leftToDo}
 use Rattle.applying.specs.Advancing.{Acting, Begins, Tried, Used}
 use borrow.Author.Needs.{needs}
 use Rattle.stepping.proofs.laws.Statuses.{over-tagged}
-use Rattle.stepping.proofs.laws.Trying.{acting-on, acting-used, turn-begun, turn-used, turn-done}
+use Rattle.stepping.proofs.laws.Trying.{acting-on, acting-used, turn-begun, turn-again, turn-used, turn-done}
 use Rattle.stepping.proofs.advance.Statement.{statement}
 use Rattle.stepping.proofs.advance.Tie as tie
 
@@ -35,12 +34,12 @@ entered c =
 abbrev BeginsTo : tie.Start → Next → Memory → Type 0
 BeginsTo e next n =
     Begins (words e) (e .args .allowance) (comesTo (roomOf (lent e)) (e .args .allowance) (words e) (Onward (e .args .g)) (lent e))
-    (suc (leftToDo (length (words e)) (e .args .allowance) (Onward (e .args .g)) (lent e))) (e .args .g) (lent e) next n
+    (leftToDo (length (words e)) (e .args .allowance) (Onward (e .args .g)) (lent e)) (e .args .g) (lent e) next n
 
 begun : (c : tie.After-enter) → BeginsTo (entry c) (c .enter .result) (entered c)
 begun c = c .enter .ensures _ _ (entry c .pre .1 .1)
 
--- where the run goes on, at the application's first action
+-- where the run goes on
 abbrev before-first : tie.After-entered → tie.After-enter
 before-first c = c .before .before .before .before .before .before
 
@@ -51,13 +50,20 @@ begun-first : (c : tie.After-entered) → BeginsTo (entry (before-first c)) (Onw
 begun-first c =
     subst (λ (next : Next). BeginsTo (entry (before-first c)) next (entered (before-first c))) (c .entered .given .1) (begun (before-first c))
 
-acting-first : (c : tie.After-entered) → Acting (entry (before-first c) .args .allowance) (first c) (entered (before-first c))
-acting-first c = record { underway = begun-first c .advances .leads .keeps; idle = begun-first c .idle }
+-- at the application's first action, where no other is to begin
+abbrev goes-on : tie.Else1 → tie.After-entered
+goes-on c = c .before .before .before
+
+acting-first : (c : tie.Else1) → Acting (entry (before-first (goes-on c)) .args .allowance) (first (goes-on c)) (entered (before-first (goes-on c)))
+acting-first c = record { underway = begun-first (goes-on c) .advances .leads .keeps; idle = c .if1 .left }
 
 -- WHERE ITEMS ARE WRITTEN, WHERE USESEQ WAS TRIED, AND WHERE SELECT WAS
 
+abbrev acting-before : tie.After-write-items → tie.Else1
+acting-before c = c .before .before .before .before
+
 abbrev before-items : tie.After-write-items → tie.After-entered
-before-items c = c .before .before .before .before .before
+before-items c = goes-on (acting-before c)
 
 abbrev start : tie.After-write-items → tie.Start
 start c = entry (before-first (before-items c))
@@ -69,7 +75,7 @@ written-in c =
 
 written : (c : tie.After-write-items) →
     Tried (words (start c)) (start c .args .allowance) (first (before-items c)) (entered (before-first (before-items c))) (c .write-items .result) (written-in c)
-written c = c .write-items .ensures _ _ _ (acting-first (before-items c))
+written c = c .write-items .ensures _ _ _ (acting-first (acting-before c))
 
 abbrev before-use : tie.After-try-use → tie.After-write-items
 before-use c = c .before .before .before .before .before .before .before .before
@@ -117,22 +123,35 @@ returns c =
     let at-enter = (c .before .before .before .before .before) in
     turn-begun _ _ (over-tagged _ (entry at-enter .args .allowance) (at-enter .enter .result) (entered at-enter) (c .match .keys2)) (begun at-enter)
 
+returns-2 : tie.Need-returns-2
+returns-2 c = turn-again _ _ (c .if1 .taken) (begun-first (c .before .before .before))
+
 write-items-requires : tie.Need-write-items-requires
 write-items-requires c κs =
-    let at-first = (c .before .before .before .before) in
-    let a = entry (before-first at-first) .args in
-    record { allowance = a .allowance; journal = a .journal .now; values = entered (before-first at-first) .values; acting = acting-first at-first }
+    let at-else = c .before .before .before in
+    let at-enter = before-first (goes-on at-else) in
+    let a = entry at-enter .args in
+    record { allowance = a .allowance; journal = a .journal .now; values = entered at-enter .values; acting = acting-first at-else }
 
 try-use-requires : tie.Need-try-use-requires
 try-use-requires c κs =
     let u = acting-on _ _ (written (c .before .before .before .before .before .before .before)) .underway in
     (u .ready .ordered, (u .ready .inside, (u .ready .below, (u .ready .framed, (u .ready .frameRoom, u .current)))))
 
-same-length-6 : tie.Need-same-length-6
-same-length-6 c = c .before .before .before .before .before .try-use .kept .1 .1 .1 .1 .0 ∙ c .before .before .before .before .before .before .before .before .before .before .before .before .before .write-items .kept .1 .1 .1 .1 .0 ∙ c .before .before .before .before .before .before .before .before .before .before .before .before .before .before .before .before .before .before .before .before .before .before .before .before .enter .kept .1 .1 .1 .1 .1 .0
+-- where UseSeq was tried, back to where the application had begun
+abbrev use-enter : tie.After-try-use → tie.After-enter
+use-enter c = before-first (before-items (before-use c))
 
-returns-2 : tie.Need-returns-2
-returns-2 c =
+same-length-9 : tie.Need-same-length-9
+same-length-9 c =
+    let at-use = c .before .before .before .before .before in
+    at-use .try-use .kept .1 .1 .1 .1 .0 ∙ before-use at-use .write-items .kept .1 .1 .1 .1 .0 ∙ use-enter at-use .enter .kept .1 .1 .1 .1 .1 .0
+
+same-length-10 : tie.Need-same-length-10
+same-length-10 c = use-enter (c .before .before .before .before .before) .enter .kept .1 .1 .1 .1 .1 .1 .0
+
+returns-3 : tie.Need-returns-3
+returns-3 c =
     let at-use = (c .before .before .before .before .before) in
     turn-used _ _ (begun-first (before-items (before-use at-use))) (written (before-use at-use))
     (over-tagged _ (start (before-use at-use) .args .allowance) (at-use .try-use .result) (used-in at-use) (c .match2 .keys2)) (used at-use)
@@ -143,23 +162,34 @@ try-select-requires c κs =
     (u .ready .ordered, (u .ready .inside, (u .ready .framed, (u .ready .frameRoom, u .current))))
 
 act-requires : tie.Need-act-requires
-act-requires c κs = (c .before .before .before .before .before .before .before .before .before .before .before .before .before .before .before .before .before .before .before .before .before .before .before .before .before .before .before .before .before .before .before .before .before .before .before .before .before .before .before .before .before .before .before .before .pre .1 .0, acting-on _ _ (selected (c .before .before .before .before .before)))
+act-requires c κs =
+    let at-select = c .before .before .before .before .before in
+    (start (before-use (before-second (before-select at-select))) .pre .1 .0, acting-on _ _ (selected at-select))
 
-same-length-8 : tie.Need-same-length-8
-same-length-8 c = c .before .before .before .before .before .before .before .before .before .before .before .before .before .before .before .before .before .before .before .before .before .before .try-use .kept .1 .1 .0
+-- WHERE THE LAST INSTRUCTION WAS DONE
 
-same-length-9 : tie.Need-same-length-9
-same-length-9 c = c .before .before .before .before .before .before .act .kept .1 .1 .1 .1 .0 ∙ c .before .before .before .before .before .before .before .before .before .before .before .before .before .before .before .before .before .before .before .before .before .before .before .before .before .before .before .before .before .before .write-items .kept .1 .1 .1 .0
+abbrev before-act : tie.After-act → tie.After-try-use
+before-act c = before-second (before-select (c .before .before .before .before .before .before))
 
 same-length-11 : tie.Need-same-length-11
-same-length-11 c =
-    c .before .before .before .before .before .before .act .kept .1 .1 .1 .1 .1 .1 .0 ∙ c .before .before .before .before .before .before .before .before .before .before .before .before .before .before .before .before .before .before .before .before .before .before .try-use .kept .1 .1 .1 .1 .0 ∙ c .before .before .before .before .before .before .before .before .before .before .before .before .before .before .before .before .before .before .before .before .before .before .before .before .before .before .before .before .before .before .write-items .kept .1 .1 .1 .1 .0 ∙ c .before .before .before .before .before .before .before .before .before .before .before .before .before .before .before .before .before .before .before .before .before .before .before .before .before .before .before .before .before .before .before .before .before .before .before .before .before .before .before .before .before .enter .kept .1 .1 .1 .1 .1 .0
+same-length-11 c = before-act (c .before .before .before .before .before .before) .try-use .kept .1 .1 .0
 
 same-length-12 : tie.Need-same-length-12
-same-length-12 c = c .before .before .before .before .before .before .before .before .before .before .before .before .before .before .before .before .before .before .before .before .before .before .before .before .before .before .before .before .before .before .before .before .before .before .before .before .before .before .before .before .before .enter .kept .1 .1 .1 .1 .1 .1 .0
+same-length-12 c =
+    let at-act = c .before .before .before .before .before .before in
+    at-act .act .kept .1 .1 .1 .1 .0 ∙ before-use (before-act at-act) .write-items .kept .1 .1 .1 .0
 
-returns-3 : tie.Need-returns-3
-returns-3 c =
+same-length-14 : tie.Need-same-length-14
+same-length-14 c =
+    let at-act = c .before .before .before .before .before .before in
+    at-act .act .kept .1 .1 .1 .1 .1 .1 .0 ∙ before-act at-act .try-use .kept .1 .1 .1 .1 .0 ∙ before-use (before-act at-act) .write-items .kept .1 .1 .1 .1 .0 ∙
+    use-enter (before-act at-act) .enter .kept .1 .1 .1 .1 .1 .0
+
+same-length-15 : tie.Need-same-length-15
+same-length-15 c = use-enter (before-act (c .before .before .before .before .before .before)) .enter .kept .1 .1 .1 .1 .1 .1 .0
+
+returns-4 : tie.Need-returns-4
+returns-4 c =
     let at-select = (c .before .before .before .before .before .before .before .before .before .before .before .before) in
     let at-items = before-use (before-second (before-select at-select)) in
     turn-done _ _ (begun-first (before-items at-items)) (written at-items) (used-second (before-select at-select)) (selected at-select) (c .before .before .before .before .before .before .act .ensures)
@@ -174,19 +204,23 @@ advance-spec =
     (λ c. search needs)
     (λ c. search needs)
     returns
+    (λ c. search needs)
+    (λ c. search needs)
+    (λ c. search needs)
+    returns-2
     write-items-requires
     try-use-requires
     (λ c. search needs)
     (λ c. search needs)
     (λ c. search needs)
-    same-length-6
-    (λ c. search needs)
-    returns-2
+    same-length-9
+    same-length-10
+    returns-3
     try-select-requires
     act-requires
-    same-length-8
-    same-length-9
-    (λ c. search needs)
     same-length-11
     same-length-12
-    returns-3)
+    (λ c. search needs)
+    same-length-14
+    same-length-15
+    returns-4)

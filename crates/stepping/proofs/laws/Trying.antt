@@ -1,5 +1,5 @@
 -- Instructions that are tried one after the other, and what a turn of the loop then leads to.
-use Prim.Native.Nat.{ℕ, suc, _+_, _≤_, _<_}
+use Prim.Native.Nat.{ℕ, _+_, _≤_, _<_}
 use native.Mathlib.Omega.{arith}
 use mathlib.Core.Path.{_≡_, refl, ap, _∙_}
 use mathlib.Core.Bool.{true, false}
@@ -122,21 +122,20 @@ module _ (words : Words) (allowance : ℕ) where
                     };
                 falls = omega arith;
               };
-          idle = refl;
+          again = λ more. absurd (more refl);
         }
 
     pub enters-applied : isDeclared (functionsIn words) (g .callee) ≡ true → (next : Next) (n : Memory) → Applies words allowance (g .callee) g m next n →
         Enters words allowance g m next n
     enters-applied declared next n applies u =
-        let begins = applies (u .ready) in
-        let d = begins .advances in
+        let d = applies u in
         record {
           advances =
               record {
                 leads = record { same = rw declared (d .leads .same); keeps = d .leads .keeps; room = d .leads .room; beyond = d .leads .beyond };
                 falls = omega (arith, d .falls);
               };
-          idle = begins .idle;
+          again = λ more. omega (arith, d .falls);
         }
 
   -- A TURN OF THE LOOP
@@ -144,11 +143,16 @@ module _ (words : Words) (allowance : ℕ) where
   module _ {g : Registers} {m : Memory} where
     -- what is begun and doesn't go on has ended the run
     pub turn-begun : {next : Next} {n : Memory} → leftToDo (length words) allowance next n ≡ 0 →
-        Begins words allowance (comesTo (roomOf m) allowance words (Onward g) m) (suc (Left g m)) g m next n → Steps words allowance g m next n
+        Begins words allowance (comesTo (roomOf m) allowance words (Onward g) m) (Left g m) g m next n → Steps words allowance g m next n
     turn-begun over b = record { leads = b .advances .leads; falls = rw over (omega arith) }
 
+    -- another application is left for the next turn
+    pub turn-again : {next : Next} {n : Memory} → (Idle next → ⊥) →
+        Begins words allowance (comesTo (roomOf m) allowance words (Onward g) m) (Left g m) g m next n → Steps words allowance g m next n
+    turn-again more b = record { leads = b .advances .leads; falls = b .again more }
+
     module _ {g₁ g₂ : Registers} {m₁ m₂ : Memory}
-        (begun : Begins words allowance (comesTo (roomOf m) allowance words (Onward g) m) (suc (Left g m)) g m (Onward g₁) m₁)
+        (begun : Begins words allowance (comesTo (roomOf m) allowance words (Onward g) m) (Left g m) g m (Onward g₁) m₁)
         (written : Tried words allowance g₁ m₁ g₂ m₂) where
       through : Leads words allowance (comesTo (roomOf m) allowance words (Onward g) m) g m (Onward g₂) m₂
       through = leads-on words allowance _ g m m₁ m₂ (Onward g₁) (Onward g₂) (begun .advances .leads) (written .leads)

@@ -10,18 +10,21 @@ use lib.ListN.{length, take, drop, getD, set, length-append, length-drop, length
 use lib.Seq.{sets, take-suc-set, getD-set-same, getD-set-other, take-nil}
 use Rattle.meaning.specs.Choice.{Name, pick}
 use Rattle.meaning.specs.Tree.{Table, Sentence}
+use Rattle.meaning.specs.Names.{recoverPrefix, recovererOf}
 use Rattle.meaning.specs.Allowed.{namesOf, maxFunctions, maxSentences}
 use Rattle.meaning.specs.Instructions.{Code}
-use Rattle.meaning.specs.Translation.{translate, translatedSentences}
+use Rattle.meaning.specs.Translation.{translate, translatedSentences, translatedFunction}
 use Rattle.meaning.specs.Packing.{Words, packSentences, packFunctions, placesFrom}
 use Rattle.words.specs.Words.{nameIn, headName, headNames}
+use Rattle.words.specs.Finding.{recovererAmong}
 use Rattle.sentences.specs.Trees.{isFunctionWord, functionsIn, functionIn, sentencesIn, treeOf}
 use Rattle.words.specs.Writing.{Wrote}
 use Rattle.sentences.specs.Sentencing.{FunctionAll}
 use Rattle.translating.specs.Declaring.{Inside, wordsFrom, headsLeft, HeadsOn, HeadsAll, functionAt, functionsOf, EntryAll, FunctionsAll}
 use Rattle.translating.specs.Leaves.{codeOf}
 use Rattle.meaning.proofs.laws.Remaining.{at-place}
-use Rattle.words.proofs.laws.Names.{name-skip}
+use Rattle.words.proofs.laws.Names.{name-part, name-skip}
+use Rattle.expressions.proofs.laws.Naming.{number-among}
 use Rattle.meaning.proofs.laws.Packing.{places-length}
 use Rattle.meaning.proofs.laws.Storing.{sets-append}
 use Rattle.sentences.proofs.Patching.{sets-comm, lentFrom, backFrom, sets-lent}
@@ -98,28 +101,50 @@ function-sentences : (ws : List ℕ) (head : ℕ) → head < length ws
     → functionIn (drop head ws) .sentences ≡ sentencesIn maxSentences (drop (head + 1 + length (headName ws head)) ws)
 function-sentences ws head h = ap (λ (l : List ℕ). functionIn l .sentences) (at-place ws head h) ∙ ap (sentencesIn maxSentences) (name-skip ws head h)
 
-pub entry-written : {ws heads part part₁ part₂ : List ℕ} {k at next named from size : ℕ}
+function-name : (l : List ℕ) → functionIn l .name ≡ nameIn l
+function-name [] = refl
+function-name (w ∷ ws) = refl
+
+-- the function that recovers it is found among the heads by the words of its name
+function-recoverer : (t : Table) (ws heads : List ℕ) (head : ℕ) {named recoverer : ℕ}
+    → namesOf t ≡ headNames ws heads → named ≡ length (headName ws head)
+    → recoverer ≡ recovererAmong (headNames ws heads) (take named (drop (head + 1) ws)) → recoverer ≡ recovererOf t (functionIn (drop head ws) .name)
+function-recoverer t ws heads head names e found =
+    let name : take (length (headName ws head)) (drop (head + 1) ws) ≡ functionIn (drop head ws) .name =
+    sym (name-part ws head) ∙ sym (function-name (drop head ws)) in
+    found ∙ rw (e, name, ← names) (sym (by-names (functionIn (drop head ws) .name)))
+  where
+    by-names : (n : Name) → recovererOf t n ≡ recovererAmong (namesOf t) n
+    by-names n = rw (number-among 0 t (recoverPrefix ++ n))
+
+pub entry-written : {ws heads part part₁ part₂ : List ℕ} {k at next named recoverer from size : ℕ}
     → getD heads k 0 < length ws
-    → Wrote part 0 (at ∷ []) part₁ next
     → named ≡ length (headName ws (getD heads k 0))
+    → recoverer ≡ recovererAmong (headNames ws heads) (take named (drop (getD heads k 0 + 1) ws))
+    → Wrote part 0 (at ∷ []) part₁ next
     → from ≡ min (at - (k + 1)) (length part₁)
-    → FunctionAll ws heads (getD heads k 0 + 1 + named) (lentFrom part₁ from) part₂ size
+    → FunctionAll ws heads (getD heads k 0 + 1 + named) recoverer (lentFrom part₁ from) part₂ size
     → EntryAll ws heads k part at (backFrom part₁ from part₂) (at + size)
-entry-written {ws} {heads} {part} {part₁} {part₂} {k} {at} {named = named} {from} {size} inside put e f all =
+entry-written {ws} {heads} {part} {part₁} {part₂} {k} {at} {named = named} {recoverer} {from} {size} inside e found put f all =
     record {
       left = λ t h.
           let z : at - (k + 1) + 0 ≡ at - (k + 1) = omega arith in
           sets-lent part₁ (at - (k + 1)) from 0 0 [] (packSentences (functionAt t ws (getD heads k 0))) part₂ f
-          (all .wrote t h .left ∙ ap (λ (r : Words). sets (lentFrom part₁ from) 0 r) (same-words t))
+          (all .wrote t h .left ∙ ap (λ (r : Words). sets (lentFrom part₁ from) 0 r) (same-words t h))
           ∙ rw (z, put .left);
-      next = λ t h. omega (arith, all .wrote t h .next, ap length (same-words t));
+      next = λ t h. omega (arith, all .wrote t h .next, ap length (same-words t h));
       ahead = omega arith;
       grown = omega (arith, all .grown);
     }
   where
-    same-words : (t : Table) → packSentences (translatedSentences t (sentencesIn maxSentences (drop (getD heads k 0 + 1 + named) ws)))
+    same-words : (t : Table) → namesOf t ≡ headNames ws heads
+        → packSentences (translatedSentences t recoverer (sentencesIn maxSentences (drop (getD heads k 0 + 1 + named) ws)))
         ≡ packSentences (functionAt t ws (getD heads k 0))
-    same-words t = rw e (ap (λ (r : List Sentence). packSentences (translatedSentences t r)) (sym (function-sentences ws (getD heads k 0) inside)))
+    same-words t h =
+        let sentences : sentencesIn maxSentences (drop (getD heads k 0 + 1 + named) ws) ≡ functionIn (drop (getD heads k 0) ws) .sentences =
+        rw e (sym (function-sentences ws (getD heads k 0) inside)) in
+        ap₂ (λ (r : ℕ) (ss : List Sentence). packSentences (translatedSentences t r ss))
+        (function-recoverer t ws heads (getD heads k 0) h e found) sentences
 
 -- ALL FUNCTIONS
 
@@ -214,15 +239,11 @@ functions-all {ws} {heads} {code} {code₀} {code′} {next} {at} {k} count s h 
 
 -- THE WHOLE TABLE
 
-function-name : (l : List ℕ) → functionIn l .name ≡ nameIn l
-function-name [] = refl
-function-name (w ∷ ws) = refl
-
 names-found : (ws hs : List ℕ) → namesOf (map functionIn (wordsFrom ws hs)) ≡ headNames ws hs
 names-found ws [] = refl
 names-found ws (h ∷ hs) = ap₂ (λ (n : Name) (ns : List Name). n ∷ ns) (function-name (drop h ws)) (names-found ws hs)
 
-functions-found : (t : Table) (ws hs : List ℕ) → functionsOf t ws hs ≡ map (λ f. translatedSentences t (f .sentences)) (map functionIn (wordsFrom ws hs))
+functions-found : (t : Table) (ws hs : List ℕ) → functionsOf t ws hs ≡ map (translatedFunction t) (map functionIn (wordsFrom ws hs))
 functions-found t ws [] = refl
 functions-found t ws (h ∷ hs) = ap (λ (r : Code). functionAt t ws h ∷ r) (functions-found t ws hs)
 
@@ -231,5 +252,5 @@ table-written {ws} {heads} {count = count} found all =
     let hs = take count heads in
     let names : namesOf (treeOf ws) ≡ headNames ws hs = ap (λ (r : List (List ℕ)). namesOf (map functionIn r)) (sym (found .found)) ∙ names-found ws hs in
     let functions : functionsOf (treeOf ws) ws hs ≡ translate (treeOf ws) =
-    functions-found (treeOf ws) ws hs ∙ ap (λ (r : List (List ℕ)). map (λ f. translatedSentences (treeOf ws) (f .sentences)) (map functionIn r)) (found .found) in
+    functions-found (treeOf ws) ws hs ∙ ap (λ (r : List (List ℕ)). map (translatedFunction (treeOf ws)) (map functionIn r)) (found .found) in
     rw functions at (all .wrote (treeOf ws) names)

@@ -1,22 +1,21 @@
--- Laws of names on the tape: comparing word by word, lengths that differ, and the search in a list of heads.
-use Prim.Native.Nat.{ℕ, suc, _+_, _-_, _≤_, _<_, min}
+-- Laws of names on the tape: comparing word by word, lengths that differ, beginnings, and the search in a list of heads.
+use Prim.Native.Nat.{ℕ, zero, suc, _+_, _-_, _≤_, _<_, min}
 use native.Mathlib.Omega.{arith}
 use mathlib.Core.Path.{_≡_, refl, sym, ap, _∙_}
 use mathlib.Core.Bool.{Bool, true, false}
-use mathlib.Core.List.{List, [], _∷_}
+use mathlib.Core.List.{List, [], _∷_, _++_}
 use lib.Dec.{eqb}
-use lib.ListN.{length, take, drop, getD, drop-of-length-le}
-use lib.Seq.{drop-drop}
+use lib.ListN.{length, take, drop, getD, drop-of-length-le, length-append}
+use lib.Seq.{drop-drop, take-nil, take-length}
 use borrow.Author.Tests.{eq-eqb, ne-eqb}
-use Rattle.meaning.specs.Choice.{Name, pick, both, sameBytes}
+use Rattle.meaning.specs.Choice.{Name, pick, both, sameBytes, startsWith}
+use Rattle.meaning.specs.Names.{recoverPrefix, isRecovering}
 use Rattle.words.specs.Words.{carried, headName, headNames}
-use Rattle.words.specs.Finding.{numberAmong}
+use Rattle.words.specs.Finding.{numberAmong, recovererAmong}
 use native.Mathlib.Decide.{decLe}
-use native.Mathlib.Nat.{lt-of-not-le}
-use Rattle.meaning.specs.Choice.{startsWith}
-use Rattle.meaning.specs.Names.{isEmission}
+use native.Mathlib.Nat.{lt-of-not-le, zero-add, suc-add}
 use Rattle.meaning.proofs.laws.Remaining.{at-place}
-use Rattle.words.proofs.laws.Lists.{reached, take-again, drop-again, partFrom, part-cons, frontFrom, front-whole, front-cons, front-none}
+use Rattle.words.proofs.laws.Lists.{reached, part-length, take-again, drop-again, partFrom, part-cons, frontFrom, front-cons, front-none}
 
 abbrev pub sameFrom : List ℕ → ℕ → ℕ → ℕ → ℕ → Bool
 sameFrom ws a b n i = sameBytes (partFrom ws a n i) (partFrom ws b n i)
@@ -92,6 +91,87 @@ name-skip ws p h =
     ∙ drop-drop (length (take (carried (getD ws p 0)) (drop (p + 1) ws))) (p + 1) ws
     ∙ rw (name-here ws p h)
 
+-- THE BEGINNING OF A NAME
+
+pub starts-short : (p x : Name) → length x < length p → startsWith p x ≡ false
+unfolding startsWith
+starts-short [] x h = absurd (omega arith)
+starts-short (a ∷ p) [] h = refl
+starts-short (a ∷ p) (b ∷ x) h = rw (starts-short p x (omega arith)) (both-none (eqb a b))
+
+abbrev pub startsFrom : Name → List ℕ → ℕ → ℕ → ℕ → Bool
+startsFrom p ws from n i = startsWith (drop i p) (partFrom ws from n i)
+
+module _ (p ws : List ℕ) (from n : ℕ) (long : length p ≤ n) (fits : from + n ≤ length ws) where
+  starts-step : (i : ℕ) → i < length p → startsFrom p ws from n i ≡ both (eqb (getD p i 0) (getD ws (from + i) 0)) (startsFrom p ws from n (i + 1))
+  unfolding startsWith
+  starts-step i h = rw (at-place p i h, part-cons ws from n i (omega arith) fits)
+
+  -- by the word that was read, and what is kept so far
+  pub starts-again : {word : ℕ} {t : Bool} (i : ℕ) → startsFrom p ws from n i ≡ t → i < length p → word ≡ getD ws (from + i) 0 → getD p i 0 ≡ word
+      → startsFrom p ws from n (i + 1) ≡ t
+  starts-again i kept h read e = sym (starts-step i h ∙ rw (eq-eqb (getD p i 0) (getD ws (from + i) 0) (e ∙ read))) ∙ kept
+
+  pub starts-otherwise : {word : ℕ} {t : Bool} (i : ℕ) → startsFrom p ws from n i ≡ t → i < length p → word ≡ getD ws (from + i) 0
+      → (getD p i 0 ≡ word → ⊥) → false ≡ t
+  starts-otherwise i kept h read e = sym (starts-step i h ∙ rw (ne-eqb (getD p i 0) (getD ws (from + i) 0) (λ r. e (r ∙ sym read)))) ∙ kept
+
+pub starts-end : (p ws : List ℕ) (from n : ℕ) {t : Bool} (i : ℕ) → startsFrom p ws from n i ≡ t → length p ≤ i → true ≡ t
+unfolding startsWith
+starts-end p ws from n i kept h = rw (drop-of-length-le p h) at kept
+
+-- A PREFIX AND A NAME
+
+both-assoc : (a b c : Bool) → both a (both b c) ≡ both (both a b) c
+both-assoc true b c = refl
+both-assoc false b c = refl
+
+same-after : (p x y : Name) → sameBytes (p ++ x) y ≡ both (startsWith p y) (sameBytes x (drop (length p) y))
+unfolding sameBytes startsWith
+same-after [] x y = refl
+same-after (a ∷ p) x [] = refl
+same-after (a ∷ p) x (b ∷ y) = rw (same-after p x y) (both-assoc (eqb a b) (startsWith p y) (sameBytes x (drop (length p) y)))
+
+drop-taken : (k n : ℕ) (l : List ℕ) → drop k (take (k + n) l) ≡ take n (drop k l)
+drop-taken zero n l = rw zero-add
+drop-taken (suc k) n [] = rw (take-nil (suc k + n)) (sym (take-nil n))
+drop-taken (suc k) n (x ∷ l) = rw suc-add (drop-taken k n l)
+
+module _ (ws : List ℕ) (head : ℕ) (p : Name) (from size named : ℕ) (is : named ≡ length (headName ws head)) where
+  abbrev prefixed : Bool
+  prefixed = sameBytes (p ++ take size (drop from ws)) (headName ws head)
+
+  joined-length : from + size ≤ length ws → length (p ++ take size (drop from ws)) ≡ length p + size
+  joined-length fits = length-append p (take size (drop from ws)) ∙ ap (λ (n : ℕ). length p + n) (part-length size from ws fits)
+
+  pub prefixed-otherwise : from + size ≤ length ws → (named ≡ length p + size → ⊥) → false ≡ prefixed
+  prefixed-otherwise fits differ =
+      sym (lengths-differ (p ++ take size (drop from ws)) (headName ws head) (λ e. differ (is ∙ sym e ∙ joined-length fits)))
+
+  module _ (long : named ≡ length p + size) where
+    pub prefixed-empty : from + size ≤ length ws → named ≡ 0 → true ≡ prefixed
+    prefixed-empty fits none =
+        sym (both-empty (p ++ take size (drop from ws)) (headName ws head) (joined-length fits ∙ sym long ∙ none) (sym is ∙ none))
+
+    by-parts : {starts : Bool} → starts ≡ startsWith p (take named (drop (head + 1) ws))
+        → both starts (sameBytes (take size (drop from ws)) (take size (drop (head + 1 + length p) ws))) ≡ prefixed
+    by-parts s =
+        rw (s, ← rest, name) (sym (same-after p (take size (drop from ws)) (take named (drop (head + 1) ws))))
+      where
+        name : headName ws head ≡ take named (drop (head + 1) ws)
+        name = rw is (name-part ws head)
+
+        rest : drop (length p) (take named (drop (head + 1) ws)) ≡ take size (drop (head + 1 + length p) ws)
+        rest = rw long (drop-taken (length p) size (drop (head + 1) ws)) ∙ ap (take size) (drop-drop (length p) (head + 1) ws)
+
+    -- by whether the name begins with the prefix, and whether the rest is the same
+    pub prefixed-same : {starts same : Bool} → starts ≡ startsWith p (take named (drop (head + 1) ws)) → starts ≡ true
+        → same ≡ sameBytes (take size (drop from ws)) (take size (drop (head + 1 + length p) ws)) → same ≡ prefixed
+    prefixed-same s e f = f ∙ rw e at (by-parts s)
+
+    pub prefixed-unlike : {starts : Bool} → starts ≡ startsWith p (take named (drop (head + 1) ws)) → starts ≡ false → false ≡ prefixed
+    prefixed-unlike s e = rw e at (by-parts s)
+
 -- THE SEARCH
 
 module _ (ws heads : List ℕ) (count : ℕ) (n : Name) (fits : count ≤ length heads) where
@@ -114,40 +194,12 @@ module _ (ws heads : List ℕ) (count : ℕ) (n : Name) (fits : count ≤ length
   unfolding numberAmong
   found-none k kept h = rw (front-none heads count k h) at kept
 
--- EMISSION
+-- THE FUNCTION THAT RECOVERS
 
-both-all : (t : Bool) → both t true ≡ t
-both-all true = refl
-both-all false = refl
+module _ (ws heads : List ℕ) (n : Name) {is : Bool} (e : is ≡ isRecovering n) where
+  pub recoverer-none : is ≡ true → 0 ≡ recovererAmong (headNames ws heads) n
+  recoverer-none f = rw (sym e ∙ f)
 
-pub emission-short : (x : Name) → length x < 4 → isEmission x ≡ false
-unfolding startsWith
-emission-short [] h = refl
-emission-short (a ∷ []) h = both-none (eqb 69 a)
-emission-short (a ∷ b ∷ []) h = rw (both-none (eqb 109 b)) (both-none (eqb 69 a))
-emission-short (a ∷ b ∷ c ∷ []) h = rw (both-none (eqb 105 c)) (rw (both-none (eqb 109 b)) (both-none (eqb 69 a)))
-emission-short (a ∷ b ∷ c ∷ d ∷ x) h = absurd (omega arith)
-
--- the first four words of a name decide
-abbrev emitWords : List ℕ → ℕ → Bool
-emitWords ws from =
-    both (eqb 69 (getD ws from 0)) (both (eqb 109 (getD ws (from + 1) 0)) (both (eqb 105 (getD ws (from + 2) 0)) (both (eqb 116 (getD ws (from + 3) 0)) true)))
-
-pub emission-by : (ws : List ℕ) (from size : ℕ) {e m i t x y r : Bool} → 4 ≤ size → from + size ≤ length ws
-    → e ≡ eqb 69 (getD ws from 0) → m ≡ eqb 109 (getD ws (from + 1) 0) → i ≡ eqb 105 (getD ws (from + 2) 0) → t ≡ eqb 116 (getD ws (from + 3) 0)
-    → x ≡ both i t → y ≡ both m x → r ≡ both e y → r ≡ isEmission (take size (drop from ws))
-unfolding startsWith
-emission-by ws from size {e} {m} {i} {t} h k p q u v f g s =
-    s ∙ rw (g, f) (by-words ∙ sym words)
-  where
-    z : from + 0 ≡ from
-    z = omega arith
-
-    word : (n : ℕ) → n < size → partFrom ws from size n ≡ getD ws (from + n) 0 ∷ partFrom ws from size (n + 1)
-    word n b = part-cons ws from size n b k
-
-    words : isEmission (take size (drop from ws)) ≡ emitWords ws from
-    words = rw (← (front-whole (drop from ws) size), word 0 (omega arith), word 1 (omega arith), word 2 (omega arith), word 3 (omega arith), z)
-
-    by-words : both e (both m (both i t)) ≡ emitWords ws from
-    by-words = rw (p, q, u, v, both-all (eqb 116 (getD ws (from + 3) 0)))
+  pub recoverer-found : {r : ℕ} → is ≡ false → r ≡ numberAmong 0 (headNames ws (take (length heads) heads)) (recoverPrefix ++ n)
+      → r ≡ recovererAmong (headNames ws heads) n
+  recoverer-found f g = g ∙ rw (take-length heads, sym e ∙ f)

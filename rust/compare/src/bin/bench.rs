@@ -28,6 +28,7 @@ fn main() {
     conditions();
     let moves = running("1,000 tail calls with 30,000 bytes", b"F { e1 = <F e1> }", &[b'm'; LONG], 1_000);
     moving(moves, 1_000);
+    running("1,000,000 recoveries", b"X { 'a' = } RecoverX { e1 = <X e1> }", b"b", 2_000_000);
 }
 
 /// Conditions on parts: one over the whole text, and one on each part at every place.

@@ -18,25 +18,27 @@ name-fits c =
 shared-slice-read-head : tie.Need-shared-slice-read-head
 shared-slice-read-head c = omega (arith, c .before .before .before .before .pre .0)
 
-add-start : tie.Need-add-start
-add-start c =
+add-name : tie.Need-add-name
+add-name c =
     let entry = c .before .before .before .before in
-    let a = entry .args in
-    omega (arith, entry .pre .2 (a .k) (entry .pre .0))
+    omega (arith, entry .pre .2 (entry .args .k) (entry .pre .0))
 
-add-start-2 : tie.Need-add-start-2
-add-start-2 c = omega (arith, name-fits c)
+add-start : tie.Need-add-start
+add-start c = omega (arith, name-fits c)
+
+find-recoverer-requires : tie.Need-find-recoverer-requires
+find-recoverer-requires c κs = name-fits c
 
 put-requires : tie.Need-put-requires
-put-requires c κs = omega (arith, c .before .before .before .before .before .before .pre .4)
+put-requires c κs = omega (arith, c .before .before .before .before .before .before .before .pre .4)
 
 add-lesser : tie.Need-add-lesser
 add-lesser c =
-    let entry = c .before .before .before .before .before .before .before .before .before in
+    let entry = c .before .before .before .before .before .before .before .before .before .before in
     omega (arith, entry .pre .0, entry .pre .1)
 
 sub-lesser : tie.Need-sub-lesser
-sub-lesser c = omega (arith, c .before .before .before .before .before .before .before .before .before .pre .3)
+sub-lesser c = omega (arith, c .before .before .before .before .before .before .before .before .before .before .pre .3)
 
 sub-write-function : tie.Need-sub-write-function
 sub-write-function c = omega (arith, c .lesser .ensures)
@@ -45,12 +47,15 @@ part-write-function-start : tie.Need-part-write-function-start
 part-write-function-start c = omega (arith, c .lesser .ensures)
 
 write-function-requires : tie.Need-write-function-requires
-write-function-requires c κs = (search, omega (arith, name-fits (search)))
+write-function-requires c κs =
+    let at-find-recoverer = c .before .before .before .before .before .before in
+    let entry = at-find-recoverer .before .before .before .before .before .before in
+    (entry .pre .1, omega (arith, name-fits (at-find-recoverer .before)), omega (arith, at-find-recoverer .find-recoverer .ensures, entry .pre))
 
 add-result : tie.Need-add-result
 add-result c =
     let at-write-function = c .before .before in
-    let entry = at-write-function .before .before .before .before .before .before .before .before .before .before .before .before in
+    let entry = at-write-function .before .before .before .before .before .before .before .before .before .before .before .before .before in
     omega (arith, at-write-function .write-function .ensures .grown, entry .pre .4)
 
 returns : tie.Need-returns
@@ -58,10 +63,11 @@ returns c =
     let at-write-function = c .before .before in
     let at-lesser = at-write-function .before .before in
     let at-put = at-lesser .before .before .before in
-    let at-name-size = at-put .before .before in
+    let at-find-recoverer = at-put .before .before in
+    let at-name-size = at-find-recoverer .before in
     let entry = at-name-size .before .before .before .before .before in
-    entry-written (entry .pre .2 (entry .args .k) (entry .pre .0)) (at-put .put .ensures) (at-name-size .name-size .ensures) (at-lesser .lesser .ensures)
-    (at-write-function .write-function .ensures)
+    entry-written (entry .pre .2 (entry .args .k) (entry .pre .0)) (at-name-size .name-size .ensures) (at-find-recoverer .find-recoverer .ensures .0)
+    (at-put .put .ensures) (at-lesser .lesser .ensures) (at-write-function .write-function .ensures)
 
 pub write-entry-spec : {M : Type 1} → statement M
 write-entry-spec =
@@ -69,9 +75,10 @@ write-entry-spec =
     (tie.spec
     (λ c. search needs)
     shared-slice-read-head
-    add-start
+    add-name
     (λ c κs. search needs)
-    add-start-2
+    add-start
+    find-recoverer-requires
     put-requires
     add-lesser
     sub-lesser
