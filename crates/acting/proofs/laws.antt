@@ -1,5 +1,4 @@
 -- Laws over plain values.
-pub mod Copying
 pub mod Frames
 pub mod Spanning
 pub mod Acting

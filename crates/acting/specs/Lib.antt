@@ -2,4 +2,3 @@
 pub mod Endings
 pub mod States
 pub mod Spans
-pub mod Copied

@@ -10,12 +10,12 @@ ghost use Rattle.meaning.specs.Outcome.{emittedLine};
 ghost use Rattle.meaning.specs.Packing.{emissionOf};
 ghost use Rattle.decoding.specs.Decoded.{isName};
 ghost use Rattle.acting.specs.States.{memory, Acts};
-use crate::cells::part;
-use crate::copying::copy_to_journal;
 use crate::registers::Ending;
-use crate::registers::JournalByte;
 use crate::registers::Next;
 use crate::registers::Registers;
+use cells::copying::copy_to_journal;
+use cells::places::JournalByte;
+use cells::places::part;
 use matching::CodePlace;
 
 // Whether so many words from a place on are there and are bytes.

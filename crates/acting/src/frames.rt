@@ -5,9 +5,9 @@ ghost use lib.ListN.{length, set};
 ghost use Rattle.meaning.specs.Outcome.{maxCounted, uncounted};
 ghost use Rattle.meaning.specs.Leaving.{maxFrames};
 ghost use Rattle.acting.specs.States.{frameWords, roomOfFrames, roomOfValues, frameWord, countsIn, countedIn, CountsWithin, begun, callingFrom};
-use crate::cells::less;
-use crate::registers::InCell;
-use crate::registers::OutCell;
+use cells::places::InCell;
+use cells::places::OutCell;
+use cells::places::less;
 use matching::CodePlace;
 
 // The start is frame 0.

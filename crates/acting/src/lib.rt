@@ -1,6 +1,4 @@
 // The actions of the machine: what each instruction of the Process part does to registers, cells, frames and journal.
-pub mod cells;
-pub mod copying;
 pub mod emitting;
 pub mod frames;
 pub mod moving;

@@ -10,23 +10,6 @@ ghost use Rattle.meaning.specs.Packing.{firstIn, secondIn, thirdIn, lengthOf};
 ghost use Rattle.decoding.specs.Decoded.{spanMeant, writeMeant};
 ghost use Rattle.acting.specs.States.{memory, roomOfFrames, roomOfValues, localAt, Held, Opens, Acts};
 ghost use Rattle.acting.specs.Spans.{withinCells, cellsOf, reachedBy};
-ghost use Rattle.acting.specs.Copied.{MovedDown, FewToMove, MovedFew};
-use crate::cells::bytes_between;
-use crate::cells::cell_after;
-use crate::cells::cell_before;
-use crate::cells::cells_below;
-use crate::cells::cells_from;
-use crate::cells::earlier;
-use crate::cells::less;
-use crate::cells::move_after;
-use crate::cells::move_before;
-use crate::cells::out_after;
-use crate::cells::out_before;
-use crate::cells::part;
-use crate::cells::put;
-use crate::cells::room_from;
-use crate::copying::FEW;
-use crate::copying::copy_to_out;
 use crate::frames::FRAME_VALUES;
 use crate::frames::LENGTHS;
 use crate::frames::OPEN_SEQUENCES;
@@ -37,10 +20,22 @@ use crate::frames::sequence_start;
 use crate::frames::set_open_sequences;
 use crate::frames::stored_values;
 use crate::registers::Ending;
-use crate::registers::InCell;
 use crate::registers::Next;
-use crate::registers::OutCell;
 use crate::registers::Registers;
+use cells::copying::copy_to_out;
+use cells::moving::move_down;
+use cells::places::InCell;
+use cells::places::OutCell;
+use cells::places::bytes_between;
+use cells::places::cell_after;
+use cells::places::cells_below;
+use cells::places::cells_from;
+use cells::places::earlier;
+use cells::places::less;
+use cells::places::out_after;
+use cells::places::part;
+use cells::places::put;
+use cells::places::room_from;
 use decoding::Write;
 use matching::wide;
 
@@ -243,80 +238,6 @@ pub fn begin_sequence(g: Registers, frames: &mut [usize]) -> Next
         return Next::Stopped(g, Ending::NoInstruction, 0);
     }
     Next::Onward(g)
-}
-
-// Four bytes of out moved to just below p, where so many are left; how many are moved. Then two, and one.
-fn move_four(input: &mut [u8], p: InCell, output: &[u8], first: OutCell, r: OutCell) -> usize
-    requires { ⌜ FewToMove 8 (now input) (p .0) (now output) (first .0) (r .0) ⌝ }
-    ensures { λ n. ⌜ MovedFew 4 (now (input .entry)) (p .0) (now (output .entry)) (first .0) (r .0) n (now (input .exit)) ⌝ }
-{
-    if bytes_between(first, r) < 4 {
-        return 0;
-    }
-    move_before(input, p, output, r, 1);
-    move_before(input, p, output, r, 2);
-    move_before(input, p, output, r, 3);
-    move_before(input, p, output, r, 4);
-    4
-}
-
-fn move_two(input: &mut [u8], p: InCell, output: &[u8], first: OutCell, r: OutCell) -> usize
-    requires { ⌜ FewToMove 4 (now input) (p .0) (now output) (first .0) (r .0) ⌝ }
-    ensures { λ n. ⌜ MovedFew 2 (now (input .entry)) (p .0) (now (output .entry)) (first .0) (r .0) n (now (input .exit)) ⌝ }
-{
-    if bytes_between(first, r) < 2 {
-        return 0;
-    }
-    move_before(input, p, output, r, 1);
-    move_before(input, p, output, r, 2);
-    2
-}
-
-fn move_one(input: &mut [u8], p: InCell, output: &[u8], first: OutCell, r: OutCell) -> usize
-    requires { ⌜ FewToMove 2 (now input) (p .0) (now output) (first .0) (r .0) ⌝ }
-    ensures { λ n. ⌜ MovedFew 1 (now (input .entry)) (p .0) (now (output .entry)) (first .0) (r .0) n (now (input .exit)) ⌝ }
-{
-    if bytes_between(first, r) < 1 {
-        return 0;
-    }
-    move_before(input, p, output, r, 1);
-    1
-}
-
-// Fewer than eight bytes of out moved so.
-fn move_few(input: &mut [u8], p: InCell, output: &[u8], first: OutCell, r: OutCell) -> InCell
-    requires { ⌜ FewToMove 8 (now input) (p .0) (now output) (first .0) (r .0) ⌝ }
-    ensures { λ to. ⌜ MovedDown (now (input .entry)) (p .0) (now (output .entry)) (first .0) (r .0) (to .0) (now (input .exit)) ⌝ }
-{
-    let four = move_four(input, p, output, first, r);
-    let p = cell_before(p, four);
-    let r = out_before(r, four);
-    let two = move_two(input, p, output, first, r);
-    let p = cell_before(p, two);
-    let r = out_before(r, two);
-    let one = move_one(input, p, output, first, r);
-    cell_before(p, one)
-}
-
-// Bytes of out moved to just below p, from the last down to the first.
-fn move_down(input: &mut [u8], p: InCell, output: &[u8], first: OutCell, r: OutCell) -> InCell
-    requires { ⌜ first .0 ≤ r .0 ⌝ }
-    requires { ⌜ r .0 ≤ length (now output) ⌝ }
-    requires { ⌜ r .0 - first .0 ≤ p .0 ⌝ }
-    requires { ⌜ p .0 ≤ length (now input) ⌝ }
-    ensures { λ to. ⌜ MovedDown (now (input .entry)) (p .0) (now (output .entry)) (first .0) (r .0) (to .0) (now (input .exit)) ⌝ }
-{
-    let count = bytes_between(first, r);
-    if count < FEW {
-        return move_few(input, p, output, first, r);
-    }
-    let to = cell_before(p, count);
-    let mut left = count;
-    while 0 < left {
-        left -= 1;
-        move_after(input, to, output, first, left);
-    }
-    to
 }
 
 // UseSeq: in[p-(r-r0)..p-1] := out[r0..r-1], with r0 kept by the latest BeginSeq

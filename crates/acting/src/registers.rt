@@ -1,14 +1,9 @@
-// The registers of one run, the kinds of place that they count, and how a run goes on.
+// The registers of one run, and how a run goes on.
+use cells::places::InCell;
+use cells::places::OutCell;
 use matching::CodePlace;
 ghost use mathlib.Core.Path.{_≡_};
 ghost use Rattle.acting.specs.Endings.{endingNumber};
-
-// A cell of in, a cell of out, and a byte of the journal. A place in the code is matching's CodePlace.
-pub struct InCell(pub usize);
-
-pub struct OutCell(pub usize);
-
-pub struct JournalByte(pub usize);
 
 // 000's p, q and r; the current frame, as the number of frames that wait below it; the next code word; the steps made and the length of
 // the emissions; and the function whose application is to begin, 0 while the actions of one are done.

@@ -20,7 +20,7 @@ use Rattle.acting.specs.declared.registers.Ending.{Ending}
 use Rattle.acting.specs.declared.registers.Ending.the-variants.{NoInstruction, OutFull}
 use Rattle.acting.specs.declared.registers.Next.{Next}
 use Rattle.acting.specs.declared.registers.Next.the-variants.{Onward, Stopped}
-use Rattle.acting.specs.declared.registers.InCell.{InCell}
+use Rattle.cells.specs.declared.places.InCell.{InCell}
 use Rattle.acting.specs.declared.moving.Cells.{Cells}
 use Rattle.acting.specs.declared.moving.Cells.the-variants.{Wrong}
 use Rattle.acting.specs.declared.moving.Reached.{Reached}

@@ -13,7 +13,7 @@ use Rattle.acting.specs.declared.registers.Registers.{Registers}
 use Rattle.acting.specs.declared.registers.Ending.the-variants.{NoInstruction, InFull}
 use Rattle.acting.specs.declared.registers.Next.the-variants.{Onward, Stopped}
 use Rattle.acting.specs.States.{Memory, memory, frameWord, localAt, openedAt, countsIn, movedTo, Acts, roomOfFrames}
-use Rattle.acting.specs.Copied.{MovedDown}
+use Rattle.cells.specs.Copied.{MovedDown}
 use Rattle.acting.proofs.laws.Frames.{drop-take, drop-min, take-min, drop-set-here, word-set, word-kept, openedOf, opened-count, opened-none, opened-next, held-past, held-count, waiting-kept, counts-kept}
 use Rattle.acting.proofs.laws.Acting.{stops}
 

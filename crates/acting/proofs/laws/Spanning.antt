@@ -13,7 +13,7 @@ use Rattle.meaning.specs.Instructions.{Length as Register}
 use Rattle.meaning.specs.Machine.{Local, registerOf}
 use Rattle.acting.specs.declared.moving.Cells.{Cells}
 use Rattle.acting.specs.declared.moving.Cells.the-variants.{Count, Wrong}
-use Rattle.acting.specs.declared.registers.InCell.{InCell}
+use Rattle.cells.specs.declared.places.InCell.{InCell}
 use Rattle.acting.specs.declared.moving.Reached.the-variants.{At, Wrong as NotThere}
 use Rattle.acting.specs.States.{frameWord, localAt, Held}
 use Rattle.acting.specs.Spans.{withinCells, cellsOf, reachedBy}

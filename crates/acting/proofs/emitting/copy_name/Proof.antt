@@ -4,7 +4,7 @@ use Prim.Native.Nat.{_-_, _≤_}
 use mathlib.Core.Path.{_≡_, refl}
 use lib.ListN.{length, take, drop, length-set}
 use lib.Seq.{paste, paste-zero}
-use Rattle.acting.proofs.laws.Copying.{pasted-one}
+use Rattle.cells.proofs.laws.Copying.{pasted-one}
 use Rattle.acting.proofs.laws.Naming.{Spelled, spelled, spelled-long, spelled-byte}
 use Rattle.acting.proofs.emitting.copy_name.Statement.{statement}
 use Rattle.acting.proofs.emitting.copy_name.Tie as tie

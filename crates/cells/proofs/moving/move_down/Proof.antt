@@ -5,10 +5,10 @@ use native.Mathlib.Omega.{arith}
 use Prim.Native.Nat.{_+_, _-_, _≤_}
 use mathlib.Core.Path.{_≡_, refl, _∙_}
 use lib.ListN.{length}
-use Rattle.acting.specs.Copied.{moved}
-use Rattle.acting.proofs.laws.Copying.{moved-next, moved-down}
-use Rattle.acting.proofs.moving.move_down.Statement.{statement}
-use Rattle.acting.proofs.moving.move_down.Tie as tie
+use Rattle.cells.specs.Copied.{moved}
+use Rattle.cells.proofs.laws.Copying.{moved-next, moved-down}
+use Rattle.cells.proofs.moving.move_down.Statement.{statement}
+use Rattle.cells.proofs.moving.move_down.Tie as tie
 
 abbrev Inv-loop : tie.InvT-loop
 Inv-loop input₀ output first count to left₀ input left =

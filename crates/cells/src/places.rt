@@ -1,10 +1,15 @@
-// The few functions that touch a cell of a stack, or count from one to another: each takes its own stack's kind of cell, so that a cell of
-// one stack can't be used on the other.
+// A cell of in, a cell of out and a byte of the journal, and the few functions that touch one cell or count from one to another: each takes
+// its own kind of place, so that a cell of one stack can't be used on the other.
 ghost use Prim.Native.Nat.{_+_, _-_, _≤_, _<_, _^_, min, max};
 ghost use mathlib.Core.Path.{_≡_};
-ghost use lib.ListN.{length, getD, take, drop, set};
-use crate::registers::InCell;
-use crate::registers::OutCell;
+ghost use lib.ListN.{length, take, drop, set};
+
+// A place in the code is matching's CodePlace.
+pub struct InCell(pub usize);
+
+pub struct OutCell(pub usize);
+
+pub struct JournalByte(pub usize);
 
 pub fn less(a: usize, b: usize) -> usize
     ensures { λ r. ⌜ r ≡ a - b ⌝ }
@@ -110,31 +115,4 @@ pub fn put(output: &mut [u8], r: OutCell, byte: u8)
 {
     let at = r.0;
     output[at] = byte;
-}
-
-// FROM OUT TO IN
-
-// The byte that stands so many cells before r moved to as many before p.
-pub fn move_before(input: &mut [u8], p: InCell, output: &[u8], r: OutCell, back: usize)
-    requires { ⌜ 0 < back ⌝ }
-    requires { ⌜ back ≤ p .0 ⌝ }
-    requires { ⌜ p .0 ≤ length (now input) ⌝ }
-    requires { ⌜ back ≤ r .0 ⌝ }
-    requires { ⌜ r .0 ≤ length (now output) ⌝ }
-    ensures { λ _. ⌜ now (input .exit) ≡ set (now (input .entry)) (p .0 - back) (getD (now (output .entry)) (r .0 - back) 0) ⌝ }
-{
-    let to = p.0 - back;
-    let from = r.0 - back;
-    input[to] = output[from];
-}
-
-// The byte that stands so many cells after one of out moved to as many after one of in.
-pub fn move_after(input: &mut [u8], to: InCell, output: &[u8], from: OutCell, on: usize)
-    requires { ⌜ to .0 + on < length (now input) ⌝ }
-    requires { ⌜ from .0 + on < length (now output) ⌝ }
-    ensures { λ _. ⌜ now (input .exit) ≡ set (now (input .entry)) (to .0 + on) (getD (now (output .entry)) (from .0 + on) 0) ⌝ }
-{
-    let cell = to.0 + on;
-    let byte = from.0 + on;
-    input[cell] = output[byte];
 }

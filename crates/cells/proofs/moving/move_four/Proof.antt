@@ -2,8 +2,8 @@
 use borrow.Author.Needs.{needs}
 use native.Mathlib.Omega.{arith}
 use mathlib.Core.Path.{_∙_}
-use Rattle.acting.proofs.moving.move_four.Statement.{statement}
-use Rattle.acting.proofs.moving.move_four.Tie as tie
+use Rattle.cells.proofs.moving.move_four.Statement.{statement}
+use Rattle.cells.proofs.moving.move_four.Tie as tie
 
 move-before-requires : tie.Need-move-before-requires
 move-before-requires c κs = omega (arith, c .before .before .before .before .before .pre, c .before .before .bytes-between .ensures, c .before .if1 .left)

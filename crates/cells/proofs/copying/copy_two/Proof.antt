@@ -2,8 +2,8 @@
 use borrow.Author.Needs.{needs}
 use native.Mathlib.Omega.{arith}
 use lib.ListN.{length-set}
-use Rattle.acting.proofs.copying.copy_two.Statement.{statement}
-use Rattle.acting.proofs.copying.copy_two.Tie as tie
+use Rattle.cells.proofs.copying.copy_two.Statement.{statement}
+use Rattle.cells.proofs.copying.copy_two.Tie as tie
 
 pub copy-two-spec : {M : Type 1} → statement M
 copy-two-spec =

@@ -8,7 +8,7 @@ use mathlib.Core.List.{_++_}
 use lib.ListN.{length, getD, take, drop, set, take-append-drop}
 use lib.Seq.{paste, paste-zero, paste-suc, take-suc, drop-cons, append-snoc, set-at, length-take-le}
 use Rattle.meaning.specs.Choice.{Bytes}
-use Rattle.acting.specs.Copied.{MovedDown, copied, CopiedFew, moved, FewToMove, MovedFew}
+use Rattle.cells.specs.Copied.{MovedDown, copied, CopiedFew, moved, FewToMove, MovedFew}
 
 -- one byte more of a copy
 pub pasted-one : (now to from : Bytes) (at i : ℕ) → now ≡ paste to at from i → at + length from ≤ length to → i < length from →

@@ -5,9 +5,9 @@ use Prim.Native.Nat.{_-_, _≤_}
 use mathlib.Core.Path.{_≡_, refl}
 use lib.ListN.{length, length-set}
 use lib.Seq.{paste, paste-zero}
-use Rattle.acting.proofs.laws.Copying.{pasted-one}
-use Rattle.acting.proofs.copying.copy_over.Statement.{statement}
-use Rattle.acting.proofs.copying.copy_over.Tie as tie
+use Rattle.cells.proofs.laws.Copying.{pasted-one}
+use Rattle.cells.proofs.copying.copy_over.Statement.{statement}
+use Rattle.cells.proofs.copying.copy_over.Tie as tie
 
 abbrev Inv-loop : tie.InvT-loop
 Inv-loop to₀ at from i₀ to i = (to ≡ paste to₀ at from i) × (i ≤ length from) × (length to ≡ length to₀)

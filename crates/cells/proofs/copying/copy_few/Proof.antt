@@ -1,8 +1,8 @@
 -- `copying::copy_few` meets its contract.
 use borrow.Author.Needs.{needs}
-use Rattle.acting.proofs.laws.Copying.{pasted-few}
-use Rattle.acting.proofs.copying.copy_few.Statement.{statement}
-use Rattle.acting.proofs.copying.copy_few.Tie as tie
+use Rattle.cells.proofs.laws.Copying.{pasted-few}
+use Rattle.cells.proofs.copying.copy_few.Statement.{statement}
+use Rattle.cells.proofs.copying.copy_few.Tie as tie
 
 returns : tie.Need-returns
 returns c =

@@ -3,10 +3,10 @@ ghost use mathlib.Core.Path.{_≡_};
 ghost use Prim.Native.Nat.{_+_, _≤_, _<_};
 ghost use lib.ListN.{length};
 ghost use lib.Seq.{paste};
-ghost use Rattle.acting.specs.Copied.{FewToCopy, CopiedFew};
-use crate::registers::InCell;
-use crate::registers::JournalByte;
-use crate::registers::OutCell;
+ghost use Rattle.cells.specs.Copied.{FewToCopy, CopiedFew};
+use crate::places::InCell;
+use crate::places::JournalByte;
+use crate::places::OutCell;
 
 // So few bytes are copied and moved without a loop, which for them would cost more than the copying.
 pub const FEW: usize = 8;

@@ -2,9 +2,9 @@
 use borrow.Author.Needs.{needs}
 use native.Mathlib.Omega.{arith}
 use mathlib.Core.Path.{_∙_}
-use Rattle.acting.proofs.laws.Copying.{few-left, moved-few}
-use Rattle.acting.proofs.moving.move_few.Statement.{statement}
-use Rattle.acting.proofs.moving.move_few.Tie as tie
+use Rattle.cells.proofs.laws.Copying.{few-left, moved-few}
+use Rattle.cells.proofs.moving.move_few.Statement.{statement}
+use Rattle.cells.proofs.moving.move_few.Tie as tie
 
 cell-before-requires : tie.Need-cell-before-requires
 cell-before-requires c κs = omega (arith, c .before .before .before .before .before .before .pre, c .before .before .move-four .ensures)
