@@ -1,2 +1,3 @@
 -- Laws over plain values.
 pub mod Copying
+pub mod Moving

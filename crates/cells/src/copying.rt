@@ -57,17 +57,20 @@ fn copy_one(to: &mut [u8], at: usize, from: &[u8], i: usize) -> usize
 fn copy_few(to: &mut [u8], at: usize, from: &[u8])
     requires { ⌜ at + length (now from) ≤ length (now to) ⌝ }
     requires { ⌜ length (now from) < 8 ⌝ }
-    ensures { λ _. ⌜ now (to .exit) ≡ paste (now (to .entry)) at (now (from .entry)) (length (now (from .entry))) ⌝ }
+    ensures { λ _. ⌜ now (to .exit) ≡
+        paste (now (to .entry)) at (now (from .entry)) (length (now (from .entry))) ⌝ }
 {
     let mut i = copy_four(to, at, from, 0);
     i += copy_two(to, at, from, i);
     copy_one(to, at, from, i);
 }
 
-// Bytes copied over those from a place on. On a stack and in the journal the functions below copy, which take their kinds of place.
+// Bytes copied over those from a place on. On a stack and in the journal the functions below copy, which take their
+// kinds of place.
 pub fn copy_over(to: &mut [u8], at: usize, from: &[u8])
     requires { ⌜ at + length (now from) ≤ length (now to) ⌝ }
-    ensures { λ _. ⌜ now (to .exit) ≡ paste (now (to .entry)) at (now (from .entry)) (length (now (from .entry))) ⌝ }
+    ensures { λ _. ⌜ now (to .exit) ≡
+        paste (now (to .entry)) at (now (from .entry)) (length (now (from .entry))) ⌝ }
 {
     if from.len() < FEW {
         copy_few(to, at, from);
@@ -82,21 +85,24 @@ pub fn copy_over(to: &mut [u8], at: usize, from: &[u8])
 
 pub fn copy_to_in(input: &mut [u8], at: InCell, from: &[u8])
     requires { ⌜ at .0 + length (now from) ≤ length (now input) ⌝ }
-    ensures { λ _. ⌜ now (input .exit) ≡ paste (now (input .entry)) (at .0) (now (from .entry)) (length (now (from .entry))) ⌝ }
+    ensures { λ _. ⌜ now (input .exit) ≡
+        paste (now (input .entry)) (at .0) (now (from .entry)) (length (now (from .entry))) ⌝ }
 {
     copy_over(input, at.0, from);
 }
 
 pub fn copy_to_out(output: &mut [u8], at: OutCell, from: &[u8])
     requires { ⌜ at .0 + length (now from) ≤ length (now output) ⌝ }
-    ensures { λ _. ⌜ now (output .exit) ≡ paste (now (output .entry)) (at .0) (now (from .entry)) (length (now (from .entry))) ⌝ }
+    ensures { λ _. ⌜ now (output .exit) ≡
+        paste (now (output .entry)) (at .0) (now (from .entry)) (length (now (from .entry))) ⌝ }
 {
     copy_over(output, at.0, from);
 }
 
 pub fn copy_to_journal(journal: &mut [u8], at: JournalByte, from: &[u8])
     requires { ⌜ at .0 + length (now from) ≤ length (now journal) ⌝ }
-    ensures { λ _. ⌜ now (journal .exit) ≡ paste (now (journal .entry)) (at .0) (now (from .entry)) (length (now (from .entry))) ⌝ }
+    ensures { λ _. ⌜ now (journal .exit) ≡
+        paste (now (journal .entry)) (at .0) (now (from .entry)) (length (now (from .entry))) ⌝ }
 {
     copy_over(journal, at.0, from);
 }

@@ -1,5 +1,5 @@
-// A cell of in, a cell of out and a byte of the journal, and the few functions that touch one cell or count from one to another: each takes
-// its own kind of place, so that a cell of one stack can't be used on the other.
+// A cell of in, a cell of out and a byte of the journal, and the few functions that touch one cell or count from one to
+// another: each takes its own kind of place, so that a cell of one stack can't be used on the other.
 ghost use Prim.Native.Nat.{_+_, _-_, _≤_, _<_, _^_, min, max};
 ghost use mathlib.Core.Path.{_≡_};
 ghost use lib.ListN.{length, take, drop, set};

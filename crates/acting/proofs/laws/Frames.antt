@@ -1,24 +1,18 @@
 -- The frames' words: what a store changes of a frame, and the sequences that a frame keeps open.
 use Prim.Native.Nat.{ℕ, zero, suc, pred, _+_, _*_, _-_, _≤_, _<_, min}
-use native.Mathlib.Nat.{min-eq-left, min-eq-right, sub-zero, zero-sub, suc-sub-suc}
+use native.Mathlib.Nat.{min-eq-left, min-eq-right}
 use native.Mathlib.Decide.{decLe, ℕ-discrete}
 use native.Mathlib.Numerals.{add-one}
 use native.Mathlib.Omega.{arith}
 use mathlib.Core.Path.{_≡_, sym, _∙_}
 use mathlib.Core.List.{List, [], _∷_}
 use lib.ListN.{length, take, drop, getD, set, length-drop, length-take, drop-of-length-le}
-use lib.Seq.{getD-set-same, getD-set-other, getD-take, drop-cons, take-set-le, drop-set-lt, drop-set-add, getD-drop, set-out, take-suc, take-suc-set, set-split, drop-at, length-take-le, take-all, take-nil, take-length, drop-length}
+use lib.Seq.{getD-set-same, getD-set-other, getD-take, drop-cons, take-set-le, drop-set-lt, drop-set-add, getD-drop, set-out, take-suc, take-suc-set, set-split, drop-at, length-take-le, take-all, take-length, drop-length}
 use Rattle.meaning.specs.Outcome.{maxCounted, counted}
 use Rattle.meaning.specs.Leaving.{maxFrames}
 use Rattle.acting.specs.States.{frameWords, frameWord, countsFrom, countsIn, countedIn, CountsWithin, Held, roomOfFrames}
 
 -- LISTS
-
-pub drop-take : (n m : ℕ) (l : List ℕ) → drop n (take m l) ≡ take (m - n) (drop n l)
-drop-take zero m l = rw sub-zero
-drop-take (suc n) zero l = rw zero-sub
-drop-take (suc n) (suc m) [] = sym (take-nil (suc m - suc n))
-drop-take (suc n) (suc m) (x ∷ l) = rw suc-sub-suc (drop-take n m l)
 
 -- a place past the end counts as the end
 module _ (n : ℕ) (l : List ℕ) where

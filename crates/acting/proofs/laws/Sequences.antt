@@ -3,8 +3,8 @@ use Prim.Native.Nat.{ℕ, suc, _+_, _*_, _-_, _≤_, _<_, min}
 use native.Mathlib.Omega.{arith}
 use mathlib.Core.Path.{_≡_, refl, sym, _∙_}
 use mathlib.Core.List.{List, _∷_, _++_}
-use lib.ListN.{length, take, drop, set, length-drop, length-take, length-set}
-use lib.Seq.{take-set-lt, drop-set-lt, length-take-le, drop-at, take-take}
+use lib.ListN.{length, take, drop, set, take-append-drop, length-drop, length-take, length-set}
+use lib.Seq.{take-set-lt, drop-set-lt, length-take-le, take-take, drop-drop}
 use borrow.Author.Tests.{lt-ltb, le-ltb}
 use Rattle.meaning.specs.Choice.{Bytes}
 use Rattle.meaning.specs.Instructions.{beginSequence, useSequence}
@@ -13,8 +13,9 @@ use Rattle.acting.specs.declared.registers.Registers.{Registers}
 use Rattle.acting.specs.declared.registers.Ending.the-variants.{NoInstruction, InFull}
 use Rattle.acting.specs.declared.registers.Next.the-variants.{Onward, Stopped}
 use Rattle.acting.specs.States.{Memory, memory, frameWord, localAt, openedAt, countsIn, movedTo, Acts, roomOfFrames}
-use Rattle.cells.specs.Copied.{MovedDown}
-use Rattle.acting.proofs.laws.Frames.{drop-take, drop-min, take-min, drop-set-here, word-set, word-kept, openedOf, opened-count, opened-none, opened-next, held-past, held-count, waiting-kept, counts-kept}
+use Rattle.cells.specs.Moved.{moved, MovedSoFar}
+use Rattle.cells.proofs.laws.Moving.{byte-by-byte}
+use Rattle.acting.proofs.laws.Frames.{drop-min, take-min, drop-set-here, word-set, word-kept, openedOf, opened-count, opened-none, opened-next, held-past, held-count, waiting-kept, counts-kept}
 use Rattle.acting.proofs.laws.Acting.{stops}
 
 module _ (frames : List ℕ) (values : Bytes) (k : ℕ) (framed : k < 256) (room : length frames ≡ roomOfFrames) where
@@ -53,6 +54,16 @@ module _ (frames : List ℕ) (values : Bytes) (k : ℕ) (framed : k < 256) (room
         word-kept frames k (23 - n) 2 r (omega arith),
         word-kept frames k (23 - n) 4 r (omega arith),
       )
+
+-- an argument that is moved begins as far before p as it is long
+pub begins-before : (p to size : ℕ) → to ≡ p - size → size ≤ p → to + size ≡ p
+begins-before p to size e h = omega arith
+
+-- the selected cells, once the argument stands before them
+selected-more : (p q r mark to : ℕ) → to + (r - min mark r) ≡ p → p ≤ q → (q - p) + (r - mark) ≡ q - to
+selected-more p q r mark to begins order =
+    let size : r - mark ≡ r - min mark r = omega arith in
+    rw size (omega arith)
 
 module _ (g : Registers) (m : Memory) (framed : g .frame < 256) (room : length (m .frames) ≡ roomOfFrames) where
   -- the number of sequences that are open
@@ -133,30 +144,46 @@ module _ (g : Registers) (m : Memory) (framed : g .frame < 256) (room : length (
           lt-ltb _ _ full,
         ))
 
+    -- where the argument begins on out, and how long it is
+    abbrev first : ℕ
+    first = min mark (g .r .0)
+
+    abbrev size : ℕ
+    size = g .r .0 - first
+
     -- the argument leaves out, and stands just below p
-    module _ (to : ℕ) (input : Bytes) (down : MovedDown (m .input) (g .p .0) (m .output) (min mark (g .r .0)) (g .r .0) to input) where
+    module _ (to : ℕ) (input : Bytes) (begins : to + size ≡ g .p .0)
+        (cells : input ≡ moved size (m .input) (g .p .0) (m .output) (g .r .0)) where
       abbrev pub afterUse : Memory
       afterUse = memory input (m .output) (m .journal) (set (m .frames) (24 * g .frame + 5) (count - 1)) (m .values)
 
       -- out up to r, cut where the sequence begins
-      argument : drop mark (take (g .r .0) (m .output)) ≡ take (g .r .0 - min mark (g .r .0)) (drop (min mark (g .r .0)) (m .output))
+      argument : drop mark (take (g .r .0) (m .output)) ≡ drop first (take (g .r .0) (m .output))
       argument =
-          sym (drop-min mark (take (g .r .0) (m .output))) ∙
-          rw (length-take-le (g .r .0) (m .output) (b .r≤out)) (drop-take (min mark (g .r .0)) (g .r .0) (m .output))
+          rw (length-take-le (g .r .0) (m .output) (b .r≤out)) at (sym (drop-min mark (take (g .r .0) (m .output))))
 
-      kept : take mark (take (g .r .0) (m .output)) ≡ take (min mark (g .r .0)) (m .output)
+      kept : take mark (take (g .r .0) (m .output)) ≡ take first (m .output)
       kept =
           sym (take-min mark (take (g .r .0) (m .output))) ∙
-          rw (length-take-le (g .r .0) (m .output) (b .r≤out)) (take-take (min mark (g .r .0)) (g .r .0) (m .output) (omega arith))
+          rw (length-take-le (g .r .0) (m .output) (b .r≤out)) (take-take first (g .r .0) (m .output) (omega arith))
 
-      below-p : drop to input ≡ take (g .r .0 - min mark (g .r .0)) (drop (min mark (g .r .0)) (m .output)) ++ drop (g .p .0) (m .input)
-      below-p = rw (down .cells) (drop-at (take to (m .input)) _ to (length-take-le to (m .input) (omega (arith, down .start))))
+      -- all of its bytes are moved
+      whole : MovedSoFar (m .input) (g .p .0) (m .output) first (g .r .0) size input
+      whole = rw cells (byte-by-byte (omega arith) (b .r≤out) (omega (arith, begins)) (omega arith) size (omega arith))
 
-      pub use-moved : (count ≡ 0 → ⊥) → length input ≡ length (m .input) → g .r .0 - min mark (g .r .0) ≤ g .p .0 →
-          Acts useSequence (g .at .0) g m (Onward (movedTo g to (g .q .0) (min mark (g .r .0)))) afterUse
-      use-moved ne long h =
+      below-p : drop to input ≡ drop first (take (g .r .0) (m .output)) ++ drop (g .p .0) (m .input)
+      below-p =
+          let start : g .p .0 - size ≡ to = omega (arith, begins) in
+          let front : g .r .0 - size ≡ first = omega arith in
+          let moved = rw (start, front) at (whole .inOrder) in
+          sym (take-append-drop size (drop to input)) ∙ rw (drop-drop size to input, begins, moved, whole .above)
+
+      pub use-moved : (count ≡ 0 → ⊥) → length input ≡ length (m .input) →
+          Acts useSequence (g .at .0) g m (Onward (movedTo g to (g .q .0) first)) afterUse
+      use-moved ne long =
           let there : (g .r .0 - mark) + (length (m .input) - g .p .0) ≤ length (m .input) = omega arith in
-          let selected : (g .q .0 - g .p .0) + (g .r .0 - mark) ≡ g .q .0 - to = omega (arith, down .start, b .p≤q) in
+          let selected : (g .q .0 - g .p .0) + (g .r .0 - mark) ≡ g .q .0 - to =
+          selected-more (g .p .0) (g .q .0) (g .r .0) mark to begins (b .p≤q) in
           record {
             same = λ allowance code enter k.
                 rw (
@@ -174,7 +201,7 @@ module _ (g : Registers) (m : Memory) (framed : g .frame < 256) (room : length (
                 );
             stays = record {
               fits = λ f. record {
-                ordered = omega (arith, down .start);
+                ordered = omega (arith, begins);
                 inside = rw long (omega arith);
                 below = omega arith;
                 logged = f .logged;

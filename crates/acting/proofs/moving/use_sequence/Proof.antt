@@ -5,7 +5,7 @@ use Prim.Native.Nat.{ℕ, _-_, min}
 use mathlib.Core.Path.{_≡_, ap}
 use Rattle.meaning.specs.Choice.{Bytes}
 use Rattle.acting.specs.States.{Memory, memory, frameWord}
-use Rattle.acting.proofs.laws.Sequences.{Bounded, use-none, use-full, use-moved}
+use Rattle.acting.proofs.laws.Sequences.{begins-before, Bounded, use-none, use-full, use-moved}
 use Rattle.acting.proofs.moving.use_sequence.Statement.{statement}
 use Rattle.acting.proofs.moving.use_sequence.Tie as tie
 
@@ -61,16 +61,31 @@ returns-2 c =
     (rw (c .before .before .cells-below .ensures, c .before .bytes-between .ensures, first at-earlier) at (c .if2 .taken))
 
 move-down-requires : tie.Need-move-down-requires
-move-down-requires c κs = omega (arith, c .before .before .before .before .before .before .before .before .before .before .before .before .before .before .before .before .before .pre, c .before .before .before .before .before .before .before .before .earlier .ensures, c .before .before .before .before .before .before .before .cells-below .ensures, c .before .before .before .before .before .before .bytes-between .ensures, c .before .before .before .before .before .if2 .left)
+move-down-requires c κs =
+    let at-if2 = c .before .before .before .before .before in
+    let at-earlier = at-if2 .before .before .before in
+    omega (
+      arith,
+      entry (counted at-earlier) .pre,
+      at-earlier .earlier .ensures,
+      at-if2 .before .before .cells-below .ensures,
+      at-if2 .before .bytes-between .ensures,
+      at-if2 .if2 .left,
+    )
 
 returns-3 : tie.Need-returns-3
 returns-3 c =
-    let at-if2 = c .before .before .before .before .before .before .before .before .before .before in
+    let at-move = c .before .before .before .before in
+    let at-set = at-move .before .before .before .before in
+    let at-if2 = at-set .before .before in
     let at-earlier = at-if2 .before .before .before in
-    let at-count = counted at-earlier in
-    λ journal values. rw (c .before .before .before .before .before .before .before .before .set-open-sequences .ensures, c .before .before .before .before .before .before .before .before .before .before .before .before .before .before .before .before .before .open-sequences .ensures, first-cell at-earlier)
-    (use-moved _ (lent at-count journal values) _ _ (bounded at-count journal values) _ _ (rw (first at-earlier) at (c .before .before .before .before .move-down .ensures))
-    (some-open at-earlier) (c .before .before .before .before .move-down .kept .0) (rw (c .before .before .before .before .before .before .before .before .before .before .before .before .cells-below .ensures, c .before .before .before .before .before .before .before .before .before .before .before .bytes-between .ensures, first at-earlier) at (c .before .before .before .before .before .before .before .before .before .before .if2 .left)))
+    let at-count = at-earlier .before .before .before .before in
+    let cells = rw (first at-earlier) at (at-move .move-down .ensures .1) in
+    let room = rw (at-if2 .before .before .cells-below .ensures, at-if2 .before .bytes-between .ensures, first at-earlier) at (at-if2 .if2 .left) in
+    let start = begins-before _ _ _ (rw (first at-earlier) at (ap (λ cell. cell .0) (at-move .move-down .ensures .0))) room in
+    λ journal values. rw (at-set .set-open-sequences .ensures, at-count .open-sequences .ensures, first-cell at-earlier)
+    (use-moved _ (lent at-count journal values) _ _ (bounded at-count journal values) _ _ start cells (some-open at-earlier)
+    (at-move .move-down .kept .0))
 
 pub use-sequence-spec : {M : Type 1} → statement M
 use-sequence-spec =

@@ -13,4 +13,5 @@ returns c =
     pasted-few _ _ _ (entry .pre .0) (at-four .copy-four .ensures) (at-two .copy-two .ensures) (at-one .copy-one .ensures)
 
 pub copy-few-spec : {M : Type 1} → statement M
-copy-few-spec = tie.close (tie.spec (λ c κs. search needs) (λ c κs. search needs) (λ c. search needs) (λ c κs. search needs) (λ c. search needs) returns)
+copy-few-spec =
+    tie.close (tie.spec (λ c κs. search needs) (λ c κs. search needs) (λ c. search needs) (λ c κs. search needs) (λ c. search needs) returns)
