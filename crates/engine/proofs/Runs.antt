@@ -44,7 +44,7 @@ profiles l e = record { runs = runs l e; counted = l .counted }
 -- AFTER TRANSLATING
 
 -- the code of an allowed table, whatever words follow it, leaves what demand 3 asks
-table-leaves : (t : Table) → T (allowed t) → (junk : Words) (start : ℕ) (text : Bytes) (cells : Cells) (allowance : ℕ)
+pub table-leaves : (t : Table) → T (allowed t) → (junk : Words) (start : ℕ) (text : Bytes) (cells : Cells) (allowance : ℕ)
     → leaving (pack (translate t) ++ junk) start text cells allowance ≡ tableLeaving t start text cells allowance
 table-leaves t ok junk start text cells allowance =
     rw (unpacked t ok junk, length-map, as-demanded t ok start text allowance (roomOf cells))

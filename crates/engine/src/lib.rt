@@ -1,4 +1,5 @@
 // The public entry points over reading, listing, translating and running, and their exports for C and Rust.
+pub mod flat;
 pub mod profile;
 
 use crate::profile::refal0_profile;

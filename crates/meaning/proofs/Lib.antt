@@ -3,3 +3,4 @@ pub mod rows
 pub mod laws
 pub mod agreement
 pub mod Demand3
+pub mod Flat

@@ -14,9 +14,11 @@ pub mod Narrow
 pub mod Answers
 pub mod Known
 pub mod Counts
+pub mod Framing
 pub mod Related
 pub mod Depth
 pub mod Room
+pub mod Frames
 pub mod Choosing
 pub mod Cuts
 pub mod Fits

@@ -16,3 +16,4 @@ pub mod Leaving
 pub mod Tape
 pub mod Words
 pub mod Parts
+pub mod Flatness

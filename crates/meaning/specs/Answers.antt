@@ -1,4 +1,4 @@
--- The numbers of 01's table 'Where each thing is checked'.
+-- The numbers of 01's table 'Where each thing is checked', and those that 02 adds.
 use Prim.Native.Nat.{ℕ}
 
 -- 0 means done
@@ -72,3 +72,7 @@ bufferTooShort = 17
 -- at decoding
 abbrev pub noInstruction : ℕ
 noInstruction = 18
+
+-- asking whether a table is flat: 02, T-06
+abbrev pub notTailCall : ℕ
+notTailCall = 19

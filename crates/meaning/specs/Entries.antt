@@ -2,13 +2,15 @@
 -- writes them; words that a refusal leaves without meaning are 0.
 use Prim.Native.Nat.{ℕ}
 use mathlib.Core.List.{List, [], _∷_}
+use mathlib.Core.Option.{Option, none, some}
 use lib.Dec.{leb}
 use lib.ListN.{length}
 use Rattle.meaning.specs.Choice.{Bytes, pick}
-use Rattle.meaning.specs.Answers.{finished, bufferTooShort}
+use Rattle.meaning.specs.Answers.{finished, bufferTooShort, notTailCall}
 use Rattle.meaning.specs.Reading.{Read, accepted, refused}
 use Rattle.meaning.specs.Listing.{listing}
 use Rattle.meaning.specs.Translation.{translate}
+use Rattle.meaning.specs.Flat.{nestedIn, leftmost}
 use Rattle.meaning.specs.Packing.{Words, pack}
 use Rattle.meaning.specs.Outcome.{Result}
 use Rattle.meaning.specs.Leaving.{zeros, padded, over}
@@ -21,6 +23,15 @@ answered number place count = number ∷ place ∷ count ∷ []
 abbrev pub readAnswer : Read → List ℕ
 readAnswer (accepted t) = answered finished 0 (length t)
 readAnswer (refused number place) = answered number place 0
+
+-- flat: number, place, functions. 19 comes after 1 to 8, and has its place
+abbrev pub flatness : Option ℕ → ℕ → List ℕ
+flatness none functions = answered finished 0 functions
+flatness (some place) functions = answered notTailCall place 0
+
+abbrev pub flatAnswer : Read → List ℕ
+flatAnswer (accepted t) = flatness (leftmost (nestedIn t)) (length t)
+flatAnswer (refused number place) = answered number place 0
 
 -- an answer, and what a lent buffer holds after it
 pub record Written : Type 0 where

@@ -14,6 +14,7 @@ pub mod Matching
 pub mod Machine
 pub mod Runs
 pub mod Translation
+pub mod Flat
 pub mod Packing
 pub mod Leaving
 pub mod Tokens

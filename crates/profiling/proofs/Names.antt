@@ -2,17 +2,16 @@
 use Prim.Native.Nat.{ℕ, zero, suc, _+_, _%_, _≤_, _<_}
 use native.Mathlib.Omega.{arith}
 use mathlib.Core.Bool.{not}
-use mathlib.Core.Path.{_≡_, refl, sym, _∙_, ap}
+use mathlib.Core.Path.{_≡_, refl, _∙_, ap}
 use mathlib.Core.List.{List, [], _∷_, map}
 use lib.Dec.{T, ltb→lt}
-use lib.ListN.{length, take, drop, getD, length-take}
+use lib.ListN.{length, take, drop, getD}
 use lib.Seq.{getD-take, getD-drop, length-take-le}
 use Rattle.meaning.specs.Choice.{Bytes, Name, both, every}
-use Rattle.meaning.specs.Tree.{Function, Table}
+use Rattle.meaning.specs.Tree.{Table}
 use Rattle.meaning.specs.Names.{isReserved}
-use Rattle.meaning.specs.Allowed.{isByte, spelledName, allowedFunction, namesOf, maxFunctions, allowed}
+use Rattle.meaning.specs.Allowed.{isByte, spelledName, allowedFunction, namesOf, maxFunctions}
 use Rattle.meaning.specs.Reading.{Read, accepted, refused, read}
-use Rattle.meaning.specs.Tape.{tape}
 use Rattle.meaning.proofs.laws.Passing.{both-left, both-pass, every-head, every-tail}
 use Rattle.meaning.proofs.laws.Spelling.{name-bytes, name-short}
 use Rattle.words.specs.Words.{nameIn, headName, headNames}
@@ -103,9 +102,6 @@ pub record Heads (text : Bytes) (ws heads : List ℕ) : Type 0 where
   pub named : headNames ws heads ≡ namesRead (read text)
   pub spelled : AllSpelled ws heads
   pub few : length heads ≤ maxFunctions
-
-pub read-within : {text : Bytes} {r : Reading} {tape′ : List ℕ} → Reads text r tape′ → r .words ≤ length tape′
-read-within {text} {r} {tape′} reads = omega (arith, length-take (r .words) tape′, ap length (tree-words reads), reads .words)
 
 pub heads-read : {text : Bytes} {r : Reading} {tape′ : List ℕ} (heads : List ℕ) {count : ℕ} → AreBytes text → Reads text r tape′
     → HeadsAll (take (r .words) tape′) heads count → length heads ≡ maxFunctions → Heads text (take (r .words) tape′) (take count heads)

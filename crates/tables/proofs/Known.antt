@@ -1,17 +1,20 @@
 -- What is known of a read table: an accepted one is allowed, a refused one has a number above 0.
-use Prim.Native.Nat.{ℕ, suc}
+use Prim.Native.Nat.{ℕ, suc, _≤_}
 use native.Mathlib.Omega.{arith}
-use mathlib.Core.Path.{_≡_, refl}
+use mathlib.Core.Path.{_≡_, refl, ap}
 use mathlib.Core.Bool.{true}
-use mathlib.Core.List.{[], _∷_}
+use mathlib.Core.List.{List, [], _∷_}
 use lib.Dec.{T}
 use mir.Val.{Fits}
 use mir.Syntax.{w8}
-use lib.ListN.{getD}
+use lib.ListN.{length, getD, length-take}
 use borrow.Author.Tests.{lt-ltb}
 use Rattle.meaning.specs.Choice.{Bytes, every}
 use Rattle.meaning.specs.Allowed.{isByte, allowed}
 use Rattle.meaning.specs.Reading.{Read, accepted, refused, read}
+use Rattle.reading.specs.declared.Reading.{Reading}
+use Rattle.reading.specs.Reads.{Reads}
+use Rattle.reading.proofs.Verdict.{tree-words}
 use Rattle.meaning.proofs.agreement.Choosing.{true-passed}
 use Rattle.accepting.proofs.reading.Basics.{both-true}
 use Rattle.accepting.proofs.reading.Accepted.{accepted-allows}
@@ -38,3 +41,7 @@ read-known text h = by (read text) refl
     by (refused number place) e =
         let low = refusal-numbers (refused-exactly text (bytes-known text h) number place .0 e) .0 in
         λ z. omega arith
+
+-- its words lie on the tape
+pub read-within : {text : Bytes} {r : Reading} {tape′ : List ℕ} → Reads text r tape′ → r .words ≤ length tape′
+read-within {text} {r} {tape′} reads = omega (arith, length-take (r .words) tape′, ap length (tree-words reads), reads .words)

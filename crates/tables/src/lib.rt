@@ -1,8 +1,10 @@
-// What is asked of a table text: whether it is accepted, its listing, its code.
+// What is asked of a table text: whether it is accepted and whether it is flat, its listing, its code.
+use flatness::Place;
+use flatness::nested_call;
 ghost use mathlib.Core.Path.{_≡_};
 ghost use lib.ListN.{length};
 ghost use Rattle.meaning.specs.Reading.{read};
-ghost use Rattle.meaning.specs.Entries.{answered, readAnswer, written, listed, translated};
+ghost use Rattle.meaning.specs.Entries.{answered, readAnswer, flatAnswer, written, listed, translated};
 ghost use Rattle.tables.specs.Told.{toldWords, bufferAnswer};
 
 // 01's number, the place of the fault, and what is counted: functions, bytes of the listing or words of code.
@@ -44,6 +46,22 @@ pub fn read_table(table: &[u8]) -> Told
     let reading = reading::read(table, &mut tape);
     let answer = reading.answer;
     tell(reading::number(answer), reading.place, reading.functions)
+}
+
+// 19 where a declared call is no tail call. A refused table's tape is empty, so none is found and its refusal is told.
+pub fn flat_table(table: &[u8]) -> Told
+    ensures { λ r. ⌜ toldWords r ≡ flatAnswer (read (now (table .entry))) ⌝ }
+{
+    let mut tape = tape_room();
+    let reading = reading::read(table, &mut tape);
+    let answer = reading.answer;
+    let number = reading::number(answer);
+    let words = reading.words;
+    let used = &tape[..words];
+    match nested_call(used) {
+        Place::At(place) => tell(19, place, 0),
+        Place::Nowhere => tell(number, reading.place, reading.functions),
+    }
 }
 
 // After a refusal, and where the buffer is too short, the buffer is unchanged.

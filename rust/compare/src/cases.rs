@@ -8,6 +8,7 @@ use generate::edges::edge;
 use generate::random::Random;
 use generate::{texts, trees, wild};
 use refal0_apart::corpus::{Case, Expected, Lending, Source, outcome};
+use refal0_apart::flat::flat_answer;
 use refal0_apart::machine::{self, Rooms};
 use refal0_apart::tree::Table;
 
@@ -53,7 +54,7 @@ impl Tally {
     pub fn stored(&mut self, origin: &str, case: &Case) {
         let lending = match &case.expected {
             Expected::Run(lending, _) => Some(lending),
-            Expected::Refused(_) => None,
+            Expected::Refused(_) | Expected::Flat(_) => None,
         };
         let subject = Subject { origin, lending, ..Subject::default() };
         match &case.source {
@@ -171,6 +172,10 @@ fn as_stored(case: &Case) -> Result<(), String> {
     let (lending, expected) = match &case.expected {
         Expected::Refused(refusal) => (&Lending::default(), Err(*refusal)),
         Expected::Run(lending, expected) => (lending, Ok(expected.clone())),
+        Expected::Flat(expected) => {
+            let Source::Table(table) = &case.source else { return Err("only a table is flat".to_string()) };
+            return check::equal("stored, and found by this system", *expected, flat_answer(table));
+        }
     };
     check::equal("stored, and found by this system", expected, outcome(&case.source, lending))
 }

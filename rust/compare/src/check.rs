@@ -2,6 +2,7 @@
 
 use crate::engine::{self, Left};
 use refal0_apart::corpus::Lending;
+use refal0_apart::flat::flat_answer;
 use refal0_apart::outcome::Outcome;
 use refal0_apart::packing::pack;
 use refal0_apart::reader::{Refusal, read};
@@ -35,6 +36,10 @@ pub fn reading(table: &[u8]) -> Check {
         Err(Refusal { number, place }) => answer(number, place, 0),
     };
     equal("reading: number, place, functions", expected, engine::read(table)?)
+}
+
+pub fn flatness(table: &[u8]) -> Check {
+    equal("flat: number, place, functions", flat_answer(table), engine::flat(table)?)
 }
 
 /// Translating a table that must be refused.
@@ -126,6 +131,7 @@ pub fn listing(table: &[u8], spare: usize) -> Check {
 /// All that is compared of a table alone; the tree with its code if it is accepted.
 pub fn table(text: &[u8]) -> Check<Option<(Table, Vec<u32>)>> {
     reading(text)?;
+    flatness(text)?;
     #[cfg(feature = "listing")]
     listing(text, 5)?;
     match read(text) {

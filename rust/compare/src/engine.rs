@@ -36,9 +36,19 @@ impl<const N: usize> Answer<N> {
 
 /// Number, place, functions.
 pub fn read(table: &[u8]) -> Kept<[u64; 3]> {
+    asked_of_table(table, exports::read)
+}
+
+/// Number, place, functions.
+pub fn flat(table: &[u8]) -> Kept<[u64; 3]> {
+    asked_of_table(table, exports::flat)
+}
+
+/// One call of the engine that reads a table and answers, and writes nothing else.
+fn asked_of_table(table: &[u8], call: fn(&[u8], &mut [u64; 3])) -> Kept<[u64; 3]> {
     let table = Lent::new(table, BYTE_MARK);
     let mut answer = Answer::new();
-    exports::read(table.contents(), answer.words());
+    call(table.contents(), answer.words());
     whole("the table", table.unchanged())?;
     answer.kept()
 }

@@ -7,6 +7,7 @@ unsafe extern "C" {
     #[cfg(feature = "listing")]
     fn refal0_list(table: *const u8, table_length: usize, listing: *mut u8, listing_length: usize, answer: *mut u64);
     fn refal0_translate(table: *const u8, table_length: usize, code: *mut u32, code_length: usize, answer: *mut u64);
+    fn refal0_flat(table: *const u8, table_length: usize, answer: *mut u64);
     fn refal0_run(
         code: *const u32,
         code_length: usize,
@@ -53,6 +54,12 @@ pub fn list(table: &[u8], listing: &mut [u8], answer: &mut [u64; 3]) {
     unsafe {
         refal0_list(table.as_ptr(), table.len(), listing.as_mut_ptr(), listing.len(), answer.as_mut_ptr());
     }
+}
+
+/// Answers number, place, functions.
+pub fn flat(table: &[u8], answer: &mut [u64; 3]) {
+    // SAFETY: pointers and lengths are those of the slices, for the time of the call
+    unsafe { refal0_flat(table.as_ptr(), table.len(), answer.as_mut_ptr()) }
 }
 
 /// Answers number, place, words of code.

@@ -4,6 +4,7 @@
 pub mod damage;
 pub mod dress;
 pub mod edges;
+mod flatten;
 pub mod random;
 pub mod texts;
 pub mod trees;

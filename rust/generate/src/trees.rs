@@ -1,5 +1,6 @@
 //! Random trees that keep all limits, with few different bytes so that patterns often fit.
 
+use crate::flatten::flatten;
 use crate::random::Random;
 use refal0_apart::class::{Class, RECOVER};
 use refal0_apart::reader::{CONDITION_LIMIT, ITEM_LIMIT, LETTER_LIMIT, NAME_LIMIT, NESTING_LIMIT, SYMBOL_LIMIT};
@@ -42,6 +43,9 @@ pub fn table(random: &mut Random) -> Table {
             table.functions[number].sentences.truncate(7);
             table.functions[number].sentences.push(last);
         }
+    }
+    if random.one_in(3) {
+        flatten(random, &mut table);
     }
     intern_emissions(&mut table);
     table

@@ -5,13 +5,14 @@ use generate::dress::dress;
 use generate::edges::edge;
 use generate::random::Random;
 use generate::{texts, trees};
+use refal0_apart::flat::flat;
 use refal0_apart::listing::list;
 use refal0_apart::machine::{self, Rooms};
 use refal0_apart::outcome::Outcome;
 use refal0_apart::packing::pack;
-use refal0_apart::reader::{TABLE_LIMIT, read};
+use refal0_apart::reader::{Refusal, TABLE_LIMIT, read};
 use refal0_apart::rewriter::rewrite;
-use refal0_apart::translation::translate;
+use refal0_apart::translation::{Action, Program, translate};
 use refal0_apart::tree::Table;
 use std::collections::BTreeMap;
 
@@ -103,6 +104,35 @@ fn narrowed(code: &[u32], start: usize, text: &[u8], allowance: u32, whole: &Out
     }
 }
 
+/// Whether no call of the code adds a frame.
+fn is_flat(program: &Program) -> bool {
+    let mut sentences = program.functions.iter().flat_map(|function| &function.sentences);
+    sentences.all(|code| !code.actions.iter().any(|action| matches!(action, Action::Call(_))))
+}
+
+#[test]
+fn a_table_is_flat_where_its_code_has_no_call_that_adds_a_frame() {
+    let mut random = Random::new(7);
+    let (mut flat_tables, mut others) = (0, 0);
+    for _ in 0..CASES {
+        let tree = trees::table(&mut random);
+        let text = dress(&mut random, &tree);
+        match flat(&text) {
+            Ok(functions) => {
+                assert!(functions == tree.functions.len() && is_flat(&translate(&tree)));
+                flat_tables += 1;
+            }
+            Err(Refusal { number: 19, place }) => {
+                assert!(!is_flat(&translate(&tree)));
+                assert!(place > 0 && text[place - 1] == b'<');
+                others += 1;
+            }
+            Err(refusal) => assert_eq!(refusal, Refusal { number: 1, place: 0 }),
+        }
+    }
+    assert!(flat_tables > CASES / 8 && others > CASES / 8, "{flat_tables} flat, {others} not");
+}
+
 /// Whether a function and the one that recovers it were both applied.
 fn recovers(tree: &Table, outcome: &Outcome) -> bool {
     let applied = |function: usize| outcome.counts.0[function] > 0;
@@ -113,7 +143,7 @@ fn recovers(tree: &Table, outcome: &Outcome) -> bool {
 fn the_machine_comes_to_the_rewriting() {
     let mut random = Random::new(4);
     let mut answers = BTreeMap::new();
-    let mut recovered = 0;
+    let (mut recovered, mut flat_runs) = (0, 0);
     for _ in 0..5 * CASES {
         let tree = trees::table(&mut random);
         let program = translate(&tree);
@@ -130,7 +160,12 @@ fn the_machine_comes_to_the_rewriting() {
         narrowed(&code, start, &text, allowance, &outcome, need);
         *answers.entry(outcome.answer).or_insert(0) += 1;
         recovered += usize::from(recovers(&tree, &outcome));
+        if is_flat(&program) {
+            assert!(need.frames <= 1);
+            flat_runs += 1;
+        }
     }
+    assert!(flat_runs > CASES, "{flat_runs} runs of flat tables");
     assert!(recovered > CASES / 10, "{recovered} runs recover");
     for answer in [0, 11, 12] {
         assert!(answers[&answer] > CASES / 4, "answers met: {answers:?}");

@@ -1,6 +1,7 @@
 //! Writes a corpus file from standard input with the outcomes this system finds, for review before it is kept.
 
 use refal0_apart::corpus::{Expected, Lending, Source, escape, key_and_value, outcome, parse};
+use refal0_apart::flat::flat_answer;
 use refal0_apart::outcome::Outcome;
 use refal0_apart::reader::Refusal;
 use std::io::{Read, Write};
@@ -12,7 +13,7 @@ fn main() {
     let mut output = Vec::new();
     for (number, line) in file.strip_suffix(b"\n").unwrap_or(&file).split(|&byte| byte == 10).enumerate() {
         let key = key_and_value(line).map(|(key, _)| key);
-        if !matches!(key, Some(b"gives" | b"counts" | b"result" | b"record" | b"refused")) {
+        if !matches!(key, Some(b"gives" | b"counts" | b"result" | b"record" | b"refused" | b"flat")) {
             output.extend_from_slice(line);
             output.push(10);
         }
@@ -30,6 +31,11 @@ fn expectation(source: &Source, expected: &Expected) -> String {
             Err(refusal) => refused("refused", refusal),
             Ok(_) => refused("refused", Refusal { number: 0, place: 0 }),
         },
+        Expected::Flat(_) => {
+            let Source::Table(table) = source else { panic!("only a table is flat") };
+            let [number, place, functions] = flat_answer(table);
+            format!("flat: {number} {place} {functions}\n")
+        }
         Expected::Run(lending, _) => match outcome(source, lending) {
             Err(refusal) => refused("gives: refused", refusal),
             Ok(outcome) => run_lines(&outcome),

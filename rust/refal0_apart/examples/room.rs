@@ -1,5 +1,7 @@
-//! Prints what room a table's run on a sheet needs: words of code, cells of in and out, bytes of the record, frames, steps.
+//! Prints what room a table's run on a sheet needs: words of code, cells of in and out, bytes of the record, frames,
+//! steps; and whether the table is flat.
 
+use refal0_apart::flat::flat;
 use refal0_apart::machine::{self, Rooms};
 use refal0_apart::packing;
 use refal0_apart::reader::{Refusal, read};
@@ -26,7 +28,19 @@ fn main() {
     println!("record {} bytes", need.record);
     println!("frames {}", need.frames);
     println!("steps  {}", outcome.steps);
+    println!("flat   {}", flatness(&table));
     if outcome.answer != 0 {
         println!("up to the end with {}", outcome.answer);
     }
+}
+
+/// Whether the table is flat, or where the first call stands that isn't a tail call.
+fn flatness(table: &[u8]) -> String {
+    let Err(Refusal { place, .. }) = flat(table) else { return String::from("yes") };
+    let before = &table[..place];
+    let line = before.split(|&byte| byte == 10).count();
+    let start = before.rsplit(|&byte| byte == 10).next().unwrap_or_default();
+    // the bytes that continue a character take no column
+    let column = 1 + start.iter().filter(|&&byte| !(0x80..0xc0).contains(&byte)).count();
+    format!("no, line {line}, column {column}")
 }

@@ -5,8 +5,9 @@
 //! `text: ` is a text for the last table or code; a line `with: name=number ...` before it changes what is lent.
 //! `gives: answer function steps`, `counts: ` (the functions' applications, up to the last that isn't 0), `result: `
 //! and `record: ` (each left out if empty) say what the text comes to;
-//! `refused: number place` stands for a table that is refused. Texts, results and records have the
-//! escapes `\n`, `\t`, `\\` and `\xHH`. Empty lines and lines that begin with `#` are passed over.
+//! `refused: number place` stands for a table that is refused; `flat: number place functions` says whether a table is
+//! flat. Texts, results and records have the escapes `\n`, `\t`, `\\` and `\xHH`. Empty lines and lines that begin
+//! with `#` are passed over.
 
 use crate::machine::{self, Rooms};
 use crate::outcome::{Counts, Outcome};
@@ -31,6 +32,8 @@ pub enum Source {
 #[derive(Clone, PartialEq, Eq, Debug)]
 pub enum Expected {
     Refused(Refusal),
+    /// Number, place, functions: what the test for a flat table answers.
+    Flat([u64; 3]),
     Run(Lending, Outcome),
 }
 
@@ -118,6 +121,7 @@ impl Parser {
                 let [refused, place] = numbers(value)?[..] else { return None };
                 self.case(number, Expected::Refused(Refusal { number: refused, place: place as usize }));
             }
+            b"flat" => self.case(number, Expected::Flat(numbers(value)?.try_into().ok()?)),
             _ => return self.result_line(key, value),
         }
         Some(())

@@ -4,6 +4,7 @@
 pub mod class;
 pub mod corpus;
 pub mod decoding;
+pub mod flat;
 pub mod lexer;
 pub mod listing;
 pub mod machine;

@@ -24,6 +24,11 @@ pub struct Refusal {
 pub type Read<T> = Result<T, Refusal>;
 
 pub fn read(text: &[u8]) -> Read<Table> {
+    read_with_places(text).map(|(table, _)| table)
+}
+
+/// The tree, and the places of the called names that are declared, in the order of the text.
+pub fn read_with_places(text: &[u8]) -> Read<(Table, Vec<usize>)> {
     if text.len() > TABLE_LIMIT {
         return Err(Refusal { number: 1, place: 0 });
     }
@@ -274,7 +279,7 @@ impl<'t> Reader<'t> {
     }
 
     /// Puts the functions' numbers in place of the called names.
-    fn resolve(mut self) -> Read<Table> {
+    fn resolve(mut self) -> Read<(Table, Vec<usize>)> {
         let mut numbers = Vec::new();
         for &(place, name) in &self.called {
             let number = self.table.functions.iter().position(|function| function.name == name);
@@ -286,7 +291,7 @@ impl<'t> Reader<'t> {
                 *call = numbers[*call];
             }
         }
-        Ok(self.table)
+        Ok((self.table, self.called.iter().map(|&(place, _)| place).collect()))
     }
 }
 

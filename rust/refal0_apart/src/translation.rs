@@ -193,7 +193,7 @@ fn expression_actions(table: &Table, sentence: &Sentence, metric: &Metric) -> Ve
                 position = Position::AfterPart(part);
             }
             Item::Open(_) => actions.push(Action::BeginSeq),
-            Item::Close(Callee::Function(function)) if number + 1 == items.len() => {
+            Item::Close(Callee::Function(function)) if sentence.is_tail_call(number) => {
                 actions.push(Action::Go(way_to_end(metric, position)));
                 push_call(&mut actions, Action::TailCall(function + 1));
                 return actions;

@@ -82,6 +82,11 @@ impl Sentence {
         self.templates.iter().map(Vec::len).sum()
     }
 
+    /// Whether the item at a place closes a tail call: a declared call that is the last item outermost.
+    pub fn is_tail_call(&self, at: usize) -> bool {
+        at + 1 == self.expression.len() && matches!(self.expression[at], Item::Close(Callee::Function(_)))
+    }
+
     pub fn last_template(&mut self) -> &mut Vec<Letter> {
         self.templates.last_mut().expect("a pattern has a template")
     }

@@ -1,6 +1,7 @@
 //! The stored corpus: every case comes to what is stored, none stands twice, and every answer is met.
 
 use refal0_apart::corpus::{Case, Expected, Lending, Source, escape, outcome, parse, unescape};
+use refal0_apart::flat::flat_answer;
 use refal0_apart::listing::list;
 use refal0_apart::reader::{TABLE_LIMIT, read};
 use std::collections::BTreeSet;
@@ -27,6 +28,11 @@ fn every_case_comes_to_what_is_stored() {
         let (lending, expected) = match case.expected {
             Expected::Refused(refusal) => (Lending::default(), Err(refusal)),
             Expected::Run(lending, expected) => (lending, Ok(expected)),
+            Expected::Flat(expected) => {
+                let Source::Table(table) = &case.source else { panic!("{origin}: only a table is flat") };
+                assert_eq!(flat_answer(table), expected, "{origin}");
+                continue;
+            }
         };
         assert_eq!(outcome(&case.source, &lending), expected, "{origin}");
     }
@@ -56,6 +62,10 @@ fn the_corpus_is_large_and_various() {
                 answers.insert(refusal.number);
                 String::new()
             }
+            Expected::Flat([number, ..]) => {
+                answers.insert(*number);
+                String::from("flat")
+            }
             Expected::Run(lending, expected) => {
                 answers.insert(expected.answer);
                 format!("{lending:?}")
@@ -63,7 +73,7 @@ fn the_corpus_is_large_and_various() {
         };
         assert!(seen.insert((format!("{:?}", case.source), key)), "{origin} stands twice");
     }
-    assert_eq!(answers, BTreeSet::from_iter((0..=16).chain([18])));
+    assert_eq!(answers, BTreeSet::from_iter((0..=16).chain([18, 19])));
 }
 
 #[test]

@@ -6,17 +6,16 @@ use mathlib.Core.Path.{_≡_, refl, sym}
 use mathlib.Core.Bool.{Bool, true, false}
 use mathlib.Core.List.{List, [], _∷_}
 use mathlib.Core.Option.{Option, none, some}
-use lib.ListN.{length, take}
+use lib.ListN.{length}
 use Rattle.meaning.specs.Choice.{Bytes, Name, pick, lookup}
 use Rattle.meaning.specs.Outcome.{Tally, fresh, counted, pay, emitted, Outcome, done, stop, andThen}
 use Rattle.meaning.specs.Tree.{Expression, end, thenCharacter, thenSymbol, thenPart, thenCall, Table}
 use Rattle.meaning.specs.Names.{isEmission, numberOf}
 use Rattle.meaning.specs.Rewriting.{Course, unbegun, takeStep, emitting, tallyOf, Bindings, symbolText, partText, before, evaluate, Fit, choose, functionAt, callNamed, recovererAt, unfitted, rewritten, applied, apply}
 use Rattle.meaning.specs.Instructions.{Code}
-use Rattle.meaning.specs.Matching.{chooseFrom}
-use Rattle.meaning.specs.Machine.{Noted, onward, halt, Watch, Ledger, Stacks, withTally, afterNote, wherePayable, ranPaid, enter, codeAt}
+use Rattle.meaning.specs.Machine.{Noted, onward, halt, Watch, Ledger, Stacks, withTally, afterNote, wherePayable, ranPaid, enter}
 use Rattle.meaning.specs.Runs.{loaded, from}
-use Rattle.meaning.proofs.laws.Related.{Computation, Closed, chooses}
+use Rattle.meaning.proofs.laws.Related.{Computation, Closed, choiceFor, chooses}
 
 -- what may come after a tally: no more steps left, and the same sum of steps and steps left
 pub record Spent (t u : Tally) : Type 0 where
@@ -103,12 +102,12 @@ module _ (W : Watch) where
     afforded g none k k′ alike h = unmoved
     afforded g (some t) k k′ alike h = alike g h
 
-    alike-closed : Closed W W (Alike depth depth′)
+    alike-closed : Closed W W (Unit {0}) (Alike depth depth′)
     alike-closed =
         record {
           gives = λ s g h. unmoved;
           ends = λ answer function own g h. unmoved;
-          notes = λ need k k′ alike g h. noted g (W .note (need (g .tally)) (g .tally) (g .mark)) k k′ alike h;
+          notes = λ need nesting k k′ alike g h. noted g (W .note (need (g .tally)) (g .tally) (g .mark)) k k′ alike h;
           emits = λ name text k k′ alike g h. same-later (omega arith) (alike (withTally W (emitted name text (g .tally)) g) h);
           affords = λ f k k′ alike g h. afforded g (pay f (g .tally)) k k′ alike h;
           chains = λ first first′ k k′ alike later g h.
@@ -126,8 +125,9 @@ module _ (W : Watch) where
   paid-alike depth depth′ code frame f s zero steps counts emissions m alike h = unmoved
   paid-alike depth depth′ code frame f s (suc n) steps counts emissions m alike h =
       same-later (omega arith)
-      (chooses W W (Alike depth depth′) (alike-closed depth depth′) code (enter W depth code) (enter W depth′ code) alike frame f
-      (chooseFrom 0 (codeAt code f) (take (s .selected) (s .input)))
+      (chooses W W (Unit {0}) (Alike depth depth′) (alike-closed depth depth′) code (enter W depth code) (enter W depth′ code) alike frame f
+      (choiceFor code f s)
+      (λ h. tt)
       s
       (record { tally = record { left = n; steps = suc steps; counts = counted f counts; emissions = emissions }; mark = m })
       (enough-paid h))

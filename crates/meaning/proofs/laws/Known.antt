@@ -2,7 +2,7 @@
 use mathlib.Core.Path.{_≡_, ap, sym, _∙_}
 use mathlib.Core.Bool.{Bool, true, false}
 use mathlib.Core.List.{_++_}
-use Prim.Native.Nat.{ℕ}
+use Prim.Native.Nat.{ℕ, _<_}
 use native.Mathlib.Omega.{arith}
 use lib.Dec.{T, leb}
 use lib.ListN.{length}
@@ -21,9 +21,12 @@ use Rattle.meaning.specs.Leaving.{Cells, Leaving, refused, left, roomOf,
 use Rattle.meaning.proofs.laws.Answers.{Ends, ended, unfitted, spent, rewrite-ends}
 use Rattle.meaning.proofs.laws.Translated.{unpacked}
 
--- any answer but 18
+-- any answer but one
+abbrev pub Avoids : ℕ → ℕ → Type 0
+Avoids number answer = answer ≡ number → ⊥
+
 abbrev pub Known : ℕ → Type 0
-Known answer = answer ≡ noInstruction → ⊥
+Known answer = Avoids noInstruction answer
 
 ends-known : (answer function : ℕ) → Ends answer function → Known answer
 ends-known answer function (ended e f) h = omega arith
@@ -48,27 +51,37 @@ pub agrees-known : (r : Result) (table : Table) (start : ℕ) (text : Bytes) (al
 agrees-known r table start text allowance (equal e) h = rewrite-known table start text allowance (sym (ap (λ (x : Result). x .answer) e) ∙ h)
 agrees-known r table start text allowance (passing need e) h = need-known need (sym e ∙ h)
 
-module _ (code : Code) (start : ℕ) (text : Bytes) (cells : Cells) (allowance : ℕ) where
+module _ (number : ℕ) (high : textTooLong < number) (code : Code) (start : ℕ) (text : Bytes) (cells : Cells) (allowance : ℕ) where
   abbrev ran : Result
   ran = runLent (roomOf cells) code start text allowance
 
   abbrev fitting : Bool → Leaving
   fitting fits = pick fits (left ran cells) (refused textTooLong cells)
 
-  fitting-known : (fits : Bool) → Known (ran .answer) → Known (fitting fits .result .answer)
-  fitting-known true known h = known h
-  fitting-known false known h = omega arith
+  fitting-avoids : (fits : Bool) → Avoids number (ran .answer) → Avoids number (fitting fits .result .answer)
+  fitting-avoids true avoids h = avoids h
+  fitting-avoids false avoids h = omega arith
 
-  declared-known : (declared fits : Bool) → (T declared → Known (ran .answer)) → Known (pick declared (fitting fits) (refused noSuchStart cells) .result .answer)
-  declared-known true fits known h = fitting-known fits (known tt) h
-  declared-known false fits known h = omega arith
+  declared-avoids : (declared fits : Bool) → (T declared → Avoids number (ran .answer)) →
+      Avoids number (pick declared (fitting fits) (refused noSuchStart cells) .result .answer)
+  declared-avoids true fits avoids h = fitting-avoids fits (avoids tt) h
+  declared-avoids false fits avoids h = omega arith
+
+-- what the run never answers, the packed code never does, whatever words follow it
+pub leaving-avoids : (number : ℕ) → textTooLong < number → (table : Table) → T (allowed table) →
+    (junk : Words) (start : ℕ) (text : Bytes) (cells : Cells) (allowance : ℕ) →
+    (T (isDeclared (translate table) start) → Avoids number (runLent (roomOf cells) (translate table) start text allowance .answer)) →
+    Avoids number (leaving (pack (translate table) ++ junk) start text cells allowance .result .answer)
+leaving-avoids number high table t junk start text cells allowance avoids =
+    rw (unpacked table t junk)
+    (declared-avoids number high (translate table) start text cells allowance (isDeclared (translate table) start)
+    (leb (length text) (length (cells .stackIn)))
+    avoids)
 
 -- whatever words follow the code, and whatever is lent
 pub leaving-known : (table : Table) → T (allowed table) → (junk : Words) (start : ℕ) (text : Bytes) (cells : Cells) (allowance : ℕ) →
     (T (isDeclared (translate table) start) → Agrees (runLent (roomOf cells) (translate table) start text allowance) table start text allowance) →
     Known (leaving (pack (translate table) ++ junk) start text cells allowance .result .answer)
 leaving-known table t junk start text cells allowance agrees =
-    rw (unpacked table t junk)
-    (declared-known (translate table) start text cells allowance (isDeclared (translate table) start)
-    (leb (length text) (length (cells .stackIn)))
-    (λ declared. agrees-known _ table start text allowance (agrees declared)))
+    leaving-avoids noInstruction (omega arith) table t junk start text cells allowance
+    (λ declared. agrees-known _ table start text allowance (agrees declared))

@@ -6,16 +6,14 @@ use mathlib.Core.Path.{_≡_, refl, sym, ap, _∙_}
 use mathlib.Core.Bool.{Bool, true, false}
 use mathlib.Core.List.{[]}
 use mathlib.Core.Option.{Option, none, some}
-use lib.ListN.{take}
 use Rattle.meaning.specs.Choice.{Bytes, pick}
 use Rattle.meaning.specs.Answers.{inFull, recordFull}
 use Rattle.meaning.specs.Outcome.{Tally, fresh, pay, emitted, Outcome, done, stop, andThen, told, resultOf}
 use Rattle.meaning.specs.Instructions.{Code}
-use Rattle.meaning.specs.Matching.{Choice, chooseFrom}
-use Rattle.meaning.specs.Machine.{Need, inCells, outCells, recordBytes, frames, onward, halt, Watch, Ledger, Stacks, Ran, withTally, afterNote, noting, wherePayable, ranChoice, ranPaid, enter, codeAt}
+use Rattle.meaning.specs.Machine.{Need, inCells, outCells, recordBytes, frames, onward, halt, Watch, Ledger, Stacks, Ran, withTally, afterNote, noting, wherePayable, ranChoice, ranPaid, enter}
 use Rattle.meaning.specs.Runs.{Room, passes, answerTo, endless, lent, Passed, firstPassed, watching, loaded, from, textOf, markOf, runEndless, runLent, passedFirst}
 use Rattle.meaning.proofs.laws.Answers.{StopsSo, then-stops}
-use Rattle.meaning.proofs.laws.Related.{Own, unfitting, spent, unreadable, Computation, Closed, Enters, Paying, applies}
+use Rattle.meaning.proofs.laws.Related.{Own, unfitting, spent, unreadable, Computation, Closed, Enters, choiceFor, Paying, applies}
 
 -- a watch that lets every need pass
 abbrev pub passing : (A : Type 0) → (Need → Tally → A → A) → Watch
@@ -70,12 +68,12 @@ module _ (A : Type 0) (step : Need → Tally → A → A) (U : Watch) (sees : A 
   chained (done s g) k k′ later = later s g ∙ sym (resumed-then U (sees (g .mark)) (g .tally) (done s) k′)
   chained (stop answer function g) k k′ later = sym (resumed-then U (sees (g .mark)) (g .tally) (stop answer function) k′)
 
-  reads-closed : Closed W U Reads
+  reads-closed : Closed W U (Unit {0}) Reads
   reads-closed =
       record {
         gives = λ s g. refl;
         ends = λ answer function own g. refl;
-        notes = λ need k k′ reads g.
+        notes = λ need nesting k k′ reads g.
             reads (record { tally = g .tally; mark = step (need (g .tally)) (g .tally) (g .mark) }) ∙
             law (need (g .tally)) (g .tally) (g .mark) k′ ∙
             sym (resumed-tally U (sees (g .mark)) (g .tally) (λ t h. noting U (need t) h k′));
@@ -93,13 +91,11 @@ module _ (A : Type 0) (step : Need → Tally → A → A) (U : Watch) (sees : A 
       }
 
   paid : (o : Option Tally) (code : Code) (e : Enters W) (e′ : Enters U) (frame f : ℕ) (s : Stacks) (g : Ledger A) →
-      ((c : Choice) → Reads (ranChoice W code e frame f c s) (ranChoice U code e′ frame f c s)) →
+      Reads (ranChoice W code e frame f (choiceFor code f s) s) (ranChoice U code e′ frame f (choiceFor code f s) s) →
       readFor U sees (ranPaid W code e frame f s g o) ≡ resumed U (sees (g .mark)) (g .tally) (λ h. ranPaid U code e′ frame f s h o)
   paid none code e e′ frame f s g reads = refl
   paid (some t) code e e′ frame f s g reads =
-      reads (chooseFrom 0 (codeAt code f) (take (s .selected) (s .input))) (withTally W t g) ∙
-      resumed-with U (sees (g .mark)) (g .tally) t
-      (ranChoice U code e′ frame f (chooseFrom 0 (codeAt code f) (take (s .selected) (s .input))) s)
+      reads (withTally W t g) ∙ resumed-with U (sees (g .mark)) (g .tally) t (ranChoice U code e′ frame f (choiceFor code f s) s)
 
   reads-paying : Paying W U Reads
   reads-paying code e e′ frame f s reads g =
@@ -109,7 +105,7 @@ module _ (A : Type 0) (step : Need → Tally → A → A) (U : Watch) (sees : A 
   -- the run that lets everything pass, read for the other watch, is the other watch's run, from where the mark says
   pub enter-read : (depth : ℕ) (code : Code) (frame f : ℕ) (s : Stacks) (g : Ledger A) →
       readFor U sees (enter W depth code frame f s g) ≡ resumed U (sees (g .mark)) (g .tally) (enter U depth code frame f s)
-  enter-read depth code frame f s g = applies W U Reads reads-closed reads-paying depth code frame f s g
+  enter-read depth code frame f s g = applies W U (Unit {0}) Reads reads-closed reads-paying depth code (λ f s h. tt) frame f s g
 
 -- whatever stops a run without end is its own
 abbrev pub OwnStop : Ran endless → Type 0
@@ -122,25 +118,26 @@ own-afforded : (o : Option Tally) (g : Ledger (Unit {0})) (ran : Ran endless) �
 own-afforded none g ran own = spent refl
 own-afforded (some t) g ran own = own
 
-own-closed : Closed endless endless OwnStops
+own-closed : Closed endless endless (Unit {0}) OwnStops
 own-closed =
     record {
       gives = λ s g. tt;
       ends = λ answer function own g. own;
-      notes = λ need k k′ own g. own g;
+      notes = λ need nesting k k′ own g. own g;
       emits = λ n text k k′ own g. own (withTally endless (emitted n text (g .tally)) g);
       affords = λ f k k′ own g. own-afforded (pay f (g .tally)) g (k g) (own g);
       chains = λ first first′ k k′ own later g. then-stops (λ answer function. Own answer) (first g) k (own g) later;
     }
 
 own-paid : (o : Option Tally) (code : Code) (e : Enters endless) (frame f : ℕ) (s : Stacks) (g : Ledger (Unit {0})) →
-    ((c : Choice) (g : Ledger (Unit {0})) → OwnStop (ranChoice endless code e frame f c s g)) → OwnStop (ranPaid endless code e frame f s g o)
+    ((g : Ledger (Unit {0})) → OwnStop (ranChoice endless code e frame f (choiceFor code f s) s g)) → OwnStop (ranPaid endless code e frame f s g o)
 own-paid none code e frame f s g own = spent refl
-own-paid (some t) code e frame f s g own = own (chooseFrom 0 (codeAt code f) (take (s .selected) (s .input))) (withTally endless t g)
+own-paid (some t) code e frame f s g own = own (withTally endless t g)
 
 pub endless-own : (depth : ℕ) (code : Code) (frame f : ℕ) (s : Stacks) (g : Ledger (Unit {0})) → OwnStop (enter endless depth code frame f s g)
-endless-own =
-    applies endless endless OwnStops own-closed (λ code e e′ frame f s own g. own-paid (pay f (g .tally)) code e frame f s g own)
+endless-own depth code =
+    applies endless endless (Unit {0}) OwnStops own-closed (λ code e e′ frame f s own g. own-paid (pay f (g .tally)) code e frame f s g own)
+    depth code (λ f s h. tt)
 
 -- 13 to 16
 pub record ForRoom (answer : ℕ) : Type 0 where

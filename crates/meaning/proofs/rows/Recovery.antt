@@ -92,7 +92,10 @@ recoveries =
     -- X AGAIN
     -- `X { 'a' = } RecoverX { e1 = <X e1> }`
     same (onlyA nameX ∷ taking (recovers nameX) (thenCall 0 nameX given end) ∷ []) b 5 (framed 1)
-    (result 12 0 5 (3 ∷ 2 ∷ []) [] []) ∷ []
+    (result 12 0 5 (3 ∷ 2 ∷ []) [] []) ∷
+    -- `X { 'a' = } RecoverX { e1 = <X 'a'> }`
+    same (onlyA nameX ∷ taking (recovers nameX) (thenCall 0 nameX (thenCharacter 97 end) end) ∷ []) b most (framed 1)
+    (result 0 0 3 (2 ∷ 1 ∷ []) [] []) ∷ []
 
 -- among X, RecoverX, Recover, RecoverRecover and RecoverRecoverX, X alone has a function that recovers it
 abbrev names : List Name

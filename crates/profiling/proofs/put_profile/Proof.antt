@@ -1,10 +1,11 @@
 -- `profiling::put_profile` meets its contract: the names on the tape are those of the table's functions.
 use native.Mathlib.Omega.{arith}
-use mathlib.Core.Path.{_≡_, refl, sym, _∙_, ap}
+use mathlib.Core.Path.{refl, sym, _∙_, ap}
 use lib.ListN.{length, take}
 use lib.Seq.{length-take-le}
 use Rattle.printing.proofs.Putting.{put-bytes, at-most-then, sum-near}
-use Rattle.profiling.proofs.Names.{Heads, read-within, heads-read}
+use Rattle.tables.proofs.Known.{read-within}
+use Rattle.profiling.proofs.Names.{Heads, heads-read}
 use borrow.Author.Needs.{needs}
 use Rattle.profiling.proofs.put_profile.Statement.{statement}
 use Rattle.profiling.proofs.put_profile.Tie as tie

@@ -1,6 +1,7 @@
 //! Benchmarks: the engine beside the system written apart, in one process on the same inputs, as a Markdown table.
 
 use compare::exports::{self, Cells};
+use refal0_apart::flat::flat_answer;
 use refal0_apart::machine::{self, Rooms};
 use refal0_apart::packing;
 use refal0_apart::reader::{TABLE_LIMIT, read};
@@ -18,6 +19,7 @@ fn main() {
     let table = near_the_limit();
     reading(&format!("reading a table of {} bytes", table.len()), &table);
     translating(&table);
+    flatness(&table);
     reading("reading 32,768 letters without `<`", &[b'a'; TABLE_LIMIT]);
     reading("reading one comment of 32,768 bytes", &comment());
     running("1,000,000 steps of row Z's kind", b"F { '0' e1 = <F e1 '0'>; e1 = e1 }", b"0000", 1_000_000);
@@ -77,6 +79,17 @@ fn translating(table: &[u8]) {
     let engine = best(|| exports::translate(black_box(table), &mut code, &mut answer));
     let rust = best(|| drop(black_box(packing::code(&read(black_box(table)).expect("the table is sound")))));
     row("reading and translating it", engine, rust, None, &format!("{} words of code", answer[2]));
+}
+
+/// The test for a flat table reads the table: the remark has what it takes besides.
+fn flatness(table: &[u8]) {
+    let mut answer = [0; 3];
+    let reading = best(|| exports::read(black_box(table), &mut answer));
+    let engine = best(|| exports::flat(black_box(table), &mut answer));
+    let rust = best(|| _ = black_box(flat_answer(black_box(table))));
+    assert_eq!(answer, flat_answer(table), "whether it is flat");
+    let remark = format!("answer {}; engine {:.0} % more than reading", answer[0], 100.0 * (engine / reading - 1.0));
+    row("reading it and testing whether it is flat", engine, rust, None, &remark);
 }
 
 /// The engine's time for a run, on the rooms that the run needs.
