@@ -1,5 +1,5 @@
 -- The code words of an e-variable's actions, of the rest of the field and of a call's argument.
-use Prim.Native.Nat.{ℕ}
+use Prim.Native.Nat.{ℕ, _+_, _*_}
 use mathlib.Core.Bool.{Bool}
 use mathlib.Core.List.{[], _∷_}
 use Rattle.meaning.specs.Packing.{Words, word}
@@ -22,3 +22,9 @@ restWord l w = spanWords 5 (restBy (l .parts) l w)
 -- UseSeq, and Select of nothing more
 abbrev pub readyWords : Words → Words
 readyWords more = word 11 0 0 0 ∷ word 6 0 0 0 ∷ more
+
+-- a tail call whose last e-variable stays on in: Go to it, UseSeq below it, Select it, the call, and no actions more
+abbrev pub leftWords : Lengths → Bool → Stand → ℕ → Words
+leftWords l first w number =
+    spanWords 5 (gapBy (l .parts) l first w) ∷ word 11 0 0 0 ∷ spanWords 6 (pieceSpan (l .parts) l first) ∷
+    (13 + 256 * number) ∷ 15 ∷ []

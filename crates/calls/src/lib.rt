@@ -15,7 +15,7 @@ ghost use Rattle.meaning.specs.Packing.{word};
 ghost use Rattle.words.specs.Writing.{Wrote};
 ghost use Rattle.templates.specs.Testing.{total};
 ghost use Rattle.spans.specs.Spanning.{SmallSpan};
-ghost use Rattle.calls.specs.ActionWords.{spanWords, partWords, restWord, readyWords};
+ghost use Rattle.calls.specs.ActionWords.{spanWords, partWords, restWord, readyWords, leftWords};
 
 pub fn put_span(code: &mut [u32], at: usize, number: usize, span: Span) -> usize
     requires { ⌜ SmallSpan span × (number < 256) × (at < 2 ^ 62) ⌝ }
@@ -74,4 +74,23 @@ pub fn write_call(number: usize, code: &mut [u32], at: usize) -> usize
 {
     let ready = argument_ready(code, at);
     put(code, ready, 12 + 256 * number)
+}
+
+// A tail call's last e-variable stays on in: Go to it, UseSeq below it, Select it, the call.
+pub fn write_left(
+    lengths: Lengths,
+    first: bool,
+    stand: Stand,
+    number: usize,
+    code: &mut [u32],
+    at: usize,
+) -> usize
+    requires { ⌜ (total lengths ≤ 64) × (number ≤ 64) × (at < 2 ^ 61) ⌝ }
+    ensures { λ r. ⌜ Wrote (now (code .entry)) at (leftWords lengths first stand number) (now (code .exit)) r ⌝ }
+{
+    let gone = put_span(code, at, 5, gap_of(lengths, first, stand));
+    let used = put_operands(code, gone, 11, 0, 0, 0);
+    let selected = put_span(code, used, 6, piece_span(lengths, first));
+    let called = put(code, selected, 13 + 256 * number);
+    put(code, called, 15)
 }

@@ -2,4 +2,5 @@
 pub mod Naming
 pub mod Items
 pub mod Resumed
+pub mod Endings
 pub mod Itemised

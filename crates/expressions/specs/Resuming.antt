@@ -1,16 +1,16 @@
 -- A sentence's expression as actions, as they are written item by item: what is still to be written from where the writing stands.
 use Prim.Native.Nat.{ℕ, zero, suc, _+_, _-_, _*_, _≤_, _<_}
 use mathlib.Core.Path.{_≡_}
-use mathlib.Core.Bool.{Bool, true, false}
+use mathlib.Core.Bool.{Bool, true, false, not}
 use mathlib.Core.List.{List, [], _∷_, map}
 use lib.Dec.{eqb}
 use lib.ListN.{length, drop, getD}
-use Rattle.meaning.specs.Choice.{Name, pick, Named}
+use Rattle.meaning.specs.Choice.{Name, pick, both, Named, sameBytes}
 use Rattle.meaning.specs.Tree.{Expression, Table}
 use Rattle.meaning.specs.Names.{isEmission, numberOf}
 use Rattle.meaning.specs.Allowed.{namesOf}
 use Rattle.meaning.specs.Instructions.{Site, Action}
-use Rattle.meaning.specs.Translation.{Shape, Stand as MeantStand, mannerOf, calling, items, passesRest, actionsOf}
+use Rattle.meaning.specs.Translation.{Shape, Stand as MeantStand, Level, outermost, mannerOf, levelIn, calling, items, passesRest, actionsOf}
 use Rattle.meaning.specs.Packing.{Words, word, packActions}
 use Rattle.words.specs.declared.tape.Item.{Item}
 use Rattle.words.specs.declared.tape.Item.the-variants.{Byte, Symbol, Part, Call, Pass, Close, Unclosed, Stop}
@@ -25,23 +25,24 @@ use Rattle.expressions.specs.Levels.{Levels, firstOf, othersOf, levelsIn
 use Rattle.words.specs.Writing.{Wrote, Same}
 use Rattle.words.specs.Finding.{numberAmong}
 use Rattle.templates.specs.Measuring.{flag, lengthsOf, variableOf}
-use Rattle.spans.specs.Spanning.{meantStand}
+use Rattle.spans.specs.Spanning.{meantStand, endsBy}
 use Rattle.calls.specs.ActionWords.{restWord, readyWords}
 
 -- WHAT IS STILL TO COME
 
-abbrev pub isNil : List Name → Bool
-isNil [] = true
-isNil (n ∷ ns) = false
+-- where the innermost open call's argument stands, or the expression where none is open
+unfoldable pub levelAt : Table → List Name → List Expression → Level
+levelAt t [] outer = outermost
+levelAt t (n ∷ ns) outer = levelIn (mannerOf (levelAt t ns (othersOf outer)) (firstOf outer) n) (numberOf t n)
 
 -- the actions still to come: the rest of the innermost open call's argument, then that call, what comes after it, and so on outwards
 unfoldable pub resume : Table → Shape → List (Named Site) → List Name → Expression → List Expression → MeantStand → List Action
-resume t s ss [] e outer w = items t s ss true e w (passesRest s)
+resume t s ss [] e outer w = items t s ss outermost e w (passesRest s)
 resume t s ss (n ∷ ns) e outer w =
-    items t s ss false e w
+    items t s ss (levelAt t (n ∷ ns) outer) e w
     (λ w₁.
     let more = resume t s ss ns (firstOf outer) (othersOf outer) w₁ in
-    calling s (mannerOf (isNil ns) (firstOf outer) n) (numberOf t n) n w₁ more)
+    calling s (mannerOf (levelAt t ns (othersOf outer)) (firstOf outer) n) (numberOf t n) n w₁ more)
 
 -- the names of the open calls, the innermost first
 unfoldable pub openNames : List ℕ → List ℕ → ℕ → List Name
@@ -112,6 +113,37 @@ endingWords ws heads l calls next w =
     let n = headName ws (getD calls (w .depth - 1) 0) in
     callWords (mannerNow ws calls next w) l (w .stand) (numberAmong 0 (headNames ws heads) n) n
 
+-- past the innermost open call where its argument ends; nothing more is to come where it is a tail call
+abbrev pub endingBy : Item → List ℕ → List ℕ → Walk → Walk
+endingBy Byte ws calls w = w
+endingBy Symbol ws calls w = w
+endingBy Part ws calls w = w
+endingBy Call ws calls w = w
+endingBy Pass ws calls w = w
+endingBy Close ws calls w = callDone w (w .next + 1) (w .at) (goesOn (mannerNow ws calls (w .next + 1) w))
+endingBy Unclosed ws calls w = callDone w (w .next) (w .at) (goesOn (mannerNow ws calls (w .next) w))
+endingBy Stop ws calls w = w
+
+abbrev pub pastEnding : List ℕ → List ℕ → Walk → Walk
+pastEnding ws calls w = endingBy (itemAt (drop (w .next) ws) (w .depth) (w .items)) ws calls w
+
+-- past the variable where a walk stands, with nothing written for it
+abbrev pub pastName : List ℕ → Walk → Walk
+pastName ws w = itemDone w (length (headName ws (w .next))) (w .at) (w .depth) (w .stand)
+
+-- the e-variable where a walk stands is the pattern's first
+abbrev pub isFirst : List ℕ → Pattern → Walk → Bool
+isFirst ws m w = sameBytes (headName ws (w .next)) (headName ws (m .variable))
+
+-- it stays on in: it ends a tail call's argument, and the pattern
+abbrev pub stays : List ℕ → List ℕ → Pattern → Walk → Bool
+stays ws calls m w =
+    both (not (pastEnding ws calls (pastName ws w) .more)) (endsBy (m .lengths .parts) (m .lengths) (isFirst ws m w))
+
+-- nothing more is to be written
+abbrev pub allDone : Walk → ℕ → Walk
+allDone w at = record { next = w .next; at = at; items = w .items; depth = w .depth; stand = w .stand; more = false }
+
 -- THEIR CONTRACT
 
 -- the heads are those of a table's functions, the names those of a sentence's different s-variables, and the measure that of its pattern's shape
@@ -127,6 +159,12 @@ pub record InItems (ws calls : List ℕ) (w : Walk) : Type 0 where
   pub depth : w .depth ≤ 16
   pub items : w .items ≤ 128
   pub next : w .next ≤ length ws + 1
+
+-- a call is open, and where the innermost one begins is known
+pub record Innermost (ws calls : List ℕ) (w : Walk) : Type 0 where
+  pub deep : 1 ≤ w .depth
+  pub room : w .depth ≤ length calls
+  pub known : getD calls (w .depth - 1) 0 < length ws
 
 -- what is left to be done
 abbrev pub toGo : List ℕ → Walk → ℕ

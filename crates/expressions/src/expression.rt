@@ -5,8 +5,10 @@ use calls::put_part;
 use calls::put_span;
 use calls::write_call;
 use calls::write_emission;
+use calls::write_left;
 use calls::write_tail_call;
 use spans::Stand;
+use spans::ends_pattern;
 use spans::rest_of;
 use spans::stand_after;
 use templates::pattern::Lengths;
@@ -24,15 +26,14 @@ ghost use mathlib.Core.Bool.{true, false};
 ghost use mathlib.Core.List.{[], _∷_};
 ghost use Prim.Native.Nat.{_+_, _-_, _≤_, _<_, _^_};
 ghost use lib.ListN.{length, drop, getD, set};
-ghost use Rattle.meaning.specs.Choice.{sameBytes};
 ghost use Rattle.meaning.specs.Packing.{word};
 ghost use Rattle.words.specs.Words.{headName, headNames};
 ghost use Rattle.words.specs.Writing.{Wrote};
 ghost use Rattle.words.specs.Finding.{numberAmong};
 ghost use Rattle.templates.specs.Testing.{total};
 ghost use Rattle.spans.specs.Spanning.{standAfter};
-ghost use Rattle.calls.specs.ActionWords.{partWords, restWord};
-ghost use Rattle.expressions.specs.Resuming.{itemDone, wordDone, callDone, callWords, isStop, lastCall, mannerBy, mannerNow, goesOn, endingWords, InItems, ItemsOn, ItemsAll};
+ghost use Rattle.calls.specs.ActionWords.{partWords, restWord, leftWords};
+ghost use Rattle.expressions.specs.Resuming.{itemDone, wordDone, callDone, callWords, isStop, lastCall, mannerBy, mannerNow, goesOn, endingWords, pastEnding, pastName, isFirst, stays, allDone, InItems, Innermost, ItemsOn, ItemsAll};
 
 // Where the writing of an expression stands: the tape's next word, the code's, the items so far, the open calls, and where p stands.
 pub struct Walk {
@@ -89,15 +90,25 @@ fn write_value(tape: &[u32], names: &[usize], code: &mut [u32], walk: Walk) -> W
     past_item(walk, size, at, walk.depth, stand)
 }
 
+// The e-variable where the walk stands is the pattern's first.
+fn is_first(tape: &[u32], m: Pattern, walk: Walk) -> bool
+    requires { ⌜ walk .next < length (now tape) ⌝ }
+    ensures { λ r. ⌜ r ≡ isFirst (now (tape .entry)) m walk ⌝ }
+{
+    let size = size_of(tape, walk.next);
+    name_is(tape, m.variable, walk.next + 1, size)
+}
+
+// The e-variable goes to out.
 fn write_part(tape: &[u32], m: Pattern, code: &mut [u32], walk: Walk) -> Walk
     requires { ⌜ (total (m .lengths) ≤ 64) × (walk .next < length (now tape)) × (walk .items < 128) × (walk .at < 2 ^ 61) ⌝ }
     ensures { λ r. ⌜ Wrote (now (code .entry)) (walk .at)
-        (partWords (m .lengths) (sameBytes (headName (now (tape .entry)) (walk .next)) (headName (now (tape .entry)) (m .variable))) (walk .stand)) (now (code .exit)) (r .at) ⌝ }
+        (partWords (m .lengths) (isFirst (now (tape .entry)) m walk) (walk .stand)) (now (code .exit)) (r .at) ⌝ }
     ensures { λ r. ⌜ r ≡ itemDone walk (length (headName (now (tape .entry)) (walk .next))) (r .at) (walk .depth)
-        (standAfter (m .lengths .parts) (sameBytes (headName (now (tape .entry)) (walk .next)) (headName (now (tape .entry)) (m .variable))) (walk .stand)) ⌝ }
+        (standAfter (m .lengths .parts) (isFirst (now (tape .entry)) m walk) (walk .stand)) ⌝ }
 {
     let size = size_of(tape, walk.next);
-    let first = name_is(tape, m.variable, walk.next + 1, size);
+    let first = is_first(tape, m, walk);
     let lengths = m.lengths;
     let parts = lengths.parts;
     let stand = walk.stand;
@@ -172,6 +183,18 @@ fn manner_of(emission: bool, last: bool) -> Manner
     }
 }
 
+// How the innermost open call is done, where the tape goes on at `next` after it.
+fn manner_now(tape: &[u32], calls: &[usize], next: usize, walk: Walk) -> Manner
+    requires { ⌜ Innermost (now tape) (now calls) walk ⌝ }
+    ensures { λ r. ⌜ r ≡ mannerNow (now (tape .entry)) (now (calls .entry)) next walk ⌝ }
+{
+    let depth = walk.depth - 1;
+    let head = calls[depth];
+    let size = size_of(tape, head);
+    let emission = is_emission(tape, head + 1, size);
+    manner_of(emission, is_last(tape, next, depth, walk.items))
+}
+
 // Past the end of a call, or past all actions.
 fn past_call(walk: Walk, next: usize, at: usize, more: bool) -> Walk
     ensures { λ r. ⌜ r ≡ callDone walk next at more ⌝ }
@@ -243,20 +266,115 @@ fn close_call(
     code: &mut [u32],
     walk: Walk,
 ) -> Walk
-    requires { ⌜ (1 ≤ walk .depth) × (walk .depth ≤ length (now calls)) × (getD (now calls) (walk .depth - 1) 0 < length (now tape)) ⌝ }
+    requires { ⌜ Innermost (now tape) (now calls) walk ⌝ }
     requires { ⌜ (length (now heads) ≤ 64) × (total lengths ≤ 64) × (walk .at < 2 ^ 61) ⌝ }
     ensures { λ r. ⌜ Wrote (now (code .entry)) (walk .at) (endingWords (now (tape .entry)) (now (heads .entry)) lengths (now (calls .entry)) next walk)
         (now (code .exit)) (r .at) ⌝ }
     ensures { λ r. ⌜ r ≡ callDone walk next (r .at) (goesOn (mannerNow (now (tape .entry)) (now (calls .entry)) next walk)) ⌝ }
 {
-    let depth = walk.depth - 1;
-    let head = calls[depth];
-    let size = size_of(tape, head);
-    let emission = is_emission(tape, head + 1, size);
-    let manner = manner_of(emission, is_last(tape, next, depth, walk.items));
+    let manner = manner_now(tape, calls, next, walk);
+    let head = calls[walk.depth - 1];
     let stand = walk.stand;
     let at = write_ending(tape, heads, lengths, head, manner, stand, code, walk.at);
     past_call(walk, next, at, goes_on(manner))
+}
+
+// Past the innermost open call, with nothing written for it.
+fn past_argument(tape: &[u32], calls: &[usize], next: usize, walk: Walk) -> Walk
+    requires { ⌜ Innermost (now tape) (now calls) walk ⌝ }
+    ensures { λ r. ⌜ r ≡ callDone walk next (walk .at)
+        (goesOn (mannerNow (now (tape .entry)) (now (calls .entry)) next walk)) ⌝ }
+{
+    let manner = manner_now(tape, calls, next, walk);
+    past_call(walk, next, walk.at, goes_on(manner))
+}
+
+// The same where its argument ends; nothing more is to come where it is a tail call.
+fn past_ending(tape: &[u32], calls: &[usize], walk: Walk) -> Walk
+    requires { ⌜ InItems (now tape) (now calls) walk ⌝ }
+    ensures { λ r. ⌜ r ≡ pastEnding (now (tape .entry)) (now (calls .entry)) walk ⌝ }
+{
+    let item = item_at(tape, walk.next, walk.depth, walk.items);
+    match item {
+        Item::Byte => walk,
+        Item::Symbol => walk,
+        Item::Part => walk,
+        Item::Call => walk,
+        Item::Pass => walk,
+        Item::Close => past_argument(tape, calls, walk.next + 1, walk),
+        Item::Unclosed => past_argument(tape, calls, walk.next, walk),
+        Item::Stop => walk,
+    }
+}
+
+// Past the e-variable where the walk stands, and past the call whose argument it ends.
+fn past_part(tape: &[u32], calls: &[usize], walk: Walk) -> Walk
+    requires { ⌜ InItems (now tape) (now calls) walk × (walk .next < length (now tape)) × (walk .items < 128) ⌝ }
+    ensures { λ r. ⌜ r ≡ pastEnding (now (tape .entry)) (now (calls .entry)) (pastName (now (tape .entry)) walk) ⌝ }
+{
+    let size = size_of(tape, walk.next);
+    let stand = walk.stand;
+    past_ending(
+        tape,
+        calls,
+        past_item(walk, size, walk.at, walk.depth, stand),
+    )
+}
+
+// The e-variable where the walk stands stays on in: it ends a tail call's argument, and the pattern.
+fn part_stays(tape: &[u32], m: Pattern, calls: &[usize], walk: Walk) -> bool
+    requires { ⌜ InItems (now tape) (now calls) walk × (walk .next < length (now tape)) × (walk .items < 128) ⌝ }
+    ensures { λ r. ⌜ r ≡ stays (now (tape .entry)) (now (calls .entry)) m walk ⌝ }
+{
+    if past_part(tape, calls, walk).more {
+        return false;
+    }
+    let lengths = m.lengths;
+    ends_pattern(lengths, is_first(tape, m, walk))
+}
+
+// Nothing more is to be written.
+fn all_done(walk: Walk, at: usize) -> Walk
+    ensures { λ r. ⌜ r ≡ allDone walk at ⌝ }
+{
+    let stand = walk.stand;
+    Walk {
+        next: walk.next,
+        at,
+        items: walk.items,
+        depth: walk.depth,
+        stand,
+        more: false,
+    }
+}
+
+// It is left there, and the tail call ends the actions.
+fn leave_part(
+    tape: &[u32],
+    heads: &[usize],
+    m: Pattern,
+    calls: &[usize],
+    code: &mut [u32],
+    walk: Walk,
+) -> Walk
+    requires { ⌜ InItems (now tape) (now calls) walk × (walk .next < length (now tape)) × (walk .items < 128) ×
+        Innermost (now tape) (now calls) walk ⌝ }
+    requires { ⌜ (length (now heads) ≤ 64) × (total (m .lengths) ≤ 64) × (walk .at < 2 ^ 61) ⌝ }
+    ensures { λ r. ⌜ Wrote (now (code .entry)) (walk .at)
+        (leftWords (m .lengths) (isFirst (now (tape .entry)) m walk) (walk .stand)
+        (numberAmong 0 (headNames (now (tape .entry)) (now (heads .entry)))
+        (headName (now (tape .entry)) (getD (now (calls .entry)) (walk .depth - 1) 0)))) (now (code .exit)) (r .at) ⌝ }
+    ensures { λ r. ⌜ r ≡ allDone (pastEnding (now (tape .entry)) (now (calls .entry)) (pastName (now (tape .entry)) walk))
+        (r .at) ⌝ }
+{
+    let past = past_part(tape, calls, walk);
+    let first = is_first(tape, m, walk);
+    let head = calls[walk.depth - 1];
+    let number = number_of(tape, heads, head, size_of(tape, head));
+    let lengths = m.lengths;
+    let stand = walk.stand;
+    let at = write_left(lengths, first, stand, number, code, walk.at);
+    all_done(past, at)
 }
 
 fn write_item(
@@ -277,7 +395,12 @@ fn write_item(
     match item {
         Item::Byte => write_character(tape, code, walk),
         Item::Symbol => write_value(tape, names, code, walk),
-        Item::Part => write_part(tape, m, code, walk),
+        Item::Part => {
+            if part_stays(tape, m, calls, walk) {
+                return leave_part(tape, heads, m, calls, code, walk);
+            }
+            write_part(tape, m, code, walk)
+        }
         Item::Call => open_call(tape, calls, code, walk),
         Item::Pass => past_word(walk),
         Item::Close => close_call(tape, heads, lengths, calls, walk.next + 1, code, walk),

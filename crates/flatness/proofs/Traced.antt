@@ -13,7 +13,7 @@ use Rattle.meaning.specs.Names.{isEmission, isReserved}
 use Rattle.meaning.specs.Tree.{Expression, end, thenCharacter, thenSymbol, thenPart, thenCall, Sentence, Function, Table}
 use Rattle.meaning.specs.Allowed.{isByte, spelledName, spelledIdentifier, someSentence, allowedSentence, allowedFunction, allowed}
 use Rattle.meaning.specs.Tape.{tapeWord, named, symbolKind, partKind, equalsKind, closeKind, nextKind, endKind, functionKind, callKind, patternTape, conditionsTape, expressionTape, sentenceTape, sentencesTape, tape}
-use Rattle.meaning.specs.Translation.{Manner, emits, replaces, nests, isLast, mannerOf}
+use Rattle.meaning.specs.Translation.{Manner, emits, replaces, nests, Level, outermost, inside, isLast, mannerOf}
 use Rattle.meaning.specs.Flat.{nestedAt, nestedCalls, nestedSentences, nestedIn, leftmost}
 use Rattle.meaning.proofs.laws.Passing.{both-left, both-right, both-pass, every-head, every-tail}
 use Rattle.meaning.proofs.laws.Spelling.{name-short, identifier-short, identifier-bytes}
@@ -29,46 +29,47 @@ use Rattle.flatness.proofs.Spelled.{byte-quiet, bytes-quiet, name-quiet
 -- where the scan stands: outside all calls, or with so many open inside an outermost one
 data Standing : Type 0 where
   outside : Standing
-  inside : ℕ → ℕ → Standing
+  within : ℕ → ℕ → Standing
 
-abbrev isOutside : Standing → Bool
-isOutside outside = true
-isOutside (inside d p) = false
+-- as translation says it
+abbrev levelOf : Standing → Level
+levelOf outside = outermost
+levelOf (within d p) = inside
 
 -- there, with the leftmost place so far
 abbrev at : Standing → ℕ → Scan
 at outside o = record { depth = 0; outermost = 0; leftmost = o }
-at (inside d p) o = record { depth = suc d; outermost = p; leftmost = o }
+at (within d p) o = record { depth = suc d; outermost = p; leftmost = o }
 
 -- where it stands in a call's argument, and the leftmost place after the call is opened and after it is closed
 abbrev openIn : Standing → ℕ
 openIn outside = 0
-openIn (inside d p) = suc d
+openIn (within d p) = suc d
 
 abbrev outermostIn : Standing → ℕ → ℕ
 outermostIn outside call = call
-outermostIn (inside d p) call = p
+outermostIn (within d p) call = p
 
 abbrev deeper : Standing → ℕ → Standing
-deeper st call = inside (openIn st) (outermostIn st call)
+deeper st call = within (openIn st) (outermostIn st call)
 
 abbrev whenOpened : Standing → ℕ → ℕ → ℕ
 whenOpened outside call o = o
-whenOpened (inside d p) call o = earlier call o
+whenOpened (within d p) call o = earlier call o
 
 abbrev whenClosed : Standing → Bool → ℕ → ℕ → ℕ
 whenClosed outside followed call o = earlier (onlyIf followed call) o
-whenClosed (inside d p) followed call o = o
+whenClosed (within d p) followed call o = o
 
 opens : (st : Standing) (call o : ℕ) → opened call (at st o) ≡ at (deeper st call) (whenOpened st call o)
 opens outside call o = refl
-opens (inside d p) call o =
+opens (within d p) call o =
     let more : suc d + 1 ≡ suc (suc d) = omega arith in
     rw (ne-eqb (suc d) 0 (omega arith), more)
 
 closes : (st : Standing) (followed : Bool) (call o : ℕ) → closed followed (at (deeper st call) o) ≡ at st (whenClosed st followed call o)
 closes outside followed call o = refl
-closes (inside d p) followed call o =
+closes (within d p) followed call o =
     let less : suc (suc d) - 1 ≡ suc d = omega arith in
     rw (lt-ltb 1 (suc (suc d)) (omega arith), less)
 
@@ -128,7 +129,7 @@ found-early q a e o =
 
 -- an item follows a call unless it is the last
 item-follows : (e : Expression) (rest : List ℕ) → T (legible e) → itemFollows rest ≡ false
-    → itemFollows (expressionTape e ++ rest) ≡ not (isLast true e)
+    → itemFollows (expressionTape e ++ rest) ≡ not (isLast outermost e)
 unfolding expressionTape legible
 item-follows end rest t h = h
 item-follows (thenCharacter c e) rest t h = rw (lt-ltb c 768 (omega (arith, ltb→lt c 256 (both-left (isByte c) _ t))))
@@ -143,19 +144,19 @@ item-follows (thenCall place n a e) rest t h =
 -- no item follows an outermost expression
 abbrev Ends : Standing → List ℕ → Type 0
 Ends outside rest = itemFollows rest ≡ false
-Ends (inside d p) rest = Unit {0}
+Ends (within d p) rest = Unit {0}
 
 call-told : (st : Standing) (place : ℕ) (n : Name) (e : Expression) (rest : List ℕ) (xs : List ℕ) (o : ℕ) → T (legible e) → Ends st rest
     → let call = onlyIf (not (isEmission n)) (suc place) in
-    let ys = nestedCalls (isOutside st) e in
+    let ys = nestedCalls (levelOf st) e in
     earlier (foundIn ys) (whenClosed st (itemFollows (expressionTape e ++ rest)) call (earlier (foundIn xs) (whenOpened st call o)))
-    ≡ earlier (foundIn (nestedAt (mannerOf (isOutside st) e n) place (xs ++ ys))) o
+    ≡ earlier (foundIn (nestedAt (mannerOf (levelOf st) e n) place (xs ++ ys))) o
 call-told outside place n e rest xs o t h =
-    rw (item-follows e rest t h, manner-place (isEmission n) (isLast true e) place, nested-found (mannerOf true e n) place xs (nestedCalls true e))
-    (found-late (countedCall (mannerOf true e n) place) (foundIn xs) (foundIn (nestedCalls true e)) o)
-call-told (inside d p) place n e rest xs o t h =
-    rw (nested-found (mannerOf false e n) place xs (nestedCalls false e), ← (manner-place (isEmission n) false place))
-    (found-early (onlyIf (not (isEmission n)) (suc place)) (foundIn xs) (foundIn (nestedCalls false e)) o)
+    rw (item-follows e rest t h, manner-place (isEmission n) (isLast outermost e) place, nested-found (mannerOf outermost e n) place xs (nestedCalls outermost e))
+    (found-late (countedCall (mannerOf outermost e n) place) (foundIn xs) (foundIn (nestedCalls outermost e)) o)
+call-told (within d p) place n e rest xs o t h =
+    rw (nested-found (mannerOf inside e n) place xs (nestedCalls inside e), ← (manner-place (isEmission n) false place))
+    (found-early (onlyIf (not (isEmission n)) (suc place)) (foundIn xs) (foundIn (nestedCalls inside e)) o)
 
 variable-then : (kind : ℕ) (x : Name) (ws : List ℕ) (s : Scan) → kind < 3 → T (spelledIdentifier x) → scanned (named kind x ++ ws) s ≡ scanned ws s
 unfolding every
@@ -165,7 +166,7 @@ variable-then kind x ws s h t =
     (bytes-quiet x (identifier-bytes x t)))
 
 expression-traced : (st : Standing) (e : Expression) (rest : List ℕ) (o : ℕ) → T (legible e) → Ends st rest
-    → scanned (expressionTape e ++ rest) (at st o) ≡ scanned rest (at st (earlier (foundIn (nestedCalls (isOutside st) e)) o))
+    → scanned (expressionTape e ++ rest) (at st o) ≡ scanned rest (at st (earlier (foundIn (nestedCalls (levelOf st) e)) o))
 unfolding expressionTape legible nestedCalls leftmost
 expression-traced st end rest o t h = refl
 expression-traced st (thenCharacter c e) rest o t h =
@@ -186,7 +187,7 @@ expression-traced st (thenCall place n a e) rest o t h =
     let inE = both-right (legible a) (legible e) others in
     let call = onlyIf (not (isEmission n)) (suc place) in
     let later = expressionTape e ++ rest in
-    let xs = nestedCalls false a in
+    let xs = nestedCalls inside a in
     rw (
       append-assoc (named (callKind + place) n) (expressionTape a ++ tapeWord closeKind 0 ∷ expressionTape e) rest,
       append-assoc (expressionTape a) (tapeWord closeKind 0 ∷ expressionTape e) rest,
@@ -202,7 +203,7 @@ expression-traced st (thenCall place n a e) rest o t h =
 
 -- the word after a sentence: another follows, or the function ends
 sentence-traced : (s : Sentence) (w : ℕ) (ws : List ℕ) (o : ℕ) → T (allowedSentence s) → isItem w ≡ false
-    → scanned (sentenceTape s ++ (w ∷ ws)) (at outside o) ≡ scanned (w ∷ ws) (at outside (earlier (foundIn (nestedCalls true (s .expression))) o))
+    → scanned (sentenceTape s ++ (w ∷ ws)) (at outside o) ≡ scanned (w ∷ ws) (at outside (earlier (foundIn (nestedCalls outermost (s .expression))) o))
 sentence-traced s w ws o t h =
     let plain = allowed-plain s t in
     let p = patternTape (s .pattern) in
@@ -219,7 +220,7 @@ sentences-traced : (ss : List Sentence) (rest : List ℕ) (o : ℕ) → T (every
 unfolding sentencesTape nestedSentences leftmost
 sentences-traced [] rest o t = quiet-word (tapeWord endKind 0) rest (at outside o) tt
 sentences-traced (s ∷ []) rest o t =
-    rw (append-assoc (sentenceTape s) (tapeWord endKind 0 ∷ []) rest, append-nil (nestedCalls true (s .expression)))
+    rw (append-assoc (sentenceTape s) (tapeWord endKind 0 ∷ []) rest, append-nil (nestedCalls outermost (s .expression)))
     (sentence-traced s (tapeWord endKind 0) rest o (every-head allowedSentence s [] t) refl)
     ∙ quiet-word (tapeWord endKind 0) rest _ tt
 sentences-traced (s ∷ r ∷ rs) rest o t =
@@ -228,7 +229,7 @@ sentences-traced (s ∷ r ∷ rs) rest o t =
     (sentence-traced s (tapeWord nextKind 0) (later ++ rest) o (every-head allowedSentence s (r ∷ rs) t) refl)
     ∙ quiet-word (tapeWord nextKind 0) (later ++ rest) _ tt
     ∙ sentences-traced (r ∷ rs) rest _ (every-tail allowedSentence s (r ∷ rs) t)
-    ∙ ap (λ (q : ℕ). scanned rest (at outside q)) (found-then (nestedCalls true (s .expression)) (nestedSentences (r ∷ rs)) o)
+    ∙ ap (λ (q : ℕ). scanned rest (at outside q)) (found-then (nestedCalls outermost (s .expression)) (nestedSentences (r ∷ rs)) o)
 
 -- THE TABLE
 

@@ -1,7 +1,7 @@
 -- 02, T-06: "A flat table's run never reaches frame 2, so 15 can't be given." For every flat table, start, text, allowance and whatever is lent.
 use Prim.Native.Nat.{ℕ, _≤_, min}
 use native.Mathlib.Omega.{arith}
-use mathlib.Core.Path.{_≡_, refl, sym, ap}
+use mathlib.Core.Path.{_≡_, refl, sym, ap, _∙_}
 use mathlib.Core.Logic.{_↔_}
 use mathlib.Core.Bool.{Bool, true, false, not}
 use mathlib.Core.List.{List, [], _∷_, _++_, map}
@@ -16,7 +16,7 @@ use Rattle.meaning.specs.Names.{numberOf, recovererOf}
 use Rattle.meaning.specs.Allowed.{allowed}
 use Rattle.meaning.specs.Instructions.{Site, Action}
 use Rattle.meaning.specs.Runs.{Room, runLent}
-use Rattle.meaning.specs.Translation.{Shape, shapeOf, testedShape, Stand, atStart, passage, Manner, emits, replaces, nests, mannerOf, calling, items, passesRest, actionsOf, translatedSentences, translatedFunction, translate}
+use Rattle.meaning.specs.Translation.{Shape, shapeOf, testedShape, Stand, atStart, Passage, passage, Manner, emits, replaces, nests, Level, outermost, inside, inTail, mannerOf, levelIn, leftFor, whereLeft, calling, items, passesRest, actionsOf, translatedSentences, translatedFunction, translate}
 use Rattle.meaning.specs.Packing.{Words, pack}
 use Rattle.meaning.specs.Leaving.{Cells, roomOf, leaving}
 use Rattle.meaning.specs.Reading.{accepted}
@@ -45,6 +45,20 @@ nested-empty emits place xs ys e = append-empty xs ys e
 nested-empty replaces place xs ys e = append-empty xs ys e
 nested-empty nests place xs ys e = no-cons (sym e)
 
+-- in a tail call's argument the calls are as in any other
+in-tail : (f : ℕ) (e : Expression) → nestedCalls (inTail f) e ≡ nestedCalls inside e
+unfolding nestedCalls
+in-tail f end = refl
+in-tail f (thenCharacter c e) = in-tail f e
+in-tail f (thenSymbol x e) = in-tail f e
+in-tail f (thenPart x e) = in-tail f e
+in-tail f (thenCall place n a e) = rw (in-tail f e)
+
+in-argument : (m : Manner) (number : ℕ) (e : Expression) → nestedCalls (levelIn m number) e ≡ nestedCalls inside e
+in-argument emits number e = refl
+in-argument replaces number e = in-tail number e
+in-argument nests number e = refl
+
 module _ (table : Table) (shape : Shape) (sites : List (Named Site)) where
   calling-flat : (m : Manner) (place : ℕ) (others : List ℕ) (n : Name) (w : Stand) (more : List Action) → nestedAt m place others ≡ [] →
       (T (anyCall more) → ⊥) → T (anyCall (calling shape m (numberOf table n) n w more)) → ⊥
@@ -53,30 +67,37 @@ module _ (table : Table) (shape : Shape) (sites : List (Named Site)) where
   calling-flat replaces place others n w more e h t = t
   calling-flat nests place others n w more e h t = no-cons (sym e)
 
-  items-flat : (outermost : Bool) (e : Expression) (w : Stand) (rest : Stand → List Action) → nestedCalls outermost e ≡ [] →
-      ((w₁ : Stand) → T (anyCall (rest w₁)) → ⊥) → T (anyCall (items table shape sites outermost e w rest)) → ⊥
+  -- a part that stays on in is followed by its tail call
+  left-flat : (o : Option ℕ) (way : Passage) (moving : List Action) → (T (anyCall moving) → ⊥) → T (anyCall (whereLeft o way moving)) → ⊥
+  unfolding anyCall
+  left-flat none way moving h t = h t
+  left-flat (some f) way moving h t = t
+
+  items-flat : (level : Level) (e : Expression) (w : Stand) (rest : Stand → List Action) → nestedCalls level e ≡ [] →
+      ((w₁ : Stand) → T (anyCall (rest w₁)) → ⊥) → T (anyCall (items table shape sites level e w rest)) → ⊥
   unfolding nestedCalls items anyCall
-  items-flat outermost end w rest empty h t = h w t
-  items-flat outermost (thenCharacter c e) w rest empty h t = items-flat outermost e w rest empty h t
-  items-flat outermost (thenSymbol x e) w rest empty h t = items-flat outermost e w rest empty h t
-  items-flat outermost (thenPart x e) w rest empty h t = items-flat outermost e (passage shape x w .after) rest empty h t
-  items-flat outermost (thenCall place n a e) w rest empty h t =
-      let parts = nested-empty (mannerOf outermost e n) place (nestedCalls false a) (nestedCalls outermost e) empty in
-      items-flat false a w _ (parts .first)
-      (λ w₁. calling-flat (mannerOf outermost e n) place _ n w₁ (items table shape sites outermost e w₁ rest) empty
-      (items-flat outermost e w₁ rest (parts .second) h))
+  items-flat level end w rest empty h t = h w t
+  items-flat level (thenCharacter c e) w rest empty h t = items-flat level e w rest empty h t
+  items-flat level (thenSymbol x e) w rest empty h t = items-flat level e w rest empty h t
+  items-flat level (thenPart x e) w rest empty h t =
+      left-flat (leftFor shape level x e) (passage shape x w) _ (items-flat level e (passage shape x w .after) rest empty h) t
+  items-flat level (thenCall place n a e) w rest empty h t =
+      let parts = nested-empty (mannerOf level e n) place (nestedCalls inside a) (nestedCalls level e) empty in
+      items-flat (levelIn (mannerOf level e n) (numberOf table n)) a w _ (in-argument (mannerOf level e n) (numberOf table n) a ∙ parts .first)
+      (λ w₁. calling-flat (mannerOf level e n) place _ n w₁ (items table shape sites level e w₁ rest) empty
+      (items-flat level e w₁ rest (parts .second) h))
       t
 
-  actions-flat : (e : Expression) → nestedCalls true e ≡ [] → T (anyCall (actionsOf table shape sites e)) → ⊥
+  actions-flat : (e : Expression) → nestedCalls outermost e ≡ [] → T (anyCall (actionsOf table shape sites e)) → ⊥
   unfolding anyCall
-  actions-flat e empty t = items-flat true e atStart (passesRest shape) empty (λ w t. t) t
+  actions-flat e empty t = items-flat outermost e atStart (passesRest shape) empty (λ w t. t) t
 
 module _ (table : Table) where
   sentences-flat : (r : ℕ) (ss : List Sentence) → nestedSentences ss ≡ [] → T (sentencesCall (translatedSentences table r ss)) → ⊥
   unfolding nestedSentences translatedSentences sentencesCall
   sentences-flat r [] empty t = t
   sentences-flat r (s ∷ ss) empty t =
-      let parts = append-empty (nestedCalls true (s .expression)) (nestedSentences ss) empty in
+      let parts = append-empty (nestedCalls outermost (s .expression)) (nestedSentences ss) empty in
       let shape = shapeOf (s .pattern) in
       neither (anyCall (actionsOf table shape (testedShape shape .sites) (s .expression))) (sentencesCall (translatedSentences table r ss))
       (actions-flat table shape (testedShape shape .sites) (s .expression) (parts .first)) (sentences-flat r ss (parts .second)) t

@@ -15,6 +15,7 @@ pub mod Answers
 pub mod Known
 pub mod Counts
 pub mod Framing
+pub mod Lighter
 pub mod Related
 pub mod Depth
 pub mod Room

@@ -17,3 +17,4 @@ pub mod Tape
 pub mod Words
 pub mod Parts
 pub mod Flatness
+pub mod Endings

@@ -1,12 +1,12 @@
 -- 02, T-06: "A flat table calls declared functions only by tail calls; Emit names may be called anywhere in it."
 -- "New: 19, a declared call that is not a tail call, with the place of its name, leftmost".
 use Prim.Native.Nat.{ℕ, min}
-use mathlib.Core.Bool.{Bool, true, false, not}
+use mathlib.Core.Bool.{Bool, not}
 use mathlib.Core.List.{List, [], _∷_, _++_}
 use mathlib.Core.Option.{Option, none, some}
 use Rattle.meaning.specs.Choice.{isSome}
 use Rattle.meaning.specs.Tree.{Expression, end, thenCharacter, thenSymbol, thenPart, thenCall, Sentence, Table}
-use Rattle.meaning.specs.Translation.{Manner, emits, replaces, nests, mannerOf}
+use Rattle.meaning.specs.Translation.{Manner, emits, replaces, nests, Level, outermost, inside, mannerOf}
 
 -- a call's place, where it is done in a frame of its own, and those of others
 abbrev pub nestedAt : Manner → ℕ → List ℕ → List ℕ
@@ -15,17 +15,17 @@ nestedAt replaces place others = others
 nestedAt nests place others = place ∷ others
 
 -- the places of an expression's declared calls that are no tail calls: `mannerOf` says of translation which are
-unfoldable pub nestedCalls : Bool → Expression → List ℕ
-nestedCalls outermost end = []
-nestedCalls outermost (thenCharacter c e) = nestedCalls outermost e
-nestedCalls outermost (thenSymbol x e) = nestedCalls outermost e
-nestedCalls outermost (thenPart x e) = nestedCalls outermost e
-nestedCalls outermost (thenCall place n a e) =
-    nestedAt (mannerOf outermost e n) place (nestedCalls false a ++ nestedCalls outermost e)
+unfoldable pub nestedCalls : Level → Expression → List ℕ
+nestedCalls level end = []
+nestedCalls level (thenCharacter c e) = nestedCalls level e
+nestedCalls level (thenSymbol x e) = nestedCalls level e
+nestedCalls level (thenPart x e) = nestedCalls level e
+nestedCalls level (thenCall place n a e) =
+    nestedAt (mannerOf level e n) place (nestedCalls inside a ++ nestedCalls level e)
 
 unfoldable pub nestedSentences : List Sentence → List ℕ
 nestedSentences [] = []
-nestedSentences (s ∷ ss) = nestedCalls true (s .expression) ++ nestedSentences ss
+nestedSentences (s ∷ ss) = nestedCalls outermost (s .expression) ++ nestedSentences ss
 
 -- "looks at the whole accepted table"
 unfoldable pub nestedIn : Table → List ℕ

@@ -15,6 +15,7 @@ pub mod Machine
 pub mod Runs
 pub mod Translation
 pub mod Flat
+pub mod Earlier
 pub mod Packing
 pub mod Leaving
 pub mod Tokens

@@ -6,7 +6,7 @@ use mathlib.Core.Bool.{Bool, true, false}
 use mathlib.Core.List.{List, [], _∷_, _++_, map}
 use mathlib.Core.Option.{Option, none, some}
 use lib.ListN.{length}
-use Rattle.meaning.specs.Choice.{Name, pick, Named, lookup, sameBytes}
+use Rattle.meaning.specs.Choice.{Name, pick, both, guard, Named, lookup, sameBytes}
 use Rattle.meaning.specs.Tree.{Letter, character, symbol, Element, letter, part, Subject, ofSymbol, ofPart, Condition, Expression, end, thenCharacter, thenSymbol, thenPart, thenCall, Sentence, Function, Table}
 use Rattle.meaning.specs.Classes.{Class}
 use Rattle.meaning.specs.Names.{isEmission, numberOf, recovererOf}
@@ -173,17 +173,55 @@ restOf (open₂ h y m z t) afterSecond = span null (length t) 0
 pub data Manner : Type 0 where
   emits replaces nests : Manner
 
--- "the last item outermost": nothing comes after it
-abbrev pub isLast : Bool → Expression → Bool
-isLast false e = false
-isLast true end = true
-isLast true (thenCharacter c e) = false
-isLast true (thenSymbol x e) = false
-isLast true (thenPart x e) = false
-isLast true (thenCall place n a e) = false
+-- where an expression stands: it is a sentence's, or a call's argument, or the argument of a tail call of a function
+pub data Level : Type 0 where
+  outermost inside : Level
+  inTail : ℕ → Level
 
-abbrev pub mannerOf : Bool → Expression → Name → Manner
-mannerOf outermost after n = pick (isEmission n) emits (pick (isLast outermost after) replaces nests)
+abbrev pub isEnd : Expression → Bool
+isEnd end = true
+isEnd (thenCharacter c e) = false
+isEnd (thenSymbol x e) = false
+isEnd (thenPart x e) = false
+isEnd (thenCall place n a e) = false
+
+-- "the last item outermost": nothing comes after it
+abbrev pub isLast : Level → Expression → Bool
+isLast outermost e = isEnd e
+isLast inside e = false
+isLast (inTail f) e = false
+
+abbrev pub mannerOf : Level → Expression → Name → Manner
+mannerOf level after n = pick (isEmission n) emits (pick (isLast level after) replaces nests)
+
+-- a call's argument
+abbrev pub levelIn : Manner → ℕ → Level
+levelIn emits number = inside
+levelIn replaces number = inTail number
+levelIn nests number = inside
+
+-- 02, T-07: "Where a tail call's argument ends with an e-variable that also ends the pattern, that part stays on in"
+
+abbrev pub isNone : List Letter → Bool
+isNone [] = true
+isNone (l ∷ ls) = false
+
+-- the e-variable is the pattern's last, and no template comes after it
+abbrev pub endsPattern : Shape → Name → Bool
+endsPattern (fixed t) x = false
+endsPattern (open₁ h y t) x = isNone t
+endsPattern (open₂ h y m z t) x = pick (sameBytes x y) false (isNone t)
+
+-- the function whose tail call leaves an e-variable on in, `after` being what follows the e-variable in the argument
+abbrev pub leftFor : Shape → Level → Name → Expression → Option ℕ
+leftFor shape outermost x after = none
+leftFor shape inside x after = none
+leftFor shape (inTail f) x after = guard (both (isEnd after) (endsPattern shape x)) (some f)
+
+-- "Only the items before it go to out, and UseSeq puts them just below it"
+abbrev pub whereLeft : Option ℕ → Passage → List Action → List Action
+whereLeft none way moving = moving
+whereLeft (some f) way moving = go (way .gap) ∷ useSequence ∷ select (way .piece) ∷ tailCall f ∷ []
 
 abbrev pub argumentReady : List Action → List Action
 argumentReady more = useSequence ∷ select nowhere ∷ more
@@ -195,23 +233,25 @@ calling shape replaces number n w more = go (restOf shape w) ∷ argumentReady (
 calling shape nests number n w more = argumentReady (call number ∷ more)
 
 module _ (table : Table) (shape : Shape) (sites : List (Named Site)) where
-  -- an expression's instructions, outermost or inside a call, from where p stands, followed by what comes after it
-  unfoldable pub items : Bool → Expression → Stand → (Stand → List Action) → List Action
-  items outermost end w rest = rest w
-  items outermost (thenCharacter c e) w rest = outCharacter c ∷ items outermost e w rest
-  items outermost (thenSymbol x e) w rest = outValue (valueNumber sites x) ∷ items outermost e w rest
-  items outermost (thenPart x e) w rest =
-      go (passage shape x w .gap) ∷ select (passage shape x w .piece) ∷ out ∷ items outermost e (passage shape x w .after) rest
-  items outermost (thenCall place n a e) w rest =
+  -- an expression's instructions from where p stands, followed by what comes after it
+  unfoldable pub items : Level → Expression → Stand → (Stand → List Action) → List Action
+  items level end w rest = rest w
+  items level (thenCharacter c e) w rest = outCharacter c ∷ items level e w rest
+  items level (thenSymbol x e) w rest = outValue (valueNumber sites x) ∷ items level e w rest
+  items level (thenPart x e) w rest =
+      let way = passage shape x w in
+      let moving = go (way .gap) ∷ select (way .piece) ∷ out ∷ items level e (way .after) rest in
+      whereLeft (leftFor shape level x e) way moving
+  items level (thenCall place n a e) w rest =
       beginSequence ∷
-      items false a w
-      (λ w₁. let more = items outermost e w₁ rest in calling shape (mannerOf outermost e n) (numberOf table n) n w₁ more)
+      items (levelIn (mannerOf level e n) (numberOf table n)) a w
+      (λ w₁. let more = items level e w₁ rest in calling shape (mannerOf level e n) (numberOf table n) n w₁ more)
 
 abbrev pub passesRest : Shape → Stand → List Action
 passesRest shape w = go (restOf shape w) ∷ []
 
 abbrev pub actionsOf : Table → Shape → List (Named Site) → Expression → List Action
-actionsOf table shape sites e = items table shape sites true e atStart (passesRest shape)
+actionsOf table shape sites e = items table shape sites outermost e atStart (passesRest shape)
 
 -- SENTENCES, FUNCTIONS, THE TABLE
 

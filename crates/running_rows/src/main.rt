@@ -3,7 +3,30 @@ use acting::registers::Ran;
 use acting::registers::ending_number;
 use libc::STDOUT_FILENO;
 
-const TABLE_Z: [u32; 22] = [
+const TABLE_Z: [u32; 19] = [
+    1,
+    2,
+    273,
+    458753,
+    805306369,
+    10,
+    65541,
+    11,
+    16777478,
+    269,
+    15,
+    17,
+    327680,
+    5,
+    262,
+    7,
+    5,
+    15,
+    19,
+];
+
+// The same as it was before T-07: the argument goes to out whole.
+const EARLIER_Z: [u32; 22] = [
     1,
     2,
     273,
@@ -72,21 +95,18 @@ const TABLE_K: [u32; 16] = [
     19,
 ];
 
-const TABLE_P: [u32; 25] = [
+const TABLE_P: [u32; 22] = [
     2,
     3,
+    14,
     17,
-    17,
-    720896,
+    524288,
     10,
     24840,
     25096,
     5,
-    262,
-    7,
-    5,
     11,
-    6,
+    262,
     525,
     15,
     19,
@@ -387,14 +407,15 @@ fn row(code: &[u32], text: &[u8], lent: Lent) {
     row_from(code, 1, text, lent, 0);
 }
 
-// A tail call, its allowance, and out one cell short.
+// A tail call, its allowance, out one cell short, and the earlier code with out two cells long.
 fn zeros() {
     row(&TABLE_Z, b"0060", ample());
     row(&TABLE_Z, b"", ample());
     row(&TABLE_Z, b"0060", allowed(2));
     row(&TABLE_Z, b"0060", allowed(3));
-    row(&TABLE_Z, b"0060", cells(4, 3));
     row(&TABLE_Z, b"0060", cells(4, 2));
+    row(&TABLE_Z, b"0060", cells(4, 1));
+    row(&EARLIER_Z, b"0060", cells(4, 2));
 }
 
 // Frames, conditions, two e-variables.

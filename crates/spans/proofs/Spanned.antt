@@ -1,12 +1,14 @@
--- Spans by number are meaning's: for a pattern's shape, its lengths and where p stands.
+-- Spans by number are meaning's, for a pattern's shape, its lengths and where p stands; and so is what ends a pattern.
 use Prim.Native.Nat.{_≤_}
 use native.Mathlib.Omega.{arith}
 use mathlib.Core.Path.{_≡_, refl}
 use mathlib.Core.Bool.{Bool, true, false}
-use mathlib.Core.List.{List}
-use Rattle.meaning.specs.Choice.{Name, sameBytes}
+use mathlib.Core.List.{List, [], _∷_}
+use lib.Dec.{eqb, eqb·suc-zero}
+use lib.ListN.{length}
+use Rattle.meaning.specs.Choice.{Name, pick, sameBytes}
 use Rattle.meaning.specs.Tree.{Letter}
-use Rattle.meaning.specs.Translation.{Shape, fixed, open₁, open₂, passage, restOf}
+use Rattle.meaning.specs.Translation.{Shape, fixed, open₁, open₂, passage, restOf, isNone, endsPattern}
 use Rattle.words.specs.declared.tape.Parts.{Parts}
 use Rattle.words.specs.declared.tape.Parts.the-variants.{Zero, One, Two}
 use Rattle.templates.specs.declared.pattern.Lengths.{Lengths}
@@ -15,7 +17,7 @@ use Rattle.spans.specs.declared.Stand.the-variants.{AtStart, AfterFirst,
 use Rattle.spans.specs.declared.Span.{Span}
 use Rattle.templates.specs.Testing.{total}
 use Rattle.templates.specs.Measuring.{lengthsOf, variableOf}
-use Rattle.spans.specs.Spanning.{meantStand, spanNumbers, gapBy, pieceSpan, standAfter, restBy, SmallSpan}
+use Rattle.spans.specs.Spanning.{meantStand, spanNumbers, gapBy, pieceSpan, standAfter, restBy, endsBy, SmallSpan}
 
 pub rest-span : (s : Shape) (w : Stand) → restBy (lengthsOf s .parts) (lengthsOf s) w ≡ spanNumbers (restOf s (meantStand w))
 rest-span (fixed t) w = refl
@@ -43,6 +45,20 @@ pub passage-spans : (s : Shape) (x other : Name) (w : Stand) → Passes s x (sam
 passage-spans (fixed t) x other w = (refl, refl, refl)
 passage-spans (open₁ h y t) x other w = (refl, refl, refl)
 passage-spans (open₂ h y m z t) x other w = of-two h m t x y z (sameBytes x y) w refl
+
+-- a template has no length where it has no letters
+none-long : (t : List Letter) → eqb (length t) 0 ≡ isNone t
+none-long [] = refl
+none-long (c ∷ t) = eqb·suc-zero (length t)
+
+pub ends-same : (s : Shape) (x other : Name) → endsBy (lengthsOf s .parts) (lengthsOf s) (sameBytes x (variableOf other s)) ≡ endsPattern s x
+ends-same (fixed t) x other = refl
+ends-same (open₁ h y t) x other = none-long t
+ends-same (open₂ h y m z t) x other = of-second (sameBytes x y)
+  where
+    of-second : (first : Bool) → endsBy Two (lengthsOf (open₂ h y m z t)) first ≡ pick first false (isNone t)
+    of-second true = refl
+    of-second false = none-long t
 
 -- HOW LARGE THEIR NUMBERS ARE
 

@@ -1,6 +1,8 @@
--- Spans by number, as the code works them out from a pattern's lengths: meaning's passages and rests.
+-- Spans by number, as the code works them out from a pattern's lengths: meaning's passages and rests; and which
+-- e-variable ends the pattern.
 use Prim.Native.Nat.{ℕ, _+_, _≤_}
 use mathlib.Core.Bool.{Bool, true, false}
+use lib.Dec.{eqb}
 use Rattle.meaning.specs.Instructions.{Span as MeantSpan}
 use Rattle.meaning.specs.Packing.{lengthNumber}
 use Rattle.meaning.specs.Translation.{Stand as MeantStand, atStart, afterFirst, afterSecond}
@@ -59,7 +61,14 @@ restBy Two l AtStart = spanOf 1 0 0
 restBy Two l AfterFirst = spanOf 3 0 0
 restBy Two l AfterSecond = spanOf 0 (l .third) 0
 
--- its numbers fit a word's operands
+-- an e-variable, which is the pattern's first or not, is its last, and no template comes after it
+abbrev pub endsBy : Parts → Lengths → Bool → Bool
+endsBy Zero l first = false
+endsBy One l first = eqb (l .second) 0
+endsBy Two l true = false
+endsBy Two l false = eqb (l .third) 0
+
+-- a span's numbers fit a word's operands
 pub record SmallSpan (s : Span) : Type 0 where
   pub register : s .register ≤ 3
   pub add : s .add ≤ 64

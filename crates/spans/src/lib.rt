@@ -3,7 +3,7 @@ use templates::pattern::Lengths;
 use words::tape::Parts;
 ghost use mathlib.Core.Path.{_≡_};
 ghost use Prim.Native.Nat.{_+_, _≤_};
-ghost use Rattle.spans.specs.Spanning.{spanOf, gapBy, pieceSpan, standAfter, restBy};
+ghost use Rattle.spans.specs.Spanning.{spanOf, gapBy, pieceSpan, standAfter, restBy, endsBy};
 
 // Where p stands: at the field's start, or just after its first or second e-variable.
 pub enum Stand {
@@ -101,5 +101,22 @@ pub fn rest_of(lengths: Lengths, stand: Stand) -> Span
             Stand::AfterFirst => span_of(3, 0, 0),
             Stand::AfterSecond => span_of(0, lengths.third, 0),
         },
+    }
+}
+
+// An e-variable ends the pattern: it is the last, and no template comes after it.
+pub fn ends_pattern(lengths: Lengths, first: bool) -> bool
+    ensures { λ r. ⌜ r ≡ endsBy (lengths .parts) lengths first ⌝ }
+{
+    let parts = lengths.parts;
+    match parts {
+        Parts::Zero => false,
+        Parts::One => lengths.second == 0,
+        Parts::Two => {
+            if first {
+                return false;
+            }
+            lengths.third == 0
+        }
     }
 }

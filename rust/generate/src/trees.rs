@@ -158,8 +158,7 @@ fn sentence(random: &mut Random, table: &mut Table) -> Sentence {
     sentence.conditions = conditions(random, &sentence);
     let items = if random.one_in(100) { ITEM_LIMIT } else { 1 + random.below(9) };
     let nesting = if random.one_in(50) { NESTING_LIMIT } else { 3 };
-    let mut maker = ExpressionMaker { random, table, left: items, next_part: 0 };
-    maker.expression(&mut sentence, nesting);
+    make_expression(random, table, &mut sentence, items, nesting);
     sentence
 }
 
@@ -169,9 +168,19 @@ fn catch_all(random: &mut Random, table: &mut Table) -> Sentence {
     sentence.parts.push(identifier(random, 91));
     sentence.templates.push(Vec::new());
     let items = 1 + random.below(4);
-    let mut maker = ExpressionMaker { random, table, left: items, next_part: 0 };
-    maker.expression(&mut sentence, 2);
+    make_expression(random, table, &mut sentence, items, 2);
     sentence
+}
+
+/// An expression of about so many items; a third end with a tail call whose argument the last e-variable ends.
+fn make_expression(random: &mut Random, table: &mut Table, sentence: &mut Sentence, items: usize, nesting: usize) {
+    let kept_back = usize::from(!sentence.parts.is_empty() && items < ITEM_LIMIT && random.one_in(3));
+    let parts = sentence.parts.len() - kept_back;
+    let mut maker = ExpressionMaker { random, table, left: items, next_part: 0, parts };
+    maker.expression(sentence, nesting);
+    if kept_back > 0 {
+        maker.ending_call(sentence, parts);
+    }
 }
 
 struct ExpressionMaker<'r> {
@@ -179,6 +188,8 @@ struct ExpressionMaker<'r> {
     table: &'r mut Table,
     left: usize,
     next_part: usize,
+    /// How many of the pattern's e-variables may stand in the expression.
+    parts: usize,
 }
 
 impl ExpressionMaker<'_> {
@@ -189,7 +200,7 @@ impl ExpressionMaker<'_> {
                     let symbol = self.random.below(sentence.symbols.len());
                     self.push(sentence, Item::Symbol(symbol));
                 }
-                2..=5 if self.next_part < sentence.parts.len() => self.part(sentence),
+                2..=5 if self.next_part < self.parts => self.part(sentence),
                 6..=9 if nesting > 0 => self.call(sentence, nesting),
                 // going back outwards early makes calls that are not last
                 10 if nesting < 3 => return,
@@ -198,8 +209,17 @@ impl ExpressionMaker<'_> {
         }
     }
 
+    fn ending_call(&mut self, sentence: &mut Sentence, part: usize) {
+        let callee = Callee::Function(self.random.below(self.table.functions.len()));
+        sentence.expression.push(Item::Open(callee));
+        for _ in 0..self.random.below(3) {
+            sentence.expression.push(Item::Byte(usual_byte(self.random)));
+        }
+        sentence.expression.extend([Item::Part(part), Item::Close(callee)]);
+    }
+
     fn part(&mut self, sentence: &mut Sentence) {
-        let part = self.next_part + self.random.below(sentence.parts.len() - self.next_part);
+        let part = self.next_part + self.random.below(self.parts - self.next_part);
         self.next_part = part + 1;
         self.push(sentence, Item::Part(part));
     }
@@ -223,7 +243,7 @@ impl ExpressionMaker<'_> {
         };
         self.push(sentence, Item::Open(callee));
         // an argument without the rest of the text seldom goes far
-        if self.left > 0 && self.next_part < sentence.parts.len() && !self.random.one_in(4) {
+        if self.left > 0 && self.next_part < self.parts && !self.random.one_in(4) {
             self.part(sentence);
         }
         if !self.random.one_in(3) {

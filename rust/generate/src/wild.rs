@@ -212,11 +212,12 @@ impl Actions<'_> {
             self.many_sequences();
         }
         for _ in 0..self.random.below(7) {
-            match self.random.below(8) {
+            match self.random.below(9) {
                 // what the callee leaves is moved or called on again
                 0 => self.phrase(&[Self::select, Self::call, Self::moving]),
                 1 => self.phrase(&[Self::begin_seq, Self::writing, Self::span, Self::use_seq, Self::moving]),
                 2 => self.phrase(&[Self::select, Self::use_seq, Self::moving]),
+                3 => self.phrase(&[Self::begin_seq, Self::writing, Self::use_seq, Self::select, Self::moving]),
                 _ => self.single(),
             }
         }

@@ -12,7 +12,7 @@ use refal0_apart::outcome::Outcome;
 use refal0_apart::packing::pack;
 use refal0_apart::reader::{Refusal, TABLE_LIMIT, read};
 use refal0_apart::rewriter::rewrite;
-use refal0_apart::translation::{Action, Program, translate};
+use refal0_apart::translation::{Action, Program, translate, translate_earlier};
 use refal0_apart::tree::Table;
 use std::collections::BTreeMap;
 
@@ -170,4 +170,34 @@ fn the_machine_comes_to_the_rewriting() {
     for answer in [0, 11, 12] {
         assert!(answers[&answer] > CASES / 4, "answers met: {answers:?}");
     }
+}
+
+/// Whether what the first needs keeps within what the second needs.
+fn within(need: Rooms, rooms: Rooms) -> bool {
+    need.stack_in <= rooms.stack_in
+        && need.stack_out <= rooms.stack_out
+        && need.record <= rooms.record
+        && need.frames <= rooms.frames
+}
+
+#[test]
+fn no_run_needs_more_than_under_the_earlier_translation() {
+    let mut random = Random::new(8);
+    let mut less = 0;
+    for _ in 0..5 * CASES {
+        let tree = trees::table(&mut random);
+        let (code, earlier) = (pack(&translate(&tree)), pack(&translate_earlier(&tree)));
+        assert!(code.len() <= earlier.len());
+        let start = 1 + random.below(tree.functions.len());
+        let text = texts::text(&mut random, &tree.functions[start - 1]);
+        let allowance = random.below(120) as u32;
+        let run = |code: &[u32], rooms: Rooms| machine::run(code, start, &text, allowance, rooms);
+        let (outcome, need) = run(&code, Rooms::WITHOUT_END);
+        let (earlier_outcome, earlier_need) = run(&earlier, Rooms::WITHOUT_END);
+        assert_eq!(outcome, earlier_outcome);
+        assert!(within(need, earlier_need), "{}", String::from_utf8_lossy(&list(&tree)));
+        assert_eq!(run(&code, earlier_need), (outcome, need));
+        less += usize::from(need.stack_out < earlier_need.stack_out);
+    }
+    assert!(less > CASES / 4, "{less} runs need less");
 }

@@ -35,7 +35,8 @@ fn nested_calls(sentence: &Sentence) -> Vec<bool> {
             }
             Item::Close(Callee::Function(_)) => {
                 let call = open.pop().expect("a call that closes is open");
-                nested[call] = !sentence.is_tail_call(at);
+                // what closes a declared call as the last item closes the tail call
+                nested[call] = at + 1 < sentence.expression.len();
             }
             _ => {}
         }

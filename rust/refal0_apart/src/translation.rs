@@ -90,14 +90,32 @@ pub enum Action<N = Name> {
     Emit(N),
 }
 
-pub fn translate(table: &Table) -> Program {
-    Program { functions: (0..table.functions.len()).map(|number| function_code(table, number)).collect() }
+/// What becomes of a part that ends both the pattern and a tail call's argument.
+#[derive(Clone, Copy, PartialEq, Eq)]
+enum Ending {
+    /// It stays on in.
+    Left,
+    /// It is moved to out and back, like any other part.
+    Moved,
 }
 
-fn function_code(table: &Table, number: usize) -> FunctionCode {
+pub fn translate(table: &Table) -> Program {
+    translate_with(table, Ending::Left)
+}
+
+/// The translation as it was before such endings were left where they are; its runs need at least as much room.
+pub fn translate_earlier(table: &Table) -> Program {
+    translate_with(table, Ending::Moved)
+}
+
+fn translate_with(table: &Table, ending: Ending) -> Program {
+    Program { functions: (0..table.functions.len()).map(|number| function_code(table, number, ending)).collect() }
+}
+
+fn function_code(table: &Table, number: usize, ending: Ending) -> FunctionCode {
     let sentences = &table.functions[number].sentences;
     FunctionCode {
-        sentences: sentences.iter().map(|sentence| sentence_code(table, sentence)).collect(),
+        sentences: sentences.iter().map(|sentence| sentence_code(table, sentence, ending)).collect(),
         recoverer: table.recoverer(number).map_or(0, |recoverer| recoverer + 1),
     }
 }
@@ -114,7 +132,7 @@ impl Program {
     }
 }
 
-fn sentence_code(table: &Table, sentence: &Sentence) -> Code {
+fn sentence_code(table: &Table, sentence: &Sentence, ending: Ending) -> Code {
     let lengths: Vec<usize> = sentence.templates.iter().map(Vec::len).collect();
     let parts = sentence.parts.len();
     let metric = Metric {
@@ -125,7 +143,7 @@ fn sentence_code(table: &Table, sentence: &Sentence) -> Code {
     };
     let (mut tests, store) = pattern_tests(sentence, &metric);
     tests.extend(sentence.conditions.iter().map(|condition| condition_test(condition, &store, &metric)));
-    Code { metric, tests, store, actions: expression_actions(table, sentence, &metric) }
+    Code { metric, tests, store, actions: expression_actions(table, sentence, &metric, ending) }
 }
 
 fn condition_test(condition: &Condition, store: &[Cell], metric: &Metric) -> Test {
@@ -178,39 +196,59 @@ enum Position {
     AfterPart(usize),
 }
 
-fn expression_actions(table: &Table, sentence: &Sentence, metric: &Metric) -> Vec<Action> {
+fn expression_actions(table: &Table, sentence: &Sentence, metric: &Metric, ending: Ending) -> Vec<Action> {
     let items = &sentence.expression;
+    let tail_call = sentence.tail_call();
     let mut actions = Vec::new();
     let mut position = Position::Start;
     for (number, item) in items.iter().enumerate() {
+        // this item among them
+        let items_left = items.len() - number;
         match *item {
             Item::Byte(byte) => actions.push(Action::OutC(byte)),
             Item::Symbol(symbol) => actions.push(Action::OutV(symbol)),
             Item::Part(part) => {
                 actions.push(Action::Go(way_to_part(metric, position, part)));
+                let left = items_left == 2 && ends_pattern(metric, part) && ending == Ending::Left;
+                if let Some(function) = tail_call.filter(|_| left) {
+                    push_call(&mut actions, part_length(metric, part), Action::TailCall(function + 1));
+                    return actions;
+                }
                 actions.push(Action::Select(part_length(metric, part)));
                 actions.push(Action::Out);
                 position = Position::AfterPart(part);
             }
             Item::Open(_) => actions.push(Action::BeginSeq),
-            Item::Close(Callee::Function(function)) if sentence.is_tail_call(number) => {
+            Item::Close(Callee::Function(function)) if items_left == 1 => {
                 actions.push(Action::Go(way_to_end(metric, position)));
-                push_call(&mut actions, Action::TailCall(function + 1));
+                push_call(&mut actions, NOTHING, Action::TailCall(function + 1));
                 return actions;
             }
-            Item::Close(Callee::Function(function)) => push_call(&mut actions, Action::Call(function + 1)),
-            Item::Close(Callee::Emission(number)) => {
-                push_call(&mut actions, Action::Emit(table.emissions[number].clone()));
-            }
+            Item::Close(callee) => push_call(&mut actions, NOTHING, call_action(table, callee)),
         }
     }
     actions.push(Action::Go(way_to_end(metric, position)));
     actions
 }
 
-fn push_call(actions: &mut Vec<Action>, call: Action) {
-    // q was p before UseSeq, so the argument is selected already and nothing is added
-    actions.extend([Action::UseSeq, Action::Select(length(Base::Null, 0, 0)), call]);
+/// The action of a call that is no tail call.
+fn call_action(table: &Table, callee: Callee) -> Action {
+    match callee {
+        Callee::Function(function) => Action::Call(function + 1),
+        Callee::Emission(number) => Action::Emit(table.emissions[number].clone()),
+    }
+}
+
+fn ends_pattern(metric: &Metric, part: usize) -> bool {
+    part + 1 == metric.parts && metric.tail == 0
+}
+
+/// Nothing more than the argument is selected.
+const NOTHING: Length = Length { base: Base::Null, add: 0, back: 0 };
+
+/// The argument is put just below p. q is p before that, so it is selected already, and what is left after it is added.
+fn push_call(actions: &mut Vec<Action>, left: Length, call: Action) {
+    actions.extend([Action::UseSeq, Action::Select(left), call]);
 }
 
 fn length(base: Base, add: usize, back: usize) -> Length {

@@ -82,9 +82,12 @@ impl Sentence {
         self.templates.iter().map(Vec::len).sum()
     }
 
-    /// Whether the item at a place closes a tail call: a declared call that is the last item outermost.
-    pub fn is_tail_call(&self, at: usize) -> bool {
-        at + 1 == self.expression.len() && matches!(self.expression[at], Item::Close(Callee::Function(_)))
+    /// The function that is called by a tail call: a declared call that is the last item outermost.
+    pub fn tail_call(&self) -> Option<usize> {
+        match self.expression.last() {
+            Some(&Item::Close(Callee::Function(function))) => Some(function),
+            _ => None,
+        }
     }
 
     pub fn last_template(&mut self) -> &mut Vec<Letter> {

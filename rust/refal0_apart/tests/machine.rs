@@ -281,3 +281,11 @@ fn row_r_in_words() {
     let words = [1, 2, 273, 721152, 4, 10, 65541, 16777478, 7, 11, 6, 268, 9, 5, 15, 16, 131072, 261, 15, 19];
     assert_eq!(code(&read(b"G { s1 e2 = <G e2> s1; = }").expect("row R is sound")), words);
 }
+
+/// What ends the pattern stays on in: Go to it, UseSeq, Select of it, and the call.
+#[test]
+fn row_z_in_words() {
+    let first = [273, 458_753, 805_306_369, 10, 65_541, 11, 16_777_478, 269, 15];
+    let words = [[1, 2].as_slice(), &first, &[17, 327_680, 5, 262, 7, 5, 15, 19]].concat();
+    assert_eq!(code(&read(b"F { '0' e1 = <F e1>; e1 = e1 }").expect("row Z is sound")), words);
+}

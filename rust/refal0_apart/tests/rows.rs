@@ -4,9 +4,10 @@ use refal0_apart::corpus::Lending;
 use refal0_apart::listing::list;
 use refal0_apart::machine::{self, Rooms};
 use refal0_apart::outcome::{Counts, Outcome};
-use refal0_apart::packing::code;
+use refal0_apart::packing::{code, pack};
 use refal0_apart::reader::{Refusal, read};
 use refal0_apart::rewriter::rewrite;
+use refal0_apart::translation::{Program, translate, translate_earlier};
 
 const Z: &[u8] = b"F { '0' e1 = <F e1>; e1 = e1 }";
 const R: &[u8] = b"G { s1 e2 = <G e2> s1; = }";
@@ -43,14 +44,55 @@ fn lent(table: &[u8], text: &[u8], rooms: Rooms) -> Outcome {
 fn row_z() {
     let (outcome, need) = ample(Z, b"0060", 100_000);
     assert_eq!(outcome, done(b"60", &[3]));
-    assert_eq!(need.stack_out, 3);
+    assert_eq!(need.stack_out, 2);
     assert_eq!(need.frames, 1);
     assert_eq!(ample(Z, b"", 100_000).0, done(b"", &[1]));
     assert_eq!(ample(Z, b"0060", 2).0, stopped(12, 0, &[2]));
     assert_eq!(ample(Z, b"0060", 3).0, done(b"60", &[3]));
-    assert_eq!(lent(Z, b"0060", Rooms::lent(4, 3, 0)), done(b"60", &[3]));
-    assert_eq!(lent(Z, b"0060", Rooms::lent(4, 2, 0)), stopped(14, 0, &[1]));
+    assert_eq!(lent(Z, b"0060", Rooms::lent(4, 2, 0)), done(b"60", &[3]));
+    assert_eq!(lent(Z, b"0060", Rooms::lent(4, 1, 0)), stopped(14, 0, &[3]));
     assert_eq!(lent(Z, b"0060", Rooms::lent(3, 3, 0)), stopped(10, 0, &[]));
+}
+
+/// 01's own row: the part was moved to out and back.
+#[test]
+fn row_z_under_the_earlier_translation() {
+    let earlier = pack(&translate_earlier(&read(Z).expect("row Z is sound")));
+    let run = |rooms: Rooms| machine::run(&earlier, 1, b"0060", 100_000, rooms).0;
+    assert_eq!(run(Rooms::lent(4, 3, 0)), done(b"60", &[3]));
+    assert_eq!(run(Rooms::lent(4, 2, 0)), stopped(14, 0, &[1]));
+}
+
+/// What a run needs of out.
+fn out_need(table: &[u8], text: &[u8]) -> usize {
+    ample(table, text, 9).1.stack_out
+}
+
+#[test]
+fn what_stays_on_in_needs_no_out() {
+    assert_eq!(out_need(b"F{e1=<G e1 ''>}G{e1=}", b"ab"), 0);
+    assert_eq!(out_need(b"F{e1''=<G e1>}G{e1=}", b"ab"), 0);
+    assert_eq!(out_need(b"F{e1'b'e2=<G e1 'x' e2>}G{e1=}", b"abcd"), 2);
+    assert_eq!(out_need(b"F{e1='x'<G e1>}G{e1=}", b"ab"), 1);
+    assert_eq!(out_need(b"F{e1=<G 'x'<EmitA 'yz'>e1>}G{e1=}", b"ab"), 3);
+    // these are moved as before
+    assert_eq!(out_need(b"F{'a'e1'd'=<G 'xy' e1>}G{e1=}", b"abcd"), 4);
+    assert_eq!(out_need(b"F{e1=<G e1 'xy'>}G{e1=}", b"ab"), 4);
+    assert_eq!(out_need(b"F{e1=<G <G e1>>}G{e1=}", b"ab"), 2);
+    assert_eq!(out_need(b"F{e1=<EmitA e1>}", b"ab"), 2);
+    assert_eq!(out_need(b"F{e1=<G <EmitA e1>>}G{e1=}", b"ab"), 2);
+    assert_eq!(out_need(b"F{e1=<G e1>'k'}G{e1=}", b"ab"), 2);
+    assert_eq!(out_need(b"F{e1'b'e2=<G e1>}G{e1=}", b"abcd"), 1);
+    assert_eq!(out_need(b"F{e1 s2=<G e1>}G{e1=}", b"abc"), 2);
+}
+
+/// Which of two rooms is passed first may change.
+#[test]
+fn thirteen_comes_where_fourteen_came() {
+    let tree = read(b"F{s1 e2=<G 'abc' e2>}G{e1=}").expect("the table is sound");
+    let run = |program: Program| machine::run(&pack(&program), 1, b"xyz", 9, Rooms::lent(4, 3, 0)).0;
+    assert_eq!(run(translate(&tree)), stopped(13, 0, &[1]));
+    assert_eq!(run(translate_earlier(&tree)), stopped(14, 0, &[1]));
 }
 
 #[test]

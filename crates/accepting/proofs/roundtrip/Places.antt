@@ -1,7 +1,7 @@
 -- Neither 01's rules nor the listing nor the translation look at the places of called names.
 use Prim.Native.Nat.{ℕ, suc, _+_, max}
 use mathlib.Core.Path.{_≡_, refl, sym, ap, ap₂, _∙_, fun-ext}
-use mathlib.Core.Bool.{Bool, true, false, not}
+use mathlib.Core.Bool.{Bool, not}
 use mathlib.Core.List.{List, [], _∷_, _++_, map}
 use lib.ListN.{length-map}
 use Rattle.meaning.specs.Choice.{Name, Named, pick, both, every, sameBytes}
@@ -9,8 +9,8 @@ use Rattle.meaning.specs.Tree.{Expression, end, thenCharacter, thenSymbol, then
 use Rattle.meaning.specs.Names.{isPredicate, numberFrom, numberOf, recoverPrefix, recovererOf}
 use Rattle.meaning.specs.Allowed.{isByte, member, spelledName, symbolsOf, partsOf, itemsIn, nesting, spelledItems, comingAfter, whereSome, comingAfterAll, allowedSentence, someSentence, allowedFunction, sentencesIn, callsKnown, namesOf, allowed}
 use Rattle.meaning.specs.Listing.{Quoted, unquoted, closeQuote, quotedCharacter, afterCharacter, symbolText, partText, expressionText, sentencesText, listing}
-use Rattle.meaning.specs.Instructions.{Site, Action}
-use Rattle.meaning.specs.Translation.{Shape, Stand, isLast, mannerOf, calling, items, atStart, passage, passesRest, shapeOf, testedShape, translatedSentences, translatedFunction, translate}
+use Rattle.meaning.specs.Instructions.{Site, Action, go, select, out}
+use Rattle.meaning.specs.Translation.{Shape, Stand, Level, outermost, inside, inTail, isEnd, isLast, mannerOf, levelIn, leftFor, whereLeft, calling, items, atStart, passage, passesRest, shapeOf, testedShape, translatedSentences, translatedFunction, translate}
 
 -- THE LISTING
 
@@ -126,29 +126,42 @@ allowed-unplaced t =
 
 -- THE TRANSLATION
 
-last-unplaced : (outermost : Bool) (e : Expression) → isLast outermost (unplaced e) ≡ isLast outermost e
+end-unplaced : (e : Expression) → isEnd (unplaced e) ≡ isEnd e
 unfolding unplaced
-last-unplaced false e = refl
-last-unplaced true end = refl
-last-unplaced true (thenCharacter c e) = refl
-last-unplaced true (thenSymbol x e) = refl
-last-unplaced true (thenPart x e) = refl
-last-unplaced true (thenCall place n a e) = refl
+end-unplaced end = refl
+end-unplaced (thenCharacter c e) = refl
+end-unplaced (thenSymbol x e) = refl
+end-unplaced (thenPart x e) = refl
+end-unplaced (thenCall place n a e) = refl
+
+last-unplaced : (level : Level) (e : Expression) → isLast level (unplaced e) ≡ isLast level e
+last-unplaced outermost e = end-unplaced e
+last-unplaced inside e = refl
+last-unplaced (inTail f) e = refl
+
+left-unplaced : (shape : Shape) (level : Level) (x : Name) (e : Expression) → leftFor shape level x (unplaced e) ≡ leftFor shape level x e
+left-unplaced shape outermost x e = refl
+left-unplaced shape inside x e = refl
+left-unplaced shape (inTail f) x e = rw (end-unplaced e)
 
 module _ (t : Table) (shape : Shape) (sites : List (Named Site)) where
-  actions-unplaced : (outermost : Bool) (e : Expression) (w : Stand) (rest : Stand → List Action) →
-      items (unplacedTable t) shape sites outermost (unplaced e) w rest ≡ items t shape sites outermost e w rest
+  actions-unplaced : (level : Level) (e : Expression) (w : Stand) (rest : Stand → List Action) →
+      items (unplacedTable t) shape sites level (unplaced e) w rest ≡ items t shape sites level e w rest
   unfolding items unplaced
-  actions-unplaced outermost end w rest = refl
-  actions-unplaced outermost (thenCharacter c e) w rest = rw (actions-unplaced outermost e w rest)
-  actions-unplaced outermost (thenSymbol x e) w rest = rw (actions-unplaced outermost e w rest)
-  actions-unplaced outermost (thenPart x e) w rest = rw (actions-unplaced outermost e (passage shape x w .after) rest)
-  actions-unplaced outermost (thenCall place n a e) w rest =
+  actions-unplaced level end w rest = refl
+  actions-unplaced level (thenCharacter c e) w rest = rw (actions-unplaced level e w rest)
+  actions-unplaced level (thenSymbol x e) w rest = rw (actions-unplaced level e w rest)
+  actions-unplaced level (thenPart x e) w rest =
+      let way = passage shape x w in
+      ap₂ (λ f more. whereLeft f way (go (way .gap) ∷ select (way .piece) ∷ out ∷ more)) (left-unplaced shape level x e)
+      (actions-unplaced level e (way .after) rest)
+  actions-unplaced level (thenCall place n a e) w rest =
       rw (
-        last-unplaced outermost e,
+        last-unplaced level e,
         number-unplaced 0 t n,
-        fun-ext (λ w₁. ap (calling shape (mannerOf outermost e n) (numberOf t n) n w₁) (actions-unplaced outermost e w₁ rest)),
-        actions-unplaced false a w (λ w₁. calling shape (mannerOf outermost e n) (numberOf t n) n w₁ (items t shape sites outermost e w₁ rest)),
+        fun-ext (λ w₁. ap (calling shape (mannerOf level e n) (numberOf t n) n w₁) (actions-unplaced level e w₁ rest)),
+        actions-unplaced (levelIn (mannerOf level e n) (numberOf t n)) a w
+            (λ w₁. calling shape (mannerOf level e n) (numberOf t n) n w₁ (items t shape sites level e w₁ rest)),
       )
 
 sentences-unplaced : (t : Table) (r : ℕ) (ss : List Sentence) →
@@ -157,17 +170,17 @@ unfolding translatedSentences
 sentences-unplaced t r [] = refl
 sentences-unplaced t r (s ∷ ss) =
     let shape = shapeOf (s .pattern) in
-    rw (actions-unplaced t shape (testedShape shape .sites) true (s .expression) atStart (passesRest shape), sentences-unplaced t r ss)
+    rw (actions-unplaced t shape (testedShape shape .sites) outermost (s .expression) atStart (passesRest shape), sentences-unplaced t r ss)
 
 pub translate-unplaced : (t : Table) → translate (unplacedTable t) ≡ translate t
-translate-unplaced t = go t
+translate-unplaced t = functions-translated t
   where
     function-translated : (f : Function) → translatedFunction (unplacedTable t) (unplacedFunction f) ≡ translatedFunction t f
     function-translated f = rw (number-unplaced 0 t (recoverPrefix ++ f .name)) (sentences-unplaced t (recovererOf t (f .name)) (f .sentences))
 
-    go : (fs : Table) → map (translatedFunction (unplacedTable t)) (unplacedTable fs) ≡ map (translatedFunction t) fs
-    go [] = refl
-    go (f ∷ fs) = ap₂ (λ y ys. y ∷ ys) (function-translated f) (go fs)
+    functions-translated : (fs : Table) → map (translatedFunction (unplacedTable t)) (unplacedTable fs) ≡ map (translatedFunction t) fs
+    functions-translated [] = refl
+    functions-translated (f ∷ fs) = ap₂ (λ y ys. y ∷ ys) (function-translated f) (functions-translated fs)
 
 -- TREES THAT ARE EQUAL BUT FOR PLACES
 

@@ -2,18 +2,17 @@
 use Prim.Native.Nat.{ℕ, _+_, _-_, _*_, _≤_, _<_}
 use native.Mathlib.Omega.{arith}
 use mathlib.Core.Path.{_≡_, refl, sym, ap, ap₂, _∙_}
-use mathlib.Core.Bool.{Bool, true, false}
+use mathlib.Core.Bool.{Bool, true, false, not}
 use mathlib.Core.List.{List, [], _∷_, _++_}
-use borrow.Author.Tests.{eqb-true}
-use lib.Dec.{eqb}
+use mathlib.Core.Option.{Option, some}
 use lib.ListN.{length, take, drop, getD, set, length-set}
 use lib.Seq.{getD-set-same, getD-set-other}
 use native.Mathlib.Decide.{ℕ-discrete}
-use Rattle.meaning.specs.Choice.{Name, pick, Named, sameBytes}
-use Rattle.meaning.specs.Tree.{Expression, end, thenCharacter, thenSymbol, thenPart, Table}
-use Rattle.meaning.specs.Names.{isEmission, numberOf}
+use Rattle.meaning.specs.Choice.{Name, pick, both, guard, Named, sameBytes}
+use Rattle.meaning.specs.Tree.{Expression, thenCharacter, thenSymbol, thenPart, Table}
+use Rattle.meaning.specs.Names.{numberOf}
 use Rattle.meaning.specs.Instructions.{Site, Action, go, select, out}
-use Rattle.meaning.specs.Translation.{Shape, Manner as MeantManner, emits, replaces, nests, passage, restOf, valueNumber, isLast, mannerOf, calling, actionsOf}
+use Rattle.meaning.specs.Translation.{Shape, Manner as MeantManner, Passage, passage, restOf, valueNumber, endsPattern, leftFor, whereLeft, calling, actionsOf}
 use Rattle.meaning.specs.Packing.{Words, word, spanWord, packActions}
 use Rattle.words.specs.declared.tape.Item.{Item}
 use Rattle.words.specs.declared.tape.Item.the-variants.{Byte, Symbol, Part, Call, Pass, Close, Unclosed, Stop}
@@ -28,20 +27,42 @@ use Rattle.expressions.specs.Levels.{placeIn, Levels, stopped, onCurrent
 use Rattle.words.specs.Writing.{Wrote, Same}
 use Rattle.words.specs.Finding.{numberAmong}
 use Rattle.templates.specs.Measuring.{flag, variableOf}
-use Rattle.calls.specs.ActionWords.{spanWords, partWords, restWord}
-use Rattle.spans.specs.Spanning.{meantStand, spanNumbers, gapBy, pieceSpan, standAfter}
-use Rattle.expressions.specs.Resuming.{isNil, resume, openNames, levelsNow, remaining, restNow, itemDone, wordDone, callDone, callWords, isStop, lastCall, mannerBy, mannerNow, goesOn, endingWords, Means, InItems, ItemsOn, ItemsAll}
+use Rattle.calls.specs.ActionWords.{spanWords, partWords, restWord, leftWords}
+use Rattle.spans.specs.Spanning.{meantStand, gapBy, pieceSpan, standAfter, endsBy}
+use Rattle.expressions.specs.Resuming.{levelAt, resume, openNames, levelsNow, remaining, restNow, itemDone, wordDone, callDone, callWords, mannerNow, goesOn, endingWords, pastEnding, pastName, isFirst, stays, allDone, Means, InItems, Innermost, ItemsOn, ItemsAll}
 use Rattle.words.proofs.laws.Names.{name-here, name-fits-here, name-short}
 use Rattle.expressions.proofs.laws.Naming.{value-among, number-among}
 use Rattle.words.proofs.laws.Stores.{same-refl, same-trans, same-words, same-wrote, same-end}
-use Rattle.spans.proofs.Spanned.{rest-span, passage-spans}
-use Rattle.expressions.proofs.laws.Items.{stops, Reads, Told, told, levels-at, levels-past, levels-stop, stops-below, last-item}
-use Rattle.expressions.proofs.laws.Resumed.{resume-character, resume-symbol, resume-part, resume-call, resume-end, resume-last, open-more, open-less, open-none}
+use Rattle.spans.proofs.Spanned.{rest-span, passage-spans, ends-same}
+use Rattle.expressions.proofs.laws.Items.{stops, Reads, Told, told, levels-at, levels-past, levels-stop}
+use Rattle.expressions.proofs.laws.Resumed.{resume-character, resume-symbol, resume-part, resume-call, resume-end, resume-last, open-more, open-less}
+use Rattle.expressions.proofs.laws.Endings.{meant, called, Ends, closed-ends, unclosed-ends, manner-same, rest-same, left-same, Passed, passed}
 
 -- the innermost open call is known
-pub innermost : {ws calls : List ℕ} {w : Walk} → InItems ws calls w → 0 < w .depth
-    → (1 ≤ w .depth) × (w .depth ≤ length calls) × (getD calls (w .depth - 1) 0 < length ws)
-innermost {w = w} within deep = (deep, omega (arith, within .depth, within .room), within .opened (w .depth - 1) (omega arith))
+pub innermost : {ws calls : List ℕ} {w : Walk} → InItems ws calls w → 0 < w .depth → Innermost ws calls w
+innermost {w = w} within deep =
+    record { deep = deep; room = omega (arith, within .depth, within .room); known = within .opened (w .depth - 1) (omega arith) }
+
+-- past a variable that is on the tape
+pub past-within : {ws calls : List ℕ} {w : Walk} → InItems ws calls w → w .next < length ws → w .items < 128 → InItems ws calls (pastName ws w)
+past-within {ws} {w = w} within on-tape few =
+    record {
+      room = within .room;
+      opened = within .opened;
+      depth = within .depth;
+      items = omega arith;
+      next = omega (arith, name-fits-here ws (w .next) on-tape);
+    }
+
+-- past one that stays on in: it ends the argument of a tail call
+pub left-passed : {ws calls : List ℕ} (m : Pattern) {w : Walk} → InItems ws calls w → w .next < length ws → w .items < 128 → stays ws calls m w ≡ true
+    → Passed ws calls (pastName ws w) (pastEnding ws calls (pastName ws w))
+left-passed {ws} {calls} m {w} within on-tape few left =
+    passed ws calls (pastName ws w) refl (past-within within on-tape few .next) (none-more (pastEnding ws calls (pastName ws w) .more) left)
+  where
+    none-more : (more : Bool) → both (not more) (endsBy (m .lengths .parts) (m .lengths) (isFirst ws m w)) ≡ true → more ≡ false
+    none-more true h = cc
+    none-more false h = refl
 
 -- `it` is the item where a walk stands
 module _ (ws heads names : List ℕ) (m : Pattern) (calls : List ℕ) (w : Walk) (within : InItems ws calls w) {it : Item}
@@ -129,38 +150,99 @@ module _ (ws heads names : List ℕ) (m : Pattern) (calls : List ℕ) (w : Walk)
       ∙ ap (λ (v : ℕ). word 9 v 0 0 ∷ packActions (resume t s ss (openNames ws calls (w .depth)) (after size .current) (after size .outer) (meantStand (w .stand)))) value)
       wrote done (omega arith)
 
-  abbrev first : Bool
-  first = sameBytes name (headName ws (m .variable))
+  -- the number of the innermost open call's function
+  number-same : (t : Table) (s : Shape) (ss : List (Named Site)) → Means ws heads names m t s ss
+      → numberOf t (called ws calls w) ≡ numberAmong 0 (headNames ws heads) (called ws calls w)
+  number-same t s ss means =
+      let n = called ws calls w in
+      number-among 0 t n ∙ ap (λ (l : List Name). numberAmong 0 l n) (means .functions)
 
-  pub part-on : {code code′ : List ℕ} {r : Walk} → it ≡ Part → Wrote code (w .at) (partWords (m .lengths) first (w .stand)) code′ (r .at)
+  abbrev first : Bool
+  first = isFirst ws m w
+
+  -- past the e-variable where the walk stands
+  abbrev past : Walk
+  past = pastName ws w
+
+  module _ (t : Table) (s : Shape) (ss : List (Named Site)) (means : Means ws heads names m t s ss) where
+    abbrev way : Passage
+    way = passage s name (meantStand (w .stand))
+
+    abbrev outer-names : List Name
+    outer-names = openNames ws calls (w .depth)
+
+    -- its words, moved or left
+    part-spans : (spanWords 5 (gapBy (m .lengths .parts) (m .lengths) first (w .stand)) ≡ spanWord 5 (way .gap)) ×
+        (spanWords 6 (pieceSpan (m .lengths .parts) (m .lengths) first) ≡ spanWord 6 (way .piece)) ×
+        (meantStand (standAfter (m .lengths .parts) first (w .stand)) ≡ way .after) ×
+        (endsBy (m .lengths .parts) (m .lengths) first ≡ endsPattern s name)
+    part-spans =
+        let st = w .stand in
+        let h = headName ws (m .variable) in
+        let f : first ≡ sameBytes name (variableOf h s) = ap (sameBytes name) (means .variable) in
+        let spans = passage-spans s name h st in (
+          ap₂ (λ (l : Lengths) (b : Bool). spanWords 5 (gapBy (l .parts) l b st)) (means .lengths) f ∙ ap (spanWords 5) (spans .0),
+          ap₂ (λ (l : Lengths) (b : Bool). spanWords 6 (pieceSpan (l .parts) l b)) (means .lengths) f ∙ ap (spanWords 6) (spans .1),
+          ap₂ (λ (l : Lengths) (b : Bool). meantStand (standAfter (l .parts) b st)) (means .lengths) f ∙ spans .2,
+          ap₂ (λ (l : Lengths) (b : Bool). endsBy (l .parts) l b) (means .lengths) f ∙ ends-same s name h,
+        )
+
+    -- the function for whose tail call it is left
+    part-left : leftFor s (levelAt t outer-names (after size .outer)) name (after size .current)
+        ≡ guard (stays ws calls m w) (some (numberOf t (called ws calls w)))
+    part-left =
+        left-same ws calls past refl t s name
+        ∙ ap (λ (b : Bool). guard (both (not (pastEnding ws calls past .more)) b) (some (numberOf t (called ws calls w)))) (sym (part-spans .3))
+
+    -- what is still to be written from it on
+    part-resumed : resume t s ss outer-names (thenPart name (after size .current)) (after size .outer) (meantStand (w .stand))
+        ≡ whereLeft (guard (stays ws calls m w) (some (numberOf t (called ws calls w)))) way
+        (go (way .gap) ∷ select (way .piece) ∷ out ∷ resume t s ss outer-names (after size .current) (after size .outer) (way .after))
+    part-resumed =
+        resume-part t s ss outer-names name (after size .current) (after size .outer) (meantStand (w .stand))
+        ∙ ap (λ (o : Option ℕ). whereLeft o way
+        (go (way .gap) ∷ select (way .piece) ∷ out ∷ resume t s ss outer-names (after size .current) (after size .outer) (way .after))) part-left
+
+  pub part-on : {b : Bool} {code code′ : List ℕ} {r : Walk} → it ≡ Part → b ≡ stays ws calls m w → b ≡ false
+      → Wrote code (w .at) (partWords (m .lengths) first (w .stand)) code′ (r .at)
       → r ≡ itemDone w size (r .at) (w .depth) (standAfter (m .lengths .parts) first (w .stand)) → ItemsOn ws heads names m calls code w calls code′ r
   unfolding packActions
-  part-on e wrote done =
+  part-on e asked moves wrote done =
       let read = tells Part e in
       let now = variable-now thenPart read (reads Part (read .inside) e) in
       plain-on (thenPart name) size read (name-fits-here ws (w .next) (read .inside)) now
       (λ t s ss means.
-      ap packActions (resume-part t s ss (openNames ws calls (w .depth)) name (after size .current) (after size .outer) (meantStand (w .stand)))
-      ∙ part-words t s ss means)
+      let spans = part-spans t s ss means in
+      rw (part-resumed t s ss means, ← asked, moves, spans .0, spans .1, spans .2))
       wrote done (omega arith)
-    where
-      part-words : (t : Table) (s : Shape) (ss : List (Named Site)) → Means ws heads names m t s ss
-          → packActions (go (passage s name (meantStand (w .stand)) .gap) ∷ select (passage s name (meantStand (w .stand)) .piece) ∷ out ∷
-          resume t s ss (openNames ws calls (w .depth)) (after size .current) (after size .outer) (passage s name (meantStand (w .stand)) .after))
-          ≡ partWords (m .lengths) first (w .stand) ++ packActions
-          (resume t s ss (openNames ws calls (w .depth)) (after size .current) (after size .outer) (meantStand (standAfter (m .lengths .parts) first (w .stand))))
-      part-words t s ss means =
-          let st = w .stand in
-          let h = headName ws (m .variable) in
-          let f : first ≡ sameBytes name (variableOf h s) = ap (sameBytes name) (means .variable) in
-          let spans = passage-spans s name h st in
-          let gap : gapBy (m .lengths .parts) (m .lengths) first st ≡ spanNumbers (passage s name (meantStand st) .gap) =
-          ap₂ (λ (l : Lengths) (b : Bool). gapBy (l .parts) l b st) (means .lengths) f ∙ spans .0 in
-          let piece : pieceSpan (m .lengths .parts) (m .lengths) first ≡ spanNumbers (passage s name (meantStand st) .piece) =
-          ap₂ (λ (l : Lengths) (b : Bool). pieceSpan (l .parts) l b) (means .lengths) f ∙ spans .1 in
-          let then : meantStand (standAfter (m .lengths .parts) first st) ≡ passage s name (meantStand st) .after =
-          ap₂ (λ (l : Lengths) (b : Bool). meantStand (standAfter (l .parts) b st)) (means .lengths) f ∙ spans .2 in
-          rw (gap, piece, then)
+
+  pub left-on : {b : Bool} {code code′ : List ℕ} {r : Walk} → it ≡ Part → b ≡ stays ws calls m w → b ≡ true
+      → Wrote code (w .at) (leftWords (m .lengths) first (w .stand) (numberAmong 0 (headNames ws heads) (called ws calls w))) code′ (r .at)
+      → r ≡ allDone (pastEnding ws calls past) (r .at) → ItemsOn ws heads names m calls code w calls code′ r
+  unfolding packActions
+  left-on {code = code} e asked left wrote done =
+      let read = tells Part e in
+      let now = variable-now thenPart read (reads Part (read .inside) e) in
+      let gone = left-passed m within (read .inside) (read .room) (sym asked ∙ left) in
+      rw done record {
+        same = λ t s ss means.
+            let spans = part-spans t s ss means in
+            same-wrote []
+            (same-words (same-refl code (w .at) _)
+            (rw (now, part-resumed t s ss means, ← asked, left, number-same t s ss means, spans .0, spans .1)))
+            wrote;
+        rest = gone .rest ∙ sym (ap (λ (l : Levels). l .rest) now);
+        within =
+            record {
+              room = within .room;
+              opened = λ k h. within .opened k (omega (arith, gone .depth));
+              depth = omega (arith, gone .depth, within .depth);
+              items = omega (arith, gone .items, read .room);
+              next = gone .next;
+            };
+        ahead = omega (arith, gone .forward, gone .depth, gone .deep);
+        grown = omega (arith, wrote .next, gone .depth, gone .deep, gone .items);
+      }
 
   pub open-on : {calls′ code code′ : List ℕ} {r : Walk} → it ≡ Call → Wrote code (w .at) (word 10 0 0 0 ∷ []) code′ (r .at)
       → r ≡ itemDone w size (r .at) (w .depth + 1) (w .stand) → calls′ ≡ set calls (w .depth) (w .next)
@@ -190,7 +272,7 @@ module _ (ws heads names : List ℕ) (m : Pattern) (calls : List ℕ) (w : Walk)
 
   pub pass-on : {code : List ℕ} {r : Walk} → it ≡ Pass → r ≡ wordDone w → ItemsOn ws heads names m calls code w calls code r
   pass-on {code} e done =
-      let inside = tells Pass e .inside in
+      let inside = tells Pass e .0 .inside in
       let now = reads Pass inside e in
       rw done record {
         same = λ t s ss means. same-words (same-refl code (w .at) _)
@@ -229,114 +311,52 @@ module _ (ws heads names : List ℕ) (m : Pattern) (calls : List ℕ) (w : Walk)
 
   -- A CALL ENDS
 
-  abbrev under : ℕ
-  under = w .depth - 1
-
-  abbrev called : Name
-  called = headName ws (getD calls under 0)
-
-  module _ (next : ℕ) (deep : 0 < w .depth) (outer : List Expression) where
-    -- what is read from there on with one call less open
-    abbrev later : Levels
-    later = levelsIn under (w .items) 0 (drop next ws)
+  module _ {next : ℕ} {outer : List Expression} (ends : Ends ws calls w next outer) (fits : next ≤ length ws + 1) where
+    abbrev name-called : Name
+    name-called = called ws calls w
 
     abbrev manner : Manner
     manner = mannerNow ws calls next w
 
-    abbrev last : Bool
-    last = lastCall under (drop next ws) (w .items)
-
-    last-same : (b : Bool) → eqb under 0 ≡ b → firstOf outer ≡ later .current → isLast b (firstOf outer) ≡ pick b (isStop (itemAt (drop next ws) 0 (w .items))) false
-    last-same true e h =
-        rw h (rw (eqb-true under 0 e) (last-item ws next (w .items)))
-    last-same false e h = refl
-
-    meant : Manner → MeantManner
-    meant Emits = emits
-    meant Replaces = replaces
-    meant Nests = nests
-
-    manner-same : firstOf outer ≡ later .current → mannerOf (isNil (openNames ws calls under)) (firstOf outer) called ≡ meant manner
-    unfolding meant
-    manner-same h =
-        rw (open-none ws calls under, last-same (eqb under 0) refl h) (by-tests (isEmission called) last)
-      where
-        by-tests : (a b : Bool) → pick a emits (pick b replaces nests) ≡ meant (mannerBy a b)
-        by-tests true b = refl
-        by-tests false true = refl
-        by-tests false false = refl
-
     -- its words, and what comes after them
     calling-words : (t : Table) (s : Shape) (ss : List (Named Site)) → Means ws heads names m t s ss → (k : Manner) (number : ℕ) (more : List Action)
-        → packActions (calling s (meant k) number called (meantStand (w .stand)) more)
-        ≡ callWords k (m .lengths) (w .stand) number called ++ pick (goesOn k) (packActions more) []
-    unfolding meant packActions
+        → packActions (calling s (meant k) number name-called (meantStand (w .stand)) more)
+        ≡ callWords k (m .lengths) (w .stand) number name-called ++ pick (goesOn k) (packActions more) []
+    unfolding packActions
     calling-words t s ss means Emits number more = refl
     calling-words t s ss means Replaces number more = rw (rest-word t s ss means)
     calling-words t s ss means Nests number more = refl
 
     -- they are not many
-    words-short : (k : Manner) (number : ℕ) → length (callWords k (m .lengths) (w .stand) number called) ≤ 260
-    words-short Emits number = omega (arith, name-short ws (getD calls under 0))
+    words-short : (k : Manner) (number : ℕ) → length (callWords k (m .lengths) (w .stand) number name-called) ≤ 260
+    words-short Emits number = omega (arith, name-short ws (getD calls (w .depth - 1) 0))
     words-short Replaces number = omega arith
     words-short Nests number = omega arith
 
-    -- a tail call leaves nothing to be read
-    replaces-last : (a b : Bool) → mannerBy a b ≡ Replaces → b ≡ true
-    replaces-last true b e = cc
-    replaces-last false true e = refl
-    replaces-last false false e = cc
-
-    last-stops : (b c : Bool) → pick b c false ≡ true → (b ≡ true) × (c ≡ true)
-    last-stops true c e = (refl, e)
-    last-stops false c e = (cc, cc)
-
-    stop-stops : (it : Item) → isStop it ≡ true → stops it ≡ true
-    stop-stops Byte e = cc
-    stop-stops Symbol e = cc
-    stop-stops Part e = cc
-    stop-stops Call e = cc
-    stop-stops Pass e = cc
-    stop-stops Close e = cc
-    stop-stops Unclosed e = cc
-    stop-stops Stop e = refl
-
-    rest-same : (k : Manner) (at : ℕ) → manner ≡ k → restNow (goesOn k) ws (callDone w next at (goesOn k)) ≡ later .rest
-    rest-same Emits at e = refl
-    rest-same Nests at e = refl
-    rest-same Replaces at e =
-        let tests = last-stops (eqb under 0) (isStop (itemAt (drop next ws) 0 (w .items))) (replaces-last (isEmission called) last e) in
-        let none : later ≡ stopped (drop next ws) =
-        rw (eqb-true under 0 (tests .0)) (levels-stop ws next 0 (w .items) (stop-stops (itemAt (drop next ws) 0 (w .items)) (tests .1))) in
-        sym (ap (λ (l : Levels). l .rest) none)
-
     -- what is still to come once it is done
-    more-same : (t : Table) (s : Shape) (ss : List (Named Site)) (b : Bool) (at : ℕ) → firstOf outer ≡ later .current → othersOf outer ≡ later .outer
-        → pick b (packActions (resume t s ss (openNames ws calls under) (firstOf outer) (othersOf outer) (meantStand (w .stand)))) []
+    more-same : (t : Table) (s : Shape) (ss : List (Named Site)) (b : Bool) (at : ℕ)
+        → pick b (packActions (resume t s ss (openNames ws calls (w .depth - 1)) (firstOf outer) (othersOf outer) (meantStand (w .stand)))) []
         ≡ remaining b t s ss ws calls (callDone w next at b)
-    more-same t s ss true at h g = rw (h, g)
-    more-same t s ss false at h g = refl
+    more-same t s ss true at = rw (ends .first, ends .others)
+    more-same t s ss false at = refl
 
-    close-on : {code code′ : List ℕ} {r : Walk} → levelsNow ws w ≡ record { current = end; outer = outer; rest = later .rest }
-        → firstOf outer ≡ later .current → othersOf outer ≡ later .outer → w .next ≤ next → next ≤ length ws + 1
-        → Wrote code (w .at) (endingWords ws heads (m .lengths) calls next w) code′ (r .at) → r ≡ callDone w next (r .at) (goesOn manner)
-        → ItemsOn ws heads names m calls code w calls code′ r
-    close-on {code} {r = r} now h g forward fits wrote done =
+    close-on : {code code′ : List ℕ} {r : Walk} → Wrote code (w .at) (endingWords ws heads (m .lengths) calls next w) code′ (r .at)
+        → r ≡ callDone w next (r .at) (goesOn manner) → ItemsOn ws heads names m calls code w calls code′ r
+    close-on {code} {r = r} wrote done =
         rw done record {
           same = λ t s ss means.
-              let number : numberOf t called ≡ numberAmong 0 (headNames ws heads) called =
-              number-among 0 t called ∙ ap (λ (l : List Name). numberAmong 0 l called) (means .functions) in
               let st = meantStand (w .stand) in
-              let more = resume t s ss (openNames ws calls under) (firstOf outer) (othersOf outer) st in
+              let more = resume t s ss (openNames ws calls (w .depth - 1)) (firstOf outer) (othersOf outer) st in
               same-wrote _
               (same-words (same-refl code (w .at) _)
-              (rw (now, open-less ws calls (w .depth) deep)
-              (ap packActions (resume-end t s ss called (openNames ws calls under) outer st)
-              ∙ ap₂ (λ (k : MeantManner) (f : ℕ). packActions (calling s k f called st more)) (manner-same h) number
-              ∙ calling-words t s ss means manner (numberAmong 0 (headNames ws heads) called) more
-              ∙ ap (λ (r : Words). endingWords ws heads (m .lengths) calls next w ++ r) (more-same t s ss (goesOn manner) (r .at) h g))))
+              (rw (ends .now, open-less ws calls (w .depth) (ends .deep))
+              (ap packActions (resume-end t s ss name-called (openNames ws calls (w .depth - 1)) outer st)
+              ∙ ap₂ (λ (k : MeantManner) (f : ℕ). packActions (calling s k f name-called st more)) (manner-same ws calls w ends t)
+              (number-same t s ss means)
+              ∙ calling-words t s ss means manner (numberAmong 0 (headNames ws heads) name-called) more
+              ∙ ap (λ (r : Words). endingWords ws heads (m .lengths) calls next w ++ r) (more-same t s ss (goesOn manner) (r .at)))))
               wrote;
-          rest = rest-same manner (r .at) refl ∙ sym (ap (λ (l : Levels). l .rest) now);
+          rest = rest-same ws calls w ends manner (r .at) refl;
           within =
               record {
                 room = within .room;
@@ -345,8 +365,8 @@ module _ (ws heads names : List ℕ) (m : Pattern) (calls : List ℕ) (w : Walk)
                 items = within .items;
                 next = fits;
               };
-          ahead = omega (arith, flag-small (goesOn manner));
-          grown = omega (arith, wrote .next, words-short manner (numberAmong 0 (headNames ws heads) called));
+          ahead = omega (arith, flag-small (goesOn manner), ends .deep, ends .forward);
+          grown = omega (arith, wrote .next, ends .deep, words-short manner (numberAmong 0 (headNames ws heads) name-called));
         }
       where
         flag-small : (b : Bool) → flag b ≤ 1
@@ -356,22 +376,12 @@ module _ (ws heads names : List ℕ) (m : Pattern) (calls : List ℕ) (w : Walk)
   pub closed-on : {code code′ : List ℕ} {r : Walk} → it ≡ Close
       → Wrote code (w .at) (endingWords ws heads (m .lengths) calls (w .next + 1) w) code′ (r .at)
       → r ≡ callDone w (w .next + 1) (r .at) (goesOn (mannerNow ws calls (w .next + 1) w)) → ItemsOn ws heads names m calls code w calls code′ r
-  closed-on e wrote done =
-      let (inside, deep) = tells Close e in
-      let l = levelsIn under (w .items) 0 (drop (w .next + 1) ws) in
-      close-on (w .next + 1) deep (l .current ∷ l .outer)
-      (reads Close inside e) refl refl (omega arith) (omega arith) wrote done
+  closed-on e wrote done = close-on (closed-ends ws calls w (sym is ∙ e)) (omega (arith, tells Close e .0)) wrote done
 
   pub unclosed-on : {code code′ : List ℕ} {r : Walk} → it ≡ Unclosed
       → Wrote code (w .at) (endingWords ws heads (m .lengths) calls (w .next) w) code′ (r .at)
       → r ≡ callDone w (w .next) (r .at) (goesOn (mannerNow ws calls (w .next) w)) → ItemsOn ws heads names m calls code w calls code′ r
-  unclosed-on e wrote done =
-      let deep = tells Unclosed e in
-      let below : levelsIn under (w .items) 0 (drop (w .next) ws) ≡ stopped (drop (w .next) ws) =
-      levels-stop ws (w .next) under (w .items) (stops-below ws (w .next) (w .depth) (w .items) (sym is ∙ e)) in
-      close-on (w .next) deep []
-      (levels-stop ws (w .next) (w .depth) (w .items) (ap stops (sym is ∙ e)) ∙ ap (λ (r : List ℕ). stopped r) (sym (ap (λ (l : Levels). l .rest) below)))
-      (sym (ap (λ (l : Levels). l .current) below)) (sym (ap (λ (l : Levels). l .outer) below)) (omega arith) (within .next) wrote done
+  unclosed-on e wrote done = close-on (unclosed-ends ws calls w (sym is ∙ e)) (within .next) wrote done
 
 -- ALL OF THEM
 

@@ -4,11 +4,11 @@ use native.Mathlib.Omega.{arith}
 use mathlib.Core.Path.{_≡_, refl, ap, _∙_, subst}
 use mathlib.Core.Bool.{Bool, true, false}
 use mathlib.Core.List.{List, [], _∷_}
-use borrow.Author.Tests.{leb-false, ltb-true, eqb-true, eqb-false, ne-eqb}
+use borrow.Author.Tests.{leb-false, ltb-true, ltb-false, eqb-true, eqb-false, ne-eqb}
 use lib.Dec.{leb, ltb, eqb}
 use lib.ListN.{length, drop, getD, drop-of-length-le}
 use Rattle.meaning.specs.Choice.{pick}
-use Rattle.meaning.specs.Translation.{isLast}
+use Rattle.meaning.specs.Translation.{isEnd}
 use Rattle.words.specs.declared.tape.Item.{Item}
 use Rattle.words.specs.declared.tape.Item.the-variants.{Byte, Symbol, Part, Call, Pass, Close, Unclosed, Stop}
 use Rattle.words.specs.Words.{carried, headName, itemOf, itemAt}
@@ -67,7 +67,7 @@ module _ (ws : List ℕ) (i depth items : ℕ) where
   Told Symbol = Reads ws i items
   Told Part = Reads ws i items
   Told Call = Reads ws i items × (depth < 16)
-  Told Pass = Reads ws i items
+  Told Pass = Reads ws i items × (16 ≤ depth)
   Told Close = (i < length ws) × (0 < depth)
   Told Unclosed = 0 < depth
   Told Stop = depth ≡ 0
@@ -107,7 +107,7 @@ module _ (ws : List ℕ) (i depth items : ℕ) where
       within false false true e y byte deep = read
       within false false false true y byte deep = end-told z u v none h
       within false false false false true byte deep = (read, ltb-true depth 16 deep)
-      within false false false false false byte deep = read
+      within false false false false false byte deep = (read, ltb-false depth 16 deep)
 
   pub told : (it : Item) → itemAt (drop i ws) depth items ≡ it → Told it
   told it e = subst Told e (by-place ws i on-tape past-tape)
@@ -174,12 +174,12 @@ stops-below ws i depth items e =
     (λ h. outside ws i (depth - 1) items h)
 
 -- nothing follows outermost where nothing is read
-pub last-item : (ws : List ℕ) (i items : ℕ) → isLast true (levelsIn 0 items 0 (drop i ws) .current) ≡ isStop (itemAt (drop i ws) 0 items)
+pub last-item : (ws : List ℕ) (i items : ℕ) → isEnd (levelsIn 0 items 0 (drop i ws) .current) ≡ isStop (itemAt (drop i ws) 0 items)
 unfolding levelsIn
 last-item ws i items = by-list (drop i ws)
   where
     by-tests : (a b c d e : Bool) (w : ℕ) (r : List ℕ)
-        → isLast true (itemBy (itemTests a b c d e true false false true) 0 items w r (λ d n skip. levelsIn d n skip r) .current)
+        → isEnd (itemBy (itemTests a b c d e true false false true) 0 items w r (λ d n skip. levelsIn d n skip r) .current)
         ≡ isStop (itemTests a b c d e true false false true)
     by-tests true b c d e w r = refl
     by-tests false true c d e w r = refl
@@ -188,6 +188,6 @@ last-item ws i items = by-list (drop i ws)
     by-tests false false false false true w r = refl
     by-tests false false false false false w r = refl
 
-    by-list : (l : List ℕ) → isLast true (levelsIn 0 items 0 l .current) ≡ isStop (itemAt l 0 items)
+    by-list : (l : List ℕ) → isEnd (levelsIn 0 items 0 l .current) ≡ isStop (itemAt l 0 items)
     by-list [] = refl
     by-list (w ∷ r) = by-tests (leb 128 items) (ltb w 256) (ltb w 512) (ltb w 768) (ltb w 2304) w r

@@ -7,13 +7,13 @@ use Prim.Native.Nat.{ℕ, suc, _+_, _*_, _<_, _≤_}
 use native.Mathlib.Omega.{arith}
 use lib.Dec.{T, leb→le, ltb→lt}
 use lib.ListN.{length, length-append, length-map}
-use Rattle.meaning.specs.Choice.{Name, Named, every, sameBytes, lookup}
+use Rattle.meaning.specs.Choice.{Name, Named, guard, both, every, sameBytes, lookup}
 use Rattle.meaning.specs.Tree.{Letter, Subject, ofSymbol, ofPart, Condition, Expression, end, thenCharacter, thenSymbol, thenPart, thenCall, Sentence, Function, Table}
 use Rattle.meaning.specs.Classes.{Class}
 use Rattle.meaning.specs.Names.{numberFrom, numberOf, recoverPrefix, isRecovering, recovererOf}
 use Rattle.meaning.specs.Allowed.{isByte, member, spelledName, spelledElement, lettersIn, symbolsOf, maxLetters, maxSymbols, maxConditions, maxItems, maxName, itemsIn, spelledItems, allowedSentence, allowedFunction, allowed, sentencesIn, maxFunctions, maxSentences}
 use Rattle.meaning.specs.Instructions.{Site, Test, Store, store, Span, Action, go, select, out, outCharacter, outValue, beginSequence, useSequence, call, tailCall, emission, Metric, Code}
-use Rattle.meaning.specs.Translation.{Shape, fixed, open₁, open₂, shapeOf, metricOf, Tested, testedShape, siteOr, Bounds, boundsOf, subjectTest, conditionTest, testsOf, storesOf, valueFrom, valueNumber, Stand, atStart, afterFirst, afterSecond, nowhere, Passage, passageFirst, gapToSecond, passageSecond, passage, restOf, Manner, emits, replaces, nests, mannerOf, argumentReady, calling, items, passesRest, actionsOf, translatedSentences, translatedFunction, translate}
+use Rattle.meaning.specs.Translation.{Shape, fixed, open₁, open₂, shapeOf, metricOf, Tested, testedShape, siteOr, Bounds, boundsOf, subjectTest, conditionTest, testsOf, storesOf, valueFrom, valueNumber, Stand, atStart, afterFirst, afterSecond, nowhere, Passage, passageFirst, gapToSecond, passageSecond, passage, restOf, Manner, emits, replaces, nests, Level, outermost, inside, inTail, isEnd, mannerOf, levelIn, endsPattern, leftFor, whereLeft, argumentReady, calling, items, passesRest, actionsOf, translatedSentences, translatedFunction, translate}
 use Rattle.meaning.specs.Packing.{Words, pack, unpack}
 use Rattle.meaning.proofs.laws.Choosing.{of-either}
 use Rattle.meaning.proofs.laws.Passing.{both-left, both-right, every-head, every-tail}
@@ -142,28 +142,52 @@ module _ (table : Table) (P : Action → Type 0) (kinds : Kinds table P) (shape 
   value-fits : (x : Name) → valueNumber sites x < 256
   value-fits x = omega (arith, value-low 0 x sites)
 
-  items-all : (symbols : List Name) (outermost : Bool) (e : Expression) (w : Stand) (rest : Stand → List Action) → T (spelledItems symbols e) →
-      ((w₁ : Stand) → All P (rest w₁)) → All P (items table shape sites outermost e w rest)
+  -- the tail call of a level has it
+  abbrev Tailed : Level → Type 0
+  Tailed outermost = Unit {0}
+  Tailed inside = Unit {0}
+  Tailed (inTail f) = P (tailCall f)
+
+  tailed-in : (m : Manner) (n : Name) → Tailed (levelIn m (numberOf table n))
+  tailed-in emits n = tt
+  tailed-in replaces n = kinds .tailCalls n
+  tailed-in nests n = tt
+
+  left-all : {way : Passage} {moving : List Action} (level : Level) (x : Name) (e : Expression) → Tailed level → FitsPassage way → All P moving →
+      All P (whereLeft (leftFor shape level x e) way moving)
+  left-all outermost x e tail fits a = a
+  left-all inside x e tail fits a = a
+  left-all {way} {moving} (inTail f) x e tail fits a = left (both (isEnd e) (endsPattern shape x))
+    where
+      left : (q : Bool) → All P (whereLeft (guard q (some f)) way moving)
+      left true = cons (kinds .goes _ (fits .gap)) (cons (kinds .uses) (cons (kinds .selects _ (fits .piece)) (cons tail nil)))
+      left false = a
+
+  items-all : (symbols : List Name) (level : Level) (e : Expression) (w : Stand) (rest : Stand → List Action) → T (spelledItems symbols e) →
+      Tailed level →
+      ((w₁ : Stand) → All P (rest w₁)) → All P (items table shape sites level e w rest)
   unfolding items spelledItems
-  items-all symbols outermost end w rest t a = a w
-  items-all symbols outermost (thenCharacter c e) w rest t a =
+  items-all symbols level end w rest t tail a = a w
+  items-all symbols level (thenCharacter c e) w rest t tail a =
       cons (kinds .characters c (ltb→lt c 256 (both-left (isByte c) (spelledItems symbols e) t)))
-      (items-all symbols outermost e w rest (both-right (isByte c) (spelledItems symbols e) t) a)
-  items-all symbols outermost (thenSymbol x e) w rest t a =
-      cons (kinds .values _ (value-fits x)) (items-all symbols outermost e w rest (both-right (member x symbols) (spelledItems symbols e) t) a)
-  items-all symbols outermost (thenPart x e) w rest t a =
+      (items-all symbols level e w rest (both-right (isByte c) (spelledItems symbols e) t) tail a)
+  items-all symbols level (thenSymbol x e) w rest t tail a =
+      cons (kinds .values _ (value-fits x)) (items-all symbols level e w rest (both-right (member x symbols) (spelledItems symbols e) t) tail a)
+  items-all symbols level (thenPart x e) w rest t tail a =
       let fits = passage-fits shape x w short in
-      cons (kinds .goes _ (fits .gap))
-      (cons (kinds .selects _ (fits .piece)) (cons (kinds .outs) (items-all symbols outermost e (passage shape x w .after) rest t a)))
-  items-all symbols outermost (thenCall place n argument e) w rest t a =
+      left-all level x e tail fits
+      (cons (kinds .goes _ (fits .gap))
+      (cons (kinds .selects _ (fits .piece)) (cons (kinds .outs) (items-all symbols level e (passage shape x w .after) rest t tail a))))
+  items-all symbols level (thenCall place n argument e) w rest t tail a =
       let spelt = spelled-call symbols place n argument e t in
       cons (kinds .begins)
-      (items-all symbols false argument w _ (spelt .argument)
-      (λ w₁. calling-all (mannerOf outermost e n) n w₁ (items table shape sites outermost e w₁ rest) (spelt .name)
-      (items-all symbols outermost e w₁ rest (spelt .after) a)))
+      (items-all symbols (levelIn (mannerOf level e n) (numberOf table n)) argument w _ (spelt .argument) (tailed-in (mannerOf level e n) n)
+      (λ w₁. calling-all (mannerOf level e n) n w₁ (items table shape sites level e w₁ rest) (spelt .name)
+      (items-all symbols level e w₁ rest (spelt .after) tail a)))
 
   pub actions-all : (symbols : List Name) (e : Expression) → T (spelledItems symbols e) → All P (actionsOf table shape sites e)
-  actions-all symbols e t = items-all symbols true e atStart (passesRest shape) t (λ w. cons (kinds .goes (restOf shape w) (rest-fits shape w short)) nil)
+  actions-all symbols e t =
+      items-all symbols outermost e atStart (passesRest shape) t tt (λ w. cons (kinds .goes (restOf shape w) (rest-fits shape w short)) nil)
 
 fitting : (limit : ℕ) (table : Table) → ((n : Name) → numberOf table n < limit) → Kinds table (FitsAction limit)
 fitting limit table numbers =
@@ -194,33 +218,51 @@ module _ (table : Table) (shape : Shape) (sites : List (Named Site)) where
   calling-length replaces number n w more t = omega arith
   calling-length nests number n w more t = omega arith
 
-  items-length : (symbols : List Name) (bound : ℕ) (outermost : Bool) (e : Expression) (w : Stand) (rest : Stand → List Action) →
+  -- a part that stays takes four actions, a part that moves three
+  left-length : (level : Level) (x : Name) (e : Expression) (way : Passage) (moving : List Action) (bound : ℕ) → actionsLength moving ≤ 4 + bound →
+      actionsLength (whereLeft (leftFor shape level x e) way moving) ≤ 4 + bound
+  unfolding actionsLength
+  left-length outermost x e way moving bound h = h
+  left-length inside x e way moving bound h = h
+  left-length (inTail f) x e way moving bound h = left (both (isEnd e) (endsPattern shape x))
+    where
+      left : (q : Bool) → actionsLength (whereLeft (guard q (some f)) way moving) ≤ 4 + bound
+      left true = omega arith
+      left false = h
+
+  items-length : (symbols : List Name) (bound : ℕ) (level : Level) (e : Expression) (w : Stand) (rest : Stand → List Action) →
       T (spelledItems symbols e) → ((w₁ : Stand) → actionsLength (rest w₁) ≤ bound) →
-      actionsLength (items table shape sites outermost e w rest) ≤ maxItemWords * itemsIn e + bound
+      actionsLength (items table shape sites level e w rest) ≤ maxItemWords * itemsIn e + bound
   unfolding items spelledItems itemsIn actionsLength
-  items-length symbols bound outermost end w rest t h = omega (arith, h w)
-  items-length symbols bound outermost (thenCharacter c e) w rest t h =
-      omega (arith, items-length symbols bound outermost e w rest (both-right (isByte c) (spelledItems symbols e) t) h)
-  items-length symbols bound outermost (thenSymbol x e) w rest t h =
-      omega (arith, items-length symbols bound outermost e w rest (both-right (member x symbols) (spelledItems symbols e) t) h)
-  items-length symbols bound outermost (thenPart x e) w rest t h = omega (arith, items-length symbols bound outermost e (passage shape x w .after) rest t h)
-  items-length symbols bound outermost (thenCall place n a e) w rest t h =
-      let spelt = spelled-call symbols place n a e t in
-      let after : Stand → List Action = λ w₁. calling shape (mannerOf outermost e n) (numberOf table n) n w₁ (items table shape sites outermost e w₁ rest) in
+  items-length symbols bound level end w rest t h = omega (arith, h w)
+  items-length symbols bound level (thenCharacter c e) w rest t h =
+      omega (arith, items-length symbols bound level e w rest (both-right (isByte c) (spelledItems symbols e) t) h)
+  items-length symbols bound level (thenSymbol x e) w rest t h =
+      omega (arith, items-length symbols bound level e w rest (both-right (member x symbols) (spelledItems symbols e) t) h)
+  items-length symbols bound level (thenPart x e) w rest t h =
       omega (
         arith,
-        items-length symbols (27 + (maxItemWords * itemsIn e + bound)) false a w after (spelt .argument)
+        left-length level x e (passage shape x w)
+            (go (passage shape x w .gap) ∷ select (passage shape x w .piece) ∷ out ∷ items table shape sites level e (passage shape x w .after) rest)
+            (maxItemWords * itemsIn e + bound) (omega (arith, items-length symbols bound level e (passage shape x w .after) rest t h)),
+      )
+  items-length symbols bound level (thenCall place n a e) w rest t h =
+      let spelt = spelled-call symbols place n a e t in
+      let after : Stand → List Action = λ w₁. calling shape (mannerOf level e n) (numberOf table n) n w₁ (items table shape sites level e w₁ rest) in
+      omega (
+        arith,
+        items-length symbols (27 + (maxItemWords * itemsIn e + bound)) (levelIn (mannerOf level e n) (numberOf table n)) a w after (spelt .argument)
             (λ w₁. omega (
               arith,
-              calling-length (mannerOf outermost e n) (numberOf table n) n w₁ (items table shape sites outermost e w₁ rest)
+              calling-length (mannerOf level e n) (numberOf table n) n w₁ (items table shape sites level e w₁ rest)
                   (spelt .name),
-              items-length symbols bound outermost e w₁ rest (spelt .after) h,
+              items-length symbols bound level e w₁ rest (spelt .after) h,
             )),
       )
 
   actions-short : (symbols : List Name) (e : Expression) → T (spelledItems symbols e) → actionsLength (actionsOf table shape sites e) ≤ maxItemWords * itemsIn e + 1
   unfolding actionsLength
-  actions-short symbols e t = items-length symbols 1 true e atStart (passesRest shape) t (λ w. omega arith)
+  actions-short symbols e t = items-length symbols 1 outermost e atStart (passesRest shape) t (λ w. omega arith)
 
 -- A SENTENCE
 

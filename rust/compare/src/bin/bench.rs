@@ -28,8 +28,10 @@ fn main() {
     running("a byte found last in 30,000", b"F { e1 '7' e2 = }", &late, 1);
     running("a class found last in 30,000", b"F { e1 s2 e3, <IsDigit s2>: 'T' = s2 }", &late, 1);
     conditions();
-    let moves = running("1,000 tail calls with 30,000 bytes", b"F { e1 = <F e1> }", &[b'm'; LONG], 1_000);
+    running("1,000 tail calls with 30,000 bytes", b"F { e1 = <F e1> }", &[b'm'; LONG], 1_000);
+    let moves = running("1,000 tail calls that move 30,000 bytes", b"F { s1 e2 = <F e2 s1> }", &[b'm'; LONG], 1_000);
     moving(moves, 1_000);
+    running("row Z on 30,000 zeros", b"F { '0' e1 = <F e1>; e1 = e1 }", &[b'0'; LONG], 100_000);
     running("1,000,000 recoveries", b"X { 'a' = } RecoverX { e1 = <X e1> }", b"b", 2_000_000);
 }
 

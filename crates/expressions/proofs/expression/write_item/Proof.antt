@@ -1,13 +1,13 @@
 -- `expression::write_item` meets its contract.
-use Prim.Native.Nat.{_-_, _≤_, _<_}
+use Prim.Native.Nat.{_<_}
 use native.Mathlib.Omega.{arith}
-use lib.ListN.{length, getD}
 use mathlib.Core.Path.{_≡_, sym, _∙_}
 use Rattle.words.specs.declared.tape.Item.{Item}
 use Rattle.words.specs.declared.tape.Item.the-variants.{Byte, Symbol, Part, Call, Close, Unclosed}
 use Rattle.expressions.specs.declared.expression.Walk.{Walk}
+use Rattle.expressions.specs.Resuming.{Innermost}
 use Rattle.expressions.proofs.laws.Items.{Told, told}
-use Rattle.expressions.proofs.laws.Itemised.{innermost, character-on, value-on, part-on, open-on, pass-on, closed-on, unclosed-on, end-on}
+use Rattle.expressions.proofs.laws.Itemised.{innermost, left-passed, character-on, value-on, part-on, left-on, open-on, pass-on, closed-on, unclosed-on, end-on}
 use borrow.Author.Needs.{needs}
 use Rattle.expressions.proofs.expression.write_item.Statement.{statement}
 use Rattle.expressions.proofs.expression.write_item.Tie as tie
@@ -23,8 +23,7 @@ module _ (c : tie.After-item-at) where
   told-here : (it : Item) → c .item-at .result ≡ it → Told (entry .args .tape .now) (walk .next) (walk .depth) (walk .items) it
   told-here it e = told _ _ _ _ it (sym (c .item-at .ensures) ∙ e)
 
-  innermost-here : 0 < walk .depth → (1 ≤ walk .depth) × (walk .depth ≤ length (entry .args .calls .now)) ×
-      (getD (entry .args .calls .now) (walk .depth - 1) 0 < length (entry .args .tape .now))
+  innermost-here : 0 < walk .depth → Innermost (entry .args .tape .now) (entry .args .calls .now) walk
   innermost-here = innermost (entry .pre .3)
 
 write-character-requires : tie.Need-write-character-requires
@@ -32,6 +31,23 @@ write-character-requires c κs = omega (arith, told-here (search) Byte (search))
 
 write-value-requires : tie.Need-write-value-requires
 write-value-requires c κs = omega (arith, told-here (search) Symbol (search))
+
+part-stays-requires : tie.Need-part-stays-requires
+part-stays-requires c κs =
+    let at-item-at = c .before .before .before .before in
+    let read = told-here at-item-at Part (search) in
+    (entry at-item-at .pre .3, read .inside, read .room)
+
+leave-part-requires : tie.Need-leave-part-requires
+leave-part-requires c κs =
+    let at-if = c .before .before in
+    let at-part-stays = at-if .before in
+    let at-item-at = at-part-stays .before .before .before .before .before in
+    let read = told-here at-item-at Part (search) in
+    let within = entry at-item-at .pre .3 in
+    let stays-here = sym (at-part-stays .part-stays .ensures) ∙ at-if .if1 .taken in
+    let left = left-passed (entry at-item-at .args .m) within (read .inside) (read .room) stays-here in
+    ((within, read .inside, read .room, innermost-here at-item-at (left .deep)), (search))
 
 write-part-requires : tie.Need-write-part-requires
 write-part-requires c κs = omega (arith, told-here (search) Part (search))
@@ -46,28 +62,31 @@ close-call-requires-2 : tie.Need-close-call-requires-2
 close-call-requires-2 c κs = (innermost-here (search) (told-here (search) Unclosed (search)), (search))
 
 returns : tie.Need-returns
-returns c = search character-on
+returns c = search left-on
 
 returns-2 : tie.Need-returns-2
-returns-2 c = search value-on
+returns-2 c = search character-on
 
 returns-3 : tie.Need-returns-3
-returns-3 c = search part-on
+returns-3 c = search value-on
 
 returns-4 : tie.Need-returns-4
-returns-4 c = search open-on
+returns-4 c = search part-on
 
 returns-5 : tie.Need-returns-5
-returns-5 c = search pass-on
+returns-5 c = search open-on
 
 returns-6 : tie.Need-returns-6
-returns-6 c = search closed-on
+returns-6 c = search pass-on
 
 returns-7 : tie.Need-returns-7
-returns-7 c = search unclosed-on
+returns-7 c = search closed-on
 
 returns-8 : tie.Need-returns-8
-returns-8 c = search end-on
+returns-8 c = search unclosed-on
+
+returns-9 : tie.Need-returns-9
+returns-9 c = search end-on
 
 pub write-item-spec : {M : Type 1} → statement M
 write-item-spec =
@@ -79,6 +98,11 @@ write-item-spec =
     (λ c. search needs)
     write-value-requires
     (λ c. search needs)
+    part-stays-requires
+    leave-part-requires
+    (λ c. search needs)
+    (λ c. search needs)
+    returns
     write-part-requires
     (λ c. search needs)
     open-call-requires
@@ -92,20 +116,21 @@ write-item-spec =
     (λ c. search needs)
     (λ c κs. search needs)
     (λ c. search needs)
-    returns
-    (λ c. search needs)
     returns-2
     (λ c. search needs)
     returns-3
     (λ c. search needs)
     (λ c. search needs)
     returns-4
+    (λ c. search needs)
+    (λ c. search needs)
     returns-5
-    (λ c. search needs)
-    (λ c. search needs)
     returns-6
     (λ c. search needs)
     (λ c. search needs)
     returns-7
     (λ c. search needs)
-    returns-8)
+    (λ c. search needs)
+    returns-8
+    (λ c. search needs)
+    returns-9)

@@ -7,9 +7,8 @@ use Rattle.expressions.proofs.expression.write_part.Tie as tie
 returns : tie.Need-returns
 returns c =
     let at-put-part = c .before .before .before .before in
-    let at-name-is = at-put-part .before .before .before in
-    let named = at-name-is .before .before .size-of .ensures in
-    rw (c .past-item .ensures, c .before .stand-after .ensures, ← (named .long), ← (named .words), ← (at-name-is .name-is .ensures))
+    let at-is-first = at-put-part .before .before .before in
+    rw (c .past-item .ensures, c .before .stand-after .ensures, ← (at-is-first .before .size-of .ensures .long), ← (at-is-first .is-first .ensures))
     (at-put-part .put-part .ensures, refl)
 
 pub write-part-spec : {M : Type 1} → statement M
@@ -17,7 +16,6 @@ write-part-spec =
     tie.close
     (tie.spec
     (λ c κs. search needs)
-    (λ c. search needs)
     (λ c κs. search needs)
     (λ c κs. search needs)
     (λ c κs. search needs)

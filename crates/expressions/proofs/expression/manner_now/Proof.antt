@@ -1,0 +1,27 @@
+-- `expression::manner_now` meets its contract.
+use mathlib.Core.Path.{ap, _∙_}
+use Rattle.meaning.specs.Names.{isEmission}
+use borrow.Author.Needs.{needs}
+use Rattle.expressions.proofs.expression.manner_now.Statement.{statement}
+use Rattle.expressions.proofs.expression.manner_now.Tie as tie
+
+returns : tie.Need-returns
+returns c =
+    let at-is-last = c .before in
+    let at-is-emission = at-is-last .before in
+    let emission = at-is-emission .is-emission .ensures ∙ ap isEmission (at-is-emission .before .size-of .ensures .words) in
+    rw (← emission, ← (at-is-last .is-last .ensures)) (c .manner-of .ensures)
+
+pub manner-now-spec : {M : Type 1} → statement M
+manner-now-spec =
+    tie.close
+    (tie.spec
+    (λ c. search needs)
+    (λ c. search needs)
+    (λ c. search needs)
+    (λ c κs. search needs)
+    (λ c. search needs)
+    (λ c κs. search needs)
+    (λ c κs. search needs)
+    (λ c κs. search needs)
+    returns)
