@@ -1,8 +1,8 @@
 -- 01's number for each ending of a run.
 use Prim.Native.Nat.{ℕ}
-use Rattle.meaning.specs.Answers.{finished, noSuchStart, textTooLong, noSentenceFits, allowanceSpent, inFull, outFull, framesFull, recordFull, noInstruction}
+use Rattle.meaning.specs.Answers.{finished, noSuchStart, textTooLong, noSentenceFits, allowanceSpent, inFull, outFull, framesFull, recordFull, noInstruction, argumentNotAngles, angleOutOfRange}
 use Rattle.acting.specs.declared.registers.Ending.{Ending}
-use Rattle.acting.specs.declared.registers.Ending.the-variants.{Finished, NoSuchStart, TextTooLong, NoSentenceFits, AllowanceSpent, InFull, OutFull, FramesFull, JournalFull, NoInstruction}
+use Rattle.acting.specs.declared.registers.Ending.the-variants.{Finished, NoSuchStart, TextTooLong, NoSentenceFits, AllowanceSpent, InFull, OutFull, FramesFull, JournalFull, NoInstruction, ArgumentNotAngles, AngleOutOfRange}
 
 abbrev pub endingNumber : Ending → ℕ
 endingNumber Finished = finished
@@ -15,3 +15,5 @@ endingNumber OutFull = outFull
 endingNumber FramesFull = framesFull
 endingNumber JournalFull = recordFull
 endingNumber NoInstruction = noInstruction
+endingNumber ArgumentNotAngles = argumentNotAngles
+endingNumber AngleOutOfRange = angleOutOfRange

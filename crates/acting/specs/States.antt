@@ -1,13 +1,13 @@
 -- The registers and the lent cells as the specification's state: stack in from p on, the selected cells, stack out up to r, what was counted, and what a frame keeps.
 use Prim.Native.Nat.{ℕ, suc, pred, _+_, _*_, _-_, _≤_, _<_}
 use mathlib.Core.Path.{_≡_}
-use mathlib.Core.List.{List}
+use mathlib.Core.List.{List, _++_}
 use mathlib.Core.Bool.{Bool, true, false}
 use lib.ListN.{length, getD, take, drop, set}
 use Rattle.meaning.specs.Choice.{Bytes}
 use Rattle.meaning.specs.Outcome.{maxCounted, Outcome, done, stop}
 use Rattle.meaning.specs.Instructions.{Action, Code}
-use Rattle.meaning.specs.Machine.{Ledger, Stacks, Local, perform}
+use Rattle.meaning.specs.Machine.{outCells, Ledger, Stacks, Local, movedOn, withOutput, noting, perform}
 use Rattle.meaning.specs.Runs.{Room, lent}
 use Rattle.meaning.specs.Leaving.{maxFrames}
 use Rattle.acting.specs.declared.registers.Registers.{Registers}
@@ -156,6 +156,13 @@ abbrev pub after : ℕ → (ℕ → Going) → Next → Memory → Outcomes
 after allowance k (Onward g) m = k (g .at .0) (localOf g m) (stacksOf g m) (ledgerOf allowance g m)
 after allowance k (Done g) m = done (stacksOf g m) (ledgerOf allowance g m)
 after allowance k (Stopped g ending function) m = stop (endingNumber ending) function (ledgerOf allowance g m)
+
+-- an action passes the selected cells, and leaves a text on out where there is room for it
+pub record Writes (action : Action) (text : Bytes) (g : Registers) (m : Memory) : Type 0 where
+  pub same : (allowance : ℕ) (code : Code) (enter : ℕ → ℕ → Stacks → Ledgers → Outcomes) (k : Going) → let s = stacksOf g m in
+      perform (lent (roomOf m)) code enter k (suc (g .frame)) action (localOf g m) s (ledgerOf allowance g m) ≡
+      noting (lent (roomOf m)) (outCells (length (s .output) + length text)) (ledgerOf allowance g m)
+      (k (localOf g m) (movedOn (s .selected) (withOutput (s .output ++ text) s)))
 
 -- an instruction that goes on at a place, in the same frame and step, with all but its own cells as they were
 pub record Stayed (at : ℕ) (g : Registers) (m : Memory) (h : Registers) (n : Memory) : Type 0 where

@@ -1,4 +1,5 @@
 // The actions of the machine: what each instruction of the Process part does to registers, cells, frames and journal.
+pub mod computing;
 pub mod emitting;
 pub mod frames;
 pub mod moving;

@@ -4,11 +4,11 @@ ghost use mathlib.Core.Path.{_≡_};
 ghost use mathlib.Core.List.{List};
 ghost use lib.ListN.{length};
 ghost use Rattle.meaning.specs.Choice.{Bytes};
-ghost use Rattle.meaning.specs.Instructions.{go as going, select as selecting, out, outCharacter, outValue, beginSequence, useSequence};
+ghost use Rattle.meaning.specs.Instructions.{Action, go as going, select as selecting, out, outCharacter, outValue, beginSequence, useSequence};
 ghost use Rattle.meaning.specs.Leaving.{maxFrames};
 ghost use Rattle.meaning.specs.Packing.{firstIn, secondIn, thirdIn, lengthOf};
 ghost use Rattle.decoding.specs.Decoded.{spanMeant, writeMeant};
-ghost use Rattle.acting.specs.States.{memory, roomOfFrames, roomOfValues, localAt, Held, Opens, Acts};
+ghost use Rattle.acting.specs.States.{memory, roomOfFrames, roomOfValues, localAt, Held, Opens, Writes, Acts};
 ghost use Rattle.acting.specs.Spans.{withinCells, cellsOf, reachedBy};
 use crate::frames::FRAME_VALUES;
 use crate::frames::LENGTHS;
@@ -130,6 +130,24 @@ pub fn select(g: Registers, span: u32, input: &[u8], frames: &[usize]) -> Next
     Next::Onward(Registers { q: to, ..g })
 }
 
+// A text goes to out, and the selected cells are passed.
+pub fn write_text(g: Registers, text: &[u8], output: &mut [u8]) -> Next
+    requires { ⌜ g .p .0 ≤ g .q .0 ⌝ }
+    requires { ⌜ g .r .0 ≤ length (now output) ⌝ }
+    ensures { λ r. ⌜ ((action : Action) (input journal values : Bytes) (frames : List ℕ) →
+        Writes action (now (text .entry)) g (memory input (now (output .entry)) journal frames values) →
+        Acts action (g .at .0) g (memory input (now (output .entry)) journal frames values) r
+        (memory input (now (output .exit)) journal frames values)) ⌝ }
+{
+    if room_from(output, g.r) < text.len() {
+        return Next::Stopped(g, Ending::OutFull, 0);
+    }
+    copy_to_out(output, g.r, text);
+    let to = g.q;
+    let end = out_after(g.r, text.len());
+    Next::Onward(Registers { p: to, r: end, ..g })
+}
+
 pub fn write_part(g: Registers, input: &[u8], output: &mut [u8]) -> Next
     requires { ⌜ g .p .0 ≤ g .q .0 ⌝ }
     requires { ⌜ g .q .0 ≤ length (now input) ⌝ }
@@ -137,14 +155,7 @@ pub fn write_part(g: Registers, input: &[u8], output: &mut [u8]) -> Next
     ensures { λ r. ⌜ ((journal values : Bytes) (frames : List ℕ) → Acts out (g .at .0) g (memory (now (input .entry)) (now (output .entry)) journal frames values) r
         (memory (now (input .entry)) (now (output .exit)) journal frames values)) ⌝ }
 {
-    let selected = part(input, g.p, g.q);
-    if room_from(output, g.r) < selected.len() {
-        return Next::Stopped(g, Ending::OutFull, 0);
-    }
-    copy_to_out(output, g.r, selected);
-    let to = g.q;
-    let end = out_after(g.r, selected.len());
-    Next::Onward(Registers { p: to, r: end, ..g })
+    write_text(g, part(input, g.p, g.q), output)
 }
 
 pub fn write_byte(g: Registers, byte: u8, output: &mut [u8]) -> Next

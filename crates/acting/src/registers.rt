@@ -30,6 +30,8 @@ pub enum Ending {
     FramesFull,
     JournalFull,
     NoInstruction,
+    ArgumentNotAngles,
+    AngleOutOfRange,
 }
 
 // A run goes on, is done, or stops with an answer and a function number.
@@ -70,5 +72,7 @@ pub fn ending_number(ending: Ending) -> u64
         Ending::FramesFull => 15,
         Ending::JournalFull => 16,
         Ending::NoInstruction => 18,
+        Ending::ArgumentNotAngles => 20,
+        Ending::AngleOutOfRange => 21,
     }
 }

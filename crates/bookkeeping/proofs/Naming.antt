@@ -1,4 +1,4 @@
--- What a name is: a predicate, an emission, declared, too long.
+-- What a name is: a predicate, built in, declared, too long.
 use Prim.Native.Nat.{ℕ, zero, suc, _+_, _-_, _≤_, _<_}
 use mathlib.Core.Path.{_≡_, refl, _∙_}
 use mathlib.Core.Bool.{Bool, true, false, not, true≢false}
@@ -11,7 +11,8 @@ use lib.ListN.{length, drop}
 use borrow.Author.Tests.{ltb-true, ltb-false}
 use Rattle.meaning.specs.Choice.{Bytes, Name, pick, both, either, sameBytes}
 use Rattle.meaning.specs.Classes.{Class, digit, upper, lower, alphabetic, blank, className, classNumber, classes}
-use Rattle.meaning.specs.Names.{classNamed, predicateOf, isPredicate, isEmission}
+use Rattle.meaning.specs.Angles.{plus, minus}
+use Rattle.meaning.specs.Names.{isEmission, operationName, isBuiltIn, classNamed, predicateOf, isPredicate}
 use Rattle.meaning.specs.Answers.{overLimit, wrongName}
 use Rattle.meaning.specs.Allowed.{member}
 use Rattle.meaning.specs.Reading.{faultUnless, calledFault}
@@ -83,6 +84,20 @@ a-predicate n r e low = told (ltb r 5) refl
     told true h = rw (e, classed r (ltb-true r 5 h) .same)
     told false h = let w : r ≡ 5 = omega (arith, low, ltb-false r 5 h) in rw (e, w)
 
+-- BUILT-IN NAMES
+
+module _ (n : Name) {emits : Bool} (e : emits ≡ isEmission n) where
+  pub emission-built-in : emits ≡ true → true ≡ isBuiltIn n
+  emission-built-in h = rw (← e, h)
+
+  module _ (h : emits ≡ false) {adds : Bool} (f : adds ≡ sameBytes n (operationName plus)) where
+    pub plus-built-in : adds ≡ true → true ≡ isBuiltIn n
+    plus-built-in k = rw (← e, h, ← f, k)
+
+    pub minus-built-in : adds ≡ false → (subtracts : Bool) → subtracts ≡ sameBytes n (operationName minus) → subtracts ≡ isBuiltIn n
+    minus-built-in k true g = rw (← e, h, ← f, k, ← g)
+    minus-built-in k false g = rw (← e, h, ← f, k, ← g)
+
 -- FAULTS OF NAMES
 
 module _ (text : Bytes) (x : Span) (p : Inside text x) where
@@ -110,21 +125,21 @@ module _ {text : Bytes} {x : Span} {number : ℕ} {is : Bool} (a : Asked-called 
     where
       wrong : (short predicate : Bool) → eqb (faultUnless short overLimit (faultUnless (not predicate) wrongName 0)) 0 ≡ false
           → faultUnless short overLimit (faultUnless (not predicate) wrongName 0)
-          ≡ faultUnless short overLimit (faultUnless (both (not (either predicate (isEmission n))) (not (member n names))) wrongName 0)
+          ≡ faultUnless short overLimit (faultUnless (both (not (either predicate (isBuiltIn n))) (not (member n names))) wrongName 0)
       wrong false predicate w′ = refl
       wrong true true w′ = refl
       wrong true false w′ = absurd (true≢false w′)
 
-  pub declared-is : not is ≡ false → {emission known : Bool} → isEmission n ≡ emission → member n names ≡ known
-      → faultUnless (both (not emission) (not known)) wrongName 0 ≡ declaredFaultIn names n
-  declared-is w {emission} {known} f g = right (leb (length n) 24) (isPredicate n) (no-fault-here (a .fault) (a .accepted) w)
+  pub declared-is : not is ≡ false → {builtIn known : Bool} → isBuiltIn n ≡ builtIn → member n names ≡ known
+      → faultUnless (both (not builtIn) (not known)) wrongName 0 ≡ declaredFaultIn names n
+  declared-is w {builtIn} {known} f g = right (leb (length n) 24) (isPredicate n) (no-fault-here (a .fault) (a .accepted) w)
     where
       right : (short predicate : Bool) → faultUnless short overLimit (faultUnless (not predicate) wrongName 0) ≡ 0
-          → faultUnless (both (not emission) (not known)) wrongName 0
-          ≡ faultUnless short overLimit (faultUnless (both (not (either predicate (isEmission n))) (not (member n names))) wrongName 0)
+          → faultUnless (both (not builtIn) (not known)) wrongName 0
+          ≡ faultUnless short overLimit (faultUnless (both (not (either predicate (isBuiltIn n))) (not (member n names))) wrongName 0)
       right true false z = rw (f, g)
       right true true z = absurd (omega arith)
       right false predicate z = absurd (omega arith)
 
-  pub declared-known : not is ≡ false → isEmission n ≡ false → {known : Bool} → member n names ≡ known → pick known wrongName 0 ≡ declaredFaultIn names n
+  pub declared-known : not is ≡ false → isBuiltIn n ≡ false → {known : Bool} → member n names ≡ known → pick known wrongName 0 ≡ declaredFaultIn names n
   declared-known w f {known} g = fault-if known wrongName ∙ declared-is w f g

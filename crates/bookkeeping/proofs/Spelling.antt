@@ -1,7 +1,7 @@
 -- Comparing a part of the text with a word, byte by byte.
 use Prim.Native.Nat.{ℕ, zero, suc, _+_, _-_, _≤_, _<_}
-use mathlib.Core.Path.{_≡_, refl, sym, _∙_, ap, ap₂}
-use mathlib.Core.Bool.{Bool, true, false}
+use mathlib.Core.Path.{_≡_, sym, _∙_}
+use mathlib.Core.Bool.{true, false}
 use mathlib.Core.List.{[], _∷_}
 use native.Mathlib.Nat.{add-zero, sub-zero, zero-sub, suc-sub-suc}
 use native.Mathlib.Numerals.{add-one}
@@ -9,12 +9,12 @@ use native.Mathlib.Omega.{arith}
 use lib.Dec.{eqb}
 use lib.ListN.{length, getD, take, drop, drop-of-length-le}
 use lib.Seq.{slice, slice-cons, drop-cons, take-nil}
-use borrow.Author.Tests.{eq-eqb, ne-eqb, eqb-true, eqb-false}
-use Rattle.meaning.specs.Choice.{Bytes, Name, both, sameBytes, startsWith}
+use borrow.Author.Tests.{eq-eqb, ne-eqb}
+use Rattle.meaning.specs.Choice.{Bytes, both, sameBytes, startsWith}
+use Rattle.meaning.proofs.laws.Beginnings.{lengths-differ, starts-short, starts-same}
 use Rattle.lexing.specs.View.{part}
 use Rattle.lexing.specs.declared.Span.{Span}
 use Rattle.bookkeeping.specs.Tables.{Inside}
-use Rattle.bookkeeping.proofs.Choosing.{both-false}
 use Rattle.bookkeeping.proofs.Lengths.{part-length}
 
 -- a part of the text as it is lent on
@@ -24,22 +24,7 @@ lent-part (suc from) zero text = rw zero-sub
 lent-part (suc from) (suc past) [] = take-nil (suc past - suc from)
 lent-part (suc from) (suc past) (b ∷ text) = rw suc-sub-suc (lent-part from past text)
 
--- names of different lengths are different
-lengths-differ : (xs ys : Name) → (length xs ≡ length ys → ⊥) → false ≡ sameBytes xs ys
-unfolding sameBytes
-lengths-differ [] [] d = absurd (d refl)
-lengths-differ [] (y ∷ ys) d = refl
-lengths-differ (x ∷ xs) [] d = refl
-lengths-differ (x ∷ xs) (y ∷ ys) d = both-false (eqb x y) (lengths-differ xs ys (λ e. d (ap suc e)))
-
 -- BEGINNINGS
-
--- a word that is longer begins no name
-starts-shorter : (word xs : Name) → length xs < length word → false ≡ startsWith word xs
-unfolding startsWith
-starts-shorter [] xs h = absurd (omega arith)
-starts-shorter (w ∷ word) [] h = refl
-starts-shorter (w ∷ word) (x ∷ xs) h = both-false (eqb w x) (starts-shorter word xs (omega arith))
 
 -- a part of the text begins with so many bytes of a word
 pub record Beginning (text word : Bytes) (from past i : ℕ) : Type 0 where
@@ -50,7 +35,7 @@ pub record Beginning (text word : Bytes) (from past i : ℕ) : Type 0 where
 
 module _ (text word : Bytes) (x : Span) (p : Inside text x) where
   pub begins-short : x .past - x .from < length word → false ≡ startsWith word (part text x)
-  begins-short h = starts-shorter word (part text x) (rw (part-length text x p) h)
+  begins-short h = sym (starts-short word (part text x) (rw (part-length text x p) h))
 
   pub begins-starts : length word ≤ x .past - x .from → Beginning text word (x .from) (x .past) 0
   begins-starts h =
@@ -81,21 +66,9 @@ module _ (text word : Bytes) (from past i : ℕ) (m : Beginning text word from p
           same = rw (← u, add-one) (unrolled-beginning ∙ rw (eq-eqb (getD word i 0) (getD text (from + i) 0) (sym d)));
         }
 
--- a word of the name's own length begins it where it is the name
-pub begins-same : (xs word : Name) → length xs ≡ length word → startsWith word xs ≡ sameBytes xs word
-unfolding startsWith sameBytes
-begins-same [] [] e = refl
-begins-same [] (w ∷ word) e = absurd (omega arith)
-begins-same (x ∷ xs) [] e = absurd (omega arith)
-begins-same (x ∷ xs) (w ∷ word) e = ap₂ both (turned w x (eqb w x) refl) (begins-same xs word (omega arith))
-  where
-    turned : (a b : ℕ) (is : Bool) → eqb a b ≡ is → eqb a b ≡ eqb b a
-    turned a b true q = q ∙ sym (eq-eqb b a (sym (eqb-true a b q)))
-    turned a b false q = q ∙ sym (ne-eqb b a (λ k. eqb-false a b q (sym k)))
-
 module _ (text word : Bytes) (x : Span) (p : Inside text x) where
   pub spells-unlike : (x .past - x .from ≡ length word → ⊥) → false ≡ sameBytes (part text x) word
-  spells-unlike d = lengths-differ (part text x) word (λ e. d (sym (part-length text x p) ∙ e))
+  spells-unlike d = sym (lengths-differ (part text x) word (λ e. d (sym (part-length text x p) ∙ e)))
 
   pub spells-same : x .past - x .from ≡ length word → startsWith word (part text x) ≡ sameBytes (part text x) word
-  spells-same e = begins-same (part text x) word (part-length text x p ∙ e)
+  spells-same e = starts-same word (part text x) (part-length text x p ∙ e)

@@ -9,7 +9,7 @@ ghost use Prim.Native.Nat.{_+_, _-_, _*_, _≤_, _<_};
 ghost use lib.ListN.{length};
 ghost use Rattle.meaning.specs.Choice.{sameBytes, startsWith};
 ghost use Rattle.meaning.specs.Classes.{Class, className};
-ghost use Rattle.meaning.specs.Names.{isEmission, predicateOf};
+ghost use Rattle.meaning.specs.Names.{isBuiltIn, predicateOf};
 ghost use Rattle.meaning.specs.Reading.{calledFault};
 ghost use Rattle.meaning.specs.Packing.{classOf};
 ghost use Rattle.lexing.specs.View.{part};
@@ -132,12 +132,18 @@ pub fn class_named(text: &[u8], x: Span) -> usize
     5
 }
 
-// Names that begin with `Emit` are emission.
-pub fn is_emission(text: &[u8], x: Span) -> bool
+// Whether a call of a name needs no declaration: emissions begin with `Emit`, and two names compute with angles.
+pub fn is_built_in(text: &[u8], x: Span) -> bool
     requires { ⌜ Inside (now text) x ⌝ }
-    ensures { λ r. ⌜ r ≡ isEmission (part (now (text .entry)) x) ⌝ }
+    ensures { λ r. ⌜ r ≡ isBuiltIn (part (now (text .entry)) x) ⌝ }
 {
-    begins_with(text, x, b"Emit")
+    if begins_with(text, x, b"Emit") {
+        return true;
+    }
+    if spells(text, x, b"DmAdd") {
+        return true;
+    }
+    spells(text, x, b"DmSub")
 }
 
 // What is wrong with a called name.
@@ -160,7 +166,7 @@ pub fn declared_fault(text: &[u8], names: &[usize], functions: usize, x: Span) -
     if !is_accepted(fault) {
         return fault;
     }
-    if is_emission(text, x) {
+    if is_built_in(text, x) {
         return Answer::WrongName;
     }
     fault_if(

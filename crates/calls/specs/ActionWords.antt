@@ -1,8 +1,9 @@
--- The code words of an e-variable's actions, of the rest of the field and of a call's argument.
+-- The code words of an e-variable's actions, of the rest of the field, of a call's argument and of an angle call.
 use Prim.Native.Nat.{ℕ, _+_, _*_}
 use mathlib.Core.Bool.{Bool}
 use mathlib.Core.List.{[], _∷_}
-use Rattle.meaning.specs.Packing.{Words, word}
+use Rattle.meaning.specs.Angles.{operation}
+use Rattle.meaning.specs.Packing.{Words, word, operationNumber}
 use Rattle.templates.specs.declared.pattern.Lengths.{Lengths}
 use Rattle.spans.specs.declared.Stand.{Stand}
 use Rattle.spans.specs.declared.Span.{Span}
@@ -28,3 +29,7 @@ abbrev pub leftWords : Lengths → Bool → Stand → ℕ → Words
 leftWords l first w number =
     spanWords 5 (gapBy (l .parts) l first w) ∷ word 11 0 0 0 ∷ spanWords 6 (pieceSpan (l .parts) l first) ∷
     (13 + 256 * number) ∷ 15 ∷ []
+
+-- an angle call, by whether it subtracts
+abbrev pub computationWord : Bool → ℕ
+computationWord subtract = word 21 (operationNumber (operation subtract)) 0 0

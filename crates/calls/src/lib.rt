@@ -8,6 +8,7 @@ use templates::pattern::Lengths;
 use words::writing::put;
 use words::writing::put_name;
 use words::writing::put_operands;
+ghost use mathlib.Core.Path.{_≡_};
 ghost use mathlib.Core.List.{[], _∷_};
 ghost use Prim.Native.Nat.{_+_, _*_, _≤_, _<_, _^_};
 ghost use lib.ListN.{length, take, drop};
@@ -15,7 +16,7 @@ ghost use Rattle.meaning.specs.Packing.{word};
 ghost use Rattle.words.specs.Writing.{Wrote};
 ghost use Rattle.templates.specs.Testing.{total};
 ghost use Rattle.spans.specs.Spanning.{SmallSpan};
-ghost use Rattle.calls.specs.ActionWords.{spanWords, partWords, restWord, readyWords, leftWords};
+ghost use Rattle.calls.specs.ActionWords.{spanWords, partWords, restWord, readyWords, leftWords, computationWord};
 
 pub fn put_span(code: &mut [u32], at: usize, number: usize, span: Span) -> usize
     requires { ⌜ SmallSpan span × (number < 256) × (at < 2 ^ 62) ⌝ }
@@ -50,6 +51,21 @@ pub fn write_emission(tape: &[u32], from: usize, size: usize, code: &mut [u32], 
     let ready = argument_ready(code, at);
     let named = put_operands(code, ready, 14, size, 0, 0);
     put_name(tape, from, size, code, named)
+}
+
+fn computation_word(subtract: bool) -> usize
+    ensures { λ r. ⌜ r ≡ computationWord subtract ⌝ }
+{
+    if subtract { 21 + 256 } else { 21 }
+}
+
+// DmAdd, or DmSub where `subtract` is set.
+pub fn write_computation(subtract: bool, code: &mut [u32], at: usize) -> usize
+    requires { ⌜ at < 2 ^ 61 ⌝ }
+    ensures { λ r. ⌜ Wrote (now (code .entry)) at (readyWords (computationWord subtract ∷ [])) (now (code .exit)) r ⌝ }
+{
+    let ready = argument_ready(code, at);
+    put(code, ready, computation_word(subtract))
 }
 
 pub fn write_tail_call(

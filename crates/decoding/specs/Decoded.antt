@@ -6,8 +6,9 @@ use mathlib.Core.Bool.{Bool, true, false}
 use lib.Dec.{leb, eqb}
 use lib.ListN.{length, getD, take}
 use Rattle.meaning.specs.Choice.{pick, both, every}
+use Rattle.meaning.specs.Angles.{operation}
 use Rattle.meaning.specs.Allowed.{isByte}
-use Rattle.meaning.specs.Instructions.{Span, Action, go, select, out, outCharacter, outValue, beginSequence, useSequence, call, tailCall, unknownAction}
+use Rattle.meaning.specs.Instructions.{Span, Action, go, select, out, outCharacter, outValue, beginSequence, useSequence, call, tailCall, compute, unknownAction}
 use Rattle.meaning.specs.Packing.{Words, numberIn, firstIn, secondIn, thirdIn, actionsEnd, lengthOf, spanAction, emissionOf, unpackActions}
 use Rattle.matching.specs.declared.CodePlace.{CodePlace}
 use Rattle.decoding.specs.declared.Found.{Found}
@@ -16,10 +17,13 @@ use Rattle.decoding.specs.declared.Call.{Call}
 use Rattle.decoding.specs.declared.Write.{Write}
 use Rattle.decoding.specs.declared.Write.the-variants.{Part, Character, Value}
 use Rattle.decoding.specs.declared.Instruction.{Instruction}
-use Rattle.decoding.specs.declared.Instruction.the-variants.{Go, Select, Write as Writes, Begin, Use, Call as Calls, Emit, End, Unknown}
+use Rattle.decoding.specs.declared.Instruction.the-variants.{Go, Select, Write as Writes, Begin, Use, Call as Calls, Emit, Compute, End, Unknown}
 
 abbrev pub callIn : Bool → ℕ → Call
 callIn tail w = record { tail = tail; function = w / 256 }
+
+abbrev pub computationIn : ℕ → Instruction
+computationIn n = pick (eqb n 0) (Compute false) (pick (eqb n 1) (Compute true) Unknown)
 
 abbrev pub instructionIn : ℕ → Instruction
 instructionIn w =
@@ -34,7 +38,8 @@ instructionIn w =
     (pick (eqb (numberIn w) 11) Use
     (pick (eqb (numberIn w) 12) (Calls (callIn false w))
     (pick (eqb (numberIn w) 13) (Calls (callIn true w))
-    Unknown))))))))))
+    (pick (eqb (numberIn w) 21) (computationIn (firstIn w))
+    Unknown)))))))))))
 
 -- the word at a place has a number
 pub record Numbered (words : Words) (at n : ℕ) : Type 0 where
@@ -74,6 +79,7 @@ actionsMeant Begin ws = beginSequence ∷ unpackActions 0 ws
 actionsMeant Use ws = useSequence ∷ unpackActions 0 ws
 actionsMeant (Calls x) ws = callMeant x ∷ unpackActions 0 ws
 actionsMeant (Emit n) ws = emissionOf n ws ∷ unpackActions n ws
+actionsMeant (Compute subtract) ws = compute (operation subtract) ∷ unpackActions 0 ws
 actionsMeant End ws = []
 actionsMeant Unknown ws = unknownAction ∷ unpackActions 0 ws
 

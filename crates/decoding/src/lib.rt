@@ -2,7 +2,7 @@
 use matching::CodePlace;
 use matching::wide;
 ghost use mathlib.Core.Path.{_≡_};
-ghost use Rattle.decoding.specs.Decoded.{callIn, instructionIn, Finds};
+ghost use Rattle.decoding.specs.Decoded.{callIn, computationIn, instructionIn, Finds};
 
 // What writes to out: the selected cells, a character, a stored value.
 pub enum Write {
@@ -23,7 +23,8 @@ pub enum Found {
     Other,
 }
 
-// An instruction of the Process part. Go and Select hold their words, an emission the length of its name.
+// An instruction of the Process part. Go and Select hold their words, an emission the length of its name, an angle call
+// whether it subtracts.
 pub enum Instruction {
     Go(u32),
     Select(u32),
@@ -32,6 +33,7 @@ pub enum Instruction {
     Use,
     Call(Call),
     Emit(usize),
+    Compute(bool),
     End,
     Unknown,
 }
@@ -42,6 +44,17 @@ fn call_of(tail: bool, word: u32) -> Call
     Call {
         tail: tail,
         function: wide(word / 256),
+    }
+}
+
+// An angle call, where the operand is one.
+fn computation_of(operand: usize) -> Instruction
+    ensures { λ r. ⌜ r ≡ computationIn operand ⌝ }
+{
+    match operand {
+        0 => Instruction::Compute(false),
+        1 => Instruction::Compute(true),
+        _ => Instruction::Unknown,
     }
 }
 
@@ -63,6 +76,7 @@ pub fn decode(word: u32) -> Instruction
         13 => Instruction::Call(call_of(true, word)),
         14 => Instruction::Emit(first),
         15 => Instruction::End,
+        21 => computation_of(first),
         _ => Instruction::Unknown,
     }
 }

@@ -7,11 +7,13 @@ use lib.Dec.{eqb}
 use lib.ListN.{length, drop, getD}
 use Rattle.meaning.specs.Choice.{Name, pick, both, Named, sameBytes}
 use Rattle.meaning.specs.Tree.{Expression, Table}
-use Rattle.meaning.specs.Names.{isEmission, numberOf}
+use Rattle.meaning.specs.Names.{callingOf, numberOf}
 use Rattle.meaning.specs.Allowed.{namesOf}
 use Rattle.meaning.specs.Instructions.{Site, Action}
 use Rattle.meaning.specs.Translation.{Shape, Stand as MeantStand, Level, outermost, mannerOf, levelIn, calling, items, passesRest, actionsOf}
 use Rattle.meaning.specs.Packing.{Words, word, packActions}
+use Rattle.words.specs.declared.names.Calling.{Calling}
+use Rattle.words.specs.declared.names.Calling.the-variants.{Emission, Angles, Function}
 use Rattle.words.specs.declared.tape.Item.{Item}
 use Rattle.words.specs.declared.tape.Item.the-variants.{Byte, Symbol, Part, Call, Pass, Close, Unclosed, Stop}
 use Rattle.templates.specs.declared.pattern.Lengths.{Lengths}
@@ -19,14 +21,14 @@ use Rattle.templates.specs.declared.pattern.Pattern.{Pattern}
 use Rattle.spans.specs.declared.Stand.{Stand}
 use Rattle.expressions.specs.declared.expression.Walk.{Walk}
 use Rattle.expressions.specs.declared.expression.Manner.{Manner}
-use Rattle.expressions.specs.declared.expression.Manner.the-variants.{Emits, Replaces, Nests}
+use Rattle.expressions.specs.declared.expression.Manner.the-variants.{Emits, Computes, Replaces, Nests}
 use Rattle.words.specs.Words.{headName, headNames, itemAt}
 use Rattle.expressions.specs.Levels.{Levels, firstOf, othersOf, levelsIn}
 use Rattle.words.specs.Writing.{Wrote, Same}
-use Rattle.words.specs.Finding.{numberAmong}
+use Rattle.words.specs.Finding.{numberAmong, callingIn}
 use Rattle.templates.specs.Measuring.{flag, lengthsOf, variableOf}
 use Rattle.spans.specs.Spanning.{meantStand, endsBy}
-use Rattle.calls.specs.ActionWords.{restWord, readyWords}
+use Rattle.calls.specs.ActionWords.{restWord, readyWords, computationWord}
 
 -- WHAT IS STILL TO COME
 
@@ -77,6 +79,7 @@ callDone w next at more =
 -- what follows a call's argument
 abbrev pub callWords : Manner → Lengths → Stand → ℕ → Name → Words
 callWords Emits l w number n = readyWords (word 14 (length n) 0 0 ∷ n)
+callWords (Computes subtract) l w number n = readyWords (computationWord subtract ∷ [])
 callWords Replaces l w number n = restWord l w ∷ readyWords ((13 + 256 * number) ∷ 15 ∷ [])
 callWords Nests l w number n = readyWords ((12 + 256 * number) ∷ [])
 
@@ -94,16 +97,19 @@ isStop Stop = true
 abbrev pub lastCall : ℕ → List ℕ → ℕ → Bool
 lastCall depth ws items = pick (eqb depth 0) (isStop (itemAt ws 0 items)) false
 
-abbrev pub mannerBy : Bool → Bool → Manner
-mannerBy emission last = pick emission Emits (pick last Replaces Nests)
+abbrev pub mannerBy : Calling → Bool → Manner
+mannerBy Emission last = Emits
+mannerBy (Angles subtract) last = Computes subtract
+mannerBy Function last = pick last Replaces Nests
 
 -- how the innermost open call is done, where the tape goes on at `next`
 abbrev pub mannerNow : List ℕ → List ℕ → ℕ → Walk → Manner
 mannerNow ws calls next w =
-    mannerBy (isEmission (headName ws (getD calls (w .depth - 1) 0))) (lastCall (w .depth - 1) (drop next ws) (w .items))
+    mannerBy (callingIn (callingOf (headName ws (getD calls (w .depth - 1) 0)))) (lastCall (w .depth - 1) (drop next ws) (w .items))
 
 abbrev pub goesOn : Manner → Bool
 goesOn Emits = true
+goesOn (Computes subtract) = true
 goesOn Replaces = false
 goesOn Nests = true
 

@@ -4,6 +4,7 @@ use crate::naming::size_of;
 use calls::put_part;
 use calls::put_span;
 use calls::write_call;
+use calls::write_computation;
 use calls::write_emission;
 use calls::write_left;
 use calls::write_tail_call;
@@ -13,7 +14,8 @@ use spans::rest_of;
 use spans::stand_after;
 use templates::pattern::Lengths;
 use templates::pattern::Pattern;
-use words::names::is_emission;
+use words::names::Calling;
+use words::names::calling_of;
 use words::names::name_is;
 use words::tape::Item;
 use words::tape::item_at;
@@ -26,6 +28,7 @@ ghost use mathlib.Core.Bool.{true, false};
 ghost use mathlib.Core.List.{[], _∷_};
 ghost use Prim.Native.Nat.{_+_, _-_, _≤_, _<_, _^_};
 ghost use lib.ListN.{length, drop, getD, set};
+ghost use Rattle.meaning.specs.Choice.{pick};
 ghost use Rattle.meaning.specs.Packing.{word};
 ghost use Rattle.words.specs.Words.{headName, headNames};
 ghost use Rattle.words.specs.Writing.{Wrote};
@@ -33,6 +36,7 @@ ghost use Rattle.words.specs.Finding.{numberAmong};
 ghost use Rattle.templates.specs.Testing.{total};
 ghost use Rattle.spans.specs.Spanning.{standAfter};
 ghost use Rattle.calls.specs.ActionWords.{partWords, restWord, leftWords};
+ghost use Rattle.expressions.specs.declared.expression.Manner.the-variants.{Replaces, Nests};
 ghost use Rattle.expressions.specs.Resuming.{itemDone, wordDone, callDone, callWords, isStop, lastCall, mannerBy, mannerNow, goesOn, endingWords, pastEnding, pastName, isFirst, stays, allDone, InItems, Innermost, ItemsOn, ItemsAll};
 
 // Where the writing of an expression stands: the tape's next word, the code's, the items so far, the open calls, and where p stands.
@@ -45,9 +49,10 @@ pub struct Walk {
     pub more: bool,
 }
 
-// How a call is done: as an emission, as a tail call, or in a frame of its own.
+// How a call is done: as an emission, as an angle call, by whether it subtracts, as a tail call, or in a frame of its own.
 pub enum Manner {
     Emits,
+    Computes(bool),
     Replaces,
     Nests,
 }
@@ -170,16 +175,23 @@ fn is_last(tape: &[u32], next: usize, depth: usize, items: usize) -> bool
     is_stop(item_at(tape, next, 0, items))
 }
 
-fn manner_of(emission: bool, last: bool) -> Manner
-    ensures { λ r. ⌜ r ≡ mannerBy emission last ⌝ }
+fn applied(last: bool) -> Manner
+    ensures { λ r. ⌜ r ≡ pick last Replaces Nests ⌝ }
 {
-    if emission {
-        return Manner::Emits;
-    }
     if last {
         Manner::Replaces
     } else {
         Manner::Nests
+    }
+}
+
+fn manner_of(calling: Calling, last: bool) -> Manner
+    ensures { λ r. ⌜ r ≡ mannerBy calling last ⌝ }
+{
+    match calling {
+        Calling::Emission => Manner::Emits,
+        Calling::Angles(subtract) => Manner::Computes(subtract),
+        Calling::Function => applied(last),
     }
 }
 
@@ -191,8 +203,8 @@ fn manner_now(tape: &[u32], calls: &[usize], next: usize, walk: Walk) -> Manner
     let depth = walk.depth - 1;
     let head = calls[depth];
     let size = size_of(tape, head);
-    let emission = is_emission(tape, head + 1, size);
-    manner_of(emission, is_last(tape, next, depth, walk.items))
+    let calling = calling_of(tape, head + 1, size);
+    manner_of(calling, is_last(tape, next, depth, walk.items))
 }
 
 // Past the end of a call, or past all actions.
@@ -227,6 +239,7 @@ fn goes_on(manner: Manner) -> bool
 {
     match manner {
         Manner::Emits => true,
+        Manner::Computes(_) => true,
         Manner::Replaces => false,
         Manner::Nests => true,
     }
@@ -251,6 +264,7 @@ fn write_ending(
     let number = number_of(tape, heads, head, size);
     match manner {
         Manner::Emits => write_emission(tape, head + 1, size, code, at),
+        Manner::Computes(subtract) => write_computation(subtract, code, at),
         Manner::Replaces => write_tail_call(lengths, stand, number, code, at),
         Manner::Nests => write_call(number, code, at),
     }

@@ -8,14 +8,24 @@ use lib.Dec.{T}
 use lib.ListN.{length, take, drop, getD, drop-of-length-le}
 use borrow.Author.Tests.{lt-ltb, le-ltb, lt-leb, eq-eqb, ne-eqb}
 use Rattle.meaning.specs.Choice.{pick, both, every}
-use Rattle.meaning.specs.Names.{isEmission}
+use Rattle.meaning.specs.Names.{Calling as Called, asEmission, asAngles, asFunction, callingOf, builtIn, isBuiltIn}
+use Rattle.meaning.specs.Angles.{plus, minus}
 use Rattle.meaning.specs.Tape.{callKind}
 use Rattle.meaning.proofs.laws.Passing.{every-head, every-tail}
 use Rattle.meaning.proofs.laws.Remaining.{at-place}
 use Rattle.words.specs.Words.{nameIn, headName}
+use Rattle.words.specs.Finding.{callingIn}
+use Rattle.words.specs.declared.names.Calling.{Calling}
 use Rattle.words.proofs.laws.Names.{name-part}
 use Rattle.flatness.specs.declared.Scan.{Scan}
-use Rattle.flatness.specs.Scanned.{onlyIf, opensCall, closesCall, itemFollows, declaredCall, opened, closed, passed, scanned}
+use Rattle.flatness.specs.Scanned.{onlyIf, opensCall, closesCall, itemFollows, builtInBy, declaredCall, opened, closed, passed, scanned}
+
+-- the code's calls that need no declaration are those of the definition
+built-in-same : (c : Called) → builtInBy (callingIn c) ≡ builtIn c
+built-in-same asEmission = refl
+built-in-same (asAngles plus) = refl
+built-in-same (asAngles minus) = refl
+built-in-same asFunction = refl
 
 -- THE WORD AT A PLACE
 
@@ -26,13 +36,14 @@ module _ (ws : List ℕ) (i : ℕ) (h : i < length ws) {w : ℕ} (e : w ≡ getD
   pub item-high : 768 ≤ w → {opens : Bool} → opens ≡ opensCall w → opens ≡ itemFollows (drop i ws)
   item-high k f = rw (at-place ws i h, ← e, le-ltb w 768 k) f
 
-  pub declared-here : {place size : ℕ} {emits : Bool} → place ≡ w / 256 - callKind → size ≡ length (headName ws i)
-      → emits ≡ isEmission (take size (drop (i + 1) ws)) → onlyIf (not emits) (place + 1) ≡ declaredCall (drop i ws)
-  declared-here {place = place} {size = size} f g k =
+  pub declared-here : {place size : ℕ} {calling : Calling} {none : Bool} → place ≡ w / 256 - callKind → size ≡ length (headName ws i)
+      → calling ≡ callingIn (callingOf (take size (drop (i + 1) ws))) → none ≡ builtInBy calling
+      → onlyIf (not none) (place + 1) ≡ declaredCall (drop i ws)
+  declared-here {place = place} {size = size} f g k m =
       let more : place + 1 ≡ suc place = omega arith in
-      let called : isEmission (take size (drop (i + 1) ws)) ≡ isEmission (nameIn (drop i ws)) =
-      ap isEmission (ap (λ (n : ℕ). take n (drop (i + 1) ws)) g ∙ sym (name-part ws i)) in
-      rw (more, k, called, f, e, at-place ws i h)
+      let name : take size (drop (i + 1) ws) ≡ nameIn (drop i ws) = ap (λ (n : ℕ). take n (drop (i + 1) ws)) g ∙ sym (name-part ws i) in
+      let called = m ∙ ap builtInBy k ∙ built-in-same (callingOf (take size (drop (i + 1) ws))) ∙ ap isBuiltIn name in
+      rw (more, called, f, e, at-place ws i h)
 
   module _ (s : Scan) {opens : Bool} (f : opens ≡ opensCall w) where
     passed-here : passed (drop i ws) s ≡

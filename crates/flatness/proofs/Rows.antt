@@ -2,7 +2,7 @@
 use Prim.Native.Nat.{ℕ}
 use mathlib.Core.Path.{_≡_, refl}
 use mathlib.Core.List.{List, [], _∷_, map}
-use Rattle.meaning.specs.Choice.{startsWith}
+use Rattle.meaning.specs.Choice.{sameBytes, startsWith}
 use Rattle.flatness.specs.declared.Place.{Place}
 use Rattle.flatness.specs.declared.Place.the-variants.{At, Nowhere}
 use Rattle.flatness.specs.Scanned.{scanned, nestedCall}
@@ -30,10 +30,14 @@ rows =
     -- a name that runs past the last word; its first four bytes make an emission
     row (2817 ∷ 70 ∷ 2309 ∷ 69 ∷ 109 ∷ 105 ∷ 116 ∷ []) Nowhere ∷
     row (2817 ∷ 70 ∷ 2309 ∷ 69 ∷ 109 ∷ 105 ∷ []) (At 0) ∷
+    -- DmAdd, DmSub, and a name that goes on after it
+    row (2817 ∷ 70 ∷ 2309 ∷ 68 ∷ 109 ∷ 65 ∷ 100 ∷ 100 ∷ []) Nowhere ∷
+    row (2817 ∷ 70 ∷ 2309 ∷ 68 ∷ 109 ∷ 83 ∷ 117 ∷ 98 ∷ []) Nowhere ∷
+    row (2817 ∷ 70 ∷ 2310 ∷ 68 ∷ 109 ∷ 65 ∷ 100 ∷ 100 ∷ 50 ∷ []) (At 0) ∷
     -- the leftmost, whichever is found first
     row (2561 ∷ 70 ∷ 2817 ∷ 71 ∷ 1280 ∷ 1280 ∷ 120 ∷ []) (At 1) ∷
     row (2817 ∷ 70 ∷ 2561 ∷ 71 ∷ 1280 ∷ 1280 ∷ 120 ∷ []) (At 1) ∷ []
 
 pub scanned-rows : map (λ (r : Row). nestedCall (r .words)) rows ≡ map (λ (r : Row). r .found) rows
-unfolding scanned startsWith
+unfolding scanned sameBytes startsWith
 scanned-rows = refl

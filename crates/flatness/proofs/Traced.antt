@@ -9,11 +9,11 @@ use lib.ListN.{length}
 use lib.Seq.{take-append-seam}
 use borrow.Author.Tests.{lt-ltb, le-ltb, le-leb, lt-leb, ne-eqb}
 use Rattle.meaning.specs.Choice.{Name, pick, both, every}
-use Rattle.meaning.specs.Names.{isEmission, isReserved}
+use Rattle.meaning.specs.Names.{Calling as Called, asEmission, asAngles, asFunction, callingOf, builtIn, isBuiltIn, isReserved}
 use Rattle.meaning.specs.Tree.{Expression, end, thenCharacter, thenSymbol, thenPart, thenCall, Sentence, Function, Table}
 use Rattle.meaning.specs.Allowed.{isByte, spelledName, spelledIdentifier, someSentence, allowedSentence, allowedFunction, allowed}
 use Rattle.meaning.specs.Tape.{tapeWord, named, symbolKind, partKind, equalsKind, closeKind, nextKind, endKind, functionKind, callKind, patternTape, conditionsTape, expressionTape, sentenceTape, sentencesTape, tape}
-use Rattle.meaning.specs.Translation.{Manner, emits, replaces, nests, Level, outermost, inside, isLast, mannerOf}
+use Rattle.meaning.specs.Translation.{Manner, emits, computes, replaces, nests, Level, outermost, inside, isLast, mannerAs, mannerOf}
 use Rattle.meaning.specs.Flat.{nestedAt, nestedCalls, nestedSentences, nestedIn, leftmost}
 use Rattle.meaning.proofs.laws.Passing.{both-left, both-right, both-pass, every-head, every-tail}
 use Rattle.meaning.proofs.laws.Spelling.{name-short, identifier-short, identifier-bytes}
@@ -83,33 +83,37 @@ module _ (place : ℕ) (n : Name) (rest : List ℕ) (s : Scan) (t : T (spelledNa
   abbrev word : ℕ
   word = tapeWord (callKind + place) (length n)
 
-  call-passed : passed (word ∷ (n ++ rest)) s ≡ opened (onlyIf (not (isEmission n)) (suc place)) s
+  call-passed : passed (word ∷ (n ++ rest)) s ≡ opened (onlyIf (not (isBuiltIn n)) (suc place)) s
   call-passed =
       let short = name-short n t in
       let size : word % 256 ≡ length n = omega arith in
       let stands : word / 256 - callKind ≡ place = omega arith in
       rw (le-leb 2304 word (omega arith), size, take-append-seam n rest, stands)
 
-  named-opens : scanned (named (callKind + place) n ++ rest) s ≡ scanned rest (opened (onlyIf (not (isEmission n)) (suc place)) s)
+  named-opens : scanned (named (callKind + place) n ++ rest) s ≡ scanned rest (opened (onlyIf (not (isBuiltIn n)) (suc place)) s)
   unfolding scanned
   named-opens = ap (scanned (n ++ rest)) call-passed ∙ quiet-then n rest _ (name-quiet n t)
 
 -- a call that is done in this manner, where it counts
 abbrev countedCall : Manner → ℕ → ℕ
 countedCall emits place = 0
+countedCall (computes op) place = 0
 countedCall replaces place = 0
 countedCall nests place = suc place
 
-manner-place : (emission last : Bool) (place : ℕ)
-    → onlyIf (not last) (onlyIf (not emission) (suc place)) ≡ countedCall (pick emission emits (pick last replaces nests)) place
-manner-place true true place = refl
-manner-place true false place = refl
-manner-place false true place = refl
-manner-place false false place = refl
+manner-place : (c : Called) (last : Bool) (place : ℕ)
+    → onlyIf (not last) (onlyIf (not (builtIn c)) (suc place)) ≡ countedCall (mannerAs c last) place
+manner-place asEmission true place = refl
+manner-place asEmission false place = refl
+manner-place (asAngles op) true place = refl
+manner-place (asAngles op) false place = refl
+manner-place asFunction true place = refl
+manner-place asFunction false place = refl
 
 nested-found : (m : Manner) (place : ℕ) (xs ys : List ℕ)
     → foundIn (nestedAt m place (xs ++ ys)) ≡ earlier (countedCall m place) (earlier (foundIn xs) (foundIn ys))
 nested-found emits place xs ys = found-append xs ys
+nested-found (computes op) place xs ys = found-append xs ys
 nested-found replaces place xs ys = found-append xs ys
 nested-found nests place xs ys = found-first place (xs ++ ys) ∙ rw (found-append xs ys)
 
@@ -147,16 +151,16 @@ Ends outside rest = itemFollows rest ≡ false
 Ends (within d p) rest = Unit {0}
 
 call-told : (st : Standing) (place : ℕ) (n : Name) (e : Expression) (rest : List ℕ) (xs : List ℕ) (o : ℕ) → T (legible e) → Ends st rest
-    → let call = onlyIf (not (isEmission n)) (suc place) in
+    → let call = onlyIf (not (isBuiltIn n)) (suc place) in
     let ys = nestedCalls (levelOf st) e in
     earlier (foundIn ys) (whenClosed st (itemFollows (expressionTape e ++ rest)) call (earlier (foundIn xs) (whenOpened st call o)))
     ≡ earlier (foundIn (nestedAt (mannerOf (levelOf st) e n) place (xs ++ ys))) o
 call-told outside place n e rest xs o t h =
-    rw (item-follows e rest t h, manner-place (isEmission n) (isLast outermost e) place, nested-found (mannerOf outermost e n) place xs (nestedCalls outermost e))
+    rw (item-follows e rest t h, manner-place (callingOf n) (isLast outermost e) place, nested-found (mannerOf outermost e n) place xs (nestedCalls outermost e))
     (found-late (countedCall (mannerOf outermost e n) place) (foundIn xs) (foundIn (nestedCalls outermost e)) o)
 call-told (within d p) place n e rest xs o t h =
-    rw (nested-found (mannerOf inside e n) place xs (nestedCalls inside e), ← (manner-place (isEmission n) false place))
-    (found-early (onlyIf (not (isEmission n)) (suc place)) (foundIn xs) (foundIn (nestedCalls inside e)) o)
+    rw (nested-found (mannerOf inside e n) place xs (nestedCalls inside e), ← (manner-place (callingOf n) false place))
+    (found-early (onlyIf (not (isBuiltIn n)) (suc place)) (foundIn xs) (foundIn (nestedCalls inside e)) o)
 
 variable-then : (kind : ℕ) (x : Name) (ws : List ℕ) (s : Scan) → kind < 3 → T (spelledIdentifier x) → scanned (named kind x ++ ws) s ≡ scanned ws s
 unfolding every
@@ -185,7 +189,7 @@ expression-traced st (thenCall place n a e) rest o t h =
     let others = both-right (spelledName n) (both (legible a) (legible e)) t in
     let inA = both-left (legible a) (legible e) others in
     let inE = both-right (legible a) (legible e) others in
-    let call = onlyIf (not (isEmission n)) (suc place) in
+    let call = onlyIf (not (isBuiltIn n)) (suc place) in
     let later = expressionTape e ++ rest in
     let xs = nestedCalls inside a in
     rw (

@@ -5,9 +5,11 @@ use mathlib.Core.List.{List, [], _∷_}
 use mathlib.Core.Option.{Option, none, some}
 use lib.Dec.{eqb, leb, ltb}
 use Rattle.meaning.specs.Choice.{pick, either}
-use Rattle.meaning.specs.Names.{isEmission}
+use Rattle.meaning.specs.Names.{isBuiltIn}
 use Rattle.meaning.specs.Tape.{tapeWord, conditionKind, closeKind, callKind}
 use Rattle.words.specs.Words.{nameIn}
+use Rattle.words.specs.declared.names.Calling.{Calling}
+use Rattle.words.specs.declared.names.Calling.the-variants.{Emission, Angles, Function}
 use Rattle.flatness.specs.declared.Place.{Place}
 use Rattle.flatness.specs.declared.Place.the-variants.{At, Nowhere}
 use Rattle.flatness.specs.declared.Scan.{Scan}
@@ -52,10 +54,16 @@ abbrev pub itemFollows : List ℕ → Bool
 itemFollows [] = false
 itemFollows (w ∷ ws) = isItem w
 
--- the call that the first word opens, unless it is an emission: every other is declared
+-- a call that needs no declaration, as the code says how it is done
+abbrev pub builtInBy : Calling → Bool
+builtInBy Emission = true
+builtInBy (Angles subtract) = true
+builtInBy Function = false
+
+-- the call that the first word opens, unless it needs no declaration: every other is declared
 abbrev pub declaredCall : List ℕ → ℕ
 declaredCall [] = 0
-declaredCall (w ∷ ws) = onlyIf (not (isEmission (nameIn (w ∷ ws)))) (suc (calledPlace w))
+declaredCall (w ∷ ws) = onlyIf (not (isBuiltIn (nameIn (w ∷ ws)))) (suc (calledPlace w))
 
 -- THE SCAN
 

@@ -1,5 +1,6 @@
 // Whether a table is flat, by its tape: where its leftmost declared call is that is no tail call. 02's T-06.
-use words::names::is_emission;
+use words::names::Calling;
+use words::names::calling_of;
 use words::tape::less;
 use words::tape::lesser;
 use words::tape::name_size;
@@ -7,7 +8,7 @@ use words::tape::word_at;
 ghost use mathlib.Core.Path.{_≡_};
 ghost use Prim.Native.Nat.{_+_, _≤_, _<_, _^_};
 ghost use lib.ListN.{length, drop};
-ghost use Rattle.flatness.specs.Scanned.{earlier, onlyIf, placeOf, opensCall, itemFollows, declaredCall};
+ghost use Rattle.flatness.specs.Scanned.{earlier, onlyIf, placeOf, opensCall, itemFollows, builtInBy, declaredCall};
 ghost use Rattle.flatness.specs.Scanned.{opened, closed, passed, nestedCall};
 
 // A call's kind is this and the place of its name.
@@ -83,14 +84,26 @@ fn item_follows(tape: &[u32], i: usize) -> bool
     opens_call(word)
 }
 
-// The call that a word opens, unless it is an emission.
+// A call that is done so needs no declaration.
+fn is_built_in(calling: Calling) -> bool
+    ensures { λ r. ⌜ r ≡ builtInBy calling ⌝ }
+{
+    match calling {
+        Calling::Emission => true,
+        Calling::Angles(_) => true,
+        Calling::Function => false,
+    }
+}
+
+// The call that a word opens, unless it needs no declaration.
 fn declared_call(tape: &[u32], i: usize) -> usize
     requires { ⌜ i < length (now tape) ⌝ }
     ensures { λ r. ⌜ r ≡ declaredCall (drop i (now (tape .entry))) ⌝ }
 {
     let place = less(word_at(tape, i) / 256, CALL_KIND);
     let size = name_size(tape, i);
-    only_if(!is_emission(tape, i + 1, size), place + 1)
+    let calling = calling_of(tape, i + 1, size);
+    only_if(!is_built_in(calling), place + 1)
 }
 
 // A declared call inside another is no tail call. An outermost one is kept until it closes.

@@ -16,7 +16,7 @@ use Rattle.meaning.specs.Names.{numberOf, recovererOf}
 use Rattle.meaning.specs.Allowed.{allowed}
 use Rattle.meaning.specs.Instructions.{Site, Action}
 use Rattle.meaning.specs.Runs.{Room, runLent}
-use Rattle.meaning.specs.Translation.{Shape, shapeOf, testedShape, Stand, atStart, Passage, passage, Manner, emits, replaces, nests, Level, outermost, inside, inTail, mannerOf, levelIn, leftFor, whereLeft, calling, items, passesRest, actionsOf, translatedSentences, translatedFunction, translate}
+use Rattle.meaning.specs.Translation.{Shape, shapeOf, testedShape, Stand, atStart, Passage, passage, Manner, emits, replaces, nests, Level, outermost, inside, inTail, mannerOf, levelIn, leftFor, whereLeft, calling, items, passesRest, actionsOf, translatedSentences, translatedFunction, translate, computes}
 use Rattle.meaning.specs.Packing.{Words, pack}
 use Rattle.meaning.specs.Leaving.{Cells, roomOf, leaving}
 use Rattle.meaning.specs.Reading.{accepted}
@@ -42,6 +42,7 @@ append-empty (x ∷ xs) ys e = no-cons (sym e)
 
 nested-empty : (m : Manner) (place : ℕ) (xs ys : List ℕ) → nestedAt m place (xs ++ ys) ≡ [] → Empty xs ys
 nested-empty emits place xs ys e = append-empty xs ys e
+nested-empty (computes op) place xs ys e = append-empty xs ys e
 nested-empty replaces place xs ys e = append-empty xs ys e
 nested-empty nests place xs ys e = no-cons (sym e)
 
@@ -56,6 +57,7 @@ in-tail f (thenCall place n a e) = rw (in-tail f e)
 
 in-argument : (m : Manner) (number : ℕ) (e : Expression) → nestedCalls (levelIn m number) e ≡ nestedCalls inside e
 in-argument emits number e = refl
+in-argument (computes op) number e = refl
 in-argument replaces number e = in-tail number e
 in-argument nests number e = refl
 
@@ -64,6 +66,7 @@ module _ (table : Table) (shape : Shape) (sites : List (Named Site)) where
       (T (anyCall more) → ⊥) → T (anyCall (calling shape m (numberOf table n) n w more)) → ⊥
   unfolding anyCall
   calling-flat emits place others n w more e h t = h t
+  calling-flat (computes op) place others n w more e h t = h t
   calling-flat replaces place others n w more e h t = t
   calling-flat nests place others n w more e h t = no-cons (sym e)
 

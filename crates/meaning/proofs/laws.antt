@@ -3,6 +3,7 @@ pub mod Remaining
 pub mod Passing
 pub mod Places
 pub mod Spelling
+pub mod Beginnings
 pub mod Words
 pub mod Storing
 pub mod Packable
@@ -23,4 +24,5 @@ pub mod Frames
 pub mod Choosing
 pub mod Cuts
 pub mod Fits
+pub mod Angles
 pub mod OneFit

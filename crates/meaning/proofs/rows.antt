@@ -18,3 +18,4 @@ pub mod Words
 pub mod Parts
 pub mod Flatness
 pub mod Endings
+pub mod Angles

@@ -8,7 +8,7 @@ use lib.ListN.{length}
 use Rattle.meaning.specs.Choice.{Name, pick, both, either, isSome, every, sameBytes}
 use Rattle.meaning.specs.Classes.{inClass, digit, alphabetic}
 use Rattle.meaning.specs.Tree.{character, symbol, Element, letter, part, Subject, ofSymbol, ofPart, Condition, Expression, end, thenCharacter, thenSymbol, thenPart, thenCall, Sentence, Function, Table}
-use Rattle.meaning.specs.Names.{isEmission, isPredicate, isReserved, numberOf}
+use Rattle.meaning.specs.Names.{isPredicate, isReserved, isKnown}
 
 -- "table 32,768 bytes; 64 functions; 512 sentences in all; name 24 bytes; identifier after s or e 8; pattern 64 characters and s-variables, of
 -- which 16 different; 8 conditions; expression 128 items (character, variable, call), those inside calls included", "at most 16 calls one inside another"
@@ -205,14 +205,14 @@ unfoldable pub sentencesIn : Table → ℕ
 sentencesIn [] = 0
 sentencesIn (f ∷ fs) = length (f .sentences) + sentencesIn fs
 
--- every called name is declared or emission
+-- every called name is built in or declared
 unfoldable pub callsKnown : Table → Expression → Bool
 callsKnown t end = true
 callsKnown t (thenCharacter c e) = callsKnown t e
 callsKnown t (thenSymbol x e) = callsKnown t e
 callsKnown t (thenPart x e) = callsKnown t e
 callsKnown t (thenCall place n a e) =
-    both (either (isEmission n) (ltb 0 (numberOf t n))) (both (callsKnown t a) (callsKnown t e))
+    both (isKnown t n) (both (callsKnown t a) (callsKnown t e))
 
 abbrev pub namesOf : Table → List Name
 namesOf t = map (λ f. f .name) t

@@ -76,3 +76,10 @@ noInstruction = 18
 -- asking whether a table is flat: 02, T-06
 abbrev pub notTailCall : ℕ
 notTailCall = 19
+
+-- "when the call is done and before 14": 02, T-08
+abbrev pub argumentNotAngles : ℕ
+argumentNotAngles = 20
+
+abbrev pub angleOutOfRange : ℕ
+angleOutOfRange = 21

@@ -1,16 +1,18 @@
--- 02, T-06: "A flat table calls declared functions only by tail calls; Emit names may be called anywhere in it."
--- "New: 19, a declared call that is not a tail call, with the place of its name, leftmost".
+-- 02, T-06: "A flat table calls declared functions only by tail calls; Emit names may be called anywhere in it", and so
+-- may DmAdd and DmSub, which T-08 lets "stand in a flat table". "New: 19, a declared call that is not a tail call, with
+-- the place of its name, leftmost".
 use Prim.Native.Nat.{ℕ, min}
 use mathlib.Core.Bool.{Bool, not}
 use mathlib.Core.List.{List, [], _∷_, _++_}
 use mathlib.Core.Option.{Option, none, some}
 use Rattle.meaning.specs.Choice.{isSome}
 use Rattle.meaning.specs.Tree.{Expression, end, thenCharacter, thenSymbol, thenPart, thenCall, Sentence, Table}
-use Rattle.meaning.specs.Translation.{Manner, emits, replaces, nests, Level, outermost, inside, mannerOf}
+use Rattle.meaning.specs.Translation.{Manner, emits, computes, replaces, nests, Level, outermost, inside, mannerOf}
 
 -- a call's place, where it is done in a frame of its own, and those of others
 abbrev pub nestedAt : Manner → ℕ → List ℕ → List ℕ
 nestedAt emits place others = others
+nestedAt (computes op) place others = others
 nestedAt replaces place others = others
 nestedAt nests place others = place ∷ others
 

@@ -1,9 +1,11 @@
--- The instructions of the string machine: 000 section 3, as 01 'Machine' takes them over. Besides 000's there are the emission and the tail call, and in each kind one
--- that stands for words which are no instruction. OutS, PutC and PutV are never needed by 01's translation.
+-- The instructions of the string machine: 000 section 3, as 01 'Machine' takes them over. Besides 000's there are the
+-- emission, the tail call and the angle call, and in each kind one that stands for words which are no instruction.
+-- OutS, PutC and PutV are never needed by 01's translation.
 use Prim.Native.Nat.{ℕ}
 use mathlib.Core.Bool.{Bool}
 use mathlib.Core.List.{List}
 use Rattle.meaning.specs.Choice.{Name}
+use Rattle.meaning.specs.Angles.{Operation}
 use Rattle.meaning.specs.Classes.{Class}
 
 -- the cell that a test or a store looks at: counted on from p, back from q (from 1 up), or on from the middle template's place i
@@ -46,6 +48,7 @@ pub data Action : Type 0 where
   call : ℕ → Action
   tailCall : ℕ → Action
   emission : Name → Action
+  compute : Operation → Action
   unknownAction : Action
 
 -- 000's Metric: the lengths that a sentence asks of the field, with no, one or two e-variables

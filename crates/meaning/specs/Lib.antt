@@ -1,6 +1,8 @@
 -- The definitions, in the order in which they build on each other.
 pub mod Choice
 pub mod Classes
+pub mod Numerals
+pub mod Angles
 pub mod Tree
 pub mod Names
 pub mod Answers

@@ -1,9 +1,10 @@
 -- The listing of a tree: 01 'Table text', "Listing: `G {`, a line for each sentence ended by `;`, then `}`. Each line ends with byte 10."
-use Prim.Native.Nat.{ℕ, _+_, _/_, _%_}
+use Prim.Native.Nat.{ℕ}
 use mathlib.Core.Bool.{Bool, true, false, not}
 use mathlib.Core.List.{List, [], _∷_, _++_}
-use lib.Dec.{ltb, eqb}
+use lib.Dec.{eqb}
 use Rattle.meaning.specs.Choice.{Bytes, Name, pick, both, either}
+pub use Rattle.meaning.specs.Numerals.{decimal}
 use Rattle.meaning.specs.Classes.{className, inClass, digit, within}
 use Rattle.meaning.specs.Tree.{character, symbol, Element, letter, part, Subject, ofSymbol, ofPart, Condition, Expression, end, thenCharacter, thenSymbol, thenPart, thenCall, Sentence, Function, Table}
 use Rattle.meaning.specs.Grammar.{truthByte}
@@ -29,13 +30,6 @@ abbrev pub closeQuote : Quoted → Bytes
 closeQuote unquoted = []
 closeQuote inString = 39 ∷ []
 closeQuote afterCode = 39 ∷ []
-
--- the decimal digits of a byte, "shortest codes"
-abbrev pub decimal : ℕ → Bytes
-decimal c =
-    pick (ltb c 10) ((48 + c) ∷ [])
-    (pick (ltb c 100) ((48 + c / 10) ∷ (48 + c % 10) ∷ [])
-    ((48 + c / 100) ∷ (48 + c / 10 % 10) ∷ (48 + c % 10) ∷ []))
 
 -- "the three escaped ones": a byte with a `\` before it
 abbrev pub isEscaped : ℕ → Bool

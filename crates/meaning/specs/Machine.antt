@@ -8,9 +8,10 @@ use mathlib.Core.Option.{Option, none, some}
 use lib.Dec.{leb, ltb}
 use lib.ListN.{length, take, drop}
 use Rattle.meaning.specs.Choice.{Bytes, both, nth}
+use Rattle.meaning.specs.Angles.{angled}
 use Rattle.meaning.specs.Answers.{noSentenceFits, allowanceSpent, noInstruction}
-use Rattle.meaning.specs.Outcome.{Tally, pay, emitted, emittedLine, Outcome, done, stop, andThen}
-use Rattle.meaning.specs.Instructions.{Length, null, whole, left, right, Span, Action, go, select, out, outCharacter, outValue, beginSequence, useSequence, call, tailCall, emission, unknownAction, Sentences, noMore, Code}
+use Rattle.meaning.specs.Outcome.{Tally, pay, emitted, emittedLine, Outcome, done, stop, andThen, computed}
+use Rattle.meaning.specs.Instructions.{Length, null, whole, left, right, Span, Action, go, select, out, outCharacter, outValue, beginSequence, useSequence, call, tailCall, emission, compute, unknownAction, Sentences, noMore, Code}
 use Rattle.meaning.specs.Matching.{Choice, chosen, chosenNone, chosenWrong, chooseFrom, storedValues}
 
 -- what an instruction needs to be there after it: cells of in from p to the right end, cells of out, bytes of the record, frames
@@ -175,6 +176,10 @@ module _ (W : Watch) where
   perform code enter next frame (emission n) l s g =
       noting (recordBytes (length (g .tally .emissions) + length (emittedLine n (take (s .selected) (s .input))))) g
       (λ g₁. next l (movedOn (s .selected) s) (withTally (emitted n (take (s .selected) (s .input)) (g₁ .tally)) g₁))
+  perform code enter next frame (compute op) l s g =
+      andThen (computed (angled op (take (s .selected) (s .input))) g)
+      (λ text g₁. noting (outCells (length (s .output) + length text)) g₁
+      (next l (movedOn (s .selected) (withOutput (s .output ++ text) s))))
   perform code enter next frame unknownAction l s g = wrongWords g
 
   unfoldable pub process : Code → (ℕ → ℕ → Stacks → Ledger (W .Mark) → Ran) → ℕ → List Action → Next

@@ -1,10 +1,13 @@
--- Which function a name means: 01 'Table text', "Names that begin with Emit are emission. Neither kind may be declared", and the number
--- of a declared function, counted from 1 in the order of the table; and which function recovers another.
+-- What a name means: 01 'Table text', "Names that begin with Emit are emission. Neither kind may be declared"; 02,
+-- T-08, "DmAdd and DmSub become reserved names for calls"; the number of a declared function, counted from 1 in the
+-- order of the table; and which function recovers another.
 use Prim.Native.Nat.{ℕ, suc}
-use mathlib.Core.Bool.{Bool}
+use mathlib.Core.Bool.{Bool, true, false}
 use mathlib.Core.List.{List, [], _∷_, _++_}
 use mathlib.Core.Option.{Option, none, some}
+use lib.Dec.{ltb}
 use Rattle.meaning.specs.Choice.{Name, pick, either, isSome, sameBytes, startsWith}
+use Rattle.meaning.specs.Angles.{Operation, plus, minus}
 use Rattle.meaning.specs.Classes.{Class, className, classes}
 use Rattle.meaning.specs.Tree.{Table}
 
@@ -14,6 +17,33 @@ emitPrefix = 69 ∷ 109 ∷ 105 ∷ 116 ∷ []
 
 abbrev pub isEmission : Name → Bool
 isEmission n = startsWith emitPrefix n
+
+-- DmAdd, DmSub
+abbrev pub operationName : Operation → Name
+operationName plus = 68 ∷ 109 ∷ 65 ∷ 100 ∷ 100 ∷ []
+operationName minus = 68 ∷ 109 ∷ 83 ∷ 117 ∷ 98 ∷ []
+
+-- How a call of a name is done: as an emission, as an angle call, or by applying the function declared under it.
+-- Whatever asks about a called name asks this.
+pub data Calling : Type 0 where
+  asEmission : Calling
+  asAngles : Operation → Calling
+  asFunction : Calling
+
+abbrev pub callingOf : Name → Calling
+callingOf n =
+    pick (isEmission n) asEmission
+    (pick (sameBytes n (operationName plus)) (asAngles plus)
+    (pick (sameBytes n (operationName minus)) (asAngles minus) asFunction))
+
+-- a call that needs no declaration
+abbrev pub builtIn : Calling → Bool
+builtIn asEmission = true
+builtIn (asAngles op) = true
+builtIn asFunction = false
+
+abbrev pub isBuiltIn : Name → Bool
+isBuiltIn n = builtIn (callingOf n)
 
 -- the class that a predicate's name means
 unfoldable pub classNamed : List Class → Name → Option Class
@@ -28,7 +58,7 @@ isPredicate n = isSome (predicateOf n)
 
 -- no declaration may use it
 abbrev pub isReserved : Name → Bool
-isReserved n = either (isPredicate n) (isEmission n)
+isReserved n = either (isPredicate n) (isBuiltIn n)
 
 -- the number of the first function declared under a name, counted on from `count`; 0 where there is none
 unfoldable pub numberFrom : ℕ → Table → Name → ℕ
@@ -37,6 +67,10 @@ numberFrom count (f ∷ fs) n = let later = numberFrom (suc count) fs n in pick 
 
 abbrev pub numberOf : Table → Name → ℕ
 numberOf t n = numberFrom 0 t n
+
+-- a call of the name can be done
+abbrev pub isKnown : Table → Name → Bool
+isKnown t n = either (isBuiltIn n) (ltb 0 (numberOf t n))
 
 -- Recover
 abbrev pub recoverPrefix : Name

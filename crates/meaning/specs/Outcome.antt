@@ -6,7 +6,8 @@ use mathlib.Core.List.{List, [], _∷_, _++_}
 use lib.ListN.{getD, set, replicate}
 use mathlib.Core.Option.{Option, none, some}
 use Rattle.meaning.specs.Choice.{Bytes, Name}
-use Rattle.meaning.specs.Answers.{finished}
+use Rattle.meaning.specs.Angles.{Angled, sum, notAngles, outOfRange}
+use Rattle.meaning.specs.Answers.{finished, argumentNotAngles, angleOutOfRange}
 
 -- steps left of the allowance, steps made, the applications of each function, and the record
 pub record Tally : Type 0 where
@@ -57,6 +58,12 @@ pub data Outcome (A L : Type 0) : Type 0 where
 abbrev pub andThen : {A B L : Type 0} → Outcome A L → (A → L → Outcome B L) → Outcome B L
 andThen (done v l) k = k v l
 andThen (stop answer function l) k = stop answer function l
+
+-- an angle call, which counts nothing: 02, T-08, "20, argument not of this form; 21, result beyond 359:59 either way"
+abbrev pub computed : {L : Type 0} → Angled → L → Outcome Bytes L
+computed (sum text) l = done text l
+computed notAngles l = stop argumentNotAngles 0 l
+computed outOfRange l = stop angleOutOfRange 0 l
 
 -- an outcome as 01 tells it
 pub record Result : Type 0 where

@@ -7,9 +7,10 @@ use mathlib.Core.Option.{Option, none, some}
 use lib.Dec.{leb, ltb, eqb}
 use lib.ListN.{length, take, drop}
 use Rattle.meaning.specs.Choice.{pick, both, every}
+use Rattle.meaning.specs.Angles.{Operation, plus, minus}
 use Rattle.meaning.specs.Classes.{Class, digit, upper, lower, alphabetic, blank, classNumber}
 use Rattle.meaning.specs.Allowed.{isByte}
-use Rattle.meaning.specs.Instructions.{Site, fromStart, fromEnd, fromPlace, Test, look, compare, predicate, predicatePart, unknownTest, Store, store, unknownStore, Length, null, whole, left, right, Span, Action, go, select, out, outCharacter, outValue, beginSequence, useSequence, call, tailCall, emission, unknownAction, Metric, exactly, ends, middle, Sentences, noMore, sentence, unknownSentence, Code}
+use Rattle.meaning.specs.Instructions.{Site, fromStart, fromEnd, fromPlace, Test, look, compare, predicate, predicatePart, unknownTest, Store, store, unknownStore, Length, null, whole, left, right, Span, Action, go, select, out, outCharacter, outValue, beginSequence, useSequence, call, tailCall, emission, compute, unknownAction, Metric, exactly, ends, middle, Sentences, noMore, sentence, unknownSentence, Code}
 
 abbrev pub Words : Type 0
 Words = List ℕ
@@ -66,6 +67,13 @@ classOf n =
 abbrev pub truthBit : Bool → ℕ
 truthBit true = 1
 truthBit false = 0
+
+abbrev pub operationNumber : Operation → ℕ
+operationNumber plus = 0
+operationNumber minus = 1
+
+abbrev pub operationOf : ℕ → Option Operation
+operationOf n = pick (eqb n 0) (some plus) (pick (eqb n 1) (some minus) none)
 
 -- TESTS AND STORES
 
@@ -142,6 +150,7 @@ actionWords useSequence = word 11 0 0 0 ∷ []
 actionWords (call f) = (12 + 256 * f) ∷ []
 actionWords (tailCall f) = (13 + 256 * f) ∷ []
 actionWords (emission n) = word 14 (length n) 0 0 ∷ n
+actionWords (compute op) = word 21 (operationNumber op) 0 0 ∷ []
 actionWords unknownAction = 0 ∷ []
 
 abbrev pub actionsEnd : ℕ
@@ -155,6 +164,10 @@ abbrev pub spanAction : (Span → Action) → Option Length → ℕ → ℕ → 
 spanAction f none add back = unknownAction
 spanAction f (some r) add back = f (record { register = r; add = add; back = back })
 
+abbrev pub computeOf : Option Operation → Action
+computeOf none = unknownAction
+computeOf (some op) = compute op
+
 -- the action of one word, where it is neither an emission nor the end
 abbrev pub actionOf : ℕ → Action
 actionOf w =
@@ -167,7 +180,8 @@ actionOf w =
     (pick (eqb (numberIn w) 11) useSequence
     (pick (eqb (numberIn w) 12) (call (w / 256))
     (pick (eqb (numberIn w) 13) (tailCall (w / 256))
-    unknownAction))))))))
+    (pick (eqb (numberIn w) 21) (computeOf (operationOf (firstIn w)))
+    unknownAction)))))))))
 
 -- an emission whose name's words are all there and are bytes
 abbrev pub emissionOf : ℕ → Words → Action

@@ -6,10 +6,10 @@ use mathlib.Core.List.{List, [], _∷_, _++_}
 use mathlib.Core.Option.{Option, none, some}
 use lib.Dec.{leb, ltb, eqb}
 use lib.ListN.{length}
-use Rattle.meaning.specs.Choice.{Bytes, Name, pick, both, either, orElse, isSome, sameBytes}
+use Rattle.meaning.specs.Choice.{Bytes, Name, pick, both, orElse, isSome, sameBytes}
 use Rattle.meaning.specs.Classes.{Class}
 use Rattle.meaning.specs.Tree.{Element, letter, part, Subject, ofSymbol, ofPart, Condition, Expression, end, thenCharacter, thenSymbol, thenPart, thenCall, Sentence, Function, Table}
-use Rattle.meaning.specs.Names.{isEmission, isPredicate, isReserved, predicateOf, numberOf}
+use Rattle.meaning.specs.Names.{isPredicate, isReserved, predicateOf, isKnown}
 use Rattle.meaning.specs.Answers.{tableTooLong, malformedToken, notAllowedHere, overLimit, wrongName, wrongPatternVariable, wrongLaterVariable, undeclaredName}
 use Rattle.meaning.specs.Allowed.{maxTable, maxFunctions, maxSentences, maxName, maxIdentifier, maxLetters, maxSymbols, maxConditions, maxItems, maxNesting, member, added, symbolsOf, partsOf, lettersIn, comingAfter, namesOf}
 use Rattle.meaning.specs.Tokens.{Token, functionName, word, quoted, sign, textEnd, malformed, Placed, tokens}
@@ -365,14 +365,14 @@ readFunctions functionsBefore sentencesBefore text =
     let later = functions (maxFunctions - functionsBefore) (maxSentences - sentencesBefore) [] (tokens text) in
     pick (leb (length text) maxTable) later (stopped tableTooLong 0)
 
--- the first called name that is neither declared nor emission, by its place
+-- the first called name that is neither built in nor declared, by its place
 unfoldable pub unknownCall : Table → Expression → Option ℕ
 unknownCall t end = none
 unknownCall t (thenCharacter c e) = unknownCall t e
 unknownCall t (thenSymbol x e) = unknownCall t e
 unknownCall t (thenPart x e) = unknownCall t e
 unknownCall t (thenCall place n a e) =
-    pick (either (isEmission n) (ltb 0 (numberOf t n))) (orElse (unknownCall t a) (unknownCall t e)) (some place)
+    pick (isKnown t n) (orElse (unknownCall t a) (unknownCall t e)) (some place)
 
 unfoldable pub unknownInSentences : Table → List Sentence → Option ℕ
 unknownInSentences t [] = none

@@ -8,9 +8,10 @@ use lib.ListN.{length}
 use Rattle.meaning.specs.Choice.{Bytes, Name, pick, both, guard, orElse, every, Named, lookup, nth}
 use Rattle.meaning.specs.Classes.{Class, inClass}
 use Rattle.meaning.specs.Tree.{character, symbol, Element, letter, part, Subject, ofSymbol, ofPart, Condition, Expression, end, thenCharacter, thenSymbol, thenPart, thenCall, Sentence, Function, Table}
-use Rattle.meaning.specs.Names.{isEmission, numberOf, recovererOf}
+use Rattle.meaning.specs.Angles.{angled}
+use Rattle.meaning.specs.Names.{Calling, asEmission, asAngles, asFunction, callingOf, numberOf, recovererOf}
 use Rattle.meaning.specs.Answers.{noSentenceFits, allowanceSpent}
-use Rattle.meaning.specs.Outcome.{Tally, maxCounted, emittedLine, Outcome, done, stop, andThen, Result, resultOf}
+use Rattle.meaning.specs.Outcome.{Tally, maxCounted, emittedLine, Outcome, done, stop, andThen, computed, Result, resultOf}
 
 -- what rewriting may still do, and has done so far: steps left of the allowance, its history, which is the numbers of
 -- the functions applied, the latest first, and the record. "Each application of a declared function is one step", so
@@ -174,11 +175,16 @@ sentencesOf (some f) = f .sentences
 abbrev pub functionAt : Table → ℕ → List Sentence
 functionAt table number = sentencesOf (nth (pred number) table)
 
--- "Emission ... gives the empty text"; it is no step
+-- "Emission ... gives the empty text"; it is no step, and neither is an angle call
+abbrev pub calledAs : Calling → Name → Bytes → Course → Outcome Bytes Course → Outcome Bytes Course
+calledAs asEmission n text t applied = done [] (emitting n text t)
+calledAs (asAngles op) n text t applied = computed (angled op text) t
+calledAs asFunction n text t applied = applied
+
 abbrev pub callNamed : Table → Applying ℕ → Name → Bytes → Course → Outcome Bytes Course
 callNamed table apply n text t =
     let applied = apply (numberOf table n) text t in
-    pick (isEmission n) (done [] (emitting n text t)) applied
+    calledAs (callingOf n) n text t applied
 
 abbrev pub recovererFor : Table → Option Function → ℕ
 recovererFor table none = 0

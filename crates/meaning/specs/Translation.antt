@@ -8,9 +8,10 @@ use mathlib.Core.Option.{Option, none, some}
 use lib.ListN.{length}
 use Rattle.meaning.specs.Choice.{Name, pick, both, guard, Named, lookup, sameBytes}
 use Rattle.meaning.specs.Tree.{Letter, character, symbol, Element, letter, part, Subject, ofSymbol, ofPart, Condition, Expression, end, thenCharacter, thenSymbol, thenPart, thenCall, Sentence, Function, Table}
+use Rattle.meaning.specs.Angles.{Operation}
 use Rattle.meaning.specs.Classes.{Class}
-use Rattle.meaning.specs.Names.{isEmission, numberOf, recovererOf}
-use Rattle.meaning.specs.Instructions.{Site, fromStart, fromEnd, fromPlace, Test, look, compare, predicate, predicatePart, Store, store, Length, null, whole, left, right, Span, Action, go, select, out, outCharacter, outValue, beginSequence, useSequence, call, tailCall, emission, Metric, exactly, ends, middle, Sentences, noMore, sentence, Code}
+use Rattle.meaning.specs.Names.{Calling, asEmission, asAngles, asFunction, callingOf, numberOf, recovererOf}
+use Rattle.meaning.specs.Instructions.{Site, fromStart, fromEnd, fromPlace, Test, look, compare, predicate, predicatePart, Store, store, Length, null, whole, left, right, Span, Action, go, select, out, outCharacter, outValue, beginSequence, useSequence, call, tailCall, emission, compute, Metric, exactly, ends, middle, Sentences, noMore, sentence, Code}
 
 -- THE TEMPLATES
 
@@ -169,9 +170,11 @@ restOf (open₂ h y m z t) atStart = span whole 0 0
 restOf (open₂ h y m z t) afterFirst = span right 0 0
 restOf (open₂ h y m z t) afterSecond = span null (length t) 0
 
--- how a call is done: as an emission, as a tail call, or in a frame of its own
+-- how a call is done: as an emission, as an angle call, as a tail call, or in a frame of its own
 pub data Manner : Type 0 where
-  emits replaces nests : Manner
+  emits : Manner
+  computes : Operation → Manner
+  replaces nests : Manner
 
 -- where an expression stands: it is a sentence's, or a call's argument, or the argument of a tail call of a function
 pub data Level : Type 0 where
@@ -191,12 +194,18 @@ isLast outermost e = isEnd e
 isLast inside e = false
 isLast (inTail f) e = false
 
+abbrev pub mannerAs : Calling → Bool → Manner
+mannerAs asEmission last = emits
+mannerAs (asAngles op) last = computes op
+mannerAs asFunction last = pick last replaces nests
+
 abbrev pub mannerOf : Level → Expression → Name → Manner
-mannerOf level after n = pick (isEmission n) emits (pick (isLast level after) replaces nests)
+mannerOf level after n = mannerAs (callingOf n) (isLast level after)
 
 -- a call's argument
 abbrev pub levelIn : Manner → ℕ → Level
 levelIn emits number = inside
+levelIn (computes op) number = inside
 levelIn replaces number = inTail number
 levelIn nests number = inside
 
@@ -229,6 +238,7 @@ argumentReady more = useSequence ∷ select nowhere ∷ more
 -- what follows a call's argument
 abbrev pub calling : Shape → Manner → ℕ → Name → Stand → List Action → List Action
 calling shape emits number n w more = argumentReady (emission n ∷ more)
+calling shape (computes op) number n w more = argumentReady (compute op ∷ more)
 calling shape replaces number n w more = go (restOf shape w) ∷ argumentReady (tailCall number ∷ [])
 calling shape nests number n w more = argumentReady (call number ∷ more)
 

@@ -12,7 +12,7 @@ use lib.ListN.{length, getD, take}
 use lib.Seq.{slice, slice-empty, slice-cons}
 use Rattle.meaning.specs.Choice.{Bytes, Name, pick, either, orElse, every, sameBytes}
 use Rattle.meaning.specs.Tree.{Expression, end, thenCharacter, thenSymbol, thenPart, thenCall, Sentence, Function, Table}
-use Rattle.meaning.specs.Names.{isEmission, numberFrom, numberOf}
+use Rattle.meaning.specs.Names.{isBuiltIn, numberFrom, isKnown}
 use Rattle.meaning.specs.Allowed.{member, namesOf}
 use Rattle.meaning.specs.Tape.{tapeWord, symbolKind, partKind, equalsKind, closeKind, nextKind, endKind, functionKind, callKind, named, patternTape, conditionsTape, expressionTape, sentenceTape, sentencesTape, functionTape, tape}
 use Rattle.meaning.specs.Reading.{unknownCall, unknownInSentences, unknownIn}
@@ -106,14 +106,14 @@ module _ (text : Bytes) (t : Table) where
     word-size : word % 256 ≡ length n
     word-size = omega (arith, s .short)
 
-    word-known : wordKnown text names word ≡ either (isEmission n) (ltb 0 (numberOf t n))
+    word-known : wordKnown text names word ≡ isKnown t n
     word-known = rw (le-ltb word 2304 (omega arith), word-place, word-size, ← (s .same), number-member 0 t n)
 
     word-within : CallWithin text word
     word-within h = rw (word-place, word-size) (s .inside)
 
     call-finds : {words : List ℕ} {found : Option ℕ} → Finds words found
-        → Finds (named (callKind + place) n ++ words) (pick (either (isEmission n) (ltb 0 (numberOf t n))) found (some place))
+        → Finds (named (callKind + place) n ++ words) (pick (isKnown t n) found (some place))
     unfolding unknownFrom Each
     call-finds r =
         let named = quiet-then n (s .quiet) r in
@@ -174,11 +174,11 @@ module _ (text : Bytes) (names : List Name) (w : ℕ) where
   pub no-call : w < 2304 → true ≡ wordKnown text names w
   no-call h = rw (lt-ltb w 2304 h)
 
-  module _ (h : 2304 ≤ w) {emits : Bool} (e : emits ≡ isEmission (View.part text (calledSpan w))) where
-    pub calls-emission : emits ≡ true → true ≡ wordKnown text names w
-    calls-emission k = rw (le-ltb w 2304 h, ← e, k)
+  module _ (h : 2304 ≤ w) {builtIn : Bool} (e : builtIn ≡ isBuiltIn (View.part text (calledSpan w))) where
+    pub calls-built-in : builtIn ≡ true → true ≡ wordKnown text names w
+    calls-built-in k = rw (le-ltb w 2304 h, ← e, k)
 
-    pub calls-function : emits ≡ false → {declared : Bool} → member (View.part text (calledSpan w)) names ≡ declared
+    pub calls-function : builtIn ≡ false → {declared : Bool} → member (View.part text (calledSpan w)) names ≡ declared
         → declared ≡ wordKnown text names w
     calls-function k d = rw (le-ltb w 2304 h, ← e, k) (sym d)
 

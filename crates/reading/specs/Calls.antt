@@ -7,7 +7,7 @@ use mathlib.Core.Option.{Option, none, some}
 use lib.ListN.{length}
 use Rattle.meaning.specs.Choice.{Bytes, Name, either}
 use Rattle.meaning.specs.Tree.{Table}
-use Rattle.meaning.specs.Names.{isEmission}
+use Rattle.meaning.specs.Names.{isBuiltIn}
 use Rattle.meaning.specs.Allowed.{member, namesOf}
 use Rattle.meaning.specs.Tape.{callKind, tape}
 use Rattle.lexing.specs.View.{part}
@@ -34,11 +34,11 @@ calledSpan word = record { from = calledPlace word; past = calledPlace word + wo
 abbrev pub CallWithin : Bytes → ℕ → Type 0
 CallWithin text word = 2304 ≤ word → calledSpan word .past ≤ length text
 
--- a word opens no call, or one of a name that is declared or emission
+-- a word opens no call, or one of a name that is built in or declared
 abbrev pub wordKnown : Bytes → List Name → ℕ → Bool
 wordKnown text names word =
     let n = part text (calledSpan word) in
-    either (isQuiet word) (either (isEmission n) (member n names))
+    either (isQuiet word) (either (isBuiltIn n) (member n names))
 
 -- a table that was read from a text, with its tape and its functions' names
 pub record Holds (text : Bytes) (words : List ℕ) (names : List Name) (t : Table) : Type 0 where

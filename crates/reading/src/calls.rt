@@ -1,6 +1,6 @@
 // The called names of a table, once it is read.
 use bookkeeping::names::find;
-use bookkeeping::names::is_emission;
+use bookkeeping::names::is_built_in;
 use bookkeeping::writing::CALL_KIND;
 use lexing::Span;
 ghost use mathlib.Core.Path.{_≡_};
@@ -12,13 +12,13 @@ ghost use Rattle.bookkeeping.specs.Tables.{tableNames, Entries};
 ghost use Rattle.declarations.specs.Sentences.{Each};
 ghost use Rattle.reading.specs.Calls.{unknownAs, CallWithin, wordKnown, Holds};
 
-// The place of the first called name that is neither declared nor emission, if there is one.
+// The place of the first called name that is neither built in nor declared, if there is one.
 pub enum Unknown {
     At(usize),
     Nowhere,
 }
 
-// Whether a word of the tape opens no call, or one of a name that is declared or emission.
+// Whether a word of the tape opens no call, or one of a name that is built in or declared.
 fn is_known(text: &[u8], names: &[usize], functions: usize, word: usize) -> bool
     requires { ⌜ CallWithin (now text) word × Entries (now text) (now names) 0 functions ⌝ }
     ensures { λ r. ⌜ r ≡ wordKnown (now (text .entry)) (tableNames (now (text .entry)) (now (names .entry)) 0 functions) word ⌝ }
@@ -32,7 +32,7 @@ fn is_known(text: &[u8], names: &[usize], functions: usize, word: usize) -> bool
         from: place,
         past: past,
     };
-    if is_emission(text, name) {
+    if is_built_in(text, name) {
         return true;
     }
     find(text, names, 0, functions, name) < functions

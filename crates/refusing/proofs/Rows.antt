@@ -63,6 +63,8 @@ at-one-token :
     ∷ row (bytes "F{='" ++ (again 128 "a" ++ bytes "'s1}")) 4 133 (4 ∷ 7 ∷ []) [] none
     ∷ row (bytes "F{=<" ++ (again 25 "a" ++ bytes ">}")) 4 4 (4 ∷ []) (4 ∷ []) (some 4)
     ∷ row (bytes "F{s1,<G s1>:'T'=}") 5 6 (5 ∷ []) [] (some 6)
+    ∷ row (bytes "F{s1,<DmAdd s1>:'T'=}") 5 6 (5 ∷ []) [] none
+    ∷ row (bytes "F{=}DmSub{=}") 5 4 (5 ∷ []) (5 ∷ []) none
     ∷ [])
 unfolding computed
 at-one-token = refl
@@ -88,6 +90,8 @@ after-reading :
     ∷ row (bytes "F{=<G><H>}") 8 4 [] [] (some 4)
     ∷ row (bytes "F{=<G>}G{=<H>}") 8 11 [] [] (some 11)
     ∷ row (bytes "F{=<EmitA>}") 0 0 [] [] none
+    ∷ row (bytes "F{=<DmAdd><DmSub>}") 0 0 [] [] none
+    ∷ row (bytes "F{=<DmAdd2>}") 8 4 [] [] (some 4)
     ∷ [])
 unfolding computed
 after-reading = refl

@@ -8,7 +8,7 @@ use native.Mathlib.Omega.{arith}
 use borrow.Author.Tests.{lt-ltb, not-true}
 use lib.Dec.{ltb}
 use Rattle.meaning.specs.Choice.{Bytes, Name, pick, both, either, every, orElse, isSome, sameBytes}
-use Rattle.meaning.specs.Names.{isPredicate, isEmission, isReserved, numberFrom, numberOf}
+use Rattle.meaning.specs.Names.{isPredicate, isBuiltIn, isReserved, numberFrom, isKnown}
 use Rattle.meaning.specs.Tree.{Element, Subject, Condition, Expression, end, thenCharacter, thenSymbol, thenPart, thenCall, Sentence, Function, Table}
 use Rattle.meaning.specs.Allowed.{isByte, member, namesOf, allowedFunction, allowedSentence, allowedPattern, allowedConditions, spelledItems, spelledName, someSentence, symbolsOf, partsOf}
 use Rattle.meaning.specs.Tokens.{Token, functionName, quoted, Placed, lessThan, isSign, nameOf}
@@ -195,9 +195,9 @@ module _ (known : List Name) where
   module _ (t : Table) (same : known ≡ namesOf t) where
     call-step : (n : Name) (place : ℕ) (o p r : Option ℕ) → not (isPredicate n) ≡ true
         → pick (isUnknown known n) (some place) (orElse o (orElse p r))
-        ≡ orElse (pick (either (isEmission n) (ltb 0 (numberOf t n))) (orElse o p) (some place)) r
+        ≡ orElse (pick (isKnown t n) (orElse o p) (some place)) r
     call-step n place o p r e =
-        rw (not-true (isPredicate n) e, same, number-member 0 t n) (by-test (either (isEmission n) (member n (namesOf t))))
+        rw (not-true (isPredicate n) e, same, number-member 0 t n) (by-test (either (isBuiltIn n) (member n (namesOf t))))
       where
         by-test : (q : Bool) → pick (not q) (some place) (orElse o (orElse p r)) ≡ orElse (pick q (orElse o p) (some place)) r
         by-test true = else-assoc o p r

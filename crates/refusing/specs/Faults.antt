@@ -10,7 +10,7 @@ use lib.Dec.{leb}
 use lib.ListN.{length}
 use Rattle.meaning.specs.Choice.{Bytes, Name, pick, both, either, isSome, every}
 use Rattle.meaning.specs.Tree.{Table}
-use Rattle.meaning.specs.Names.{isPredicate, isEmission, isReserved}
+use Rattle.meaning.specs.Names.{isPredicate, isBuiltIn, isReserved}
 use Rattle.meaning.specs.Answers.{tableTooLong, malformedToken, notAllowedHere, overLimit, wrongName, wrongPatternVariable, wrongLaterVariable, undeclaredName}
 use Rattle.meaning.specs.Allowed.{maxTable, maxFunctions, maxSentences, maxName, maxIdentifier, maxLetters, maxSymbols, maxConditions, maxItems, maxNesting, symbolsOf, partsOf, lettersIn, parted, distinct, member, comingAfter, whereSome}
 use Rattle.meaning.specs.Tokens.{Token, functionName, word, quoted, sign, textEnd, malformed, Placed, tokens, comma, lessThan, greaterThan, isSign, nameOf, Item, characters, symbolItem, partItem, noItem, itemOf}
@@ -149,9 +149,9 @@ pub record FirstFault (quota : Quota) (ts : List Placed) (n k : ℕ) : Type 0 wh
 
 -- 8: "first called name that is undeclared"
 
--- no predicate's name, no emission and none of the declared ones
+-- no predicate's name, not built in and none of the declared ones
 abbrev pub isUnknown : List Name → Name → Bool
-isUnknown known n = not (either (isPredicate n) (either (isEmission n) (member n known)))
+isUnknown known n = not (either (isPredicate n) (either (isBuiltIn n) (member n known)))
 
 abbrev pub unknownName : List Name → Option Name → Bool
 unknownName known none = false

@@ -9,6 +9,7 @@ ghost use Rattle.meaning.specs.Leaving.{maxFrames};
 ghost use Rattle.acting.specs.States.{roomOfFrames, roomOfValues, memory, Held, CountsWithin};
 ghost use Rattle.applying.specs.Waiting.{countIn};
 ghost use Rattle.applying.specs.Advancing.{Underway, Acting, Ongoing, registersIn, statusIn, nextOf, onward, Steps, keptOf, Tries, Uses, Does, Enters};
+use acting::computing::compute;
 use acting::emitting::emit;
 use acting::moving::begin_sequence;
 use acting::moving::go;
@@ -208,6 +209,7 @@ fn act(
         Instruction::Use => Next::Onward(g),
         Instruction::Call(what) => call(h, code, what, allowance, frames),
         Instruction::Emit(length) => emit(h, code, length, input, journal),
+        Instruction::Compute(subtract) => compute(h, subtract, input, output),
         Instruction::End => leave(h, frames),
         Instruction::Unknown => Next::Stopped(h, Ending::NoInstruction, 0),
     }

@@ -1,4 +1,4 @@
-// Names on the tape: comparing two, finding one in a list, telling an emission's, and finding who recovers a function.
+// Names on the tape: comparing two, finding one in a list, telling how a call is done, and finding who recovers a function.
 use crate::tape::name_size;
 use crate::tape::word_at;
 ghost use mathlib.Core.Path.{_≡_};
@@ -6,9 +6,17 @@ ghost use mathlib.Core.List.{_++_};
 ghost use Prim.Native.Nat.{_+_, _≤_};
 ghost use lib.ListN.{length, take, drop};
 ghost use Rattle.meaning.specs.Choice.{sameBytes, startsWith};
-ghost use Rattle.meaning.specs.Names.{isEmission, isRecovering};
+ghost use Rattle.meaning.specs.Names.{callingOf, isRecovering};
 ghost use Rattle.words.specs.Words.{headName, headNames};
-ghost use Rattle.words.specs.Finding.{numberAmong, recovererAmong};
+ghost use Rattle.words.specs.Finding.{numberAmong, callingIn, recovererAmong};
+
+// How a call of a name is done: as an emission, as an angle call, by whether it subtracts, or by applying the function
+// declared under it.
+pub enum Calling {
+    Emission,
+    Angles(bool),
+    Function,
+}
 
 // So many words at two places are the same.
 fn same_words(tape: &[u32], a: usize, b: usize, size: usize) -> bool
@@ -42,6 +50,17 @@ fn starts_with(tape: &[u32], from: usize, size: usize, prefix: &[u8]) -> bool
         i += 1;
     }
     true
+}
+
+// It is a word.
+fn spells(tape: &[u32], from: usize, size: usize, word: &[u8]) -> bool
+    requires { ⌜ from + size ≤ length (now tape) ⌝ }
+    ensures { λ r. ⌜ r ≡ sameBytes (take size (drop from (now (tape .entry)))) (now (word .entry)) ⌝ }
+{
+    if size != word.len() {
+        return false;
+    }
+    starts_with(tape, from, size, word)
 }
 
 // The name after the word at `head` is a prefix, and then that of `size` words at `from`.
@@ -105,12 +124,21 @@ pub fn find(tape: &[u32], heads: &[usize], count: usize, from: usize, size: usiz
     find_prefixed(tape, heads, count, b"", from, size)
 }
 
-// It begins with Emit.
-pub fn is_emission(tape: &[u32], from: usize, size: usize) -> bool
+// How a call of it is done.
+pub fn calling_of(tape: &[u32], from: usize, size: usize) -> Calling
     requires { ⌜ from + size ≤ length (now tape) ⌝ }
-    ensures { λ r. ⌜ r ≡ isEmission (take size (drop from (now (tape .entry)))) ⌝ }
+    ensures { λ r. ⌜ r ≡ callingIn (callingOf (take size (drop from (now (tape .entry))))) ⌝ }
 {
-    starts_with(tape, from, size, b"Emit")
+    if starts_with(tape, from, size, b"Emit") {
+        return Calling::Emission;
+    }
+    if spells(tape, from, size, b"DmAdd") {
+        return Calling::Angles(false);
+    }
+    if spells(tape, from, size, b"DmSub") {
+        return Calling::Angles(true);
+    }
+    Calling::Function
 }
 
 // It begins with Recover.

@@ -12,6 +12,7 @@ const SNIPPETS: &[&str] = &[
     "e", "S1", "x", "s1_", "e91", "e92", "s123456789", "e123456789", "s12345678", "IsDigit", "Emit", "EmitA", "F0",
     "F1", "<F0>", "<F0", "<Nowhere>", "<IsDigit s0>", ", <IsDigit s0>: 'T'", ", <F0 s0>: 'F'", ",<IsBlank e91>:'T'",
     ",<IsDigit e92>:'F'", "<IsDigit e91>", "Recover", "RecoverF0", "}RecoverF0{e1=e1}", "<RecoverF1>",
+    "DmAdd", "DmSub", "<DmAdd '1:00 2:00'>", "<DmSub", "}DmAdd{e1=e1}", ", <DmSub s0>: 'T'", "<DmAdd2>", "<DmAdd>",
     "= ''", ";;", "}F0{", "} Gone { = }", "<EmitB 'x'>", "< F0>", "</**/F0>", "/* open", "NameOfTwentyFiveBytes-123",
     "<NameOfTwentyFiveBytes-123>", "'\\0000000000000000000000255'", "'a\\\nb'", "'a\\\r\nb'",
 ];

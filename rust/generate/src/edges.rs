@@ -55,7 +55,7 @@ fn filled(random: &mut Random, length: usize) -> Vec<u8> {
 }
 
 fn names(random: &mut Random, length: usize) -> String {
-    let start = random.pick(&["N", "Emit", "IsDigit"]);
+    let start = random.pick(&["N", "Emit", "IsDigit", "DmAdd"]);
     let name = format!("{start}{}", "-".repeat(length - start.len()));
     let failing = "N".repeat(length - RECOVER.len());
     match random.below(5) {

@@ -1,6 +1,7 @@
 //! Generators with seeds: trees, texts, sound tables in odd dress, tables at their limits, damaged tables, wild code.
 #![forbid(unsafe_code)]
 
+pub mod angles;
 pub mod damage;
 pub mod dress;
 pub mod edges;

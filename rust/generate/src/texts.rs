@@ -1,5 +1,6 @@
 //! Texts for a function: mostly such as one of its patterns fits, else random ones.
 
+use crate::angles;
 use crate::random::Random;
 use crate::trees::{LINE_ENDS, USUAL, usual_byte};
 use refal0_apart::tree::{Function, Letter, Sentence, Subject};
@@ -22,6 +23,9 @@ pub fn text(random: &mut Random, function: &Function) -> Vec<u8> {
 }
 
 fn filling(random: &mut Random) -> Vec<u8> {
+    if random.one_in(8) {
+        return if random.one_in(2) { angles::angle(random) } else { angles::argument(random) };
+    }
     let length = if random.one_in(60) { random.below(400) } else { random.below(8) };
     if random.one_in(2) {
         let bytes = random.pick(FEW_CLASSES);

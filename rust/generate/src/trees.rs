@@ -1,7 +1,9 @@
 //! Random trees that keep all limits, with few different bytes so that patterns often fit.
 
+use crate::angles;
 use crate::flatten::flatten;
 use crate::random::Random;
+use refal0_apart::angles::Operation;
 use refal0_apart::class::{Class, RECOVER};
 use refal0_apart::reader::{CONDITION_LIMIT, ITEM_LIMIT, LETTER_LIMIT, NAME_LIMIT, NESTING_LIMIT, SYMBOL_LIMIT};
 use refal0_apart::tree::{Callee, Condition, Function, Item, Letter, Name, Sentence, Subject, Table};
@@ -82,11 +84,13 @@ fn function_names(random: &mut Random, count: usize) -> Vec<Name> {
 
 /// A name that looks like a function that recovers, and recovers none.
 fn odd_recoverer(random: &mut Random) -> Name {
-    random.pick(&["Recover", "Recovery", "RecoverRecover", "RecoverEmitA", "RecoverIsDigit", "recoverF0"]).into()
+    random
+        .pick(&["Recover", "Recovery", "RecoverRecover", "RecoverEmitA", "RecoverIsDigit", "RecoverDmAdd", "recoverF0"])
+        .into()
 }
 
 fn function_name(random: &mut Random, number: usize) -> Name {
-    let stem = random.pick(&["F", "s1", "e", "IsDigitX", "Emi", "isdigit", "Set-Stop_", "emit", "T"]);
+    let stem = random.pick(&["F", "s1", "e", "IsDigitX", "Emi", "isdigit", "Set-Stop_", "emit", "T", "DmAdd"]);
     let mut name = format!("{stem}{number}").into_bytes();
     if random.one_in(20) {
         name.resize(24, b'-');
@@ -201,6 +205,7 @@ impl ExpressionMaker<'_> {
                     self.push(sentence, Item::Symbol(symbol));
                 }
                 2..=5 if self.next_part < self.parts => self.part(sentence),
+                6 if nesting > 0 && self.random.one_in(2) => self.angles(sentence, nesting),
                 6..=9 if nesting > 0 => self.call(sentence, nesting),
                 // going back outwards early makes calls that are not last
                 10 if nesting < 3 => return,
@@ -218,6 +223,33 @@ impl ExpressionMaker<'_> {
         sentence.expression.extend([Item::Part(part), Item::Close(callee)]);
     }
 
+    /// A call on two angles, if the expression may still take so much.
+    fn angles(&mut self, sentence: &mut Sentence, nesting: usize) {
+        if sentence.expression.len() + self.left > ITEM_LIMIT / 2 {
+            return self.byte(sentence);
+        }
+        let callee = Callee::Angles(self.random.pick(&Operation::ALL));
+        self.push(sentence, Item::Open(callee));
+        if self.random.one_in(2) {
+            sentence.expression.extend(angles::argument(self.random).into_iter().map(Item::Byte));
+        } else {
+            self.angle(sentence, nesting - 1);
+            sentence.expression.extend(angles::between(self.random).iter().map(|&byte| Item::Byte(byte)));
+            self.angle(sentence, nesting - 1);
+        }
+        sentence.expression.push(Item::Close(callee));
+    }
+
+    /// An angle as it stands, what another call comes to, or an e-variable.
+    fn angle(&mut self, sentence: &mut Sentence, nesting: usize) {
+        match self.random.below(8) {
+            // few inside one another, so that they keep the limit of items
+            0 if nesting > 0 => self.angles(sentence, nesting.min(2)),
+            1 | 2 if self.left > 0 && self.next_part < self.parts => self.part(sentence),
+            _ => sentence.expression.extend(angles::angle(self.random).into_iter().map(Item::Byte)),
+        }
+    }
+
     fn part(&mut self, sentence: &mut Sentence) {
         let part = self.next_part + self.random.below(self.parts - self.next_part);
         self.next_part = part + 1;
@@ -230,7 +262,7 @@ impl ExpressionMaker<'_> {
     }
 
     fn push(&mut self, sentence: &mut Sentence, item: Item) {
-        self.left -= 1;
+        self.left = self.left.saturating_sub(1);
         sentence.expression.push(item);
     }
 

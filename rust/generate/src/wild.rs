@@ -1,7 +1,9 @@
 //! Wild code: valid instructions in any order, changed translations, and words that never were any.
 
+use crate::angles;
 use crate::random::Random;
 use crate::trees;
+use refal0_apart::angles::Operation;
 use refal0_apart::class::Class;
 use refal0_apart::corpus::Lending;
 use refal0_apart::machine::{FRAMES, Rooms};
@@ -31,7 +33,10 @@ pub fn code(random: &mut Random) -> (Vec<u32>, usize) {
 
 /// What a run of wild code is lent: rooms often small, the start mostly one of its functions.
 pub fn lending(random: &mut Random, functions: usize) -> Lending {
-    let text: Vec<u8> = (0..random.below(13)).map(|_| random.pick(BYTES)).collect();
+    let text: Vec<u8> = match random.below(12) {
+        0 => angles::argument(random),
+        _ => (0..random.below(13)).map(|_| random.pick(BYTES)).collect(),
+    };
     let start =
         if random.one_in(25) { random.pick(&[0, functions + 1, 5, usize::MAX]) } else { 1 + random.below(functions) };
     let stack_in = if random.one_in(40) { random.below(text.len() + 1) } else { text.len() + room(random, 4) };
@@ -103,7 +108,8 @@ fn change(random: &mut Random, code: &mut Vec<u32>) {
 fn operand_changed(random: &mut Random, word: u32) -> u32 {
     let mut bytes = word.to_le_bytes();
     let number = if random.one_in(3) { random.byte() } else { random.below(20) as u8 };
-    bytes[1 + random.below(3)] = number;
+    // the first operand is the one that most words have
+    bytes[random.pick(&[1, 1, 2, 3])] = number;
     u32::from_le_bytes(bytes)
 }
 
@@ -212,12 +218,15 @@ impl Actions<'_> {
             self.many_sequences();
         }
         for _ in 0..self.random.below(7) {
-            match self.random.below(9) {
+            match self.random.below(10) {
                 // what the callee leaves is moved or called on again
                 0 => self.phrase(&[Self::select, Self::call, Self::moving]),
                 1 => self.phrase(&[Self::begin_seq, Self::writing, Self::span, Self::use_seq, Self::moving]),
                 2 => self.phrase(&[Self::select, Self::use_seq, Self::moving]),
                 3 => self.phrase(&[Self::begin_seq, Self::writing, Self::use_seq, Self::select, Self::moving]),
+                4 if self.random.one_in(2) => {
+                    self.phrase(&[Self::begin_seq, Self::angles, Self::use_seq, Self::compute])
+                }
                 _ => self.single(),
             }
         }
@@ -288,9 +297,10 @@ impl Actions<'_> {
 
     /// Something that takes what is selected.
     fn moving(&mut self) {
-        match self.random.below(6) {
+        match self.random.below(7) {
             0 => self.call(),
             1 => self.emission(),
+            2 if self.random.one_in(2) => self.compute(),
             _ => self.list.push(Action::Out),
         }
     }
@@ -303,6 +313,17 @@ impl Actions<'_> {
             1 => Action::Out,
             _ => Action::OutC(self.random.pick(BYTES)),
         });
+    }
+
+    /// Two angles, byte by byte.
+    fn angles(&mut self) {
+        let argument = angles::argument(self.random);
+        self.list.extend(argument.into_iter().map(Action::OutC));
+    }
+
+    fn compute(&mut self) {
+        let operation = self.random.pick(&Operation::ALL);
+        self.list.push(Action::Compute(operation));
     }
 
     fn call(&mut self) {

@@ -5,6 +5,7 @@ use generate::dress::dress;
 use generate::edges::edge;
 use generate::random::Random;
 use generate::{texts, trees};
+use refal0_apart::angles::{NOT_ANGLES, OUT_OF_RANGE};
 use refal0_apart::flat::flat;
 use refal0_apart::listing::list;
 use refal0_apart::machine::{self, Rooms};
@@ -169,6 +170,9 @@ fn the_machine_comes_to_the_rewriting() {
     assert!(recovered > CASES / 10, "{recovered} runs recover");
     for answer in [0, 11, 12] {
         assert!(answers[&answer] > CASES / 4, "answers met: {answers:?}");
+    }
+    for answer in [NOT_ANGLES, OUT_OF_RANGE] {
+        assert!(answers[&answer] > CASES / 20, "answers met: {answers:?}");
     }
 }
 

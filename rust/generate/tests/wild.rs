@@ -19,7 +19,7 @@ fn wild_code_meets_every_answer() {
         assert!(outcome.answer == 0 || outcome.text.is_empty());
         *met.entry((outcome.answer, outcome.before_run())).or_insert(0) += 1;
     }
-    let begun = [0, 11, 12, 13, 14, 15, 16, 18].map(|answer| (answer, false));
+    let begun = [0, 11, 12, 13, 14, 15, 16, 18, 20, 21].map(|answer| (answer, false));
     for answer in begun.into_iter().chain([9, 10, 18].map(|answer| (answer, true))) {
         assert!(met.get(&answer).is_some_and(|&times| times > CASES / 1_000), "answers met: {met:?}");
     }

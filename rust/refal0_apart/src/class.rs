@@ -1,5 +1,7 @@
 //! The five byte classes that conditions ask about, the names that may not be declared, and how a recovery is named.
 
+use crate::angles::Operation;
+
 #[derive(Clone, Copy, PartialEq, Eq, Debug)]
 pub enum Class {
     Digit,
@@ -45,5 +47,5 @@ pub fn is_emission(name: &[u8]) -> bool {
 pub const RECOVER: &[u8] = b"Recover";
 
 pub fn is_reserved(name: &[u8]) -> bool {
-    is_emission(name) || Class::of_predicate(name).is_some()
+    is_emission(name) || Class::of_predicate(name).is_some() || Operation::of_name(name).is_some()
 }

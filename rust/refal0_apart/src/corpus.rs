@@ -68,7 +68,7 @@ pub fn outcome(source: &Source, lending: &Lending) -> Result<Outcome, Refusal> {
         Source::Code(code) => return Ok(lending.run(code)),
     };
     let lent = lending.run(&packing::code(&tree));
-    if matches!(lent.answer, 0 | 9 | 11 | 12) {
+    if matches!(lent.answer, 0 | 9 | 11 | 12 | 20 | 21) {
         let rewritten = rewrite(&tree, lending.start, &lending.text, lending.allowance);
         assert_eq!(lent, rewritten, "machine and rewriter differ");
     }

@@ -1,5 +1,6 @@
 //! Any 32-bit words taken as code, as docs/CODE.md says: what stands at a place, or nothing where words are no code.
 
+use crate::angles::Operation;
 use crate::class::Class;
 use crate::packing::{BASES, REGISTERS, number};
 use crate::reader::SYMBOL_LIMIT;
@@ -110,6 +111,7 @@ impl<'c> Words<'c> {
             number::CALL => Action::Call(function()?),
             number::TAIL_CALL => Action::TailCall(function()?),
             number::EMISSION => Action::Emit(self.name(at + 1, first)?),
+            number::COMPUTE => Action::Compute(*Operation::ALL.get(first)?),
             number::END_OF_ACTIONS => return Some(None),
             _ => return None,
         }))

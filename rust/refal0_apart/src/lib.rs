@@ -1,6 +1,7 @@
 //! A Refal-0 system written apart from the proved engine: reader, listing, rewriter and two-stack machine.
 #![forbid(unsafe_code)]
 
+pub mod angles;
 pub mod class;
 pub mod corpus;
 pub mod decoding;

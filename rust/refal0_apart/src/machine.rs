@@ -1,5 +1,6 @@
 //! The two-stack string machine on any words of code, without end or on lent rooms, with what it needs.
 
+use crate::angles::Operation;
 use crate::decoding::{Head, Trial, Words};
 use crate::outcome::{Applications, Outcome, Stop};
 use crate::reader::{NESTING_LIMIT, SYMBOL_LIMIT};
@@ -220,6 +221,7 @@ impl<'c> Machine<'c> {
                 self.apply(function, beyond)
             }
             Action::Emit(name) => self.emit(name),
+            Action::Compute(operation) => self.compute(operation),
         }
     }
 
@@ -288,6 +290,17 @@ impl<'c> Machine<'c> {
         self.record.push(32);
         self.record.extend(self.stack_in.drain(q..).rev());
         self.record.push(10);
+        Ok(())
+    }
+
+    /// Puts what two angles come to on out, and passes them.
+    fn compute(&mut self, operation: Operation) -> Result<(), Stop> {
+        let q = self.frame().beyond;
+        let argument: Vec<u8> = self.stack_in[q..].iter().rev().copied().collect();
+        let result = operation.of_text(&argument).map_err(Stop::because)?;
+        note(&mut self.need.stack_out, self.stack_out.len() + result.len(), self.rooms.stack_out, 14)?;
+        self.stack_out.extend(result);
+        self.stack_in.truncate(q);
         Ok(())
     }
 

@@ -1,5 +1,6 @@
 //! Code in 32-bit words, as docs/CODE.md lays them down: the packing of a translation.
 
+use crate::angles::Operation;
 use crate::class::Class;
 use crate::translation::{Action, Base, Cell, Code, FunctionCode, Length, Metric, Program, Register, Test, translate};
 use crate::tree::Table;
@@ -26,8 +27,9 @@ pub mod number {
     pub const TWO_PARTS: u8 = 18;
     pub const END_OF_FUNCTION: u8 = 19;
     pub const PREDICATE_PART: u8 = 20;
+    pub const COMPUTE: u8 = 21;
     /// The highest number that a word may have.
-    pub const LAST: u8 = PREDICATE_PART;
+    pub const LAST: u8 = COMPUTE;
 }
 
 pub const REGISTERS: [Register; 3] = [Register::P, Register::Q, Register::I];
@@ -114,6 +116,7 @@ fn action_word(action: &Action) -> u32 {
         Action::Call(function) => word(number::CALL, *function, 0, 0),
         Action::TailCall(function) => word(number::TAIL_CALL, *function, 0, 0),
         Action::Emit(name) => word(number::EMISSION, name.len(), 0, 0),
+        Action::Compute(operation) => word(number::COMPUTE, operation_number(*operation), 0, 0),
     }
 }
 
@@ -124,6 +127,10 @@ fn length_word(number: u8, length: &Length) -> u32 {
 
 fn register(cell: &Cell) -> usize {
     REGISTERS.iter().position(|&register| register == cell.register).expect("every register has its number")
+}
+
+fn operation_number(operation: Operation) -> usize {
+    Operation::ALL.iter().position(|&other| other == operation).expect("every operation has its number")
 }
 
 fn class_number(class: Class) -> usize {

@@ -1,5 +1,6 @@
 //! The reader: a table's text to its tree, or the number and place of the first fault.
 
+use crate::angles::Operation;
 use crate::class::{Class, is_emission, is_reserved};
 use crate::lexer::{Lexer, Token, WordRule, in_name, in_word};
 use crate::tree::{Callee, Condition, Function, Item, Letter, Name, Sentence, Subject, Table};
@@ -51,7 +52,7 @@ struct Reader<'t> {
     place: usize,
     table: Table,
     sentences: usize,
-    /// Called names that are no emissions: a callee is an index here until all are declared.
+    /// Called names that are neither emissions nor angle calls: a callee is an index here until all are declared.
     called: Vec<(usize, &'t [u8])>,
 }
 
@@ -266,6 +267,8 @@ impl<'t> Reader<'t> {
         self.refuse_if(Class::of_predicate(name).is_some(), 5)?;
         let callee = if is_emission(name) {
             Callee::Emission(self.table.emission(name))
+        } else if let Some(operation) = Operation::of_name(name) {
+            Callee::Angles(operation)
         } else {
             self.called.push((self.place, name));
             Callee::Function(self.called.len() - 1)

@@ -83,6 +83,10 @@ impl<'t> Rewriter<'t> {
                 self.record.push(10);
                 Ok(())
             }
+            Callee::Angles(operation) => {
+                self.result.extend(operation.of_text(&argument).map_err(Stop::because)?);
+                Ok(())
+            }
             Callee::Function(number) => {
                 self.let_go();
                 self.apply(number, argument)

@@ -1,5 +1,6 @@
 //! The translation of a tree for the two-stack string machine, as instructions without packing.
 
+use crate::angles::Operation;
 use crate::class::Class;
 use crate::reader::NAME_LIMIT;
 use crate::tree::{Callee, Condition, Item, Letter, Name, Sentence, Subject, Table};
@@ -88,6 +89,7 @@ pub enum Action<N = Name> {
     Call(usize),
     TailCall(usize),
     Emit(N),
+    Compute(Operation),
 }
 
 /// What becomes of a part that ends both the pattern and a tail call's argument.
@@ -236,6 +238,7 @@ fn call_action(table: &Table, callee: Callee) -> Action {
     match callee {
         Callee::Function(function) => Action::Call(function + 1),
         Callee::Emission(number) => Action::Emit(table.emissions[number].clone()),
+        Callee::Angles(operation) => Action::Compute(operation),
     }
 }
 

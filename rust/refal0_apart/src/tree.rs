@@ -1,5 +1,6 @@
 //! The tree of an accepted table; functions, emissions and variables stand in it by number.
 
+use crate::angles::Operation;
 use crate::class::{Class, RECOVER};
 
 pub type Name = Vec<u8>;
@@ -63,6 +64,7 @@ pub enum Item {
 pub enum Callee {
     Function(usize),
     Emission(usize),
+    Angles(Operation),
 }
 
 impl Sentence {
@@ -118,6 +120,7 @@ impl Table {
         match callee {
             Callee::Function(number) => &self.functions[number].name,
             Callee::Emission(number) => &self.emissions[number],
+            Callee::Angles(operation) => operation.name(),
         }
     }
 }

@@ -6,11 +6,11 @@ use mathlib.Core.List.{List, [], _∷_}
 use mathlib.Core.Option.{Option, none, some}
 use native.Mathlib.Omega.{arith}
 use borrow.Author.Tests.{leb-true, le-leb}
-use lib.Dec.{leb, ltb}
+use lib.Dec.{leb}
 use lib.ListN.{length}
-use Rattle.meaning.specs.Choice.{Bytes, pick, both, either, orElse, every}
+use Rattle.meaning.specs.Choice.{Bytes, pick, both, orElse, every}
 use Rattle.meaning.specs.Tree.{Expression, end, thenCharacter, thenSymbol, thenPart, thenCall, Sentence, Function, Table}
-use Rattle.meaning.specs.Names.{isEmission, numberOf}
+use Rattle.meaning.specs.Names.{isKnown}
 use Rattle.meaning.specs.Allowed.{isByte, allowed, allowedFunction, callsKnown, namesOf, distinct, sentencesIn, maxTable, maxFunctions, maxSentences}
 use Rattle.meaning.specs.Tokens.{outside, Placed, tokens}
 use Rattle.meaning.specs.Grammar.{IsProgram}
@@ -46,7 +46,7 @@ calls-known t (thenSymbol x e) = calls-known t e
 calls-known t (thenPart x e) = calls-known t e
 calls-known t (thenCall place f a e) =
     rw (calls-known t a, calls-known t e)
-    (call-known (either (isEmission f) (ltb 0 (numberOf t f))) place (unknownCall t a) (unknownCall t e))
+    (call-known (isKnown t f) place (unknownCall t a) (unknownCall t e))
 
 abbrev sentencesKnown : Table → List Sentence → Bool
 sentencesKnown t ss = every (λ s. callsKnown t (s .expression)) ss

@@ -3,10 +3,10 @@ use Prim.Native.Nat.{ℕ, suc, _+_, _*_, _-_, _≤_, _<_}
 use native.Mathlib.Nat.{sub-self}
 use native.Mathlib.Numerals.{add-one}
 use native.Mathlib.Omega.{arith}
-use mathlib.Core.Path.{_≡_, refl, ap, _∙_}
+use mathlib.Core.Path.{_≡_, refl, _∙_}
 use mathlib.Core.Option.{Option, none, some}
 use lib.ListN.{length, getD, take, drop, set, length-drop, length-take, length-set}
-use lib.Seq.{drop-drop, length-take-le, take-suc-set, paste, take-paste, length-paste, take-take, getD-take, getD-drop}
+use lib.Seq.{drop-drop, length-take-le, take-suc-set, paste, take-paste, take-length, length-paste, getD-take, getD-drop}
 use borrow.Author.Tests.{le-leb, lt-leb, lt-ltb, le-ltb}
 use Rattle.meaning.specs.Choice.{Bytes, nth}
 use Rattle.meaning.specs.Instructions.{Action, go, select, out, outCharacter, outValue, Code}
@@ -28,7 +28,7 @@ use Rattle.acting.specs.declared.moving.Reached.the-variants.{At, Wrong 
 use Rattle.decoding.specs.Decoded.{spanMeant}
 use Rattle.acting.specs.Endings.{endingNumber}
 use Rattle.acting.specs.Spans.{cellsOf, reachedBy}
-use Rattle.acting.specs.States.{Memory, memory, frameWord, localOf, stacksOf, Ledgers, ledgerOf, roomOf, movedTo, Fits, Outcomes, Going, Stayed, Acts, roomOfValues}
+use Rattle.acting.specs.States.{Memory, memory, frameWord, localOf, stacksOf, Ledgers, ledgerOf, roomOf, movedTo, Fits, Outcomes, Going, Writes, Stayed, Acts, roomOfValues}
 use Rattle.matching.proofs.laws.Lists.{nth-in, nth-out}
 use Rattle.acting.proofs.laws.Spanning.{counted, not-counted, led, not-led}
 
@@ -181,34 +181,38 @@ module _ (g : Registers) (m : Memory) where
           stays = stayed _ _ _ (m .input) _ (λ f. f .ordered) (λ f. f .inside) (λ f. rw length-set (omega arith));
         }
 
-    pub part-full : length (m .output) - g .r .0 < g .q .0 - g .p .0 → Acts out (g .at .0) g m (Stopped g OutFull 0) m
-    part-full h =
-        let full : length (m .output) < g .r .0 + (g .q .0 - g .p .0) = omega arith in
-        stops _ _ OutFull (λ allowance code enter k. rw (length-take-le (g .r .0) (m .output) r≤out, lt-ltb _ _ full))
+    -- a text, whatever action writes it
+    module _ {action : Action} {text : Bytes} (w : Writes action text g m) where
+      pub text-full : length (m .output) - g .r .0 < length text → Acts action (g .at .0) g m (Stopped g OutFull 0) m
+      text-full h =
+          let full : length (m .output) < g .r .0 + length text = omega arith in
+          stops _ _ OutFull (λ allowance code enter k.
+          w .same allowance code enter k ∙ rw (length-take-le (g .r .0) (m .output) r≤out, lt-ltb _ _ full))
 
-    pub part-written : (part : Bytes) → part ≡ take (g .q .0 - g .p .0) (drop (g .p .0) (m .input)) →
-        g .p .0 ≤ g .q .0 → g .q .0 ≤ length (m .input) → g .q .0 - g .p .0 ≤ length (m .output) - g .r .0 →
-        Acts out (g .at .0) g m (Onward (movedTo g (g .q .0) (g .q .0) (g .r .0 + (g .q .0 - g .p .0))))
-        (memory (m .input) (paste (m .output) (g .r .0) part (g .q .0 - g .p .0)) (m .journal) (m .frames) (m .values))
-    part-written part e o i h =
-        let long : length part ≡ g .q .0 - g .p .0 = ap length e ∙ part-long (m .input) (g .p .0) (g .q .0) i in
-        let there : g .r .0 + (g .q .0 - g .p .0) ≤ length (m .output) = omega arith in
-        let end : g .p .0 + (g .q .0 - g .p .0) ≡ g .q .0 = omega arith in
-        record {
-          same = λ allowance code enter k.
-              rw (
-                length-take-le (g .r .0) (m .output) r≤out,
-                le-ltb (length (m .output)) _ there,
-                drop-drop (g .q .0 - g .p .0) (g .p .0) (m .input),
-                end,
-                sub-self (g .q .0),
-                take-paste (m .output) (g .r .0) part (g .q .0 - g .p .0) r≤out (omega (arith, long)),
-                e,
-                take-take (g .q .0 - g .p .0) (g .q .0 - g .p .0) (drop (g .p .0) (m .input)) (omega arith),
-              );
-          stays = stayed _ _ _ (m .input) _ (λ f. omega arith) (λ f. i)
-              (λ f. rw (length-paste (m .output) (g .r .0) part (g .q .0 - g .p .0) there (omega (arith, long))) there);
-        }
+      pub text-written : g .p .0 ≤ g .q .0 → length text ≤ length (m .output) - g .r .0 →
+          Acts action (g .at .0) g m (Onward (movedTo g (g .q .0) (g .q .0) (g .r .0 + length text)))
+          (memory (m .input) (paste (m .output) (g .r .0) text (length text)) (m .journal) (m .frames) (m .values))
+      text-written o h =
+          let there : g .r .0 + length text ≤ length (m .output) = omega arith in
+          let end : g .p .0 + (g .q .0 - g .p .0) ≡ g .q .0 = omega arith in
+          record {
+            same = λ allowance code enter k.
+                w .same allowance code enter k ∙
+                rw (
+                  length-take-le (g .r .0) (m .output) r≤out,
+                  le-ltb (length (m .output)) _ there,
+                  drop-drop (g .q .0 - g .p .0) (g .p .0) (m .input),
+                  end,
+                  sub-self (g .q .0),
+                  take-paste (m .output) (g .r .0) text (length text) r≤out (omega arith),
+                  take-length text,
+                );
+            stays = stayed _ _ _ (m .input) _ (λ f. omega arith) (λ f. f .inside)
+                (λ f. rw (length-paste (m .output) (g .r .0) text (length text) there (omega arith)) there);
+          }
+
+  pub part-writes : g .q .0 ≤ length (m .input) → Writes out (take (g .q .0 - g .p .0) (drop (g .p .0) (m .input))) g m
+  part-writes i = record { same = λ allowance code enter k. rw (part-long (m .input) (g .p .0) (g .q .0) i) }
 
   -- a stored value is written as a character is
   pub value-none : (k : ℕ) → frameWord (g .frame) 4 (m .frames) ≤ k → Acts (outValue k) (g .at .0) g m (Stopped g NoInstruction 0) m

@@ -38,23 +38,27 @@ returns-11 : tie.Need-returns-11
 returns-11 c = rw (c .match .keys11)
 
 returns-12 : tie.Need-returns-12
-returns-12 c =
+returns-12 c = rw (c .before .match .keys12, c .computation-of .ensures, c .before .before .wide .ensures)
+
+returns-13 : tie.Need-returns-13
+returns-13 c =
     let r = c .match .rest in
     simp (
-      ne-eqb _ 5 (r .0 .0 .0 .0 .0 .0 .0 .0 .0 .0 .1),
-      ne-eqb _ 6 (r .0 .0 .0 .0 .0 .0 .0 .0 .0 .1),
-      ne-eqb _ 7 (r .0 .0 .0 .0 .0 .0 .0 .0 .1),
-      ne-eqb _ 8 (r .0 .0 .0 .0 .0 .0 .0 .1),
-      ne-eqb _ 9 (r .0 .0 .0 .0 .0 .0 .1),
-      ne-eqb _ 10 (r .0 .0 .0 .0 .0 .1),
-      ne-eqb _ 11 (r .0 .0 .0 .0 .1),
-      ne-eqb _ 12 (r .0 .0 .0 .1),
-      ne-eqb _ 13 (r .0 .0 .1),
-      ne-eqb _ 14 (r .0 .1),
-      ne-eqb _ 15 (r .1),
+      ne-eqb _ 5 (r .0 .0 .0 .0 .0 .0 .0 .0 .0 .0 .0 .1),
+      ne-eqb _ 6 (r .0 .0 .0 .0 .0 .0 .0 .0 .0 .0 .1),
+      ne-eqb _ 7 (r .0 .0 .0 .0 .0 .0 .0 .0 .0 .1),
+      ne-eqb _ 8 (r .0 .0 .0 .0 .0 .0 .0 .0 .1),
+      ne-eqb _ 9 (r .0 .0 .0 .0 .0 .0 .0 .1),
+      ne-eqb _ 10 (r .0 .0 .0 .0 .0 .0 .1),
+      ne-eqb _ 11 (r .0 .0 .0 .0 .0 .1),
+      ne-eqb _ 12 (r .0 .0 .0 .0 .1),
+      ne-eqb _ 13 (r .0 .0 .0 .1),
+      ne-eqb _ 14 (r .0 .0 .1),
+      ne-eqb _ 15 (r .0 .1),
+      ne-eqb _ 21 (r .1),
     )
 
 pub decode-spec : {M : Type 1} → statement M
 decode-spec =
-    tie.close (tie.spec (λ c κs. search needs) (λ c. search needs) (λ c κs. search needs) (λ c κs. search needs) returns returns-2 returns-3 returns-4
-    returns-5 returns-6 returns-7 returns-8 returns-9 returns-10 returns-11 returns-12)
+    tie.close (tie.spec (λ c κs. search needs) (λ c. search needs) (λ c κs. search needs) (λ c κs. search needs) (λ c κs. search needs) returns returns-2 returns-3 returns-4
+    returns-5 returns-6 returns-7 returns-8 returns-9 returns-10 returns-11 returns-12 returns-13)

@@ -10,14 +10,18 @@ use lib.Dec.{eqb}
 use lib.ListN.{length, drop, getD}
 use Rattle.meaning.specs.Choice.{Name, pick, both, guard}
 use Rattle.meaning.specs.Tree.{Expression, end, Table}
-use Rattle.meaning.specs.Names.{isEmission, numberOf}
-use Rattle.meaning.specs.Translation.{Shape, Manner as MeantManner, emits, replaces, nests, Level, outermost, inside, inTail, isEnd, mannerOf, levelIn, endsPattern, leftFor}
+use Rattle.meaning.specs.Angles.{plus, minus, operation}
+use Rattle.meaning.specs.Names.{Calling as Called, asEmission, asAngles, asFunction, callingOf, numberOf}
+use Rattle.meaning.specs.Translation.{Shape, Manner as MeantManner, emits, computes, replaces, nests, Level, outermost, inside, inTail, isEnd, mannerAs, mannerOf, levelIn, endsPattern, leftFor}
+use Rattle.words.specs.Finding.{callingIn}
+use Rattle.words.specs.declared.names.Calling.{Calling}
+use Rattle.words.specs.declared.names.Calling.the-variants.{Emission, Angles, Function}
 use Rattle.words.specs.declared.tape.Item.{Item}
 use Rattle.words.specs.declared.tape.Item.the-variants.{Byte, Symbol, Part, Call, Pass, Close, Unclosed, Stop}
 use Rattle.words.specs.Words.{headName, itemAt}
 use Rattle.expressions.specs.declared.expression.Walk.{Walk}
 use Rattle.expressions.specs.declared.expression.Manner.{Manner}
-use Rattle.expressions.specs.declared.expression.Manner.the-variants.{Emits, Replaces, Nests}
+use Rattle.expressions.specs.declared.expression.Manner.the-variants.{Emits, Computes, Replaces, Nests}
 use Rattle.expressions.specs.Levels.{Levels, stopped, firstOf, othersOf, itemBy, levelsIn}
 use Rattle.expressions.specs.Resuming.{levelAt, openNames, levelsNow, restNow, callDone, isStop, lastCall, mannerBy, mannerNow, goesOn, endingBy}
 use Rattle.expressions.proofs.laws.Items.{stops, Told, told, levels-at, levels-stop, stops-below, last-item}
@@ -25,6 +29,7 @@ use Rattle.expressions.proofs.laws.Resumed.{open-less, open-last, outer
 
 abbrev pub meant : Manner → MeantManner
 meant Emits = emits
+meant (Computes subtract) = computes (operation subtract)
 meant Replaces = replaces
 meant Nests = nests
 
@@ -98,22 +103,25 @@ module _ (ws calls : List ℕ) (w : Walk) where
 
     pub manner-same : (t : Table) → mannerOf (levelAt t (openNames ws calls under) (othersOf outer)) (firstOf outer) called ≡ meant manner
     manner-same t =
-        rw (open-last t ws calls under (othersOf outer) (firstOf outer), last-same (eqb under 0) refl) (by-tests (isEmission called) last)
+        rw (open-last t ws calls under (othersOf outer) (firstOf outer), last-same (eqb under 0) refl) (by-calling (callingOf called) last)
       where
         last-same : (b : Bool) → eqb under 0 ≡ b → pick b (isEnd (firstOf outer)) false ≡ pick b (isStop (itemAt (drop next ws) 0 (w .items))) false
         last-same true e = rw (ends .first) (rw (eqb-true under 0 e) (last-item ws next (w .items)))
         last-same false e = refl
 
-        by-tests : (a b : Bool) → pick a emits (pick b replaces nests) ≡ meant (mannerBy a b)
-        by-tests true b = refl
-        by-tests false true = refl
-        by-tests false false = refl
+        by-calling : (c : Called) (b : Bool) → mannerAs c b ≡ meant (mannerBy (callingIn c) b)
+        by-calling asEmission b = refl
+        by-calling (asAngles plus) b = refl
+        by-calling (asAngles minus) b = refl
+        by-calling asFunction true = refl
+        by-calling asFunction false = refl
 
     -- a tail call leaves nothing to be read
-    replaces-last : (a b : Bool) → mannerBy a b ≡ Replaces → b ≡ true
-    replaces-last true b e = cc
-    replaces-last false true e = refl
-    replaces-last false false e = cc
+    replaces-last : (c : Calling) (b : Bool) → mannerBy c b ≡ Replaces → b ≡ true
+    replaces-last Emission b e = cc
+    replaces-last (Angles subtract) b e = cc
+    replaces-last Function true e = refl
+    replaces-last Function false e = cc
 
     last-stops : (b c : Bool) → pick b c false ≡ true → (b ≡ true) × (c ≡ true)
     last-stops true c e = (refl, e)
@@ -121,9 +129,10 @@ module _ (ws calls : List ℕ) (w : Walk) where
 
     pub rest-same : (k : Manner) (at : ℕ) → manner ≡ k → restNow (goesOn k) ws (callDone w next at (goesOn k)) ≡ levelsNow ws w .rest
     rest-same Emits at e = sym (ap (λ (l : Levels). l .rest) (ends .now))
+    rest-same (Computes subtract) at e = sym (ap (λ (l : Levels). l .rest) (ends .now))
     rest-same Nests at e = sym (ap (λ (l : Levels). l .rest) (ends .now))
     rest-same Replaces at e =
-        let tests = last-stops (eqb under 0) (isStop (itemAt (drop next ws) 0 (w .items))) (replaces-last (isEmission called) last e) in
+        let tests = last-stops (eqb under 0) (isStop (itemAt (drop next ws) 0 (w .items))) (replaces-last (callingIn (callingOf called)) last e) in
         let none-read : later next ≡ stopped (drop next ws) =
         rw (eqb-true under 0 (tests .0)) (levels-stop ws next 0 (w .items) (stop-stops (itemAt (drop next ws) 0 (w .items)) (tests .1))) in
         sym (ap (λ (l : Levels). l .rest) none-read) ∙ sym (ap (λ (l : Levels). l .rest) (ends .now))
@@ -146,6 +155,7 @@ module _ (ws calls : List ℕ) (w : Walk) where
     where
       by-manner : (k : Manner) (f : ℕ) → leftFor s (levelIn (meant k) f) x end ≡ guard (both (not (goesOn k)) (endsPattern s x)) (some f)
       by-manner Emits f = refl
+      by-manner (Computes subtract) f = refl
       by-manner Replaces f = refl
       by-manner Nests f = refl
 

@@ -21,7 +21,7 @@ use Rattle.templates.specs.declared.pattern.Pattern.{Pattern}
 use Rattle.spans.specs.declared.Stand.{Stand}
 use Rattle.expressions.specs.declared.expression.Walk.{Walk}
 use Rattle.expressions.specs.declared.expression.Manner.{Manner}
-use Rattle.expressions.specs.declared.expression.Manner.the-variants.{Emits, Replaces, Nests}
+use Rattle.expressions.specs.declared.expression.Manner.the-variants.{Emits, Computes, Replaces, Nests}
 use Rattle.words.specs.Words.{carried, headName, headNames, itemAt}
 use Rattle.expressions.specs.Levels.{placeIn, Levels, stopped, onCurrent, firstOf, othersOf, opened, itemBy, levelsIn}
 use Rattle.words.specs.Writing.{Wrote, Same}
@@ -324,12 +324,14 @@ module _ (ws heads names : List ℕ) (m : Pattern) (calls : List ℕ) (w : Walk)
         ≡ callWords k (m .lengths) (w .stand) number name-called ++ pick (goesOn k) (packActions more) []
     unfolding packActions
     calling-words t s ss means Emits number more = refl
+    calling-words t s ss means (Computes subtract) number more = refl
     calling-words t s ss means Replaces number more = rw (rest-word t s ss means)
     calling-words t s ss means Nests number more = refl
 
     -- they are not many
     words-short : (k : Manner) (number : ℕ) → length (callWords k (m .lengths) (w .stand) number name-called) ≤ 260
     words-short Emits number = omega (arith, name-short ws (getD calls (w .depth - 1) 0))
+    words-short (Computes subtract) number = omega arith
     words-short Replaces number = omega arith
     words-short Nests number = omega arith
 

@@ -11,9 +11,9 @@ use lib.ListN.{length, getD, set}
 use lib.Seq.{getD-set-same, getD-set-other}
 use Rattle.meaning.specs.Choice.{Name, pick, Named}
 use Rattle.meaning.specs.Tree.{Expression, end, thenCharacter, thenSymbol, thenPart, thenCall, Table}
-use Rattle.meaning.specs.Names.{isEmission, numberOf}
+use Rattle.meaning.specs.Names.{Calling, asEmission, asAngles, asFunction, callingOf, numberOf}
 use Rattle.meaning.specs.Instructions.{Site, go, select, out, outCharacter, outValue, beginSequence}
-use Rattle.meaning.specs.Translation.{Shape, Stand, passage, restOf, valueNumber, Manner, emits, replaces, nests, isEnd, isLast, mannerOf, levelIn, leftFor, whereLeft, calling, items}
+use Rattle.meaning.specs.Translation.{Shape, Stand, passage, restOf, valueNumber, Manner, emits, computes, replaces, nests, mannerAs, isEnd, isLast, mannerOf, levelIn, leftFor, whereLeft, calling, items}
 use Rattle.words.specs.Words.{headName}
 use Rattle.expressions.specs.Levels.{firstOf, othersOf}
 use Rattle.expressions.specs.Resuming.{levelAt, resume, openNames}
@@ -80,6 +80,7 @@ open-less ws calls (suc depth) h =
 -- no item of an argument is the last one outermost
 argument-last : (k : Manner) (f : ℕ) (e : Expression) → isLast (levelIn k f) e ≡ false
 argument-last emits f e = refl
+argument-last (computes op) f e = refl
 argument-last replaces f e = refl
 argument-last nests f e = refl
 
@@ -105,8 +106,9 @@ nested-moves t s ws calls zero outer x e h = absurd (omega arith)
 nested-moves t s ws calls (suc zero) outer x e h = absurd (omega arith)
 nested-moves t s ws calls (suc (suc depth)) outer x e h =
     let n = headName ws (getD calls (suc depth) 0) in
-    rw (argument-last _ _ (firstOf outer)) (by-name (isEmission n) (numberOf t n))
+    rw (argument-last _ _ (firstOf outer)) (by-name (callingOf n) (numberOf t n))
   where
-    by-name : (b : Bool) (f : ℕ) → leftFor s (levelIn (pick b emits (pick false replaces nests)) f) x e ≡ none
-    by-name true f = refl
-    by-name false f = refl
+    by-name : (c : Calling) (f : ℕ) → leftFor s (levelIn (mannerAs c false) f) x e ≡ none
+    by-name asEmission f = refl
+    by-name (asAngles op) f = refl
+    by-name asFunction f = refl

@@ -10,9 +10,10 @@ use lib.ListN.{length, length-append}
 use lib.Seq.{take-append-seam, drop-append-seam}
 use borrow.Author.Tests.{le-leb}
 use Rattle.meaning.specs.Choice.{Bytes, nth}
-use Rattle.meaning.specs.Outcome.{pay, Outcome, done, stop, andThen}
+use Rattle.meaning.specs.Angles.{Operation, Angled, sum, notAngles, outOfRange, angled}
+use Rattle.meaning.specs.Outcome.{pay, Outcome, done, stop, andThen, computed}
 use Rattle.meaning.specs.Rewriting.{Course, emitting, tallyOf, before}
-use Rattle.meaning.specs.Instructions.{Length, null, whole, left, right, Span, Action, go, select, out, outCharacter, outValue, beginSequence, useSequence, call, tailCall, emission, Code}
+use Rattle.meaning.specs.Instructions.{Length, null, whole, left, right, Span, Action, go, select, out, outCharacter, outValue, beginSequence, useSequence, call, tailCall, emission, compute, Code}
 use Rattle.meaning.specs.Machine.{Ledger, Stacks, Local, Ran, registerOf, spanOf, isDeclared, afterField, returned, withOpened, maxOpened, wherePayable, process}
 use Rattle.meaning.specs.Runs.{endless}
 
@@ -114,6 +115,20 @@ module _ (code : Code) (enter : Applying) (frame : ℕ) (more : List Action) (l 
       doing code enter frame more l (stacks below 0 o) (emitting name argument t)
   unfolding process
   emission-law name argument below o = rw (take-append-seam, drop-append-seam)
+
+  -- the argument is passed, and its result stands on out
+  pub compute-law : (op : Operation) (argument below o : Bytes) →
+      doing code enter frame (compute op ∷ more) l (stacks (argument ++ below) (length argument) o) t ≡
+      into (computed (angled op argument) t) (λ given t₁. doing code enter frame more l (stacks below 0 (o ++ given)) t₁)
+  unfolding process
+  compute-law op argument below o = rw (take-append-seam, drop-append-seam) (by-result (angled op argument))
+    where
+      by-result : (a : Angled) →
+          andThen (computed a (ledger t)) (λ given g. process endless code enter frame more l (stacks below 0 (o ++ given)) g) ≡
+          into (computed a t) (λ given t₁. doing code enter frame more l (stacks below 0 (o ++ given)) t₁)
+      by-result (sum given) = refl
+      by-result notAngles = refl
+      by-result outOfRange = refl
 
   pub call-law : (f : ℕ) (s : Stacks) → isDeclared code f ≡ true →
       doing code enter frame (call f ∷ more) l s t ≡

@@ -10,17 +10,17 @@ use lib.ListN.{length, length-map, length-append}
 use borrow.Author.Tests.{le-leb}
 use Rattle.meaning.specs.Choice.{Bytes, Name, Named, pick, both, guard, either, sameBytes, lookup}
 use Rattle.meaning.specs.Tree.{Letter, Expression, end, thenCharacter, thenSymbol, thenPart, thenCall, Table}
-use Rattle.meaning.specs.Names.{isEmission, numberOf}
+use Rattle.meaning.specs.Names.{Calling, asEmission, asAngles, asFunction, callingOf, builtIn, numberOf}
 use Rattle.meaning.specs.Answers.{allowanceSpent}
 use Rattle.meaning.specs.Outcome.{Tally, pay, Outcome, done, stop, andThen}
-use Rattle.meaning.specs.Rewriting.{Course, emitting, tallyOf, Bindings, before, partText, evaluate, callNamed}
+use Rattle.meaning.specs.Rewriting.{Course, tallyOf, Bindings, before, partText, evaluate, calledAs, callNamed}
 use Rattle.meaning.specs.Allowed.{nesting}
-use Rattle.meaning.specs.Instructions.{Site, Action, go, select, out, useSequence, call, tailCall, emission, Code}
+use Rattle.meaning.specs.Instructions.{Site, Action, go, select, out, useSequence, call, tailCall, emission, compute, Code}
 use Rattle.meaning.specs.Machine.{Stacks, Local, spanOf, isDeclared, afterField, returned, withOpened, maxOpened, wherePayable, process}
 use Rattle.meaning.specs.Runs.{endless}
-use Rattle.meaning.specs.Translation.{Shape, fixed, open₁, open₂, Stand, atStart, passageFirst, passageSecond, passage, restOf, nowhere, emits, replaces, nests, Level, outermost, inside, inTail, isEnd, isLast, mannerOf, levelIn, isNone, endsPattern, leftFor, whereLeft, valueNumber, argumentReady, calling, items, passesRest, translatedFunction, translate}
+use Rattle.meaning.specs.Translation.{Shape, fixed, open₁, open₂, Stand, atStart, passageFirst, passageSecond, passage, restOf, nowhere, replaces, nests, Level, outermost, inside, inTail, isEnd, isLast, mannerAs, mannerOf, levelIn, isNone, endsPattern, leftFor, whereLeft, valueNumber, argumentReady, calling, items, passesRest, translatedFunction, translate}
 use Rattle.meaning.proofs.laws.Translated.{number-low}
-use Rattle.meaning.proofs.agreement.Carrying.{Endless, ledger, stacks, into, carried, returned-law, carried-andThen, into-andThen, into-written, into-same, Applying, doing, span-opened, go-law, select-law, out-law, character-law, value-law, begin-law, use-law, emission-law, call-law, tail-law}
+use Rattle.meaning.proofs.agreement.Carrying.{Endless, ledger, stacks, into, carried, returned-law, carried-andThen, into-andThen, into-written, into-same, Applying, doing, span-opened, go-law, select-law, out-law, character-law, value-law, begin-law, use-law, emission-law, compute-law, call-law, tail-law}
 use Rattle.meaning.proofs.agreement.Standing.{Move, Standing}
 use Rattle.meaning.proofs.agreement.Sound.{Sound, theEnd, aCharacter, aSymbol, aPart, aCall}
 use Rattle.meaning.proofs.agreement.Choosing.{true-passed}
@@ -169,16 +169,20 @@ module _ (table : Table) (shape : Shape) (sites : List (Named Site)) (bound : Bi
           (carried-andThen (standing .remaining w ++ below) o (apply number argument t) _ ∙
           into-same (apply number argument t) _ _ (λ given t₂. rw (returned-law argument (standing .remaining w ++ below) o (o ++ given))))
 
-  -- any call, by whether its name is an emission's and whether it is the last item outermost: both tests are taken as variables
-  any-call : (emits? last : Bool) (n : Name) (w : Stand) (more : List Action) (opened : List ℕ) (o argument : Bytes) (t : Course) →
-      T (either emits? (ltb 0 (numberOf table n))) → (T last → more ≡ passesRest shape w) →
-      from (length o ∷ opened) (calling shape (pick emits? emits (pick last replaces nests)) (numberOf table n) n w more) w (o ++ argument) t ≡
-      into (pick emits? (done [] (emitting n argument t)) (apply (numberOf table n) argument t)) (λ given t₁. from opened more w (o ++ given) t₁)
-  any-call true last n w more opened o argument t d e =
+  -- any call, by how it is done and whether it is the last item outermost: both are taken as variables
+  any-call : (c : Calling) (last : Bool) (n : Name) (w : Stand) (more : List Action) (opened : List ℕ) (o argument : Bytes) (t : Course) →
+      T (either (builtIn c) (ltb 0 (numberOf table n))) → (T last → more ≡ passesRest shape w) →
+      from (length o ∷ opened) (calling shape (mannerAs c last) (numberOf table n) n w more) w (o ++ argument) t ≡
+      into (calledAs c n argument t (apply (numberOf table n) argument t)) (λ given t₁. from opened more w (o ++ given) t₁)
+  any-call asEmission last n w more opened o argument t d e =
       ready-law (emission n ∷ more) opened (standing .remaining w ++ below) o argument t ∙
       emission-law (translate table) enter frame more (withOpened opened l) t n argument (standing .remaining w ++ below) o ∙
       rw append-nil
-  any-call false last n w more opened o argument t d e = declared-call last (numberOf table n) n w more opened o argument t (numbered table n d) e
+  any-call (asAngles op) last n w more opened o argument t d e =
+      ready-law (compute op ∷ more) opened (standing .remaining w ++ below) o argument t ∙
+      compute-law (translate table) enter frame more (withOpened opened l) t op argument (standing .remaining w ++ below) o
+  any-call asFunction last n w more opened o argument t d e =
+      declared-call last (numberOf table n) n w more opened o argument t (numbered table n d) e
 
   -- nothing follows the last item outermost but the way to the end of the field
   last-ends : (level : Level) (e : Expression) (w : Stand) (k : Stand → List Action) (opened : List ℕ) (o : Bytes) →
@@ -255,13 +259,14 @@ module _ (table : Table) (shape : Shape) (sites : List (Named Site)) (bound : Bi
       (left-at f x w coming (c .argued .before) (c .argued .written) (c .argued .others) t m ends (c .declared))
 
   -- what follows a call's argument
-  argument-ends : (emits? last : Bool) (n : Name) (more : Stand → List Action) (opened : List ℕ) (o : Bytes) →
-      T (either emits? (ltb 0 (numberOf table n))) →
-      Ending (translate table) shape (levelIn (pick emits? emits (pick last replaces nests)) (numberOf table n))
-      (λ w. calling shape (pick emits? emits (pick last replaces nests)) (numberOf table n) n w (more w)) (length o ∷ opened) o
-  argument-ends true last n more opened o known = tt
-  argument-ends false false n more opened o known = tt
-  argument-ends false true n more opened o known =
+  argument-ends : (c : Calling) (last : Bool) (n : Name) (more : Stand → List Action) (opened : List ℕ) (o : Bytes) →
+      T (either (builtIn c) (ltb 0 (numberOf table n))) →
+      Ending (translate table) shape (levelIn (mannerAs c last) (numberOf table n))
+      (λ w. calling shape (mannerAs c last) (numberOf table n) n w (more w)) (length o ∷ opened) o
+  argument-ends asEmission last n more opened o known = tt
+  argument-ends (asAngles op) last n more opened o known = tt
+  argument-ends asFunction false n more opened o known = tt
+  argument-ends asFunction true n more opened o known =
       record {
         declared = numbered table n known;
         follows = λ w. refl;
@@ -329,10 +334,10 @@ module _ (table : Table) (shape : Shape) (sites : List (Named Site)) (bound : Bi
       begin-law (translate table) enter frame (items table shape sites (levelIn (mannerOf b e n) (numberOf table n)) a w more) (withOpened opened l) t
       (standing .remaining w ++ below) o 0 (omega arith) ∙
       expressed soundA (levelIn (mannerOf b e n) (numberOf table n)) more (length o ∷ opened) o t
-      (argument-ends (isEmission n) (isLast b e) n (λ w₁. items table shape sites b e w₁ k) opened o known) (omega arith) ∙
+      (argument-ends (callingOf n) (isLast b e) n (λ w₁. items table shape sites b e w₁ k) opened o known) (omega arith) ∙
       into-same (evaluate (callNamed table apply) bound a t) (λ text t₁. from (length o ∷ opened) (more w₁) w₁ (o ++ text) t₁)
       (λ text t₁. into (called text t₁) (λ text t₂. j (o ++ text) t₂)) (λ text t₁.
-      any-call (isEmission n) (isLast b e) n w₁ (items table shape sites b e w₁ k) opened o text t₁ known (last-ends b e w₁ k opened o ending) ∙
+      any-call (callingOf n) (isLast b e) n w₁ (items table shape sites b e w₁ k) opened o text t₁ known (last-ends b e w₁ k opened o ending) ∙
       into-same (callNamed table apply n text t₁) (λ given t₂. from opened (items table shape sites b e w₁ k) w₁ (o ++ given) t₂)
       (λ given t₂. into (before given (evaluate (callNamed table apply) bound e t₂)) (λ text t₃. j (o ++ text) t₃)) (λ given t₂.
       expressed sound b k opened (o ++ given) t₂ (ending-on (translate table) shape b k opened o ending _) (omega arith) ∙

@@ -5,10 +5,10 @@ use mathlib.Core.Path.{_≡_}
 use mathlib.Core.Bool.{not}
 use mathlib.Core.List.{List}
 use mathlib.Core.Option.{some, Option·some-injective}
-use lib.Dec.{T, ltb}
-use Rattle.meaning.specs.Choice.{Name, Named, both, either, lookup}
+use lib.Dec.{T}
+use Rattle.meaning.specs.Choice.{Name, Named, both, lookup}
 use Rattle.meaning.specs.Tree.{Expression, end, thenCharacter, thenSymbol, thenPart, thenCall, Table}
-use Rattle.meaning.specs.Names.{isEmission, isPredicate, numberOf}
+use Rattle.meaning.specs.Names.{isPredicate, isKnown}
 use Rattle.meaning.specs.Rewriting.{Bindings}
 use Rattle.meaning.specs.Allowed.{isByte, member, spelledName, spelledItems, comingAfter, comingAfterAll, callsKnown}
 use Rattle.meaning.specs.Instructions.{Site}
@@ -27,7 +27,7 @@ module _ (table : Table) (shape : Shape) (sites : List (Named Site)) (bound : Bi
     aPart : {x : Name} {e : Expression} {w w₁ : Stand} {later : List Name} →
         Move shape l (standing .remaining) w (passage shape x w) (lookup x (bound .parts)) later →
         Sound e (passage shape x w .after) w₁ → Sound (thenPart x e) w w₁
-    aCall : {place : ℕ} {n : Name} {a e : Expression} {w w₁ w₂ : Stand} → T (either (isEmission n) (ltb 0 (numberOf table n))) →
+    aCall : {place : ℕ} {n : Name} {a e : Expression} {w w₁ w₂ : Stand} → T (isKnown table n) →
         Sound a w w₁ → Sound e w₁ w₂ → Sound (thenCall place n a e) w w₂
 
   -- with the e-variables that it leaves for what comes after it
@@ -53,7 +53,7 @@ module _ (table : Table) (shape : Shape) (sites : List (Named Site)) (bound : Bi
       let r = sounds e (passage shape x w .after) later spelled (rw (m .coming) (c .second)) calls in
       record { after = r .after; sound = aPart m (r .sound); coming = r .coming }
   sounds (thenCall place n a e) w later spelled coming calls =
-      let known = both-pair (either (isEmission n) (ltb 0 (numberOf table n))) (both (callsKnown table a) (callsKnown table e)) calls in
+      let known = both-pair (isKnown table n) (both (callsKnown table a) (callsKnown table e)) calls in
       let named = both-right (both (spelledName n) (not (isPredicate n))) (both (spelledItems (namesIn sites) a) (spelledItems (namesIn sites) e)) spelled in
       let p = both-pair (spelledItems (namesIn sites) a) (spelledItems (namesIn sites) e) named in
       let k = both-pair (callsKnown table a) (callsKnown table e) (known .1) in

@@ -2,16 +2,16 @@
 use Prim.Native.Nat.{ℕ, zero, suc, pred, _≤_, _<_}
 use native.Mathlib.Omega.{arith}
 use mathlib.Core.Path.{_≡_}
-use mathlib.Core.Bool.{Bool, true, false}
 use mathlib.Core.List.{[], _∷_, _++_}
 use mathlib.Core.Option.{Option, none, some}
 use lib.Dec.{T, leb, ltb, ltb→lt, leb→le}
 use lib.ListN.{length}
-use Rattle.meaning.specs.Choice.{Bytes, Name, either, pick, lookup, nth}
+use Rattle.meaning.specs.Choice.{Bytes, Name, either, lookup, nth}
 use Rattle.meaning.specs.Tree.{Expression, end, thenCharacter, thenSymbol, thenPart, thenCall, Function, Table}
-use Rattle.meaning.specs.Names.{isEmission, numberOf}
-use Rattle.meaning.specs.Outcome.{Outcome, done, stop, andThen, resultOf}
-use Rattle.meaning.specs.Rewriting.{Course, unbegun, tookFrom, emitting, tallied, Bindings, Fit, symbolText, partText, before, evaluate, callNamed, recovererFor, recovererAt, unfitted, rewritten, applied, apply, rewrite}
+use Rattle.meaning.specs.Angles.{Angled, sum, notAngles, outOfRange, angled}
+use Rattle.meaning.specs.Names.{numberOf, Calling, asEmission, asAngles, asFunction, callingOf, builtIn, isKnown}
+use Rattle.meaning.specs.Outcome.{Outcome, done, stop, andThen, resultOf, computed}
+use Rattle.meaning.specs.Rewriting.{Course, unbegun, tookFrom, tallied, Bindings, Fit, symbolText, partText, before, evaluate, callNamed, recovererFor, recovererAt, unfitted, rewritten, applied, apply, rewrite, calledAs}
 use Rattle.meaning.specs.Allowed.{allowed, callsKnown, maxFunctions}
 use Rattle.meaning.specs.Matching.{Choice}
 use Rattle.meaning.proofs.laws.Packable.{All, nil, cons}
@@ -42,7 +42,7 @@ module _ (table : Table) (ok : T (allowed table)) where
   few = let h : T (leb (length table) maxFunctions) = search (both-left, both-right) depth 8 in leb→le _ _ h
 
   module _ (call : Name → Bytes → Course → Outcome Bytes Course) (bound : Bindings)
-      (counted : (n : Name) (text : Bytes) (t : Course) → T (either (isEmission n) (ltb 0 (numberOf table n))) → Counted t → StaysCounted (call n text t)) where
+      (counted : (n : Name) (text : Bytes) (t : Course) → T (isKnown table n) → Counted t → StaysCounted (call n text t)) where
     evaluate-counted : (e : Expression) (t : Course) → T (callsKnown table e) → Counted t → StaysCounted (evaluate call bound e t)
     unfolding evaluate callsKnown
     evaluate-counted end t known c = c
@@ -52,7 +52,7 @@ module _ (table : Table) (ok : T (allowed table)) where
     evaluate-counted (thenPart x e) t known c =
         before-counted (partText (lookup x (bound .parts))) (evaluate call bound e t) (evaluate-counted e t known c)
     evaluate-counted (thenCall place n a e) t known c =
-        let k = both-pair (either (isEmission n) (ltb 0 (numberOf table n))) _ known in
+        let k = both-pair (isKnown table n) _ known in
         let p = both-pair (callsKnown table a) (callsKnown table e) (k .1) in
         then-counted (evaluate call bound a t) _ (evaluate-counted a t (p .0) c)
         (λ text t₁ c₁. then-counted (call n text t₁) _ (counted n text t₁ (k .0) c₁)
@@ -60,10 +60,16 @@ module _ (table : Table) (ok : T (allowed table)) where
 
   module _ (apply₁ : ℕ → Bytes → Course → Outcome Bytes Course)
       (counted : (f : ℕ) (text : Bytes) (t : Course) → HasCount f → Counted t → StaysCounted (apply₁ f text t)) where
-    called-counted : (emits? : Bool) (n : Name) (text : Bytes) (t : Course) → T (either emits? (ltb 0 (numberOf table n))) → Counted t →
-        StaysCounted (pick emits? (done [] (emitting n text t)) (apply₁ (numberOf table n) text t))
-    called-counted true n text t known c = c
-    called-counted false n text t known c =
+    computed-counted : (a : Angled) (t : Course) → Counted t → StaysCounted (computed a t)
+    computed-counted (sum given) t c = c
+    computed-counted notAngles t c = c
+    computed-counted outOfRange t c = c
+
+    called-counted : (how : Calling) (n : Name) (text : Bytes) (t : Course) → T (either (builtIn how) (ltb 0 (numberOf table n))) → Counted t →
+        StaysCounted (calledAs how n text t (apply₁ (numberOf table n) text t))
+    called-counted asEmission n text t known c = c
+    called-counted (asAngles op) n text t known c = computed-counted (angled op text) t c
+    called-counted asFunction n text t known c =
         counted (numberOf table n) text t (omega (arith, ltb→lt 0 (numberOf table n) known, number-low 0 table n, few)) c
 
     recoverer-counted : (r f : ℕ) (text : Bytes) (t : Course) → r ≤ length table → Counted t → StaysCounted (unfitted apply₁ r f text t)
@@ -78,7 +84,7 @@ module _ (table : Table) (ok : T (allowed table)) where
         Chosen table text (recovererAt table f) choice fit → Counted t → StaysCounted (rewritten table apply₁ f text fit t)
     rewritten-counted f text t nowhere c = recoverer-counted (recovererAt table f) f text t (recoverer-at (nth (pred f) table)) c
     rewritten-counted f text t (here {s} {bound} a fits) c =
-        evaluate-counted (callNamed table apply₁) bound (λ n text t. called-counted (isEmission n) n text t) (s .expression) t (a .calls) c
+        evaluate-counted (callNamed table apply₁) bound (λ n text t. called-counted (callingOf n) n text t) (s .expression) t (a .calls) c
 
     applied-counted : (left f : ℕ) (text : Bytes) (t : Course) → HasCount f → Counted t → StaysCounted (applied table apply₁ f text t (tookFrom left f t))
     applied-counted zero f text t h c = c

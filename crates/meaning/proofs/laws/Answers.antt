@@ -1,21 +1,23 @@
--- Rewriting ends done, or with 11 and the function that no sentence fits, or with 12 and function 0.
+-- Rewriting ends done, or with 11 and the function that no sentence fits, or with 12, 20 or 21 and function 0.
 use mathlib.Core.Path.{_≡_, refl}
 use mathlib.Core.List.{[], _∷_, _++_}
 use mathlib.Core.Option.{Option, none, some}
 use Prim.Native.Nat.{ℕ, zero, suc}
 use Rattle.meaning.specs.Choice.{Bytes, Name, lookup}
-use Rattle.meaning.specs.Answers.{finished, noSentenceFits, allowanceSpent}
+use Rattle.meaning.specs.Answers.{finished, noSentenceFits, allowanceSpent, argumentNotAngles, angleOutOfRange}
 use Rattle.meaning.specs.Tree.{Expression, end, thenCharacter, thenSymbol, thenPart, thenCall, Table}
-use Rattle.meaning.specs.Names.{isEmission, numberOf}
-use Rattle.meaning.specs.Outcome.{Outcome, done, stop, andThen, resultOf}
-use Rattle.meaning.specs.Rewriting.{Course, unbegun, takeStep, emitting, tallied, Bindings, Fit, symbolText, partText, before, evaluate, functionAt, choose, callNamed, recovererAt, unfitted as unfittedAt, rewritten, applied, apply, rewrite}
-use Rattle.meaning.proofs.laws.Choosing.{of-either}
+use Rattle.meaning.specs.Angles.{Angled, sum, notAngles, outOfRange, angled}
+use Rattle.meaning.specs.Names.{Calling, asEmission, asAngles, asFunction, callingOf, numberOf}
+use Rattle.meaning.specs.Outcome.{Outcome, done, stop, andThen, computed, resultOf}
+use Rattle.meaning.specs.Rewriting.{Course, unbegun, takeStep, tallied, Bindings, Fit, symbolText, partText, before, evaluate, functionAt, choose, calledAs, callNamed, recovererAt, unfitted as unfittedAt, rewritten, applied, apply, rewrite}
 
 -- an answer with its function number
 pub data Ends (answer function : ℕ) : Type 0 where
   ended : answer ≡ finished → function ≡ 0 → Ends answer function
   unfitted : answer ≡ noSentenceFits → Ends answer function
   spent : answer ≡ allowanceSpent → function ≡ 0 → Ends answer function
+  misformed : answer ≡ argumentNotAngles → function ≡ 0 → Ends answer function
+  past : answer ≡ angleOutOfRange → function ≡ 0 → Ends answer function
 
 -- what stops, stops so
 abbrev pub StopsSo : {A L : Type 0} → (ℕ → ℕ → Type 0) → Outcome A L → Type 0
@@ -45,6 +47,16 @@ module _ (call : Name → Bytes → Course → Outcome Bytes Course) (plain : (n
       (λ text t₁. then-stops Ends (call n text t₁) (λ given t₂. before given (evaluate call bound e t₂)) (plain n text t₁)
       (λ given t₂. before-plain given (evaluate call bound e t₂) (evaluate-plain e t₂)))
 
+computed-plain : (a : Angled) (t : Course) → Plain (computed a t)
+computed-plain (sum text) t = tt
+computed-plain notAngles t = misformed refl refl
+computed-plain outOfRange t = past refl refl
+
+as-plain : (c : Calling) (n : Name) (text : Bytes) (t : Course) (o : Outcome Bytes Course) → Plain o → Plain (calledAs c n text t o)
+as-plain asEmission n text t o p = tt
+as-plain (asAngles op) n text t o p = computed-plain (angled op text) t
+as-plain asFunction n text t o p = p
+
 module _ (table : Table) (apply₁ : ℕ → Bytes → Course → Outcome Bytes Course) (plain : (number : ℕ) (text : Bytes) (t : Course) → Plain (apply₁ number text t)) where
   unfitted-plain : (r number : ℕ) (text : Bytes) (t : Course) → Plain (unfittedAt apply₁ r number text t)
   unfitted-plain zero number text t = unfitted refl
@@ -54,7 +66,7 @@ module _ (table : Table) (apply₁ : ℕ → Bytes → Course → Outcome Bytes 
   rewritten-plain number text none t = unfitted-plain (recovererAt table number) number text t
   rewritten-plain number text (some f) t =
       evaluate-plain (callNamed table apply₁)
-      (λ n text t₁. of-either Plain (isEmission n) (done [] (emitting n text t₁)) (apply₁ (numberOf table n) text t₁) tt (plain (numberOf table n) text t₁))
+      (λ n text t₁. as-plain (callingOf n) n text t₁ (apply₁ (numberOf table n) text t₁) (plain (numberOf table n) text t₁))
       (f .bindings) (f .sentence .expression) t
 
   applied-plain : (number : ℕ) (text : Bytes) (t : Course) (paid : Option Course) → Plain (applied table apply₁ number text t paid)

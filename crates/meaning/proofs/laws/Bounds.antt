@@ -6,7 +6,7 @@ use Prim.Native.Nat.{ℕ, suc, _+_, _*_, _≤_}
 use native.Mathlib.Omega.{arith}
 use lib.ListN.{length, length-append, length-map}
 use Rattle.meaning.specs.Choice.{Name}
-use Rattle.meaning.specs.Instructions.{Test, Store, Action, go, select, out, outCharacter, outValue, beginSequence, useSequence, call, tailCall, emission, unknownAction, Sentences, noMore, sentence, unknownSentence, Code}
+use Rattle.meaning.specs.Instructions.{Test, Store, Action, go, select, out, outCharacter, outValue, beginSequence, useSequence, call, tailCall, emission, compute, unknownAction, Sentences, noMore, sentence, unknownSentence, Code}
 use Rattle.meaning.specs.Packing.{actionWords, packActions, bodyWords, packSentences, packFunctions, placesFrom, pack}
 use Rattle.meaning.proofs.laws.Packing.{places-length}
 
@@ -23,6 +23,7 @@ nameOf useSequence = []
 nameOf (call f) = []
 nameOf (tailCall f) = []
 nameOf (emission n) = n
+nameOf (compute op) = []
 nameOf unknownAction = []
 
 -- an action is one word, and an emission's name besides; a test and a store are one word each, `testWord` and `storeWord`
@@ -37,6 +38,7 @@ action-length useSequence = refl
 action-length (call f) = refl
 action-length (tailCall f) = refl
 action-length (emission n) = omega arith
+action-length (compute op) = refl
 action-length unknownAction = refl
 
 unfoldable pub actionsLength : List Action → ℕ

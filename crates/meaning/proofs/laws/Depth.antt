@@ -3,15 +3,15 @@
 use Prim.Native.Nat.{ℕ, zero, suc, _+_, _≤_}
 use native.Mathlib.Omega.{arith}
 use mathlib.Core.Path.{_≡_, refl, sym}
-use mathlib.Core.Bool.{Bool, true, false}
 use mathlib.Core.List.{List, [], _∷_}
 use mathlib.Core.Option.{Option, none, some}
 use lib.ListN.{length}
-use Rattle.meaning.specs.Choice.{Bytes, Name, pick, lookup}
-use Rattle.meaning.specs.Outcome.{Tally, fresh, counted, pay, emitted, Outcome, done, stop, andThen}
+use Rattle.meaning.specs.Choice.{Bytes, Name, lookup}
+use Rattle.meaning.specs.Outcome.{Tally, fresh, counted, pay, emitted, Outcome, done, stop, andThen, computed}
 use Rattle.meaning.specs.Tree.{Expression, end, thenCharacter, thenSymbol, thenPart, thenCall, Table}
-use Rattle.meaning.specs.Names.{isEmission, numberOf}
-use Rattle.meaning.specs.Rewriting.{Course, unbegun, takeStep, emitting, tallyOf, Bindings, symbolText, partText, before, evaluate, Fit, choose, functionAt, callNamed, recovererAt, unfitted, rewritten, applied, apply}
+use Rattle.meaning.specs.Angles.{Angled, sum, notAngles, outOfRange, angled}
+use Rattle.meaning.specs.Names.{numberOf, Calling, asEmission, asAngles, asFunction, callingOf}
+use Rattle.meaning.specs.Rewriting.{Course, unbegun, takeStep, tallyOf, Bindings, symbolText, partText, before, evaluate, Fit, choose, functionAt, callNamed, recovererAt, unfitted, rewritten, applied, apply, calledAs}
 use Rattle.meaning.specs.Instructions.{Code}
 use Rattle.meaning.specs.Machine.{Noted, onward, halt, Watch, Ledger, Stacks, withTally, afterNote, wherePayable, ranPaid, enter}
 use Rattle.meaning.specs.Runs.{loaded, from}
@@ -189,13 +189,19 @@ module _ (depth depth′ : ℕ) (call call′ : Name → Bytes → Course → Ou
       (λ given t₂ p₂. same-before given t₂ _ _ (evaluate-alike e t₂ (enough-fewer p₂ (enough-fewer p₁ h)))))
 
 module _ (depth depth′ : ℕ) (table : Table) (apply apply′ : ℕ → Bytes → Course → Outcome Bytes Course) (alike : AlikeCalls depth depth′ apply apply′) where
-  picked : (b : Bool) (n : Name) (text : Bytes) (t : Course) (o o′ : Outcome Bytes Course) → Same tallyOf (tallyOf t) o o′ →
-      Same tallyOf (tallyOf t) (pick b (done [] (emitting n text t)) o) (pick b (done [] (emitting n text t)) o′)
-  picked true n text t o o′ p = record { same = refl; spent = omega arith }
-  picked false n text t o o′ p = p
+  as-alike : (c : Calling) (n : Name) (text : Bytes) (t : Course) (o o′ : Outcome Bytes Course) → Same tallyOf (tallyOf t) o o′ →
+      Same tallyOf (tallyOf t) (calledAs c n text t o) (calledAs c n text t o′)
+  as-alike asEmission n text t o o′ p = record { same = refl; spent = omega arith }
+  as-alike (asAngles op) n text t o o′ p = computed-alike (angled op text)
+    where
+      computed-alike : (a : Angled) → Same tallyOf (tallyOf t) (computed a t) (computed a t)
+      computed-alike (sum given) = unmoved
+      computed-alike notAngles = unmoved
+      computed-alike outOfRange = unmoved
+  as-alike asFunction n text t o o′ p = p
 
   called-alike : AlikeCalls depth depth′ (callNamed table apply) (callNamed table apply′)
-  called-alike n text t h = picked (isEmission n) n text t _ _ (alike (numberOf table n) text t h)
+  called-alike n text t h = as-alike (callingOf n) n text t _ _ (alike (numberOf table n) text t h)
 
   unfitted-alike : (r number : ℕ) (text : Bytes) (t : Course) → Enough depth depth′ (t .left) →
       Same tallyOf (tallyOf t) (unfitted apply r number text t) (unfitted apply′ r number text t)

@@ -14,7 +14,7 @@ use Rattle.meaning.specs.Machine.{Need, inCells, outCells, recordBytes, 
 use Rattle.meaning.specs.Runs.{Room, passes, answerTo, lent, loaded, from, textOf, runLent}
 use Rattle.meaning.proofs.laws.Answers.{StopsSo, then-stops}
 use Rattle.meaning.proofs.laws.Framing.{isFrames, codeCalls, choice-calls}
-use Rattle.meaning.proofs.laws.Related.{Own, unfitting, spent, unreadable, Computation, Closed, Enters, choiceFor, Nested, applies}
+use Rattle.meaning.proofs.laws.Related.{Own, unfitting, spent, unreadable, Computation, Closed, Enters, choiceFor, Nested, applies, misformed, past}
 
 -- the same room with so many frames
 abbrev pub withFrames : ℕ → Room → Room
@@ -92,6 +92,8 @@ own-fifteenless : (answer function : ℕ) → Own answer → Fifteenless answer 
 own-fifteenless answer function (unfitting e) h = omega arith
 own-fifteenless answer function (spent e) h = omega arith
 own-fifteenless answer function (unreadable e) h = omega arith
+own-fifteenless answer function (misformed e) h = omega arith
+own-fifteenless answer function (past e) h = omega arith
 
 need-fifteenless : (need : Need) → (T (isFrames need) → ⊥) → Fifteenless (answerTo need) 0
 need-fifteenless (inCells n) other h = omega arith

@@ -4,7 +4,7 @@ use mathlib.Core.Bool.{Bool, true, false}
 use mathlib.Core.List.{List, [], _∷_}
 use lib.Dec.{T}
 use Rattle.meaning.specs.Choice.{Bytes, either, nth}
-use Rattle.meaning.specs.Instructions.{Action, go, select, out, outCharacter, outValue, beginSequence, useSequence, call, tailCall, emission, unknownAction, Sentences, noMore, sentence, unknownSentence, Code}
+use Rattle.meaning.specs.Instructions.{Action, go, select, out, outCharacter, outValue, beginSequence, useSequence, call, tailCall, emission, unknownAction, Sentences, noMore, sentence, unknownSentence, Code, compute}
 use Rattle.meaning.specs.Matching.{Found, foundAt, foundNone, foundWrong, Choice, chosen, chosenNone, chosenWrong, choiceOf, place, chooseFrom}
 use Rattle.meaning.specs.Machine.{Need, inCells, outCells, recordBytes, frames, functionOf, codeAt}
 
@@ -19,6 +19,7 @@ isCall useSequence = false
 isCall (call f) = true
 isCall (tailCall f) = false
 isCall (emission n) = false
+isCall (compute op) = false
 isCall unknownAction = false
 
 unfoldable pub anyCall : List Action → Bool

@@ -18,7 +18,7 @@ use Rattle.meaning.specs.Runs.{answerTo, runLent}
 use Rattle.meaning.specs.Translation.{translate}
 use Rattle.meaning.specs.Packing.{Words, pack}
 use Rattle.meaning.specs.Leaving.{Cells, Leaving, refused, left, roomOf, leaving}
-use Rattle.meaning.proofs.laws.Answers.{Ends, ended, unfitted, spent, rewrite-ends}
+use Rattle.meaning.proofs.laws.Answers.{Ends, ended, unfitted, spent, misformed, past, rewrite-ends}
 use Rattle.meaning.proofs.laws.Translated.{unpacked}
 
 -- any answer but one
@@ -32,6 +32,8 @@ ends-known : (answer function : ℕ) → Ends answer function → Known answer
 ends-known answer function (ended e f) h = omega arith
 ends-known answer function (unfitted e) h = omega arith
 ends-known answer function (spent e f) h = omega arith
+ends-known answer function (misformed e f) h = omega arith
+ends-known answer function (past e f) h = omega arith
 
 need-known : (need : Need) → Known (answerTo need)
 need-known (inCells n) h = omega arith

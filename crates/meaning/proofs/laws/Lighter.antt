@@ -13,15 +13,16 @@ use lib.Seq.{take-append-le, drop-append-le, length-take-le}
 use borrow.Author.Tests.{le-leb, leb-true, leb-false, lt-leb}
 use Rattle.meaning.specs.Choice.{Bytes, Name, Named, both, guard, nth}
 use Rattle.meaning.specs.Tree.{Expression, end, thenCharacter, thenSymbol, thenPart, thenCall, Sentence, Table}
+use Rattle.meaning.specs.Angles.{Angled, sum, notAngles, outOfRange, angled}
 use Rattle.meaning.specs.Names.{numberOf, recovererOf}
 use Rattle.meaning.specs.Allowed.{allowed}
 use Rattle.meaning.specs.Answers.{noInstruction}
-use Rattle.meaning.specs.Outcome.{Tally, fresh, pay, emitted, emittedLine, done, stop, andThen, Result, resultOf}
-use Rattle.meaning.specs.Instructions.{Site, Span, Action, go, select, out, outCharacter, outValue, beginSequence, useSequence, call, tailCall, emission, unknownAction, Metric, Test, Store, Sentences, noMore, sentence, Code}
+use Rattle.meaning.specs.Outcome.{Tally, fresh, pay, emitted, emittedLine, done, stop, andThen, Result, resultOf, computed}
+use Rattle.meaning.specs.Instructions.{Site, Span, Action, go, select, out, outCharacter, outValue, beginSequence, useSequence, call, tailCall, emission, unknownAction, Metric, Test, Store, Sentences, noMore, sentence, Code, compute}
 use Rattle.meaning.specs.Matching.{Found, foundAt, foundNone, foundWrong, place, choiceOf, Choice, chosen, chosenNone, chosenWrong, chooseFrom, storedValues}
 use Rattle.meaning.specs.Machine.{Need, inCells, outCells, recordBytes, frames, onward, Watch, Ledger, Stacks, Local, Ran, Next, withTally, noting, whereThere, whereStored, whereOpened, wherePayable, maxOpened, spanOf, isDeclared, movedOn, withSelected, withOutput, withOpened, moved, afterField, returned, writing, perform, process, started, ranChoice, ranPaid, enter, functionOf, codeAt}
 use Rattle.meaning.specs.Runs.{Room, passes, Passed, firstPassed, endless, watching, loaded, from, textOf, markOf, passedFirst}
-use Rattle.meaning.specs.Translation.{Shape, shapeOf, testedShape, Stand, atStart, passage, restOf, nowhere, Manner, emits, replaces, nests, Level, outermost, inside, inTail, isEnd, mannerOf, levelIn, endsPattern, leftFor, whereLeft, argumentReady, calling, items, translatedSentences, translatedFunction, translate}
+use Rattle.meaning.specs.Translation.{Shape, shapeOf, testedShape, Stand, atStart, passage, restOf, nowhere, Manner, emits, replaces, nests, Level, outermost, inside, inTail, isEnd, mannerOf, levelIn, endsPattern, leftFor, whereLeft, argumentReady, calling, items, translatedSentences, translatedFunction, translate, computes}
 use Rattle.meaning.specs.Earlier.{earlierItems, earlierSentences, earlierFunction, earlier}
 use Rattle.meaning.proofs.laws.Known.{rewrite-known}
 use Rattle.meaning.proofs.laws.Room.{readFor, seenEndless, watched-endless}
@@ -112,6 +113,12 @@ module _ (A : Type 0) (step : Need → Tally → A → A) (Under : A → A → T
       paid t m₀ m u none = bothStop u
       paid t m₀ m u (some p) = r .each t m₀ m u
 
+  works-out : (n : ℕ) (a : Angled) (k₀ k : Bytes → Computation) → ((text : Bytes) → Less n (k₀ text) (k text)) →
+      Less n (λ g. andThen (computed a g) k₀) (λ g. andThen (computed a g) k)
+  works-out n (sum text) k₀ k r = r text
+  works-out n notAngles k₀ k r = record { each = λ t m₀ m u. bothStop u }
+  works-out n outOfRange k₀ k r = record { each = λ t m₀ m u. bothStop u }
+
   -- after a call out is no shorter
   chained : (n n′ : ℕ) (first₀ first : Computation) (k₀ k : Stacks → Computation) → Less n first₀ first →
       ((s : Stacks) → n ≤ length (s .output) → Less n′ (k₀ s) (k s)) →
@@ -181,6 +188,10 @@ module _ (A : Type 0) (step : Need → Tally → A → A) (Under : A → A → T
         (λ g. next₀ l (movedOn (s .selected) s) (withTally W (emitted n (take (s .selected) (s .input)) (g .tally)) g))
         (λ g. next l (movedOn (s .selected) s) (withTally W (emitted n (take (s .selected) (s .input)) (g .tally)) g))
         (record { each = λ t m₀ m u. r l (movedOn (s .selected) s) c .each (emitted n (take (s .selected) (s .input)) t) m₀ m u })
+    performs next₀ next r (compute op) l s c =
+        works-out base (angled op (take (s .selected) (s .input))) _ _
+        (λ text. noted base (λ t. outCells (length (s .output) + length text)) _ _
+        (r l (movedOn (s .selected) (withOutput (s .output ++ text) s)) (longer (s .output) text c)))
     performs next₀ next r unknownAction l s c = wrong base
 
     -- THE END OF A TAIL CALL WHOSE LAST PART STAYS
@@ -330,12 +341,14 @@ module _ (table : Table) (shape : Shape) (sites : List (Named Site)) where
   same-call : (m : Manner) (number : ℕ) (n : Name) (w : Stand) {xs ys : List Action} → Alike xs ys →
       Alike (calling shape m number n w xs) (calling shape m number n w ys)
   same-call emits number n w a = same-ready (same (emission n) a)
+  same-call (computes op) number n w a = same-ready (same (compute op) a)
   same-call replaces number n w a = same (go (restOf shape w)) (same-ready (same (tailCall number) nothing))
   same-call nests number n w a = same-ready (same (call number) a)
 
   argument-level : (m : Manner) (number : ℕ) (n : Name) (more : Stand → List Action) →
       Levels inside (levelIn m number) (λ w. calling shape m number n w (more w))
   argument-level emits number n more = within
+  argument-level (computes op) number n more = within
   argument-level replaces number n more = tail number (λ w. refl)
   argument-level nests number n more = within
 

@@ -7,11 +7,11 @@ use lib.ListN.{length, length-append}
 use Rattle.meaning.specs.Choice.{Name, every}
 use Rattle.meaning.specs.Tree.{Table}
 use Rattle.meaning.specs.Allowed.{isByte, allowed}
-use Rattle.meaning.specs.Instructions.{Test, look, compare, predicate, predicatePart, unknownTest, Store, store, unknownStore, Span, Action, go, select, out, outCharacter, outValue, beginSequence, useSequence, call, tailCall, emission, unknownAction, Metric, exactly, ends, middle, Sentences, Code}
+use Rattle.meaning.specs.Instructions.{Test, look, compare, predicate, predicatePart, unknownTest, Store, store, unknownStore, Span, Action, go, select, out, outCharacter, outValue, beginSequence, useSequence, call, tailCall, emission, compute, unknownAction, Metric, exactly, ends, middle, Sentences, Code}
 use Rattle.meaning.specs.Translation.{translate}
-use Rattle.meaning.specs.Packing.{word, testWord, storeWord, spanWord, actionWords, packActions, maxStored, metricWord, countsWord, packSentences, packFunctions, placesFrom, pack}
+use Rattle.meaning.specs.Packing.{word, operationNumber, testWord, storeWord, spanWord, actionWords, packActions, maxStored, metricWord, countsWord, packSentences, packFunctions, placesFrom, pack}
 use Rattle.meaning.proofs.laws.Passing.{every-head, every-tail}
-use Rattle.meaning.proofs.laws.Words.{register-below, class-below, truth-below, length-below}
+use Rattle.meaning.proofs.laws.Words.{register-below, class-below, truth-below, operation-below, length-below}
 use Rattle.meaning.proofs.laws.Packable.{All, nil, cons, FitsTest, FitsStore, FitsSpan, FitsAction, FitsMetric, FitsSentences, eachNone, eachMore, Packable, all-append, all-map}
 use Rattle.meaning.proofs.laws.Bounds.{functions-length, pack-length}
 use Rattle.meaning.proofs.laws.Translated.{numberLimit, translated-packable, translated-short}
@@ -66,6 +66,7 @@ module _ (limit : ℕ) (low : limit ≤ 2 ^ 24) where
   action-narrow (call n) f = one (called-narrow 12 n (omega arith) f)
   action-narrow (tailCall n) f = one (called-narrow 13 n (omega arith) f)
   action-narrow (emission n) f = cons (operand-narrow 14 (length n) (omega arith) (f .0)) (bytes-narrow n (f .1))
+  action-narrow (compute op) f = one (operand-narrow 21 (operationNumber op) (omega arith) (operation-below op))
   action-narrow unknownAction f = absurd f
 
   actions-narrow : {actions : List Action} → All (FitsAction limit) actions → All Narrow (packActions actions)

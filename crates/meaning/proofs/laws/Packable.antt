@@ -5,7 +5,7 @@ use lib.Dec.{T}
 use lib.ListN.{length}
 use Rattle.meaning.specs.Choice.{every}
 use Rattle.meaning.specs.Allowed.{isByte}
-use Rattle.meaning.specs.Instructions.{Site, Test, look, compare, predicate, predicatePart, unknownTest, Store, store, unknownStore, Span, Action, go, select, out, outCharacter, outValue, beginSequence, useSequence, call, tailCall, emission, unknownAction, Metric, exactly, ends, middle, Sentences, noMore, sentence, Code}
+use Rattle.meaning.specs.Instructions.{Site, Test, look, compare, predicate, predicatePart, unknownTest, Store, store, unknownStore, Span, Action, go, select, out, outCharacter, outValue, beginSequence, useSequence, call, tailCall, emission, compute, unknownAction, Metric, exactly, ends, middle, Sentences, noMore, sentence, Code}
 use Rattle.meaning.specs.Packing.{siteOffset, bodyWords, maxStored}
 
 -- every element has the property
@@ -42,6 +42,7 @@ FitsAction limit useSequence = Unit {0}
 FitsAction limit (call f) = f < limit
 FitsAction limit (tailCall f) = f < limit
 FitsAction limit (emission n) = (length n < 256) × T (every isByte n)
+FitsAction limit (compute op) = Unit {0}
 FitsAction limit unknownAction = ⊥
 
 abbrev pub FitsMetric : Metric → Type 0

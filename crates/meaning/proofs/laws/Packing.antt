@@ -12,10 +12,10 @@ use borrow.Author.Tests.{le-leb, lt-ltb}
 use Rattle.meaning.specs.Choice.{every}
 use Rattle.meaning.specs.Classes.{classNumber}
 use Rattle.meaning.specs.Allowed.{isByte}
-use Rattle.meaning.specs.Instructions.{Test, look, compare, predicate, predicatePart, unknownTest, Store, store, unknownStore, Span, Action, go, select, out, outCharacter, outValue, beginSequence, useSequence, call, tailCall, emission, unknownAction, Metric, exactly, ends, middle, Sentences, noMore, sentence, Code}
-use Rattle.meaning.specs.Packing.{Words, word, numberIn, firstIn, secondIn, thirdIn, siteRegister, siteOffset, lengthNumber, lengthOf, spanAction, truthBit, partOperand, testWord, testOf, storeWord, storeOf, actionWords, actionOf, actionsEnd, packActions, emissionOf, unpackActions, metricWord, metricIn, sentencesEnd, endWord, bodyWords, countsWord, packSentences, testsIn, storesIn, bodyIn, unpackTests, unpackStores, maxStored, bodyOf, unpackSentences, packFunctions, placesFrom, pack, functionsAt, soundTable, unpack}
+use Rattle.meaning.specs.Instructions.{Test, look, compare, predicate, predicatePart, unknownTest, Store, store, unknownStore, Span, Action, go, select, out, outCharacter, outValue, beginSequence, useSequence, call, tailCall, emission, compute, unknownAction, Metric, exactly, ends, middle, Sentences, noMore, sentence, Code}
+use Rattle.meaning.specs.Packing.{Words, word, numberIn, firstIn, secondIn, thirdIn, siteRegister, siteOffset, lengthNumber, lengthOf, spanAction, truthBit, operationNumber, partOperand, testWord, testOf, storeWord, storeOf, actionWords, actionOf, actionsEnd, packActions, emissionOf, unpackActions, metricWord, metricIn, sentencesEnd, endWord, bodyWords, countsWord, packSentences, testsIn, storesIn, bodyIn, unpackTests, unpackStores, maxStored, bodyOf, unpackSentences, packFunctions, placesFrom, pack, functionsAt, soundTable, unpack}
 use Rattle.meaning.proofs.laws.Passing.{passed}
-use Rattle.meaning.proofs.laws.Words.{word-holds, register-below, class-below, truth-below, length-below, look-held, compare-held, predicate-held, predicate-part-held, store-held, length-back, called-number, called-function}
+use Rattle.meaning.proofs.laws.Words.{word-holds, register-below, class-below, truth-below, operation-back, operation-below, length-below, look-held, compare-held, predicate-held, predicate-part-held, store-held, length-back, called-number, called-function}
 use Rattle.meaning.proofs.laws.Packable.{All, nil, cons, FitsTest, FitsStore, FitsSpan, FitsAction, FitsMetric, FitsSentence, FitsSentences, eachNone, eachMore, Packable}
 
 -- TESTS AND STORES
@@ -109,6 +109,9 @@ module _ (limit : ℕ) where
   action-first (emission n) ws f =
       let holds = word-holds 14 (length n) 0 0 (omega arith) (f .0) (omega arith) (omega arith) in
       emission-first _ n ws (holds .number) (holds .first) (f .1)
+  action-first (compute op) ws f =
+      let holds = word-holds 21 (operationNumber op) 0 0 (omega arith) (operation-below op) (omega arith) (omega arith) in
+      single 21 refl refl _ ws (compute op) (holds .number) (rw (holds .number, holds .first, operation-back op))
   action-first unknownAction ws f = absurd f
 
   actions-back : {actions : List Action} → All (FitsAction limit) actions → (rest : Words) → unpackActions 0 (packActions actions ++ rest) ≡ actions

@@ -9,18 +9,21 @@ use mathlib.Core.Option.{Option, none, some}
 use lib.Dec.{T, leb, ltb}
 use lib.ListN.{length, take, drop}
 use Rattle.meaning.specs.Choice.{Bytes, Name, nth}
-use Rattle.meaning.specs.Answers.{noSentenceFits, allowanceSpent, noInstruction}
-use Rattle.meaning.specs.Outcome.{Tally, pay, emitted, emittedLine, done, stop, andThen}
-use Rattle.meaning.specs.Instructions.{Action, go, select, out, outCharacter, outValue, beginSequence, useSequence, call, tailCall, emission, unknownAction, Code}
+use Rattle.meaning.specs.Angles.{Angled, sum, notAngles, outOfRange, angled}
+use Rattle.meaning.specs.Answers.{noSentenceFits, allowanceSpent, noInstruction, argumentNotAngles, angleOutOfRange}
+use Rattle.meaning.specs.Outcome.{Tally, pay, emitted, emittedLine, done, stop, andThen, computed}
+use Rattle.meaning.specs.Instructions.{Action, go, select, out, outCharacter, outValue, beginSequence, useSequence, call, tailCall, emission, compute, unknownAction, Code}
 use Rattle.meaning.specs.Matching.{Choice, chosen, chosenNone, chosenWrong, chooseFrom, storedValues}
 use Rattle.meaning.specs.Machine.{Need, inCells, outCells, recordBytes, frames, Watch, Ledger, Stacks, Local, Ran, Next, withTally, noting, whereThere, whereStored, whereOpened, wherePayable, maxOpened, spanOf, isDeclared, movedOn, withSelected, withOutput, withOpened, moved, afterField, returned, writing, perform, process, started, ranChoice, ranPaid, enter, codeAt}
 use Rattle.meaning.proofs.laws.Framing.{isFrames, isCall, anyCall, choiceCalls, either-left, either-right}
 
--- the answers that a run gives whatever is lent: 11, 12 and 18
+-- the answers that a run gives whatever is lent: 11, 12, 18, 20 and 21
 pub data Own (answer : ℕ) : Type 0 where
   unfitting : answer ≡ noSentenceFits → Own answer
   spent : answer ≡ allowanceSpent → Own answer
   unreadable : answer ≡ noInstruction → Own answer
+  misformed : answer ≡ argumentNotAngles → Own answer
+  past : answer ≡ angleOutOfRange → Own answer
 
 -- a computation under a watch
 abbrev pub Computation : Watch → Type 0
@@ -79,6 +82,12 @@ module _ (W U : Watch) (Nesting : Type 0) (R : Relation W U) (closed : Closed W 
   openedAt [] k k′ related = wrong
   openedAt (r ∷ more) k k′ related = related r more
 
+  worksOut : (a : Angled) (k : Bytes → Computation W) (k′ : Bytes → Computation U) → ((text : Bytes) → R (k text) (k′ text)) →
+      R (λ g. andThen (computed a g) k) (λ g. andThen (computed a g) k′)
+  worksOut (sum text) k k′ r = r text
+  worksOut notAngles k k′ r = closed .ends argumentNotAngles 0 (misformed refl)
+  worksOut outOfRange k k′ r = closed .ends angleOutOfRange 0 (past refl)
+
   module _ (code : Code) (e : Enters W) (e′ : Enters U) (entering : (frame f : ℕ) (s : Stacks) → R (e frame f s) (e′ frame f s)) where
     writes : (b : ℕ) (s : Stacks) (k : Stacks → Computation W) (k′ : Stacks → Computation U) → ((s : Stacks) → R (k s) (k′ s)) →
         R (λ g. writing W b s g k) (λ g. writing U b s g k′)
@@ -115,6 +124,10 @@ module _ (W U : Watch) (Nesting : Type 0) (R : Relation W U) (closed : Closed W 
     performs next next′ frame r (emission n) calls l s =
         closed .notes (λ t. recordBytes (length (t .emissions) + length (emittedLine n (take (s .selected) (s .input))))) (λ t h. absurd h) _ _
         (closed .emits n (take (s .selected) (s .input)) _ _ (r l (movedOn (s .selected) s)))
+    performs next next′ frame r (compute op) calls l s =
+        worksOut (angled op (take (s .selected) (s .input))) _ _
+        (λ text. closed .notes (λ t. outCells (length (s .output) + length text)) (λ t h. absurd h) _ _
+        (r l (movedOn (s .selected) (withOutput (s .output ++ text) s))))
     performs next next′ frame r unknownAction calls l s = wrong
 
     pub processes : (frame : ℕ) (actions : List Action) → (T (anyCall actions) → Nesting) → (l : Local) (s : Stacks) →

@@ -13,7 +13,7 @@ use Rattle.meaning.specs.Instructions.{Code}
 use Rattle.meaning.specs.Machine.{Need, inCells, outCells, recordBytes, frames, onward, halt, Watch, Ledger, Stacks, Ran, withTally, afterNote, noting, wherePayable, ranChoice, ranPaid, enter}
 use Rattle.meaning.specs.Runs.{Room, passes, answerTo, endless, lent, Passed, firstPassed, watching, loaded, from, textOf, markOf, runEndless, runLent, passedFirst}
 use Rattle.meaning.proofs.laws.Answers.{StopsSo, then-stops}
-use Rattle.meaning.proofs.laws.Related.{Own, unfitting, spent, unreadable, Computation, Closed, Enters, choiceFor, Paying, applies}
+use Rattle.meaning.proofs.laws.Related.{Own, unfitting, spent, unreadable, misformed, past, Computation, Closed, Enters, choiceFor, Paying, applies}
 
 -- a watch that lets every need pass
 abbrev pub passing : (A : Type 0) → (Need → Tally → A → A) → Watch
@@ -154,6 +154,8 @@ own-differs : {answer : ℕ} → Own answer → ForRoom answer → ⊥
 own-differs (unfitting e) h = omega arith
 own-differs (spent e) h = omega arith
 own-differs (unreadable e) h = omega arith
+own-differs (misformed e) h = omega arith
+own-differs (past e) h = omega arith
 
 -- no run without end answers for want of room
 answers-differ : (o : Ran endless) → OwnStop o → ForRoom (resultOf (textOf o) .answer) → ⊥

@@ -8,12 +8,13 @@ use native.Mathlib.Omega.{arith}
 use lib.Dec.{T, leb→le, ltb→lt}
 use lib.ListN.{length, length-append, length-map}
 use Rattle.meaning.specs.Choice.{Name, Named, guard, both, every, sameBytes, lookup}
+use Rattle.meaning.specs.Angles.{Operation}
 use Rattle.meaning.specs.Tree.{Letter, Subject, ofSymbol, ofPart, Condition, Expression, end, thenCharacter, thenSymbol, thenPart, thenCall, Sentence, Function, Table}
 use Rattle.meaning.specs.Classes.{Class}
 use Rattle.meaning.specs.Names.{numberFrom, numberOf, recoverPrefix, isRecovering, recovererOf}
 use Rattle.meaning.specs.Allowed.{isByte, member, spelledName, spelledElement, lettersIn, symbolsOf, maxLetters, maxSymbols, maxConditions, maxItems, maxName, itemsIn, spelledItems, allowedSentence, allowedFunction, allowed, sentencesIn, maxFunctions, maxSentences}
-use Rattle.meaning.specs.Instructions.{Site, Test, Store, store, Span, Action, go, select, out, outCharacter, outValue, beginSequence, useSequence, call, tailCall, emission, Metric, Code}
-use Rattle.meaning.specs.Translation.{Shape, fixed, open₁, open₂, shapeOf, metricOf, Tested, testedShape, siteOr, Bounds, boundsOf, subjectTest, conditionTest, testsOf, storesOf, valueFrom, valueNumber, Stand, atStart, afterFirst, afterSecond, nowhere, Passage, passageFirst, gapToSecond, passageSecond, passage, restOf, Manner, emits, replaces, nests, Level, outermost, inside, inTail, isEnd, mannerOf, levelIn, endsPattern, leftFor, whereLeft, argumentReady, calling, items, passesRest, actionsOf, translatedSentences, translatedFunction, translate}
+use Rattle.meaning.specs.Instructions.{Site, Test, Store, store, Span, Action, go, select, out, outCharacter, outValue, beginSequence, useSequence, call, tailCall, emission, Metric, Code, compute}
+use Rattle.meaning.specs.Translation.{Shape, fixed, open₁, open₂, shapeOf, metricOf, Tested, testedShape, siteOr, Bounds, boundsOf, subjectTest, conditionTest, testsOf, storesOf, valueFrom, valueNumber, Stand, atStart, afterFirst, afterSecond, nowhere, Passage, passageFirst, gapToSecond, passageSecond, passage, restOf, Manner, emits, replaces, nests, Level, outermost, inside, inTail, isEnd, mannerOf, levelIn, endsPattern, leftFor, whereLeft, argumentReady, calling, items, passesRest, actionsOf, translatedSentences, translatedFunction, translate, computes}
 use Rattle.meaning.specs.Packing.{Words, pack, unpack}
 use Rattle.meaning.proofs.laws.Choosing.{of-either}
 use Rattle.meaning.proofs.laws.Passing.{both-left, both-right, every-head, every-tail}
@@ -128,6 +129,7 @@ pub record Kinds (table : Table) (P : Action → Type 0) : Type 0 where
   pub calls : (n : Name) → P (call (numberOf table n))
   pub tailCalls : (n : Name) → P (tailCall (numberOf table n))
   pub emissions : (n : Name) → T (spelledName n) → P (emission n)
+  pub computations : (op : Operation) → P (compute op)
 
 module _ (table : Table) (P : Action → Type 0) (kinds : Kinds table P) (shape : Shape) (sites : List (Named Site)) (short : Short shape)
     (few : length sites < 256) where
@@ -136,6 +138,7 @@ module _ (table : Table) (P : Action → Type 0) (kinds : Kinds table P) (shape 
 
   calling-all : (m : Manner) (n : Name) (w : Stand) (more : List Action) → T (spelledName n) → All P more → All P (calling shape m (numberOf table n) n w more)
   calling-all emits n w more t a = ready (cons (kinds .emissions n t) a)
+  calling-all (computes op) n w more t a = ready (cons (kinds .computations op) a)
   calling-all replaces n w more t a = cons (kinds .goes (restOf shape w) (rest-fits shape w short)) (ready (cons (kinds .tailCalls n) nil))
   calling-all nests n w more t a = ready (cons (kinds .calls n) a)
 
@@ -150,6 +153,7 @@ module _ (table : Table) (P : Action → Type 0) (kinds : Kinds table P) (shape 
 
   tailed-in : (m : Manner) (n : Name) → Tailed (levelIn m (numberOf table n))
   tailed-in emits n = tt
+  tailed-in (computes op) n = tt
   tailed-in replaces n = kinds .tailCalls n
   tailed-in nests n = tt
 
@@ -202,6 +206,7 @@ fitting limit table numbers =
       calls = numbers;
       tailCalls = numbers;
       emissions = λ n t. (omega (arith, name-short n t), name-bytes n t);
+      computations = λ op. tt;
     }
 
 -- HOW MANY WORDS
@@ -215,6 +220,7 @@ module _ (table : Table) (shape : Shape) (sites : List (Named Site)) where
       actionsLength (calling shape m number n w more) ≤ 27 + actionsLength more
   unfolding actionsLength
   calling-length emits number n w more t = omega (arith, name-short n t)
+  calling-length (computes op) number n w more t = omega arith
   calling-length replaces number n w more t = omega arith
   calling-length nests number n w more t = omega arith
 
@@ -415,6 +421,7 @@ short-names =
       calls = λ n. omega arith;
       tailCalls = λ n. omega arith;
       emissions = name-short;
+      computations = λ op. omega arith;
     }
 
 -- functions are numbered from 1, at most 64

@@ -5,9 +5,10 @@ use mathlib.Core.Option.{some}
 use Prim.Native.Nat.{ℕ, _+_, _*_, _/_, _%_, _<_}
 use native.Mathlib.Omega.{arith}
 use lib.Dec.{eqb}
+use Rattle.meaning.specs.Angles.{Operation, plus, minus}
 use Rattle.meaning.specs.Classes.{Class, digit, upper, lower, alphabetic, blank, classNumber}
 use Rattle.meaning.specs.Instructions.{Site, fromStart, fromEnd, fromPlace, look, compare, predicate, predicatePart, store, Length, null, whole, left, right}
-use Rattle.meaning.specs.Packing.{word, numberIn, firstIn, secondIn, thirdIn, siteRegister, siteOffset, siteOf, lengthNumber, lengthOf, classOf, truthBit, partOperand, testOf, storeOf}
+use Rattle.meaning.specs.Packing.{word, numberIn, firstIn, secondIn, thirdIn, siteRegister, siteOffset, siteOf, lengthNumber, lengthOf, classOf, truthBit, operationNumber, operationOf, partOperand, testOf, storeOf}
 
 -- THE FOUR BYTES
 
@@ -67,6 +68,14 @@ truth-back false = refl
 pub truth-below : (e : Bool) → truthBit e < 2
 truth-below true = omega arith
 truth-below false = omega arith
+
+pub operation-back : (op : Operation) → operationOf (operationNumber op) ≡ some op
+operation-back plus = refl
+operation-back minus = refl
+
+pub operation-below : (op : Operation) → operationNumber op < 256
+operation-below plus = omega arith
+operation-below minus = omega arith
 
 -- two registers, or a register and a truth value, in one byte
 low-part : (s : Site) (m : ℕ) → (siteRegister s + 4 * m) % 4 ≡ siteRegister s

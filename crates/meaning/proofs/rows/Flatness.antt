@@ -36,6 +36,10 @@ rows =
     -- emissions anywhere
     row "F{=<EmitA 'x'><F <EmitB>>}" 0 0 1 ∷
     row "F{=<EmitA <EmitB>>'x'}" 0 0 1 ∷
+    -- and angle calls
+    row "F{e1=<DmAdd e1>'x'}" 0 0 1 ∷
+    row "F{e1=<F <DmSub e1>>}" 0 0 1 ∷
+    row "F{e1=<DmAdd <F e1>>}" 19 13 0 ∷
     -- every sentence of every function, whether a start reaches it or not
     row "F{'a'=;=<F><F>}" 19 9 0 ∷
     row "F{=}G{=<G><G>}" 19 8 0 ∷

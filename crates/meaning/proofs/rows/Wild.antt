@@ -164,11 +164,13 @@ actionRows =
     -- a name byte over 255, and a name that the words do not hold
     wrong (actions (word 14 1 0 0 ∷ 256 ∷ [])) ∷
     wrong (actions (word 14 4 0 0 ∷ 65 ∷ [])) ∷
+    -- an angle call with an operand above 1
+    wrong (actions (word 21 2 0 0 ∷ [])) ∷
     -- after an emission, and in a called function
     stoppedWith 18 (97 ∷ []) 1 (65 ∷ 32 ∷ 10 ∷ []) (actions (word 14 1 0 0 ∷ 65 ∷ 0 ∷ [])) ∷
     stoppedWith 18 (97 ∷ []) 2 [] (2 ∷ 3 ∷ 8 ∷ 272 ∷ 131072 ∷ 524 ∷ 15 ∷ 19 ∷ 0 ∷ []) ∷ []
     -- numbers that are no action: among them would be OutS, PutC, PutV and Loop, which have none
-    ++ map (λ n. wrong (actions (n ∷ []))) (counting 0 5 ++ counting 16 240)
+    ++ map (λ n. wrong (actions (n ∷ []))) (counting 0 5 ++ counting 16 5 ++ counting 22 234)
 
 -- WHAT EACH INSTRUCTION DOES, in sentences for any field, on the text `ab`
 abbrev cellsOn : ℕ → Span

@@ -4,7 +4,8 @@ use mathlib.Core.Bool.{true, false}
 use mathlib.Core.List.{[], _∷_, map}
 use mathlib.Core.Option.{none, some}
 use Rattle.meaning.specs.Classes.{digit, upper, lower, alphabetic, blank}
-use Rattle.meaning.specs.Instructions.{fromStart, fromEnd, fromPlace, look, compare, predicate, predicatePart, unknownTest, store, unknownStore, null, whole, left, right, go, select, out, outCharacter, outValue, beginSequence, useSequence, call, tailCall, emission, unknownAction, exactly, ends, middle, noMore, sentence, unknownSentence}
+use Rattle.meaning.specs.Angles.{plus, minus}
+use Rattle.meaning.specs.Instructions.{fromStart, fromEnd, fromPlace, look, compare, predicate, predicatePart, unknownTest, store, unknownStore, null, whole, left, right, go, select, out, outCharacter, outValue, beginSequence, useSequence, call, tailCall, emission, compute, unknownAction, exactly, ends, middle, noMore, sentence, unknownSentence}
 use Rattle.meaning.specs.Translation.{span}
 use Rattle.meaning.specs.Packing.{word, testOf, storeOf, unpackActions, metricIn, countsWord, testsIn, storesIn, bodyIn, unpackSentences}
 use Rattle.meaning.proofs.rows.Computing.{computing}
@@ -43,10 +44,12 @@ actions :
     unpackActions 0
     (word 5 0 8 9 ∷ word 5 1 8 9 ∷ word 6 2 8 9 ∷ word 6 3 8 9 ∷ word 5 4 8 9 ∷
     word 7 1 1 1 ∷ word 8 97 1 1 ∷ word 9 15 1 1 ∷ word 10 1 1 1 ∷ word 11 1 1 1 ∷ word 12 3 2 1 ∷ word 13 1 0 0 ∷
-    word 14 2 1 1 ∷ 65 ∷ 255 ∷ word 14 1 0 0 ∷ 256 ∷ word 4 0 0 0 ∷ word 16 0 0 0 ∷ word 15 1 1 1 ∷ 7 ∷ [])
+    word 14 2 1 1 ∷ 65 ∷ 255 ∷ word 14 1 0 0 ∷ 256 ∷ word 21 0 1 1 ∷ 277 ∷ word 21 2 0 0 ∷ word 20 0 0 0 ∷ word 22 0 0 0 ∷ word 4 0 0 0 ∷
+    word 16 0 0 0 ∷ word 15 1 1 1 ∷ 7 ∷ [])
     ≡ go (span null 8 9) ∷ go (span whole 8 9) ∷ select (span left 8 9) ∷ select (span right 8 9) ∷ unknownAction
     ∷ out ∷ outCharacter 97 ∷ outValue 15 ∷ beginSequence ∷ useSequence ∷ call 66051 ∷ tailCall 1
-    ∷ emission (65 ∷ 255 ∷ []) ∷ unknownAction ∷ unknownAction ∷ unknownAction ∷ []
+    ∷ emission (65 ∷ 255 ∷ []) ∷ unknownAction ∷ compute plus ∷ compute minus ∷ unknownAction ∷ unknownAction ∷ unknownAction
+    ∷ unknownAction ∷ unknownAction ∷ []
 unfolding computing
 actions = refl
 

@@ -91,12 +91,17 @@ returns-8 c =
 
 returns-9 : tie.Need-returns-9
 returns-9 c =
+    let at-decode = (c .before .before .before .before .before .before .before) in
+    acts at-decode _ (c .before .before .before .before .before .subtract .given .1) _ _ refl (omega arith) _ _ (rw (c .before .before .compute .kept .1 .1 .1 .0)) (c .before .before .compute .ensures _ _ _)
+
+returns-10 : tie.Need-returns-10
+returns-10 c =
     let at-decode = (c .before .before .before .before) in
     rw (c .leave .ensures)
     (does-step _ _ (advance-leaves _ _ _ _ (acting at-decode .idle) (within at-decode) (acting at-decode .underway) (read at-decode _ (c .before .before .enum-told3 .given .1))))
 
-returns-10 : tie.Need-returns-10
-returns-10 c =
+returns-11 : tie.Need-returns-11
+returns-11 c =
     let at-decode = (c .before .before) in
     does-step _ _
     (advance-unknown _ _ _ _ (acting at-decode .idle) _ (acting at-decode .underway) (read at-decode _ (c .enum-told4 .given .1)) (stepped (g at-decode)) refl refl refl)
@@ -126,6 +131,8 @@ act-spec =
     (λ c. search needs)
     (λ c κs. search needs)
     (λ c. search needs)
+    (λ c κs. search needs)
+    (λ c. search needs)
     (λ c. search needs)
     returns-2
     (λ c. search needs)
@@ -142,4 +149,6 @@ act-spec =
     returns-8
     (λ c. search needs)
     returns-9
-    returns-10)
+    (λ c. search needs)
+    returns-10
+    returns-11)

@@ -9,12 +9,15 @@ use lib.ListN.{length, take, drop, getD, drop-of-length-le, length-append}
 use lib.Seq.{drop-drop, take-nil, take-length}
 use borrow.Author.Tests.{eq-eqb, ne-eqb}
 use Rattle.meaning.specs.Choice.{Name, pick, both, sameBytes, startsWith}
-use Rattle.meaning.specs.Names.{recoverPrefix, isRecovering}
+use Rattle.meaning.specs.Angles.{plus, minus}
+use Rattle.meaning.specs.Names.{isEmission, operationName, callingOf, recoverPrefix, isRecovering}
 use Rattle.words.specs.Words.{carried, headName, headNames}
-use Rattle.words.specs.Finding.{numberAmong, recovererAmong}
+use Rattle.words.specs.Finding.{numberAmong, callingIn, recovererAmong}
+use Rattle.words.specs.declared.names.Calling.the-variants.{Emission, Angles, Function}
 use native.Mathlib.Decide.{decLe}
 use native.Mathlib.Nat.{lt-of-not-le, zero-add, suc-add}
 use Rattle.meaning.proofs.laws.Remaining.{at-place}
+use Rattle.meaning.proofs.laws.Beginnings.{lengths-differ, starts-same}
 use Rattle.words.proofs.laws.Lists.{reached, part-length, take-again, drop-again, partFrom, part-cons, frontFrom, front-cons, front-none}
 
 abbrev pub sameFrom : List ℕ → ℕ → ℕ → ℕ → ℕ → Bool
@@ -37,17 +40,6 @@ module _ (ws : List ℕ) (a b n : ℕ) (ha : a + n ≤ length ws) (hb : b + n �
   pub same-end : {t : Bool} (i : ℕ) → sameFrom ws a b n i ≡ t → n ≤ i → true ≡ t
   unfolding sameBytes
   same-end i kept h = rw (front-none (drop a ws) n i h, front-none (drop b ws) n i h) at kept
-
-both-none : (t : Bool) → both t false ≡ false
-both-none true = refl
-both-none false = refl
-
-pub lengths-differ : (x y : Name) → (length x ≡ length y → ⊥) → sameBytes x y ≡ false
-unfolding sameBytes
-lengths-differ [] [] h = absurd (h refl)
-lengths-differ [] (y ∷ ys) h = refl
-lengths-differ (x ∷ xs) [] h = refl
-lengths-differ (x ∷ xs) (y ∷ ys) h = rw (lengths-differ xs ys (λ e. h (ap suc e))) (both-none (eqb x y))
 
 pub both-empty : (x y : Name) → length x ≡ 0 → length y ≡ 0 → sameBytes x y ≡ true
 unfolding sameBytes
@@ -93,12 +85,6 @@ name-skip ws p h =
 
 -- THE BEGINNING OF A NAME
 
-pub starts-short : (p x : Name) → length x < length p → startsWith p x ≡ false
-unfolding startsWith
-starts-short [] x h = absurd (omega arith)
-starts-short (a ∷ p) [] h = refl
-starts-short (a ∷ p) (b ∷ x) h = rw (starts-short p x (omega arith)) (both-none (eqb a b))
-
 abbrev pub startsFrom : Name → List ℕ → ℕ → ℕ → ℕ → Bool
 startsFrom p ws from n i = startsWith (drop i p) (partFrom ws from n i)
 
@@ -119,6 +105,32 @@ module _ (p ws : List ℕ) (from n : ℕ) (long : length p ≤ n) (fits : from +
 pub starts-end : (p ws : List ℕ) (from n : ℕ) {t : Bool} (i : ℕ) → startsFrom p ws from n i ≡ t → length p ≤ i → true ≡ t
 unfolding startsWith
 starts-end p ws from n i kept h = rw (drop-of-length-le p h) at kept
+
+-- A WHOLE NAME
+
+module _ (word ws : List ℕ) (from size : ℕ) (fits : from + size ≤ length ws) where
+  pub spells-unlike : (size ≡ length word → ⊥) → false ≡ sameBytes (take size (drop from ws)) word
+  spells-unlike differ = sym (lengths-differ (take size (drop from ws)) word (λ e. differ (sym (part-length size from ws fits) ∙ e)))
+
+  pub spells-same : size ≡ length word → startsWith word (take size (drop from ws)) ≡ sameBytes (take size (drop from ws)) word
+  spells-same e = starts-same word (take size (drop from ws)) (part-length size from ws fits ∙ e)
+
+-- HOW A CALL IS DONE
+
+module _ (n : Name) {emits : Bool} (e : emits ≡ isEmission n) where
+  pub calls-emission : emits ≡ true → Emission ≡ callingIn (callingOf n)
+  calls-emission h = rw (← e, h)
+
+  module _ (h : emits ≡ false) {adds : Bool} (f : adds ≡ sameBytes n (operationName plus)) where
+    pub calls-sum : adds ≡ true → Angles false ≡ callingIn (callingOf n)
+    calls-sum k = rw (← e, h, ← f, k)
+
+    module _ (k : adds ≡ false) {subtracts : Bool} (g : subtracts ≡ sameBytes n (operationName minus)) where
+      pub calls-difference : subtracts ≡ true → Angles true ≡ callingIn (callingOf n)
+      calls-difference l = rw (← e, h, ← f, k, ← g, l)
+
+      pub calls-function : subtracts ≡ false → Function ≡ callingIn (callingOf n)
+      calls-function l = rw (← e, h, ← f, k, ← g, l)
 
 -- A PREFIX AND A NAME
 

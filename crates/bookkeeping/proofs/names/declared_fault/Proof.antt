@@ -18,7 +18,7 @@ returns-2 : tie.Need-returns-2
 returns-2 c =
     let at-is-accepted = c .before .before .before in
     let entry = at-is-accepted .before .before .before .before in
-    declared-is (called at-is-accepted) (entry .pre .1) (c .before .before .if1 .left) (sym (c .before .is-emission .ensures) ∙ c .if2 .taken) refl
+    declared-is (called at-is-accepted) (entry .pre .1) (c .before .before .if1 .left) (sym (c .before .is-built-in .ensures) ∙ c .if2 .taken) refl
 
 returns-3 : tie.Need-returns-3
 returns-3 c =
@@ -26,7 +26,7 @@ returns-3 c =
     let at-if1 = at-if2 .before .before in
     let entry = at-if1 .before .before .before .before .before in
     c .fault-if .ensures ∙ declared-known (called (at-if1 .before)) (entry .pre .1) (at-if1 .if1 .left)
-    (sym (at-if2 .before .is-emission .ensures) ∙ at-if2 .if2 .left) (among _ _ 0 _ (entry .pre .1) _ _ (c .before .find .ensures) refl)
+    (sym (at-if2 .before .is-built-in .ensures) ∙ at-if2 .if2 .left) (among _ _ 0 _ (entry .pre .1) _ _ (c .before .find .ensures) refl)
 
 pub declared-fault-spec : {M : Type 1} → statement M
 declared-fault-spec =

@@ -1,6 +1,8 @@
 -- `expression::manner_now` meets its contract.
 use mathlib.Core.Path.{ap, _∙_}
-use Rattle.meaning.specs.Names.{isEmission}
+use Rattle.meaning.specs.Choice.{Name}
+use Rattle.meaning.specs.Names.{callingOf}
+use Rattle.words.specs.Finding.{callingIn}
 use borrow.Author.Needs.{needs}
 use Rattle.expressions.proofs.expression.manner_now.Statement.{statement}
 use Rattle.expressions.proofs.expression.manner_now.Tie as tie
@@ -8,9 +10,9 @@ use Rattle.expressions.proofs.expression.manner_now.Tie as tie
 returns : tie.Need-returns
 returns c =
     let at-is-last = c .before in
-    let at-is-emission = at-is-last .before in
-    let emission = at-is-emission .is-emission .ensures ∙ ap isEmission (at-is-emission .before .size-of .ensures .words) in
-    rw (← emission, ← (at-is-last .is-last .ensures)) (c .manner-of .ensures)
+    let at-calling-of = at-is-last .before in
+    let calling = at-calling-of .calling-of .ensures ∙ ap (λ (n : Name). callingIn (callingOf n)) (at-calling-of .before .size-of .ensures .words) in
+    rw (← calling, ← (at-is-last .is-last .ensures)) (c .manner-of .ensures)
 
 pub manner-now-spec : {M : Type 1} → statement M
 manner-now-spec =

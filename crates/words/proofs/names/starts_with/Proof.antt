@@ -5,8 +5,9 @@ use Prim.Native.Nat.{_≤_, _-_}
 use mathlib.Core.Path.{_≡_, sym}
 use lib.ListN.{length, take, drop}
 use Rattle.meaning.specs.Choice.{startsWith}
+use Rattle.meaning.proofs.laws.Beginnings.{starts-short}
 use Rattle.words.proofs.laws.Lists.{part-length, front-whole}
-use Rattle.words.proofs.laws.Names.{startsFrom, starts-short, starts-again, starts-otherwise, starts-end}
+use Rattle.words.proofs.laws.Names.{startsFrom, starts-again, starts-otherwise, starts-end}
 use Rattle.words.proofs.names.starts_with.Statement.{statement}
 use Rattle.words.proofs.names.starts_with.Tie as tie
 

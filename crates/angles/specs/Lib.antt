@@ -1,0 +1,2 @@
+-- What the functions on angles hand back.
+pub mod Post
