@@ -1,7 +1,7 @@
 //! Calls of the engine with guarded buffers: what they leave, or which guard they broke.
 
-use crate::exports::{self, Cells};
 use crate::lent::Lent;
+use refal0::exports::{self, Cells};
 use refal0_apart::corpus::Lending;
 use refal0_apart::outcome::Counts;
 

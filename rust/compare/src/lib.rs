@@ -3,6 +3,5 @@
 pub mod cases;
 pub mod check;
 pub mod engine;
-pub mod exports;
 pub mod lent;
 pub mod tally;

@@ -49,7 +49,8 @@ impl Line {
     }
 }
 
-fn sentence_line(table: &Table, sentence: &Sentence) -> Vec<u8> {
+/// A sentence as it is listed, with its line end.
+pub fn sentence_line(table: &Table, sentence: &Sentence) -> Vec<u8> {
     let mut line = Line::default();
     for (number, template) in sentence.templates.iter().enumerate() {
         if number > 0 {

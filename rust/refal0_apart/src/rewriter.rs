@@ -1,11 +1,38 @@
 //! The rewriter: Refal-0's own rules on the tree, without stacks in and out, cells or frames.
 
+use crate::angles::Operation;
 use crate::outcome::{Applications, Outcome, Stop};
 use crate::reader::SYMBOL_LIMIT;
-use crate::tree::{Callee, Item, Letter, Sentence, Subject, Table};
+use crate::tree::{Callee, Function, Item, Letter, Sentence, Subject, Table};
+
+/// Who is told what a rewriting does, while it does it. `waiting` is how many applications wait for this one.
+pub trait Watcher {
+    /// A function, by its index, is applied to a text: the sentence that fits, by its index, with its variables.
+    fn applied(&mut self, _waiting: usize, _function: usize, _text: &[u8], _chosen: Option<(usize, &Values)>) {}
+    /// A line is added to the record.
+    fn emitted(&mut self, _waiting: usize, _name: &[u8], _argument: &[u8]) {}
+    /// An angle call has a result, or the answer that stops the run.
+    fn computed(&mut self, _waiting: usize, _operation: Operation, _argument: &[u8], _result: &Result<Vec<u8>, u64>) {}
+}
+
+/// Nobody is told.
+struct Nobody;
+
+impl Watcher for Nobody {}
 
 /// Applies function `start`, counted from 1, to the text.
 pub fn rewrite(table: &Table, start: usize, text: &[u8], allowance: u32) -> Outcome {
+    rewrite_watched(table, start, text, allowance, &mut Nobody)
+}
+
+/// The same, with somebody who is told of each application, emission and angle call.
+pub fn rewrite_watched<W: Watcher>(
+    table: &Table,
+    start: usize,
+    text: &[u8],
+    allowance: u32,
+    watcher: &mut W,
+) -> Outcome {
     if start == 0 || start > table.functions.len() {
         return Outcome::refused(9);
     }
@@ -16,13 +43,14 @@ pub fn rewrite(table: &Table, start: usize, text: &[u8], allowance: u32) -> Outc
         result: Vec::new(),
         open: Vec::new(),
         waiting: Vec::new(),
+        watcher,
     };
     let end = rewriter.run(start - 1, text);
     let result = std::mem::take(&mut rewriter.result);
     Outcome::of(end.map(|()| result), rewriter.applications, rewriter.record)
 }
 
-struct Rewriter<'t> {
+struct Rewriter<'t, W> {
     table: &'t Table,
     applications: Applications,
     record: Vec<u8>,
@@ -32,6 +60,7 @@ struct Rewriter<'t> {
     open: Vec<usize>,
     /// The expressions not yet finished, the innermost last.
     waiting: Vec<Substitution<'t>>,
+    watcher: &'t mut W,
 }
 
 /// An expression to be put in a call's place, with its next item and the values of its variables.
@@ -44,12 +73,12 @@ struct Substitution<'t> {
 
 /// The bytes of the s-variables and where the e-variables' parts lie in the text.
 #[derive(Clone, Copy, Default)]
-struct Values {
-    symbols: [Option<u8>; SYMBOL_LIMIT],
-    parts: [(usize, usize); 2],
+pub struct Values {
+    pub symbols: [Option<u8>; SYMBOL_LIMIT],
+    pub parts: [(usize, usize); 2],
 }
 
-impl<'t> Rewriter<'t> {
+impl<W: Watcher> Rewriter<'_, W> {
     fn run(&mut self, start: usize, text: &[u8]) -> Result<(), Stop> {
         self.apply(start, text.to_vec())?;
         while let Some(current) = self.waiting.last_mut() {
@@ -77,6 +106,7 @@ impl<'t> Rewriter<'t> {
         let argument = self.result.split_off(begin);
         match callee {
             Callee::Emission(number) => {
+                self.watcher.emitted(self.waiting.len(), &self.table.emissions[number], &argument);
                 self.record.extend_from_slice(&self.table.emissions[number]);
                 self.record.push(32);
                 self.record.extend(argument);
@@ -84,7 +114,9 @@ impl<'t> Rewriter<'t> {
                 Ok(())
             }
             Callee::Angles(operation) => {
-                self.result.extend(operation.of_text(&argument).map_err(Stop::because)?);
+                let result = operation.of_text(&argument);
+                self.watcher.computed(self.waiting.len(), operation, &argument, &result);
+                self.result.extend(result.map_err(Stop::because)?);
                 Ok(())
             }
             Callee::Function(number) => {
@@ -110,15 +142,24 @@ impl<'t> Rewriter<'t> {
         loop {
             self.applications.ask()?;
             self.applications.make(number + 1);
-            for sentence in &self.table.functions[number].sentences {
-                if let Some(values) = fit(sentence, &text) {
-                    self.waiting.push(Substitution { items: &sentence.expression, next: 0, text, values });
-                    return Ok(());
-                }
+            let function = &self.table.functions[number];
+            let chosen = choose(function, &text);
+            let told = chosen.as_ref().map(|(sentence, values)| (*sentence, values));
+            self.watcher.applied(self.waiting.len(), number, &text, told);
+            if let Some((sentence, values)) = chosen {
+                let items = &function.sentences[sentence].expression;
+                self.waiting.push(Substitution { items, next: 0, text, values });
+                return Ok(());
             }
             number = self.table.recoverer(number).ok_or(Stop { answer: 11, function: number + 1 })?;
         }
     }
+}
+
+/// The first sentence of the function that fits, by its index, with the values of its variables.
+pub fn choose(function: &Function, text: &[u8]) -> Option<(usize, Values)> {
+    let mut sentences = function.sentences.iter().enumerate();
+    sentences.find_map(|(index, sentence)| Some((index, fit(sentence, text)?)))
 }
 
 /// The values with which the sentence's pattern is the text and its conditions hold.

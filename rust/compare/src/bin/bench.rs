@@ -1,6 +1,6 @@
 //! Benchmarks: the engine beside the system written apart, in one process on the same inputs, as a Markdown table.
 
-use compare::exports::{self, Cells};
+use refal0::exports::{self, Cells};
 use refal0_apart::flat::flat_answer;
 use refal0_apart::machine::{self, Rooms};
 use refal0_apart::packing;

@@ -1,10 +1,11 @@
-//! The engine's exports, each behind a function that takes slices.
+//! The engine's exports, each behind a function that takes slices and gives the answer's words as they are.
+//!
+//! They are inlined, so that a program needs only those exports that it uses.
 
-use refal0_apart::reader::FUNCTION_LIMIT;
+use crate::FUNCTIONS;
 
 unsafe extern "C" {
     fn refal0_read(table: *const u8, table_length: usize, answer: *mut u64);
-    #[cfg(feature = "listing")]
     fn refal0_list(table: *const u8, table_length: usize, listing: *mut u8, listing_length: usize, answer: *mut u64);
     fn refal0_translate(table: *const u8, table_length: usize, code: *mut u32, code_length: usize, answer: *mut u64);
     fn refal0_flat(table: *const u8, table_length: usize, answer: *mut u64);
@@ -42,13 +43,14 @@ unsafe extern "C" {
 }
 
 /// Answers number, place, functions.
+#[inline]
 pub fn read(table: &[u8], answer: &mut [u64; 3]) {
     // SAFETY: pointers and lengths are those of the slices, for the time of the call
     unsafe { refal0_read(table.as_ptr(), table.len(), answer.as_mut_ptr()) }
 }
 
 /// Answers number, place, length of the listing.
-#[cfg(feature = "listing")]
+#[inline]
 pub fn list(table: &[u8], listing: &mut [u8], answer: &mut [u64; 3]) {
     // SAFETY: pointers and lengths are those of the slices, for the time of the call
     unsafe {
@@ -57,12 +59,14 @@ pub fn list(table: &[u8], listing: &mut [u8], answer: &mut [u64; 3]) {
 }
 
 /// Answers number, place, functions.
+#[inline]
 pub fn flat(table: &[u8], answer: &mut [u64; 3]) {
     // SAFETY: pointers and lengths are those of the slices, for the time of the call
     unsafe { refal0_flat(table.as_ptr(), table.len(), answer.as_mut_ptr()) }
 }
 
 /// Answers number, place, words of code.
+#[inline]
 pub fn translate(table: &[u8], code: &mut [u32], answer: &mut [u64; 3]) {
     // SAFETY: pointers and lengths are those of the slices, for the time of the call
     unsafe { refal0_translate(table.as_ptr(), table.len(), code.as_mut_ptr(), code.len(), answer.as_mut_ptr()) }
@@ -76,6 +80,7 @@ pub struct Cells<'c> {
 }
 
 /// Answers answer, function, steps, length of the text, length of the emissions.
+#[inline]
 pub fn run(code: &[u32], start: usize, text: &[u8], cells: Cells, allowance: u32, answer: &mut [u64; 5]) {
     // SAFETY: pointers and lengths are those of the slices, for the time of the call
     unsafe {
@@ -98,6 +103,7 @@ pub fn run(code: &[u32], start: usize, text: &[u8], cells: Cells, allowance: u32
 }
 
 /// A run that answers the functions' applications besides.
+#[inline]
 pub fn profile(
     code: &[u32],
     start: usize,
@@ -105,7 +111,7 @@ pub fn profile(
     cells: Cells,
     allowance: u32,
     answer: &mut [u64; 5],
-    counts: &mut [u64; FUNCTION_LIMIT],
+    counts: &mut [u64; FUNCTIONS],
 ) {
     // SAFETY: pointers and lengths are those of the slices, for the time of the call
     unsafe {

@@ -1,0 +1,117 @@
+//! Runs the proved program on a table and a sheet, and says in words what it answers.
+
+use refal0_apart::tree::Table;
+use std::io::{self, Write};
+use std::process::ExitCode;
+use tools::command::{self, Both, alike, both, file};
+use tools::endings::ending;
+use tools::history::History;
+use tools::mistakes;
+use tools::program::Run;
+use tools::shown::escaped;
+use tools::trace::said;
+use tools::warnings::{unknown_emission, warnings};
+
+const USAGE: &str = "usage: refal0-bench [--emits NAME,NAME..] TABLE SHEET";
+
+struct Asked {
+    table: String,
+    sheet: String,
+    /// The emissions that the device knows, if they are named.
+    emits: Option<Vec<String>>,
+}
+
+fn main() -> ExitCode {
+    ExitCode::from(benched().unwrap_or_else(|said| {
+        eprintln!("refal0-bench: {said}");
+        command::NOTHING
+    }))
+}
+
+fn asked() -> Option<Asked> {
+    let mut words = std::env::args().skip(1);
+    let (mut paths, mut emits) = (Vec::new(), None);
+    while let Some(word) = words.next() {
+        match word.as_str() {
+            "--emits" => emits = Some(words.next()?.split(',').map(String::from).collect()),
+            _ => paths.push(word),
+        }
+    }
+    let [table, sheet] = <[String; 2]>::try_from(paths).ok()?;
+    Some(Asked { table, sheet, emits })
+}
+
+fn benched() -> Result<u8, String> {
+    let Asked { table: path, sheet, emits } = asked().ok_or(USAGE)?;
+    let (text, sheet) = (file("table", &path)?, file("sheet", &sheet)?);
+    match both(&text, &sheet, 1)? {
+        Both::Refused { number, place } => {
+            eprintln!("{}", mistakes::said(&path, &text, number, place));
+            Ok(command::REFUSED)
+        }
+        Both::Different(how) => {
+            Err(format!("the program accepts the table, and the Refal-0 system of rust/ doesn't: {how}"))
+        }
+        Both::Ran { table, run, history } => {
+            if let Some(unknown) = emits.and_then(|known| unknown_emission(&path, &text, &known)) {
+                eprintln!("{unknown}");
+                return Ok(command::REFUSED);
+            }
+            let status = shown_run(&table, &run, &history).map_err(|error| error.to_string())?;
+            for warning in warnings(&text, &table) {
+                eprintln!("warning: {warning}");
+            }
+            Ok(status)
+        }
+    }
+}
+
+fn shown_run(table: &Table, run: &Run, history: &History) -> io::Result<u8> {
+    let steps = if run.steps == 1 { String::from("1 step") } else { format!("{} steps", run.steps) };
+    if run.answer == 0 {
+        let mut output = io::stdout().lock();
+        output.write_all(&run.body)?;
+        // a result without a line end gets one, so that a screen shows it well
+        if run.body.last().is_some_and(|&last| last != 10) {
+            output.write_all(b"\n")?;
+        }
+        output.flush()?;
+        eprintln!("done in {steps}");
+    } else {
+        if !run.body.is_empty() {
+            eprintln!("emitted before the run ended early, and not to be used:");
+            for line in run.body.strip_suffix(b"\n").unwrap_or(&run.body).split(|&byte| byte == 10) {
+                eprintln!("  {}", escaped(line));
+            }
+        }
+        eprintln!("ended with {} after {steps}: {}", run.answer, ending(table, run.answer, run.function));
+        if alike(run, history) {
+            last_line(table, history);
+        }
+    }
+    if !alike(run, history) {
+        eprintln!("the Refal-0 system of rust/ ends otherwise: one of the two is wrong, please tell its developers");
+    }
+    show_profile(run);
+    Ok(if run.answer == 0 { command::DONE } else { command::EARLY })
+}
+
+/// The trace's last line, which shows what the run was doing when it ended.
+fn last_line(table: &Table, history: &History) {
+    for event in &history.events {
+        eprintln!("last traced: {}", said(table, event));
+    }
+}
+
+/// The functions that were applied, the one with most steps first, each with its share; then those that never were.
+fn show_profile(run: &Run) {
+    let mut applied: Vec<&(String, u64)> = run.profile.iter().filter(|(_, count)| *count > 0).collect();
+    applied.sort_by_key(|(_, count)| std::cmp::Reverse(*count));
+    for (name, count) in &applied {
+        eprintln!("{count:>8}  {:>3} %  {name}", (200 * count + run.steps) / (2 * run.steps));
+    }
+    let never: Vec<&str> = run.profile.iter().filter(|(_, count)| *count == 0).map(|(name, _)| name.as_str()).collect();
+    if !applied.is_empty() && !never.is_empty() {
+        eprintln!("never applied: {}", never.join(" "));
+    }
+}
