@@ -4,3 +4,7 @@ pub mod Fields
 pub mod Parts
 pub mod Testing
 pub mod Sentences
+pub mod Settling
+pub mod Moving
+pub mod Strings
+pub mod Bounding

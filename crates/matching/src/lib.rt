@@ -1,18 +1,19 @@
 // Choosing a function's sentence for a field, read-only: the sentence and where its middle template lies.
-ghost use Prim.Native.Nat.{suc, _+_, _-_, _≤_, _<_, _%_, _/_, _^_};
+ghost use Prim.Native.Nat.{suc, _+_, _-_, _≤_, _<_, _%_, _/_, _^_, min};
 ghost use mathlib.Core.Path.{_≡_};
 ghost use lib.Dec.{eqb};
-ghost use lib.ListN.{length, drop};
+ghost use lib.ListN.{length, getD, drop};
 ghost use Rattle.meaning.specs.Choice.{nth, pick, every};
 ghost use Rattle.meaning.specs.Instructions.{fromStart, fromEnd, fromPlace};
 ghost use Rattle.meaning.specs.Instructions.{look as looking};
 ghost use Rattle.meaning.specs.Rewriting.{sameTruth};
 ghost use Rattle.meaning.specs.Matching.{cellAt, cellsBefore, checked, checkAll, chooseFrom};
 ghost use Rattle.meaning.specs.Matching.{check as tested, search as searched};
-ghost use Rattle.meaning.specs.Packing.{firstIn, secondIn, thirdIn, siteOf, classOf, testOf, lookOf, compareOf, predicateFor, metricIn, unpackTests, unpackSentences};
+ghost use Rattle.meaning.specs.Packing.{numberIn, firstIn, secondIn, thirdIn, siteOf, classOf, testOf, lookOf, compareOf, predicateFor, metricIn, unpackTests, unpackSentences};
 ghost use Rattle.classes.specs.Tests.{classTest, Answers};
 ghost use Rattle.matching.specs.Matched.{cellMeant, siteCell, beforeMeant, inside, siteBefore, checkedMeant, lastTest};
-ghost use Rattle.matching.specs.Matched.{foundMeant, placesFor, tried, Chooses};
+ghost use Rattle.matching.specs.Matched.{foundMeant, asksPlace, Spells, Occurs, Leads, Trails, Sifts, Settles, placesFor, tried, Chooses};
+use finding::Occurrence;
 
 // A place in the code. It is counted apart from the cells of in and of out.
 pub struct CodePlace(pub usize);
@@ -27,6 +28,32 @@ pub enum Cell {
 pub enum Before {
     Cells(usize),
     Outside,
+}
+
+// What a test says at a range of places: more than is known here; that it is to be asked at each; or that it passes at
+// the places of a narrower range and fails at the others.
+enum Sifted {
+    Unknown,
+    Kept,
+    Among { first: usize, places: usize },
+}
+
+// What is left to search for: all that was asked; nothing, since no place is left; or so many tests that are kept, in
+// the places that are left.
+enum Settled {
+    Unsettled,
+    Nowhere,
+    Within {
+        first: usize,
+        places: usize,
+        kept: usize,
+    },
+}
+
+// Tests look for a string from so many cells after the place on, or for more than that.
+enum Template {
+    String(usize),
+    Mixed,
 }
 
 // A test passes, fails, or asks for something that isn't there.
@@ -217,20 +244,45 @@ fn cells_before(whole: usize, place: usize, register: u32, offset: u32) -> Befor
     }
 }
 
-// Every byte of a part is in a class.
-fn every_in_class(bits: &[u8; 256], part: &[u8], class: u8) -> bool
+// How many bytes of a part, from its first on, are in a class.
+fn leading(bits: &[u8; 256], part: &[u8], class: u8) -> usize
     requires { ⌜ Answers (now bits) ⌝ }
-    ensures { λ r. ⌜ r ≡ every (classTest class) (now (part .entry)) ⌝ }
+    ensures { λ r. ⌜ Leads (classTest class) (now (part .entry)) r ⌝ }
 {
     let mut at = 0;
     while at < part.len() {
         if classes::passes(bits, part[at], class) {
             at += 1;
         } else {
-            return false;
+            return at;
         }
     }
-    true
+    at
+}
+
+// After how many bytes of a part the rest of it is in a class.
+fn trailing(bits: &[u8; 256], part: &[u8], class: u8) -> usize
+    requires { ⌜ Answers (now bits) ⌝ }
+    ensures { λ r. ⌜ Trails (classTest class) (now (part .entry)) r ⌝ }
+{
+    let mut at = part.len();
+    while 0 < at {
+        let last = at - 1;
+        if classes::passes(bits, part[last], class) {
+            at = last;
+        } else {
+            return at;
+        }
+    }
+    at
+}
+
+// Every byte of a part is in a class.
+fn every_in_class(bits: &[u8; 256], part: &[u8], class: u8) -> bool
+    requires { ⌜ Answers (now bits) ⌝ }
+    ensures { λ r. ⌜ r ≡ every (classTest class) (now (part .entry)) ⌝ }
+{
+    part.len() <= leading(bits, part, class)
 }
 
 // The bytes from one site up to another are all in a class, or are not, as the condition has it. The test's number is
@@ -361,8 +413,73 @@ fn scan(field: &[u8], word: u32, first: usize, places: usize) -> Found
     Found::Nowhere
 }
 
-// The same search, where one Look decides by scanning for its byte.
-fn find_place(
+// Whether tests look for a string, each at the cell after the last one's, and from which cell on.
+fn string_of(code: &[u32], tests: CodePlace, count: usize, string: &mut [u8]) -> Template
+    ensures { λ r. ⌜ Spells r (now (string .exit)) (unpackTests count (drop (tests .0) (now (code .entry)))) count ⌝ }
+{
+    let at = tests.0;
+    if code.len() <= at {
+        return Template::Mixed;
+    }
+    if code.len() - at < count {
+        return Template::Mixed;
+    }
+    if string.len() < count {
+        return Template::Mixed;
+    }
+    let offset = wide(code[at] / 65536 % 256);
+    let mut size = 0;
+    while size < count {
+        let word = code[at + size];
+        if word % 65536 != 513 {
+            return Template::Mixed;
+        }
+        if wide(word / 65536 % 256) != offset + size {
+            return Template::Mixed;
+        }
+        string[size] = (word / 16777216 % 256) as u8;
+        size += 1;
+    }
+    Template::String(offset)
+}
+
+// Room for a string: a pattern has at most 64 characters.
+fn no_string() -> [u8; 64] {
+    [0u8; 64]
+}
+
+// The same search for a string, in one pass over the field. For few places the tables of the pass would cost more than
+// they save.
+fn find_string(
+    code: &[u32],
+    tests: CodePlace,
+    count: usize,
+    field: &[u8],
+    first: usize,
+    places: usize,
+) -> Occurrence
+    requires { ⌜ first + places ≤ length (now field) + 256 ⌝ }
+    ensures { λ r. ⌜ Occurs r (searched (checkAll (unpackTests count (drop (tests .0) (now (code .entry)))) (now (field .entry))) places first) ⌝ }
+{
+    if places < 64 {
+        return Occurrence::Unsuited;
+    }
+    let mut string = no_string();
+    let Template::String(offset) = string_of(code, tests, count, &mut string) else {
+        return Occurrence::Unsuited;
+    };
+    if 64 < count {
+        return Occurrence::Unsuited;
+    }
+    match finding::find(&string[0..count], field, first + offset, places) {
+        Occurrence::At(place) => Occurrence::At(place - offset),
+        Occurrence::Nowhere => Occurrence::Nowhere,
+        Occurrence::Unsuited => Occurrence::Unsuited,
+    }
+}
+
+// The same search, where one Look decides by scanning for its byte, and where a string does by looking for that.
+fn find_among(
     bits: &[u8; 256],
     code: &[u32],
     tests: CodePlace,
@@ -376,17 +493,259 @@ fn find_place(
     ensures { λ r. ⌜ foundMeant r ≡ searched (checkAll (unpackTests count (drop (tests .0) (now (code .entry)))) (now (field .entry))) places first ⌝ }
 {
     let at = tests.0;
-    if 1 < places {
-        if count == 1 {
-            if at < code.len() {
-                let word = code[at];
-                if word % 65536 == 513 {
-                    return scan(field, word, first, places);
-                }
+    if count == 1 {
+        if at < code.len() {
+            let word = code[at];
+            if word % 65536 == 513 {
+                return scan(field, word, first, places);
             }
         }
     }
-    search(bits, code, tests, count, field, first, places)
+    match find_string(code, tests, count, field, first, places) {
+        Occurrence::At(place) => Found::At(place),
+        Occurrence::Nowhere => Found::Nowhere,
+        Occurrence::Unsuited => search(bits, code, tests, count, field, first, places),
+    }
+}
+
+// One of a test's two registers is that of the middle template's place.
+fn asks_place(word: u32) -> bool
+    ensures { λ r. ⌜ r ≡ asksPlace word ⌝ }
+{
+    let registers = word / 256 % 256;
+    if registers % 4 == 2 {
+        return true;
+    }
+    registers / 4 % 4 == 2
+}
+
+fn least(a: usize, b: usize) -> usize
+    ensures { λ r. ⌜ r ≡ min a b ⌝ }
+{
+    if a < b { a } else { b }
+}
+
+fn less(a: usize, b: usize) -> usize
+    ensures { λ r. ⌜ r ≡ a - b ⌝ }
+{
+    if b < a { a - b } else { 0 }
+}
+
+// The places before a turn, or those from it on.
+fn part_at(first: usize, places: usize, turn: usize, early: bool) -> Sifted
+    requires { ⌜ first + places < 2 ^ 64 ⌝ }
+    requires { ⌜ turn ≤ places ⌝ }
+    ensures { λ r. ⌜ r ≡ pick early (Sifted.Among first turn) (Sifted.Among (first + turn) (places - turn)) ⌝ }
+{
+    if early {
+        Sifted::Among {
+            first: first,
+            places: turn,
+        }
+    } else {
+        Sifted::Among {
+            first: first + turn,
+            places: places - turn,
+        }
+    }
+}
+
+// A condition on the first part: up to a turn all its bytes are in the class, and after it they aren't.
+fn sift_first(bits: &[u8; 256], field: &[u8], word: u32, first: usize, places: usize) -> Sifted
+    requires { ⌜ Answers (now bits) ⌝ }
+    requires { ⌜ first + places ≤ length (now field) + 256 ⌝ }
+    requires { ⌜ 0 < places ⌝ }
+    requires { ⌜ numberIn word ≡ 20 ⌝ }
+    requires { ⌜ firstIn word / 4 % 4 ≡ 2 ⌝ }
+    ensures { λ r. ⌜ Sifts r (tested (testOf word) (now (field .entry))) first places ⌝ }
+{
+    let operand = word / 256 % 256;
+    let class = operand / 32;
+    if 4 < class {
+        return Sifted::Unknown;
+    }
+    if operand % 4 == 2 {
+        return Sifted::Unknown;
+    }
+    let Before::Cells(from) = cells_before(field.len(), first, operand % 4, word / 65536 % 256)
+    else {
+        return Sifted::Unknown;
+    };
+    let nearest = first + wide(word / 16777216 % 256);
+    let to = nearest + (places - 1);
+    if field.len() < to {
+        return Sifted::Unknown;
+    }
+    if nearest < from {
+        return Sifted::Unknown;
+    }
+    let lead = leading(bits, &field[from..to], class as u8);
+    let passing = less(lead + 1, nearest - from);
+    part_at(first, places, least(passing, places), operand / 16 % 2 == 1)
+}
+
+// A condition on the second part: from a turn on all its bytes are in the class, and before it they aren't.
+fn sift_second(bits: &[u8; 256], field: &[u8], word: u32, first: usize, places: usize) -> Sifted
+    requires { ⌜ Answers (now bits) ⌝ }
+    requires { ⌜ first + places ≤ length (now field) + 256 ⌝ }
+    requires { ⌜ 0 < places ⌝ }
+    requires { ⌜ numberIn word ≡ 20 ⌝ }
+    requires { ⌜ firstIn word % 4 ≡ 2 ⌝ }
+    ensures { λ r. ⌜ Sifts r (tested (testOf word) (now (field .entry))) first places ⌝ }
+{
+    let operand = word / 256 % 256;
+    let class = operand / 32;
+    if 4 < class {
+        return Sifted::Unknown;
+    }
+    if operand / 4 % 4 == 2 {
+        return Sifted::Unknown;
+    }
+    let Before::Cells(to) = cells_before(field.len(), first, operand / 4 % 4, word / 16777216 % 256)
+    else {
+        return Sifted::Unknown;
+    };
+    let from = first + wide(word / 65536 % 256);
+    if to < from + (places - 1) {
+        return Sifted::Unknown;
+    }
+    let turn = trailing(bits, &field[from..to], class as u8);
+    part_at(first, places, least(turn, places), operand / 16 % 2 != 1)
+}
+
+// A test that no place changes is asked once. One on cells that are all there at the last place finds them at each.
+// It is asked by `search`, since a second caller of `check` would slow the search itself.
+fn sift(
+    bits: &[u8; 256],
+    code: &[u32],
+    at: usize,
+    field: &[u8],
+    first: usize,
+    places: usize,
+) -> Sifted
+    requires { ⌜ Answers (now bits) ⌝ }
+    requires { ⌜ first + places ≤ length (now field) + 256 ⌝ }
+    requires { ⌜ 0 < places ⌝ }
+    requires { ⌜ at < length (now code) ⌝ }
+    ensures { λ r. ⌜ Sifts r (tested (testOf (getD (now (code .entry)) at 0)) (now (field .entry))) first places ⌝ }
+{
+    let word = code[at];
+    if asks_place(word) {
+        if word % 256 == 20 {
+            if word / 256 % 256 % 4 == 2 {
+                return sift_second(bits, field, word, first, places);
+            }
+            return sift_first(bits, field, word, first, places);
+        }
+        return match search(bits, code, CodePlace(at), 1, field, first + (places - 1), 1) {
+            Found::Wrong => Sifted::Unknown,
+            Found::At(_) => Sifted::Kept,
+            Found::Nowhere => Sifted::Kept,
+        };
+    }
+    match search(bits, code, CodePlace(at), 1, field, first, 1) {
+        Found::Wrong => Sifted::Unknown,
+        Found::At(_) => Sifted::Among {
+            first: first,
+            places: places,
+        },
+        Found::Nowhere => Sifted::Among {
+            first: first,
+            places: 0,
+        },
+    }
+}
+
+// The tests one by one, before any place is searched: those that the places decide are kept, in their order.
+fn settle(
+    bits: &[u8; 256],
+    code: &[u32],
+    tests: CodePlace,
+    count: usize,
+    field: &[u8],
+    first: usize,
+    places: usize,
+    kept: &mut [u32],
+) -> Settled
+    requires { ⌜ Answers (now bits) ⌝ }
+    requires { ⌜ first + places ≤ length (now field) + 256 ⌝ }
+    ensures { λ r. ⌜ Settles r (now (kept .exit)) (now (field .entry)) (checkAll (unpackTests count (drop (tests .0) (now (code .entry)))) (now (field .entry))) places first ⌝ }
+{
+    let mut at = tests.0;
+    let mut left = count;
+    let mut from = first;
+    let mut among = places;
+    let mut size = 0;
+    while 0 < left {
+        if among == 0 {
+            return Settled::Nowhere;
+        }
+        if code.len() <= at {
+            return Settled::Unsettled;
+        }
+        let word = code[at];
+        let here = at;
+        at += 1;
+        left -= 1;
+        match sift(bits, code, here, field, from, among) {
+            Sifted::Unknown => return Settled::Unsettled,
+            Sifted::Kept => {
+                if kept.len() <= size {
+                    return Settled::Unsettled;
+                }
+                kept[size] = word;
+                size += 1;
+                continue;
+            }
+            Sifted::Among {
+                first: f,
+                places: n,
+            } => {
+                from = f;
+                among = n;
+                continue;
+            }
+        }
+    }
+    Settled::Within {
+        first: from,
+        places: among,
+        kept: size,
+    }
+}
+
+// Room for the tests that are kept: a pattern has at most 64 characters and s-variables, and 8 conditions.
+fn no_tests() -> [u32; 72] {
+    [0u32; 72]
+}
+
+// The leftmost of so many places at which all tests pass: what doesn't depend on the place is tested once.
+fn find_place(
+    bits: &[u8; 256],
+    code: &[u32],
+    tests: CodePlace,
+    count: usize,
+    field: &[u8],
+    first: usize,
+    places: usize,
+) -> Found
+    requires { ⌜ Answers (now bits) ⌝ }
+    requires { ⌜ first + places ≤ length (now field) + 256 ⌝ }
+    ensures { λ r. ⌜ foundMeant r ≡ searched (checkAll (unpackTests count (drop (tests .0) (now (code .entry)))) (now (field .entry))) places first ⌝ }
+{
+    if places <= 1 {
+        return search(bits, code, tests, count, field, first, places);
+    }
+    let mut kept = no_tests();
+    match settle(bits, code, tests, count, field, first, places, &mut kept) {
+        Settled::Unsettled => search(bits, code, tests, count, field, first, places),
+        Settled::Nowhere => Found::Nowhere,
+        Settled::Within {
+            first: from,
+            places: among,
+            kept: size,
+        } => { find_among(bits, &kept, CodePlace(0), size, field, from, among) }
+    }
 }
 
 fn one_if(ok: bool) -> usize

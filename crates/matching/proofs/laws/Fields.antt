@@ -10,7 +10,7 @@ use borrow.Author.Tests.{ne-eqb}
 use Rattle.meaning.specs.Choice.{Bytes, pick}
 use Rattle.meaning.specs.Classes.{Class, digit, upper, lower, alphabetic, blank, inClass}
 use Rattle.meaning.specs.Rewriting.{sameTruth}
-use Rattle.meaning.specs.Instructions.{Site}
+use Rattle.meaning.specs.Instructions.{Site, fromPlace, look}
 use Rattle.meaning.specs.Matching.{checked, asked, wrong, check}
 use Rattle.meaning.specs.Packing.{numberIn, firstIn, secondIn, thirdIn, classOf, siteOf, lookOf, compareOf, predicateFor, testOf, metricIn}
 use Rattle.classes.specs.Tests.{classTest}
@@ -94,3 +94,7 @@ look-from w register h =
     let number : numberIn w ≡ 1 = omega arith in
     let same : firstIn w ≡ register = omega arith in
     rw (number, same)
+
+-- a Look counted from the middle template's place
+pub look-there : (w n : ℕ) → w % 65536 ≡ 513 → secondIn w ≡ n → testOf w ≡ look (fromPlace n) (thirdIn w)
+look-there w n h e = rw (← e) (look-from w 2 h)

@@ -1,17 +1,19 @@
 -- A sentence's tests and the search for its middle template's place, read off the code words.
 use Prim.Native.Nat.{ℕ, zero, suc, _+_, _-_, _≤_, _<_}
-use native.Mathlib.Nat.{not-suc-le-zero}
+use native.Mathlib.Nat.{le-of-suc-le-suc, not-suc-le-zero}
 use native.Mathlib.Numerals.{add-one, sub-one}
 use native.Mathlib.Omega.{arith}
-use mathlib.Core.Path.{_≡_, refl, sym}
+use mathlib.Core.Path.{_≡_, refl, sym, _∙_}
 use borrow.Author.Tests.{eq-eqb, ne-eqb}
-use Rattle.meaning.specs.Instructions.{fromPlace, look}
-use lib.ListN.{length, getD, drop}
+use Rattle.meaning.specs.Instructions.{Test, fromPlace, look}
+use mathlib.Core.List.{List, [], _∷_, _++_}
+use lib.ListN.{length, getD, drop, set}
 use Rattle.meaning.specs.Choice.{Bytes}
 use Rattle.meaning.specs.Matching.{Checked, passed, failed, wrong, wherePassed, check, checkAll, Found, foundAt, foundNone, foundWrong, settled, search}
 use Rattle.meaning.specs.Packing.{Words, testOf, unpackTests}
 use Rattle.meaning.proofs.laws.Remaining.{at-place, past-end}
 use Rattle.matching.proofs.laws.Lists.{nth-in, nth-out}
+use Rattle.matching.proofs.laws.Settling.{passed-last, passed-then}
 
 module _ (field : Bytes) (place : ℕ) where
   -- all of so many tests from a place of the code on
@@ -51,16 +53,45 @@ unfolding search
 search-same test test′ e zero place = refl
 search-same test test′ e (suc n) place = rw (e place, search-same test test′ e n (suc place))
 
+-- a test put behind those that are kept
+all-but-last : (tests : List Test) (t : Test) (field : Bytes) (place : ℕ) →
+    checkAll (tests ++ t ∷ []) field place ≡ wherePassed (checkAll tests field place) (check t field place)
+unfolding checkAll
+all-but-last [] t field place = passed-last (check t field place)
+all-but-last (u ∷ tests) t field place =
+    rw (all-but-last tests t field place) (passed-then (check u field place) (checkAll tests field place) (check t field place))
+
+unpack-more : (words : Words) (n w : ℕ) → n < length words → unpackTests (suc n) (set words n w) ≡ unpackTests n words ++ testOf w ∷ []
+unfolding unpackTests
+unpack-more [] n w h = absurd (not-suc-le-zero h)
+unpack-more (v ∷ words) zero w h = refl
+unpack-more (v ∷ words) (suc n) w h = rw (unpack-more words n w (le-of-suc-le-suc h))
+
+pub kept-more : (words : Words) (n w : ℕ) (field : Bytes) (place : ℕ) → n < length words →
+    checkAll (unpackTests (n + 1) (set words n w)) field place ≡ wherePassed (checkAll (unpackTests n words) field place) (check (testOf w) field place)
+kept-more words n w field place h = rw (add-one n, unpack-more words n w h) (all-but-last (unpackTests n words) (testOf w) field place)
+
 -- one test is all of them
 pub one-test : (field : Bytes) (words : Words) (at : ℕ) → at < length words → (place : ℕ) →
     testing field place words at 1 ≡ check (testOf (getD words at 0)) field place
 one-test field words at h place =
-    rw (next-test field place words at 1 (omega arith) h, no-tests field place words (at + 1) 0 (omega arith)) (last (check (testOf (getD words at 0)) field place))
+    rw (next-test field place words at 1 (omega arith) h, no-tests field place words (at + 1) 0 (omega arith)) (passed-last (check (testOf (getD words at 0)) field place))
+
+-- what one test says, told by a search at one place
+abbrev pub checkedOf : Found → Checked
+checkedOf (foundAt place) = passed
+checkedOf foundNone = failed
+checkedOf foundWrong = wrong
+
+pub one-said : (field : Bytes) (words : Words) (at place : ℕ) (f : Found) → at < length words →
+    f ≡ search (checkAll (unpackTests 1 (drop at words)) field) 1 place → checkedOf f ≡ check (testOf (getD words at 0)) field place
+unfolding search
+one-said field words at place f h e = by-test (check (testOf (getD words at 0)) field place) (e ∙ rw (one-test field words at h place))
   where
-    last : (c : Checked) → wherePassed c passed ≡ c
-    last passed = refl
-    last failed = refl
-    last wrong = refl
+    by-test : (c : Checked) → f ≡ settled c place foundNone → checkedOf f ≡ c
+    by-test passed e′ = rw e′
+    by-test failed e′ = rw e′
+    by-test wrong e′ = rw e′
 
 -- a look from the middle template's place as the only test: the field has no such cell, the byte stands there, or the search goes on
 module _ (field : Bytes) (offset byte left place : ℕ) (some : 0 < left) where

@@ -7,10 +7,13 @@ use refal0_apart::packing;
 use refal0_apart::reader::{TABLE_LIMIT, read};
 use refal0_apart::rewriter::rewrite;
 use std::hint::black_box;
-use std::time::{Duration, Instant};
+use std::time::Duration;
 
 const CODE_WORDS: usize = 1 << 20;
 const LONG: usize = 30_000;
+const WHOLE: usize = 32_768;
+const MANY: usize = 400;
+const SHEET_TABLE: &[u8] = b"F { 'STOP ' e1 '\\n' e2 = <F e2>; 'SWING ' e1 '\\n' e2 = <F e2>; e1 = e1 }";
 const ROUNDS: usize = 7;
 
 fn main() {
@@ -28,11 +31,48 @@ fn main() {
     running("a byte found last in 30,000", b"F { e1 '7' e2 = }", &late, 1);
     running("a class found last in 30,000", b"F { e1 s2 e3, <IsDigit s2>: 'T' = s2 }", &late, 1);
     conditions();
+    two_parts();
+    short_runs();
     running("1,000 tail calls with 30,000 bytes", b"F { e1 = <F e1> }", &[b'm'; LONG], 1_000);
     let moves = running("1,000 tail calls that move 30,000 bytes", b"F { s1 e2 = <F e2 s1> }", &[b'm'; LONG], 1_000);
     moving(moves, 1_000);
     running("row Z on 30,000 zeros", b"F { '0' e1 = <F e1>; e1 = e1 }", &[b'0'; LONG], 100_000);
     running("1,000,000 recoveries", b"X { 'a' = } RecoverX { e1 = <X e1> }", b"b", 2_000_000);
+}
+
+/// Two e-variables: heads, ends and middle templates that fail, on the longest text that stack in may take.
+fn two_parts() {
+    let text = [b'a'; WHOLE];
+    running("a head that fails, 32,768 bytes", b"F { 'K' e1 'b' e2 = ; e1 = }", &text, 1);
+    running("an end that fails, 32,768 bytes", b"F { e1 'b' e2 'K' = ; e1 = }", &text, 1);
+    let head = format!("F {{ '{}' e1 'b' e2 = ; e1 = }}", "a".repeat(63));
+    running("a head of 63 bytes that fits, a middle that fails", head.as_bytes(), &text, 1);
+    let middle = format!("F {{ e1 '{}b' e2 = ; e1 = }}", "a".repeat(63));
+    running("a middle template of 64 bytes that fails", middle.as_bytes(), &text, 1);
+    let mut sentences = String::from("F {");
+    (0..MANY).for_each(|_| sentences.push_str(&format!("e1'{}b'e2=;", "a".repeat(63))));
+    sentences.push_str("e1=}");
+    running("one step of 400 such sentences", sentences.as_bytes(), &text, 1);
+    let lines = sheet();
+    running("a sheet of 28,500 bytes by one function", SHEET_TABLE, &lines, 10_000);
+}
+
+/// The commands of a sheet, each on a line of its own.
+fn sheet() -> Vec<u8> {
+    let mut lines = Vec::new();
+    while lines.len() < 28_500 {
+        lines.extend_from_slice(b"STOP 120\nSWING 45\n");
+    }
+    lines.truncate(28_500);
+    lines
+}
+
+/// Short texts and many small items.
+fn short_runs() {
+    running("row Z on `0060`", b"F { '0' e1 = <F e1>; e1 = e1 }", b"0060", 100);
+    running("row R on `abc`", b"G { s1 e2 = <G e2> s1; = }", b"abc", 100);
+    let values = format!("F {{ s1 s2 e3 = {} }}", "s1 s2 ".repeat(48));
+    running("96 stored bytes in one sentence", values.as_bytes(), b"xy", 1);
 }
 
 /// Conditions on parts: one over the whole text, and one on each part at every place.
@@ -43,18 +83,49 @@ fn conditions() {
     running("a class asked of both parts at 30,000 places", table, &digits, 1);
 }
 
-/// The shortest time of some rounds, each of enough calls to be measured.
-fn best(mut call: impl FnMut()) -> f64 {
-    let begin = Instant::now();
+/// The processor's time for this process so far: other work on the machine doesn't count.
+fn processor_time() -> Duration {
+    #[repr(C)]
+    struct TimeSpec {
+        seconds: i64,
+        nanoseconds: i64,
+    }
+    unsafe extern "C" {
+        fn clock_gettime(clock: i32, time: *mut TimeSpec) -> i32;
+    }
+    const PROCESS_CLOCK: i32 = 2;
+    let mut time = TimeSpec { seconds: 0, nanoseconds: 0 };
+    // SAFETY: the C library writes one value of this layout (64-bit Linux) where it is told
+    let failed = unsafe { clock_gettime(PROCESS_CLOCK, &raw mut time) };
+    assert_eq!(failed, 0, "no clock");
+    Duration::new(time.seconds as u64, time.nanoseconds as u32)
+}
+
+/// How many calls make a round that is long enough to be measured.
+fn calls_in_a_round(call: &mut dyn FnMut()) -> u32 {
+    let begin = processor_time();
     call();
-    let once = begin.elapsed().max(Duration::from_nanos(50));
-    let calls = (Duration::from_millis(20).as_nanos() / once.as_nanos()).clamp(1, 100_000) as u32;
-    let round = |_| {
-        let begin = Instant::now();
-        (0..calls).for_each(|_| call());
-        begin.elapsed().as_nanos() as f64 / f64::from(calls)
-    };
-    (0..ROUNDS).map(round).fold(f64::INFINITY, f64::min)
+    let once = (processor_time() - begin).max(Duration::from_nanos(50));
+    (Duration::from_millis(20).as_nanos() / once.as_nanos()).clamp(1, 100_000) as u32
+}
+
+/// The shortest time of some rounds of each, taken by turns.
+fn best_of<const N: usize>(mut all: [&mut dyn FnMut(); N]) -> [f64; N] {
+    let calls = all.each_mut().map(|call| calls_in_a_round(*call));
+    let mut best = [f64::INFINITY; N];
+    for _ in 0..ROUNDS {
+        for (which, call) in all.iter_mut().enumerate() {
+            let begin = processor_time();
+            (0..calls[which]).for_each(|_| call());
+            let time = (processor_time() - begin).as_nanos() as f64 / f64::from(calls[which]);
+            best[which] = best[which].min(time);
+        }
+    }
+    best
+}
+
+fn best(mut call: impl FnMut()) -> f64 {
+    best_of([&mut call])[0]
 }
 
 /// A row of the table; `machine` is there for runs.
@@ -65,8 +136,10 @@ fn row(what: &str, engine: f64, rust: f64, machine: Option<f64>, remark: &str) {
 
 fn reading(what: &str, table: &[u8]) {
     let mut answer = [0; 3];
-    let engine = best(|| exports::read(black_box(table), &mut answer));
-    let rust = best(|| drop(black_box(read(black_box(table)))));
+    let [engine, rust] = best_of([
+        &mut || exports::read(black_box(table), &mut answer),
+        &mut || drop(black_box(read(black_box(table)))),
+    ]);
     let number = read(table).map_or_else(|refusal| refusal.number, |_| 0);
     assert_eq!(answer[0], number, "{what}");
     let remark = format!("answer {number}; engine {:.2} ns a byte", engine / table.len() as f64);
@@ -78,8 +151,10 @@ fn translating(table: &[u8]) {
     let mut code = vec![0; CODE_WORDS];
     exports::translate(table, &mut code, &mut answer);
     code.truncate(answer[2] as usize);
-    let engine = best(|| exports::translate(black_box(table), &mut code, &mut answer));
-    let rust = best(|| drop(black_box(packing::code(&read(black_box(table)).expect("the table is sound")))));
+    let [engine, rust] = best_of([
+        &mut || exports::translate(black_box(table), &mut code, &mut answer),
+        &mut || drop(black_box(packing::code(&read(black_box(table)).expect("the table is sound")))),
+    ]);
     row("reading and translating it", engine, rust, None, &format!("{} words of code", answer[2]));
 }
 
@@ -102,12 +177,14 @@ fn running(what: &str, table: &[u8], text: &[u8], allowance: u32) -> f64 {
     let mut stack_in = vec![0; need.stack_in];
     let mut stack_out = vec![0; need.stack_out];
     let mut answer = [0; 5];
-    let engine = best(|| {
-        let cells = Cells { stack_in: &mut stack_in, stack_out: &mut stack_out, record: &mut [] };
-        exports::run(black_box(&code), 1, black_box(text), cells, allowance, &mut answer);
-    });
-    let rust = best(|| drop(black_box(rewrite(&tree, 1, black_box(text), allowance))));
-    let apart = best(|| drop(black_box(machine::run(&code, 1, black_box(text), allowance, Rooms::WITHOUT_END))));
+    let [engine, rust, apart] = best_of([
+        &mut || {
+            let cells = Cells { stack_in: &mut stack_in, stack_out: &mut stack_out, record: &mut [] };
+            exports::run(black_box(&code), 1, black_box(text), cells, allowance, &mut answer);
+        },
+        &mut || drop(black_box(rewrite(&tree, 1, black_box(text), allowance))),
+        &mut || drop(black_box(machine::run(&code, 1, black_box(text), allowance, Rooms::WITHOUT_END))),
+    ]);
     assert_eq!((answer[0], answer[2]), (outcome.answer, outcome.steps), "{what}");
     let actions = machine::actions(&code, 1, text, allowance) as f64;
     let remark = if outcome.steps > 1 {
