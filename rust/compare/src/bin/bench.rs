@@ -38,6 +38,7 @@ fn main() {
     moving(moves, 1_000);
     running("row Z on 30,000 zeros", b"F { '0' e1 = <F e1>; e1 = e1 }", &[b'0'; LONG], 100_000);
     running("1,000,000 recoveries", b"X { 'a' = } RecoverX { e1 = <X e1> }", b"b", 2_000_000);
+    running("100,000 sums of angles", b"F { e1 = <F <DmAdd e1 ' 0:00'>> }", b"12:30", 100_000);
 }
 
 /// Two e-variables: heads, ends and middle templates that fail, on the longest text that stack in may take.
