@@ -137,10 +137,9 @@ fn row(what: &str, engine: f64, rust: f64, machine: Option<f64>, remark: &str) {
 
 fn reading(what: &str, table: &[u8]) {
     let mut answer = [0; 3];
-    let [engine, rust] = best_of([
-        &mut || exports::read(black_box(table), &mut answer),
-        &mut || drop(black_box(read(black_box(table)))),
-    ]);
+    let [engine, rust] = best_of([&mut || exports::read(black_box(table), &mut answer), &mut || {
+        drop(black_box(read(black_box(table))))
+    }]);
     let number = read(table).map_or_else(|refusal| refusal.number, |_| 0);
     assert_eq!(answer[0], number, "{what}");
     let remark = format!("answer {number}; engine {:.2} ns a byte", engine / table.len() as f64);
@@ -152,10 +151,9 @@ fn translating(table: &[u8]) {
     let mut code = vec![0; CODE_WORDS];
     exports::translate(table, &mut code, &mut answer);
     code.truncate(answer[2] as usize);
-    let [engine, rust] = best_of([
-        &mut || exports::translate(black_box(table), &mut code, &mut answer),
-        &mut || drop(black_box(packing::code(&read(black_box(table)).expect("the table is sound")))),
-    ]);
+    let [engine, rust] = best_of([&mut || exports::translate(black_box(table), &mut code, &mut answer), &mut || {
+        drop(black_box(packing::code(&read(black_box(table)).expect("the table is sound"))))
+    }]);
     row("reading and translating it", engine, rust, None, &format!("{} words of code", answer[2]));
 }
 
