@@ -28,6 +28,8 @@ use Rattle.matching.specs.declared.Sifted.{Sifted}
 use Rattle.matching.specs.declared.Sifted.the-variants.{Unknown as Unsifted, Kept, Among}
 use Rattle.matching.specs.declared.Settled.{Settled}
 use Rattle.matching.specs.declared.Settled.the-variants.{Unsettled, Nowhere as NoPlace, Within}
+use Rattle.matching.specs.declared.Heads.{Heads}
+use Rattle.matching.specs.declared.Heads.the-variants.{Passed as HeadsPassed, Failed as HeadsFailed}
 use Rattle.matching.specs.declared.Places.{Places}
 use Rattle.matching.specs.declared.Places.the-variants.{From, Unknown}
 use Rattle.matching.specs.declared.Choice.{Choice}
@@ -132,6 +134,12 @@ abbrev pub Settles : Settled → Words → Bytes → (ℕ → Outcome) → ℕ �
 Settles Unsettled kept field test places first = Unit {0}
 Settles NoPlace kept field test places first = foundNone ≡ search test places first
 Settles (Within from among size) kept field test places first = Finds kept field test places first from among size
+
+-- the tests that are left say what all say, at each place; or all fail at each
+abbrev pub HeadsSay : Heads → Words → Bytes → (ℕ → Outcome) → Type 0
+HeadsSay (HeadsPassed at left) words field test =
+    (place : ℕ) → test place ≡ checkAll (unpackTests left (drop (at .0) words)) field place
+HeadsSay HeadsFailed words field test = (place : ℕ) → test place ≡ failed
 
 -- the places that a sentence's first word leaves for a field of a length
 abbrev pub placesFor : Option Metric → ℕ → Places

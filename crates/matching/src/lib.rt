@@ -12,7 +12,7 @@ ghost use Rattle.meaning.specs.Matching.{check as tested, search as searched};
 ghost use Rattle.meaning.specs.Packing.{numberIn, firstIn, secondIn, thirdIn, siteOf, classOf, testOf, lookOf, compareOf, predicateFor, metricIn, unpackTests, unpackSentences};
 ghost use Rattle.classes.specs.Tests.{classTest, Answers};
 ghost use Rattle.matching.specs.Matched.{cellMeant, siteCell, beforeMeant, inside, siteBefore, checkedMeant, lastTest};
-ghost use Rattle.matching.specs.Matched.{foundMeant, asksPlace, Spells, Occurs, Leads, Trails, Sifts, Settles, placesFor, tried, Chooses};
+ghost use Rattle.matching.specs.Matched.{foundMeant, asksPlace, Spells, Occurs, Leads, Trails, Sifts, Settles, HeadsSay, placesFor, tried, Chooses};
 use finding::Occurrence;
 
 // A place in the code. It is counted apart from the cells of in and of out.
@@ -54,6 +54,12 @@ enum Settled {
 enum Template {
     String(usize),
     Mixed,
+}
+
+// The tests from a place of the code on that are left once the first ones passed; or one of these failed.
+enum Heads {
+    Passed { at: CodePlace, left: usize },
+    Failed,
 }
 
 // A test passes, fails, or asks for something that isn't there.
@@ -720,7 +726,7 @@ fn no_tests() -> [u32; 72] {
 }
 
 // The leftmost of so many places at which all tests pass: what doesn't depend on the place is tested once.
-fn find_place(
+fn find_settled(
     bits: &[u8; 256],
     code: &[u32],
     tests: CodePlace,
@@ -746,6 +752,71 @@ fn find_place(
             kept: size,
         } => { find_among(bits, &kept, CodePlace(0), size, field, from, among) }
     }
+}
+
+// The tests that begin a sentence and look at cells counted from p, which no place changes. One that finds no cell is left.
+fn pass_heads(code: &[u32], tests: CodePlace, count: usize, field: &[u8]) -> Heads
+    ensures { λ r. ⌜ HeadsSay r (now (code .entry)) (now (field .entry)) (checkAll (unpackTests count (drop (tests .0) (now (code .entry)))) (now (field .entry))) ⌝ }
+{
+    let mut at = tests.0;
+    let mut left = count;
+    while 0 < left {
+        if code.len() <= at {
+            return Heads::Passed {
+                at: CodePlace(at),
+                left: left,
+            };
+        }
+        let word = code[at];
+        if word % 65536 != 1 {
+            return Heads::Passed {
+                at: CodePlace(at),
+                left: left,
+            };
+        }
+        let offset = wide(word / 65536 % 256);
+        if field.len() <= offset {
+            return Heads::Passed {
+                at: CodePlace(at),
+                left: left,
+            };
+        }
+        if field[offset] != (word / 16777216 % 256) as u8 {
+            return Heads::Failed;
+        }
+        at += 1;
+        left -= 1;
+    }
+    Heads::Passed {
+        at: CodePlace(at),
+        left: 0,
+    }
+}
+
+// The same, with the sentence's head first.
+fn find_place(
+    bits: &[u8; 256],
+    code: &[u32],
+    tests: CodePlace,
+    count: usize,
+    field: &[u8],
+    first: usize,
+    places: usize,
+) -> Found
+    requires { ⌜ Answers (now bits) ⌝ }
+    requires { ⌜ first + places ≤ length (now field) + 256 ⌝ }
+    ensures { λ r. ⌜ foundMeant r ≡ searched (checkAll (unpackTests count (drop (tests .0) (now (code .entry)))) (now (field .entry))) places first ⌝ }
+{
+    if places == 0 {
+        return Found::Nowhere;
+    }
+    let Heads::Passed { at: rest, left } = pass_heads(code, tests, count, field) else {
+        return Found::Nowhere;
+    };
+    if left == 0 {
+        return Found::At(first);
+    }
+    find_settled(bits, code, rest, left, field, first, places)
 }
 
 fn one_if(ok: bool) -> usize

@@ -6,6 +6,7 @@ use mathlib.Core.Bool.{Bool}
 use mathlib.Core.Option.{Option, none, some}
 use lib.Arith.{mod-mul}
 use lib.Dec.{eqb}
+use lib.ListN.{length, getD}
 use borrow.Author.Tests.{ne-eqb}
 use Rattle.meaning.specs.Choice.{Bytes, pick}
 use Rattle.meaning.specs.Classes.{Class, digit, upper, lower, alphabetic, blank, inClass}
@@ -15,6 +16,7 @@ use Rattle.meaning.specs.Matching.{checked, asked, wrong, check}
 use Rattle.meaning.specs.Packing.{numberIn, firstIn, secondIn, thirdIn, classOf, siteOf, lookOf, compareOf, predicateFor, testOf, metricIn}
 use Rattle.classes.specs.Tests.{classTest}
 use Rattle.matching.specs.Matched.{siteCell, lastTest}
+use Rattle.matching.proofs.laws.Lists.{nth-in}
 
 -- a test asks for the cell at its site
 pub look-asks : (o : Option Site) (c : ℕ) (field : Bytes) (place : ℕ) (a : Option ℕ) → a ≡ siteCell o field place →
@@ -98,3 +100,8 @@ look-from w register h =
 -- a Look counted from the middle template's place
 pub look-there : (w n : ℕ) → w % 65536 ≡ 513 → secondIn w ≡ n → testOf w ≡ look (fromPlace n) (thirdIn w)
 look-there w n h e = rw (← e) (look-from w 2 h)
+
+-- a Look at a cell counted from p that is there says the same at each place
+pub head-says : (w : ℕ) (field : Bytes) (b : Bool) → w % 65536 ≡ 1 → secondIn w < length field → b ≡ eqb (thirdIn w) (getD field (secondIn w) 0) →
+    (place : ℕ) → check (testOf w) field place ≡ checked b
+head-says w field b h there e place = rw (look-from w 0 h, nth-in field (secondIn w) there, e)

@@ -3,7 +3,7 @@ use Prim.Native.Nat.{ℕ, zero, suc, _+_, _-_, _≤_, _<_}
 use native.Mathlib.Omega.{arith}
 use mathlib.Core.Path.{_≡_, refl, sym, _∙_}
 use Rattle.matching.specs.Matched.{NeverWrong, Narrows}
-use Rattle.meaning.specs.Matching.{Checked, passed, failed, wrong, wherePassed, foundNone, search}
+use Rattle.meaning.specs.Matching.{Checked, passed, failed, wrong, wherePassed, foundAt, foundNone, search}
 
 -- THE SEARCH OVER A RANGE
 
@@ -19,6 +19,11 @@ module _ (F : ℕ → Checked) where
   unfolding search
   search-none zero first e = refl
   search-none (suc n) first e = rw (e first (omega arith) (omega arith)) (search-none n (suc first) (λ p h h′. e p (omega arith) (omega arith)))
+
+  pub search-first : (n first : ℕ) → 0 < n → F first ≡ passed → search F n first ≡ foundAt first
+  unfolding search
+  search-first zero first h e = absurd (omega arith)
+  search-first (suc n) first h e = rw e
 
   -- places at which the tests fail are left out, at the end and at the beginning
   search-cut : (n k first : ℕ) → k ≤ n → ((p : ℕ) → first + k ≤ p → p < first + n → F p ≡ failed) → search F n first ≡ search F k first

@@ -1,17 +1,19 @@
 -- A sentence's tests and the search for its middle template's place, read off the code words.
-use Prim.Native.Nat.{ℕ, zero, suc, _+_, _-_, _≤_, _<_}
+use Prim.Native.Nat.{ℕ, zero, suc, _+_, _-_, _≤_, _<_, _%_}
 use native.Mathlib.Nat.{le-of-suc-le-suc, not-suc-le-zero}
 use native.Mathlib.Numerals.{add-one, sub-one}
 use native.Mathlib.Omega.{arith}
 use mathlib.Core.Path.{_≡_, refl, sym, _∙_}
+use mathlib.Core.Bool.{true, false}
 use borrow.Author.Tests.{eq-eqb, ne-eqb}
 use Rattle.meaning.specs.Instructions.{Test, fromPlace, look}
 use mathlib.Core.List.{List, [], _∷_, _++_}
 use lib.ListN.{length, getD, drop, set}
 use Rattle.meaning.specs.Choice.{Bytes}
 use Rattle.meaning.specs.Matching.{Checked, passed, failed, wrong, wherePassed, check, checkAll, Found, foundAt, foundNone, foundWrong, settled, search}
-use Rattle.meaning.specs.Packing.{Words, testOf, unpackTests}
+use Rattle.meaning.specs.Packing.{Words, secondIn, thirdIn, testOf, unpackTests}
 use Rattle.meaning.proofs.laws.Remaining.{at-place, past-end}
+use Rattle.matching.proofs.laws.Fields.{head-says}
 use Rattle.matching.proofs.laws.Lists.{nth-in, nth-out}
 use Rattle.matching.proofs.laws.Settling.{passed-last, passed-then}
 
@@ -76,6 +78,23 @@ pub one-test : (field : Bytes) (words : Words) (at : ℕ) → at < length words 
     testing field place words at 1 ≡ check (testOf (getD words at 0)) field place
 one-test field words at h place =
     rw (next-test field place words at 1 (omega arith) h, no-tests field place words (at + 1) 0 (omega arith)) (passed-last (check (testOf (getD words at 0)) field place))
+
+-- a Look counted from p, as the next test: it passes, and those after it say what is said; or it fails, whatever they say
+module _ (field : Bytes) (words : Words) (at left offset : ℕ) (some : 0 < left) (there : at < length words) (number : getD words at 0 % 65536 ≡ 1)
+    (e : offset ≡ secondIn (getD words at 0)) (inside : offset < length field) where
+  pub head-passes : getD field offset 0 ≡ thirdIn (getD words at 0) → (place : ℕ) → testing field place words at left ≡ testing field place words (at + 1) (left - 1)
+  head-passes same place =
+      rw (
+        next-test field place words at left some there,
+        head-says (getD words at 0) field true number (rw e at inside) (sym (eq-eqb _ _ (sym (rw e at same)))) place,
+      )
+
+  pub head-fails : (getD field offset 0 ≡ thirdIn (getD words at 0) → ⊥) → (place : ℕ) → testing field place words at left ≡ failed
+  head-fails other place =
+      rw (
+        next-test field place words at left some there,
+        head-says (getD words at 0) field false number (rw e at inside) (sym (ne-eqb _ _ (λ same. (rw e at other) (sym same)))) place,
+      )
 
 -- what one test says, told by a search at one place
 abbrev pub checkedOf : Found → Checked

@@ -12,7 +12,7 @@ use std::time::Duration;
 const CODE_WORDS: usize = 1 << 20;
 const LONG: usize = 30_000;
 const WHOLE: usize = 32_768;
-const MANY: usize = 400;
+const MANY: usize = 455;
 const SHEET_TABLE: &[u8] = b"F { 'STOP ' e1 '\\n' e2 = <F e2>; 'SWING ' e1 '\\n' e2 = <F e2>; e1 = e1 }";
 const ROUNDS: usize = 7;
 
@@ -53,7 +53,7 @@ fn two_parts() {
     let mut sentences = String::from("F {");
     (0..MANY).for_each(|_| sentences.push_str(&format!("e1'{}b'e2=;", "a".repeat(63))));
     sentences.push_str("e1=}");
-    running("one step of 400 such sentences", sentences.as_bytes(), &text, 1);
+    running("one step of 455 such sentences", sentences.as_bytes(), &text, 1);
     let lines = sheet();
     running("a sheet of 28,500 bytes by one function", SHEET_TABLE, &lines, 10_000);
 }
