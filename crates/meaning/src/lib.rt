@@ -1,1 +1,1 @@
-// The public types of the engine: none yet.
+// What things are: the definitions that every contract builds on, and theorems about rewriting and running. No code.
