@@ -1,7 +1,6 @@
--- Demand 2's theorems about the definitions, and those that join it to demand 3.
+-- Demand 2's theorems about the definitions.
 pub mod reading
 pub mod roundtrip
 pub mod OneTree
 pub mod Demand2
 pub mod ReadBack
-pub mod BytesToCells

@@ -16,7 +16,7 @@ use Rattle.meaning.specs.Packing.{pack}
 use Rattle.meaning.specs.Leaving.{Cells}
 use Rattle.meaning.specs.Flat.{isFlat}
 use Rattle.meaning.specs.Entries.{flatAnswer}
-use Rattle.meaning.proofs.Flat.{never-fifteen-left, flat-answer}
+use Rattle.agreeing.proofs.Flat.{never-fifteen-left, flat-answer}
 use Rattle.tables.proofs.Known.{AreBytes, Known, read-known}
 use Rattle.engine.specs.TableRuns.{withCode, withoutCode, tableRun}
 use Rattle.engine.proofs.Runs.{table-leaves}

@@ -16,8 +16,8 @@ use Rattle.meaning.specs.Packing.{Words, pack}
 use Rattle.meaning.specs.Outcome.{uncounted, Result}
 use Rattle.meaning.specs.Leaving.{Cells, Leaving, zeros, padded, roomOf, leaving}
 use Rattle.meaning.specs.Entries.{answered, written, translated, runAnswer}
-use Rattle.meaning.proofs.laws.Translated.{unpacked}
-use Rattle.meaning.proofs.Demand3.{as-demanded}
+use Rattle.agreeing.proofs.laws.Translated.{unpacked}
+use Rattle.agreeing.proofs.Demand3.{as-demanded}
 use Rattle.acting.specs.declared.registers.Ran.{Ran}
 use Rattle.acting.specs.Endings.{endingNumber}
 use Rattle.running.specs.Leaving.{Tells, Leaves}

@@ -11,7 +11,7 @@ use Rattle.meaning.specs.Tree.{Subject, ofSymbol, ofPart, Condition, Sentence}
 use Rattle.meaning.specs.Allowed.{maxName, isByte, spelledName, spelledIdentifier, spelledElement, ofPattern, symbolsOf, partsOf, allowedExpression, allowedSentence}
 use Rattle.meaning.proofs.laws.Passing.{both-left, both-right, every-weaken, passed}
 use Rattle.meaning.proofs.laws.Spelling.{name-bytes, name-short, identifier-bytes, identifier-short}
-use Rattle.meaning.proofs.agreement.Choosing.{true-passed}
+use Rattle.meaning.proofs.laws.Choosing.{true-passed}
 use Rattle.accepting.proofs.reading.Lists.{member-every}
 use Rattle.accepting.proofs.reading.Sentences.{symbols-spelled, parts-spelled}
 use Rattle.accepting.proofs.roundtrip.Legible.{legible, allowed-legible}

@@ -1,6 +1,3 @@
--- Worked rows, laws and theorems about the definitions.
+-- Worked rows and laws of the definitions.
 pub mod rows
 pub mod laws
-pub mod agreement
-pub mod Demand3
-pub mod Flat

@@ -7,7 +7,6 @@ pub mod Read
 pub mod Recovery
 pub mod Packed
 pub mod Wild
-pub mod Example
 pub mod Texts
 pub mod Listed
 pub mod Classes

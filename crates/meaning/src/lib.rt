@@ -1,1 +1,1 @@
-// What things are: the definitions that every contract builds on, and theorems about rewriting and running. No code.
+// What things are: the definitions that every contract builds on, and worked rows of them.

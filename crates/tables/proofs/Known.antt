@@ -15,7 +15,7 @@ use Rattle.meaning.specs.Reading.{Read, accepted, refused, read}
 use Rattle.reading.specs.declared.Reading.{Reading}
 use Rattle.reading.specs.Reads.{Reads}
 use Rattle.reading.proofs.Verdict.{tree-words}
-use Rattle.meaning.proofs.agreement.Choosing.{true-passed}
+use Rattle.meaning.proofs.laws.Choosing.{true-passed}
 use Rattle.accepting.proofs.reading.Basics.{both-true}
 use Rattle.accepting.proofs.reading.Accepted.{accepted-allows}
 use Rattle.refusing.proofs.Refusals.{refused-exactly, refusal-numbers}

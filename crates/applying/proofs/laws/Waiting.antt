@@ -10,7 +10,7 @@ use Rattle.meaning.specs.Outcome.{stop, done, pay}
 use Rattle.meaning.specs.Machine.{Stacks, ranPaid}
 use Rattle.meaning.specs.Runs.{Room, lent}
 use Rattle.meaning.specs.Packing.{Words}
-use Rattle.meaning.proofs.laws.Depth.{enter-step}
+use Rattle.agreeing.proofs.laws.Depth.{enter-step}
 use Rattle.acting.specs.declared.registers.Registers.{Registers}
 use Rattle.acting.specs.declared.registers.Next.the-variants.{Onward}
 use Rattle.acting.specs.States.{Memory, frameWord, localAt, Held, stacksOf, Ledgers, ledgerOf, roomOf, Outcomes}

@@ -29,7 +29,7 @@ use Rattle.templates.proofs.laws.Scanning.{pattern-skip}
 use Rattle.templates.proofs.laws.Conditioned.{conditions-skip}
 use Rattle.expressions.proofs.laws.Items.{levels-skip}
 use Rattle.accepting.proofs.reading.Basics.{both-left, both-right}
-use Rattle.meaning.proofs.agreement.Choosing.{passed-true, true-passed}
+use Rattle.meaning.proofs.laws.Choosing.{passed-true, true-passed}
 use Rattle.meaning.proofs.laws.Spelling.{name-short, name-bytes, identifier-bytes, identifier-short as short-identifier}
 use Rattle.meaning.proofs.laws.Words.{by-class, class-below, truth-below}
 use Rattle.accepting.proofs.roundtrip.Legible.{legible, allowed-legible}

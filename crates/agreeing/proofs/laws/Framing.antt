@@ -1,0 +1,85 @@
+-- Which instructions add a frame: a Call, and nothing else. What the machine chooses of code without any has none.
+use Prim.Native.Nat.{ℕ, zero, suc, pred}
+use mathlib.Core.Bool.{Bool, true, false}
+use mathlib.Core.List.{List, [], _∷_}
+use lib.Dec.{T}
+use Rattle.meaning.specs.Choice.{Bytes, either, nth}
+use Rattle.meaning.specs.Instructions.{Action, go, select, out, outCharacter, outValue, beginSequence, useSequence, call, tailCall, emission, unknownAction, Sentences, noMore, sentence, unknownSentence, Code, compute}
+use Rattle.meaning.specs.Matching.{Found, foundAt, foundNone, foundWrong, Choice, chosen, chosenNone, chosenWrong, choiceOf, place, chooseFrom}
+use Rattle.meaning.specs.Machine.{Need, inCells, outCells, recordBytes, frames, functionOf, codeAt}
+
+abbrev pub isCall : Action → Bool
+isCall (go s) = false
+isCall (select s) = false
+isCall out = false
+isCall (outCharacter c) = false
+isCall (outValue k) = false
+isCall beginSequence = false
+isCall useSequence = false
+isCall (call f) = true
+isCall (tailCall f) = false
+isCall (emission n) = false
+isCall (compute op) = false
+isCall unknownAction = false
+
+unfoldable pub anyCall : List Action → Bool
+anyCall [] = false
+anyCall (a ∷ more) = either (isCall a) (anyCall more)
+
+unfoldable pub sentencesCall : Sentences → Bool
+sentencesCall (noMore r) = false
+sentencesCall (sentence metric tests stores actions more) = either (anyCall actions) (sentencesCall more)
+sentencesCall unknownSentence = false
+
+unfoldable pub codeCalls : Code → Bool
+codeCalls [] = false
+codeCalls (f ∷ fs) = either (sentencesCall f) (codeCalls fs)
+
+abbrev pub choiceCalls : Choice → Bool
+choiceCalls (chosen number at stores actions) = anyCall actions
+choiceCalls (chosenNone r) = false
+choiceCalls chosenWrong = false
+
+-- a need that only a Call has
+abbrev pub isFrames : Need → Bool
+isFrames (inCells n) = false
+isFrames (outCells n) = false
+isFrames (recordBytes n) = false
+isFrames (frames n) = true
+
+pub either-left : (a b : Bool) → T a → T (either a b)
+either-left true b t = tt
+either-left false b t = absurd t
+
+pub either-right : (a b : Bool) → T b → T (either a b)
+either-right true b t = tt
+either-right false b t = t
+
+pub neither : (a b : Bool) → (T a → ⊥) → (T b → ⊥) → T (either a b) → ⊥
+neither true b h k t = h tt
+neither false b h k t = k t
+
+chosen-calls : (number : ℕ) (s : Sentences) (field : Bytes) → T (choiceCalls (chooseFrom number s field)) → T (sentencesCall s)
+unfolding chooseFrom sentencesCall
+chosen-calls number (noMore r) field t = t
+chosen-calls number unknownSentence field t = t
+chosen-calls number (sentence metric tests stores actions more) field t =
+    by (place metric tests field) (either-right (anyCall actions) (sentencesCall more)) (chosen-calls (suc number) more field) t
+  where
+    by : (found : Found) → (T (sentencesCall more) → T (either (anyCall actions) (sentencesCall more))) →
+        (T (choiceCalls (chooseFrom (suc number) more field)) → T (sentencesCall more)) →
+        T (choiceCalls (choiceOf found number stores actions (chooseFrom (suc number) more field))) →
+        T (either (anyCall actions) (sentencesCall more))
+    by (foundAt at) wider later t = either-left (anyCall actions) (sentencesCall more) t
+    by foundNone wider later t = wider (later t)
+    by foundWrong wider later t = absurd t
+
+nth-calls : (code : Code) (i : ℕ) → T (sentencesCall (functionOf (nth i code))) → T (codeCalls code)
+unfolding nth codeCalls sentencesCall
+nth-calls [] i t = t
+nth-calls (f ∷ fs) zero t = either-left (sentencesCall f) (codeCalls fs) t
+nth-calls (f ∷ fs) (suc i) t = either-right (sentencesCall f) (codeCalls fs) (nth-calls fs i t)
+
+-- a chosen sentence is one of the code
+pub choice-calls : (code : Code) (f : ℕ) (field : Bytes) → T (choiceCalls (chooseFrom 0 (codeAt code f) field)) → T (codeCalls code)
+choice-calls code f field t = nth-calls code (pred f) (chosen-calls 0 (codeAt code f) field t)
