@@ -42,6 +42,12 @@ tableV =
     function (70 ∷ []) (plain all1 (thenCall 10 (71 ∷ []) (thenPart x1 end) (thenCharacter 107 end)) ∷ []) ∷
     function (71 ∷ []) (plain (letter (character 120) ∷ []) end ∷ []) ∷ []
 
+-- `F { e1 = <G 'a'> } G { e1 = e1 }`
+abbrev tableD : Table
+tableD =
+    function (70 ∷ []) (plain all1 (thenCall 10 (71 ∷ []) (thenCharacter 97 end) end) ∷ []) ∷
+    function (71 ∷ []) (plain all1 (thenPart x1 end) ∷ []) ∷ []
+
 -- a sentence with one condition, on s1
 abbrev asking : Class → Bool → List Element → Expression → Sentence
 asking class expected p e =
@@ -116,10 +122,14 @@ edges =
     same tableZ [] most (cells 0 0) (result 0 0 1 (1 ∷ []) [] []) ∷
     -- an empty argument is no fault where in is full
     same tableU (97 ∷ []) most (cells 1 1) (result 0 0 2 (1 ∷ 1 ∷ []) (97 ∷ []) []) ∷
+    -- what a tail call doesn't pass on is dropped before its argument is moved
+    same tableD (120 ∷ []) most (cells 1 1) (result 0 0 2 (1 ∷ 1 ∷ []) (97 ∷ []) []) ∷
     -- THE FRAMES
     -- as many frames as there are calls one inside another, the start's among them
     same tableR (97 ∷ []) most (framed 2) (result 0 0 2 (2 ∷ []) (97 ∷ []) []) ∷
     short tableR (97 ∷ []) (framed 1) (result 0 0 2 (2 ∷ []) (97 ∷ []) []) (result 15 0 1 (1 ∷ []) [] []) ∷
+    -- of several needs that are passed the first is answered, with the steps from before it
+    short tableR abc (framed 1) (result 0 0 4 (4 ∷ []) (99 ∷ 98 ∷ 97 ∷ []) []) (result 15 0 1 (1 ∷ []) [] []) ∷
     -- WHAT COMES FIRST
     -- the argument is written and moved before the call, so that 14 or 13 can come where rewriting says 12
     sooner tableP (99 ∷ []) 1 (cells 1000 1) (result 12 0 1 (1 ∷ []) [] []) (result 14 0 1 (1 ∷ []) [] []) ∷

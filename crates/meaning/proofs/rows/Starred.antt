@@ -12,6 +12,7 @@ use Rattle.meaning.specs.Instructions.{Code}
 use Rattle.meaning.specs.Leaving.{padded}
 use Rattle.meaning.specs.Translation.{translate}
 use Rattle.meaning.specs.Packing.{pack, unpack}
+use Rattle.meaning.specs.Demanded.{demanded}
 use Rattle.meaning.proofs.rows.Tables.{tableZ, tableR, tableH, tableK, tableP, tableM}
 use Rattle.meaning.proofs.rows.Computing.{computing}
 
@@ -24,11 +25,12 @@ pub record Row : Type 0 where
   pub rewritten : Result
   pub ran : Result
 
--- rewriting, the run without end, the run on what is lent, and the code unpacked from its packed words
+-- rewriting, the run without end, the run on what is lent and what demand 3 asks of it, and the code unpacked from its packed words
 pub record Outcomes : Type 0 where
   pub rewriting : Result
   pub endless : Result
   pub lent : Result
+  pub demanding : Result
   pub unpacked : Option Code
 
 abbrev pub found : Row → Outcomes
@@ -37,11 +39,19 @@ found r =
       rewriting = rewrite (r .table) 1 (r .text) (r .allowance);
       endless = runEndless (translate (r .table)) 1 (r .text) (r .allowance);
       lent = runLent (r .room) (translate (r .table)) 1 (r .text) (r .allowance);
+      demanding = demanded (r .room) (r .table) 1 (r .text) (r .allowance);
       unpacked = unpack (pack (translate (r .table)));
     }
 
 abbrev pub expected : Row → Outcomes
-expected r = record { rewriting = r .rewritten; endless = r .rewritten; lent = r .ran; unpacked = some (translate (r .table)) }
+expected r =
+    record {
+      rewriting = r .rewritten;
+      endless = r .rewritten;
+      lent = r .ran;
+      demanding = r .ran;
+      unpacked = some (translate (r .table));
+    }
 
 abbrev pub AllHold : List Row → Type 0
 AllHold rs = map found rs ≡ map expected rs
