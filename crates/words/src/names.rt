@@ -6,7 +6,8 @@ ghost use mathlib.Core.List.{_++_};
 ghost use Prim.Native.Nat.{_+_, _≤_};
 ghost use lib.ListN.{length, take, drop};
 ghost use Rattle.meaning.specs.Choice.{sameBytes, startsWith};
-ghost use Rattle.meaning.specs.Names.{callingOf, isRecovering};
+ghost use Rattle.meaning.specs.Angles.{plus, minus};
+ghost use Rattle.meaning.specs.Names.{isEmission, operationName, callingOf, isBuiltIn, isRecovering};
 ghost use Rattle.words.specs.Words.{headName, headNames};
 ghost use Rattle.words.specs.Finding.{numberAmong, callingIn, recovererAmong};
 
@@ -124,21 +125,59 @@ pub fn find(tape: &[u32], heads: &[usize], count: usize, from: usize, size: usiz
     find_prefixed(tape, heads, count, b"", from, size)
 }
 
+// It begins with Emit.
+fn is_emission(tape: &[u32], from: usize, size: usize) -> bool
+    requires { ⌜ from + size ≤ length (now tape) ⌝ }
+    ensures { λ r. ⌜ r ≡ isEmission (take size (drop from (now (tape .entry)))) ⌝ }
+{
+    starts_with(tape, from, size, b"Emit")
+}
+
+// It is that of a sum of angles.
+fn is_sum(tape: &[u32], from: usize, size: usize) -> bool
+    requires { ⌜ from + size ≤ length (now tape) ⌝ }
+    ensures { λ r. ⌜ r ≡ sameBytes (take size (drop from (now (tape .entry)))) (operationName plus) ⌝ }
+{
+    spells(tape, from, size, b"DmAdd")
+}
+
+// It is that of a difference.
+fn is_difference(tape: &[u32], from: usize, size: usize) -> bool
+    requires { ⌜ from + size ≤ length (now tape) ⌝ }
+    ensures { λ r. ⌜ r ≡ sameBytes (take size (drop from (now (tape .entry)))) (operationName minus) ⌝ }
+{
+    spells(tape, from, size, b"DmSub")
+}
+
 // How a call of it is done.
 pub fn calling_of(tape: &[u32], from: usize, size: usize) -> Calling
     requires { ⌜ from + size ≤ length (now tape) ⌝ }
     ensures { λ r. ⌜ r ≡ callingIn (callingOf (take size (drop from (now (tape .entry))))) ⌝ }
 {
-    if starts_with(tape, from, size, b"Emit") {
+    if is_emission(tape, from, size) {
         return Calling::Emission;
     }
-    if spells(tape, from, size, b"DmAdd") {
+    if is_sum(tape, from, size) {
         return Calling::Angles(false);
     }
-    if spells(tape, from, size, b"DmSub") {
+    if is_difference(tape, from, size) {
         return Calling::Angles(true);
     }
     Calling::Function
+}
+
+// A call of it needs no declaration. Short, so that the compiler puts it where it is asked.
+pub fn is_built_in(tape: &[u32], from: usize, size: usize) -> bool
+    requires { ⌜ from + size ≤ length (now tape) ⌝ }
+    ensures { λ r. ⌜ r ≡ isBuiltIn (take size (drop from (now (tape .entry)))) ⌝ }
+{
+    if is_emission(tape, from, size) {
+        return true;
+    }
+    if is_sum(tape, from, size) {
+        return true;
+    }
+    is_difference(tape, from, size)
 }
 
 // It begins with Recover.

@@ -10,7 +10,7 @@ use lib.Seq.{drop-drop, take-nil, take-length}
 use borrow.Author.Tests.{eq-eqb, ne-eqb}
 use Rattle.meaning.specs.Choice.{Name, pick, both, sameBytes, startsWith}
 use Rattle.meaning.specs.Angles.{plus, minus}
-use Rattle.meaning.specs.Names.{isEmission, operationName, callingOf, recoverPrefix, isRecovering}
+use Rattle.meaning.specs.Names.{asAngles, asFunction, isEmission, operationName, callingOf, builtIn, isBuiltIn, recoverPrefix, isRecovering}
 use Rattle.words.specs.Words.{carried, headName, headNames}
 use Rattle.words.specs.Finding.{numberAmong, callingIn, recovererAmong}
 use Rattle.words.specs.declared.names.Calling.the-variants.{Emission, Angles, Function}
@@ -121,9 +121,15 @@ module _ (n : Name) {emits : Bool} (e : emits ≡ isEmission n) where
   pub calls-emission : emits ≡ true → Emission ≡ callingIn (callingOf n)
   calls-emission h = rw (← e, h)
 
+  pub built-in-emission : emits ≡ true → true ≡ isBuiltIn n
+  built-in-emission h = rw (← e, h)
+
   module _ (h : emits ≡ false) {adds : Bool} (f : adds ≡ sameBytes n (operationName plus)) where
     pub calls-sum : adds ≡ true → Angles false ≡ callingIn (callingOf n)
     calls-sum k = rw (← e, h, ← f, k)
+
+    pub built-in-sum : adds ≡ true → true ≡ isBuiltIn n
+    built-in-sum k = rw (← e, h, ← f, k)
 
     module _ (k : adds ≡ false) {subtracts : Bool} (g : subtracts ≡ sameBytes n (operationName minus)) where
       pub calls-difference : subtracts ≡ true → Angles true ≡ callingIn (callingOf n)
@@ -131,6 +137,13 @@ module _ (n : Name) {emits : Bool} (e : emits ≡ isEmission n) where
 
       pub calls-function : subtracts ≡ false → Function ≡ callingIn (callingOf n)
       calls-function l = rw (← e, h, ← f, k, ← g, l)
+
+      pub built-in-last : subtracts ≡ isBuiltIn n
+      built-in-last = rw (← e, h, ← f, k, ← g) (by subtracts)
+        where
+          by : (b : Bool) → b ≡ builtIn (pick b (asAngles minus) asFunction)
+          by true = refl
+          by false = refl
 
 -- A PREFIX AND A NAME
 
