@@ -27,6 +27,9 @@ rows =
     -- a call that is never closed, and one closed with none open
     row (2817 ∷ 70 ∷ 2560 ∷ []) (At 1) ∷
     row (1280 ∷ 120 ∷ 2817 ∷ 70 ∷ 1280 ∷ 120 ∷ []) (At 2) ∷
+    -- words of a name neither open nor close a call
+    row (2818 ∷ 1280 ∷ 2560 ∷ 1280 ∷ []) Nowhere ∷
+    row (2818 ∷ 1280 ∷ 2560 ∷ 1280 ∷ 120 ∷ []) (At 2) ∷
     -- a name that runs past the last word; its first four bytes make an emission
     row (2817 ∷ 70 ∷ 2309 ∷ 69 ∷ 109 ∷ 105 ∷ 116 ∷ []) Nowhere ∷
     row (2817 ∷ 70 ∷ 2309 ∷ 69 ∷ 109 ∷ 105 ∷ []) (At 0) ∷

@@ -18,10 +18,9 @@ use Rattle.meaning.specs.Flat.{nestedAt, nestedCalls, nestedSentences, nestedIn
 use Rattle.meaning.proofs.laws.Passing.{both-left, both-right, both-pass, every-head, every-tail}
 use Rattle.meaning.proofs.laws.Spelling.{name-short, identifier-short, identifier-bytes}
 use Rattle.accepting.proofs.roundtrip.Legible.{legible}
-use Rattle.flatness.specs.declared.Scan.{Scan}
-use Rattle.flatness.specs.Scanned.{placed, placeOf, earlier, onlyIf, isItem, itemFollows, opened, closed, passed, scanned, nestedCall}
+use Rattle.flatness.specs.Scanned.{placed, placeOf, earlier, onlyIf, isItem, itemFollows, Scan, outOfCalls, inCall, opened, closed, scanned, nestedCall}
 use Rattle.flatness.proofs.Places.{earlier-nothing, earlier-either-way, earlier-assoc, told-placed, foundIn, found-first, found-append, found-then}
-use Rattle.flatness.proofs.Passing.{quiet, quiet-low, quiet-word, quiet-then}
+use Rattle.flatness.proofs.Passing.{word-then, name-then, quiet, quiet-low, quiet-word, quiet-then}
 use Rattle.flatness.proofs.Spelled.{byte-quiet, bytes-quiet, name-quiet, allowed-plain}
 
 -- CALLS
@@ -38,8 +37,8 @@ levelOf (within d p) = inside
 
 -- there, with the leftmost place so far
 abbrev at : Standing → ℕ → Scan
-at outside o = record { depth = 0; outermost = 0; leftmost = o }
-at (within d p) o = record { depth = suc d; outermost = p; leftmost = o }
+at outside o = outOfCalls o
+at (within d p) o = inCall d p o
 
 -- where it stands in a call's argument, and the leftmost place after the call is opened and after it is closed
 abbrev openIn : Standing → ℕ
@@ -63,36 +62,31 @@ whenClosed (within d p) followed call o = o
 
 opens : (st : Standing) (call o : ℕ) → opened call (at st o) ≡ at (deeper st call) (whenOpened st call o)
 opens outside call o = refl
-opens (within d p) call o =
-    let more : suc d + 1 ≡ suc (suc d) = omega arith in
-    rw (ne-eqb (suc d) 0 (omega arith), more)
+opens (within d p) call o = refl
 
 closes : (st : Standing) (followed : Bool) (call o : ℕ) → closed followed (at (deeper st call) o) ≡ at st (whenClosed st followed call o)
 closes outside followed call o = refl
-closes (within d p) followed call o =
-    let less : suc (suc d) - 1 ≡ suc d = omega arith in
-    rw (lt-ltb 1 (suc (suc d)) (omega arith), less)
+closes (within d p) followed call o = refl
 
 close-then : (st : Standing) (call : ℕ) (rest : List ℕ) (o : ℕ)
-    → scanned (tapeWord closeKind 0 ∷ rest) (at (deeper st call) o) ≡ scanned rest (at st (whenClosed st (itemFollows rest) call o))
+    → scanned 0 (tapeWord closeKind 0 ∷ rest) (at (deeper st call) o) ≡ scanned 0 rest (at st (whenClosed st (itemFollows rest) call o))
 unfolding scanned
-close-then st call rest o = ap (scanned rest) (closes st (itemFollows rest) call o)
+close-then st call rest o = ap (scanned 0 rest) (closes st (itemFollows rest) call o)
 
 -- the word of a call and the name after it
 module _ (place : ℕ) (n : Name) (rest : List ℕ) (s : Scan) (t : T (spelledName n)) where
   abbrev word : ℕ
   word = tapeWord (callKind + place) (length n)
 
-  call-passed : passed (word ∷ (n ++ rest)) s ≡ opened (onlyIf (not (isBuiltIn n)) (suc place)) s
+  call-passed : scanned 0 (word ∷ (n ++ rest)) s ≡ scanned (length n) (n ++ rest) (opened (onlyIf (not (isBuiltIn n)) (suc place)) s)
   call-passed =
       let short = name-short n t in
       let size : word % 256 ≡ length n = omega arith in
       let stands : word / 256 - callKind ≡ place = omega arith in
-      rw (le-leb 2304 word (omega arith), size, take-append-seam n rest, stands)
+      rw (word-then word (n ++ rest) s, le-leb 2304 word (omega arith), size, take-append-seam n rest, stands)
 
-  named-opens : scanned (named (callKind + place) n ++ rest) s ≡ scanned rest (opened (onlyIf (not (isBuiltIn n)) (suc place)) s)
-  unfolding scanned
-  named-opens = ap (scanned (n ++ rest)) call-passed ∙ quiet-then n rest _ (name-quiet n t)
+  named-opens : scanned 0 (named (callKind + place) n ++ rest) s ≡ scanned 0 rest (opened (onlyIf (not (isBuiltIn n)) (suc place)) s)
+  named-opens = call-passed ∙ name-then n rest _
 
 -- a call that is done in this manner, where it counts
 abbrev countedCall : Manner → ℕ → ℕ
@@ -156,13 +150,15 @@ call-told : (st : Standing) (place : ℕ) (n : Name) (e : Expression) (rest : Li
     earlier (foundIn ys) (whenClosed st (itemFollows (expressionTape e ++ rest)) call (earlier (foundIn xs) (whenOpened st call o)))
     ≡ earlier (foundIn (nestedAt (mannerOf (levelOf st) e n) place (xs ++ ys))) o
 call-told outside place n e rest xs o t h =
-    rw (item-follows e rest t h, manner-place (callingOf n) (isLast outermost e) place, nested-found (mannerOf outermost e n) place xs (nestedCalls outermost e))
-    (found-late (countedCall (mannerOf outermost e n) place) (foundIn xs) (foundIn (nestedCalls outermost e)) o)
+    let m = mannerOf outermost e n in
+    rw (item-follows e rest t h, manner-place (callingOf n) (isLast outermost e) place, nested-found m place xs (nestedCalls outermost e))
+    (found-late (countedCall m place) (foundIn xs) (foundIn (nestedCalls outermost e)) o)
 call-told (within d p) place n e rest xs o t h =
     rw (nested-found (mannerOf inside e n) place xs (nestedCalls inside e), ← (manner-place (callingOf n) false place))
     (found-early (onlyIf (not (isBuiltIn n)) (suc place)) (foundIn xs) (foundIn (nestedCalls inside e)) o)
 
-variable-then : (kind : ℕ) (x : Name) (ws : List ℕ) (s : Scan) → kind < 3 → T (spelledIdentifier x) → scanned (named kind x ++ ws) s ≡ scanned ws s
+variable-then : (kind : ℕ) (x : Name) (ws : List ℕ) (s : Scan) → kind < 3 → T (spelledIdentifier x)
+    → scanned 0 (named kind x ++ ws) s ≡ scanned 0 ws s
 unfolding every
 variable-then kind x ws s h t =
     quiet-then (named kind x) ws s
@@ -170,7 +166,7 @@ variable-then kind x ws s h t =
     (bytes-quiet x (identifier-bytes x t)))
 
 expression-traced : (st : Standing) (e : Expression) (rest : List ℕ) (o : ℕ) → T (legible e) → Ends st rest
-    → scanned (expressionTape e ++ rest) (at st o) ≡ scanned rest (at st (earlier (foundIn (nestedCalls (levelOf st) e)) o))
+    → scanned 0 (expressionTape e ++ rest) (at st o) ≡ scanned 0 rest (at st (earlier (foundIn (nestedCalls (levelOf st) e)) o))
 unfolding expressionTape legible nestedCalls leftmost
 expression-traced st end rest o t h = refl
 expression-traced st (thenCharacter c e) rest o t h =
@@ -197,17 +193,18 @@ expression-traced st (thenCall place n a e) rest o t h =
       append-assoc (expressionTape a) (tapeWord closeKind 0 ∷ expressionTape e) rest,
     )
     (named-opens place n (expressionTape a ++ tapeWord closeKind 0 ∷ later) (at st o) spelled)
-    ∙ ap (scanned (expressionTape a ++ tapeWord closeKind 0 ∷ later)) (opens st call o)
+    ∙ ap (scanned 0 (expressionTape a ++ tapeWord closeKind 0 ∷ later)) (opens st call o)
     ∙ expression-traced (deeper st call) a (tapeWord closeKind 0 ∷ later) (whenOpened st call o) inA tt
     ∙ close-then st call later _
     ∙ expression-traced st e rest _ inE h
-    ∙ ap (λ (q : ℕ). scanned rest (at st q)) (call-told st place n e rest xs o inE h)
+    ∙ ap (λ (q : ℕ). scanned 0 rest (at st q)) (call-told st place n e rest xs o inE h)
 
 -- SENTENCES
 
 -- the word after a sentence: another follows, or the function ends
 sentence-traced : (s : Sentence) (w : ℕ) (ws : List ℕ) (o : ℕ) → T (allowedSentence s) → isItem w ≡ false
-    → scanned (sentenceTape s ++ (w ∷ ws)) (at outside o) ≡ scanned (w ∷ ws) (at outside (earlier (foundIn (nestedCalls outermost (s .expression))) o))
+    → scanned 0 (sentenceTape s ++ (w ∷ ws)) (at outside o)
+    ≡ scanned 0 (w ∷ ws) (at outside (earlier (foundIn (nestedCalls outermost (s .expression))) o))
 sentence-traced s w ws o t h =
     let plain = allowed-plain s t in
     let p = patternTape (s .pattern) in
@@ -220,7 +217,7 @@ sentence-traced s w ws o t h =
     ∙ expression-traced outside (s .expression) (w ∷ ws) o (plain .expression) h
 
 sentences-traced : (ss : List Sentence) (rest : List ℕ) (o : ℕ) → T (every allowedSentence ss)
-    → scanned (sentencesTape ss ++ rest) (at outside o) ≡ scanned rest (at outside (earlier (foundIn (nestedSentences ss)) o))
+    → scanned 0 (sentencesTape ss ++ rest) (at outside o) ≡ scanned 0 rest (at outside (earlier (foundIn (nestedSentences ss)) o))
 unfolding sentencesTape nestedSentences leftmost
 sentences-traced [] rest o t = quiet-word (tapeWord endKind 0) rest (at outside o) tt
 sentences-traced (s ∷ []) rest o t =
@@ -233,7 +230,7 @@ sentences-traced (s ∷ r ∷ rs) rest o t =
     (sentence-traced s (tapeWord nextKind 0) (later ++ rest) o (every-head allowedSentence s (r ∷ rs) t) refl)
     ∙ quiet-word (tapeWord nextKind 0) (later ++ rest) _ tt
     ∙ sentences-traced (r ∷ rs) rest _ (every-tail allowedSentence s (r ∷ rs) t)
-    ∙ ap (λ (q : ℕ). scanned rest (at outside q)) (found-then (nestedCalls outermost (s .expression)) (nestedSentences (r ∷ rs)) o)
+    ∙ ap (λ (q : ℕ). scanned 0 rest (at outside q)) (found-then (nestedCalls outermost (s .expression)) (nestedSentences (r ∷ rs)) o)
 
 -- THE TABLE
 
@@ -245,7 +242,7 @@ head-quiet n t =
     rw (lt-leb 2304 w (omega arith), ne-eqb w 1280 (omega arith)) (name-quiet n t)
 
 functions-traced : (fs : List Function) (o : ℕ) → T (every allowedFunction fs)
-    → scanned (tape fs) (at outside o) ≡ at outside (earlier (foundIn (nestedIn fs)) o)
+    → scanned 0 (tape fs) (at outside o) ≡ earlier (foundIn (nestedIn fs)) o
 unfolding tape scanned nestedIn leftmost
 functions-traced [] o t = refl
 functions-traced (f ∷ fs) o t =
@@ -257,11 +254,11 @@ functions-traced (f ∷ fs) o t =
     (quiet-then head (sentencesTape (f .sentences) ++ tape fs) (at outside o) (head-quiet (f .name) (both-left (spelledName (f .name)) _ heading)))
     ∙ sentences-traced (f .sentences) (tape fs) o (both-right (someSentence (f .sentences)) _ body)
     ∙ functions-traced fs _ (every-tail allowedFunction f fs t)
-    ∙ ap (at outside) (found-then (nestedSentences (f .sentences)) (nestedIn fs) o)
+    ∙ found-then (nestedSentences (f .sentences)) (nestedIn fs) o
 
 -- the scan of an allowed table's tape
 pub tape-traced : (t : Table) → T (allowed t) → nestedCall (tape t) ≡ placed (leftmost (nestedIn t))
 tape-traced t ok =
-    ap (λ (s : Scan). placeOf (s .leftmost)) (functions-traced t 0 (both-left (every allowedFunction t) _ ok))
+    ap placeOf (functions-traced t 0 (both-left (every allowedFunction t) _ ok))
     ∙ ap placeOf (earlier-nothing (foundIn (nestedIn t)))
     ∙ told-placed (leftmost (nestedIn t))

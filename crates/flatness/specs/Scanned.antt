@@ -1,18 +1,17 @@
 -- Which of a tape's words open a declared call that is no tail call, for any words at all: 02, T-06.
 use Prim.Native.Nat.{ℕ, zero, suc, _+_, _-_, _/_, min}
+use mathlib.Core.Path.{_≡_}
 use mathlib.Core.Bool.{Bool, not, true, false}
 use mathlib.Core.List.{List, [], _∷_}
 use mathlib.Core.Option.{Option, none, some}
 use lib.Dec.{eqb, leb, ltb}
+use lib.ListN.{drop}
 use Rattle.meaning.specs.Choice.{pick, either}
 use Rattle.meaning.specs.Names.{isBuiltIn}
 use Rattle.meaning.specs.Tape.{tapeWord, conditionKind, closeKind, callKind}
-use Rattle.words.specs.Words.{nameIn}
-use Rattle.words.specs.declared.names.Calling.{Calling}
-use Rattle.words.specs.declared.names.Calling.the-variants.{Emission, Angles, Function}
+use Rattle.words.specs.Words.{carried, nameIn}
 use Rattle.flatness.specs.declared.Place.{Place}
 use Rattle.flatness.specs.declared.Place.the-variants.{At, Nowhere}
-use Rattle.flatness.specs.declared.Scan.{Scan}
 
 -- a place that may be there, as the code says it
 abbrev pub placed : Option ℕ → Place
@@ -54,32 +53,37 @@ abbrev pub itemFollows : List ℕ → Bool
 itemFollows [] = false
 itemFollows (w ∷ ws) = isItem w
 
--- a call that needs no declaration, as the code says how it is done
-abbrev pub builtInBy : Calling → Bool
-builtInBy Emission = true
-builtInBy (Angles subtract) = true
-builtInBy Function = false
-
 -- the call that the first word opens, unless it needs no declaration: every other is declared
 abbrev pub declaredCall : List ℕ → ℕ
 declaredCall [] = 0
 declaredCall (w ∷ ws) = onlyIf (not (isBuiltIn (nameIn (w ∷ ws)))) (suc (calledPlace w))
 
+-- how many words after it are that call's name
+abbrev pub calledSize : ℕ → ℕ
+calledSize w = pick (opensCall w) (carried w) 0
+
 -- THE SCAN
+
+-- what is known of the words so far: the leftmost declared call that is no tail call; in a call also how many more are
+-- open, and the outermost one, if it is declared
+pub data Scan : Type 0 where
+  outOfCalls : (leftmost : ℕ) → Scan
+  inCall : (more outermost leftmost : ℕ) → Scan
+
+abbrev pub leftmostBy : Scan → ℕ
+leftmostBy (outOfCalls leftmost) = leftmost
+leftmostBy (inCall more outermost leftmost) = leftmost
 
 -- a call is opened: inside another it is no tail call; an outermost one is kept until it closes
 abbrev pub opened : ℕ → Scan → Scan
-opened call s =
-    pick (eqb (s .depth) 0)
-    (record { depth = 1; outermost = call; leftmost = s .leftmost })
-    (record { depth = s .depth + 1; outermost = s .outermost; leftmost = earlier call (s .leftmost) })
+opened call (outOfCalls leftmost) = inCall 0 call leftmost
+opened call (inCall more outermost leftmost) = inCall (suc more) outermost (earlier call leftmost)
 
 -- a call is closed: where an item follows it, the outermost one is no tail call
 abbrev pub closed : Bool → Scan → Scan
-closed followed s =
-    pick (ltb 1 (s .depth))
-    (record { depth = s .depth - 1; outermost = s .outermost; leftmost = s .leftmost })
-    (record { depth = 0; outermost = 0; leftmost = earlier (onlyIf followed (s .outermost)) (s .leftmost) })
+closed followed (outOfCalls leftmost) = outOfCalls leftmost
+closed followed (inCall zero outermost leftmost) = outOfCalls (earlier (onlyIf followed outermost) leftmost)
+closed followed (inCall (suc more) outermost leftmost) = inCall more outermost leftmost
 
 abbrev pub passed : List ℕ → Scan → Scan
 passed [] s = s
@@ -87,14 +91,19 @@ passed (w ∷ ws) s =
     pick (opensCall w) (opened (declaredCall (w ∷ ws)) s)
     (pick (closesCall w) (closed (itemFollows ws) s) s)
 
-unfoldable pub scanned : List ℕ → Scan → Scan
-scanned [] s = s
-scanned (w ∷ ws) s = scanned ws (passed (w ∷ ws) s)
+-- the leftmost in the end, where so many words of a name are still to be passed over
+unfoldable pub scanned : ℕ → List ℕ → Scan → ℕ
+scanned zero [] s = leftmostBy s
+scanned zero (w ∷ ws) s = scanned (calledSize w) ws (passed (w ∷ ws) s)
+scanned (suc name) [] s = leftmostBy s
+scanned (suc name) (w ∷ ws) s = scanned name ws s
 
--- before the first word
-abbrev pub unscanned : Scan
-unscanned = record { depth = 0; outermost = 0; leftmost = 0 }
+-- from one place to another stands the argument of an outermost call, whichever that is
+abbrev pub ArgumentPassed : List ℕ → ℕ → ℕ → ℕ → ℕ → Type 0
+ArgumentPassed ws from leftmost next found =
+    (outermost : ℕ) → scanned 0 (drop from ws) (inCall 0 outermost leftmost)
+    ≡ scanned 0 (drop next ws) (closed (itemFollows (drop next ws)) (inCall 0 outermost found))
 
 -- "the place of its name, leftmost"
 abbrev pub nestedCall : List ℕ → Place
-nestedCall ws = placeOf (scanned ws unscanned .leftmost)
+nestedCall ws = placeOf (scanned 0 ws (outOfCalls 0))

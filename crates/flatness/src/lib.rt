@@ -1,15 +1,19 @@
 // Whether a table is flat, by its tape: where its leftmost declared call is that is no tail call. 02's T-06.
-use words::names::Calling;
-use words::names::calling_of;
+use words::names::is_built_in;
 use words::tape::less;
 use words::tape::lesser;
 use words::tape::name_size;
 use words::tape::word_at;
 ghost use mathlib.Core.Path.{_≡_};
-ghost use Prim.Native.Nat.{_+_, _≤_, _<_, _^_};
-ghost use lib.ListN.{length, drop};
-ghost use Rattle.flatness.specs.Scanned.{earlier, onlyIf, placeOf, opensCall, itemFollows, builtInBy, declaredCall};
-ghost use Rattle.flatness.specs.Scanned.{opened, closed, passed, nestedCall};
+ghost use mathlib.Core.Bool.{true};
+ghost use Prim.Native.Nat.{_+_, _≤_, _<_};
+ghost use lib.ListN.{length, drop, getD};
+ghost use Rattle.words.specs.Words.{carried};
+ghost use Rattle.flatness.specs.Scanned.{earlier, placeOf, opensCall, itemFollows, declaredCall};
+ghost use Rattle.flatness.specs.Scanned.{outOfCalls, scanned, ArgumentPassed, nestedCall};
+
+// A word is so many times its kind, and what it carries.
+const KIND: usize = 256;
 
 // A call's kind is this and the place of its name.
 const CALL_KIND: usize = 9;
@@ -27,12 +31,10 @@ pub enum Place {
     Nowhere,
 }
 
-// What is known of the words so far: how many calls are open, the outermost of them if it is declared, and the leftmost
-// declared call that is no tail call. A call is told by one more than the place of its name, none by 0: three numbers
-// stay in machine registers.
-pub struct Scan {
-    pub depth: usize,
-    pub outermost: usize,
+// Where some words end, and the leftmost declared call so far that is no tail call. A call is told by one more than the
+// place of its name, none by 0: numbers stay in machine registers.
+pub struct Passed {
+    pub next: usize,
     pub leftmost: usize,
 }
 
@@ -47,12 +49,6 @@ fn earlier(one: usize, other: usize) -> usize
         return one;
     }
     lesser(one, other)
-}
-
-fn only_if(holds: bool, call: usize) -> usize
-    ensures { λ r. ⌜ r ≡ onlyIf holds call ⌝ }
-{
-    if holds { call } else { 0 }
 }
 
 fn place_of(call: usize) -> Place
@@ -84,97 +80,91 @@ fn item_follows(tape: &[u32], i: usize) -> bool
     opens_call(word)
 }
 
-// A call that is done so needs no declaration.
-fn is_built_in(calling: Calling) -> bool
-    ensures { λ r. ⌜ r ≡ builtInBy calling ⌝ }
-{
-    match calling {
-        Calling::Emission => true,
-        Calling::Angles(_) => true,
-        Calling::Function => false,
-    }
-}
-
 // The call that a word opens, unless it needs no declaration.
 fn declared_call(tape: &[u32], i: usize) -> usize
     requires { ⌜ i < length (now tape) ⌝ }
     ensures { λ r. ⌜ r ≡ declaredCall (drop i (now (tape .entry))) ⌝ }
 {
-    let place = less(word_at(tape, i) / 256, CALL_KIND);
     let size = name_size(tape, i);
-    let calling = calling_of(tape, i + 1, size);
-    only_if(!is_built_in(calling), place + 1)
+    if is_built_in(tape, i + 1, size) {
+        return 0;
+    }
+    let place = less(word_at(tape, i) / KIND, CALL_KIND);
+    place + 1
 }
 
-// A declared call inside another is no tail call. An outermost one is kept until it closes.
-fn open_call(scan: Scan, call: usize) -> Scan
-    requires { ⌜ scan .depth < 2 ^ 63 ⌝ }
-    ensures { λ r. ⌜ (r ≡ opened call scan) × (r .depth ≤ scan .depth + 1) ⌝ }
+// The place after the name that a word carries.
+fn past_name(tape: &[u32], i: usize) -> usize
+    requires { ⌜ i < length (now tape) ⌝ }
+    ensures { λ r. ⌜ r ≡ i + 1 + carried (getD (now (tape .entry)) i 0) ⌝ }
 {
-    let outermost = scan.outermost;
-    let leftmost = scan.leftmost;
-    if scan.depth == 0 {
-        return Scan {
-            depth: 1,
-            outermost: call,
-            leftmost,
-        };
+    i + 1 + word_at(tape, i) % KIND
+}
+
+// What follows the name of an outermost call, to where the call closes: a declared call in it is no tail call.
+fn pass_argument(tape: &[u32], from: usize, leftmost: usize) -> Passed
+    ensures { λ r. ⌜ (from ≤ r .next) × ArgumentPassed (now (tape .entry)) from leftmost (r .next) (r .leftmost) ⌝ }
+{
+    let mut found = leftmost;
+    let mut more = 0usize;
+    let mut i = from;
+    while i < tape.len() {
+        let word = word_at(tape, i);
+        if opens_call(word) {
+            let call = declared_call(tape, i);
+            found = earlier(call, found);
+            more += 1;
+            i = past_name(tape, i);
+        } else if word == CLOSE_WORD {
+            if more == 0 {
+                return Passed {
+                    next: i + 1,
+                    leftmost: found,
+                };
+            }
+            more -= 1;
+            i += 1;
+        } else {
+            i += 1;
+        }
     }
-    Scan {
-        depth: scan.depth + 1,
-        outermost,
-        leftmost: earlier(call, leftmost),
+    Passed {
+        next: i,
+        leftmost: found,
     }
 }
 
-// The outermost call is no tail call where an item follows it.
-fn close_call(scan: Scan, followed: bool) -> Scan
-    ensures { λ r. ⌜ (r ≡ closed followed scan) × (r .depth ≤ scan .depth) ⌝ }
+// An outermost call, with its argument: it is no tail call where an item follows it. Its name is asked only then.
+fn pass_call(tape: &[u32], i: usize, leftmost: usize) -> Passed
+    requires { ⌜ (i < length (now tape)) × (opensCall (getD (now tape) i 0) ≡ true) ⌝ }
+    ensures { λ r. ⌜ (i < r .next) × (scanned 0 (drop i (now (tape .entry))) (outOfCalls leftmost)
+        ≡ scanned 0 (drop (r .next) (now (tape .entry))) (outOfCalls (r .leftmost))) ⌝ }
 {
-    let outermost = scan.outermost;
-    let leftmost = scan.leftmost;
-    if 1 < scan.depth {
-        return Scan {
-            depth: scan.depth - 1,
-            outermost,
-            leftmost,
-        };
+    let passed = pass_argument(tape, past_name(tape, i), leftmost);
+    let next = passed.next;
+    let found = passed.leftmost;
+    if item_follows(tape, next) {
+        let call = declared_call(tape, i);
+        let leftmost = earlier(call, found);
+        return Passed { next, leftmost };
     }
-    Scan {
-        depth: 0,
-        outermost: 0,
-        leftmost: earlier(only_if(followed, outermost), leftmost),
-    }
-}
-
-// What is known after the word at a place.
-fn pass(tape: &[u32], i: usize, scan: Scan) -> Scan
-    requires { ⌜ (i < length (now tape)) × (scan .depth ≤ i) ⌝ }
-    ensures { λ r. ⌜ (r ≡ passed (drop i (now (tape .entry))) scan) × (r .depth ≤ i + 1) ⌝ }
-{
-    let word = word_at(tape, i);
-    if opens_call(word) {
-        return open_call(scan, declared_call(tape, i));
-    }
-    if word == CLOSE_WORD {
-        return close_call(scan, item_follows(tape, i + 1));
-    }
-    scan
+    passed
 }
 
 // Where the leftmost declared call stands that is no tail call, by the name's place.
 pub fn nested_call(tape: &[u32]) -> Place
     ensures { λ r. ⌜ r ≡ nestedCall (now (tape .entry)) ⌝ }
 {
-    let mut scan = Scan {
-        depth: 0,
-        outermost: 0,
-        leftmost: 0,
-    };
+    let mut leftmost = 0;
     let mut i = 0;
     while i < tape.len() {
-        scan = pass(tape, i, scan);
-        i += 1;
+        if opens_call(word_at(tape, i)) {
+            let passed = pass_call(tape, i, leftmost);
+            leftmost = passed.leftmost;
+            i = passed.next;
+        } else {
+            i += 1;
+        }
     }
-    place_of(scan.leftmost)
+    place_of(leftmost)
 }

@@ -1,33 +1,45 @@
 -- `flatness::nested_call` meets its contract: the scan from the start is that from here.
 use native.Mathlib.Omega.{arith}
-use Prim.Native.Nat.{_-_, _≤_}
-use mathlib.Core.Path.{_≡_, refl, _∙_, ap}
+use Prim.Native.Nat.{_-_}
+use mathlib.Core.Path.{_≡_, refl, sym, _∙_, ap}
 use lib.ListN.{length, drop}
-use Rattle.flatness.specs.declared.Scan.{Scan}
-use Rattle.flatness.specs.Scanned.{placeOf, scanned, unscanned}
-use Rattle.flatness.proofs.Passing.{scan-on, scan-ends}
+use Rattle.flatness.specs.Scanned.{placeOf, outOfCalls, opensCall, scanned}
+use Rattle.flatness.proofs.Passing.{outer-stays, scan-ends}
 use borrow.Author.Needs.{needs}
 use Rattle.flatness.proofs.nested_call.Statement.{statement}
 use Rattle.flatness.proofs.nested_call.Tie as tie
 
 abbrev Inv-loop : tie.InvT-loop
-Inv-loop tape scan₀ i₀ scan i = (scan .depth ≤ i) × (scanned (drop i tape) scan ≡ scanned tape unscanned)
+Inv-loop tape leftmost₀ i₀ leftmost i = scanned 0 (drop i tape) (outOfCalls leftmost) ≡ scanned 0 tape (outOfCalls 0)
 
 abbrev μ-loop : tie.MeasureT-loop
-μ-loop tape scan₀ i₀ scan i = length tape - i
+μ-loop tape leftmost₀ i₀ leftmost i = length tape - i
 
 loop-holds : tie.Need-loop-holds Inv-loop μ-loop
-loop-holds c = (omega arith, refl)
+loop-holds c = refl
 
-pass-requires : tie.Need-pass-requires Inv-loop μ-loop
-pass-requires c κs = (c .loop-test .taken, c .before .loop .inv .0)
+pass-call-requires : tie.Need-pass-call-requires Inv-loop μ-loop
+pass-call-requires c κs =
+    let at-word-at = c .before .before in
+    let opens = sym (c .before .opens-call .ensures) ∙ c .if1 .taken in
+    (at-word-at .before .loop-test .taken, ap opensCall (sym (at-word-at .word-at .ensures .0)) ∙ opens)
+
+loop-less : tie.Need-loop-less Inv-loop μ-loop
+loop-less c = omega (arith, c .pass-call .ensures .0, c .before .before .before .before .loop-test .taken)
 
 loop-again : tie.Need-loop-again Inv-loop μ-loop
-loop-again c = (c .pass .ensures .1, scan-on _ _ _ (c .before .before .loop .inv .1) (c .before .loop-test .taken) (c .pass .ensures .0))
+loop-again c = sym (c .pass-call .ensures .1) ∙ c .before .before .before .before .before .loop .inv
+
+loop-again-2 : tie.Need-loop-again-2 Inv-loop μ-loop
+loop-again-2 c =
+    let at-word-at = c .before .before in
+    sym (outer-stays _ _ (at-word-at .before .loop-test .taken) (at-word-at .word-at .ensures .0) (c .before .opens-call .ensures) (c .if1 .left) _)
+    ∙ at-word-at .before .before .loop .inv
 
 returns : tie.Need-returns Inv-loop μ-loop
 returns c =
-    c .place-of .ensures ∙ ap (λ (s : Scan). placeOf (s .leftmost)) (scan-ends _ _ _ (c .before .before .loop .inv .1) (c .before .loop-test .left))
+    let at-test = c .before in
+    c .place-of .ensures ∙ ap placeOf (sym (scan-ends _ _ (at-test .loop-test .left) (outOfCalls _)) ∙ at-test .before .loop .inv)
 
 pub nested-call-spec : {M : Type 1} → statement M
 nested-call-spec =
@@ -36,9 +48,13 @@ nested-call-spec =
     Inv-loop
     μ-loop
     loop-holds
-    pass-requires
-    (λ c. omega arith)
-    (λ c. omega arith)
+    (λ c κs. search needs)
+    (λ c κs. search needs)
+    pass-call-requires
+    loop-less
     loop-again
+    (λ c. search needs)
+    (λ c. search needs)
+    loop-again-2
     (λ c κs. search needs)
     returns)
