@@ -15,6 +15,10 @@ const WHOLE: usize = 32_768;
 const MANY: usize = 455;
 const SHEET_TABLE: &[u8] = b"F { 'STOP ' e1 '\\n' e2 = <F e2>; 'SWING ' e1 '\\n' e2 = <F e2>; e1 = e1 }";
 const ROUNDS: usize = 7;
+const ROUND: Duration = Duration::from_millis(20);
+const FINE_ROUNDS: usize = 400;
+const FINE_ROUND: Duration = Duration::from_millis(2);
+const SENTENCE_ITEMS: usize = 128;
 
 fn main() {
     println!("| what | engine | Rust | engine : Rust | Rust's machine | engine : machine | |");
@@ -22,7 +26,11 @@ fn main() {
     let table = near_the_limit();
     reading(&format!("reading a table of {} bytes", table.len()), &table);
     translating(&table);
-    flatness(&table);
+    flatness("reading it and testing whether it is flat", &table);
+    for (call, items) in [("<F>", 1), ("<EmitA>", 1), ("<DmAdd>", 1), ("<EmitA 'abcdefg'>", 8)] {
+        let table = nothing_but(call, items);
+        flatness(&format!("the same of {} bytes of `{call}`", table.len()), &table);
+    }
     reading("reading 32,768 letters without `<`", &[b'a'; TABLE_LIMIT]);
     reading("reading one comment of 32,768 bytes", &comment());
     running("1,000,000 steps of row Z's kind", b"F { '0' e1 = <F e1 '0'>; e1 = e1 }", b"0000", 1_000_000);
@@ -102,19 +110,23 @@ fn processor_time() -> Duration {
     Duration::new(time.seconds as u64, time.nanoseconds as u32)
 }
 
-/// How many calls make a round that is long enough to be measured.
-fn calls_in_a_round(call: &mut dyn FnMut()) -> u32 {
+/// How many calls make a round of a length.
+fn calls_in_a_round(call: &mut dyn FnMut(), round: Duration) -> u32 {
     let begin = processor_time();
     call();
     let once = (processor_time() - begin).max(Duration::from_nanos(50));
-    (Duration::from_millis(20).as_nanos() / once.as_nanos()).clamp(1, 100_000) as u32
+    (round.as_nanos() / once.as_nanos()).clamp(1, 100_000) as u32
+}
+
+fn best_of<const N: usize>(all: [&mut dyn FnMut(); N]) -> [f64; N] {
+    best_of_rounds(ROUNDS, ROUND, all)
 }
 
 /// The shortest time of some rounds of each, taken by turns.
-fn best_of<const N: usize>(mut all: [&mut dyn FnMut(); N]) -> [f64; N] {
-    let calls = all.each_mut().map(|call| calls_in_a_round(*call));
+fn best_of_rounds<const N: usize>(rounds: usize, round: Duration, mut all: [&mut dyn FnMut(); N]) -> [f64; N] {
+    let calls = all.each_mut().map(|call| calls_in_a_round(*call, round));
     let mut best = [f64::INFINITY; N];
-    for _ in 0..ROUNDS {
+    for _ in 0..rounds {
         for (which, call) in all.iter_mut().enumerate() {
             let begin = processor_time();
             (0..calls[which]).for_each(|_| call());
@@ -157,15 +169,24 @@ fn translating(table: &[u8]) {
     row("reading and translating it", engine, rust, None, &format!("{} words of code", answer[2]));
 }
 
-/// The test for a flat table reads the table: the remark has what it takes besides.
-fn flatness(table: &[u8]) {
+/// The test for a flat table reads the table: the remark has what it takes besides, so the rounds are short and many.
+fn flatness(what: &str, table: &[u8]) {
     let mut answer = [0; 3];
-    let reading = best(|| exports::read(black_box(table), &mut answer));
-    let engine = best(|| exports::flat(black_box(table), &mut answer));
-    let rust = best(|| _ = black_box(flat_answer(black_box(table))));
-    assert_eq!(answer, flat_answer(table), "whether it is flat");
-    let remark = format!("answer {}; engine {:.0} % more than reading", answer[0], 100.0 * (engine / reading - 1.0));
-    row("reading it and testing whether it is flat", engine, rust, None, &remark);
+    let mut tested = [0; 3];
+    let [reading, engine, rust] = best_of_rounds(
+        FINE_ROUNDS,
+        FINE_ROUND,
+        [
+            &mut || exports::read(black_box(table), &mut answer),
+            &mut || exports::flat(black_box(table), &mut tested),
+            &mut || _ = black_box(flat_answer(black_box(table))),
+        ],
+    );
+    assert_eq!(answer[0], 0, "the table is sound");
+    assert_eq!(tested, flat_answer(table), "whether it is flat");
+    let besides = 100.0 * (engine / reading - 1.0);
+    let remark = format!("answer {}; reading {:.1} µs, the test {besides:.1} % besides", tested[0], reading / 1e3);
+    row(what, engine, rust, None, &remark);
 }
 
 /// The engine's time for a run, on the rooms that the run needs.
@@ -215,6 +236,13 @@ fn comment() -> Vec<u8> {
     table[..2].copy_from_slice(b"/*");
     table[TABLE_LIMIT - 2..].copy_from_slice(b"*/");
     table
+}
+
+/// A table whose sentences are nothing but a call of so many items, as many as the limits allow.
+fn nothing_but(call: &str, items: usize) -> Vec<u8> {
+    let sentence = format!("={};", call.repeat(SENTENCE_ITEMS / items));
+    let room = TABLE_LIMIT - "F{}".len();
+    format!("F{{{}}}", sentence.repeat(room / sentence.len())).into_bytes()
 }
 
 /// A table of 64 functions and 512 sentences that is a little shorter than it may be.
