@@ -44,11 +44,10 @@ pub record Acting (allowance : ℕ) (g : Registers) (m : Memory) : Type 0 where
   pub underway : Underway allowance g m
   pub idle : g .callee ≡ 0
 
--- the same, whatever is allowed, recorded and stored
-pub record Ongoing (g : Registers) (input output : Bytes) (frames : List ℕ) : Type 0 where
+-- the same, whatever is allowed and recorded
+pub record Ongoing (g : Registers) (input output : Bytes) (frames : List ℕ) (values : Bytes) : Type 0 where
   pub allowance : ℕ
   pub journal : Bytes
-  pub values : Bytes
   pub acting : Acting allowance g (memory input output journal frames values)
 
 pub record Ended (g : Registers) (m : Memory) : Type 0 where

@@ -1,7 +1,6 @@
 // One turn of a run: on registers by value, and on registers that are lent.
 ghost use Prim.Native.Nat.{ℕ, _≤_, _<_};
 ghost use mathlib.Core.Path.{_≡_};
-ghost use mathlib.Core.List.{List};
 ghost use lib.ListN.{length};
 ghost use Rattle.meaning.specs.Choice.{Bytes};
 ghost use Rattle.classes.specs.Tests.{Answers};
@@ -17,8 +16,6 @@ use acting::moving::open_sequence;
 use acting::moving::select;
 use acting::moving::use_sequence;
 use acting::moving::write;
-use acting::moving::write_byte;
-use acting::moving::write_part;
 use acting::registers::Ending;
 use acting::registers::Next;
 use acting::registers::Registers;
@@ -123,33 +120,38 @@ fn try_begin(g: Registers, code: &[u32], frames: &mut [usize]) -> Registers
     g
 }
 
-// Out, where it comes next.
-fn try_part(g: Registers, code: &[u32], input: &[u8], output: &mut [u8]) -> Registers
-    requires { ⌜ g .p .0 ≤ g .q .0 ⌝ }
-    requires { ⌜ g .q .0 ≤ length (now input) ⌝ }
-    requires { ⌜ g .r .0 ≤ length (now output) ⌝ }
-    ensures { λ h. ⌜ ((allowance : ℕ) (journal values : Bytes) (frames : List ℕ) → Tries (now (code .entry)) allowance g (memory (now (input .entry)) (now (output .entry)) journal frames values)
-        h (memory (now (input .entry)) (now (output .exit)) journal frames values)) ⌝ }
+// Out, OutC and OutV in any order, as long as one of them comes next and can be done.
+fn try_writes(
+    g: Registers,
+    code: &[u32],
+    input: &[u8],
+    output: &mut [u8],
+    frames: &[usize],
+    values: &[u8],
+) -> Registers
+    requires { ⌜ Ongoing g (now input) (now output) (now frames) (now values) ⌝ }
+    ensures { λ h. ⌜ ((allowance : ℕ) (journal : Bytes) → Tries (now (code .entry)) allowance g
+        (memory (now (input .entry)) (now (output .entry)) journal (now (frames .entry)) (now (values .entry)))
+        h (memory (now (input .entry)) (now (output .exit)) journal (now (frames .entry)) (now (values .entry)))) ⌝ }
 {
-    let Found::Word(_, next) = find_word(code, g.at, 7) else {
-        return g;
-    };
-    let h = Registers { at: next, ..g };
-    kept(write_part(h, input, output), g)
-}
-
-// OutC, where it comes next.
-fn try_character(g: Registers, code: &[u32], output: &mut [u8]) -> Registers
-    requires { ⌜ g .r .0 ≤ length (now output) ⌝ }
-    ensures { λ h. ⌜ ((allowance : ℕ) (input journal values : Bytes) (frames : List ℕ) → Tries (now (code .entry)) allowance g (memory input (now (output .entry)) journal frames values)
-        h (memory input (now (output .exit)) journal frames values)) ⌝ }
-{
-    let Found::Word(word, next) = find_word(code, g.at, 8) else {
-        return g;
-    };
-    let h = Registers { at: next, ..g };
-    let byte = (word / 256 % 256) as u8;
-    kept(write_byte(h, byte, output), g)
+    let mut h = g;
+    loop {
+        let at = h.at.0;
+        if code.len() <= at {
+            return h;
+        }
+        let Instruction::Write(what) = decode(code[at]) else {
+            return h;
+        };
+        let next = Registers {
+            at: CodePlace(at + 1),
+            ..h
+        };
+        let Next::Onward(written) = write(next, what, input, output, frames, values) else {
+            return h;
+        };
+        h = written;
+    }
 }
 
 // UseSeq, where it comes next.
@@ -215,24 +217,25 @@ fn act(
     }
 }
 
-// A sequence begun, a part and a character written, and the text after the part passed, as far as these come next.
+// A sequence begun, a part, characters and stored bytes written, and text passed, as far as these come next.
 fn write_items(
     g: Registers,
     code: &[u32],
     input: &[u8],
     output: &mut [u8],
     frames: &mut [usize],
+    values: &[u8],
 ) -> Registers
-    requires { ⌜ Ongoing g (now input) (now output) (now frames) ⌝ }
-    ensures { λ h. ⌜ ((allowance : ℕ) (journal values : Bytes) → Tries (now (code .entry)) allowance g (memory (now (input .entry)) (now (output .entry)) journal (now (frames .entry)) values)
-        h (memory (now (input .entry)) (now (output .exit)) journal (now (frames .exit)) values)) ⌝ }
+    requires { ⌜ Ongoing g (now input) (now output) (now frames) (now values) ⌝ }
+    ensures { λ h. ⌜ ((allowance : ℕ) (journal : Bytes) → Tries (now (code .entry)) allowance g
+        (memory (now (input .entry)) (now (output .entry)) journal (now (frames .entry)) (now (values .entry)))
+        h (memory (now (input .entry)) (now (output .exit)) journal (now (frames .exit)) (now (values .entry)))) ⌝ }
 {
     let begun = try_begin(g, code, frames);
     let gone = try_go(begun, code, input, frames);
     let selected = try_select(gone, code, input, frames);
-    let written = try_part(selected, code, input, output);
-    let lettered = try_character(written, code, output);
-    try_go(lettered, code, input, frames)
+    let written = try_writes(selected, code, input, output, frames, values);
+    try_go(written, code, input, frames)
 }
 
 // One turn of the run: an application that is to begin, and, unless another is then to begin, instructions in the order in which an
@@ -262,7 +265,7 @@ fn advance(
     if begun.callee != 0 {
         return Next::Onward(begun);
     }
-    let written = write_items(begun, code, input, output, frames);
+    let written = write_items(begun, code, input, output, frames, values);
     let used = try_use(written, code, input, output, frames);
     let Next::Onward(ready) = used else {
         return used;

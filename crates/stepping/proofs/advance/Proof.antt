@@ -9,7 +9,7 @@ use Rattle.acting.specs.States.{Memory, memory, roomOf}
 use Rattle.applying.specs.Waiting.{comesTo, leftToDo}
 use Rattle.applying.specs.Advancing.{Acting, Begins, Tried, Used}
 use borrow.Author.Needs.{needs}
-use Rattle.stepping.proofs.laws.Statuses.{over-tagged}
+use Rattle.stepping.proofs.laws.Statuses.{over-tagged, over-left}
 use Rattle.stepping.proofs.laws.Trying.{acting-on, acting-used, turn-begun, turn-again, turn-used, turn-done}
 use Rattle.stepping.proofs.advance.Statement.{statement}
 use Rattle.stepping.proofs.advance.Tie as tie
@@ -60,7 +60,7 @@ acting-first c = record { underway = begun-first (goes-on c) .advances .leads .k
 -- WHERE ITEMS ARE WRITTEN, WHERE USESEQ WAS TRIED, AND WHERE SELECT WAS
 
 abbrev acting-before : tie.After-write-items → tie.Else1
-acting-before c = c .before .before .before .before
+acting-before c = c .before .before .before .before .before
 
 abbrev before-items : tie.After-write-items → tie.After-entered
 before-items c = goes-on (acting-before c)
@@ -75,7 +75,7 @@ written-in c =
 
 written : (c : tie.After-write-items) →
     Tried (words (start c)) (start c .args .allowance) (first (before-items c)) (entered (before-first (before-items c))) (c .write-items .result) (written-in c)
-written c = c .write-items .ensures _ _ _ (acting-first (acting-before c))
+written c = c .write-items .ensures _ _ (acting-first (acting-before c))
 
 abbrev before-use : tie.After-try-use → tie.After-write-items
 before-use c = c .before .before .before .before .before .before .before .before
@@ -121,17 +121,17 @@ enter-requires c κs =
 returns : tie.Need-returns
 returns c =
     let at-enter = (c .before .before .before .before .before) in
-    turn-begun _ _ (over-tagged _ (entry at-enter .args .allowance) (at-enter .enter .result) (entered at-enter) (c .match .keys2)) (begun at-enter)
+    turn-begun _ _ (over-left _ (entry at-enter .args .allowance) (at-enter .enter .result) (entered at-enter) (over-tagged (at-enter .enter .result) (c .match .keys2))) (begun at-enter)
 
 returns-2 : tie.Need-returns-2
 returns-2 c = turn-again _ _ (c .if1 .taken) (begun-first (c .before .before .before))
 
 write-items-requires : tie.Need-write-items-requires
 write-items-requires c κs =
-    let at-else = c .before .before .before in
+    let at-else = c .before .before .before .before in
     let at-enter = before-first (goes-on at-else) in
     let a = entry at-enter .args in
-    record { allowance = a .allowance; journal = a .journal .now; values = entered at-enter .values; acting = acting-first at-else }
+    record { allowance = a .allowance; journal = a .journal .now; acting = acting-first at-else }
 
 try-use-requires : tie.Need-try-use-requires
 try-use-requires c κs =
@@ -154,7 +154,7 @@ returns-3 : tie.Need-returns-3
 returns-3 c =
     let at-use = (c .before .before .before .before .before) in
     turn-used _ _ (begun-first (before-items (before-use at-use))) (written (before-use at-use))
-    (over-tagged _ (start (before-use at-use) .args .allowance) (at-use .try-use .result) (used-in at-use) (c .match2 .keys2)) (used at-use)
+    (over-left _ (start (before-use at-use) .args .allowance) (at-use .try-use .result) (used-in at-use) (over-tagged (at-use .try-use .result) (c .match2 .keys2))) (used at-use)
 
 try-select-requires : tie.Need-try-select-requires
 try-select-requires c κs =

@@ -14,7 +14,7 @@ use Rattle.acting.proofs.registers.Next as next-declared
 use Rattle.acting.proofs.registers.Status as status-declared
 use Rattle.acting.specs.States.{Memory}
 use Rattle.applying.specs.Waiting.{leftToDo}
-use Rattle.applying.specs.Advancing.{registersIn, statusIn, nextOf, onward, IsOver}
+use Rattle.applying.specs.Advancing.{registersIn, statusIn, nextOf, onward, keptOf, IsOver}
 
 parts-join : (r : Next) → nextOf (statusIn r) (registersIn r) ≡ r
 parts-join (Onward g) = refl
@@ -34,12 +34,24 @@ is-over status.Onward g e = absurd (subst T e tt)
 is-over status.Done g e = tt
 is-over (status.Stopped ending function) g e = tt
 
--- where an answer says that the run is over, nothing is left to do
-pub over-tagged : (size allowance : ℕ) (r : Next) (n : Memory) → (tagOf next-declared.the-type r ≡ 1) ⊎ (tagOf next-declared.the-type r ≡ 2) → leftToDo size allowance r n ≡ 0
-over-tagged size allowance (Onward g) n (inl e) = absurd (subst (λ (k : ℕ). T (eqb 0 k)) e tt)
-over-tagged size allowance (Onward g) n (inr e) = absurd (subst (λ (k : ℕ). T (eqb 0 k)) e tt)
-over-tagged size allowance (Done g) n e = refl
-over-tagged size allowance (Stopped g ending function) n e = refl
+-- an answer's tag says that the run is over
+pub over-tagged : (r : Next) → (tagOf next-declared.the-type r ≡ 1) ⊎ (tagOf next-declared.the-type r ≡ 2) → IsOver r
+over-tagged (Onward g) (inl e) = absurd (subst (λ (k : ℕ). T (eqb 0 k)) e tt)
+over-tagged (Onward g) (inr e) = absurd (subst (λ (k : ℕ). T (eqb 0 k)) e tt)
+over-tagged (Done g) e = tt
+over-tagged (Stopped g ending function) e = tt
+
+-- nothing is left to do then
+pub over-left : (size allowance : ℕ) (r : Next) (n : Memory) → IsOver r → leftToDo size allowance r n ≡ 0
+over-left size allowance (Onward g) n over = absurd over
+over-left size allowance (Done g) n over = refl
+over-left size allowance (Stopped g ending function) n over = refl
+
+-- and after an action that was tried the registers are those before it
+pub over-kept : (r : Next) (g : Registers) → IsOver r → keptOf r g ≡ g
+over-kept (Onward h) g over = absurd over
+over-kept (Done h) g over = refl
+over-kept (Stopped h ending function) g over = refl
 
 -- the tag tells how the run goes on
 pub onward-tagged : (x : Status) (g : Registers) → tagOf status-declared.the-type x ≡ 0 → Onward g ≡ nextOf x g

@@ -82,6 +82,8 @@ fn short_runs() {
     running("row R on `abc`", b"G { s1 e2 = <G e2> s1; = }", b"abc", 100);
     let values = format!("F {{ s1 s2 e3 = {} }}", "s1 s2 ".repeat(48));
     running("96 stored bytes in one sentence", values.as_bytes(), b"xy", 1);
+    let mixed = format!("F {{ s1 e2 ',' e3 = {}e2 {}e3 }}", "s1 'a' ".repeat(24), "'b' s1 ".repeat(23));
+    running("96 stored bytes, characters and parts in one sentence", mixed.as_bytes(), b"xyz,ab", 1);
 }
 
 /// Conditions on parts: one over the whole text, and one on each part at every place.
