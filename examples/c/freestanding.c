@@ -1,19 +1,6 @@
-/* The example without a C library, as on a controller: what the engine needs of one is here. For a device it has
-   Linux's standard output. */
+/* The example without a C library, as on a controller: what the engine needs of one is in memory.c. For a device it
+   has Linux's standard output. */
 #include "knee.h"
-
-void *memset(void *cells, int byte, size_t length) {
-  unsigned char *at = cells;
-  while (length--) *at++ = (unsigned char)byte;
-  return cells;
-}
-
-void *memcpy(void *restrict to, const void *restrict from, size_t length) {
-  unsigned char *at = to;
-  const unsigned char *source = from;
-  while (length--) *at++ = *source++;
-  return to;
-}
 
 static long call(long number, long first, const void *second, size_t third) {
   long result;

@@ -1,19 +1,6 @@
 /* A program that runs words of code and has no reader: how much of the engine it takes is measured. */
 #include "refal0.h"
 
-void *memset(void *cells, int byte, size_t length) {
-  unsigned char *at = cells;
-  while (length--) *at++ = (unsigned char)byte;
-  return cells;
-}
-
-void *memcpy(void *restrict to, const void *restrict from, size_t length) {
-  unsigned char *at = to;
-  const unsigned char *source = from;
-  while (length--) *at++ = *source++;
-  return to;
-}
-
 static volatile uint64_t seen;
 
 void _start(void) {

@@ -2,6 +2,8 @@
 
 pub mod cases;
 pub mod check;
+pub mod clock;
 pub mod engine;
 pub mod lent;
+pub mod plot;
 pub mod tally;

@@ -10,10 +10,7 @@ use tools::layout::laid_out;
 use tools::mistakes::said;
 
 fn main() -> ExitCode {
-    ExitCode::from(formatted().unwrap_or_else(|said| {
-        eprintln!("refal0-format: {said}");
-        command::NOTHING
-    }))
+    command::ended("refal0-format", formatted())
 }
 
 fn formatted() -> Result<u8, String> {

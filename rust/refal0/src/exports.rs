@@ -9,37 +9,61 @@ unsafe extern "C" {
     fn refal0_list(table: *const u8, table_length: usize, listing: *mut u8, listing_length: usize, answer: *mut u64);
     fn refal0_translate(table: *const u8, table_length: usize, code: *mut u32, code_length: usize, answer: *mut u64);
     fn refal0_flat(table: *const u8, table_length: usize, answer: *mut u64);
-    fn refal0_run(
-        code: *const u32,
-        code_length: usize,
-        start: usize,
-        text: *const u8,
-        text_length: usize,
-        stack_in: *mut u8,
-        stack_in_length: usize,
-        stack_out: *mut u8,
-        stack_out_length: usize,
-        record: *mut u8,
-        record_length: usize,
-        allowance: u32,
-        answer: *mut u64,
-    );
-    fn refal0_profile(
-        code: *const u32,
-        code_length: usize,
-        start: usize,
-        text: *const u8,
-        text_length: usize,
-        stack_in: *mut u8,
-        stack_in_length: usize,
-        stack_out: *mut u8,
-        stack_out_length: usize,
-        record: *mut u8,
-        record_length: usize,
-        allowance: u32,
-        answer: *mut u64,
-        counts: *mut u64,
-    );
+}
+
+/// The exports that run code: they differ in what they answer besides.
+macro_rules! running {
+    ($($export:ident($($besides:ident: $pointer:ty)?);)*) => {
+        unsafe extern "C" {
+            $(fn $export(
+                code: *const u32,
+                code_length: usize,
+                start: usize,
+                text: *const u8,
+                text_length: usize,
+                stack_in: *mut u8,
+                stack_in_length: usize,
+                stack_out: *mut u8,
+                stack_out_length: usize,
+                record: *mut u8,
+                record_length: usize,
+                allowance: u32,
+                answer: *mut u64,
+                $($besides: $pointer)?
+            );)*
+        }
+    };
+}
+
+running! {
+    refal0_run();
+    refal0_profile(counts: *mut u64);
+}
+
+/// Calls one of them with slices.
+macro_rules! call_running {
+    ($export:ident($code:ident, $start:ident, $text:ident, $cells:ident, $allowance:ident, $answer:ident
+        $(, $besides:ident)?)) => {
+        // SAFETY: pointers and lengths are those of the slices, for the time of the call
+        unsafe {
+            $export(
+                $code.as_ptr(),
+                $code.len(),
+                $start,
+                $text.as_ptr(),
+                $text.len(),
+                $cells.stack_in.as_mut_ptr(),
+                $cells.stack_in.len(),
+                $cells.stack_out.as_mut_ptr(),
+                $cells.stack_out.len(),
+                $cells.record.as_mut_ptr(),
+                $cells.record.len(),
+                $allowance,
+                $answer.as_mut_ptr(),
+                $($besides.as_mut_ptr())?
+            );
+        }
+    };
 }
 
 /// Answers number, place, functions.
@@ -82,24 +106,7 @@ pub struct Cells<'c> {
 /// Answers answer, function, steps, length of the text, length of the emissions.
 #[inline]
 pub fn run(code: &[u32], start: usize, text: &[u8], cells: Cells, allowance: u32, answer: &mut [u64; 5]) {
-    // SAFETY: pointers and lengths are those of the slices, for the time of the call
-    unsafe {
-        refal0_run(
-            code.as_ptr(),
-            code.len(),
-            start,
-            text.as_ptr(),
-            text.len(),
-            cells.stack_in.as_mut_ptr(),
-            cells.stack_in.len(),
-            cells.stack_out.as_mut_ptr(),
-            cells.stack_out.len(),
-            cells.record.as_mut_ptr(),
-            cells.record.len(),
-            allowance,
-            answer.as_mut_ptr(),
-        );
-    }
+    call_running!(refal0_run(code, start, text, cells, allowance, answer));
 }
 
 /// A run that answers the functions' applications besides.
@@ -113,23 +120,5 @@ pub fn profile(
     answer: &mut [u64; 5],
     counts: &mut [u64; FUNCTIONS],
 ) {
-    // SAFETY: pointers and lengths are those of the slices, for the time of the call
-    unsafe {
-        refal0_profile(
-            code.as_ptr(),
-            code.len(),
-            start,
-            text.as_ptr(),
-            text.len(),
-            cells.stack_in.as_mut_ptr(),
-            cells.stack_in.len(),
-            cells.stack_out.as_mut_ptr(),
-            cells.stack_out.len(),
-            cells.record.as_mut_ptr(),
-            cells.record.len(),
-            allowance,
-            answer.as_mut_ptr(),
-            counts.as_mut_ptr(),
-        );
-    }
+    call_running!(refal0_profile(code, start, text, cells, allowance, answer, counts));
 }

@@ -63,27 +63,27 @@ fn row_z_under_the_earlier_translation() {
     assert_eq!(run(Rooms::lent(4, 2, 0)), stopped(14, 0, &[1]));
 }
 
-/// What a run needs of out.
-fn out_need(table: &[u8], text: &[u8]) -> usize {
-    ample(table, text, 9).1.stack_out
-}
-
 #[test]
 fn what_stays_on_in_needs_no_out() {
-    assert_eq!(out_need(b"F{e1=<G e1 ''>}G{e1=}", b"ab"), 0);
-    assert_eq!(out_need(b"F{e1''=<G e1>}G{e1=}", b"ab"), 0);
-    assert_eq!(out_need(b"F{e1'b'e2=<G e1 'x' e2>}G{e1=}", b"abcd"), 2);
-    assert_eq!(out_need(b"F{e1='x'<G e1>}G{e1=}", b"ab"), 1);
-    assert_eq!(out_need(b"F{e1=<G 'x'<EmitA 'yz'>e1>}G{e1=}", b"ab"), 3);
-    // these are moved as before
-    assert_eq!(out_need(b"F{'a'e1'd'=<G 'xy' e1>}G{e1=}", b"abcd"), 4);
-    assert_eq!(out_need(b"F{e1=<G e1 'xy'>}G{e1=}", b"ab"), 4);
-    assert_eq!(out_need(b"F{e1=<G <G e1>>}G{e1=}", b"ab"), 2);
-    assert_eq!(out_need(b"F{e1=<EmitA e1>}", b"ab"), 2);
-    assert_eq!(out_need(b"F{e1=<G <EmitA e1>>}G{e1=}", b"ab"), 2);
-    assert_eq!(out_need(b"F{e1=<G e1>'k'}G{e1=}", b"ab"), 2);
-    assert_eq!(out_need(b"F{e1'b'e2=<G e1>}G{e1=}", b"abcd"), 1);
-    assert_eq!(out_need(b"F{e1 s2=<G e1>}G{e1=}", b"abc"), 2);
+    let rows: [(&[u8], &[u8], usize); 13] = [
+        (b"F{e1=<G e1 ''>}G{e1=}", b"ab", 0),
+        (b"F{e1''=<G e1>}G{e1=}", b"ab", 0),
+        (b"F{e1'b'e2=<G e1 'x' e2>}G{e1=}", b"abcd", 2),
+        (b"F{e1='x'<G e1>}G{e1=}", b"ab", 1),
+        (b"F{e1=<G 'x'<EmitA 'yz'>e1>}G{e1=}", b"ab", 3),
+        // these are moved as before
+        (b"F{'a'e1'd'=<G 'xy' e1>}G{e1=}", b"abcd", 4),
+        (b"F{e1=<G e1 'xy'>}G{e1=}", b"ab", 4),
+        (b"F{e1=<G <G e1>>}G{e1=}", b"ab", 2),
+        (b"F{e1=<EmitA e1>}", b"ab", 2),
+        (b"F{e1=<G <EmitA e1>>}G{e1=}", b"ab", 2),
+        (b"F{e1=<G e1>'k'}G{e1=}", b"ab", 2),
+        (b"F{e1'b'e2=<G e1>}G{e1=}", b"abcd", 1),
+        (b"F{e1 s2=<G e1>}G{e1=}", b"abc", 2),
+    ];
+    for (table, text, need) in rows {
+        assert_eq!(ample(table, text, 9).1.stack_out, need, "{}", String::from_utf8_lossy(table));
+    }
 }
 
 /// Which of two rooms is passed first may change.

@@ -5,6 +5,7 @@ use crate::program::{self, Printed, Run};
 use refal0_apart::reader::read;
 use refal0_apart::tree::Table;
 use std::fs;
+use std::process::ExitCode;
 
 /// The run is done.
 pub const DONE: u8 = 0;
@@ -16,6 +17,14 @@ pub const REFUSED: u8 = 2;
 pub const NOTHING: u8 = 3;
 /// The two systems came to different ends.
 pub const DIFFERENT: u8 = 4;
+
+/// A command's exit status; where there was nothing to run, its name and why.
+pub fn ended(name: &str, status: Result<u8, String>) -> ExitCode {
+    ExitCode::from(status.unwrap_or_else(|said| {
+        eprintln!("{name}: {said}");
+        NOTHING
+    }))
+}
 
 /// A file's bytes; `what` says what it was to be.
 pub fn file(what: &str, path: &str) -> Result<Vec<u8>, String> {

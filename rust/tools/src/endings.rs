@@ -1,5 +1,6 @@
 //! What a run ended with, in words.
 
+use crate::tokens::tokens;
 use refal0_apart::tree::Table;
 
 /// The name of a function by its number from 1.
@@ -14,10 +15,20 @@ fn recovering(table: &Table, function: usize) -> String {
     recovered.map_or(String::new(), |other| format!(", which recovers {},", name(table, other + 1)))
 }
 
-/// The sentence for an answer other than 0, and the function that it names.
-pub fn ending(table: &Table, answer: u64, function: usize) -> String {
+/// What a table's text has in place of functions.
+fn no_function(text: &[u8]) -> &'static str {
+    let tokens = tokens(text);
+    match (text, &tokens[..]) {
+        ([], _) => "the table is empty",
+        (_, []) => "the table has nothing but blanks",
+        _ => "the table has nothing but comments",
+    }
+}
+
+/// The sentence for an answer other than 0, and the function that it names; `text` is the table's.
+pub fn ending(text: &[u8], table: &Table, answer: u64, function: usize) -> String {
     let said = match answer {
-        9 => "the table declares no function",
+        9 => no_function(text),
         10 => "the sheet has more than 32768 bytes",
         11 => {
             let (name, recovering) = (name(table, function), recovering(table, function));

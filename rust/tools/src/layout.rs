@@ -7,9 +7,9 @@ use std::collections::BTreeMap;
 
 const INDENT: &[u8] = b"  ";
 
-/// Where comments may stand in a function of `m` sentences: an even slot has lines of its own, an odd one the end of the
-/// line before. 0 is before the function, 1 after its `{`, 2 + 2k before sentence k and 3 + 2k after it, counted from 0;
-/// with k = m, before and after the `}`.
+/// Where comments may stand in a function of `m` sentences: an even slot has lines of its own, an odd one the end of
+/// the line before. 0 is before the function, 1 after its `{`, 2 + 2k before sentence k and 3 + 2k after it, counted
+/// from 0; with k = m, before and after the `}`.
 type Slot = (usize, usize);
 
 type Comments<'t> = BTreeMap<Slot, Vec<&'t [u8]>>;
@@ -134,9 +134,10 @@ mod tests {
 
     #[test]
     fn comments_stay_between_sentences() {
-        let text = "/* a */ F /* b */ { /* c */\n/* d */ e1/* e */=e1; /* f */\n/* g */\n=/* h */ } /* i */\n/* j */\nG{=};/* k */";
-        let expected = "/* a */\n/* b */\nF { /* c */\n  /* d */\n  /* e */\n  e1 = e1; /* f */\n  /* g */\n  =; /* h */\n} /* i */\n\n\
-                        /* j */\nG {\n  =;\n} /* k */\n";
+        let text = "/* a */ F /* b */ { /* c */\n/* d */ e1/* e */=e1; /* f */\n/* g */\n=/* h */ } /* i */\n\
+                    /* j */\nG{=};/* k */";
+        let expected = "/* a */\n/* b */\nF { /* c */\n  /* d */\n  /* e */\n  e1 = e1; /* f */\n  /* g */\n\
+                        \x20 =; /* h */\n} /* i */\n\n/* j */\nG {\n  =;\n} /* k */\n";
         assert_eq!(formatted(text), expected);
         assert_eq!(formatted(expected), expected);
     }

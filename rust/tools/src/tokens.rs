@@ -34,6 +34,15 @@ impl Token<'_> {
         self.shape != Shape::String && self.text == text.as_bytes()
     }
 
+    pub fn is_one_of(&self, texts: &[&str]) -> bool {
+        texts.iter().any(|text| self.is(text))
+    }
+
+    /// Whether it looks like a variable and like no word: `s` or `e`, and a digit or a capital.
+    pub fn looks_variable(&self) -> bool {
+        matches!(self.text, [b's' | b'e', b'0'..=b'9' | b'A'..=b'Z', ..])
+    }
+
     pub fn shown(&self) -> String {
         String::from_utf8_lossy(self.text).into_owned()
     }

@@ -4,6 +4,7 @@ use crate::mistakes::headed;
 use crate::near::{near, nearest};
 use crate::spot::spot;
 use crate::tokens::{Shape, Token, declared, tokens};
+use refal0_apart::class::RECOVER;
 use refal0_apart::tree::{Callee, Item, Letter, Sentence, Subject, Table};
 
 /// The shortest variable that is compared with another by its spelling.
@@ -37,7 +38,11 @@ pub fn warnings(text: &[u8], table: &Table) -> Vec<String> {
     for function in 0..table.functions.len() {
         let name = names[function].shown();
         if !called(table, function) {
-            found.push(format!("line {}: {name} is never called", line(names[function].place)));
+            found.push(format!(
+                "line {}: {name} is never called{}",
+                line(names[function].place),
+                unrecovered(table, function)
+            ));
         }
         for (sentence, said) in of_sentences(table, function) {
             found.push(format!("line {}: in {name} {said}", line(starts[function][sentence])));
@@ -78,6 +83,17 @@ fn called(table: &Table, function: usize) -> bool {
         || others
             .into_iter()
             .any(|other| other != function && (calls(other) || table.recoverer(other) == Some(function)))
+}
+
+/// What a function with the name of a recovery would recover, where there is no such function.
+fn unrecovered(table: &Table, function: usize) -> String {
+    let wanted = table.functions[function].name.strip_prefix(RECOVER).filter(|wanted| !wanted.is_empty());
+    let Some(wanted) = wanted else { return String::new() };
+    let names = table.functions.iter().map(|other| other.name.as_slice());
+    match nearest(wanted, names) {
+        Some(near) => format!(", and recovers nothing: did you mean Recover{}?", shown(near)),
+        None => format!(", and there is no {} that it could recover", shown(wanted)),
+    }
 }
 
 /// The sentences that should be looked at, by their index, and why.

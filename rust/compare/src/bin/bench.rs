@@ -1,35 +1,86 @@
 //! Benchmarks: the engine beside the system written apart, in one process on the same inputs, as a Markdown table.
+//!
+//! `bench --plot` draws the time of a run against the length of its text instead, into docs/speed.svg.
 
+use compare::clock::{self, best, best_of, best_of_rounds};
+use compare::plot::{Series, picture, thousands};
 use refal0::exports::{self, Cells};
 use refal0_apart::flat::flat_answer;
 use refal0_apart::machine::{self, Rooms};
+use refal0_apart::outcome::Outcome;
 use refal0_apart::packing;
 use refal0_apart::reader::{TABLE_LIMIT, read};
 use refal0_apart::rewriter::rewrite;
 use std::hint::black_box;
-use std::time::Duration;
+use std::process::ExitCode;
 
 const CODE_WORDS: usize = 1 << 20;
 const LONG: usize = 30_000;
 const WHOLE: usize = 32_768;
 const MANY: usize = 455;
-const SHEET_TABLE: &[u8] = b"F { 'STOP ' e1 '\\n' e2 = <F e2>; 'SWING ' e1 '\\n' e2 = <F e2>; e1 = e1 }";
-const ROUNDS: usize = 7;
-const ROUND: Duration = Duration::from_millis(20);
-const FINE_ROUNDS: usize = 400;
-const FINE_ROUND: Duration = Duration::from_millis(2);
 const SENTENCE_ITEMS: usize = 128;
+/// More steps than any text needs that is drawn.
+const STEPS: u32 = 100_000;
+const EXAMPLE_TABLE: &[u8] = include_bytes!("../../../../examples/sheet/table.rf");
+const EXAMPLE_SHEET: &[u8] = include_bytes!("../../../../examples/sheet/sheet.txt");
+const SHEET_TABLE: &[u8] = b"F { 'STOP ' e1 '\\n' e2 = <F e2>; 'SWING ' e1 '\\n' e2 = <F e2>; e1 = e1 }";
 
-fn main() {
+/// What is drawn, beside this crate's folder.
+const PICTURE: &str = concat!(env!("CARGO_MANIFEST_DIR"), "/../../docs/speed.svg");
+
+fn main() -> ExitCode {
+    let words: Vec<String> = std::env::args().skip(1).collect();
+    match words.iter().map(String::as_str).collect::<Vec<_>>()[..] {
+        [] => rows(),
+        ["--plot"] => {
+            let drawn = picture(&drawn());
+            std::fs::write(PICTURE, drawn).expect("the picture is written");
+        }
+        _ => {
+            eprintln!("usage: bench [--plot]");
+            return ExitCode::FAILURE;
+        }
+    }
+    ExitCode::SUCCESS
+}
+
+/// A name, a table, and the text of a length that is run on it.
+type Drawn = (&'static str, &'static [u8], fn(usize) -> Vec<u8>);
+
+/// What is drawn: tables that people write, each with a text that makes it look at every byte.
+const DRAWN: [Drawn; 5] = [
+    ("zeros cut off", b"F { '0' e1 = <F e1>; e1 = e1 }", |length| vec![b'0'; length]),
+    ("a sheet, line by line", SHEET_TABLE, sheet),
+    ("a byte found last", b"F { e1 '7' e2 = }", |length| [vec![b'x'; length - 1], vec![b'7']].concat()),
+    ("a class of every byte", b"F { e1, <IsDigit e1>: 'T' = }", |length| vec![b'7'; length]),
+    ("the text copied", b"F { e1 = e1 }", |length| vec![b'm'; length]),
+];
+
+/// The times of each table on texts of 1, 2, 4 .. 32,768 bytes.
+fn drawn() -> Vec<Series> {
+    let series = |&(name, table, text): &Drawn| {
+        let mut series = Series { name, engine: Vec::new(), rewriter: Vec::new() };
+        for length in (0..).map(|power| 1 << power).take_while(|&length| length <= WHOLE) {
+            let [engine, rewriter, _] = Ran::of(name, table, &text(length), STEPS).times;
+            series.engine.push((length as f64, engine));
+            series.rewriter.push((length as f64, rewriter));
+        }
+        series
+    };
+    DRAWN.iter().map(series).collect()
+}
+
+/// The rows of the table.
+fn rows() {
     println!("| what | engine | Rust | engine : Rust | Rust's machine | engine : machine | |");
     println!("|---|---|---|---|---|---|---|");
     let table = near_the_limit();
-    reading(&format!("reading a table of {} bytes", table.len()), &table);
+    reading(&format!("reading a table of {} bytes", thousands(table.len() as u64)), &table);
     translating(&table);
     flatness("reading it and testing whether it is flat", &table);
     for (call, items) in [("<F>", 1), ("<EmitA>", 1), ("<DmAdd>", 1), ("<EmitA 'abcdefg'>", 8)] {
         let table = nothing_but(call, items);
-        flatness(&format!("the same of {} bytes of `{call}`", table.len()), &table);
+        flatness(&format!("the same of {} bytes of `{call}`", thousands(table.len() as u64)), &table);
     }
     reading("reading 32,768 letters without `<`", &[b'a'; TABLE_LIMIT]);
     reading("reading one comment of 32,768 bytes", &comment());
@@ -61,19 +112,19 @@ fn two_parts() {
     let mut sentences = String::from("F {");
     (0..MANY).for_each(|_| sentences.push_str(&format!("e1'{}b'e2=;", "a".repeat(63))));
     sentences.push_str("e1=}");
-    running("one step of 455 such sentences", sentences.as_bytes(), &text, 1);
-    let lines = sheet();
-    running("a sheet of 28,500 bytes by one function", SHEET_TABLE, &lines, 10_000);
+    running_each(
+        "one step of 455 such sentences",
+        sentences.as_bytes(),
+        &text,
+        1,
+        (WHOLE * MANY, "a byte and sentence"),
+    );
+    running("a sheet of 28,500 bytes by one function", SHEET_TABLE, &sheet(28_500), 10_000);
 }
 
-/// The commands of a sheet, each on a line of its own.
-fn sheet() -> Vec<u8> {
-    let mut lines = Vec::new();
-    while lines.len() < 28_500 {
-        lines.extend_from_slice(b"STOP 120\nSWING 45\n");
-    }
-    lines.truncate(28_500);
-    lines
+/// The commands of a sheet of this length, each on a line of its own.
+fn sheet(length: usize) -> Vec<u8> {
+    b"STOP 120\nSWING 45\n".iter().copied().cycle().take(length).collect()
 }
 
 /// Short texts and many small items.
@@ -81,9 +132,10 @@ fn short_runs() {
     running("row Z on `0060`", b"F { '0' e1 = <F e1>; e1 = e1 }", b"0060", 100);
     running("row R on `abc`", b"G { s1 e2 = <G e2> s1; = }", b"abc", 100);
     let values = format!("F {{ s1 s2 e3 = {} }}", "s1 s2 ".repeat(48));
-    running("96 stored bytes in one sentence", values.as_bytes(), b"xy", 1);
-    let mixed = format!("F {{ s1 e2 ',' e3 = {}e2 {}e3 }}", "s1 'a' ".repeat(24), "'b' s1 ".repeat(23));
-    running("96 stored bytes, characters and parts in one sentence", mixed.as_bytes(), b"xyz,ab", 1);
+    running_each("96 stored bytes in one sentence", values.as_bytes(), b"xy", 1, (96, "a stored byte"));
+    let mixed = format!("F {{ s1 s2 e3 = {} e3 }}", "s1 'a' s2 'b' ".repeat(24));
+    running_each("96 stored bytes and characters by turns, and a part", mixed.as_bytes(), b"xyz", 1, (97, "an item"));
+    running("the example sheet, `examples/sheet`", EXAMPLE_TABLE, EXAMPLE_SHEET, STEPS);
 }
 
 /// Conditions on parts: one over the whole text, and one on each part at every place.
@@ -91,62 +143,31 @@ fn conditions() {
     let digits = [b'7'; LONG];
     running("a part's class over 30,000 bytes", b"F { e1, <IsDigit e1>: 'T' = }", &digits, 1);
     let table = b"F { e1 s2 e3, <IsDigit e1>: 'T', <IsDigit e3>: 'T', <IsUpper s2>: 'T' = ; e1 = }";
-    running("a class asked of both parts at 30,000 places", table, &digits, 1);
+    let each = (3 * LONG, "a byte and condition");
+    running_each("a class asked of both parts at 30,000 places", table, &digits, 1, each);
 }
 
-/// The processor's time for this process so far: other work on the machine doesn't count.
-fn processor_time() -> Duration {
-    #[repr(C)]
-    struct TimeSpec {
-        seconds: i64,
-        nanoseconds: i64,
-    }
-    unsafe extern "C" {
-        fn clock_gettime(clock: i32, time: *mut TimeSpec) -> i32;
-    }
-    const PROCESS_CLOCK: i32 = 2;
-    let mut time = TimeSpec { seconds: 0, nanoseconds: 0 };
-    // SAFETY: the C library writes one value of this layout (64-bit Linux) where it is told
-    let failed = unsafe { clock_gettime(PROCESS_CLOCK, &raw mut time) };
-    assert_eq!(failed, 0, "no clock");
-    Duration::new(time.seconds as u64, time.nanoseconds as u32)
+/// A time in nanoseconds with three digits and its unit.
+fn shown(time: f64) -> String {
+    let (number, unit) = match time {
+        0.0..999.5 => (time, "ns"),
+        0.0..999.5e3 => (time / 1e3, "µs"),
+        0.0..999.5e6 => (time / 1e6, "ms"),
+        _ => (time / 1e9, "s"),
+    };
+    let decimals = if number < 9.995 { 2 } else { usize::from(number < 99.95) };
+    format!("{number:.decimals$} {unit}")
 }
 
-/// How many calls make a round of a length.
-fn calls_in_a_round(call: &mut dyn FnMut(), round: Duration) -> u32 {
-    let begin = processor_time();
-    call();
-    let once = (processor_time() - begin).max(Duration::from_nanos(50));
-    (round.as_nanos() / once.as_nanos()).clamp(1, 100_000) as u32
-}
-
-fn best_of<const N: usize>(all: [&mut dyn FnMut(); N]) -> [f64; N] {
-    best_of_rounds(ROUNDS, ROUND, all)
-}
-
-/// The shortest time of some rounds of each, taken by turns.
-fn best_of_rounds<const N: usize>(rounds: usize, round: Duration, mut all: [&mut dyn FnMut(); N]) -> [f64; N] {
-    let calls = all.each_mut().map(|call| calls_in_a_round(*call, round));
-    let mut best = [f64::INFINITY; N];
-    for _ in 0..rounds {
-        for (which, call) in all.iter_mut().enumerate() {
-            let begin = processor_time();
-            (0..calls[which]).for_each(|_| call());
-            let time = (processor_time() - begin).as_nanos() as f64 / f64::from(calls[which]);
-            best[which] = best[which].min(time);
-        }
-    }
-    best
-}
-
-fn best(mut call: impl FnMut()) -> f64 {
-    best_of([&mut call])[0]
+fn ratio(one: f64, other: f64) -> String {
+    let decimals = if one / other < 0.01 { 4 } else { 2 };
+    format!("{:.decimals$}", one / other)
 }
 
 /// A row of the table; `machine` is there for runs.
 fn row(what: &str, engine: f64, rust: f64, machine: Option<f64>, remark: &str) {
-    let beside = machine.map_or("| |".into(), |time| format!("{:.1} µs | {:.2} |", time / 1e3, engine / time));
-    println!("| {what} | {:.1} µs | {:.1} µs | {:.2} | {beside} {remark} |", engine / 1e3, rust / 1e3, engine / rust);
+    let beside = machine.map_or("| |".into(), |time| format!("{} | {} |", shown(time), ratio(engine, time)));
+    println!("| {what} | {} | {} | {} | {beside} {remark} |", shown(engine), shown(rust), ratio(engine, rust));
 }
 
 fn reading(what: &str, table: &[u8]) {
@@ -156,8 +177,7 @@ fn reading(what: &str, table: &[u8]) {
     }]);
     let number = read(table).map_or_else(|refusal| refusal.number, |_| 0);
     assert_eq!(answer[0], number, "{what}");
-    let remark = format!("answer {number}; engine {:.2} ns a byte", engine / table.len() as f64);
-    row(what, engine, rust, None, &remark);
+    row(what, engine, rust, None, &format!("{:.2} ns a byte", engine / table.len() as f64));
 }
 
 fn translating(table: &[u8]) {
@@ -168,7 +188,7 @@ fn translating(table: &[u8]) {
     let [engine, rust] = best_of([&mut || exports::translate(black_box(table), &mut code, &mut answer), &mut || {
         drop(black_box(packing::code(&read(black_box(table)).expect("the table is sound"))))
     }]);
-    row("reading and translating it", engine, rust, None, &format!("{} words of code", answer[2]));
+    row("reading and translating it", engine, rust, None, &format!("{} words of code", thousands(answer[2])));
 }
 
 /// The test for a flat table reads the table: the remark has what it takes besides, so the rounds are short and many.
@@ -176,8 +196,7 @@ fn flatness(what: &str, table: &[u8]) {
     let mut answer = [0; 3];
     let mut tested = [0; 3];
     let [reading, engine, rust] = best_of_rounds(
-        FINE_ROUNDS,
-        FINE_ROUND,
+        clock::SHORT,
         [
             &mut || exports::read(black_box(table), &mut answer),
             &mut || exports::flat(black_box(table), &mut tested),
@@ -187,33 +206,51 @@ fn flatness(what: &str, table: &[u8]) {
     assert_eq!(answer[0], 0, "the table is sound");
     assert_eq!(tested, flat_answer(table), "whether it is flat");
     let besides = 100.0 * (engine / reading - 1.0);
-    let remark = format!("answer {}; reading {:.1} µs, the test {besides:.1} % besides", tested[0], reading / 1e3);
+    let remark = format!("answer {}; reading {}, the test {besides:.1} % besides", tested[0], shown(reading));
     row(what, engine, rust, None, &remark);
 }
 
-/// The engine's time for a run, on the rooms that the run needs.
+/// A run on the rooms that it needs: how it ends, and the times of the engine, the rewriter and the machine in Rust.
+struct Ran {
+    outcome: Outcome,
+    actions: u64,
+    times: [f64; 3],
+}
+
+impl Ran {
+    fn of(what: &str, table: &[u8], text: &[u8], allowance: u32) -> Ran {
+        let tree = read(table).expect("the table is sound");
+        let code = packing::code(&tree);
+        let (outcome, need) = machine::run(&code, 1, text, allowance, Rooms::WITHOUT_END);
+        let [mut stack_in, mut stack_out, mut record] =
+            [need.stack_in, need.stack_out, need.record].map(|length| vec![0; length]);
+        let mut answer = [0; 5];
+        let times = best_of([
+            &mut || {
+                let cells = Cells { stack_in: &mut stack_in, stack_out: &mut stack_out, record: &mut record };
+                exports::run(black_box(&code), 1, black_box(text), cells, allowance, &mut answer);
+            },
+            &mut || drop(black_box(rewrite(&tree, 1, black_box(text), allowance))),
+            &mut || drop(black_box(machine::run(&code, 1, black_box(text), allowance, Rooms::WITHOUT_END))),
+        ]);
+        assert_eq!((answer[0], answer[2]), (outcome.answer, outcome.steps), "{what}");
+        Ran { actions: machine::actions(&code, 1, text, allowance), outcome, times }
+    }
+}
+
+/// A row for a run; the engine's time.
 fn running(what: &str, table: &[u8], text: &[u8], allowance: u32) -> f64 {
-    let tree = read(table).expect("the table is sound");
-    let code = packing::code(&tree);
-    let (outcome, need) = machine::run(&code, 1, text, allowance, Rooms::WITHOUT_END);
-    let mut stack_in = vec![0; need.stack_in];
-    let mut stack_out = vec![0; need.stack_out];
-    let mut answer = [0; 5];
-    let [engine, rust, apart] = best_of([
-        &mut || {
-            let cells = Cells { stack_in: &mut stack_in, stack_out: &mut stack_out, record: &mut [] };
-            exports::run(black_box(&code), 1, black_box(text), cells, allowance, &mut answer);
-        },
-        &mut || drop(black_box(rewrite(&tree, 1, black_box(text), allowance))),
-        &mut || drop(black_box(machine::run(&code, 1, black_box(text), allowance, Rooms::WITHOUT_END))),
-    ]);
-    assert_eq!((answer[0], answer[2]), (outcome.answer, outcome.steps), "{what}");
-    let actions = machine::actions(&code, 1, text, allowance) as f64;
+    running_each(what, table, text, allowance, (text.len(), "a byte"))
+}
+
+/// The same; the time of a single step is that of so many things, bytes or others.
+fn running_each(what: &str, table: &[u8], text: &[u8], allowance: u32, (count, each): (usize, &str)) -> f64 {
+    let Ran { outcome, actions, times: [engine, rust, apart] } = Ran::of(what, table, text, allowance);
     let remark = if outcome.steps > 1 {
-        let step = engine / outcome.steps as f64;
-        format!("answer {}; engine {step:.2} ns a step, {:.2} ns an instruction", outcome.answer, engine / actions)
+        let (step, action) = (engine / outcome.steps as f64, engine / actions as f64);
+        format!("{step:.2} ns a step, {action:.2} ns an instruction")
     } else {
-        format!("answer {}; engine {:.2} ns a byte", outcome.answer, engine / text.len() as f64)
+        format!("{:.2} ns {each}", engine / count as f64)
     };
     row(what, engine, rust, Some(apart), &remark);
     engine
@@ -229,8 +266,8 @@ fn moving(engine: f64, calls: u32) {
             stack_in.copy_from_slice(black_box(&stack_out));
         }
     });
-    let ratio = engine / time;
-    println!("| the same bytes by memmove, both ways | | {:.1} µs | {ratio:.2} | | | |", time / 1e3);
+    let remark = "the engine's time over memmove's";
+    println!("| the same bytes by memmove, both ways | | {} | {} | | | {remark} |", shown(time), ratio(engine, time));
 }
 
 fn comment() -> Vec<u8> {

@@ -22,10 +22,7 @@ struct Asked {
 }
 
 fn main() -> ExitCode {
-    ExitCode::from(benched().unwrap_or_else(|said| {
-        eprintln!("refal0-bench: {said}");
-        command::NOTHING
-    }))
+    command::ended("refal0-bench", benched())
 }
 
 fn asked() -> Option<Asked> {
@@ -57,7 +54,7 @@ fn benched() -> Result<u8, String> {
                 eprintln!("{unknown}");
                 return Ok(command::REFUSED);
             }
-            let status = shown_run(&table, &run, &history).map_err(|error| error.to_string())?;
+            let status = shown_run(&text, &table, &run, &history).map_err(|error| error.to_string())?;
             for warning in warnings(&text, &table) {
                 eprintln!("warning: {warning}");
             }
@@ -66,7 +63,7 @@ fn benched() -> Result<u8, String> {
     }
 }
 
-fn shown_run(table: &Table, run: &Run, history: &History) -> io::Result<u8> {
+fn shown_run(text: &[u8], table: &Table, run: &Run, history: &History) -> io::Result<u8> {
     let steps = if run.steps == 1 { String::from("1 step") } else { format!("{} steps", run.steps) };
     if run.answer == 0 {
         let mut output = io::stdout().lock();
@@ -84,7 +81,7 @@ fn shown_run(table: &Table, run: &Run, history: &History) -> io::Result<u8> {
                 eprintln!("  {}", escaped(line));
             }
         }
-        eprintln!("ended with {} after {steps}: {}", run.answer, ending(table, run.answer, run.function));
+        eprintln!("ended with {} after {steps}: {}", run.answer, ending(text, table, run.answer, run.function));
         if alike(run, history) {
             last_line(table, history);
         }

@@ -23,10 +23,7 @@ struct Asked {
 }
 
 fn main() -> ExitCode {
-    ExitCode::from(traced().unwrap_or_else(|said| {
-        eprintln!("refal0-trace: {said}");
-        command::NOTHING
-    }))
+    command::ended("refal0-trace", traced())
 }
 
 fn asked() -> Option<Asked> {

@@ -1,12 +1,19 @@
 //! What passes a limit.
 
 use super::Fault;
+use super::strings::left_open;
 use crate::context::Stage;
 use crate::tokens::{Shape, Token};
-use refal0_apart::reader::{IDENTIFIER_LIMIT, NAME_LIMIT, NESTING_LIMIT, SYMBOL_LIMIT};
+use refal0_apart::reader::{IDENTIFIER_LIMIT, NAME_LIMIT, NESTING_LIMIT, SENTENCE_LIMIT, SYMBOL_LIMIT};
 
 impl Fault<'_> {
     pub(super) fn too_much(&self, token: Token) -> String {
+        if let Some(said) = self.missing_quote() {
+            return said;
+        }
+        if token.shape == Shape::String && left_open(token.text) {
+            return String::from("this string has no closing ' in its line");
+        }
         let shown = token.shown();
         let called = self.directly_after("<");
         let word = token.shape == Shape::Word;
@@ -21,7 +28,10 @@ impl Fault<'_> {
         }
         match self.context.stage {
             Stage::Outside => format!("{shown} is one function too many: a table has at most 64"),
-            Stage::Begin => String::from("one sentence too many: a table has at most 512"),
+            Stage::Begin if self.sentences() == SENTENCE_LIMIT => {
+                String::from("one sentence too many: a table has at most 512")
+            }
+            Stage::Begin => self.too_much_in_pattern(token),
             Stage::Pattern if token.is(",") => String::from("one condition too many: a sentence has at most 8"),
             Stage::Pattern => self.too_much_in_pattern(token),
             Stage::Condition(_) => String::from("one condition too many: a sentence has at most 8"),
@@ -30,6 +40,12 @@ impl Fault<'_> {
             }
             _ => String::from("one item too many: an expression has at most 128 characters, variables and calls"),
         }
+    }
+
+    /// How many sentences stand before the fault.
+    fn sentences(&self) -> usize {
+        let place = self.token.map_or(self.text.len(), |token| token.place);
+        self.tokens.iter().filter(|token| token.place < place && token.is("=")).count()
     }
 
     fn too_much_in_pattern(&self, token: Token) -> String {

@@ -1,6 +1,8 @@
 //! What is wrong with a refused table, in one sentence: the number and the place are the proved program's, the cause is
 //! found by looking at the whole table.
 
+mod conditions;
+mod heads;
 mod limits;
 mod marks;
 mod names;
@@ -72,11 +74,6 @@ impl<'t> Fault<'t> {
             6 => self.wrong_pattern_variable(token),
             7 => self.wrong_later_variable(token),
             8 => self.undeclared(token),
-            19 => format!(
-                "{} is called here by a function that waits for it: in a flat table only the last item outermost \
-                 calls a declared function",
-                token.shown()
-            ),
             _ => format!("{} is refused with {number}", token.shown()),
         }
     }
@@ -92,21 +89,31 @@ impl<'t> Fault<'t> {
         spot(self.text, token.place)
     }
 
-    /// The token after the fault's, if it is this one.
+    /// Whether the token after the fault's is this one.
     fn followed_by(&self, text: &str) -> bool {
         self.after.first().is_some_and(|next| next.is(text))
     }
 
-    /// The token before the fault's, if it is this one and nothing stands between them.
-    fn directly_after(&self, text: &str) -> bool {
-        let touching = |before: Token| before.is(text) && self.token.is_some_and(|token| token.place == before.end());
-        self.context.before.is_some_and(touching)
+    /// The token before the fault's, if nothing stands between them.
+    fn touching_before(&self) -> Option<Token<'t>> {
+        self.context.before.filter(|before| self.token.is_some_and(|token| token.place == before.end()))
     }
 
-    /// The token right after the fault's, with nothing between them.
+    /// Whether this stands right before the fault's token.
+    fn directly_after(&self, text: &str) -> bool {
+        self.touching_before().is_some_and(|before| before.is(text))
+    }
+
+    /// Whether this stands right after the fault's token.
     fn directly_before(&self, text: &str) -> bool {
         let touching = |next: &Token| next.is(text) && self.token.is_some_and(|token| token.end() == next.place);
         self.after.first().is_some_and(touching)
+    }
+
+    /// Whether a `=` comes after the fault before its sentence ends.
+    fn equals_follows(&self) -> bool {
+        let end = self.after.iter().find(|after| after.is_one_of(&["=", ";", "{", "}"]));
+        end.is_some_and(|end| end.is("="))
     }
 
     fn function(&self) -> String {

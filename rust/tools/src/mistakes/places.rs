@@ -7,14 +7,15 @@ use refal0_apart::class::Class;
 
 impl Fault<'_> {
     pub(super) fn misplaced(&self, token: Token) -> String {
-        if let Some(said) = self.missing_quote().or_else(|| self.foreign(token)) {
+        let hidden = self.missing_quote().or_else(|| self.quote_before(token)).or_else(|| self.inner_comment(token));
+        if let Some(said) = hidden.or_else(|| self.sheet()).or_else(|| self.foreign(token)) {
             return said;
         }
         match token.shape {
             Shape::Word => self.misplaced_word(token),
             Shape::Number => self.misplaced_number(token),
             Shape::String => self.misplaced_string(token),
-            Shape::Open => self.misplaced_call(),
+            Shape::Open => self.misplaced_call(token),
             Shape::Mark => self.misplaced_mark(token),
             Shape::Comment => String::from("this comment can't stand here"),
         }
@@ -27,14 +28,10 @@ impl Fault<'_> {
         }
         let begun = self.context.function.map_or(String::new(), |name| self.where_is(name));
         match self.context.stage {
-            Stage::Named => self.no_brace(),
+            Stage::Named => self.sheet().unwrap_or_else(|| self.no_brace()),
             Stage::Pattern | Stage::Condition(_) => self.no_equals(),
             _ => format!("the table ends here, and {}, which began in {begun}, has no }}", self.function()),
         }
-    }
-
-    pub(super) fn no_brace(&self) -> String {
-        format!("{{ has to follow the function's name {}", self.function())
     }
 
     pub(super) fn no_equals(&self) -> String {
@@ -48,50 +45,56 @@ impl Fault<'_> {
         Some(format!("the call <{} that began in {} has no >", call.shown(), self.where_is(*call)))
     }
 
-    pub(super) fn in_condition(&self, passed: usize) -> String {
-        let said = match passed {
-            0 | 1 => "a condition is like , <IsDigit s1>: 'T'",
-            2 => "a condition asks a variable of the pattern, like <IsDigit s1>",
-            3 => "after a condition's variable comes >",
-            4 => "after a condition's > comes : 'T' or : 'F'",
-            5 => "a condition is closed by 'T' or 'F' and nothing else",
-            _ => "after a condition comes a , and another one, or =",
-        };
-        String::from(said)
+    fn misplaced_number(&self, token: Token) -> String {
+        match self.context.stage {
+            Stage::Outside => format!("{} is no function's name: a name begins with a letter", token.shown()),
+            Stage::Named => self.no_brace(),
+            Stage::Condition(passed) => self.in_condition(token, passed),
+            _ => outside_quotes(self.whole(token)),
+        }
     }
 
-    fn misplaced_number(&self, token: Token) -> String {
-        let shown = token.shown();
-        match self.context.stage {
-            Stage::Outside => format!("{shown} is no function's name: a name begins with a letter"),
-            Stage::Named => self.no_brace(),
-            Stage::Condition(passed) => self.in_condition(passed),
-            _ => format!("{shown} stands outside quotes: as a text it is written '{shown}'"),
-        }
+    /// A token with all that stands right after it, up to a blank or a mark of Refal-0.
+    pub(super) fn whole(&self, token: Token) -> &[u8] {
+        let rest = &self.text[token.place..];
+        let end = rest.iter().position(|byte| b" \t\n\r;,={}<>'\"".contains(byte)).unwrap_or(rest.len());
+        &rest[..end.max(token.text.len())]
     }
 
     fn misplaced_string(&self, token: Token) -> String {
         match self.context.stage {
-            Stage::Outside => {
-                String::from("a string stands in a sentence, and a sentence in a function: name { sentences }")
-            }
+            Stage::Outside => self.outside(token),
             Stage::Named => self.no_brace(),
-            Stage::Condition(passed) => self.in_condition(passed),
+            Stage::Condition(passed) => self.in_condition(token, passed),
             _ => format!("{} can't stand here", token.shown()),
         }
     }
 
     /// `<` and a name where no call may stand.
-    fn misplaced_call(&self) -> String {
-        let name = self.after.first().map_or(&b""[..], |name| name.text);
+    fn misplaced_call(&self, token: Token) -> String {
         match self.context.stage {
-            Stage::Outside => String::from("a call stands in an expression, right of a sentence's ="),
+            Stage::Outside => self.outside(token),
             Stage::Named => self.no_brace(),
-            Stage::Condition(passed) => self.in_condition(passed),
-            _ if Class::of_predicate(name).is_some() => {
-                format!("a , has to stand before a condition: , <{} ..>", String::from_utf8_lossy(name))
-            }
-            _ => String::from("a pattern has no calls: they stand right of the ="),
+            Stage::Condition(passed) => self.in_condition(token, passed),
+            _ => self.call_before_equals(),
         }
     }
+
+    /// A call in a pattern, or after its conditions.
+    pub(super) fn call_before_equals(&self) -> String {
+        let name = self.after.first().map_or(&b""[..], |name| name.text);
+        if Class::of_predicate(name).is_some() {
+            return format!("a , has to stand before a condition: , <{} ..>", String::from_utf8_lossy(name));
+        }
+        if self.equals_follows() {
+            String::from("a pattern has no calls: they stand right of the =")
+        } else {
+            format!("{} before this call", self.no_equals())
+        }
+    }
+}
+
+/// What is said of a text without quotes.
+pub(super) fn outside_quotes(text: &[u8]) -> String {
+    format!("{0} stands outside quotes: as a text it is written '{0}'", String::from_utf8_lossy(text))
 }

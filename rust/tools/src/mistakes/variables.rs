@@ -5,8 +5,17 @@ use crate::context::Stage;
 use crate::near::nearest;
 use crate::tokens::{Shape, Token};
 
+/// Whether a name is that of a variable and of another one right beside it, as in `e1e2`.
+fn joins(name: &[u8], part: &[u8]) -> bool {
+    let variable = |rest: &[u8]| matches!(rest, [b's' | b'e', _, ..]);
+    name.strip_prefix(part).is_some_and(variable) || name.strip_suffix(part).is_some_and(variable)
+}
+
 impl Fault<'_> {
     pub(super) fn wrong_pattern_variable(&self, token: Token) -> String {
+        if !self.equals_follows() {
+            return self.no_equals();
+        }
         let shown = token.shown();
         let pattern = &self.context.pattern;
         if pattern.iter().any(|known| known.text == token.text) {
@@ -43,14 +52,39 @@ impl Fault<'_> {
                 }
             };
         }
-        let names: Vec<&[u8]> = self.context.pattern.iter().map(|variable| variable.text).collect();
+        self.unknown_variable(token)
+    }
+
+    /// A variable that is not in the pattern, and what may be meant.
+    fn unknown_variable(&self, token: Token) -> String {
+        let shown = token.shown();
+        let asked = matches!(self.context.stage, Stage::Condition(_));
+        let said = if asked {
+            format!("the condition asks {shown}, which is not in the pattern")
+        } else {
+            format!("{shown} is not in the pattern")
+        };
+        let mut names: Vec<&[u8]> = Vec::new();
+        for variable in &self.context.pattern {
+            names.retain(|name| *name != variable.text);
+            names.push(variable.text);
+        }
         let other_kind = names.iter().find(|name| name[1..] == token.text[1..]).copied();
-        match nearest(token.text, names).or(other_kind) {
-            Some(near) => {
-                let near = String::from_utf8_lossy(near);
-                format!("{shown} is not in the pattern: did you mean {near}?")
-            }
-            None => format!("{shown} is not in the pattern"),
+        if let Some(near) = nearest(token.text, names.iter().copied()).or(other_kind) {
+            return format!("{said}: did you mean {}?", String::from_utf8_lossy(near));
+        }
+        if let Some(joined) = names.iter().find(|name| joins(name, token.text)) {
+            return format!("{said}: {} is one variable, and a blank parts two", String::from_utf8_lossy(joined));
+        }
+        let has = if names.is_empty() {
+            String::from("no variables")
+        } else {
+            String::from_utf8_lossy(&names.join(&b" and "[..])).into_owned()
+        };
+        if asked {
+            format!("the condition asks {shown}, and the pattern has {has}")
+        } else {
+            format!("{said}, which has {has}")
         }
     }
 
@@ -65,14 +99,27 @@ impl Fault<'_> {
         if !self.context.open.is_empty() {
             return self.unclosed_call();
         }
-        if self.spot(equals).line == line {
-            return token
-                .is("=")
-                .then(|| String::from("a second = in one sentence: a ; has to part it from the next sentence"));
-        }
         // what stands before the token's line is the end of the sentence
         let ended =
             self.tokens.iter().rfind(|before| before.shape != Shape::Comment && self.spot(**before).line < line);
-        Some(format!("a ; is missing at the end of line {}, before this sentence", self.spot(*ended?).line))
+        match ended.filter(|ended| ended.place > equals.place) {
+            Some(ended) => {
+                Some(format!("a ; is missing at the end of line {}, before this sentence", self.spot(*ended).line))
+            }
+            None => self.second_equals(token),
+        }
+    }
+
+    /// A sentence with two `=` in one line: a `;` was forgotten, or a `,` stands for it.
+    fn second_equals(&self, token: Token) -> Option<String> {
+        if token.is("=") {
+            return Some(String::from("a second = in one sentence: a ; has to part it from the next sentence"));
+        }
+        if token.is(",") {
+            return Some(String::from("sentences are parted by a ;, not by a ,"));
+        }
+        let second = self.after.iter().find(|after| after.is("="))?;
+        let place = self.where_is(*second);
+        Some(format!("a ; is missing between two sentences: the = in {place} is that of the next one"))
     }
 }

@@ -1,8 +1,10 @@
 //! Words that can't stand where they do.
 
 use super::Fault;
+use super::places::outside_quotes;
 use crate::context::Stage;
 use crate::tokens::{Shape, Token, declared};
+use refal0_apart::angles::Operation;
 use refal0_apart::class::{Class, is_emission};
 
 impl Fault<'_> {
@@ -10,10 +12,7 @@ impl Fault<'_> {
         let shown = token.shown();
         match self.context.stage {
             Stage::Named => return self.no_brace(),
-            Stage::Condition(5) if matches!(token.text, b"T" | b"F") => {
-                return format!("{shown} stands in quotes: '{shown}'");
-            }
-            Stage::Condition(passed @ (0 | 1 | 3..)) => return self.in_condition(passed),
+            Stage::Condition(passed @ (0 | 1 | 3..)) => return self.in_condition(token, passed),
             _ => {}
         }
         if self.directly_before("(") {
@@ -26,15 +25,35 @@ impl Fault<'_> {
             return said;
         }
         if let Stage::Condition(passed) = self.context.stage {
-            return self.in_condition(passed);
+            return self.in_condition(token, passed);
         }
         if Class::of_predicate(token.text).is_some() {
             return format!("a condition is written , <{shown} s1>: 'T'");
         }
-        if is_emission(token.text) || declared(&self.tokens).iter().any(|name| name.text == token.text) {
+        let known = is_emission(token.text) || Operation::of_name(token.text).is_some();
+        if known || declared(&self.tokens).iter().any(|name| name.text == token.text) {
             return format!("a call is written <{shown} ..>");
         }
-        format!("{shown} stands outside quotes: as a text it is written '{shown}'")
+        if self.directly_named(token) {
+            return format!("the name of an emission is one word: <Emit{shown}");
+        }
+        if self.on_both_sides(token) {
+            return format!("{shown} is no variable: one begins with s or e, like e{shown}");
+        }
+        outside_quotes(token.text)
+    }
+
+    /// Whether the word stands after `<Emit`.
+    fn directly_named(&self, token: Token) -> bool {
+        let emit = self.context.open.last().is_some_and(|name| name.is("Emit") && self.context.before == Some(*name));
+        emit && token.text[0].is_ascii_uppercase()
+    }
+
+    /// Whether a word with a small letter stands in a pattern, and right of its `=` too.
+    fn on_both_sides(&self, token: Token) -> bool {
+        let sentence = self.after.iter().take_while(|after| !after.is_one_of(&[";", "}"]));
+        let mut expression = sentence.skip_while(|after| !after.is("="));
+        token.text[0].is_ascii_lowercase() && expression.any(|after| after.text == token.text)
     }
 
     /// What was meant as a variable.
@@ -43,6 +62,9 @@ impl Fault<'_> {
         let parts = self.context.pattern.iter().filter(|variable| variable.text.starts_with(b"e")).count();
         match token.text {
             [b'e', _, ..] if parts == 2 && self.context.stage == Stage::Pattern => {
+                if !self.equals_follows() {
+                    return Some(self.no_equals());
+                }
                 Some(format!("{shown} is the third e-variable of this pattern, and a pattern has at most two"))
             }
             b"s" | b"e" if self.directly_before("_") || self.directly_before("-") => {
