@@ -8,7 +8,7 @@ use lib.Dec.{T, ltb→lt}
 use lib.ListN.{length}
 use lib.Seq.{take-append-seam}
 use borrow.Author.Tests.{lt-ltb, le-ltb, le-leb, lt-leb, ne-eqb}
-use Rattle.meaning.specs.Choice.{Name, pick, both, every}
+use Rattle.meaning.specs.Choice.{Name, both, every}
 use Rattle.meaning.specs.Names.{Calling as Called, asEmission, asAngles, asFunction, callingOf, builtIn, isBuiltIn, isReserved}
 use Rattle.meaning.specs.Tree.{Expression, end, thenCharacter, thenSymbol, thenPart, thenCall, Sentence, Function, Table}
 use Rattle.meaning.specs.Allowed.{isByte, spelledName, spelledIdentifier, someSentence, allowedSentence, allowedFunction, allowed}

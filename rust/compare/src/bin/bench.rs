@@ -133,8 +133,9 @@ fn short_runs() {
     running("row R on `abc`", b"G { s1 e2 = <G e2> s1; = }", b"abc", 100);
     let values = format!("F {{ s1 s2 e3 = {} }}", "s1 s2 ".repeat(48));
     running_each("96 stored bytes in one sentence", values.as_bytes(), b"xy", 1, (96, "a stored byte"));
-    let mixed = format!("F {{ s1 s2 e3 = {} e3 }}", "s1 'a' s2 'b' ".repeat(24));
-    running_each("96 stored bytes and characters by turns, and a part", mixed.as_bytes(), b"xyz", 1, (97, "an item"));
+    let mixed = format!("F {{ s1 e2 ',' e3 = {}e2 {}e3 }}", "s1 'a' ".repeat(24), "'b' s1 ".repeat(23));
+    let items = (96, "an item");
+    running_each("96 stored bytes, characters and parts in one sentence", mixed.as_bytes(), b"xyz,ab", 1, items);
     running("the example sheet, `examples/sheet`", EXAMPLE_TABLE, EXAMPLE_SHEET, STEPS);
 }
 
