@@ -16,7 +16,7 @@ use crate::registers::Registers;
 use cells::copying::copy_to_journal;
 use cells::places::JournalByte;
 use cells::places::part;
-use matching::CodePlace;
+use code_places::CodePlace;
 
 // Whether so many words from a place on are there and are bytes.
 fn named(code: &[u32], name: CodePlace, size: usize) -> bool

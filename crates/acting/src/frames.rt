@@ -8,7 +8,7 @@ ghost use Rattle.acting.specs.States.{frameWords, roomOfFrames, roomOfVa
 use cells::places::InCell;
 use cells::places::OutCell;
 use cells::places::less;
-use matching::CodePlace;
+use code_places::CodePlace;
 
 // The start is frame 0.
 pub const FRAMES: usize = 256;

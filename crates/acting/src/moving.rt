@@ -36,8 +36,8 @@ use cells::places::out_after;
 use cells::places::part;
 use cells::places::put;
 use cells::places::room_from;
+use code_places::wide;
 use decoding::Write;
-use matching::wide;
 
 // How many cells a span counts, where they are there.
 pub enum Cells {

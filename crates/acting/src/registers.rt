@@ -1,7 +1,7 @@
 // The registers of one run, and how a run goes on.
 use cells::places::InCell;
 use cells::places::OutCell;
-use matching::CodePlace;
+use code_places::CodePlace;
 ghost use mathlib.Core.Path.{_≡_};
 ghost use Rattle.acting.specs.Endings.{endingNumber};
 

@@ -10,7 +10,7 @@ ghost use Rattle.meaning.specs.Instructions.{call as calling};
 ghost use Rattle.meaning.specs.Leaving.{maxFrames};
 ghost use Rattle.meaning.specs.Packing.{storeOf, unpackStores};
 ghost use Rattle.classes.specs.Tests.{Answers};
-ghost use Rattle.matching.specs.Matched.{cellMeant};
+ghost use Rattle.sites.specs.Sites.{cellMeant};
 ghost use Rattle.applying.specs.Storing.{Stores};
 ghost use Rattle.decoding.specs.Decoded.{callMeant};
 ghost use Rattle.acting.specs.States.{roomOfFrames, roomOfValues, CountsWithin, memory};
@@ -28,13 +28,13 @@ use acting::registers::Next;
 use acting::registers::Registers;
 use cells::places::later;
 use cells::places::part;
+use code_places::CodePlace;
+use code_places::wide;
 use decoding::Call;
-use matching::Cell;
 use matching::Choice;
-use matching::CodePlace;
-use matching::cell_at;
 use matching::choose;
-use matching::wide;
+use sites::Cell;
+use sites::cell_at;
 
 pub fn declared(code: &[u32], number: usize) -> bool
     requires { ⌜ countIn (now code) < length (now code) ⌝ }

@@ -10,7 +10,7 @@ use Rattle.meaning.specs.Angles.{operation}
 use Rattle.meaning.specs.Allowed.{isByte}
 use Rattle.meaning.specs.Instructions.{Span, Action, go, select, out, outCharacter, outValue, beginSequence, useSequence, call, tailCall, compute, unknownAction}
 use Rattle.meaning.specs.Packing.{Words, numberIn, firstIn, secondIn, thirdIn, actionsEnd, lengthOf, spanAction, emissionOf, unpackActions}
-use Rattle.matching.specs.declared.CodePlace.{CodePlace}
+use Rattle.code_places.specs.declared.CodePlace.{CodePlace}
 use Rattle.decoding.specs.declared.Found.{Found}
 use Rattle.decoding.specs.declared.Found.the-variants.{Word, Other}
 use Rattle.decoding.specs.declared.Call.{Call}

@@ -1,6 +1,6 @@
 // Code words as instructions.
-use matching::CodePlace;
-use matching::wide;
+use code_places::CodePlace;
+use code_places::wide;
 ghost use mathlib.Core.Path.{_≡_};
 ghost use Rattle.decoding.specs.Decoded.{callIn, computationIn, instructionIn, Finds};
 

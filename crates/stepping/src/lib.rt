@@ -24,11 +24,11 @@ use applying::apply;
 use applying::call;
 use applying::declared;
 use applying::leave;
+use code_places::CodePlace;
 use decoding::Found;
 use decoding::Instruction;
 use decoding::decode;
 use decoding::find_word;
-use matching::CodePlace;
 
 // The application that is to begin, if there is one; after it actions come, or another application.
 fn enter(

@@ -29,7 +29,7 @@ use Rattle.decoding.specs.Decoded.{spanMeant}
 use Rattle.acting.specs.Endings.{endingNumber}
 use Rattle.acting.specs.Spans.{cellsOf, reachedBy}
 use Rattle.acting.specs.States.{Memory, memory, frameWord, localOf, stacksOf, Ledgers, ledgerOf, roomOf, movedTo, Fits, Outcomes, Going, Writes, Stayed, Acts, roomOfValues}
-use Rattle.matching.proofs.laws.Lists.{nth-in, nth-out}
+use Rattle.sites.proofs.laws.Lists.{nth-in, nth-out}
 use Rattle.acting.proofs.laws.Spanning.{counted, not-counted, led, not-led}
 
 -- the cells from one to another

@@ -20,7 +20,7 @@ use Rattle.acting.specs.declared.registers.Registers.{Registers}
 use Rattle.acting.specs.declared.registers.Ending.{Ending}
 use Rattle.acting.specs.declared.registers.Ending.the-variants.{NoInstruction}
 use Rattle.acting.specs.declared.registers.Next.the-variants.{Onward, Stopped}
-use Rattle.matching.specs.declared.CodePlace.{CodePlace}
+use Rattle.code_places.specs.declared.CodePlace.{CodePlace}
 use Rattle.applying.specs.declared.Stored.the-variants.{Before, Wrong}
 use Rattle.acting.specs.Endings.{endingNumber}
 use Rattle.acting.specs.States.{Memory, memory, frameWord, localAt, Held, countsIn, ledgerOf, roomOf, Outcomes, roomOfFrames, roomOfValues, begun}

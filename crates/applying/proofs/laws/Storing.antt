@@ -13,7 +13,7 @@ use Rattle.meaning.specs.Instructions.{Site}
 use Rattle.meaning.specs.Matching.{kept, storedCell, storedValues}
 use Rattle.meaning.specs.Packing.{Words, storeAt, storeOf, unpackStores}
 use Rattle.applying.specs.declared.Stored.the-variants.{Before, Wrong}
-use Rattle.matching.specs.Matched.{siteCell}
+use Rattle.sites.specs.Sites.{siteCell}
 use Rattle.applying.specs.Storing.{Stores}
 use Rattle.meaning.proofs.laws.Remaining.{at-place}
 

@@ -3,7 +3,7 @@
 use Prim.Native.Nat.{_-_}
 use borrow.Author.Needs.{needs}
 use mathlib.Core.Path.{sym, _∙_, ap}
-use Rattle.matching.specs.Matched.{cellMeant}
+use Rattle.sites.specs.Sites.{cellMeant}
 use Rattle.applying.proofs.laws.Storing.{Storing, storing-start, storing-cut, storing-wrong, storing-next, storing-done}
 use Rattle.applying.proofs.store_values.Statement.{statement}
 use Rattle.applying.proofs.store_values.Tie as tie

@@ -9,7 +9,7 @@ use lib.Dec.{eqb}
 use lib.ListN.{length, getD, drop}
 use lib.Seq.{drop-drop}
 use borrow.Author.Tests.{eqb-true}
-use Rattle.matching.specs.declared.CodePlace.{CodePlace}
+use Rattle.code_places.specs.declared.CodePlace.{CodePlace}
 use Rattle.meaning.specs.Choice.{pick}
 use Rattle.meaning.specs.Angles.{plus, minus}
 use Rattle.meaning.specs.Instructions.{Action, go, select, out, outCharacter, outValue, beginSequence, useSequence, call, tailCall, unknownAction}

@@ -7,8 +7,8 @@ use lib.ListN.{length, getD, drop}
 use Rattle.meaning.specs.Choice.{Bytes}
 use Rattle.meaning.specs.Matching.{choiceOf}
 use Rattle.meaning.specs.Packing.{Words, metricIn, testsIn, storesIn, bodyIn, unpackStores, unpackActions}
-use Rattle.matching.specs.declared.Found.{Found}
-use Rattle.matching.specs.Matched.{foundMeant}
+use Rattle.searching.specs.declared.Found.{Found}
+use Rattle.searching.specs.Searches.{foundMeant}
 use Rattle.matching.proofs.laws.Sentences.{choosing, choosing-past, choosing-end, choosing-cut, choosing-next, tried-few}
 use Rattle.matching.proofs.choose.Statement.{statement}
 use Rattle.matching.proofs.choose.Tie as tie
@@ -35,15 +35,18 @@ found : (c : tie.After-try-sentence Inv-loop μ-loop) (r : Found) → c .try-sen
     let at = turn c .loop .at in
     let v = getD (words c) (at + 1) 0 in
     choiceOf (foundMeant r) (turn c .loop .number) (unpackStores (storesIn v) (drop (at + 2 + testsIn v) (words c)))
-    (unpackActions 0 (drop (at + 2 + testsIn v + storesIn v) (words c))) (choosing (words c) (field c) (turn c .loop .number + 1) (at + (2 + bodyIn v))) ≡
+    (unpackActions 0 (drop (at + 2 + testsIn v + storesIn v) (words c)))
+    (choosing (words c) (field c) (turn c .loop .number + 1) (at + (2 + bodyIn v))) ≡
     choosing (words c) (field c) 0 (turn c .before .before .before .args .entry .0)
 found c r e =
     let at-if2 = c .before .before in
-    rw (choosing-next _ _ _ _ (at-if2 .if2 .left) (at-if2 .before .if1 .left), ← (sym (ap foundMeant e) ∙ c .try-sentence .ensures)) at (turn c .loop .inv .0)
+    rw (choosing-next _ _ _ _ (at-if2 .if2 .left) (at-if2 .before .if1 .left), ← (sym (ap foundMeant e) ∙ c .try-sentence .ensures)) at
+    (turn c .loop .inv .0)
 
 -- the word of counts is one
 counted : (c : tie.After-shared-slice-known4 Inv-loop μ-loop) →
-    getD (c .before .before .before .before .before .before .before .before .args .code .now) (c .before .before .before .before .before .loop .at + 1) 0 < 4294967296
+    getD (c .before .before .before .before .before .before .before .before .args .code .now)
+    (c .before .before .before .before .before .loop .at + 1) 0 < 4294967296
 counted c = omega (arith, c .shared-slice-known4 .given (c .before .before .before .before .before .loop .at + 1))
 
 loop-holds : tie.Need-loop-holds Inv-loop μ-loop
@@ -54,7 +57,8 @@ returns c =
     let at-if1 = c .before in
     let at-loop-test = at-if1 .before .before in
     record {
-      same = rw (choosing-end _ _ _ _ (at-loop-test .loop-test .taken) (at-if1 .if1 .taken), ← (c .wide .ensures)) at (at-loop-test .before .loop .inv .0);
+      same = rw (choosing-end _ _ _ _ (at-loop-test .loop-test .taken) (at-if1 .if1 .taken), ← (c .wide .ensures)) at
+          (at-loop-test .before .loop .inv .0);
       few = tt;
     }
 
@@ -62,7 +66,11 @@ returns-2 : tie.Need-returns-2 Inv-loop μ-loop
 returns-2 c =
     let at-loop-test = c .before .before .before in
     let at-loop = at-loop-test .before in
-    record { same = rw (choosing-cut _ _ _ _ (at-loop-test .loop-test .taken) (c .if2 .taken) (c .before .if1 .left)) at (at-loop .loop .inv .0); few = tt }
+    record {
+      same = rw (choosing-cut _ _ _ _ (at-loop-test .loop-test .taken) (c .if2 .taken) (c .before .if1 .left)) at
+          (at-loop .loop .inv .0);
+      few = tt;
+    }
 
 try-sentence-requires : tie.Need-try-sentence-requires Inv-loop μ-loop
 try-sentence-requires c κs =
@@ -98,6 +106,35 @@ returns-5 : tie.Need-returns-5 Inv-loop μ-loop
 returns-5 c = record { same = rw (choosing-past _ _ _ _ (c .loop-test .left)) at (c .before .loop .inv .0); few = tt }
 
 pub choose-spec : {M : Type 1} → statement M
-choose-spec = tie.close (tie.spec Inv-loop μ-loop loop-holds (λ c. search needs) (λ c. omega arith) (λ c κs. search needs) returns (λ c. omega arith) returns-2 (λ c. omega arith) (λ c. search needs) (λ c. omega arith)
-    try-sentence-requires (λ c. search needs) returns-3 (λ c. search needs) (λ c. omega arith) (λ c κs. search needs) (λ c. omega arith) (λ c κs. search needs) returns-4 (λ c. search needs) (λ c κs. search needs) add-at add-at-2
-    (λ c. omega arith) (λ c. omega arith) loop-again returns-5)
+choose-spec =
+    tie.close
+    (tie.spec
+    Inv-loop
+    μ-loop
+    loop-holds
+    (λ c. search needs)
+    (λ c. omega arith)
+    (λ c κs. search needs)
+    returns
+    (λ c. omega arith)
+    returns-2
+    (λ c. omega arith)
+    (λ c. search needs)
+    (λ c. omega arith)
+    try-sentence-requires
+    (λ c. search needs)
+    returns-3
+    (λ c. search needs)
+    (λ c. omega arith)
+    (λ c κs. search needs)
+    (λ c. omega arith)
+    (λ c κs. search needs)
+    returns-4
+    (λ c. search needs)
+    (λ c κs. search needs)
+    add-at
+    add-at-2
+    (λ c. omega arith)
+    (λ c. omega arith)
+    loop-again
+    returns-5)

@@ -1,23 +1,30 @@
 -- A function's sentences, read off the code words: what is chosen from a place on.
-use Prim.Native.Nat.{ℕ, zero, suc, _+_, _-_, _≤_, _<_, _/_}
+use Prim.Native.Nat.{ℕ, zero, suc, _+_, _≤_, _<_, _-_, _/_}
+use native.Mathlib.Omega.{arith}
 use native.Mathlib.Nat.{add-assoc}
 use native.Mathlib.Numerals.{add-one}
-use native.Mathlib.Omega.{arith}
 use mathlib.Core.Path.{_≡_, refl, _∙_}
 use mathlib.Core.Bool.{Bool, true, false}
-use mathlib.Core.List.{List, [], _∷_}
 use mathlib.Core.Option.{Option, none, some}
-use lib.Dec.{leb, eqb}
+use mathlib.Core.List.{List, [], _∷_}
+use lib.Dec.{eqb, leb}
 use lib.ListN.{length, getD, drop}
 use lib.Seq.{drop-drop}
-use borrow.Author.Tests.{le-leb, lt-leb, leb-true, ne-eqb}
+use borrow.Author.Tests.{ne-eqb, le-leb, lt-leb, leb-true}
 use Rattle.meaning.specs.Choice.{Bytes, pick}
+use Rattle.meaning.specs.Packing.{numberIn, firstIn, metricIn, Words, testsIn, storesIn, bodyIn}
+use Rattle.meaning.specs.Packing.{maxStored, sentencesEnd, unpackTests, unpackStores, unpackActions, unpackSentences, sentenceOf}
 use Rattle.meaning.specs.Instructions.{Metric, exactly, ends, middle, Sentences, sentence, unknownSentence, Test, Store, Action}
-use Rattle.meaning.specs.Matching.{Found, foundAt, foundWrong, checkAll, search, Choice, chosenNone, chosenWrong, choiceOf, chooseFrom, place, placesOf, firstPlace}
-use Rattle.meaning.specs.Packing.{Words, numberIn, firstIn, testsIn, storesIn, bodyIn, maxStored, metricIn, sentencesEnd, unpackTests, unpackStores, unpackActions, unpackSentences, sentenceOf}
+use Rattle.meaning.specs.Matching.{Found, foundAt, foundWrong, checkAll, search, Choice}
+use Rattle.meaning.specs.Matching.{chosenNone, chosenWrong, choiceOf, chooseFrom, place, placesOf, firstPlace}
+use Rattle.meaning.proofs.laws.Remaining.{at-place, past-end}
 use Rattle.matching.specs.declared.Places.the-variants.{From, Unknown}
 use Rattle.matching.specs.Matched.{placesFor, tried}
-use Rattle.meaning.proofs.laws.Remaining.{at-place, past-end}
+use Rattle.checking.proofs.laws.Cells.{none-of}
+
+-- a sentence's first word that is none
+pub metric-unknown : (w : ℕ) → (numberIn w ≡ 16 → ⊥) → (numberIn w ≡ 17 → ⊥) → (numberIn w ≡ 18 → ⊥) → metricIn w ≡ none
+metric-unknown w = none-of (numberIn w) 16 17 18 _ _ _ none
 
 -- THE PLACES OF ONE SENTENCE
 
@@ -51,7 +58,8 @@ few-from (some m) whole first count h e =
 
 pub places-few : (w whole first count : ℕ) → From first count ≡ placesFor (metricIn w) whole → first + count ≤ whole + 256
 places-few w whole first count e =
-    few-from (metricIn w) whole first count (short-head (eqb (numberIn w) 16) (eqb (numberIn w) 17) (eqb (numberIn w) 18) (firstIn w) _ _ (omega arith)) e
+    few-from (metricIn w) whole first count
+    (short-head (eqb (numberIn w) 16) (eqb (numberIn w) 17) (eqb (numberIn w) 18) (firstIn w) _ _ (omega arith)) e
 
 module _ (v : ℕ) (ws : Words) (field : Bytes) where
   pub tried-unknown : (o : Option Metric) (whole : ℕ) → Unknown ≡ placesFor o whole → tried o v ws field ≡ foundWrong

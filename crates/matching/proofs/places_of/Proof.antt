@@ -1,7 +1,7 @@
 -- `places_of` meets its contract.
 use borrow.Author.Needs.{needs}
 use native.Mathlib.Omega.{arith}
-use Rattle.matching.proofs.laws.Fields.{metric-unknown}
+use Rattle.matching.proofs.laws.Sentences.{metric-unknown}
 use Rattle.matching.proofs.places_of.Statement.{statement}
 use Rattle.matching.proofs.places_of.Tie as tie
 
@@ -28,5 +28,19 @@ returns-4 : tie.Need-returns-4
 returns-4 c = let r = c .match .rest in rw (metric-unknown _ (r .0 .0 .1) (r .0 .1) (r .1))
 
 pub places-of-spec : {M : Type 1} → statement M
-places-of-spec = tie.close (tie.spec (λ c κs. search needs) (λ c κs. search needs) (λ c κs. search needs) (λ c κs. search needs) (λ c. omega arith) (λ c κs. search needs) (λ c. omega arith) (λ c. omega arith)
-    places-for-requires returns returns-2 returns-3 returns-4)
+places-of-spec =
+    tie.close
+    (tie.spec
+    (λ c κs. search needs)
+    (λ c κs. search needs)
+    (λ c κs. search needs)
+    (λ c κs. search needs)
+    (λ c. omega arith)
+    (λ c κs. search needs)
+    (λ c. omega arith)
+    (λ c. omega arith)
+    places-for-requires
+    returns
+    returns-2
+    returns-3
+    returns-4)

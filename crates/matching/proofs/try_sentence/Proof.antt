@@ -14,7 +14,8 @@ abbrev entry : tie.After-places-of → tie.Start
 entry c = c .before .before .before
 
 -- the places that were found are those that the sentence's first word leaves
-places : (c : tie.After-places-of) (r : Places) → c .places-of .result ≡ r → r ≡ placesFor (metricIn (entry c .args .word)) (length (entry c .args .field .now))
+places : (c : tie.After-places-of) (r : Places) → c .places-of .result ≡ r →
+    r ≡ placesFor (metricIn (entry c .args .word)) (length (entry c .args .field .now))
 places c r e = sym e ∙ c .places-of .ensures
 
 returns : tie.Need-returns
@@ -43,4 +44,15 @@ returns-3 c =
     ) (c .find-place .ensures)
 
 pub try-sentence-spec : {M : Type 1} → statement M
-try-sentence-spec = tie.close (tie.spec (λ c κs. search needs) (λ c. search needs) (λ c. search needs) returns returns-2 (λ c. omega arith) (λ c κs. search needs) find-place-requires returns-3)
+try-sentence-spec =
+    tie.close
+    (tie.spec
+    (λ c κs. search needs)
+    (λ c. search needs)
+    (λ c. search needs)
+    returns
+    returns-2
+    (λ c. omega arith)
+    (λ c κs. search needs)
+    find-place-requires
+    returns-3)

@@ -1,0 +1,2 @@
+-- Laws over plain values.
+pub mod Runs

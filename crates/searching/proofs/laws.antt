@@ -1,0 +1,4 @@
+-- Laws over plain values.
+pub mod Places
+pub mod Scanning
+pub mod Strings
