@@ -5,7 +5,8 @@ use mathlib.Core.List.{List, [], _∷_, _++_, map}
 use lib.ListN.{take, replicate}
 use Rattle.meaning.specs.Choice.{Bytes}
 use Rattle.meaning.specs.Tree.{Table}
-use Rattle.meaning.specs.Outcome.{Result}
+use Rattle.meaning.specs.Allowed.{maxFunctions}
+use Rattle.meaning.specs.Outcome.{maxCounted, Result}
 use Rattle.meaning.specs.Translation.{translate}
 use Rattle.meaning.specs.Packing.{Words, pack}
 use Rattle.meaning.specs.Leaving.{Cells, Leaving, roomOf, leaving}
@@ -94,3 +95,7 @@ left-by-runs = refl
 -- what is lent of each, and 256 frames
 pub room-of-cells : roomOf (lent 3 4 5) ≡ record { inCells = 3; outCells = 4; recordBytes = 5; frames = 256 }
 room-of-cells = refl
+
+-- a count for each function that a table may have
+pub counts-of-functions : maxCounted ≡ maxFunctions
+counts-of-functions = refl
