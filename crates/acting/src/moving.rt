@@ -8,7 +8,7 @@ ghost use Rattle.meaning.specs.Instructions.{Action, go as going, select as sel
 ghost use Rattle.meaning.specs.Leaving.{maxFrames};
 ghost use Rattle.meaning.specs.Packing.{firstIn, secondIn, thirdIn, lengthOf};
 ghost use Rattle.decoding.specs.Decoded.{spanMeant, writeMeant};
-ghost use Rattle.acting.specs.States.{memory, roomOfFrames, roomOfValues, localAt, Held, Opens, Writes, Acts};
+ghost use Rattle.acting.specs.States.{memory, HasFrame, Paired, localAt, Held, Opens, Writes, Acts};
 ghost use Rattle.acting.specs.Spans.{withinCells, cellsOf, reachedBy};
 use crate::frames::FRAME_VALUES;
 use crate::frames::LENGTHS;
@@ -69,7 +69,7 @@ fn within(cells: usize, add: usize, back: usize, there: usize) -> Cells
 // The cells of a span: a register's length, with an addition, less what stays back.
 fn span_cells(frames: &[usize], frame: usize, span: u32, there: usize) -> Cells
     requires { ⌜ frame < maxFrames ⌝ }
-    requires { ⌜ length (now frames) ≡ roomOfFrames ⌝ }
+    requires { ⌜ HasFrame frame (now frames) ⌝ }
     requires { ⌜ Held frame (now frames) ⌝ }
     requires { ⌜ there < 2 ^ 63 ⌝ }
     ensures { λ r. ⌜ ((values : Bytes) → r ≡ cellsOf (lengthOf (firstIn span)) (secondIn span) (thirdIn span) (localAt frame (now (frames .entry)) values) there) ⌝ }
@@ -87,7 +87,7 @@ fn span_cells(frames: &[usize], frame: usize, span: u32, there: usize) -> Cells
 fn reach(from: InCell, span: u32, frame: usize, input: &[u8], frames: &[usize]) -> Reached
     requires { ⌜ from .0 ≤ length (now input) ⌝ }
     requires { ⌜ frame < maxFrames ⌝ }
-    requires { ⌜ length (now frames) ≡ roomOfFrames ⌝ }
+    requires { ⌜ HasFrame frame (now frames) ⌝ }
     requires { ⌜ Held frame (now frames) ⌝ }
     ensures { λ r. ⌜ ((values : Bytes) → r ≡ reachedBy (cellsOf (lengthOf (firstIn span)) (secondIn span) (thirdIn span)
         (localAt frame (now (frames .entry)) values) (length (now (input .entry)) - from .0)) (from .0)) ⌝ }
@@ -103,7 +103,7 @@ pub fn go(g: Registers, span: u32, input: &[u8], frames: &[usize]) -> Next
     requires { ⌜ g .p .0 ≤ g .q .0 ⌝ }
     requires { ⌜ g .q .0 ≤ length (now input) ⌝ }
     requires { ⌜ g .frame < maxFrames ⌝ }
-    requires { ⌜ length (now frames) ≡ roomOfFrames ⌝ }
+    requires { ⌜ HasFrame (g .frame) (now frames) ⌝ }
     requires { ⌜ Held (g .frame) (now frames) ⌝ }
     ensures { λ r. ⌜ ((output journal values : Bytes) → Acts (spanMeant going span) (g .at .0) g (memory (now (input .entry)) output journal (now (frames .entry)) values)
         r (memory (now (input .entry)) output journal (now (frames .entry)) values)) ⌝ }
@@ -119,7 +119,7 @@ pub fn select(g: Registers, span: u32, input: &[u8], frames: &[usize]) -> Next
     requires { ⌜ g .p .0 ≤ g .q .0 ⌝ }
     requires { ⌜ g .q .0 ≤ length (now input) ⌝ }
     requires { ⌜ g .frame < maxFrames ⌝ }
-    requires { ⌜ length (now frames) ≡ roomOfFrames ⌝ }
+    requires { ⌜ HasFrame (g .frame) (now frames) ⌝ }
     requires { ⌜ Held (g .frame) (now frames) ⌝ }
     ensures { λ r. ⌜ ((output journal values : Bytes) → Acts (spanMeant selecting span) (g .at .0) g (memory (now (input .entry)) output journal (now (frames .entry)) values)
         r (memory (now (input .entry)) output journal (now (frames .entry)) values)) ⌝ }
@@ -180,9 +180,9 @@ fn write_value(
 ) -> Next
     requires { ⌜ g .r .0 ≤ length (now output) ⌝ }
     requires { ⌜ g .frame < maxFrames ⌝ }
-    requires { ⌜ length (now frames) ≡ roomOfFrames ⌝ }
+    requires { ⌜ HasFrame (g .frame) (now frames) ⌝ }
     requires { ⌜ Held (g .frame) (now frames) ⌝ }
-    requires { ⌜ length (now values) ≡ roomOfValues ⌝ }
+    requires { ⌜ Paired (now frames) (now values) ⌝ }
     ensures { λ r. ⌜ ((input journal : Bytes) → Acts (outValue index) (g .at .0) g
         (memory input (now (output .entry)) journal (now (frames .entry)) (now (values .entry))) r
         (memory input (now (output .exit)) journal (now (frames .entry)) (now (values .entry)))) ⌝ }
@@ -191,7 +191,8 @@ fn write_value(
     if stored_values(frames, frame) <= index {
         return Next::Stopped(g, Ending::NoInstruction, 0);
     }
-    write_byte(g, values[FRAME_VALUES * frame + index], output)
+    let byte = values[FRAME_VALUES * frame + index];
+    write_byte(g, byte, output)
 }
 
 // Out, OutC, OutV
@@ -207,9 +208,9 @@ pub fn write(
     requires { ⌜ g .q .0 ≤ length (now input) ⌝ }
     requires { ⌜ g .r .0 ≤ length (now output) ⌝ }
     requires { ⌜ g .frame < maxFrames ⌝ }
-    requires { ⌜ length (now frames) ≡ roomOfFrames ⌝ }
+    requires { ⌜ HasFrame (g .frame) (now frames) ⌝ }
     requires { ⌜ Held (g .frame) (now frames) ⌝ }
-    requires { ⌜ length (now values) ≡ roomOfValues ⌝ }
+    requires { ⌜ Paired (now frames) (now values) ⌝ }
     ensures { λ r. ⌜ ((journal : Bytes) → Acts (writeMeant what) (g .at .0) g
         (memory (now (input .entry)) (now (output .entry)) journal (now (frames .entry)) (now (values .entry))) r
         (memory (now (input .entry)) (now (output .exit)) journal (now (frames .entry)) (now (values .entry)))) ⌝ }
@@ -224,7 +225,7 @@ pub fn write(
 // Keeps r as a sequence begins, if one more may be open; a frame's words end with what it keeps, the latest first.
 pub fn open_sequence(frames: &mut [usize], frame: usize, r: OutCell) -> bool
     requires { ⌜ frame < maxFrames ⌝ }
-    requires { ⌜ length (now frames) ≡ roomOfFrames ⌝ }
+    requires { ⌜ HasFrame frame (now frames) ⌝ }
     requires { ⌜ Held frame (now frames) ⌝ }
     ensures { λ ok. ⌜ Opens frame (r .0) (now (frames .entry)) (now (frames .exit)) ok ⌝ }
 {
@@ -240,7 +241,7 @@ pub fn open_sequence(frames: &mut [usize], frame: usize, r: OutCell) -> bool
 // BeginSeq: r is kept.
 pub fn begin_sequence(g: Registers, frames: &mut [usize]) -> Next
     requires { ⌜ g .frame < maxFrames ⌝ }
-    requires { ⌜ length (now frames) ≡ roomOfFrames ⌝ }
+    requires { ⌜ HasFrame (g .frame) (now frames) ⌝ }
     requires { ⌜ Held (g .frame) (now frames) ⌝ }
     ensures { λ r. ⌜ ((input output journal values : Bytes) → g .r .0 ≤ length output →
         Acts beginSequence (g .at .0) g (memory input output journal (now (frames .entry)) values) r (memory input output journal (now (frames .exit)) values)) ⌝ }
@@ -257,7 +258,7 @@ pub fn use_sequence(g: Registers, input: &mut [u8], output: &[u8], frames: &mut 
     requires { ⌜ g .q .0 ≤ length (now input) ⌝ }
     requires { ⌜ g .r .0 ≤ length (now output) ⌝ }
     requires { ⌜ g .frame < maxFrames ⌝ }
-    requires { ⌜ length (now frames) ≡ roomOfFrames ⌝ }
+    requires { ⌜ HasFrame (g .frame) (now frames) ⌝ }
     requires { ⌜ Held (g .frame) (now frames) ⌝ }
     ensures { λ r. ⌜ ((journal values : Bytes) → Acts useSequence (g .at .0) g
         (memory (now (input .entry)) (now (output .entry)) journal (now (frames .entry)) values) r

@@ -34,11 +34,12 @@ pub enum Ending {
     AngleOutOfRange,
 }
 
-// A run goes on, is done, or stops with an answer and a function number.
+// A run goes on, is done, stops with an answer and a function number, or goes on where there is room for a frame more.
 pub enum Next {
     Onward(Registers),
     Done(Registers),
     Stopped(Registers, Ending, usize),
+    Deeper(Registers),
 }
 
 // The same, without the registers, which are then lent.
@@ -46,6 +47,7 @@ pub enum Status {
     Onward,
     Done,
     Stopped(Ending, usize),
+    Deeper,
 }
 
 // What a run answers: the ending, the function that fits nothing, the steps, and the lengths of the text on out and of the emissions.

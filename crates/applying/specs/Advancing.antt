@@ -15,10 +15,10 @@ use Rattle.meaning.specs.Leaving.{maxFrames}
 use Rattle.decoding.specs.Decoded.{Numbered}
 use Rattle.acting.specs.declared.registers.Registers.{Registers}
 use Rattle.acting.specs.declared.registers.Next.{Next}
-use Rattle.acting.specs.declared.registers.Next.the-variants.{Onward, Done, Stopped}
+use Rattle.acting.specs.declared.registers.Next.the-variants.{Onward, Done, Stopped, Deeper}
 use Rattle.acting.specs.declared.registers.Status.{Status}
 use Rattle.acting.specs.declared.registers.Status.the-variants as status
-use Rattle.acting.specs.States.{roomOfFrames, roomOfValues, Memory, memory, Held, CountsWithin, stacksOf, ledgerOf, roomOf, Outcomes}
+use Rattle.acting.specs.States.{HasFrame, Paired, crowdedAt, Memory, memory, Held, CountsWithin, stacksOf, ledgerOf, roomOf, Outcomes}
 use Rattle.applying.specs.Waiting.{functionsIn, entering, returning, comesTo, Waits, performing, leftBelow, leftToDo}
 
 -- the registers stay within what is lent and allowed, and so do the frames that wait: an application may begin
@@ -28,8 +28,8 @@ pub record Ready (allowance : ℕ) (g : Registers) (m : Memory) : Type 0 where
   pub below : g .r .0 ≤ length (m .output)
   pub logged : g .emitted ≤ length (m .journal)
   pub framed : g .frame < maxFrames
-  pub frameRoom : length (m .frames) ≡ roomOfFrames
-  pub valueRoom : length (m .values) ≡ roomOfValues
+  pub frameRoom : HasFrame (g .frame) (m .frames)
+  pub valueRoom : Paired (m .frames) (m .values)
   pub paid : g .steps ≤ allowance
   pub counts : CountsWithin (g .steps) (m .frames)
   pub waits : (k : ℕ) → k < g .frame → Waits (length (m .input)) k (m .frames)
@@ -50,6 +50,11 @@ pub record Ongoing (g : Registers) (input output : Bytes) (frames : List ℕ) (v
   pub journal : Bytes
   pub acting : Acting allowance g (memory input output journal frames values)
 
+-- an instruction comes next that may add a frame, but there is no room for one more
+pub record Crowded (allowance : ℕ) (g : Registers) (m : Memory) : Type 0 where
+  pub underway : Underway allowance g m
+  pub crowded : crowdedAt (g .frame) (m .frames) ≡ true
+
 pub record Ended (g : Registers) (m : Memory) : Type 0 where
   pub below : g .r .0 ≤ length (m .output)
   pub logged : g .emitted ≤ length (m .journal)
@@ -58,27 +63,32 @@ abbrev pub Keeps : ℕ → Next → Memory → Type 0
 Keeps allowance (Onward g) m = Underway allowance g m
 Keeps allowance (Done g) m = Ended g m
 Keeps allowance (Stopped g ending function) m = Ended g m
+Keeps allowance (Deeper g) m = Crowded allowance g m
 
 abbrev pub registersIn : Next → Registers
 registersIn (Onward g) = g
 registersIn (Done g) = g
 registersIn (Stopped g ending function) = g
+registersIn (Deeper g) = g
 
 -- how a run goes on, apart from its registers, and both put together
 abbrev pub statusIn : Next → Status
 statusIn (Onward g) = status.Onward
 statusIn (Done g) = status.Done
 statusIn (Stopped g ending function) = status.Stopped ending function
+statusIn (Deeper g) = status.Deeper
 
 abbrev pub nextOf : Status → Registers → Next
 nextOf status.Onward g = Onward g
 nextOf status.Done g = Done g
 nextOf (status.Stopped ending function) g = Stopped g ending function
+nextOf status.Deeper g = Deeper g
 
 abbrev pub onward : Status → Bool
 onward status.Onward = true
 onward status.Done = false
 onward (status.Stopped ending function) = false
+onward status.Deeper = false
 
 -- from registers and cells a run leads to others: what it comes to is what was to come, and the record past the emissions is as it was
 pub record Leads (words : Words) (allowance : ℕ) (tocome : Outcomes) (g : Registers) (m : Memory) (next : Next) (n : Memory) : Type 0 where
@@ -98,6 +108,7 @@ abbrev pub Idle : Next → Type 0
 Idle (Onward g) = g .callee ≡ 0
 Idle (Done g) = Unit {0}
 Idle (Stopped g ending function) = Unit {0}
+Idle (Deeper g) = Unit {0}
 
 -- the application begun that was to begin, if there was one: actions come next, or another application, with less left to do
 pub record Begins (words : Words) (allowance : ℕ) (tocome : Outcomes) (left : ℕ) (g : Registers) (m : Memory) (next : Next) (n : Memory) : Type 0 where
@@ -130,6 +141,7 @@ abbrev pub keptOf : Next → Registers → Registers
 keptOf (Onward h) g = h
 keptOf (Done h) g = g
 keptOf (Stopped h ending function) g = g
+keptOf (Deeper h) g = g
 
 -- all is as it was, or less is left to do
 pub data Moved (size allowance : ℕ) (g : Registers) (m : Memory) (h : Registers) (n : Memory) : Type 0 where
@@ -198,13 +210,26 @@ Enters words allowance g m next n =
     Underway allowance g m →
     Begins words allowance (comesTo (roomOf m) allowance words (Onward g) m) (leftToDo (length words) allowance (Onward g) m) g m next n
 
--- a run that has ended
+-- a run that has ended, or goes on elsewhere
 abbrev pub IsOver : Next → Type 0
 IsOver (Onward g) = ⊥
 IsOver (Done g) = Unit {0}
 IsOver (Stopped g ending function) = Unit {0}
+IsOver (Deeper g) = Unit {0}
 
--- a run followed to its end
+-- a run followed as far as it goes
 pub record Follows (words : Words) (allowance : ℕ) (first : Next) (m : Memory) (last : Next) (n : Memory) : Type 0 where
   pub leads : Leads words allowance (comesTo (roomOf m) allowance words first m) (registersIn first) m last n
   pub over : IsOver last
+
+-- a run that has ended
+abbrev pub HasEnded : Next → Type 0
+HasEnded (Onward g) = ⊥
+HasEnded (Done g) = Unit {0}
+HasEnded (Stopped g ending function) = Unit {0}
+HasEnded (Deeper g) = ⊥
+
+-- a run followed to its end
+pub record FollowsToEnd (words : Words) (allowance : ℕ) (first : Next) (m : Memory) (last : Next) (n : Memory) : Type 0 where
+  pub leads : Leads words allowance (comesTo (roomOf m) allowance words first m) (registersIn first) m last n
+  pub ended : HasEnded last

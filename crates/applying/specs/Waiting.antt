@@ -13,7 +13,7 @@ use Rattle.meaning.specs.Packing.{Words, functionsAt, unpackActions}
 use Rattle.acting.specs.declared.registers.Registers.{Registers}
 use Rattle.acting.specs.declared.registers.Ending.the-variants.{NoSentenceFits}
 use Rattle.acting.specs.declared.registers.Next.{Next}
-use Rattle.acting.specs.declared.registers.Next.the-variants.{Onward, Done, Stopped}
+use Rattle.acting.specs.declared.registers.Next.the-variants.{Onward, Done, Stopped, Deeper}
 use Rattle.acting.specs.Endings.{endingNumber}
 use Rattle.acting.specs.States.{Memory, frameWord, localAt, localOf, Held, stacksOf, Ledgers, ledgerOf, Outcomes, Going}
 
@@ -55,13 +55,17 @@ module _ (room : Room) (allowance : ℕ) (words : Words) where
   abbrev pub acted : Registers → Memory → Outcomes
   acted g m = going (g .frame) (g .at .0) (localOf g m) (stacksOf g m) (ledgerOf allowance g m)
 
-  abbrev pub comesTo : Next → Memory → Outcomes
-  comesTo (Onward g) m =
+  abbrev pub ongoing : Registers → Memory → Outcomes
+  ongoing g m =
       let application = applied g m in
       let actions = acted g m in
       returning g m (pick (isDeclared (functionsIn words) (g .callee)) application actions)
+
+  abbrev pub comesTo : Next → Memory → Outcomes
+  comesTo (Onward g) m = ongoing g m
   comesTo (Done g) m = done (stacksOf g m) (ledgerOf allowance g m)
   comesTo (Stopped g ending function) m = stop (endingNumber ending) function (ledgerOf allowance g m)
+  comesTo (Deeper g) m = ongoing g m
 
 -- a frame that waits holds what it should, and its q is a cell of in or the end
 pub record Waits (cells k : ℕ) (frames : List ℕ) : Type 0 where
@@ -89,6 +93,7 @@ abbrev pub leftToDo : ℕ → ℕ → Next → Memory → ℕ
 leftToDo size allowance (Onward g) m = suc (leftBelow size allowance g m + (size - g .at .0))
 leftToDo size allowance (Done g) m = 0
 leftToDo size allowance (Stopped g ending function) m = 0
+leftToDo size allowance (Deeper g) m = 0
 
 -- THE END OF AN APPLICATION: the frame below goes on, its q where it was or at p where that has passed it, or the run is done
 

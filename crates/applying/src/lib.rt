@@ -1,7 +1,7 @@
 // An application of a function: the start, a call, a tail call, and its end.
 ghost use Prim.Native.Nat.{ℕ, _+_, _*_, _-_, _≤_, _<_};
 ghost use mathlib.Core.Path.{_≡_};
-ghost use mathlib.Core.Bool.{true};
+ghost use mathlib.Core.Bool.{true, false};
 ghost use lib.ListN.{length, drop};
 ghost use Rattle.meaning.specs.Choice.{Bytes};
 ghost use Rattle.meaning.specs.Matching.{storedCell, storedValues};
@@ -13,7 +13,7 @@ ghost use Rattle.classes.specs.Tests.{Answers};
 ghost use Rattle.sites.specs.Sites.{cellMeant};
 ghost use Rattle.applying.specs.Storing.{Stores};
 ghost use Rattle.decoding.specs.Decoded.{callMeant};
-ghost use Rattle.acting.specs.States.{roomOfFrames, roomOfValues, CountsWithin, memory};
+ghost use Rattle.acting.specs.States.{HasFrame, Paired, crowdedAt, CountsWithin, memory};
 ghost use Rattle.applying.specs.Waiting.{countIn, functionsIn, leftBy, recoveredBy};
 ghost use Rattle.applying.specs.Advancing.{Performs, Applies, Starts};
 use acting::frames::FRAME_VALUES;
@@ -108,8 +108,8 @@ fn start_sentence(
     requires { ⌜ g .p .0 ≤ g .q .0 ⌝ }
     requires { ⌜ g .q .0 ≤ length (now input) ⌝ }
     requires { ⌜ g .frame < maxFrames ⌝ }
-    requires { ⌜ length (now frames) ≡ roomOfFrames ⌝ }
-    requires { ⌜ length (now values) ≡ roomOfValues ⌝ }
+    requires { ⌜ HasFrame (g .frame) (now frames) ⌝ }
+    requires { ⌜ Paired (now frames) (now values) ⌝ }
     requires { ⌜ stored ≤ 16 ⌝ }
     ensures { λ r. ⌜ ((allowance : ℕ) (output journal : Bytes) → Starts (now (code .entry)) allowance place (stores .0) stored g (memory (now (input .entry)) output journal (now (frames .entry)) (now (values .entry))) r (memory (now (input .entry)) output journal (now (frames .exit)) (now (values .exit)))) ⌝ }
 {
@@ -160,8 +160,8 @@ pub fn apply(
     requires { ⌜ g .p .0 ≤ g .q .0 ⌝ }
     requires { ⌜ g .q .0 ≤ length (now input) ⌝ }
     requires { ⌜ g .frame < maxFrames ⌝ }
-    requires { ⌜ length (now frames) ≡ roomOfFrames ⌝ }
-    requires { ⌜ length (now values) ≡ roomOfValues ⌝ }
+    requires { ⌜ HasFrame (g .frame) (now frames) ⌝ }
+    requires { ⌜ Paired (now frames) (now values) ⌝ }
     requires { ⌜ CountsWithin (g .steps) (now frames) ⌝ }
     ensures { λ r. ⌜ ((output journal : Bytes) → Applies (now (code .entry)) allowance number g (memory (now (input .entry)) output journal (now (frames .entry)) (now (values .entry))) r (memory (now (input .entry)) output journal (now (frames .exit)) (now (values .exit)))) ⌝ }
 {
@@ -195,7 +195,8 @@ fn framed_call(
 ) -> Next
     requires { ⌜ isDeclared (functionsIn (now code)) number ≡ true ⌝ }
     requires { ⌜ g .frame < maxFrames ⌝ }
-    requires { ⌜ length (now frames) ≡ roomOfFrames ⌝ }
+    requires { ⌜ HasFrame (g .frame) (now frames) ⌝ }
+    requires { ⌜ crowdedAt (g .frame) (now frames) ≡ false ⌝ }
     ensures { λ r. ⌜ ((input output journal values : Bytes) → Performs (now (code .entry)) allowance (calling number) (g .at .0) g
         (memory input output journal (now (frames .entry)) values) r (memory input output journal (now (frames .exit)) values)) ⌝ }
 {
@@ -220,7 +221,8 @@ fn framed_call(
 pub fn call(g: Registers, code: &[u32], what: Call, allowance: u32, frames: &mut [usize]) -> Next
     requires { ⌜ countIn (now code) < length (now code) ⌝ }
     requires { ⌜ g .frame < maxFrames ⌝ }
-    requires { ⌜ length (now frames) ≡ roomOfFrames ⌝ }
+    requires { ⌜ HasFrame (g .frame) (now frames) ⌝ }
+    requires { ⌜ crowdedAt (g .frame) (now frames) ≡ false ⌝ }
     ensures { λ r. ⌜ ((input output journal values : Bytes) → Performs (now (code .entry)) allowance (callMeant what) (g .at .0) g
         (memory input output journal (now (frames .entry)) values) r (memory input output journal (now (frames .exit)) values)) ⌝ }
 {
@@ -241,7 +243,7 @@ pub fn call(g: Registers, code: &[u32], what: Call, allowance: u32, frames: &mut
 // The end of an application: the frame below goes on, its q where it was unless p has passed it, or the run is done.
 pub fn leave(g: Registers, frames: &[usize]) -> Next
     requires { ⌜ g .frame < maxFrames ⌝ }
-    requires { ⌜ length (now frames) ≡ roomOfFrames ⌝ }
+    requires { ⌜ HasFrame (g .frame) (now frames) ⌝ }
     ensures { λ r. ⌜ r ≡ leftBy g (now (frames .entry)) ⌝ }
 {
     if g.frame == 0 {

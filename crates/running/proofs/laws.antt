@@ -1,3 +1,4 @@
 -- Laws over plain values.
 pub mod Tables
 pub mod Leaving
+pub mod Growing

@@ -9,7 +9,7 @@ use Rattle.meaning.specs.Leaving.{Cells, Leaving, zeros}
 use Rattle.acting.specs.declared.registers.Ran.{Ran}
 use Rattle.acting.specs.declared.registers.Registers.{Registers}
 use Rattle.acting.specs.declared.registers.Next.{Next}
-use Rattle.acting.specs.declared.registers.Next.the-variants.{Onward, Done, Stopped}
+use Rattle.acting.specs.declared.registers.Next.the-variants.{Onward, Done, Stopped, Deeper}
 use Rattle.acting.specs.declared.registers.Ending.{Ending}
 use Rattle.acting.specs.declared.registers.Ending.the-variants.{Finished}
 use Rattle.acting.specs.Endings.{endingNumber}
@@ -42,6 +42,7 @@ finishedWith g = record { ending = Finished; function = 0; steps = g .steps; tex
 abbrev pub reportedOf : Next → Ran
 reportedOf (Onward g) = finishedWith g
 reportedOf (Done g) = finishedWith g
+reportedOf (Deeper g) = finishedWith g
 reportedOf (Stopped g ending function) = record { ending = ending; function = function; steps = g .steps; text = 0; emissions = g .emitted }
 
 -- the cells up to a place, and zeros after it

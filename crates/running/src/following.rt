@@ -2,19 +2,25 @@
 ghost use Prim.Native.Nat.{_-_, _≤_, _<_};
 ghost use mathlib.Core.Path.{_≡_};
 ghost use lib.ListN.{length};
+ghost use Rattle.acting.specs.declared.registers.Next.the-variants.{Onward};
 ghost use Rattle.classes.specs.Tests.{Answers};
 ghost use Rattle.meaning.specs.Outcome.{uncounted};
 ghost use Rattle.meaning.specs.Runs.{runLent};
 ghost use Rattle.meaning.specs.Leaving.{roomOf as roomOfCells, left};
-ghost use Rattle.acting.specs.States.{roomOfFrames, roomOfValues, countsIn, memory};
+ghost use Rattle.acting.specs.States.{firstFrames, wordsFor, valuesFor, countsIn, memory};
 ghost use Rattle.applying.specs.Waiting.{countIn, soundIn, functionsIn};
-ghost use Rattle.applying.specs.Advancing.{Keeps, Follows};
+ghost use Rattle.applying.specs.Advancing.{Underway, Keeps, Follows, FollowsToEnd};
 ghost use Rattle.running.specs.Leaving.{cells, Leaves, refusedWith, finishedWith, reportedOf, clearedFrom, loadedWith};
+use acting::frames::COUNTED;
+use acting::frames::all_values;
+use acting::frames::all_words;
 use acting::frames::begin_frame;
+use acting::frames::copy_words;
 use acting::registers::Ending;
 use acting::registers::Next;
 use acting::registers::Ran;
 use acting::registers::Registers;
+use cells::copying::copy_over;
 use cells::copying::copy_to_in;
 use cells::places::InCell;
 use cells::places::OutCell;
@@ -60,7 +66,7 @@ pub fn sound_table(code: &[u32]) -> bool
     true
 }
 
-// The run from an answer on, turn by turn, to its end.
+// The run from an answer on, turn by turn, to its end or to where it needs more frames.
 fn follow(
     first: Next,
     bits: &[u8; 256],
@@ -97,6 +103,94 @@ fn follow(
     next_of(status, g)
 }
 
+// The run from an answer on to its end, in a room for all frames from where it needs more than are lent.
+fn follow_all(
+    first: Next,
+    bits: &[u8; 256],
+    code: &[u32],
+    allowance: u32,
+    input: &mut [u8],
+    output: &mut [u8],
+    journal: &mut [u8],
+    frames: &mut [usize],
+    values: &mut [u8],
+) -> Next
+    requires { ⌜ Answers (now bits) ⌝ }
+    requires { ⌜ countIn (now code) < length (now code) ⌝ }
+    requires { ⌜ Keeps allowance first (memory (now input) (now output) (now journal) (now frames) (now values)) ⌝ }
+    requires { ⌜ length (now frames) ≡ wordsFor firstFrames ⌝ }
+    requires { ⌜ length (now values) ≡ valuesFor firstFrames ⌝ }
+    ensures { λ r. ⌜ FollowsToEnd (now (code .entry)) allowance first
+        (memory (now (input .entry)) (now (output .entry)) (now (journal .entry)) (now (frames .entry)) (now (values .entry))) r
+        (memory (now (input .exit)) (now (output .exit)) (now (journal .exit)) (now (frames .exit)) (now (values .exit))) ⌝ }
+{
+    let last = follow(
+        first,
+        bits,
+        code,
+        allowance,
+        input,
+        output,
+        journal,
+        frames,
+        values,
+    );
+    let Next::Deeper(g) = last else {
+        return last;
+    };
+    follow_deeper(
+        g,
+        bits,
+        code,
+        allowance,
+        input,
+        output,
+        journal,
+        frames,
+        values,
+    )
+}
+
+// The run goes on in a room for all frames, which begins as the one that was lent; the counts come back.
+fn follow_deeper(
+    g: Registers,
+    bits: &[u8; 256],
+    code: &[u32],
+    allowance: u32,
+    input: &mut [u8],
+    output: &mut [u8],
+    journal: &mut [u8],
+    frames: &mut [usize],
+    values: &[u8],
+) -> Next
+    requires { ⌜ Answers (now bits) ⌝ }
+    requires { ⌜ countIn (now code) < length (now code) ⌝ }
+    requires { ⌜ Underway allowance g (memory (now input) (now output) (now journal) (now frames) (now values)) ⌝ }
+    requires { ⌜ length (now frames) ≡ wordsFor firstFrames ⌝ }
+    requires { ⌜ length (now values) ≡ valuesFor firstFrames ⌝ }
+    ensures { λ r. ⌜ FollowsToEnd (now (code .entry)) allowance (Onward g)
+        (memory (now (input .entry)) (now (output .entry)) (now (journal .entry)) (now (frames .entry)) (now (values .entry))) r
+        (memory (now (input .exit)) (now (output .exit)) (now (journal .exit)) (now (frames .exit)) (now (values .entry))) ⌝ }
+{
+    let mut words = all_words();
+    copy_words(frames, frames.len(), &mut words);
+    let mut stored = all_values();
+    copy_over(&mut stored, 0, values);
+    let last = follow(
+        Next::Onward(g),
+        bits,
+        code,
+        allowance,
+        input,
+        output,
+        journal,
+        &mut words,
+        &mut stored,
+    );
+    copy_words(&words, COUNTED, frames);
+    last
+}
+
 fn clear_from(cells: &mut [u8], start: usize)
     requires { ⌜ start ≤ length (now cells) ⌝ }
     ensures { λ _. ⌜ now (cells .exit) ≡ clearedFrom start (now (cells .entry)) ⌝ }
@@ -127,6 +221,7 @@ fn reported(next: Next) -> Ran
     match next {
         Next::Onward(g) => finished(g),
         Next::Done(g) => finished(g),
+        Next::Deeper(g) => finished(g),
         Next::Stopped(g, ending, function) => Ran {
             ending: ending,
             function: function,
@@ -169,8 +264,8 @@ pub fn run_lent(
     requires { ⌜ 0 < start ⌝ }
     requires { ⌜ start ≤ countIn (now code) ⌝ }
     requires { ⌜ length (now text) ≤ length (now input) ⌝ }
-    requires { ⌜ length (now frames) ≡ roomOfFrames ⌝ }
-    requires { ⌜ length (now values) ≡ roomOfValues ⌝ }
+    requires { ⌜ length (now frames) ≡ wordsFor firstFrames ⌝ }
+    requires { ⌜ length (now values) ≡ valuesFor firstFrames ⌝ }
     requires { ⌜ countsIn (now frames) ≡ uncounted ⌝ }
     ensures { λ r. ⌜ Leaves r (countsIn (now (frames .exit))) (cells (now (input .exit)) (now (output .exit)) (now (journal .exit))) (left (runLent (roomOfCells (cells (now (input .entry)) (now (output .entry)) (now (journal .entry)))) (functionsIn (now (code .entry))) start (now (text .entry)) allowance) (cells (now (input .entry)) (now (output .entry)) (now (journal .entry)))) ⌝ }
 {
@@ -178,7 +273,7 @@ pub fn run_lent(
     copy_to_in(input, g.p, text);
     begin_frame(frames, 0, 0, 0, 0);
     let bits = classes::class_table();
-    let last = follow(
+    let last = follow_all(
         Next::Onward(g),
         &bits,
         code,

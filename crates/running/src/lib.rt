@@ -8,8 +8,8 @@ use crate::following::refused;
 use crate::following::run_lent;
 use crate::following::sound_table;
 use acting::frames::copy_counts;
-use acting::frames::frame_room;
-use acting::frames::value_room;
+use acting::frames::first_values;
+use acting::frames::first_words;
 use acting::registers::Ending;
 use acting::registers::Ran;
 use applying::declared;
@@ -38,8 +38,8 @@ pub fn run(
     if input.len() < text.len() {
         return refused(Ending::TextTooLong);
     }
-    let mut frames = frame_room();
-    let mut values = value_room();
+    let mut frames = first_words();
+    let mut values = first_values();
     let ran = run_lent(
         code,
         start,

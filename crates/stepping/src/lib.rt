@@ -5,11 +5,12 @@ ghost use lib.ListN.{length};
 ghost use Rattle.meaning.specs.Choice.{Bytes};
 ghost use Rattle.classes.specs.Tests.{Answers};
 ghost use Rattle.meaning.specs.Leaving.{maxFrames};
-ghost use Rattle.acting.specs.States.{roomOfFrames, roomOfValues, memory, Held, CountsWithin};
+ghost use Rattle.acting.specs.States.{HasFrame, Paired, memory, Held, CountsWithin};
 ghost use Rattle.applying.specs.Waiting.{countIn};
 ghost use Rattle.applying.specs.Advancing.{Underway, Acting, Ongoing, registersIn, statusIn, nextOf, onward, Steps, keptOf, Tries, Uses, Does, Enters};
 use acting::computing::compute;
 use acting::emitting::emit;
+use acting::frames::crowded;
 use acting::moving::begin_sequence;
 use acting::moving::go;
 use acting::moving::open_sequence;
@@ -45,8 +46,8 @@ fn enter(
     requires { ⌜ g .p .0 ≤ g .q .0 ⌝ }
     requires { ⌜ g .q .0 ≤ length (now input) ⌝ }
     requires { ⌜ g .frame < maxFrames ⌝ }
-    requires { ⌜ length (now frames) ≡ roomOfFrames ⌝ }
-    requires { ⌜ length (now values) ≡ roomOfValues ⌝ }
+    requires { ⌜ HasFrame (g .frame) (now frames) ⌝ }
+    requires { ⌜ Paired (now frames) (now values) ⌝ }
     requires { ⌜ CountsWithin (g .steps) (now frames) ⌝ }
     ensures { λ r. ⌜ ((output journal : Bytes) → Enters (now (code .entry)) allowance g (memory (now (input .entry)) output journal (now (frames .entry)) (now (values .entry)))
         r (memory (now (input .entry)) output journal (now (frames .exit)) (now (values .exit)))) ⌝ }
@@ -66,6 +67,7 @@ fn kept(next: Next, g: Registers) -> Registers
         Next::Onward(h) => h,
         Next::Done(_) => g,
         Next::Stopped(_, _, _) => g,
+        Next::Deeper(_) => g,
     }
 }
 
@@ -74,7 +76,7 @@ fn try_go(g: Registers, code: &[u32], input: &[u8], frames: &[usize]) -> Registe
     requires { ⌜ g .p .0 ≤ g .q .0 ⌝ }
     requires { ⌜ g .q .0 ≤ length (now input) ⌝ }
     requires { ⌜ g .frame < maxFrames ⌝ }
-    requires { ⌜ length (now frames) ≡ roomOfFrames ⌝ }
+    requires { ⌜ HasFrame (g .frame) (now frames) ⌝ }
     requires { ⌜ Held (g .frame) (now frames) ⌝ }
     ensures { λ h. ⌜ ((allowance : ℕ) (output journal values : Bytes) → Tries (now (code .entry)) allowance g (memory (now (input .entry)) output journal (now (frames .entry)) values)
         h (memory (now (input .entry)) output journal (now (frames .entry)) values)) ⌝ }
@@ -91,7 +93,7 @@ fn try_select(g: Registers, code: &[u32], input: &[u8], frames: &[usize]) -> Reg
     requires { ⌜ g .p .0 ≤ g .q .0 ⌝ }
     requires { ⌜ g .q .0 ≤ length (now input) ⌝ }
     requires { ⌜ g .frame < maxFrames ⌝ }
-    requires { ⌜ length (now frames) ≡ roomOfFrames ⌝ }
+    requires { ⌜ HasFrame (g .frame) (now frames) ⌝ }
     requires { ⌜ Held (g .frame) (now frames) ⌝ }
     ensures { λ h. ⌜ ((allowance : ℕ) (output journal values : Bytes) → Tries (now (code .entry)) allowance g (memory (now (input .entry)) output journal (now (frames .entry)) values)
         h (memory (now (input .entry)) output journal (now (frames .entry)) values)) ⌝ }
@@ -106,7 +108,7 @@ fn try_select(g: Registers, code: &[u32], input: &[u8], frames: &[usize]) -> Reg
 // BeginSeq, where it comes next.
 fn try_begin(g: Registers, code: &[u32], frames: &mut [usize]) -> Registers
     requires { ⌜ g .frame < maxFrames ⌝ }
-    requires { ⌜ length (now frames) ≡ roomOfFrames ⌝ }
+    requires { ⌜ HasFrame (g .frame) (now frames) ⌝ }
     requires { ⌜ Held (g .frame) (now frames) ⌝ }
     ensures { λ h. ⌜ ((allowance : ℕ) (input output journal values : Bytes) → Tries (now (code .entry)) allowance g (memory input output journal (now (frames .entry)) values)
         h (memory input output journal (now (frames .exit)) values)) ⌝ }
@@ -166,7 +168,7 @@ fn try_use(
     requires { ⌜ g .q .0 ≤ length (now input) ⌝ }
     requires { ⌜ g .r .0 ≤ length (now output) ⌝ }
     requires { ⌜ g .frame < maxFrames ⌝ }
-    requires { ⌜ length (now frames) ≡ roomOfFrames ⌝ }
+    requires { ⌜ HasFrame (g .frame) (now frames) ⌝ }
     requires { ⌜ Held (g .frame) (now frames) ⌝ }
     ensures { λ r. ⌜ ((allowance : ℕ) (journal values : Bytes) → Uses (now (code .entry)) allowance g (memory (now (input .entry)) (now (output .entry)) journal (now (frames .entry)) values)
         r (memory (now (input .exit)) (now (output .entry)) journal (now (frames .exit)) values)) ⌝ }
@@ -178,7 +180,7 @@ fn try_use(
     use_sequence(h, input, output, frames)
 }
 
-// One instruction, whatever it is but UseSeq, which is left for the next turn.
+// One instruction, whatever it is but UseSeq, which is left for the next turn, and a call where there is no room for a frame more.
 fn act(
     g: Registers,
     code: &[u32],
@@ -209,7 +211,13 @@ fn act(
         Instruction::Write(what) => write(h, what, input, output, frames, values),
         Instruction::Begin => begin_sequence(h, frames),
         Instruction::Use => Next::Onward(g),
-        Instruction::Call(what) => call(h, code, what, allowance, frames),
+        Instruction::Call(what) => {
+            if crowded(frames, g.frame) {
+                Next::Deeper(g)
+            } else {
+                call(h, code, what, allowance, frames)
+            }
+        }
         Instruction::Emit(length) => emit(h, code, length, input, journal),
         Instruction::Compute(subtract) => compute(h, subtract, input, output),
         Instruction::End => leave(h, frames),
@@ -291,6 +299,7 @@ pub fn registers_of(next: Next) -> Registers
         Next::Onward(g) => g,
         Next::Done(g) => g,
         Next::Stopped(g, _, _) => g,
+        Next::Deeper(g) => g,
     }
 }
 
@@ -301,6 +310,7 @@ pub fn status_of(next: Next) -> Status
         Next::Onward(_) => Status::Onward,
         Next::Done(_) => Status::Done,
         Next::Stopped(_, ending, function) => Status::Stopped(ending, function),
+        Next::Deeper(_) => Status::Deeper,
     }
 }
 
@@ -311,6 +321,7 @@ pub fn next_of(status: Status, g: Registers) -> Next
         Status::Onward => Next::Onward(g),
         Status::Done => Next::Done(g),
         Status::Stopped(ending, function) => Next::Stopped(g, ending, function),
+        Status::Deeper => Next::Deeper(g),
     }
 }
 
@@ -321,6 +332,7 @@ pub fn is_onward(status: Status) -> bool
         Status::Onward => true,
         Status::Done => false,
         Status::Stopped(_, _) => false,
+        Status::Deeper => false,
     }
 }
 

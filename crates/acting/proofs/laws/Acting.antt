@@ -28,7 +28,7 @@ use Rattle.acting.specs.declared.moving.Reached.the-variants.{At, Wrong 
 use Rattle.decoding.specs.Decoded.{spanMeant}
 use Rattle.acting.specs.Endings.{endingNumber}
 use Rattle.acting.specs.Spans.{cellsOf, reachedBy}
-use Rattle.acting.specs.States.{Memory, memory, frameWord, localOf, stacksOf, Ledgers, ledgerOf, roomOf, movedTo, Fits, Outcomes, Going, Writes, Stayed, Acts, roomOfValues}
+use Rattle.acting.specs.States.{Memory, memory, frameWord, localOf, stacksOf, Ledgers, ledgerOf, roomOf, movedTo, Fits, Outcomes, Going, Writes, Stayed, Acts, HasValues}
 use Rattle.sites.proofs.laws.Lists.{nth-in, nth-out}
 use Rattle.acting.proofs.laws.Spanning.{counted, not-counted, led, not-led}
 
@@ -37,10 +37,10 @@ pub part-long : (l : Bytes) (p q : ℕ) → q ≤ length l → length (take (q -
 part-long l p q h = length-take-le (q - p) (drop p l) (rw length-drop (omega arith))
 
 -- the value that a frame stored under a number
-stored-value : (frame k n : ℕ) (values : Bytes) → k < n → n ≤ 16 → frame < 256 → length values ≡ roomOfValues →
+stored-value : (frame k n : ℕ) (values : Bytes) → k < n → n ≤ 16 → HasValues frame values →
     nth k (take n (drop (16 * frame) (take (16 * frame + 16) values))) ≡ some (getD values (16 * frame + k) 0)
-stored-value frame k n values h few framed room =
-    let within : k < length (take n (drop (16 * frame) (take (16 * frame + 16) values))) = simp (length-take, length-drop, room) (omega arith) in
+stored-value frame k n values h few there =
+    let within : k < length (take n (drop (16 * frame) (take (16 * frame + 16) values))) = simp (length-take, length-drop, length-take-le (16 * frame + 16) values (omega (arith, there))) (omega arith) in
     let low : 16 * frame + k < 16 * frame + 16 = omega arith in
     rw (
       nth-in _ k within,
@@ -218,11 +218,11 @@ module _ (g : Registers) (m : Memory) where
   pub value-none : (k : ℕ) → frameWord (g .frame) 4 (m .frames) ≤ k → Acts (outValue k) (g .at .0) g m (Stopped g NoInstruction 0) m
   value-none k h = stops _ _ NoInstruction (λ allowance code enter next. rw (nth-out (localOf g m .values) k (rw length-take (omega arith))))
 
-  pub value-written : (k : ℕ) (next : Next) (n : Memory) → k < frameWord (g .frame) 4 (m .frames) → frameWord (g .frame) 4 (m .frames) ≤ 16 → g .frame < 256 →
-      length (m .values) ≡ roomOfValues → Acts (outCharacter (getD (m .values) (16 * g .frame + k) 0)) (g .at .0) g m next n →
+  pub value-written : (k : ℕ) (next : Next) (n : Memory) → k < frameWord (g .frame) 4 (m .frames) → frameWord (g .frame) 4 (m .frames) ≤ 16 → HasValues (g .frame) (m .values) →
+      Acts (outCharacter (getD (m .values) (16 * g .frame + k) 0)) (g .at .0) g m next n →
       Acts (outValue k) (g .at .0) g m next n
-  value-written k next n h few framed room a =
+  value-written k next n h few there a =
       record {
-        same = λ allowance code enter k′. rw (stored-value (g .frame) k (frameWord (g .frame) 4 (m .frames)) (m .values) h few framed room) (a .same allowance code enter k′);
+        same = λ allowance code enter k′. rw (stored-value (g .frame) k (frameWord (g .frame) 4 (m .frames)) (m .values) h few there) (a .same allowance code enter k′);
         stays = a .stays;
       }

@@ -3,7 +3,7 @@ use Prim.Native.Nat.{ℕ, suc, _+_, _*_, _-_, _≤_, _<_, min}
 use native.Mathlib.Omega.{arith}
 use mathlib.Core.Path.{_≡_, refl, sym, _∙_}
 use mathlib.Core.List.{List, _∷_, _++_}
-use lib.ListN.{length, take, drop, set, take-append-drop, length-drop, length-take, length-set}
+use lib.ListN.{length, take, drop, take-append-drop, length-drop}
 use lib.Seq.{take-set-lt, drop-set-lt, length-take-le, take-take, drop-drop}
 use borrow.Author.Tests.{lt-ltb, le-ltb}
 use Rattle.meaning.specs.Choice.{Bytes}
@@ -12,16 +12,16 @@ use Rattle.meaning.specs.Machine.{withOpened}
 use Rattle.acting.specs.declared.registers.Registers.{Registers}
 use Rattle.acting.specs.declared.registers.Ending.the-variants.{NoInstruction, InFull}
 use Rattle.acting.specs.declared.registers.Next.the-variants.{Onward, Stopped}
-use Rattle.acting.specs.States.{Memory, memory, frameWord, localAt, openedAt, countsIn, movedTo, Acts, roomOfFrames}
+use Rattle.acting.specs.States.{Memory, memory, frameWord, localAt, openedAt, countsIn, movedTo, Acts, HasFrame, wordsIn, withWord}
 use Rattle.cells.specs.Moved.{moved, MovedSoFar}
 use Rattle.cells.proofs.laws.Moving.{byte-by-byte}
-use Rattle.acting.proofs.laws.Frames.{drop-min, take-min, drop-set-here, word-set, word-kept, openedOf, opened-count, opened-none, opened-next, held-past, held-count, waiting-kept, counts-kept}
+use Rattle.acting.proofs.laws.Frames.{drop-min, take-min, drop-set-here, words-stored, stored-length, stored-there, words-there, word-set, word-kept, openedOf, opened-count, opened-none, opened-next, held-past, held-count, waiting-kept, counts-kept}
 use Rattle.acting.proofs.laws.Acting.{stops}
 
-module _ (frames : List ℕ) (values : Bytes) (k : ℕ) (framed : k < 256) (room : length frames ≡ roomOfFrames) where
+module _ (frames : List ℕ) (values : Bytes) (k : ℕ) (there : HasFrame k frames) where
   -- the number of open sequences stored anew
   local-count : (n : ℕ) → n ≤ 16 →
-      localAt k (set frames (24 * k + 5) n) values ≡ withOpened (openedOf frames k framed room n) (localAt k frames values)
+      localAt k (withWord k 5 n frames) values ≡ withOpened (openedOf frames k there n) (localAt k frames values)
   local-count n h =
       let low : 24 * k + 5 < 24 * k + 24 = omega arith in
       let apart : 24 * k + 5 < 24 * k + 24 - n = omega arith in
@@ -29,27 +29,28 @@ module _ (frames : List ℕ) (values : Bytes) (k : ℕ) (framed : k < 256) (room
         word-kept frames k 5 1 n (omega arith),
         word-kept frames k 5 2 n (omega arith),
         word-kept frames k 5 4 n (omega arith),
-        word-set frames k framed room 5 n (omega arith),
-        take-set-lt (24 * k + 24) frames (24 * k + 5) n low,
-        drop-set-lt (24 * k + 24 - n) (take (24 * k + 24) frames) (24 * k + 5) n apart,
+        word-set frames k there 5 n (omega arith),
+        words-stored frames k 5 n,
+        take-set-lt (24 * k + 24) (wordsIn frames) (24 * k + 5) n low,
+        drop-set-lt (24 * k + 24 - n) (take (24 * k + 24) (wordsIn frames)) (24 * k + 5) n apart,
       )
 
-  opened-more : (n r : ℕ) → n < 16 → (room′ : length (set frames (24 * k + (23 - n)) r) ≡ roomOfFrames) →
-      openedOf (set frames (24 * k + (23 - n)) r) k framed room′ (n + 1) ≡ r ∷ openedOf frames k framed room n
-  opened-more n r h room′ =
+  opened-more : (n r : ℕ) → n < 16 → (there′ : HasFrame k (withWord k (23 - n) r frames)) →
+      openedOf (withWord k (23 - n) r frames) k there′ (n + 1) ≡ r ∷ openedOf frames k there n
+  opened-more n r h there′ =
       let here : 24 * k + 24 - (n + 1) ≡ 24 * k + (23 - n) = omega arith in
       let next : suc (24 * k + (23 - n)) ≡ 24 * k + 24 - n = omega arith in
       let low : 24 * k + (23 - n) < 24 * k + 24 = omega arith in
-      let within : 24 * k + (23 - n) < length (take (24 * k + 24) frames) = rw (length-take, room) (omega arith) in
-      rw (here, take-set-lt (24 * k + 24) frames (24 * k + (23 - n)) r low, drop-set-here (take (24 * k + 24) frames) (24 * k + (23 - n)) r within, next)
+      let within : 24 * k + (23 - n) < length (take (24 * k + 24) (wordsIn frames)) = rw (length-take-le (24 * k + 24) (wordsIn frames) (words-there frames k there)) (omega arith) in
+      rw (here, words-stored frames k (23 - n) r, take-set-lt (24 * k + 24) (wordsIn frames) (24 * k + (23 - n)) r low, drop-set-here (take (24 * k + 24) (wordsIn frames)) (24 * k + (23 - n)) r within, next)
 
   -- a sequence opened at a cell of out
-  local-opened : (n r : ℕ) → n < 16 → (room′ : length (set frames (24 * k + (23 - n)) r) ≡ roomOfFrames) →
-      withOpened (openedOf (set frames (24 * k + (23 - n)) r) k framed room′ (n + 1)) (localAt k (set frames (24 * k + (23 - n)) r) values) ≡
-      withOpened (r ∷ openedOf frames k framed room n) (localAt k frames values)
-  local-opened n r h room′ =
+  local-opened : (n r : ℕ) → n < 16 → (there′ : HasFrame k (withWord k (23 - n) r frames)) →
+      withOpened (openedOf (withWord k (23 - n) r frames) k there′ (n + 1)) (localAt k (withWord k (23 - n) r frames) values) ≡
+      withOpened (r ∷ openedOf frames k there n) (localAt k frames values)
+  local-opened n r h there′ =
       rw (
-        opened-more n r h room′,
+        opened-more n r h there′,
         word-kept frames k (23 - n) 1 r (omega arith),
         word-kept frames k (23 - n) 2 r (omega arith),
         word-kept frames k (23 - n) 4 r (omega arith),
@@ -65,7 +66,7 @@ selected-more p q r mark to begins order =
     let size : r - mark ≡ r - min mark r = omega arith in
     rw size (omega arith)
 
-module _ (g : Registers) (m : Memory) (framed : g .frame < 256) (room : length (m .frames) ≡ roomOfFrames) where
+module _ (g : Registers) (m : Memory) (there : HasFrame (g .frame) (m .frames)) where
   -- the number of sequences that are open
   abbrev count : ℕ
   count = frameWord (g .frame) 5 (m .frames)
@@ -74,23 +75,23 @@ module _ (g : Registers) (m : Memory) (framed : g .frame < 256) (room : length (
 
   pub begin-many : count ≤ 16 → 16 ≤ count → Acts beginSequence (g .at .0) g m (Stopped g NoInstruction 0) m
   begin-many few h =
-      stops g m _ _ NoInstruction (λ allowance code enter k. rw (opened-count (m .frames) (g .frame) framed room count (omega arith), le-ltb count 16 h))
+      stops g m _ _ NoInstruction (λ allowance code enter k. rw (opened-count (m .frames) (g .frame) there count (omega arith), le-ltb count 16 h))
 
   pub begin-kept : g .r .0 ≤ length (m .output) → count < 16 →
       Acts beginSequence (g .at .0) g m (Onward g) (memory (m .input) (m .output) (m .journal) (openedAt (g .frame) (g .r .0) (m .frames)) (m .values))
   begin-kept r≤out h =
-      let frames₁ = set (m .frames) (24 * g .frame + (23 - count)) (g .r .0) in
-      let room₁ : length frames₁ ≡ roomOfFrames = rw length-set room in
-      let counted : countsIn (set frames₁ (24 * g .frame + 5) (count + 1)) ≡ countsIn (m .frames) =
-      counts-kept frames₁ (g .frame) 5 (count + 1) framed (omega arith) ∙ counts-kept (m .frames) (g .frame) (23 - count) (g .r .0) framed (omega arith) in
+      let frames₁ = withWord (g .frame) (23 - count) (g .r .0) (m .frames) in
+      let there₁ : HasFrame (g .frame) frames₁ = stored-there (m .frames) (g .frame) (23 - count) (g .r .0) there in
+      let counted : countsIn (withWord (g .frame) 5 (count + 1) frames₁) ≡ countsIn (m .frames) =
+      counts-kept frames₁ (g .frame) 5 (count + 1) ∙ counts-kept (m .frames) (g .frame) (23 - count) (g .r .0) in
       record {
         same = λ allowance code enter k.
             rw (
-              opened-count (m .frames) (g .frame) framed room count (omega arith),
+              opened-count (m .frames) (g .frame) there count (omega arith),
               lt-ltb count 16 h,
               length-take-le (g .r .0) (m .output) r≤out,
-              local-count frames₁ (m .values) (g .frame) framed room₁ (count + 1) (omega arith),
-              local-opened (m .frames) (m .values) (g .frame) framed room count (g .r .0) h room₁,
+              local-count frames₁ (m .values) (g .frame) there₁ (count + 1) (omega arith),
+              local-opened (m .frames) (m .values) (g .frame) there count (g .r .0) h there₁,
               counted,
             );
         stays = record {
@@ -100,9 +101,9 @@ module _ (g : Registers) (m : Memory) (framed : g .frame < 256) (room : length (
             below = f .below;
             logged = f .logged;
             framed = f .framed;
-            held = held-count frames₁ (g .frame) (count + 1) framed room₁ (omega arith) (held-past (m .frames) (g .frame) (23 - count) (g .r .0) (omega arith) (f .held));
-            frameRoom = rw length-set room₁;
-            valueRoom = f .valueRoom;
+            held = held-count frames₁ (g .frame) (count + 1) there₁ (omega arith) (held-past (m .frames) (g .frame) (23 - count) (g .r .0) (omega arith) (f .held));
+            frameRoom = stored-there frames₁ (g .frame) 5 (count + 1) there₁;
+            valueRoom = rw (stored-length frames₁ (g .frame) 5 (count + 1), stored-length (m .frames) (g .frame) (23 - count) (g .r .0)) (f .valueRoom);
           };
           frame = refl;
           place = refl;
@@ -130,14 +131,14 @@ module _ (g : Registers) (m : Memory) (framed : g .frame < 256) (room : length (
     mark = frameWord (g .frame) (24 - count) (m .frames)
 
     pub use-none : count ≡ 0 → Acts useSequence (g .at .0) g m (Stopped g NoInstruction 0) m
-    use-none e = stops g m _ _ NoInstruction (λ allowance code enter k. rw (e, opened-none (m .frames) (g .frame) framed room))
+    use-none e = stops g m _ _ NoInstruction (λ allowance code enter k. rw (e, opened-none (m .frames) (g .frame) there))
 
     pub use-full : (count ≡ 0 → ⊥) → g .p .0 < g .r .0 - min mark (g .r .0) → Acts useSequence (g .at .0) g m (Stopped g InFull 0) m
     use-full ne h =
         let full : length (m .input) < (g .r .0 - mark) + (length (m .input) - g .p .0) = omega arith in
         stops g m _ _ InFull (λ allowance code enter k.
         rw (
-          opened-next (m .frames) (g .frame) framed room count (omega arith) (omega arith),
+          opened-next (m .frames) (g .frame) there count (omega arith) (omega arith),
           length-drop mark (take (g .r .0) (m .output)),
           length-take-le (g .r .0) (m .output) (b .r≤out),
           length-drop (g .p .0) (m .input),
@@ -155,7 +156,7 @@ module _ (g : Registers) (m : Memory) (framed : g .frame < 256) (room : length (
     module _ (to : ℕ) (input : Bytes) (begins : to + size ≡ g .p .0)
         (cells : input ≡ moved size (m .input) (g .p .0) (m .output) (g .r .0)) where
       abbrev pub afterUse : Memory
-      afterUse = memory input (m .output) (m .journal) (set (m .frames) (24 * g .frame + 5) (count - 1)) (m .values)
+      afterUse = memory input (m .output) (m .journal) (withWord (g .frame) 5 (count - 1) (m .frames)) (m .values)
 
       -- out up to r, cut where the sequence begins
       argument : drop mark (take (g .r .0) (m .output)) ≡ drop first (take (g .r .0) (m .output))
@@ -181,19 +182,19 @@ module _ (g : Registers) (m : Memory) (framed : g .frame < 256) (room : length (
       pub use-moved : (count ≡ 0 → ⊥) → length input ≡ length (m .input) →
           Acts useSequence (g .at .0) g m (Onward (movedTo g to (g .q .0) first)) afterUse
       use-moved ne long =
-          let there : (g .r .0 - mark) + (length (m .input) - g .p .0) ≤ length (m .input) = omega arith in
+          let free : (g .r .0 - mark) + (length (m .input) - g .p .0) ≤ length (m .input) = omega arith in
           let selected : (g .q .0 - g .p .0) + (g .r .0 - mark) ≡ g .q .0 - to =
           selected-more (g .p .0) (g .q .0) (g .r .0) mark to begins (b .p≤q) in
           record {
             same = λ allowance code enter k.
                 rw (
-                  opened-next (m .frames) (g .frame) framed room count (omega arith) (omega arith),
+                  opened-next (m .frames) (g .frame) there count (omega arith) (omega arith),
                   length-drop mark (take (g .r .0) (m .output)),
                   length-take-le (g .r .0) (m .output) (b .r≤out),
                   length-drop (g .p .0) (m .input),
-                  le-ltb (length (m .input)) _ there,
-                  local-count (m .frames) (m .values) (g .frame) framed room (count - 1) (omega arith),
-                  counts-kept (m .frames) (g .frame) 5 (count - 1) framed (omega arith),
+                  le-ltb (length (m .input)) _ free,
+                  local-count (m .frames) (m .values) (g .frame) there (count - 1) (omega arith),
+                  counts-kept (m .frames) (g .frame) 5 (count - 1),
                   argument,
                   kept,
                   below-p,
@@ -206,16 +207,16 @@ module _ (g : Registers) (m : Memory) (framed : g .frame < 256) (room : length (
                 below = omega arith;
                 logged = f .logged;
                 framed = f .framed;
-                held = held-count (m .frames) (g .frame) (count - 1) framed room (omega arith) (f .held);
-                frameRoom = rw length-set room;
-                valueRoom = f .valueRoom;
+                held = held-count (m .frames) (g .frame) (count - 1) there (omega arith) (f .held);
+                frameRoom = stored-there (m .frames) (g .frame) 5 (count - 1) there;
+                valueRoom = rw (stored-length (m .frames) (g .frame) 5 (count - 1)) (f .valueRoom);
               };
               frame = refl;
               place = refl;
               steps = refl;
               callee = refl;
               waiting = waiting-kept (m .frames) (g .frame) 5 (count - 1);
-              counts = counts-kept (m .frames) (g .frame) 5 (count - 1) framed (omega arith);
+              counts = counts-kept (m .frames) (g .frame) 5 (count - 1);
               values = refl;
               beyond = λ old e. e;
             };

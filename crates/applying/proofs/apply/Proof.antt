@@ -39,7 +39,7 @@ count-application-requires c κs =
     let at-if1 = c .before .before .before .before .before in
     let entry = at-if1 .before .before .before .before .before in
     let pre = entry .pre in
-    (pre .1 .1 .0, (pre .1 .1 .1 .1 .1 .1 .1 .0, λ i. omega (arith, pre .1 .1 .1 .1 .1 .1 .1 .1 .1 i, at-if1 .if1 .left, entry .fits .allowance)))
+    (pre .1 .1 .0, (omega (arith, pre .1 .1 .1 .1 .1 .1 .1 .0), λ i. omega (arith, pre .1 .1 .1 .1 .1 .1 .1 .1 .1 i, at-if1 .if1 .left, entry .fits .allowance)))
 
 start-sentence-requires : tie.Need-start-sentence-requires
 start-sentence-requires c κs =
@@ -47,8 +47,8 @@ start-sentence-requires c κs =
     let at-choose = at-place .before .before in
     let lent = entry at-choose .pre .1 .1 .1 .1 in
     let few = rw (at-place .place .given .1) at (at-choose .choose .ensures .few) in
-    let sized = at-count at-choose .count-application .kept .0 ∙ lent .1 .1 .1 .0 in
-    (lent .0, (lent .1 .0, (lent .1 .1 .0, (sized, (lent .1 .1 .1 .1 .0, few)))))
+    let sized = at-count at-choose .count-application .kept .0 in
+    (lent .0, (lent .1 .0, (lent .1 .1 .0, (rw sized (lent .1 .1 .1 .0), (rw sized (lent .1 .1 .1 .1 .0), few)))))
 
 returns-2 : tie.Need-returns-2
 returns-2 c =

@@ -11,7 +11,7 @@ use Rattle.meaning.specs.Packing.{Words, unpackActions}
 use Rattle.acting.specs.declared.registers.Registers.{Registers}
 use Rattle.acting.specs.declared.registers.Ending.the-variants.{NoInstruction}
 use Rattle.acting.specs.declared.registers.Next.{Next}
-use Rattle.acting.specs.declared.registers.Next.the-variants.{Onward, Done, Stopped}
+use Rattle.acting.specs.declared.registers.Next.the-variants.{Onward, Done, Stopped, Deeper}
 use Rattle.acting.specs.States.{Memory, roomOf, Outcomes, Fits, Stayed, Acts}
 use Rattle.applying.specs.Waiting.{functionsIn, entering, going, returning, comesTo, leftWaiting, leftToDo, leftFrom, leftBy}
 use Rattle.applying.specs.Advancing.{Ready, Underway, Ended, Keeps, registersIn, Leads, Steps, stepped, Performs}
@@ -53,14 +53,14 @@ module _ (allowance at : ℕ) (g : Registers) (m : Memory) (h : Registers) (n : 
               valueRoom = f .valueRoom;
               paid = fewer;
               counts = λ i. rw (s .counts, s .steps) (u .ready .counts i);
-              waits = λ k l. rw sized (waits-same (length (m .input)) (m .frames) (n .frames) (g .frame) (sym (s .waiting)) (u .ready .waits) k (rw (s .frame) at l));
+              waits = λ k l. rw sized (waits-same (m .frames) (n .frames) (g .frame) (sym (s .waiting)) (length (m .input)) (u .ready .waits) k (rw (s .frame) at l));
             };
         current = f .held;
       }
 
   less-stayed : (size : ℕ) → g .at .0 ≤ at → leftToDo size allowance (Onward h) n < suc (leftToDo size allowance (Onward g) m)
   less-stayed size l =
-      rw (s .frame, s .place, s .steps, left-same (n .frames) (m .frames) size (g .frame) (s .waiting)) (omega arith)
+      rw (s .frame, s .place, s .steps, left-same (n .frames) (m .frames) (g .frame) (s .waiting) size) (omega arith)
 
 -- AN INSTRUCTION THAT NEITHER CALLS NOR RETURNS
 
@@ -83,6 +83,7 @@ module _ (words : Words) (allowance : ℕ) (action : Action) (at : ℕ) (g : Reg
         falls = less-stayed allowance at g m h n room s u (length words) l;
       }
   acts-performs (Done h) a u = absurd (a .stays)
+  acts-performs (Deeper h) a u = absurd (a .stays)
   acts-performs (Stopped h ending function) a u =
       let same : h ≡ g = a .stays .0 in
       let kept : n ≡ m = a .stays .1 in
@@ -169,7 +170,7 @@ module _ (words : Words) (allowance : ℕ) (g : Registers) (m : Memory) (idle : 
                 below = u .ready .below;
                 logged = u .ready .logged;
                 framed = omega (arith, u .ready .framed);
-                frameRoom = u .ready .frameRoom;
+                frameRoom = omega (arith, u .ready .frameRoom);
                 valueRoom = u .ready .valueRoom;
                 paid = u .ready .paid;
                 counts = u .ready .counts;

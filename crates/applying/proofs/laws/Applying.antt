@@ -23,7 +23,7 @@ use Rattle.acting.specs.declared.registers.Next.the-variants.{Onward, Stopped}
 use Rattle.code_places.specs.declared.CodePlace.{CodePlace}
 use Rattle.applying.specs.declared.Stored.the-variants.{Before, Wrong}
 use Rattle.acting.specs.Endings.{endingNumber}
-use Rattle.acting.specs.States.{Memory, memory, frameWord, localAt, Held, countsIn, ledgerOf, roomOf, Outcomes, roomOfFrames, roomOfValues, begun}
+use Rattle.acting.specs.States.{Memory, memory, frameWord, localAt, Held, countsIn, ledgerOf, roomOf, Outcomes, HasFrame, HasValues, wordsIn, wordsBelow, withWord, begun}
 use Rattle.acting.proofs.laws.Frames.{word-set, word-kept, waiting-kept, counts-kept}
 use Rattle.applying.specs.Storing.{Stores}
 use Rattle.applying.specs.Waiting.{countIn, functionsIn, returning}
@@ -88,22 +88,22 @@ module _ (words : Words) (allowance : ℕ) (g : Registers) (m n : Memory) (r : R
 
 -- A SENTENCE BEGUN
 
-module _ (frames : List ℕ) (k field place stored : ℕ) (room : length frames ≡ roomOfFrames) (framed : k < 256) where
+module _ (frames : List ℕ) (k field place stored : ℕ) (there : HasFrame k frames) where
   -- the words stored one after the other
   abbrev First : List ℕ
-  First = set frames (24 * k + 0) 0
+  First = withWord k 0 0 frames
 
   abbrev Second : List ℕ
-  Second = set First (24 * k + 1) field
+  Second = withWord k 1 field First
 
   abbrev Third : List ℕ
-  Third = set Second (24 * k + 2) place
+  Third = withWord k 2 place Second
 
   abbrev Fourth : List ℕ
-  Fourth = set Third (24 * k + 3) (field - place)
+  Fourth = withWord k 3 (field - place) Third
 
   abbrev Fifth : List ℕ
-  Fifth = set Fourth (24 * k + 4) stored
+  Fifth = withWord k 4 stored Fourth
 
   abbrev Begun : List ℕ
   Begun = begun k field place stored frames
@@ -111,63 +111,63 @@ module _ (frames : List ℕ) (k field place stored : ℕ) (room : length frames 
   pub begun-length : length Begun ≡ length frames
   begun-length = simp length-set
 
-  pub begun-below : take (24 * k) Begun ≡ take (24 * k) frames
+  pub begun-below : wordsBelow k Begun ≡ wordsBelow k frames
   begun-below =
       waiting-kept Fifth k 5 0 ∙ waiting-kept Fourth k 4 stored ∙ waiting-kept Third k 3 (field - place) ∙ waiting-kept Second k 2 place ∙
       waiting-kept First k 1 field ∙ waiting-kept frames k 0 0
 
   pub begun-counts : countsIn Begun ≡ countsIn frames
   begun-counts =
-      counts-kept Fifth k 5 0 framed (omega arith) ∙ counts-kept Fourth k 4 stored framed (omega arith) ∙
-      counts-kept Third k 3 (field - place) framed (omega arith) ∙ counts-kept Second k 2 place framed (omega arith) ∙
-      counts-kept First k 1 field framed (omega arith) ∙ counts-kept frames k 0 0 framed (omega arith)
+      counts-kept Fifth k 5 0 ∙ counts-kept Fourth k 4 stored ∙
+      counts-kept Third k 3 (field - place) ∙ counts-kept Second k 2 place ∙
+      counts-kept First k 1 field ∙ counts-kept frames k 0 0
 
   word-0 : frameWord k 0 Begun ≡ 0
   word-0 =
       word-kept Fifth k 5 0 0 (omega arith) ∙ word-kept Fourth k 4 0 stored (omega arith) ∙ word-kept Third k 3 0 (field - place) (omega arith) ∙
-      word-kept Second k 2 0 place (omega arith) ∙ word-kept First k 1 0 field (omega arith) ∙ word-set frames k framed room 0 0 (omega arith)
+      word-kept Second k 2 0 place (omega arith) ∙ word-kept First k 1 0 field (omega arith) ∙ word-set frames k there 0 0 (omega arith)
 
   word-1 : frameWord k 1 Begun ≡ field
   word-1 =
       word-kept Fifth k 5 1 0 (omega arith) ∙ word-kept Fourth k 4 1 stored (omega arith) ∙ word-kept Third k 3 1 (field - place) (omega arith) ∙
-      word-kept Second k 2 1 place (omega arith) ∙ word-set First k framed (simp length-set room) 1 field (omega arith)
+      word-kept Second k 2 1 place (omega arith) ∙ word-set First k (simp length-set there) 1 field (omega arith)
 
   word-2 : frameWord k 2 Begun ≡ place
   word-2 =
       word-kept Fifth k 5 2 0 (omega arith) ∙ word-kept Fourth k 4 2 stored (omega arith) ∙ word-kept Third k 3 2 (field - place) (omega arith) ∙
-      word-set Second k framed (simp length-set room) 2 place (omega arith)
+      word-set Second k (simp length-set there) 2 place (omega arith)
 
   word-3 : frameWord k 3 Begun ≡ field - place
   word-3 =
       word-kept Fifth k 5 3 0 (omega arith) ∙ word-kept Fourth k 4 3 stored (omega arith) ∙
-      word-set Third k framed (simp length-set room) 3 (field - place) (omega arith)
+      word-set Third k (simp length-set there) 3 (field - place) (omega arith)
 
   word-4 : frameWord k 4 Begun ≡ stored
-  word-4 = word-kept Fifth k 5 4 0 (omega arith) ∙ word-set Fourth k framed (simp length-set room) 4 stored (omega arith)
+  word-4 = word-kept Fifth k 5 4 0 (omega arith) ∙ word-set Fourth k (simp length-set there) 4 stored (omega arith)
 
   word-5 : frameWord k 5 Begun ≡ 0
-  word-5 = word-set Fifth k framed (simp length-set room) 5 0 (omega arith)
+  word-5 = word-set Fifth k (simp length-set there) 5 0 (omega arith)
 
   pub begun-held : stored ≤ 16 → Held k Begun
   begun-held few =
       record { null = word-0; right = rw (word-1, word-2, word-3); stored = rw word-4 few; opened = rw word-5 (omega arith) }
 
   -- the first values of a frame are the first from its place on
-  frame-values : (values : Bytes) → length values ≡ roomOfValues → stored ≤ 16 →
+  frame-values : (values : Bytes) → HasValues k values → stored ≤ 16 →
       take stored (drop (16 * k) (take (16 * k + 16) values)) ≡ take stored (drop (16 * k) values)
-  frame-values values sized h =
+  frame-values values whole h =
       rw (
         take-add (16 * k) 16 values,
         drop-at (take (16 * k) values) (take 16 (drop (16 * k) values)) (16 * k) (length-take-le (16 * k) values (omega arith)),
       )
       (take-take stored 16 (drop (16 * k) values) h)
 
-  begun-local : (values : Bytes) → length values ≡ roomOfValues → stored ≤ 16 →
+  begun-local : (values : Bytes) → HasValues k values → stored ≤ 16 →
       localAt k Begun values ≡ record { field = field; place = place; values = take stored (drop (16 * k) values); opened = [] }
-  begun-local values sized h =
-      rw (word-1, word-2, word-4, word-5, frame-values values sized h)
+  begun-local values whole h =
+      rw (word-1, word-2, word-4, word-5, frame-values values whole h)
       (ap (λ rest. record { field = field; place = place; values = take stored (drop (16 * k) values); opened = rest })
-      (past-end (take (24 * k + 24) Begun) (24 * k + 24 - 0) (rw (length-take (24 * k + 24) Begun) (omega arith))))
+      (past-end (take (24 * k + 24) (wordsIn Begun)) (24 * k + 24 - 0) (rw (length-take (24 * k + 24) (wordsIn Begun)) (omega arith))))
 
 module _ (words : Words) (allowance place stores stored : ℕ) (g : Registers) (input output journal : Bytes) (frames : List ℕ) (values values′ : Bytes)
     (few : stored ≤ 16) where
@@ -196,13 +196,13 @@ module _ (words : Words) (allowance place stores stored : ℕ) (g : Registers) (
       let k = g .frame in
       let d = g .q .0 - g .p .0 in
       let frames′ = begun k d place stored frames in
-      let kept : take (24 * k) frames′ ≡ take (24 * k) frames = begun-below frames k d place stored (r .frameRoom) (r .framed) in
-      let counted : countsIn frames′ ≡ countsIn frames = begun-counts frames k d place stored (r .frameRoom) (r .framed) in
+      let kept : wordsBelow k frames′ ≡ wordsBelow k frames = begun-below frames k d place stored (r .frameRoom) in
+      let counted : countsIn frames′ ≡ countsIn frames = begun-counts frames k d place stored (r .frameRoom) in
       record {
         leads =
             record {
               same =
-                  rw (← (s .same), s .ends, begun-local frames k d place stored (r .frameRoom) (r .framed) values′ (sized ∙ r .valueRoom) few, sub-self (g .p .0), counted)
+                  rw (← (s .same), s .ends, begun-local frames k d place stored (r .frameRoom) values′ (rw sized (r .valueRoom k (r .frameRoom))) few, sub-self (g .p .0), counted)
                   (waiting-same (roomOf Before-start) allowance words frames frames′ values values′ k (sym kept) (sym (s .below)) _);
               keeps =
                   record {
@@ -213,16 +213,16 @@ module _ (words : Words) (allowance place stores stored : ℕ) (g : Registers) (
                           below = r .below;
                           logged = r .logged;
                           framed = r .framed;
-                          frameRoom = begun-length frames k d place stored (r .frameRoom) (r .framed) ∙ r .frameRoom;
-                          valueRoom = sized ∙ r .valueRoom;
+                          frameRoom = rw (begun-length frames k d place stored (r .frameRoom)) (r .frameRoom);
+                          valueRoom = rw (begun-length frames k d place stored (r .frameRoom), sized) (r .valueRoom);
                           paid = r .paid;
                           counts = λ i. rw counted (r .counts i);
-                          waits = waits-same (length input) frames frames′ k (sym kept) (r .waits);
+                          waits = waits-same frames frames′ k (sym kept) (length input) (r .waits);
                         };
-                    current = begun-held frames k d place stored (r .frameRoom) (r .framed) few;
+                    current = begun-held frames k d place stored (r .frameRoom) few;
                   };
               room = refl;
               beyond = λ old b. b;
             };
-        falls = rw (left-same frames′ frames (length words) k kept) (omega arith);
+        falls = rw (left-same frames′ frames k kept (length words)) (omega arith);
       }

@@ -24,8 +24,8 @@ use Rattle.acting.specs.declared.registers.Registers.{Registers}
 use Rattle.acting.specs.declared.registers.Ending.the-variants.{AllowanceSpent, FramesFull, NoInstruction, NoSentenceFits}
 use Rattle.acting.specs.declared.registers.Next.{Next}
 use Rattle.acting.specs.declared.registers.Next.the-variants.{Onward, Stopped}
-use Rattle.acting.specs.States.{Memory, memory, frameWord, countsIn, countedIn, localAt, localOf, Held, stacksOf, ledgerOf, roomOf, Outcomes, roomOfFrames, begun, callingFrom}
-use Rattle.acting.proofs.laws.Frames.{word-set, word-kept, held-past, waiting-kept, counts-kept, counts-counted, counted-below, counted-within}
+use Rattle.acting.specs.States.{Memory, memory, frameWord, countsIn, countedIn, localAt, localOf, Held, stacksOf, ledgerOf, roomOf, Outcomes, HasFrame, crowdedAt, wordsFor, wordsIn, wordsBelow, withWord, callingFrom}
+use Rattle.acting.proofs.laws.Frames.{words-stored, stored-length, stored-there, word-set, word-kept, held-past, waiting-kept, counts-kept, counts-counted, counted-words, counted-length, counted-within}
 use Rattle.applying.specs.Waiting.{countIn, functionsIn, entering, going, waiting, returning, applied, acted, Waits, performing, leftWaiting, leftBelow, calledIn, recoveredBy}
 use Rattle.applying.specs.Advancing.{Ready, Underway, Advances, Performs, Applies, Starts}
 use Rattle.applying.proofs.laws.Waiting.{left-same, held-same, waits-same, waiting-same, entering-paid}
@@ -35,18 +35,18 @@ use Rattle.applying.proofs.laws.Applying.{code-at, stopping}
 
 module _ (words : Words) (allowance number : ℕ) (g : Registers) (m : Memory) where
   -- the registers of a function that is called keep within what is lent, as its caller's do
-  called-ready : (frame size : ℕ) (frames : List ℕ) → frame < 256 → length frames ≡ roomOfFrames → countsIn frames ≡ countsIn (m .frames) →
+  called-ready : (frame size : ℕ) (frames : List ℕ) → frame < 256 → HasFrame frame frames → length frames ≡ length (m .frames) → countsIn frames ≡ countsIn (m .frames) →
       ((i : ℕ) → i < frame → Waits (length (m .input)) i frames) → Ready allowance g m →
       Ready allowance (calledIn frame size number g) (memory (m .input) (m .output) (m .journal) frames (m .values))
-  called-ready frame size frames framed sized counted waits r =
+  called-ready frame size frames framed there sized counted waits r =
       record {
         ordered = r .ordered;
         inside = r .inside;
         below = r .below;
         logged = r .logged;
         framed = framed;
-        frameRoom = sized;
-        valueRoom = r .valueRoom;
+        frameRoom = there;
+        valueRoom = rw sized (r .valueRoom);
         paid = r .paid;
         counts = λ i. rw counted (r .counts i);
         waits = waits;
@@ -70,7 +70,7 @@ module _ (words : Words) (allowance number : ℕ) (g : Registers) (m : Memory) w
         leads =
             record {
               same = ap (waiting (roomOf m) allowance words (g .frame) (m .frames) (m .values)) (called-there (isDeclared (functionsIn words) number));
-              keeps = record { ready = called-ready (g .frame) (length words) (m .frames) (r .framed) (r .frameRoom) refl (r .waits) r; current = u .current };
+              keeps = record { ready = called-ready (g .frame) (length words) (m .frames) (r .framed) (r .frameRoom) refl refl (r .waits) r; current = u .current };
               room = refl;
               beyond = λ old e. e;
             };
@@ -144,8 +144,8 @@ module _ (words : Words) (allowance number : ℕ) (g : Registers) (m : Memory) w
         )
 
     -- the frames that wait are not touched
-    counted-waiting : Ready allowance g m → take (24 * g .frame) (m .frames) ≡ take (24 * g .frame) (countedIn number (m .frames))
-    counted-waiting r = sym (counted-below (m .frames) number (g .frame) (omega (arith, r .framed)))
+    counted-waiting : (k : ℕ) → wordsBelow k (m .frames) ≡ wordsBelow k (countedIn number (m .frames))
+    counted-waiting k = ap (take (24 * k)) (sym (counted-words (m .frames) number (may .positive)))
 
     ready-paid : Ready allowance g m → Ready allowance (paidOf g) (countedFor number m)
     ready-paid r =
@@ -155,19 +155,18 @@ module _ (words : Words) (allowance number : ℕ) (g : Registers) (m : Memory) w
           below = r .below;
           logged = r .logged;
           framed = r .framed;
-          frameRoom = length-set (m .frames) _ _ ∙ r .frameRoom;
-          valueRoom = r .valueRoom;
+          frameRoom = rw (counted-length (m .frames) number) (r .frameRoom);
+          valueRoom = rw (counted-length (m .frames) number) (r .valueRoom);
           paid = omega (arith, may .left);
           counts = λ i. rw (add-one (g .steps)) (counted-within (m .frames) number (g .steps) (may .positive) (r .counts) i);
-          waits = waits-same (length (m .input)) (m .frames) (countedIn number (m .frames)) (g .frame) (counted-waiting r) (r .waits);
+          waits = waits-same (m .frames) (countedIn number (m .frames)) (g .frame) (counted-waiting (g .frame)) (length (m .input)) (r .waits);
         }
 
     underway-paid : Underway allowance g m → Underway allowance (paidOf g) (countedFor number m)
     underway-paid u =
-        let below = sym (counted-below (m .frames) number (suc (g .frame)) (omega (arith, u .ready .framed))) in
         record {
           ready = ready-paid (u .ready);
-          current = held-same (m .frames) (countedIn number (m .frames)) (suc (g .frame)) below (g .frame) (omega arith) (u .current);
+          current = held-same (m .frames) (countedIn number (m .frames)) (suc (g .frame)) (counted-waiting (suc (g .frame))) (g .frame) (omega arith) (u .current);
         }
 
     -- what the choice leads to, its step paid, is what the application leads to
@@ -176,7 +175,7 @@ module _ (words : Words) (allowance number : ℕ) (g : Registers) (m : Memory) w
         Applies words allowance number g m next n
     apply-leads choice e next n leads u =
         let d = leads (underway-paid u) in
-        let below = counted-waiting (u .ready) in
+        let below = counted-waiting (g .frame) in
         let one : allowance - g .steps ≡ suc (allowance - (g .steps + 1)) = omega (arith, may .left) in
         let times : (allowance - g .steps) * suc (length words) ≡ (allowance - (g .steps + 1)) * suc (length words) + suc (length words) =
         rw one (suc-mul (allowance - (g .steps + 1)) (suc (length words))) in
@@ -191,7 +190,7 @@ module _ (words : Words) (allowance number : ℕ) (g : Registers) (m : Memory) w
                 room = d .leads .room;
                 beyond = d .leads .beyond;
               };
-          falls = omega (arith, d .falls, times, left-same (m .frames) (countedIn number (m .frames)) (length words) (g .frame) below);
+          falls = omega (arith, d .falls, times, left-same (m .frames) (countedIn number (m .frames)) (g .frame) below (length words));
         }
 
     -- in frames with the application counted
@@ -216,36 +215,43 @@ module _ (words : Words) (allowance number : ℕ) (g : Registers) (m : Memory) w
 -- A CALL
 
 -- a store between a frame's counts and its open sequences leaves what its application keeps
-local-past : (frames : List ℕ) (k i v : ℕ) → 5 < i → i < 8 → Held k frames → (values : Bytes) → localAt k (set frames (24 * k + i) v) values ≡ localAt k frames values
+local-past : (frames : List ℕ) (k i v : ℕ) → 5 < i → i < 8 → Held k frames → (values : Bytes) → localAt k (withWord k i v frames) values ≡ localAt k frames values
 local-past frames k i v h l held values =
     rw (
       word-kept frames k i 1 v (omega arith),
       word-kept frames k i 2 v (omega arith),
       word-kept frames k i 4 v (omega arith),
       word-kept frames k i 5 v (omega arith),
-      take-set-lt (24 * k + 24) frames (24 * k + i) v (omega arith),
-      drop-set-lt (24 * k + 24 - frameWord k 5 frames) (take (24 * k + 24) frames) (24 * k + i) v (omega (arith, held .opened)),
+      words-stored frames k i v,
+      take-set-lt (24 * k + 24) (wordsIn frames) (24 * k + i) v (omega arith),
+      drop-set-lt (24 * k + 24 - frameWord k 5 frames) (take (24 * k + 24) (wordsIn frames)) (24 * k + i) v (omega (arith, held .opened)),
     )
 
-pub calling-counts : (frames : List ℕ) (k at end : ℕ) → k < maxFrames → countsIn (callingFrom k at end frames) ≡ countsIn frames
-calling-counts frames k at end framed =
-    counts-kept (set frames (24 * k + 6) at) k 7 end framed (omega arith) ∙ counts-kept frames k 6 at framed (omega arith)
+pub calling-counts : (frames : List ℕ) (k at end : ℕ) → countsIn (callingFrom k at end frames) ≡ countsIn frames
+calling-counts frames k at end = counts-kept (withWord k 6 at frames) k 7 end ∙ counts-kept frames k 6 at
 
-module _ (frames : List ℕ) (k at end : ℕ) (room : length frames ≡ roomOfFrames) (framed : k < 255) where
+pub calling-length : (frames : List ℕ) (k at end : ℕ) → length (callingFrom k at end frames) ≡ length frames
+calling-length frames k at end = stored-length (withWord k 6 at frames) k 7 end ∙ stored-length frames k 6 at
+
+-- a frame more is there, unless it may not be added
+pub not-crowded : (k : ℕ) (frames : List ℕ) → crowdedAt k frames ≡ false → suc k < maxFrames → HasFrame (suc k) frames
+not-crowded k frames e h = ltb-false (length frames) (wordsFor (suc (suc k))) (rw (lt-ltb (suc k) maxFrames h) at e)
+
+module _ (frames : List ℕ) (k at end : ℕ) (there : HasFrame k frames) where
   abbrev Returning : List ℕ
-  Returning = set frames (24 * k + 6) at
+  Returning = withWord k 6 at frames
 
   abbrev Calling : List ℕ
   Calling = callingFrom k at end frames
 
-  called-below : take (24 * k) Calling ≡ take (24 * k) frames
+  called-below : wordsBelow k Calling ≡ wordsBelow k frames
   called-below = waiting-kept Returning k 7 end ∙ waiting-kept frames k 6 at
 
   called-back : frameWord k 6 Calling ≡ at
-  called-back = word-kept Returning k 7 6 end (omega arith) ∙ word-set frames k (omega arith) room 6 at (omega arith)
+  called-back = word-kept Returning k 7 6 end (omega arith) ∙ word-set frames k there 6 at (omega arith)
 
   called-end : frameWord k 7 Calling ≡ end
-  called-end = word-set Returning k (omega arith) (length-set frames (24 * k + 6) at ∙ room) 7 end (omega arith)
+  called-end = word-set Returning k (stored-there frames k 6 at there) 7 end (omega arith)
 
   called-local : (values : Bytes) → Held k frames → localAt k Calling values ≡ localAt k frames values
   called-local values held =
@@ -257,20 +263,20 @@ module _ (frames : List ℕ) (k at end : ℕ) (room : length frames ≡ roomOfFr
     called-waits i h = by (ltb i k) refl
       where
         by : (b : Bool) → ltb i k ≡ b → Waits cells i Calling
-        by true e = waits-same cells frames Calling k (sym called-below) waits i (ltb-true i k e)
+        by true e = waits-same frames Calling k (sym called-below) cells waits i (ltb-true i k e)
         by false e =
             let here : i ≡ k = omega (arith, ltb-false i k e) in
             rw here (record { held = held-past Returning k 7 end (omega arith) (held-past frames k 6 at (omega arith) current); kept = rw called-end within })
 
   -- the frame above may be any
-  module _ (above : List ℕ) (same : take (24 * suc k) above ≡ take (24 * suc k) Calling) where
+  module _ (above : List ℕ) (same : wordsBelow (suc k) above ≡ wordsBelow (suc k) Calling) where
     above-waits : (cells : ℕ) → end ≤ cells → ((i : ℕ) → i < k → Waits cells i frames) → Held k frames → (i : ℕ) → i < suc k → Waits cells i above
-    above-waits cells within waits current = waits-same cells Calling above (suc k) (sym same) (called-waits cells within waits current)
+    above-waits cells within waits current = waits-same Calling above (suc k) (sym same) cells (called-waits cells within waits current)
 
     module _ (roomy : Room) (allowance : ℕ) (words : Words) where
       above-left : (size : ℕ) → leftWaiting size (suc k) above ≡ size - at + leftWaiting size k frames
       unfolding leftWaiting
-      above-left size = left-same above Calling size (suc k) same ∙ rw (called-back, left-same Calling frames size k called-below)
+      above-left size = left-same above Calling (suc k) same size ∙ rw (called-back, left-same Calling frames k called-below size)
 
       above-waiting : (values : Bytes) → Held k frames → (o : Outcomes) →
           waiting roomy allowance words k frames values (andThen o (λ s l. going roomy allowance words k at (localAt k frames values)
@@ -309,28 +315,28 @@ module _ (words : Words) (allowance number : ℕ) (g : Registers) (input output 
   Caller = memory input output journal frames values
 
   -- a call is an application in the frame above
-  pub call-enters : isDeclared (functionsIn words) number ≡ true → g .steps < allowance → g .frame < 255 → (above : List ℕ) → length above ≡ roomOfFrames → countsIn above ≡ countsIn frames →
-      take (24 * suc (g .frame)) above ≡ take (24 * suc (g .frame)) (callingFrom (g .frame) (g .at .0) (g .q .0) frames) → Held (suc (g .frame)) above →
+  pub call-enters : isDeclared (functionsIn words) number ≡ true → g .steps < allowance → g .frame < 255 → (above : List ℕ) → HasFrame (suc (g .frame)) above → length above ≡ length frames → countsIn above ≡ countsIn frames →
+      wordsBelow (suc (g .frame)) above ≡ wordsBelow (suc (g .frame)) (callingFrom (g .frame) (g .at .0) (g .q .0) frames) → Held (suc (g .frame)) above →
       Performs words allowance (call number) (g .at .0) g Caller (Onward (calledIn (suc (g .frame)) (length words) number g)) (memory input output journal above values)
-  call-enters declared h l above sized counted same empty u =
+  call-enters declared h l above there sized counted same empty u =
       let k = g .frame in
       let room = roomOf Caller in
       let r = u .ready in
       let application = entering room allowance words (suc (suc k)) number (stacksOf g Caller) (ledgerOf allowance g Caller) in
       let entered = entering-paid room allowance words (suc (suc k)) number (stacksOf g Caller) (ledgerOf allowance g Caller) (omega arith) in
-      let left = above-left frames k (g .at .0) (g .q .0) (r .frameRoom) l above same room allowance words (length words) in
+      let left = above-left frames k (g .at .0) (g .q .0) (r .frameRoom) above same room allowance words (length words) in
       let selected : length input - g .p .0 - (g .q .0 - g .p .0) ≡ length input - g .q .0 = omega (arith, r .ordered, r .inside) in
       record {
         leads =
             record {
               same =
                   opens declared (one-left h) (le-ltb 256 (suc (suc k)) (omega arith)) (length-drop (g .p .0) input) selected ∙
-                  above-waiting frames k (g .at .0) (g .q .0) (r .frameRoom) l above same room allowance words values (u .current) application ∙
+                  above-waiting frames k (g .at .0) (g .q .0) (r .frameRoom) above same room allowance words values (u .current) application ∙
                   rw (declared, counted) (ap (waiting room allowance words (suc k) above values) entered);
               keeps =
                   record {
-                    ready = called-ready words allowance number g Caller (suc k) (length words) above (omega arith) sized counted
-                        (above-waits frames k (g .at .0) (g .q .0) (r .frameRoom) l above same (length input) (r .inside) (r .waits) (u .current)) r;
+                    ready = called-ready words allowance number g Caller (suc k) (length words) above (omega arith) there sized counted
+                        (above-waits frames k (g .at .0) (g .q .0) (r .frameRoom) above same (length input) (r .inside) (r .waits) (u .current)) r;
                     current = empty;
                   };
               room = refl;

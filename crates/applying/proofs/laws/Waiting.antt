@@ -13,44 +13,10 @@ use Rattle.meaning.specs.Packing.{Words}
 use Rattle.agreeing.proofs.laws.Depth.{enter-step}
 use Rattle.acting.specs.declared.registers.Registers.{Registers}
 use Rattle.acting.specs.declared.registers.Next.the-variants.{Onward}
-use Rattle.acting.specs.States.{Memory, frameWord, localAt, Held, stacksOf, Ledgers, ledgerOf, roomOf, Outcomes}
+use Rattle.acting.specs.States.{Memory, wordsIn, wordsBelow, frameWord, localAt, Held, stacksOf, Ledgers, ledgerOf, roomOf, Outcomes}
 use Rattle.applying.specs.Waiting.{functionsIn, entering, waiting, comesTo, Waits, leftWaiting, backIn, leftFrom, leftBy, calledIn, recoveredBy}
 
 -- A FRAME DEPENDS ON ITS OWN WORDS AND VALUES ALONE
-
-module _ (frames : List ℕ) (n : ℕ) where
-  word-within : (k i : ℕ) → 24 * k + i < n → frameWord k i (take n frames) ≡ frameWord k i frames
-  word-within k i h = getD-take n frames (24 * k + i) 0 h
-
-  left-within : (size k : ℕ) → 24 * k ≤ n → leftWaiting size k (take n frames) ≡ leftWaiting size k frames
-  unfolding leftWaiting
-  left-within size zero h = refl
-  left-within size (suc k) h = rw (word-within k 6 (omega arith), left-within size k (omega arith))
-
-  -- what holds of a frame's words is told by those words
-  words-within : (k : ℕ) → 24 * k + 24 ≤ n → (i : ℕ) → i < 24 → frameWord k i (take n frames) ≡ frameWord k i frames
-  words-within k h i l = word-within k i (omega arith)
-
-  module _ (values : Bytes) (m : ℕ) where
-    local-within : (k : ℕ) → 24 * k + 24 ≤ n → 16 * k + 16 ≤ m → localAt k (take n frames) (take m values) ≡ localAt k frames values
-    local-within k h h′ =
-        rw (
-          word-within k 1 (omega arith),
-          word-within k 2 (omega arith),
-          word-within k 4 (omega arith),
-          word-within k 5 (omega arith),
-          take-take (24 * k + 24) n frames h,
-          take-take (16 * k + 16) m values h′,
-        )
-
-    module _ (room : Room) (allowance : ℕ) (words : Words) where
-      waiting-within : (k : ℕ) → 24 * k ≤ n → 16 * k ≤ m → (o : Outcomes) →
-          waiting room allowance words k (take n frames) (take m values) o ≡ waiting room allowance words k frames values o
-      unfolding waiting
-      waiting-within zero h h′ o = refl
-      waiting-within (suc k) h h′ o =
-          rw (word-within k 6 (omega arith), word-within k 7 (omega arith), local-within k (omega arith) (omega arith))
-          (waiting-within k (omega arith) (omega arith) _)
 
 -- a frame with the same words up to its counts holds the same
 pub same-held : (k : ℕ) (frames frames′ : List ℕ) → Held k frames → ((i : ℕ) → i ≤ 5 → frameWord k i frames ≡ frameWord k i frames′) → Held k frames′
@@ -62,30 +28,63 @@ same-held k frames frames′ held e =
       opened = rw (← (e 5 (omega arith))) (held .opened);
     }
 
-pub left-same : (frames frames′ : List ℕ) (size k : ℕ) → take (24 * k) frames ≡ take (24 * k) frames′ → leftWaiting size k frames ≡ leftWaiting size k frames′
-left-same frames frames′ size k e =
-    sym (left-within frames (24 * k) size k (omega arith)) ∙ rw e (left-within frames′ (24 * k) size k (omega arith))
-
 -- where the words of the frames below a number are the same, so is what each of them holds
-module _ (frames frames′ : List ℕ) (k : ℕ) (e : take (24 * k) frames ≡ take (24 * k) frames′) where
-  words-same : (i : ℕ) → i < k → (j : ℕ) → j < 24 → frameWord i j frames ≡ frameWord i j frames′
-  words-same i h j l = sym (words-within frames (24 * k) i (omega arith) j l) ∙ rw e (words-within frames′ (24 * k) i (omega arith) j l)
+module _ (frames frames′ : List ℕ) (k : ℕ) (e : wordsBelow k frames ≡ wordsBelow k frames′) where
+  word-same : (i : ℕ) → i < k → (j : ℕ) → j < 24 → frameWord i j frames ≡ frameWord i j frames′
+  word-same i h j l =
+      let low : 24 * i + j < 24 * k = omega arith in
+      sym (getD-take (24 * k) (wordsIn frames) (24 * i + j) 0 low) ∙ rw e (getD-take (24 * k) (wordsIn frames′) (24 * i + j) 0 low)
+
+  words-same : (i : ℕ) → i < k → take (24 * i + 24) (wordsIn frames) ≡ take (24 * i + 24) (wordsIn frames′)
+  words-same i h =
+      let low : 24 * i + 24 ≤ 24 * k = omega arith in
+      sym (take-take (24 * i + 24) (24 * k) (wordsIn frames) low) ∙ rw e (take-take (24 * i + 24) (24 * k) (wordsIn frames′) low)
 
   pub held-same : (i : ℕ) → i < k → Held i frames → Held i frames′
-  held-same i h held = same-held i frames frames′ held (λ j l. words-same i h j (omega arith))
+  held-same i h held = same-held i frames frames′ held (λ j l. word-same i h j (omega arith))
 
-pub waits-same : (cells : ℕ) (frames frames′ : List ℕ) (k : ℕ) → take (24 * k) frames ≡ take (24 * k) frames′ → ((i : ℕ) → i < k → Waits cells i frames) →
-    (i : ℕ) → i < k → Waits cells i frames′
-waits-same cells frames frames′ k e waits i h =
-    record { held = held-same frames frames′ k e i h (waits i h .held); kept = rw (← (words-same frames frames′ k e i h 7 (omega arith))) (waits i h .kept) }
+  pub waits-same : (cells : ℕ) → ((i : ℕ) → i < k → Waits cells i frames) → (i : ℕ) → i < k → Waits cells i frames′
+  waits-same cells waits i h = record { held = held-same i h (waits i h .held); kept = rw (← (word-same i h 7 (omega arith))) (waits i h .kept) }
+
+  left-upto : (size i : ℕ) → i ≤ k → leftWaiting size i frames ≡ leftWaiting size i frames′
+  unfolding leftWaiting
+  left-upto size zero h = refl
+  left-upto size (suc i) h = rw (word-same i (omega arith) 6 (omega arith), left-upto size i (omega arith))
+
+  pub left-same : (size : ℕ) → leftWaiting size k frames ≡ leftWaiting size k frames′
+  left-same size = left-upto size k (omega arith)
+
+  module _ (values values′ : Bytes) (e′ : take (16 * k) values ≡ take (16 * k) values′) where
+    values-same : (i : ℕ) → i < k → take (16 * i + 16) values ≡ take (16 * i + 16) values′
+    values-same i h =
+        let low : 16 * i + 16 ≤ 16 * k = omega arith in
+        sym (take-take (16 * i + 16) (16 * k) values low) ∙ rw e′ (take-take (16 * i + 16) (16 * k) values′ low)
+
+    pub local-same : (i : ℕ) → i < k → localAt i frames values ≡ localAt i frames′ values′
+    local-same i h =
+        rw (
+          word-same i h 1 (omega arith),
+          word-same i h 2 (omega arith),
+          word-same i h 4 (omega arith),
+          word-same i h 5 (omega arith),
+          words-same i h,
+          values-same i h,
+        )
+
+    module _ (room : Room) (allowance : ℕ) (words : Words) where
+      waiting-upto : (i : ℕ) → i ≤ k → (o : Outcomes) →
+          waiting room allowance words i frames values o ≡ waiting room allowance words i frames′ values′ o
+      unfolding waiting
+      waiting-upto zero h o = refl
+      waiting-upto (suc i) h o =
+          rw (word-same i (omega arith) 6 (omega arith), word-same i (omega arith) 7 (omega arith), local-same i (omega arith))
+          (waiting-upto i (omega arith) _)
 
 module _ (room : Room) (allowance : ℕ) (words : Words) where
-  pub waiting-same : (frames frames′ : List ℕ) (values values′ : Bytes) (k : ℕ) → take (24 * k) frames ≡ take (24 * k) frames′ →
+  pub waiting-same : (frames frames′ : List ℕ) (values values′ : Bytes) (k : ℕ) → wordsBelow k frames ≡ wordsBelow k frames′ →
       take (16 * k) values ≡ take (16 * k) values′ → (o : Outcomes) →
       waiting room allowance words k frames values o ≡ waiting room allowance words k frames′ values′ o
-  waiting-same frames frames′ values values′ k e e′ o =
-      sym (waiting-within frames (24 * k) values (16 * k) room allowance words k (omega arith) (omega arith) o) ∙
-      rw (e, e′) (waiting-within frames′ (24 * k) values′ (16 * k) room allowance words k (omega arith) (omega arith) o)
+  waiting-same frames frames′ values values′ k e e′ o = waiting-upto frames frames′ k e values values′ e′ room allowance words k (omega arith) o
 
   -- a frame that waits is not asked where the one above it stops
   pub waiting-stop : (k : ℕ) (frames : List ℕ) (values : Bytes) (answer function : ℕ) (l : Ledgers) →

@@ -1,5 +1,6 @@
 -- `applying::start_sentence` meets its contract.
 use Prim.Native.Nat.{ℕ, _-_}
+use native.Mathlib.Omega.{arith}
 use mathlib.Core.Path.{_≡_, ap, _∙_}
 use mathlib.Core.Option.{Option}
 use lib.ListN.{length, drop}
@@ -31,6 +32,11 @@ stored-as : {base count next : ℕ} {values values′ : Option Bytes} {before af
     Stores base count next values before after stored → Stores base count next values′ before after stored
 stored-as e s = rw e at s
 
+store-values-requires : tie.Need-store-values-requires
+store-values-requires c κs =
+    let p = c .before .before .before .before .before .before .pre in
+    omega (arith, p .1 .1 .1 .1 .0 _ (p .1 .1 .1 .0), p .1 .1 .1 .1 .1)
+
 returns : tie.Need-returns
 returns c =
     let at-store-values = c .before .before .before .before in
@@ -52,7 +58,7 @@ start-sentence-spec =
     tie.close
     (tie.spec
     (λ c κs. search needs)
-    (λ c κs. search needs)
+    store-values-requires
     (λ c. search needs)
     (λ c. search needs)
     (λ c. search needs)

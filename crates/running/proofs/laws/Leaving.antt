@@ -20,11 +20,11 @@ use Rattle.meaning.specs.Leaving.{roomOf as roomOfCells}
 use Rattle.acting.specs.declared.registers.Registers.{Registers}
 use Rattle.acting.specs.declared.registers.Ending.{Ending}
 use Rattle.acting.specs.declared.registers.Next.{Next}
-use Rattle.acting.specs.declared.registers.Next.the-variants.{Onward, Done, Stopped}
+use Rattle.acting.specs.declared.registers.Next.the-variants.{Onward, Done, Stopped, Deeper}
 use Rattle.acting.specs.Endings.{endingNumber}
-use Rattle.acting.specs.States.{roomOfFrames, roomOfValues, Memory, memory, Held, countsIn, stacksOf, roomOf, Outcomes}
+use Rattle.acting.specs.States.{firstFrames, wordsFor, valuesFor, Memory, memory, Held, countsIn, stacksOf, roomOf, Outcomes}
 use Rattle.applying.specs.Waiting.{soundIn, functionsIn, waiting, comesTo}
-use Rattle.applying.specs.Advancing.{Underway, Keeps, registersIn, Leads, IsOver}
+use Rattle.applying.specs.Advancing.{Underway, Keeps, registersIn, Leads, HasEnded}
 use Rattle.running.specs.Leaving.{cells, Tells, Leaves, refusedWith, reportedOf, clearedFrom, loadedWith}
 use Rattle.applying.proofs.laws.Waiting.{entering-paid}
 use Rattle.running.proofs.laws.Tables.{unpacked}
@@ -64,14 +64,16 @@ module _ (bytes : Bytes) (start : ℕ) (within : start ≤ length bytes) where
 
 -- THE END
 
-pub reported-within : (allowance : ℕ) (last : Next) (m : Memory) → IsOver last → Keeps allowance last m → reportedOf last .text ≤ length (m .output)
+pub reported-within : (allowance : ℕ) (last : Next) (m : Memory) → HasEnded last → Keeps allowance last m → reportedOf last .text ≤ length (m .output)
 reported-within allowance (Onward g) m o k = absurd o
+reported-within allowance (Deeper g) m o k = absurd o
 reported-within allowance (Done g) m o k = k .below
 reported-within allowance (Stopped g ending function) m o k = omega arith
 
 module _ (room : Room) (allowance : ℕ) (words : Words) (m : Memory) where
-  tells-end : (last : Next) → IsOver last → Keeps allowance last m → Tells (reportedOf last) (resultOf (textOf (comesTo room allowance words last m)))
+  tells-end : (last : Next) → HasEnded last → Keeps allowance last m → Tells (reportedOf last) (resultOf (textOf (comesTo room allowance words last m)))
   tells-end (Onward g) o k = absurd o
+  tells-end (Deeper g) o k = absurd o
   tells-end (Done g) o k =
       record {
         answer = refl;
@@ -89,17 +91,19 @@ module _ (room : Room) (allowance : ℕ) (words : Words) (m : Memory) where
         emissions = sym (length-take-le (g .emitted) (m .journal) (k .logged));
       }
 
-  counts-end : (last : Next) → IsOver last → countsIn (m .frames) ≡ resultOf (textOf (comesTo room allowance words last m)) .counts
+  counts-end : (last : Next) → HasEnded last → countsIn (m .frames) ≡ resultOf (textOf (comesTo room allowance words last m)) .counts
   counts-end (Onward g) o = absurd o
+  counts-end (Deeper g) o = absurd o
   counts-end (Done g) o = refl
   counts-end (Stopped g ending function) o = refl
 
   -- the cells after the stacks are cleared
-  cells-end : (last : Next) (before : Cells) → IsOver last → Keeps allowance last m → roomOf m ≡ roomOfCells before →
+  cells-end : (last : Next) (before : Cells) → HasEnded last → Keeps allowance last m → roomOf m ≡ roomOfCells before →
       drop (registersIn last .emitted) (m .journal) ≡ drop (registersIn last .emitted) (before .journal) →
       cells (clearedFrom 0 (m .input)) (clearedFrom (reportedOf last .text) (m .output)) (m .journal) ≡
       left (resultOf (textOf (comesTo room allowance words last m))) before .cells
   cells-end (Onward g) before o k e beyond = absurd o
+  cells-end (Deeper g) before o k e beyond = absurd o
   cells-end (Done g) before o k e beyond =
       rw (
         length-take-le (g .r .0) (m .output) (k .below),
@@ -120,7 +124,7 @@ module _ (room : Room) (allowance : ℕ) (words : Words) (m : Memory) where
         ap (λ r. r .outCells) e,
       )
 
-  pub leaves-end : (last : Next) (before : Cells) (o : Outcomes) → o ≡ comesTo room allowance words last m → IsOver last → Keeps allowance last m →
+  pub leaves-end : (last : Next) (before : Cells) (o : Outcomes) → o ≡ comesTo room allowance words last m → HasEnded last → Keeps allowance last m →
       roomOf m ≡ roomOfCells before → drop (registersIn last .emitted) (m .journal) ≡ drop (registersIn last .emitted) (before .journal) →
       Leaves (reportedOf last) (countsIn (m .frames)) (cells (clearedFrom 0 (m .input)) (clearedFrom (reportedOf last .text) (m .output)) (m .journal))
       (left (resultOf (textOf o)) before)
@@ -165,7 +169,7 @@ module _ (text input input′ : Bytes) (l : Loaded text input input′) where
     abbrev pub Whole : Outcomes
     Whole = from (lent (roomOf Start)) (functionsIn words) start text allowance tt
 
-    pub underway-start : length frames ≡ roomOfFrames → length values ≡ roomOfValues → countsIn frames ≡ uncounted → Held 0 frames →
+    pub underway-start : length frames ≡ wordsFor firstFrames → length values ≡ valuesFor firstFrames → countsIn frames ≡ uncounted → Held 0 frames →
         Underway allowance Beginning Start
     underway-start f v none empty =
         record {
@@ -176,8 +180,8 @@ module _ (text input input′ : Bytes) (l : Loaded text input input′) where
                 below = omega arith;
                 logged = omega arith;
                 framed = omega arith;
-                frameRoom = f;
-                valueRoom = v;
+                frameRoom = omega (arith, f);
+                valueRoom = λ k h. omega (arith, f, v, h);
                 paid = omega arith;
                 counts = λ i. rw none (omega (arith, getD-zeros i));
                 waits = λ k h. absurd (omega arith);
@@ -200,7 +204,7 @@ module _ (text input input′ : Bytes) (l : Loaded text input input′) where
         }
 
     -- and leaves what it should when it has been followed to its end
-    pub ending : (last : Next) (m : Memory) → Leads words allowance Whole Beginning Start last m → IsOver last →
+    pub ending : (last : Next) (m : Memory) → Leads words allowance Whole Beginning Start last m → HasEnded last →
         Leaves (reportedOf last) (countsIn (m .frames)) (cells (clearedFrom 0 (m .input)) (clearedFrom (reportedOf last .text) (m .output)) (m .journal))
         (left (runLent (roomOfCells (cells input output journal)) (functionsIn words) start text allowance) (cells input output journal))
     ending last m leads over =

@@ -1,4 +1,5 @@
 -- `run` meets its contract.
+use native.Mathlib.Omega.{arith}
 use mathlib.Core.Path.{_≡_, refl, sym, _∙_}
 use mathlib.Core.Bool.{true}
 use borrow.Author.Tests.{not-true, not-false}
@@ -57,20 +58,20 @@ returns-3 c =
 
 run-lent-requires : tie.Need-run-lent-requires
 run-lent-requires c κs =
-    let at-value-room = c .before .before .before .before .before in
-    let at-frame-room = at-value-room .before in
-    let at-if3 = at-frame-room .before in
+    let at-values = c .before .before .before .before .before in
+    let at-words = at-values .before in
+    let at-if3 = at-words .before in
     let at-if1 = at-if3 .before .before .before in
     let a = entry (at-if1 .before) .args in
     let counted = sound-counted (a .code .now) (sound at-if1) in
     let d = is-declared (a .code .now) counted (a .start) (starts (at-if3 .before)) in
-    (counted, (d .0, (d .1, (at-if3 .if3 .left, (at-frame-room .frame-room .ensures .0, (at-value-room .value-room .ensures, at-frame-room .frame-room .ensures .1))))))
+    (counted, (d .0, (d .1, (at-if3 .if3 .left, (at-words .first-words .ensures .0, (at-values .first-values .ensures, at-words .first-words .ensures .1))))))
 
 copy-counts-requires : tie.Need-copy-counts-requires
 copy-counts-requires c κs =
     let at-run-lent = c .before .before .before .before .before .before .before .before .before .before in
-    let at-frame-room = at-run-lent .before .before .before .before .before .before .before in
-    (at-run-lent .run-lent .kept .1 .1 .1 .1 .1 .1 .0 ∙ at-frame-room .frame-room .ensures .0, refl)
+    let at-words = at-run-lent .before .before .before .before .before .before .before in
+    (omega (arith, at-run-lent .run-lent .kept .1 .1 .1 .1 .1 .1 .0, at-words .first-words .ensures .0), refl)
 
 returns-4 : tie.Need-returns-4
 returns-4 c =

@@ -15,7 +15,7 @@ use Rattle.acting.specs.States.{Memory, memory, roomOf, Acts}
 use Rattle.applying.specs.Advancing.{Acting, stepped, Does}
 use Rattle.applying.proofs.laws.Advancing.{advance-does, advance-acts, advance-unknown, advance-leaves}
 use borrow.Author.Needs.{needs}
-use Rattle.stepping.proofs.laws.Trying.{does-step, does-use}
+use Rattle.stepping.proofs.laws.Trying.{does-step, does-use, does-deeper}
 use Rattle.stepping.proofs.act.Statement.{statement}
 use Rattle.stepping.proofs.act.Tie as tie
 
@@ -57,6 +57,11 @@ returns c =
     let a = entry .args in
     does-step _ _ (advance-unknown _ _ _ _ (entry .pre .1 .idle) [] (entry .pre .1 .underway) (actions-none (a .code .now) (a .g .at .0) (c .if1 .taken)) (a .g) refl refl refl)
 
+write-requires : tie.Need-write-requires
+write-requires c κs =
+    let u = acting (c .before .before .before .before .before) .underway in
+    (u .ready .ordered, (u .ready .inside, (u .ready .below, (u .ready .framed, (u .ready .frameRoom, (u .current, u .ready .valueRoom))))))
+
 returns-2 : tie.Need-returns-2
 returns-2 c = acts (c .before .before .before .before .before) _ (c .before .before .before .span .given .1) _ _ refl (omega arith) _ _ refl (c .go .ensures _ _ _)
 
@@ -76,32 +81,52 @@ returns-6 c =
     let at-decode = (c .before .before) in
     does-use _ _ (acting at-decode) (use-numbered (words at-decode) _ (within at-decode) (sym (at-decode .decode .ensures) ∙ c .enum-told2 .given .1))
 
+-- a call, where there is room for a frame more, and where there is none
+abbrev at-what : tie.After-crowded → tie.After-what2
+at-what c = c .before .before .before
+
+abbrev decoded : tie.After-crowded → tie.After-decode
+decoded c = at-what c .before .before
+
+call-requires : tie.Need-call-requires
+call-requires c κs =
+    let at-crowded = c .before .before in
+    let at-decode = decoded at-crowded in
+    let r = acting at-decode .underway .ready in
+    (entry at-decode .pre .0, (r .framed, (r .frameRoom, sym (at-crowded .crowded .ensures) ∙ c .before .if2 .left)))
+
 returns-7 : tie.Need-returns-7
 returns-7 c =
-    let at-decode = (c .before .before .before .before .before .before .before) in
-    does-step _ _
-    (advance-does _ _ _ _ (acting at-decode .idle) _ (g at-decode .at .0 + 1) _ _ (within at-decode) (acting at-decode .underway) (read at-decode _ (c .before .before .before .before .before .what2 .given .1))
-    (c .before .before .call .ensures _ _ _ _))
+    let at-crowded = c .before in
+    does-deeper _ _ (acting (decoded at-crowded)) (sym (at-crowded .crowded .ensures) ∙ c .if2 .taken)
 
 returns-8 : tie.Need-returns-8
 returns-8 c =
-    let at-decode = (c .before .before .before .before .before .before .before) in
-    let named = actions-named (words at-decode) (g at-decode .at .0 + 1) (c .before .before .before .before .before .length .given .0 .0) in
-    acts at-decode _ (c .before .before .before .before .before .length .given .1) _ _ (rw named) (omega arith) _ _ (rw (c .before .before .emit .kept .1 .1 .1 .1 .0)) (c .before .before .emit .ensures _ _ _)
+    let at-crowded = c .before .before .before .before .before in
+    let at-decode = decoded at-crowded in
+    does-step _ _
+    (advance-does _ _ _ _ (acting at-decode .idle) _ (g at-decode .at .0 + 1) _ _ (within at-decode) (acting at-decode .underway) (read at-decode _ (at-what at-crowded .what2 .given .1))
+    (c .before .before .call .ensures _ _ _ _))
 
 returns-9 : tie.Need-returns-9
 returns-9 c =
     let at-decode = (c .before .before .before .before .before .before .before) in
-    acts at-decode _ (c .before .before .before .before .before .subtract .given .1) _ _ refl (omega arith) _ _ (rw (c .before .before .compute .kept .1 .1 .1 .0)) (c .before .before .compute .ensures _ _ _)
+    let named = actions-named (words at-decode) (g at-decode .at .0 + 1) (c .before .before .before .before .before .length .given .0 .0) in
+    acts at-decode _ (c .before .before .before .before .before .length .given .1) _ _ (rw named) (omega arith) _ _ (rw (c .before .before .emit .kept .1 .1 .1 .1 .0)) (c .before .before .emit .ensures _ _ _)
 
 returns-10 : tie.Need-returns-10
 returns-10 c =
+    let at-decode = (c .before .before .before .before .before .before .before) in
+    acts at-decode _ (c .before .before .before .before .before .subtract .given .1) _ _ refl (omega arith) _ _ (rw (c .before .before .compute .kept .1 .1 .1 .0)) (c .before .before .compute .ensures _ _ _)
+
+returns-11 : tie.Need-returns-11
+returns-11 c =
     let at-decode = (c .before .before .before .before) in
     rw (c .leave .ensures)
     (does-step _ _ (advance-leaves _ _ _ _ (acting at-decode .idle) (within at-decode) (acting at-decode .underway) (read at-decode _ (c .before .before .enum-told3 .given .1))))
 
-returns-11 : tie.Need-returns-11
-returns-11 c =
+returns-12 : tie.Need-returns-12
+returns-12 c =
     let at-decode = (c .before .before) in
     does-step _ _
     (advance-unknown _ _ _ _ (acting at-decode .idle) _ (acting at-decode .underway) (read at-decode _ (c .enum-told4 .given .1)) (stepped (g at-decode)) refl refl refl)
@@ -120,12 +145,13 @@ act-spec =
     (λ c. search needs)
     (λ c κs. search needs)
     (λ c. search needs)
-    (λ c κs. search needs)
+    write-requires
     (λ c. search needs)
     (λ c κs. search needs)
     (λ c. search needs)
     (λ c. search needs)
     (λ c κs. search needs)
+    call-requires
     (λ c. search needs)
     (λ c κs. search needs)
     (λ c. search needs)
@@ -151,4 +177,6 @@ act-spec =
     returns-9
     (λ c. search needs)
     returns-10
-    returns-11)
+    (λ c. search needs)
+    returns-11
+    returns-12)

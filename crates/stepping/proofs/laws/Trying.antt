@@ -11,8 +11,8 @@ use Rattle.meaning.specs.Packing.{Words, unpackActions}
 use Rattle.decoding.specs.Decoded.{Numbered}
 use Rattle.acting.specs.declared.registers.Registers.{Registers}
 use Rattle.acting.specs.declared.registers.Next.{Next}
-use Rattle.acting.specs.declared.registers.Next.the-variants.{Onward, Done, Stopped}
-use Rattle.acting.specs.States.{Memory, roomOf, Acts}
+use Rattle.acting.specs.declared.registers.Next.the-variants.{Onward, Done, Stopped, Deeper}
+use Rattle.acting.specs.States.{Memory, crowdedAt, roomOf, Acts}
 use Rattle.applying.specs.Waiting.{functionsIn, comesTo, leftToDo}
 use Rattle.applying.specs.Advancing.{Acting, registersIn, Leads, Begins, Steps, stepped, keptOf, Moved, still, onwards, Tried, Idle, useNumber, Used, other, used, Does, Applies, Enters}
 use Rattle.applying.proofs.laws.Advancing.{advance-acts, leads-start, leads-on}
@@ -38,6 +38,7 @@ module _ (words : Words) (allowance : ℕ) where
         record { leads = steps .leads; idle = acts .stays .callee ∙ a .idle; moved = onwards (steps .falls) }
     tries-action action (Done h) n within means room acts a = absurd (acts .stays)
     tries-action action (Stopped h ending function) n within means room acts a = tries-nothing n (acts .stays .1) a
+    tries-action action (Deeper h) n within means room acts a = absurd (acts .stays)
 
     pub acting-on : {h : Registers} {n : Memory} → Tried words allowance g m h n → Acting allowance h n
     acting-on t = record { underway = t .leads .keeps; idle = t .idle }
@@ -72,6 +73,7 @@ module _ (words : Words) (allowance : ℕ) where
         idles (Onward h) acts = acts .stays .callee ∙ a .idle
         idles (Done h) acts = tt
         idles (Stopped h ending function) acts = tt
+        idles (Deeper h) acts = tt
 
     pub acting-used : {h : Registers} {n : Memory} → Acting allowance g m → Used words allowance g m (Onward h) n → Acting allowance h n
     acting-used {h = h} a (other none e e′) = let same : h ≡ g = ap registersIn e in rw (same, e′) a
@@ -84,6 +86,14 @@ module _ (words : Words) (allowance : ℕ) where
 
     pub does-use : Acting allowance g m → Numbered words (g .at .0) useNumber → Does words allowance g m (Onward g) m
     does-use a numbered bound h more = record { leads = leads-start words allowance (Onward g) m (a .underway); falls = more numbered }
+
+    -- a call left for where there is room for its frame
+    pub does-deeper : Acting allowance g m → crowdedAt (g .frame) (m .frames) ≡ true → Does words allowance g m (Deeper g) m
+    does-deeper a full bound h more =
+        record {
+          leads = record { same = refl; keeps = record { underway = a .underway; crowded = full }; room = refl; beyond = λ old e. e };
+          falls = omega arith;
+        }
 
   -- AN APPLICATION THAT IS TO BEGIN
 

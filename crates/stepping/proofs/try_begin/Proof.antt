@@ -22,7 +22,7 @@ returns-2 c =
     let opened = rw (c .before .before .before .if1 .taken) at (c .before .before .before .before .before .before .open-sequence .ensures) in
     λ allowance input output journal values acting. rw (taken .after, opened .1)
     (tries-action _ _ _ (Onward (stepped (a .g))) _ (taken .numbered .within) (found-means taken Begin (rw (found-number taken))) refl
-    (begin-kept (stepped (a .g)) (memory input output journal (a .frames .now) values) (entry .pre .0) (entry .pre .1 .0) (acting .underway .ready .below) (opened .0)) acting)
+    (begin-kept (stepped (a .g)) (memory input output journal (a .frames .now) values) (entry .pre .1 .0) (acting .underway .ready .below) (opened .0)) acting)
 
 returns-3 : tie.Need-returns-3
 returns-3 c =

@@ -2,15 +2,14 @@
 use Prim.Native.Nat.{_-_, _≤_}
 use native.Mathlib.Omega.{arith}
 use mathlib.Core.Path.{_≡_, refl, _∙_}
-use lib.ListN.{length, take, length-set, length-drop}
+use lib.ListN.{length, take, length-set}
 use Rattle.meaning.specs.Outcome.{maxCounted}
-use Rattle.acting.specs.States.{countsIn, countsFrom}
-use Rattle.acting.proofs.laws.Frames.{counts-copied, counts-whole}
+use Rattle.acting.proofs.laws.Frames.{word-copied, counts-whole}
 use Rattle.acting.proofs.frames.copy_counts.Statement.{statement}
 use Rattle.acting.proofs.frames.copy_counts.Tie as tie
 
 abbrev Inv-loop : tie.InvT-loop
-Inv-loop frames counts₀ i₀ counts i = (i ≤ maxCounted) × (length counts ≡ length counts₀) × (take i counts ≡ take i (countsIn frames))
+Inv-loop frames counts₀ i₀ counts i = (i ≤ maxCounted) × (length counts ≡ length counts₀) × (take i counts ≡ take i frames)
 
 abbrev μ-loop : tie.MeasureT-loop
 μ-loop frames counts₀ i₀ counts i = maxCounted - i
@@ -27,8 +26,8 @@ loop-again c =
     let entry = c .before .before .before in (
       omega arith,
       length-set (c .before .before .loop .counts) _ _ ∙ so-far .1,
-      counts-copied (entry .args .frames .now) (c .before .before .loop .counts) (c .before .before .loop .i) _ (omega (arith, so-far .1, entry .pre .1))
-          (rw (length-drop countsFrom (entry .args .frames .now)) (omega (arith, entry .pre .0))) refl (so-far .2),
+      word-copied (entry .args .frames .now) (c .before .before .loop .counts) (c .before .before .loop .i) _ (omega (arith, so-far .1, entry .pre .1))
+          (omega (arith, entry .pre .0)) refl (so-far .2),
     )
 
 same-length : tie.Need-same-length Inv-loop μ-loop
@@ -38,7 +37,7 @@ returns : tie.Need-returns Inv-loop μ-loop
 returns c =
     let so-far = c .before .loop .inv in
     let entry = c .before .before in
-    counts-whole (entry .args .frames .now) (c .before .loop .counts) (c .before .loop .i) (entry .pre .0) (so-far .1 ∙ entry .pre .1) (c .loop-test .left) (so-far .2)
+    counts-whole (entry .args .frames .now) (c .before .loop .counts) (c .before .loop .i) (so-far .1 ∙ entry .pre .1) (omega (arith, so-far .0, c .loop-test .left)) (so-far .2)
 
 pub copy-counts-spec : {M : Type 1} → statement M
 copy-counts-spec =
@@ -47,7 +46,6 @@ copy-counts-spec =
     Inv-loop
     μ-loop
     loop-holds
-    (λ c. omega arith)
     (λ c. omega arith)
     (λ c. omega arith)
     (λ c. omega arith)

@@ -5,8 +5,9 @@ use native.Mathlib.Numerals.{add-one}
 use mathlib.Core.Path.{_≡_, refl, sym}
 use mathlib.Core.List.{List}
 use lib.ListN.{length, getD, set}
-use lib.Seq.{set-out, getD-drop}
-use Rattle.acting.specs.States.{countsFrom, roomOfFrames, countedIn, CountsWithin}
+use lib.Seq.{getD-take}
+use borrow.Author.Tests.{lt-ltb, le-ltb}
+use Rattle.meaning.specs.Outcome.{maxCounted}
 use borrow.Author.Needs.{needs}
 use Rattle.acting.proofs.frames.count_application.Statement.{statement}
 use Rattle.acting.proofs.frames.count_application.Tie as tie
@@ -16,22 +17,22 @@ one-less zero h = absurd (omega arith)
 one-less (suc n) h = omega arith
 
 returns : tie.Need-returns
-returns c = let entry = c .before in
-    sym (set-out _ _ _ (rw (one-less _ (entry .pre .0)) (omega (arith, entry .pre .1 .0, c .if1 .taken))))
+returns c = rw (lt-ltb maxCounted _ (c .if1 .taken))
 
 add-frames : tie.Need-add-frames
 add-frames c = let entry = c .before .before in
-    omega (arith, rw getD-drop at (entry .pre .1 .1 (entry .args .number - 1)))
+    let number = entry .args .number in
+    let few : number - 1 < maxCounted = omega (arith, entry .pre .0, c .before .if1 .left) in
+    omega (arith, rw (getD-take {A = ℕ} maxCounted _ (number - 1) 0 few) at (entry .pre .1 .1 (number - 1)))
 
 returns-2 : tie.Need-returns-2
-returns-2 c = let entry = c .before .before in rw (one-less _ (entry .pre .0), add-one)
+returns-2 c = let entry = c .before .before in rw (le-ltb maxCounted _ (c .before .if1 .left), one-less _ (entry .pre .0), add-one)
 
 pub count-application-spec : {M : Type 1} → statement M
 count-application-spec =
     tie.close
     (tie.spec
     returns
-    (λ c. search needs)
     (λ c. search needs)
     (λ c. search needs)
     (λ c. search needs)
