@@ -21,7 +21,7 @@ use Rattle.bookkeeping.specs.Answered.{numberOf, Comes, Agrees}
 use Rattle.bookkeeping.specs.Tables.{Inside}
 use Rattle.bookkeeping.specs.Written.{Wrote, isQuiet, Ready, Went}
 use Rattle.bookkeeping.proofs.Lengths.{part-length}
-use Rattle.bookkeeping.proofs.Words.{written-none, written-one, written-append}
+use Rattle.bookkeeping.proofs.Words.{written-none, written-one, written-append, wrote-length}
 
 -- STOPPING
 
@@ -116,6 +116,11 @@ behind-more {A} before x (parsed xs rest) = ap (λ (all : List A). parsed all re
 pub went-none : (text : Bytes) (at words : ℕ) (tape : List ℕ) → Ready text at words → Went text at words tape at words tape []
 went-none text at words tape r =
     record { onward = omega arith; inside = r .inside; charged = r .charged; counted = omega arith; wrote = sym (written-none tape words) }
+
+-- the tape stays as long as it was
+pub went-length : {text : Bytes} {at words : ℕ} {tape : List ℕ} {at′ words′ : ℕ} {tape′ added : List ℕ} → Went text at words tape at′ words′ tape′ added
+    → length tape′ ≡ length tape
+went-length w = wrote-length (record { reached = w .counted; same = w .wrote })
 
 -- after what was read
 pub ready-after : {text : Bytes} {at words : ℕ} {tape : List ℕ} {at′ words′ : ℕ} {tape′ added : List ℕ} → length text ≤ 32768

@@ -1,13 +1,13 @@
 -- Words written on the tape, one after the other.
 use Prim.Native.Nat.{ℕ, suc, _+_, _-_, _≤_, _<_}
-use mathlib.Core.Path.{_≡_, refl, sym, _∙_}
-use mathlib.Core.List.{List, [], _∷_, _++_, append-assoc, append-nil}
+use mathlib.Core.Path.{_≡_, refl, sym, ap, _∙_}
+use mathlib.Core.List.{List, [], _∷_, _++_}
 use native.Mathlib.Nat.{add-zero}
 use native.Mathlib.Numerals.{add-one}
 use native.Mathlib.Omega.{arith}
 use lib.Dec.{T, lt→ltb}
-use lib.ListN.{length, getD, set, take, drop, replicate, length-append, length-set}
-use lib.Seq.{slice, slice-empty, length-slice, take-suc-set, take-all, length-take-le}
+use lib.ListN.{length, getD, set, drop, length-append}
+use lib.Seq.{slice, slice-empty, length-slice, length-sets}
 use Rattle.meaning.specs.Choice.{Bytes, every}
 use Rattle.meaning.specs.Tokens as Tokens
 use Rattle.lexing.specs.View.{IsClosed, charactersIn}
@@ -17,7 +17,7 @@ use Rattle.characters.specs.declared.Character.the-variants.{Given, Nothing, Cl
 use Rattle.lexing.specs.declared.Span.{Span}
 use Rattle.meaning.proofs.laws.Places.{slice-suc}
 use Rattle.bookkeeping.specs.Tables.{Inside}
-use Rattle.bookkeeping.specs.Written.{written, Wrote, stringFrom, cleared, isQuiet, Ready}
+use Rattle.bookkeeping.specs.Written.{written, Wrote, stringFrom, isQuiet, Ready}
 use Rattle.bookkeeping.proofs.Tabling.{every-append, every-one}
 
 -- ON THE TAPE
@@ -37,44 +37,20 @@ written-snoc (v ∷ ws) tape at w =
     let e : at + suc (length ws) ≡ suc at + length ws = omega arith in
     rw e (written-snoc ws (set tape at v) (suc at) w)
 
+written-length : (tape : List ℕ) (at : ℕ) (ws : List ℕ) → length (written tape at ws) ≡ length tape
+unfolding written
+written-length tape at ws = length-sets tape at ws
+
+-- writing keeps the tape's length
+pub wrote-length : {tape : List ℕ} {at : ℕ} {words : List ℕ} {at′ : ℕ} {tape′ : List ℕ} → Wrote tape at words at′ tape′ → length tape′ ≡ length tape
+wrote-length w = ap length (w .same) ∙ written-length _ _ _
+
 pub written-append : (a b tape : List ℕ) (at : ℕ) → written (written tape at a) (at + length a) b ≡ written tape at (a ++ b)
 unfolding written
 written-append [] b tape at = rw (add-zero at)
 written-append (v ∷ a) b tape at =
     let e : at + suc (length a) ≡ suc at + length a = omega arith in
     rw e (written-append a b (set tape at v) (suc at))
-
--- ZEROS
-
--- clearing from here is clearing from the start
-pub record Clearing (start : List ℕ) (from : ℕ) (tape : List ℕ) (i : ℕ) : Type 0 where
-  pub long : length tape ≡ length start
-  pub same : cleared (length start) i tape ≡ cleared (length start) from start
-
-pub clear-starts : (tape : List ℕ) (from : ℕ) → Clearing tape from tape from
-clear-starts tape from = record { long = refl; same = refl }
-
-module _ (start : List ℕ) (from : ℕ) (tape : List ℕ) (i : ℕ) (c : Clearing start from tape i) where
-  -- one zero more in front of the zeros
-  one-more : (size : ℕ) → i < length tape → length tape ≡ size → cleared size (suc i) (set tape i 0) ≡ cleared size i tape
-  unfolding cleared
-  one-more size h l =
-      let short : length (take i tape) ≡ i = length-take-le i tape (omega arith) in
-      let longer : length (take i tape ++ 0 ∷ []) ≡ suc i = length-append (take i tape) (0 ∷ []) ∙ omega arith in
-      let one : size - i ≡ suc (size - suc i) = omega arith in
-      rw (take-suc-set tape i 0 h, longer, short, one) (append-assoc (take i tape) (0 ∷ []) (replicate (size - suc i) 0))
-
-  pub clear-goes : i < length tape → Clearing start from (set tape i 0) (i + 1)
-  clear-goes h = record { long = length-set tape i 0 ∙ c .long; same = rw add-one (one-more (length start) h (c .long)) ∙ c .same }
-
-  none-left : (size : ℕ) → length tape ≤ i → length tape ≡ size → cleared size i tape ≡ tape
-  unfolding cleared
-  none-left size h l =
-      let none : size - length tape ≡ 0 = omega arith in
-      rw (take-all i tape h, none) (append-nil tape)
-
-  pub clear-ends : length tape ≤ i → tape ≡ cleared (length start) from start
-  clear-ends h = sym (none-left (length start) h (c .long)) ∙ c .same
 
 -- A NAME AFTER A WORD
 
@@ -165,6 +141,9 @@ spelling-starts text start at from r =
       inside = r .inside;
       short = r .short;
     }
+
+pub spelled-length : {text : Bytes} {start : List ℕ} {at from : ℕ} {tape : List ℕ} {to i : ℕ} → Spelled-to text start at from tape to i → length tape ≡ length start
+spelled-length s = wrote-length (record { reached = s .reached; same = s .same })
 
 -- what the string comes to, or how its characters go on, after each
 module _ {text : Bytes} {start : List ℕ} {at from : ℕ} {tape : List ℕ} {to i : ℕ} (s : Spelled-to text start at from tape to i) where

@@ -4,11 +4,10 @@ use mathlib.Core.Path.{_≡_}
 use mathlib.Core.Bool.{Bool}
 use mathlib.Core.List.{List, []}
 use lib.Dec.{ltb}
-use lib.ListN.{length, take, drop}
+use lib.ListN.{length, drop}
 use lib.Seq.{sets}
 use Rattle.meaning.specs.Choice.{Bytes}
 use Rattle.meaning.specs.Tokens as Tokens
-use Rattle.meaning.specs.Leaving.{padded}
 
 -- the tape with these words from a place on
 unfoldable pub written : List ℕ → ℕ → List ℕ → List ℕ
@@ -22,10 +21,6 @@ pub record Wrote (tape : List ℕ) (at : ℕ) (words : List ℕ) (at′ : ℕ) (
 -- a string from the place after its opening quote
 abbrev pub stringFrom : Bytes → ℕ → Tokens.Quotation
 stringFrom text from = Tokens.quotation Tokens.plain [] from (drop from text)
-
--- a tape of so many words: those before a place, and zeros after them
-unfoldable pub cleared : ℕ → ℕ → List ℕ → List ℕ
-cleared size from tape = padded (take from tape) size
 
 -- no call's opening word, which is 2,304 or more
 abbrev pub isQuiet : ℕ → Bool

@@ -6,11 +6,11 @@ ghost use mathlib.Core.Path.{_≡_};
 ghost use mathlib.Core.List.{_∷_};
 ghost use Prim.Native.Nat.{_+_, _-_, _≤_, _<_};
 ghost use lib.Dec.{T};
-ghost use lib.ListN.{length, set};
+ghost use lib.ListN.{set};
 ghost use Rattle.meaning.specs.Choice.{every};
 ghost use Rattle.lexing.specs.View.{IsClosed, charactersIn, part};
 ghost use Rattle.bookkeeping.specs.Tables.{Inside};
-ghost use Rattle.bookkeeping.specs.Written.{cleared, isQuiet, Ready, Wrote, stringFrom};
+ghost use Rattle.bookkeeping.specs.Written.{isQuiet, Ready, Wrote, stringFrom};
 
 // Words of the tape: a kind times 256, to which what the word carries is added.
 pub const SYMBOL_WORD: usize = 256;
@@ -32,32 +32,17 @@ pub const FUNCTION_WORD: usize = 2048;
 // A call's kind is this and the place of its name.
 pub const CALL_KIND: usize = 9;
 
-pub fn put(tape: &mut [u32; 32768], at: usize, word: u32)
-    requires { ⌜ at < 32768 ⌝ }
+// A word past the tape's end is left out: `reading::read` requires a tape on which none is.
+pub fn put(tape: &mut [u32], at: usize, word: u32)
     ensures { λ _. ⌜ now (tape .exit) ≡ set (now (tape .entry)) at word ⌝ }
 {
-    tape[at] = word;
-}
-
-fn fill(tape: &mut [u32], from: usize)
-    ensures { λ _. ⌜ now (tape .exit) ≡ cleared (length (now (tape .entry))) from (now (tape .entry)) ⌝ }
-{
-    let mut i = from;
-    while i < tape.len() {
-        tape[i] = 0;
-        i += 1;
+    if at < tape.len() {
+        tape[at] = word;
     }
 }
 
-// Zeros from a word on.
-pub fn clear(tape: &mut [u32; 32768], from: usize)
-    ensures { λ _. ⌜ now (tape .exit) ≡ cleared 32768 from (now (tape .entry)) ⌝ }
-{
-    fill(tape, from);
-}
-
 // A word, and the bytes of a part of the text after it.
-pub fn put_named(text: &[u8], tape: &mut [u32; 32768], at: usize, word: u32, x: Span) -> usize
+pub fn put_named(text: &[u8], tape: &mut [u32], at: usize, word: u32, x: Span) -> usize
     requires { ⌜ Inside (now text) x × (at + 1 + (x .past - x .from) ≤ 32768) ⌝ }
     ensures { λ r. ⌜ Wrote (now (tape .entry)) at (word ∷ part (now (text .entry)) x) r (now (tape .exit)) × T (every isQuiet (part (now (text .entry)) x)) ⌝ }
 {
@@ -75,7 +60,7 @@ pub fn put_named(text: &[u8], tape: &mut [u32; 32768], at: usize, word: u32, x: 
 }
 
 // A word of a kind and a name's length, and the name's bytes after it.
-pub fn put_name(text: &[u8], tape: &mut [u32; 32768], at: usize, kind: usize, x: Span) -> usize
+pub fn put_name(text: &[u8], tape: &mut [u32], at: usize, kind: usize, x: Span) -> usize
     requires { ⌜ Inside (now text) x × (at + 1 + (x .past - x .from) ≤ 32768) × (kind ≤ 2048) ⌝ }
     ensures { λ r. ⌜ Wrote (now (tape .entry)) at ((kind + (x .past - x .from)) ∷ part (now (text .entry)) x) r (now (tape .exit))
         × T (every isQuiet (part (now (text .entry)) x)) ⌝ }
@@ -85,7 +70,7 @@ pub fn put_name(text: &[u8], tape: &mut [u32; 32768], at: usize, kind: usize, x:
 }
 
 // The characters of a string that is well formed, from the place after its opening quote.
-pub fn put_characters(text: &[u8], tape: &mut [u32; 32768], at: usize, from: usize) -> usize
+pub fn put_characters(text: &[u8], tape: &mut [u32], at: usize, from: usize) -> usize
     requires { ⌜ Ready (now text) from at × IsClosed (stringFrom (now text) from) ⌝ }
     ensures { λ r. ⌜ Wrote (now (tape .entry)) at (charactersIn (stringFrom (now (text .entry)) from)) r (now (tape .exit))
         × T (every isQuiet (charactersIn (stringFrom (now (text .entry)) from))) ⌝ }

@@ -54,8 +54,6 @@ module _ (class : ℕ) (h : testCount ≤ class) where
         apart 2 (omega arith),
         apart 3 (omega arith),
         apart 4 (omega arith),
-        apart 5 (omega arith),
-        apart 6 (omega arith),
       )
 
   noBit : (x : ℕ) → bitOf class x ≡ false

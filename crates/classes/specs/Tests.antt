@@ -7,11 +7,10 @@ use mathlib.Core.Bool.{Bool, false}
 use lib.Dec.{eqb, ltb}
 use Rattle.meaning.specs.Choice.{pick, both}
 use Rattle.meaning.specs.Classes.{inClass, digit, upper, lower, alphabetic, blank}
-use Rattle.meaning.specs.Allowed.{wordByte, nameByte}
 
--- how many tests the table answers: the five classes of conditions by their `classNumber`, and two that reading asks
+-- how many tests the table answers: the classes by their `classNumber`
 abbrev pub testCount : ℕ
-testCount = 7
+testCount = 5
 
 abbrev pub classTest : ℕ → ℕ → Bool
 classTest class b =
@@ -20,9 +19,7 @@ classTest class b =
     (pick (eqb class 2) (inClass lower b)
     (pick (eqb class 3) (inClass alphabetic b)
     (pick (eqb class 4) (inClass blank b)
-    (pick (eqb class 5) (wordByte b)
-    (pick (eqb class 6) (nameByte b)
-    false))))))
+    false))))
 
 -- a test's bit of an entry, the lowest being bit 0; there are no bits but those of the tests
 unfoldable pub bitOf : ℕ → ℕ → Bool

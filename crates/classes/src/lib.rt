@@ -1,9 +1,10 @@
-// The byte classes: one constant table of 256 entries, a bit for each test.
+// The byte classes: one constant table of 256 entries, a bit for each class, for conditions; and the tests of single bytes, for reading.
 ghost use mathlib.Core.Path.{_≡_};
-ghost use Rattle.meaning.specs.Classes.{inClass, digit, alphabetic, isBlankByte};
+ghost use Rattle.meaning.specs.Classes.{within, inClass, digit, alphabetic, isBlankByte};
+ghost use Rattle.meaning.specs.Allowed.{wordByte, nameByte};
 ghost use Rattle.classes.specs.Tests.{classTest, bitOf, Answers};
 
-// Bits 0 to 4: IsDigit, IsUpper, IsLower, IsLetter, IsBlank. Bit 5: letter or digit. Bit 6: a byte of a name after its first.
+// Bits 0 to 4: IsDigit, IsUpper, IsLower, IsLetter, IsBlank.
 const CLASSES: [u8; 256] = [
     0,
     0,
@@ -50,84 +51,84 @@ const CLASSES: [u8; 256] = [
     0,
     0,
     0,
-    64, // 45, `-`
-    0,
-    0,
-    97, // 48, the first digit
-    97,
-    97,
-    97,
-    97,
-    97,
-    97,
-    97,
-    97,
-    97, // 57, the last digit
     0,
     0,
     0,
+    1, // 48, the first digit
+    1,
+    1,
+    1,
+    1,
+    1,
+    1,
+    1,
+    1,
+    1, // 57, the last digit
     0,
     0,
     0,
     0,
-    106, // 65, `A`
-    106,
-    106,
-    106,
-    106,
-    106,
-    106,
-    106,
-    106,
-    106,
-    106,
-    106,
-    106,
-    106,
-    106,
-    106,
-    106,
-    106,
-    106,
-    106,
-    106,
-    106,
-    106,
-    106,
-    106,
-    106, // 90, `Z`
+    0,
+    0,
+    0,
+    10, // 65, `A`
+    10,
+    10,
+    10,
+    10,
+    10,
+    10,
+    10,
+    10,
+    10,
+    10,
+    10,
+    10,
+    10,
+    10,
+    10,
+    10,
+    10,
+    10,
+    10,
+    10,
+    10,
+    10,
+    10,
+    10,
+    10, // 90, `Z`
     0,
     0,
     0,
     0,
-    64, // 95, `_`
     0,
-    108, // 97, `a`
-    108,
-    108,
-    108,
-    108,
-    108,
-    108,
-    108,
-    108,
-    108,
-    108,
-    108,
-    108,
-    108,
-    108,
-    108,
-    108,
-    108,
-    108,
-    108,
-    108,
-    108,
-    108,
-    108,
-    108,
-    108, // 122, `z`
+    0,
+    12, // 97, `a`
+    12,
+    12,
+    12,
+    12,
+    12,
+    12,
+    12,
+    12,
+    12,
+    12,
+    12,
+    12,
+    12,
+    12,
+    12,
+    12,
+    12,
+    12,
+    12,
+    12,
+    12,
+    12,
+    12,
+    12,
+    12, // 122, `z`
     0,
     0,
     0,
@@ -263,11 +264,11 @@ const CLASSES: [u8; 256] = [
     0,
 ];
 
-// A bit of an entry; there are seven.
+// A bit of an entry; there are five.
 pub fn bit(entry: u8, class: u8) -> bool
     ensures { λ r. ⌜ r ≡ bitOf class entry ⌝ }
 {
-    if class < 7 {
+    if class < 5 {
         (entry >> class) % 2 == 1
     } else {
         false
@@ -290,24 +291,52 @@ pub fn passes(table: &[u8; 256], byte: u8, class: u8) -> bool
     bit(entry, class)
 }
 
-// Whether a byte passes the test with a number.
-pub fn in_class(byte: u8, class: u8) -> bool
-    ensures { λ r. ⌜ r ≡ classTest class byte ⌝ }
+// Whether a byte lies from `first` to `last`. A single byte is told by comparing, since naming the table builds it.
+fn is_within(first: u8, last: u8, byte: u8) -> bool
+    ensures { λ r. ⌜ r ≡ within first last byte ⌝ }
 {
-    let entry = CLASSES[byte as usize];
-    bit(entry, class)
+    if byte < first {
+        return false;
+    }
+    byte <= last
 }
 
 pub fn is_digit(byte: u8) -> bool
     ensures { λ r. ⌜ r ≡ inClass digit byte ⌝ }
 {
-    in_class(byte, 0)
+    is_within(b'0', b'9', byte)
 }
 
 pub fn is_letter(byte: u8) -> bool
     ensures { λ r. ⌜ r ≡ inClass alphabetic byte ⌝ }
 {
-    in_class(byte, 3)
+    if is_within(b'A', b'Z', byte) {
+        return true;
+    }
+    is_within(b'a', b'z', byte)
+}
+
+// Letters and digits.
+pub fn is_word_byte(byte: u8) -> bool
+    ensures { λ r. ⌜ r ≡ wordByte byte ⌝ }
+{
+    if is_letter(byte) {
+        return true;
+    }
+    is_digit(byte)
+}
+
+// What a function's name has after its first letter.
+pub fn is_name_byte(byte: u8) -> bool
+    ensures { λ r. ⌜ r ≡ nameByte byte ⌝ }
+{
+    if is_word_byte(byte) {
+        return true;
+    }
+    if byte == b'_' {
+        return true;
+    }
+    byte == b'-'
 }
 
 // The blanks between tokens.

@@ -124,7 +124,7 @@ fn truth_in(text: &[u8], t: Placed) -> usize
 // A condition after its variable: `>`, `:` and the closing string.
 fn condition_end(
     text: &[u8],
-    tape: &mut [u32; 32768],
+    tape: &mut [u32],
     from: usize,
     words: usize,
     class: usize,
@@ -163,7 +163,7 @@ fn condition_end(
 // A condition after its predicate. Inside a sentence a word that is no variable is refused with 3.
 fn condition_on(
     text: &[u8],
-    tape: &mut [u32; 32768],
+    tape: &mut [u32],
     table: &[usize],
     symbols: usize,
     parts: usize,
@@ -194,7 +194,7 @@ fn condition_on(
 // A condition after its `,`.
 fn condition(
     text: &[u8],
-    tape: &mut [u32; 32768],
+    tape: &mut [u32],
     table: &[usize],
     symbols: usize,
     parts: usize,
@@ -234,7 +234,7 @@ fn condition(
 // Reads conditions, at most eight.
 pub fn conditions(
     text: &[u8],
-    tape: &mut [u32; 32768],
+    tape: &mut [u32],
     table: &[usize],
     symbols: usize,
     parts: usize,

@@ -1,7 +1,7 @@
 -- The loop over a function's sentences.
 use Prim.Native.Nat.{ℕ, zero, suc, _+_, _-_, _≤_, _<_}
 use mathlib.Core.Path.{_≡_, refl, sym, _∙_, ap}
-use mathlib.Core.Bool.{Bool, true, false, false≢true}
+use mathlib.Core.Bool.{Bool, true, false}
 use mathlib.Core.List.{List, [], _∷_, _++_, append-assoc, append-nil}
 use native.Mathlib.Omega.{arith}
 use lib.ListN.{length, set, length-append}
@@ -149,12 +149,6 @@ pub one-more : {text start : List ℕ} {limit from words : ℕ} {tape : List ℕ
     → OneMore text start limit from words left tape₁ s
 one-more k e a = record { tape = _; at = _; to = _; others = k; read = has-read _ _ (rw e at a) }
 
--- something comes after it that isn't refused
-abbrev pub goesOn : Sequel → Bool
-goesOn (Ends past) = true
-goesOn (Another place) = true
-goesOn (Refused fault) = false
-
 module _ {text start : List ℕ} {limit from words left : ℕ} {tape₁ : List ℕ} {s : Progress} (o : OneMore text start limit from words left tape₁ s) where
   abbrev before : List Sentence
   before = o .others .before
@@ -200,15 +194,6 @@ module _ {text start : List ℕ} {limit from words left : ℕ} {tape₁ : List �
 
   abbrev newest : Sentence
   newest = last one
-
-  -- the tape has room for the word after the sentence
-  pub sequel-room : goesOn q ≡ true → s .words < 32768
-  sequel-room = room q (w .follows)
-    where
-      room : (q′ : Sequel) → Follows text (s .at) q′ → goesOn q′ ≡ true → s .words < 32768
-      room (Ends past) f e = omega (arith, sequel-ready one, f .gives .1, f .gives .2)
-      room (Another place) f e = omega (arith, sequel-ready one, f .gives .1, f .gives .2)
-      room (Refused fault) f e = absurd (false≢true e)
 
   pub sequel-refused : {tape′ : List ℕ} {fault : Fault} → q ≡ Refused fault → SentencesAgree text limit from words start tape′ (Stopped fault)
   sequel-refused e =

@@ -52,7 +52,7 @@ pub enum Joined {
 // A string joined to an expression.
 fn join_string(
     text: &[u8],
-    tape: &mut [u32; 32768],
+    tape: &mut [u32],
     table: &[usize],
     symbols: usize,
     parts: usize,
@@ -80,7 +80,7 @@ fn join_string(
 // A variable taken into an expression: its word, a base plus the identifier's length, and the identifier. So many e-variables have passed then.
 fn take_variable(
     text: &[u8],
-    tape: &mut [u32; 32768],
+    tape: &mut [u32],
     s: Progress,
     x: Span,
     base: usize,
@@ -102,7 +102,7 @@ fn take_variable(
 // An s-variable joined to an expression.
 fn join_symbol(
     text: &[u8],
-    tape: &mut [u32; 32768],
+    tape: &mut [u32],
     table: &[usize],
     symbols: usize,
     parts: usize,
@@ -126,7 +126,7 @@ fn join_symbol(
 // An e-variable joined to an expression: those of the pattern that came before it can't come any more.
 fn join_part(
     text: &[u8],
-    tape: &mut [u32; 32768],
+    tape: &mut [u32],
     table: &[usize],
     symbols: usize,
     parts: usize,
@@ -156,7 +156,7 @@ fn join_part(
 // A token joined to an expression, by the item that it is.
 fn join(
     text: &[u8],
-    tape: &mut [u32; 32768],
+    tape: &mut [u32],
     table: &[usize],
     symbols: usize,
     parts: usize,
@@ -186,7 +186,7 @@ fn join(
 }
 
 // The word of a call and its name, which stands at a place.
-fn put_call(text: &[u8], tape: &mut [u32; 32768], words: usize, place: usize, name: Span) -> usize
+fn put_call(text: &[u8], tape: &mut [u32], words: usize, place: usize, name: Span) -> usize
     requires { ⌜ Inside (now text) name × (words + 1 + (name .past - name .from) ≤ 32768) × (name .past - name .from ≤ 24) × (place ≤ 32768) ⌝ }
     ensures { λ r. ⌜ Wrote (now (tape .entry)) words (((9 + place) * 256 + (name .past - name .from)) ∷ part (now (text .entry)) name) r (now (tape .exit))
         × T (every isQuiet (part (now (text .entry)) name)) ⌝ }
@@ -196,7 +196,7 @@ fn put_call(text: &[u8], tape: &mut [u32; 32768], words: usize, place: usize, na
 }
 
 // The `>` of a call.
-fn close_call(text: &[u8], tape: &mut [u32; 32768], s: Progress) -> Parsed
+fn close_call(text: &[u8], tape: &mut [u32], s: Progress) -> Parsed
     requires { ⌜ Ready (now text) (s .at) (s .words) ⌝ }
     ensures { λ r. ⌜ Closes (now (text .entry)) s (now (tape .entry)) (now (tape .exit)) r ⌝ }
 {
@@ -215,13 +215,7 @@ fn close_call(text: &[u8], tape: &mut [u32; 32768], s: Progress) -> Parsed
 }
 
 // What comes before a call's argument, after its `<`, which stands at a place: its name, and the word for it.
-fn open_call(
-    text: &[u8],
-    tape: &mut [u32; 32768],
-    depth: usize,
-    s: Progress,
-    place: usize,
-) -> Parsed
+fn open_call(text: &[u8], tape: &mut [u32], depth: usize, s: Progress, place: usize) -> Parsed
     requires { ⌜ Ready (now text) (s .at) (s .words) × (s .words < s .at) ⌝ }
     ensures { λ r. ⌜ Agrees (OpeningRead (now (text .entry)) depth s (now (tape .entry)) (now (tape .exit)))
         (opening depth (s .count) (standing (Tokens.sign 60) place (s .at)) (stream (now (text .entry)) Tokens.naming (s .at))) r ⌝ }
@@ -250,7 +244,7 @@ fn open_call(
 // A call that so many calls stand round, after its `<`, which stands at a place.
 fn call(
     text: &[u8],
-    tape: &mut [u32; 32768],
+    tape: &mut [u32],
     table: &[usize],
     symbols: usize,
     parts: usize,
@@ -278,7 +272,7 @@ fn call(
 // An expression that so many calls stand round.
 pub fn expression(
     text: &[u8],
-    tape: &mut [u32; 32768],
+    tape: &mut [u32],
     table: &[usize],
     symbols: usize,
     parts: usize,

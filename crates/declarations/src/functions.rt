@@ -48,7 +48,7 @@ pub struct Reached {
 }
 
 // A function after its name: `{`, sentences, of which so many may still come, and `}`.
-fn body(text: &[u8], tape: &mut [u32; 32768], name: Span, limit: usize, words: usize) -> Parsed
+fn body(text: &[u8], tape: &mut [u32], name: Span, limit: usize, words: usize) -> Parsed
     requires { ⌜ Declarable (now text) words name ⌝ }
     ensures { λ r. ⌜ Agrees (BodyRead (now (text .entry)) limit (name .from) words (part (now (text .entry)) name) (now (tape .entry)) (now (tape .exit)))
         (fromBrace limit (stream (now (text .entry)) Tokens.outside (name .past))) r ⌝ }
@@ -65,7 +65,7 @@ fn body(text: &[u8], tape: &mut [u32; 32768], name: Span, limit: usize, words: u
 // A function from its name to its `}`; the name is added to the table of names.
 fn function(
     text: &[u8],
-    tape: &mut [u32; 32768],
+    tape: &mut [u32],
     names: &mut [usize; 64],
     functions: usize,
     limit: usize,
@@ -154,7 +154,7 @@ pub fn outcome(stage: Stage) -> Parsed
 pub fn declaration(
     text: &[u8],
     at: usize,
-    tape: &mut [u32; 32768],
+    tape: &mut [u32],
     names: &mut [usize; 64],
     stage: Stage,
 ) -> Reached

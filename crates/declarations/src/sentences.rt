@@ -35,7 +35,7 @@ ghost use Rattle.declarations.specs.Sentences.{fromEquals, EqualsRead, S
 // A sentence from its `=` on.
 fn sentence_end(
     text: &[u8],
-    tape: &mut [u32; 32768],
+    tape: &mut [u32],
     table: &[usize],
     symbols: usize,
     parts: usize,
@@ -63,7 +63,7 @@ fn sentence_end(
 }
 
 // A sentence: pattern, conditions, `=` and expression. The table of its variables is its own.
-fn sentence(text: &[u8], tape: &mut [u32; 32768], from: usize, words: usize) -> Parsed
+fn sentence(text: &[u8], tape: &mut [u32], from: usize, words: usize) -> Parsed
     requires { ⌜ Ready (now text) from words ⌝ }
     ensures { λ r. ⌜ Agrees (SentenceRead (now (text .entry)) from words (now (tape .entry)) (now (tape .exit)))
         (unlessWord (Reading.sentence (stream (now (text .entry)) Tokens.inside from))) r ⌝ }
@@ -95,13 +95,7 @@ fn begins(t: Placed) -> bool
 }
 
 // The next sentence of a function, of which so many may still come.
-fn next_sentence(
-    text: &[u8],
-    tape: &mut [u32; 32768],
-    left: usize,
-    from: usize,
-    words: usize,
-) -> Parsed
+fn next_sentence(text: &[u8], tape: &mut [u32], left: usize, from: usize, words: usize) -> Parsed
     requires { ⌜ Ready (now text) from words ⌝ }
     ensures { λ r. ⌜ Agrees (FirstRead (now (text .entry)) left from words (now (tape .entry)) (now (tape .exit)))
         (firstSentence left (stream (now (text .entry)) Tokens.inside from)) r ⌝ }
@@ -142,13 +136,7 @@ fn after_sentence(text: &[u8], from: usize) -> Sequel
 }
 
 // Reads the sentences of a function from its `{` to its `}`, of which so many may still come.
-pub fn sentences(
-    text: &[u8],
-    tape: &mut [u32; 32768],
-    limit: usize,
-    from: usize,
-    words: usize,
-) -> Parsed
+pub fn sentences(text: &[u8], tape: &mut [u32], limit: usize, from: usize, words: usize) -> Parsed
     requires { ⌜ Ready (now text) from words ⌝ }
     ensures { λ r. ⌜ Agrees (SentencesRead (now (text .entry)) limit from words (now (tape .entry)) (now (tape .exit)))
         (Reading.sentences limit (stream (now (text .entry)) Tokens.inside from)) r ⌝ }

@@ -8,6 +8,7 @@ use lib.Dec.{T}
 use lib.Seq.{slice}
 use Rattle.meaning.specs.Choice.{Bytes, pick}
 use Rattle.meaning.specs.Classes.{inClass, alphabetic}
+use Rattle.meaning.specs.Allowed.{wordByte, nameByte}
 use Rattle.meaning.specs.Tokens as Tokens
 use Rattle.meaning.specs.Reading.{variableOf, noItem}
 use Rattle.lexing.specs.declared.Mode.{Mode}
@@ -23,6 +24,10 @@ modeOf Inside = Tokens.inside
 modeOf Naming = Tokens.naming
 
 -- WORDS
+
+-- a byte of a function's name, or of a word of a sentence
+abbrev pub runByte : Bool → ℕ → Bool
+runByte naming b = pick naming (nameByte b) (wordByte b)
 
 -- the bytes from a place to another are those that pass, as long as they go
 pub record RunsTo (text : Bytes) (fits : ℕ → Bool) (from past : ℕ) : Type 0 where

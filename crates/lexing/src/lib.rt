@@ -3,9 +3,9 @@ pub mod reader;
 
 use characters::Character;
 use characters::next_character;
-use classes::class_table;
 use classes::is_letter;
-use classes::passes;
+use classes::is_name_byte;
+use classes::is_word_byte;
 use gaps::Skipped;
 use gaps::skip;
 ghost use mathlib.Core.Path.{_≡_};
@@ -13,11 +13,10 @@ ghost use mathlib.Core.List.{[]};
 ghost use Prim.Native.Nat.{suc, _+_, _≤_, _<_};
 ghost use lib.ListN.{length, drop};
 ghost use lib.Seq.{slice};
-ghost use Rattle.classes.specs.Tests.{classTest, Answers};
 ghost use Rattle.meaning.specs.Classes.{inClass, alphabetic};
 ghost use Rattle.meaning.specs.Tokens as Tokens;
 ghost use Rattle.meaning.specs.Allowed.{wordByte, nameByte};
-ghost use Rattle.lexing.specs.View.{modeOf, RunsTo, LetterAt, quotationAt, tokenOf, Sound, Shows};
+ghost use Rattle.lexing.specs.View.{modeOf, runByte, RunsTo, LetterAt, quotationAt, tokenOf, Sound, Shows};
 
 // How a word is read: outside sentences and directly after `<` by the rule of function names, inside a sentence by that of variables.
 pub enum Mode {
@@ -66,27 +65,29 @@ fn letter_ahead(text: &[u8], at: usize) -> bool
     }
 }
 
-// The place after the bytes that pass a test of the class table, as long as they go.
-fn run_past(table: &[u8; 256], text: &[u8], from: usize, class: u8) -> usize
-    requires { ⌜ Answers (now table) ⌝ }
-    ensures { λ r. ⌜ RunsTo (now (text .entry)) (classTest class) from r ⌝ }
+// Whether a byte goes on a function's name, where `naming`, or else a word of a sentence.
+fn goes_on(byte: u8, naming: bool) -> bool
+    ensures { λ r. ⌜ r ≡ runByte naming byte ⌝ }
+{
+    if naming {
+        return is_name_byte(byte);
+    }
+    is_word_byte(byte)
+}
+
+// The place after the bytes that go on, as long as they do.
+fn run_end(text: &[u8], from: usize, naming: bool) -> usize
+    ensures { λ r. ⌜ RunsTo (now (text .entry)) (runByte naming) from r ⌝ }
 {
     let mut at = from;
     while at < text.len() {
         let byte = text[at];
-        if !passes(table, byte, class) {
+        if !goes_on(byte, naming) {
             return at;
         }
         at += 1;
     }
     at
-}
-
-fn run_end(text: &[u8], from: usize, class: u8) -> usize
-    ensures { λ r. ⌜ RunsTo (now (text .entry)) (classTest class) from r ⌝ }
-{
-    let table = class_table();
-    run_past(&table, text, from, class)
 }
 
 // A variable is `s` or `e` and an identifier of at least one byte.
@@ -114,7 +115,7 @@ fn word_token(text: &[u8], at: usize, past: usize) -> Token
 fn name_at(text: &[u8], at: usize) -> Placed
     ensures { λ r. ⌜ Shows (now (text .entry)) r (Tokens.nameToken at (Tokens.run nameByte [] at (drop at (now (text .entry)))) .first) ⌝ }
 {
-    let past = run_end(text, at, 6);
+    let past = run_end(text, at, true);
     Placed {
         token: Token::Name(Span {
             from: at,
@@ -129,7 +130,7 @@ fn variable_at(text: &[u8], at: usize) -> Placed
     requires { ⌜ LetterAt (now text) at ⌝ }
     ensures { λ r. ⌜ Shows (now (text .entry)) r (Tokens.wordToken at (Tokens.run wordByte [] at (drop at (now (text .entry)))) .first) ⌝ }
 {
-    let past = run_end(text, at, 5);
+    let past = run_end(text, at, false);
     Placed {
         token: word_token(text, at, past),
         place: at,

@@ -59,7 +59,7 @@ fn still_ending(ending: bool, count: usize) -> bool
 // A string added to a pattern.
 fn add_string(
     text: &[u8],
-    tape: &mut [u32; 32768],
+    tape: &mut [u32],
     table: &[usize],
     p: Counts,
     place: usize,
@@ -121,13 +121,7 @@ fn remember(table: &mut [usize; 18], known: usize, symbols: usize, name: usize) 
 }
 
 // An s-variable added to a pattern, and to the table if it is new there.
-fn add_symbol(
-    text: &[u8],
-    tape: &mut [u32; 32768],
-    table: &mut [usize; 18],
-    p: Counts,
-    x: Span,
-) -> Added
+fn add_symbol(text: &[u8], tape: &mut [u32], table: &mut [usize; 18], p: Counts, x: Span) -> Added
     requires { ⌜ Held (now text) (now table) p × Identifier (now text) (p .at) x ⌝ }
     ensures { λ r. ⌜ AddsItem (now (text .entry)) (now (table .entry)) p (now (tape .entry))
         (Reading.symbolItem (part (now (text .entry)) x)) (x .past) (now (table .exit)) (now (tape .exit)) r ⌝ }
@@ -172,13 +166,7 @@ fn part_fault(text: &[u8], table: &[usize], p: Counts, x: Span) -> Answer
 }
 
 // An e-variable added to a pattern and to the table.
-fn add_part(
-    text: &[u8],
-    tape: &mut [u32; 32768],
-    table: &mut [usize; 18],
-    p: Counts,
-    x: Span,
-) -> Added
+fn add_part(text: &[u8], tape: &mut [u32], table: &mut [usize; 18], p: Counts, x: Span) -> Added
     requires { ⌜ Held (now text) (now table) p × Identifier (now text) (p .at) x ⌝ }
     ensures { λ r. ⌜ AddsItem (now (text .entry)) (now (table .entry)) p (now (tape .entry))
         (Reading.partItem (part (now (text .entry)) x)) (x .past) (now (table .exit)) (now (tape .exit)) r ⌝ }
@@ -202,7 +190,7 @@ fn add_part(
 }
 
 // A token added to a pattern, by the item that it is.
-fn add(text: &[u8], tape: &mut [u32; 32768], table: &mut [usize; 18], p: Counts, t: Placed) -> Added
+fn add(text: &[u8], tape: &mut [u32], table: &mut [usize; 18], p: Counts, t: Placed) -> Added
     requires { ⌜ Held (now text) (now table) p × Comes (now text) Tokens.inside (p .at) t ⌝ }
     ensures { λ r. ⌜ AddsToken (now (text .entry)) (now (table .entry)) p (now (tape .entry)) t (now (table .exit)) (now (tape .exit)) r ⌝ }
 {
@@ -228,7 +216,7 @@ fn add(text: &[u8], tape: &mut [u32; 32768], table: &mut [usize; 18], p: Counts,
 // Reads a pattern and fills the table of its variables.
 pub fn pattern(
     text: &[u8],
-    tape: &mut [u32; 32768],
+    tape: &mut [u32],
     table: &mut [usize; 18],
     at: usize,
     words: usize,

@@ -21,7 +21,6 @@ use Rattle.translating.specs.Declaring.{Inside, wordsFrom, HeadsAll}
 use Rattle.translating.proofs.laws.Retraced.{tape-retraced}
 use Rattle.reading.specs.declared.Reading.{Reading}
 use Rattle.reading.specs.Reads.{treeTape, Reads}
-use Rattle.reading.proofs.Verdict.{tree-words}
 use Rattle.tables.proofs.Known.{AreBytes, Known, read-known}
 use Rattle.profiling.specs.Profiles.{namesRead, Spelled, AllSpelled}
 
@@ -107,7 +106,7 @@ pub heads-read : {text : Bytes} {r : Reading} {tape′ : List ℕ} (heads : List
     → HeadsAll (take (r .words) tape′) heads count → length heads ≡ maxFunctions → Heads text (take (r .words) tape′) (take count heads)
 heads-read {text} {r} {tape′} heads {count} bytes reads all room =
     let known = read-known text bytes in
-    let named = heads-named {heads = heads} (read text) known (tree-words reads) all in
+    let named = heads-named {heads = heads} (read text) known (reads .tape) all in
     let few : length (take count heads) ≡ count = length-take-le count heads (omega (arith, all .few)) in
     record {
       named = named;

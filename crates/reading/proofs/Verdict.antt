@@ -23,12 +23,12 @@ use Rattle.bookkeeping.specs.declared.progress.Parsed.the-variants.{Stopped, Do
 use Rattle.reading.specs.declared.calls.Unknown.{Unknown}
 use Rattle.reading.specs.declared.calls.Unknown.the-variants.{At, Nowhere}
 use Rattle.bookkeeping.specs.Answered.{numberOf, Agrees}
-use Rattle.bookkeeping.specs.Written.{written, cleared, Went}
+use Rattle.bookkeeping.specs.Written.{written, Went}
 use Rattle.bookkeeping.specs.Tables.{tableNames, Entries}
 use Rattle.declarations.specs.Sentences.{Each}
 use Rattle.declarations.specs.Functions.{functionsOf, FunctionsRead}
 use Rattle.reading.specs.Calls.{unknownAs, CallWithin, Holds}
-use Rattle.reading.specs.Reads.{treeTape, tapeLeft, Reads, Begins, refusedWith}
+use Rattle.reading.specs.Reads.{Reads, refusedWith}
 use Rattle.bookkeeping.proofs.Going.{ReadAt, has-stopped, has-read}
 use Rattle.reading.proofs.Called.{table-within}
 
@@ -39,9 +39,9 @@ module _ {text start tape′ words : List ℕ} {at count : ℕ} (w : Went text 0
   counts = omega (arith, w .counted)
 
   -- words written from the first on are the first words
-  begins : length tape′ ≡ 32768 → length text ≤ 32768 → take count tape′ ≡ words
+  begins : length text ≤ length tape′ → take count tape′ ≡ words
   unfolding written
-  begins room short =
+  begins room =
       let same : length tape′ ≡ length start = rw (w .wrote) (length-sets start 0 words) in
       let fits : 0 + length words ≤ length start = omega (arith, counts, w .charged, w .inside) in
       rw (counts, w .wrote, sets-eq words start 0 fits) (take-at words (drop (0 + length words) start) (length words) refl)
@@ -61,16 +61,16 @@ module _ (text : Bytes) where
 
   -- a refusal, whatever is on the tape
   refuses : (answer : Answer) (place : ℕ) (tape′ : List ℕ) (r : Reading) → r ≡ refusedWith answer place → read text ≡ refused (numberOf answer) place
-      → Begins text r tape′
+      → Reads text r tape′
   refuses answer place tape′ r e f = record { answer = rw (e, f); words = rw (e, f); tape = rw (e, f) }
 
   -- a table
   accepts : (t : Table) (count words : ℕ) (tape′ : List ℕ) (r : Reading) → r ≡ acceptedWith count words → read text ≡ accepted t
       → count ≡ length t → words ≡ length (tape t) → take words tape′ ≡ tape t
-      → Begins text r tape′
+      → Reads text r tape′
   accepts t count words tape′ r e f c n h = record { answer = rw (e, f, c); words = rw (e, f) n; tape = rw (e, f) h }
 
-  pub too-long : {tape′ : List ℕ} {r : Reading} → 32768 < length text → r ≡ refusedWith TableTooLong 0 → Begins text r tape′
+  pub too-long : {tape′ : List ℕ} {r : Reading} → 32768 < length text → r ≡ refusedWith TableTooLong 0 → Reads text r tape′
   too-long h e = refuses TableTooLong 0 _ _ e (read-long h)
 
 -- THE FUNCTIONS
@@ -79,14 +79,14 @@ module _ (text : Bytes) where
 pub record TableRead (text tape′ names : List ℕ) (p : Progress) : Type 0 where
   pub start : List ℕ
   pub short : length text ≤ 32768
-  pub room : length tape′ ≡ 32768
+  pub room : length text ≤ length tape′
   pub read : ReadAt (FunctionsRead text start tape′ names) (functionsOf text) p
 
 module _ {text start tape′ names : List ℕ} {q : CodeParsed} (h : length text ≤ 32768) (a : Agrees (FunctionsRead text start tape′ names) (functionsOf text) q) where
-  pub functions-stop : {fault : Fault} {r : Reading} → q ≡ Stopped fault → r ≡ refusedWith (fault .answer) (fault .place) → Begins text r tape′
+  pub functions-stop : {fault : Fault} {r : Reading} → q ≡ Stopped fault → r ≡ refusedWith (fault .answer) (fault .place) → Reads text r tape′
   functions-stop {fault} f e = refuses text (fault .answer) (fault .place) _ _ e (read-short text h ∙ ap verdict (has-stopped _ fault (rw f at a)))
 
-  pub functions-done : {p : Progress} → q ≡ Done p → length tape′ ≡ 32768 → TableRead text tape′ names p
+  pub functions-done : {p : Progress} → q ≡ Done p → length text ≤ length tape′ → TableRead text tape′ names p
   functions-done e room = record { start = start; short = h; room = room; read = has-read _ _ (rw e at a) }
 
 module _ {text tape′ names : List ℕ} {p : Progress} (k : TableRead text tape′ names p) where
@@ -94,7 +94,7 @@ module _ {text tape′ names : List ℕ} {p : Progress} (k : TableRead text tape
   table = k .read .value
 
   on-tape : take (p .words) tape′ ≡ tape table
-  on-tape = begins (k .read .how .went) (k .room) (k .short)
+  on-tape = begins (k .read .how .went) (k .room)
 
   pub held : Holds text (take (p .words) tape′) (tableNames text names 0 (p .count)) table
   held = record { written = on-tape; declared = sym (k .read .how .names); stand = k .read .how .stand }
@@ -103,7 +103,7 @@ module _ {text tape′ names : List ℕ} {p : Progress} (k : TableRead text tape
   pub searchable : (p .words ≤ length tape′) × Each (CallWithin text) (take (p .words) tape′) × Entries text names 0 (p .count)
   searchable =
       let w = k .read .how .went in
-      (omega (arith, w .charged, w .inside, k .short, k .room), table-within held, k .read .how .entries)
+      (omega (arith, w .charged, w .inside, k .room), table-within held, k .read .how .entries)
 
   -- THE CALLS
 
@@ -111,14 +111,14 @@ module _ {text tape′ names : List ℕ} {p : Progress} (k : TableRead text tape
     judged : {o : Option ℕ} → unknownIn table table ≡ o → read text ≡ known o table
     judged e = read-short text (k .short) ∙ ap verdict (k .read .same) ∙ ap (λ o. known o table) e
 
-    pub call-unknown : {place : ℕ} {r : Reading} → found ≡ At place → r ≡ refusedWith UndeclaredName place → Begins text r tape′
+    pub call-unknown : {place : ℕ} {r : Reading} → found ≡ At place → r ≡ refusedWith UndeclaredName place → Reads text r tape′
     call-unknown {place} e f = refuses text UndeclaredName place _ _ f (judged (is-some (unknownIn table table) (sym (search table held) ∙ e)))
       where
         is-some : (o : Option ℕ) → unknownAs o ≡ At place → o ≡ some place
         is-some none f = let z : _≡_ {A = ℕ} 0 1 = cc in absurd (omega arith)
         is-some (some q) f = cc
 
-    pub calls-known : {r : Reading} → found ≡ Nowhere → r ≡ acceptedWith (p .count) (p .words) → Begins text r tape′
+    pub calls-known : {r : Reading} → found ≡ Nowhere → r ≡ acceptedWith (p .count) (p .words) → Reads text r tape′
     calls-known e f =
         accepts text table (p .count) (p .words) _ _ f (judged (is-none (unknownIn table table) (sym (search table held) ∙ e)))
         (k .read .how .count) (counts (k .read .how .went)) on-tape
@@ -126,14 +126,3 @@ module _ {text tape′ names : List ℕ} {p : Progress} (k : TableRead text tape
         is-none : (o : Option ℕ) → unknownAs o ≡ Nowhere → o ≡ none
         is-none none f = refl
         is-none (some q) f = let z : _≡_ {A = ℕ} 0 1 = cc in absurd (omega arith)
-
--- THE TAPE AFTERWARDS
-
-pub reads-all : {text : Bytes} {r : Reading} {tape′ after : List ℕ} → Begins text r tape′ → after ≡ cleared 32768 (r .words) tape′ → Reads text r after
-unfolding cleared tapeLeft
-reads-all b e = record { answer = b .answer; words = b .words; tape = e ∙ rw (b .tape) }
-
--- the first words of the tape are those of an accepted table
-pub tree-words : {text : Bytes} {r : Reading} {tape′ : List ℕ} → Reads text r tape′ → take (r .words) tape′ ≡ treeTape (read text)
-unfolding tapeLeft
-tree-words {text} {r} a = rw (a .tape, a .words) (take-at (treeTape (read text)) _ (length (treeTape (read text))) refl)

@@ -17,7 +17,7 @@ ghost use Rattle.reading.specs.Through.{GoesOn};
 // Reads the next declaration, and the reader goes on to the place that was reached.
 fn next_declaration<'s, 'a, 't, 'n>(
     reader: &'s mut Reader<'a>,
-    tape: &'t mut [u32; 32768],
+    tape: &'t mut [u32],
     names: &'n mut [usize; 64],
     stage: Stage,
 ) -> Stage
@@ -30,7 +30,7 @@ fn next_declaration<'s, 'a, 't, 'n>(
 }
 
 // Reads the functions of a text and fills the table of their names.
-pub fn functions(text: &[u8], tape: &mut [u32; 32768], names: &mut [usize; 64]) -> Parsed
+pub fn functions(text: &[u8], tape: &mut [u32], names: &mut [usize; 64]) -> Parsed
     requires { ⌜ (length (now text) ≤ 32768) × (length (now names) ≡ 64) ⌝ }
     ensures { λ r. ⌜ Agrees (FunctionsRead (now (text .entry)) (now (tape .entry)) (now (tape .exit)) (now (names .exit))) (functionsOf (now (text .entry))) r ⌝ }
 {

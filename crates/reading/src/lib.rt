@@ -5,13 +5,12 @@ mod functions;
 use bookkeeping::Answer;
 use bookkeeping::names::function_room;
 use bookkeeping::progress::Parsed;
-use bookkeeping::writing::clear;
 use calls::Unknown;
 use calls::unknown_call;
 use functions::functions;
 ghost use mathlib.Core.Path.{_≡_};
 ghost use Rattle.bookkeeping.specs.Answered.{numberOf};
-ghost use Rattle.reading.specs.Reads.{Reads, Begins, refusedWith};
+ghost use Rattle.reading.specs.Reads.{LongEnough, Reads, refusedWith};
 
 // An answer and its place; of an accepted table how many functions it has, and how many words its tape.
 pub struct Reading {
@@ -49,9 +48,10 @@ fn refusal(answer: Answer, place: usize) -> Reading
     }
 }
 
-// Reads a text, and writes the words of its tree at the beginning of the tape.
-fn read_on(text: &[u8], tape: &mut [u32; 32768]) -> Reading
-    ensures { λ r. ⌜ Begins (now (text .entry)) r (now (tape .exit)) ⌝ }
+// Reads a table text, and writes the words of its tree at the beginning of the tape; a refused text has none.
+pub fn read(text: &[u8], tape: &mut [u32]) -> Reading
+    requires { ⌜ LongEnough (now text) (now tape) ⌝ }
+    ensures { λ r. ⌜ Reads (now (text .entry)) r (now (tape .exit)) ⌝ }
 {
     if 32768 < text.len() {
         return refusal(Answer::TableTooLong, 0);
@@ -73,13 +73,4 @@ fn read_on(text: &[u8], tape: &mut [u32; 32768]) -> Reading
             words: table.words,
         },
     }
-}
-
-// Reads a table text. The tape of an accepted text holds its tree, with zeros after it; that of a refused one is all zero.
-pub fn read(text: &[u8], tape: &mut [u32; 32768]) -> Reading
-    ensures { λ r. ⌜ Reads (now (text .entry)) r (now (tape .exit)) ⌝ }
-{
-    let reading = read_on(text, tape);
-    clear(tape, reading.words);
-    reading
 }

@@ -21,7 +21,6 @@ use Rattle.meaning.specs.Entries.{answered, readAnswer, written, listed, transl
 use Rattle.reading.specs.declared.Reading.{Reading}
 use Rattle.bookkeeping.specs.Answered.{numberOf}
 use Rattle.reading.specs.Reads.{Reads}
-use Rattle.reading.proofs.Verdict.{tree-words}
 use Rattle.strings.specs.declared.State.the-variants.{Start}
 use Rattle.listing.specs.declared.Listed.{Listed}
 use Rattle.listing.specs.Words.{listFrom}
@@ -76,7 +75,7 @@ module _ {text : Bytes} {r : Reading} {words : List ℕ} (reads : Reads text r w
       → Translates (codeOf (take (r .words) words)) room l after → written (answered number (r .place) 0) after ≡ translated (read text) room
   refused-translated ne {room = room} l =
       let is = refused-read (read text) answers ne in
-      let empty = rw is at (tree-words reads) in
+      let empty = rw is at (reads .tape) in
       let leaves = rw (empty, code-empty) at l in
       rw (is, leaves .cells, zeros-left room)
 
@@ -86,7 +85,7 @@ module _ {text : Bytes} {r : Reading} {words : List ℕ} (reads : Reads text r w
       → Lists (listFrom Start (take (r .words) words)) lent l after → written (bufferAnswer (l .fits) (l .length)) after ≡ listed (read text) lent
   accepted-listed bytes z {lent = lent} l =
       let (t, is, known) = accepted-read (read text) (read-known text bytes) answers z in
-      let leaves = rw (rw is at (tree-words reads), tape-listed t known) at l in
+      let leaves = rw (rw is at (reads .tape), tape-listed t known) at l in
       rw is
       (buffered (leb (length (listing t)) (length lent)) (length (listing t)) (over (listing t) lent) lent (leaves .fits) (leaves .size) (leaves .cells))
 
@@ -95,5 +94,5 @@ module _ {text : Bytes} {r : Reading} {words : List ℕ} (reads : Reads text r w
   accepted-translated bytes z {room = room} l =
       let (t, is, known) = accepted-read (read text) (read-known text bytes) answers z in
       let code = pack (translate t) in
-      let leaves = rw (rw is at (tree-words reads), tape-translated t known) at l in
+      let leaves = rw (rw is at (reads .tape), tape-translated t known) at l in
       rw is (buffered (leb (length code) room) (length code) (padded code room) (zeros room) (leaves .fits) (leaves .count) (leaves .cells))

@@ -16,7 +16,6 @@ use Rattle.flatness.specs.Scanned.{placed, scanned, nestedCall}
 use Rattle.flatness.proofs.Traced.{tape-traced}
 use Rattle.reading.specs.declared.Reading.{Reading}
 use Rattle.reading.specs.Reads.{treeTape, Reads}
-use Rattle.reading.proofs.Verdict.{tree-words}
 use Rattle.bookkeeping.specs.Answered.{numberOf}
 use Rattle.tables.proofs.Known.{AreBytes, Known, read-known}
 
@@ -41,7 +40,7 @@ tape-flat (refused number at) known e = refl
 module _ {text : Bytes} {r : Reading} {words : List ℕ} (bytes : AreBytes text) (reads : Reads text r words)
     {found : Place} (scan : found ≡ nestedCall (take (r .words) words)) where
   is-found : {p : Place} → found ≡ p → nestedCall (treeTape (read text)) ≡ p
-  is-found e = ap nestedCall (sym (tree-words reads)) ∙ sym scan ∙ e
+  is-found e = ap nestedCall (sym (reads .tape)) ∙ sym scan ∙ e
 
   pub nested-told : {place : ℕ} → found ≡ At place → answered notTailCall place 0 ≡ flatAnswer (read text)
   nested-told {place} e = tape-nested (read text) (read-known text bytes) place (is-found e)

@@ -10,11 +10,10 @@ use mir.Syntax.{w8}
 use lib.ListN.{length, getD, length-take}
 use borrow.Author.Tests.{lt-ltb}
 use Rattle.meaning.specs.Choice.{Bytes, every}
-use Rattle.meaning.specs.Allowed.{isByte, allowed}
+use Rattle.meaning.specs.Allowed.{maxTable, isByte, allowed}
 use Rattle.meaning.specs.Reading.{Read, accepted, refused, read}
 use Rattle.reading.specs.declared.Reading.{Reading}
-use Rattle.reading.specs.Reads.{Reads}
-use Rattle.reading.proofs.Verdict.{tree-words}
+use Rattle.reading.specs.Reads.{LongEnough, Reads}
 use Rattle.meaning.proofs.laws.Choosing.{true-passed}
 use Rattle.accepting.proofs.reading.Basics.{both-true}
 use Rattle.accepting.proofs.reading.Accepted.{accepted-allows}
@@ -42,6 +41,16 @@ read-known text h = by (read text) refl
         let low = refusal-numbers (refused-exactly text (bytes-known text h) number place .0 e) .0 in
         λ z. omega arith
 
+-- TAPES
+
+-- a short one, for a text that is no longer
+pub short-tape : {text : Bytes} {tape : List ℕ} {size : ℕ} → length tape ≡ size → length text ≤ size → LongEnough text tape
+short-tape e h = record { room = λ low. omega arith }
+
+-- one that has a word for each byte of the longest table
+pub long-tape : {text : Bytes} {tape : List ℕ} → length tape ≡ maxTable → LongEnough text tape
+long-tape e = record { room = λ low. omega arith }
+
 -- its words lie on the tape
 pub read-within : {text : Bytes} {r : Reading} {tape′ : List ℕ} → Reads text r tape′ → r .words ≤ length tape′
-read-within {text} {r} {tape′} reads = omega (arith, length-take (r .words) tape′, ap length (tree-words reads), reads .words)
+read-within {text} {r} {tape′} reads = omega (arith, length-take (r .words) tape′, ap length (reads .tape), reads .words)

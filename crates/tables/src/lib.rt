@@ -5,6 +5,7 @@ ghost use mathlib.Core.Path.{_≡_};
 ghost use lib.ListN.{length};
 ghost use Rattle.meaning.specs.Reading.{read};
 ghost use Rattle.meaning.specs.Entries.{answered, readAnswer, flatAnswer, written, listed, translated};
+ghost use Rattle.reading.specs.Reads.{LongEnough};
 ghost use Rattle.tables.specs.Told.{toldWords, bufferAnswer};
 
 // 01's number, the place of the fault, and what is counted: functions, bytes of the listing or words of code.
@@ -14,9 +15,16 @@ pub struct Told {
     pub count: usize,
 }
 
-// The tape, in a function of its own, so that no caller's facts hold its elements.
+// A table of so many bytes or fewer is read on a short tape, which is cleared in little time.
+const SHORT_TABLE: usize = 2048;
+
+// The tapes, in functions of their own, so that no caller's facts hold their elements.
 pub fn tape_room() -> [u32; 32768] {
     [0u32; 32768]
+}
+
+fn short_tape_room() -> [u32; 2048] {
+    [0u32; 2048]
 }
 
 fn tell(number: u64, place: usize, count: usize) -> Told
@@ -39,21 +47,32 @@ fn tell_of_buffer(fits: bool, count: usize) -> Told
     tell(17, 0, 0)
 }
 
-pub fn read_table(table: &[u8]) -> Told
+fn read_on(table: &[u8], tape: &mut [u32]) -> Told
+    requires { ⌜ LongEnough (now table) (now tape) ⌝ }
     ensures { λ r. ⌜ toldWords r ≡ readAnswer (read (now (table .entry))) ⌝ }
 {
-    let mut tape = tape_room();
-    let reading = reading::read(table, &mut tape);
+    let reading = reading::read(table, tape);
     let answer = reading.answer;
     tell(reading::number(answer), reading.place, reading.functions)
 }
 
+pub fn read_table(table: &[u8]) -> Told
+    ensures { λ r. ⌜ toldWords r ≡ readAnswer (read (now (table .entry))) ⌝ }
+{
+    if table.len() <= SHORT_TABLE {
+        let mut tape = short_tape_room();
+        return read_on(table, &mut tape);
+    }
+    let mut tape = tape_room();
+    read_on(table, &mut tape)
+}
+
 // 19 where a declared call is no tail call. A refused table's tape is empty, so none is found and its refusal is told.
-pub fn flat_table(table: &[u8]) -> Told
+fn flat_on(table: &[u8], tape: &mut [u32]) -> Told
+    requires { ⌜ LongEnough (now table) (now tape) ⌝ }
     ensures { λ r. ⌜ toldWords r ≡ flatAnswer (read (now (table .entry))) ⌝ }
 {
-    let mut tape = tape_room();
-    let reading = reading::read(table, &mut tape);
+    let reading = reading::read(table, tape);
     let answer = reading.answer;
     let number = reading::number(answer);
     let words = reading.words;
@@ -62,6 +81,17 @@ pub fn flat_table(table: &[u8]) -> Told
         Place::At(place) => tell(19, place, 0),
         Place::Nowhere => tell(number, reading.place, reading.functions),
     }
+}
+
+pub fn flat_table(table: &[u8]) -> Told
+    ensures { λ r. ⌜ toldWords r ≡ flatAnswer (read (now (table .entry))) ⌝ }
+{
+    if table.len() <= SHORT_TABLE {
+        let mut tape = short_tape_room();
+        return flat_on(table, &mut tape);
+    }
+    let mut tape = tape_room();
+    flat_on(table, &mut tape)
 }
 
 // After a refusal, and where the buffer is too short, the buffer is unchanged.

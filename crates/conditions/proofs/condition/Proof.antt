@@ -12,14 +12,14 @@ use Rattle.conditions.proofs.Conditioned.{OpenedAt, NamedAt, open-not, 
 returns : tie.Need-returns
 returns c =
     let at-pass = c .before .before .before in
-    open-not (at-pass .before .before .before .pre .1) (rw (c .before .fault .given .1) at (at-pass .pass .ensures))
+    open-not (at-pass .before .before .before .before .pre .1) (rw (c .before .fault .given .1) at (at-pass .pass .ensures))
 
 opened : (c : tie.After-lex) → let at-at = c .before .before in
-    let a = at-at .before .before .before .before .before .args in
+    let a = at-at .before .before .before .before .before .before .args in
     OpenedAt (a .text .now) (a .table .now) (a .symbols) (a .parts) (a .from) (a .words) (at-at .at .given .0 .0) (c .lex .result)
 opened c =
     let at-at = c .before .before in
-    let p = at-at .before .before .before .before .before .pre in
+    let p = at-at .before .before .before .before .before .before .pre in
     let o = rw (at-at .at .given .1) at (at-at .before .before .pass .ensures) in
     record { known = p .1; ready = p .0; opened = o; first = comes _ naming _ _ (o .inside) (c .lex .ensures) }
 
@@ -54,10 +54,10 @@ condition-on-requires c κs =
 
 returns-5 : tie.Need-returns-5
 returns-5 c =
-    let at-class-named = c .before .before .before in
+    let at-class-named = c .before .before .before .before .before in
     let at-if1 = at-class-named .before in
-    class-reads (named (at-if1 .before .before .before)) (at-if1 .if1 .left) _ (predicate (c .before .before)) (at-class-named .class-named .ensures .0)
-    (c .condition-on .ensures)
+    class-reads (named (at-if1 .before .before .before)) (at-if1 .if1 .left) _ (predicate (c .before .before .before .before)) (at-class-named .class-named .ensures .0)
+    (c .before .before .condition-on .ensures)
 
 pub condition-spec : {M : Type 1} → statement M
 condition-spec =
@@ -76,4 +76,5 @@ condition-spec =
     class-named-requires
     returns-4
     condition-on-requires
+    (λ c. search needs)
     returns-5)

@@ -12,11 +12,11 @@ use Rattle.conditions.proofs.Conditioned.{ClosingAt, end-no-close, end-
 returns : tie.Need-returns
 returns c =
     let at-pass = c .before .before .before in
-    let entry = at-pass .before .before in
+    let entry = at-pass .before .before .before in
     λ k e. end-no-close (entry .args .is-part) (entry .pre .1) k (rw (c .before .fault .given .1) at (at-pass .pass .ensures))
 
 abbrev start : tie.After-at → tie.Start
-start c = c .before .before .before .before
+start c = c .before .before .before .before .before
 
 closed : (c : tie.After-at) → let a = start c .args in Taken (a .text .now) inside 62 (a .from) (c .at .given .0 .0)
 closed c = rw (c .at .given .1) at (c .before .before .pass .ensures)
@@ -64,11 +64,11 @@ returns-3 c =
 
 returns-4 : tie.Need-returns-4
 returns-4 c =
-    let at-kind-number = c .before .before .before in
+    let at-kind-number = c .before .before .before .before .before in
     let at-if1 = at-kind-number .before in
     let s = started (at-if1 .before) in
     λ k e. end-reads (s .args .is-part) (closing (at-if1 .before)) k (s .pre .2) e (at-if1 .if1 .left) (at-kind-number .kind-number .ensures) refl
-    (c .put-named .ensures)
+    (c .before .before .put-named .ensures)
 
 pub condition-end-spec : {M : Type 1} → statement M
 condition-end-spec =
@@ -95,4 +95,5 @@ condition-end-spec =
     (λ c. search needs)
     (λ c. search needs)
     (λ c κs. search needs)
+    (λ c. search needs)
     returns-4)

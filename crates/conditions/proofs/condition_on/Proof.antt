@@ -9,7 +9,7 @@ use Rattle.bookkeeping.specs.Answered.{numberOf}
 use Rattle.conditions.proofs.Conditioned.{OnToken, OnVariable, OnAsked, on-no-variable, on-variable, on-inside, on-wrong, on-before, on-reads}
 
 abbrev start : tie.After-lex → tie.Start
-start c = c .before .before .before
+start c = c .before .before .before .before
 
 looked : (c : tie.After-lex) → let a = start c .args in
     OnToken (a .text .now) (a .table .now) (a .symbols) (a .parts) (a .from) (a .words) (c .lex .result)
@@ -42,7 +42,7 @@ condition-end-requires c κs =
     (b .0, b .1, start (c .before .before .before .before .before .before .before .before) .pre .2)
 
 returns-3 : tie.Need-returns-3
-returns-3 c = λ k e. on-reads (asked (c .before .before .before)) (c .before .before .if1 .left) k (c .condition-end .ensures k e)
+returns-3 c = λ k e. on-reads (asked (c .before .before .before .before .before)) (c .before .before .before .before .if1 .left) k (c .before .before .condition-end .ensures k e)
 
 pub condition-on-spec : {M : Type 1} → statement M
 condition-on-spec =
@@ -58,4 +58,5 @@ condition-on-spec =
     (λ c κs. search needs)
     returns-2
     condition-end-requires
+    (λ c. search needs)
     returns-3)

@@ -10,4 +10,6 @@ returns-2 : tie.Need-returns-2
 returns-2 c = (rw (c .if1 .left), omega arith)
 
 pub kind-number-spec : {M : Type 1} → statement M
-kind-number-spec = tie.close (tie.spec returns returns-2)
+kind-number-spec = tie.close (tie.spec
+    returns
+    returns-2)

@@ -14,4 +14,9 @@ returns-2 c =
     c .fault-if .ensures ∙ later-is (at-if1 .before .before .before .before .pre) (at-if1 .if1 .left) _ (c .before .find .ensures) refl
 
 pub later-fault-spec : {M : Type 1} → statement M
-later-fault-spec = tie.close (tie.spec (λ c. search needs) returns (λ c κs. search needs) (λ c κs. search needs) returns-2)
+later-fault-spec = tie.close (tie.spec
+    (λ c. search needs)
+    returns
+    (λ c κs. search needs)
+    (λ c κs. search needs)
+    returns-2)

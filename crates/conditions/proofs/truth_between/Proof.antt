@@ -14,4 +14,7 @@ returns-3 : tie.Need-returns-3
 returns-3 c = number-none (rw (ne-eqb _ 84 (c .before .if1 .left), ne-eqb _ 70 (c .if2 .left)))
 
 pub truth-between-spec : {M : Type 1} → statement M
-truth-between-spec = tie.close (tie.spec returns returns-2 returns-3)
+truth-between-spec = tie.close (tie.spec
+    returns
+    returns-2
+    returns-3)

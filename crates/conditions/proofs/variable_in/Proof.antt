@@ -14,4 +14,9 @@ returns-3 : tie.Need-returns-3
 returns-3 c = no-variable (c .before .args .token) (c .match .keys3)
 
 pub variable-in-spec : {M : Type 1} → statement M
-variable-in-spec = tie.close (tie.spec (λ c. search needs) (λ c. search needs) returns returns-2 returns-3)
+variable-in-spec = tie.close (tie.spec
+    (λ c. search needs)
+    (λ c. search needs)
+    returns
+    returns-2
+    returns-3)

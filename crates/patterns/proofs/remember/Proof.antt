@@ -11,4 +11,9 @@ returns-2 : tie.Need-returns-2
 returns-2 c = let e = le-ltb _ _ (c .if1 .left) in (rw e, rw e)
 
 pub remember-spec : {M : Type 1} → statement M
-remember-spec = tie.close (tie.spec returns (λ c. search needs) (λ c. search needs) (λ c. search needs) returns-2)
+remember-spec = tie.close (tie.spec
+    returns
+    (λ c. search needs)
+    (λ c. search needs)
+    (λ c. search needs)
+    returns-2)

@@ -12,4 +12,6 @@ returns-2 : tie.Need-returns-2
 returns-2 c = rw (ne-eqb _ 0 (c .if1 .left)) (both-false (c .before .args .ending) refl)
 
 pub still-ending-spec : {M : Type 1} → statement M
-still-ending-spec = tie.close (tie.spec returns returns-2)
+still-ending-spec = tie.close (tie.spec
+    returns
+    returns-2)

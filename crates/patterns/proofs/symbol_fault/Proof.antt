@@ -24,4 +24,12 @@ returns-4 c =
 pub symbol-fault-spec : {M : Type 1} → statement M
 symbol-fault-spec =
     tie.close
-    (tie.spec (λ c. search needs) returns returns-2 returns-3 (λ c. search needs) (λ c κs. search needs) (λ c κs. search needs) returns-4)
+    (tie.spec
+    (λ c. search needs)
+    returns
+    returns-2
+    returns-3
+    (λ c. search needs)
+    (λ c κs. search needs)
+    (λ c κs. search needs)
+    returns-4)

@@ -24,6 +24,7 @@ const STEPS: u32 = 100_000;
 const EXAMPLE_TABLE: &[u8] = include_bytes!("../../../../examples/sheet/table.rf");
 const EXAMPLE_SHEET: &[u8] = include_bytes!("../../../../examples/sheet/sheet.txt");
 const SHEET_TABLE: &[u8] = b"F { 'STOP ' e1 '\\n' e2 = <F e2>; 'SWING ' e1 '\\n' e2 = <F e2>; e1 = e1 }";
+const WORDS_TABLE: &[u8] = include_bytes!("../../../../examples/words/table.rf");
 
 /// What is drawn, beside this crate's folder.
 const PICTURE: &str = concat!(env!("CARGO_MANIFEST_DIR"), "/../../docs/speed.svg");
@@ -74,7 +75,10 @@ fn drawn() -> Vec<Series> {
 fn rows() {
     println!("| what | engine | Rust | engine : Rust | Rust's machine | engine : machine | |");
     println!("|---|---|---|---|---|---|---|");
-    let table = near_the_limit();
+    let few = sentences(2, 6);
+    reading(&format!("reading a table of {} bytes, no comment", few.len()), &few);
+    reading(&format!("reading `examples/words`, {} bytes", WORDS_TABLE.len()), WORDS_TABLE);
+    let table = sentences(64, 8);
     reading(&format!("reading a table of {} bytes", thousands(table.len() as u64)), &table);
     translating(&table);
     flatness("reading it and testing whether it is flat", &table);
@@ -285,13 +289,13 @@ fn nothing_but(call: &str, items: usize) -> Vec<u8> {
     format!("F{{{}}}", sentence.repeat(room / sentence.len())).into_bytes()
 }
 
-/// A table of 64 functions and 512 sentences that is a little shorter than it may be.
-fn near_the_limit() -> Vec<u8> {
+/// A table of `functions` with `lines` sentences each; with 64 and 8 it is a little shorter than a table may be.
+fn sentences(functions: usize, lines: usize) -> Vec<u8> {
     let mut table = String::new();
-    for function in 0..64 {
+    for function in 0..functions {
         table.push_str(&format!("Set{function} {{\n"));
-        for line in 0..8 {
-            let next = (function + line) % 64;
+        for line in 0..lines {
+            let next = (function + line) % functions;
             table.push_str(&format!("  'K{line} ' s1 eV ':' e2, <IsDigit s1>: 'T' = s1 eV <Set{next} e2>;\n"));
         }
         table.push_str("}\n");

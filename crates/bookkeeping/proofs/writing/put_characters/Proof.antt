@@ -8,7 +8,7 @@ use lib.ListN.{length}
 use borrow.Author.Needs.{needs}
 use Rattle.characters.specs.declared.Character.{Character}
 use Rattle.characters.specs.declared.Character.the-variants.{Given}
-use Rattle.bookkeeping.proofs.Words.{Spelled-to, spelling-starts, SpelledOn, spelled-on}
+use Rattle.bookkeeping.proofs.Words.{Spelled-to, spelling-starts, SpelledOn, spelled-on, spelled-length}
 
 abbrev Inv-loop : tie.InvT-loop
 Inv-loop text tape₀ at from to₀ i₀ tape to i = Spelled-to text tape₀ at from tape to i
@@ -17,7 +17,7 @@ abbrev μ-loop : tie.MeasureT-loop
 μ-loop text tape₀ at from to₀ i₀ tape to i = length text - i
 
 loop-holds : tie.Need-loop-holds Inv-loop μ-loop
-loop-holds c = spelling-starts _ _ _ _ (c .before .pre .0)
+loop-holds c = spelling-starts _ _ _ _ (c .before .before .pre .0)
 
 -- after the next character, whatever it is
 turned : (c : tie.After-next-character Inv-loop μ-loop) {r : Character} → c .next-character .result ≡ r → SpelledOn (c .before .loop .inv) r
@@ -26,17 +26,14 @@ turned c {r} e = spelled-on (c .before .loop .inv) r (rw e at (c .next-character
 given : (c : tie.After-known-told Inv-loop μ-loop) → let v = c .before .byte .given .0 in SpelledOn (c .before .before .before .before .loop .inv) (Given (v .0) (v .1 .0))
 given c = turned (c .before .before .before) (c .before .byte .given .1)
 
-put-requires : tie.Need-put-requires Inv-loop μ-loop
-put-requires c κs = given (c .before) .2
-
 add-to : tie.Need-add-to Inv-loop μ-loop
-add-to c = let k = given (c .before .before) in omega arith
+add-to c = let k = given (c .before .before .before .before) in omega arith
 
 loop-less : tie.Need-loop-less Inv-loop μ-loop
-loop-less c = let k = given (c .before .before) in omega arith
+loop-less c = let k = given (c .before .before .before .before) in omega arith
 
 loop-again : tie.Need-loop-again Inv-loop μ-loop
-loop-again c = given (c .before .before) .3 (omega arith) _ (c .put .ensures)
+loop-again c = given (c .before .before .before .before) .3 (omega arith) _ (c .before .before .put .ensures)
 
 loop-less-2 : tie.Need-loop-less-2 Inv-loop μ-loop
 loop-less-2 c = let k = turned (c .before .before .before) (c .before .past .given .1) in omega arith
@@ -44,11 +41,17 @@ loop-less-2 c = let k = turned (c .before .before .before) (c .before .past .giv
 loop-again-2 : tie.Need-loop-again-2 Inv-loop μ-loop
 loop-again-2 c = turned (c .before .before .before) (c .before .past .given .1) .1
 
+same-length : tie.Need-same-length Inv-loop μ-loop
+same-length c = spelled-length (c .before .before .before .loop .inv)
+
+same-length-2 : tie.Need-same-length-2 Inv-loop μ-loop
+same-length-2 c = spelled-length (c .before .before .before .loop .inv)
+
 returns : tie.Need-returns Inv-loop μ-loop
 returns c = turned (c .before .before) (c .enum-told .given .1)
 
 returns-2 : tie.Need-returns-2 Inv-loop μ-loop
-returns-2 c = absurd (turned (c .before .before) (c .enum-told2 .given .1) (c .before .before .before .before .before .pre .1))
+returns-2 c = absurd (turned (c .before .before) (c .enum-told2 .given .1) (c .before .before .before .before .before .before .pre .1))
 
 pub put-characters-spec : {M : Type 1} → statement M
 put-characters-spec =
@@ -60,7 +63,7 @@ put-characters-spec =
     (λ c κs. search needs)
     (λ c. search needs)
     (λ c. search needs)
-    put-requires
+    (λ c κs. search needs)
     add-to
     loop-less
     loop-again
@@ -68,6 +71,8 @@ put-characters-spec =
     loop-less-2
     loop-again-2
     (λ c. search needs)
+    same-length
     returns
     (λ c. search needs)
+    same-length-2
     returns-2)

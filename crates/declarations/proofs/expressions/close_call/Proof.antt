@@ -3,21 +3,14 @@ use borrow.Author.Needs.{needs}
 use Rattle.declarations.proofs.expressions.close_call.Statement.{statement}
 use Rattle.declarations.proofs.expressions.close_call.Tie as tie
 use mathlib.Core.Path.{refl}
-use native.Mathlib.Omega.{arith}
 use Rattle.meaning.specs.Tokens.{inside}
 use Rattle.bookkeeping.specs.Tokened.{Taken}
 
-closed-here : (c : tie.After-at) → let a = c .before .before .before .before .args in Taken (a .text .now) inside 62 (a .s .at) (c .at .given .0 .0)
+closed-here : (c : tie.After-at) → let a = c .before .before .before .before .before .args in Taken (a .text .now) inside 62 (a .s .at) (c .at .given .0 .0)
 closed-here c = rw (c .at .given .1) at (c .before .before .pass .ensures)
 
-put-requires : tie.Need-put-requires
-put-requires c κs =
-    let t = closed-here (c .before .before) in
-    let r = c .before .before .before .before .before .before .pre in
-    omega arith
-
 returns : tie.Need-returns
-returns c = record { gives = (closed-here (c .before .before .before .before), refl, c .before .put .ensures) }
+returns c = record { gives = (closed-here (c .before .before .before .before .before .before), refl, c .before .before .before .put .ensures) }
 
 returns-2 : tie.Need-returns-2
 returns-2 c = record { gives = rw (c .before .fault .given .1) at (c .before .before .before .pass .ensures) }
@@ -25,4 +18,12 @@ returns-2 c = record { gives = rw (c .before .fault .given .1) at (c .before .be
 pub close-call-spec : {M : Type 1} → statement M
 close-call-spec =
     tie.close
-    (tie.spec (λ c κs. search needs) (λ c. search needs) put-requires (λ c. search needs) (λ c. search needs) returns returns-2)
+    (tie.spec
+    (λ c κs. search needs)
+    (λ c. search needs)
+    (λ c κs. search needs)
+    (λ c. search needs)
+    (λ c. search needs)
+    (λ c. search needs)
+    returns
+    returns-2)

@@ -7,22 +7,22 @@ use Rattle.bookkeeping.proofs.Items.{identifier-inside}
 use Rattle.declarations.proofs.Joining.{Sought, variable-many, part-long, coming-entries, part-unknown, part-joined}
 
 sought-here : (c : tie.After-find)
-    → let a = c .before .before .before .before .before .before .before .before .args in
+    → let a = c .before .before .before .before .before .before .before .before .before .args in
     Sought (a .text .now) (a .table .now) (a .symbols) (a .parts) (a .s) (a .x) (c .find .result)
 sought-here c =
     let at-if2 = c .before .before in
     let at-if1 = at-if2 .before .before in
-    record { here = at-if1 .before .before .before .before .pre; few = at-if2 .if2 .left; brief = at-if1 .if1 .left; found = c .find .ensures }
+    record { here = at-if1 .before .before .before .before .before .pre; few = at-if2 .if2 .left; brief = at-if1 .if1 .left; found = c .find .ensures }
 
 returns : tie.Need-returns
-returns c = part-long (c .before .before .before .before .pre) (c .if1 .taken)
+returns c = part-long (c .before .before .before .before .before .pre) (c .if1 .taken)
 
 returns-2 : tie.Need-returns-2
-returns-2 c = variable-many (c .before .before .before .before .before .before .pre) (λ e. rw e) (c .if2 .taken)
+returns-2 c = variable-many (c .before .before .before .before .before .before .before .pre) (λ e. rw e) (c .if2 .taken)
 
 find-requires : tie.Need-find-requires
 find-requires c κs =
-    let p = c .before .before .before .before .before .before .before .pre in
+    let p = c .before .before .before .before .before .before .before .before .pre in
     (identifier-inside (p .1), coming-entries p)
 
 returns-3 : tie.Need-returns-3
@@ -35,8 +35,8 @@ take-variable-requires c κs =
 
 returns-4 : tie.Need-returns-4
 returns-4 c =
-    let at-if3 = c .before .before in
-    part-joined (sought-here (at-if3 .before)) (at-if3 .if3 .left) (c .take-variable .ensures)
+    let at-if3 = c .before .before .before .before in
+    part-joined (sought-here (at-if3 .before)) (at-if3 .if3 .left) (c .before .before .take-variable .ensures)
 
 pub join-part-spec : {M : Type 1} → statement M
 join-part-spec =
@@ -51,4 +51,5 @@ join-part-spec =
     returns-3
     (λ c. search needs)
     take-variable-requires
+    (λ c. search needs)
     returns-4)

@@ -11,11 +11,11 @@ use Rattle.bookkeeping.proofs.Choosing.{no-fault-here, a-fault-here}
 use Rattle.declarations.proofs.Opened.{CallComes, CallName, CallNamed, too-deep, too-many, call-limited, call-nameless, named-here, call-misnamed, name-room, call-opens}
 
 call-here : (c : tie.After-lex)
-    → let a = c .before .before .before .before .before .args in
+    → let a = c .before .before .before .before .before .before .args in
     CallComes (a .text .now) (a .depth) (a .s) (a .place) (c .lex .result)
 call-here c =
     let at-if1 = c .before .before .before in
-    let pre = at-if1 .before .before .pre in
+    let pre = at-if1 .before .before .before .pre in
     record {
       ready = pre .0;
       after = pre .1;
@@ -32,7 +32,7 @@ sound-here c = record { sound = no-fault-here (c .before .before .called-fault .
 
 returns : tie.Need-returns
 returns c =
-    let a = c .before .before .before .args in
+    let a = c .before .before .before .before .args in
     rw (c .stopped .ensures)
     (call-limited (a .text .now) (a .depth) (a .s) (a .place)
     (⊎-elim (λ w. too-deep (a .depth) (a .s .count) (w .taken)) (λ w. too-many (a .depth) (a .s .count) (leb-true 128 _ (w .2 .taken))) (c .before .if1 .came)))
@@ -54,11 +54,11 @@ returns-3 c =
 put-call-requires : tie.Need-put-call-requires
 put-call-requires c κs = name-room (sound-here (c .before))
 
-add-t19 : tie.Need-add-t19
-add-t19 c = let few = call-here (c .before .before .before .before .before .before .before .before .before) .few in omega arith
+add-t20 : tie.Need-add-t20
+add-t20 c = let few = call-here (c .before .before .before .before .before .before .before .before .before .before .before) .few in omega arith
 
 returns-4 : tie.Need-returns-4
-returns-4 c = call-opens (sound-here (c .before .before .before)) (c .before .put-call .ensures)
+returns-4 c = call-opens (sound-here (c .before .before .before .before .before)) (c .before .before .before .put-call .ensures)
 
 pub open-call-spec : {M : Type 1} → statement M
 open-call-spec =
@@ -75,5 +75,6 @@ open-call-spec =
     (λ c κs. search needs)
     returns-3
     put-call-requires
-    add-t19
+    add-t20
+    (λ c. search needs)
     returns-4)

@@ -7,13 +7,13 @@ use native.Mathlib.Omega.{arith}
 use Rattle.declarations.proofs.Functioned.{AfterBrace, name-room, body-ready, body-reads}
 use Rattle.bookkeeping.proofs.Tokening.{barred-stops}
 
-brace-here : (c : tie.After-at) → let a = c .before .before .before .before .args in AfterBrace (a .text .now) (a .words) (a .name) (c .at .given .0 .0)
+brace-here : (c : tie.After-at) → let a = c .before .before .before .before .before .args in AfterBrace (a .text .now) (a .words) (a .name) (c .at .given .0 .0)
 brace-here c =
     let at-pass = c .before .before in
-    record { name = at-pass .before .before .pre; taken = rw (c .at .given .1) at (at-pass .pass .ensures) }
+    record { name = at-pass .before .before .before .pre; taken = rw (c .at .given .1) at (at-pass .pass .ensures) }
 
 pass-requires : tie.Need-pass-requires
-pass-requires c κs = c .before .pre .inside .inside
+pass-requires c κs = c .before .before .pre .inside .inside
 
 returns : tie.Need-returns
 returns c = barred-stops _ (rw (c .before .fault .given .1) at (c .before .before .before .pass .ensures))
@@ -31,12 +31,12 @@ put-named-requires : tie.Need-put-named-requires
 put-named-requires c κs = name-room (brace-here (c .before .before .before))
 
 sentences-requires : tie.Need-sentences-requires
-sentences-requires c κs = body-ready (brace-here (c .before .before .before .before .before)) refl (c .before .put-named .ensures)
+sentences-requires c κs = body-ready (brace-here (c .before .before .before .before .before .before .before)) refl (c .before .before .before .put-named .ensures)
 
 returns-2 : tie.Need-returns-2
 returns-2 c =
-    let at-put-named = c .before .before in
-    body-reads (brace-here (at-put-named .before .before .before .before)) refl (at-put-named .put-named .ensures) (c .sentences .ensures)
+    let at-put-named = c .before .before .before .before .before .before in
+    body-reads (brace-here (at-put-named .before .before .before .before)) refl (at-put-named .put-named .ensures) (c .before .before .sentences .ensures)
 
 pub body-spec : {M : Type 1} → statement M
 body-spec =
@@ -51,4 +51,5 @@ body-spec =
     cast-word
     put-named-requires
     sentences-requires
+    (λ c. search needs)
     returns-2)

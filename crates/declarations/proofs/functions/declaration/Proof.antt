@@ -13,11 +13,11 @@ use Rattle.declarations.proofs.Functioned.{StageAt, place-inside, stage
 -- a token comes where more may
 token-here : (c : tie.After-lex)
     → let at-stage = c .before .before in
-    let a = at-stage .before .before .before .args in
+    let a = at-stage .before .before .before .before .args in
     StageAt (a .text .now) (a .tape .now) (a .names .now) (a .at) (a .stage) (at-stage .stage .given .0 .0) (c .lex .result)
 token-here c =
     let at-stage = c .before .before in
-    let u = at-stage .before .before .before .pre in
+    let u = at-stage .before .before .before .before .pre in
     let e = at-stage .stage .given .1 in
     record { underway = u; onward = e; comes = comes _ outside _ _ (place-inside u e) (c .lex .ensures) }
 
@@ -40,26 +40,26 @@ function-requires c κs =
 
 pass-spare-requires : tie.Need-pass-spare-requires
 pass-spare-requires c κs =
-    let at-function = c .before .before .before in
+    let at-function = c .before .before .before .before .before in
     let at-if1 = at-function .before .before .before in
     stage-inside (token-here (at-if1 .before .before)) (more-here at-if1) (at-function .function .ensures) (c .before .f .given .1)
 
 add-functions : tie.Need-add-functions
 add-functions c =
-    let at-function = c .before .before .before .before .before in
+    let at-function = c .before .before .before .before .before .before .before in
     let at-if1 = at-function .before .before .before in
     let few = stage-few (token-here (at-if1 .before .before)) (more-here at-if1) (at-function .function .ensures) (c .before .before .before .f .given .1) in
     omega arith
 
 returns-3 : tie.Need-returns-3
 returns-3 c =
-    let at-function = c .before .before .before in
+    let at-function = c .before .before .before .before .before in
     let at-if1 = at-function .before .before .before in
     stage-stops (token-here (at-if1 .before .before)) (more-here at-if1) (at-function .function .ensures) (c .before .fault .given .1)
 
 returns-4 : tie.Need-returns-4
 returns-4 c =
-    let at-function = c .before .before .before .before .before in
+    let at-function = c .before .before .before .before .before .before .before in
     let at-if1 = at-function .before .before .before in
     stage-goes (token-here (at-if1 .before .before)) (more-here at-if1) (at-function .function .ensures) (c .before .before .before .f .given .1) (c .before .pass-spare .ensures)
 
@@ -79,5 +79,7 @@ declaration-spec =
     (λ c. search needs)
     pass-spare-requires
     add-functions
+    (λ c. search needs)
     returns-3
+    (λ c. search needs)
     returns-4)

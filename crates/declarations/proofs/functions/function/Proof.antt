@@ -8,7 +8,7 @@ use Rattle.bookkeeping.proofs.Choosing.{no-fault-here, a-fault-here}
 use Rattle.declarations.proofs.Functioned.{NameComes, Named, function-nameless, named-here, function-many, function-misnamed, declarable, function-reads}
 
 abbrev start : tie.After-token → tie.Start
-start c = c .before .before .before
+start c = c .before .before .before .before
 
 name-here : (c : tie.Else1)
     → let at-token = c .before .before in
@@ -22,7 +22,7 @@ sound-here : (c : tie.Else2) → Named (name-here (c .before .before .before .be
 sound-here c = record { sound = no-fault-here (c .before .before .declared-fault .ensures) (c .before .is-accepted .ensures) (c .if2 .left) }
 
 returns : tie.Need-returns
-returns c = function-nameless (c .before .before .before .pre) (c .before .match .keys2) (c .refuse .ensures)
+returns c = function-nameless (c .before .before .before .before .pre) (c .before .match .keys2) (c .refuse .ensures)
 
 returns-2 : tie.Need-returns-2
 returns-2 c =
@@ -56,8 +56,8 @@ body-requires c κs = declarable (sound-here (c .before .before))
 
 returns-4 : tie.Need-returns-4
 returns-4 c =
-    let at-entry = c .before .before in
-    function-reads (sound-here (at-entry .before)) (at-entry .entry .ensures) refl (c .body .ensures)
+    let at-entry = c .before .before .before .before in
+    function-reads (sound-here (at-entry .before)) (at-entry .entry .ensures) refl (c .before .before .body .ensures)
 
 pub function-spec : {M : Type 1} → statement M
 function-spec =
@@ -76,4 +76,5 @@ function-spec =
     (λ c. search needs)
     element-write-names
     body-requires
+    (λ c. search needs)
     returns-4)

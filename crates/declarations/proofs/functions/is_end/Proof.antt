@@ -8,4 +8,7 @@ returns-2 : tie.Need-returns-2
 returns-2 c = no-end (c .before .args .t .token) (c .match .keys2)
 
 pub is-end-spec : {M : Type 1} → statement M
-is-end-spec = tie.close (tie.spec (λ c. search needs) (λ c. search needs) returns-2)
+is-end-spec = tie.close (tie.spec
+    (λ c. search needs)
+    (λ c. search needs)
+    returns-2)

@@ -8,4 +8,9 @@ returns : tie.Need-returns
 returns c = c .read-so-far .ensures ∙ rw (c .before .before .stage .given .1)
 
 pub outcome-spec : {M : Type 1} → statement M
-outcome-spec = tie.close (tie.spec (λ c. search needs) (λ c κs. search needs) (λ c. search needs) returns (λ c. search needs))
+outcome-spec = tie.close (tie.spec
+    (λ c. search needs)
+    (λ c κs. search needs)
+    (λ c. search needs)
+    returns
+    (λ c. search needs))

@@ -19,4 +19,8 @@ returns-2 : tie.Need-returns-2
 returns-2 c = spare-none (token-here (c .before .before)) (sym (c .before .is-sign .ensures) ∙ c .if1 .left)
 
 pub pass-spare-spec : {M : Type 1} → statement M
-pass-spare-spec = tie.close (tie.spec (λ c κs. search needs) (λ c κs. search needs) returns returns-2)
+pass-spare-spec = tie.close (tie.spec
+    (λ c κs. search needs)
+    (λ c κs. search needs)
+    returns
+    returns-2)

@@ -12,8 +12,8 @@ use Rattle.lexing.proofs.Stream.{comes}
 use Rattle.bookkeeping.proofs.Tokening.{ready-place}
 use Rattle.declarations.proofs.Sentenced.{first-refused, first-many, first-reads}
 
-token-here : (c : tie.After-lex) → let a = c .before .before .args in Comes (a .text .now) inside (a .from) (c .lex .result)
-token-here c = comes _ inside _ _ (c .before .before .pre .inside) (c .lex .ensures)
+token-here : (c : tie.After-lex) → let a = c .before .before .before .args in Comes (a .text .now) inside (a .from) (c .lex .result)
+token-here c = comes _ inside _ _ (c .before .before .before .pre .inside) (c .lex .ensures)
 
 begins-here : (c : tie.Else1) → beginsSentence (c .before .before .lex .result .token) ≡ true
 begins-here c = sym (c .before .begins .ensures) ∙ not-false _ (c .if1 .left)
@@ -31,13 +31,13 @@ returns-2 c =
 sentence-requires : tie.Need-sentence-requires
 sentence-requires c κs =
     let at-lex = c .before .before .before .before in
-    ready-place (at-lex .before .before .pre) (token-here at-lex)
+    ready-place (at-lex .before .before .before .pre) (token-here at-lex)
 
 returns-3 : tie.Need-returns-3
 returns-3 c =
-    let at-if2 = c .before .before in
+    let at-if2 = c .before .before .before .before in
     let at-if1 = at-if2 .before in
-    first-reads _ _ (token-here (at-if1 .before .before)) (begins-here at-if1) (at-if2 .if2 .left) (c .sentence .ensures)
+    first-reads _ _ (token-here (at-if1 .before .before)) (begins-here at-if1) (at-if2 .if2 .left) (c .before .before .sentence .ensures)
 
 pub next-sentence-spec : {M : Type 1} → statement M
 next-sentence-spec =
@@ -50,4 +50,5 @@ next-sentence-spec =
     (λ c κs. search needs)
     returns-2
     sentence-requires
+    (λ c. search needs)
     returns-3)

@@ -6,29 +6,26 @@ use native.Mathlib.Omega.{arith}
 use Rattle.declarations.proofs.Sentenced.{AfterEquals, equals-room, equals-going, equals-reads}
 use Rattle.bookkeeping.proofs.Tokening.{barred-stops}
 
-equals-here : (c : tie.After-at) → let a = c .before .before .before .before .before .args in AfterEquals (a .text .now) (a .from) (a .words) (c .at .given .0 .0)
+equals-here : (c : tie.After-at) → let a = c .before .before .before .before .before .before .args in AfterEquals (a .text .now) (a .from) (a .words) (c .at .given .0 .0)
 equals-here c =
     let at-pass = c .before .before in
-    record { ready = at-pass .before .before .before .pre .1; taken = rw (c .at .given .1) at (at-pass .pass .ensures) }
+    record { ready = at-pass .before .before .before .before .pre .1; taken = rw (c .at .given .1) at (at-pass .pass .ensures) }
 
-put-requires : tie.Need-put-requires
-put-requires c κs = equals-room (equals-here (c .before .before))
-
-add-t16 : tie.Need-add-t16
-add-t16 c = let r = equals-room (equals-here (c .before .before .before)) in omega arith
+add-t17 : tie.Need-add-t17
+add-t17 c = let r = equals-room (equals-here (c .before .before .before .before .before)) in omega arith
 
 expression-requires : tie.Need-expression-requires
 expression-requires c κs =
-    let at-at = c .before .before .before .before in
-    equals-going (equals-here at-at) (at-at .before .before .before .before .before .pre .0)
+    let at-at = c .before .before .before .before .before .before in
+    equals-going (equals-here at-at) (at-at .before .before .before .before .before .before .pre .0)
 
 returns : tie.Need-returns
 returns c = barred-stops _ (rw (c .before .fault .given .1) at (c .before .before .before .pass .ensures))
 
 returns-2 : tie.Need-returns-2
 returns-2 c =
-    let at-put = c .before .before in
-    equals-reads (equals-here (at-put .before .before .before)) (at-put .put .ensures) (c .expression .ensures)
+    let at-put = c .before .before .before .before .before .before in
+    equals-reads (equals-here (at-put .before .before .before)) (at-put .put .ensures) (c .before .before .expression .ensures)
 
 pub sentence-end-spec : {M : Type 1} → statement M
 sentence-end-spec =
@@ -37,8 +34,9 @@ sentence-end-spec =
     (λ c κs. search needs)
     (λ c. search needs)
     (λ c. search needs)
-    put-requires
-    add-t16
+    (λ c κs. search needs)
+    add-t17
     expression-requires
     returns
+    (λ c. search needs)
     returns-2)

@@ -1,7 +1,7 @@
 -- `functions::functions` meets its contract: a walk of its MIR, by hand. The reader is a local, which is lent to `next_declaration` in each turn of the loop, and tape and names are lent again for that call. The loop goes from state to state (`Proof/Turns.antt`).
 -- All that the proof knows of the functions called is that each meets its contract.
 -- Positions in the context: local i stands at 2 · i, after what is put in front. Assumes nothing.
-use mathlib.Core.Path.{_≡_, refl, ap, _∙_}
+use mathlib.Core.Path.{_≡_, refl, sym, ap, subst, _∙_}
 use Prim.Native.Nat.{ℕ, _≤_}
 use mathlib.Core.Bool.{Bool, true, false}
 use mathlib.Core.List.{List, [], _∷_, _++_}
@@ -30,7 +30,7 @@ use denote.Builtin.{u8, u32, usize, ArrayOf}
 use denote.Array.{Array}
 use denote.Ref.{RefT, NamedLft, MutRef, ptr, name, now, ptr-vals, mut-tells}
 use denote.Signature.{Slot, plain, typesAt}
-use denote.Slice.{sliceVal, ShrSlice, slice-vals, shr-slice-tells}
+use denote.Slice.{sliceVal, ShrSlice, Room, slice-vals, shr-slice-tells, mut-slice-tells}
 use denote.Steps.{only, owned, heard, nothing}
 use denote.Enum.Laws as EL
 use denote.Struct.Declared.{Declared}
@@ -41,7 +41,7 @@ use denote.Triple.Entry.{Args, Vals, onEntry}
 use denote.Triple.Spec.{tripleOf}
 use denote.Triple.Statement.{Contract, Triple}
 use denote.Triple.Table.{cited}
-use denote.Triple.Walked.{says, Stays, stay-dropped, stay-ref, walkOf, goes-ref, ends-at}
+use denote.Triple.Walked.{says, Stays, stay-dropped, stay-ref, stay-slice, walkOf, goes-ref, goes-slice, ends-at}
 use Rattle.lexing.specs.declared.reader.Reader.{Reader}
 use Rattle.lexing.specs.Readers.{readerAt}
 use Rattle.bookkeeping.specs.declared.progress.Parsed.{Parsed}
@@ -52,7 +52,7 @@ use Rattle.walking.proofs.Answering.{clause, answers, answers-back, answers-las
 use Rattle.walking.proofs.Apart.{tokens-apart, tokens-joined, owned-apart, owned-joined}
 use Rattle.walking.proofs.Entering.{calls-framed, walk-enters, required-one}
 use Rattle.walking.proofs.Handing.{none-passed, one-passed}
-use Rattle.walking.proofs.Lending.{lent-at, Ours, takes-slice, lends-local, local-comes-back, lends-reference-again, reference-comes-back}
+use Rattle.walking.proofs.Lending.{lent-at, Mine, Theirs, Ours, as-passed, takes-slice, lends-again, last-list, lends-slice-again, slice-comes-back-at, lends-local, local-comes-back, lends-reference-again, reference-comes-back}
 use Rattle.walking.proofs.Locals.{Content, vacant, holds, placed, laid, lays-out, frees-laid, counting, copies, and-copies}
 use Rattle.lexing.proofs.reader.Reader as T
 use Rattle.lexing.proofs.reader.Reader.Laws as T′
@@ -90,13 +90,13 @@ mod Turns
 
 -- the places of tape and names in the signature
 abbrev words : Slot 3
-words = ArrayOf (plain (λ _. u32)) (λ _. tt) 32768
+words = plain (λ _. u32)
 
 abbrev entries : Slot 3
 entries = ArrayOf (plain (λ _. usize)) (λ _. tt) 64
 
 abbrev stayed : Stays (functions.ended .signature .params) (functions.ended .kept)
-stayed = (stay-dropped _ _, (stay-ref (1 ∷ []) tt words, (stay-ref (2 ∷ []) tt entries, tt)))
+stayed = (stay-dropped _ _, (stay-slice (1 ∷ []) tt words, (stay-ref (2 ∷ []) tt entries, tt)))
 
 abbrev pointer : {X : Type 0} → RefT X → Content
 pointer x = holds (vptr (ptr x .0) (ptr x .1))
@@ -134,7 +134,7 @@ module _ {M : Type 1} (𝓤 : URA M) (H : Heap 𝓤) (A : Atoms 𝓤) (W : Given
   a = (text, (tape, (names, tt)))
 
   abbrev vss : Vals functions.signature κs
-  vss = (slice-vals text, (ptr-vals tape, (ptr-vals names, tt)))
+  vss = (slice-vals text, (slice-vals tape, (ptr-vals names, tt)))
 
   abbrev Post : Val → SProp 𝓤
   Post = walkOf 𝓤 H A functions.ended stayed (functions.clauses 𝓤 H A at-mem run) .post ((κs, qs, bounds, a, vss), tt)
@@ -158,9 +158,6 @@ module _ {M : Type 1} (𝓤 : URA M) (H : Heap 𝓤) (A : Atoms 𝓤) (W : Given
   abbrev reader-val : Reader → Val
   reader-val r = LL.val D L r
 
-  abbrev Words : RattleType
-  Words = Array u32 32768
-
   abbrev Entries : RattleType
   Entries = Array usize 64
 
@@ -169,7 +166,7 @@ module _ {M : Type 1} (𝓤 : URA M) (H : Heap 𝓤) (A : Atoms 𝓤) (W : Given
 
   -- what the loop keeps beside the locals
   abbrev Kept : State → List (Item 𝓤)
-  Kept t = ‵ (Reads .own (t .reader) (reader-val (t .reader) ∷ [])) ∷ ‵ (Ours Words (κs .1 .0) (qs .1 .0) tape (t .tape)) ∷
+  Kept t = ‵ (Reads .own (t .reader) (reader-val (t .reader) ∷ [])) ∷ ‵ (Mine u32 (κs .1 .0) (qs .1 .0) tape (t .tape)) ∷
       ‵ (Ours Entries (κs .1 .1 .0) (qs .1 .1 .0) names (t .names)) ∷ ‵ (flft (κs .0) (qs .0)) ∷ ‵ (flft (κs .1 .0) (qs .1 .0)) ∷
       ‵ (flft (κs .1 .1 .0) (qs .1 .1 .0)) ∷ []
 
@@ -178,9 +175,9 @@ module _ {M : Type 1} (𝓤 : URA M) (H : Heap 𝓤) (A : Atoms 𝓤) (W : Given
   exits t r u said =
       qed W (‵ (P.the-row .own r (u ∷ [])) ∷ Kept t) ∵
       suffices ! _ (ends-at 𝓤 H A functions.ended stayed (functions.clauses 𝓤 H A at-mem run) W ((κs, qs, bounds, a, vss), tt) u r (tt, (t .tape, (t .names, tt)))
-      (tt, (tt, (tt, tt)))) $ says ! said $
+      (tt, (t .long, (tt, tt)))) $ says ! said $
       move ! (4 ∷ 5 ∷ 6 ∷ []) $ tokens-joined ! 3 κs qs $ frame ! $ move ! (1 ∷ []) $ drop ! $
-      nothing ! $ move ! (3 ∷ 0 ∷ []) $ fjoin ! $ move ! (2 ∷ 0 ∷ []) $ fjoin ! $ nothing ! $ fjoin ! $ done !
+      nothing ! $ move ! (3 ∷ 0 ∷ []) $ fjoin ! $ move ! (2 ∷ 0 ∷ []) $ as-passed ! u32 (κs .1 .0) (qs .1 .0) tape (t .tape) (t .long) $ fjoin ! $ nothing ! $ fjoin ! $ done !
 
   -- what the callees are passed before the loop
   abbrev text-token : SProp 𝓤
@@ -209,13 +206,16 @@ module _ {M : Type 1} (𝓤 : URA M) (H : Heap 𝓤) (A : Atoms 𝓤) (W : Given
   module _ (are : Are (typesAt (functions.signature .params) κs) (Ises (typesAt (functions.signature .params) κs)) a vss)
       (𝓣 : Tables 𝓤 H) (fm : FmC 𝓤 H (W .laws) (𝓣 .C)) (known-onward : Triple 𝓤 (𝓣 .C #declarations·functions·is-onward) (IsOnward 𝓤 H A at-mem run))
       (known-next : Triple 𝓤 (𝓣 .C #reading·functions·next-declaration) (Next 𝓤 H A at-mem run)) (known-outcome : Triple 𝓤 (𝓣 .C #declarations·functions·outcome) (Outcome 𝓤 H A at-mem run)) where
-    module _ (l₀ l₁ l₂ l₃ l₄ l₅ l₆ l₇ l₈ l₉ l₁₀ : ℕ) where
+    fits-tape : (t : State) → Room u32 (length (t .tape))
+    fits-tape t = subst (Room u32) (sym (t .long)) (are .1 .0 .0 .1)
+
+    module _ (l₀ l₁ l₂ l₃ l₄ l₅ l₆ l₇ l₈ l₉ l₁₀ l₁₁ : ℕ) where
       abbrev En : Env 𝓤 H
-      En = placed (code.function .locals) (l₀ ∷ l₁ ∷ l₂ ∷ l₃ ∷ l₄ ∷ l₅ ∷ l₆ ∷ l₇ ∷ l₈ ∷ l₉ ∷ l₁₀ ∷ [])
+      En = placed (code.function .locals) (l₀ ∷ l₁ ∷ l₂ ∷ l₃ ∷ l₄ ∷ l₅ ∷ l₆ ∷ l₇ ∷ l₈ ∷ l₉ ∷ l₁₀ ∷ l₁₁ ∷ [])
 
       -- what the locals hold from the first parameter to the stage, and the context in a state
       abbrev passed : State → List Content
-      passed t = holds (sliceVal (ptr text) (length (now text))) ∷ pointer tape ∷ pointer names ∷ holds (reader-val (t .reader)) ∷ holds (t .value) ∷ []
+      passed t = holds (sliceVal (ptr text) (length (now text))) ∷ holds (sliceVal (ptr tape) (length (t .tape))) ∷ pointer names ∷ holds (reader-val (t .reader)) ∷ holds (t .value) ∷ []
 
       abbrev At : State → List (Item 𝓤)
       At t = laid En (vacant ∷ passed t) ++ Kept t
@@ -236,12 +236,12 @@ module _ {M : Type 1} (𝓤 : URA M) (H : Heap 𝓤) (A : Atoms 𝓤) (W : Given
 
       abbrev to-next : State → (ν ν₁ ν₂ : ℕ) (δ δ₁ δ₂ : GName) → Next 𝓤 H A at-mem run .Ghost
       to-next t ν ν₁ ν₂ δ δ₁ δ₂ =
-          ((lifetimes ν ν₁ ν₂, shares, (meet-⊑-right (ν ∷ []) (κs .0), tt), args t ν ν₁ ν₂ δ δ₁ δ₂, (vptr l₄ 0 ∷ [], (ptr-vals tape, (ptr-vals names, (t .value ∷ [], tt))))), tt)
+          ((lifetimes ν ν₁ ν₂, shares, (meet-⊑-right (ν ∷ []) (κs .0), tt), args t ν ν₁ ν₂ δ δ₁ δ₂, (vptr l₄ 0 ∷ [], (sliceVal (ptr tape) (length (t .tape)) ∷ [], (ptr-vals names, (t .value ∷ [], tt))))), tt)
 
       abbrev Lent : State → (ν ν₁ ν₂ : ℕ) (δ δ₁ δ₂ : GName) → List (Item 𝓤)
       Lent t ν ν₁ ν₂ δ δ₁ δ₂ = ‵ (flft (ν ∷ κs .0) (PosShare·right (qs .0))) ∷ ‵ (flft (κs .0) (PosShare·left (qs .0))) ∷ ‵ (flft (ν₁ ∷ []) fullShare) ∷ ‵ (flft (ν₂ ∷ []) fullShare) ∷
           ‵ (MutRef erased (ν ∷ κs .0) Reads .own (record { ptr = (l₄, 0); name = δ; now = t .reader }) (vptr l₄ 0 ∷ [])) ∷
-          ‵ (MutRef erased (ν₁ ∷ []) Words .own (lent-at tape δ₁ (t .tape)) (ptr-vals tape)) ∷
+          ‵ (Theirs u32 (κs .1 .0) (qs .1 .0) tape ν₁ δ₁ (t .tape)) ∷
           ‵ (MutRef erased (ν₂ ∷ []) Entries .own (lent-at names δ₂ (t .names)) (ptr-vals names)) ∷ []
 
       goes-next : (t : State) (ν ν₁ ν₂ : ℕ) (δ δ₁ δ₂ : GName) → ent 𝓤 (⋆ 𝓤 H A (Lent t ν ν₁ ν₂ δ δ₁ δ₂)) (Next 𝓤 H A at-mem run .pre (to-next t ν ν₁ ν₂ δ δ₁ δ₂))
@@ -276,30 +276,30 @@ module _ {M : Type 1} (𝓤 : URA M) (H : Heap 𝓤) (A : Atoms 𝓤) (W : Given
       unfolding afterTurn
       goes-on t said =
           asked t true said (stays ! (copies ! 14 refl) $ assigns ! (addr ! (from ! (stop !))) (from ! (stop !)) (init ! 16 refl (tt, tt)) $
-          assigns ! (addr ! (from ! (hop ! (look ! 4 refl) (stop !)))) (from ! (stop !)) (init ! 18 refl (tt, tt)) $
-          assigns ! (addr ! (from ! (hop ! (look ! 6 refl) (stop !)))) (from ! (stop !)) (init ! 20 refl (tt, tt)) $
+          lends-again ! 4 18 20 refl refl refl refl refl refl tt tt (fits-tape t .0) $
+          assigns ! (addr ! (from ! (hop ! (look ! 6 refl) (stop !)))) (from ! (stop !)) (init ! 22 refl (tt, tt)) $
           -- the reader is lent, and tape and names are lent again, for lifetimes of the call
-          move ! (8 ∷ 22 ∷ 25 ∷ []) $ lends-local ! tt D L (κs .0) (qs .0) (t .reader) l₄ (λ ν δ.
-          move ! (26 ∷ 28 ∷ []) $ lends-reference-again ! tt Words (κs .1 .0) (qs .1 .0) tape (t .tape) (λ ν₁ δ₁.
-          move ! (29 ∷ 30 ∷ []) $ lends-reference-again ! tt Entries (κs .1 .1 .0) (qs .1 .1 .0) names (t .names) (λ ν₂ δ₂.
+          move ! (8 ∷ 24 ∷ 27 ∷ []) $ lends-local ! tt D L (κs .0) (qs .0) (t .reader) l₄ (λ ν δ.
+          move ! (28 ∷ 30 ∷ []) $ lends-slice-again ! tt u32 (κs .1 .0) (qs .1 .0) tape (t .tape) (λ ν₁ δ₁.
+          move ! (31 ∷ 32 ∷ []) $ lends-reference-again ! tt Entries (κs .1 .1 .0) (qs .1 .1 .0) names (t .names) (λ ν₂ δ₂.
           move ! (8 ∷ 10 ∷ 5 ∷ 2 ∷ 6 ∷ 3 ∷ 0 ∷ []) $ group ! 7 $
           use1 W (raw (Next 𝓤 H A at-mem run .pre (to-next t ν ν₁ ν₂ δ δ₁ δ₂))) (goes-next t ν ν₁ ν₂ δ δ₁ δ₂) $
           -- [what `next_declaration` is passed; what is kept of names, of tape and of the reader; the locals]
           calls-at-last ! fm (Next 𝓤 H A at-mem run) known-next (to-next t ν ν₁ ν₂ δ δ₁ δ₂)
-          (and-copies ! 20 refl (and-copies ! 22 refl (and-copies ! 24 refl (and-copies ! 14 refl (no-more !))))) (λ w.
+          (and-copies ! 20 refl (and-copies ! 24 refl (and-copies ! 26 refl (and-copies ! 14 refl (no-more !))))) (λ w.
           answers-lasts ! tt S.the-row _ Changed (lasts next.ended (lifetimes ν ν₁ ν₂) (args t ν ν₁ ν₂ δ δ₁ δ₂))
           (λ x ws. fact 𝓤 (Told t x ws)) w (λ x ws is-x. drop ! $ move ! (2 ∷ []) $ heard ! (Told t x ws) (λ told.
           tokens-apart ! 4 (lifetimes ν ν₁ ν₂) shares $
           -- the last values are taken apart
-          move ! (4 ∷ []) $ fsplit ! $ move ! (1 ∷ []) $ fsplit ! $ move ! (1 ∷ []) $ fsplit ! $ move ! (1 ∷ []) $ drop ! $
+          move ! (4 ∷ []) $ fsplit ! $ move ! (1 ∷ []) $ last-list ! (λ e. fsplit ! $ move ! (1 ∷ []) $ drop ! $
           -- [the last names; the last tape; the last reader; the tokens; what is kept of names, of tape and of the reader; the locals]: the lifetimes end
           move ! (3 ∷ 10 ∷ 4 ∷ 9 ∷ 2 ∷ []) $ local-comes-back ! tt D L (κs .0) (qs .0) (ws .0) l₄ $
-          move ! (5 ∷ 8 ∷ 4 ∷ []) $ reference-comes-back ! tt Words (κs .1 .0) (qs .1 .0) tape (t .tape) (ws .1 .0) $
+          move ! (5 ∷ 8 ∷ 4 ∷ []) $ slice-comes-back-at ! tt u32 (κs .1 .0) (qs .1 .0) tape 12 (t .tape) (ws .1 .0) (fits-tape t) e refl $
           move ! (6 ∷ 7 ∷ 5 ∷ []) $ reference-comes-back ! tt Entries (κs .1 .1 .0) (qs .1 .1 .0) names (t .names) (ws .1 .1 .0) $
           land-last ! (from ! (stop !)) (store ! 16 refl (EL.lawful S.the-type S′.the-laws 𝓤 H A W tt .typed x _ is-x .0)) $
-          forget ! 20 refl $ forget ! 22 refl $ forget ! 24 refl $ forget ! 26 refl $
-          move ! (counting 7 8 ++ 4 ∷ counting 15 13 ++ 5 ∷ 2 ∷ 0 ∷ 6 ∷ 3 ∷ 1 ∷ []) $
-          again ! Less At t (next-turn t x w ws told is-x) (told .declares .falls said))))))))
+          forget ! 20 refl $ forget ! 22 refl $ forget ! 24 refl $ forget ! 26 refl $ forget ! 28 refl $
+          move ! (counting 7 8 ++ 4 ∷ counting 15 15 ++ 5 ∷ 2 ∷ 0 ∷ 6 ∷ 3 ∷ 1 ∷ []) $
+          again ! Less At t (next-turn t x w ws told e is-x) (told .declares .falls said)))))))))
 
       -- the turn that leaves the loop, and the rest of the body
       ends : (t : State) → onward (t .stage) ≡ false → Goes t
@@ -311,7 +311,7 @@ module _ {M : Type 1} (𝓤 : URA M) (H : Heap 𝓤) (A : Atoms 𝓤) (W : Given
           calls-at ! fm (Outcome 𝓤 H A at-mem run) known-outcome (to-outcome (t .stage) (t .value)) (and-copies ! 11 refl (no-more !)) (λ u.
           answers ! tt P.the-row _ (λ r. r ≡ outcomeOf (t .stage)) (outcome-said 𝓤 H A at-mem run (t .stage)) u (λ r last is.
           land ! (from ! (stop !)) (init ! 1 refl (EL.lawful P.the-type P′.the-laws 𝓤 H A W tt .typed r _ is .0)) $ returns ! (look ! 1 refl) $
-          move ! (counting 1 22) $
+          move ! (counting 1 24) $
           frees-laid ! En (holds u ∷ (passed t ++ vacant ∷ holds (vbool false) ∷ [])) $ by ! (exits t r u (finished t r said last)))))
 
       either : (t : State) (y : Bool) → onward (t .stage) ≡ y → Goes t
@@ -324,12 +324,12 @@ module _ {M : Type 1} (𝓤 : URA M) (H : Heap 𝓤) (A : Atoms 𝓤) (W : Given
     walk : (length (now text) ≤ 32768) × (length (now names) ≡ 64) → Triple 𝓤 (𝓣 .C #lexing·reader·new) (New 𝓤 H A at-mem run)
         → Triple 𝓤 (𝓣 .C #declarations·functions·first-stage) (FirstStage 𝓤 H A at-mem run)
         → ent 𝓤 (onEntry 𝓤 H A functions.signature κs qs a vss)
-        (WpFn 𝓤 H (𝓣 .C) (𝓣 .Λ) code.function (sliceVal (ptr text) (length (now text)) ∷ vptr (ptr tape .0) (ptr tape .1) ∷ vptr (ptr names .0) (ptr names .1) ∷ []) Post)
+        (WpFn 𝓤 H (𝓣 .C) (𝓣 .Λ) code.function (sliceVal (ptr text) (length (now text)) ∷ sliceVal (ptr tape) (length (now tape)) ∷ vptr (ptr names .0) (ptr names .1) ∷ []) Post)
     walk req known-new known-first =
         qed W (raw (toks 𝓤 A 3 κs qs) ∷ ‵ Owned ∷ []) ∵ enter ! (𝓣 .C) (𝓣 .Λ) code.function _ _ $
-        lays-out ! (λ l₀ l₁ l₂ l₃ l₄ l₅ l₆ l₇ l₈ l₉ l₁₀. params1 ! $
-        takes-slice ! 2 refl tt (are .0 .0 .1 .0) $ pass1 ! (init ! 4 refl (tt, tt)) $ pass1 ! (init ! 6 refl (tt, tt)) $ pass0 ! $
-        move ! (22 ∷ []) $ tokens-apart ! 3 κs qs $ move ! (25 ∷ []) $ owned-apart ! (typesAt (functions.signature .params) κs) a vss $
+        lays-out ! (λ l₀ l₁ l₂ l₃ l₄ l₅ l₆ l₇ l₈ l₉ l₁₀ l₁₁. params1 ! $
+        takes-slice ! 2 refl tt (are .0 .0 .1 .0) $ takes-slice ! 4 refl tt (are .1 .0 .0 .1 .0) $ pass1 ! (init ! 6 refl (tt, tt)) $ pass0 ! $
+        move ! (24 ∷ []) $ tokens-apart ! 3 κs qs $ move ! (27 ∷ []) $ owned-apart ! (typesAt (functions.signature .params) κs) a vss $
         -- [what text, tape and names own; their tokens; the locals]: the reader is made of the text
         move ! (3 ∷ 0 ∷ []) $ use2 W (raw (New 𝓤 H A at-mem run .pre to-new)) goes-new $
         calls-at ! fm (New 𝓤 H A at-mem run) known-new to-new (and-copies ! 7 refl (no-more !)) (λ u.
@@ -345,9 +345,9 @@ module _ {M : Type 1} (𝓤 : URA M) (H : Heap 𝓤) (A : Atoms 𝓤) (W : Given
         calls-at ! fm (FirstStage 𝓤 H A at-mem run) known-first to-first (no-more !) (λ v.
         answers ! tt S.the-row _ (λ x. x ≡ firstStage) (first-said 𝓤 H A at-mem run) v (λ x how is-x. drop ! $
         land ! (from ! (stop !)) (init ! 16 refl (EL.lawful S.the-type S′.the-laws 𝓤 H A W tt .typed x _ is-x .0)) $
-        move ! (counting 6 22 ++ 1 ∷ 2 ∷ 3 ∷ 0 ∷ 4 ∷ 5 ∷ []) $
+        move ! (counting 6 24 ++ 1 ∷ 2 ∷ 3 ∷ 0 ∷ 4 ∷ 5 ∷ []) $
         -- the loop
-        first-part ! $ blocks ! $ loops ! 𝓣 Less less-founded (At l₀ l₁ l₂ l₃ l₄ l₅ l₆ l₇ l₈ l₉ l₁₀) (turns l₀ l₁ l₂ l₃ l₄ l₅ l₆ l₇ l₈ l₉ l₁₀)
+        first-part ! $ blocks ! $ loops ! 𝓣 Less less-founded (At l₀ l₁ l₂ l₃ l₄ l₅ l₆ l₇ l₈ l₉ l₁₀ l₁₁) (turns l₀ l₁ l₂ l₃ l₄ l₅ l₆ l₇ l₈ l₉ l₁₀ l₁₁)
         (at-start (now names) req r made x v how is-x))))))
 
 pub functions-spec : {M : Type 1} → stated.statement M
@@ -355,10 +355,10 @@ unfolding code.routine tablesOf
 functions-spec 𝓤 H 𝓜 𝓖 𝓡 =
     let W = givenOf 𝓤 H 𝓜 𝓖 in
     walk-enters 𝓤 H 𝓜 𝓖 𝓡 code.env functions.ended stayed
-    ((λ κs x f vs fits. W .laws .⇛-intro _), (goes-ref 𝓤 H (𝓖 .A) W 3 1 tt words, (goes-ref 𝓤 H (𝓖 .A) W 3 2 tt entries, tt)))
+    ((λ κs x f vs fits. W .laws .⇛-intro _), (goes-slice 𝓤 H (𝓖 .A) W 3 1 tt words, (goes-ref 𝓤 H (𝓖 .A) W 3 2 tt entries, tt)))
     (functions.clauses 𝓤 H (𝓖 .A) (𝓜 .mem) (𝓡 .run)) #reading·functions·functions code.function (code.unfolded 𝓤 H 𝓜 𝓡)
-    (λ κs. (slice-vals, (ptr-vals, (ptr-vals, tt))))
-    (λ κs. (shr-slice-tells (named 0) (κs .0) u8, (mut-tells (named 1) (κs .1 .0) (Array u32 32768), (mut-tells (named 2) (κs .1 .1 .0) (Array usize 64), tt))))
+    (λ κs. (slice-vals, (slice-vals, (ptr-vals, tt))))
+    (λ κs. (shr-slice-tells (named 0) (κs .0) u8, (mut-slice-tells (named 1) (κs .1 .0) u32, (mut-tells (named 2) (κs .1 .1 .0) (Array usize 64), tt))))
     (λ κs qs bounds a _ are. required-one 𝓤 H (𝓖 .A) W _ _ (λ req. walk 𝓤 H (𝓖 .A) W (𝓜 .mem) (𝓡 .run) κs qs bounds (a .0) (a .1 .0) (a .1 .1 .0) are
     (tablesOf 𝓤 H 𝓜 (tables 𝓤 H 𝓜 𝓡 code.env)) (calls-framed 𝓤 H 𝓜 𝓖 𝓡 code.env)
     (cited 𝓤 H (IsOnward 𝓤 H (𝓖 .A) (𝓜 .mem) (𝓡 .run)) 𝓜 𝓡 code.env #declarations·functions·is-onward is-onward-def.routine code.calls-declarations·functions·is-onward

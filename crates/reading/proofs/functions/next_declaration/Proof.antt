@@ -31,7 +31,7 @@ use denote.Builtin.{u8, u32, usize}
 use denote.Array.{Array}
 use denote.Ref.{RefT, NamedLft, ptr, name, now, ptr-vals, mut-tells}
 use denote.Signature.{Slot, plain, typesAt, namedLft}
-use denote.Slice.{sliceVal, shr-slice-lawful}
+use denote.Slice.{sliceVal, slice-vals, shr-slice-lawful, mut-slice-tells}
 use denote.Steps.{only, opens, closes, owned, peeks, heard}
 use denote.Enum.Laws as EL
 use denote.Struct.Declared.{Declared}
@@ -65,6 +65,7 @@ use Rattle.walking.proofs.Answering.{answers-lasts}
 use Rattle.walking.proofs.Locals.{Content, holds, placed, lays-out, frees-laid, counting, and-copies}
 use Rattle.walking.proofs.Entering.{calls-framed, walk-enters}
 use Rattle.walking.proofs.Handing.{all-handed, after-first, all-fit, all-go}
+use Rattle.walking.proofs.Lending.{takes-slice, lends-again}
 use Rattle.reading.proofs.functions.next_declaration.Key.{name as #reading·functions·next-declaration}
 use Rattle.reading.proofs.functions.next_declaration as next
 use Rattle.reading.proofs.functions.next_declaration.Statement as stated
@@ -80,6 +81,9 @@ stayed = (stay-ref (0 ∷ []) tt behind, all-handed (after-first (next.signature
 -- what a local holds
 abbrev pointer : {X : Type 0} → RefT X → Content
 pointer x = holds (vptr (ptr x .0) (ptr x .1))
+
+abbrev slice : {X : Type 0} → RefT (List X) → Content
+slice x = holds (sliceVal (ptr x) (length (now x)))
 
 -- the contract that the proof cites
 abbrev Declaration : {M : Type 1} (𝓤 : URA M) (H : Heap 𝓤) (A : Atoms 𝓤) (at-mem : Memory → SProp 𝓤) (run : Routine → Fun 𝓤) → Contract 𝓤
@@ -136,7 +140,7 @@ module _ {M : Type 1} (𝓤 : URA M) (H : Heap 𝓤) (A : Atoms 𝓤) (W : Given
   stage-val = EL.val S.the-type S′.the-laws
 
   abbrev vss : Vals next.signature κs
-  vss = (ptr-vals lent, (ptr-vals tape, (ptr-vals names, (stage-vals stage, tt))))
+  vss = (ptr-vals lent, (slice-vals tape, (ptr-vals names, (stage-vals stage, tt))))
 
   abbrev Required : SProp 𝓤
   Required = next.clauses 𝓤 H A at-mem run κs a .requires tt
@@ -189,14 +193,14 @@ module _ {M : Type 1} (𝓤 : URA M) (H : Heap 𝓤) (A : Atoms 𝓤) (W : Given
   module _ (are : Are (typesAt (next.signature .params) κs) (Ises (typesAt (next.signature .params) κs)) a vss) (C : Calls 𝓤 H) (Λ : Loops 𝓤 H) (fm : FmC 𝓤 H (W .laws) C)
       (known : Triple 𝓤 (C #declarations·functions·declaration) (Declaration 𝓤 H A at-mem run)) where
     walk : ent 𝓤 (sep 𝓤 (onEntry 𝓤 H A next.signature κs qs a vss) Required)
-        (WpFn 𝓤 H C Λ code.function (vptr b o ∷ vptr (ptr tape .0) (ptr tape .1) ∷ vptr (ptr names .0) (ptr names .1) ∷ stage-val stage ∷ []) Post)
+        (WpFn 𝓤 H C Λ code.function (vptr b o ∷ sliceVal (ptr tape) (length (now tape)) ∷ vptr (ptr names .0) (ptr names .1) ∷ stage-val stage ∷ []) Post)
     walk =
         qed W (((‵ (flft (κs .0) (qs .0)) ⊛ raw Tokens) ⊛ ‵ Owned) ∷ raw Required ∷ []) ∵ enter ! C Λ code.function _ _ $
-        lays-out ! (λ l₀ l₁ l₂ l₃ l₄ l₅ l₆ l₇ l₈ l₉. params1 ! $
-        pass1 ! (init ! 2 refl (tt, tt)) $ pass1 ! (init ! 4 refl (tt, tt)) $ pass1 ! (init ! 6 refl (tt, tt)) $
+        lays-out ! (λ l₀ l₁ l₂ l₃ l₄ l₅ l₆ l₇ l₈ l₉ l₁₀. params1 ! $
+        pass1 ! (init ! 2 refl (tt, tt)) $ takes-slice ! 4 refl tt (are .1 .0 .0 .1 .0) $ pass1 ! (init ! 6 refl (tt, tt)) $
         pass1 ! (init ! 8 refl (EL.lawful S.the-type S′.the-laws 𝓤 H A W tt .typed stage _ (are .1 .1 .1 .0) .0)) $ pass0 ! $
         -- the reader's borrow is opened
-        move ! (20 ∷ []) $ split ! $ split ! $ move ! (2 ∷ []) $ fsplit ! $ fsplit3 ! $ drop ! $ move ! (0 ∷ 1 ∷ 3 ∷ 2 ∷ 4 ∷ 25 ∷ []) $
+        move ! (22 ∷ []) $ split ! $ split ! $ move ! (2 ∷ []) $ fsplit ! $ fsplit3 ! $ drop ! $ move ! (0 ∷ 1 ∷ 3 ∷ 2 ∷ 4 ∷ 27 ∷ []) $
         opens ! tt R {h = h} b o (λ vs. spelt ! R (Is R) (shows 𝓤 H A R) (LL.vals D L) (LL.tells D L) fullShare h vs b o $
         use1 W (‵ (fat fullShare (T′.mir erased) b o (T′.lowered h))) (W .laws .raw-at fullShare (T′.mir erased) b o (T′.lowered h)) $
         move ! (1 ∷ []) $ peeks ! R (Is R) (shows 𝓤 H A R) h (T′.lowered h ∷ []) (λ was. move ! (1 ∷ 0 ∷ []) $
@@ -205,8 +209,8 @@ module _ {M : Type 1} (𝓤 : URA M) (H : Heap 𝓤) (A : Atoms 𝓤) (W : Given
         (init ! 20 refl (shr-slice-lawful 𝓤 H A W (named 1) κ′ u8 .typed (h .text) _ (LL.owed D L h _ was .0) .0)) $
         assigns ! (of-opd ! (load ! (from ! (hop ! (look ! 10 refl) (fld ! refl (stop !)))) (look-in ! 0 (sub ! 1 refl (whole !))))) (from ! (stop !))
         (init ! 22 refl (tt, record { fits = LL.owed D L h _ was .1 .0 .1 })) $
-        assigns ! (addr ! (from ! (hop ! (look ! 12 refl) (stop !)))) (from ! (stop !)) (init ! 24 refl (tt, tt)) $
-        assigns ! (addr ! (from ! (hop ! (look ! 14 refl) (stop !)))) (from ! (stop !)) (init ! 26 refl (tt, tt)) $
+        lends-again ! 12 24 26 refl refl refl refl refl refl tt tt (are .1 .0 .0 .1 .0) $
+        assigns ! (addr ! (from ! (hop ! (look ! 14 refl) (stop !)))) (from ! (stop !)) (init ! 28 refl (tt, tt)) $
         -- `declaration` is called on the text and the place, and with all else as it was passed
         move ! (1 ∷ []) $ use1 W (‵ Own ⊛ ‵ Own) (LL.copy D (T′.the-copy α) 𝓤 H A W .twice h (T′.lowered h ∷ [])) $ split ! $
         use1 W (given (T′.lowered h ∷ [] ≡ T′.lowered h ∷ []) (‵ (all-own (D .parts) L vd))) (own-open 𝓤 H A W D L vd (T′.lowered h)) $ learn ! (λ _.
@@ -215,7 +219,7 @@ module _ {M : Type 1} (𝓤 : URA M) (H : Heap 𝓤) (A : Atoms 𝓤) (W : Given
         move ! (6 ∷ []) $ owned ! usize (Is usize) (uint-makes 𝓤 H A W w64) (h .at) _ (refl, LL.owed D L h _ was .1 .0 .1) $ fjoin ! $ move ! (1 ∷ 0 ∷ []) $ fjoin ! $
         move ! (6 ∷ 0 ∷ []) $ join ! $ move ! (0 ∷ 6 ∷ []) $ join ! $ use1 W (raw (Declaration 𝓤 H A at-mem run .pre to-declaration)) (id⊢ 𝓤 _) $
         calls-at ! fm (Declaration 𝓤 H A at-mem run) known to-declaration
-        (and-copies ! 18 refl (and-copies ! 20 refl (and-copies ! 22 refl (and-copies ! 24 refl (and-copies ! 14 refl (no-more !)))))) (λ u.
+        (and-copies ! 18 refl (and-copies ! 20 refl (and-copies ! 24 refl (and-copies ! 26 refl (and-copies ! 14 refl (no-more !)))))) (λ u.
         answers-lasts ! tt P.the-row Tokens (Lasts declaration.ended (κs .1) passed) (lasts declaration.ended (κs .1) passed) (λ r ws. fact 𝓤 (Told r ws)) u (λ r ws is.
         move ! (3 ∷ []) $ heard ! (Told r ws) (λ told.
         -- [what the answer owns; the others' tokens; the last lists; what the reader owns; its cell; the open borrow; obs; auth; the locals]
@@ -230,9 +234,9 @@ module _ {M : Type 1} (𝓤 : URA M) (H : Heap 𝓤) (A : Atoms 𝓤) (W : Given
         move ! (3 ∷ []) $ use1 W (‵ (cellAt fullShare (R .mir) (T′.lowered (gone (r .at)) ∷ []) b o))
         (W .laws .at-raw fullShare (T′.mir erased) b o (T′.lowered (gone (r .at)))) $
         move ! (0 ∷ 1 ∷ 4 ∷ 5 ∷ 6 ∷ []) $ closes ! tt R (gone (r .at)) (T′.lowered (gone (r .at)) ∷ []) b o $
-        returns ! (look ! 5 refl) $ move ! (counting 5 20) $
-        frees-laid ! (placed (code.function .locals) (l₀ ∷ l₁ ∷ l₂ ∷ l₃ ∷ l₄ ∷ l₅ ∷ l₆ ∷ l₇ ∷ l₈ ∷ l₉ ∷ [])) (holds (stage-val (r .stage)) ∷ pointer lent ∷
-        pointer tape ∷ pointer names ∷ holds (stage-val stage) ∷ holds (LL.val P.the-type P′.the-laws r) ∷ holds v ∷ holds (vint w64 (h .at)) ∷ pointer tape ∷
+        returns ! (look ! 5 refl) $ move ! (counting 5 22) $
+        frees-laid ! (placed (code.function .locals) (l₀ ∷ l₁ ∷ l₂ ∷ l₃ ∷ l₄ ∷ l₅ ∷ l₆ ∷ l₇ ∷ l₈ ∷ l₉ ∷ l₁₀ ∷ [])) (holds (stage-val (r .stage)) ∷ pointer lent ∷
+        slice tape ∷ pointer names ∷ holds (stage-val stage) ∷ holds (LL.val P.the-type P′.the-laws r) ∷ holds v ∷ holds (vint w64 (h .at)) ∷ pointer tape ∷ slice tape ∷
         pointer names ∷ []) $
         by ! (exits r ws (LL.owed P.the-type P′.the-laws r _ is .0) told))))))))
 
@@ -243,11 +247,11 @@ next-declaration-spec 𝓤 H 𝓜 𝓖 𝓡 =
     walk-enters 𝓤 H 𝓜 𝓖 𝓡 code.env next.ended stayed
     (goes-ref 𝓤 H (𝓖 .A) W 4 0 tt behind, all-go 𝓤 H (𝓖 .A) W 4 (after-first (next.signature .params)) (next.ended .kept .1))
     (next.clauses 𝓤 H (𝓖 .A) (𝓜 .mem) (𝓡 .run)) #reading·functions·next-declaration code.function (code.unfolded 𝓤 H 𝓜 𝓡)
-    (λ κs. (ptr-vals, (ptr-vals, (ptr-vals, (EL.vals S.the-type S′.the-laws, tt)))))
+    (λ κs. (ptr-vals, (slice-vals, (ptr-vals, (EL.vals S.the-type S′.the-laws, tt)))))
     (λ κs. (
       mut-tells (named 0) (κs .0) (T.the-row (namedLft 4 1 tt κs)),
       (
-        mut-tells (named 2) (κs .1 .1 .0) (Array u32 32768),
+        mut-slice-tells (named 2) (κs .1 .1 .0) u32,
         (mut-tells (named 3) (κs .1 .1 .1 .0) (Array usize 64), (EL.tells S.the-type S′.the-laws, tt)),
       ),
     ))

@@ -1,5 +1,5 @@
 -- A state of the loop of `functions`: the reader, the stage, and the lent lists, with what holds of them. The laws of how the loop goes from one to the next.
-use mathlib.Core.Path.{_≡_, sym, ap, subst, _∙_}
+use mathlib.Core.Path.{_≡_, refl, sym, ap, subst, _∙_}
 use Prim.Native.Nat.{ℕ, _≤_, _<_}
 use mathlib.Core.Bool.{true, false, true≢false}
 use mathlib.Core.List.{List, [], _∷_}
@@ -32,6 +32,7 @@ pub record Turn (text : RefT (List ℕ)) (start : List ℕ) : Type 0 where
   pub names : List ℕ
   pub typed : Is S.the-row stage (value ∷ [])
   pub same : reader .text ≡ text
+  pub long : length tape ≡ length start
   pub stands : StageIs (now text) start tape names (reader .at) stage
 
 -- what holds in the first state, and in the last
@@ -68,6 +69,7 @@ module _ {text : RefT (List ℕ)} {start : List ℕ} where
         names = names;
         typed = is;
         same = ap (λ (d : Reader). d .text) made;
+        long = refl;
         stands = begins text start names req r made x how;
       }
 
@@ -79,8 +81,9 @@ module _ {text : RefT (List ℕ)} {start : List ℕ} where
   may-go t = record { start = start; is = stands-there t }
 
   -- the next state
-  abbrev pub next-turn : (t : Turn text start) (x : Stage) (w : Val) (ws : Changed) → Told t x ws → Is S.the-row x (w ∷ []) → Turn text start
-  next-turn t x w ws told is =
+  abbrev pub next-turn : (t : Turn text start) (x : Stage) (w : Val) (ws : Changed) → Told t x ws → length (ws .1 .0) ≡ length (t .tape) → Is S.the-row x (w ∷ [])
+      → Turn text start
+  next-turn t x w ws told e is =
       record {
         reader = ws .0;
         stage = x;
@@ -89,6 +92,7 @@ module _ {text : RefT (List ℕ)} {start : List ℕ} where
         names = ws .1 .1 .0;
         typed = is;
         same = told .same ∙ t .same;
+        long = e ∙ t .long;
         stands = subst (λ (s : RefT (List ℕ)). StageIs (now s) start (ws .1 .0) (ws .1 .1 .0) (ws .0 .at) x) (t .same) (told .declares .keeps start (stands-there t));
       }
 

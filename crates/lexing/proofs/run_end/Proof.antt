@@ -1,6 +1,6 @@
--- `lexing::run_past` meets its contract: the run from the start is that from here.
-use Rattle.lexing.proofs.run_past.Statement.{statement}
-use Rattle.lexing.proofs.run_past.Tie as tie
+-- `lexing::run_end` meets its contract: the run from the start is that from here.
+use Rattle.lexing.proofs.run_end.Statement.{statement}
+use Rattle.lexing.proofs.run_end.Tie as tie
 use Prim.Native.Nat.{_-_}
 use mathlib.Core.Path.{_≡_, sym, _∙_}
 use mathlib.Core.Bool.{Bool}
@@ -8,27 +8,27 @@ use native.Mathlib.Omega.{arith}
 use lib.ListN.{length}
 use borrow.Author.Needs.{needs}
 use borrow.Author.Tests.{not-true, not-false}
-use Rattle.classes.specs.Tests.{classTest}
+use Rattle.lexing.specs.View.{runByte}
 use Rattle.lexing.proofs.Words.{Running, RunningAt, run-starts, run-goes, run-stops, run-ends}
 
 abbrev Inv-loop : tie.InvT-loop
-Inv-loop table text from class at₀ at = Running text (classTest class) from at
+Inv-loop text from naming at₀ at = Running text (runByte naming) from at
 
 abbrev μ-loop : tie.MeasureT-loop
-μ-loop table text from class at₀ at = length text - at
+μ-loop text from naming at₀ at = length text - at
 
 loop-holds : tie.Need-loop-holds Inv-loop μ-loop
 loop-holds c = run-starts _ _ _
 
-running : (c : tie.After-passes Inv-loop μ-loop) {goes : Bool} → c .passes .result ≡ goes
+running : (c : tie.After-goes-on Inv-loop μ-loop) {goes : Bool} → c .goes-on .result ≡ goes
     → let l = c .before .before .before .loop in
     let a = c .before .before .before .before .before .args in
-    RunningAt (a .text .now) (classTest (a .class)) (a .from) (l .at) goes
+    RunningAt (a .text .now) (runByte (a .naming)) (a .from) (l .at) goes
 running c e =
     record {
       running = c .before .before .before .loop .inv;
       inside = c .before .before .loop-test .taken;
-      class = sym (c .passes .ensures) ∙ e;
+      class = sym (c .goes-on .ensures) ∙ e;
     }
 
 returns : tie.Need-returns Inv-loop μ-loop
@@ -40,8 +40,8 @@ loop-again c = run-goes _ _ _ _ (running (c .before) (not-false _ (c .if1 .left)
 returns-2 : tie.Need-returns-2 Inv-loop μ-loop
 returns-2 c = run-ends _ _ _ _ (c .loop-test .left) (c .before .loop .inv)
 
-pub run-past-spec : {M : Type 1} → statement M
-run-past-spec =
+pub run-end-spec : {M : Type 1} → statement M
+run-end-spec =
     tie.close
     (tie.spec
     Inv-loop
