@@ -1,10 +1,10 @@
 -- Worked rows of angle calls: 02, T-08, and the borders of an angle, each with its neighbour.
 use Prim.Native.String.{String}
 use mathlib.Core.Path.{_≡_, refl}
-use mathlib.Core.Bool.{true}
+use mathlib.Core.Bool.{true, false}
 use mathlib.Core.List.{List, [], _∷_, _++_, map}
 use Rattle.meaning.specs.Choice.{Bytes}
-use Rattle.meaning.specs.Angles.{Operation, plus, minus, Angled, sum, notAngles, outOfRange, angled}
+use Rattle.meaning.specs.Angles.{Operation, plus, minus, operation, Angled, sum, notAngles, outOfRange, angled}
 use Rattle.meaning.specs.Tree.{character, Element, letter, Expression, end, thenCharacter, thenPart, thenCall, Table}
 use Rattle.meaning.specs.Names.{operationName, asEmission, asAngles, asFunction, callingOf, recoverPrefix}
 use Rattle.meaning.specs.Outcome.{Result}
@@ -146,6 +146,9 @@ rows-hold = refl
 
 spelled : map operationName (plus ∷ minus ∷ []) ≡ map bytes ("DmAdd" ∷ "DmSub" ∷ [])
 spelled = refl
+
+operations : map operation (false ∷ true ∷ []) ≡ plus ∷ minus ∷ []
+operations = refl
 
 callings :
     map (λ (s : String). callingOf (bytes s)) ("DmAdd" ∷ "DmSub" ∷ "DmAd" ∷ "DmAdd2" ∷ "dmadd" ∷ "EmitDmAdd" ∷ [])
