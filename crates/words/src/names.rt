@@ -1,6 +1,7 @@
 // Names on the tape: comparing two, finding one in a list, telling how a call is done, and finding who recovers a function.
 use crate::tape::name_size;
 use crate::tape::word_at;
+use crate::tape::word_inside;
 ghost use mathlib.Core.Path.{_≡_};
 ghost use mathlib.Core.List.{_++_};
 ghost use Prim.Native.Nat.{_+_, _≤_};
@@ -45,7 +46,7 @@ fn starts_with(tape: &[u32], from: usize, size: usize, prefix: &[u8]) -> bool
     let mut i = 0;
     while i < prefix.len() {
         let byte = prefix[i] as usize;
-        if byte != word_at(tape, from + i) {
+        if byte != word_inside(tape, from + i) {
             return false;
         }
         i += 1;

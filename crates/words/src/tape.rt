@@ -55,11 +55,23 @@ pub fn less(a: usize, b: usize) -> usize
     if b < a { a - b } else { 0 }
 }
 
+// The word at a place inside the tape.
+pub fn word_inside(tape: &[u32], i: usize) -> usize
+    requires { ⌜ i < length (now tape) ⌝ }
+    ensures { λ r. ⌜ (r ≡ getD (now (tape .entry)) i 0) × (r < 2 ^ 32) ⌝ }
+{
+    tape[i] as usize
+}
+
 // The word at a place, 0 past the end.
 pub fn word_at(tape: &[u32], i: usize) -> usize
     ensures { λ r. ⌜ (r ≡ getD (now (tape .entry)) i 0) × (r < 2 ^ 32) ⌝ }
 {
-    if i < tape.len() { tape[i] as usize } else { 0 }
+    if i < tape.len() {
+        word_inside(tape, i)
+    } else {
+        0
+    }
 }
 
 // The word at a place of the tape, before those after it.
