@@ -99,6 +99,11 @@ module _ (ws : List ℕ) (i : ℕ) (h : i < length ws) {w : ℕ} (e : w ≡ getD
           by true = refl
           by false = refl
 
+-- a word below those that open and close calls
+pub stays-low : (ws : List ℕ) (i : ℕ) → i < length ws → {w : ℕ} → w ≡ getD ws i 0 → w < 1280
+    → (s : Scan) → scanned 0 (drop i ws) s ≡ scanned 0 (drop (i + 1) ws) s
+stays-low ws i h {w = w} e k s = stays-here ws i h e {opens = opensCall w} refl (lt-leb 2304 w (omega arith)) (λ z. omega arith) s
+
 -- THE END OF A CALL, AND OF THE TAPE
 
 -- an outermost call, by what is known where it is closed

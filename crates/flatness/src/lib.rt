@@ -101,7 +101,8 @@ fn past_name(tape: &[u32], i: usize) -> usize
     i + 1 + word_at(tape, i) % KIND
 }
 
-// What follows the name of an outermost call, to where the call closes: a declared call in it is no tail call.
+// What follows the name of an outermost call, to where the call closes: a declared call in it is no tail call. Characters
+// and variables are passed by the first test.
 fn pass_argument(tape: &[u32], from: usize, leftmost: usize) -> Passed
     ensures { λ r. ⌜ (from ≤ r .next) × ArgumentPassed (now (tape .entry)) from leftmost (r .next) (r .leftmost) ⌝ }
 {
@@ -110,7 +111,9 @@ fn pass_argument(tape: &[u32], from: usize, leftmost: usize) -> Passed
     let mut i = from;
     while i < tape.len() {
         let word = word_at(tape, i);
-        if opens_call(word) {
+        if word < CLOSE_WORD {
+            i += 1;
+        } else if opens_call(word) {
             let call = declared_call(tape, i);
             found = earlier(call, found);
             more += 1;

@@ -5,7 +5,7 @@ use Prim.Native.Nat.{ℕ, _-_, _≤_}
 use mathlib.Core.Path.{_≡_, refl, _∙_}
 use lib.ListN.{length, drop}
 use Rattle.flatness.specs.Scanned.{inCall, scanned}
-use Rattle.flatness.proofs.Passing.{inner-opens, closes-here, inner-closes, stays-here, argument-ends}
+use Rattle.flatness.proofs.Passing.{inner-opens, closes-here, inner-closes, stays-here, stays-low, argument-ends}
 use Rattle.flatness.proofs.pass_argument.Statement.{statement}
 use Rattle.flatness.proofs.pass_argument.Tie as tie
 
@@ -20,57 +20,66 @@ abbrev μ-loop : tie.MeasureT-loop
 loop-holds : tie.Need-loop-holds Inv-loop μ-loop
 loop-holds c = (omega arith, omega arith, λ p. refl)
 
-loop-less : tie.Need-loop-less Inv-loop μ-loop
-loop-less c = omega (arith, c .past-name .ensures, c .before .before .before .before .before .before .loop-test .taken)
-
 loop-again : tie.Need-loop-again Inv-loop μ-loop
 loop-again c =
-    let at-if1 = c .before .before .before in
-    let at-word-at = at-if1 .before .before in
+    let at-word-at = c .before in
+    let inv = at-word-at .before .before .loop .inv in (
+      omega (arith, inv .0),
+      omega (arith, inv .1),
+      λ p. inv .2 p ∙ stays-low _ _ (at-word-at .before .loop-test .taken) (at-word-at .word-at .ensures .0) (c .if1 .taken) _,
+    )
+
+loop-less-2 : tie.Need-loop-less-2 Inv-loop μ-loop
+loop-less-2 c = omega (arith, c .past-name .ensures, c .before .before .before .before .before .before .before .loop-test .taken)
+
+loop-again-2 : tie.Need-loop-again-2 Inv-loop μ-loop
+loop-again-2 c =
+    let at-if2 = c .before .before .before in
+    let at-word-at = at-if2 .before .before .before in
     let inv = at-word-at .before .before .loop .inv in
     let far = c .past-name .ensures in (
       omega (arith, far, inv .0),
       omega (arith, far, inv .1),
       λ p. inv .2 p
-          ∙ inner-opens _ _ (at-word-at .before .loop-test .taken) (at-word-at .word-at .ensures .0) (at-if1 .before .opens-call .ensures)
-          (at-if1 .if1 .taken) far (c .before .before .declared-call .ensures) _ (c .before .earlier .ensures) _ p,
+          ∙ inner-opens _ _ (at-word-at .before .loop-test .taken) (at-word-at .word-at .ensures .0) (at-if2 .before .opens-call .ensures)
+          (at-if2 .if2 .taken) far (c .before .before .declared-call .ensures) _ (c .before .earlier .ensures) _ p,
     )
 
 returns : tie.Need-returns Inv-loop μ-loop
 returns c =
-    let at-if2 = c .before in
-    let at-if1 = at-if2 .before in
-    let at-word-at = at-if1 .before .before in
+    let at-if3 = c .before in
+    let at-if2 = at-if3 .before in
+    let at-word-at = at-if2 .before .before .before in
     let inv = at-word-at .before .before .loop .inv in (
       omega (arith, inv .0),
-      λ p. inv .2 p ∙ rw (c .if3 .taken)
-          (closes-here _ _ (at-word-at .before .loop-test .taken) (at-word-at .word-at .ensures .0) (at-if1 .before .opens-call .ensures)
-          (at-if1 .if1 .left) (at-if2 .if2 .taken) _),
-    )
-
-loop-again-2 : tie.Need-loop-again-2 Inv-loop μ-loop
-loop-again-2 c =
-    let at-if2 = c .before in
-    let at-if1 = at-if2 .before in
-    let at-word-at = at-if1 .before .before in
-    let inv = at-word-at .before .before .loop .inv in (
-      omega (arith, inv .0),
-      omega (arith, inv .1),
-      λ p. inv .2 p
-          ∙ inner-closes _ _ (at-word-at .before .loop-test .taken) (at-word-at .word-at .ensures .0) (at-if1 .before .opens-call .ensures)
-          (at-if1 .if1 .left) (at-if2 .if2 .taken) _ (c .if3 .left) p _,
+      λ p. inv .2 p ∙ rw (c .if4 .taken)
+          (closes-here _ _ (at-word-at .before .loop-test .taken) (at-word-at .word-at .ensures .0) (at-if2 .before .opens-call .ensures)
+          (at-if2 .if2 .left) (at-if3 .if3 .taken) _),
     )
 
 loop-again-3 : tie.Need-loop-again-3 Inv-loop μ-loop
 loop-again-3 c =
-    let at-if1 = c .before in
-    let at-word-at = at-if1 .before .before in
+    let at-if3 = c .before in
+    let at-if2 = at-if3 .before in
+    let at-word-at = at-if2 .before .before .before in
     let inv = at-word-at .before .before .loop .inv in (
       omega (arith, inv .0),
       omega (arith, inv .1),
       λ p. inv .2 p
-          ∙ stays-here _ _ (at-word-at .before .loop-test .taken) (at-word-at .word-at .ensures .0) (at-if1 .before .opens-call .ensures)
-          (at-if1 .if1 .left) (c .if2 .left) _,
+          ∙ inner-closes _ _ (at-word-at .before .loop-test .taken) (at-word-at .word-at .ensures .0) (at-if2 .before .opens-call .ensures)
+          (at-if2 .if2 .left) (at-if3 .if3 .taken) _ (c .if4 .left) p _,
+    )
+
+loop-again-4 : tie.Need-loop-again-4 Inv-loop μ-loop
+loop-again-4 c =
+    let at-if2 = c .before in
+    let at-word-at = at-if2 .before .before .before in
+    let inv = at-word-at .before .before .loop .inv in (
+      omega (arith, inv .0),
+      omega (arith, inv .1),
+      λ p. inv .2 p
+          ∙ stays-here _ _ (at-word-at .before .loop-test .taken) (at-word-at .word-at .ensures .0) (at-if2 .before .opens-call .ensures)
+          (at-if2 .if2 .left) (c .if3 .left) _,
     )
 
 returns-2 : tie.Need-returns-2 Inv-loop μ-loop
@@ -86,20 +95,23 @@ pass-argument-spec =
     μ-loop
     loop-holds
     (λ c κs. search needs)
+    (λ c. search needs)
+    (λ c. search needs)
+    loop-again
     (λ c κs. search needs)
     (λ c κs. search needs)
     (λ c κs. search needs)
     (λ c. search needs)
     (λ c κs. search needs)
-    loop-less
-    loop-again
+    loop-less-2
+    loop-again-2
     (λ c. search needs)
     returns
     (λ c. search needs)
     (λ c. search needs)
     (λ c. search needs)
-    loop-again-2
-    (λ c. search needs)
-    (λ c. search needs)
     loop-again-3
+    (λ c. search needs)
+    (λ c. search needs)
+    loop-again-4
     returns-2)
