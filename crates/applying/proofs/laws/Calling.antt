@@ -24,9 +24,12 @@ use Rattle.acting.specs.declared.registers.Registers.{Registers}
 use Rattle.acting.specs.declared.registers.Ending.the-variants.{AllowanceSpent, FramesFull, NoInstruction, NoSentenceFits}
 use Rattle.acting.specs.declared.registers.Next.{Next}
 use Rattle.acting.specs.declared.registers.Next.the-variants.{Onward, Stopped}
-use Rattle.acting.specs.States.{Memory, memory, frameWord, countsIn, countedIn, localAt, localOf, Held, stacksOf, ledgerOf, roomOf, Outcomes, HasFrame, crowdedAt, wordsFor, wordsIn, wordsBelow, withWord, callingFrom}
-use Rattle.acting.proofs.laws.Frames.{words-stored, stored-length, stored-there, word-set, word-kept, held-past, waiting-kept, counts-kept, counts-counted, counted-words, counted-length, counted-within}
-use Rattle.applying.specs.Waiting.{countIn, functionsIn, entering, going, waiting, returning, applied, acted, Waits, performing, leftWaiting, leftBelow, calledIn, recoveredBy}
+use Rattle.acting.specs.States.{Memory, memory, frameWord, countsIn, countedIn, localAt, localOf, Held, stacksOf, ledgerOf, roomOf, Outcomes}
+use Rattle.acting.specs.States.{HasFrame, crowdedAt, wordsFor, wordsIn, wordsBelow, withWord, callingFrom}
+use Rattle.acting.proofs.laws.Frames.{words-stored, stored-length, stored-there, word-set, word-kept, held-past, waiting-kept, counts-kept}
+use Rattle.acting.proofs.laws.Frames.{counts-counted, counted-words, counted-length, counted-within}
+use Rattle.applying.specs.Waiting.{countIn, functionsIn, entering, going, waiting, returning, applied, acted, Waits, performing, leftWaiting}
+use Rattle.applying.specs.Waiting.{leftBelow, calledIn, recoveredBy}
 use Rattle.applying.specs.Advancing.{Ready, Underway, Advances, Performs, Applies, Starts}
 use Rattle.applying.proofs.laws.Waiting.{left-same, held-same, waits-same, waiting-same, entering-paid}
 use Rattle.applying.proofs.laws.Applying.{code-at, stopping}
@@ -35,7 +38,8 @@ use Rattle.applying.proofs.laws.Applying.{code-at, stopping}
 
 module _ (words : Words) (allowance number : ℕ) (g : Registers) (m : Memory) where
   -- the registers of a function that is called keep within what is lent, as its caller's do
-  called-ready : (frame size : ℕ) (frames : List ℕ) → frame < 256 → HasFrame frame frames → length frames ≡ length (m .frames) → countsIn frames ≡ countsIn (m .frames) →
+  called-ready : (frame size : ℕ) (frames : List ℕ) → frame < 256 → HasFrame frame frames → length frames ≡ length (m .frames) → countsIn frames
+      ≡ countsIn (m .frames) →
       ((i : ℕ) → i < frame → Waits (length (m .input)) i frames) → Ready allowance g m →
       Ready allowance (calledIn frame size number g) (memory (m .input) (m .output) (m .journal) frames (m .values))
   called-ready frame size frames framed there sized counted waits r =
@@ -69,8 +73,13 @@ module _ (words : Words) (allowance number : ℕ) (g : Registers) (m : Memory) w
       record {
         leads =
             record {
-              same = ap (waiting (roomOf m) allowance words (g .frame) (m .frames) (m .values)) (called-there (isDeclared (functionsIn words) number));
-              keeps = record { ready = called-ready (g .frame) (length words) (m .frames) (r .framed) (r .frameRoom) refl refl (r .waits) r; current = u .current };
+              same = ap (waiting (roomOf m) allowance words (g .frame) (m .frames) (m .values))
+                  (called-there (isDeclared (functionsIn words) number));
+              keeps = record {
+                ready = called-ready (g .frame) (length words) (m .frames) (r .framed) (r .frameRoom) refl refl (r .waits) r;
+                current =
+                    u .current;
+              };
               room = refl;
               beyond = λ old e. e;
             };
@@ -82,7 +91,8 @@ abbrev ChoiceLeads : Words → ℕ → ℕ → Choice → Registers → Memory �
 ChoiceLeads words allowance number choice g m next n =
     Advances words allowance
     (returning (roomOf m) allowance words g m
-    (ranChoice (lent (roomOf m)) (functionsIn words) (entering (roomOf m) allowance words) (suc (g .frame)) number choice (stacksOf g m) (ledgerOf allowance g m)))
+    (ranChoice (lent (roomOf m)) (functionsIn words) (entering (roomOf m) allowance words) (suc (g .frame)) number choice (stacksOf g m)
+    (ledgerOf allowance g m)))
     (leftBelow (length words) allowance g m + suc (suc (length words)))
     g m next n
 
@@ -130,7 +140,8 @@ module _ (words : Words) (allowance number : ℕ) (g : Registers) (m : Memory) w
 
   module _ (may : Payable words allowance number g) where
     paying : (choice : Choice) → choice ≡ Chosen words number g (m .input) →
-        ranPaid (lent (roomOf m)) (functionsIn words) (entering (roomOf m) allowance words) (suc (g .frame)) number (stacksOf g m) (ledgerOf allowance g m)
+        ranPaid (lent (roomOf m)) (functionsIn words) (entering (roomOf m) allowance words) (suc (g .frame)) number (stacksOf g m)
+        (ledgerOf allowance g m)
         (pay number (ledgerOf allowance g m .tally)) ≡
         ranChoice (lent (roomOf m)) (functionsIn words) (entering (roomOf m) allowance words) (suc (g .frame)) number choice (stacksOf g m)
         (ledgerOf allowance (paidOf g) (countedFor number m))
@@ -166,7 +177,8 @@ module _ (words : Words) (allowance number : ℕ) (g : Registers) (m : Memory) w
     underway-paid u =
         record {
           ready = ready-paid (u .ready);
-          current = held-same (m .frames) (countedIn number (m .frames)) (suc (g .frame)) (counted-waiting (suc (g .frame))) (g .frame) (omega arith) (u .current);
+          current = held-same (m .frames) (countedIn number (m .frames)) (suc (g .frame)) (counted-waiting (suc (g .frame))) (g .frame) (omega arith)
+              (u .current);
         }
 
     -- what the choice leads to, its step paid, is what the application leads to
@@ -184,7 +196,8 @@ module _ (words : Words) (allowance number : ℕ) (g : Registers) (m : Memory) w
               record {
                 same =
                     ap (waiting (roomOf m) allowance words (g .frame) (m .frames) (m .values)) (paying choice e) ∙
-                    waiting-same (roomOf m) allowance words (m .frames) (countedIn number (m .frames)) (m .values) (m .values) (g .frame) below refl _ ∙
+                    waiting-same (roomOf m) allowance words (m .frames) (countedIn number (m .frames)) (m .values) (m .values) (g .frame) below refl _
+                    ∙
                     d .leads .same;
                 keeps = d .leads .keeps;
                 room = d .leads .room;
@@ -195,7 +208,8 @@ module _ (words : Words) (allowance number : ℕ) (g : Registers) (m : Memory) w
 
     -- in frames with the application counted
     pub apply-starts : (sentence place stores stored : ℕ) (next : Next) (n : Memory) {frames : List ℕ} → frames ≡ countedIn number (m .frames) →
-        chosen sentence place (unpackStores stored (drop stores words)) (unpackActions 0 (drop (stores + stored) words)) ≡ Chosen words number g (m .input) →
+        chosen sentence place (unpackStores stored (drop stores words)) (unpackActions 0 (drop (stores + stored) words))
+        ≡ Chosen words number g (m .input) →
         Starts words allowance place stores stored (paidOf g) (memory (m .input) (m .output) (m .journal) frames (m .values)) next n →
         Applies words allowance number g m next n
     apply-starts sentence place stores stored next n is e starts = apply-leads _ e next n (λ u. (rw is at starts) (u .ready))
@@ -206,7 +220,8 @@ module _ (words : Words) (allowance number : ℕ) (g : Registers) (m : Memory) w
     apply-recovers recoverer e = apply-leads (chosenNone recoverer) e _ _ (recovers words allowance number recoverer (paidOf g) (countedFor number m))
 
     -- words that are no sentence end the run
-    pub apply-wrong : chosenWrong ≡ Chosen words number g (m .input) → Applies words allowance number g m (Stopped (paidOf g) NoInstruction 0) (countedFor number m)
+    pub apply-wrong : chosenWrong ≡ Chosen words number g (m .input)
+        → Applies words allowance number g m (Stopped (paidOf g) NoInstruction 0) (countedFor number m)
     apply-wrong e =
         apply-leads chosenWrong e _ _
         (λ u. stopping words allowance (paidOf g) (countedFor number m) (countedFor number m) (u .ready) _ _ NoInstruction 0 (paidOf g) (omega arith)
@@ -215,7 +230,8 @@ module _ (words : Words) (allowance number : ℕ) (g : Registers) (m : Memory) w
 -- A CALL
 
 -- a store between a frame's counts and its open sequences leaves what its application keeps
-local-past : (frames : List ℕ) (k i v : ℕ) → 5 < i → i < 8 → Held k frames → (values : Bytes) → localAt k (withWord k i v frames) values ≡ localAt k frames values
+local-past : (frames : List ℕ) (k i v : ℕ) → 5 < i → i < 8 → Held k frames → (values : Bytes) → localAt k (withWord k i v frames) values
+    ≡ localAt k frames values
 local-past frames k i v h l held values =
     rw (
       word-kept frames k i 1 v (omega arith),
@@ -266,7 +282,11 @@ module _ (frames : List ℕ) (k at end : ℕ) (there : HasFrame k frames) where
         by true e = waits-same frames Calling k (sym called-below) cells waits i (ltb-true i k e)
         by false e =
             let here : i ≡ k = omega (arith, ltb-false i k e) in
-            rw here (record { held = held-past Returning k 7 end (omega arith) (held-past frames k 6 at (omega arith) current); kept = rw called-end within })
+            rw here (record {
+              held = held-past Returning k 7 end (omega arith) (held-past frames k 6 at (omega arith) current);
+              kept = rw called-end
+                  within;
+            })
 
   -- the frame above may be any
   module _ (above : List ℕ) (same : wordsBelow (suc k) above ≡ wordsBelow (suc k) Calling) where
@@ -294,7 +314,8 @@ module _ (words : Words) (allowance number : ℕ) (g : Registers) (m : Memory) w
   undeclared tail e u = stopping words allowance g m m (u .ready) _ _ NoInstruction 0 g (omega arith) (stops tail) refl refl refl refl refl
     where
       stops : (tail : Bool) →
-          perform (lent (roomOf m)) (functionsIn words) (entering (roomOf m) allowance words) (going (roomOf m) allowance words (g .frame) (g .at .0)) (suc (g .frame))
+          perform (lent (roomOf m)) (functionsIn words) (entering (roomOf m) allowance words) (going (roomOf m) allowance words (g .frame) (g .at .0))
+          (suc (g .frame))
           (pick tail (tailCall number) (call number)) (localOf g m) (stacksOf g m) (ledgerOf allowance g m) ≡
           stop noInstruction 0 (ledgerOf allowance g m)
       stops true = rw e
@@ -315,9 +336,12 @@ module _ (words : Words) (allowance number : ℕ) (g : Registers) (input output 
   Caller = memory input output journal frames values
 
   -- a call is an application in the frame above
-  pub call-enters : isDeclared (functionsIn words) number ≡ true → g .steps < allowance → g .frame < 255 → (above : List ℕ) → HasFrame (suc (g .frame)) above → length above ≡ length frames → countsIn above ≡ countsIn frames →
-      wordsBelow (suc (g .frame)) above ≡ wordsBelow (suc (g .frame)) (callingFrom (g .frame) (g .at .0) (g .q .0) frames) → Held (suc (g .frame)) above →
-      Performs words allowance (call number) (g .at .0) g Caller (Onward (calledIn (suc (g .frame)) (length words) number g)) (memory input output journal above values)
+  pub call-enters : isDeclared (functionsIn words) number ≡ true → g .steps < allowance → g .frame < 255 → (above : List ℕ)
+      → HasFrame (suc (g .frame)) above → length above ≡ length frames → countsIn above ≡ countsIn frames →
+      wordsBelow (suc (g .frame)) above ≡ wordsBelow (suc (g .frame)) (callingFrom (g .frame) (g .at .0) (g .q .0) frames)
+      → Held (suc (g .frame)) above →
+      Performs words allowance (call number) (g .at .0) g Caller (Onward (calledIn (suc (g .frame)) (length words) number g))
+      (memory input output journal above values)
   call-enters declared h l above there sized counted same empty u =
       let k = g .frame in
       let room = roomOf Caller in
@@ -351,5 +375,6 @@ module _ (words : Words) (allowance number : ℕ) (g : Registers) (input output 
           performing (roomOf Caller) allowance words (call number) (g .at .0) g Caller ≡
           waiting (roomOf Caller) allowance words (g .frame) frames values
           (andThen (entering (roomOf Caller) allowance words (suc (suc (g .frame))) number (stacksOf g Caller) (ledgerOf allowance g Caller))
-          (λ s l. going (roomOf Caller) allowance words (g .frame) (g .at .0) (localAt (g .frame) frames values) (returned (length input - g .q .0) s) l))
+          (λ s l. going (roomOf Caller) allowance words (g .frame) (g .at .0) (localAt (g .frame) frames values) (returned (length input - g .q .0) s)
+          l))
       opens e e′ e″ long selected = rw (e, e′, e″, long, selected)

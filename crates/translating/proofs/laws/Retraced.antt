@@ -12,10 +12,14 @@ use lib.Seq.{take-append-seam, drop-append-seam}
 use Rattle.meaning.specs.Choice.{Name, pick, both, isSome, every}
 use Rattle.meaning.specs.Names.{isReserved}
 use Rattle.meaning.specs.Classes.{Class, classNumber}
-use Rattle.meaning.specs.Tree.{character, symbol, Element, letter, part, Subject, ofSymbol, ofPart, Condition, Expression, end, thenCharacter, thenSymbol, thenPart, thenCall, Sentence, Function, Table}
-use Rattle.meaning.specs.Allowed.{maxFunctions, maxSentences, maxLetters, maxItems, distinct, parted, symbolsOf, spelledItems, comingAfterAll, allowedPattern, ofPattern, allOfPattern, allowedConditions, allowedSentence, allowedFunction, namesOf, allowed, isByte, spelledName, spelledIdentifier, spelledElement, lettersIn, partsOf, itemsIn, nesting, someSentence}
+use Rattle.meaning.specs.Tree.{character, symbol, Element, letter, part, Subject, ofSymbol, ofPart, Condition, Expression, end, thenCharacter}
+use Rattle.meaning.specs.Tree.{thenSymbol, thenPart, thenCall, Sentence, Function, Table}
+use Rattle.meaning.specs.Allowed.{maxFunctions, maxSentences, maxLetters, maxItems, distinct, parted, symbolsOf, spelledItems, comingAfterAll}
+use Rattle.meaning.specs.Allowed.{allowedPattern, ofPattern, allOfPattern, allowedConditions, allowedSentence, allowedFunction, namesOf, allowed}
+use Rattle.meaning.specs.Allowed.{isByte, spelledName, spelledIdentifier, spelledElement, lettersIn, partsOf, itemsIn, nesting, someSentence}
 use Rattle.meaning.specs.Allowed.{sentencesIn as sentencesOf}
-use Rattle.meaning.specs.Tape.{tapeWord, named, symbolKind, partKind, conditionKind, equalsKind, closeKind, nextKind, endKind, functionKind, callKind, truthNumber, subjectTape, patternTape, conditionsTape, expressionTape, sentenceTape, sentencesTape, functionTape, tape}
+use Rattle.meaning.specs.Tape.{tapeWord, named, symbolKind, partKind, conditionKind, equalsKind, closeKind, nextKind, endKind, functionKind, callKind}
+use Rattle.meaning.specs.Tape.{truthNumber, subjectTape, patternTape, conditionsTape, expressionTape, sentenceTape, sentencesTape, functionTape, tape}
 use Rattle.meaning.specs.Packing.{truthBit}
 use Rattle.words.specs.declared.tape.Parts.{Parts}
 use Rattle.words.specs.declared.tape.Parts.the-variants.{Zero, One, Two}
@@ -93,12 +97,25 @@ module _ (depth items : ℕ) (low : items < 128) where
 
   part-item : (n : ℕ) → n < 256 → itemOf (tapeWord partKind n) depth items ≡ Part
   part-item n h =
-      rw (lt-leb 128 items low, le-ltb (tapeWord partKind n) 256 (omega arith), le-ltb (tapeWord partKind n) 512 (omega arith), lt-ltb (tapeWord partKind n) 768 (omega arith))
+      rw (
+        lt-leb 128 items low,
+        le-ltb (tapeWord partKind n) 256 (omega arith),
+        le-ltb (tapeWord partKind n) 512 (omega arith),
+        lt-ltb
+            (tapeWord partKind n) 768 (omega arith),
+      )
 
   call-item : (place n : ℕ) → n < 256 → depth < 16 → itemOf (tapeWord (callKind + place) n) depth items ≡ Call
   call-item place n h d =
       let w = tapeWord (callKind + place) n in
-      rw (lt-leb 128 items low, le-ltb w 256 (omega arith), le-ltb w 512 (omega arith), le-ltb w 768 (omega arith), le-ltb w 2304 (omega arith), lt-ltb depth 16 d)
+      rw (
+        lt-leb 128 items low,
+        le-ltb w 256 (omega arith),
+        le-ltb w 512 (omega arith),
+        le-ltb w 768 (omega arith),
+        le-ltb w 2304 (omega arith),
+        lt-ltb depth 16 d,
+      )
 
 close-item : (depth items : ℕ) → itemOf (tapeWord closeKind 0) (depth + 1) items ≡ Close
 close-item depth items = go (leb 128 items)
@@ -108,7 +125,8 @@ close-item depth items = go (leb 128 items)
     go false = rw (ne-eqb (depth + 1) 0 (λ e. omega arith))
 
 -- a call's argument is closed, and what comes after the call is read on
-call-closed : (place : ℕ) (n : Name) (a e : Expression) (depth items : ℕ) (ws : List ℕ) (l : Levels) → levelsIn depth items 0 ws ≡ onCurrent (followed e) l →
+call-closed : (place : ℕ) (n : Name) (a e : Expression) (depth items : ℕ) (ws : List ℕ) (l : Levels) → levelsIn depth items 0 ws
+    ≡ onCurrent (followed e) l →
     opened place n (onCurrent (followed a) (levelsIn (depth + 1) items 0 (tapeWord closeKind 0 ∷ ws))) ≡ onCurrent (followed (thenCall place n a e)) l
 unfolding levelsIn followed
 call-closed place n a e depth items ws l ih =
@@ -129,7 +147,8 @@ levels-expression (thenCharacter c e) depth items ws s h k =
 levels-expression (thenSymbol x e) depth items ws s h k =
     let ih = levels-expression e depth (items + 1) ws (s .1) (omega arith) k in
     rw (symbol-item depth items (omega arith) (length x) (s .0), one-more items (itemsIn e))
-    (named-back (λ y. onCurrent (thenSymbol y)) (levelsIn depth (items + 1)) (levels-skip depth (items + 1)) symbolKind x (expressionTape e) ws (s .0) ih)
+    (named-back (λ y. onCurrent (thenSymbol y)) (levelsIn depth (items + 1)) (levels-skip depth (items + 1)) symbolKind x (expressionTape e) ws (s .0)
+    ih)
 levels-expression (thenPart x e) depth items ws s h k =
     let ih = levels-expression e depth (items + 1) ws (s .1) (omega arith) k in
     rw (part-item depth items (omega arith) (length x) (s .0), one-more items (itemsIn e))
@@ -203,18 +222,22 @@ pattern-back [] letters parts ws s h k ends = ends letters parts
 pattern-back (letter (character c) ∷ p) letters parts ws s h k ends =
     let low = ltb-true c 256 (both-left (isByte c) (every spelledElement p) s) in
     let ih = pattern-back p (letters + 1) parts ws (both-right (isByte c) (every spelledElement p) s) (omega arith) k ends in
-    rw (lt-leb 768 c (omega arith), lt-leb 512 c (omega arith), lt-leb 64 letters (omega arith), lt-leb 256 c low) (ap (andThen (letter (character c))) ih)
+    rw (lt-leb 768 c (omega arith), lt-leb 512 c (omega arith), lt-leb 64 letters (omega arith), lt-leb 256 c low)
+    (ap (andThen (letter (character c))) ih)
 pattern-back (letter (symbol x) ∷ p) letters parts ws s h k ends =
     let short = identifier-short x (both-left (spelledIdentifier x) (every spelledElement p) s) in
     let ih = pattern-back p (letters + 1) parts ws (both-right (spelledIdentifier x) (every spelledElement p) s) (omega arith) k ends in
     let w = tapeWord symbolKind (length x) in
     rw (lt-leb 768 w (omega arith), lt-leb 512 w (omega arith), lt-leb 64 letters (omega arith), le-leb 256 w (omega arith))
-    (named-back (λ y. andThen (letter (symbol y))) (patternIn (letters + 1) parts) (pattern-skip (letters + 1) parts) symbolKind x (patternTape p) ws (omega arith) ih)
+    (named-back (λ y. andThen (letter (symbol y))) (patternIn (letters + 1) parts) (pattern-skip (letters + 1) parts) symbolKind x (patternTape p) ws
+    (omega arith) ih)
 pattern-back (part x ∷ p) letters parts ws s h k ends =
     let short = identifier-short x (both-left (spelledIdentifier x) (every spelledElement p) s) in
-    let ih = pattern-back p letters (oneMore parts) ws (both-right (spelledIdentifier x) (every spelledElement p) s) h (one-less parts (length (partsOf p)) k) ends in
+    let ih = pattern-back p letters (oneMore parts) ws (both-right (spelledIdentifier x) (every spelledElement p) s) h
+    (one-less parts (length (partsOf p)) k) ends in
     rw (part-piece (length x) letters parts (omega arith) (omega arith))
-    (named-back (λ y. andThen (part y)) (patternIn letters (oneMore parts)) (pattern-skip letters (oneMore parts)) partKind x (patternTape p) ws (omega arith) ih)
+    (named-back (λ y. andThen (part y)) (patternIn letters (oneMore parts)) (pattern-skip letters (oneMore parts)) partKind x (patternTape p) ws
+    (omega arith) ih)
 
 -- CONDITIONS
 
@@ -298,7 +321,8 @@ pub conditions-back : (cs : List Condition) (count w : ℕ) (ws : List ℕ) → 
 unfolding conditionsIn conditionsTape every
 conditions-back [] count w ws s h k = go (leb 8 count)
   where
-    go : (b : Bool) → conditionBy (pick b false (pick (ltb w 768) false (ltb w 1024))) count w ws (λ n skip. conditionsIn n skip ws) ≡ scanned [] (w ∷ ws)
+    go : (b : Bool) → conditionBy (pick b false (pick (ltb w 768) false (ltb w 1024))) count w ws (λ n skip. conditionsIn n skip ws)
+        ≡ scanned [] (w ∷ ws)
     go true = refl
     go false = rw (le-ltb w 768 (omega arith), le-ltb w 1024 k)
 conditions-back (c ∷ cs) count w ws s h k =
@@ -328,7 +352,8 @@ level-ends : (items w : ℕ) (ws : List ℕ) → 1536 ≤ w → w < 2304 → lev
 unfolding levelsIn
 level-ends items w ws h k = go (leb 128 items)
   where
-    go : (b : Bool) → itemBy (pick b Stop (pick (ltb w 256) Byte (pick (ltb w 512) Symbol (pick (ltb w 768) Part (pick (ltb w 2304) Stop (openingOf 0)))))) 0 items w ws
+    go : (b : Bool) → itemBy (pick b Stop (pick (ltb w 256) Byte
+        (pick (ltb w 512) Symbol (pick (ltb w 768) Part (pick (ltb w 2304) Stop (openingOf 0)))))) 0 items w ws
         (λ d n skip. levelsIn d n skip ws) ≡ stopped (w ∷ ws)
     go true = refl
     go false = rw (le-ltb w 256 (omega arith), le-ltb w 512 (omega arith), le-ltb w 768 (omega arith), lt-ltb w 2304 k)
@@ -356,17 +381,20 @@ module _ (s : Sentence) (r : Retraceable s) (w : ℕ) (ws : List ℕ) (h : 1536 
   pattern-read : patternAt (sentenceTape s ++ (w ∷ ws)) ≡ scanned (s .pattern) (conditionsTape (s .conditions) ++ rest)
   unfolding rest
   pattern-read =
-      rw laid (pattern-back (s .pattern) 0 Zero (conditionsTape (s .conditions) ++ rest) (r .elements) (omega (arith, r .letters)) (r .parts) (body-ends (s .conditions) _))
+      rw laid (pattern-back (s .pattern) 0 Zero (conditionsTape (s .conditions) ++ rest) (r .elements) (omega (arith, r .letters)) (r .parts)
+      (body-ends (s .conditions) _))
 
   conditions-read : conditionsAt (sentenceTape s ++ (w ∷ ws)) ≡ scanned (s .conditions) rest
   unfolding rest
-  conditions-read = rw pattern-read (conditions-back (s .conditions) 0 (tapeWord equalsKind 0) _ (r .variables) (omega (arith, r .conditions)) (omega arith))
+  conditions-read = rw pattern-read (conditions-back (s .conditions) 0 (tapeWord equalsKind 0) _ (r .variables) (omega (arith, r .conditions))
+      (omega arith))
 
   levels-read : levelsAt (sentenceTape s ++ (w ∷ ws)) ≡ record { current = s .expression; outer = []; rest = w ∷ ws }
   unfolding rest
   levels-read =
       rw conditions-read
-      (levels-expression (s .expression) 0 0 (w ∷ ws) (legible-short (s .expression) (r .spelled)) (omega (arith, r .items)) (omega (arith, r .nested))
+      (levels-expression (s .expression) 0 0 (w ∷ ws) (legible-short (s .expression) (r .spelled)) (omega (arith, r .items))
+      (omega (arith, r .nested))
       ∙ rw (level-ends (0 + itemsIn (s .expression)) w ws h k, followed-end (s .expression)))
 
   pub sentence-back : sentenceIn (sentenceTape s ++ (w ∷ ws)) ≡ s
@@ -383,7 +411,12 @@ unfolding sentencesIn sentencesTape
 sentences-back s ss zero ws r h = absurd (omega arith)
 sentences-back s [] (suc left) ws r h =
     let last = tapeWord endKind 0 in
-    rw (append-assoc (sentenceTape s) (last ∷ []) ws, sentence-back s (r .0) last ws (omega arith) (omega arith), levels-read s (r .0) last ws (omega arith) (omega arith))
+    rw (
+      append-assoc (sentenceTape s) (last ∷ []) ws,
+      sentence-back s (r .0) last ws (omega arith) (omega arith),
+      levels-read s (r .0) last ws
+          (omega arith) (omega arith),
+    )
 sentences-back s (t ∷ ts) (suc left) ws r h =
     let next = tapeWord nextKind 0 in
     let ih = sentences-back t ts left ws (r .1) (omega arith) in
@@ -410,9 +443,11 @@ quiet-high w h = rw (le-ltb w 2048 (omega arith), le-ltb w 2304 h)
 functions-past : (xs ws : List ℕ) → every quiet xs ≡ true → functionsIn (xs ++ ws) ≡ functionsIn ws
 unfolding functionsIn every
 functions-past [] ws q = refl
-functions-past (x ∷ xs) ws q = go (isFunctionWord x) (both-left (quiet x) (every quiet xs) q) (functions-past xs ws (both-right (quiet x) (every quiet xs) q))
+functions-past (x ∷ xs) ws q = go (isFunctionWord x) (both-left (quiet x) (every quiet xs) q)
+    (functions-past xs ws (both-right (quiet x) (every quiet xs) q))
   where
-    go : (b : Bool) → not b ≡ true → functionsIn (xs ++ ws) ≡ functionsIn ws → pick b ((x ∷ (xs ++ ws)) ∷ functionsIn (xs ++ ws)) (functionsIn (xs ++ ws)) ≡ functionsIn ws
+    go : (b : Bool) → not b ≡ true → functionsIn (xs ++ ws) ≡ functionsIn ws
+        → pick b ((x ∷ (xs ++ ws)) ∷ functionsIn (xs ++ ws)) (functionsIn (xs ++ ws)) ≡ functionsIn ws
     go true e ih = absurd (false≢true e)
     go false e ih = ih
 
@@ -451,9 +486,11 @@ pattern-quiet [] s = refl
 pattern-quiet (letter (character c) ∷ p) s =
     rw (byte-quiet c (both-left (isByte c) (every spelledElement p) s)) (pattern-quiet p (both-right (isByte c) (every spelledElement p) s))
 pattern-quiet (letter (symbol x) ∷ p) s =
-    identifier-quiet symbolKind x (patternTape p) (omega arith) (both-left (spelledIdentifier x) _ s) (pattern-quiet p (both-right (spelledIdentifier x) _ s))
+    identifier-quiet symbolKind x (patternTape p) (omega arith) (both-left (spelledIdentifier x) _ s)
+    (pattern-quiet p (both-right (spelledIdentifier x) _ s))
 pattern-quiet (part x ∷ p) s =
-    identifier-quiet partKind x (patternTape p) (omega arith) (both-left (spelledIdentifier x) _ s) (pattern-quiet p (both-right (spelledIdentifier x) _ s))
+    identifier-quiet partKind x (patternTape p) (omega arith) (both-left (spelledIdentifier x) _ s)
+    (pattern-quiet p (both-right (spelledIdentifier x) _ s))
 
 conditions-quiet : (cs : List Condition) → every spelledCondition cs ≡ true → every quiet (conditionsTape cs) ≡ true
 unfolding every conditionsTape
@@ -470,11 +507,14 @@ conditions-quiet (c ∷ cs) s =
 expression-quiet : (e : Expression) → legible e ≡ true → every quiet (expressionTape e) ≡ true
 unfolding every expressionTape legible
 expression-quiet end l = refl
-expression-quiet (thenCharacter c e) l = rw (byte-quiet c (both-left (isByte c) (legible e) l)) (expression-quiet e (both-right (isByte c) (legible e) l))
+expression-quiet (thenCharacter c e) l = rw (byte-quiet c (both-left (isByte c) (legible e) l))
+    (expression-quiet e (both-right (isByte c) (legible e) l))
 expression-quiet (thenSymbol x e) l =
-    identifier-quiet symbolKind x (expressionTape e) (omega arith) (both-left (spelledIdentifier x) _ l) (expression-quiet e (both-right (spelledIdentifier x) _ l))
+    identifier-quiet symbolKind x (expressionTape e) (omega arith) (both-left (spelledIdentifier x) _ l)
+    (expression-quiet e (both-right (spelledIdentifier x) _ l))
 expression-quiet (thenPart x e) l =
-    identifier-quiet partKind x (expressionTape e) (omega arith) (both-left (spelledIdentifier x) _ l) (expression-quiet e (both-right (spelledIdentifier x) _ l))
+    identifier-quiet partKind x (expressionTape e) (omega arith) (both-left (spelledIdentifier x) _ l)
+    (expression-quiet e (both-right (spelledIdentifier x) _ l))
 expression-quiet (thenCall place n a e) l =
     let spelled = both-left (spelledName n) (both (legible a) (legible e)) l in
     let others = both-right (spelledName n) (both (legible a) (legible e)) l in
@@ -487,7 +527,8 @@ sentence-quiet : (s : Sentence) → Retraceable s → every quiet (sentenceTape 
 unfolding every
 sentence-quiet s r =
     every-append quiet (patternTape (s .pattern)) _ (pattern-quiet (s .pattern) (r .elements))
-    (every-append quiet (conditionsTape (s .conditions)) _ (conditions-quiet (s .conditions) (r .variables)) (expression-quiet (s .expression) (r .spelled)))
+    (every-append quiet (conditionsTape (s .conditions)) _ (conditions-quiet (s .conditions) (r .variables))
+    (expression-quiet (s .expression) (r .spelled)))
 
 sentences-quiet : (ss : List Sentence) → AllRetraceable ss → every quiet (sentencesTape ss) ≡ true
 unfolding every sentencesTape
@@ -527,8 +568,13 @@ is-function n h = rw (le-ltb (tapeWord functionKind n) 2048 (omega arith), lt-lt
 functions-here : (f : Function) (ws : List ℕ) → RetraceableFunction f → functionsIn (functionTape f ++ ws) ≡ (functionTape f ++ ws) ∷ functionsIn ws
 unfolding functionsIn
 functions-here f ws r =
-    let quietly = every-append quiet (f .name) (sentencesTape (f .sentences)) (name-quiet (f .name) (r .spelled)) (sentences-quiet (f .sentences) (r .each)) in
-    rw (is-function (length (f .name)) (omega (arith, name-small (f .name) (r .spelled))), functions-past (f .name ++ sentencesTape (f .sentences)) ws quietly)
+    let quietly = every-append quiet (f .name) (sentencesTape (f .sentences)) (name-quiet (f .name) (r .spelled))
+    (sentences-quiet (f .sentences) (r .each)) in
+    rw (
+      is-function (length (f .name)) (omega (arith, name-small (f .name) (r .spelled))),
+      functions-past (f .name ++ sentencesTape (f .sentences)) ws
+          quietly,
+    )
 
 pub functions-back : (t : Table) (limit : ℕ) → AllFunctions t → length t ≤ limit → map functionIn (take limit (functionsIn (tape t))) ≡ t
 unfolding functionsIn tape
@@ -585,8 +631,11 @@ sentence-retraceable s a =
 sentences-retraceable : (ss : List Sentence) → every allowedSentence ss ≡ true → AllRetraceable ss
 unfolding every
 sentences-retraceable [] a = tt
-sentences-retraceable (s ∷ ss) a =
-    (sentence-retraceable s (both-left (allowedSentence s) (every allowedSentence ss) a), sentences-retraceable ss (both-right (allowedSentence s) (every allowedSentence ss) a))
+sentences-retraceable (s ∷ ss) a = (
+  sentence-retraceable s (both-left (allowedSentence s) (every allowedSentence ss) a),
+  sentences-retraceable ss
+      (both-right (allowedSentence s) (every allowedSentence ss) a),
+)
 
 functions-retraceable : (t : Table) → every allowedFunction t ≡ true → sentencesOf t ≤ 512 → AllFunctions t
 unfolding every sentencesOf
@@ -594,7 +643,8 @@ functions-retraceable [] a h = tt
 functions-retraceable (f ∷ fs) a h =
     let this = both-left (allowedFunction f) (every allowedFunction fs) a in
     let named = both-left (both (spelledName (f .name)) (not (isReserved (f .name)))) _ this in
-    let body = both-right (both (spelledName (f .name)) (not (isReserved (f .name)))) (both (someSentence (f .sentences)) (every allowedSentence (f .sentences))) this in (
+    let body = both-right (both (spelledName (f .name)) (not (isReserved (f .name))))
+    (both (someSentence (f .sentences)) (every allowedSentence (f .sentences))) this in (
       record {
         spelled = both-left (spelledName (f .name)) (not (isReserved (f .name))) named;
         some = both-left (someSentence (f .sentences)) (every allowedSentence (f .sentences)) body;
@@ -612,5 +662,6 @@ tape-retraced t ok =
     let a₂ = both-right (distinct (namesOf t)) _ a₁ in
     let a₃ = both-right (leb (length t) maxFunctions) _ a₂ in
     functions-back t maxFunctions
-    (functions-retraceable t (both-left (every allowedFunction t) _ a) (leb-true (sentencesOf t) 512 (both-left (leb (sentencesOf t) maxSentences) _ a₃)))
+    (functions-retraceable t (both-left (every allowedFunction t) _ a)
+    (leb-true (sentencesOf t) 512 (both-left (leb (sentencesOf t) maxSentences) _ a₃)))
     (leb-true (length t) maxFunctions (both-left (leb (length t) maxFunctions) _ a₂))

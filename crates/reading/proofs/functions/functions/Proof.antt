@@ -1,4 +1,5 @@
--- `functions::functions` meets its contract: a walk of its MIR, by hand. The reader is a local, which is lent to `next_declaration` in each turn of the loop, and tape and names are lent again for that call. The loop goes from state to state (`Proof/Turns.antt`).
+-- `functions::functions` meets its contract: a walk of its MIR, by hand. The reader is a local, which is lent to `next_declaration` in each turn of
+-- the loop, and tape and names are lent again for that call. The loop goes from state to state (`Proof/Turns.antt`).
 -- All that the proof knows of the functions called is that each meets its contract.
 -- Positions in the context: local i stands at 2 · i, after what is put in front. Assumes nothing.
 use mathlib.Core.Path.{_≡_, refl, sym, ap, subst, _∙_}
@@ -20,8 +21,10 @@ use contract.BorrowLft.{meet-⊑-right}
 use contract.Lifetimes.{Lfts, Shares, AllOutlive, toks}
 use contract.Monad.{Fun, fact, factI}
 use contract.Running.{givenOf, tables, tablesOf}
-use types.Kit.{Given, Item, Post as After, Go, Seq, runs, anyQ, atRet, ‵, raw, ⋆, _$_, _∵_, !, qed, by, move, drop, use0, use1, use2, group, join, rewrite, fsplit, fjoin, suffices, frame, done}
-use types.Run.{look, store, init, forget, stop, hop, from, addr, of-opd, no-more, assigns, first as first-part, blocks, loops, again, stays, leaves-loop, exec, land, land-last, returns, enter, params1, pass1, pass0, Below}
+use types.Kit.{Given, Item, Post as After, Go, Seq, runs, anyQ, atRet, ‵, raw, ⋆, _$_, _∵_, !, qed, by, move, drop, use0, use1, use2, group, join}
+use types.Kit.{rewrite, fsplit, fjoin, suffices, frame, done}
+use types.Run.{look, store, init, forget, stop, hop, from, addr, of-opd, no-more, assigns, first as first-part, blocks, loops, again, stays}
+use types.Run.{leaves-loop, exec, land, land-last, returns, enter, params1, pass1, pass0, Below}
 use sound.WpLaws.{FmC}
 use denote.RattleType.{RattleType, owns}
 use denote.Laws.{Is, Ises, Are}
@@ -52,7 +55,8 @@ use Rattle.walking.proofs.Answering.{clause, answers, answers-back, answers-las
 use Rattle.walking.proofs.Apart.{tokens-apart, tokens-joined, owned-apart, owned-joined}
 use Rattle.walking.proofs.Entering.{calls-framed, walk-enters, required-one}
 use Rattle.walking.proofs.Handing.{none-passed, one-passed}
-use Rattle.walking.proofs.Lending.{lent-at, Mine, Theirs, Ours, as-passed, takes-slice, lends-again, last-list, lends-slice-again, slice-comes-back-at, lends-local, local-comes-back, lends-reference-again, reference-comes-back}
+use Rattle.walking.proofs.Lending.{lent-at, Mine, Theirs, Ours, as-passed, takes-slice, lends-again, last-list, lends-slice-again}
+use Rattle.walking.proofs.Lending.{slice-comes-back-at, lends-local, local-comes-back, lends-reference-again, reference-comes-back}
 use Rattle.walking.proofs.Locals.{Content, vacant, holds, placed, laid, lays-out, frees-laid, counting, copies, and-copies}
 use Rattle.lexing.proofs.reader.Reader as T
 use Rattle.lexing.proofs.reader.Reader.Laws as T′
@@ -292,7 +296,8 @@ module _ {M : Type 1} (𝓤 : URA M) (H : Heap 𝓤) (A : Atoms 𝓤) (W : Given
           tokens-apart ! 4 (lifetimes ν ν₁ ν₂) shares $
           -- the last values are taken apart
           move ! (4 ∷ []) $ fsplit ! $ move ! (1 ∷ []) $ last-list ! (λ e. fsplit ! $ move ! (1 ∷ []) $ drop ! $
-          -- [the last names; the last tape; the last reader; the tokens; what is kept of names, of tape and of the reader; the locals]: the lifetimes end
+          -- [the last names; the last tape; the last reader; the tokens; what is kept of names, of tape and of the reader; the locals]: the
+          -- lifetimes end
           move ! (3 ∷ 10 ∷ 4 ∷ 9 ∷ 2 ∷ []) $ local-comes-back ! tt D L (κs .0) (qs .0) (ws .0) l₄ $
           move ! (5 ∷ 8 ∷ 4 ∷ []) $ slice-comes-back-at ! tt u32 (κs .1 .0) (qs .1 .0) tape 12 (t .tape) (ws .1 .0) (fits-tape t) e refl $
           move ! (6 ∷ 7 ∷ 5 ∷ []) $ reference-comes-back ! tt Entries (κs .1 .1 .0) (qs .1 .1 .0) names (t .names) (ws .1 .1 .0) $

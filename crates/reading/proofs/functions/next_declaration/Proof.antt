@@ -1,5 +1,7 @@
--- `functions::next_declaration` meets its contract: a walk of its MIR, by hand. The reader's borrow is opened, `declaration` is called on the text and the place that lie there, the place that it reached is stored, and the borrow is closed at the reader that has gone on.
--- All else is handed on to `declaration` as it was passed. The text's borrow is Copy: what the reader owns is had twice, and one copy is kept for the exit. All that the proof knows of `declaration` is that it meets its contract.
+-- `functions::next_declaration` meets its contract: a walk of its MIR, by hand. The reader's borrow is opened, `declaration` is called on the text
+-- and the place that lie there, the place that it reached is stored, and the borrow is closed at the reader that has gone on.
+-- All else is handed on to `declaration` as it was passed. The text's borrow is Copy: what the reader owns is had twice, and one copy is kept for
+-- the exit. All that the proof knows of `declaration` is that it meets its contract.
 -- Positions in the context: local i stands at 2 · i, after what is put in front. Assumes nothing.
 use mathlib.Core.Path.{_≡_, refl, ap}
 use Prim.Native.Nat.{ℕ, _<_, _^_}
@@ -18,7 +20,8 @@ use ghost.Atoms.{Atoms, sem}
 use contract.Lifetimes.{Lfts, Shares, AllOutlive, toks}
 use contract.Monad.{Fun, fact}
 use contract.Running.{givenOf}
-use types.Kit.{Given, Item, ‵, raw, given, _⊛_, ⋆, _$_, _∵_, !, qed, by, move, drop, use1, split, join, learn, rewrite, fsplit, fsplit3, fjoin, fjoin3, feqI, suffices, frame, done}
+use types.Kit.{Given, Item, ‵, raw, given, _⊛_, ⋆, _$_, _∵_, !, qed, by, move, drop, use1, split, join, learn, rewrite, fsplit, fsplit3, fjoin}
+use types.Kit.{fjoin3, feqI, suffices, frame, done}
 use types.Part.{whole, sub, look-in, store-in}
 use types.Run.{look, init, stop, hop, fld, from, load, addr, of-opd, no-more, assigns, land, returns, enter, params1, pass1, pass0}
 use types.SemTy.{Body}
@@ -215,7 +218,8 @@ module _ {M : Type 1} (𝓤 : URA M) (H : Heap 𝓤) (A : Atoms 𝓤) (W : Given
         move ! (1 ∷ []) $ use1 W (‵ Own ⊛ ‵ Own) (LL.copy D (T′.the-copy α) 𝓤 H A W .twice h (T′.lowered h ∷ [])) $ split ! $
         use1 W (given (T′.lowered h ∷ [] ≡ T′.lowered h ∷ []) (‵ (all-own (D .parts) L vd))) (own-open 𝓤 H A W D L vd (T′.lowered h)) $ learn ! (λ _.
         use1 W (‵ (ownAt (D .parts) L 0 (h .text)) ⊛ ‵ (rest (D .parts) L 0 vd)) (own-out 𝓤 H A W (D .parts) L 0 vd) $ split ! $ move ! (1 ∷ []) $ drop ! $
-        -- [what the text's borrow owns; what the reader owns; its cell; the open borrow; obs; auth; what the others own; their tokens; what is required; the locals]
+        -- [what the text's borrow owns; what the reader owns; its cell; the open borrow; obs; auth; what the others own; their tokens; what is
+        -- required; the locals]
         move ! (6 ∷ []) $ owned ! usize (Is usize) (uint-makes 𝓤 H A W w64) (h .at) _ (refl, LL.owed D L h _ was .1 .0 .1) $ fjoin ! $ move ! (1 ∷ 0 ∷ []) $ fjoin ! $
         move ! (6 ∷ 0 ∷ []) $ join ! $ move ! (0 ∷ 6 ∷ []) $ join ! $ use1 W (raw (Declaration 𝓤 H A at-mem run .pre to-declaration)) (id⊢ 𝓤 _) $
         calls-at ! fm (Declaration 𝓤 H A at-mem run) known to-declaration
