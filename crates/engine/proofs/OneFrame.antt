@@ -16,8 +16,8 @@ use Rattle.meaning.specs.Packing.{pack}
 use Rattle.meaning.specs.Leaving.{Cells}
 use Rattle.meaning.specs.Flat.{isFlat}
 use Rattle.meaning.specs.Entries.{flatAnswer}
-use Rattle.agreeing.proofs.Flat.{never-fifteen-left, flat-answer}
-use Rattle.tables.proofs.Known.{AreBytes, Known, read-known}
+use Rattle.meaning_agreeing.proofs.Flat.{never-fifteen-left, flat-answer}
+use Rattle.engine_tables.proofs.Known.{AreBytes, Known, read-known}
 use Rattle.engine.specs.TableRuns.{withCode, withoutCode, tableRun}
 use Rattle.engine.proofs.Runs.{table-leaves}
 

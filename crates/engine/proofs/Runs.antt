@@ -16,15 +16,15 @@ use Rattle.meaning.specs.Packing.{Words, pack}
 use Rattle.meaning.specs.Outcome.{uncounted, Result}
 use Rattle.meaning.specs.Leaving.{Cells, Leaving, zeros, padded, roomOf, leaving}
 use Rattle.meaning.specs.Entries.{answered, written, translated, runAnswer}
-use Rattle.agreeing.proofs.laws.Translated.{unpacked}
-use Rattle.agreeing.proofs.Demand3.{as-demanded}
-use Rattle.acting.specs.declared.registers.Ran.{Ran}
-use Rattle.acting.specs.Endings.{endingNumber}
-use Rattle.running.specs.Leaving.{Tells, Leaves}
+use Rattle.meaning_agreeing.proofs.laws.Translated.{unpacked}
+use Rattle.meaning_agreeing.proofs.Demand3.{as-demanded}
+use Rattle.run_actions.specs.declared.registers.Ran.{Ran}
+use Rattle.run_actions.specs.Endings.{endingNumber}
+use Rattle.run_code.specs.Leaving.{Tells, Leaves}
 use Rattle.engine.specs.declared.Report.{Report}
 use Rattle.engine.specs.Told.{Runs, Profiles}
 use Rattle.engine.specs.TableRuns.{TableRun, tableLeaving, withoutCode, withCode, tableRun, Reports}
-use Rattle.tables.proofs.Known.{Known}
+use Rattle.engine_tables.proofs.Known.{Known}
 
 -- what a run answers as words
 abbrev ranWords : Ran → List ℕ

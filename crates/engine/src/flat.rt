@@ -1,5 +1,5 @@
 // Whether a table calls declared functions only by tail calls: 02's T-06.
-use tables::flat_table;
+use engine_tables::flat_table;
 ghost use mathlib.Core.Path.{_≡_};
 ghost use Rattle.meaning.specs.Reading.{read};
 ghost use Rattle.meaning.specs.Entries.{flatAnswer};

@@ -3,16 +3,16 @@ pub mod flat;
 pub mod profile;
 
 use crate::profile::refal0_profile;
-use acting::registers::ending_number;
-use tables::list_table;
-use tables::read_table;
-use tables::translate_table;
+use run_actions::registers::ending_number;
+use engine_tables::list_table;
+use engine_tables::read_table;
+use engine_tables::translate_table;
 ghost use mathlib.Core.Path.{_≡_};
 ghost use lib.ListN.{length};
 ghost use Rattle.meaning.specs.Reading.{read};
 ghost use Rattle.meaning.specs.Entries.{readAnswer, written, listed, translated};
 ghost use Rattle.meaning.specs.Leaving.{leaving};
-ghost use Rattle.running.specs.Leaving.{cells};
+ghost use Rattle.run_code.specs.Leaving.{cells};
 ghost use Rattle.engine.specs.Told.{Runs};
 ghost use Rattle.engine.specs.TableRuns.{Reports, tableRun};
 
@@ -117,7 +117,7 @@ pub fn translate_and_run(
             emissions: 0,
         };
     }
-    let ran = running::run(
+    let ran = run_code::run(
         code,
         start,
         text,

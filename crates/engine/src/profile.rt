@@ -1,7 +1,7 @@
 // A run with the applications of each function: 02's T-01.
-use acting::registers::ending_number;
+use run_actions::registers::ending_number;
 ghost use Rattle.meaning.specs.Leaving.{leaving};
-ghost use Rattle.running.specs.Leaving.{cells};
+ghost use Rattle.run_code.specs.Leaving.{cells};
 ghost use Rattle.engine.specs.Told.{Profiles};
 
 // As `refal0_run`, and in `counts` the applications of functions 1 to 64.
@@ -20,7 +20,7 @@ pub extern "C" fn refal0_profile(
     ensures { λ _. ⌜ Profiles (now (answer .exit)) (now (counts .exit)) (cells (now («stack_in» .exit)) (now («stack_out» .exit)) (now («record» .exit)))
         (leaving (now (code .entry)) start (now (text .entry)) (cells (now («stack_in» .entry)) (now («stack_out» .entry)) (now («record» .entry))) allowance) ⌝ }
 {
-    let ran = running::run(
+    let ran = run_code::run(
         code,
         start,
         text,

@@ -5,7 +5,7 @@ use mathlib.Core.List.{List, [], _∷_, map}
 use Rattle.meaning.specs.Choice.{Bytes}
 use Rattle.meaning.proofs.rows.Read.{bytes, hold}
 use Rattle.meaning.proofs.rows.Computing.{computing}
-use Rattle.printing.specs.Texts.{numeralOf, profileLines}
+use Rattle.program_printing.specs.Texts.{numeralOf, profileLines}
 use Rattle.program.specs.Printed.{lentBytes, printed}
 
 -- a table's text, a text and what is printed for them

@@ -17,11 +17,11 @@ use Rattle.meaning.specs.Packing.{Words, pack}
 use Rattle.meaning.specs.Leaving.{Cells, Leaving, left, roomOf}
 use Rattle.meaning.specs.Leaving.{refused as unrun}
 use Rattle.meaning.proofs.laws.Choosing.{of-either}
-use Rattle.running.specs.Leaving.{cells}
+use Rattle.run_code.specs.Leaving.{cells}
 use Rattle.engine.specs.declared.Report.{Report}
 use Rattle.engine.specs.TableRuns.{TableRun, hasFunction, withoutCode, withCode, tableRun, Reports}
-use Rattle.printing.specs.Texts.{isRefusal, refusalText}
-use Rattle.profiling.specs.Profiles.{namesRead}
+use Rattle.program_printing.specs.Texts.{isRefusal, refusalText}
+use Rattle.program_profile.specs.Profiles.{namesRead}
 use Rattle.program.specs.Printed.{ranText, runText, lentCells, Shows}
 
 -- the emissions stand at the front of the record, and the result at the front of out

@@ -7,9 +7,9 @@ use lib.ListN.{length, take}
 use Rattle.meaning.specs.Choice.{Bytes, Name, pick}
 use Rattle.meaning.specs.Reading.{read}
 use Rattle.meaning.specs.Leaving.{Cells, zeros}
-use Rattle.printing.specs.Texts.{isRefusal, refusalText, resultText, profileText}
-use Rattle.profiling.specs.Profiles.{namesRead}
-use Rattle.running.specs.Leaving.{cells}
+use Rattle.program_printing.specs.Texts.{isRefusal, refusalText, resultText, profileText}
+use Rattle.program_profile.specs.Profiles.{namesRead}
+use Rattle.run_code.specs.Leaving.{cells}
 use Rattle.engine.specs.declared.Report.{Report}
 use Rattle.engine.specs.TableRuns.{TableRun, tableRun}
 

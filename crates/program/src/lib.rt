@@ -2,14 +2,14 @@
 use engine::Report;
 use libc::STDIN_FILENO;
 use libc::STDOUT_FILENO;
-use printing::is_refusal;
-use printing::put_refusal;
-use printing::put_result;
-use profiling::put_profile;
+use program_printing::is_refusal;
+use program_printing::put_refusal;
+use program_printing::put_result;
+use program_profile::put_profile;
 ghost use mathlib.Core.Path.{_≡_};
 ghost use lib.ListN.{length};
 ghost use Rattle.io.specs.Counts.{Counts};
-ghost use Rattle.printing.specs.Texts.{Prints};
+ghost use Rattle.program_printing.specs.Texts.{Prints};
 ghost use Rattle.program.specs.Printed.{lentBytes, printed, Shows};
 
 // Arrays in functions of their own, so that no caller's facts hold their elements.

@@ -1,6 +1,6 @@
 -- `engine::translate_and_run` meets its contract.
 use Rattle.meaning.specs.Reading.{read}
-use Rattle.tables.proofs.Known.{read-known}
+use Rattle.engine_tables.proofs.Known.{read-known}
 use Rattle.engine.proofs.Runs.{unrun-reports, run-reports}
 use borrow.Author.Needs.{needs}
 use Rattle.engine.proofs.translate_and_run.Statement.{statement}

@@ -1,7 +1,7 @@
 -- `program::run_program` meets its contract.
 use mathlib.Core.Path.{sym}
 use lib.Seq.{length-take-le}
-use Rattle.printing.proofs.Putting.{prints-within}
+use Rattle.program_printing.proofs.Putting.{prints-within}
 use borrow.Author.Needs.{needs}
 use Rattle.program.proofs.run_program.Statement.{statement}
 use Rattle.program.proofs.run_program.Tie as tie

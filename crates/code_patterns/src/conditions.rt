@@ -1,0 +1,173 @@
+// A sentence's conditions as tests.
+use crate::bounds::part_end;
+use crate::bounds::part_start;
+use crate::pattern::Pattern;
+use crate::symbols::Site;
+use crate::symbols::found_site;
+use tape_words::names::find;
+use tape_words::names::name_is;
+use tape_words::tape::of_kind;
+use tape_words::tape::reach;
+use tape_words::tape::word_at;
+use tape_words::writing::put;
+ghost use mathlib.Core.Path.{_≡_};
+ghost use mathlib.Core.Bool.{true};
+ghost use Prim.Native.Nat.{_+_, _*_, _/_, _%_, _≤_, _<_, _^_};
+ghost use lib.ListN.{length, take, drop};
+ghost use Rattle.meaning.specs.Packing.{word, testWord};
+ghost use Rattle.code_patterns.specs.Scans.{conditionOf};
+ghost use Rattle.code_patterns.specs.Conditioning.{located, Kept, conditionTestBy, conditionAt, conditionsDone, InConditions, ConditionsOn, ConditionsAll};
+
+// Where the writing of conditions stands: how many, the tape's next word, and the code's.
+pub struct Conditions {
+    pub count: usize,
+    pub next: usize,
+    pub at: usize,
+    pub more: bool,
+}
+
+fn is_condition(tape: &[u32], i: usize, count: usize) -> bool
+    ensures { λ r. ⌜ r ≡ conditionAt count (drop i (now (tape .entry))) ⌝ }
+{
+    if 8 <= count {
+        return false;
+    }
+    of_kind(word_at(tape, i), 768)
+}
+
+// The test of the class and truth value that a condition's word carries, on the cell that was found.
+fn symbol_word(site: usize, carried: usize) -> usize
+    requires { ⌜ (site < 16896) × (carried < 256) ⌝ }
+    ensures { λ r. ⌜ (r ≡ 3 + 256 * site + 1024 * (carried / 5 % 2) + 16777216 * (carried % 5)) × (r < 2 ^ 32) ⌝ }
+{
+    let truth = carried / 5 % 2;
+    let class = carried % 5;
+    3 + 256 * site + 1024 * truth + 16777216 * class
+}
+
+// The same on the part between two cells.
+fn part_word(from: Site, to: Site, carried: usize) -> usize
+    requires { ⌜ (from .register ≤ 2) × (from .offset ≤ 64) × (to .register ≤ 2) × (to .offset ≤ 64) ⌝ }
+    requires { ⌜ carried < 256 ⌝ }
+    ensures { λ r. ⌜ (r ≡ word 20 (from .register + 4 * to .register + 16 * (carried / 5 % 2) + 32 * (carried % 5))
+        (from .offset) (to .offset)) × (r < 2 ^ 32) ⌝ }
+{
+    let truth = carried / 5 % 2;
+    let class = carried % 5;
+    let operand = from.register + 4 * to.register + 16 * truth + 32 * class;
+    20 + 256 * (operand + 256 * (from.offset + 256 * to.offset))
+}
+
+// The test of a condition on the variable whose name is `size` words at `from`.
+fn condition_word(
+    tape: &[u32],
+    m: Pattern,
+    names: &[usize],
+    sites: &[usize],
+    symbols: usize,
+    from: usize,
+    size: usize,
+    carried: usize,
+) -> usize
+    requires { ⌜ Kept m (now names) (now sites) symbols ⌝ }
+    requires { ⌜ (from + size ≤ length (now tape)) × (carried < 256) ⌝ }
+    ensures { λ r. ⌜ (r ≡ testWord (conditionTestBy (located (now (tape .entry)) m (now (names .entry))
+        (now (sites .entry)) symbols) (conditionOf carried (take size (drop from (now (tape .entry)))))))
+        × (r < 2 ^ 32) ⌝ }
+{
+    if carried / 10 % 2 == 1 {
+        let lengths = m.lengths;
+        let first = name_is(tape, m.variable, from, size);
+        let start = part_start(lengths, first);
+        let end = part_end(lengths, first);
+        return part_word(start, end, carried);
+    }
+    let found = find(tape, names, symbols, from, size);
+    symbol_word(found_site(sites, found), carried)
+}
+
+fn write_condition(
+    tape: &[u32],
+    m: Pattern,
+    names: &[usize],
+    sites: &[usize],
+    symbols: usize,
+    code: &mut [u32],
+    c: Conditions,
+) -> Conditions
+    requires { ⌜ Kept m (now names) (now sites) symbols ⌝ }
+    requires { ⌜ InConditions (now tape) c × (conditionAt (c .count) (drop (c .next) (now tape)) ≡ true) ⌝ }
+    ensures { λ r. ⌜ ConditionsOn (now (tape .entry)) (located (now (tape .entry)) m (now (names .entry))
+        (now (sites .entry)) symbols) (now (code .entry)) c (now (code .exit)) r ⌝ }
+{
+    let carried = word_at(tape, c.next) % 256;
+    let from = c.next + 1;
+    let size = reach(tape, from, carried / 20);
+    let word = condition_word(tape, m, names, sites, symbols, from, size, carried);
+    let at = put(code, c.at, word);
+    Conditions {
+        count: c.count + 1,
+        next: from + size,
+        at,
+        more: true,
+    }
+}
+
+fn conditions_end(c: Conditions) -> Conditions
+    ensures { λ r. ⌜ r ≡ conditionsDone c ⌝ }
+{
+    Conditions {
+        count: c.count,
+        next: c.next,
+        at: c.at,
+        more: false,
+    }
+}
+
+fn condition_or_end(
+    tape: &[u32],
+    m: Pattern,
+    names: &[usize],
+    sites: &[usize],
+    symbols: usize,
+    code: &mut [u32],
+    c: Conditions,
+) -> Conditions
+    requires { ⌜ Kept m (now names) (now sites) symbols ⌝ }
+    requires { ⌜ InConditions (now tape) c ⌝ }
+    ensures { λ r. ⌜ ConditionsOn (now (tape .entry)) (located (now (tape .entry)) m (now (names .entry))
+        (now (sites .entry)) symbols) (now (code .entry)) c (now (code .exit)) r ⌝ }
+{
+    if is_condition(tape, c.next, c.count) {
+        write_condition(tape, m, names, sites, symbols, code, c)
+    } else {
+        conditions_end(c)
+    }
+}
+
+pub fn write_conditions(
+    tape: &[u32],
+    m: Pattern,
+    names: &[usize],
+    sites: &[usize],
+    symbols: usize,
+    start: usize,
+    code: &mut [u32],
+    at: usize,
+) -> Conditions
+    requires { ⌜ Kept m (now names) (now sites) symbols ⌝ }
+    requires { ⌜ (start ≤ length (now tape)) × (at < 2 ^ 60) ⌝ }
+    ensures { λ r. ⌜ ConditionsAll (now (tape .entry)) (located (now (tape .entry)) m (now (names .entry))
+        (now (sites .entry)) symbols) start (now (code .entry)) at (now (code .exit)) r ⌝ }
+{
+    let mut c = Conditions {
+        count: 0,
+        next: start,
+        at,
+        more: true,
+    };
+    while c.more {
+        c = condition_or_end(tape, m, names, sites, symbols, code, c);
+    }
+    c
+}

@@ -1,0 +1,60 @@
+-- The functions of a tape: where they stand, and their words and the table of their places as they are written one after another.
+use Prim.Native.Nat.{ℕ, _+_, _-_, _≤_, _<_}
+use mathlib.Core.Path.{_≡_}
+use mathlib.Core.List.{List, _++_, map}
+use lib.ListN.{length, take, drop, getD, set}
+use lib.Seq.{sets}
+use Rattle.meaning.specs.Tree.{Table}
+use Rattle.meaning.specs.Allowed.{namesOf, maxFunctions}
+use Rattle.meaning.specs.Instructions.{Sentences, Code}
+use Rattle.meaning.specs.Translation.{translatedFunction}
+use Rattle.meaning.specs.Packing.{packSentences, pack}
+use Rattle.tape_words.specs.Words.{headNames}
+use Rattle.code_sentences.specs.Trees.{functionsIn, functionIn}
+use Rattle.tape_words.specs.Writing.{Wrote}
+
+-- THE HEADS: the places of the functions' words
+
+-- the first so many are places of the tape
+abbrev pub Inside : List ℕ → List ℕ → ℕ → Type 0
+Inside ws heads count = (k : ℕ) → k < count → getD heads k 0 < length ws
+
+-- the words from each head on
+abbrev pub wordsFrom : List ℕ → List ℕ → List (List ℕ)
+wordsFrom ws heads = map (λ p. drop p ws) heads
+
+-- the heads so far, and those still to come from the word `i` on
+abbrev pub headsLeft : List ℕ → ℕ → List ℕ → ℕ → List (List ℕ)
+headsLeft ws i heads count = wordsFrom ws (take count heads) ++ take (maxFunctions - count) (functionsIn (drop i ws))
+
+-- a step keeps what the heads come to
+pub record HeadsOn (ws : List ℕ) (i : ℕ) (heads : List ℕ) (count : ℕ) (heads′ : List ℕ) (r : ℕ) : Type 0 where
+  pub same : headsLeft ws (i + 1) heads′ r ≡ headsLeft ws i heads count
+  pub inside : Inside ws heads′ r
+  pub few : r ≤ 64
+
+-- all heads are found
+pub record HeadsAll (ws heads : List ℕ) (r : ℕ) : Type 0 where
+  pub found : wordsFrom ws (take r heads) ≡ take maxFunctions (functionsIn ws)
+  pub inside : Inside ws heads r
+  pub few : r ≤ 64
+
+-- THE FUNCTIONS
+
+abbrev pub functionAt : Table → List ℕ → ℕ → Sentences
+functionAt t ws head = translatedFunction t (functionIn (drop head ws))
+
+abbrev pub functionsOf : Table → List ℕ → List ℕ → Code
+functionsOf t ws heads = map (functionAt t ws) heads
+
+-- in the code from the k-th entry of the table on: the entry is the function's place `at`, and there the function is written
+pub record EntryAll (ws heads : List ℕ) (k : ℕ) (part : List ℕ) (at : ℕ) (part′ : List ℕ) (r : ℕ) : Type 0 where
+  pub left : (t : Table) → namesOf t ≡ headNames ws heads
+      → part′ ≡ sets (set part 0 at) (at - (k + 1)) (packSentences (functionAt t ws (getD heads k 0)))
+  pub next : (t : Table) → namesOf t ≡ headNames ws heads → r ≡ at + length (packSentences (functionAt t ws (getD heads k 0)))
+  pub ahead : at ≤ r
+  pub grown : r ≤ at + 17920001
+
+-- the table and the functions are written
+pub record FunctionsAll (ws heads code code′ : List ℕ) (r : ℕ) : Type 0 where
+  pub wrote : (t : Table) → namesOf t ≡ headNames ws heads → Wrote code 0 (pack (functionsOf t ws heads)) code′ r

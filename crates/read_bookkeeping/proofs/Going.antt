@@ -1,0 +1,179 @@
+-- How far a reader has come, and what it comes to.
+use Prim.Native.Nat.{ℕ, zero, suc, _+_, _-_, _*_, _≤_, _<_}
+use mathlib.Core.Path.{_≡_, refl, sym, _∙_, ap}
+use mathlib.Core.Bool.{Bool, true, false, true≢false}
+use mathlib.Core.List.{List, [], _∷_, _++_, append-assoc}
+use native.Mathlib.Omega.{arith}
+use lib.Dec.{T, eqb, lt→ltb}
+use lib.ListN.{length, set, length-append}
+use Rattle.meaning.specs.Choice.{Bytes, every}
+use Rattle.meaning.specs.Tape.{named}
+use Rattle.meaning.specs.Tokens.{Placed}
+use Rattle.meaning.specs.Reading.{Parsed, stopped, parsed, follow, whether, isSign, pass, check}
+use Rattle.meaning.proofs.laws.Passing.{both-pass}
+use Rattle.read_tokens.specs.View as View
+use Rattle.read_tokens.specs.declared.Span.{Span}
+use Rattle.read_bookkeeping.specs.declared.progress.Fault.{Fault}
+use Rattle.read_bookkeeping.specs.declared.progress.Progress.{Progress}
+use Rattle.read_bookkeeping.specs.declared.progress.Parsed.{Parsed as CodeParsed}
+use Rattle.read_bookkeeping.specs.declared.progress.Parsed.the-variants.{Stopped, Done}
+use Rattle.read_bookkeeping.specs.Answered.{numberOf, Comes, Agrees}
+use Rattle.read_bookkeeping.specs.Tables.{Inside}
+use Rattle.read_bookkeeping.specs.Written.{Wrote, isQuiet, Ready, Went}
+use Rattle.read_bookkeeping.proofs.Lengths.{part-length}
+use Rattle.read_bookkeeping.proofs.Words.{written-none, written-one, written-append, wrote-length}
+
+-- STOPPING
+
+-- a fault that is none of no faults stops
+pub check-wrong : {A : Type 0} (number : ℕ) (t : Placed) (later : Parsed A) → eqb number 0 ≡ false → check number t later ≡ stopped number (t .place)
+check-wrong zero t later e = absurd (true≢false e)
+check-wrong (suc number) t later e = refl
+
+-- what the definition has read, where the code has
+pub record ReadAt {A : Type 0} (Reads : A → List Placed → Progress → Type 0) (p : Parsed A) (s : Progress) : Type 0 where
+  pub value : A
+  pub rest : List Placed
+  pub same : p ≡ parsed value rest
+  pub how : Reads value rest s
+
+module _ {A : Type 0} {Reads : A → List Placed → Progress → Type 0} where
+  -- the definition stops with this fault
+  pub stops : {p : Parsed A} {fault : Fault} → p ≡ stopped (numberOf (fault .answer)) (fault .place) → Agrees Reads p (Stopped fault)
+  stops e = record { comes = rw e (refl, refl) }
+
+  -- the definition reads
+  pub reads : {p : Parsed A} {s : Progress} (value : A) (rest : List Placed) → p ≡ parsed value rest → Reads value rest s → Agrees Reads p (Done s)
+  reads value rest e r = record { comes = rw e r }
+
+  -- the code has stopped, so the definition has
+  pub has-stopped : (p : Parsed A) (fault : Fault) → Agrees Reads p (Stopped fault) → p ≡ stopped (numberOf (fault .answer)) (fault .place)
+  has-stopped (stopped number place) fault a = let c = a .comes in rw (c .0, c .1)
+  has-stopped (parsed value rest) fault a = absurd (a .comes)
+
+  -- the code has read, so the definition has
+  pub has-read : (p : Parsed A) (s : Progress) → Agrees Reads p (Done s) → ReadAt Reads p s
+  has-read (stopped number place) s a = absurd (a .comes)
+  has-read (parsed value rest) s a = record { value = value; rest = rest; same = refl; how = a .comes }
+
+-- what stops a reader stops what begins with it
+pub stops-too : {A B : Type 0} {Reads : A → List Placed → Progress → Type 0} {Makes : B → List Placed → Progress → Type 0} {p : Parsed A} {q : Parsed B} {r : CodeParsed}
+    {fault : Fault} → Agrees Reads p r → r ≡ Stopped fault
+    → (p ≡ stopped (numberOf (fault .answer)) (fault .place) → q ≡ stopped (numberOf (fault .answer)) (fault .place))
+    → Agrees Makes q (Stopped fault)
+stops-too {fault = fault} a e begins = stops (begins (has-stopped _ fault (rw e at a)))
+
+-- FOLLOWING
+
+-- what follows a byte that stands for itself follows all that begins with it
+pub pass-follow : {A B : Type 0} (byte : ℕ) (ts : List Placed) (first : List Placed → Parsed A) (next : A → List Placed → Parsed B)
+    → pass byte ts (λ rest. follow (first rest) next) ≡ follow (pass byte ts first) next
+pass-follow byte [] first next = refl
+pass-follow {A} {B} byte (t ∷ ts) first next = chosen (isSign byte (t .token))
+  where
+    chosen : (is : Bool) → whether is t (follow (first ts) next) ≡ follow (whether is t (first ts)) next
+    chosen true = refl
+    chosen false = refl
+
+pub follow-same : {A B : Type 0} {first second : A → List Placed → Parsed B} (p : Parsed A)
+    → ((value : A) (rest : List Placed) → first value rest ≡ second value rest)
+    → follow p first ≡ follow p second
+follow-same (stopped number place) e = refl
+follow-same (parsed value rest) e = e value rest
+
+-- nothing is made of what was read
+pub follow-alone : {A : Type 0} (p : Parsed A) → p ≡ follow p parsed
+follow-alone (stopped number place) = refl
+follow-alone (parsed value rest) = refl
+
+-- what the definition makes of what it has read, the code has read
+pub makes : {A B : Type 0} {Reads : A → List Placed → Progress → Type 0} {Makes : B → List Placed → Progress → Type 0} {p : Parsed B} {r : CodeParsed}
+    (make : A → B) (q : Parsed A)
+    → ((value : A) (rest : List Placed) (s : Progress) → Reads value rest s → Makes (make value) rest s)
+    → p ≡ follow q (λ value rest. parsed (make value) rest)
+    → Agrees Reads q r
+    → Agrees Makes p r
+makes {A} {B} {Reads} {Makes} {p} {r} make q how e a = rw e (record { comes = made q r (a .comes) })
+  where
+    made : (q′ : Parsed A) (r′ : CodeParsed) → Comes Reads q′ r′ → Comes Makes (follow q′ (λ value rest. parsed (make value) rest)) r′
+    made (stopped number place) (Stopped fault) c = c
+    made (stopped number place) (Done s) c = c
+    made (parsed value rest) (Stopped fault) c = c
+    made (parsed value rest) (Done s) c = how value rest s c
+
+-- these before the others
+abbrev pub behind : {A : Type 0} → List A → List A → List Placed → Parsed (List A)
+behind before xs rest = parsed (before ++ xs) rest
+
+pub behind-more : {A : Type 0} (before : List A) (x : A) (p : Parsed (List A))
+    → follow (follow p (λ xs rest. parsed (x ∷ xs) rest)) (behind before) ≡ follow p (behind (before ++ x ∷ []))
+behind-more before x (stopped number place) = refl
+behind-more {A} before x (parsed xs rest) = ap (λ (all : List A). parsed all rest) (sym (append-assoc before (x ∷ []) xs))
+
+-- GOING ON
+
+-- nothing yet
+pub went-none : (text : Bytes) (at words : ℕ) (tape : List ℕ) → Ready text at words → Went text at words tape at words tape []
+went-none text at words tape r =
+    record { onward = omega arith; inside = r .inside; charged = r .charged; counted = omega arith; wrote = sym (written-none tape words) }
+
+-- the tape stays as long as it was
+pub went-length : {text : Bytes} {at words : ℕ} {tape : List ℕ} {at′ words′ : ℕ} {tape′ added : List ℕ} → Went text at words tape at′ words′ tape′ added
+    → length tape′ ≡ length tape
+went-length w = wrote-length (record { reached = w .counted; same = w .wrote })
+
+-- after what was read
+pub ready-after : {text : Bytes} {at words : ℕ} {tape : List ℕ} {at′ words′ : ℕ} {tape′ added : List ℕ} → length text ≤ 32768
+    → Went text at words tape at′ words′ tape′ added → Ready text at′ words′
+ready-after h w = record { inside = w .inside; charged = w .charged; short = h }
+
+-- from an earlier place on
+pub went-from : {text : Bytes} {at from words : ℕ} {tape : List ℕ} {at′ words′ : ℕ} {tape′ added : List ℕ}
+    → at ≤ from → Went text from words tape at′ words′ tape′ added → Went text at words tape at′ words′ tape′ added
+went-from h w =
+    record { onward = omega (arith, w .onward); inside = w .inside; charged = w .charged; counted = w .counted; wrote = w .wrote }
+
+-- further on in the text
+pub went-on : {text : Bytes} {at words : ℕ} {tape : List ℕ} {at′ words′ : ℕ} {tape′ added : List ℕ} (further : ℕ)
+    → Went text at words tape at′ words′ tape′ added → at′ ≤ further → further ≤ length text → Went text at words tape further words′ tape′ added
+went-on further w h k =
+    record { onward = omega (arith, w .onward); inside = k; charged = omega (arith, w .charged); counted = w .counted; wrote = w .wrote }
+
+-- one after the other
+pub went-then : {text : Bytes} {at₁ words₁ : ℕ} {tape₁ : List ℕ} {at₂ words₂ : ℕ} {tape₂ : List ℕ} {at₃ words₃ : ℕ} {tape₃ : List ℕ} {a b : List ℕ}
+    → Went text at₁ words₁ tape₁ at₂ words₂ tape₂ a
+    → Went text at₂ words₂ tape₂ at₃ words₃ tape₃ b
+    → Went text at₁ words₁ tape₁ at₃ words₃ tape₃ (a ++ b)
+went-then {words₁ = words₁} {tape₁ = tape₁} {a = a} {b = b} v w =
+    record {
+      onward = omega (arith, v .onward, w .onward);
+      inside = w .inside;
+      charged = w .charged;
+      counted = rw (length-append a b) (omega (arith, v .counted, w .counted));
+      wrote = w .wrote ∙ rw (v .wrote, v .counted) (written-append a b tape₁ words₁);
+    }
+
+-- one word, charged to what stands before a further place
+pub word-went : {text : Bytes} {at words further : ℕ} {tape tape′ : List ℕ} {word : ℕ} → Ready text at words → at < further → further ≤ length text
+    → tape′ ≡ set tape words word
+    → Went text at words tape further (words + 1) tape′ (word ∷ [])
+word-went {words = words} {tape = tape} {word = word} r h k e =
+    record { onward = omega arith; inside = k; charged = omega (arith, r .charged); counted = refl; wrote = e ∙ written-one tape words word }
+
+-- a word of a kind and a name, charged to what stands before a further place
+module _ {text : Bytes} {n : Span} (kind : ℕ) (i : Inside text n) where
+  pub name-went : {at words further : ℕ} {word : ℕ} {tape tape′ : List ℕ} {words′ : ℕ} → at ≤ further → further ≤ length text
+      → words + (n .past - n .from) < further
+      → word ≡ kind * 256 + (n .past - n .from)
+      → Wrote tape words (word ∷ View.part text n) words′ tape′
+      → Went text at words tape further words′ tape′ (named kind (View.part text n))
+  name-went o h c e w =
+      let l = part-length text n i in
+      record { onward = o; inside = h; charged = omega (arith, w .reached, l); counted = w .reached; wrote = rw (l, ← e) (w .same) }
+
+  pub name-quiet : kind * 256 + (n .past - n .from) < 2304 → T (every isQuiet (View.part text n)) → T (every isQuiet (named kind (View.part text n)))
+  unfolding every
+  name-quiet s q =
+      both-pass (isQuiet (kind * 256 + length (View.part text n))) (every isQuiet (View.part text n))
+      (rw (part-length text n i) (lt→ltb (kind * 256 + (n .past - n .from)) 2304 s))
+      q

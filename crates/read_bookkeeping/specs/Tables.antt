@@ -1,0 +1,48 @@
+-- Names in the text, and tables of them. An entry of a table is 32 times the place of a name and its length.
+use Prim.Native.Nat.{ℕ, suc, _+_, _/_, _%_, _≤_}
+use mathlib.Core.Bool.{Bool, not}
+use mathlib.Core.List.{List, [], _∷_}
+use lib.Dec.{T, leb}
+use lib.ListN.{length}
+use lib.Seq.{slice}
+use Rattle.meaning.specs.Choice.{Bytes, Name, pick, both, every, sameBytes}
+use Rattle.meaning.specs.Names.{isReserved}
+use Rattle.meaning.specs.Answers.{wrongName}
+use Rattle.meaning.specs.Allowed.{member}
+use Rattle.meaning.specs.Reading.{lengthFault, faultUnless}
+use Rattle.read_tokens.specs.declared.Span.{Span}
+
+-- a part that lies in the text
+pub record Inside (text : Bytes) (s : Span) : Type 0 where
+  pub forward : s .from ≤ s .past
+  pub inside : s .past ≤ length text
+
+-- the name of an entry
+abbrev pub nameIn : Bytes → ℕ → Name
+nameIn text entry = slice (entry / 32) (entry / 32 + entry % 32) text
+
+unfoldable pub namesIn : Bytes → List ℕ → List Name
+namesIn text [] = []
+namesIn text (entry ∷ entries) = nameIn text entry ∷ namesIn text entries
+
+-- an entry's name lies in the text
+abbrev pub inText : Bytes → ℕ → Bool
+inText text entry = leb (entry / 32 + entry % 32) (length text)
+
+-- the names of a table from one entry on and before another
+abbrev pub tableNames : Bytes → List ℕ → ℕ → ℕ → List Name
+tableNames text table from to = namesIn text (slice from to table)
+
+pub record Entries (text : Bytes) (table : List ℕ) (from to : ℕ) : Type 0 where
+  pub ordered : from ≤ to
+  pub inside : to ≤ length table
+  pub sound : T (every (inText text) (slice from to table))
+
+-- how many names stand before the first such name, or how many there are
+unfoldable pub position : Name → List Name → ℕ
+position x [] = 0
+position x (y ∷ ys) = let later = suc (position x ys) in pick (sameBytes x y) 0 later
+
+-- `declaredFault`, by the names declared before
+abbrev pub declaredFaultIn : List Name → Name → ℕ
+declaredFaultIn names n = lengthFault n (faultUnless (both (not (isReserved n)) (not (member n names))) wrongName 0)

@@ -1,0 +1,559 @@
+-- The conditions' reader.
+use Prim.Native.Nat.{ℕ, zero, suc, _+_, _-_, _*_, _≤_, _<_}
+use mathlib.Core.Path.{_≡_, refl, sym, _∙_, ap}
+use mathlib.Core.Bool.{Bool, true, false, not}
+use mathlib.Core.List.{List, [], _∷_, _++_, append-nil, append-assoc}
+use mathlib.Core.Logic.{_⊎_, inl, inr, ⊎-elim}
+use mathlib.Core.Option.{Option, none, some}
+use native.Mathlib.Omega.{arith}
+use lib.Dec.{T, leb, ltb, eqb, lt→ltb}
+use lib.ListN.{length, getD}
+use lib.Seq.{length-slice}
+use types.Run.{OneOf, miss}
+use denote.Enum.Declared.{tagOf}
+use borrow.Author.Tests.{eq-eqb, ne-eqb}
+use Rattle.meaning.specs.Choice.{Bytes, Name, pick, both, every, sameBytes}
+use Rattle.meaning.specs.Classes.{Class, classNumber}
+use Rattle.meaning.specs.Tree.{Subject, Condition}
+use Rattle.meaning.specs.Answers.{overLimit, wrongLaterVariable}
+use Rattle.meaning.specs.Allowed.{member, maxIdentifier}
+use Rattle.meaning.specs.Names.{predicateOf}
+use Rattle.meaning.specs.Tape.{truthNumber, subjectTape, conditionTape, conditionsTape}
+use Rattle.meaning.specs.Tokens as Tokens
+use Rattle.meaning.specs.Grammar.{standing}
+use Rattle.meaning.specs.Reading as Reading
+use Rattle.meaning.specs.Reading.{Parsed, stopped, parsed, follow, faultUnless, subjectFault, itemOf, subjectOn}
+use Rattle.meaning.proofs.laws.Passing.{both-pass}
+use Rattle.meaning.specs.Packing.{classOf}
+use Rattle.read_tokens.proofs.Token as token
+use Rattle.read_tokens.proofs.Shortest.{three-bytes}
+use Rattle.read_tokens.specs.View as View
+use Rattle.read_tokens.specs.View.{tokenOf, placedOf, Sound, stream, Comes}
+use Rattle.read_tokens.specs.declared.Span.{Span}
+use Rattle.read_tokens.specs.declared.Token.{Token}
+use Rattle.read_tokens.specs.declared.Token.the-variants.{Quoted}
+use Rattle.read_tokens.proofs.Variants.{by-kind}
+use Rattle.read_tokens.specs.declared.Placed as Code
+use Rattle.read_bookkeeping.specs.declared.Answer.{Answer}
+use Rattle.read_bookkeeping.specs.declared.Answer.the-variants.{OverLimit, WrongName}
+use Rattle.read_bookkeeping.specs.declared.progress.Fault.{Fault}
+use Rattle.read_bookkeeping.specs.declared.progress.Progress.{Progress}
+use Rattle.read_bookkeeping.specs.declared.progress.Parsed.{Parsed as CodeParsed}
+use Rattle.read_bookkeeping.specs.declared.progress.Parsed.the-variants.{Stopped, Done}
+use Rattle.read_bookkeeping.specs.Tables.{Inside, tableNames, Entries, position}
+use Rattle.read_bookkeeping.specs.Answered.{numberOf, Agrees}
+use Rattle.read_bookkeeping.specs.Written.{Wrote, isQuiet, Ready, Went}
+use Rattle.read_bookkeeping.specs.Tokened.{signIs, Taken, Barred}
+use Rattle.read_bookkeeping.specs.Items.{Variables, symbolNames, partNames}
+use Rattle.read_conditions.specs.declared.Named.{Named}
+use Rattle.read_conditions.specs.declared.Named.the-variants.{Variable, Other}
+use Rattle.read_conditions.specs.Conditions.{variableOf, variableNames, subjectOf, kindNumber, conditionEnd, conditionOn, truthAt, TruthNumber, truthBetween, Standing, Before, ConditionRead, ConditionsRead}
+use Rattle.meaning_accepting.proofs.reading.Basics.{no-value}
+use Rattle.read_bookkeeping.proofs.Choosing.{both-true, fault-if-not, no-fault-here, a-fault-here}
+use Rattle.read_bookkeeping.proofs.Finding.{among}
+use Rattle.read_bookkeeping.proofs.Naming.{classed, class-number}
+use Rattle.read_bookkeeping.proofs.Lengths.{too-long, short-enough, within}
+use Rattle.read_bookkeeping.proofs.Going.{check-wrong, stops, reads, has-read, stops-too, follow-alone, makes, behind, behind-more, went-none, ready-after, went-from, went-then}
+use Rattle.read_bookkeeping.proofs.Items.{variableToken, variableItem, identifier-inside, variable-at, variable-here, item-then}
+use Rattle.read_bookkeeping.proofs.Tabling.{every-append}
+use Rattle.read_bookkeeping.proofs.Tokening.{FaultOf, NoName, NameFirst, sign-shown, takes, passes-on, passes-not, barred-stops, names-not, refused, ready-past, ready-taken, went-before}
+
+-- A LATER VARIABLE
+
+later-fault-is : (names : List Name) (x : Name) {short known : Bool} → leb (length x) maxIdentifier ≡ short → member x names ≡ known
+    → faultUnless short overLimit (faultUnless known wrongLaterVariable 0) ≡ subjectFault names x
+later-fault-is names x p q = rw (p, q)
+
+module _ {text : Bytes} {table : List ℕ} {from to : ℕ} {x : Span} (pre : Inside text x × Entries text table from to) where
+  abbrev Later : ℕ → Type 0
+  Later number = number ≡ subjectFault (tableNames text table from to) (View.part text x)
+
+  pub later-long : 8 < x .past - x .from → Later overLimit
+  later-long l = later-fault-is (tableNames text table from to) (View.part text x) (too-long text x (pre .0) 8 l) refl
+
+  pub later-is : x .past - x .from ≤ 8 → (r : ℕ) → r ≡ from + position (View.part text x) (tableNames text table from to)
+      → {known : Bool} → ltb r to ≡ known
+      → Later (pick (not known) wrongLaterVariable 0)
+  later-is l r f {known} h =
+      fault-if-not known wrongLaterVariable
+      ∙ later-fault-is (tableNames text table from to) (View.part text x) (short-enough text x (pre .0) 8 l)
+      (among text table from to (pre .1) (View.part text x) r f h)
+
+-- A CONDITION'S VARIABLE
+
+abbrev noVariable : List ℕ
+noVariable = 0 ∷ 3 ∷ 4 ∷ 5 ∷ 6 ∷ 7 ∷ []
+
+pub no-variable : (k : Token) → OneOf noVariable (tagOf token.the-type k) → Other ≡ variableOf k
+no-variable =
+    by-kind (λ k. OneOf noVariable (tagOf token.the-type k) → Other ≡ variableOf k) (λ n o. refl) (λ x o. absurd (miss noVariable 1 tt o))
+    (λ x o. absurd (miss noVariable 2 tt o)) (λ o. refl) (λ n o. refl) (λ b o. refl) (λ o. refl) (λ o. refl)
+
+-- a token that is no variable is refused where one is to stand
+abbrev Refuses : Bytes → ℕ → ℕ → Token → Type 0
+Refuses text place past k =
+    Sound text k place past → (symbols parts : List Name) (t : Tokens.Placed) (next : Subject → Parsed Condition)
+    → subjectOn (itemOf (tokenOf text k place past)) symbols parts t next ≡ Reading.refuse t
+
+abbrev Tells : Bytes → ℕ → ℕ → Token → Named → Type 0
+Tells text place past k (Variable isPart x) = k ≡ variableToken isPart x
+Tells text place past k Other = Refuses text place past k
+
+tells : (text : Bytes) (place past : ℕ) (k : Token) → Tells text place past k (variableOf k)
+tells text place past =
+    by-kind (λ k. Tells text place past k (variableOf k)) (λ n s ss ps t next. refl) (λ x. refl) (λ x. refl) (λ s ss ps t next. rw s)
+    (λ n s ss ps t next. refl) (λ b s ss ps t next. refl) (λ s ss ps t next. refl) (λ s ss ps t next. refl)
+
+-- what is asked of the pattern's variables of a kind
+subject-asked : {A : Type 0} (text : Bytes) (table : List ℕ) (symbols parts : ℕ) (isPart : Bool) (x : Name) (t : Tokens.Placed)
+    (next : Subject → Parsed A)
+    → subjectOn (variableItem isPart x) (symbolNames text table symbols) (partNames text table parts) t next
+    ≡ Reading.check (subjectFault (variableNames text table symbols parts isPart) x) t (next (subjectOf isPart x))
+subject-asked text table symbols parts false x t next = refl
+subject-asked text table symbols parts true x t next = refl
+
+-- its word carries 20 for each byte of its identifier, its kind, its truth value and its class
+subject-tape : (isPart : Bool) (x : Name) {word : ℕ} (truth class : ℕ) → word ≡ 768 + length x * 20 + kindNumber isPart + truth + class
+    → subjectTape (truth + class) (subjectOf isPart x) ≡ word ∷ x
+subject-tape false x truth class e = rw e (ap (λ (w : ℕ). w ∷ x) (omega arith))
+subject-tape true x truth class e = rw e (ap (λ (w : ℕ). w ∷ x) (omega arith))
+
+-- THE CLOSING STRING
+
+abbrev allButQuoted : List ℕ
+allButQuoted = 0 ∷ 1 ∷ 2 ∷ 3 ∷ 5 ∷ 6 ∷ 7 ∷ []
+
+no-string : (text : Bytes) (k : Token) (place past : ℕ) (three : Bool) → OneOf allButQuoted (tagOf token.the-type k)
+    → Reading.truthOf (tokenOf text k place past) three ≡ none
+no-string text k place past three =
+    by-kind (λ t. OneOf allButQuoted (tagOf token.the-type t) → Reading.truthOf (tokenOf text t place past) three ≡ none) (λ n o. refl) (λ x o. refl) (λ x o. refl)
+    (λ o. refl) (λ n o. absurd (miss allButQuoted 4 tt o)) (λ b o. refl) (λ o. refl) (λ o. refl) k
+
+-- the truth value of a token
+abbrev truthIn : Bytes → Code.Placed → Option Bool
+truthIn text t = Reading.truthOf (tokenOf text (t .token) (t .place) (t .past)) (eqb (t .past) (t .place + 3))
+
+abbrev Truth : Bytes → Code.Placed → ℕ → Type 0
+Truth text t n = TruthNumber (truthIn text t) n
+
+-- what is no truth value has the number 1
+pub number-none : {value : Option Bool} → value ≡ none → TruthNumber value 1
+number-none e = record { same = e; known = inr (inl refl); low = omega arith }
+
+pub number-true : {value : Option Bool} → value ≡ some true → TruthNumber value 5
+number-true e = record { same = e; known = inr (inr refl); low = omega arith }
+
+pub number-false : {value : Option Bool} → value ≡ some false → TruthNumber value 0
+number-false e = record { same = e; known = inl refl; low = omega arith }
+
+pub truth-none : (text : Bytes) (t : Code.Placed) → OneOf allButQuoted (tagOf token.the-type (t .token)) → Truth text t 1
+truth-none text t o = number-none (no-string text (t .token) (t .place) (t .past) _ o)
+
+module _ (text : Bytes) (t : Code.Placed) (count : ℕ) (e : t .token ≡ Quoted count) where
+  pub truth-long : (t .past ≡ t .place + 3 → ⊥) → Truth text t 1
+  truth-long d = number-none (rw (e, ne-eqb (t .past) (t .place + 3) d))
+
+  module _ (s : Standing text t) (d : t .past ≡ t .place + 3) where
+    abbrev middle : ℕ
+    middle = getD text (t .place + 1) 0
+
+    three : truthIn text t ≡ pick (both (eqb middle 84) true) (some true) (pick (both (eqb middle 70) true) (some false) none)
+    unfolding sameBytes
+    three =
+        let q = rw e at (s .sound) in
+        rw (e, eq-eqb (t .past) (t .place + 3) d, three-bytes text (t .place) (t .past) d (s .inside) (q .0))
+
+    pub truth-three : {n : ℕ} → TruthNumber (truthBetween middle) n → Truth text t n
+    truth-three v =
+        record { same = three ∙ rw (← (both-true (eqb middle 84)), ← (both-true (eqb middle 70))) (v .same); known = v .known; low = v .low }
+
+-- a number other than 1 is that of a truth value
+pub record Value (n : ℕ) : Type 0 where
+  pub truth : Bool
+  pub same : truthAt n ≡ some truth
+  pub number : truthNumber truth ≡ n
+
+pub value-of : (n : ℕ) → (n ≡ 0) ⊎ ((n ≡ 1) ⊎ (n ≡ 5)) → (n ≡ 1 → ⊥) → Value n
+value-of n k d =
+    ⊎-elim
+    (λ e. record { truth = false; same = rw e; number = sym e })
+    (λ l. ⊎-elim (λ e. absurd (d e)) (λ e. record { truth = true; same = rw e; number = sym e }) l)
+    k
+
+-- a condition that is read from a later place on is read from here
+earlier : {text : Bytes} {at from words : ℕ} {tape tape′ : List ℕ} {p q : Parsed Condition} {r : CodeParsed} → at ≤ from → p ≡ q
+    → Agrees (ConditionRead text from words tape tape′) q r
+    → Agrees (ConditionRead text at words tape tape′) p r
+earlier {q = q} h e a =
+    makes (λ c. c) q (λ c rest s k. record { tokens = k .tokens; went = went-from h (k .went); quiet = k .quiet }) (e ∙ follow-alone q) a
+
+-- A CONDITION AFTER ITS VARIABLE
+
+abbrev EndAgrees : Bytes → ℕ → ℕ → List ℕ → List ℕ → Bool → Span → Class → CodeParsed → Type 0
+EndAgrees text from words tape tape′ isPart x c r =
+    Agrees (ConditionRead text from words tape tape′) (conditionEnd c (subjectOf isPart (View.part text x)) (stream text Tokens.inside from)) r
+
+-- what is left of a condition at its closing string
+abbrev withTruth : Class → Subject → Bool → List Tokens.Placed → Parsed Condition
+withTruth c v truth rest = parsed (record { predicate = c; subject = v; expected = truth }) rest
+
+-- the token is a string, and the tokens go on after it
+abbrev GoesOn : Bytes → ℕ → ℕ → Bool → Bool → Token → Type 0
+GoesOn text place past is truth k =
+    Reading.truthOf (tokenOf text k place past) is ≡ some truth
+    → pick (Tokens.isLast (tokenOf text k place past)) [] (stream text (Tokens.modeAfter Tokens.inside (tokenOf text k place past)) past) ≡ stream text Tokens.inside past
+
+goes-on : (text : Bytes) (place past : ℕ) (is truth : Bool) (k : Token) → GoesOn text place past is truth k
+goes-on text place past is truth =
+    by-kind (GoesOn text place past is truth) (λ n e. no-value e) (λ x e. no-value e) (λ x e. no-value e) (λ e. no-value e) (λ n e. refl) (λ b e. no-value e)
+    (λ e. no-value e) (λ e. no-value e)
+
+-- `>` and `:` stand after a condition's variable, and a token with this truth value after them
+pub record ClosingAt (text : Bytes) (from words : ℕ) (x : Span) (close colon : ℕ) (t : Code.Placed) (n : ℕ) : Type 0 where
+  pub ready : Ready text from words
+  pub variable : Before text words from x
+  pub closed : Taken text Tokens.inside 62 from close
+  pub parted : Taken text Tokens.inside 58 close colon
+  pub first : Comes text Tokens.inside colon t
+  pub truth : Truth text t n
+
+module _ (isPart : Bool) {text : Bytes} {from words : ℕ} {x : Span} where
+  pub end-no-close : Before text words from x → (c : Class) {tape tape′ : List ℕ} {fault : Fault} → Barred text Tokens.inside 62 from fault
+      → EndAgrees text from words tape tape′ isPart x c (Stopped fault)
+  end-no-close b c k = barred-stops _ k
+
+  pub end-no-colon : Before text words from x → (c : Class) {tape tape′ : List ℕ} {close : ℕ} {fault : Fault} → Taken text Tokens.inside 62 from close → Barred text Tokens.inside 58 close fault
+      → EndAgrees text from words tape tape′ isPart x c (Stopped fault)
+  end-no-colon b c t k = stops (passes-on _ t ∙ passes-not _ k)
+
+  module _ {close colon : ℕ} {t : Code.Placed} {n : ℕ} (a : ClosingAt text from words x close colon t n) (c : Class) where
+    at-truth : conditionEnd c (subjectOf isPart (View.part text x)) (stream text Tokens.inside from)
+        ≡ Reading.passTruth (stream text Tokens.inside colon) (withTruth c (subjectOf isPart (View.part text x)))
+    at-truth = passes-on _ (a .closed) ∙ passes-on _ (a .parted)
+
+    pub end-no-truth : {tape tape′ : List ℕ} {fault : Fault} → n ≡ 1 → FaultOf t fault
+        → EndAgrees text from words tape tape′ isPart x c (Stopped fault)
+    end-no-truth e f = refused (a .first) (at-truth ∙ rw (a .first .unrolled, a .truth .same, e)) f
+
+    pub end-reads : {tape tape′ : List ℕ} {class kind word after : ℕ} → class < 5 → classOf class ≡ some c → (n ≡ 1 → ⊥)
+        → (kind ≡ kindNumber isPart) × (kind ≤ 10)
+        → word ≡ 768 + (x .past - x .from) * 20 + kind + n + class
+        → Wrote tape words (word ∷ View.part text x) after tape′ × T (every isQuiet (View.part text x))
+        → EndAgrees text from words tape tape′ isPart x c (Done (record { at = t .past; words = after; count = 0; parts = 0 }))
+    unfolding every
+    end-reads {class = class} {word = word} {after = after} low e d h w o =
+        let b = a .variable in
+        let u = value-of n (a .truth .known) d in
+        let same : truthIn text t ≡ some (u .truth) = a .truth .same ∙ u .same in
+        let l : length (View.part text x) ≡ x .past - x .from = length-slice (x .from) (x .past) text (omega (arith, b .before, a .ready .inside)) in
+        let q : subjectTape (truthNumber (u .truth) + classNumber c) (subjectOf isPart (View.part text x)) ≡ word ∷ View.part text x =
+        rw (u .number, class-number class c low e) (subject-tape isPart (View.part text x) n class (rw (l, ← (h .0)) w))
+        in
+        let m : after ≡ words + suc (length (View.part text x)) = o .0 .reached in
+        reads (record { predicate = c; subject = subjectOf isPart (View.part text x); expected = u .truth }) (stream text Tokens.inside (t .past))
+        (at-truth ∙ rw (a .first .unrolled, same, goes-on text (t .place) (t .past) _ _ (t .token) same))
+        (record {
+          tokens = refl;
+          went =
+              record {
+                onward = omega (arith, a .closed .onward, a .parted .onward, a .first .onward, a .first .forward);
+                inside = a .first .inside;
+                charged = omega (arith, l, b .after, b .before, b .some, a .closed .onward, a .parted .onward, a .first .onward, a .first .forward);
+                counted = rw q m;
+                wrote = rw q (o .0 .same);
+              };
+          quiet =
+              rw q
+              (both-pass (isQuiet word) (every isQuiet (View.part text x)) (lt→ltb word 2304 (omega (arith, b .short, a .truth .low, h .1))) (o .1));
+        })
+
+-- A CONDITION AFTER ITS PREDICATE
+
+-- with the variables of a table
+abbrev onNames : Bytes → List ℕ → ℕ → ℕ → Class → List Tokens.Placed → Parsed Condition
+onNames text table symbols parts = conditionOn (symbolNames text table symbols) (partNames text table parts)
+
+abbrev OnAgrees : Bytes → List ℕ → ℕ → ℕ → ℕ → ℕ → List ℕ → List ℕ → Class → CodeParsed → Type 0
+OnAgrees text table symbols parts from words tape tape′ c r =
+    Agrees (ConditionRead text from words tape tape′) (onNames text table symbols parts c (stream text Tokens.inside from)) r
+
+-- the first token after a condition's predicate
+pub record OnToken (text table : List ℕ) (symbols parts from words : ℕ) (t : Code.Placed) : Type 0 where
+  pub known : Variables text table symbols parts
+  pub ready : Ready text from words
+  pub first : Comes text Tokens.inside from t
+
+-- it is a variable
+pub record OnVariable {text table : List ℕ} {symbols parts from words : ℕ} {t : Code.Placed}
+    (on : OnToken text table symbols parts from words t) (isPart : Bool) (x : Span) : Type 0 where
+  pub variable : t .token ≡ variableToken isPart x
+
+-- what is wrong with it, and whether that is nothing
+pub record OnAsked {text table : List ℕ} {symbols parts from words : ℕ} {t : Code.Placed}
+    {on : OnToken text table symbols parts from words t} {isPart : Bool} {x : Span}
+    (s : OnVariable on isPart x) (number : ℕ) (is : Bool) : Type 0 where
+  pub fault : number ≡ subjectFault (variableNames text table symbols parts isPart) (View.part text x)
+  pub accepted : is ≡ eqb number 0
+
+told : (text : Bytes) (t : Code.Placed) (named : Named) → named ≡ variableOf (t .token) → Tells text (t .place) (t .past) (t .token) named
+told text t named e = rw e (tells text (t .place) (t .past) (t .token))
+
+module _ {text table : List ℕ} {symbols parts from words : ℕ} {t : Code.Placed} where
+  pub on-no-variable : OnToken text table symbols parts from words t → (c : Class) {tape tape′ : List ℕ} {fault : Fault}
+      → Other ≡ variableOf (t .token)
+      → FaultOf t fault
+      → OnAgrees text table symbols parts from words tape tape′ c (Stopped fault)
+  on-no-variable a c o f =
+      let k = a .first in
+      refused k
+      (rw (k .unrolled) (told text t Other o (k .sound) (symbolNames text table symbols) (partNames text table parts) (placedOf text t) _))
+      f
+
+  module _ {on : OnToken text table symbols parts from words t} {isPart : Bool} {x : Span} where
+    pub on-variable : Variable isPart x ≡ variableOf (t .token) → OnVariable on isPart x
+    on-variable e = record { variable = told text t (Variable isPart x) e }
+
+    pub on-inside : OnVariable on isPart x → Inside text x
+    on-inside a = identifier-inside (variable-at (on .first) isPart _ (a .variable))
+
+    at-subject : OnVariable on isPart x → (c : Class) → onNames text table symbols parts c (stream text Tokens.inside from)
+        ≡ Reading.check (subjectFault (variableNames text table symbols parts isPart) (View.part text x)) (placedOf text t)
+        (conditionEnd c (subjectOf isPart (View.part text x)) (stream text Tokens.inside (t .past)))
+    at-subject a c =
+        let h = variable-here (on .first) isPart _ (a .variable) in
+        rw (item-then (on .first) (rw (h .is) (h .some)) .unrolled, h .is)
+        (subject-asked text table symbols parts isPart (View.part text x) (placedOf text t) _)
+
+    pub on-wrong : {s : OnVariable on isPart x} {answer : Answer} {is : Bool} → OnAsked s (numberOf answer) is → (c : Class) {tape tape′ : List ℕ}
+        → not is ≡ true
+        → OnAgrees text table symbols parts from words tape tape′ c (Stopped (record { answer = answer; place = t .place }))
+    on-wrong {s} {answer} a c w =
+        stops (at-subject s c ∙ rw (← (a .fault)) (check-wrong (numberOf answer) (placedOf text t) _ (a-fault-here (a .fault) (a .accepted) w)))
+
+    module _ {s : OnVariable on isPart x} {number : ℕ} {is : Bool} (a : OnAsked s number is) (w : not is ≡ false) where
+      right : subjectFault (variableNames text table symbols parts isPart) (View.part text x) ≡ 0
+      right = no-fault-here (a .fault) (a .accepted) w
+
+      pub on-before : Ready text (t .past) words × Before text words (t .past) x
+      on-before =
+          let i = variable-at (on .first) isPart _ (s .variable) in (
+            ready-past (on .ready) (on .first),
+            record {
+              after = omega (arith, on .ready .charged, i .after);
+              some = i .some;
+              before = omega (arith, variable-here (on .first) isPart _ (s .variable) .ends);
+              short = within text x (identifier-inside i) 8 3 _ right;
+            },
+          )
+
+      -- what is read from a later place on is read from here
+      pub on-reads : (c : Class) {tape tape′ : List ℕ} {r : CodeParsed} → EndAgrees text (t .past) words tape tape′ isPart x c r
+          → OnAgrees text table symbols parts from words tape tape′ c r
+      on-reads c e = earlier (omega (arith, on .first .onward, on .first .forward)) (at-subject s c ∙ rw right) e
+
+-- A CONDITION AFTER ITS `,`
+
+-- with the variables of a table
+abbrev conditionNames : Bytes → List ℕ → ℕ → ℕ → List Tokens.Placed → Parsed Condition
+conditionNames text table symbols parts = Reading.condition (symbolNames text table symbols) (partNames text table parts)
+
+abbrev ConditionAgrees : Bytes → List ℕ → ℕ → ℕ → ℕ → ℕ → List ℕ → List ℕ → CodeParsed → Type 0
+ConditionAgrees text table symbols parts from words tape tape′ r =
+    Agrees (ConditionRead text from words tape tape′) (conditionNames text table symbols parts (stream text Tokens.inside from)) r
+
+abbrev withName : (Class → List Tokens.Placed → Parsed Condition) → ℕ → Name → List Tokens.Placed → Parsed Condition
+withName next place n ts = Reading.withClass (predicateOf n) place λ class. next class ts
+
+-- `<` stands after the `,`, and a token after it
+pub record OpenedAt (text table : List ℕ) (symbols parts from words start : ℕ) (t : Code.Placed) : Type 0 where
+  pub known : Variables text table symbols parts
+  pub ready : Ready text from words
+  pub opened : Taken text Tokens.inside 60 from start
+  pub first : Comes text Tokens.naming start t
+
+-- it is a name
+pub record NamedAt {text table : List ℕ} {symbols parts from words start : ℕ} {t : Code.Placed}
+    (o : OpenedAt text table symbols parts from words start t) (n : Span) : Type 0 where
+  pub name : NameFirst text Tokens.naming start t n
+
+module _ {text table : List ℕ} {symbols parts from words : ℕ} where
+  pub open-not : {tape tape′ : List ℕ} {fault : Fault} → Variables text table symbols parts → Barred text Tokens.inside 60 from fault
+      → ConditionAgrees text table symbols parts from words tape tape′ (Stopped fault)
+  unfolding Reading.condition
+  open-not known b = barred-stops _ b
+
+  module _ {start : ℕ} {t : Code.Placed} where
+    at-name : OpenedAt text table symbols parts from words start t
+        → conditionNames text table symbols parts (stream text Tokens.inside from)
+        ≡ Reading.passName (λ n. Reading.lengthFault n 0) (stream text Tokens.naming start) (withName (onNames text table symbols parts))
+    unfolding Reading.condition
+    at-name a = passes-on _ (a .opened)
+
+    pub name-not : {tape tape′ : List ℕ} {fault : Fault} → OpenedAt text table symbols parts from words start t
+        → NoName (t .token)
+        → FaultOf t fault
+        → ConditionAgrees text table symbols parts from words tape tape′ (Stopped fault)
+    name-not a n f = refused (a .first) (at-name a ∙ names-not (a .first) _ _ n) f
+
+    module _ {o : OpenedAt text table symbols parts from words start t} {n : Span} (a : NamedAt o n) where
+      pub name-ready : Ready text (t .past) words
+      name-ready = ready-past (ready-taken (o .ready) (o .opened)) (o .first)
+
+      pub name-long : {tape tape′ : List ℕ} → 24 < n .past - n .from
+          → ConditionAgrees text table symbols parts from words tape tape′ (Stopped (record { answer = OverLimit; place = t .place }))
+      name-long l =
+          stops (at-name o ∙ rw (a .name .unrolled, too-long text n (a .name .inside) 24 l))
+
+      module _ (l : n .past - n .from ≤ 24) where
+        at-class : conditionNames text table symbols parts (stream text Tokens.inside from)
+            ≡ withName (onNames text table symbols parts) (t .place) (View.part text n) (stream text Tokens.inside (t .past))
+        at-class = at-name o ∙ rw (a .name .unrolled, short-enough text n (a .name .inside) 24 l)
+
+        pub class-not : {tape tape′ : List ℕ} → predicateOf (View.part text n) ≡ none
+            → ConditionAgrees text table symbols parts from words tape tape′ (Stopped (record { answer = WrongName; place = t .place }))
+        class-not d = stops (at-class ∙ rw d)
+
+        pub class-reads : {tape tape′ : List ℕ} {r : CodeParsed} (class : ℕ) → class < 5 → predicateOf (View.part text n) ≡ classOf class
+            → ((c : Class) → classOf class ≡ some c → OnAgrees text table symbols parts (t .past) words tape tape′ c r)
+            → ConditionAgrees text table symbols parts from words tape tape′ r
+        class-reads class low d e =
+            let c = classed class low in
+            earlier (omega (arith, o .opened .onward, o .first .onward, o .first .forward)) (at-class ∙ rw (d, c .same)) (e (c .class) (c .same))
+
+-- CONDITIONS
+
+module _ (symbols parts : List Name) where
+  -- where no `,` stands the conditions end
+  conditions-end : (left : ℕ) (t : Tokens.Placed) (ts : List Tokens.Placed) → Reading.isSign 44 (t .token) ≡ false
+      → Reading.conditions left symbols parts (t ∷ ts) ≡ parsed [] (t ∷ ts)
+  unfolding Reading.conditions
+  conditions-end zero t ts e = rw e
+  conditions-end (suc left) t ts e = rw e
+
+  conditions-full : (t : Tokens.Placed) (ts : List Tokens.Placed) → Reading.isSign 44 (t .token) ≡ true
+      → Reading.conditions 0 symbols parts (t ∷ ts) ≡ stopped overLimit (t .place)
+  unfolding Reading.conditions
+  conditions-full t ts e = rw e
+
+  conditions-next : (more left : ℕ) (t : Tokens.Placed) (ts : List Tokens.Placed) → more ≡ suc left → Reading.isSign 44 (t .token) ≡ true
+      → Reading.conditions more symbols parts (t ∷ ts)
+      ≡ follow (Reading.condition symbols parts ts) (λ c ts₁. follow (Reading.conditions left symbols parts ts₁) (λ cs rest. parsed (c ∷ cs) rest))
+  unfolding Reading.conditions
+  conditions-next more left t ts n e = rw (n, e)
+
+-- the conditions from the start are those from here with these before them
+pub record Conditioned (text start : List ℕ) (symbols parts : List Name) (from words : ℕ) (tape : List ℕ) (at to left : ℕ) : Type 0 where
+  pub before : List Condition
+  pub same : Reading.conditions 8 symbols parts (stream text Tokens.inside from)
+      ≡ follow (Reading.conditions left symbols parts (stream text Tokens.inside at)) (behind before)
+  pub went : Went text from words start at to tape (conditionsTape before)
+  pub quiet : T (every isQuiet (conditionsTape before))
+  pub short : length text ≤ 32768
+
+pub conditions-ready : {text start : List ℕ} {symbols parts : List Name} {from words : ℕ} {tape : List ℕ} {at to left : ℕ}
+    → Conditioned text start symbols parts from words tape at to left → Ready text at to
+conditions-ready k = ready-after (k .short) (k .went)
+
+tape-more : (cs : List Condition) (c : Condition) → conditionsTape (cs ++ c ∷ []) ≡ conditionsTape cs ++ conditionTape c
+unfolding conditionsTape
+tape-more [] c = append-nil (conditionTape c)
+tape-more (d ∷ cs) c = rw (tape-more cs c) (sym (append-assoc (conditionTape d) (conditionsTape cs) (conditionTape c)))
+
+pub conditions-start : (text start : List ℕ) (symbols parts : List Name) (from words : ℕ) → Ready text from words
+    → Conditioned text start symbols parts from words start from words 8
+unfolding conditionsTape every
+conditions-start text start symbols parts from words r =
+    record {
+      before = [];
+      same = follow-alone (Reading.conditions 8 symbols parts (stream text Tokens.inside from));
+      went = went-none text from words start r;
+      quiet = tt;
+      short = r .short;
+    }
+
+-- the token after those, a `,` or another one
+pub record LookedAt (text start : List ℕ) (symbols parts : List Name) (from words : ℕ) (tape : List ℕ) (at to left : ℕ)
+    (t : Code.Placed) (comma : Bool) : Type 0 where
+  pub read : Conditioned text start symbols parts from words tape at to left
+  pub first : Comes text Tokens.inside at t
+  pub sign : signIs 44 (t .token) ≡ comma
+
+abbrev ConditionsAgree : List ℕ → List ℕ → List Name → List Name → ℕ → ℕ → List ℕ → CodeParsed → Type 0
+ConditionsAgree text start symbols parts from words tape r =
+    Agrees (ConditionsRead text from words start tape) (Reading.conditions 8 symbols parts (stream text Tokens.inside from)) r
+
+module _ {text start : List ℕ} {symbols parts : List Name} {from words : ℕ} {tape : List ℕ} {at to left : ℕ} {t : Code.Placed} where
+  shown : {comma : Bool} → LookedAt text start symbols parts from words tape at to left t comma
+      → Reading.isSign 44 (tokenOf text (t .token) (t .place) (t .past)) ≡ comma
+  shown a = sign-shown text t 44 (a .sign)
+
+  pub conditions-done : {count passed : ℕ} → LookedAt text start symbols parts from words tape at to left t false
+      → ConditionsAgree text start symbols parts from words tape (Done (record { at = t .place; words = to; count = count; parts = passed }))
+  conditions-done a =
+      let k = a .read in
+      let c = a .first in
+      reads (k .before) (stream text Tokens.inside at)
+      (k .same ∙ rw (c .unrolled, conditions-end symbols parts left (placedOf text t) _ (shown a), append-nil (k .before)))
+      (record {
+        tokens = sym (c .again);
+        went = went-before (k .went) c;
+        quiet = k .quiet;
+      })
+
+  module _ (a : LookedAt text start symbols parts from words tape at to left t true) where
+    -- the condition after its `,`
+    pub condition-ready : Ready text (t .past) to
+    condition-ready = ready-past (conditions-ready (a .read)) (a .first)
+
+    pub conditions-many : left ≡ 0
+        → ConditionsAgree text start symbols parts from words tape (Stopped (record { answer = OverLimit; place = t .place }))
+    conditions-many z =
+        stops (a .read .same ∙ rw (a .first .unrolled, z, conditions-full symbols parts (placedOf text t) _ (shown a)))
+
+    -- what was read of it stops the conditions, or they go on after it
+    abbrev pub ConditionsOn : List ℕ → CodeParsed → Type 0
+    ConditionsOn tape′ (Stopped fault) = ConditionsAgree text start symbols parts from words tape′ (Stopped fault)
+    ConditionsOn tape′ (Done s) = Conditioned text start symbols parts from words tape′ (s .at) (s .words) (left - 1)
+
+    pub conditions-on : (left ≡ 0 → ⊥) → {tape′ : List ℕ} (r : CodeParsed)
+        → Agrees (ConditionRead text (t .past) to tape tape′) (Reading.condition symbols parts (stream text Tokens.inside (t .past))) r
+        → ConditionsOn tape′ r
+    conditions-on z {tape′} r e = turned r e
+      where
+        at-condition : Reading.conditions 8 symbols parts (stream text Tokens.inside from)
+            ≡ follow
+            (follow (Reading.condition symbols parts (stream text Tokens.inside (t .past)))
+            (λ d ts. follow (Reading.conditions (left - 1) symbols parts ts) (λ ds rest. parsed (d ∷ ds) rest)))
+            (behind (a .read .before))
+        at-condition =
+            let comma = takes text Tokens.inside at 44 t (a .first) (a .sign) in
+            a .read .same
+            ∙ rw (
+              comma .unrolled,
+              conditions-next symbols parts left (left - 1) (standing (Tokens.sign 44) (comma .place) (t .past))
+                  (stream text Tokens.inside (t .past)) (omega arith) refl,
+            )
+
+        goes-with : {s : Progress} (d : Condition) (rest : List Tokens.Placed)
+            → Reading.condition symbols parts (stream text Tokens.inside (t .past)) ≡ parsed d rest
+            → ConditionRead text (t .past) to tape tape′ d rest s
+            → ConditionsOn tape′ (Done s)
+        goes-with {s} d rest q h =
+            let k = a .read in
+            record {
+              before = k .before ++ d ∷ [];
+              same =
+                  at-condition
+                  ∙ rw (q, h .tokens) (behind-more (k .before) d (Reading.conditions (left - 1) symbols parts (stream text Tokens.inside (s .at))));
+              went = rw (tape-more (k .before) d) (went-then (k .went) (went-from (omega (arith, a .first .onward, a .first .forward)) (h .went)));
+              quiet =
+                  rw (tape-more (k .before) d)
+                  (every-append isQuiet (conditionsTape (k .before)) (conditionTape d) (k .quiet) (h .quiet));
+              short = k .short;
+            }
+
+        turned : (r′ : CodeParsed)
+            → Agrees (ConditionRead text (t .past) to tape tape′) (Reading.condition symbols parts (stream text Tokens.inside (t .past))) r′
+            → ConditionsOn tape′ r′
+        turned (Stopped fault) e′ = stops-too e′ refl (λ h. at-condition ∙ rw h)
+        turned (Done s) e′ = let h = has-read _ s e′ in goes-with (h .value) (h .rest) (h .same) (h .how)

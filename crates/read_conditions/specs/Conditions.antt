@@ -1,0 +1,102 @@
+-- Conditions while they are read.
+use Prim.Native.Nat.{ℕ, _-_, _≤_, _<_}
+use mathlib.Core.Path.{_≡_}
+use mathlib.Core.Bool.{Bool, true, false}
+use mathlib.Core.List.{List}
+use mathlib.Core.Logic.{_⊎_}
+use mathlib.Core.Option.{Option, none, some}
+use lib.Dec.{T, eqb}
+use lib.ListN.{length}
+use Rattle.meaning.specs.Choice.{Bytes, Name, pick, every}
+use Rattle.meaning.specs.Classes.{Class}
+use Rattle.meaning.specs.Tree.{Subject, ofSymbol, ofPart, Condition}
+use Rattle.meaning.specs.Tape.{conditionTape, conditionsTape}
+use Rattle.meaning.specs.Tokens as Tokens
+use Rattle.meaning.specs.Reading.{Parsed, parsed, pass, passSubject, truthOf, passTruth}
+use Rattle.read_tokens.specs.View.{Sound, stream}
+use Rattle.read_tokens.specs.declared.Span.{Span}
+use Rattle.read_tokens.specs.declared.Placed.{Placed}
+use Rattle.read_tokens.specs.declared.Token.{Token}
+use Rattle.read_tokens.specs.declared.Token.the-variants.{Name as NameToken, Symbol, Part, Word, Quoted, Sign, End, Malformed}
+use Rattle.read_bookkeeping.specs.declared.progress.Progress.{Progress}
+use Rattle.read_bookkeeping.specs.Items.{symbolNames, partNames}
+use Rattle.read_bookkeeping.specs.Written.{isQuiet, Went}
+use Rattle.read_conditions.specs.declared.Named.{Named}
+use Rattle.read_conditions.specs.declared.Named.the-variants.{Variable, Other}
+
+-- a token as a variable: whether it is an e-variable, and its identifier
+abbrev pub variableOf : Token → Named
+variableOf (NameToken name) = Other
+variableOf (Symbol identifier) = Variable false identifier
+variableOf (Part identifier) = Variable true identifier
+variableOf Word = Other
+variableOf (Quoted count) = Other
+variableOf (Sign b) = Other
+variableOf End = Other
+variableOf Malformed = Other
+
+-- the pattern's s-variables, or its e-variables
+abbrev pub variableNames : Bytes → List ℕ → ℕ → ℕ → Bool → List Name
+variableNames text table symbols parts false = symbolNames text table symbols
+variableNames text table symbols parts true = partNames text table parts
+
+-- a condition's subject by its kind, and that kind on the tape
+abbrev pub subjectOf : Bool → Name → Subject
+subjectOf false x = ofSymbol x
+subjectOf true x = ofPart x
+
+abbrev pub kindNumber : Bool → ℕ
+kindNumber false = 0
+kindNumber true = 10
+
+-- `condition` after its variable, and from its variable on
+abbrev pub conditionEnd : Class → Subject → List Tokens.Placed → Parsed Condition
+conditionEnd class v ts =
+    pass 62 ts λ ts₁.
+    pass 58 ts₁ λ ts₂.
+    passTruth ts₂ λ truth rest.
+    parsed (record { predicate = class; subject = v; expected = truth }) rest
+
+abbrev pub conditionOn : List Name → List Name → Class → List Tokens.Placed → Parsed Condition
+conditionOn symbols parts class ts = passSubject symbols parts ts λ v ts₁. conditionEnd class v ts₁
+
+-- the truth value of a closing string by its number on the tape; 1 stands for none
+abbrev pub truthAt : ℕ → Option Bool
+truthAt n = pick (eqb n 5) (some true) (pick (eqb n 0) (some false) none)
+
+-- this is its number
+pub record TruthNumber (value : Option Bool) (n : ℕ) : Type 0 where
+  pub same : value ≡ truthAt n
+  pub known : (n ≡ 0) ⊎ ((n ≡ 1) ⊎ (n ≡ 5))
+  pub low : n ≤ 5
+
+abbrev pub TruthIs : Tokens.Token → Bool → ℕ → Type 0
+TruthIs token three n = TruthNumber (truthOf token three) n
+
+-- that of the byte between a closing string's quotes
+abbrev pub truthBetween : ℕ → Option Bool
+truthBetween byte = pick (eqb byte 84) (some true) (pick (eqb byte 70) (some false) none)
+
+-- a token that ends in the text
+pub record Standing (text : Bytes) (t : Placed) : Type 0 where
+  pub forward : t .place ≤ t .past
+  pub inside : t .past ≤ length text
+  pub sound : Sound text (t .token) (t .place) (t .past)
+
+-- a condition's variable stands before a place, and after as many bytes as the tape has words
+pub record Before (text : Bytes) (words at : ℕ) (x : Span) : Type 0 where
+  pub after : words < x .from
+  pub some : x .from < x .past
+  pub before : x .past ≤ at
+  pub short : x .past - x .from ≤ 8
+
+-- a condition and conditions were read
+pub record ConditionRead (text : Bytes) (at words : ℕ) (tape tape′ : List ℕ) (c : Condition) (rest : List Tokens.Placed) (s : Progress) : Type 0 where
+  pub tokens : rest ≡ stream text Tokens.inside (s .at)
+  pub went : Went text at words tape (s .at) (s .words) tape′ (conditionTape c)
+  pub quiet : T (every isQuiet (conditionTape c))
+
+pub record ConditionsRead (text : Bytes) (at words : ℕ) (tape tape′ : List ℕ) (cs : List Condition) (rest : List Tokens.Placed) (s : Progress) : Type 0 where
+  pub tokens : rest ≡ stream text Tokens.inside (s .at)
+  pub went : Went text at words tape (s .at) (s .words) tape′ (conditionsTape cs)
+  pub quiet : T (every isQuiet (conditionsTape cs))

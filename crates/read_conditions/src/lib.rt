@@ -1,0 +1,273 @@
+// The conditions' reader.
+use read_bookkeeping::Answer;
+use read_bookkeeping::names::LONGEST_NAME;
+use read_bookkeeping::names::class_named;
+use read_bookkeeping::names::find;
+use read_bookkeeping::progress::Fault;
+use read_bookkeeping::progress::Parsed;
+use read_bookkeeping::progress::Passed;
+use read_bookkeeping::progress::Progress;
+use read_bookkeeping::progress::fault_if;
+use read_bookkeeping::progress::is_accepted;
+use read_bookkeeping::progress::is_sign;
+use read_bookkeeping::progress::pass;
+use read_bookkeeping::progress::refuse;
+use read_bookkeeping::writing::CONDITION_WORD;
+use read_bookkeeping::writing::put_named;
+use read_tokens::Mode;
+use read_tokens::Placed;
+use read_tokens::Span;
+use read_tokens::Token;
+use read_tokens::lex;
+ghost use mathlib.Core.Path.{_≡_};
+ghost use mathlib.Core.Option.{some};
+ghost use Prim.Native.Nat.{_+_, _≤_, _<_};
+ghost use lib.Dec.{eqb};
+ghost use Rattle.meaning.specs.Classes.{Class};
+ghost use Rattle.meaning.specs.Tokens.{inside};
+ghost use Rattle.meaning.specs.Reading as Reading;
+ghost use Rattle.meaning.specs.Packing.{classOf};
+ghost use Rattle.read_tokens.specs.View.{tokenOf, part, stream};
+ghost use Rattle.read_bookkeeping.specs.Answered.{numberOf, Agrees};
+ghost use Rattle.read_bookkeeping.specs.Tables.{Inside, tableNames, Entries};
+ghost use Rattle.read_bookkeeping.specs.Written.{Ready};
+ghost use Rattle.read_bookkeeping.specs.Items.{Variables, symbolNames, partNames};
+ghost use Rattle.read_conditions.specs.Conditions.{variableOf, variableNames, subjectOf, kindNumber, conditionEnd, conditionOn, truthBetween, TruthNumber, TruthIs, Standing, Before, ConditionRead, ConditionsRead};
+
+// What is wrong with a variable after the pattern, whose own are in a table from one entry on and before another.
+pub fn later_fault(text: &[u8], table: &[usize], from: usize, to: usize, x: Span) -> Answer
+    requires { ⌜ Inside (now text) x × Entries (now text) (now table) from to ⌝ }
+    ensures { λ r. ⌜ numberOf r
+        ≡ Reading.subjectFault (tableNames (now (text .entry)) (now (table .entry)) from to)
+        (part (now (text .entry)) x) ⌝ }
+{
+    if 8 < x.past - x.from {
+        return Answer::OverLimit;
+    }
+    let known = find(text, table, from, to, x) < to;
+    fault_if(!known, Answer::WrongLaterVariable)
+}
+
+// A token as a variable: whether it is an e-variable, and its identifier.
+pub enum Named {
+    Variable(bool, Span),
+    Other,
+}
+
+fn variable_in(token: Token) -> Named
+    ensures { λ r. ⌜ r ≡ variableOf token ⌝ }
+{
+    match token {
+        Token::Symbol(x) => Named::Variable(false, x),
+        Token::Part(x) => Named::Variable(true, x),
+        _ => Named::Other,
+    }
+}
+
+// What is wrong with a condition's variable.
+fn subject_fault(
+    text: &[u8],
+    table: &[usize],
+    symbols: usize,
+    parts: usize,
+    is_part: bool,
+    x: Span,
+) -> Answer
+    requires { ⌜ Inside (now text) x × Variables (now text) (now table) symbols parts ⌝ }
+    ensures { λ r. ⌜ numberOf r
+        ≡ Reading.subjectFault (variableNames (now (text .entry)) (now (table .entry)) symbols parts «is_part»)
+        (part (now (text .entry)) x) ⌝ }
+{
+    if is_part {
+        return later_fault(text, table, 16, 16 + parts, x);
+    }
+    later_fault(text, table, 0, symbols, x)
+}
+
+// The kind of a condition's variable by its number on the tape: 10 for an e-variable.
+fn kind_number(is_part: bool) -> usize
+    ensures { λ r. ⌜ (r ≡ kindNumber «is_part») × (r ≤ 10) ⌝ }
+{
+    if is_part { 10 } else { 0 }
+}
+
+// The truth value of the byte between a closing string's quotes: 5 for T, 0 for F, and 1 for any other.
+fn truth_between(byte: u8) -> usize
+    ensures { λ r. ⌜ TruthNumber (truthBetween byte) r ⌝ }
+{
+    if byte == b'T' {
+        return 5;
+    }
+    if byte == b'F' {
+        return 0;
+    }
+    1
+}
+
+// The closing string's truth value by the same numbers; 1 for any other token.
+fn truth_in(text: &[u8], t: Placed) -> usize
+    requires { ⌜ Standing (now text) t ⌝ }
+    ensures { λ r. ⌜ TruthIs (tokenOf (now (text .entry)) (t .token) (t .place) (t .past)) (eqb (t .past) (t .place + 3)) r ⌝ }
+{
+    let token = t.token;
+    let Token::Quoted(_) = token else {
+        return 1;
+    };
+    let past = t.past;
+    let three = t.place + 3;
+    if past != three {
+        return 1;
+    }
+    truth_between(text[t.place + 1])
+}
+
+// A condition after its variable: `>`, `:` and the closing string.
+fn condition_end(
+    text: &[u8],
+    tape: &mut [u32],
+    from: usize,
+    words: usize,
+    class: usize,
+    is_part: bool,
+    x: Span,
+) -> Parsed
+    requires { ⌜ Ready (now text) from words × Before (now text) words from x × (class < 5) ⌝ }
+    ensures { λ r. ⌜ ((c : Class) → classOf class ≡ some c → Agrees (ConditionRead (now (text .entry)) from words (now (tape .entry)) (now (tape .exit)))
+        (conditionEnd c (subjectOf «is_part» (part (now (text .entry)) x))
+        (stream (now (text .entry)) inside from)) r) ⌝ }
+{
+    let close = match pass(text, from, Mode::Inside, b'>') {
+        Passed::Past(at) => at,
+        Passed::Refused(fault) => return Parsed::Stopped(fault),
+    };
+    let colon = match pass(text, close, Mode::Inside, b':') {
+        Passed::Past(at) => at,
+        Passed::Refused(fault) => return Parsed::Stopped(fault),
+    };
+    let t = lex(text, colon, Mode::Inside);
+    let truth = truth_in(text, t);
+    if truth == 1 {
+        return Parsed::Stopped(refuse(t));
+    }
+    let kind = kind_number(is_part);
+    let word = (CONDITION_WORD + (x.past - x.from) * 20 + kind + truth + class) as u32;
+    let after = put_named(text, tape, words, word, x);
+    Parsed::Done(Progress {
+        at: t.past,
+        words: after,
+        count: 0,
+        parts: 0,
+    })
+}
+
+// A condition after its predicate. Inside a sentence a word that is no variable is refused with 3.
+fn condition_on(
+    text: &[u8],
+    tape: &mut [u32],
+    table: &[usize],
+    symbols: usize,
+    parts: usize,
+    from: usize,
+    words: usize,
+    class: usize,
+) -> Parsed
+    requires { ⌜ Ready (now text) from words × Variables (now text) (now table) symbols parts × (class < 5) ⌝ }
+    ensures { λ r. ⌜ ((c : Class) → classOf class ≡ some c → Agrees (ConditionRead (now (text .entry)) from words (now (tape .entry)) (now (tape .exit)))
+        (conditionOn (symbolNames (now (text .entry)) (now (table .entry)) symbols)
+        (partNames (now (text .entry)) (now (table .entry)) parts) c (stream (now (text .entry)) inside from)) r) ⌝ }
+{
+    let t = lex(text, from, Mode::Inside);
+    let token = t.token;
+    let Named::Variable(is_part, x) = variable_in(token) else {
+        return Parsed::Stopped(refuse(t));
+    };
+    let fault = subject_fault(text, table, symbols, parts, is_part, x);
+    if !is_accepted(fault) {
+        return Parsed::Stopped(Fault {
+            answer: fault,
+            place: t.place,
+        });
+    }
+    condition_end(text, tape, t.past, words, class, is_part, x)
+}
+
+// A condition after its `,`.
+fn condition(
+    text: &[u8],
+    tape: &mut [u32],
+    table: &[usize],
+    symbols: usize,
+    parts: usize,
+    from: usize,
+    words: usize,
+) -> Parsed
+    requires { ⌜ Ready (now text) from words × Variables (now text) (now table) symbols parts ⌝ }
+    ensures { λ r. ⌜ Agrees (ConditionRead (now (text .entry)) from words (now (tape .entry)) (now (tape .exit)))
+        (Reading.condition (symbolNames (now (text .entry)) (now (table .entry)) symbols)
+        (partNames (now (text .entry)) (now (table .entry)) parts) (stream (now (text .entry)) inside from)) r ⌝ }
+{
+    let open = match pass(text, from, Mode::Inside, b'<') {
+        Passed::Past(at) => at,
+        Passed::Refused(fault) => return Parsed::Stopped(fault),
+    };
+    let t = lex(text, open, Mode::Naming);
+    let token = t.token;
+    let Token::Name(name) = token else {
+        return Parsed::Stopped(refuse(t));
+    };
+    if LONGEST_NAME < name.past - name.from {
+        return Parsed::Stopped(Fault {
+            answer: Answer::OverLimit,
+            place: t.place,
+        });
+    }
+    let class = class_named(text, name);
+    if class == 5 {
+        return Parsed::Stopped(Fault {
+            answer: Answer::WrongName,
+            place: t.place,
+        });
+    }
+    condition_on(text, tape, table, symbols, parts, t.past, words, class)
+}
+
+// Reads conditions, at most eight.
+pub fn conditions(
+    text: &[u8],
+    tape: &mut [u32],
+    table: &[usize],
+    symbols: usize,
+    parts: usize,
+    from: usize,
+    words: usize,
+) -> Parsed
+    requires { ⌜ Ready (now text) from words × Variables (now text) (now table) symbols parts ⌝ }
+    ensures { λ r. ⌜ Agrees (ConditionsRead (now (text .entry)) from words (now (tape .entry)) (now (tape .exit)))
+        (Reading.conditions 8 (symbolNames (now (text .entry)) (now (table .entry)) symbols)
+        (partNames (now (text .entry)) (now (table .entry)) parts) (stream (now (text .entry)) inside from)) r ⌝ }
+{
+    let mut s = Progress {
+        at: from,
+        words: words,
+        count: 0,
+        parts: 0,
+    };
+    let mut left: usize = 8;
+    loop {
+        let t = lex(text, s.at, Mode::Inside);
+        if !is_sign(t, b',') {
+            return Parsed::Done(Progress { at: t.place, ..s });
+        }
+        if left == 0 {
+            return Parsed::Stopped(Fault {
+                answer: Answer::OverLimit,
+                place: t.place,
+            });
+        }
+        match condition(text, tape, table, symbols, parts, t.past, s.words) {
+            Parsed::Stopped(fault) => return Parsed::Stopped(fault),
+            Parsed::Done(next) => s = next,
+        }
+        left -= 1;
+    }
+}

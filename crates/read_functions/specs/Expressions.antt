@@ -1,0 +1,169 @@
+-- Expressions and calls while they are read.
+use Prim.Native.Nat.{ℕ, _+_, _-_, _≤_, _<_}
+use mathlib.Core.Path.{_≡_}
+use mathlib.Core.Bool.{true, false}
+use mathlib.Core.List.{List, [], _∷_, _++_}
+use lib.Dec.{T, eqb}
+use lib.ListN.{length, set}
+use lib.Seq.{slice}
+use Rattle.meaning.specs.Choice.{Bytes, Name, every}
+use Rattle.meaning.specs.Tree.{Expression, end, thenCharacter, thenSymbol, thenPart, thenCall}
+use Rattle.meaning.specs.Tape.{tapeWord, named, symbolKind, partKind, callKind, closeKind, expressionTape}
+use Rattle.meaning.specs.Tokens as Tokens
+use Rattle.meaning.specs.Reading as Reading
+use Rattle.meaning.specs.Reading.{parsed, Item, characters, symbolItem, partItem, noItem, isItem}
+use Rattle.read_tokens.specs.View.{part, stream}
+use Rattle.read_tokens.specs.declared.Span.{Span}
+use Rattle.read_tokens.specs.declared.Placed.{Placed}
+use Rattle.read_bookkeeping.specs.declared.Answer.{Answer}
+use Rattle.read_bookkeeping.specs.declared.progress.Progress.{Progress}
+use Rattle.read_functions.specs.declared.expressions.Joined.{Joined}
+use Rattle.read_functions.specs.declared.expressions.Joined.the-variants.{Taken as Takes, Wrong, Refused, Other}
+use Rattle.read_bookkeeping.specs.Tables.{tableNames}
+use Rattle.read_bookkeeping.specs.declared.progress.Parsed.{Parsed}
+use Rattle.read_bookkeeping.specs.declared.progress.Parsed.the-variants.{Stopped, Done}
+use Rattle.read_bookkeeping.specs.Answered.{numberOf}
+use Rattle.read_bookkeeping.specs.Tokened.{Taken, Barred}
+use Rattle.read_bookkeeping.specs.Written.{Wrote, isQuiet, Ready, Went}
+use Rattle.read_bookkeeping.specs.Items.{Variables, symbolNames, itemAt, NoItem, WordRefused}
+
+-- how far an expression is: its items, and the e-variables of the table that may still come
+abbrev pub progressAt : Bytes → List ℕ → ℕ → Progress → Reading.Progress
+progressAt text table parts s = record { items = s .count; coming = tableNames text table (16 + s .parts) (16 + parts) }
+
+-- what may come next is safe
+pub record Going (text : Bytes) (table : List ℕ) (symbols parts : ℕ) (s : Progress) : Type 0 where
+  pub variables : Variables text table symbols parts
+  pub passed : s .parts ≤ parts
+  pub few : s .count ≤ 128
+  pub ready : Ready text (s .at) (s .words)
+
+-- WHAT STANDS IN THE TEXT
+
+-- a called name stands at its place
+pub record CallStands (text : Bytes) (place : ℕ) (n : Name) : Type 0 where
+  pub same : n ≡ slice place (place + length n) text
+  pub inside : place + length n ≤ length text
+  pub short : length n ≤ 24
+  pub quiet : T (every isQuiet n)
+
+-- every called name stands at its place, and no other word opens a call
+unfoldable pub Stands : Bytes → Expression → Type 0
+Stands text end = Unit {0}
+Stands text (thenCharacter c e) = T (isQuiet c) × Stands text e
+Stands text (thenSymbol x e) = T (every isQuiet (named symbolKind x)) × Stands text e
+Stands text (thenPart x e) = T (every isQuiet (named partKind x)) × Stands text e
+Stands text (thenCall place n a e) = CallStands text place n × Stands text a × Stands text e
+
+-- ITEMS
+
+abbrev pub itemTape : Item → List ℕ
+itemTape (characters cs) = cs
+itemTape (symbolItem x) = named symbolKind x
+itemTape (partItem x) = named partKind x
+itemTape noItem = []
+
+-- a variable is taken in: its word, a base plus the identifier's length, and the identifier; so many e-variables have passed then
+pub record VariableTaken (text : Bytes) (s : Progress) (x : Span) (base parts : ℕ) (tape tape′ : List ℕ) (next : Progress) : Type 0 where
+  pub wrote : Wrote tape (s .words) ((base + (x .past - x .from)) ∷ part text x) (next .words) tape′
+  pub quiet : T (every isQuiet (part text x))
+  pub same : next ≡ record { at = x .past; words = next .words; count = s .count + 1; parts = parts }
+
+-- an item is taken into an expression
+pub record TakenIn (text : Bytes) (table : List ℕ) (symbols parts : ℕ) (s : Progress) (tape : List ℕ) (item : Item) (past : ℕ) (tape′ : List ℕ) (next : Progress) : Type 0 where
+  pub going : Going text table symbols parts next
+  pub at : next .at ≡ past
+  pub went : Went text (s .at) (s .words) tape (next .at) (next .words) tape′ (itemTape item)
+  pub quiet : T (every isQuiet (itemTape item))
+  pub fault : Reading.itemFault (symbolNames text table symbols) (progressAt text table parts s) item ≡ 0
+  pub progress : Reading.pastItem item (progressAt text table parts s) ≡ progressAt text table parts next
+
+-- an item has a fault in an expression
+pub record WrongIn (text : Bytes) (table : List ℕ) (symbols parts : ℕ) (s : Progress) (item : Item) (answer : Answer) : Type 0 where
+  pub wrong : eqb (numberOf answer) 0 ≡ false
+  pub fault : Reading.itemFault (symbolNames text table symbols) (progressAt text table parts s) item ≡ numberOf answer
+
+abbrev pub ItemGives : Bytes → List ℕ → ℕ → ℕ → Progress → List ℕ → Item → ℕ → List ℕ → Joined → Type 0
+ItemGives text table symbols parts s tape item past tape′ (Takes next) = TakenIn text table symbols parts s tape item past tape′ next
+ItemGives text table symbols parts s tape item past tape′ (Wrong answer) = WrongIn text table symbols parts s item answer
+ItemGives text table symbols parts s tape item past tape′ (Refused fault) = ⊥
+ItemGives text table symbols parts s tape item past tape′ Other = ⊥
+
+-- what comes of an item
+pub record JoinsItem (text : Bytes) (table : List ℕ) (symbols parts : ℕ) (s : Progress) (tape : List ℕ) (item : Item) (past : ℕ) (tape′ : List ℕ) (r : Joined) : Type 0 where
+  pub gives : ItemGives text table symbols parts s tape item past tape′ r
+
+abbrev pub TokenGives : Bytes → List ℕ → ℕ → ℕ → Progress → List ℕ → Placed → List ℕ → Joined → Type 0
+TokenGives text table symbols parts s tape t tape′ (Takes next) =
+    TakenIn text table symbols parts s tape (itemAt text t) (t .past) tape′ next × (isItem (itemAt text t) ≡ true)
+TokenGives text table symbols parts s tape t tape′ (Wrong answer) =
+    WrongIn text table symbols parts s (itemAt text t) answer × (isItem (itemAt text t) ≡ true)
+TokenGives text table symbols parts s tape t tape′ (Refused fault) = WordRefused text t fault
+TokenGives text table symbols parts s tape t tape′ Other = NoItem text t × (tape′ ≡ tape)
+
+-- what comes of a token
+pub record JoinsToken (text : Bytes) (table : List ℕ) (symbols parts : ℕ) (s : Progress) (tape : List ℕ) (t : Placed) (tape′ : List ℕ) (r : Joined) : Type 0 where
+  pub gives : TokenGives text table symbols parts s tape t tape′ r
+
+-- EXPRESSIONS AND CALLS
+
+-- a refusal
+abbrev pub stoppedWith : Answer → ℕ → Parsed
+stoppedWith answer place = Stopped (record { answer = answer; place = place })
+
+-- an expression was read
+pub record ExpressionRead (text : Bytes) (table : List ℕ) (symbols parts : ℕ) (start : Progress) (tape tape′ : List ℕ) (i : Reading.Items) (rest : List Tokens.Placed) (s : Progress) : Type 0 where
+  pub tokens : rest ≡ stream text Tokens.inside (s .at)
+  pub shorter : length rest ≤ length (stream text Tokens.inside (start .at))
+  pub went : Went text (start .at) (start .words) tape (s .at) (s .words) tape′ (expressionTape (i .expression))
+  pub progress : i .progress ≡ progressAt text table parts s
+  pub going : Going text table symbols parts s
+  pub stands : Stands text (i .expression)
+
+-- a called name with its place
+pub record CalledName : Type 0 where
+  pub place : ℕ
+  pub name : Name
+
+-- `call` up to its argument, with so many items before it
+abbrev pub opening : ℕ → ℕ → Tokens.Placed → List Tokens.Placed → Reading.Parsed CalledName
+opening depth items t ts =
+    let later : Reading.Parsed CalledName =
+    Reading.passName Reading.calledFault ts λ place n rest. parsed (record { place = place; name = n }) rest
+    in
+    Reading.check (Reading.callFault depth (record { items = items; coming = [] })) t later
+
+-- a call was read up to its argument, which may begin here
+pub record OpeningRead (text : Bytes) (depth : ℕ) (s : Progress) (tape tape′ : List ℕ) (n : CalledName) (rest : List Tokens.Placed) (start : Progress) : Type 0 where
+  pub tokens : rest ≡ stream text Tokens.inside (start .at)
+  pub shorter : length rest ≤ length (stream text Tokens.naming (s .at))
+  pub went : Went text (s .at) (s .words) tape (start .at) (start .words) tape′ (named (callKind + n .place) (n .name))
+  pub shallow : depth < 16
+  pub few : s .count < 128
+  pub counted : start .count ≡ s .count + 1
+  pub passed : start .parts ≡ s .parts
+  pub stands : CallStands text (n .place) (n .name)
+
+abbrev pub callTape : Reading.Called → List ℕ
+callTape c = named (callKind + c .place) (c .name) ++ (expressionTape (c .argument) ++ tapeWord closeKind 0 ∷ [])
+
+-- a call was read, after its `<`
+pub record CallRead (text : Bytes) (table : List ℕ) (symbols parts : ℕ) (start : Progress) (tape tape′ : List ℕ) (c : Reading.Called) (rest : List Tokens.Placed) (s : Progress) : Type 0 where
+  pub tokens : rest ≡ stream text Tokens.inside (s .at)
+  pub shorter : length rest ≤ length (stream text Tokens.naming (start .at))
+  pub went : Went text (start .at) (start .words) tape (s .at) (s .words) tape′ (callTape c)
+  pub progress : c .progress ≡ progressAt text table parts s
+  pub going : Going text table symbols parts s
+  pub named : CallStands text (c .place) (c .name)
+  pub stands : Stands text (c .argument)
+
+-- the end of a call's argument: its `>` and the word for it
+abbrev pub CloseGives : Bytes → Progress → List ℕ → List ℕ → Parsed → Type 0
+CloseGives text s tape tape′ (Stopped fault) = Barred text Tokens.inside 62 (s .at) fault
+CloseGives text s tape tape′ (Done next) =
+    Taken text Tokens.inside 62 (s .at) (next .at)
+    × (next ≡ record { at = next .at; words = s .words + 1; count = s .count; parts = s .parts })
+    × (tape′ ≡ set tape (s .words) (tapeWord closeKind 0))
+
+pub record Closes (text : Bytes) (s : Progress) (tape tape′ : List ℕ) (r : Parsed) : Type 0 where
+  pub gives : CloseGives text s tape tape′ r

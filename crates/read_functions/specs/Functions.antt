@@ -1,0 +1,156 @@
+-- The functions of a table while they are read.
+use Prim.Native.Nat.{ℕ, _+_, _-_, _≤_, _<_}
+use mathlib.Core.Path.{_≡_}
+use mathlib.Core.Bool.{Bool, true, false}
+use mathlib.Core.List.{List, [], _∷_, _++_}
+use lib.Dec.{T, ltb}
+use lib.ListN.{length}
+use Rattle.meaning.specs.Choice.{Bytes, Name, pick, every}
+use Rattle.meaning.specs.Answers.{overLimit}
+use Rattle.meaning.specs.Tree.{Sentence, Function, Table}
+use Rattle.meaning.specs.Allowed.{maxFunctions, namesOf}
+use Rattle.meaning.specs.Tape as Tape
+use Rattle.meaning.specs.Tape.{named, functionKind, functionTape}
+use Rattle.meaning.specs.Tokens as Tokens
+use Rattle.meaning.specs.Reading as Reading
+use Rattle.meaning.specs.Reading.{Parsed, pass}
+use Rattle.read_tokens.specs.View.{stream, Comes}
+use Rattle.read_tokens.specs.declared.Span.{Span}
+use Rattle.read_tokens.specs.declared.Token.{Token}
+use Rattle.read_tokens.specs.declared.Token.the-variants.{Name as NameToken, Symbol, Part, Word, Quoted, Sign, End, Malformed}
+use Rattle.read_tokens.specs.declared.Placed.{Placed}
+use Rattle.read_bookkeeping.specs.declared.progress.Progress.{Progress}
+use Rattle.read_bookkeeping.specs.declared.progress.Parsed.{Parsed as CodeParsed}
+use Rattle.read_bookkeeping.specs.declared.progress.Parsed.the-variants.{Done}
+use Rattle.read_bookkeeping.specs.Answered.{Agrees}
+use Rattle.read_functions.specs.declared.functions.Tally.{Tally}
+use Rattle.read_functions.specs.declared.functions.Stage.{Stage}
+use Rattle.read_functions.specs.declared.functions.Stage.the-variants.{Onward, Over}
+use Rattle.read_bookkeeping.specs.Tables.{Inside, tableNames, Entries, declaredFaultIn}
+use Rattle.read_bookkeeping.specs.Written.{isQuiet, Ready, Went}
+use Rattle.read_functions.specs.Sentences.{Each, SentenceStands}
+
+-- every called name of a function stands at its place, and no other word opens a call
+pub record FunctionStands (text : Bytes) (f : Function) : Type 0 where
+  pub name : T (every isQuiet (named functionKind (f .name)))
+  pub sentences : Each (SentenceStands text) (f .sentences)
+
+-- A FUNCTION
+
+-- `function` after its name
+abbrev pub fromBrace : ℕ → List Tokens.Placed → Parsed (List Sentence)
+fromBrace limit ts = pass 123 ts λ ts₁. Reading.sentences limit ts₁
+
+abbrev pub declared : Name → List Sentence → Function
+declared n ss = record { name = n; sentences = ss }
+
+-- a name that is not too long stands in the text, after as many bytes as the tape has words
+pub record Declarable (text : Bytes) (words : ℕ) (n : Span) : Type 0 where
+  pub after : words ≤ n .from
+  pub inside : Inside text n
+  pub brief : n .past - n .from ≤ 24
+  pub short : length text ≤ 32768
+
+-- a function was read, with so many sentences that might come
+pub record FunctionRead (text : Bytes) (limit at words : ℕ) (tape tape′ : List ℕ) (f : Function) (rest : List Tokens.Placed) (p : Progress) : Type 0 where
+  pub tokens : rest ≡ stream text Tokens.outside (p .at)
+  pub went : Went text at words tape (p .at) (p .words) tape′ (functionTape f)
+  pub left : p .count + length (f .sentences) ≡ limit
+  pub stands : FunctionStands text f
+
+-- the sentences of a function with this name were read, and its name before them
+abbrev pub BodyRead : Bytes → ℕ → ℕ → ℕ → Name → List ℕ → List ℕ → List Sentence → List Tokens.Placed → Progress → Type 0
+BodyRead text limit at words n tape tape′ ss rest p = FunctionRead text limit at words tape tape′ (declared n ss) rest p
+
+-- what may come next is safe: a token after so many functions
+pub record Opening (text names : List ℕ) (functions words : ℕ) (t : Placed) : Type 0 where
+  pub comes : Comes text Tokens.outside (t .place) t
+  pub ready : Ready text (t .place) words
+  pub entries : Entries text names 0 functions
+  pub long : length names ≡ 64
+
+-- the fault of a name after so many functions with these names
+abbrev pub nameFault : ℕ → List Name → Name → ℕ
+nameFault functions names n = pick (ltb functions maxFunctions) (declaredFaultIn names n) overLimit
+
+-- a function was read, and its name added to the table
+pub record DeclaredRead (text : Bytes) (limit at words functions : ℕ) (tape tape′ table table′ : List ℕ) (f : Function) (rest : List Tokens.Placed) (p : Progress) : Type 0 where
+  pub read : FunctionRead text limit at words tape tape′ f rest p
+  pub entries : Entries text table′ 0 (functions + 1)
+  pub names : tableNames text table′ 0 (functions + 1) ≡ tableNames text table 0 functions ++ f .name ∷ []
+  pub long : length table′ ≡ 64
+
+-- FUNCTIONS
+
+-- a spare `;` is passed
+pub record SpareTo (text : Bytes) (at past : ℕ) : Type 0 where
+  pub tokens : stream text Tokens.outside past ≡ Reading.passSpare (stream text Tokens.outside at)
+  pub onward : at ≤ past
+  pub inside : past ≤ length text
+
+abbrev pub isEnd : Token → Bool
+isEnd (NameToken name) = false
+isEnd (Symbol identifier) = false
+isEnd (Part identifier) = false
+isEnd Word = false
+isEnd (Quoted count) = false
+isEnd (Sign byte) = false
+isEnd End = true
+isEnd Malformed = false
+
+-- what the definition reads of a text's functions
+abbrev pub functionsOf : Bytes → Parsed Table
+functionsOf text = Reading.functions 64 512 [] (stream text Tokens.outside 0)
+
+-- the functions of a text were read
+pub record FunctionsRead (text : Bytes) (tape tape′ table : List ℕ) (t : Table) (rest : List Tokens.Placed) (p : Progress) : Type 0 where
+  pub went : Went text 0 0 tape (p .at) (p .words) tape′ (Tape.tape t)
+  pub entries : Entries text table 0 (p .count)
+  pub names : namesOf t ≡ tableNames text table 0 (p .count)
+  pub count : p .count ≡ length t
+  pub stand : Each (FunctionStands text) t
+
+-- the functions from the start, where the tape was this, are those from a place on after these
+pub record Functioned (text start tape table : List ℕ) (at words count left : ℕ) : Type 0 where
+  pub before : Table
+  pub same : functionsOf text ≡ Reading.functions (64 - count) left before (stream text Tokens.outside at)
+  pub went : Went text 0 0 start at words tape (Tape.tape before)
+  pub entries : Entries text table 0 count
+  pub names : namesOf before ≡ tableNames text table 0 count
+  pub counted : count ≡ length before
+  pub long : length table ≡ 64
+  pub stand : Each (FunctionStands text) before
+  pub short : length text ≤ 32768
+
+-- how reading stands at a place, from a tape at the start on
+abbrev pub StageIs : Bytes → List ℕ → List ℕ → List ℕ → ℕ → Stage → Type 0
+StageIs text start tape table at (Onward n) = Functioned text start tape table at (n .words) (n .functions) (n .left)
+StageIs text start tape table at (Over p) = Agrees (FunctionsRead text start tape table) (functionsOf text) p
+
+pub record Underway (text tape table : List ℕ) (at : ℕ) (stage : Stage) : Type 0 where
+  pub start : List ℕ
+  pub is : StageIs text start tape table at stage
+
+abbrev pub firstStage : Stage
+firstStage = Onward (record { words = 0; functions = 0; left = 512 })
+
+abbrev pub onward : Stage → Bool
+onward (Onward n) = true
+onward (Over p) = false
+
+abbrev pub readSoFar : Tally → ℕ → CodeParsed
+readSoFar n at = Done (record { at = at; words = n .words; count = n .functions; parts = 0 })
+
+abbrev pub outcomeOf : Stage → CodeParsed
+outcomeOf (Onward n) = readSoFar n 0
+outcomeOf (Over p) = p
+
+-- the declarations that may still come, and the end of the text
+abbrev pub toCome : Stage → ℕ
+toCome (Onward n) = 65 - n .functions
+toCome (Over p) = 0
+
+-- a declaration was read: reading stands at the place reached as it stood before, and less may come
+pub record Declares (text tape table : List ℕ) (at : ℕ) (stage : Stage) (tape′ table′ : List ℕ) (at′ : ℕ) (stage′ : Stage) : Type 0 where
+  pub keeps : (start : List ℕ) → StageIs text start tape table at stage → StageIs text start tape′ table′ at′ stage′
+  pub falls : onward stage ≡ true → toCome stage′ < toCome stage

@@ -1,0 +1,311 @@
+// The readers of an expression and of a call, which call each other.
+use crate::stopped;
+use read_bookkeeping::Answer;
+use read_bookkeeping::names::called_fault;
+use read_bookkeeping::names::find;
+use read_bookkeeping::progress::Fault;
+use read_bookkeeping::progress::Parsed;
+use read_bookkeeping::progress::Passed;
+use read_bookkeeping::progress::Progress;
+use read_bookkeeping::progress::is_accepted;
+use read_bookkeeping::progress::is_sign;
+use read_bookkeeping::progress::is_word;
+use read_bookkeeping::progress::pass;
+use read_bookkeeping::progress::refuse;
+use read_bookkeeping::writing::CALL_KIND;
+use read_bookkeeping::writing::CLOSE_WORD;
+use read_bookkeeping::writing::PART_WORD;
+use read_bookkeeping::writing::SYMBOL_WORD;
+use read_bookkeeping::writing::put;
+use read_bookkeeping::writing::put_characters;
+use read_bookkeeping::writing::put_named;
+use read_conditions::later_fault;
+use read_tokens::Mode;
+use read_tokens::Placed;
+use read_tokens::Span;
+use read_tokens::Token;
+use read_tokens::lex;
+ghost use Prim.Native.Nat.{ℕ, _+_, _-_, _*_, _≤_, _<_};
+ghost use lib.Dec.{T};
+ghost use lib.ListN.{length};
+ghost use mathlib.Core.List.{_∷_};
+ghost use Rattle.meaning.specs.Choice.{every};
+ghost use Rattle.meaning.specs.Grammar.{standing};
+ghost use Rattle.meaning.specs.Tokens as Tokens;
+ghost use Rattle.meaning.specs.Reading as Reading;
+ghost use Rattle.read_tokens.specs.View.{charactersIn, quotationAt, part, stream, Comes};
+ghost use Rattle.read_bookkeeping.specs.Answered.{Agrees};
+ghost use Rattle.read_bookkeeping.specs.Tables.{Inside};
+ghost use Rattle.read_bookkeeping.specs.Tokened.{unlessWord};
+ghost use Rattle.read_bookkeeping.specs.Written.{Wrote, isQuiet, Ready};
+ghost use Rattle.read_bookkeeping.specs.Items.{symbolNames, Identifier, StringAt};
+ghost use Rattle.read_functions.specs.Expressions.{progressAt, Going, VariableTaken, JoinsItem, JoinsToken, ExpressionRead, opening, OpeningRead, CallRead, Closes};
+
+// An expression with a token joined to it, what is wrong with the token, that it is a word but no variable, or that it is no item.
+pub enum Joined {
+    Taken(Progress),
+    Wrong(Answer),
+    Refused(Fault),
+    Other,
+}
+
+// A string joined to an expression.
+fn join_string(
+    text: &[u8],
+    tape: &mut [u32],
+    table: &[usize],
+    symbols: usize,
+    parts: usize,
+    s: Progress,
+    place: usize,
+    past: usize,
+    count: usize,
+) -> Joined
+    requires { ⌜ Going (now text) (now table) symbols parts s × StringAt (now text) (s .at) place past count ⌝ }
+    ensures { λ r. ⌜ JoinsItem (now (text .entry)) (now (table .entry)) symbols parts s (now (tape .entry))
+        (Reading.characters (charactersIn (quotationAt (now (text .entry)) place))) past (now (tape .exit)) r ⌝ }
+{
+    if 128 < s.count + count {
+        return Joined::Wrong(Answer::OverLimit);
+    }
+    let words = put_characters(text, tape, s.words, place + 1);
+    Joined::Taken(Progress {
+        at: past,
+        words: words,
+        count: s.count + count,
+        parts: s.parts,
+    })
+}
+
+// A variable taken into an expression: its word, a base plus the identifier's length, and the identifier. So many e-variables have passed then.
+fn take_variable(
+    text: &[u8],
+    tape: &mut [u32],
+    s: Progress,
+    x: Span,
+    base: usize,
+    parts: usize,
+) -> Progress
+    requires { ⌜ Ready (now text) (s .at) (s .words) × Identifier (now text) (s .at) x × (s .count < 128) × (base ≤ 512) ⌝ }
+    ensures { λ r. ⌜ VariableTaken (now (text .entry)) s x base parts (now (tape .entry)) (now (tape .exit)) r ⌝ }
+{
+    let word = (base + (x.past - x.from)) as u32;
+    let words = put_named(text, tape, s.words, word, x);
+    Progress {
+        at: x.past,
+        words: words,
+        count: s.count + 1,
+        parts: parts,
+    }
+}
+
+// An s-variable joined to an expression.
+fn join_symbol(
+    text: &[u8],
+    tape: &mut [u32],
+    table: &[usize],
+    symbols: usize,
+    parts: usize,
+    s: Progress,
+    x: Span,
+) -> Joined
+    requires { ⌜ Going (now text) (now table) symbols parts s × Identifier (now text) (s .at) x ⌝ }
+    ensures { λ r. ⌜ JoinsItem (now (text .entry)) (now (table .entry)) symbols parts s (now (tape .entry))
+        (Reading.symbolItem (part (now (text .entry)) x)) (x .past) (now (tape .exit)) r ⌝ }
+{
+    if 128 <= s.count {
+        return Joined::Wrong(Answer::OverLimit);
+    }
+    let fault = later_fault(text, table, 0, symbols, x);
+    if !is_accepted(fault) {
+        return Joined::Wrong(fault);
+    }
+    Joined::Taken(take_variable(text, tape, s, x, SYMBOL_WORD, s.parts))
+}
+
+// An e-variable joined to an expression: those of the pattern that came before it can't come any more.
+fn join_part(
+    text: &[u8],
+    tape: &mut [u32],
+    table: &[usize],
+    symbols: usize,
+    parts: usize,
+    s: Progress,
+    x: Span,
+) -> Joined
+    requires { ⌜ Going (now text) (now table) symbols parts s × Identifier (now text) (s .at) x ⌝ }
+    ensures { λ r. ⌜ JoinsItem (now (text .entry)) (now (table .entry)) symbols parts s (now (tape .entry))
+        (Reading.partItem (part (now (text .entry)) x)) (x .past) (now (tape .exit)) r ⌝ }
+{
+    if 8 < x.past - x.from {
+        return Joined::Wrong(Answer::OverLimit);
+    }
+    if 128 <= s.count {
+        return Joined::Wrong(Answer::OverLimit);
+    }
+    let start = 16 + s.parts;
+    let end = 16 + parts;
+    let found = find(text, table, start, end, x);
+    if end <= found {
+        return Joined::Wrong(Answer::WrongLaterVariable);
+    }
+    let passed = found - 15;
+    Joined::Taken(take_variable(text, tape, s, x, PART_WORD, passed))
+}
+
+// A token joined to an expression, by the item that it is.
+fn join(
+    text: &[u8],
+    tape: &mut [u32],
+    table: &[usize],
+    symbols: usize,
+    parts: usize,
+    s: Progress,
+    t: Placed,
+) -> Joined
+    requires { ⌜ Going (now text) (now table) symbols parts s × Comes (now text) Tokens.inside (s .at) t ⌝ }
+    ensures { λ r. ⌜ JoinsToken (now (text .entry)) (now (table .entry)) symbols parts s (now (tape .entry)) t (now (tape .exit)) r ⌝ }
+{
+    let token = t.token;
+    if let Token::Quoted(count) = token {
+        return join_string(text, tape, table, symbols, parts, s, t.place, t.past, count);
+    }
+    if !is_word(t) {
+        return Joined::Other;
+    }
+    if let Token::Symbol(x) = token {
+        return join_symbol(text, tape, table, symbols, parts, s, x);
+    }
+    let Token::Part(x) = token else {
+        return Joined::Refused(Fault {
+            answer: Answer::NotAllowedHere,
+            place: t.place,
+        });
+    };
+    join_part(text, tape, table, symbols, parts, s, x)
+}
+
+// The word of a call and its name, which stands at a place.
+fn put_call(text: &[u8], tape: &mut [u32], words: usize, place: usize, name: Span) -> usize
+    requires { ⌜ Inside (now text) name × (words + 1 + (name .past - name .from) ≤ 32768) × (name .past - name .from ≤ 24) × (place ≤ 32768) ⌝ }
+    ensures { λ r. ⌜ Wrote (now (tape .entry)) words (((9 + place) * 256 + (name .past - name .from)) ∷ part (now (text .entry)) name) r (now (tape .exit))
+        × T (every isQuiet (part (now (text .entry)) name)) ⌝ }
+{
+    let word = ((CALL_KIND + place) * 256 + (name.past - name.from)) as u32;
+    put_named(text, tape, words, word, name)
+}
+
+// The `>` of a call.
+fn close_call(text: &[u8], tape: &mut [u32], s: Progress) -> Parsed
+    requires { ⌜ Ready (now text) (s .at) (s .words) ⌝ }
+    ensures { λ r. ⌜ Closes (now (text .entry)) s (now (tape .entry)) (now (tape .exit)) r ⌝ }
+{
+    match pass(text, s.at, Mode::Inside, b'>') {
+        Passed::Past(at) => {
+            put(tape, s.words, CLOSE_WORD);
+            Parsed::Done(Progress {
+                at: at,
+                words: s.words + 1,
+                count: s.count,
+                parts: s.parts,
+            })
+        }
+        Passed::Refused(fault) => Parsed::Stopped(fault),
+    }
+}
+
+// What comes before a call's argument, after its `<`, which stands at a place: its name, and the word for it.
+fn open_call(text: &[u8], tape: &mut [u32], depth: usize, s: Progress, place: usize) -> Parsed
+    requires { ⌜ Ready (now text) (s .at) (s .words) × (s .words < s .at) ⌝ }
+    ensures { λ r. ⌜ Agrees (OpeningRead (now (text .entry)) depth s (now (tape .entry)) (now (tape .exit)))
+        (opening depth (s .count) (standing (Tokens.sign 60) place (s .at)) (stream (now (text .entry)) Tokens.naming (s .at))) r ⌝ }
+{
+    if 16 <= depth || 128 <= s.count {
+        return stopped(Answer::OverLimit, place);
+    }
+    let t = lex(text, s.at, Mode::Naming);
+    let token = t.token;
+    let Token::Name(name) = token else {
+        return Parsed::Stopped(refuse(t));
+    };
+    let fault = called_fault(text, name);
+    if !is_accepted(fault) {
+        return stopped(fault, t.place);
+    }
+    let words = put_call(text, tape, s.words, t.place, name);
+    Parsed::Done(Progress {
+        at: t.past,
+        words: words,
+        count: s.count + 1,
+        ..s
+    })
+}
+
+// A call that so many calls stand round, after its `<`, which stands at a place.
+fn call(
+    text: &[u8],
+    tape: &mut [u32],
+    table: &[usize],
+    symbols: usize,
+    parts: usize,
+    depth: usize,
+    s: Progress,
+    place: usize,
+) -> Parsed
+    requires { ⌜ Going (now text) (now table) symbols parts s × (s .words < s .at) ⌝ }
+    ensures { λ r. ⌜ ((bound : ℕ) → length (stream (now (text .entry)) Tokens.naming (s .at)) ≤ bound
+        → Agrees (CallRead (now (text .entry)) (now (table .entry)) symbols parts s (now (tape .entry)) (now (tape .exit)))
+        (Reading.call (Reading.expression bound (symbolNames (now (text .entry)) (now (table .entry)) symbols)) depth
+        (progressAt (now (text .entry)) (now (table .entry)) parts s) (standing (Tokens.sign 60) place (s .at))
+        (stream (now (text .entry)) Tokens.naming (s .at))) r) ⌝ }
+{
+    let start = match open_call(text, tape, depth, s, place) {
+        Parsed::Stopped(fault) => return Parsed::Stopped(fault),
+        Parsed::Done(start) => start,
+    };
+    match expression(text, tape, table, symbols, parts, depth + 1, start) {
+        Parsed::Stopped(fault) => Parsed::Stopped(fault),
+        Parsed::Done(argument) => close_call(text, tape, argument),
+    }
+}
+
+// An expression that so many calls stand round.
+pub fn expression(
+    text: &[u8],
+    tape: &mut [u32],
+    table: &[usize],
+    symbols: usize,
+    parts: usize,
+    depth: usize,
+    start: Progress,
+) -> Parsed
+    requires { ⌜ Going (now text) (now table) symbols parts start ⌝ }
+    ensures { λ r. ⌜ ((bound : ℕ) → length (stream (now (text .entry)) Tokens.inside (start .at)) ≤ bound
+        → Agrees (ExpressionRead (now (text .entry)) (now (table .entry)) symbols parts start (now (tape .entry)) (now (tape .exit)))
+        (unlessWord (Reading.expression bound (symbolNames (now (text .entry)) (now (table .entry)) symbols) depth
+        (progressAt (now (text .entry)) (now (table .entry)) parts start) (stream (now (text .entry)) Tokens.inside (start .at)))) r) ⌝ }
+{
+    let mut s = start;
+    loop {
+        let t = lex(text, s.at, Mode::Inside);
+        match join(text, tape, table, symbols, parts, s, t) {
+            Joined::Taken(next) => {
+                s = next;
+            }
+            Joined::Wrong(answer) => return stopped(answer, t.place),
+            Joined::Refused(fault) => return Parsed::Stopped(fault),
+            Joined::Other => {
+                if !is_sign(t, b'<') {
+                    return Parsed::Done(Progress { at: t.place, ..s });
+                }
+                let opened = Progress { at: t.past, ..s };
+                match call(text, tape, table, symbols, parts, depth, opened, t.place) {
+                    Parsed::Stopped(fault) => return Parsed::Stopped(fault),
+                    Parsed::Done(next) => {
+                        s = next;
+                    }
+                }
+            }
+        }
+    }
+}

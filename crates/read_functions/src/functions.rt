@@ -1,0 +1,188 @@
+// The readers of a function and of a table's next function.
+use crate::sentences::sentences;
+use crate::stopped;
+use read_bookkeeping::Answer;
+use read_bookkeeping::names::declared_fault;
+use read_bookkeeping::names::entry;
+use read_bookkeeping::progress::Parsed;
+use read_bookkeeping::progress::Passed;
+use read_bookkeeping::progress::Progress;
+use read_bookkeeping::progress::is_accepted;
+use read_bookkeeping::progress::is_sign;
+use read_bookkeeping::progress::pass;
+use read_bookkeeping::progress::refuse;
+use read_bookkeeping::writing::FUNCTION_WORD;
+use read_bookkeeping::writing::put_named;
+use read_tokens::Mode;
+use read_tokens::Placed;
+use read_tokens::Span;
+use read_tokens::Token;
+use read_tokens::lex;
+ghost use mathlib.Core.Path.{_≡_};
+ghost use Prim.Native.Nat.{_≤_};
+ghost use lib.ListN.{length};
+ghost use Rattle.meaning.specs.Tokens as Tokens;
+ghost use Rattle.meaning.specs.Reading as Reading;
+ghost use Rattle.read_tokens.specs.View.{part, stream};
+ghost use Rattle.read_bookkeeping.specs.Answered.{Agrees};
+ghost use Rattle.read_bookkeeping.specs.Tables.{tableNames};
+ghost use Rattle.read_functions.specs.Functions.{fromBrace, Declarable, BodyRead, Opening, nameFault, DeclaredRead, SpareTo, isEnd, firstStage, onward, readSoFar, outcomeOf, Underway, Declares};
+
+// The words on the tape, the functions that were read, and the sentences that may still come.
+pub struct Tally {
+    pub words: usize,
+    pub functions: usize,
+    pub left: usize,
+}
+
+// How the reading of a table's functions stands: another may come, or it is over.
+pub enum Stage {
+    Onward(Tally),
+    Over(Parsed),
+}
+
+// A stage, and the place in the text where it was reached.
+pub struct Reached {
+    pub stage: Stage,
+    pub at: usize,
+}
+
+// A function after its name: `{`, sentences, of which so many may still come, and `}`.
+fn body(text: &[u8], tape: &mut [u32], name: Span, limit: usize, words: usize) -> Parsed
+    requires { ⌜ Declarable (now text) words name ⌝ }
+    ensures { λ r. ⌜ Agrees (BodyRead (now (text .entry)) limit (name .from) words (part (now (text .entry)) name) (now (tape .entry)) (now (tape .exit)))
+        (fromBrace limit (stream (now (text .entry)) Tokens.outside (name .past))) r ⌝ }
+{
+    let at = match pass(text, name.past, Mode::Outside, b'{') {
+        Passed::Past(at) => at,
+        Passed::Refused(fault) => return Parsed::Stopped(fault),
+    };
+    let word = (FUNCTION_WORD + (name.past - name.from)) as u32;
+    let to = put_named(text, tape, words, word, name);
+    sentences(text, tape, limit, at, to)
+}
+
+// A function from its name to its `}`; the name is added to the table of names.
+fn function(
+    text: &[u8],
+    tape: &mut [u32],
+    names: &mut [usize; 64],
+    functions: usize,
+    limit: usize,
+    t: Placed,
+    words: usize,
+) -> Parsed
+    requires { ⌜ Opening (now text) (now names) functions words t ⌝ }
+    ensures { λ r. ⌜ Agrees (DeclaredRead (now (text .entry)) limit (t .place) words functions (now (tape .entry)) (now (tape .exit)) (now (names .entry)) (now (names .exit)))
+        (Reading.function (nameFault functions (tableNames (now (text .entry)) (now (names .entry)) 0 functions)) limit
+        (stream (now (text .entry)) Tokens.outside (t .place))) r ⌝ }
+{
+    let token = t.token;
+    let Token::Name(name) = token else {
+        return Parsed::Stopped(refuse(t));
+    };
+    if 64 <= functions {
+        return stopped(Answer::OverLimit, t.place);
+    }
+    let fault = declared_fault(text, names, functions, name);
+    if !is_accepted(fault) {
+        return stopped(fault, t.place);
+    }
+    names[functions] = entry(name);
+    body(text, tape, name, limit, words)
+}
+
+// The place after a spare `;`, or of the token that stands there.
+fn pass_spare(text: &[u8], at: usize) -> usize
+    requires { ⌜ at ≤ length (now text) ⌝ }
+    ensures { λ r. ⌜ SpareTo (now (text .entry)) at r ⌝ }
+{
+    let t = lex(text, at, Mode::Outside);
+    if is_sign(t, b';') { t.past } else { t.place }
+}
+
+fn is_end(t: Placed) -> bool
+    ensures { λ r. ⌜ r ≡ isEnd (t .token) ⌝ }
+{
+    let token = t.token;
+    if let Token::End = token { true } else { false }
+}
+
+// Before the first function.
+pub fn first_stage() -> Stage
+    ensures { λ r. ⌜ r ≡ firstStage ⌝ }
+{
+    Stage::Onward(Tally {
+        words: 0,
+        functions: 0,
+        left: 512,
+    })
+}
+
+pub fn is_onward(stage: Stage) -> bool
+    ensures { λ r. ⌜ r ≡ onward stage ⌝ }
+{
+    match stage {
+        Stage::Onward(_) => true,
+        Stage::Over(_) => false,
+    }
+}
+
+// The functions that were read up to a place.
+fn read_so_far(n: Tally, at: usize) -> Parsed
+    ensures { λ r. ⌜ r ≡ readSoFar n at ⌝ }
+{
+    Parsed::Done(Progress {
+        at: at,
+        words: n.words,
+        count: n.functions,
+        parts: 0,
+    })
+}
+
+// What reading has come to.
+pub fn outcome(stage: Stage) -> Parsed
+    ensures { λ r. ⌜ r ≡ outcomeOf stage ⌝ }
+{
+    match stage {
+        Stage::Onward(n) => read_so_far(n, 0),
+        Stage::Over(parsed) => parsed,
+    }
+}
+
+// Reads the declaration that comes at a place, with a spare `;` after it, and adds its name to the table of names.
+pub fn declaration(
+    text: &[u8],
+    at: usize,
+    tape: &mut [u32],
+    names: &mut [usize; 64],
+    stage: Stage,
+) -> Reached
+    requires { ⌜ Underway (now text) (now tape) (now names) at stage ⌝ }
+    ensures { λ r. ⌜ Declares (now (text .entry)) (now (tape .entry)) (now (names .entry)) at stage (now (tape .exit)) (now (names .exit)) (r .at) (r .stage) ⌝ }
+{
+    let Stage::Onward(n) = stage else {
+        return Reached { stage, at };
+    };
+    let t = lex(text, at, Mode::Outside);
+    if is_end(t) {
+        let stage = Stage::Over(read_so_far(n, at));
+        return Reached { stage, at };
+    }
+    match function(text, tape, names, n.functions, n.left, t, n.words) {
+        Parsed::Stopped(fault) => {
+            let stage = Stage::Over(Parsed::Stopped(fault));
+            Reached { stage, at }
+        }
+        Parsed::Done(f) => {
+            let past = pass_spare(text, f.at);
+            let functions = n.functions + 1;
+            let stage = Stage::Onward(Tally {
+                words: f.words,
+                functions: functions,
+                left: f.count,
+            });
+            Reached { stage, at: past }
+        }
+    }
+}

@@ -1,0 +1,102 @@
+-- A state of the loop of `functions`: the reader, the stage, and the lent lists, with what holds of them. The laws of how the loop goes from one to the next.
+use mathlib.Core.Path.{_≡_, refl, sym, ap, subst, _∙_}
+use Prim.Native.Nat.{ℕ, _≤_, _<_}
+use mathlib.Core.Bool.{true, false, true≢false}
+use mathlib.Core.List.{List, [], _∷_}
+use mathlib.Core.WellFounded.{WellFounded, InvImage·wf}
+use lib.ListN.{length}
+use lib.WfN.{Nat·lt-wfRel}
+use mir.Val.{Val}
+use denote.Laws.{Is}
+use denote.Ref.{RefT, now}
+use Rattle.read_tokens.specs.declared.reader.Reader.{Reader}
+use Rattle.read_tokens.specs.Readers.{readerAt}
+use Rattle.read_bookkeeping.specs.declared.progress.Parsed.{Parsed}
+use Rattle.read_bookkeeping.specs.Answered.{Agrees}
+use Rattle.read_functions.specs.declared.functions.Stage.{Stage}
+use Rattle.read_functions.specs.declared.functions.Stage.the-variants.{Onward, Over}
+use Rattle.read_functions.specs.Functions.{functionsOf, FunctionsRead, StageIs, Underway, firstStage, onward, outcomeOf, toCome}
+use Rattle.read_functions.proofs.Functioned.{functions-start}
+use Rattle.read_functions.proofs.functions.Stage as S
+use Rattle.read_table.specs.Through.{GoesOn}
+
+-- what `next_declaration` leaves: the reader and the lists
+abbrev pub Changed : Type 0
+Changed = Reader × (List ℕ × (List ℕ × (Unit {0} × Unit {0})))
+
+pub record Turn (text : RefT (List ℕ)) (start : List ℕ) : Type 0 where
+  pub reader : Reader
+  pub stage : Stage
+  pub value : Val
+  pub tape : List ℕ
+  pub names : List ℕ
+  pub typed : Is S.the-row stage (value ∷ [])
+  pub same : reader .text ≡ text
+  pub long : length tape ≡ length start
+  pub stands : StageIs (now text) start tape names (reader .at) stage
+
+-- what holds in the first state, and in the last
+pub begins : (text : RefT (List ℕ)) (start names : List ℕ) → (length (now text) ≤ 32768) × (length names ≡ 64) → (r : Reader) → r ≡ readerAt text 0
+    → (x : Stage) → x ≡ firstStage → StageIs (now text) start start names (r .at) x
+begins text start names req r made x how = rw (made, how) (functions-start (now text) start names (req .0) (req .1))
+
+over : (text start tape names : List ℕ) (at : ℕ) (x : Stage) → onward x ≡ false → StageIs text start tape names at x
+    → Agrees (FunctionsRead text start tape names) (functionsOf text) (outcomeOf x)
+over text start tape names at (Onward n) said s = absurd (true≢false said)
+over text start tape names at (Over p) said s = s
+
+module _ {text : RefT (List ℕ)} {start : List ℕ} where
+  -- fewer declarations may come
+  abbrev pub Less : Turn text start → Turn text start → Type 0
+  Less t′ t = toCome (t′ .stage) < toCome (t .stage)
+
+  pub less-founded : WellFounded Less
+  less-founded = InvImage·wf (λ (t : Turn text start). toCome (t .stage)) (Nat·lt-wfRel .wf)
+
+  -- what `next_declaration` ensures in a state
+  abbrev pub Told : Turn text start → Stage → Changed → Type 0
+  Told t x ws = GoesOn (t .reader) (t .tape) (t .names) (t .stage) (ws .0) (ws .1 .0) (ws .1 .1 .0) x
+
+  -- the first state
+  abbrev pub at-start : (names : List ℕ) → (length (now text) ≤ 32768) × (length names ≡ 64) → (r : Reader) → r ≡ readerAt text 0 → (x : Stage) (v : Val) → x ≡ firstStage
+      → Is S.the-row x (v ∷ []) → Turn text start
+  at-start names req r made x v how is =
+      record {
+        reader = r;
+        stage = x;
+        value = v;
+        tape = start;
+        names = names;
+        typed = is;
+        same = ap (λ (d : Reader). d .text) made;
+        long = refl;
+        stands = begins text start names req r made x how;
+      }
+
+  -- the reader's text is the text, so a declaration may be read through it
+  pub stands-there : (t : Turn text start) → StageIs (now (t .reader .text)) start (t .tape) (t .names) (t .reader .at) (t .stage)
+  stands-there t = subst (λ (s : RefT (List ℕ)). StageIs (now s) start (t .tape) (t .names) (t .reader .at) (t .stage)) (sym (t .same)) (t .stands)
+
+  pub may-go : (t : Turn text start) → Underway (now (t .reader .text)) (t .tape) (t .names) (t .reader .at) (t .stage)
+  may-go t = record { start = start; is = stands-there t }
+
+  -- the next state
+  abbrev pub next-turn : (t : Turn text start) (x : Stage) (w : Val) (ws : Changed) → Told t x ws → length (ws .1 .0) ≡ length (t .tape) → Is S.the-row x (w ∷ [])
+      → Turn text start
+  next-turn t x w ws told e is =
+      record {
+        reader = ws .0;
+        stage = x;
+        value = w;
+        tape = ws .1 .0;
+        names = ws .1 .1 .0;
+        typed = is;
+        same = told .same ∙ t .same;
+        long = e ∙ t .long;
+        stands = subst (λ (s : RefT (List ℕ)). StageIs (now s) start (ws .1 .0) (ws .1 .1 .0) (ws .0 .at) x) (t .same) (told .declares .keeps start (stands-there t));
+      }
+
+  -- the last state
+  pub finished : (t : Turn text start) (r : Parsed) → onward (t .stage) ≡ false → r ≡ outcomeOf (t .stage)
+      → Agrees (FunctionsRead (now text) start (t .tape) (t .names)) (functionsOf (now text)) r
+  finished t r said last = rw last (over (now text) start (t .tape) (t .names) (t .reader .at) (t .stage) said (t .stands))

@@ -1,0 +1,76 @@
+// Reading a table text: its tree as a tape, or the number and place of its fault.
+mod calls;
+mod functions;
+
+use read_bookkeeping::Answer;
+use read_bookkeeping::names::function_room;
+use read_bookkeeping::progress::Parsed;
+use calls::Unknown;
+use calls::unknown_call;
+use functions::functions;
+ghost use mathlib.Core.Path.{_≡_};
+ghost use Rattle.read_bookkeeping.specs.Answered.{numberOf};
+ghost use Rattle.read_table.specs.Reads.{LongEnough, Reads, refusedWith};
+
+// An answer and its place; of an accepted table how many functions it has, and how many words its tape.
+pub struct Reading {
+    pub answer: Answer,
+    pub place: usize,
+    pub functions: usize,
+    pub words: usize,
+}
+
+// 01's number of an answer.
+pub fn number(answer: Answer) -> u64
+    ensures { λ r. ⌜ r ≡ numberOf answer ⌝ }
+{
+    match answer {
+        Answer::Accepted => 0,
+        Answer::TableTooLong => 1,
+        Answer::MalformedToken => 2,
+        Answer::NotAllowedHere => 3,
+        Answer::OverLimit => 4,
+        Answer::WrongName => 5,
+        Answer::WrongPatternVariable => 6,
+        Answer::WrongLaterVariable => 7,
+        Answer::UndeclaredName => 8,
+    }
+}
+
+fn refusal(answer: Answer, place: usize) -> Reading
+    ensures { λ r. ⌜ r ≡ refusedWith answer place ⌝ }
+{
+    Reading {
+        answer: answer,
+        place: place,
+        functions: 0,
+        words: 0,
+    }
+}
+
+// Reads a table text, and writes the words of its tree at the beginning of the tape; a refused text has none.
+pub fn read(text: &[u8], tape: &mut [u32]) -> Reading
+    requires { ⌜ LongEnough (now text) (now tape) ⌝ }
+    ensures { λ r. ⌜ Reads (now (text .entry)) r (now (tape .exit)) ⌝ }
+{
+    if 32768 < text.len() {
+        return refusal(Answer::TableTooLong, 0);
+    }
+    let mut names = function_room();
+    let table = match functions(text, tape, &mut names) {
+        Parsed::Stopped(fault) => {
+            let answer = fault.answer;
+            return refusal(answer, fault.place);
+        }
+        Parsed::Done(table) => table,
+    };
+    match unknown_call(text, tape, &names, table.count, table.words) {
+        Unknown::At(place) => refusal(Answer::UndeclaredName, place),
+        Unknown::Nowhere => Reading {
+            answer: Answer::Accepted,
+            place: 0,
+            functions: table.count,
+            words: table.words,
+        },
+    }
+}

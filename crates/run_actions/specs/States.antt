@@ -1,0 +1,220 @@
+-- The registers and the lent cells as the specification's state: stack in from p on, the selected cells, stack out up to r, what was counted, and what a frame keeps.
+use Prim.Native.Nat.{ℕ, suc, pred, _+_, _*_, _-_, _≤_, _<_}
+use mathlib.Core.Path.{_≡_}
+use mathlib.Core.List.{List, _++_}
+use mathlib.Core.Bool.{Bool, true, false}
+use lib.Dec.{ltb}
+use lib.ListN.{length, getD, take, drop, set}
+use Rattle.meaning.specs.Choice.{Bytes, both, pick}
+use Rattle.meaning.specs.Outcome.{maxCounted, Outcome, done, stop}
+use Rattle.meaning.specs.Instructions.{Action, Code}
+use Rattle.meaning.specs.Machine.{outCells, Ledger, Stacks, Local, movedOn, withOutput, noting, perform}
+use Rattle.meaning.specs.Runs.{Room, lent}
+use Rattle.meaning.specs.Leaving.{maxFrames}
+use Rattle.run_actions.specs.declared.registers.Registers.{Registers}
+use Rattle.run_actions.specs.declared.registers.Next.{Next}
+use Rattle.run_actions.specs.declared.registers.Next.the-variants.{Onward, Done, Stopped, Deeper}
+use Rattle.run_actions.specs.Endings.{endingNumber}
+
+-- the stacks, the record, the frames' words and their stored values
+pub record Memory : Type 0 where
+  pub input : Bytes
+  pub output : Bytes
+  pub journal : Bytes
+  pub frames : List ℕ
+  pub values : Bytes
+
+abbrev pub memory : Bytes → Bytes → Bytes → List ℕ → Bytes → Memory
+memory input output journal frames values =
+    record { input = input; output = output; journal = journal; frames = frames; values = values }
+
+-- the words of a frame; those of so many frames, with the counts of applications before them; and the stored values of so many frames
+abbrev pub frameWords : ℕ
+frameWords = 24
+
+abbrev pub wordsFor : ℕ → ℕ
+wordsFor n = maxCounted + frameWords * n
+
+abbrev pub valuesFor : ℕ → ℕ
+valuesFor n = 16 * n
+
+-- how many frames a run has room for at first
+abbrev pub firstFrames : ℕ
+firstFrames = 8
+
+-- a frame is there, and so are its values; the values are there for every frame that is
+abbrev pub HasFrame : ℕ → List ℕ → Type 0
+HasFrame k frames = wordsFor (suc k) ≤ length frames
+
+abbrev pub HasValues : ℕ → Bytes → Type 0
+HasValues k values = valuesFor (suc k) ≤ length values
+
+abbrev pub Paired : List ℕ → Bytes → Type 0
+Paired frames values = (k : ℕ) → HasFrame k frames → HasValues k values
+
+-- a frame more may be added, but is not there
+abbrev pub crowdedAt : ℕ → List ℕ → Bool
+crowdedAt k frames = both (ltb (suc k) maxFrames) (ltb (length frames) (wordsFor (suc (suc k))))
+
+-- the frames' words behind the counts
+abbrev pub wordsIn : List ℕ → List ℕ
+wordsIn frames = drop maxCounted frames
+
+-- a frame's words: the lengths of null, d, dl and dr, the number of values, the number of open sequences, where its call returns to and q there; and from the end back r at each BeginSeq
+abbrev pub frameWord : ℕ → ℕ → List ℕ → ℕ
+frameWord k i frames = getD (wordsIn frames) (frameWords * k + i) 0
+
+-- a word of a frame stored
+abbrev pub withWord : ℕ → ℕ → ℕ → List ℕ → List ℕ
+withWord k i v frames = set frames (maxCounted + (frameWords * k + i)) v
+
+-- the words of the frames that wait below one
+abbrev pub wordsBelow : ℕ → List ℕ → List ℕ
+wordsBelow k frames = take (frameWords * k) (wordsIn frames)
+
+abbrev pub localAt : ℕ → List ℕ → Bytes → Local
+localAt k frames values =
+    record {
+      field = frameWord k 1 frames;
+      place = frameWord k 2 frames;
+      values = take (frameWord k 4 frames) (drop (16 * k) (take (16 * k + 16) values));
+      opened = drop (24 * k + 24 - frameWord k 5 frames) (take (24 * k + 24) (wordsIn frames));
+    }
+
+-- a frame's words agree with each other, and it keeps no more than it has room for
+pub record Held (k : ℕ) (frames : List ℕ) : Type 0 where
+  pub null : frameWord k 0 frames ≡ 0
+  pub right : frameWord k 3 frames ≡ frameWord k 1 frames - frameWord k 2 frames
+  pub stored : frameWord k 4 frames ≤ 16
+  pub opened : frameWord k 5 frames ≤ 16
+
+-- a frame's words as its application begins: the lengths of the registers by their numbers, the number of values, and no sequence open
+abbrev pub begun : ℕ → ℕ → ℕ → ℕ → List ℕ → List ℕ
+begun frame field place stored frames =
+    withWord frame 5 0 (withWord frame 4 stored (withWord frame 3 (field - place) (withWord frame 2 place (withWord frame 1 field (withWord frame 0 0 frames)))))
+
+-- the caller's frame keeps where its call returns to, and q
+abbrev pub callingFrom : ℕ → ℕ → ℕ → List ℕ → List ℕ
+callingFrom k at end frames = withWord k 7 end (withWord k 6 at frames)
+
+-- a sequence opened at a cell of out, if one more may be open
+abbrev pub openedAt : ℕ → ℕ → List ℕ → List ℕ
+openedAt k r frames =
+    let count = frameWord k 5 frames in
+    withWord k 5 (count + 1) (withWord k (23 - count) r frames)
+
+abbrev pub Opens : ℕ → ℕ → List ℕ → List ℕ → Bool → Type 0
+Opens k r before after true = (frameWord k 5 before < 16) × (after ≡ openedAt k r before)
+Opens k r before after false = (16 ≤ frameWord k 5 before) × (after ≡ before)
+
+abbrev pub localOf : Registers → Memory → Local
+localOf g m = localAt (g .frame) (m .frames) (m .values)
+
+abbrev pub stacksOf : Registers → Memory → Stacks
+stacksOf g m = record { input = drop (g .p .0) (m .input); selected = g .q .0 - g .p .0; output = take (g .r .0) (m .output) }
+
+-- the applications of each function
+abbrev pub countsIn : List ℕ → List ℕ
+countsIn frames = take maxCounted frames
+
+-- one application more of the function with a number; one past those that are counted has no word
+abbrev pub countedIn : ℕ → List ℕ → List ℕ
+countedIn number frames =
+    let more = set frames (pred number) (suc (getD frames (pred number) 0)) in
+    pick (ltb maxCounted number) frames more
+
+-- no count is above a number
+abbrev pub CountsWithin : ℕ → List ℕ → Type 0
+CountsWithin most frames = (i : ℕ) → getD (countsIn frames) i 0 ≤ most
+
+abbrev pub Ledgers : Type 0
+Ledgers = Ledger (Unit {0})
+
+abbrev pub ledgerOf : ℕ → Registers → Memory → Ledgers
+ledgerOf allowance g m =
+    record {
+      tally =
+          record {
+            left = allowance - g .steps;
+            steps = g .steps;
+            counts = countsIn (m .frames);
+            emissions = take (g .emitted) (m .journal);
+          };
+      mark = tt;
+    }
+
+abbrev pub roomOf : Memory → Room
+roomOf m =
+    record { inCells = length (m .input); outCells = length (m .output); recordBytes = length (m .journal); frames = maxFrames }
+
+-- the registers with p, q and r elsewhere
+abbrev pub movedTo : Registers → ℕ → ℕ → ℕ → Registers
+movedTo g p q r =
+    record {
+      p = record { 0 = p };
+      q = record { 0 = q };
+      r = record { 0 = r };
+      frame = g .frame;
+      at = g .at;
+      steps = g .steps;
+      emitted = g .emitted;
+      callee = g .callee;
+    }
+
+-- the registers stay within what is lent
+pub record Fits (g : Registers) (m : Memory) : Type 0 where
+  pub ordered : g .p .0 ≤ g .q .0
+  pub inside : g .q .0 ≤ length (m .input)
+  pub below : g .r .0 ≤ length (m .output)
+  pub logged : g .emitted ≤ length (m .journal)
+  pub framed : g .frame < maxFrames
+  pub held : Held (g .frame) (m .frames)
+  pub frameRoom : HasFrame (g .frame) (m .frames)
+  pub valueRoom : Paired (m .frames) (m .values)
+
+-- what a run comes to, and what is left to do in a frame
+abbrev pub Outcomes : Type 0
+Outcomes = Outcome Stacks Ledgers
+
+abbrev pub Going : Type 0
+Going = Local → Stacks → Ledgers → Outcomes
+
+-- how a run goes on, given what is left to do from a place of the code on
+abbrev pub after : ℕ → (ℕ → Going) → Next → Memory → Outcomes
+after allowance k (Onward g) m = k (g .at .0) (localOf g m) (stacksOf g m) (ledgerOf allowance g m)
+after allowance k (Done g) m = done (stacksOf g m) (ledgerOf allowance g m)
+after allowance k (Stopped g ending function) m = stop (endingNumber ending) function (ledgerOf allowance g m)
+after allowance k (Deeper g) m = k (g .at .0) (localOf g m) (stacksOf g m) (ledgerOf allowance g m)
+
+-- an action passes the selected cells, and leaves a text on out where there is room for it
+pub record Writes (action : Action) (text : Bytes) (g : Registers) (m : Memory) : Type 0 where
+  pub same : (allowance : ℕ) (code : Code) (enter : ℕ → ℕ → Stacks → Ledgers → Outcomes) (k : Going) → let s = stacksOf g m in
+      perform (lent (roomOf m)) code enter k (suc (g .frame)) action (localOf g m) s (ledgerOf allowance g m) ≡
+      noting (lent (roomOf m)) (outCells (length (s .output) + length text)) (ledgerOf allowance g m)
+      (k (localOf g m) (movedOn (s .selected) (withOutput (s .output ++ text) s)))
+
+-- an instruction that goes on at a place, in the same frame and step, with all but its own cells as they were
+pub record Stayed (at : ℕ) (g : Registers) (m : Memory) (h : Registers) (n : Memory) : Type 0 where
+  pub fits : Fits g m → Fits h n
+  pub frame : h .frame ≡ g .frame
+  pub place : h .at .0 ≡ at
+  pub steps : h .steps ≡ g .steps
+  pub callee : h .callee ≡ g .callee
+  pub waiting : wordsBelow (g .frame) (n .frames) ≡ wordsBelow (g .frame) (m .frames)
+  pub counts : countsIn (n .frames) ≡ countsIn (m .frames)
+  pub values : n .values ≡ m .values
+  pub beyond : (old : Bytes) → drop (g .emitted) (m .journal) ≡ drop (g .emitted) old → drop (h .emitted) (n .journal) ≡ drop (h .emitted) old
+
+-- an instruction that stops does nothing
+abbrev pub Stays : ℕ → Registers → Memory → Next → Memory → Type 0
+Stays at g m (Onward h) n = Stayed at g m h n
+Stays at g m (Done h) n = ⊥
+Stays at g m (Stopped h ending function) n = (h ≡ g) × (n ≡ m)
+Stays at g m (Deeper h) n = ⊥
+
+-- an action's function does the machine's action, whatever is left to do, and goes on at a place
+pub record Acts (action : Action) (at : ℕ) (g : Registers) (m : Memory) (next : Next) (n : Memory) : Type 0 where
+  pub same : (allowance : ℕ) (code : Code) (enter : ℕ → ℕ → Stacks → Ledgers → Outcomes) (k : Going) →
+      perform (lent (roomOf m)) code enter k (suc (g .frame)) action (localOf g m) (stacksOf g m) (ledgerOf allowance g m) ≡
+      after allowance (λ place. k) next n
+  pub stays : Stays at g m next n

@@ -1,0 +1,33 @@
+// The angle call: what the two selected angles come to goes to out.
+ghost use Prim.Native.Nat.{ℕ, _≤_};
+ghost use mathlib.Core.List.{List};
+ghost use lib.ListN.{length};
+ghost use Rattle.meaning.specs.Choice.{Bytes};
+ghost use Rattle.meaning.specs.Angles.{operation};
+ghost use Rattle.meaning.specs.Instructions.{compute as computing};
+ghost use Rattle.run_actions.specs.States.{memory, Acts};
+use crate::moving::write_text;
+use crate::registers::Ending;
+use crate::registers::Next;
+use crate::registers::Registers;
+use run_angles::Angled;
+use run_angles::compute_angles;
+use run_cells::places::part;
+
+pub fn compute(g: Registers, subtract: bool, input: &[u8], output: &mut [u8]) -> Next
+    requires { ⌜ g .p .0 ≤ g .q .0 ⌝ }
+    requires { ⌜ g .q .0 ≤ length (now input) ⌝ }
+    requires { ⌜ g .r .0 ≤ length (now output) ⌝ }
+    ensures { λ r. ⌜ ((journal values : Bytes) (frames : List ℕ) →
+        Acts (computing (operation subtract)) (g .at .0) g
+        (memory (now (input .entry)) (now (output .entry)) journal frames values) r
+        (memory (now (input .entry)) (now (output .exit)) journal frames values)) ⌝ }
+{
+    let argument = part(input, g.p, g.q);
+    let mut result = [0u8; 7];
+    match compute_angles(subtract, argument, &mut result) {
+        Angled::Sum(count) => write_text(g, &result[0..count], output),
+        Angled::NotAngles => Next::Stopped(g, Ending::ArgumentNotAngles, 0),
+        Angled::OutOfRange => Next::Stopped(g, Ending::AngleOutOfRange, 0),
+    }
+}

@@ -1,0 +1,108 @@
+// Copying bytes onto in, onto out and into the journal: one loop for all three.
+ghost use mathlib.Core.Path.{_≡_};
+ghost use Prim.Native.Nat.{_+_, _≤_, _<_};
+ghost use lib.ListN.{length};
+ghost use lib.Seq.{paste};
+ghost use Rattle.run_cells.specs.Copied.{FewToCopy, CopiedFew};
+use crate::places::InCell;
+use crate::places::JournalByte;
+use crate::places::OutCell;
+
+// So few bytes are copied and moved without a loop, which for them would cost more than the copying.
+pub const FEW: usize = 8;
+
+// Four bytes more, where so many are left; how many are copied. Then two, and one.
+fn copy_four(to: &mut [u8], at: usize, from: &[u8], i: usize) -> usize
+    requires { ⌜ FewToCopy 8 (now to) at (now from) i ⌝ }
+    ensures { λ n. ⌜ CopiedFew 4 (now (to .entry)) at (now (from .entry)) i n (now (to .exit)) ⌝ }
+{
+    if from.len() - i < 4 {
+        return 0;
+    }
+    let j = i + 1;
+    let k = j + 1;
+    let l = k + 1;
+    to[at + i] = from[i];
+    to[at + j] = from[j];
+    to[at + k] = from[k];
+    to[at + l] = from[l];
+    4
+}
+
+fn copy_two(to: &mut [u8], at: usize, from: &[u8], i: usize) -> usize
+    requires { ⌜ FewToCopy 4 (now to) at (now from) i ⌝ }
+    ensures { λ n. ⌜ CopiedFew 2 (now (to .entry)) at (now (from .entry)) i n (now (to .exit)) ⌝ }
+{
+    if from.len() - i < 2 {
+        return 0;
+    }
+    let j = i + 1;
+    to[at + i] = from[i];
+    to[at + j] = from[j];
+    2
+}
+
+fn copy_one(to: &mut [u8], at: usize, from: &[u8], i: usize) -> usize
+    requires { ⌜ FewToCopy 2 (now to) at (now from) i ⌝ }
+    ensures { λ n. ⌜ CopiedFew 1 (now (to .entry)) at (now (from .entry)) i n (now (to .exit)) ⌝ }
+{
+    if from.len() - i < 1 {
+        return 0;
+    }
+    to[at + i] = from[i];
+    1
+}
+
+// Fewer than eight bytes.
+fn copy_few(to: &mut [u8], at: usize, from: &[u8])
+    requires { ⌜ at + length (now from) ≤ length (now to) ⌝ }
+    requires { ⌜ length (now from) < 8 ⌝ }
+    ensures { λ _. ⌜ now (to .exit) ≡
+        paste (now (to .entry)) at (now (from .entry)) (length (now (from .entry))) ⌝ }
+{
+    let mut i = copy_four(to, at, from, 0);
+    i += copy_two(to, at, from, i);
+    copy_one(to, at, from, i);
+}
+
+// Bytes copied over those from a place on. On a stack and in the journal the functions below copy, which take their
+// kinds of place.
+pub fn copy_over(to: &mut [u8], at: usize, from: &[u8])
+    requires { ⌜ at + length (now from) ≤ length (now to) ⌝ }
+    ensures { λ _. ⌜ now (to .exit) ≡
+        paste (now (to .entry)) at (now (from .entry)) (length (now (from .entry))) ⌝ }
+{
+    if from.len() < FEW {
+        copy_few(to, at, from);
+        return;
+    }
+    let mut i = 0;
+    while i < from.len() {
+        to[at + i] = from[i];
+        i += 1;
+    }
+}
+
+pub fn copy_to_in(input: &mut [u8], at: InCell, from: &[u8])
+    requires { ⌜ at .0 + length (now from) ≤ length (now input) ⌝ }
+    ensures { λ _. ⌜ now (input .exit) ≡
+        paste (now (input .entry)) (at .0) (now (from .entry)) (length (now (from .entry))) ⌝ }
+{
+    copy_over(input, at.0, from);
+}
+
+pub fn copy_to_out(output: &mut [u8], at: OutCell, from: &[u8])
+    requires { ⌜ at .0 + length (now from) ≤ length (now output) ⌝ }
+    ensures { λ _. ⌜ now (output .exit) ≡
+        paste (now (output .entry)) (at .0) (now (from .entry)) (length (now (from .entry))) ⌝ }
+{
+    copy_over(output, at.0, from);
+}
+
+pub fn copy_to_journal(journal: &mut [u8], at: JournalByte, from: &[u8])
+    requires { ⌜ at .0 + length (now from) ≤ length (now journal) ⌝ }
+    ensures { λ _. ⌜ now (journal .exit) ≡
+        paste (now (journal .entry)) (at .0) (now (from .entry)) (length (now (from .entry))) ⌝ }
+{
+    copy_over(journal, at.0, from);
+}

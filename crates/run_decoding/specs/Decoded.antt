@@ -1,0 +1,88 @@
+-- What a code word says, as a decoded instruction: the words of meaning's Packing read into the enums of decoding, and what these mean.
+use Prim.Native.Nat.{ℕ, _+_, _/_, _<_}
+use mathlib.Core.Path.{_≡_}
+use mathlib.Core.List.{List, [], _∷_}
+use mathlib.Core.Bool.{Bool, true, false}
+use lib.Dec.{leb, eqb}
+use lib.ListN.{length, getD, take}
+use Rattle.meaning.specs.Choice.{pick, both, every}
+use Rattle.meaning.specs.Angles.{operation}
+use Rattle.meaning.specs.Allowed.{isByte}
+use Rattle.meaning.specs.Instructions.{Span, Action, go, select, out, outCharacter, outValue, beginSequence, useSequence, call, tailCall, compute, unknownAction}
+use Rattle.meaning.specs.Packing.{Words, numberIn, firstIn, secondIn, thirdIn, actionsEnd, lengthOf, spanAction, emissionOf, unpackActions}
+use Rattle.run_code_places.specs.declared.CodePlace.{CodePlace}
+use Rattle.run_decoding.specs.declared.Found.{Found}
+use Rattle.run_decoding.specs.declared.Found.the-variants.{Word, Other}
+use Rattle.run_decoding.specs.declared.Call.{Call}
+use Rattle.run_decoding.specs.declared.Write.{Write}
+use Rattle.run_decoding.specs.declared.Write.the-variants.{Part, Character, Value}
+use Rattle.run_decoding.specs.declared.Instruction.{Instruction}
+use Rattle.run_decoding.specs.declared.Instruction.the-variants.{Go, Select, Write as Writes, Begin, Use, Call as Calls, Emit, Compute, End, Unknown}
+
+abbrev pub callIn : Bool → ℕ → Call
+callIn tail w = record { tail = tail; function = w / 256 }
+
+abbrev pub computationIn : ℕ → Instruction
+computationIn n = pick (eqb n 0) (Compute false) (pick (eqb n 1) (Compute true) Unknown)
+
+abbrev pub instructionIn : ℕ → Instruction
+instructionIn w =
+    pick (eqb (numberIn w) actionsEnd) End
+    (pick (eqb (numberIn w) 14) (Emit (firstIn w))
+    (pick (eqb (numberIn w) 5) (Go w)
+    (pick (eqb (numberIn w) 6) (Select w)
+    (pick (eqb (numberIn w) 7) (Writes Part)
+    (pick (eqb (numberIn w) 8) (Writes (Character (firstIn w)))
+    (pick (eqb (numberIn w) 9) (Writes (Value (firstIn w)))
+    (pick (eqb (numberIn w) 10) Begin
+    (pick (eqb (numberIn w) 11) Use
+    (pick (eqb (numberIn w) 12) (Calls (callIn false w))
+    (pick (eqb (numberIn w) 13) (Calls (callIn true w))
+    (pick (eqb (numberIn w) 21) (computationIn (firstIn w))
+    Unknown)))))))))))
+
+-- the word at a place has a number
+pub record Numbered (words : Words) (at n : ℕ) : Type 0 where
+  pub within : at < length words
+  pub number : numberIn (getD words at 0) ≡ n
+
+-- it is found, and the place after it
+pub record Taken (words : Words) (at n w : ℕ) (next : CodePlace) : Type 0 where
+  pub numbered : Numbered words at n
+  pub word : w ≡ getD words at 0
+  pub after : next ≡ record { 0 = at + 1 }
+
+abbrev pub Finds : Words → ℕ → ℕ → Found → Type 0
+Finds words at n (Word w next) = Taken words at n w next
+Finds words at n Other = Numbered words at n → ⊥
+
+-- WHAT AN INSTRUCTION MEANS
+
+-- what moves p or q, by a span that the word holds
+abbrev pub spanMeant : (Span → Action) → ℕ → Action
+spanMeant f w = spanAction f (lengthOf (firstIn w)) (secondIn w) (thirdIn w)
+
+abbrev pub writeMeant : Write → Action
+writeMeant Part = out
+writeMeant (Character c) = outCharacter c
+writeMeant (Value k) = outValue k
+
+abbrev pub callMeant : Call → Action
+callMeant c = pick (c .tail) (tailCall (c .function)) (call (c .function))
+
+-- the actions from an instruction on, given the words after its first
+abbrev pub actionsMeant : Instruction → Words → List Action
+actionsMeant (Go w) ws = spanMeant go w ∷ unpackActions 0 ws
+actionsMeant (Select w) ws = spanMeant select w ∷ unpackActions 0 ws
+actionsMeant (Writes x) ws = writeMeant x ∷ unpackActions 0 ws
+actionsMeant Begin ws = beginSequence ∷ unpackActions 0 ws
+actionsMeant Use ws = useSequence ∷ unpackActions 0 ws
+actionsMeant (Calls x) ws = callMeant x ∷ unpackActions 0 ws
+actionsMeant (Emit n) ws = emissionOf n ws ∷ unpackActions n ws
+actionsMeant (Compute subtract) ws = compute (operation subtract) ∷ unpackActions 0 ws
+actionsMeant End ws = []
+actionsMeant Unknown ws = unknownAction ∷ unpackActions 0 ws
+
+-- an emission's name: so many words are there and are bytes
+abbrev pub isName : ℕ → Words → Bool
+isName n ws = both (leb n (length ws)) (every isByte (take n ws))

@@ -1,0 +1,44 @@
+-- `find_place` meets its contract.
+use borrow.Author.Needs.{needs}
+use native.Mathlib.Omega.{arith}
+use mathlib.Core.Path.{sym, _∙_}
+use Rattle.run_checking.proofs.laws.Testing.{no-tests}
+use Rattle.run_searching.proofs.laws.Places.{no-places, search-agree, search-none, search-first}
+use Rattle.run_placing.proofs.find_place.Statement.{statement}
+use Rattle.run_placing.proofs.find_place.Tie as tie
+
+returns : tie.Need-returns
+returns c = sym (no-places _ _ _ (omega arith))
+
+returns-2 : tie.Need-returns-2
+returns-2 c =
+    let fails = rw (c .enum-told .given .1) at (c .before .before .pass-heads .ensures) in
+    sym (search-none _ _ _ (λ p h h′. fails p))
+
+returns-3 : tie.Need-returns-3
+returns-3 c =
+    let at-rest = c .before .before in
+    let at-heads = at-rest .before .before in
+    let a = at-heads .before .before .before .before .args in
+    let rest = rw (at-rest .rest .given .1) at (at-heads .pass-heads .ensures) in
+    sym (search-first _ _ _ (omega arith)
+    (rest (a .first) ∙ no-tests (a .field .now) (a .first) (a .code .now) (at-rest .rest .given .0 .0 .0) _ (omega arith)))
+
+returns-4 : tie.Need-returns-4
+returns-4 c =
+    let at-rest = c .before .before .before in
+    let rest = rw (at-rest .rest .given .1) at (at-rest .before .before .pass-heads .ensures) in
+    c .find-settled .ensures ∙ sym (search-agree _ _ _ _ (λ p h h′. rest p))
+
+pub find-place-spec : {M : Type 1} → statement M
+find-place-spec =
+    tie.close
+    (tie.spec
+    returns
+    (λ c κs. search needs)
+    (λ c. search needs)
+    (λ c. search needs)
+    returns-2
+    returns-3
+    (λ c κs. search needs)
+    returns-4)

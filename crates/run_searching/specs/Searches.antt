@@ -1,0 +1,40 @@
+-- What a search finds, in the terms of meaning's Matching, and the tests that look for a string.
+use Prim.Native.Nat.{ℕ, suc, _≤_}
+use mathlib.Core.Path.{_≡_}
+use mathlib.Core.List.{List, [], _∷_}
+use lib.ListN.{take}
+use Rattle.meaning.specs.Choice.{Bytes}
+use Rattle.meaning.specs.Instructions.{fromPlace, Test, look}
+use Rattle.meaning.specs.Matching.{foundAt, foundNone, foundWrong}
+use Rattle.meaning.specs.Matching.{Found as Finding}
+use Rattle.run_finding.specs.declared.Occurrence.{Occurrence}
+use Rattle.run_finding.specs.declared.Occurrence.the-variants.{At as Standing, Nowhere as NotThere, Unsuited}
+use Rattle.run_searching.specs.declared.Found.{Found}
+use Rattle.run_searching.specs.declared.Found.the-variants.{At, Nowhere, Wrong}
+use Rattle.run_searching.specs.declared.Template.{Template}
+use Rattle.run_searching.specs.declared.Template.the-variants.{String, Mixed}
+
+abbrev pub foundMeant : Found → Finding
+foundMeant (At at) = foundAt at
+foundMeant Nowhere = foundNone
+foundMeant Wrong = foundWrong
+
+-- A STRING
+
+-- a string's bytes are looked for one after another
+unfoldable pub looks : ℕ → Bytes → List Test
+looks offset [] = []
+looks offset (c ∷ cs) = look (fromPlace offset) c ∷ looks (suc offset) cs
+
+pub record Spelled (offset : ℕ) (string : Bytes) (tests : List Test) : Type 0 where
+  pub same : tests ≡ looks offset string
+  pub near : offset ≤ 255
+
+abbrev pub Spells : Template → Bytes → List Test → ℕ → Type 0
+Spells (String offset) string tests count = Spelled offset (take count string) tests
+Spells Mixed string tests count = Unit {0}
+
+abbrev pub Occurs : Occurrence → Finding → Type 0
+Occurs (Standing at) found = foundAt at ≡ found
+Occurs NotThere found = foundNone ≡ found
+Occurs Unsuited found = Unit {0}

@@ -1,0 +1,33 @@
+-- `try_use` meets its contract.
+use borrow.Author.Needs.{needs}
+use mathlib.Core.Path.{refl}
+use Rattle.run_decoding.specs.declared.Instruction.the-variants.{Use}
+use Rattle.run_decoding.proofs.laws.Reading.{found-means, found-number}
+use Rattle.run_applications.specs.Advancing.{other}
+use Rattle.run_turns.proofs.laws.Trying.{uses-action}
+use Rattle.run_turns.proofs.try_use.Statement.{statement}
+use Rattle.run_turns.proofs.try_use.Tie as tie
+
+returns : tie.Need-returns
+returns c =
+    let none = rw (c .enum-told .given .1) at (c .before .before .find-word .ensures) in
+    λ allowance journal values acting. other none refl refl
+
+returns-2 : tie.Need-returns-2
+returns-2 c =
+    let taken = rw (c .before .before .before .before .before .before .before .before .before .before .before .next .given .1) at (c .before .before .before .before .before .before .before .before .before .before .before .before .before .find-word .ensures) in
+    λ allowance journal values. uses-action _ _ _ _ _ (taken .numbered .within) (found-means taken Use (rw (found-number taken)))
+    (rw (c .before .before .before .before .use-sequence .kept .1 .0)) (rw (taken .after) at (c .before .before .before .before .use-sequence .ensures journal values))
+
+pub try-use-spec : {M : Type 1} → statement M
+try-use-spec =
+    tie.close
+    (tie.spec
+    (λ c κs. search needs)
+    (λ c. search needs)
+    (λ c. search needs)
+    returns
+    (λ c κs. search needs)
+    (λ c. search needs)
+    (λ c. search needs)
+    returns-2)

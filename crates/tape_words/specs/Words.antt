@@ -1,0 +1,78 @@
+-- What a word of the tape is where a pattern, conditions or an expression may go on, for any word at all.
+use Prim.Native.Nat.{ℕ, _%_}
+use mathlib.Core.Bool.{Bool, false}
+use mathlib.Core.List.{List, [], _∷_, map}
+use lib.Dec.{leb, ltb, eqb}
+use lib.ListN.{take, drop}
+use Rattle.meaning.specs.Choice.{Name, pick}
+use Rattle.meaning.specs.Classes.{Class, digit, upper, lower, alphabetic, blank}
+use Rattle.meaning.specs.Allowed.{maxLetters, maxConditions, maxItems, maxNesting}
+use Rattle.tape_words.specs.declared.tape.Parts.{Parts}
+use Rattle.tape_words.specs.declared.tape.Parts.the-variants.{Zero, One, Two}
+use Rattle.tape_words.specs.declared.tape.Piece.{Piece}
+use Rattle.tape_words.specs.declared.tape.Piece.the-variants.{Character, SVariable, EVariable, PatternEnd}
+use Rattle.tape_words.specs.declared.tape.Item.{Item}
+use Rattle.tape_words.specs.declared.tape.Item.the-variants.{Byte, Symbol, Part, Call, Pass, Close, Unclosed, Stop}
+
+-- what a word carries below its number of 256: the length of the name after it
+abbrev pub carried : ℕ → ℕ
+carried w = w % 256
+
+-- the name after a word, as long as the tape goes
+abbrev pub nameIn : List ℕ → Name
+nameIn [] = []
+nameIn (w ∷ ws) = take (carried w) ws
+
+abbrev pub headName : List ℕ → ℕ → Name
+headName ws p = nameIn (drop p ws)
+
+abbrev pub headNames : List ℕ → List ℕ → List Name
+headNames ws ps = map (headName ws) ps
+
+-- IN A PATTERN, after so many letters and e-variables: at most 64 letters and two e-variables are read
+
+abbrev pub partPiece : Parts → Piece
+partPiece Zero = EVariable
+partPiece One = EVariable
+partPiece Two = PatternEnd
+
+abbrev pub pieceOf : ℕ → ℕ → Parts → Piece
+pieceOf w letters parts =
+    pick (leb 768 w) PatternEnd
+    (pick (leb 512 w) (partPiece parts)
+    (pick (leb maxLetters letters) PatternEnd
+    (pick (leb 256 w) SVariable Character)))
+
+abbrev pub pieceAt : List ℕ → ℕ → Parts → Piece
+pieceAt [] letters parts = PatternEnd
+pieceAt (w ∷ ws) letters parts = pieceOf w letters parts
+
+-- IN CONDITIONS: at most 8 are read
+
+abbrev pub isConditionWord : ℕ → ℕ → Bool
+isConditionWord count w = pick (leb maxConditions count) false (pick (ltb w 768) false (ltb w 1024))
+
+abbrev pub classIn : ℕ → Class
+classIn n = pick (eqb n 0) digit (pick (eqb n 1) upper (pick (eqb n 2) lower (pick (eqb n 3) alphabetic blank)))
+
+-- IN AN EXPRESSION, with so many calls open and after so many items: at most 128 items are read; a call with 16 open round it is passed over, and what is no item
+-- ends the open calls and the expression
+
+abbrev pub endingOf : ℕ → ℕ → Item
+endingOf w depth = pick (eqb depth 0) Stop (pick (ltb w 1280) Unclosed (pick (ltb w 1536) Close Unclosed))
+
+abbrev pub openingOf : ℕ → Item
+openingOf depth = pick (ltb depth maxNesting) Call Pass
+
+abbrev pub itemOf : ℕ → ℕ → ℕ → Item
+itemOf w depth items =
+    pick (leb maxItems items) (endingOf w depth)
+    (pick (ltb w 256) Byte
+    (pick (ltb w 512) Symbol
+    (pick (ltb w 768) Part
+    (pick (ltb w 2304) (endingOf w depth)
+    (openingOf depth)))))
+
+abbrev pub itemAt : List ℕ → ℕ → ℕ → Item
+itemAt [] depth items = pick (eqb depth 0) Stop Unclosed
+itemAt (w ∷ ws) depth items = itemOf w depth items

@@ -1,0 +1,206 @@
+// A word of the tape: reading it, how long the name after it is, and what it is in a pattern and in an expression.
+ghost use mathlib.Core.Path.{_≡_};
+ghost use mathlib.Core.Bool.{false};
+ghost use mathlib.Core.List.{_∷_};
+ghost use Prim.Native.Nat.{_+_, _-_, _<_, _^_, min};
+ghost use lib.Dec.{ltb};
+ghost use lib.ListN.{length, take, drop, getD, replicate};
+ghost use Rattle.meaning.specs.Choice.{pick};
+ghost use Rattle.tape_words.specs.Words.{headName, partPiece, pieceOf, pieceAt, endingOf, openingOf, itemOf, itemAt};
+
+// How many e-variables a pattern has, or has had so far.
+pub enum Parts {
+    Zero,
+    One,
+    Two,
+}
+
+// What a word is where a pattern may go on.
+pub enum Piece {
+    Character,
+    SVariable,
+    EVariable,
+    PatternEnd,
+}
+
+// What a word is where an expression may go on. `Pass`: a call with 16 open round it, which no table has. `Unclosed`: no item, with a call open.
+pub enum Item {
+    Byte,
+    Symbol,
+    Part,
+    Call,
+    Pass,
+    Close,
+    Unclosed,
+    Stop,
+}
+
+// Room for 64 numbers: as many as a pattern may have letters, and a table functions.
+pub fn room() -> [usize; 64]
+    ensures { λ r. ⌜ r ≡ replicate 64 0 ⌝ }
+{
+    [0usize; 64]
+}
+
+pub fn lesser(a: usize, b: usize) -> usize
+    ensures { λ r. ⌜ r ≡ min a b ⌝ }
+{
+    if a < b { a } else { b }
+}
+
+// A difference, 0 where there is none.
+pub fn less(a: usize, b: usize) -> usize
+    ensures { λ r. ⌜ r ≡ a - b ⌝ }
+{
+    if b < a { a - b } else { 0 }
+}
+
+// The word at a place inside the tape.
+pub fn word_inside(tape: &[u32], i: usize) -> usize
+    requires { ⌜ i < length (now tape) ⌝ }
+    ensures { λ r. ⌜ (r ≡ getD (now (tape .entry)) i 0) × (r < 2 ^ 32) ⌝ }
+{
+    tape[i] as usize
+}
+
+// The word at a place, 0 past the end.
+pub fn word_at(tape: &[u32], i: usize) -> usize
+    ensures { λ r. ⌜ (r ≡ getD (now (tape .entry)) i 0) × (r < 2 ^ 32) ⌝ }
+{
+    if i < tape.len() {
+        word_inside(tape, i)
+    } else {
+        0
+    }
+}
+
+// The word at a place of the tape, before those after it.
+fn word_on(tape: &[u32], i: usize) -> usize
+    requires { ⌜ i < length (now tape) ⌝ }
+    ensures { λ r. ⌜ drop i (now (tape .entry)) ≡ r ∷ drop (i + 1) (now (tape .entry)) ⌝ }
+{
+    word_at(tape, i)
+}
+
+// It is one of the 256 words of a kind, whose first is `low`.
+pub fn of_kind(word: usize, low: usize) -> bool
+    requires { ⌜ low < 2 ^ 32 ⌝ }
+    ensures { λ r. ⌜ r ≡ pick (ltb word low) false (ltb word (low + 256)) ⌝ }
+{
+    if word < low {
+        return false;
+    }
+    word < low + 256
+}
+
+// How many of so many words from a place on the tape has.
+pub fn reach(tape: &[u32], from: usize, claimed: usize) -> usize
+    ensures { λ r. ⌜ r ≡ length (take claimed (drop from (now (tape .entry)))) ⌝ }
+{
+    lesser(claimed, less(tape.len(), from))
+}
+
+// How long the name is that stands after its word.
+pub fn name_size(tape: &[u32], head: usize) -> usize
+    ensures { λ r. ⌜ r ≡ length (headName (now (tape .entry)) head) ⌝ }
+{
+    if head < tape.len() {
+        reach(tape, head + 1, word_on(tape, head) % 256)
+    } else {
+        0
+    }
+}
+
+fn part_piece(parts: Parts) -> Piece
+    ensures { λ r. ⌜ r ≡ partPiece parts ⌝ }
+{
+    match parts {
+        Parts::Zero => Piece::EVariable,
+        Parts::One => Piece::EVariable,
+        Parts::Two => Piece::PatternEnd,
+    }
+}
+
+fn piece_of(word: usize, letters: usize, parts: Parts) -> Piece
+    ensures { λ r. ⌜ r ≡ pieceOf word letters parts ⌝ }
+{
+    if 768 <= word {
+        return Piece::PatternEnd;
+    }
+    if 512 <= word {
+        return part_piece(parts);
+    }
+    if 64 <= letters {
+        return Piece::PatternEnd;
+    }
+    if 256 <= word {
+        return Piece::SVariable;
+    }
+    Piece::Character
+}
+
+pub fn piece_at(tape: &[u32], i: usize, letters: usize, parts: Parts) -> Piece
+    ensures { λ r. ⌜ r ≡ pieceAt (drop i (now (tape .entry))) letters parts ⌝ }
+{
+    if i < tape.len() {
+        piece_of(word_on(tape, i), letters, parts)
+    } else {
+        Piece::PatternEnd
+    }
+}
+
+// Where no item follows: a call's end, or the expression's.
+fn ending_of(word: usize, depth: usize) -> Item
+    ensures { λ r. ⌜ r ≡ endingOf word depth ⌝ }
+{
+    if depth == 0 {
+        return Item::Stop;
+    }
+    if word < 1280 {
+        return Item::Unclosed;
+    }
+    if word < 1536 {
+        return Item::Close;
+    }
+    Item::Unclosed
+}
+
+fn opening_of(depth: usize) -> Item
+    ensures { λ r. ⌜ r ≡ openingOf depth ⌝ }
+{
+    if depth < 16 { Item::Call } else { Item::Pass }
+}
+
+fn item_of(word: usize, depth: usize, items: usize) -> Item
+    ensures { λ r. ⌜ r ≡ itemOf word depth items ⌝ }
+{
+    if 128 <= items {
+        return ending_of(word, depth);
+    }
+    if word < 256 {
+        return Item::Byte;
+    }
+    if word < 512 {
+        return Item::Symbol;
+    }
+    if word < 768 {
+        return Item::Part;
+    }
+    if word < 2304 {
+        return ending_of(word, depth);
+    }
+    opening_of(depth)
+}
+
+pub fn item_at(tape: &[u32], i: usize, depth: usize, items: usize) -> Item
+    ensures { λ r. ⌜ r ≡ itemAt (drop i (now (tape .entry))) depth items ⌝ }
+{
+    if i < tape.len() {
+        return item_of(word_on(tape, i), depth, items);
+    }
+    if depth == 0 {
+        Item::Stop
+    } else {
+        Item::Unclosed
+    }
+}
