@@ -5,9 +5,9 @@ use mathlib.Core.List.{[], _∷_}
 use Rattle.meaning.specs.Angles.{operation}
 use Rattle.meaning.specs.Packing.{Words, word, operationNumber}
 use Rattle.code_patterns.specs.declared.pattern.Lengths.{Lengths}
-use Rattle.code_spans.specs.declared.Stand.{Stand}
-use Rattle.code_spans.specs.declared.Span.{Span}
-use Rattle.code_spans.specs.Spanning.{gapBy, pieceSpan, restBy}
+use Rattle.code_actions.specs.declared.spans.Stand.{Stand}
+use Rattle.code_actions.specs.declared.spans.Span.{Span}
+use Rattle.code_actions.specs.Spanning.{gapBy, pieceSpan, restBy}
 
 abbrev pub spanWords : ℕ → Span → ℕ
 spanWords number s = word number (s .register) (s .add) (s .back)

@@ -18,16 +18,16 @@ use Rattle.tape_words.specs.declared.tape.Item.{Item}
 use Rattle.tape_words.specs.declared.tape.Item.the-variants.{Byte, Symbol, Part, Call, Pass, Close, Unclosed, Stop}
 use Rattle.code_patterns.specs.declared.pattern.Lengths.{Lengths}
 use Rattle.code_patterns.specs.declared.pattern.Pattern.{Pattern}
-use Rattle.code_spans.specs.declared.Stand.{Stand}
+use Rattle.code_actions.specs.declared.spans.Stand.{Stand}
 use Rattle.code_expressions.specs.declared.expression.Walk.{Walk}
 use Rattle.code_expressions.specs.declared.expression.Manner.{Manner}
 use Rattle.code_expressions.specs.declared.expression.Manner.the-variants.{Emits, Computes, Replaces, Nests}
 use Rattle.tape_words.specs.Words.{headName, headNames, itemAt}
 use Rattle.code_expressions.specs.Levels.{Levels, firstOf, othersOf, levelsIn}
-use Rattle.tape_words.specs.Writing.{Wrote, Same}
+use Rattle.code_words.specs.Writing.{Wrote, Same}
 use Rattle.tape_words.specs.Finding.{numberAmong, callingIn}
 use Rattle.code_patterns.specs.Measuring.{flag, lengthsOf, variableOf}
-use Rattle.code_spans.specs.Spanning.{meantStand, endsBy}
+use Rattle.code_actions.specs.Spanning.{meantStand, endsBy}
 use Rattle.code_actions.specs.ActionWords.{restWord, readyWords, computationWord}
 
 -- WHAT IS STILL TO COME

@@ -18,7 +18,7 @@ use Rattle.code_patterns.specs.declared.symbols.Site.{Site}
 use Rattle.code_patterns.specs.declared.conditions.Conditions.{Conditions}
 use Rattle.tape_words.specs.Words.{headName, isConditionWord}
 use Rattle.code_patterns.specs.Scans.{Scan, scanned, conditionsIn}
-use Rattle.tape_words.specs.Writing.{Wrote, Same}
+use Rattle.code_words.specs.Writing.{Wrote, Same}
 use Rattle.code_patterns.specs.Measuring.{flag}
 use Rattle.code_patterns.specs.Testing.{AllSites, held, total}
 

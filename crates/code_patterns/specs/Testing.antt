@@ -17,7 +17,7 @@ use Rattle.code_patterns.specs.declared.symbols.Site.{Site}
 use Rattle.code_patterns.specs.declared.tests.Tests.{Tests}
 use Rattle.tape_words.specs.Words.{headName}
 use Rattle.code_patterns.specs.Scans.{Scan, scanned, oneMore, patternIn, patternAt}
-use Rattle.tape_words.specs.Writing.{Wrote, Same}
+use Rattle.code_words.specs.Writing.{Wrote, Same}
 use Rattle.code_patterns.specs.Measuring.{flag}
 
 -- THE CELLS

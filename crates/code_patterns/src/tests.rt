@@ -4,14 +4,14 @@ use crate::pattern::one_more;
 use crate::symbols::Site;
 use crate::symbols::found_site;
 use crate::symbols::site_of;
+use code_words::put;
+use code_words::put_operands;
 use tape_words::names::find;
 use tape_words::tape::Parts;
 use tape_words::tape::Piece;
 use tape_words::tape::name_size;
 use tape_words::tape::piece_at;
 use tape_words::tape::word_at;
-use tape_words::writing::put;
-use tape_words::writing::put_operands;
 ghost use mathlib.Core.Path.{_≡_};
 ghost use mathlib.Core.List.{[], _∷_, map};
 ghost use Prim.Native.Nat.{_+_, _*_, _≤_, _<_, _^_};
@@ -20,7 +20,7 @@ ghost use Rattle.meaning.specs.Instructions.{look};
 ghost use Rattle.meaning.specs.Packing.{testWord};
 ghost use Rattle.tape_words.specs.declared.tape.Piece.the-variants.{SVariable};
 ghost use Rattle.tape_words.specs.Words.{pieceAt};
-ghost use Rattle.tape_words.specs.Writing.{Wrote};
+ghost use Rattle.code_words.specs.Writing.{Wrote};
 ghost use Rattle.code_patterns.specs.Testing.{siteAt, foundSite, AllSites, InTests, TestsOn, letterDone, partDone, testsDone, TestsAll, total, storeOfSite};
 
 // Where the writing of tests stands: how many e-variables came before, the offset in this template, the letters and the different s-variables so far,

@@ -8,7 +8,7 @@ use mathlib.Core.Path.{_≡_, refl, sym, ap, ap₂, _∙_}
 use mathlib.Core.List.{List, [], _∷_, _++_, append-nil}
 use lib.ListN.{length, take, drop, set, length-drop, take-append-drop, drop-of-length-le}
 use lib.Seq.{sets, length-sets, set-comm, set-out, take-all, take-set-le, drop-set-add}
-use Rattle.tape_words.specs.Writing.{Wrote}
+use Rattle.code_words.specs.Writing.{Wrote}
 
 -- TWO RUNS THAT DO NOT MEET
 

@@ -26,7 +26,7 @@ use Rattle.code_sentences.specs.declared.Sentences.{Sentences}
 use Rattle.tape_words.specs.Words.{headName, headNames}
 use Rattle.code_sentences.specs.Trees.{isNextWord, conditionsAt, levelsAt, followedBy, sentencesIn}
 use Rattle.code_patterns.specs.Scans.{patternAt, conditionsIn}
-use Rattle.tape_words.specs.Writing.{Wrote, Same}
+use Rattle.code_words.specs.Writing.{Wrote, Same}
 use Rattle.code_patterns.specs.Measuring.{lengthsOf, variableOf, MeasuresAll}
 use Rattle.code_patterns.specs.Testing.{AllSites, heldSites, held, storeOfSite, total, walk, startFrom, TestsAll}
 use Rattle.code_patterns.specs.Conditioning.{located, conditionWords, ConditionsAll}
@@ -34,7 +34,7 @@ use Rattle.code_expressions.specs.Resuming.{Means, ItemsAll}
 use Rattle.code_sentences.specs.Sentencing.{metricNumber, shapeAt, testedAt, testsAt, storesAt, actionsAt, bodyAt, sentenceAt, MatchAll, BodyAll, SentenceAll, followsAt, sentenceDone, sentencesLeft, InSentences, SentencesOn, FunctionAll}
 use Rattle.meaning.proofs.laws.Remaining.{at-place}
 use Rattle.tape_words.proofs.laws.Names.{by-place}
-use Rattle.tape_words.proofs.laws.Stores.{wrote-more, same-refl, same-trans, same-words, same-wrote, same-end}
+use Rattle.code_words.proofs.laws.Stores.{wrote-more, same-refl, same-trans, same-words, same-wrote, same-end}
 use Rattle.code_sentences.proofs.Patching.{wrote-patched}
 use Rattle.code_sentences.proofs.Shapes.{walk-all, locatedIn, conditions-same}
 

@@ -17,7 +17,7 @@ use Rattle.code_sentences.specs.declared.Sentences.{Sentences}
 use Rattle.tape_words.specs.Words.{headNames}
 use Rattle.code_sentences.specs.Trees.{isNextWord, conditionsAt, levelsAt, sentencesIn}
 use Rattle.code_patterns.specs.Scans.{patternAt}
-use Rattle.tape_words.specs.Writing.{Wrote, Same}
+use Rattle.code_words.specs.Writing.{Wrote, Same}
 use Rattle.code_patterns.specs.Measuring.{flag}
 
 -- the number of a metric's word, by how many e-variables there are

@@ -11,7 +11,7 @@ use Rattle.meaning.specs.Translation.{translatedFunction}
 use Rattle.meaning.specs.Packing.{packSentences, pack}
 use Rattle.tape_words.specs.Words.{headNames}
 use Rattle.code_sentences.specs.Trees.{functionsIn, functionIn}
-use Rattle.tape_words.specs.Writing.{Wrote}
+use Rattle.code_words.specs.Writing.{Wrote}
 
 -- THE HEADS: the places of the functions' words
 

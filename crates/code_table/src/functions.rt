@@ -1,17 +1,17 @@
 // The functions of a tape, and the table of their places before them.
 use code_sentences::write_function;
+use code_words::put;
 use tape_words::names::find_recoverer;
 use tape_words::tape::lesser;
 use tape_words::tape::name_size;
 use tape_words::tape::of_kind;
 use tape_words::tape::room;
 use tape_words::tape::word_at;
-use tape_words::writing::put;
 ghost use mathlib.Core.Path.{_≡_};
 ghost use Prim.Native.Nat.{_+_, _≤_, _<_, _^_};
 ghost use lib.ListN.{length, take};
 ghost use Rattle.code_sentences.specs.Trees.{isFunctionWord};
-ghost use Rattle.tape_words.specs.Writing.{Wrote};
+ghost use Rattle.code_words.specs.Writing.{Wrote};
 ghost use Rattle.code_table.specs.Leaves.{codeOf};
 ghost use Rattle.code_table.specs.Declaring.{Inside, HeadsOn, HeadsAll, EntryAll, FunctionsAll};
 

@@ -1,9 +1,9 @@
 // From the tape of a table to packed code words.
 pub mod functions;
 
+use code_words::clear_from;
 use functions::write_table;
 use tape_words::tape::lesser;
-use tape_words::writing::clear_from;
 ghost use lib.ListN.{length, take};
 ghost use Rattle.code_table.specs.Leaves.{codeOf, Leaves};
 

@@ -1,9 +1,9 @@
 // The words of the tape one after another.
+use byte_writing::put;
+use byte_writing::put_all;
 use list_items::list_condition;
 use list_items::list_ended;
 use list_items::list_parted;
-use byte_writing::put;
-use byte_writing::put_all;
 use list_strings::State;
 use list_strings::Stepped;
 use list_strings::list_character;

@@ -1,5 +1,5 @@
 -- Demand 2 on reading: "A table is accepted exactly when the published Refal-0 grammar, with 01's limits and name rules, allows it, conditions as 01 has
--- them, and what is read is the tree the grammar gives"; "Demand 2 takes conditions as here" (T-03). Which texts are refused, and how, stands in the crate `refusing`.
+-- them, and what is read is the tree the grammar gives"; "Demand 2 takes conditions as here" (T-03). Which texts are refused, and how, stands in the crate `meaning_refusing`.
 use Prim.Native.Nat.{_≤_}
 use mathlib.Core.Path.{_≡_, refl}
 use mathlib.Core.Logic.{_↔_}

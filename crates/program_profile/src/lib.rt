@@ -1,9 +1,9 @@
 // The applications of each function of a table, as lines for the program to print after a run's result.
-use program_printing::put_number;
 use byte_writing::put;
 use byte_writing::put_all;
-use engine_tables::tape_room;
 use code_table::functions::find_heads;
+use engine_tables::tape_room;
+use program_printing::put_number;
 use tape_words::tape::name_size;
 use tape_words::tape::room;
 use tape_words::tape::word_at;

@@ -2,12 +2,12 @@
 mod calls;
 mod functions;
 
-use read_bookkeeping::Answer;
-use read_bookkeeping::names::function_room;
-use read_bookkeeping::progress::Parsed;
 use calls::Unknown;
 use calls::unknown_call;
 use functions::functions;
+use read_bookkeeping::Answer;
+use read_bookkeeping::names::function_room;
+use read_bookkeeping::progress::Parsed;
 ghost use mathlib.Core.Path.{_≡_};
 ghost use Rattle.read_bookkeeping.specs.Answered.{numberOf};
 ghost use Rattle.read_table.specs.Reads.{LongEnough, Reads, refusedWith};

@@ -1,11 +1,11 @@
 // The tokens of a table text.
 pub mod reader;
 
-use read_characters::Character;
-use read_characters::next_character;
 use byte_classes::is_letter;
 use byte_classes::is_name_byte;
 use byte_classes::is_word_byte;
+use read_characters::Character;
+use read_characters::next_character;
 use read_gaps::Skipped;
 use read_gaps::skip;
 ghost use mathlib.Core.Path.{_≡_};

@@ -1,5 +1,3 @@
 -- Laws over plain values that the functions' proofs cite.
 pub mod Lists
-pub mod Clearing
-pub mod Stores
 pub mod Names

@@ -1,4 +1,3 @@
-// The tape of a table word by word, the names on it, and writing code words.
+// The tape of a table word by word, and the names on it.
 pub mod names;
 pub mod tape;
-pub mod writing;

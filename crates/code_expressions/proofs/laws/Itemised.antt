@@ -18,22 +18,22 @@ use Rattle.tape_words.specs.declared.tape.Item.{Item}
 use Rattle.tape_words.specs.declared.tape.Item.the-variants.{Byte, Symbol, Part, Call, Pass, Close, Unclosed, Stop}
 use Rattle.code_patterns.specs.declared.pattern.Lengths.{Lengths}
 use Rattle.code_patterns.specs.declared.pattern.Pattern.{Pattern}
-use Rattle.code_spans.specs.declared.Stand.{Stand}
+use Rattle.code_actions.specs.declared.spans.Stand.{Stand}
 use Rattle.code_expressions.specs.declared.expression.Walk.{Walk}
 use Rattle.code_expressions.specs.declared.expression.Manner.{Manner}
 use Rattle.code_expressions.specs.declared.expression.Manner.the-variants.{Emits, Computes, Replaces, Nests}
 use Rattle.tape_words.specs.Words.{carried, headName, headNames, itemAt}
 use Rattle.code_expressions.specs.Levels.{placeIn, Levels, stopped, onCurrent, firstOf, othersOf, opened, itemBy, levelsIn}
-use Rattle.tape_words.specs.Writing.{Wrote, Same}
+use Rattle.code_words.specs.Writing.{Wrote, Same}
 use Rattle.tape_words.specs.Finding.{numberAmong}
 use Rattle.code_patterns.specs.Measuring.{flag, variableOf}
 use Rattle.code_actions.specs.ActionWords.{spanWords, partWords, restWord, leftWords}
-use Rattle.code_spans.specs.Spanning.{meantStand, gapBy, pieceSpan, standAfter, endsBy}
+use Rattle.code_actions.specs.Spanning.{meantStand, gapBy, pieceSpan, standAfter, endsBy}
 use Rattle.code_expressions.specs.Resuming.{levelAt, resume, openNames, levelsNow, remaining, restNow, itemDone, wordDone, callDone, callWords, mannerNow, goesOn, endingWords, pastEnding, pastName, isFirst, stays, allDone, Means, InItems, Innermost, ItemsOn, ItemsAll}
 use Rattle.tape_words.proofs.laws.Names.{name-here, name-fits-here, name-short}
 use Rattle.code_expressions.proofs.laws.Naming.{value-among, number-among}
-use Rattle.tape_words.proofs.laws.Stores.{same-refl, same-trans, same-words, same-wrote, same-end}
-use Rattle.code_spans.proofs.Spanned.{rest-span, passage-spans, ends-same}
+use Rattle.code_words.proofs.laws.Stores.{same-refl, same-trans, same-words, same-wrote, same-end}
+use Rattle.code_actions.proofs.Spanned.{rest-span, passage-spans, ends-same}
 use Rattle.code_expressions.proofs.laws.Items.{stops, Reads, Told, told, levels-at, levels-past, levels-stop}
 use Rattle.code_expressions.proofs.laws.Resumed.{resume-character, resume-symbol, resume-part, resume-call, resume-end, resume-last, open-more, open-less}
 use Rattle.code_expressions.proofs.laws.Endings.{meant, called, Ends, closed-ends, unclosed-ends, manner-same, rest-same, left-same, Passed, passed}

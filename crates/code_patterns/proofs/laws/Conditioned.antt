@@ -23,14 +23,14 @@ use Rattle.code_patterns.specs.declared.symbols.Site.{Site}
 use Rattle.code_patterns.specs.declared.conditions.Conditions.{Conditions}
 use Rattle.tape_words.specs.Words.{carried, headNames, isConditionWord, classIn}
 use Rattle.code_patterns.specs.Scans.{Scan, scanned, andThen, conditionOf, conditionIn, conditionBy, conditionsIn}
-use Rattle.tape_words.specs.Writing.{Wrote, Same}
+use Rattle.code_words.specs.Writing.{Wrote, Same}
 use Rattle.tape_words.specs.Finding.{numberAmong}
 use Rattle.code_patterns.specs.Testing.{siteNumbers, siteNumber, IsSite, storeOfSite, foundSite, held, total}
 use Rattle.code_patterns.specs.Conditioning.{Located, located, Kept, boundsBy, conditionTestBy, conditionAt, coming, conditionWords, conditionDone, conditionsDone, InConditions, ConditionsOn, ConditionsAll}
 use Rattle.meaning.proofs.laws.Remaining.{at-place}
 use Rattle.tape_words.proofs.laws.Lists.{drop-again, reached, take-again}
 use Rattle.tape_words.proofs.laws.Names.{by-place}
-use Rattle.tape_words.proofs.laws.Stores.{same-refl, same-trans, same-words, same-wrote, same-end}
+use Rattle.code_words.proofs.laws.Stores.{same-refl, same-trans, same-words, same-wrote, same-end}
 use Rattle.code_patterns.proofs.laws.Held.{lookup-none, lookup-some}
 
 -- READING

@@ -20,12 +20,12 @@ use Rattle.code_patterns.specs.declared.symbols.Site.{Site as Cell}
 use Rattle.code_patterns.specs.declared.tests.Tests.{Tests}
 use Rattle.tape_words.specs.Words.{headName, headNames, pieceAt}
 use Rattle.code_patterns.specs.Scans.{Scan, scanned, andThen, oneMore, pieceBy, patternIn, patternAt}
-use Rattle.tape_words.specs.Writing.{Wrote, Same}
+use Rattle.code_words.specs.Writing.{Wrote, Same}
 use Rattle.tape_words.specs.Finding.{numberAmong}
 use Rattle.code_patterns.specs.Measuring.{flag}
 use Rattle.code_patterns.specs.Testing.{siteNumbers, siteAt, siteNumber, siteIn, AllSites, foundSite, held, walk, startFrom, testing, testWords, InTests, TestsOn, letterDone, partDone, testsDone, TestsAll, total}
 use Rattle.tape_words.proofs.laws.Names.{name-here, name-part}
-use Rattle.tape_words.proofs.laws.Stores.{same-refl, same-trans, same-words, same-wrote, same-end}
+use Rattle.code_words.proofs.laws.Stores.{same-refl, same-trans, same-words, same-wrote, same-end}
 use Rattle.code_patterns.proofs.laws.Scanning.{Told, told, pattern-at, pattern-end, pattern-past}
 use Rattle.code_patterns.proofs.laws.Held.{site-back, site-number, found-good, site-small, all-set, lookup-none, lookup-some, held-more}
 

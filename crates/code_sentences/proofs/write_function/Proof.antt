@@ -3,7 +3,7 @@ use Prim.Native.Nat.{_-_}
 use native.Mathlib.Omega.{arith}
 use mathlib.Core.Path.{_≡_, refl, _∙_}
 use lib.ListN.{length}
-use Rattle.tape_words.proofs.laws.Stores.{same-refl}
+use Rattle.code_words.proofs.laws.Stores.{same-refl}
 use Rattle.code_sentences.proofs.Sentenced.{SentencesSoFar, sentences-go-on, sentences-all}
 use Rattle.code_sentences.proofs.write_function.Statement.{statement}
 use Rattle.code_sentences.proofs.write_function.Tie as tie

@@ -18,7 +18,7 @@ use Rattle.meaning.specs.Packing.{Words, packSentences, packFunctions, placesFr
 use Rattle.tape_words.specs.Words.{nameIn, headName, headNames}
 use Rattle.tape_words.specs.Finding.{recovererAmong}
 use Rattle.code_sentences.specs.Trees.{isFunctionWord, functionsIn, functionIn, sentencesIn, treeOf}
-use Rattle.tape_words.specs.Writing.{Wrote}
+use Rattle.code_words.specs.Writing.{Wrote}
 use Rattle.code_sentences.specs.Sentencing.{FunctionAll}
 use Rattle.code_table.specs.Declaring.{Inside, wordsFrom, headsLeft, HeadsOn, HeadsAll, functionAt, functionsOf, EntryAll, FunctionsAll}
 use Rattle.code_table.specs.Leaves.{codeOf}

@@ -10,7 +10,7 @@ use lib.Dec.{leb}
 use lib.ListN.{length, take, drop, length-take, length-replicate}
 use lib.Seq.{sets-eq, length-sets}
 use Rattle.meaning.specs.Leaving.{zeros}
-use Rattle.tape_words.specs.Writing.{clearedFrom, Wrote}
+use Rattle.code_words.specs.Writing.{clearedFrom, Wrote}
 use Rattle.code_table.specs.Leaves.{Leaves}
 use Rattle.tape_words.proofs.laws.Lists.{take-again}
 

@@ -1,7 +1,7 @@
 -- `expression::end_actions` meets its contract.
 use mathlib.Core.Path.{refl}
-use Rattle.tape_words.proofs.laws.Stores.{wrote-more}
-use Rattle.code_spans.proofs.Spanned.{small-as, rest-small}
+use Rattle.code_words.proofs.laws.Stores.{wrote-more}
+use Rattle.code_actions.proofs.Spanned.{small-as, rest-small}
 use borrow.Author.Needs.{needs}
 use Rattle.code_expressions.proofs.expression.end_actions.Statement.{statement}
 use Rattle.code_expressions.proofs.expression.end_actions.Tie as tie

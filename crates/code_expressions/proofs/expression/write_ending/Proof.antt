@@ -8,8 +8,8 @@ use Rattle.meaning.specs.Choice.{Name}
 use Rattle.meaning.specs.Packing.{word}
 use Rattle.code_patterns.specs.declared.pattern.Lengths.{Lengths}
 use Rattle.tape_words.specs.Words.{headName}
-use Rattle.tape_words.specs.Writing.{Wrote}
-use Rattle.code_spans.specs.declared.Stand.{Stand}
+use Rattle.code_words.specs.Writing.{Wrote}
+use Rattle.code_actions.specs.declared.spans.Stand.{Stand}
 use Rattle.code_expressions.specs.declared.expression.Manner.{Manner}
 use Rattle.code_expressions.specs.declared.expression.Manner.the-variants.{Emits, Computes, Replaces, Nests}
 use Rattle.code_expressions.specs.Naming.{Sized}

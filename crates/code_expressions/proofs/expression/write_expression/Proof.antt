@@ -3,7 +3,7 @@ use Rattle.code_expressions.specs.Resuming.{resume, openNames, toGo}
 use native.Mathlib.Omega.{arith}
 use mathlib.Core.Path.{_≡_, refl, sym, _∙_}
 use lib.ListN.{length}
-use Rattle.tape_words.proofs.laws.Stores.{same-refl}
+use Rattle.code_words.proofs.laws.Stores.{same-refl}
 use Rattle.code_expressions.proofs.laws.Itemised.{ItemsSoFar, items-go-on, items-all}
 use Rattle.code_expressions.proofs.expression.write_expression.Statement.{statement}
 use Rattle.code_expressions.proofs.expression.write_expression.Tie as tie

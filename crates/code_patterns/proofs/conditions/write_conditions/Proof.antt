@@ -5,7 +5,7 @@ use Prim.Native.Nat.{_+_, _-_}
 use lib.ListN.{length}
 use Rattle.code_patterns.specs.Measuring.{flag}
 use Rattle.code_patterns.specs.Conditioning.{located}
-use Rattle.tape_words.proofs.laws.Stores.{same-refl, same-size}
+use Rattle.code_words.proofs.laws.Stores.{same-refl, same-size}
 use Rattle.code_patterns.proofs.laws.Measured.{falls}
 use Rattle.code_patterns.proofs.laws.Conditioned.{ConditionsSoFar, conditions-go-on, conditions-all}
 use Rattle.code_patterns.proofs.conditions.write_conditions.Statement.{statement}

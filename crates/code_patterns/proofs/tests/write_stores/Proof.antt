@@ -4,10 +4,10 @@ use mathlib.Core.Path.{_≡_, sym, ap, _∙_}
 use Prim.Native.Nat.{_≤_, _-_, _+_}
 use mathlib.Core.List.{_∷_, map}
 use lib.ListN.{take, getD}
-use Rattle.tape_words.specs.Writing.{Same}
+use Rattle.code_words.specs.Writing.{Same}
 use Rattle.code_patterns.specs.Testing.{IsSite, storeOfSite}
 use Rattle.tape_words.proofs.laws.Lists.{frontFrom, front-whole, front-cons, front-none}
-use Rattle.tape_words.proofs.laws.Stores.{same-refl, same-words, same-wrote, same-end, same-size}
+use Rattle.code_words.proofs.laws.Stores.{same-refl, same-words, same-wrote, same-end, same-size}
 use Rattle.code_patterns.proofs.laws.Conditioned.{store-word}
 use Rattle.code_patterns.proofs.tests.write_stores.Statement.{statement}
 use Rattle.code_patterns.proofs.tests.write_stores.Tie as tie

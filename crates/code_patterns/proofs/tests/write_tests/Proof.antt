@@ -2,7 +2,7 @@
 use mathlib.Core.Path.{refl}
 use Rattle.code_patterns.specs.Testing.{heldSites}
 use Prim.Native.Nat.{_+_, _-_}
-use Rattle.tape_words.proofs.laws.Stores.{same-refl, same-size}
+use Rattle.code_words.proofs.laws.Stores.{same-refl, same-size}
 use Rattle.code_patterns.proofs.laws.Measured.{falls}
 use Rattle.code_patterns.proofs.laws.Tested.{TestsSoFar, tests-go-on, tests-all}
 use native.Mathlib.Omega.{arith}

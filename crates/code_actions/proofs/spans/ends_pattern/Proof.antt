@@ -1,0 +1,22 @@
+-- `code_actions::spans::ends_pattern` meets its contract.
+use borrow.Author.Needs.{needs}
+use Rattle.code_actions.proofs.spans.ends_pattern.Statement.{statement}
+use Rattle.code_actions.proofs.spans.ends_pattern.Tie as tie
+
+returns-3 : tie.Need-returns-3
+returns-3 c = cc
+
+returns-4 : tie.Need-returns-4
+returns-4 c = cc
+
+pub ends-pattern-spec : {M : Type 1} → statement M
+ends-pattern-spec =
+    tie.close
+    (tie.spec
+    (λ c. search needs)
+    (λ c. search needs)
+    (λ c. search needs)
+    (λ c. search needs)
+    (λ c. search needs)
+    returns-3
+    returns-4)
