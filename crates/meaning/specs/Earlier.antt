@@ -5,19 +5,19 @@ use mathlib.Core.List.{List, [], _∷_, map}
 use Rattle.meaning.specs.Choice.{Named}
 use Rattle.meaning.specs.Tree.{Expression, end, thenCharacter, thenSymbol, thenPart, thenCall, Sentence, Function, Table}
 use Rattle.meaning.specs.Names.{numberOf, recovererOf}
-use Rattle.meaning.specs.Instructions.{Site, Action, go, select, out, outCharacter, outValue, beginSequence, Sentences, noMore, sentence, Code}
+use Rattle.meaning.specs.Instructions.{Site, Action, go, select, out, outC, outV, beginSeq, Sentences, noMore, sentence, Code}
 use Rattle.meaning.specs.Translation.{Shape, shapeOf, metricOf, testedShape, testsOf, storesOf, valueNumber, Stand, atStart, passage, Level, outermost, inside, mannerOf, calling, passesRest}
 
 module _ (table : Table) (shape : Shape) (sites : List (Named Site)) where
   unfoldable pub earlierItems : Level → Expression → Stand → (Stand → List Action) → List Action
   earlierItems level end w rest = rest w
-  earlierItems level (thenCharacter c e) w rest = outCharacter c ∷ earlierItems level e w rest
-  earlierItems level (thenSymbol x e) w rest = outValue (valueNumber sites x) ∷ earlierItems level e w rest
+  earlierItems level (thenCharacter c e) w rest = outC c ∷ earlierItems level e w rest
+  earlierItems level (thenSymbol x e) w rest = outV (valueNumber sites x) ∷ earlierItems level e w rest
   earlierItems level (thenPart x e) w rest =
       let way = passage shape x w in
       go (way .gap) ∷ select (way .piece) ∷ out ∷ earlierItems level e (way .after) rest
   earlierItems level (thenCall place n a e) w rest =
-      beginSequence ∷
+      beginSeq ∷
       earlierItems inside a w
       (λ w₁. let more = earlierItems level e w₁ rest in calling shape (mannerOf level e n) (numberOf table n) n w₁ more)
 

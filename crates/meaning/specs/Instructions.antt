@@ -41,10 +41,10 @@ pub data Action : Type 0 where
   go : Span → Action
   select : Span → Action
   out : Action
-  outCharacter : ℕ → Action
-  outValue : ℕ → Action
-  beginSequence : Action
-  useSequence : Action
+  outC : ℕ → Action
+  outV : ℕ → Action
+  beginSeq : Action
+  useSeq : Action
   call : ℕ → Action
   tailCall : ℕ → Action
   emission : Name → Action

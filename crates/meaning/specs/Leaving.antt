@@ -20,7 +20,7 @@ maxFrames = 256
 pub record Cells : Type 0 where
   pub stackIn : Bytes
   pub stackOut : Bytes
-  pub journal : Bytes
+  pub «record» : Bytes
 
 -- what is answered, and what is left
 pub record Leaving : Type 0 where
@@ -51,7 +51,7 @@ left r cells =
           record {
             stackIn = zeros (length (cells .stackIn));
             stackOut = padded (r .text) (length (cells .stackOut));
-            journal = over (r .emissions) (cells .journal);
+            «record» = over (r .emissions) (cells .«record»);
           };
     }
 
@@ -60,7 +60,7 @@ roomOf cells =
     record {
       inCells = length (cells .stackIn);
       outCells = length (cells .stackOut);
-      recordBytes = length (cells .journal);
+      recordBytes = length (cells .«record»);
       frames = maxFrames;
     }
 

@@ -11,7 +11,7 @@ use Rattle.meaning.specs.Choice.{Bytes, both, nth}
 use Rattle.meaning.specs.Angles.{angled}
 use Rattle.meaning.specs.Answers.{noSentenceFits, allowanceSpent, noInstruction}
 use Rattle.meaning.specs.Outcome.{Tally, pay, emitted, emittedLine, Outcome, done, stop, andThen, computed}
-use Rattle.meaning.specs.Instructions.{Length, null, whole, left, right, Span, Action, go, select, out, outCharacter, outValue, beginSequence, useSequence, call, tailCall, emission, compute, unknownAction, Sentences, noMore, Code}
+use Rattle.meaning.specs.Instructions.{Length, null, whole, left, right, Span, Action, go, select, out, outC, outV, beginSeq, useSeq, call, tailCall, emission, compute, unknownAction, Sentences, noMore, Code}
 use Rattle.meaning.specs.Matching.{Choice, chosen, chosenNone, chosenWrong, chooseFrom, storedValues}
 
 -- what an instruction needs to be there after it: cells of in from p to the right end, cells of out, bytes of the record, frames
@@ -157,12 +157,12 @@ module _ (W : Watch) where
   perform code enter next frame out l s g =
       noting (outCells (length (s .output) + s .selected)) g
       (next l (movedOn (s .selected) (withOutput (s .output ++ take (s .selected) (s .input)) s)))
-  perform code enter next frame (outCharacter c) l s g = writing c s g (next l)
-  perform code enter next frame (outValue k) l s g = whereStored (nth k (l .values)) g (λ b. writing b s g (next l))
-  perform code enter next frame beginSequence l s g =
+  perform code enter next frame (outC c) l s g = writing c s g (next l)
+  perform code enter next frame (outV k) l s g = whereStored (nth k (l .values)) g (λ b. writing b s g (next l))
+  perform code enter next frame beginSeq l s g =
       let ran = next (withOpened (length (s .output) ∷ l .opened) l) s g in
       whereThere (ltb (length (l .opened)) maxOpened) g ran
-  perform code enter next frame useSequence l s g =
+  perform code enter next frame useSeq l s g =
       whereOpened (l .opened) g
       (λ r rs. noting (inCells (length (drop r (s .output)) + length (s .input))) g (next (withOpened rs l) (moved r s)))
   perform code enter next frame (call f) l s g =

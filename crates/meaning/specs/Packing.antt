@@ -10,7 +10,7 @@ use Rattle.meaning.specs.Choice.{pick, both, every}
 use Rattle.meaning.specs.Angles.{Operation, plus, minus}
 use Rattle.meaning.specs.Classes.{Class, digit, upper, lower, alphabetic, blank, classNumber}
 use Rattle.meaning.specs.Allowed.{isByte}
-use Rattle.meaning.specs.Instructions.{Site, fromStart, fromEnd, fromPlace, Test, look, compare, predicate, predicatePart, unknownTest, Store, store, unknownStore, Length, null, whole, left, right, Span, Action, go, select, out, outCharacter, outValue, beginSequence, useSequence, call, tailCall, emission, compute, unknownAction, Metric, exactly, ends, middle, Sentences, noMore, sentence, unknownSentence, Code}
+use Rattle.meaning.specs.Instructions.{Site, fromStart, fromEnd, fromPlace, Test, look, compare, predicate, predicatePart, unknownTest, Store, store, unknownStore, Length, null, whole, left, right, Span, Action, go, select, out, outC, outV, beginSeq, useSeq, call, tailCall, emission, compute, unknownAction, Metric, exactly, ends, middle, Sentences, noMore, sentence, unknownSentence, Code}
 
 abbrev pub Words : Type 0
 Words = List ℕ
@@ -143,10 +143,10 @@ abbrev pub actionWords : Action → Words
 actionWords (go s) = spanWord 5 s ∷ []
 actionWords (select s) = spanWord 6 s ∷ []
 actionWords out = word 7 0 0 0 ∷ []
-actionWords (outCharacter c) = word 8 c 0 0 ∷ []
-actionWords (outValue k) = word 9 k 0 0 ∷ []
-actionWords beginSequence = word 10 0 0 0 ∷ []
-actionWords useSequence = word 11 0 0 0 ∷ []
+actionWords (outC c) = word 8 c 0 0 ∷ []
+actionWords (outV k) = word 9 k 0 0 ∷ []
+actionWords beginSeq = word 10 0 0 0 ∷ []
+actionWords useSeq = word 11 0 0 0 ∷ []
 actionWords (call f) = (12 + 256 * f) ∷ []
 actionWords (tailCall f) = (13 + 256 * f) ∷ []
 actionWords (emission n) = word 14 (length n) 0 0 ∷ n
@@ -174,10 +174,10 @@ actionOf w =
     pick (eqb (numberIn w) 5) (spanAction go (lengthOf (firstIn w)) (secondIn w) (thirdIn w))
     (pick (eqb (numberIn w) 6) (spanAction select (lengthOf (firstIn w)) (secondIn w) (thirdIn w))
     (pick (eqb (numberIn w) 7) out
-    (pick (eqb (numberIn w) 8) (outCharacter (firstIn w))
-    (pick (eqb (numberIn w) 9) (outValue (firstIn w))
-    (pick (eqb (numberIn w) 10) beginSequence
-    (pick (eqb (numberIn w) 11) useSequence
+    (pick (eqb (numberIn w) 8) (outC (firstIn w))
+    (pick (eqb (numberIn w) 9) (outV (firstIn w))
+    (pick (eqb (numberIn w) 10) beginSeq
+    (pick (eqb (numberIn w) 11) useSeq
     (pick (eqb (numberIn w) 12) (call (w / 256))
     (pick (eqb (numberIn w) 13) (tailCall (w / 256))
     (pick (eqb (numberIn w) 21) (computeOf (operationOf (firstIn w)))

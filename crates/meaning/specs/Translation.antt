@@ -11,7 +11,7 @@ use Rattle.meaning.specs.Tree.{Letter, character, symbol, Element, lette
 use Rattle.meaning.specs.Angles.{Operation}
 use Rattle.meaning.specs.Classes.{Class}
 use Rattle.meaning.specs.Names.{Calling, asEmission, asAngles, asFunction, callingOf, numberOf, recovererOf}
-use Rattle.meaning.specs.Instructions.{Site, fromStart, fromEnd, fromPlace, Test, look, compare, predicate, predicatePart, Store, store, Length, null, whole, left, right, Span, Action, go, select, out, outCharacter, outValue, beginSequence, useSequence, call, tailCall, emission, compute, Metric, exactly, ends, middle, Sentences, noMore, sentence, Code}
+use Rattle.meaning.specs.Instructions.{Site, fromStart, fromEnd, fromPlace, Test, look, compare, predicate, predicatePart, Store, store, Length, null, whole, left, right, Span, Action, go, select, out, outC, outV, beginSeq, useSeq, call, tailCall, emission, compute, Metric, exactly, ends, middle, Sentences, noMore, sentence, Code}
 
 -- THE TEMPLATES
 
@@ -230,10 +230,10 @@ leftFor shape (inTail f) x after = guard (both (isEnd after) (endsPattern shape 
 -- "Only the items before it go to out, and UseSeq puts them just below it"
 abbrev pub whereLeft : Option ℕ → Passage → List Action → List Action
 whereLeft none way moving = moving
-whereLeft (some f) way moving = go (way .gap) ∷ useSequence ∷ select (way .piece) ∷ tailCall f ∷ []
+whereLeft (some f) way moving = go (way .gap) ∷ useSeq ∷ select (way .piece) ∷ tailCall f ∷ []
 
 abbrev pub argumentReady : List Action → List Action
-argumentReady more = useSequence ∷ select nowhere ∷ more
+argumentReady more = useSeq ∷ select nowhere ∷ more
 
 -- what follows a call's argument
 abbrev pub calling : Shape → Manner → ℕ → Name → Stand → List Action → List Action
@@ -246,14 +246,14 @@ module _ (table : Table) (shape : Shape) (sites : List (Named Site)) where
   -- an expression's instructions from where p stands, followed by what comes after it
   unfoldable pub items : Level → Expression → Stand → (Stand → List Action) → List Action
   items level end w rest = rest w
-  items level (thenCharacter c e) w rest = outCharacter c ∷ items level e w rest
-  items level (thenSymbol x e) w rest = outValue (valueNumber sites x) ∷ items level e w rest
+  items level (thenCharacter c e) w rest = outC c ∷ items level e w rest
+  items level (thenSymbol x e) w rest = outV (valueNumber sites x) ∷ items level e w rest
   items level (thenPart x e) w rest =
       let way = passage shape x w in
       let moving = go (way .gap) ∷ select (way .piece) ∷ out ∷ items level e (way .after) rest in
       whereLeft (leftFor shape level x e) way moving
   items level (thenCall place n a e) w rest =
-      beginSequence ∷
+      beginSeq ∷
       items (levelIn (mannerOf level e n) (numberOf table n)) a w
       (λ w₁. let more = items level e w₁ rest in calling shape (mannerOf level e n) (numberOf table n) n w₁ more)
 

@@ -26,7 +26,7 @@ use Rattle.program.specs.Printed.{ranText, runText, lentCells, Shows}
 
 -- the emissions stand at the front of the record, and the result at the front of out
 record Kept (leaving : Leaving) : Type 0 where
-  emissions : take (length (leaving .result .emissions)) (leaving .cells .journal) ≡ leaving .result .emissions
+  emissions : take (length (leaving .result .emissions)) (leaving .cells .«record») ≡ leaving .result .emissions
   text : take (length (leaving .result .text)) (leaving .cells .stackOut) ≡ leaving .result .text
 
 kept-unrun : (number : ℕ) (lent : Cells) → Kept (unrun number lent)
@@ -51,8 +51,8 @@ front-within : (front whole : Bytes) → take (length front) whole ≡ front →
 front-within front whole e = omega (arith, length-take (length front) whole, ap length e)
 
 module _ {r : Report} {counts : List ℕ} {words : Words} {after : Cells} {run : TableRun} (reports : Reports r counts words after run) (kept : Kept (run .leaving)) (names : List Name) where
-  journal : after .journal ≡ run .leaving .cells .journal
-  journal = ap (λ c. c .journal) (reports .cells)
+  «record» : after .«record» ≡ run .leaving .cells .«record»
+  «record» = ap (λ c. c .«record») (reports .cells)
 
   out : after .stackOut ≡ run .leaving .cells .stackOut
   out = ap (λ c. c .stackOut) (reports .cells)
@@ -66,8 +66,8 @@ module _ {r : Report} {counts : List ℕ} {words : Words} {after : Cells} {run :
   text : r .text ≡ length (run .leaving .result .text)
   text = let told = reports .answer in cc
 
-  emissions-within : r .emissions ≤ length (after .journal)
-  emissions-within = rw (emissions, journal) (front-within _ _ (kept .emissions))
+  emissions-within : r .emissions ≤ length (after .«record»)
+  emissions-within = rw (emissions, «record») (front-within _ _ (kept .emissions))
 
   text-within : r .text ≤ length (after .stackOut)
   text-within = rw (text, out) (front-within _ _ (kept .text))
@@ -76,15 +76,15 @@ module _ {r : Report} {counts : List ℕ} {words : Words} {after : Cells} {run :
   refusal-shown e = rw (← answer, e, ← (reports .place))
 
   result-shown : isRefusal (r .answer) ≡ false
-      → runText names run ≡ ranText names (r .answer) (r .function) (r .steps) counts (take (r .emissions) (after .journal)) (take (r .text) (after .stackOut))
+      → runText names run ≡ ranText names (r .answer) (r .function) (r .steps) counts (take (r .emissions) (after .«record»)) (take (r .text) (after .stackOut))
   result-shown e =
       let told = reports .answer in
       let function : r .function ≡ run .leaving .result .function = cc in
       let steps : r .steps ≡ run .leaving .result .steps = cc in
-      rw (← answer, e, ← function, ← steps, ← (reports .counted), emissions, journal, kept .emissions, text, out, kept .text)
+      rw (← answer, e, ← function, ← steps, ← (reports .counted), emissions, «record», kept .emissions, text, out, kept .text)
 
-pub shows : {table text : Bytes} {r : Report} {counts : List ℕ} {words : Words} {out journal stackIn : Bytes}
-    → Reports r counts words (cells stackIn out journal) (tableRun (read table) 16384 1 text lentCells 100000) → Shows table text r out journal counts
+pub shows : {table text : Bytes} {r : Report} {counts : List ℕ} {words : Words} {out «record» stackIn : Bytes}
+    → Reports r counts words (cells stackIn out «record») (tableRun (read table) 16384 1 text lentCells 100000) → Shows table text r out «record» counts
 shows {table} {text} reports =
     let names = namesRead (read table) in
     let kept = table-kept (read table) 16384 1 text lentCells 100000 in

@@ -20,13 +20,13 @@ use Rattle.run_actions.specs.Endings.{endingNumber}
 pub record Memory : Type 0 where
   pub input : Bytes
   pub output : Bytes
-  pub journal : Bytes
+  pub «record» : Bytes
   pub frames : List ℕ
   pub values : Bytes
 
 abbrev pub memory : Bytes → Bytes → Bytes → List ℕ → Bytes → Memory
-memory input output journal frames values =
-    record { input = input; output = output; journal = journal; frames = frames; values = values }
+memory input output «record» frames values =
+    record { input = input; output = output; «record» = «record»; frames = frames; values = values }
 
 -- the words of a frame; those of so many frames, with the counts of applications before them; and the stored values of so many frames
 abbrev pub frameWords : ℕ
@@ -138,14 +138,14 @@ ledgerOf allowance g m =
             left = allowance - g .steps;
             steps = g .steps;
             counts = countsIn (m .frames);
-            emissions = take (g .emitted) (m .journal);
+            emissions = take (g .emitted) (m .«record»);
           };
       mark = tt;
     }
 
 abbrev pub roomOf : Memory → Room
 roomOf m =
-    record { inCells = length (m .input); outCells = length (m .output); recordBytes = length (m .journal); frames = maxFrames }
+    record { inCells = length (m .input); outCells = length (m .output); recordBytes = length (m .«record»); frames = maxFrames }
 
 -- the registers with p, q and r elsewhere
 abbrev pub movedTo : Registers → ℕ → ℕ → ℕ → Registers
@@ -166,7 +166,7 @@ pub record Fits (g : Registers) (m : Memory) : Type 0 where
   pub ordered : g .p .0 ≤ g .q .0
   pub inside : g .q .0 ≤ length (m .input)
   pub below : g .r .0 ≤ length (m .output)
-  pub logged : g .emitted ≤ length (m .journal)
+  pub logged : g .emitted ≤ length (m .«record»)
   pub framed : g .frame < maxFrames
   pub held : Held (g .frame) (m .frames)
   pub frameRoom : HasFrame (g .frame) (m .frames)
@@ -203,7 +203,7 @@ pub record Stayed (at : ℕ) (g : Registers) (m : Memory) (h : Registers) (n : M
   pub waiting : wordsBelow (g .frame) (n .frames) ≡ wordsBelow (g .frame) (m .frames)
   pub counts : countsIn (n .frames) ≡ countsIn (m .frames)
   pub values : n .values ≡ m .values
-  pub beyond : (old : Bytes) → drop (g .emitted) (m .journal) ≡ drop (g .emitted) old → drop (h .emitted) (n .journal) ≡ drop (h .emitted) old
+  pub beyond : (old : Bytes) → drop (g .emitted) (m .«record») ≡ drop (g .emitted) old → drop (h .emitted) (n .«record») ≡ drop (h .emitted) old
 
 -- an instruction that stops does nothing
 abbrev pub Stays : ℕ → Registers → Memory → Next → Memory → Type 0

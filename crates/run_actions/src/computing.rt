@@ -18,10 +18,10 @@ pub fn compute(g: Registers, subtract: bool, input: &[u8], output: &mut [u8]) ->
     requires { ⌜ g .p .0 ≤ g .q .0 ⌝ }
     requires { ⌜ g .q .0 ≤ length (now input) ⌝ }
     requires { ⌜ g .r .0 ≤ length (now output) ⌝ }
-    ensures { λ r. ⌜ ((journal values : Bytes) (frames : List ℕ) →
+    ensures { λ r. ⌜ ((«record» values : Bytes) (frames : List ℕ) →
         Acts (computing (operation subtract)) (g .at .0) g
-        (memory (now (input .entry)) (now (output .entry)) journal frames values) r
-        (memory (now (input .entry)) (now (output .exit)) journal frames values)) ⌝ }
+        (memory (now (input .entry)) (now (output .entry)) «record» frames values) r
+        (memory (now (input .entry)) (now (output .exit)) «record» frames values)) ⌝ }
 {
     let argument = part(input, g.p, g.q);
     let mut result = [0u8; 7];

@@ -1,4 +1,4 @@
-// The emission: a whole line of the journal, or nothing of it.
+// The emission: a whole line of the record, or nothing of it.
 ghost use Prim.Native.Nat.{ℕ, _+_, _≤_, _<_, _^_};
 ghost use mathlib.Core.Path.{_≡_};
 ghost use mathlib.Core.Bool.{true};
@@ -13,8 +13,8 @@ ghost use Rattle.run_actions.specs.States.{memory, Acts};
 use crate::registers::Ending;
 use crate::registers::Next;
 use crate::registers::Registers;
-use run_cells::copying::copy_to_journal;
-use run_cells::places::JournalByte;
+use run_cells::copying::copy_to_record;
+use run_cells::places::RecordByte;
 use run_cells::places::part;
 use run_code_places::CodePlace;
 
@@ -37,40 +37,40 @@ fn named(code: &[u32], name: CodePlace, size: usize) -> bool
     true
 }
 
-fn copy_name(journal: &mut [u8], to: JournalByte, code: &[u32], name: CodePlace, size: usize)
+fn copy_name(record: &mut [u8], to: RecordByte, code: &[u32], name: CodePlace, size: usize)
     requires { ⌜ isName size (drop (name .0) (now code)) ≡ true ⌝ }
-    requires { ⌜ to .0 + size ≤ length (now journal) ⌝ }
-    ensures { λ _. ⌜ now (journal .exit) ≡ paste (now (journal .entry)) (to .0) (take size (drop (name .0) (now (code .entry)))) size ⌝ }
+    requires { ⌜ to .0 + size ≤ length (now «record») ⌝ }
+    ensures { λ _. ⌜ now («record» .exit) ≡ paste (now («record» .entry)) (to .0) (take size (drop (name .0) (now (code .entry)))) size ⌝ }
 {
     let at = name.0;
     let first = to.0;
     let mut i = 0;
     while i < size {
-        journal[first + i] = (code[at + i] % 256) as u8;
+        record[first + i] = (code[at + i] % 256) as u8;
         i += 1;
     }
 }
 
 // Name, byte 32, argument, byte 10.
 fn write_line(
-    journal: &mut [u8],
-    to: JournalByte,
+    record: &mut [u8],
+    to: RecordByte,
     code: &[u32],
     name: CodePlace,
     size: usize,
     argument: &[u8],
 )
     requires { ⌜ isName size (drop (name .0) (now code)) ≡ true ⌝ }
-    requires { ⌜ to .0 + (size + length (now argument) + 2) ≤ length (now journal) ⌝ }
-    ensures { λ _. ⌜ now (journal .exit) ≡ paste (now (journal .entry)) (to .0) (emittedLine (take size (drop (name .0) (now (code .entry)))) (now (argument .entry)))
+    requires { ⌜ to .0 + (size + length (now argument) + 2) ≤ length (now «record») ⌝ }
+    ensures { λ _. ⌜ now («record» .exit) ≡ paste (now («record» .entry)) (to .0) (emittedLine (take size (drop (name .0) (now (code .entry)))) (now (argument .entry)))
         (size + length (now (argument .entry)) + 2) ⌝ }
 {
-    copy_name(journal, to, code, name, size);
+    copy_name(record, to, code, name, size);
     let gap = to.0 + size;
-    journal[gap] = 32;
-    copy_to_journal(journal, JournalByte(gap + 1), argument);
+    record[gap] = 32;
+    copy_to_record(record, RecordByte(gap + 1), argument);
     let end = gap + 1 + argument.len();
-    journal[end] = 10;
+    record[end] = 10;
 }
 
 // The place so many words on.
@@ -81,13 +81,13 @@ fn place_after(at: CodePlace, count: usize) -> CodePlace
     CodePlace(at.0 + count)
 }
 
-pub fn emit(g: Registers, code: &[u32], size: usize, input: &[u8], journal: &mut [u8]) -> Next
+pub fn emit(g: Registers, code: &[u32], size: usize, input: &[u8], record: &mut [u8]) -> Next
     requires { ⌜ g .at .0 ≤ length (now code) ⌝ }
     requires { ⌜ g .p .0 ≤ g .q .0 ⌝ }
     requires { ⌜ g .q .0 ≤ length (now input) ⌝ }
-    requires { ⌜ g .emitted ≤ length (now journal) ⌝ }
+    requires { ⌜ g .emitted ≤ length (now «record») ⌝ }
     ensures { λ r. ⌜ ((output values : Bytes) (frames : List ℕ) → Acts (emissionOf size (drop (g .at .0) (now (code .entry)))) (g .at .0 + size) g
-        (memory (now (input .entry)) output (now (journal .entry)) frames values) r (memory (now (input .entry)) output (now (journal .exit)) frames values)) ⌝ }
+        (memory (now (input .entry)) output (now («record» .entry)) frames values) r (memory (now (input .entry)) output (now («record» .exit)) frames values)) ⌝ }
 {
     if !named(code, g.at, size) {
         return Next::Stopped(g, Ending::NoInstruction, 0);
@@ -95,10 +95,10 @@ pub fn emit(g: Registers, code: &[u32], size: usize, input: &[u8], journal: &mut
     let argument = part(input, g.p, g.q);
     let emitted = g.emitted;
     let line = size + argument.len() + 2;
-    if journal.len() - emitted < line {
-        return Next::Stopped(g, Ending::JournalFull, 0);
+    if record.len() - emitted < line {
+        return Next::Stopped(g, Ending::RecordFull, 0);
     }
-    write_line(journal, JournalByte(emitted), code, g.at, size, argument);
+    write_line(record, RecordByte(emitted), code, g.at, size, argument);
     let to = g.q;
     let next = place_after(g.at, size);
     Next::Onward(Registers {

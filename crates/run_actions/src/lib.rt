@@ -1,4 +1,4 @@
-// The actions of the machine: what each instruction of the Process part does to registers, cells, frames and journal.
+// The actions of the machine: what each instruction of the Process part does to registers, cells, frames and record.
 pub mod computing;
 pub mod emitting;
 pub mod frames;

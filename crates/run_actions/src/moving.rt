@@ -4,7 +4,7 @@ ghost use mathlib.Core.Path.{_≡_};
 ghost use mathlib.Core.List.{List};
 ghost use lib.ListN.{length};
 ghost use Rattle.meaning.specs.Choice.{Bytes};
-ghost use Rattle.meaning.specs.Instructions.{Action, go as going, select as selecting, out, outCharacter, outValue, beginSequence, useSequence};
+ghost use Rattle.meaning.specs.Instructions.{Action, go as going, select as selecting, out, outC, outV, beginSeq, useSeq};
 ghost use Rattle.meaning.specs.Leaving.{maxFrames};
 ghost use Rattle.meaning.specs.Packing.{firstIn, secondIn, thirdIn, lengthOf};
 ghost use Rattle.run_decoding.specs.Decoded.{spanMeant, writeMeant};
@@ -105,8 +105,8 @@ pub fn go(g: Registers, span: u32, input: &[u8], frames: &[usize]) -> Next
     requires { ⌜ g .frame < maxFrames ⌝ }
     requires { ⌜ HasFrame (g .frame) (now frames) ⌝ }
     requires { ⌜ Held (g .frame) (now frames) ⌝ }
-    ensures { λ r. ⌜ ((output journal values : Bytes) → Acts (spanMeant going span) (g .at .0) g (memory (now (input .entry)) output journal (now (frames .entry)) values)
-        r (memory (now (input .entry)) output journal (now (frames .entry)) values)) ⌝ }
+    ensures { λ r. ⌜ ((output «record» values : Bytes) → Acts (spanMeant going span) (g .at .0) g (memory (now (input .entry)) output «record» (now (frames .entry)) values)
+        r (memory (now (input .entry)) output «record» (now (frames .entry)) values)) ⌝ }
 {
     let Reached::At(to) = reach(g.p, span, g.frame, input, frames) else {
         return Next::Stopped(g, Ending::NoInstruction, 0);
@@ -121,8 +121,8 @@ pub fn select(g: Registers, span: u32, input: &[u8], frames: &[usize]) -> Next
     requires { ⌜ g .frame < maxFrames ⌝ }
     requires { ⌜ HasFrame (g .frame) (now frames) ⌝ }
     requires { ⌜ Held (g .frame) (now frames) ⌝ }
-    ensures { λ r. ⌜ ((output journal values : Bytes) → Acts (spanMeant selecting span) (g .at .0) g (memory (now (input .entry)) output journal (now (frames .entry)) values)
-        r (memory (now (input .entry)) output journal (now (frames .entry)) values)) ⌝ }
+    ensures { λ r. ⌜ ((output «record» values : Bytes) → Acts (spanMeant selecting span) (g .at .0) g (memory (now (input .entry)) output «record» (now (frames .entry)) values)
+        r (memory (now (input .entry)) output «record» (now (frames .entry)) values)) ⌝ }
 {
     let Reached::At(to) = reach(g.q, span, g.frame, input, frames) else {
         return Next::Stopped(g, Ending::NoInstruction, 0);
@@ -134,10 +134,10 @@ pub fn select(g: Registers, span: u32, input: &[u8], frames: &[usize]) -> Next
 pub fn write_text(g: Registers, text: &[u8], output: &mut [u8]) -> Next
     requires { ⌜ g .p .0 ≤ g .q .0 ⌝ }
     requires { ⌜ g .r .0 ≤ length (now output) ⌝ }
-    ensures { λ r. ⌜ ((action : Action) (input journal values : Bytes) (frames : List ℕ) →
-        Writes action (now (text .entry)) g (memory input (now (output .entry)) journal frames values) →
-        Acts action (g .at .0) g (memory input (now (output .entry)) journal frames values) r
-        (memory input (now (output .exit)) journal frames values)) ⌝ }
+    ensures { λ r. ⌜ ((action : Action) (input «record» values : Bytes) (frames : List ℕ) →
+        Writes action (now (text .entry)) g (memory input (now (output .entry)) «record» frames values) →
+        Acts action (g .at .0) g (memory input (now (output .entry)) «record» frames values) r
+        (memory input (now (output .exit)) «record» frames values)) ⌝ }
 {
     if room_from(output, g.r) < text.len() {
         return Next::Stopped(g, Ending::OutFull, 0);
@@ -152,16 +152,16 @@ pub fn write_part(g: Registers, input: &[u8], output: &mut [u8]) -> Next
     requires { ⌜ g .p .0 ≤ g .q .0 ⌝ }
     requires { ⌜ g .q .0 ≤ length (now input) ⌝ }
     requires { ⌜ g .r .0 ≤ length (now output) ⌝ }
-    ensures { λ r. ⌜ ((journal values : Bytes) (frames : List ℕ) → Acts out (g .at .0) g (memory (now (input .entry)) (now (output .entry)) journal frames values) r
-        (memory (now (input .entry)) (now (output .exit)) journal frames values)) ⌝ }
+    ensures { λ r. ⌜ ((«record» values : Bytes) (frames : List ℕ) → Acts out (g .at .0) g (memory (now (input .entry)) (now (output .entry)) «record» frames values) r
+        (memory (now (input .entry)) (now (output .exit)) «record» frames values)) ⌝ }
 {
     write_text(g, part(input, g.p, g.q), output)
 }
 
 pub fn write_byte(g: Registers, byte: u8, output: &mut [u8]) -> Next
     requires { ⌜ g .r .0 ≤ length (now output) ⌝ }
-    ensures { λ r. ⌜ ((input journal values : Bytes) (frames : List ℕ) → Acts (outCharacter byte) (g .at .0) g
-        (memory input (now (output .entry)) journal frames values) r (memory input (now (output .exit)) journal frames values)) ⌝ }
+    ensures { λ r. ⌜ ((input «record» values : Bytes) (frames : List ℕ) → Acts (outC byte) (g .at .0) g
+        (memory input (now (output .entry)) «record» frames values) r (memory input (now (output .exit)) «record» frames values)) ⌝ }
 {
     if room_from(output, g.r) == 0 {
         return Next::Stopped(g, Ending::OutFull, 0);
@@ -183,9 +183,9 @@ fn write_value(
     requires { ⌜ HasFrame (g .frame) (now frames) ⌝ }
     requires { ⌜ Held (g .frame) (now frames) ⌝ }
     requires { ⌜ Paired (now frames) (now values) ⌝ }
-    ensures { λ r. ⌜ ((input journal : Bytes) → Acts (outValue index) (g .at .0) g
-        (memory input (now (output .entry)) journal (now (frames .entry)) (now (values .entry))) r
-        (memory input (now (output .exit)) journal (now (frames .entry)) (now (values .entry)))) ⌝ }
+    ensures { λ r. ⌜ ((input «record» : Bytes) → Acts (outV index) (g .at .0) g
+        (memory input (now (output .entry)) «record» (now (frames .entry)) (now (values .entry))) r
+        (memory input (now (output .exit)) «record» (now (frames .entry)) (now (values .entry)))) ⌝ }
 {
     let frame = g.frame;
     if stored_values(frames, frame) <= index {
@@ -211,9 +211,9 @@ pub fn write(
     requires { ⌜ HasFrame (g .frame) (now frames) ⌝ }
     requires { ⌜ Held (g .frame) (now frames) ⌝ }
     requires { ⌜ Paired (now frames) (now values) ⌝ }
-    ensures { λ r. ⌜ ((journal : Bytes) → Acts (writeMeant what) (g .at .0) g
-        (memory (now (input .entry)) (now (output .entry)) journal (now (frames .entry)) (now (values .entry))) r
-        (memory (now (input .entry)) (now (output .exit)) journal (now (frames .entry)) (now (values .entry)))) ⌝ }
+    ensures { λ r. ⌜ ((«record» : Bytes) → Acts (writeMeant what) (g .at .0) g
+        (memory (now (input .entry)) (now (output .entry)) «record» (now (frames .entry)) (now (values .entry))) r
+        (memory (now (input .entry)) (now (output .exit)) «record» (now (frames .entry)) (now (values .entry)))) ⌝ }
 {
     match what {
         Write::Part => write_part(g, input, output),
@@ -239,12 +239,12 @@ pub fn open_sequence(frames: &mut [usize], frame: usize, r: OutCell) -> bool
 }
 
 // BeginSeq: r is kept.
-pub fn begin_sequence(g: Registers, frames: &mut [usize]) -> Next
+pub fn begin_seq(g: Registers, frames: &mut [usize]) -> Next
     requires { ⌜ g .frame < maxFrames ⌝ }
     requires { ⌜ HasFrame (g .frame) (now frames) ⌝ }
     requires { ⌜ Held (g .frame) (now frames) ⌝ }
-    ensures { λ r. ⌜ ((input output journal values : Bytes) → g .r .0 ≤ length output →
-        Acts beginSequence (g .at .0) g (memory input output journal (now (frames .entry)) values) r (memory input output journal (now (frames .exit)) values)) ⌝ }
+    ensures { λ r. ⌜ ((input output «record» values : Bytes) → g .r .0 ≤ length output →
+        Acts beginSeq (g .at .0) g (memory input output «record» (now (frames .entry)) values) r (memory input output «record» (now (frames .exit)) values)) ⌝ }
 {
     if !open_sequence(frames, g.frame, g.r) {
         return Next::Stopped(g, Ending::NoInstruction, 0);
@@ -253,16 +253,16 @@ pub fn begin_sequence(g: Registers, frames: &mut [usize]) -> Next
 }
 
 // UseSeq: in[p-(r-r0)..p-1] := out[r0..r-1], with r0 kept by the latest BeginSeq
-pub fn use_sequence(g: Registers, input: &mut [u8], output: &[u8], frames: &mut [usize]) -> Next
+pub fn use_seq(g: Registers, input: &mut [u8], output: &[u8], frames: &mut [usize]) -> Next
     requires { ⌜ g .p .0 ≤ g .q .0 ⌝ }
     requires { ⌜ g .q .0 ≤ length (now input) ⌝ }
     requires { ⌜ g .r .0 ≤ length (now output) ⌝ }
     requires { ⌜ g .frame < maxFrames ⌝ }
     requires { ⌜ HasFrame (g .frame) (now frames) ⌝ }
     requires { ⌜ Held (g .frame) (now frames) ⌝ }
-    ensures { λ r. ⌜ ((journal values : Bytes) → Acts useSequence (g .at .0) g
-        (memory (now (input .entry)) (now (output .entry)) journal (now (frames .entry)) values) r
-        (memory (now (input .exit)) (now (output .entry)) journal (now (frames .exit)) values)) ⌝ }
+    ensures { λ r. ⌜ ((«record» values : Bytes) → Acts useSeq (g .at .0) g
+        (memory (now (input .entry)) (now (output .entry)) «record» (now (frames .entry)) values) r
+        (memory (now (input .exit)) (now (output .entry)) «record» (now (frames .exit)) values)) ⌝ }
 {
     let frame = g.frame;
     let opened = open_sequences(frames, frame);

@@ -26,7 +26,7 @@ pub record Ready (allowance : ℕ) (g : Registers) (m : Memory) : Type 0 where
   pub ordered : g .p .0 ≤ g .q .0
   pub inside : g .q .0 ≤ length (m .input)
   pub below : g .r .0 ≤ length (m .output)
-  pub logged : g .emitted ≤ length (m .journal)
+  pub logged : g .emitted ≤ length (m .«record»)
   pub framed : g .frame < maxFrames
   pub frameRoom : HasFrame (g .frame) (m .frames)
   pub valueRoom : Paired (m .frames) (m .values)
@@ -47,8 +47,8 @@ pub record Acting (allowance : ℕ) (g : Registers) (m : Memory) : Type 0 where
 -- the same, whatever is allowed and recorded
 pub record Ongoing (g : Registers) (input output : Bytes) (frames : List ℕ) (values : Bytes) : Type 0 where
   pub allowance : ℕ
-  pub journal : Bytes
-  pub acting : Acting allowance g (memory input output journal frames values)
+  pub «record» : Bytes
+  pub acting : Acting allowance g (memory input output «record» frames values)
 
 -- an instruction comes next that may add a frame, but there is no room for one more
 pub record Crowded (allowance : ℕ) (g : Registers) (m : Memory) : Type 0 where
@@ -57,7 +57,7 @@ pub record Crowded (allowance : ℕ) (g : Registers) (m : Memory) : Type 0 where
 
 pub record Ended (g : Registers) (m : Memory) : Type 0 where
   pub below : g .r .0 ≤ length (m .output)
-  pub logged : g .emitted ≤ length (m .journal)
+  pub logged : g .emitted ≤ length (m .«record»)
 
 abbrev pub Keeps : ℕ → Next → Memory → Type 0
 Keeps allowance (Onward g) m = Underway allowance g m
@@ -95,8 +95,8 @@ pub record Leads (words : Words) (allowance : ℕ) (tocome : Outcomes) (g : Regi
   pub same : tocome ≡ comesTo (roomOf m) allowance words next n
   pub keeps : Keeps allowance next n
   pub room : roomOf n ≡ roomOf m
-  pub beyond : (old : Bytes) → drop (g .emitted) (m .journal) ≡ drop (g .emitted) old →
-      drop (registersIn next .emitted) (n .journal) ≡ drop (registersIn next .emitted) old
+  pub beyond : (old : Bytes) → drop (g .emitted) (m .«record») ≡ drop (g .emitted) old →
+      drop (registersIn next .emitted) (n .«record») ≡ drop (registersIn next .emitted) old
 
 -- and less than a bound is left to do
 pub record Advances (words : Words) (allowance : ℕ) (tocome : Outcomes) (bound : ℕ) (g : Registers) (m : Memory) (next : Next) (n : Memory) : Type 0 where

@@ -111,7 +111,7 @@ fn start_sentence(
     requires { ⌜ HasFrame (g .frame) (now frames) ⌝ }
     requires { ⌜ Paired (now frames) (now values) ⌝ }
     requires { ⌜ stored ≤ 16 ⌝ }
-    ensures { λ r. ⌜ ((allowance : ℕ) (output journal : Bytes) → Starts (now (code .entry)) allowance place (stores .0) stored g (memory (now (input .entry)) output journal (now (frames .entry)) (now (values .entry))) r (memory (now (input .entry)) output journal (now (frames .exit)) (now (values .exit)))) ⌝ }
+    ensures { λ r. ⌜ ((allowance : ℕ) (output «record» : Bytes) → Starts (now (code .entry)) allowance place (stores .0) stored g (memory (now (input .entry)) output «record» (now (frames .entry)) (now (values .entry))) r (memory (now (input .entry)) output «record» (now (frames .exit)) (now (values .exit)))) ⌝ }
 {
     let field = part(input, g.p, g.q);
     let Stored::Before(actions) = store_values(code, stores, stored, field, place, values, g.frame)
@@ -163,7 +163,7 @@ pub fn apply(
     requires { ⌜ HasFrame (g .frame) (now frames) ⌝ }
     requires { ⌜ Paired (now frames) (now values) ⌝ }
     requires { ⌜ CountsWithin (g .steps) (now frames) ⌝ }
-    ensures { λ r. ⌜ ((output journal : Bytes) → Applies (now (code .entry)) allowance number g (memory (now (input .entry)) output journal (now (frames .entry)) (now (values .entry))) r (memory (now (input .entry)) output journal (now (frames .exit)) (now (values .exit)))) ⌝ }
+    ensures { λ r. ⌜ ((output «record» : Bytes) → Applies (now (code .entry)) allowance number g (memory (now (input .entry)) output «record» (now (frames .entry)) (now (values .entry))) r (memory (now (input .entry)) output «record» (now (frames .exit)) (now (values .exit)))) ⌝ }
 {
     let steps = g.steps;
     if allowance <= steps {
@@ -197,8 +197,8 @@ fn framed_call(
     requires { ⌜ g .frame < maxFrames ⌝ }
     requires { ⌜ HasFrame (g .frame) (now frames) ⌝ }
     requires { ⌜ crowdedAt (g .frame) (now frames) ≡ false ⌝ }
-    ensures { λ r. ⌜ ((input output journal values : Bytes) → Performs (now (code .entry)) allowance (calling number) (g .at .0) g
-        (memory input output journal (now (frames .entry)) values) r (memory input output journal (now (frames .exit)) values)) ⌝ }
+    ensures { λ r. ⌜ ((input output «record» values : Bytes) → Performs (now (code .entry)) allowance (calling number) (g .at .0) g
+        (memory input output «record» (now (frames .entry)) values) r (memory input output «record» (now (frames .exit)) values)) ⌝ }
 {
     if allowance <= g.steps {
         return Next::Stopped(g, Ending::AllowanceSpent, 0);
@@ -223,8 +223,8 @@ pub fn call(g: Registers, code: &[u32], what: Call, allowance: u32, frames: &mut
     requires { ⌜ g .frame < maxFrames ⌝ }
     requires { ⌜ HasFrame (g .frame) (now frames) ⌝ }
     requires { ⌜ crowdedAt (g .frame) (now frames) ≡ false ⌝ }
-    ensures { λ r. ⌜ ((input output journal values : Bytes) → Performs (now (code .entry)) allowance (callMeant what) (g .at .0) g
-        (memory input output journal (now (frames .entry)) values) r (memory input output journal (now (frames .exit)) values)) ⌝ }
+    ensures { λ r. ⌜ ((input output «record» values : Bytes) → Performs (now (code .entry)) allowance (callMeant what) (g .at .0) g
+        (memory input output «record» (now (frames .entry)) values) r (memory input output «record» (now (frames .exit)) values)) ⌝ }
 {
     let number = what.function;
     if !declared(code, number) {

@@ -1,12 +1,12 @@
-// Copying bytes onto in, onto out and into the journal: one loop for all three.
+// Copying bytes onto in, onto out and into the record: one loop for all three.
 ghost use mathlib.Core.Path.{_≡_};
 ghost use Prim.Native.Nat.{_+_, _≤_, _<_};
 ghost use lib.ListN.{length};
 ghost use lib.Seq.{paste};
 ghost use Rattle.run_cells.specs.Copied.{FewToCopy, CopiedFew};
 use crate::places::InCell;
-use crate::places::JournalByte;
 use crate::places::OutCell;
+use crate::places::RecordByte;
 
 // So few bytes are copied and moved without a loop, which for them would cost more than the copying.
 pub const FEW: usize = 8;
@@ -65,7 +65,7 @@ fn copy_few(to: &mut [u8], at: usize, from: &[u8])
     copy_one(to, at, from, i);
 }
 
-// Bytes copied over those from a place on. On a stack and in the journal the functions below copy, which take their
+// Bytes copied over those from a place on. On a stack and in the record the functions below copy, which take their
 // kinds of place.
 pub fn copy_over(to: &mut [u8], at: usize, from: &[u8])
     requires { ⌜ at + length (now from) ≤ length (now to) ⌝ }
@@ -99,10 +99,10 @@ pub fn copy_to_out(output: &mut [u8], at: OutCell, from: &[u8])
     copy_over(output, at.0, from);
 }
 
-pub fn copy_to_journal(journal: &mut [u8], at: JournalByte, from: &[u8])
-    requires { ⌜ at .0 + length (now from) ≤ length (now journal) ⌝ }
-    ensures { λ _. ⌜ now (journal .exit) ≡
-        paste (now (journal .entry)) (at .0) (now (from .entry)) (length (now (from .entry))) ⌝ }
+pub fn copy_to_record(record: &mut [u8], at: RecordByte, from: &[u8])
+    requires { ⌜ at .0 + length (now from) ≤ length (now «record») ⌝ }
+    ensures { λ _. ⌜ now («record» .exit) ≡
+        paste (now («record» .entry)) (at .0) (now (from .entry)) (length (now (from .entry))) ⌝ }
 {
-    copy_over(journal, at.0, from);
+    copy_over(record, at.0, from);
 }

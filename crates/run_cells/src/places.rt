@@ -1,4 +1,4 @@
-// A cell of in, a cell of out and a byte of the journal, and the few functions that touch one cell or count from one to
+// A cell of in, a cell of out and a byte of the record, and the few functions that touch one cell or count from one to
 // another: each takes its own kind of place, so that a cell of one stack can't be used on the other.
 ghost use Prim.Native.Nat.{_+_, _-_, _≤_, _<_, _^_, min, max};
 ghost use mathlib.Core.Path.{_≡_};
@@ -9,7 +9,7 @@ pub struct InCell(pub usize);
 
 pub struct OutCell(pub usize);
 
-pub struct JournalByte(pub usize);
+pub struct RecordByte(pub usize);
 
 pub fn less(a: usize, b: usize) -> usize
     ensures { λ r. ⌜ r ≡ a - b ⌝ }

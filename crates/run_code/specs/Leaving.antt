@@ -15,7 +15,7 @@ use Rattle.run_actions.specs.declared.registers.Ending.the-variants.{Finished}
 use Rattle.run_actions.specs.Endings.{endingNumber}
 
 abbrev pub cells : Bytes → Bytes → Bytes → Cells
-cells stackIn stackOut journal = record { stackIn = stackIn; stackOut = stackOut; journal = journal }
+cells stackIn stackOut «record» = record { stackIn = stackIn; stackOut = stackOut; «record» = «record» }
 
 -- the numbers that a run answers are those of a result
 pub record Tells (ran : Ran) (result : Result) : Type 0 where

@@ -74,16 +74,16 @@ fn follow(
     allowance: u32,
     input: &mut [u8],
     output: &mut [u8],
-    journal: &mut [u8],
+    record: &mut [u8],
     frames: &mut [usize],
     values: &mut [u8],
 ) -> Next
     requires { ⌜ Answers (now bits) ⌝ }
     requires { ⌜ countIn (now code) < length (now code) ⌝ }
-    requires { ⌜ Keeps allowance first (memory (now input) (now output) (now journal) (now frames) (now values)) ⌝ }
+    requires { ⌜ Keeps allowance first (memory (now input) (now output) (now «record») (now frames) (now values)) ⌝ }
     ensures { λ r. ⌜ Follows (now (code .entry)) allowance first
-        (memory (now (input .entry)) (now (output .entry)) (now (journal .entry)) (now (frames .entry)) (now (values .entry))) r
-        (memory (now (input .exit)) (now (output .exit)) (now (journal .exit)) (now (frames .exit)) (now (values .exit))) ⌝ }
+        (memory (now (input .entry)) (now (output .entry)) (now («record» .entry)) (now (frames .entry)) (now (values .entry))) r
+        (memory (now (input .exit)) (now (output .exit)) (now («record» .exit)) (now (frames .exit)) (now (values .exit))) ⌝ }
 {
     let mut g = registers_of(first);
     let mut status = status_of(first);
@@ -95,7 +95,7 @@ fn follow(
             allowance,
             input,
             output,
-            journal,
+            record,
             frames,
             values,
         );
@@ -111,18 +111,18 @@ fn follow_all(
     allowance: u32,
     input: &mut [u8],
     output: &mut [u8],
-    journal: &mut [u8],
+    record: &mut [u8],
     frames: &mut [usize],
     values: &mut [u8],
 ) -> Next
     requires { ⌜ Answers (now bits) ⌝ }
     requires { ⌜ countIn (now code) < length (now code) ⌝ }
-    requires { ⌜ Keeps allowance first (memory (now input) (now output) (now journal) (now frames) (now values)) ⌝ }
+    requires { ⌜ Keeps allowance first (memory (now input) (now output) (now «record») (now frames) (now values)) ⌝ }
     requires { ⌜ length (now frames) ≡ wordsFor firstFrames ⌝ }
     requires { ⌜ length (now values) ≡ valuesFor firstFrames ⌝ }
     ensures { λ r. ⌜ FollowsToEnd (now (code .entry)) allowance first
-        (memory (now (input .entry)) (now (output .entry)) (now (journal .entry)) (now (frames .entry)) (now (values .entry))) r
-        (memory (now (input .exit)) (now (output .exit)) (now (journal .exit)) (now (frames .exit)) (now (values .exit))) ⌝ }
+        (memory (now (input .entry)) (now (output .entry)) (now («record» .entry)) (now (frames .entry)) (now (values .entry))) r
+        (memory (now (input .exit)) (now (output .exit)) (now («record» .exit)) (now (frames .exit)) (now (values .exit))) ⌝ }
 {
     let last = follow(
         first,
@@ -131,7 +131,7 @@ fn follow_all(
         allowance,
         input,
         output,
-        journal,
+        record,
         frames,
         values,
     );
@@ -145,7 +145,7 @@ fn follow_all(
         allowance,
         input,
         output,
-        journal,
+        record,
         frames,
         values,
     )
@@ -159,18 +159,18 @@ fn follow_deeper(
     allowance: u32,
     input: &mut [u8],
     output: &mut [u8],
-    journal: &mut [u8],
+    record: &mut [u8],
     frames: &mut [usize],
     values: &[u8],
 ) -> Next
     requires { ⌜ Answers (now bits) ⌝ }
     requires { ⌜ countIn (now code) < length (now code) ⌝ }
-    requires { ⌜ Underway allowance g (memory (now input) (now output) (now journal) (now frames) (now values)) ⌝ }
+    requires { ⌜ Underway allowance g (memory (now input) (now output) (now «record») (now frames) (now values)) ⌝ }
     requires { ⌜ length (now frames) ≡ wordsFor firstFrames ⌝ }
     requires { ⌜ length (now values) ≡ valuesFor firstFrames ⌝ }
     ensures { λ r. ⌜ FollowsToEnd (now (code .entry)) allowance (Onward g)
-        (memory (now (input .entry)) (now (output .entry)) (now (journal .entry)) (now (frames .entry)) (now (values .entry))) r
-        (memory (now (input .exit)) (now (output .exit)) (now (journal .exit)) (now (frames .exit)) (now (values .entry))) ⌝ }
+        (memory (now (input .entry)) (now (output .entry)) (now («record» .entry)) (now (frames .entry)) (now (values .entry))) r
+        (memory (now (input .exit)) (now (output .exit)) (now («record» .exit)) (now (frames .exit)) (now (values .entry))) ⌝ }
 {
     let mut words = all_words();
     copy_words(frames, frames.len(), &mut words);
@@ -183,7 +183,7 @@ fn follow_deeper(
         allowance,
         input,
         output,
-        journal,
+        record,
         &mut words,
         &mut stored,
     );
@@ -255,7 +255,7 @@ pub fn run_lent(
     text: &[u8],
     input: &mut [u8],
     output: &mut [u8],
-    journal: &mut [u8],
+    record: &mut [u8],
     frames: &mut [usize],
     values: &mut [u8],
     allowance: u32,
@@ -267,7 +267,7 @@ pub fn run_lent(
     requires { ⌜ length (now frames) ≡ wordsFor firstFrames ⌝ }
     requires { ⌜ length (now values) ≡ valuesFor firstFrames ⌝ }
     requires { ⌜ countsIn (now frames) ≡ uncounted ⌝ }
-    ensures { λ r. ⌜ Leaves r (countsIn (now (frames .exit))) (cells (now (input .exit)) (now (output .exit)) (now (journal .exit))) (left (runLent (roomOfCells (cells (now (input .entry)) (now (output .entry)) (now (journal .entry)))) (functionsIn (now (code .entry))) start (now (text .entry)) allowance) (cells (now (input .entry)) (now (output .entry)) (now (journal .entry)))) ⌝ }
+    ensures { λ r. ⌜ Leaves r (countsIn (now (frames .exit))) (cells (now (input .exit)) (now (output .exit)) (now («record» .exit))) (left (runLent (roomOfCells (cells (now (input .entry)) (now (output .entry)) (now («record» .entry)))) (functionsIn (now (code .entry))) start (now (text .entry)) allowance) (cells (now (input .entry)) (now (output .entry)) (now («record» .entry)))) ⌝ }
 {
     let g = loaded(input.len(), text.len(), start);
     copy_to_in(input, g.p, text);
@@ -280,7 +280,7 @@ pub fn run_lent(
         allowance,
         input,
         output,
-        journal,
+        record,
         frames,
         values,
     );

@@ -21,12 +21,12 @@ pub fn run(
     text: &[u8],
     input: &mut [u8],
     output: &mut [u8],
-    journal: &mut [u8],
+    record: &mut [u8],
     allowance: u32,
     counts: &mut [u64; 64],
 ) -> Ran
-    ensures { λ r. ⌜ Leaves r (now (counts .exit)) (cells (now (input .exit)) (now (output .exit)) (now (journal .exit)))
-        (leaving (now (code .entry)) start (now (text .entry)) (cells (now (input .entry)) (now (output .entry)) (now (journal .entry))) allowance) ⌝ }
+    ensures { λ r. ⌜ Leaves r (now (counts .exit)) (cells (now (input .exit)) (now (output .exit)) (now («record» .exit)))
+        (leaving (now (code .entry)) start (now (text .entry)) (cells (now (input .entry)) (now (output .entry)) (now («record» .entry))) allowance) ⌝ }
 {
     *counts = [0u64; 64];
     if !sound_table(code) {
@@ -46,7 +46,7 @@ pub fn run(
         text,
         input,
         output,
-        journal,
+        record,
         &mut frames,
         &mut values,
         allowance,

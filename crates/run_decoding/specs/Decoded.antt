@@ -8,7 +8,7 @@ use lib.ListN.{length, getD, take}
 use Rattle.meaning.specs.Choice.{pick, both, every}
 use Rattle.meaning.specs.Angles.{operation}
 use Rattle.meaning.specs.Allowed.{isByte}
-use Rattle.meaning.specs.Instructions.{Span, Action, go, select, out, outCharacter, outValue, beginSequence, useSequence, call, tailCall, compute, unknownAction}
+use Rattle.meaning.specs.Instructions.{Span, Action, go, select, out, outC, outV, beginSeq, useSeq, call, tailCall, compute, unknownAction}
 use Rattle.meaning.specs.Packing.{Words, numberIn, firstIn, secondIn, thirdIn, actionsEnd, lengthOf, spanAction, emissionOf, unpackActions}
 use Rattle.run_code_places.specs.declared.CodePlace.{CodePlace}
 use Rattle.run_decoding.specs.declared.Found.{Found}
@@ -64,8 +64,8 @@ spanMeant f w = spanAction f (lengthOf (firstIn w)) (secondIn w) (thirdIn w)
 
 abbrev pub writeMeant : Write → Action
 writeMeant Part = out
-writeMeant (Character c) = outCharacter c
-writeMeant (Value k) = outValue k
+writeMeant (Character c) = outC c
+writeMeant (Value k) = outV k
 
 abbrev pub callMeant : Call → Action
 callMeant c = pick (c .tail) (tailCall (c .function)) (call (c .function))
@@ -75,8 +75,8 @@ abbrev pub actionsMeant : Instruction → Words → List Action
 actionsMeant (Go w) ws = spanMeant go w ∷ unpackActions 0 ws
 actionsMeant (Select w) ws = spanMeant select w ∷ unpackActions 0 ws
 actionsMeant (Writes x) ws = writeMeant x ∷ unpackActions 0 ws
-actionsMeant Begin ws = beginSequence ∷ unpackActions 0 ws
-actionsMeant Use ws = useSequence ∷ unpackActions 0 ws
+actionsMeant Begin ws = beginSeq ∷ unpackActions 0 ws
+actionsMeant Use ws = useSeq ∷ unpackActions 0 ws
 actionsMeant (Calls x) ws = callMeant x ∷ unpackActions 0 ws
 actionsMeant (Emit n) ws = emissionOf n ws ∷ unpackActions n ws
 actionsMeant (Compute subtract) ws = compute (operation subtract) ∷ unpackActions 0 ws

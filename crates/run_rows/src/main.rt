@@ -273,7 +273,7 @@ const RECOVERER_PAST: [u32; 8] = [1, 2, 272, 196609, 1627389953, 261, 15, 531];
 struct Lent {
     input: usize,
     output: usize,
-    journal: usize,
+    record: usize,
     allowance: u32,
 }
 
@@ -281,7 +281,7 @@ fn allowed(allowance: u32) -> Lent {
     Lent {
         input: 1000,
         output: 1000,
-        journal: 1000,
+        record: 1000,
         allowance: allowance,
     }
 }
@@ -294,7 +294,7 @@ fn cells(input: usize, output: usize) -> Lent {
     Lent {
         input: input,
         output: output,
-        journal: 1000,
+        record: 1000,
         allowance: 4294967295,
     }
 }
@@ -327,9 +327,9 @@ fn print(n: u64) {
     io::write_all(STDOUT_FILENO, b" ");
 }
 
-// Answer, function, steps; the applications of the first two functions; how many cells of in, of out after the text and of the journal
+// Answer, function, steps; the applications of the first two functions; how many cells of in, of out after the text and of the record
 // after the emissions hold another byte than they should; the emissions; the text.
-fn show(ran: Ran, counts: &[u64; 64], input: &[u8], output: &[u8], journal: &[u8], left: u8) {
+fn show(ran: Ran, counts: &[u64; 64], input: &[u8], output: &[u8], record: &[u8], left: u8) {
     let ending = ran.ending;
     let text = ran.text;
     let emissions = ran.emissions;
@@ -340,9 +340,9 @@ fn show(ran: Ran, counts: &[u64; 64], input: &[u8], output: &[u8], journal: &[u8
     print(counts[1]);
     print(others(input, 0, left));
     print(others(output, text, left));
-    print(others(journal, emissions, 7));
+    print(others(record, emissions, 7));
     io::write_all(STDOUT_FILENO, b"\n");
-    front(journal, emissions);
+    front(record, emissions);
     front(output, text);
     io::write_all(STDOUT_FILENO, b"\n");
 }
@@ -354,7 +354,7 @@ fn row_on(
     text: &[u8],
     input: &mut [u8],
     output: &mut [u8],
-    journal: &mut [u8],
+    record: &mut [u8],
     allowance: u32,
     left: u8,
 ) {
@@ -365,11 +365,11 @@ fn row_on(
         text,
         input,
         output,
-        journal,
+        record,
         allowance,
         &mut counts,
     );
-    show(ran, &counts, input, output, journal, left);
+    show(ran, &counts, input, output, record, left);
 }
 
 fn row_from(code: &[u32], start: usize, text: &[u8], lent: Lent, left: u8) {
@@ -378,17 +378,17 @@ fn row_from(code: &[u32], start: usize, text: &[u8], lent: Lent, left: u8) {
     let mut third = sevens();
     let input: &mut [u8] = &mut first;
     let output: &mut [u8] = &mut second;
-    let journal: &mut [u8] = &mut third;
+    let record: &mut [u8] = &mut third;
     let a = lent.input;
     let b = lent.output;
-    let c = lent.journal;
+    let c = lent.record;
     if input.len() < a {
         return;
     }
     if output.len() < b {
         return;
     }
-    if journal.len() < c {
+    if record.len() < c {
         return;
     }
     row_on(
@@ -397,7 +397,7 @@ fn row_from(code: &[u32], start: usize, text: &[u8], lent: Lent, left: u8) {
         text,
         &mut input[..a],
         &mut output[..b],
-        &mut journal[..c],
+        &mut record[..c],
         lent.allowance,
         left,
     );
@@ -459,7 +459,7 @@ fn emissions() {
         Lent {
             input: 1000,
             output: 1000,
-            journal: 15,
+            record: 15,
             allowance: 2,
         },
     );

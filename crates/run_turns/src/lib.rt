@@ -11,11 +11,11 @@ ghost use Rattle.run_applications.specs.Advancing.{Underway, Acting, Ongoing, r
 use run_actions::computing::compute;
 use run_actions::emitting::emit;
 use run_actions::frames::crowded;
-use run_actions::moving::begin_sequence;
+use run_actions::moving::begin_seq;
 use run_actions::moving::go;
 use run_actions::moving::open_sequence;
 use run_actions::moving::select;
-use run_actions::moving::use_sequence;
+use run_actions::moving::use_seq;
 use run_actions::moving::write;
 use run_actions::registers::Ending;
 use run_actions::registers::Next;
@@ -49,8 +49,8 @@ fn enter(
     requires { ⌜ HasFrame (g .frame) (now frames) ⌝ }
     requires { ⌜ Paired (now frames) (now values) ⌝ }
     requires { ⌜ CountsWithin (g .steps) (now frames) ⌝ }
-    ensures { λ r. ⌜ ((output journal : Bytes) → Enters (now (code .entry)) allowance g (memory (now (input .entry)) output journal (now (frames .entry)) (now (values .entry)))
-        r (memory (now (input .entry)) output journal (now (frames .exit)) (now (values .exit)))) ⌝ }
+    ensures { λ r. ⌜ ((output «record» : Bytes) → Enters (now (code .entry)) allowance g (memory (now (input .entry)) output «record» (now (frames .entry)) (now (values .entry)))
+        r (memory (now (input .entry)) output «record» (now (frames .exit)) (now (values .exit)))) ⌝ }
 {
     let number = g.callee;
     if !declared(code, number) {
@@ -78,8 +78,8 @@ fn try_go(g: Registers, code: &[u32], input: &[u8], frames: &[usize]) -> Registe
     requires { ⌜ g .frame < maxFrames ⌝ }
     requires { ⌜ HasFrame (g .frame) (now frames) ⌝ }
     requires { ⌜ Held (g .frame) (now frames) ⌝ }
-    ensures { λ h. ⌜ ((allowance : ℕ) (output journal values : Bytes) → Tries (now (code .entry)) allowance g (memory (now (input .entry)) output journal (now (frames .entry)) values)
-        h (memory (now (input .entry)) output journal (now (frames .entry)) values)) ⌝ }
+    ensures { λ h. ⌜ ((allowance : ℕ) (output «record» values : Bytes) → Tries (now (code .entry)) allowance g (memory (now (input .entry)) output «record» (now (frames .entry)) values)
+        h (memory (now (input .entry)) output «record» (now (frames .entry)) values)) ⌝ }
 {
     let Found::Word(word, next) = find_word(code, g.at, 5) else {
         return g;
@@ -95,8 +95,8 @@ fn try_select(g: Registers, code: &[u32], input: &[u8], frames: &[usize]) -> Reg
     requires { ⌜ g .frame < maxFrames ⌝ }
     requires { ⌜ HasFrame (g .frame) (now frames) ⌝ }
     requires { ⌜ Held (g .frame) (now frames) ⌝ }
-    ensures { λ h. ⌜ ((allowance : ℕ) (output journal values : Bytes) → Tries (now (code .entry)) allowance g (memory (now (input .entry)) output journal (now (frames .entry)) values)
-        h (memory (now (input .entry)) output journal (now (frames .entry)) values)) ⌝ }
+    ensures { λ h. ⌜ ((allowance : ℕ) (output «record» values : Bytes) → Tries (now (code .entry)) allowance g (memory (now (input .entry)) output «record» (now (frames .entry)) values)
+        h (memory (now (input .entry)) output «record» (now (frames .entry)) values)) ⌝ }
 {
     let Found::Word(word, next) = find_word(code, g.at, 6) else {
         return g;
@@ -110,8 +110,8 @@ fn try_begin(g: Registers, code: &[u32], frames: &mut [usize]) -> Registers
     requires { ⌜ g .frame < maxFrames ⌝ }
     requires { ⌜ HasFrame (g .frame) (now frames) ⌝ }
     requires { ⌜ Held (g .frame) (now frames) ⌝ }
-    ensures { λ h. ⌜ ((allowance : ℕ) (input output journal values : Bytes) → Tries (now (code .entry)) allowance g (memory input output journal (now (frames .entry)) values)
-        h (memory input output journal (now (frames .exit)) values)) ⌝ }
+    ensures { λ h. ⌜ ((allowance : ℕ) (input output «record» values : Bytes) → Tries (now (code .entry)) allowance g (memory input output «record» (now (frames .entry)) values)
+        h (memory input output «record» (now (frames .exit)) values)) ⌝ }
 {
     let Found::Word(_, next) = find_word(code, g.at, 10) else {
         return g;
@@ -132,9 +132,9 @@ fn try_writes(
     values: &[u8],
 ) -> Registers
     requires { ⌜ Ongoing g (now input) (now output) (now frames) (now values) ⌝ }
-    ensures { λ h. ⌜ ((allowance : ℕ) (journal : Bytes) → Tries (now (code .entry)) allowance g
-        (memory (now (input .entry)) (now (output .entry)) journal (now (frames .entry)) (now (values .entry)))
-        h (memory (now (input .entry)) (now (output .exit)) journal (now (frames .entry)) (now (values .entry)))) ⌝ }
+    ensures { λ h. ⌜ ((allowance : ℕ) («record» : Bytes) → Tries (now (code .entry)) allowance g
+        (memory (now (input .entry)) (now (output .entry)) «record» (now (frames .entry)) (now (values .entry)))
+        h (memory (now (input .entry)) (now (output .exit)) «record» (now (frames .entry)) (now (values .entry)))) ⌝ }
 {
     let mut h = g;
     loop {
@@ -170,14 +170,14 @@ fn try_use(
     requires { ⌜ g .frame < maxFrames ⌝ }
     requires { ⌜ HasFrame (g .frame) (now frames) ⌝ }
     requires { ⌜ Held (g .frame) (now frames) ⌝ }
-    ensures { λ r. ⌜ ((allowance : ℕ) (journal values : Bytes) → Uses (now (code .entry)) allowance g (memory (now (input .entry)) (now (output .entry)) journal (now (frames .entry)) values)
-        r (memory (now (input .exit)) (now (output .entry)) journal (now (frames .exit)) values)) ⌝ }
+    ensures { λ r. ⌜ ((allowance : ℕ) («record» values : Bytes) → Uses (now (code .entry)) allowance g (memory (now (input .entry)) (now (output .entry)) «record» (now (frames .entry)) values)
+        r (memory (now (input .exit)) (now (output .entry)) «record» (now (frames .exit)) values)) ⌝ }
 {
     let Found::Word(_, next) = find_word(code, g.at, 11) else {
         return Next::Onward(g);
     };
     let h = Registers { at: next, ..g };
-    use_sequence(h, input, output, frames)
+    use_seq(h, input, output, frames)
 }
 
 // One instruction, whatever it is but UseSeq, which is left for the next turn, and a call where there is no room for a frame more.
@@ -187,15 +187,15 @@ fn act(
     allowance: u32,
     input: &[u8],
     output: &mut [u8],
-    journal: &mut [u8],
+    record: &mut [u8],
     frames: &mut [usize],
     values: &[u8],
 ) -> Next
     requires { ⌜ countIn (now code) < length (now code) ⌝ }
-    requires { ⌜ Acting allowance g (memory (now input) (now output) (now journal) (now frames) (now values)) ⌝ }
+    requires { ⌜ Acting allowance g (memory (now input) (now output) (now «record») (now frames) (now values)) ⌝ }
     ensures { λ r. ⌜ Does (now (code .entry)) allowance g
-        (memory (now (input .entry)) (now (output .entry)) (now (journal .entry)) (now (frames .entry)) (now (values .entry))) r
-        (memory (now (input .entry)) (now (output .exit)) (now (journal .exit)) (now (frames .exit)) (now (values .entry))) ⌝ }
+        (memory (now (input .entry)) (now (output .entry)) (now («record» .entry)) (now (frames .entry)) (now (values .entry))) r
+        (memory (now (input .entry)) (now (output .exit)) (now («record» .exit)) (now (frames .exit)) (now (values .entry))) ⌝ }
 {
     let at = g.at.0;
     if code.len() <= at {
@@ -209,7 +209,7 @@ fn act(
         Instruction::Go(span) => go(h, span, input, frames),
         Instruction::Select(span) => select(h, span, input, frames),
         Instruction::Write(what) => write(h, what, input, output, frames, values),
-        Instruction::Begin => begin_sequence(h, frames),
+        Instruction::Begin => begin_seq(h, frames),
         Instruction::Use => Next::Onward(g),
         Instruction::Call(what) => {
             if crowded(frames, g.frame) {
@@ -218,7 +218,7 @@ fn act(
                 call(h, code, what, allowance, frames)
             }
         }
-        Instruction::Emit(length) => emit(h, code, length, input, journal),
+        Instruction::Emit(length) => emit(h, code, length, input, record),
         Instruction::Compute(subtract) => compute(h, subtract, input, output),
         Instruction::End => leave(h, frames),
         Instruction::Unknown => Next::Stopped(h, Ending::NoInstruction, 0),
@@ -235,9 +235,9 @@ fn write_items(
     values: &[u8],
 ) -> Registers
     requires { ⌜ Ongoing g (now input) (now output) (now frames) (now values) ⌝ }
-    ensures { λ h. ⌜ ((allowance : ℕ) (journal : Bytes) → Tries (now (code .entry)) allowance g
-        (memory (now (input .entry)) (now (output .entry)) journal (now (frames .entry)) (now (values .entry)))
-        h (memory (now (input .entry)) (now (output .exit)) journal (now (frames .exit)) (now (values .entry)))) ⌝ }
+    ensures { λ h. ⌜ ((allowance : ℕ) («record» : Bytes) → Tries (now (code .entry)) allowance g
+        (memory (now (input .entry)) (now (output .entry)) «record» (now (frames .entry)) (now (values .entry)))
+        h (memory (now (input .entry)) (now (output .exit)) «record» (now (frames .exit)) (now (values .entry)))) ⌝ }
 {
     let begun = try_begin(g, code, frames);
     let gone = try_go(begun, code, input, frames);
@@ -255,16 +255,16 @@ fn advance(
     allowance: u32,
     input: &mut [u8],
     output: &mut [u8],
-    journal: &mut [u8],
+    record: &mut [u8],
     frames: &mut [usize],
     values: &mut [u8],
 ) -> Next
     requires { ⌜ Answers (now bits) ⌝ }
     requires { ⌜ countIn (now code) < length (now code) ⌝ }
-    requires { ⌜ Underway allowance g (memory (now input) (now output) (now journal) (now frames) (now values)) ⌝ }
+    requires { ⌜ Underway allowance g (memory (now input) (now output) (now «record») (now frames) (now values)) ⌝ }
     ensures { λ r. ⌜ Steps (now (code .entry)) allowance g
-        (memory (now (input .entry)) (now (output .entry)) (now (journal .entry)) (now (frames .entry)) (now (values .entry))) r
-        (memory (now (input .exit)) (now (output .exit)) (now (journal .exit)) (now (frames .exit)) (now (values .exit))) ⌝ }
+        (memory (now (input .entry)) (now (output .entry)) (now («record» .entry)) (now (frames .entry)) (now (values .entry))) r
+        (memory (now (input .exit)) (now (output .exit)) (now («record» .exit)) (now (frames .exit)) (now (values .exit))) ⌝ }
 {
     let entered = enter(g, bits, code, allowance, input, frames, values);
     let Next::Onward(begun) = entered else {
@@ -285,7 +285,7 @@ fn advance(
         allowance,
         input,
         output,
-        journal,
+        record,
         frames,
         values,
     )
@@ -344,17 +344,17 @@ pub fn step(
     allowance: u32,
     input: &mut [u8],
     output: &mut [u8],
-    journal: &mut [u8],
+    record: &mut [u8],
     frames: &mut [usize],
     values: &mut [u8],
 ) -> Status
     requires { ⌜ Answers (now bits) ⌝ }
     requires { ⌜ countIn (now code) < length (now code) ⌝ }
-    requires { ⌜ Underway allowance (now g) (memory (now input) (now output) (now journal) (now frames) (now values)) ⌝ }
+    requires { ⌜ Underway allowance (now g) (memory (now input) (now output) (now «record») (now frames) (now values)) ⌝ }
     ensures { λ r. ⌜ Steps (now (code .entry)) allowance (now (g .entry))
-        (memory (now (input .entry)) (now (output .entry)) (now (journal .entry)) (now (frames .entry)) (now (values .entry)))
+        (memory (now (input .entry)) (now (output .entry)) (now («record» .entry)) (now (frames .entry)) (now (values .entry)))
         (nextOf r (now (g .exit)))
-        (memory (now (input .exit)) (now (output .exit)) (now (journal .exit)) (now (frames .exit)) (now (values .exit))) ⌝ }
+        (memory (now (input .exit)) (now (output .exit)) (now («record» .exit)) (now (frames .exit)) (now (values .exit))) ⌝ }
 {
     let next = advance(
         *g,
@@ -363,7 +363,7 @@ pub fn step(
         allowance,
         input,
         output,
-        journal,
+        record,
         frames,
         values,
     );

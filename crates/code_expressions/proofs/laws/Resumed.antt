@@ -12,7 +12,7 @@ use lib.Seq.{getD-set-same, getD-set-other}
 use Rattle.meaning.specs.Choice.{Name, pick, Named}
 use Rattle.meaning.specs.Tree.{Expression, end, thenCharacter, thenSymbol, thenPart, thenCall, Table}
 use Rattle.meaning.specs.Names.{Calling, asEmission, asAngles, asFunction, callingOf, numberOf}
-use Rattle.meaning.specs.Instructions.{Site, go, select, out, outCharacter, outValue, beginSequence}
+use Rattle.meaning.specs.Instructions.{Site, go, select, out, outC, outV, beginSeq}
 use Rattle.meaning.specs.Translation.{Shape, Stand, passage, restOf, valueNumber, Manner, emits, computes, replaces, nests, mannerAs, isEnd, isLast, mannerOf, levelIn, leftFor, whereLeft, calling, items}
 use Rattle.tape_words.specs.Words.{headName}
 use Rattle.code_expressions.specs.Levels.{firstOf, othersOf}
@@ -20,13 +20,13 @@ use Rattle.code_expressions.specs.Resuming.{levelAt, resume, openNames}
 
 module _ (t : Table) (s : Shape) (ss : List (Named Site)) where
   pub resume-character : (ns : List Name) (c : ℕ) (e : Expression) (outer : List Expression) (w : Stand)
-      → resume t s ss ns (thenCharacter c e) outer w ≡ outCharacter c ∷ resume t s ss ns e outer w
+      → resume t s ss ns (thenCharacter c e) outer w ≡ outC c ∷ resume t s ss ns e outer w
   unfolding resume items
   resume-character [] c e outer w = refl
   resume-character (n ∷ ns) c e outer w = refl
 
   pub resume-symbol : (ns : List Name) (x : Name) (e : Expression) (outer : List Expression) (w : Stand)
-      → resume t s ss ns (thenSymbol x e) outer w ≡ outValue (valueNumber ss x) ∷ resume t s ss ns e outer w
+      → resume t s ss ns (thenSymbol x e) outer w ≡ outV (valueNumber ss x) ∷ resume t s ss ns e outer w
   unfolding resume items
   resume-symbol [] x e outer w = refl
   resume-symbol (n ∷ ns) x e outer w = refl
@@ -40,7 +40,7 @@ module _ (t : Table) (s : Shape) (ss : List (Named Site)) where
   resume-part (n ∷ ns) x e outer w = refl
 
   pub resume-call : (ns : List Name) (place : ℕ) (n : Name) (a : Expression) (outer : List Expression) (w : Stand)
-      → resume t s ss ns (thenCall place n a (firstOf outer)) (othersOf outer) w ≡ beginSequence ∷ resume t s ss (n ∷ ns) a outer w
+      → resume t s ss ns (thenCall place n a (firstOf outer)) (othersOf outer) w ≡ beginSeq ∷ resume t s ss (n ∷ ns) a outer w
   unfolding levelAt resume items
   resume-call [] place n a outer w = refl
   resume-call (m ∷ ns) place n a outer w = refl

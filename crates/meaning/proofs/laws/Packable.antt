@@ -5,7 +5,7 @@ use lib.Dec.{T}
 use lib.ListN.{length}
 use Rattle.meaning.specs.Choice.{every}
 use Rattle.meaning.specs.Allowed.{isByte}
-use Rattle.meaning.specs.Instructions.{Site, Test, look, compare, predicate, predicatePart, unknownTest, Store, store, unknownStore, Span, Action, go, select, out, outCharacter, outValue, beginSequence, useSequence, call, tailCall, emission, compute, unknownAction, Metric, exactly, ends, middle, Sentences, noMore, sentence, Code}
+use Rattle.meaning.specs.Instructions.{Site, Test, look, compare, predicate, predicatePart, unknownTest, Store, store, unknownStore, Span, Action, go, select, out, outC, outV, beginSeq, useSeq, call, tailCall, emission, compute, unknownAction, Metric, exactly, ends, middle, Sentences, noMore, sentence, Code}
 use Rattle.meaning.specs.Packing.{siteOffset, bodyWords, maxStored}
 
 -- every element has the property
@@ -35,10 +35,10 @@ abbrev pub FitsAction : ℕ → Action → Type 0
 FitsAction limit (go s) = FitsSpan s
 FitsAction limit (select s) = FitsSpan s
 FitsAction limit out = Unit {0}
-FitsAction limit (outCharacter c) = c < 256
-FitsAction limit (outValue k) = k < 256
-FitsAction limit beginSequence = Unit {0}
-FitsAction limit useSequence = Unit {0}
+FitsAction limit (outC c) = c < 256
+FitsAction limit (outV k) = k < 256
+FitsAction limit beginSeq = Unit {0}
+FitsAction limit useSeq = Unit {0}
 FitsAction limit (call f) = f < limit
 FitsAction limit (tailCall f) = f < limit
 FitsAction limit (emission n) = (length n < 256) × T (every isByte n)

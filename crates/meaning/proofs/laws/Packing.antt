@@ -12,7 +12,7 @@ use borrow.Author.Tests.{le-leb, lt-ltb}
 use Rattle.meaning.specs.Choice.{every}
 use Rattle.meaning.specs.Classes.{classNumber}
 use Rattle.meaning.specs.Allowed.{isByte}
-use Rattle.meaning.specs.Instructions.{Test, look, compare, predicate, predicatePart, unknownTest, Store, store, unknownStore, Span, Action, go, select, out, outCharacter, outValue, beginSequence, useSequence, call, tailCall, emission, compute, unknownAction, Metric, exactly, ends, middle, Sentences, noMore, sentence, Code}
+use Rattle.meaning.specs.Instructions.{Test, look, compare, predicate, predicatePart, unknownTest, Store, store, unknownStore, Span, Action, go, select, out, outC, outV, beginSeq, useSeq, call, tailCall, emission, compute, unknownAction, Metric, exactly, ends, middle, Sentences, noMore, sentence, Code}
 use Rattle.meaning.specs.Packing.{Words, word, numberIn, firstIn, secondIn, thirdIn, siteRegister, siteOffset, lengthNumber, lengthOf, spanAction, truthBit, operationNumber, partOperand, testWord, testOf, storeWord, storeOf, actionWords, actionOf, actionsEnd, packActions, emissionOf, unpackActions, metricWord, metricIn, sentencesEnd, endWord, bodyWords, countsWord, packSentences, testsIn, storesIn, bodyIn, unpackTests, unpackStores, maxStored, bodyOf, unpackSentences, packFunctions, placesFrom, pack, functionsAt, soundTable, unpack}
 use Rattle.meaning.proofs.laws.Passing.{passed}
 use Rattle.meaning.proofs.laws.Words.{word-holds, register-below, class-below, truth-below, operation-back, operation-below, length-below, look-held, compare-held, predicate-held, predicate-part-held, store-held, length-back, called-number, called-function}
@@ -100,10 +100,10 @@ module _ (limit : ℕ) where
   action-first (go s) ws f = span-first 5 refl refl go (omega arith) (λ w number. rw number) s ws f
   action-first (select s) ws f = span-first 6 refl refl select (omega arith) (λ w number. rw number) s ws f
   action-first out ws f = single 7 refl refl 7 ws out refl refl
-  action-first (outCharacter c) ws f = byte-first 8 refl refl outCharacter (omega arith) (λ w number. rw number) c ws f
-  action-first (outValue k) ws f = byte-first 9 refl refl outValue (omega arith) (λ w number. rw number) k ws f
-  action-first beginSequence ws f = single 10 refl refl 10 ws beginSequence refl refl
-  action-first useSequence ws f = single 11 refl refl 11 ws useSequence refl refl
+  action-first (outC c) ws f = byte-first 8 refl refl outC (omega arith) (λ w number. rw number) c ws f
+  action-first (outV k) ws f = byte-first 9 refl refl outV (omega arith) (λ w number. rw number) k ws f
+  action-first beginSeq ws f = single 10 refl refl 10 ws beginSeq refl refl
+  action-first useSeq ws f = single 11 refl refl 11 ws useSeq refl refl
   action-first (call n) ws f = called-first 12 refl refl call (omega arith) (λ w number. rw number) n ws
   action-first (tailCall n) ws f = called-first 13 refl refl tailCall (omega arith) (λ w number. rw number) n ws
   action-first (emission n) ws f =

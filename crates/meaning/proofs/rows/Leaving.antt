@@ -15,7 +15,7 @@ use Rattle.meaning.proofs.rows.Starred.{most, result, sixty, abc, lines
 use Rattle.meaning.proofs.rows.Computing.{computing}
 
 abbrev pub cells : Bytes → Bytes → Bytes → Cells
-cells stackIn stackOut journal = record { stackIn = stackIn; stackOut = stackOut; journal = journal }
+cells stackIn stackOut «record» = record { stackIn = stackIn; stackOut = stackOut; «record» = «record» }
 
 -- so many cells of in, of out and bytes of the record, with something in each
 abbrev pub lent : ℕ → ℕ → ℕ → Cells
@@ -39,8 +39,8 @@ run table start text allowance before after =
 
 -- a run that leaves in all zero; out and the record
 abbrev pub ran : Table → ℕ → Bytes → ℕ → ℕ → ℕ → ℕ → Result → Bytes → Bytes → Run
-ran table start text allowance i o j r out journal =
-    run table start text allowance (lent i o j) (leaves r (cells (replicate i 0) out journal))
+ran table start text allowance i o j r out «record» =
+    run table start text allowance (lent i o j) (leaves r (cells (replicate i 0) out «record»))
 
 -- a run that is refused before it begins
 abbrev pub unrun : Words → ℕ → Bytes → ℕ → ℕ → ℕ → ℕ → Run

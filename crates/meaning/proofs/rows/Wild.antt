@@ -6,7 +6,7 @@ use mathlib.Core.List.{List, [], _∷_, _++_, map}
 use lib.ListN.{length, replicate}
 use Rattle.meaning.specs.Choice.{Bytes}
 use Rattle.meaning.specs.Classes.{digit, lower}
-use Rattle.meaning.specs.Instructions.{fromStart, fromEnd, fromPlace, Test, look, predicatePart, Store, store, null, whole, left, right, Span, Action, go, select, out, outCharacter, outValue, beginSequence, useSequence, call, tailCall, emission, Metric, exactly, ends, Sentences, noMore, sentence}
+use Rattle.meaning.specs.Instructions.{fromStart, fromEnd, fromPlace, Test, look, predicatePart, Store, store, null, whole, left, right, Span, Action, go, select, out, outC, outV, beginSeq, useSeq, call, tailCall, emission, Metric, exactly, ends, Sentences, noMore, sentence}
 use Rattle.meaning.specs.Packing.{Words, word, countsWord, endWord, pack}
 use Rattle.meaning.specs.Leaving.{Cells, Leaving, leaving}
 use Rattle.meaning.proofs.rows.Starred.{result}
@@ -18,7 +18,7 @@ pub record Row : Type 0 where
   pub leaves : Leaving
 
 abbrev cells : Bytes → Bytes → Bytes → Cells
-cells i o j = record { stackIn = i; stackOut = o; journal = j }
+cells i o j = record { stackIn = i; stackOut = o; «record» = j }
 
 abbrev lent : Cells
 lent = cells (replicate 6 7) (replicate 3 8) (replicate 5 9)
@@ -202,21 +202,21 @@ doingRows =
     gives (97 ∷ 98 ∷ []) (select (cellsOn 1) ∷ select (cellsOn 1) ∷ out ∷ out ∷ []) ∷
     gives (98 ∷ []) (select (cellsOn 1) ∷ go (cellsOn 1) ∷ select (cellsOn 1) ∷ out ∷ []) ∷
     -- OutC, OutV and BeginSeq leave p and q
-    gives (99 ∷ 97 ∷ []) (select (cellsOn 1) ∷ outCharacter 99 ∷ out ∷ []) ∷
-    gives (97 ∷ 97 ∷ []) (select (cellsOn 1) ∷ outValue 0 ∷ out ∷ []) ∷
-    gives (97 ∷ []) (select (cellsOn 1) ∷ beginSequence ∷ out ∷ []) ∷
+    gives (99 ∷ 97 ∷ []) (select (cellsOn 1) ∷ outC 99 ∷ out ∷ []) ∷
+    gives (97 ∷ 97 ∷ []) (select (cellsOn 1) ∷ outV 0 ∷ out ∷ []) ∷
+    gives (97 ∷ []) (select (cellsOn 1) ∷ beginSeq ∷ out ∷ []) ∷
     -- UseSeq takes what came to out since the latest BeginSeq
-    gives (99 ∷ 100 ∷ []) (outCharacter 99 ∷ beginSequence ∷ outCharacter 100 ∷ useSequence ∷ out ∷ []) ∷
-    gives (99 ∷ 100 ∷ []) (beginSequence ∷ outCharacter 99 ∷ beginSequence ∷ outCharacter 100 ∷ useSequence ∷ out ∷ useSequence ∷ out ∷ []) ∷
+    gives (99 ∷ 100 ∷ []) (outC 99 ∷ beginSeq ∷ outC 100 ∷ useSeq ∷ out ∷ []) ∷
+    gives (99 ∷ 100 ∷ []) (beginSeq ∷ outC 99 ∷ beginSeq ∷ outC 100 ∷ useSeq ∷ out ∷ useSeq ∷ out ∷ []) ∷
     -- an emission moves p to q
     endedEmitting (97 ∷ 98 ∷ []) 1 (65 ∷ 32 ∷ 97 ∷ 10 ∷ []) (98 ∷ []) (doing (select (cellsOn 1) ∷ emission (65 ∷ []) ∷ select (cellsOn 1) ∷ out ∷ [])) ∷
     -- nothing comes after a tail call
-    bothGive [] (tailCall 2 ∷ outCharacter 120 ∷ []) [] ∷
+    bothGive [] (tailCall 2 ∷ outC 120 ∷ []) [] ∷
     -- a sequence is open in the application that opened it alone
-    stoppedWith 18 (97 ∷ 98 ∷ []) 2 [] (doingBoth (beginSequence ∷ call 2 ∷ []) (useSequence ∷ [])) ∷
+    stoppedWith 18 (97 ∷ 98 ∷ []) 2 [] (doingBoth (beginSeq ∷ call 2 ∷ []) (useSeq ∷ [])) ∷
     -- 18 comes before 14
-    stoppedWith 18 (97 ∷ 98 ∷ []) 1 [] (doing (outValue 0 ∷ outValue 0 ∷ outValue 0 ∷ outValue 1 ∷ [])) ∷
-    stoppedWith 14 (97 ∷ 98 ∷ []) 1 [] (doing (outValue 0 ∷ outValue 0 ∷ outValue 0 ∷ outValue 0 ∷ [])) ∷
+    stoppedWith 18 (97 ∷ 98 ∷ []) 1 [] (doing (outV 0 ∷ outV 0 ∷ outV 0 ∷ outV 1 ∷ [])) ∷
+    stoppedWith 14 (97 ∷ 98 ∷ []) 1 [] (doing (outV 0 ∷ outV 0 ∷ outV 0 ∷ outV 0 ∷ [])) ∷
     -- a span below zero counts as zero
     gives (97 ∷ 98 ∷ []) (go (record { register = null; add = 1; back = 3 }) ∷ select (field 0) ∷ out ∷ []) ∷
     gives [] (select (record { register = whole; add = 0; back = 3 }) ∷ out ∷ []) ∷ []
@@ -233,7 +233,7 @@ dr = record { register = right; add = 0; back = 0 }
 
 abbrev placelessRows : Metric → List Row
 placelessRows metric =
-    ended (97 ∷ 98 ∷ []) 1 (98 ∷ []) (placeless metric (look (fromPlace 0) 97 ∷ look (fromPlace 1) 98 ∷ []) (store (fromPlace 1) ∷ []) (outValue 0 ∷ [])) ∷
+    ended (97 ∷ 98 ∷ []) 1 (98 ∷ []) (placeless metric (look (fromPlace 0) 97 ∷ look (fromPlace 1) 98 ∷ []) (store (fromPlace 1) ∷ []) (outV 0 ∷ [])) ∷
     ended (97 ∷ 98 ∷ []) 1 []
     (placeless metric (predicatePart (fromPlace 0) (fromEnd 0) lower true ∷ predicatePart (fromStart 0) (fromPlace 0) digit true ∷ []) [] []) ∷
     stoppedWith 18 (97 ∷ 98 ∷ []) 1 [] (placeless metric (look (fromPlace 2) 97 ∷ []) [] []) ∷
@@ -258,11 +258,11 @@ abbrev stayRows : List Row
 stayRows =
     -- UseSeq: /../ab gives /ab
     endedCounting (47 ∷ 46 ∷ 46 ∷ 47 ∷ 97 ∷ 98 ∷ []) 2 (2 ∷ []) [] (47 ∷ 97 ∷ 98 ∷ [])
-    (pathSentence (beginSequence ∷ select (cellsOn 1) ∷ out ∷ go (cellsOn 3) ∷ select (field 4) ∷ useSequence ∷ tailCall 1 ∷ [])) ∷
+    (pathSentence (beginSeq ∷ select (cellsOn 1) ∷ out ∷ go (cellsOn 3) ∷ select (field 4) ∷ useSeq ∷ tailCall 1 ∷ [])) ∷
     -- Call: the callee leaves p where it was
     ended (97 ∷ 98 ∷ []) 2 (97 ∷ 98 ∷ []) (returning (field 0) []) ∷
     -- it puts a byte before p
-    ended (97 ∷ 98 ∷ []) 2 (99 ∷ 97 ∷ 98 ∷ []) (returning (field 0) (beginSequence ∷ outCharacter 99 ∷ useSequence ∷ [])) ∷
+    ended (97 ∷ 98 ∷ []) 2 (99 ∷ 97 ∷ 98 ∷ []) (returning (field 0) (beginSeq ∷ outC 99 ∷ useSeq ∷ [])) ∷
     -- it moves p to q, and past it
     ended (97 ∷ 98 ∷ []) 2 [] (returning (field 0) (go (field 0) ∷ [])) ∷
     ended (97 ∷ 98 ∷ []) 2 [] (returning (cellsOn 1) (go (cellsOn 2) ∷ [])) ∷ []

@@ -5,7 +5,7 @@ use mathlib.Core.List.{[], _∷_, map}
 use mathlib.Core.Option.{none, some}
 use Rattle.meaning.specs.Classes.{digit, upper, lower, alphabetic, blank}
 use Rattle.meaning.specs.Angles.{plus, minus}
-use Rattle.meaning.specs.Instructions.{fromStart, fromEnd, fromPlace, look, compare, predicate, predicatePart, unknownTest, store, unknownStore, null, whole, left, right, go, select, out, outCharacter, outValue, beginSequence, useSequence, call, tailCall, emission, compute, unknownAction, exactly, ends, middle, noMore, sentence, unknownSentence}
+use Rattle.meaning.specs.Instructions.{fromStart, fromEnd, fromPlace, look, compare, predicate, predicatePart, unknownTest, store, unknownStore, null, whole, left, right, go, select, out, outC, outV, beginSeq, useSeq, call, tailCall, emission, compute, unknownAction, exactly, ends, middle, noMore, sentence, unknownSentence}
 use Rattle.meaning.specs.Translation.{span}
 use Rattle.meaning.specs.Packing.{word, testOf, storeOf, unpackActions, metricIn, countsWord, testsIn, storesIn, bodyIn, unpackSentences}
 use Rattle.meaning.proofs.rows.Computing.{computing}
@@ -47,7 +47,7 @@ actions :
     word 14 2 1 1 ∷ 65 ∷ 255 ∷ word 14 1 0 0 ∷ 256 ∷ word 21 0 1 1 ∷ 277 ∷ word 21 2 0 0 ∷ word 20 0 0 0 ∷ word 22 0 0 0 ∷ word 4 0 0 0 ∷
     word 16 0 0 0 ∷ word 15 1 1 1 ∷ 7 ∷ [])
     ≡ go (span null 8 9) ∷ go (span whole 8 9) ∷ select (span left 8 9) ∷ select (span right 8 9) ∷ unknownAction
-    ∷ out ∷ outCharacter 97 ∷ outValue 15 ∷ beginSequence ∷ useSequence ∷ call 66051 ∷ tailCall 1
+    ∷ out ∷ outC 97 ∷ outV 15 ∷ beginSeq ∷ useSeq ∷ call 66051 ∷ tailCall 1
     ∷ emission (65 ∷ 255 ∷ []) ∷ unknownAction ∷ compute plus ∷ compute minus ∷ unknownAction ∷ unknownAction ∷ unknownAction
     ∷ unknownAction ∷ unknownAction ∷ []
 unfolding computing

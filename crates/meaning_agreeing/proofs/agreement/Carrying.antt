@@ -13,7 +13,7 @@ use Rattle.meaning.specs.Choice.{Bytes, nth}
 use Rattle.meaning.specs.Angles.{Operation, Angled, sum, notAngles, outOfRange, angled}
 use Rattle.meaning.specs.Outcome.{pay, Outcome, done, stop, andThen, computed}
 use Rattle.meaning.specs.Rewriting.{Course, emitting, tallyOf, before}
-use Rattle.meaning.specs.Instructions.{Length, null, whole, left, right, Span, Action, go, select, out, outCharacter, outValue, beginSequence, useSequence, call, tailCall, emission, compute, Code}
+use Rattle.meaning.specs.Instructions.{Length, null, whole, left, right, Span, Action, go, select, out, outC, outV, beginSeq, useSeq, call, tailCall, emission, compute, Code}
 use Rattle.meaning.specs.Machine.{Ledger, Stacks, Local, Ran, registerOf, spanOf, isDeclared, afterField, returned, withOpened, maxOpened, wherePayable, process}
 use Rattle.meaning.specs.Runs.{endless}
 
@@ -89,23 +89,23 @@ module _ (code : Code) (enter : Applying) (frame : ℕ) (more : List Action) (l 
   out-law front back o = rw (take-append-seam, drop-append-seam)
 
   pub character-law : (c n : ℕ) (i o : Bytes) →
-      doing code enter frame (outCharacter c ∷ more) l (stacks i n o) t ≡ doing code enter frame more l (stacks i n (o ++ c ∷ [])) t
+      doing code enter frame (outC c ∷ more) l (stacks i n o) t ≡ doing code enter frame more l (stacks i n (o ++ c ∷ [])) t
   unfolding process
   character-law c n i o = refl
 
   pub value-law : (k b n : ℕ) (i o : Bytes) → nth k (l .values) ≡ some b →
-      doing code enter frame (outValue k ∷ more) l (stacks i n o) t ≡ doing code enter frame more l (stacks i n (o ++ b ∷ [])) t
+      doing code enter frame (outV k ∷ more) l (stacks i n o) t ≡ doing code enter frame more l (stacks i n (o ++ b ∷ [])) t
   unfolding process
   value-law k b n i o e = rw e
 
   pub begin-law : (i o : Bytes) (n : ℕ) → length (l .opened) < maxOpened →
-      doing code enter frame (beginSequence ∷ more) l (stacks i n o) t ≡ doing code enter frame more (withOpened (length o ∷ l .opened) l) (stacks i n o) t
+      doing code enter frame (beginSeq ∷ more) l (stacks i n o) t ≡ doing code enter frame more (withOpened (length o ∷ l .opened) l) (stacks i n o) t
   unfolding process
   begin-law i o n h = rw (le-leb (suc (length (l .opened))) maxOpened h)
 
   -- the argument moves from out to just below p
   pub use-law : (rs : List ℕ) (i o argument : Bytes) →
-      doing code enter frame (useSequence ∷ more) (withOpened (length o ∷ rs) l) (stacks i 0 (o ++ argument)) t ≡
+      doing code enter frame (useSeq ∷ more) (withOpened (length o ∷ rs) l) (stacks i 0 (o ++ argument)) t ≡
       doing code enter frame more (withOpened rs l) (stacks (argument ++ i) (length argument) o) t
   unfolding process
   use-law rs i o argument = simp (take-append-seam, drop-append-seam, zero-add)

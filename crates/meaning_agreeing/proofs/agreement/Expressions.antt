@@ -15,7 +15,7 @@ use Rattle.meaning.specs.Answers.{allowanceSpent}
 use Rattle.meaning.specs.Outcome.{Tally, pay, Outcome, done, stop, andThen}
 use Rattle.meaning.specs.Rewriting.{Course, tallyOf, Bindings, before, partText, evaluate, calledAs, callNamed}
 use Rattle.meaning.specs.Allowed.{nesting}
-use Rattle.meaning.specs.Instructions.{Site, Action, go, select, out, useSequence, call, tailCall, emission, compute, Code}
+use Rattle.meaning.specs.Instructions.{Site, Action, go, select, out, useSeq, call, tailCall, emission, compute, Code}
 use Rattle.meaning.specs.Machine.{Stacks, Local, spanOf, isDeclared, afterField, returned, withOpened, maxOpened, wherePayable, process}
 use Rattle.meaning.specs.Runs.{endless}
 use Rattle.meaning.specs.Translation.{Shape, fixed, open₁, open₂, Stand, atStart, passageFirst, passageSecond, passage, restOf, nowhere, replaces, nests, Level, outermost, inside, inTail, isEnd, isLast, mannerAs, mannerOf, levelIn, isNone, endsPattern, leftFor, whereLeft, valueNumber, argumentReady, calling, items, passesRest, translatedFunction, translate}
@@ -207,7 +207,7 @@ module _ (table : Table) (shape : Shape) (sites : List (Named Site)) (bound : Bi
   left-at : (f : ℕ) (x : Name) (w : Stand) (coming : List Name) (before written : Bytes) (others : List ℕ) (t : Course)
       (m : Move shape l (standing .remaining) w (passage shape x w) (lookup x (bound .parts)) coming) → T (endsPattern shape x) →
       isDeclared (translate table) f ≡ true →
-      from (length before ∷ others) (go (passage shape x w .gap) ∷ useSequence ∷ select (passage shape x w .piece) ∷ tailCall f ∷ []) w
+      from (length before ∷ others) (go (passage shape x w .gap) ∷ useSeq ∷ select (passage shape x w .piece) ∷ tailCall f ∷ []) w
       (before ++ written) t ≡
       from (length before ∷ others) (go (restOf shape (passage shape x w .after)) ∷ argumentReady (tailCall f ∷ [])) (passage shape x w .after)
       ((before ++ written) ++ m .piece) t
@@ -231,7 +231,7 @@ module _ (table : Table) (shape : Shape) (sites : List (Named Site)) (bound : Bi
           (select-law (translate table) enter frame _ (withOpened others l) t (passage shape x w .piece) argument below before (length written)
           (rw (span-opened, length-append) (omega (arith, m .pieceSize))))
 
-      stays : from (length before ∷ others) (go (passage shape x w .gap) ∷ useSequence ∷ select (passage shape x w .piece) ∷ tailCall f ∷ []) w
+      stays : from (length before ∷ others) (go (passage shape x w .gap) ∷ useSeq ∷ select (passage shape x w .piece) ∷ tailCall f ∷ []) w
           (before ++ written) t ≡ applied
       stays =
           rw (m .whole, nothing-left x w ends, append-nil, append-assoc (m .gap) (m .piece) below)
@@ -252,7 +252,7 @@ module _ (table : Table) (shape : Shape) (sites : List (Named Site)) (bound : Bi
   left-law : (f : ℕ) (x : Name) (w : Stand) (coming : List Name) (k : Stand → List Action) (opened : List ℕ) (o : Bytes) (t : Course)
       (m : Move shape l (standing .remaining) w (passage shape x w) (lookup x (bound .parts)) coming) → T (endsPattern shape x) →
       Called (translate table) shape f k opened o →
-      from opened (go (passage shape x w .gap) ∷ useSequence ∷ select (passage shape x w .piece) ∷ tailCall f ∷ []) w o t ≡
+      from opened (go (passage shape x w .gap) ∷ useSeq ∷ select (passage shape x w .piece) ∷ tailCall f ∷ []) w o t ≡
       from opened (k (passage shape x w .after)) (passage shape x w .after) (o ++ m .piece) t
   left-law f x w coming k opened o t m ends c =
       rw (c .follows (passage shape x w .after), c .argued .isOpened, c .argued .isOut)
@@ -278,7 +278,7 @@ module _ (table : Table) (shape : Shape) (sites : List (Named Site)) (bound : Bi
       (moving : List Action) (r : Endless) →
       Ending (translate table) shape level k opened o → from opened moving w o t ≡ r →
       ((f : ℕ) → Called (translate table) shape f k opened o → T (isEnd e) → T (endsPattern shape x) →
-      from opened (go (passage shape x w .gap) ∷ useSequence ∷ select (passage shape x w .piece) ∷ tailCall f ∷ []) w o t ≡ r) →
+      from opened (go (passage shape x w .gap) ∷ useSeq ∷ select (passage shape x w .piece) ∷ tailCall f ∷ []) w o t ≡ r) →
       from opened (whereLeft (leftFor shape level x e) (passage shape x w) moving) w o t ≡ r
   left-or outermost x e w k opened o t moving r ending moved left = moved
   left-or inside x e w k opened o t moving r ending moved left = moved

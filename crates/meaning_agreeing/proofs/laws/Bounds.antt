@@ -6,7 +6,7 @@ use Prim.Native.Nat.{ℕ, suc, _+_, _*_, _≤_}
 use native.Mathlib.Omega.{arith}
 use lib.ListN.{length, length-append, length-map}
 use Rattle.meaning.specs.Choice.{Name}
-use Rattle.meaning.specs.Instructions.{Test, Store, Action, go, select, out, outCharacter, outValue, beginSequence, useSequence, call, tailCall, emission, compute, unknownAction, Sentences, noMore, sentence, unknownSentence, Code}
+use Rattle.meaning.specs.Instructions.{Test, Store, Action, go, select, out, outC, outV, beginSeq, useSeq, call, tailCall, emission, compute, unknownAction, Sentences, noMore, sentence, unknownSentence, Code}
 use Rattle.meaning.specs.Packing.{actionWords, packActions, bodyWords, packSentences, packFunctions, placesFrom, pack}
 use Rattle.meaning.proofs.laws.Packing.{places-length}
 
@@ -16,10 +16,10 @@ abbrev pub nameOf : Action → Name
 nameOf (go s) = []
 nameOf (select s) = []
 nameOf out = []
-nameOf (outCharacter c) = []
-nameOf (outValue k) = []
-nameOf beginSequence = []
-nameOf useSequence = []
+nameOf (outC c) = []
+nameOf (outV k) = []
+nameOf beginSeq = []
+nameOf useSeq = []
 nameOf (call f) = []
 nameOf (tailCall f) = []
 nameOf (emission n) = n
@@ -31,10 +31,10 @@ pub action-length : (a : Action) → length (actionWords a) ≡ 1 + length (name
 action-length (go s) = refl
 action-length (select s) = refl
 action-length out = refl
-action-length (outCharacter c) = refl
-action-length (outValue k) = refl
-action-length beginSequence = refl
-action-length useSequence = refl
+action-length (outC c) = refl
+action-length (outV k) = refl
+action-length beginSeq = refl
+action-length useSeq = refl
 action-length (call f) = refl
 action-length (tailCall f) = refl
 action-length (emission n) = omega arith

@@ -4,7 +4,7 @@ use mathlib.Core.Bool.{Bool, true, false}
 use mathlib.Core.List.{List, [], _∷_}
 use lib.Dec.{T}
 use Rattle.meaning.specs.Choice.{Bytes, either, nth}
-use Rattle.meaning.specs.Instructions.{Action, go, select, out, outCharacter, outValue, beginSequence, useSequence, call, tailCall, emission, unknownAction, Sentences, noMore, sentence, unknownSentence, Code, compute}
+use Rattle.meaning.specs.Instructions.{Action, go, select, out, outC, outV, beginSeq, useSeq, call, tailCall, emission, unknownAction, Sentences, noMore, sentence, unknownSentence, Code, compute}
 use Rattle.meaning.specs.Matching.{Found, foundAt, foundNone, foundWrong, Choice, chosen, chosenNone, chosenWrong, choiceOf, place, chooseFrom}
 use Rattle.meaning.specs.Machine.{Need, inCells, outCells, recordBytes, frames, functionOf, codeAt}
 
@@ -12,10 +12,10 @@ abbrev pub isCall : Action → Bool
 isCall (go s) = false
 isCall (select s) = false
 isCall out = false
-isCall (outCharacter c) = false
-isCall (outValue k) = false
-isCall beginSequence = false
-isCall useSequence = false
+isCall (outC c) = false
+isCall (outV k) = false
+isCall beginSeq = false
+isCall useSeq = false
 isCall (call f) = true
 isCall (tailCall f) = false
 isCall (emission n) = false

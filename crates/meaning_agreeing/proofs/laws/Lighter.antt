@@ -18,7 +18,7 @@ use Rattle.meaning.specs.Names.{numberOf, recovererOf}
 use Rattle.meaning.specs.Allowed.{allowed}
 use Rattle.meaning.specs.Answers.{noInstruction}
 use Rattle.meaning.specs.Outcome.{Tally, fresh, pay, emitted, emittedLine, done, stop, andThen, Result, resultOf, computed}
-use Rattle.meaning.specs.Instructions.{Site, Span, Action, go, select, out, outCharacter, outValue, beginSequence, useSequence, call, tailCall, emission, unknownAction, Metric, Test, Store, Sentences, noMore, sentence, Code, compute}
+use Rattle.meaning.specs.Instructions.{Site, Span, Action, go, select, out, outC, outV, beginSeq, useSeq, call, tailCall, emission, unknownAction, Metric, Test, Store, Sentences, noMore, sentence, Code, compute}
 use Rattle.meaning.specs.Matching.{Found, foundAt, foundNone, foundWrong, place, choiceOf, Choice, chosen, chosenNone, chosenWrong, chooseFrom, storedValues}
 use Rattle.meaning.specs.Machine.{Need, inCells, outCells, recordBytes, frames, onward, Watch, Ledger, Stacks, Local, Ran, Next, withTally, noting, whereThere, whereStored, whereOpened, wherePayable, maxOpened, spanOf, isDeclared, movedOn, withSelected, withOutput, withOpened, moved, afterField, returned, writing, perform, process, started, ranChoice, ranPaid, enter, functionOf, codeAt}
 use Rattle.meaning.specs.Runs.{Room, passes, Passed, firstPassed, endless, watching, loaded, from, textOf, markOf, passedFirst}
@@ -37,8 +37,8 @@ pub data Alike : List Action → List Action → Type 0 where
   nothing : Alike [] []
   same : {xs ys : List Action} (a : Action) → Alike xs ys → Alike (a ∷ xs) (a ∷ ys)
   left : (gap piece : Span) (f : ℕ) →
-      Alike (go gap ∷ select piece ∷ out ∷ go nowhere ∷ useSequence ∷ select nowhere ∷ tailCall f ∷ [])
-      (go gap ∷ useSequence ∷ select piece ∷ tailCall f ∷ [])
+      Alike (go gap ∷ select piece ∷ out ∷ go nowhere ∷ useSeq ∷ select nowhere ∷ tailCall f ∷ [])
+      (go gap ∷ useSeq ∷ select piece ∷ tailCall f ∷ [])
 
 -- the same sentences but for their actions, which are alike
 pub data AlikeSentences : Sentences → Sentences → Type 0 where
@@ -152,18 +152,18 @@ module _ (A : Type 0) (step : Need → Tally → A → A) (Under : A → A → T
         noted base (λ t. outCells (length (s .output) + s .selected)) _ _
         (r l (movedOn (s .selected) (withOutput (s .output ++ take (s .selected) (s .input)) s))
         (longer (s .output) (take (s .selected) (s .input)) c))
-    performs next₀ next r (outCharacter b) l s c =
+    performs next₀ next r (outC b) l s c =
         noted base (λ t. outCells (suc (length (s .output)))) _ _ (r l (withOutput (s .output ++ b ∷ []) s) (longer (s .output) (b ∷ []) c))
-    performs next₀ next r (outValue k) l s c = stored (nth k (l .values))
+    performs next₀ next r (outV k) l s c = stored (nth k (l .values))
       where
         stored : (o : Option ℕ) → Less base (λ g. whereStored W o g (λ b. writing W b s g (next₀ l)))
             (λ g. whereStored W o g (λ b. writing W b s g (next l)))
         stored none = wrong base
         stored (some b) =
             noted base (λ t. outCells (suc (length (s .output)))) _ _ (r l (withOutput (s .output ++ b ∷ []) s) (longer (s .output) (b ∷ []) c))
-    performs next₀ next r beginSequence l s c =
+    performs next₀ next r beginSeq l s c =
         there base (ltb (length (l .opened)) maxOpened) _ _ (r (withOpened (length (s .output) ∷ l .opened) l) s (above (omega arith) c))
-    performs next₀ next r useSequence l s c = opened (l .opened) c
+    performs next₀ next r useSeq l s c = opened (l .opened) c
       where
         opened : (rs : List ℕ) → Chain base (length (s .output)) rs →
             Less base (λ g. whereOpened W rs g (λ x rs. noting W (inCells (length (drop x (s .output)) + length (s .input))) g
@@ -202,8 +202,8 @@ module _ (A : Type 0) (step : Need → Tally → A → A) (Under : A → A → T
     -- the part moved to out and back, or left: both come to the same stacks
     closes : (piece : Span) (f : ℕ) (l : Local) (r : ℕ) (rs : List ℕ) (i o : Bytes) (p : ℕ) → l .opened ≡ r ∷ rs → r ≤ length o → p ≤ length i →
         spanOf piece l ≡ p → Chain base r rs →
-        Less base (process W code₀ e₀ frame (go nowhere ∷ useSequence ∷ select nowhere ∷ tailCall f ∷ []) l (on (drop p i) 0 (o ++ take p i)))
-        (process W code e frame (useSequence ∷ select piece ∷ tailCall f ∷ []) l (on i 0 o))
+        Less base (process W code₀ e₀ frame (go nowhere ∷ useSeq ∷ select nowhere ∷ tailCall f ∷ []) l (on (drop p i) 0 (o ++ take p i)))
+        (process W code e frame (useSeq ∷ select piece ∷ tailCall f ∷ []) l (on i 0 o))
     unfolding process
     closes piece f l r rs i o p opened low short size-p chain =
         let total : length (drop r o ++ take p i) + length (drop p i) ≡ length (drop r o) + length i =
@@ -240,17 +240,17 @@ module _ (A : Type 0) (step : Need → Tally → A → A) (Under : A → A → T
         after = on (drop r o ++ i) (length (drop r o) + p) (take r o)
 
     stays : (gap piece : Span) (f : ℕ) → Goes
-        (process W code₀ e₀ frame (go gap ∷ select piece ∷ out ∷ go nowhere ∷ useSequence ∷ select nowhere ∷ tailCall f ∷ []))
-        (process W code e frame (go gap ∷ useSequence ∷ select piece ∷ tailCall f ∷ []))
+        (process W code₀ e₀ frame (go gap ∷ select piece ∷ out ∷ go nowhere ∷ useSeq ∷ select nowhere ∷ tailCall f ∷ []))
+        (process W code e frame (go gap ∷ useSeq ∷ select piece ∷ tailCall f ∷ []))
     unfolding process
     stays gap piece f l s c =
         there base (leb (spanOf gap l) (length (s .input))) _ _
         (ends (drop (spanOf gap l) (s .input)) (l .opened) refl c (leb (spanOf piece l) (length (drop (spanOf gap l) (s .input)))) refl)
       where
         ends : (i : Bytes) (rs : List ℕ) → l .opened ≡ rs → Chain base (length (s .output)) rs → (q : Bool) → leb (spanOf piece l) (length i) ≡ q →
-            Less base (process W code₀ e₀ frame (select piece ∷ out ∷ go nowhere ∷ useSequence ∷ select nowhere ∷ tailCall f ∷ []) l
+            Less base (process W code₀ e₀ frame (select piece ∷ out ∷ go nowhere ∷ useSeq ∷ select nowhere ∷ tailCall f ∷ []) l
             (on i 0 (s .output)))
-            (process W code e frame (useSequence ∷ select piece ∷ tailCall f ∷ []) l (on i 0 (s .output)))
+            (process W code e frame (useSeq ∷ select piece ∷ tailCall f ∷ []) l (on i 0 (s .output)))
         ends i [] opened c true fits = record { each = λ t m₀ m u. rw (zero-add, fits, zero-fits, opened) bothWrong }
         ends i [] opened c false fits = record { each = λ t m₀ m u. rw (zero-add, fits, opened) bothWrong }
         ends i (r ∷ rs) opened c false fits =
@@ -336,7 +336,7 @@ module _ (table : Table) (shape : Shape) (sites : List (Named Site)) where
         Levels inside (inTail f) k
 
   same-ready : {xs ys : List Action} → Alike xs ys → Alike (argumentReady xs) (argumentReady ys)
-  same-ready a = same useSequence (same (select nowhere) a)
+  same-ready a = same useSeq (same (select nowhere) a)
 
   same-call : (m : Manner) (number : ℕ) (n : Name) (w : Stand) {xs ys : List Action} → Alike xs ys →
       Alike (calling shape m number n w xs) (calling shape m number n w ys)
@@ -386,12 +386,12 @@ module _ (table : Table) (shape : Shape) (sites : List (Named Site)) where
       Alike (earlierItems table shape sites level₀ e w k₀) (items table shape sites level e w k)
   unfolding earlierItems items
   alike-items v end w a = a w
-  alike-items v (thenCharacter c e) w a = same (outCharacter c) (alike-items v e w a)
+  alike-items v (thenCharacter c e) w a = same (outC c) (alike-items v e w a)
   alike-items v (thenSymbol x e) w a = same _ (alike-items v e w a)
   alike-items v (thenPart x e) w a = alike-part v x w e (alike-items v e (passage shape x w .after) a)
   alike-items {level₀} {level} {k₀} {k} v (thenCall place n b e) w a =
       rw (same-manner v e n)
-      (same beginSequence
+      (same beginSeq
       (alike-items (argument-level (mannerOf level e n) (numberOf table n) n (λ w₁. earlierItems table shape sites level₀ e w₁ k₀)) b w
       (λ w₁. same-call (mannerOf level e n) (numberOf table n) n w₁ (alike-items v e w₁ a))))
 

@@ -7,7 +7,7 @@ use lib.ListN.{length, length-append}
 use Rattle.meaning.specs.Choice.{Name, every}
 use Rattle.meaning.specs.Tree.{Table}
 use Rattle.meaning.specs.Allowed.{isByte, allowed}
-use Rattle.meaning.specs.Instructions.{Test, look, compare, predicate, predicatePart, unknownTest, Store, store, unknownStore, Span, Action, go, select, out, outCharacter, outValue, beginSequence, useSequence, call, tailCall, emission, compute, unknownAction, Metric, exactly, ends, middle, Sentences, Code}
+use Rattle.meaning.specs.Instructions.{Test, look, compare, predicate, predicatePart, unknownTest, Store, store, unknownStore, Span, Action, go, select, out, outC, outV, beginSeq, useSeq, call, tailCall, emission, compute, unknownAction, Metric, exactly, ends, middle, Sentences, Code}
 use Rattle.meaning.specs.Translation.{translate}
 use Rattle.meaning.specs.Packing.{word, operationNumber, testWord, storeWord, spanWord, actionWords, packActions, maxStored, metricWord, countsWord, packSentences, packFunctions, placesFrom, pack}
 use Rattle.meaning.proofs.laws.Passing.{every-head, every-tail}
@@ -59,10 +59,10 @@ module _ (limit : ℕ) (low : limit ≤ 2 ^ 24) where
   action-narrow (go s) f = one (span-narrow 5 s (omega arith) f)
   action-narrow (select s) f = one (span-narrow 6 s (omega arith) f)
   action-narrow out f = one (operand-narrow 7 0 (omega arith) (omega arith))
-  action-narrow (outCharacter c) f = one (operand-narrow 8 c (omega arith) f)
-  action-narrow (outValue k) f = one (operand-narrow 9 k (omega arith) f)
-  action-narrow beginSequence f = one (operand-narrow 10 0 (omega arith) (omega arith))
-  action-narrow useSequence f = one (operand-narrow 11 0 (omega arith) (omega arith))
+  action-narrow (outC c) f = one (operand-narrow 8 c (omega arith) f)
+  action-narrow (outV k) f = one (operand-narrow 9 k (omega arith) f)
+  action-narrow beginSeq f = one (operand-narrow 10 0 (omega arith) (omega arith))
+  action-narrow useSeq f = one (operand-narrow 11 0 (omega arith) (omega arith))
   action-narrow (call n) f = one (called-narrow 12 n (omega arith) f)
   action-narrow (tailCall n) f = one (called-narrow 13 n (omega arith) f)
   action-narrow (emission n) f = cons (operand-narrow 14 (length n) (omega arith) (f .0)) (bytes-narrow n (f .1))

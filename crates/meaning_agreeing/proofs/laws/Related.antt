@@ -12,7 +12,7 @@ use Rattle.meaning.specs.Choice.{Bytes, Name, nth}
 use Rattle.meaning.specs.Angles.{Angled, sum, notAngles, outOfRange, angled}
 use Rattle.meaning.specs.Answers.{noSentenceFits, allowanceSpent, noInstruction, argumentNotAngles, angleOutOfRange}
 use Rattle.meaning.specs.Outcome.{Tally, pay, emitted, emittedLine, done, stop, andThen, computed}
-use Rattle.meaning.specs.Instructions.{Action, go, select, out, outCharacter, outValue, beginSequence, useSequence, call, tailCall, emission, compute, unknownAction, Code}
+use Rattle.meaning.specs.Instructions.{Action, go, select, out, outC, outV, beginSeq, useSeq, call, tailCall, emission, compute, unknownAction, Code}
 use Rattle.meaning.specs.Matching.{Choice, chosen, chosenNone, chosenWrong, chooseFrom, storedValues}
 use Rattle.meaning.specs.Machine.{Need, inCells, outCells, recordBytes, frames, Watch, Ledger, Stacks, Local, Ran, Next, withTally, noting, whereThere, whereStored, whereOpened, wherePayable, maxOpened, spanOf, isDeclared, movedOn, withSelected, withOutput, withOpened, moved, afterField, returned, writing, perform, process, started, ranChoice, ranPaid, enter, codeAt}
 use Rattle.meaning_agreeing.proofs.laws.Framing.{isFrames, isCall, anyCall, choiceCalls, either-left, either-right}
@@ -102,12 +102,12 @@ module _ (W U : Watch) (Nesting : Type 0) (R : Relation W U) (closed : Closed W 
     performs next next′ frame r out calls l s =
         closed .notes (λ t. outCells (length (s .output) + s .selected)) (λ t h. absurd h) _ _
         (r l (movedOn (s .selected) (withOutput (s .output ++ take (s .selected) (s .input)) s)))
-    performs next next′ frame r (outCharacter c) calls l s = writes c s _ _ (r l)
-    performs next next′ frame r (outValue k) calls l s =
+    performs next next′ frame r (outC c) calls l s = writes c s _ _ (r l)
+    performs next next′ frame r (outV k) calls l s =
         keptValue (nth k (l .values)) (λ b g. writing W b s g (next l)) (λ b g. writing U b s g (next′ l)) (λ b. writes b s _ _ (r l))
-    performs next next′ frame r beginSequence calls l s =
+    performs next next′ frame r beginSeq calls l s =
         there (ltb (length (l .opened)) maxOpened) _ _ (r (withOpened (length (s .output) ∷ l .opened) l) s)
-    performs next next′ frame r useSequence calls l s =
+    performs next next′ frame r useSeq calls l s =
         openedAt (l .opened)
         (λ r rs g. noting W (inCells (length (drop r (s .output)) + length (s .input))) g (next (withOpened rs l) (moved r s)))
         (λ r rs g. noting U (inCells (length (drop r (s .output)) + length (s .input))) g (next′ (withOpened rs l) (moved r s)))

@@ -13,7 +13,7 @@ use Rattle.meaning.specs.Tree.{Letter, Subject, ofSymbol, ofPart, Condition, Ex
 use Rattle.meaning.specs.Classes.{Class}
 use Rattle.meaning.specs.Names.{numberFrom, numberOf, recoverPrefix, isRecovering, recovererOf}
 use Rattle.meaning.specs.Allowed.{isByte, member, spelledName, spelledElement, lettersIn, symbolsOf, maxLetters, maxSymbols, maxConditions, maxItems, maxName, itemsIn, spelledItems, allowedSentence, allowedFunction, allowed, sentencesIn, maxFunctions, maxSentences}
-use Rattle.meaning.specs.Instructions.{Site, Test, Store, store, Span, Action, go, select, out, outCharacter, outValue, beginSequence, useSequence, call, tailCall, emission, Metric, Code, compute}
+use Rattle.meaning.specs.Instructions.{Site, Test, Store, store, Span, Action, go, select, out, outC, outV, beginSeq, useSeq, call, tailCall, emission, Metric, Code, compute}
 use Rattle.meaning.specs.Translation.{Shape, fixed, open₁, open₂, shapeOf, metricOf, Tested, testedShape, siteOr, Bounds, boundsOf, subjectTest, conditionTest, testsOf, storesOf, valueFrom, valueNumber, Stand, atStart, afterFirst, afterSecond, nowhere, Passage, passageFirst, gapToSecond, passageSecond, passage, restOf, Manner, emits, replaces, nests, Level, outermost, inside, inTail, isEnd, mannerOf, levelIn, endsPattern, leftFor, whereLeft, argumentReady, calling, items, passesRest, actionsOf, translatedSentences, translatedFunction, translate, computes}
 use Rattle.meaning.specs.Packing.{Words, pack, unpack}
 use Rattle.meaning.proofs.laws.Choosing.{of-either}
@@ -122,10 +122,10 @@ pub record Kinds (table : Table) (P : Action → Type 0) : Type 0 where
   pub goes : (s : Span) → FitsSpan s → P (go s)
   pub selects : (s : Span) → FitsSpan s → P (select s)
   pub outs : P out
-  pub characters : (c : ℕ) → c < 256 → P (outCharacter c)
-  pub values : (k : ℕ) → k < 256 → P (outValue k)
-  pub begins : P beginSequence
-  pub uses : P useSequence
+  pub characters : (c : ℕ) → c < 256 → P (outC c)
+  pub values : (k : ℕ) → k < 256 → P (outV k)
+  pub begins : P beginSeq
+  pub uses : P useSeq
   pub calls : (n : Name) → P (call (numberOf table n))
   pub tailCalls : (n : Name) → P (tailCall (numberOf table n))
   pub emissions : (n : Name) → T (spelledName n) → P (emission n)

@@ -9,7 +9,7 @@ use lib.ListN.{length, getD, take, drop, set, length-drop, length-take, length-s
 use lib.Seq.{drop-drop, length-take-le, take-suc-set, paste, take-paste, take-length, length-paste, getD-take, getD-drop}
 use borrow.Author.Tests.{le-leb, lt-leb, lt-ltb, le-ltb}
 use Rattle.meaning.specs.Choice.{Bytes, nth}
-use Rattle.meaning.specs.Instructions.{Action, go, select, out, outCharacter, outValue, Code}
+use Rattle.meaning.specs.Instructions.{Action, go, select, out, outC, outV, Code}
 use Rattle.meaning.specs.Instructions.{Length as Register}
 use Rattle.meaning.specs.Machine.{Stacks, registerOf, perform}
 use Rattle.meaning.specs.Outcome.{stop}
@@ -64,7 +64,7 @@ module _ (g : Registers) (m : Memory) where
 
   -- only p, q, r and cells of the stacks change
   stayed : (p q r : ℕ) (input output : Bytes) → (Fits g m → p ≤ q) → (Fits g m → q ≤ length input) → (Fits g m → r ≤ length output) →
-      Stayed (g .at .0) g m (movedTo g p q r) (memory input output (m .journal) (m .frames) (m .values))
+      Stayed (g .at .0) g m (movedTo g p q r) (memory input output (m .«record») (m .frames) (m .values))
   stayed p q r input output o i b =
       record {
         fits = λ f. record {
@@ -161,14 +161,14 @@ module _ (g : Registers) (m : Memory) where
   -- OUT, OUTC, OUTV
 
   module _ (r≤out : g .r .0 ≤ length (m .output)) where
-    pub byte-full : (b : ℕ) → length (m .output) ≤ g .r .0 → Acts (outCharacter b) (g .at .0) g m (Stopped g OutFull 0) m
+    pub byte-full : (b : ℕ) → length (m .output) ≤ g .r .0 → Acts (outC b) (g .at .0) g m (Stopped g OutFull 0) m
     byte-full b h =
         let full : length (m .output) < suc (g .r .0) = omega arith in
         stops _ _ OutFull (λ allowance code enter k. rw (length-take-le (g .r .0) (m .output) r≤out, lt-ltb _ _ full))
 
     pub byte-written : (b : ℕ) → g .r .0 < length (m .output) →
-        Acts (outCharacter b) (g .at .0) g m (Onward (movedTo g (g .p .0) (g .q .0) (g .r .0 + 1)))
-        (memory (m .input) (set (m .output) (g .r .0) b) (m .journal) (m .frames) (m .values))
+        Acts (outC b) (g .at .0) g m (Onward (movedTo g (g .p .0) (g .q .0) (g .r .0 + 1)))
+        (memory (m .input) (set (m .output) (g .r .0) b) (m .«record») (m .frames) (m .values))
     byte-written b h =
         record {
           same = λ allowance code enter k.
@@ -191,7 +191,7 @@ module _ (g : Registers) (m : Memory) where
 
       pub text-written : g .p .0 ≤ g .q .0 → length text ≤ length (m .output) - g .r .0 →
           Acts action (g .at .0) g m (Onward (movedTo g (g .q .0) (g .q .0) (g .r .0 + length text)))
-          (memory (m .input) (paste (m .output) (g .r .0) text (length text)) (m .journal) (m .frames) (m .values))
+          (memory (m .input) (paste (m .output) (g .r .0) text (length text)) (m .«record») (m .frames) (m .values))
       text-written o h =
           let there : g .r .0 + length text ≤ length (m .output) = omega arith in
           let end : g .p .0 + (g .q .0 - g .p .0) ≡ g .q .0 = omega arith in
@@ -215,12 +215,12 @@ module _ (g : Registers) (m : Memory) where
   part-writes i = record { same = λ allowance code enter k. rw (part-long (m .input) (g .p .0) (g .q .0) i) }
 
   -- a stored value is written as a character is
-  pub value-none : (k : ℕ) → frameWord (g .frame) 4 (m .frames) ≤ k → Acts (outValue k) (g .at .0) g m (Stopped g NoInstruction 0) m
+  pub value-none : (k : ℕ) → frameWord (g .frame) 4 (m .frames) ≤ k → Acts (outV k) (g .at .0) g m (Stopped g NoInstruction 0) m
   value-none k h = stops _ _ NoInstruction (λ allowance code enter next. rw (nth-out (localOf g m .values) k (rw length-take (omega arith))))
 
   pub value-written : (k : ℕ) (next : Next) (n : Memory) → k < frameWord (g .frame) 4 (m .frames) → frameWord (g .frame) 4 (m .frames) ≤ 16 → HasValues (g .frame) (m .values) →
-      Acts (outCharacter (getD (m .values) (16 * g .frame + k) 0)) (g .at .0) g m next n →
-      Acts (outValue k) (g .at .0) g m next n
+      Acts (outC (getD (m .values) (16 * g .frame + k) 0)) (g .at .0) g m next n →
+      Acts (outV k) (g .at .0) g m next n
   value-written k next n h few there a =
       record {
         same = λ allowance code enter k′. rw (stored-value (g .frame) k (frameWord (g .frame) 4 (m .frames)) (m .values) h few there) (a .same allowance code enter k′);

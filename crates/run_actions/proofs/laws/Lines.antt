@@ -11,7 +11,7 @@ use Rattle.meaning.specs.Choice.{Bytes}
 use Rattle.meaning.specs.Outcome.{emittedLine}
 use Rattle.meaning.specs.Packing.{Words, emissionOf}
 use Rattle.run_actions.specs.declared.registers.Registers.{Registers}
-use Rattle.run_actions.specs.declared.registers.Ending.the-variants.{NoInstruction, JournalFull}
+use Rattle.run_actions.specs.declared.registers.Ending.the-variants.{NoInstruction, RecordFull}
 use Rattle.run_actions.specs.declared.registers.Next.the-variants.{Onward, Stopped}
 use Rattle.run_decoding.specs.Decoded.{isName}
 use Rattle.run_actions.specs.States.{Memory, memory, Acts}
@@ -26,7 +26,7 @@ module _ (g : Registers) (m : Memory) (words : Words) (n : ℕ) where
   pub emission-wrong : isName n (drop (g .at .0) words) ≡ false → Acts (emissionOf n (drop (g .at .0) words)) (g .at .0 + n) g m (Stopped g NoInstruction 0) m
   emission-wrong e = stops g m _ _ NoInstruction (λ allowance code enter k. rw e)
 
-  module _ (p≤q : g .p .0 ≤ g .q .0) (q≤in : g .q .0 ≤ length (m .input)) (logged : g .emitted ≤ length (m .journal))
+  module _ (p≤q : g .p .0 ≤ g .q .0) (q≤in : g .q .0 ≤ length (m .input)) (logged : g .emitted ≤ length (m .«record»))
       (known : isName n (drop (g .at .0) words) ≡ true) where
     -- the line that is emitted, and its length
     abbrev line : Bytes
@@ -43,13 +43,13 @@ module _ (g : Registers) (m : Memory) (words : Words) (n : ℕ) where
           part-long (m .input) (g .p .0) (g .q .0) q≤in,
         )
 
-    pub emission-full : length (m .journal) - g .emitted < size → Acts (emissionOf n (drop (g .at .0) words)) (g .at .0 + n) g m (Stopped g JournalFull 0) m
+    pub emission-full : length (m .«record») - g .emitted < size → Acts (emissionOf n (drop (g .at .0) words)) (g .at .0 + n) g m (Stopped g RecordFull 0) m
     emission-full h =
-        let full : length (m .journal) < g .emitted + size = omega arith in
-        stops g m _ _ JournalFull (λ allowance code enter k.
-        rw (known, length-take-le (g .emitted) (m .journal) logged, sized, lt-ltb (length (m .journal)) (g .emitted + size) full))
+        let full : length (m .«record») < g .emitted + size = omega arith in
+        stops g m _ _ RecordFull (λ allowance code enter k.
+        rw (known, length-take-le (g .emitted) (m .«record») logged, sized, lt-ltb (length (m .«record»)) (g .emitted + size) full))
 
-    pub emission-written : size ≤ length (m .journal) - g .emitted →
+    pub emission-written : size ≤ length (m .«record») - g .emitted →
         Acts (emissionOf n (drop (g .at .0) words)) (g .at .0 + n) g m
         (Onward (record {
           p = g .q;
@@ -61,22 +61,22 @@ module _ (g : Registers) (m : Memory) (words : Words) (n : ℕ) where
           emitted = g .emitted + size;
           callee = g .callee;
         }))
-        (memory (m .input) (m .output) (paste (m .journal) (g .emitted) line size) (m .frames) (m .values))
+        (memory (m .input) (m .output) (paste (m .«record») (g .emitted) line size) (m .frames) (m .values))
     emission-written h =
-        let there : g .emitted + size ≤ length (m .journal) = omega arith in
+        let there : g .emitted + size ≤ length (m .«record») = omega arith in
         let end : g .p .0 + (g .q .0 - g .p .0) ≡ g .q .0 = omega arith in
         let long : size ≤ length line = omega (arith, sized) in
         record {
           same = λ allowance code enter k.
               rw (
                 known,
-                length-take-le (g .emitted) (m .journal) logged,
+                length-take-le (g .emitted) (m .«record») logged,
                 sized,
-                le-ltb (length (m .journal)) (g .emitted + size) there,
+                le-ltb (length (m .«record»)) (g .emitted + size) there,
                 drop-drop (g .q .0 - g .p .0) (g .p .0) (m .input),
                 end,
                 sub-self (g .q .0),
-                take-paste (m .journal) (g .emitted) line size logged long,
+                take-paste (m .«record») (g .emitted) line size logged long,
                 take-all size line (omega (arith, sized)),
               );
           stays = record {
@@ -84,7 +84,7 @@ module _ (g : Registers) (m : Memory) (words : Words) (n : ℕ) where
               ordered = omega arith;
               inside = f .inside;
               below = f .below;
-              logged = rw (length-paste (m .journal) (g .emitted) line size there long) there;
+              logged = rw (length-paste (m .«record») (g .emitted) line size there long) there;
               framed = f .framed;
               held = f .held;
               frameRoom = f .frameRoom;
@@ -97,6 +97,6 @@ module _ (g : Registers) (m : Memory) (words : Words) (n : ℕ) where
             waiting = refl;
             counts = refl;
             values = refl;
-            beyond = λ old e. drop-paste (m .journal) (g .emitted) line size logged long ∙ further (m .journal) old (g .emitted) size e;
+            beyond = λ old e. drop-paste (m .«record») (g .emitted) line size logged long ∙ further (m .«record») old (g .emitted) size e;
           };
         }

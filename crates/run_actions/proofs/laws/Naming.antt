@@ -1,4 +1,4 @@
--- An emission's name in the code words, and its line in the journal.
+-- An emission's name in the code words, and its line in the record.
 use Prim.Native.Nat.{ℕ, zero, suc, _+_, _-_, _%_, _≤_, _<_}
 use native.Mathlib.Nat.{not-suc-le-zero, le-of-suc-le-suc, mod-eq-of-lt, add-assoc, add-zero, sub-zero}
 use native.Mathlib.Numerals.{add-one}

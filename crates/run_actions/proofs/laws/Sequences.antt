@@ -7,7 +7,7 @@ use lib.ListN.{length, take, drop, take-append-drop, length-drop}
 use lib.Seq.{take-set-lt, drop-set-lt, length-take-le, take-take, drop-drop}
 use borrow.Author.Tests.{lt-ltb, le-ltb}
 use Rattle.meaning.specs.Choice.{Bytes}
-use Rattle.meaning.specs.Instructions.{beginSequence, useSequence}
+use Rattle.meaning.specs.Instructions.{beginSeq, useSeq}
 use Rattle.meaning.specs.Machine.{withOpened}
 use Rattle.run_actions.specs.declared.registers.Registers.{Registers}
 use Rattle.run_actions.specs.declared.registers.Ending.the-variants.{NoInstruction, InFull}
@@ -73,12 +73,12 @@ module _ (g : Registers) (m : Memory) (there : HasFrame (g .frame) (m .frames)) 
 
   -- BEGINSEQ
 
-  pub begin-many : count ≤ 16 → 16 ≤ count → Acts beginSequence (g .at .0) g m (Stopped g NoInstruction 0) m
+  pub begin-many : count ≤ 16 → 16 ≤ count → Acts beginSeq (g .at .0) g m (Stopped g NoInstruction 0) m
   begin-many few h =
       stops g m _ _ NoInstruction (λ allowance code enter k. rw (opened-count (m .frames) (g .frame) there count (omega arith), le-ltb count 16 h))
 
   pub begin-kept : g .r .0 ≤ length (m .output) → count < 16 →
-      Acts beginSequence (g .at .0) g m (Onward g) (memory (m .input) (m .output) (m .journal) (openedAt (g .frame) (g .r .0) (m .frames)) (m .values))
+      Acts beginSeq (g .at .0) g m (Onward g) (memory (m .input) (m .output) (m .«record») (openedAt (g .frame) (g .r .0) (m .frames)) (m .values))
   begin-kept r≤out h =
       let frames₁ = withWord (g .frame) (23 - count) (g .r .0) (m .frames) in
       let there₁ : HasFrame (g .frame) frames₁ = stored-there (m .frames) (g .frame) (23 - count) (g .r .0) there in
@@ -130,10 +130,10 @@ module _ (g : Registers) (m : Memory) (there : HasFrame (g .frame) (m .frames)) 
     abbrev pub mark : ℕ
     mark = frameWord (g .frame) (24 - count) (m .frames)
 
-    pub use-none : count ≡ 0 → Acts useSequence (g .at .0) g m (Stopped g NoInstruction 0) m
+    pub use-none : count ≡ 0 → Acts useSeq (g .at .0) g m (Stopped g NoInstruction 0) m
     use-none e = stops g m _ _ NoInstruction (λ allowance code enter k. rw (e, opened-none (m .frames) (g .frame) there))
 
-    pub use-full : (count ≡ 0 → ⊥) → g .p .0 < g .r .0 - min mark (g .r .0) → Acts useSequence (g .at .0) g m (Stopped g InFull 0) m
+    pub use-full : (count ≡ 0 → ⊥) → g .p .0 < g .r .0 - min mark (g .r .0) → Acts useSeq (g .at .0) g m (Stopped g InFull 0) m
     use-full ne h =
         let full : length (m .input) < (g .r .0 - mark) + (length (m .input) - g .p .0) = omega arith in
         stops g m _ _ InFull (λ allowance code enter k.
@@ -156,7 +156,7 @@ module _ (g : Registers) (m : Memory) (there : HasFrame (g .frame) (m .frames)) 
     module _ (to : ℕ) (input : Bytes) (begins : to + size ≡ g .p .0)
         (cells : input ≡ moved size (m .input) (g .p .0) (m .output) (g .r .0)) where
       abbrev pub afterUse : Memory
-      afterUse = memory input (m .output) (m .journal) (withWord (g .frame) 5 (count - 1) (m .frames)) (m .values)
+      afterUse = memory input (m .output) (m .«record») (withWord (g .frame) 5 (count - 1) (m .frames)) (m .values)
 
       -- out up to r, cut where the sequence begins
       argument : drop mark (take (g .r .0) (m .output)) ≡ drop first (take (g .r .0) (m .output))
@@ -180,7 +180,7 @@ module _ (g : Registers) (m : Memory) (there : HasFrame (g .frame) (m .frames)) 
           sym (take-append-drop size (drop to input)) ∙ rw (drop-drop size to input, begins, moved, whole .above)
 
       pub use-moved : (count ≡ 0 → ⊥) → length input ≡ length (m .input) →
-          Acts useSequence (g .at .0) g m (Onward (movedTo g to (g .q .0) first)) afterUse
+          Acts useSeq (g .at .0) g m (Onward (movedTo g to (g .q .0) first)) afterUse
       use-moved ne long =
           let free : (g .r .0 - mark) + (length (m .input) - g .p .0) ≤ length (m .input) = omega arith in
           let selected : (g .q .0 - g .p .0) + (g .r .0 - mark) ≡ g .q .0 - to =

@@ -12,7 +12,7 @@ use Rattle.run_applications.proofs.apply.Statement.{statement}
 use Rattle.run_applications.proofs.apply.Tie as tie
 
 returns : tie.Need-returns
-returns c = λ output journal. apply-spent _ _ _ _ _ (c .if1 .taken)
+returns c = λ output «record». apply-spent _ _ _ _ _ (c .if1 .taken)
 
 -- WHERE A SENTENCE IS CHOSEN: what is required of the function, the step that is left, and which sentence is meant
 
@@ -56,18 +56,18 @@ returns-2 c =
     let at-place = at-start-sentence .before .before .before .before in
     let at-choose = at-place .before .before in
     let v = at-place .place .given .0 in
-    λ output journal. apply-starts _ _ _ _ _ (may at-choose) (v .0) (v .1 .0) (v .1 .1 .0 .0) (v .1 .1 .1 .0) _ _ (at-count at-choose .count-application .ensures) (meant at-choose _ (at-place .place .given .1))
-    (at-start-sentence .start-sentence .ensures _ output journal)
+    λ output «record». apply-starts _ _ _ _ _ (may at-choose) (v .0) (v .1 .0) (v .1 .1 .0 .0) (v .1 .1 .1 .0) _ _ (at-count at-choose .count-application .ensures) (meant at-choose _ (at-place .place .given .1))
+    (at-start-sentence .start-sentence .ensures _ output «record»)
 
 returns-3 : tie.Need-returns-3
 returns-3 c =
     let at-recoverer = c .before .before in
     let at-choose = at-recoverer .before .before in
-    λ output journal. rw (at-count at-choose .count-application .ensures, c .recover .ensures)
+    λ output «record». rw (at-count at-choose .count-application .ensures, c .recover .ensures)
     (apply-recovers _ _ _ _ _ (may at-choose) _ (meant at-choose _ (at-recoverer .recoverer .given .1)))
 
 returns-4 : tie.Need-returns-4
-returns-4 c = λ output journal. rw (at-count (c .before .before) .count-application .ensures)
+returns-4 c = λ output «record». rw (at-count (c .before .before) .count-application .ensures)
     (apply-wrong _ _ _ _ _ (may (c .before .before)) (meant (c .before .before) _ (c .enum-told .given .1)))
 
 pub apply-spec : {M : Type 1} → statement M

@@ -19,16 +19,16 @@ is c = sym (c .before .declared .ensures) ∙ not-false _ (c .if1 .left)
 returns : tie.Need-returns
 returns c =
     let a = c .before .before .before .before .args in
-    λ input output journal values. undeclared _ _ _ _ _ (a .what .tail) (sym (c .before .declared .ensures) ∙ not-true _ (c .if1 .taken))
+    λ input output «record» values. undeclared _ _ _ _ _ (a .what .tail) (sym (c .before .declared .ensures) ∙ not-true _ (c .if1 .taken))
 
 returns-2 : tie.Need-returns-2
-returns-2 c = λ input output journal values. rw (c .before .before .before .if2 .taken) (tail-enters _ _ _ _ _)
+returns-2 c = λ input output «record» values. rw (c .before .before .before .if2 .taken) (tail-enters _ _ _ _ _)
 
 framed-call-requires : tie.Need-framed-call-requires
 framed-call-requires c κs = let pre = c .before .before .before .before .before .before .pre in (is (c .before .before), (pre .1 .0, (pre .1 .1 .0, pre .1 .1 .1)))
 
 returns-3 : tie.Need-returns-3
-returns-3 c = λ input output journal values. rw (c .before .before .before .before .if2 .left) (c .before .before .framed-call .ensures input output journal values)
+returns-3 c = λ input output «record» values. rw (c .before .before .before .before .if2 .left) (c .before .before .framed-call .ensures input output «record» values)
 
 pub call-spec : {M : Type 1} → statement M
 call-spec =

@@ -72,7 +72,7 @@ module _ (words : Words) (allowance : ℕ) (g : Registers) (m n : Memory) (r : R
   -- the outcome in the frame is the run's; the values, the frames and the counts may have changed
   pub stopping : (tocome : Outcomes) (bound : ℕ) (ending : Ending) (function : ℕ) (h : Registers) → 0 < bound →
       tocome ≡ stop (endingNumber ending) function (ledgerOf allowance h n) →
-      h .r ≡ g .r → h .emitted ≡ g .emitted → n .input ≡ m .input → n .output ≡ m .output → n .journal ≡ m .journal →
+      h .r ≡ g .r → h .emitted ≡ g .emitted → n .input ≡ m .input → n .output ≡ m .output → n .«record» ≡ m .«record» →
       Advances words allowance (returning (roomOf m) allowance words g m tocome) bound g m (Stopped h ending function) n
   stopping tocome bound ending function h b e er ee ei eo ej =
       record {
@@ -169,19 +169,19 @@ module _ (frames : List ℕ) (k field place stored : ℕ) (there : HasFrame k fr
       (ap (λ rest. record { field = field; place = place; values = take stored (drop (16 * k) values); opened = rest })
       (past-end (take (24 * k + 24) (wordsIn Begun)) (24 * k + 24 - 0) (rw (length-take (24 * k + 24) (wordsIn Begun)) (omega arith))))
 
-module _ (words : Words) (allowance place stores stored : ℕ) (g : Registers) (input output journal : Bytes) (frames : List ℕ) (values values′ : Bytes)
+module _ (words : Words) (allowance place stores stored : ℕ) (g : Registers) (input output «record» : Bytes) (frames : List ℕ) (values values′ : Bytes)
     (few : stored ≤ 16) where
   abbrev Before-start : Memory
-  Before-start = memory input output journal frames values
+  Before-start = memory input output «record» frames values
 
   -- the values of the sentence's stores
   abbrev Kept : Option Bytes
   Kept = storedValues (unpackStores stored (drop stores words)) (take (g .q .0 - g .p .0) (drop (g .p .0) input)) place
 
   pub starts-wrong : Stores (16 * g .frame) stored (stores + stored) Kept values values′ Wrong →
-      Starts words allowance place stores stored g Before-start (Stopped g NoInstruction 0) (memory input output journal frames values′)
+      Starts words allowance place stores stored g Before-start (Stopped g NoInstruction 0) (memory input output «record» frames values′)
   starts-wrong s r =
-      stopping words allowance g Before-start (memory input output journal frames values′) r _ _ NoInstruction 0 g (omega arith)
+      stopping words allowance g Before-start (memory input output «record» frames values′) r _ _ NoInstruction 0 g (omega arith)
       (rw (← (s .same))) refl refl refl refl refl
 
   -- the registers at a sentence's actions
@@ -191,7 +191,7 @@ module _ (words : Words) (allowance place stores stored : ℕ) (g : Registers) (
 
   pub starts-right : (actions : CodePlace) → length values′ ≡ length values → Stores (16 * g .frame) stored (stores + stored) Kept values values′ (Before actions) →
       Starts words allowance place stores stored g Before-start (Onward (startedAt actions))
-      (memory input output journal (begun (g .frame) (g .q .0 - g .p .0) place stored frames) values′)
+      (memory input output «record» (begun (g .frame) (g .q .0 - g .p .0) place stored frames) values′)
   starts-right actions sized s r =
       let k = g .frame in
       let d = g .q .0 - g .p .0 in

@@ -41,7 +41,7 @@ module _ (words : Words) (allowance number : ℕ) (g : Registers) (m : Memory) w
   called-ready : (frame size : ℕ) (frames : List ℕ) → frame < 256 → HasFrame frame frames → length frames ≡ length (m .frames) → countsIn frames
       ≡ countsIn (m .frames) →
       ((i : ℕ) → i < frame → Waits (length (m .input)) i frames) → Ready allowance g m →
-      Ready allowance (calledIn frame size number g) (memory (m .input) (m .output) (m .journal) frames (m .values))
+      Ready allowance (calledIn frame size number g) (memory (m .input) (m .output) (m .«record») frames (m .values))
   called-ready frame size frames framed there sized counted waits r =
       record {
         ordered = r .ordered;
@@ -131,7 +131,7 @@ pub record Payable (words : Words) (allowance number : ℕ) (g : Registers) : Ty
 
 -- one application counted
 abbrev countedFor : ℕ → Memory → Memory
-countedFor number m = memory (m .input) (m .output) (m .journal) (countedIn number (m .frames)) (m .values)
+countedFor number m = memory (m .input) (m .output) (m .«record») (countedIn number (m .frames)) (m .values)
 
 module _ (words : Words) (allowance number : ℕ) (g : Registers) (m : Memory) where
   pub apply-spent : allowance ≤ g .steps → Applies words allowance number g m (Stopped g AllowanceSpent 0) m
@@ -210,7 +210,7 @@ module _ (words : Words) (allowance number : ℕ) (g : Registers) (m : Memory) w
     pub apply-starts : (sentence place stores stored : ℕ) (next : Next) (n : Memory) {frames : List ℕ} → frames ≡ countedIn number (m .frames) →
         chosen sentence place (unpackStores stored (drop stores words)) (unpackActions 0 (drop (stores + stored) words))
         ≡ Chosen words number g (m .input) →
-        Starts words allowance place stores stored (paidOf g) (memory (m .input) (m .output) (m .journal) frames (m .values)) next n →
+        Starts words allowance place stores stored (paidOf g) (memory (m .input) (m .output) (m .«record») frames (m .values)) next n →
         Applies words allowance number g m next n
     apply-starts sentence place stores stored next n is e starts = apply-leads _ e next n (λ u. (rw is at starts) (u .ready))
 
@@ -331,9 +331,9 @@ module _ (words : Words) (allowance number : ℕ) (g : Registers) (m : Memory) w
         stopping words allowance g m m (u .ready) _ _ FramesFull 0 g (omega arith)
         (rw (declared, one-left h, lt-ltb 256 (suc (suc (g .frame))) (omega arith))) refl refl refl refl refl
 
-module _ (words : Words) (allowance number : ℕ) (g : Registers) (input output journal : Bytes) (frames : List ℕ) (values : Bytes) where
+module _ (words : Words) (allowance number : ℕ) (g : Registers) (input output «record» : Bytes) (frames : List ℕ) (values : Bytes) where
   abbrev Caller : Memory
-  Caller = memory input output journal frames values
+  Caller = memory input output «record» frames values
 
   -- a call is an application in the frame above
   pub call-enters : isDeclared (functionsIn words) number ≡ true → g .steps < allowance → g .frame < 255 → (above : List ℕ)
@@ -341,7 +341,7 @@ module _ (words : Words) (allowance number : ℕ) (g : Registers) (input output 
       wordsBelow (suc (g .frame)) above ≡ wordsBelow (suc (g .frame)) (callingFrom (g .frame) (g .at .0) (g .q .0) frames)
       → Held (suc (g .frame)) above →
       Performs words allowance (call number) (g .at .0) g Caller (Onward (calledIn (suc (g .frame)) (length words) number g))
-      (memory input output journal above values)
+      (memory input output «record» above values)
   call-enters declared h l above there sized counted same empty u =
       let k = g .frame in
       let room = roomOf Caller in

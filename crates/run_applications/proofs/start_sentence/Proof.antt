@@ -40,7 +40,7 @@ store-values-requires c κs =
 returns : tie.Need-returns
 returns c =
     let at-store-values = c .before .before .before .before in
-    λ allowance output journal. starts-wrong _ _ _ _ _ _ _ _ _ _ _ _ (entry at-store-values .pre .1 .1 .1 .1 .1)
+    λ allowance output «record». starts-wrong _ _ _ _ _ _ _ _ _ _ _ _ (entry at-store-values .pre .1 .1 .1 .1 .1)
     (stored-as (ap (Kept at-store-values) (at-store-values .before .before .part .ensures)) (rw (c .enum-told .given .1) at (at-store-values .store-values .ensures)))
 
 returns-2 : tie.Need-returns-2
@@ -48,7 +48,7 @@ returns-2 c =
     let at-begin-frame = c .before .before .before .before .before in
     let at-actions = at-begin-frame .before .before .before in
     let at-store-values = at-actions .before .before .before .before in
-    λ allowance output journal. rw (at-begin-frame .begin-frame .ensures, selected at-store-values)
+    λ allowance output «record». rw (at-begin-frame .begin-frame .ensures, selected at-store-values)
     (starts-right _ _ _ _ _ _ _ _ _ _ _ _ (entry at-store-values .pre .1 .1 .1 .1 .1) (at-actions .actions .given .0 .0)
     (at-store-values .store-values .kept .1 .1 .1 .1 .1 .0)
     (stored-as (ap (Kept at-store-values) (at-store-values .before .before .part .ensures)) (rw (at-actions .actions .given .1) at (at-store-values .store-values .ensures))))

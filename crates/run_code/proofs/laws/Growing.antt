@@ -64,18 +64,18 @@ deeper-on {words} {allowance} {first} {mid} {last} {m} {n} {l} {g} e follows dee
     }
 
 -- of the frames only the counts are left at a run's end
-module _ (words : Words) (allowance : ℕ) (m : Memory) (input output journal : Bytes) (frames few : List ℕ) (values all : Bytes)
+module _ (words : Words) (allowance : ℕ) (m : Memory) (input output «record» : Bytes) (frames few : List ℕ) (values all : Bytes)
     (counts : countsIn few ≡ countsIn frames) where
   comes-ended : (last : Next) → HasEnded last →
-      comesTo (roomOf m) allowance words last (memory input output journal frames all)
-      ≡ comesTo (roomOf m) allowance words last (memory input output journal few values)
+      comesTo (roomOf m) allowance words last (memory input output «record» frames all)
+      ≡ comesTo (roomOf m) allowance words last (memory input output «record» few values)
   comes-ended (Onward g) ended = absurd ended
   comes-ended (Done g) ended = rw counts
   comes-ended (Stopped g ending function) ended = rw counts
   comes-ended (Deeper g) ended = absurd ended
 
-  keeps-ended : (last : Next) → HasEnded last → Keeps allowance last (memory input output journal frames all)
-      → Keeps allowance last (memory input output journal few values)
+  keeps-ended : (last : Next) → HasEnded last → Keeps allowance last (memory input output «record» frames all)
+      → Keeps allowance last (memory input output «record» few values)
   keeps-ended (Onward g) ended keeps = absurd ended
   keeps-ended (Done g) ended keeps = record { below = keeps .below; logged = keeps .logged }
   keeps-ended (Stopped g ending function) ended keeps = record { below = keeps .below; logged = keeps .logged }
@@ -93,8 +93,8 @@ module _ (few rest : List ℕ) (values all : Bytes) (begins : take (length value
   grown-values : (k : ℕ) → 16 * k ≤ length values → take (16 * k) values ≡ take (16 * k) all
   grown-values k h = rw begins at (take-take (16 * k) (length values) all h)
 
-  module _ (input output journal : Bytes) (words : Words) (allowance : ℕ) (g : Registers)
-      (u : Underway allowance g (memory input output journal few values))
+  module _ (input output «record» : Bytes) (words : Words) (allowance : ℕ) (g : Registers)
+      (u : Underway allowance g (memory input output «record» few values))
       (sized : length (few ++ rest) ≡ wordsFor maxFrames) (wide : length all ≡ valuesFor maxFrames) where
     grown-counts : countsIn (few ++ rest) ≡ countsIn few
     grown-counts = take-append-le maxCounted few rest (omega (arith, u .ready .frameRoom))
@@ -109,7 +109,7 @@ module _ (few rest : List ℕ) (values all : Bytes) (begins : take (length value
     stored-there : valuesFor (suc (g .frame)) ≤ length values
     stored-there = u .ready .valueRoom (g .frame) (u .ready .frameRoom)
 
-    grown-underway : Underway allowance g (memory input output journal (few ++ rest) all)
+    grown-underway : Underway allowance g (memory input output «record» (few ++ rest) all)
     grown-underway =
         let r = u .ready in
         record {
@@ -129,32 +129,32 @@ module _ (few rest : List ℕ) (values all : Bytes) (begins : take (length value
           current = held-same few (few ++ rest) (suc (g .frame)) current-there (g .frame) (omega arith) (u .current);
         }
 
-    grown-comes : comesTo (roomOf (memory input output journal few values)) allowance words (Onward g) (memory input output journal few values) ≡
-        comesTo (roomOf (memory input output journal few values)) allowance words (Onward g) (memory input output journal (few ++ rest) all)
+    grown-comes : comesTo (roomOf (memory input output «record» few values)) allowance words (Onward g) (memory input output «record» few values) ≡
+        comesTo (roomOf (memory input output «record» few values)) allowance words (Onward g) (memory input output «record» (few ++ rest) all)
     grown-comes =
         rw (
           grown-counts,
           local-same few (few ++ rest) (suc (g .frame)) current-there values all (grown-values (suc (g .frame)) stored-there)
               (g .frame) (omega arith),
         )
-        (waiting-same (roomOf (memory input output journal few values)) allowance words few (few ++ rest) values all (g .frame) waiting-there
+        (waiting-same (roomOf (memory input output «record» few values)) allowance words few (few ++ rest) values all (g .frame) waiting-there
         (grown-values (g .frame) (omega (arith, stored-there))) _)
 
     -- followed to its end there, and the counts brought back
-    grown-follows : (last : Next) (input′ output′ journal′ : Bytes) (frames few′ : List ℕ) (values′ : Bytes) → length frames ≡ wordsFor maxFrames →
+    grown-follows : (last : Next) (input′ output′ «record′» : Bytes) (frames few′ : List ℕ) (values′ : Bytes) → length frames ≡ wordsFor maxFrames →
         countsIn few′ ≡ countsIn frames →
-        Follows words allowance (Onward g) (memory input output journal (few ++ rest) all) last (memory input′ output′ journal′ frames values′) →
-        FollowsToEnd words allowance (Onward g) (memory input output journal few values) last (memory input′ output′ journal′ few′ values)
-    grown-follows last input′ output′ journal′ frames few′ values′ whole counts follows =
+        Follows words allowance (Onward g) (memory input output «record» (few ++ rest) all) last (memory input′ output′ «record′» frames values′) →
+        FollowsToEnd words allowance (Onward g) (memory input output «record» few values) last (memory input′ output′ «record′» few′ values)
+    grown-follows last input′ output′ «record′» frames few′ values′ whole counts follows =
         let l = follows .leads in
-        let ended = has-ended allowance last (memory input′ output′ journal′ frames values′) whole (follows .over) (l .keeps) in
+        let ended = has-ended allowance last (memory input′ output′ «record′» frames values′) whole (follows .over) (l .keeps) in
         record {
           leads =
               record {
                 same = grown-comes ∙ l .same ∙
-                    comes-ended words allowance (memory input output journal few values) input′ output′ journal′ frames few′ values values′ counts
+                    comes-ended words allowance (memory input output «record» few values) input′ output′ «record′» frames few′ values values′ counts
                     last ended;
-                keeps = keeps-ended words allowance (memory input output journal few values) input′ output′ journal′ frames few′ values values′ counts
+                keeps = keeps-ended words allowance (memory input output «record» few values) input′ output′ «record′» frames few′ values values′ counts
                     last ended (l .keeps);
                 room = l .room;
                 beyond = l .beyond;
@@ -181,20 +181,20 @@ pub counts-back : (few few′ words : List ℕ) → few′ ≡ take maxCounted w
     ≡ countsIn words
 counts-back few few′ words e h = rw e (take-at (take maxCounted words) (drop maxCounted few) maxCounted (length-take-le maxCounted words h))
 
-module _ {few many : List ℕ} {values stored : Bytes} (grown : Grown few many values stored) (input output journal : Bytes) (words : Words)
+module _ {few many : List ℕ} {values stored : Bytes} (grown : Grown few many values stored) (input output «record» : Bytes) (words : Words)
     (allowance : ℕ) (g : Registers)
-    (u : Underway allowance g (memory input output journal few values)) where
-  pub deeper-underway : Underway allowance g (memory input output journal many stored)
+    (u : Underway allowance g (memory input output «record» few values)) where
+  pub deeper-underway : Underway allowance g (memory input output «record» many stored)
   deeper-underway =
       rw (grown .begun)
-      (grown-underway few (grown .rest) values stored (grown .begins) input output journal words allowance g u (rw (grown .begun) at (grown .sized))
+      (grown-underway few (grown .rest) values stored (grown .begins) input output «record» words allowance g u (rw (grown .begun) at (grown .sized))
       (grown .wide))
 
-  pub deeper-follows : (last : Next) (input′ output′ journal′ : Bytes) (frames few′ : List ℕ) (values′ : Bytes) → length frames ≡ wordsFor maxFrames →
+  pub deeper-follows : (last : Next) (input′ output′ «record′» : Bytes) (frames few′ : List ℕ) (values′ : Bytes) → length frames ≡ wordsFor maxFrames →
       countsIn few′ ≡ countsIn frames →
-      Follows words allowance (Onward g) (memory input output journal many stored) last (memory input′ output′ journal′ frames values′) →
-      FollowsToEnd words allowance (Onward g) (memory input output journal few values) last (memory input′ output′ journal′ few′ values)
-  deeper-follows last input′ output′ journal′ frames few′ values′ whole counts follows =
-      grown-follows few (grown .rest) values stored (grown .begins) input output journal words allowance g u (rw (grown .begun) at (grown .sized))
+      Follows words allowance (Onward g) (memory input output «record» many stored) last (memory input′ output′ «record′» frames values′) →
+      FollowsToEnd words allowance (Onward g) (memory input output «record» few values) last (memory input′ output′ «record′» few′ values)
+  deeper-follows last input′ output′ «record′» frames few′ values′ whole counts follows =
+      grown-follows few (grown .rest) values stored (grown .begins) input output «record» words allowance g u (rw (grown .begun) at (grown .sized))
       (grown .wide)
-      last input′ output′ journal′ frames few′ values′ whole counts (rw (grown .begun) at follows)
+      last input′ output′ «record′» frames few′ values′ whole counts (rw (grown .begun) at follows)

@@ -80,7 +80,7 @@ module _ (room : Room) (allowance : ℕ) (words : Words) (m : Memory) where
         function = refl;
         steps = refl;
         text = sym (length-take-le (g .r .0) (m .output) (k .below));
-        emissions = sym (length-take-le (g .emitted) (m .journal) (k .logged));
+        emissions = sym (length-take-le (g .emitted) (m .«record») (k .logged));
       }
   tells-end (Stopped g ending function) o k =
       record {
@@ -88,7 +88,7 @@ module _ (room : Room) (allowance : ℕ) (words : Words) (m : Memory) where
         function = refl;
         steps = refl;
         text = refl;
-        emissions = sym (length-take-le (g .emitted) (m .journal) (k .logged));
+        emissions = sym (length-take-le (g .emitted) (m .«record») (k .logged));
       }
 
   counts-end : (last : Next) → HasEnded last → countsIn (m .frames) ≡ resultOf (textOf (comesTo room allowance words last m)) .counts
@@ -99,34 +99,34 @@ module _ (room : Room) (allowance : ℕ) (words : Words) (m : Memory) where
 
   -- the cells after the stacks are cleared
   cells-end : (last : Next) (before : Cells) → HasEnded last → Keeps allowance last m → roomOf m ≡ roomOfCells before →
-      drop (registersIn last .emitted) (m .journal) ≡ drop (registersIn last .emitted) (before .journal) →
-      cells (clearedFrom 0 (m .input)) (clearedFrom (reportedOf last .text) (m .output)) (m .journal) ≡
+      drop (registersIn last .emitted) (m .«record») ≡ drop (registersIn last .emitted) (before .«record») →
+      cells (clearedFrom 0 (m .input)) (clearedFrom (reportedOf last .text) (m .output)) (m .«record») ≡
       left (resultOf (textOf (comesTo room allowance words last m))) before .cells
   cells-end (Onward g) before o k e beyond = absurd o
   cells-end (Deeper g) before o k e beyond = absurd o
   cells-end (Done g) before o k e beyond =
       rw (
         length-take-le (g .r .0) (m .output) (k .below),
-        length-take-le (g .emitted) (m .journal) (k .logged),
+        length-take-le (g .emitted) (m .«record») (k .logged),
         ← beyond,
-        take-append-drop (g .emitted) (m .journal),
+        take-append-drop (g .emitted) (m .«record»),
         sub-zero (length (m .input)),
         ap (λ r. r .inCells) e,
         ap (λ r. r .outCells) e,
       )
   cells-end (Stopped g ending function) before o k e beyond =
       rw (
-        length-take-le (g .emitted) (m .journal) (k .logged),
+        length-take-le (g .emitted) (m .«record») (k .logged),
         ← beyond,
-        take-append-drop (g .emitted) (m .journal),
+        take-append-drop (g .emitted) (m .«record»),
         sub-zero (length (m .input)),
         ap (λ r. r .inCells) e,
         ap (λ r. r .outCells) e,
       )
 
   pub leaves-end : (last : Next) (before : Cells) (o : Outcomes) → o ≡ comesTo room allowance words last m → HasEnded last → Keeps allowance last m →
-      roomOf m ≡ roomOfCells before → drop (registersIn last .emitted) (m .journal) ≡ drop (registersIn last .emitted) (before .journal) →
-      Leaves (reportedOf last) (countsIn (m .frames)) (cells (clearedFrom 0 (m .input)) (clearedFrom (reportedOf last .text) (m .output)) (m .journal))
+      roomOf m ≡ roomOfCells before → drop (registersIn last .emitted) (m .«record») ≡ drop (registersIn last .emitted) (before .«record») →
+      Leaves (reportedOf last) (countsIn (m .frames)) (cells (clearedFrom 0 (m .input)) (clearedFrom (reportedOf last .text) (m .output)) (m .«record»))
       (left (resultOf (textOf o)) before)
   leaves-end last before o e over k room beyond =
       rw e (record { tells = tells-end last over k; counted = counts-end last over; leaves = cells-end last before over k room beyond })
@@ -155,9 +155,9 @@ module _ (text input input′ : Bytes) (l : Loaded text input input′) where
       rw (l .pasted, past, drop-length input, take-length text, append-nil (take place input ++ text))
       (drop-at (take place input) text place (length-take-le place input (omega arith)))
 
-  module _ (output journal : Bytes) (frames : List ℕ) (values : Bytes) (words : Words) (start allowance : ℕ) where
+  module _ (output «record» : Bytes) (frames : List ℕ) (values : Bytes) (words : Words) (start allowance : ℕ) where
     abbrev Start : Memory
-    Start = memory input′ output journal frames values
+    Start = memory input′ output «record» frames values
 
     abbrev Beginning : Registers
     Beginning = loadedWith (length input) (length text) start
@@ -205,12 +205,12 @@ module _ (text input input′ : Bytes) (l : Loaded text input input′) where
 
     -- and leaves what it should when it has been followed to its end
     pub ending : (last : Next) (m : Memory) → Leads words allowance Whole Beginning Start last m → HasEnded last →
-        Leaves (reportedOf last) (countsIn (m .frames)) (cells (clearedFrom 0 (m .input)) (clearedFrom (reportedOf last .text) (m .output)) (m .journal))
-        (left (runLent (roomOfCells (cells input output journal)) (functionsIn words) start text allowance) (cells input output journal))
+        Leaves (reportedOf last) (countsIn (m .frames)) (cells (clearedFrom 0 (m .input)) (clearedFrom (reportedOf last .text) (m .output)) (m .«record»))
+        (left (runLent (roomOfCells (cells input output «record»)) (functionsIn words) start text allowance) (cells input output «record»))
     ending last m leads over =
         rw (l .sized) at
-        (leaves-end (roomOf Start) allowance words m last (cells input output journal) Whole (leads .same) over (leads .keeps) (leads .room ∙ rw (l .sized))
-        (leads .beyond journal refl))
+        (leaves-end (roomOf Start) allowance words m last (cells input output «record») Whole (leads .same) over (leads .keeps) (leads .room ∙ rw (l .sized))
+        (leads .beyond «record» refl))
 
 -- BEFORE A RUN
 

@@ -21,7 +21,7 @@ abbrev entry : tie.After-sound-table → tie.Start
 entry c = c .before .before .before .before .before .before .before
 
 abbrev lent : tie.After-sound-table → Cells
-lent c = cells (entry c .args .input .now) (entry c .args .output .now) (entry c .args .journal .now)
+lent c = cells (entry c .args .input .now) (entry c .args .output .now) (entry c .args .«record» .now)
 
 sound : (c : tie.Else1) → soundIn (entry (c .before) .args .code .now) ≡ true
 sound c = sym (c .before .sound-table .ensures) ∙ not-false _ (c .if1 .left)

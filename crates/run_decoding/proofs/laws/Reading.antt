@@ -12,7 +12,7 @@ use borrow.Author.Tests.{eqb-true}
 use Rattle.run_code_places.specs.declared.CodePlace.{CodePlace}
 use Rattle.meaning.specs.Choice.{pick}
 use Rattle.meaning.specs.Angles.{plus, minus}
-use Rattle.meaning.specs.Instructions.{Action, go, select, out, outCharacter, outValue, beginSequence, useSequence, call, tailCall, unknownAction}
+use Rattle.meaning.specs.Instructions.{Action, go, select, out, outC, outV, beginSeq, useSeq, call, tailCall, unknownAction}
 use Rattle.meaning.specs.Packing.{Words, numberIn, firstIn, secondIn, thirdIn, lengthOf, operationOf, spanAction, computeOf, emissionOf, unpackActions}
 use Rattle.run_decoding.specs.declared.Instruction.{Instruction}
 use Rattle.run_decoding.specs.declared.Write.the-variants.{Part, Character, Value}
@@ -38,10 +38,10 @@ module _ (w : ℕ) (ws : Words) where
       (pick b₅ (spanAction go (lengthOf (firstIn w)) (secondIn w) (thirdIn w))
       (pick b₆ (spanAction select (lengthOf (firstIn w)) (secondIn w) (thirdIn w))
       (pick b₇ out
-      (pick b₈ (outCharacter (firstIn w))
-      (pick b₉ (outValue (firstIn w))
-      (pick b₁₀ beginSequence
-      (pick b₁₁ useSequence
+      (pick b₈ (outC (firstIn w))
+      (pick b₉ (outV (firstIn w))
+      (pick b₁₀ beginSeq
+      (pick b₁₁ useSeq
       (pick b₁₂ (call (w / 256))
       (pick b₁₃ (tailCall (w / 256)) (pick b₂₁ (computeOf (operationOf (firstIn w))) unknownAction)))))))))
       ∷ Later)) ≡

@@ -31,7 +31,7 @@ abbrev words : tie.After-decode → Words
 words c = entry c .args .code .now
 
 abbrev lent : tie.After-decode → Memory
-lent c = memory (entry c .args .input .now) (entry c .args .output .now) (entry c .args .journal .now) (entry c .args .frames .now) (entry c .args .values .now)
+lent c = memory (entry c .args .input .now) (entry c .args .output .now) (entry c .args .«record» .now) (entry c .args .frames .now) (entry c .args .values .now)
 
 acting : (c : tie.After-decode) → Acting (entry c .args .allowance) (g c) (lent c)
 acting c = entry c .pre .1
@@ -74,7 +74,7 @@ returns-4 c = acts (c .before .before .before .before .before .before .before .b
 returns-5 : tie.Need-returns-5
 returns-5 c =
     let at-decode = (c .before .before .before .before .before .before) in
-    acts at-decode _ (c .before .before .before .before .enum-told .given .1) _ _ refl (omega arith) _ _ refl (c .before .before .begin-sequence .ensures _ _ _ _ (acting at-decode .underway .ready .below))
+    acts at-decode _ (c .before .before .before .before .enum-told .given .1) _ _ refl (omega arith) _ _ refl (c .before .before .begin-seq .ensures _ _ _ _ (acting at-decode .underway .ready .below))
 
 returns-6 : tie.Need-returns-6
 returns-6 c =

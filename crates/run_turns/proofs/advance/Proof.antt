@@ -23,13 +23,13 @@ abbrev words : tie.Start → Words
 words e = e .args .code .now
 
 abbrev lent : tie.Start → Memory
-lent e = memory (e .args .input .now) (e .args .output .now) (e .args .journal .now) (e .args .frames .now) (e .args .values .now)
+lent e = memory (e .args .input .now) (e .args .output .now) (e .args .«record» .now) (e .args .frames .now) (e .args .values .now)
 
 -- what the application left
 abbrev entered : tie.After-enter → Memory
 entered c =
     let a = entry c .args in
-    memory (a .input .now) (a .output .now) (a .journal .now) (c .enter .last .1 .1 .1 .1 .1 .0) (c .enter .last .1 .1 .1 .1 .1 .1 .0)
+    memory (a .input .now) (a .output .now) (a .«record» .now) (c .enter .last .1 .1 .1 .1 .1 .0) (c .enter .last .1 .1 .1 .1 .1 .1 .0)
 
 abbrev BeginsTo : tie.Start → Next → Memory → Type 0
 BeginsTo e next n =
@@ -71,7 +71,7 @@ start c = entry (before-first (before-items c))
 abbrev written-in : tie.After-write-items → Memory
 written-in c =
     let m = entered (before-first (before-items c)) in
-    memory (m .input) (c .write-items .last .1 .1 .1 .0) (m .journal) (c .write-items .last .1 .1 .1 .1 .0) (m .values)
+    memory (m .input) (c .write-items .last .1 .1 .1 .0) (m .«record») (c .write-items .last .1 .1 .1 .1 .0) (m .values)
 
 written : (c : tie.After-write-items) →
     Tried (words (start c)) (start c .args .allowance) (first (before-items c)) (entered (before-first (before-items c))) (c .write-items .result) (written-in c)
@@ -83,7 +83,7 @@ before-use c = c .before .before .before .before .before .before .before .before
 abbrev used-in : tie.After-try-use → Memory
 used-in c =
     let m = written-in (before-use c) in
-    memory (c .try-use .last .1 .1 .0) (m .output) (m .journal) (c .try-use .last .1 .1 .1 .1 .0) (m .values)
+    memory (c .try-use .last .1 .1 .0) (m .output) (m .«record») (c .try-use .last .1 .1 .1 .1 .0) (m .values)
 
 -- what UseSeq, or another instruction in its place, was told to lead to
 abbrev UsedTo : tie.After-try-use → Next → Type 0
@@ -131,7 +131,7 @@ write-items-requires c κs =
     let at-else = c .before .before .before .before in
     let at-enter = before-first (goes-on at-else) in
     let a = entry at-enter .args in
-    record { allowance = a .allowance; journal = a .journal .now; acting = acting-first at-else }
+    record { allowance = a .allowance; «record» = a .«record» .now; acting = acting-first at-else }
 
 try-use-requires : tie.Need-try-use-requires
 try-use-requires c κs =

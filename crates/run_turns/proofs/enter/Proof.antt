@@ -8,7 +8,7 @@ use Rattle.run_turns.proofs.enter.Statement.{statement}
 use Rattle.run_turns.proofs.enter.Tie as tie
 
 returns : tie.Need-returns
-returns c = λ output journal. enters-none _ _ _ _ (sym (c .before .before .before .before .before .declared .ensures) ∙ not-true _ (c .before .before .before .before .if1 .taken))
+returns c = λ output «record». enters-none _ _ _ _ (sym (c .before .before .before .before .before .declared .ensures) ∙ not-true _ (c .before .before .before .before .if1 .taken))
 
 apply-requires : tie.Need-apply-requires
 apply-requires c κs =
@@ -18,7 +18,7 @@ apply-requires c κs =
     (pre .0, (pre .1 .0, (d .0, (d .1, pre .1 .1))))
 
 returns-2 : tie.Need-returns-2
-returns-2 c = λ output journal. enters-applied _ _ _ _ (sym (c .before .before .before .before .before .before .before .before .declared .ensures) ∙ not-false _ (c .before .before .before .before .before .before .before .if1 .left)) _ _ (c .before .before .before .before .apply .ensures output journal)
+returns-2 c = λ output «record». enters-applied _ _ _ _ (sym (c .before .before .before .before .before .before .before .before .declared .ensures) ∙ not-false _ (c .before .before .before .before .before .before .before .if1 .left)) _ _ (c .before .before .before .before .apply .ensures output «record»)
 
 pub enter-spec : {M : Type 1} → statement M
 enter-spec =

@@ -91,9 +91,9 @@ module _ {M : Type 1} (𝓤 : URA M) (H : Heap 𝓤) (A : Atoms 𝓤) (at-mem : 
   Advance = tripleOf 𝓤 H A advance.signature (advance.spec 𝓤 H A at-mem run)
 
 module _ {M : Type 1} (𝓤 : URA M) (H : Heap 𝓤) (A : Atoms 𝓤) (W : Given 𝓤 H A) (at-mem : Memory → SProp 𝓤) (run : Routine → Fun 𝓤)
-    (κs : Lfts 8) (qs : Shares 8) (bounds : AllOutlive 8 (step.signature .outlives) κs) (lent : RefT Registers) (bits words : RefT (List ℕ)) (allowance : ℕ) (input output journal frames values : RefT (List ℕ)) where
+    (κs : Lfts 8) (qs : Shares 8) (bounds : AllOutlive 8 (step.signature .outlives) κs) (lent : RefT Registers) (bits words : RefT (List ℕ)) (allowance : ℕ) (input output «record» frames values : RefT (List ℕ)) where
   abbrev a : Args step.signature κs
-  a = (lent, (bits, (words, (allowance, (input, (output, (journal, (frames, (values, tt)))))))))
+  a = (lent, (bits, (words, (allowance, (input, (output, («record», (frames, (values, tt)))))))))
 
   abbrev b : ℕ
   b = ptr lent .0
@@ -109,7 +109,7 @@ module _ {M : Type 1} (𝓤 : URA M) (H : Heap 𝓤) (A : Atoms 𝓤) (W : Given
 
   -- the parameters' machine values
   abbrev vss : Vals step.signature κs
-  vss = (ptr-vals lent, (ptr-vals bits, (slice-vals words, (uint-vals w32 allowance, (slice-vals input, (slice-vals output, (slice-vals journal, (slice-vals frames, (slice-vals values, tt)))))))))
+  vss = (ptr-vals lent, (ptr-vals bits, (slice-vals words, (uint-vals w32 allowance, (slice-vals input, (slice-vals output, (slice-vals «record», (slice-vals frames, (slice-vals values, tt)))))))))
 
   abbrev Required : SProp 𝓤
   Required = step.clauses 𝓤 H A at-mem run κs a .requires tt
@@ -130,7 +130,7 @@ module _ {M : Type 1} (𝓤 : URA M) (H : Heap 𝓤) (A : Atoms 𝓤) (W : Given
 
   -- the lists as they were passed, and what `advance` ensures, at some last lists
   abbrev before : Memories
-  before = memory (now input) (now output) (now journal) (now frames) (now values)
+  before = memory (now input) (now output) (now «record») (now frames) (now values)
 
   abbrev Told : Next → Lasts advance.ended (κs .1) (g, a .1) → Type 0
   Told r ws = Steps (now words) allowance g before r (memory (ws .1 .1 .1 .1 .0) (ws .1 .1 .1 .1 .1 .0) (ws .1 .1 .1 .1 .1 .1 .0) (ws .1 .1 .1 .1 .1 .1 .1 .0)
@@ -152,7 +152,7 @@ module _ {M : Type 1} (𝓤 : URA M) (H : Heap 𝓤) (A : Atoms 𝓤) (W : Given
       (known-advance : Triple 𝓤 (C #run_turns·advance) (Advance 𝓤 H A at-mem run)) (known-registers : Triple 𝓤 (C #run_turns·registers-of) (RegistersOf 𝓤 H A at-mem run)) (known-status : Triple 𝓤 (C #run_turns·status-of) (StatusOf 𝓤 H A at-mem run)) where
     walk : ent 𝓤 (sep 𝓤 (onEntry 𝓤 H A step.signature κs qs a vss) Required)
         (WpFn 𝓤 H C Λ code.function (vptr b o ∷ vptr (ptr bits .0) (ptr bits .1) ∷ sliceVal (ptr words) (length (now words)) ∷ vint w32 allowance ∷
-        sliceVal (ptr input) (length (now input)) ∷ sliceVal (ptr output) (length (now output)) ∷ sliceVal (ptr journal) (length (now journal)) ∷
+        sliceVal (ptr input) (length (now input)) ∷ sliceVal (ptr output) (length (now output)) ∷ sliceVal (ptr «record») (length (now «record»)) ∷
         sliceVal (ptr frames) (length (now frames)) ∷ sliceVal (ptr values) (length (now values)) ∷ []) Post)
     walk =
         qed W (((‵ (flft (κs .0) (qs .0)) ⊛ raw Tokens) ⊛ ‵ Owned) ∷ raw Required ∷ []) ∵ enter ! C Λ code.function _ _ $
@@ -201,8 +201,8 @@ module _ {M : Type 1} (𝓤 : URA M) (H : Heap 𝓤) (A : Atoms 𝓤) (W : Given
         land ! (from ! (stop !)) (init ! 6 refl (EL.lawful S.the-type S′.the-laws 𝓤 H A W tt .typed x _ is-status .0)) $ returns ! (look ! 6 refl) $
         move ! (counting 6 44) $
         frees-laid ! (placed (code.function .locals) (l₀ ∷ l₁ ∷ l₂ ∷ l₃ ∷ l₄ ∷ l₅ ∷ l₆ ∷ l₇ ∷ l₈ ∷ l₉ ∷ l₁₀ ∷ l₁₁ ∷ l₁₂ ∷ l₁₃ ∷ l₁₄ ∷ l₁₅ ∷ l₁₆ ∷ l₁₇ ∷ l₁₈ ∷ l₁₉ ∷
-        l₂₀ ∷ l₂₁ ∷ [])) (holds v ∷ pointer lent ∷ pointer bits ∷ slice words ∷ holds (vint w32 allowance) ∷ slice input ∷ slice output ∷ slice journal ∷ slice frames ∷
-        slice values ∷ holds u ∷ holds u′ ∷ pointer input ∷ slice input ∷ pointer output ∷ slice output ∷ pointer journal ∷ slice journal ∷ pointer frames ∷ slice frames ∷
+        l₂₀ ∷ l₂₁ ∷ [])) (holds v ∷ pointer lent ∷ pointer bits ∷ slice words ∷ holds (vint w32 allowance) ∷ slice input ∷ slice output ∷ slice «record» ∷ slice frames ∷
+        slice values ∷ holds u ∷ holds u′ ∷ pointer input ∷ slice input ∷ pointer output ∷ slice output ∷ pointer «record» ∷ slice «record» ∷ pointer frames ∷ slice frames ∷
         pointer values ∷ slice values ∷ []) $
         by ! (exits ws g′ x v (subst (λ (n : Next). Told n ws) (sym (rejoined r x g′ new how)) told))))))))))))
 

@@ -12,7 +12,7 @@ use Rattle.run_turns.proofs.try_begin.Statement.{statement}
 use Rattle.run_turns.proofs.try_begin.Tie as tie
 
 returns : tie.Need-returns
-returns c = λ allowance input output journal values. tries-nothing _ _ _ refl
+returns c = λ allowance input output «record» values. tries-nothing _ _ _ refl
 
 returns-2 : tie.Need-returns-2
 returns-2 c =
@@ -20,14 +20,14 @@ returns-2 c =
     let a = entry .args in
     let taken = rw (c .before .before .before .before .before .before .before .before .before .next .given .1) at (c .before .before .before .before .before .before .before .before .before .before .before .find-word .ensures) in
     let opened = rw (c .before .before .before .if1 .taken) at (c .before .before .before .before .before .before .open-sequence .ensures) in
-    λ allowance input output journal values acting. rw (taken .after, opened .1)
+    λ allowance input output «record» values acting. rw (taken .after, opened .1)
     (tries-action _ _ _ (Onward (stepped (a .g))) _ (taken .numbered .within) (found-means taken Begin (rw (found-number taken))) refl
-    (begin-kept (stepped (a .g)) (memory input output journal (a .frames .now) values) (entry .pre .1 .0) (acting .underway .ready .below) (opened .0)) acting)
+    (begin-kept (stepped (a .g)) (memory input output «record» (a .frames .now) values) (entry .pre .1 .0) (acting .underway .ready .below) (opened .0)) acting)
 
 returns-3 : tie.Need-returns-3
 returns-3 c =
     let full = rw (c .if1 .left) at (c .before .before .before .open-sequence .ensures) in
-    λ allowance input output journal values. tries-nothing _ _ _ (rw (full .1))
+    λ allowance input output «record» values. tries-nothing _ _ _ (rw (full .1))
 
 pub try-begin-spec : {M : Type 1} → statement M
 try-begin-spec =

@@ -11,13 +11,13 @@ use Rattle.run_turns.proofs.try_use.Tie as tie
 returns : tie.Need-returns
 returns c =
     let none = rw (c .enum-told .given .1) at (c .before .before .find-word .ensures) in
-    λ allowance journal values acting. other none refl refl
+    λ allowance «record» values acting. other none refl refl
 
 returns-2 : tie.Need-returns-2
 returns-2 c =
     let taken = rw (c .before .before .before .before .before .before .before .before .before .before .before .next .given .1) at (c .before .before .before .before .before .before .before .before .before .before .before .before .before .find-word .ensures) in
-    λ allowance journal values. uses-action _ _ _ _ _ (taken .numbered .within) (found-means taken Use (rw (found-number taken)))
-    (rw (c .before .before .before .before .use-sequence .kept .1 .0)) (rw (taken .after) at (c .before .before .before .before .use-sequence .ensures journal values))
+    λ allowance «record» values. uses-action _ _ _ _ _ (taken .numbered .within) (found-means taken Use (rw (found-number taken)))
+    (rw (c .before .before .before .before .use-seq .kept .1 .0)) (rw (taken .after) at (c .before .before .before .before .use-seq .ensures «record» values))
 
 pub try-use-spec : {M : Type 1} → statement M
 try-use-spec =

@@ -21,8 +21,8 @@ use Rattle.run_turns.proofs.try_writes.Tie as tie
 abbrev Inv-loop : tie.InvT-loop
 Inv-loop code input output₀ frames values h₀ output h =
     (length output ≡ length output₀) ×
-    ((allowance : ℕ) (journal : Bytes) →
-    Tries code allowance h₀ (memory input output₀ journal frames values) h (memory input output journal frames values))
+    ((allowance : ℕ) («record» : Bytes) →
+    Tries code allowance h₀ (memory input output₀ «record» frames values) h (memory input output «record» frames values))
 
 abbrev μ-loop : tie.MeasureT-loop
 μ-loop code input output₀ frames values h₀ output h = length code - h .at .0
@@ -34,20 +34,20 @@ entry c = c .before .before .before .before .before .before
 
 -- the memory with out's cells so
 abbrev lent : tie.At-loop Inv-loop μ-loop → Bytes → Bytes → Memory
-lent c output journal =
+lent c output «record» =
     let a = entry c .args in
-    memory (a .input .now) output journal (a .frames .now) (a .values .now)
+    memory (a .input .now) output «record» (a .frames .now) (a .values .now)
 
 -- tries from the entry on, that left registers and cells of out so
 abbrev TriesTo : tie.At-loop Inv-loop μ-loop → Registers → Bytes → Type 0
 TriesTo c h output =
     let a = entry c .args in
-    (allowance : ℕ) (journal : Bytes) → Tries (a .code .now) allowance (a .g) (lent c (a .output .now) journal) h (lent c output journal)
+    (allowance : ℕ) («record» : Bytes) → Tries (a .code .now) allowance (a .g) (lent c (a .output .now) «record») h (lent c output «record»)
 
-acting : (c : tie.At-loop Inv-loop μ-loop) → let o = entry c .pre in Acting (o .allowance) (c .loop .h) (lent c (c .loop .output) (o .journal))
+acting : (c : tie.At-loop Inv-loop μ-loop) → let o = entry c .pre in Acting (o .allowance) (c .loop .h) (lent c (c .loop .output) (o .«record»))
 acting c =
     let o = entry c .pre in
-    acting-on _ _ (c .loop .inv .1 (o .allowance) (o .journal) (o .acting))
+    acting-on _ _ (c .loop .inv .1 (o .allowance) (o .«record») (o .acting))
 
 -- where it was written, or couldn't be, back to where it was decoded
 abbrev at-what : tie.After-write Inv-loop μ-loop → tie.After-what Inv-loop μ-loop
@@ -59,11 +59,11 @@ at-loop c = at-what c .before .before .before .before .before
 abbrev after : tie.After-write Inv-loop μ-loop → Bytes
 after c = c .write .last .1 .1 .1 .0
 
-acts : (c : tie.After-write Inv-loop μ-loop) (next : Next) → c .write .result ≡ next → (journal : Bytes) →
+acts : (c : tie.After-write Inv-loop μ-loop) (next : Next) → c .write .result ≡ next → («record» : Bytes) →
     let l = at-loop c in
     let h = l .loop .h in
-    Acts (writeMeant (at-what c .what .given .0 .0)) (h .at .0 + 1) (stepped h) (lent l (l .loop .output) journal) next (lent l (after c) journal)
-acts c next e journal = rw e at (c .write .ensures journal)
+    Acts (writeMeant (at-what c .what .given .0 .0)) (h .at .0 + 1) (stepped h) (lent l (l .loop .output) «record») next (lent l (after c) «record»)
+acts c next e «record» = rw e at (c .write .ensures «record»)
 
 -- what was decoded, as the actions from its place on
 read : (c : tie.After-decode Inv-loop μ-loop) (i : Instruction) → c .decode .result ≡ i →
@@ -74,15 +74,15 @@ read c i e = actions-at _ _ i (rw e at (c .decode .ensures)) (c .before .before 
 -- one more is written, or left where it can't be
 wrote : (c : tie.After-write Inv-loop μ-loop) (next : Next) → c .write .result ≡ next →
     TriesTo (at-loop c) (keptOf next (at-loop c .loop .h)) (after c)
-wrote c next e allowance journal a =
+wrote c next e allowance «record» a =
     let at-decode = at-what c .before .before in
-    let t = at-loop c .loop .inv .1 allowance journal a in
+    let t = at-loop c .loop .inv .1 allowance «record» a in
     tries-then _ _ t
     (tries-action _ _ _ next _ (at-decode .before .before .if1 .left) (read at-decode _ (at-what c .what .given .1)) (rw (c .write .kept .1 .1 .1 .0))
-    (acts c next e journal) (acting-on _ _ t))
+    (acts c next e «record») (acting-on _ _ t))
 
 loop-holds : tie.Need-loop-holds Inv-loop μ-loop
-loop-holds c = (refl, λ allowance journal. tries-nothing _ _ _ refl)
+loop-holds c = (refl, λ allowance «record». tries-nothing _ _ _ refl)
 
 returns : tie.Need-returns Inv-loop μ-loop
 returns c = c .before .loop .inv .1
@@ -96,17 +96,17 @@ write-requires c κs =
     (u .ready .ordered, (u .ready .inside, (u .ready .below, (u .ready .framed, (u .ready .frameRoom, (u .current, u .ready .valueRoom))))))
 
 returns-3 : tie.Need-returns-3 Inv-loop μ-loop
-returns-3 c allowance journal a =
+returns-3 c allowance «record» a =
     let at-write = c .before .before .before in
     let answer = at-write .write .result in
     let h = at-loop at-write .loop .h in
     let none : keptOf answer h ≡ h = over-kept answer h (over-tagged answer (c .match2 .keys2)) in
-    rw none at (wrote at-write answer refl allowance journal a)
+    rw none at (wrote at-write answer refl allowance «record» a)
 
 loop-less : tie.Need-loop-less Inv-loop μ-loop
 loop-less c =
     let at-write = c .before .before .before .before .before in
-    let place = acts at-write _ (c .before .written .given .1) (entry (at-loop at-write) .pre .journal) .stays .place in
+    let place = acts at-write _ (c .before .written .given .1) (entry (at-loop at-write) .pre .«record») .stays .place in
     omega (arith, place, at-what at-write .before .before .before .before .if1 .left)
 
 loop-again : tie.Need-loop-again Inv-loop μ-loop

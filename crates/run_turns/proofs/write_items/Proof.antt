@@ -19,30 +19,30 @@ entry c = c .before .before .before .before .before .before .before
 abbrev TriesTo : tie.Start → Registers → Bytes → List ℕ → Type 0
 TriesTo e h output frames =
     let a = e .args in
-    (allowance : ℕ) (journal : Bytes) →
-    Tries (a .code .now) allowance (a .g) (memory (a .input .now) (a .output .now) journal (a .frames .now) (a .values .now))
-    h (memory (a .input .now) output journal frames (a .values .now))
+    (allowance : ℕ) («record» : Bytes) →
+    Tries (a .code .now) allowance (a .g) (memory (a .input .now) (a .output .now) «record» (a .frames .now) (a .values .now))
+    h (memory (a .input .now) output «record» frames (a .values .now))
 
 begun : (c : tie.After-try-begin) → TriesTo (entry c) (c .try-begin .result) (entry c .args .output .now) (c .try-begin .last .1 .1 .0)
-begun c allowance journal = c .try-begin .ensures allowance _ _ journal _
+begun c allowance «record» = c .try-begin .ensures allowance _ _ «record» _
 
 abbrev before-go : tie.After-try-go → tie.After-try-begin
 before-go c = c .before .before .before .before
 
 gone : (c : tie.After-try-go) → let from = before-go c in
     TriesTo (entry from) (c .try-go .result) (entry from .args .output .now) (from .try-begin .last .1 .1 .0)
-gone c allowance journal a =
-    let t = begun (before-go c) allowance journal a in
-    tries-then _ _ t (c .try-go .ensures allowance _ journal _ (acting-on _ _ t))
+gone c allowance «record» a =
+    let t = begun (before-go c) allowance «record» a in
+    tries-then _ _ t (c .try-go .ensures allowance _ «record» _ (acting-on _ _ t))
 
 abbrev before-select : tie.After-try-select → tie.After-try-go
 before-select c = c .before .before
 
 selected : (c : tie.After-try-select) → let from = before-go (before-select c) in
     TriesTo (entry from) (c .try-select .result) (entry from .args .output .now) (from .try-begin .last .1 .1 .0)
-selected c allowance journal a =
-    let t = gone (before-select c) allowance journal a in
-    tries-then _ _ t (c .try-select .ensures allowance _ journal _ (acting-on _ _ t))
+selected c allowance «record» a =
+    let t = gone (before-select c) allowance «record» a in
+    tries-then _ _ t (c .try-select .ensures allowance _ «record» _ (acting-on _ _ t))
 
 abbrev before-writes : tie.After-try-writes → tie.After-try-select
 before-writes c = c .before .before .before
@@ -52,16 +52,16 @@ start c = before-go (before-select (before-writes c))
 
 written : (c : tie.After-try-writes) →
     TriesTo (entry (start c)) (c .try-writes .result) (c .try-writes .last .1 .1 .1 .0) (start c .try-begin .last .1 .1 .0)
-written c allowance journal a =
-    let t = selected (before-writes c) allowance journal a in
-    tries-then _ _ t (c .try-writes .ensures allowance journal (acting-on _ _ t))
+written c allowance «record» a =
+    let t = selected (before-writes c) allowance «record» a in
+    tries-then _ _ t (c .try-writes .ensures allowance «record» (acting-on _ _ t))
 
 -- the registers keep within what is lent after each of them
 ready : (e : tie.Start) (h : Registers) (output : Bytes) (frames : List ℕ) → TriesTo e h output frames →
     Ongoing h (e .args .input .now) output frames (e .args .values .now)
 ready e h output frames tries =
     let o = e .pre in
-    record { allowance = o .allowance; journal = o .journal; acting = acting-on _ _ (tries (o .allowance) (o .journal) (o .acting)) }
+    record { allowance = o .allowance; «record» = o .«record»; acting = acting-on _ _ (tries (o .allowance) (o .«record») (o .acting)) }
 
 try-go-requires : tie.Need-try-go-requires
 try-go-requires c κs =
@@ -89,9 +89,9 @@ same-length-2 : tie.Need-same-length-2
 same-length-2 c = start (c .before .before .before .before) .try-begin .kept .1 .1 .0
 
 returns : tie.Need-returns
-returns c allowance journal a =
-    let t = written (c .before .before .before .before) allowance journal a in
-    tries-then _ _ t (c .try-go2 .ensures allowance _ journal _ (acting-on _ _ t))
+returns c allowance «record» a =
+    let t = written (c .before .before .before .before) allowance «record» a in
+    tries-then _ _ t (c .try-go2 .ensures allowance _ «record» _ (acting-on _ _ t))
 
 pub write-items-spec : {M : Type 1} → statement M
 write-items-spec =

@@ -16,7 +16,7 @@ returns-2 c =
     let at-compute-angles = c .before .before in
     let at-part = at-compute-angles .before .before in
     let a = at-part .before .before .before .args in
-    λ journal values frames. not-angles (a .g) (memory (a .input .now) (a .output .now) journal frames values) (operation (a .subtract))
+    λ «record» values frames. not-angles (a .g) (memory (a .input .now) (a .output .now) «record» frames values) (operation (a .subtract))
     (refused-angles _ _ (c .enum-told .given .1) (rw (at-part .part .ensures) at (at-compute-angles .compute-angles .ensures)))
 
 returns-3 : tie.Need-returns-3
@@ -24,7 +24,7 @@ returns-3 c =
     let at-compute-angles = c .before .before in
     let at-part = at-compute-angles .before .before in
     let a = at-part .before .before .before .args in
-    λ journal values frames. out-of-range (a .g) (memory (a .input .now) (a .output .now) journal frames values) (operation (a .subtract))
+    λ «record» values frames. out-of-range (a .g) (memory (a .input .now) (a .output .now) «record» frames values) (operation (a .subtract))
     (refused-range _ _ (c .enum-told2 .given .1) (rw (at-part .part .ensures) at (at-compute-angles .compute-angles .ensures)))
 
 -- a result's bytes stand first in the lent ones
@@ -40,8 +40,8 @@ part-write-text-end c = handed (c .before .before) .within
 returns : tie.Need-returns
 returns c =
     let a = c .before .before .before .before .before .before .before .before .before .before .before .before .before .before .args in
-    λ journal values frames. c .before .before .write-text .ensures (compute (operation (a .subtract))) (a .input .now) journal values frames
-    (result-writes (a .g) (memory (a .input .now) (a .output .now) journal frames values) (operation (a .subtract))
+    λ «record» values frames. c .before .before .write-text .ensures (compute (operation (a .subtract))) (a .input .now) «record» values frames
+    (result-writes (a .g) (memory (a .input .now) (a .output .now) «record» frames values) (operation (a .subtract))
     (rw sub-zero (handed (c .before .before .before .before .before .before .before) .same)))
 
 pub compute-spec : {M : Type 1} → statement M

@@ -9,7 +9,7 @@ returns c =
     let at-enum-told = at-write-part .before .before in
     let entry = at-enum-told .before .before .before .before .before .before in
     let a = entry .args in
-    λ journal. rw (at-enum-told .enum-told .given .1) (at-write-part .write-part .ensures journal (a .values .now) (a .frames .now))
+    λ «record». rw (at-enum-told .enum-told .given .1) (at-write-part .write-part .ensures «record» (a .values .now) (a .frames .now))
 
 returns-2 : tie.Need-returns-2
 returns-2 c =
@@ -17,7 +17,7 @@ returns-2 c =
     let at-what = at-write-byte .before .before .before in
     let entry = at-what .before .before .before .before .before .before in
     let a = entry .args in
-    λ journal. rw (at-what .what .given .1) (at-write-byte .write-byte .ensures (a .input .now) journal (a .values .now) (a .frames .now))
+    λ «record». rw (at-what .what .given .1) (at-write-byte .write-byte .ensures (a .input .now) «record» (a .values .now) (a .frames .now))
 
 returns-3 : tie.Need-returns-3
 returns-3 c =
@@ -25,7 +25,7 @@ returns-3 c =
     let at-what2 = at-write-value .before .before .before in
     let entry = at-what2 .before .before .before .before .before .before in
     let a = entry .args in
-    λ journal. rw (at-what2 .what2 .given .1) (at-write-value .write-value .ensures (a .input .now) journal)
+    λ «record». rw (at-what2 .what2 .given .1) (at-write-value .write-value .ensures (a .input .now) «record»)
 
 pub write-spec : {M : Type 1} → statement M
 write-spec = tie.close (tie.spec (λ c. search needs) (λ c κs. search needs) (λ c. search needs) (λ c κs. search needs) (λ c. search needs) (λ c κs. search needs) (λ c. search needs) returns

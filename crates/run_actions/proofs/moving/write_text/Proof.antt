@@ -11,7 +11,7 @@ entry c = c .before .before .before .before
 returns : tie.Need-returns
 returns c =
     let at-room-from = c .before in
-    λ action input journal values frames w.
+    λ action input «record» values frames w.
     text-full _ _ (entry at-room-from .pre .1) w (rw (at-room-from .room-from .ensures) at (c .if1 .taken))
 
 copy-to-out-requires : tie.Need-copy-to-out-requires
@@ -24,7 +24,7 @@ returns-2 c =
     let at-copy-to-out = c .before .before .before .before .before .before in
     let at-if1 = at-copy-to-out .before .before in
     let at-room-from = at-if1 .before in
-    λ action input journal values frames w. rw (c .before .before .out-after .ensures, at-copy-to-out .copy-to-out .ensures)
+    λ action input «record» values frames w. rw (c .before .before .out-after .ensures, at-copy-to-out .copy-to-out .ensures)
     (text-written _ _ (entry at-room-from .pre .1) w (entry at-room-from .pre .0) (rw (at-room-from .room-from .ensures) at (at-if1 .if1 .left)))
 
 pub write-text-spec : {M : Type 1} → statement M

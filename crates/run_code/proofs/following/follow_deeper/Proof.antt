@@ -47,7 +47,7 @@ follow-requires : tie.Need-follow-requires
 follow-requires c κs =
     let p = entry c .pre in
     let a = entry c .args in
-    (p .0, (p .1 .0, deeper-underway (grown c) (a .input .now) (a .output .now) (a .journal .now) (a .code .now) (a .allowance) (a .g) (p .1 .1 .0)))
+    (p .0, (p .1 .0, deeper-underway (grown c) (a .input .now) (a .output .now) (a .«record» .now) (a .code .now) (a .allowance) (a .g) (p .1 .1 .0)))
 
 whole : (c : tie.After-follow) → length (c .follow .last .1 .1 .1 .1 .1 .1 .1 .0) ≡ wordsFor maxFrames
 whole c = c .follow .kept .1 .1 .1 .1 .1 .1 .1 .0 ∙ grown (c .before) .sized
@@ -64,7 +64,7 @@ returns c =
     let start = entry (at-follow .before) in
     let a = start .args in
     let left = at-follow .follow .last .1 .1 .1 .1 in
-    deeper-follows (grown (at-follow .before)) (a .input .now) (a .output .now) (a .journal .now) (a .code .now) (a .allowance) (a .g) (start .pre .1 .1 .0)
+    deeper-follows (grown (at-follow .before)) (a .input .now) (a .output .now) (a .«record» .now) (a .code .now) (a .allowance) (a .g) (start .pre .1 .1 .0)
     (at-follow .follow .result) (left .0) (left .1 .0) (left .1 .1 .0) (left .1 .1 .1 .0) _ (left .1 .1 .1 .1 .0) (whole at-follow)
     (counts-back (a .frames .now) _ (left .1 .1 .1 .0) (at-copy .copy-words2 .ensures) (omega (arith, whole at-follow))) (at-follow .follow .ensures)
 

@@ -40,7 +40,7 @@ on-in c =
 abbrev begun-in : tie.After-begin-frame → Memory
 begun-in c =
     let a = entry (loading c) .args in
-    memory (loading c .copy-to-in .last .0) (a .output .now) (a .journal .now) (c .begin-frame .last .0) (a .values .now)
+    memory (loading c .copy-to-in .last .0) (a .output .now) (a .«record» .now) (c .begin-frame .last .0) (a .values .now)
 
 -- nothing is counted yet
 none : (c : tie.After-begin-frame) → countsIn (begun-in c .frames) ≡ uncounted

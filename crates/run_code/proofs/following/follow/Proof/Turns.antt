@@ -35,21 +35,21 @@ pub record Turn (words : Words) (allowance : ℕ) (first : Next) (m : Memory) : 
   pub value : Val
   pub input : List ℕ
   pub output : List ℕ
-  pub journal : List ℕ
+  pub «record» : List ℕ
   pub frames : List ℕ
   pub values : List ℕ
   pub kept : Is R.the-row g (registers-vals g)
   pub typed : Is S.the-row how (value ∷ [])
   pub same-input : length input ≡ length (m .input)
   pub same-output : length output ≡ length (m .output)
-  pub same-journal : length journal ≡ length (m .journal)
+  pub same-record : length «record» ≡ length (m .«record»)
   pub same-frames : length frames ≡ length (m .frames)
   pub same-values : length values ≡ length (m .values)
-  pub leads : Leads words allowance (comesTo (roomOf m) allowance words first m) (registersIn first) m (nextOf how g) (memory input output journal frames values)
+  pub leads : Leads words allowance (comesTo (roomOf m) allowance words first m) (registersIn first) m (nextOf how g) (memory input output «record» frames values)
 
 module _ {words : Words} {allowance : ℕ} {first : Next} {m : Memory} where
   abbrev pub memory-in : Turn words allowance first m → Memory
-  memory-in t = memory (t .input) (t .output) (t .journal) (t .frames) (t .values)
+  memory-in t = memory (t .input) (t .output) (t .«record») (t .frames) (t .values)
 
   -- what is left to do falls
   abbrev pub left : Turn words allowance first m → ℕ
@@ -76,14 +76,14 @@ module _ {words : Words} {allowance : ℕ} {first : Next} {m : Memory} where
         value = v;
         input = m .input;
         output = m .output;
-        journal = m .journal;
+        «record» = m .«record»;
         frames = m .frames;
         values = m .values;
         kept = spelled-out g u is;
         typed = is-x;
         same-input = refl;
         same-output = refl;
-        same-journal = refl;
+        same-record = refl;
         same-frames = refl;
         same-values = refl;
         leads = subst (λ (r : Next). Leads words allowance (comesTo (roomOf m) allowance words first m) (registersIn first) m r m) (sym (rejoined first x g new how))
@@ -95,7 +95,7 @@ module _ {words : Words} {allowance : ℕ} {first : Next} {m : Memory} where
 
   -- the next state
   abbrev pub next-turn : (t : Turn words allowance first m) (x : Status) (w : Val) (ws : Changed) → Told t x ws → length (ws .1 .1 .1 .1 .0) ≡ length (t .input) →
-      length (ws .1 .1 .1 .1 .1 .0) ≡ length (t .output) → length (ws .1 .1 .1 .1 .1 .1 .0) ≡ length (t .journal) → length (ws .1 .1 .1 .1 .1 .1 .1 .0) ≡
+      length (ws .1 .1 .1 .1 .1 .0) ≡ length (t .output) → length (ws .1 .1 .1 .1 .1 .1 .0) ≡ length (t .«record») → length (ws .1 .1 .1 .1 .1 .1 .1 .0) ≡
       length (t .frames) → length (ws .1 .1 .1 .1 .1 .1 .1 .1 .0) ≡ length (t .values)
       → Is R.the-row (ws .0) (registers-vals (ws .0)) → Is S.the-row x (w ∷ []) → onward (t .how) ≡ true → Turn words allowance first m
   next-turn t x w ws told e₁ e₂ e₃ e₄ e₅ kept′ is-x said =
@@ -105,14 +105,14 @@ module _ {words : Words} {allowance : ℕ} {first : Next} {m : Memory} where
         value = w;
         input = ws .1 .1 .1 .1 .0;
         output = ws .1 .1 .1 .1 .1 .0;
-        journal = ws .1 .1 .1 .1 .1 .1 .0;
+        «record» = ws .1 .1 .1 .1 .1 .1 .0;
         frames = ws .1 .1 .1 .1 .1 .1 .1 .0;
         values = ws .1 .1 .1 .1 .1 .1 .1 .1 .0;
         kept = kept′;
         typed = is-x;
         same-input = e₁ ∙ t .same-input;
         same-output = e₂ ∙ t .same-output;
-        same-journal = e₃ ∙ t .same-journal;
+        same-record = e₃ ∙ t .same-record;
         same-frames = e₄ ∙ t .same-frames;
         same-values = e₅ ∙ t .same-values;
         leads =

@@ -66,13 +66,13 @@ abbrev pub stayed : Stays (follow.ended .signature .params) (follow.ended .kept)
 stayed = (stay-dropped _ _, (stay-dropped _ _, (stay-dropped _ _, (stay-dropped _ _, (stay-slice (2 ∷ []) tt (plain (λ _. u8)), (stay-slice (3 ∷ []) tt (plain (λ _. u8)), (stay-slice (4 ∷ []) tt (plain (λ _. u8)), (stay-slice (5 ∷ []) tt (plain (λ _. usize)), (stay-slice (6 ∷ []) tt (plain (λ _. u8)), tt)))))))))
 
 module _ {M : Type 1} (𝓤 : URA M) (H : Heap 𝓤) (A : Atoms 𝓤) (W : Given 𝓤 H A) (at-mem : Memory → SProp 𝓤) (run : Routine → Fun 𝓤) (κs : Lfts 7) (qs : Shares 7) (bounds : AllOutlive 7 (follow.signature .outlives) κs)
-    (first : Next) (bits words : RefT (List ℕ)) (allowance : ℕ) (input output journal frames values : RefT (List ℕ)) where
+    (first : Next) (bits words : RefT (List ℕ)) (allowance : ℕ) (input output «record» frames values : RefT (List ℕ)) where
   abbrev a : Args follow.signature κs
-  a = (first, (bits, (words, (allowance, (input, (output, (journal, (frames, (values, tt)))))))))
+  a = (first, (bits, (words, (allowance, (input, (output, («record», (frames, (values, tt)))))))))
 
   -- the parameters' machine values
   abbrev vss : Vals follow.signature κs
-  vss = (EL.vals N.the-type N′.the-laws first, (ptr-vals bits, (slice-vals words, (uint-vals w32 allowance, (slice-vals input, (slice-vals output, (slice-vals journal, (slice-vals frames, (slice-vals values, tt)))))))))
+  vss = (EL.vals N.the-type N′.the-laws first, (ptr-vals bits, (slice-vals words, (uint-vals w32 allowance, (slice-vals input, (slice-vals output, (slice-vals «record», (slice-vals frames, (slice-vals values, tt)))))))))
 
   abbrev Post : Val → SProp 𝓤
   Post = walkOf 𝓤 H A follow.ended stayed (follow.clauses 𝓤 H A at-mem run) .post ((κs, qs, bounds, a, vss), tt)
@@ -87,27 +87,27 @@ module _ {M : Type 1} (𝓤 : URA M) (H : Heap 𝓤) (A : Atoms 𝓤) (W : Given
   Words = ShrSlice erased (κs .1 .0) u32 .own words (slice-vals words)
 
   abbrev State : Type 0
-  State = Turn (now words) allowance first (memory (now input) (now output) (now journal) (now frames) (now values))
+  State = Turn (now words) allowance first (memory (now input) (now output) (now «record») (now frames) (now values))
 
   -- what the loop keeps beside the locals
   abbrev Kept : State → List (Item 𝓤)
   Kept t = ‵ (Mine u8 (κs .1 .1 .0) (qs .1 .1 .0) input (t .input)) ∷ ‵ (Mine u8 (κs .1 .1 .1 .0) (qs .1 .1 .1 .0) output (t .output)) ∷
-      ‵ (Mine u8 (κs .1 .1 .1 .1 .0) (qs .1 .1 .1 .1 .0) journal (t .journal)) ∷ ‵ (Mine usize (κs .1 .1 .1 .1 .1 .0) (qs .1 .1 .1 .1 .1 .0) frames (t .frames)) ∷
+      ‵ (Mine u8 (κs .1 .1 .1 .1 .0) (qs .1 .1 .1 .1 .0) «record» (t .«record»)) ∷ ‵ (Mine usize (κs .1 .1 .1 .1 .1 .0) (qs .1 .1 .1 .1 .1 .0) frames (t .frames)) ∷
       ‵ (Mine u8 (κs .1 .1 .1 .1 .1 .1 .0) (qs .1 .1 .1 .1 .1 .1 .0) values (t .values)) ∷ ‵ (flft (κs .1 .1 .0) (qs .1 .1 .0)) ∷
       ‵ (flft (κs .1 .1 .1 .0) (qs .1 .1 .1 .0)) ∷ ‵ (flft (κs .1 .1 .1 .1 .0) (qs .1 .1 .1 .1 .0)) ∷ ‵ (flft (κs .1 .1 .1 .1 .1 .0) (qs .1 .1 .1 .1 .1 .0)) ∷
       ‵ (flft (κs .1 .1 .1 .1 .1 .1 .0) (qs .1 .1 .1 .1 .1 .1 .0)) ∷ ‵ (flft (κs .0) (qs .0)) ∷ ‵ (flft (κs .1 .0) (qs .1 .0)) ∷ ‵ Bits ∷ ‵ Words ∷ []
 
-  exits : (t : State) (r : Next) (u : Val) → Follows (now words) allowance first (memory (now input) (now output) (now journal) (now frames) (now values)) r
+  exits : (t : State) (r : Next) (u : Val) → Follows (now words) allowance first (memory (now input) (now output) (now «record») (now frames) (now values)) r
       (memory-in t) → ent 𝓤 (⋆ 𝓤 H A (‵ (N.the-row .own r (u ∷ [])) ∷ Kept t)) (Post u)
   exits t r u said =
       qed W (‵ (N.the-row .own r (u ∷ [])) ∷ Kept t) ∵
       suffices ! _ (ends-at 𝓤 H A follow.ended stayed (follow.clauses 𝓤 H A at-mem run) W ((κs, qs, bounds, a, vss), tt) u r
-      (tt, (tt, (tt, (tt, (t .input, (t .output, (t .journal, (t .frames, (t .values, tt)))))))))
-      (tt, (tt, (tt, (tt, (t .same-input, (t .same-output, (t .same-journal, (t .same-frames, (t .same-values, tt)))))))))) $ says ! said $
+      (tt, (tt, (tt, (tt, (t .input, (t .output, (t .«record», (t .frames, (t .values, tt)))))))))
+      (tt, (tt, (tt, (tt, (t .same-input, (t .same-output, (t .same-record, (t .same-frames, (t .same-values, tt)))))))))) $ says ! said $
       move ! (11 ∷ 12 ∷ counting 6 5) $ tokens-joined ! 7 κs qs $ frame ! $ move ! (6 ∷ []) $ drop ! $ move ! (6 ∷ []) $ drop ! $ nothing ! $
       move ! (6 ∷ 0 ∷ []) $ as-passed ! u8 (κs .1 .1 .1 .1 .1 .1 .0) (qs .1 .1 .1 .1 .1 .1 .0) values (t .values) (t .same-values) $ fjoin ! $
       move ! (5 ∷ 0 ∷ []) $ as-passed ! usize (κs .1 .1 .1 .1 .1 .0) (qs .1 .1 .1 .1 .1 .0) frames (t .frames) (t .same-frames) $ fjoin ! $
-      move ! (4 ∷ 0 ∷ []) $ as-passed ! u8 (κs .1 .1 .1 .1 .0) (qs .1 .1 .1 .1 .0) journal (t .journal) (t .same-journal) $ fjoin ! $
+      move ! (4 ∷ 0 ∷ []) $ as-passed ! u8 (κs .1 .1 .1 .1 .0) (qs .1 .1 .1 .1 .0) «record» (t .«record») (t .same-record) $ fjoin ! $
       move ! (3 ∷ 0 ∷ []) $ as-passed ! u8 (κs .1 .1 .1 .0) (qs .1 .1 .1 .0) output (t .output) (t .same-output) $ fjoin ! $
       move ! (2 ∷ 0 ∷ []) $ as-passed ! u8 (κs .1 .1 .0) (qs .1 .1 .0) input (t .input) (t .same-input) $ fjoin ! $
       nothing ! $ fjoin ! $ nothing ! $ fjoin ! $ nothing ! $ fjoin ! $ nothing ! $ fjoin ! $ done !
@@ -120,8 +120,8 @@ module _ {M : Type 1} (𝓤 : URA M) (H : Heap 𝓤) (A : Atoms 𝓤) (W : Given
     fits-output : (t : State) → Room u8 (length (t .output))
     fits-output t = subst (Room u8) (sym (t .same-output)) (are .1 .1 .1 .1 .1 .0 .0 .1)
 
-    fits-journal : (t : State) → Room u8 (length (t .journal))
-    fits-journal t = subst (Room u8) (sym (t .same-journal)) (are .1 .1 .1 .1 .1 .1 .0 .0 .1)
+    fits-record : (t : State) → Room u8 (length (t .«record»))
+    fits-record t = subst (Room u8) (sym (t .same-record)) (are .1 .1 .1 .1 .1 .1 .0 .0 .1)
 
     fits-frames : (t : State) → Room usize (length (t .frames))
     fits-frames t = subst (Room usize) (sym (t .same-frames)) (are .1 .1 .1 .1 .1 .1 .1 .0 .0 .1)
@@ -138,7 +138,7 @@ module _ {M : Type 1} (𝓤 : URA M) (H : Heap 𝓤) (A : Atoms 𝓤) (W : Given
       abbrev passed : State → List Content
       passed t = holds (EL.val N.the-type N′.the-laws first) ∷ holds (vptr (ptr bits .0) (ptr bits .1)) ∷ holds (sliceVal (ptr words) (length (now words))) ∷
           holds (vint w32 allowance) ∷ holds (sliceVal (ptr input) (length (t .input))) ∷ holds (sliceVal (ptr output) (length (t .output))) ∷
-          holds (sliceVal (ptr journal) (length (t .journal))) ∷ holds (sliceVal (ptr frames) (length (t .frames))) ∷
+          holds (sliceVal (ptr «record») (length (t .«record»))) ∷ holds (sliceVal (ptr frames) (length (t .frames))) ∷
           holds (sliceVal (ptr values) (length (t .values))) ∷ holds (registers-val (t .g)) ∷ holds (t .value) ∷ []
 
       abbrev At : State → List (Item 𝓤)
@@ -156,17 +156,17 @@ module _ {M : Type 1} (𝓤 : URA M) (H : Heap 𝓤) (A : Atoms 𝓤) (W : Given
       step-shares = (fullShare, (qs .0, (qs .1 .0, (fullShare, (fullShare, (fullShare, (fullShare, (fullShare, tt))))))))
 
       abbrev step-args : State → (ν ν₁ ν₂ ν₃ ν₄ ν₅ : ℕ) (δ δ₁ δ₂ δ₃ δ₄ δ₅ : GName) → Args step.signature (step-lifetimes ν ν₁ ν₂ ν₃ ν₄ ν₅)
-      step-args t ν ν₁ ν₂ ν₃ ν₄ ν₅ δ δ₁ δ₂ δ₃ δ₄ δ₅ = (record { ptr = (l₁₀, 0); name = δ; now = t .g }, (bits, (words, (allowance, (lent-at input δ₁ (t .input), (lent-at output δ₂ (t .output), (lent-at journal δ₃ (t .journal), (lent-at frames δ₄ (t .frames), (lent-at values δ₅ (t .values), tt)))))))))
+      step-args t ν ν₁ ν₂ ν₃ ν₄ ν₅ δ δ₁ δ₂ δ₃ δ₄ δ₅ = (record { ptr = (l₁₀, 0); name = δ; now = t .g }, (bits, (words, (allowance, (lent-at input δ₁ (t .input), (lent-at output δ₂ (t .output), (lent-at «record» δ₃ (t .«record»), (lent-at frames δ₄ (t .frames), (lent-at values δ₅ (t .values), tt)))))))))
 
       abbrev to-step : State → (ν ν₁ ν₂ ν₃ ν₄ ν₅ : ℕ) (δ δ₁ δ₂ δ₃ δ₄ δ₅ : GName) → Step 𝓤 H A at-mem run .Ghost
-      to-step t ν ν₁ ν₂ ν₃ ν₄ ν₅ δ δ₁ δ₂ δ₃ δ₄ δ₅ = ((step-lifetimes ν ν₁ ν₂ ν₃ ν₄ ν₅, step-shares, tt, step-args t ν ν₁ ν₂ ν₃ ν₄ ν₅ δ δ₁ δ₂ δ₃ δ₄ δ₅, (vptr l₁₀ 0 ∷ [], (ptr-vals bits, (slice-vals words, (uint-vals w32 allowance, (sliceVal (ptr input) (length (t .input)) ∷ [], (sliceVal (ptr output) (length (t .output)) ∷ [], (sliceVal (ptr journal) (length (t .journal)) ∷ [], (sliceVal (ptr frames) (length (t .frames)) ∷ [], (sliceVal (ptr values) (length (t .values)) ∷ [], tt)))))))))), tt)
+      to-step t ν ν₁ ν₂ ν₃ ν₄ ν₅ δ δ₁ δ₂ δ₃ δ₄ δ₅ = ((step-lifetimes ν ν₁ ν₂ ν₃ ν₄ ν₅, step-shares, tt, step-args t ν ν₁ ν₂ ν₃ ν₄ ν₅ δ δ₁ δ₂ δ₃ δ₄ δ₅, (vptr l₁₀ 0 ∷ [], (ptr-vals bits, (slice-vals words, (uint-vals w32 allowance, (sliceVal (ptr input) (length (t .input)) ∷ [], (sliceVal (ptr output) (length (t .output)) ∷ [], (sliceVal (ptr «record») (length (t .«record»)) ∷ [], (sliceVal (ptr frames) (length (t .frames)) ∷ [], (sliceVal (ptr values) (length (t .values)) ∷ [], tt)))))))))), tt)
 
       abbrev Lent : State → (ν ν₁ ν₂ ν₃ ν₄ ν₅ : ℕ) (δ δ₁ δ₂ δ₃ δ₄ δ₅ : GName) → List (Item 𝓤)
       Lent t ν ν₁ ν₂ ν₃ ν₄ ν₅ δ δ₁ δ₂ δ₃ δ₄ δ₅ = ‵ (flft (ν ∷ []) fullShare) ∷ ‵ (flft (κs .0) (qs .0)) ∷ ‵ (flft (κs .1 .0) (qs .1 .0)) ∷
           ‵ (flft (ν₁ ∷ []) fullShare) ∷ ‵ (flft (ν₂ ∷ []) fullShare) ∷ ‵ (flft (ν₃ ∷ []) fullShare) ∷ ‵ (flft (ν₄ ∷ []) fullShare) ∷ ‵ (flft (ν₅ ∷ []) fullShare) ∷
           ‵ (MutRef erased (ν ∷ []) R.the-row .own (record { ptr = (l₁₀, 0); name = δ; now = t .g }) (vptr l₁₀ 0 ∷ [])) ∷ ‵ Bits ∷ ‵ Words ∷
           ‵ (Theirs u8 (κs .1 .1 .0) (qs .1 .1 .0) input ν₁ δ₁ (t .input)) ∷ ‵ (Theirs u8 (κs .1 .1 .1 .0) (qs .1 .1 .1 .0) output ν₂ δ₂ (t .output)) ∷
-          ‵ (Theirs u8 (κs .1 .1 .1 .1 .0) (qs .1 .1 .1 .1 .0) journal ν₃ δ₃ (t .journal)) ∷
+          ‵ (Theirs u8 (κs .1 .1 .1 .1 .0) (qs .1 .1 .1 .1 .0) «record» ν₃ δ₃ (t .«record»)) ∷
           ‵ (Theirs usize (κs .1 .1 .1 .1 .1 .0) (qs .1 .1 .1 .1 .1 .0) frames ν₄ δ₄ (t .frames)) ∷
           ‵ (Theirs u8 (κs .1 .1 .1 .1 .1 .1 .0) (qs .1 .1 .1 .1 .1 .1 .0) values ν₅ δ₅ (t .values)) ∷ []
 
@@ -207,14 +207,14 @@ module _ {M : Type 1} (𝓤 : URA M) (H : Heap 𝓤) (A : Atoms 𝓤) (W : Given
           asked t true said (stays ! (copies ! 26 refl) $ assigns ! (addr ! (from ! (stop !))) (from ! (stop !)) (init ! 28 refl (tt, tt)) $
           lends-again ! 10 30 32 refl refl refl refl refl refl tt tt (fits-input t .0) $
           lends-again ! 12 34 36 refl refl refl refl refl refl tt tt (fits-output t .0) $
-          lends-again ! 14 38 40 refl refl refl refl refl refl tt tt (fits-journal t .0) $
+          lends-again ! 14 38 40 refl refl refl refl refl refl tt tt (fits-record t .0) $
           lends-again ! 16 42 44 refl refl refl refl refl refl tt tt (fits-frames t .0) $
           lends-again ! 18 46 48 refl refl refl refl refl refl tt tt (fits-values t .0) $
           -- the registers are lent, and each slice is lent again, for lifetimes of the call
           move ! (20 ∷ []) $ lends-registers ! tt (t .g) (t .kept) l₁₀
           (λ ν δ. move ! (52 ∷ 57 ∷ []) $ lends-slice-again ! tt u8 (κs .1 .1 .0) (qs .1 .1 .0) input (t .input) (λ ν₁ δ₁.
           move ! (55 ∷ 59 ∷ []) $ lends-slice-again ! tt u8 (κs .1 .1 .1 .0) (qs .1 .1 .1 .0) output (t .output) (λ ν₂ δ₂.
-          move ! (58 ∷ 61 ∷ []) $ lends-slice-again ! tt u8 (κs .1 .1 .1 .1 .0) (qs .1 .1 .1 .1 .0) journal (t .journal) (λ ν₃ δ₃.
+          move ! (58 ∷ 61 ∷ []) $ lends-slice-again ! tt u8 (κs .1 .1 .1 .1 .0) (qs .1 .1 .1 .1 .0) «record» (t .«record») (λ ν₃ δ₃.
           move ! (61 ∷ 63 ∷ []) $ lends-slice-again ! tt usize (κs .1 .1 .1 .1 .1 .0) (qs .1 .1 .1 .1 .1 .0) frames (t .frames) (λ ν₄ δ₄.
           move ! (64 ∷ 65 ∷ []) $ lends-slice-again ! tt u8 (κs .1 .1 .1 .1 .1 .1 .0) (qs .1 .1 .1 .1 .1 .1 .0) values (t .values) (λ ν₅ δ₅.
           -- what is only read is had twice
@@ -234,7 +234,7 @@ module _ {M : Type 1} (𝓤 : URA M) (H : Heap 𝓤) (A : Atoms 𝓤) (W : Given
           move ! (7 ∷ 21 ∷ 13 ∷ []) $ registers-come-back ! tt (ws .0) l₁₀ (λ kept′.
           move ! (5 ∷ 19 ∷ 12 ∷ []) $ slice-comes-back-at ! tt u8 (κs .1 .1 .0) (qs .1 .1 .0) input 29 (t .input) (ws .1 .1 .1 .1 .0) (fits-input t) e₁ refl $
           move ! (6 ∷ 18 ∷ 12 ∷ []) $ slice-comes-back-at ! tt u8 (κs .1 .1 .1 .0) (qs .1 .1 .1 .0) output 30 (t .output) (ws .1 .1 .1 .1 .1 .0) (fits-output t) e₂ refl $
-          move ! (7 ∷ 17 ∷ 12 ∷ []) $ slice-comes-back-at ! tt u8 (κs .1 .1 .1 .1 .0) (qs .1 .1 .1 .1 .0) journal 31 (t .journal) (ws .1 .1 .1 .1 .1 .1 .0) (fits-journal t) e₃ refl $
+          move ! (7 ∷ 17 ∷ 12 ∷ []) $ slice-comes-back-at ! tt u8 (κs .1 .1 .1 .1 .0) (qs .1 .1 .1 .1 .0) «record» 31 (t .«record») (ws .1 .1 .1 .1 .1 .1 .0) (fits-record t) e₃ refl $
           move ! (8 ∷ 16 ∷ 12 ∷ []) $ slice-comes-back-at ! tt usize (κs .1 .1 .1 .1 .1 .0) (qs .1 .1 .1 .1 .1 .0) frames 32 (t .frames) (ws .1 .1 .1 .1 .1 .1 .1 .0) (fits-frames t) e₄ refl $
           move ! (9 ∷ 15 ∷ 12 ∷ []) $ slice-comes-back-at ! tt u8 (κs .1 .1 .1 .1 .1 .1 .0) (qs .1 .1 .1 .1 .1 .1 .0) values 33 (t .values) (ws .1 .1 .1 .1 .1 .1 .1 .1 .0) (fits-values t) e₅ refl $
           land-last ! (from ! (stop !)) (store ! 36 refl (EL.lawful S.the-type S′.the-laws 𝓤 H A W tt .typed x _ is-x .0)) $ forget ! 40 refl $ forget ! 42 refl $
@@ -267,12 +267,12 @@ module _ {M : Type 1} (𝓤 : URA M) (H : Heap 𝓤) (A : Atoms 𝓤) (W : Given
       turns : (t : State) → Goes t
       turns t = either t (onward (t .how)) refl
 
-    pub walk : Keeps allowance first (memory (now input) (now output) (now journal) (now frames) (now values)) →
+    pub walk : Keeps allowance first (memory (now input) (now output) (now «record») (now frames) (now values)) →
         Triple 𝓤 (𝓣 .C #run_turns·registers-of) (RegistersOf 𝓤 H A at-mem run) → Triple 𝓤 (𝓣 .C #run_turns·status-of) (StatusOf 𝓤 H A at-mem run)
         → ent 𝓤 (onEntry 𝓤 H A follow.signature κs qs a vss)
         (WpFn 𝓤 H (𝓣 .C) (𝓣 .Λ) code.function (EL.val N.the-type N′.the-laws first ∷ vptr (ptr bits .0) (ptr bits .1) ∷
         sliceVal (ptr words) (length (now words)) ∷ vint w32 allowance ∷ sliceVal (ptr input) (length (now input)) ∷
-        sliceVal (ptr output) (length (now output)) ∷ sliceVal (ptr journal) (length (now journal)) ∷ sliceVal (ptr frames) (length (now frames)) ∷
+        sliceVal (ptr output) (length (now output)) ∷ sliceVal (ptr «record») (length (now «record»)) ∷ sliceVal (ptr frames) (length (now frames)) ∷
         sliceVal (ptr values) (length (now values)) ∷ []) Post)
     walk req₃ known-registers known-status =
         qed W (raw (toks 𝓤 A 7 κs qs) ∷ ‵ Owned ∷ []) ∵ enter ! (𝓣 .C) (𝓣 .Λ) code.function _ _ $

@@ -1,4 +1,4 @@
--- `moving::use_sequence` meets its contract.
+-- `moving::use_seq` meets its contract.
 use borrow.Author.Needs.{needs}
 use native.Mathlib.Omega.{arith}
 use Prim.Native.Nat.{ℕ, _-_, min}
@@ -6,8 +6,8 @@ use mathlib.Core.Path.{_≡_, ap}
 use Rattle.meaning.specs.Choice.{Bytes}
 use Rattle.run_actions.specs.States.{Memory, memory, frameWord}
 use Rattle.run_actions.proofs.laws.Sequences.{begins-before, Bounded, use-none, use-full, use-moved}
-use Rattle.run_actions.proofs.moving.use_sequence.Statement.{statement}
-use Rattle.run_actions.proofs.moving.use_sequence.Tie as tie
+use Rattle.run_actions.proofs.moving.use_seq.Statement.{statement}
+use Rattle.run_actions.proofs.moving.use_seq.Tie as tie
 
 -- WHERE THE OPEN SEQUENCES ARE COUNTED, AND WHERE THE LATEST BEGINS
 
@@ -15,11 +15,11 @@ abbrev entry : tie.After-open-sequences → tie.Start
 entry c = c .before .before .before .before .before
 
 abbrev lent : tie.After-open-sequences → Bytes → Bytes → Memory
-lent c journal values = memory (entry c .args .input .now) (entry c .args .output .now) journal (entry c .args .frames .now) values
+lent c «record» values = memory (entry c .args .input .now) (entry c .args .output .now) «record» (entry c .args .frames .now) values
 
-bounded : (c : tie.After-open-sequences) (journal values : Bytes) →
-    Bounded (entry c .args .g) (lent c journal values) (entry c .pre .1 .1 .1 .1 .0)
-bounded c journal values =
+bounded : (c : tie.After-open-sequences) («record» values : Bytes) →
+    Bounded (entry c .args .g) (lent c «record» values) (entry c .pre .1 .1 .1 .1 .0)
+bounded c «record» values =
     let p = entry c .pre in
     record { p≤q = p .0; q≤in = p .1 .0; r≤out = p .1 .1 .0; few = p .1 .1 .1 .1 .1 .opened }
 
@@ -43,7 +43,7 @@ first-cell c = ap (λ cell. record { 0 = cell }) (first c)
 
 returns : tie.Need-returns
 returns c =
-    λ journal values. use-none _ (lent (c .before) journal values) _ (bounded (c .before) journal values) (rw (c .before .open-sequences .ensures) at (c .if1 .taken))
+    λ «record» values. use-none _ (lent (c .before) «record» values) _ (bounded (c .before) «record» values) (rw (c .before .open-sequences .ensures) at (c .if1 .taken))
 
 sequence-start-requires : tie.Need-sequence-start-requires
 sequence-start-requires c κs =
@@ -57,7 +57,7 @@ returns-2 : tie.Need-returns-2
 returns-2 c =
     let at-earlier = c .before .before .before in
     let at-count = counted at-earlier in
-    λ journal values. use-full _ (lent at-count journal values) _ (bounded at-count journal values) (some-open at-earlier)
+    λ «record» values. use-full _ (lent at-count «record» values) _ (bounded at-count «record» values) (some-open at-earlier)
     (rw (c .before .before .cells-below .ensures, c .before .bytes-between .ensures, first at-earlier) at (c .if2 .taken))
 
 move-down-requires : tie.Need-move-down-requires
@@ -83,11 +83,11 @@ returns-3 c =
     let cells = rw (first at-earlier) at (at-move .move-down .ensures .1) in
     let room = rw (at-if2 .before .before .cells-below .ensures, at-if2 .before .bytes-between .ensures, first at-earlier) at (at-if2 .if2 .left) in
     let start = begins-before _ _ _ (rw (first at-earlier) at (ap (λ cell. cell .0) (at-move .move-down .ensures .0))) room in
-    λ journal values. rw (at-set .set-open-sequences .ensures, at-count .open-sequences .ensures, first-cell at-earlier)
-    (use-moved _ (lent at-count journal values) _ (bounded at-count journal values) _ _ start cells (some-open at-earlier)
+    λ «record» values. rw (at-set .set-open-sequences .ensures, at-count .open-sequences .ensures, first-cell at-earlier)
+    (use-moved _ (lent at-count «record» values) _ (bounded at-count «record» values) _ _ start cells (some-open at-earlier)
     (at-move .move-down .kept .0))
 
-pub use-sequence-spec : {M : Type 1} → statement M
-use-sequence-spec =
+pub use-seq-spec : {M : Type 1} → statement M
+use-seq-spec =
     tie.close (tie.spec (λ c κs. search needs) (λ c. search needs) returns sequence-start-requires (λ c κs. search needs) (λ c κs. search needs) bytes-between-requires
     (λ c. search needs) returns-2 (λ c. search needs) (λ c κs. search needs) move-down-requires (λ c. search needs) (λ c. search needs) returns-3)
