@@ -62,15 +62,15 @@ use Rattle.run_actions.proofs.registers.Status as S
 use Rattle.run_actions.proofs.registers.Status.Laws as S′
 use Rattle.run_turns.proofs.advance as advance
 use Rattle.run_turns.proofs.advance.Symbol as advance-def
-use Rattle.run_turns.proofs.advance.Symbol.{name as #run_turns·advance}
+use Rattle.run_turns.proofs.advance.Symbol.{name as #run-turns·advance}
 use Rattle.run_turns.proofs.advance.Met as advance-thm
 use Rattle.run_turns.proofs.registers_of.Symbol as registers-of-def
-use Rattle.run_turns.proofs.registers_of.Symbol.{name as #run_turns·registers-of}
+use Rattle.run_turns.proofs.registers_of.Symbol.{name as #run-turns·registers-of}
 use Rattle.run_turns.proofs.registers_of.Met as registers-of-thm
 use Rattle.run_turns.proofs.status_of.Symbol as status-of-def
-use Rattle.run_turns.proofs.status_of.Symbol.{name as #run_turns·status-of}
+use Rattle.run_turns.proofs.status_of.Symbol.{name as #run-turns·status-of}
 use Rattle.run_turns.proofs.status_of.Met as status-of-thm
-use Rattle.run_turns.proofs.step.Key.{name as #run_turns·step}
+use Rattle.run_turns.proofs.step.Key.{name as #run-turns·step}
 use Rattle.run_turns.proofs.step as step
 use Rattle.run_turns.proofs.step.Statement as stated
 use Rattle.run_turns.proofs.step.Code as code
@@ -149,7 +149,7 @@ module _ {M : Type 1} (𝓤 : URA M) (H : Heap 𝓤) (A : Atoms 𝓤) (W : Given
       move ! (2 ∷ []) $ fsplit ! $ drop ! $ move ! (1 ∷ 0 ∷ []) $ fjoin ! $ done !
 
   module _ (are : Are (typesAt (step.signature .params) κs) (Ises (typesAt (step.signature .params) κs)) a vss) (C : Calls 𝓤 H) (Λ : Loops 𝓤 H) (fm : FmC 𝓤 H (W .laws) C)
-      (known-advance : Triple 𝓤 (C #run_turns·advance) (Advance 𝓤 H A at-mem run)) (known-registers : Triple 𝓤 (C #run_turns·registers-of) (RegistersOf 𝓤 H A at-mem run)) (known-status : Triple 𝓤 (C #run_turns·status-of) (StatusOf 𝓤 H A at-mem run)) where
+      (known-advance : Triple 𝓤 (C #run-turns·advance) (Advance 𝓤 H A at-mem run)) (known-registers : Triple 𝓤 (C #run-turns·registers-of) (RegistersOf 𝓤 H A at-mem run)) (known-status : Triple 𝓤 (C #run-turns·status-of) (StatusOf 𝓤 H A at-mem run)) where
     walk : ent 𝓤 (sep 𝓤 (onEntry 𝓤 H A step.signature κs qs a vss) Required)
         (WpFn 𝓤 H C Λ code.function (vptr b o ∷ vptr (ptr bits .0) (ptr bits .1) ∷ sliceVal (ptr words) (length (now words)) ∷ vint w32 allowance ∷
         sliceVal (ptr input) (length (now input)) ∷ sliceVal (ptr output) (length (now output)) ∷ sliceVal (ptr «record») (length (now «record»)) ∷
@@ -212,12 +212,12 @@ step-spec 𝓤 H 𝓜 𝓖 𝓡 =
     let W = givenOf 𝓤 H 𝓜 𝓖 in
     walk-enters 𝓤 H 𝓜 𝓖 𝓡 code.env step.ended stayed
     (goes-ref 𝓤 H (𝓖 .A) W 8 0 tt (plain (λ _. R.the-row)), all-go 𝓤 H (𝓖 .A) W 8 (after-first (step.signature .params)) (step.ended .kept .1))
-    (step.clauses 𝓤 H (𝓖 .A) (𝓜 .mem) (𝓡 .run)) #run_turns·step code.function (code.unfolded 𝓤 H 𝓜 𝓡)
+    (step.clauses 𝓤 H (𝓖 .A) (𝓜 .mem) (𝓡 .run)) #run-turns·step code.function (code.unfolded 𝓤 H 𝓜 𝓡)
     (λ κs. (ptr-vals, (ptr-vals, (slice-vals, (uint-vals w32, (slice-vals, (slice-vals, (slice-vals, (slice-vals, (slice-vals, tt))))))))))
     (λ κs. (mut-tells (named 0) (κs .0) R.the-row, (shr-tells (named 1) (κs .1 .0) (Array u8 256), (shr-slice-tells (named 2) (κs .1 .1 .0) u32, (uint-tells w32, (mut-slice-tells (named 3) (κs .1 .1 .1 .0) u8, (mut-slice-tells (named 4) (κs .1 .1 .1 .1 .0) u8, (mut-slice-tells (named 5) (κs .1 .1 .1 .1 .1 .0) u8, (mut-slice-tells (named 6) (κs .1 .1 .1 .1 .1 .1 .0) usize, (mut-slice-tells (named 7) (κs .1 .1 .1 .1 .1 .1 .1 .0) u8, tt))))))))))
     (λ κs qs bounds a _ are. walk 𝓤 H (𝓖 .A) W (𝓜 .mem) (𝓡 .run) κs qs bounds (a .0) (a .1 .0) (a .1 .1 .0) (a .1 .1 .1 .0) (a .1 .1 .1 .1 .0) (a .1 .1 .1 .1 .1 .0)
     (a .1 .1 .1 .1 .1 .1 .0) (a .1 .1 .1 .1 .1 .1 .1 .0) (a .1 .1 .1 .1 .1 .1 .1 .1 .0) are _ _ (calls-framed 𝓤 H 𝓜 𝓖 𝓡 code.env)
-    (cited 𝓤 H (Advance 𝓤 H (𝓖 .A) (𝓜 .mem) (𝓡 .run)) 𝓜 𝓡 code.env #run_turns·advance advance-def.routine code.calls-run_turns·advance (advance-thm.met 𝓤 H 𝓜 𝓖 𝓡))
-    (cited 𝓤 H (RegistersOf 𝓤 H (𝓖 .A) (𝓜 .mem) (𝓡 .run)) 𝓜 𝓡 code.env #run_turns·registers-of registers-of-def.routine code.calls-run_turns·registers-of
+    (cited 𝓤 H (Advance 𝓤 H (𝓖 .A) (𝓜 .mem) (𝓡 .run)) 𝓜 𝓡 code.env #run-turns·advance advance-def.routine code.calls-run-turns·advance (advance-thm.met 𝓤 H 𝓜 𝓖 𝓡))
+    (cited 𝓤 H (RegistersOf 𝓤 H (𝓖 .A) (𝓜 .mem) (𝓡 .run)) 𝓜 𝓡 code.env #run-turns·registers-of registers-of-def.routine code.calls-run-turns·registers-of
     (registers-of-thm.met 𝓤 H 𝓜 𝓖 𝓡))
-    (cited 𝓤 H (StatusOf 𝓤 H (𝓖 .A) (𝓜 .mem) (𝓡 .run)) 𝓜 𝓡 code.env #run_turns·status-of status-of-def.routine code.calls-run_turns·status-of (status-of-thm.met 𝓤 H 𝓜 𝓖 𝓡)))
+    (cited 𝓤 H (StatusOf 𝓤 H (𝓖 .A) (𝓜 .mem) (𝓡 .run)) 𝓜 𝓡 code.env #run-turns·status-of status-of-def.routine code.calls-run-turns·status-of (status-of-thm.met 𝓤 H 𝓜 𝓖 𝓡)))

@@ -62,7 +62,7 @@ use Rattle.read_tokens.proofs.reader.Reader as T
 use Rattle.read_tokens.proofs.reader.Reader.Laws as T′
 use Rattle.read_tokens.proofs.reader.new as new
 use Rattle.read_tokens.proofs.reader.new.Symbol as new-def
-use Rattle.read_tokens.proofs.reader.new.Symbol.{name as #read_tokens·reader·new}
+use Rattle.read_tokens.proofs.reader.new.Symbol.{name as #read-tokens·reader·new}
 use Rattle.read_tokens.proofs.reader.new.Met as new-thm
 use Rattle.read_bookkeeping.proofs.progress.Parsed as P
 use Rattle.read_bookkeeping.proofs.progress.Parsed.Laws as P′
@@ -70,21 +70,21 @@ use Rattle.read_functions.proofs.functions.Stage as S
 use Rattle.read_functions.proofs.functions.Stage.Laws as S′
 use Rattle.read_functions.proofs.functions.first_stage as first-stage
 use Rattle.read_functions.proofs.functions.first_stage.Symbol as first-stage-def
-use Rattle.read_functions.proofs.functions.first_stage.Symbol.{name as #read_functions·functions·first-stage}
+use Rattle.read_functions.proofs.functions.first_stage.Symbol.{name as #read-functions·functions·first-stage}
 use Rattle.read_functions.proofs.functions.first_stage.Met as first-stage-thm
 use Rattle.read_functions.proofs.functions.is_onward as is-onward
 use Rattle.read_functions.proofs.functions.is_onward.Symbol as is-onward-def
-use Rattle.read_functions.proofs.functions.is_onward.Symbol.{name as #read_functions·functions·is-onward}
+use Rattle.read_functions.proofs.functions.is_onward.Symbol.{name as #read-functions·functions·is-onward}
 use Rattle.read_functions.proofs.functions.is_onward.Met as is-onward-thm
 use Rattle.read_functions.proofs.functions.outcome as outcome
 use Rattle.read_functions.proofs.functions.outcome.Symbol as outcome-def
-use Rattle.read_functions.proofs.functions.outcome.Symbol.{name as #read_functions·functions·outcome}
+use Rattle.read_functions.proofs.functions.outcome.Symbol.{name as #read-functions·functions·outcome}
 use Rattle.read_functions.proofs.functions.outcome.Met as outcome-thm
 use Rattle.read_table.proofs.functions.next_declaration as next
 use Rattle.read_table.proofs.functions.next_declaration.Symbol as next-def
-use Rattle.read_table.proofs.functions.next_declaration.Symbol.{name as #read_table·functions·next-declaration}
+use Rattle.read_table.proofs.functions.next_declaration.Symbol.{name as #read-table·functions·next-declaration}
 use Rattle.read_table.proofs.functions.next_declaration.Met as next-thm
-use Rattle.read_table.proofs.functions.functions.Key.{name as #read_table·functions·functions}
+use Rattle.read_table.proofs.functions.functions.Key.{name as #read-table·functions·functions}
 use Rattle.read_table.proofs.functions.functions as functions
 use Rattle.read_table.proofs.functions.functions.Statement as stated
 use Rattle.read_table.proofs.functions.functions.Code as code
@@ -208,8 +208,8 @@ module _ {M : Type 1} (𝓤 : URA M) (H : Heap 𝓤) (A : Atoms 𝓤) (W : Given
   to-outcome x v = ((tt, tt, tt, (x, tt), (v ∷ [], tt)), tt)
 
   module _ (are : Are (typesAt (functions.signature .params) κs) (Ises (typesAt (functions.signature .params) κs)) a vss)
-      (𝓣 : Tables 𝓤 H) (fm : FmC 𝓤 H (W .laws) (𝓣 .C)) (known-onward : Triple 𝓤 (𝓣 .C #read_functions·functions·is-onward) (IsOnward 𝓤 H A at-mem run))
-      (known-next : Triple 𝓤 (𝓣 .C #read_table·functions·next-declaration) (Next 𝓤 H A at-mem run)) (known-outcome : Triple 𝓤 (𝓣 .C #read_functions·functions·outcome) (Outcome 𝓤 H A at-mem run)) where
+      (𝓣 : Tables 𝓤 H) (fm : FmC 𝓤 H (W .laws) (𝓣 .C)) (known-onward : Triple 𝓤 (𝓣 .C #read-functions·functions·is-onward) (IsOnward 𝓤 H A at-mem run))
+      (known-next : Triple 𝓤 (𝓣 .C #read-table·functions·next-declaration) (Next 𝓤 H A at-mem run)) (known-outcome : Triple 𝓤 (𝓣 .C #read-functions·functions·outcome) (Outcome 𝓤 H A at-mem run)) where
     fits-tape : (t : State) → Room u32 (length (t .tape))
     fits-tape t = subst (Room u32) (sym (t .long)) (are .1 .0 .0 .1)
 
@@ -265,7 +265,7 @@ module _ {M : Type 1} (𝓤 : URA M) (H : Heap 𝓤) (A : Atoms 𝓤) (W : Given
       -- `is_onward` is asked
       asked : (t : State) (y : Bool) → onward (t .stage) ≡ y → {rest : Code} {q : After 𝓤 H} →
           Seq (Go {0}) W (laid En (vacant ∷ (passed t ++ vacant ∷ holds (vbool y) ∷ [])) ++ Kept t) (runs (𝓣 .C) (𝓣 .Λ) En rest q)
-          → Seq (Go {0}) W (At t) (runs (𝓣 .C) (𝓣 .Λ) En (seq (call #read_functions·functions·is-onward (copy (place 5 []) ∷ []) (place 7 [])) rest) q)
+          → Seq (Go {0}) W (At t) (runs (𝓣 .C) (𝓣 .Λ) En (seq (call #read-functions·functions·is-onward (copy (place 5 []) ∷ []) (place 7 [])) rest) q)
       asked t y said k =
           owned ! S.the-row (Is S.the-row) (EL.makes S.the-type S′.the-plain 𝓤 H A) (t .stage) (t .value ∷ []) (t .typed) $
           use1 W (raw (IsOnward 𝓤 H A at-mem run .pre (to-onward (t .stage) (t .value)))) (one-passed 𝓤 H A W S.the-row (t .stage) (t .value ∷ [])) $
@@ -326,8 +326,8 @@ module _ {M : Type 1} (𝓤 : URA M) (H : Heap 𝓤) (A : Atoms 𝓤) (W : Given
       turns : (t : State) → Goes t
       turns t = either t (onward (t .stage)) refl
 
-    walk : (length (now text) ≤ 32768) × (length (now names) ≡ 64) → Triple 𝓤 (𝓣 .C #read_tokens·reader·new) (New 𝓤 H A at-mem run)
-        → Triple 𝓤 (𝓣 .C #read_functions·functions·first-stage) (FirstStage 𝓤 H A at-mem run)
+    walk : (length (now text) ≤ 32768) × (length (now names) ≡ 64) → Triple 𝓤 (𝓣 .C #read-tokens·reader·new) (New 𝓤 H A at-mem run)
+        → Triple 𝓤 (𝓣 .C #read-functions·functions·first-stage) (FirstStage 𝓤 H A at-mem run)
         → ent 𝓤 (onEntry 𝓤 H A functions.signature κs qs a vss)
         (WpFn 𝓤 H (𝓣 .C) (𝓣 .Λ) code.function (sliceVal (ptr text) (length (now text)) ∷ sliceVal (ptr tape) (length (now tape)) ∷ vptr (ptr names .0) (ptr names .1) ∷ []) Post)
     walk req known-new known-first =
@@ -361,17 +361,17 @@ functions-spec 𝓤 H 𝓜 𝓖 𝓡 =
     let W = givenOf 𝓤 H 𝓜 𝓖 in
     walk-enters 𝓤 H 𝓜 𝓖 𝓡 code.env functions.ended stayed
     ((λ κs x f vs fits. W .laws .⇛-intro _), (goes-slice 𝓤 H (𝓖 .A) W 3 1 tt words, (goes-ref 𝓤 H (𝓖 .A) W 3 2 tt entries, tt)))
-    (functions.clauses 𝓤 H (𝓖 .A) (𝓜 .mem) (𝓡 .run)) #read_table·functions·functions code.function (code.unfolded 𝓤 H 𝓜 𝓡)
+    (functions.clauses 𝓤 H (𝓖 .A) (𝓜 .mem) (𝓡 .run)) #read-table·functions·functions code.function (code.unfolded 𝓤 H 𝓜 𝓡)
     (λ κs. (slice-vals, (slice-vals, (ptr-vals, tt))))
     (λ κs. (shr-slice-tells (named 0) (κs .0) u8, (mut-slice-tells (named 1) (κs .1 .0) u32, (mut-tells (named 2) (κs .1 .1 .0) (Array usize 64), tt))))
     (λ κs qs bounds a _ are. required-one 𝓤 H (𝓖 .A) W _ _ (λ req. walk 𝓤 H (𝓖 .A) W (𝓜 .mem) (𝓡 .run) κs qs bounds (a .0) (a .1 .0) (a .1 .1 .0) are
     (tablesOf 𝓤 H 𝓜 (tables 𝓤 H 𝓜 𝓡 code.env)) (calls-framed 𝓤 H 𝓜 𝓖 𝓡 code.env)
-    (cited 𝓤 H (IsOnward 𝓤 H (𝓖 .A) (𝓜 .mem) (𝓡 .run)) 𝓜 𝓡 code.env #read_functions·functions·is-onward is-onward-def.routine code.calls-read_functions·functions·is-onward
+    (cited 𝓤 H (IsOnward 𝓤 H (𝓖 .A) (𝓜 .mem) (𝓡 .run)) 𝓜 𝓡 code.env #read-functions·functions·is-onward is-onward-def.routine code.calls-read-functions·functions·is-onward
     (is-onward-thm.met 𝓤 H 𝓜 𝓖 𝓡))
-    (cited 𝓤 H (Next 𝓤 H (𝓖 .A) (𝓜 .mem) (𝓡 .run)) 𝓜 𝓡 code.env #read_table·functions·next-declaration next-def.routine code.calls-read_table·functions·next-declaration
+    (cited 𝓤 H (Next 𝓤 H (𝓖 .A) (𝓜 .mem) (𝓡 .run)) 𝓜 𝓡 code.env #read-table·functions·next-declaration next-def.routine code.calls-read-table·functions·next-declaration
     (next-thm.met 𝓤 H 𝓜 𝓖 𝓡))
-    (cited 𝓤 H (Outcome 𝓤 H (𝓖 .A) (𝓜 .mem) (𝓡 .run)) 𝓜 𝓡 code.env #read_functions·functions·outcome outcome-def.routine code.calls-read_functions·functions·outcome
+    (cited 𝓤 H (Outcome 𝓤 H (𝓖 .A) (𝓜 .mem) (𝓡 .run)) 𝓜 𝓡 code.env #read-functions·functions·outcome outcome-def.routine code.calls-read-functions·functions·outcome
     (outcome-thm.met 𝓤 H 𝓜 𝓖 𝓡)) req
-    (cited 𝓤 H (New 𝓤 H (𝓖 .A) (𝓜 .mem) (𝓡 .run)) 𝓜 𝓡 code.env #read_tokens·reader·new new-def.routine code.calls-read_tokens·reader·new (new-thm.met 𝓤 H 𝓜 𝓖 𝓡))
-    (cited 𝓤 H (FirstStage 𝓤 H (𝓖 .A) (𝓜 .mem) (𝓡 .run)) 𝓜 𝓡 code.env #read_functions·functions·first-stage first-stage-def.routine
-    code.calls-read_functions·functions·first-stage (first-stage-thm.met 𝓤 H 𝓜 𝓖 𝓡))))
+    (cited 𝓤 H (New 𝓤 H (𝓖 .A) (𝓜 .mem) (𝓡 .run)) 𝓜 𝓡 code.env #read-tokens·reader·new new-def.routine code.calls-read-tokens·reader·new (new-thm.met 𝓤 H 𝓜 𝓖 𝓡))
+    (cited 𝓤 H (FirstStage 𝓤 H (𝓖 .A) (𝓜 .mem) (𝓡 .run)) 𝓜 𝓡 code.env #read-functions·functions·first-stage first-stage-def.routine
+    code.calls-read-functions·functions·first-stage (first-stage-thm.met 𝓤 H 𝓜 𝓖 𝓡))))

@@ -62,14 +62,14 @@ use Rattle.read_functions.proofs.functions.Reached as P
 use Rattle.read_functions.proofs.functions.Reached.Laws as P′
 use Rattle.read_functions.proofs.functions.declaration as declaration
 use Rattle.read_functions.proofs.functions.declaration.Symbol as declaration-def
-use Rattle.read_functions.proofs.functions.declaration.Symbol.{name as #read_functions·functions·declaration}
+use Rattle.read_functions.proofs.functions.declaration.Symbol.{name as #read-functions·functions·declaration}
 use Rattle.read_functions.proofs.functions.declaration.Met as declaration-thm
 use Rattle.proof_walks.proofs.Answering.{answers-lasts}
 use Rattle.proof_walks.proofs.Locals.{Content, holds, placed, lays-out, frees-laid, counting, and-copies}
 use Rattle.proof_walks.proofs.Entering.{calls-framed, walk-enters}
 use Rattle.proof_walks.proofs.Handing.{all-handed, after-first, all-fit, all-go}
 use Rattle.proof_walks.proofs.Lending.{takes-slice, lends-again}
-use Rattle.read_table.proofs.functions.next_declaration.Key.{name as #read_table·functions·next-declaration}
+use Rattle.read_table.proofs.functions.next_declaration.Key.{name as #read-table·functions·next-declaration}
 use Rattle.read_table.proofs.functions.next_declaration as next
 use Rattle.read_table.proofs.functions.next_declaration.Statement as stated
 use Rattle.read_table.proofs.functions.next_declaration.Code as code
@@ -194,7 +194,7 @@ module _ {M : Type 1} (𝓤 : URA M) (H : Heap 𝓤) (A : Atoms 𝓤) (W : Given
       owned ! S.the-row (Is S.the-row) (EL.makes S.the-type S′.the-plain 𝓤 H A) (r .stage) _ is $ move ! (1 ∷ 0 ∷ []) $ done !
 
   module _ (are : Are (typesAt (next.signature .params) κs) (Ises (typesAt (next.signature .params) κs)) a vss) (C : Calls 𝓤 H) (Λ : Loops 𝓤 H) (fm : FmC 𝓤 H (W .laws) C)
-      (known : Triple 𝓤 (C #read_functions·functions·declaration) (Declaration 𝓤 H A at-mem run)) where
+      (known : Triple 𝓤 (C #read-functions·functions·declaration) (Declaration 𝓤 H A at-mem run)) where
     walk : ent 𝓤 (sep 𝓤 (onEntry 𝓤 H A next.signature κs qs a vss) Required)
         (WpFn 𝓤 H C Λ code.function (vptr b o ∷ sliceVal (ptr tape) (length (now tape)) ∷ vptr (ptr names .0) (ptr names .1) ∷ stage-val stage ∷ []) Post)
     walk =
@@ -250,7 +250,7 @@ next-declaration-spec 𝓤 H 𝓜 𝓖 𝓡 =
     let W = givenOf 𝓤 H 𝓜 𝓖 in
     walk-enters 𝓤 H 𝓜 𝓖 𝓡 code.env next.ended stayed
     (goes-ref 𝓤 H (𝓖 .A) W 4 0 tt behind, all-go 𝓤 H (𝓖 .A) W 4 (after-first (next.signature .params)) (next.ended .kept .1))
-    (next.clauses 𝓤 H (𝓖 .A) (𝓜 .mem) (𝓡 .run)) #read_table·functions·next-declaration code.function (code.unfolded 𝓤 H 𝓜 𝓡)
+    (next.clauses 𝓤 H (𝓖 .A) (𝓜 .mem) (𝓡 .run)) #read-table·functions·next-declaration code.function (code.unfolded 𝓤 H 𝓜 𝓡)
     (λ κs. (ptr-vals, (slice-vals, (ptr-vals, (EL.vals S.the-type S′.the-laws, tt)))))
     (λ κs. (
       mut-tells (named 0) (κs .0) (T.the-row (namedLft 4 1 tt κs)),
@@ -260,5 +260,5 @@ next-declaration-spec 𝓤 H 𝓜 𝓖 𝓡 =
       ),
     ))
     (λ κs qs bounds a g are. walk 𝓤 H (𝓖 .A) W (𝓜 .mem) (𝓡 .run) κs qs bounds (a .0) (a .1 .0) (a .1 .1 .0) (a .1 .1 .1 .0) are _ _ (calls-framed 𝓤 H 𝓜 𝓖 𝓡 code.env)
-    (cited 𝓤 H (Declaration 𝓤 H (𝓖 .A) (𝓜 .mem) (𝓡 .run)) 𝓜 𝓡 code.env #read_functions·functions·declaration declaration-def.routine
-    code.calls-read_functions·functions·declaration (declaration-thm.met 𝓤 H 𝓜 𝓖 𝓡)))
+    (cited 𝓤 H (Declaration 𝓤 H (𝓖 .A) (𝓜 .mem) (𝓡 .run)) 𝓜 𝓡 code.env #read-functions·functions·declaration declaration-def.routine
+    code.calls-read-functions·functions·declaration (declaration-thm.met 𝓤 H 𝓜 𝓖 𝓡)))

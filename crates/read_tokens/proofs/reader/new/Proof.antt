@@ -38,7 +38,7 @@ use Rattle.read_tokens.proofs.reader.Reader.Laws as T′
 use Rattle.proof_walks.proofs.Lending.{takes-slice}
 use Rattle.proof_walks.proofs.Locals.{holds, placed, lays-out, frees-laid, and-copies}
 use Rattle.proof_walks.proofs.Entering.{walk-enters}
-use Rattle.read_tokens.proofs.reader.new.Key.{name as #read_tokens·reader·new}
+use Rattle.read_tokens.proofs.reader.new.Key.{name as #read-tokens·reader·new}
 use Rattle.read_tokens.proofs.reader.new as new
 use Rattle.read_tokens.proofs.reader.new.Statement as stated
 use Rattle.read_tokens.proofs.reader.new.Code as code
@@ -90,5 +90,5 @@ unfolding code.routine
 new-spec 𝓤 H 𝓜 𝓖 𝓡 =
     let W = givenOf 𝓤 H 𝓜 𝓖 in
     walk-enters 𝓤 H 𝓜 𝓖 𝓡 code.env new.ended stayed (goes-dropped 𝓤 H (𝓖 .A) W 1 passed yes (λ κs x f. refl), tt) (new.clauses 𝓤 H (𝓖 .A) (𝓜 .mem) (𝓡 .run))
-    #read_tokens·reader·new code.function (code.unfolded 𝓤 H 𝓜 𝓡) (λ κs. (slice-vals, tt)) (λ κs. (shr-slice-tells (named 0) (κs .0) u8, tt))
+    #read-tokens·reader·new code.function (code.unfolded 𝓤 H 𝓜 𝓡) (λ κs. (slice-vals, tt)) (λ κs. (shr-slice-tells (named 0) (κs .0) u8, tt))
     (λ κs qs bounds a g are. via 𝓤 _ (fst∗ 𝓤 _ (emp 𝓤)) (walk 𝓤 H (𝓖 .A) W (𝓜 .mem) (𝓡 .run) (κs .0) (qs .0) (a .0) _ _ (are .0)))

@@ -10,10 +10,10 @@ use Rattle.run_actions.proofs.emitting.copy_name.Statement.{statement}
 use Rattle.run_actions.proofs.emitting.copy_name.Tie as tie
 
 abbrev Inv-loop : tie.InvT-loop
-Inv-loop «record»₀ code size at to i₀ «record» i = («record» ≡ paste «record»₀ to (take size (drop at code)) i) × (i ≤ size) × (length «record» ≡ length «record»₀) × Spelled code at size
+Inv-loop «record₀» code size at to i₀ «record» i = («record» ≡ paste «record₀» to (take size (drop at code)) i) × (i ≤ size) × (length «record» ≡ length «record₀») × Spelled code at size
 
 abbrev μ-loop : tie.MeasureT-loop
-μ-loop «record»₀ code size at to i₀ «record» i = size - i
+μ-loop «record₀» code size at to i₀ «record» i = size - i
 
 loop-holds : tie.Need-loop-holds Inv-loop μ-loop
 loop-holds c = let a = c .args in (

@@ -50,12 +50,12 @@ use Rattle.run_actions.proofs.registers.Next as N
 use Rattle.run_actions.proofs.registers.Next.Laws as N′
 use Rattle.run_actions.proofs.registers.Status as S
 use Rattle.run_actions.proofs.registers.Status.Laws as S′
-use Rattle.run_turns.proofs.registers_of.Symbol.{name as #run_turns·registers-of}
-use Rattle.run_turns.proofs.status_of.Symbol.{name as #run_turns·status-of}
-use Rattle.run_turns.proofs.is_onward.Symbol.{name as #run_turns·is-onward}
+use Rattle.run_turns.proofs.registers_of.Symbol.{name as #run-turns·registers-of}
+use Rattle.run_turns.proofs.status_of.Symbol.{name as #run-turns·status-of}
+use Rattle.run_turns.proofs.is_onward.Symbol.{name as #run-turns·is-onward}
 use Rattle.run_turns.proofs.step as step
-use Rattle.run_turns.proofs.step.Symbol.{name as #run_turns·step}
-use Rattle.run_turns.proofs.next_of.Symbol.{name as #run_turns·next-of}
+use Rattle.run_turns.proofs.step.Symbol.{name as #run-turns·step}
+use Rattle.run_turns.proofs.next_of.Symbol.{name as #run-turns·next-of}
 use Rattle.run_code.proofs.following.follow as follow
 use Rattle.run_code.proofs.following.follow.Code as code
 use Rattle.run_code.proofs.following.follow.Code.Mir as body
@@ -113,7 +113,7 @@ module _ {M : Type 1} (𝓤 : URA M) (H : Heap 𝓤) (A : Atoms 𝓤) (W : Given
       nothing ! $ fjoin ! $ nothing ! $ fjoin ! $ nothing ! $ fjoin ! $ nothing ! $ fjoin ! $ done !
 
   module _ (are : Are (typesAt (follow.signature .params) κs) (Ises (typesAt (follow.signature .params) κs)) a vss) (req₁ : Answers (now bits)) (req₂ : countIn (now words) < length (now words))
-      (𝓣 : Tables 𝓤 H) (fm : FmC 𝓤 H (W .laws) (𝓣 .C)) (known-onward : Triple 𝓤 (𝓣 .C #run_turns·is-onward) (IsOnward 𝓤 H A at-mem run)) (known-step : Triple 𝓤 (𝓣 .C #run_turns·step) (Step 𝓤 H A at-mem run)) (known-next : Triple 𝓤 (𝓣 .C #run_turns·next-of) (NextOf 𝓤 H A at-mem run)) where
+      (𝓣 : Tables 𝓤 H) (fm : FmC 𝓤 H (W .laws) (𝓣 .C)) (known-onward : Triple 𝓤 (𝓣 .C #run-turns·is-onward) (IsOnward 𝓤 H A at-mem run)) (known-step : Triple 𝓤 (𝓣 .C #run-turns·step) (Step 𝓤 H A at-mem run)) (known-next : Triple 𝓤 (𝓣 .C #run-turns·next-of) (NextOf 𝓤 H A at-mem run)) where
     fits-input : (t : State) → Room u8 (length (t .input))
     fits-input t = subst (Room u8) (sym (t .same-input)) (are .1 .1 .1 .1 .0 .0 .1)
 
@@ -189,7 +189,7 @@ module _ {M : Type 1} (𝓤 : URA M) (H : Heap 𝓤) (A : Atoms 𝓤) (W : Given
       -- `is_onward` is asked
       asked : (t : State) (y : Bool) → onward (t .how) ≡ y → {rest : Code} {q : After 𝓤 H} →
           Seq (Go {0}) W (laid En (vacant ∷ (passed t ++ vacant ∷ holds (vbool y) ∷ [])) ++ Kept t) (runs (𝓣 .C) (𝓣 .Λ) En rest q)
-          → Seq (Go {0}) W (At t) (runs (𝓣 .C) (𝓣 .Λ) En (seq (call #run_turns·is-onward (copy (place 11 []) ∷ []) (place 13 [])) rest) q)
+          → Seq (Go {0}) W (At t) (runs (𝓣 .C) (𝓣 .Λ) En (seq (call #run-turns·is-onward (copy (place 11 []) ∷ []) (place 13 [])) rest) q)
       asked t y said k =
           owned ! S.the-row (Is S.the-row) (EL.makes S.the-type S′.the-plain 𝓤 H A) (t .how) (t .value ∷ []) (t .typed) $
           use1 W (raw (IsOnward 𝓤 H A at-mem run .pre (to-onward 𝓤 H A at-mem run (t .how) (t .value)))) (asks-onward 𝓤 H A at-mem run W (t .how) (t .value)) $
@@ -268,7 +268,7 @@ module _ {M : Type 1} (𝓤 : URA M) (H : Heap 𝓤) (A : Atoms 𝓤) (W : Given
       turns t = either t (onward (t .how)) refl
 
     pub walk : Keeps allowance first (memory (now input) (now output) (now «record») (now frames) (now values)) →
-        Triple 𝓤 (𝓣 .C #run_turns·registers-of) (RegistersOf 𝓤 H A at-mem run) → Triple 𝓤 (𝓣 .C #run_turns·status-of) (StatusOf 𝓤 H A at-mem run)
+        Triple 𝓤 (𝓣 .C #run-turns·registers-of) (RegistersOf 𝓤 H A at-mem run) → Triple 𝓤 (𝓣 .C #run-turns·status-of) (StatusOf 𝓤 H A at-mem run)
         → ent 𝓤 (onEntry 𝓤 H A follow.signature κs qs a vss)
         (WpFn 𝓤 H (𝓣 .C) (𝓣 .Λ) code.function (EL.val N.the-type N′.the-laws first ∷ vptr (ptr bits .0) (ptr bits .1) ∷
         sliceVal (ptr words) (length (now words)) ∷ vint w32 allowance ∷ sliceVal (ptr input) (length (now input)) ∷
