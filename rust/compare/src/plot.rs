@@ -216,7 +216,7 @@ fn duration(power: i32) -> String {
     format!("{} {unit}", 10u32.pow((power - 3 * (power / 3).min(3)) as u32))
 }
 
-/// A number below a million with its thousands parted off.
+/// A number below a million with its thousands separated off.
 pub fn thousands(number: u64) -> String {
     if number < 1_000 { number.to_string() } else { format!("{},{:03}", number / 1_000, number % 1_000) }
 }

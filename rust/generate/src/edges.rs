@@ -35,10 +35,10 @@ fn functions(count: usize) -> String {
 }
 
 fn sentences(random: &mut Random, count: usize) -> String {
-    let parted = random.below(count);
+    let separated = random.below(count);
     let mut text = String::from("F{");
     for number in 0..count {
-        text.push_str(if number > 0 && number == parted { "}G{" } else { "" });
+        text.push_str(if number > 0 && number == separated { "}G{" } else { "" });
         text.push_str(random.pick(&["=;", "e1=e1;", "'a'=;", "s1=;"]));
     }
     text + "}"

@@ -8,7 +8,7 @@ use refal0_apart::rewriter::rewrite;
 use refal0_apart::tree::{Item, Letter, Sentence, Subject, Table};
 
 /// The bytes of the s-variables and the e-variables' parts, if the text is the pattern with first part of this length.
-fn parted(sentence: &Sentence, text: &[u8], first: usize) -> Option<(Vec<u8>, Vec<Vec<u8>>)> {
+fn separated(sentence: &Sentence, text: &[u8], first: usize) -> Option<(Vec<u8>, Vec<Vec<u8>>)> {
     let spare = text.len().checked_sub(sentence.letters())?;
     let lengths = match sentence.parts.len() {
         0 if spare == 0 && first == 0 => vec![],
@@ -66,7 +66,7 @@ fn the_first_fitting_parts_are_taken() {
         let text = texts::text(&mut random, &function);
         let table = Table { functions: vec![function], emissions: Vec::new() };
         let sentence = &table.functions[0].sentences[0];
-        let found = (0..=text.len()).find_map(|first| parted(sentence, &text, first));
+        let found = (0..=text.len()).find_map(|first| separated(sentence, &text, first));
         let outcome = rewrite(&table, 1, &text, 9);
         assert_eq!(machine::run(&code(&table), 1, &text, 9, Rooms::WITHOUT_END).0, outcome);
         let Some((bytes, parts)) = found else {

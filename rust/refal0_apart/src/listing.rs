@@ -23,8 +23,8 @@ struct Line {
 }
 
 impl Line {
-    /// Adds what is parted by a blank from what stands before it.
-    fn parted(&mut self, pieces: &[&[u8]]) {
+    /// Adds what is separated by a blank from what stands before it.
+    fn separated(&mut self, pieces: &[&[u8]]) {
         self.end_string();
         if !self.written.is_empty() {
             self.written.push(b' ');
@@ -44,7 +44,7 @@ impl Line {
     fn end_string(&mut self) {
         let string = std::mem::take(&mut self.string);
         if !string.is_empty() {
-            self.parted(&[&quoted(&string)]);
+            self.separated(&[&quoted(&string)]);
         }
     }
 }
@@ -54,19 +54,19 @@ pub fn sentence_line(table: &Table, sentence: &Sentence) -> Vec<u8> {
     let mut line = Line::default();
     for (number, template) in sentence.templates.iter().enumerate() {
         if number > 0 {
-            line.parted(&[b"e", &sentence.parts[number - 1]]);
+            line.separated(&[b"e", &sentence.parts[number - 1]]);
         }
         for letter in template {
             match *letter {
                 Letter::Byte(byte) => line.character(byte),
-                Letter::Symbol(symbol) => line.parted(&[b"s", &sentence.symbols[symbol]]),
+                Letter::Symbol(symbol) => line.separated(&[b"s", &sentence.symbols[symbol]]),
             }
         }
     }
     for condition in &sentence.conditions {
         list_condition(&mut line, condition, sentence);
     }
-    line.parted(&[b"="]);
+    line.separated(&[b"="]);
     list_expression(&mut line, table, sentence);
     line.joined(b";\n");
     line.written
@@ -74,22 +74,22 @@ pub fn sentence_line(table: &Table, sentence: &Sentence) -> Vec<u8> {
 
 fn list_condition(line: &mut Line, condition: &Condition, sentence: &Sentence) {
     line.joined(b",");
-    line.parted(&[b"<", condition.class.predicate()]);
+    line.separated(&[b"<", condition.class.predicate()]);
     match condition.subject {
-        Subject::Symbol(symbol) => line.parted(&[b"s", &sentence.symbols[symbol]]),
-        Subject::Part(part) => line.parted(&[b"e", &sentence.parts[part]]),
+        Subject::Symbol(symbol) => line.separated(&[b"s", &sentence.symbols[symbol]]),
+        Subject::Part(part) => line.separated(&[b"e", &sentence.parts[part]]),
     }
     line.joined(b">:");
-    line.parted(&[if condition.expected { b"'T'" } else { b"'F'" }]);
+    line.separated(&[if condition.expected { b"'T'" } else { b"'F'" }]);
 }
 
 fn list_expression(line: &mut Line, table: &Table, sentence: &Sentence) {
     for item in &sentence.expression {
         match *item {
             Item::Byte(byte) => line.character(byte),
-            Item::Symbol(symbol) => line.parted(&[b"s", &sentence.symbols[symbol]]),
-            Item::Part(part) => line.parted(&[b"e", &sentence.parts[part]]),
-            Item::Open(callee) => line.parted(&[b"<", table.callee_name(callee)]),
+            Item::Symbol(symbol) => line.separated(&[b"s", &sentence.symbols[symbol]]),
+            Item::Part(part) => line.separated(&[b"e", &sentence.parts[part]]),
+            Item::Open(callee) => line.separated(&[b"<", table.callee_name(callee)]),
             Item::Close(_) => line.joined(b">"),
         }
     }

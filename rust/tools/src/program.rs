@@ -79,7 +79,7 @@ fn parsed(output: &[u8]) -> Option<Printed> {
     match numbers[..] {
         [number, place] => Some(Printed::Refused { number, place: place as usize }),
         [answer, function, steps] => {
-            let (body, profile) = parted(&output[end + 1..])?;
+            let (body, profile) = separated(&output[end + 1..])?;
             Some(Printed::Ran(Run { answer, function: function as usize, steps, body: body.to_vec(), profile }))
         }
         _ => None,
@@ -89,7 +89,7 @@ fn parsed(output: &[u8]) -> Option<Printed> {
 /// The body of a run without the line end that the program adds, and the lines of the functions. The last line is the
 /// total. Before it comes a line for each function, which begins with the function's number: the last of them tells how
 /// many there are. A table of no functions has none.
-fn parted(rest: &[u8]) -> Option<(&[u8], Profile)> {
+fn separated(rest: &[u8]) -> Option<(&[u8], Profile)> {
     let lines: Vec<&[u8]> = rest.strip_suffix(b"\n")?.split(|&byte| byte == 10).collect();
     let (_, before) = lines.split_last()?;
     let entry = |line: &&[u8]| {

@@ -40,7 +40,7 @@ impl Fault<'_> {
             _ if token.is_one_of(&["not", "!"]) => String::from("a condition is denied by its 'F': <IsDigit s1>: 'F'"),
             Shape::Word if compared => format!("a condition asks a predicate of {shown}, like <IsDigit {shown}>: 'T'"),
             Shape::Word | Shape::String | Shape::Number => {
-                String::from("a , begins a condition: the items of a pattern are parted by blanks")
+                String::from("a , begins a condition: the items of a pattern are separated by blanks")
             }
             _ if token.is_one_of(&["=", ";", "}"]) => String::from("a , begins a condition, and none follows it"),
             _ => String::from("a condition is like , <IsDigit s1>: 'T'"),
@@ -78,7 +78,7 @@ impl Fault<'_> {
         match token.shape {
             Shape::Open => self.call_before_equals(),
             _ if token.is_one_of(&["and", "&"]) => {
-                format!("conditions are parted by a , and not by {}", token.shown())
+                format!("conditions are separated by a , and not by {}", token.shown())
             }
             _ if token.is("or") => String::from("Refal-0 has no or: write a sentence for each"),
             Shape::Mark if !token.is_one_of(&[";", "}"]) => {

@@ -224,7 +224,7 @@ impl Fault<'_> {
         let said = if asked {
             "conditions stand before the =, not after it"
         } else {
-            "the items of an expression are parted by blanks, not by a ,"
+            "the items of an expression are separated by blanks, not by a ,"
         };
         String::from(said)
     }

@@ -116,7 +116,7 @@ impl Fault<'_> {
             return Some(String::from("a second = in one sentence: a ; has to part it from the next sentence"));
         }
         if token.is(",") {
-            return Some(String::from("sentences are parted by a ;, not by a ,"));
+            return Some(String::from("sentences are separated by a ;, not by a ,"));
         }
         let second = self.after.iter().find(|after| after.is("="))?;
         let place = self.where_is(*second);
