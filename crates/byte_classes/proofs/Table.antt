@@ -9,7 +9,7 @@ use lib.Dec.{T, ltb, eqb}
 use lib.ListN.{length, getD, replicate}
 use borrow.Author.Tests.{le-ltb, ne-eqb, ltb-true, ltb-false}
 use Rattle.meaning.specs.Choice.{both}
-use Rattle.meaning.specs.Rewriting.{sameTruth}
+use Rattle.meaning.specs.Classes.{sameTruth}
 use Rattle.meaning.proofs.laws.Passing.{both-left, both-right}
 use Rattle.byte_classes.specs.Tests.{testCount, classTest, bitOf, Answers}
 

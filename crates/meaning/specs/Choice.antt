@@ -72,3 +72,8 @@ unfoldable pub nth {ℓ} : {A : Type ℓ} → ℕ → List A → Option A
 nth i [] = none
 nth zero (x ∷ xs) = some x
 nth (suc i) (x ∷ xs) = nth i xs
+
+-- the element with a number, counted from 1: number 0 is no element's
+abbrev pub numbered {ℓ} : {A : Type ℓ} → ℕ → List A → Option A
+numbered zero xs = none
+numbered (suc i) xs = nth i xs

@@ -2,7 +2,7 @@
 -- IsLower (97 to 122), IsLetter (the two before), IsBlank (32, 9)"; 02, T-02, "IsBlank now holds for 10 and 13 besides
 -- 32 and 9". In 000 section 2.2 they are the host program's.
 use Prim.Native.Nat.{ℕ}
-use mathlib.Core.Bool.{Bool}
+use mathlib.Core.Bool.{Bool, true, false}
 use mathlib.Core.List.{List, [], _∷_}
 use lib.Dec.{leb, eqb}
 use Rattle.meaning.specs.Choice.{Name, both, either}
@@ -20,6 +20,12 @@ inClass upper b = within 65 90 b
 inClass lower b = within 97 122 b
 inClass alphabetic b = either (within 65 90 b) (within 97 122 b)
 inClass blank b = either (either (eqb b 32) (eqb b 9)) (either (eqb b 10) (eqb b 13))
+
+-- what is asked is so, or is not so, as expected
+abbrev pub sameTruth : Bool → Bool → Bool
+sameTruth true b = b
+sameTruth false true = false
+sameTruth false false = true
 
 -- a class's number in the code, and its place in the class table
 abbrev pub classNumber : Class → ℕ

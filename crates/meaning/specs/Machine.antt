@@ -1,13 +1,13 @@
 -- The string machine: 000 section 3 and 01 'Machine', big-step as in 000, where a function is a procedure. Stack in is the list of cells from p to its right end, stack out
 -- the list [0, r); q is held as the number of selected cells, q - p. What an instruction needs of the stacks, the record and the frames is noted before it is done, and the
 -- watch decides what a need means: so the run without end, the run on lent cells and what the run without end passes first are one definition (Runs).
-use Prim.Native.Nat.{ℕ, zero, suc, pred, _+_, _-_}
+use Prim.Native.Nat.{ℕ, zero, suc, _+_, _-_}
 use mathlib.Core.Bool.{Bool, true, false}
 use mathlib.Core.List.{List, [], _∷_, _++_}
 use mathlib.Core.Option.{Option, none, some}
 use lib.Dec.{leb, ltb}
 use lib.ListN.{length, take, drop}
-use Rattle.meaning.specs.Choice.{Bytes, both, nth}
+use Rattle.meaning.specs.Choice.{Bytes, both, nth, numbered}
 use Rattle.meaning.specs.Angles.{angled}
 use Rattle.meaning.specs.Answers.{noSentenceFits, allowanceSpent, noInstruction}
 use Rattle.meaning.specs.Outcome.{Tally, pay, emitted, emittedLine, Outcome, done, stop, andThen, computed}
@@ -62,9 +62,9 @@ abbrev pub functionOf : Option Sentences → Sentences
 functionOf none = noMore 0
 functionOf (some f) = f
 
--- the function with a number, counted from 1
+-- the function with a number
 abbrev pub codeAt : Code → ℕ → Sentences
-codeAt code number = functionOf (nth (pred number) code)
+codeAt code number = functionOf (numbered number code)
 
 abbrev pub isDeclared : Code → ℕ → Bool
 isDeclared code number = both (ltb 0 number) (leb number (length code))
@@ -194,7 +194,7 @@ module _ (W : Watch) where
 
   -- where no sentence fits: 02, T-04, RecoverX on the same field "takes X's frame", and "11 remains for the rest"
   abbrev pub ranChoice : Code → (ℕ → ℕ → Stacks → Ledger (W .Mark) → Ran) → ℕ → ℕ → Choice → Stacks → Ledger (W .Mark) → Ran
-  ranChoice code enter frame f (chosen number at stores actions) s g =
+  ranChoice code enter frame f (chosen at stores actions) s g =
       started code enter frame actions at (storedValues stores (take (s .selected) (s .input)) at) s g
   ranChoice code enter frame f (chosenNone zero) s g = stop noSentenceFits f g
   ranChoice code enter frame f (chosenNone (suc r)) s g =
@@ -206,7 +206,7 @@ module _ (W : Watch) where
   abbrev pub ranPaid : Code → (ℕ → ℕ → Stacks → Ledger (W .Mark) → Ran) → ℕ → ℕ → Stacks → Ledger (W .Mark) → Option Tally → Ran
   ranPaid code enter frame f s g none = stop allowanceSpent 0 g
   ranPaid code enter frame f s g (some paid) =
-      ranChoice code enter frame f (chooseFrom 0 (codeAt code f) (take (s .selected) (s .input))) s (withTally paid g)
+      ranChoice code enter frame f (chooseFrom (codeAt code f) (take (s .selected) (s .input))) s (withTally paid g)
 
   -- One application in a frame. The depth is rewriting's: it never shows.
   unfoldable pub enter : ℕ → Code → ℕ → ℕ → Stacks → Ledger (W .Mark) → Ran

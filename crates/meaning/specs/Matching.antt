@@ -7,8 +7,7 @@ use mathlib.Core.Option.{Option, none, some}
 use lib.Dec.{leb, eqb}
 use lib.ListN.{length, take, drop}
 use Rattle.meaning.specs.Choice.{Bytes, pick, both, guard, every, nth}
-use Rattle.meaning.specs.Classes.{inClass}
-use Rattle.meaning.specs.Rewriting.{sameTruth}
+use Rattle.meaning.specs.Classes.{inClass, sameTruth}
 use Rattle.meaning.specs.Instructions.{Site, fromStart, fromEnd, fromPlace, Test, look, compare, predicate, predicatePart, unknownTest, Store, store, unknownStore, Action, Metric, exactly, ends, middle, Sentences, noMore, sentence, unknownSentence}
 
 -- the byte at a site of a field, the place of the middle template being counted from p; none where the field has no such cell
@@ -107,21 +106,21 @@ unfoldable pub storedValues : List Store → Bytes → ℕ → Option Bytes
 storedValues [] field at = some []
 storedValues (s ∷ ss) field at = kept (storedCell s field at) (storedValues ss field at)
 
--- the sentence chosen for a field, as its number counted from 0, where its middle template lies, its stores and its
--- actions; or none, with the number of the function that recovers this one; or words that are no sentence
+-- the sentence chosen for a field, as where its middle template lies, its stores and its actions; or none, with the
+-- number of the function that recovers this one; or words that are no sentence
 pub data Choice : Type 0 where
-  chosen : ℕ → ℕ → List Store → List Action → Choice
+  chosen : ℕ → List Store → List Action → Choice
   chosenNone : ℕ → Choice
   chosenWrong : Choice
 
-abbrev pub choiceOf : Found → ℕ → List Store → List Action → Choice → Choice
-choiceOf (foundAt at) number stores actions later = chosen number at stores actions
-choiceOf foundNone number stores actions later = later
-choiceOf foundWrong number stores actions later = chosenWrong
+abbrev pub choiceOf : Found → List Store → List Action → Choice → Choice
+choiceOf (foundAt at) stores actions later = chosen at stores actions
+choiceOf foundNone stores actions later = later
+choiceOf foundWrong stores actions later = chosenWrong
 
-unfoldable pub chooseFrom : ℕ → Sentences → Bytes → Choice
-chooseFrom number (noMore r) field = chosenNone r
-chooseFrom number unknownSentence field = chosenWrong
-chooseFrom number (sentence metric tests stores actions more) field =
-    let later = chooseFrom (suc number) more field in
-    choiceOf (place metric tests field) number stores actions later
+unfoldable pub chooseFrom : Sentences → Bytes → Choice
+chooseFrom (noMore r) field = chosenNone r
+chooseFrom unknownSentence field = chosenWrong
+chooseFrom (sentence metric tests stores actions more) field =
+    let later = chooseFrom more field in
+    choiceOf (place metric tests field) stores actions later

@@ -1,12 +1,12 @@
 -- Rewriting by Refal-0's own rules: 01 'Rewriting', 000 section 2.2. It "is fed tree, start, text and allowance, and knows no cell or frame".
-use Prim.Native.Nat.{ℕ, zero, suc, pred}
+use Prim.Native.Nat.{ℕ, zero, suc}
 use mathlib.Core.Bool.{Bool, true, false}
 use mathlib.Core.List.{List, [], _∷_, _++_}
 use mathlib.Core.Option.{Option, none, some}
 use lib.Dec.{eqb}
 use lib.ListN.{length}
-use Rattle.meaning.specs.Choice.{Bytes, Name, pick, both, guard, orElse, every, Named, lookup, nth}
-use Rattle.meaning.specs.Classes.{Class, inClass}
+use Rattle.meaning.specs.Choice.{Bytes, Name, pick, both, guard, orElse, every, Named, lookup, numbered}
+use Rattle.meaning.specs.Classes.{Class, inClass, sameTruth}
 use Rattle.meaning.specs.Tree.{character, symbol, Element, letter, part, Subject, ofSymbol, ofPart, Condition, Expression, end, thenCharacter, thenSymbol, thenPart, thenCall, Sentence, Function, Table}
 use Rattle.meaning.specs.Angles.{angled}
 use Rattle.meaning.specs.Names.{Calling, asEmission, asAngles, asFunction, callingOf, numberOf, recovererOf}
@@ -75,11 +75,6 @@ agreed (some c) x b known = guard (eqb c b) (some known)
 
 abbrev pub takeSymbol : Name → ℕ → List (Named ℕ) → Option (List (Named ℕ))
 takeSymbol x b known = agreed (lookup x known) x b known
-
-abbrev pub sameTruth : Bool → Bool → Bool
-sameTruth true b = b
-sameTruth false true = false
-sameTruth false false = true
 
 -- what is asked of what a variable took
 abbrev pub askedOf : {A : Type 0} → Bool → (A → Bool) → Option A → Bool
@@ -171,9 +166,9 @@ abbrev pub sentencesOf : Option Function → List Sentence
 sentencesOf none = []
 sentencesOf (some f) = f .sentences
 
--- the sentences of the function with a number, counted from 1
+-- the sentences of the function with a number
 abbrev pub functionAt : Table → ℕ → List Sentence
-functionAt table number = sentencesOf (nth (pred number) table)
+functionAt table number = sentencesOf (numbered number table)
 
 -- "Emission ... gives the empty text"; it is no step, and neither is an angle call
 abbrev pub calledAs : Calling → Name → Bytes → Course → Outcome Bytes Course → Outcome Bytes Course
@@ -192,7 +187,7 @@ recovererFor table (some f) = recovererOf table (f .name)
 
 -- the number of the function that recovers the one with a number, or 0
 abbrev pub recovererAt : Table → ℕ → ℕ
-recovererAt table number = recovererFor table (nth (pred number) table)
+recovererAt table number = recovererFor table (numbered number table)
 
 -- 02, T-04: "RecoverX is applied to the text X was given"; "Answer 11 remains for the rest"
 abbrev pub unfitted : Applying ℕ → ℕ → ℕ → Bytes → Course → Outcome Bytes Course

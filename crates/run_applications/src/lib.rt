@@ -175,7 +175,6 @@ pub fn apply(
     let field = part(input, g.p, g.q);
     match choose(bits, code, CodePlace(wide(code[number])), field) {
         Choice::Sentence {
-            number: _,
             place,
             stores,
             stored,

@@ -5,7 +5,7 @@ ghost use lib.Dec.{eqb};
 ghost use lib.ListN.{drop};
 ghost use Rattle.meaning.specs.Instructions.{fromStart};
 ghost use Rattle.meaning.specs.Instructions.{look as looking};
-ghost use Rattle.meaning.specs.Rewriting.{sameTruth};
+ghost use Rattle.meaning.specs.Classes.{sameTruth};
 ghost use Rattle.meaning.specs.Matching.{checked, checkAll};
 ghost use Rattle.meaning.specs.Matching.{check as tested};
 ghost use Rattle.meaning.specs.Packing.{firstIn, secondIn, thirdIn, siteOf, classOf};

@@ -27,14 +27,14 @@ tried (some metric) v ws field =
     pick (leb (storesIn v) maxStored) found foundWrong
 
 abbrev pub choiceMeant : Words → Choice → Choosing
-choiceMeant words (Sentence number at stores stored) =
-    chosen number at (unpackStores stored (drop (stores .0) words)) (unpackActions 0 (drop (stores .0 + stored) words))
+choiceMeant words (Sentence at stores stored) =
+    chosen at (unpackStores stored (drop (stores .0) words)) (unpackActions 0 (drop (stores .0 + stored) words))
 choiceMeant words (Nothing recoverer) = chosenNone recoverer
 choiceMeant words Wrong = chosenWrong
 
 -- an application stores no more values than a frame holds
 abbrev pub FewStored : Choice → Type 0
-FewStored (Sentence number at stores stored) = stored ≤ maxStored
+FewStored (Sentence at stores stored) = stored ≤ maxStored
 FewStored (Nothing recoverer) = Unit {0}
 FewStored Wrong = Unit {0}
 

@@ -13,11 +13,9 @@ use run_code_places::wide;
 use run_placing::find_place;
 use run_searching::Found;
 
-// The sentence's number from 0, its middle template's place, the place of its stores and how many there are; its
-// actions follow them. Nothing names the function that recovers, 0 for none.
+// The sentence's middle template's place, the place of its stores and how many there are; its actions follow them. Nothing names the function that recovers, 0 for none.
 pub enum Choice {
     Sentence {
-        number: usize,
         place: usize,
         stores: CodePlace,
         stored: usize,
@@ -100,10 +98,9 @@ fn try_sentence(
 pub fn choose(bits: &[u8; 256], code: &[u32], entry: CodePlace, field: &[u8]) -> Choice
     requires { ⌜ Answers (now bits) ⌝ }
     ensures { λ r. ⌜ Chooses (now (code .entry)) r
-        (chooseFrom 0 (unpackSentences 0 (drop (entry .0) (now (code .entry)))) (now (field .entry))) ⌝ }
+        (chooseFrom (unpackSentences 0 (drop (entry .0) (now (code .entry)))) (now (field .entry))) ⌝ }
 {
     let mut at = entry.0;
-    let mut number = 0;
     while at < code.len() {
         let word = code[at];
         if word % 256 == 19 {
@@ -117,7 +114,6 @@ pub fn choose(bits: &[u8; 256], code: &[u32], entry: CodePlace, field: &[u8]) ->
             Found::Wrong => return Choice::Wrong,
             Found::At(place) => {
                 return Choice::Sentence {
-                    number: number,
                     place: place,
                     stores: CodePlace(at + 2 + wide(counts % 256)),
                     stored: wide(counts / 256 % 256),
@@ -126,7 +122,6 @@ pub fn choose(bits: &[u8; 256], code: &[u32], entry: CodePlace, field: &[u8]) ->
             Found::Nowhere => {}
         }
         at += 2 + wide(counts / 65536);
-        number += 1;
     }
     Choice::Wrong
 }

@@ -4,6 +4,9 @@ use mathlib.Core.List.{List, [], _∷_, _++_, map}
 use Rattle.meaning.specs.Choice.{Bytes, Name}
 use Rattle.meaning.specs.Tree.{character, letter, Expression, end, thenCharacter, thenPart, thenCall, Function, Table}
 use Rattle.meaning.specs.Names.{recoverPrefix, recovererOf}
+use Rattle.meaning.specs.Rewriting.{recovererAt, rewrite}
+use Rattle.meaning.specs.Runs.{runEndless}
+use Rattle.meaning.specs.Translation.{translate}
 use Rattle.meaning.proofs.rows.Tables.{x1, all1, plain, function}
 use Rattle.meaning.proofs.rows.Starred.{Row, AllHold, ample, cells, most, result, same, short}
 use Rattle.meaning.proofs.rows.Edges.{framed}
@@ -104,6 +107,21 @@ names = nameX ∷ recovers nameX ∷ recovers [] ∷ recovers (recovers []) ∷ 
 recoverers : map (recovererOf (map onlyA names)) names ≡ 2 ∷ 0 ∷ 0 ∷ 0 ∷ 0 ∷ []
 unfolding computing
 recoverers = refl
+
+-- functions are numbered from 1: number 0 has no sentence that fits, and no function that recovers it
+from-number-zero : map (λ start. rewrite tableX start (97 ∷ []) most) (0 ∷ 1 ∷ []) ≡
+    result 11 0 1 [] [] [] ∷ result 0 0 1 (1 ∷ []) [] [] ∷ []
+unfolding computing
+from-number-zero = refl
+
+code-from-number-zero : map (λ start. runEndless (translate tableX) start (97 ∷ []) most) (0 ∷ 1 ∷ []) ≡
+    result 11 0 1 [] [] [] ∷ result 0 0 1 (1 ∷ []) [] [] ∷ []
+unfolding computing
+code-from-number-zero = refl
+
+unrecovered : map (recovererAt tableX) (0 ∷ 1 ∷ 2 ∷ []) ≡ 0 ∷ 2 ∷ 0 ∷ []
+unfolding computing
+unrecovered = refl
 
 prefix : recoverPrefix ≡ bytes "Recover"
 prefix = refl

@@ -1,6 +1,6 @@
 -- DEMAND 3 WITHOUT END: on stacks without end the machine, fed an allowed table's translation, comes to the outcome of rewriting the table: the same answer, text, emissions,
 -- steps and failing function, for every start, text and allowance. The start need not even be declared: both sides look a number up alike.
-use Prim.Native.Nat.{ℕ, zero, suc, pred}
+use Prim.Native.Nat.{ℕ, zero, suc}
 use native.Mathlib.Omega.{arith}
 use mathlib.Core.Path.{_≡_, refl, sym, _∙_, ap}
 use mathlib.Core.Bool.{true}
@@ -9,7 +9,7 @@ use mathlib.Core.Option.{Option, none, some, Option·none-ne-some}
 use lib.Dec.{T}
 use lib.ListN.{length}
 use lib.Seq.{take-append-seam}
-use Rattle.meaning.specs.Choice.{Bytes, nth}
+use Rattle.meaning.specs.Choice.{Bytes, numbered}
 use Rattle.meaning.specs.Tree.{Function, Table}
 use Rattle.meaning.specs.Answers.{allowanceSpent}
 use Rattle.meaning.specs.Outcome.{pay, maxCounted, Outcome, done, stop, resultOf}
@@ -51,7 +51,7 @@ module _ (table : Table) (ok : T (allowed table)) where
       carried below o (unfitted (apply depth table) r f field t)
   unfitted-run depth frame f zero field below o t callee e = refl
   unfitted-run depth frame f (suc r) field below o t callee e =
-      rw (recoverer-there r (nth (pred f) table) e) (callee .same frame (suc r) field below o t)
+      rw (recoverer-there r (numbered f table) e) (callee .same frame (suc r) field below o t)
 
   -- the chosen sentence is run on both sides
   chosen-run : (depth frame f : ℕ) (field below o : Bytes) (t : Course) → Callee (enter endless depth (translate table)) (apply depth table) →
@@ -59,7 +59,7 @@ module _ (table : Table) (ok : T (allowed table)) where
       ranChoice endless (translate table) (enter endless depth (translate table)) frame f c (stacks (field ++ below) (length field) o) (ledger t) ≡
       carried below o (rewritten table (apply depth table) f field fit t)
   chosen-run depth frame f field below o t callee nowhere = unfitted-run depth frame f (recovererAt table f) field below o t callee refl
-  chosen-run depth frame f field below o t callee (here {number} {at} {s} {bound} a fits) =
+  chosen-run depth frame f field below o t callee (here {at} {s} {bound} a fits) =
       rw (take-append-seam field below) (sentence-run table (enter endless depth (translate table)) (apply depth table) callee s field at bound a fits frame below o t)
 
   -- by induction on the depth: one application, in any frame, whatever lies below its field on in and before its result on out
@@ -75,7 +75,7 @@ module _ (table : Table) (ok : T (allowed table)) where
       paid none callee = refl
       paid (some t₁) callee =
           rw (take-append-seam field below, code-at table f)
-          (chosen-run depth frame f field below o t₁ callee (chosen-alike table field (recovererAt table f) (facts table ok f) 0))
+          (chosen-run depth frame f field below o t₁ callee (chosen-alike table field (recovererAt table f) (facts table ok f)))
 
   -- The run from the start. `carried` says all of it: where rewriting is done, the machine is done, in holds nothing and out exactly the text; where rewriting stops, the
   -- machine stops with the same answer and function; and either way steps and emissions are the same.

@@ -1,5 +1,5 @@
 -- What the agreement takes from `allowed`, sentence by sentence, as plain facts.
-use Prim.Native.Nat.{ℕ, suc, pred, _≤_}
+use Prim.Native.Nat.{ℕ, zero, suc, _≤_}
 use mathlib.Core.Path.{_≡_, refl, _∙_, ap}
 use mathlib.Core.Bool.{true, not}
 use mathlib.Core.List.{List, [], _∷_, _++_}
@@ -105,13 +105,14 @@ allowables table (s ∷ ss) a calls =
 
 -- every function of an allowed table has only such sentences
 pub facts : (table : Table) → T (allowed table) → (f : ℕ) → Allowables table (functionAt table f)
-facts table a f = declared (nth (pred f) table) refl
+facts table a zero = noSentence
+facts table a (suc i) = declared (nth i table) refl
   where
-    declared : (o : Option Function) → nth (pred f) table ≡ o → Allowables table (sentencesOf o)
+    declared : (o : Option Function) → nth i table ≡ o → Allowables table (sentencesOf o)
     declared none e = noSentence
     declared (some g) e =
         let functions : T (every allowedFunction table) = search both-left in
         let calls : T (every (λ f. every (λ s. callsKnown table (s .expression)) (f .sentences)) table) = search (both-left, both-right) depth 8 in
-        let one = every-nth allowedFunction table (pred f) g functions e in
+        let one = every-nth allowedFunction table i g functions e in
         allowables table (g .sentences) (search (both-left, both-right) depth 8)
-        (every-nth (λ f. every (λ s. callsKnown table (s .expression)) (f .sentences)) table (pred f) g calls e)
+        (every-nth (λ f. every (λ s. callsKnown table (s .expression)) (f .sentences)) table i g calls e)

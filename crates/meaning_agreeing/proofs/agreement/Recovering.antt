@@ -1,13 +1,13 @@
 -- 02, T-04: "A function whose own name begins with Recover has none". So the function that recovers another is recovered by none, and one application
 -- of an allowed table's code tries the sentences of at most two functions.
-use Prim.Native.Nat.{ℕ, zero, suc, pred, _+_, _≤_}
+use Prim.Native.Nat.{ℕ, zero, suc, _+_, _≤_}
 use native.Mathlib.Omega.{arith}
 use mathlib.Core.Path.{_≡_, refl}
 use mathlib.Core.Bool.{Bool, true, false}
 use mathlib.Core.List.{[], _∷_, _++_}
 use mathlib.Core.Option.{Option, none, some}
 use lib.Dec.{T}
-use Rattle.meaning.specs.Choice.{Bytes, Name, pick, sameBytes, startsWith, nth}
+use Rattle.meaning.specs.Choice.{Bytes, Name, pick, sameBytes, startsWith, nth, numbered}
 use Rattle.meaning.specs.Tree.{Function, Table}
 use Rattle.meaning.specs.Names.{numberFrom, numberOf, recoverPrefix, isRecovering}
 use Rattle.meaning.specs.Rewriting.{Fit, choose, functionAt, recovererFor, recovererAt}
@@ -56,7 +56,7 @@ unrecovered table n (some f) h = rw (← same-bytes (recoverPrefix ++ n) (f .nam
 
 -- the function that recovers another is recovered by none
 pub recoverer-last : (table : Table) (f r : ℕ) → recovererAt table f ≡ suc r → recovererAt table (suc r) ≡ 0
-recoverer-last table f r e = found (nth (pred f) table) e
+recoverer-last table f r e = found (numbered f table) e
   where
     picked : (n : Name) (b : Bool) → pick b 0 (numberOf table (recoverPrefix ++ n)) ≡ suc r → recovererFor table (nth r table) ≡ 0
     picked n true e = absurd (omega arith)
@@ -70,7 +70,7 @@ recoverer-last table f r e = found (nth (pred f) table) e
 
 -- the function that is tried next, 0 for none
 abbrev pub triedNext : Choice → ℕ
-triedNext (chosen number at stores actions) = 0
+triedNext (chosen at stores actions) = 0
 triedNext (chosenNone r) = r
 triedNext chosenWrong = 0
 
@@ -85,12 +85,12 @@ module _ (table : Table) (ok : T (allowed table)) where
 
   -- what the machine's code does for a function's field, and what it does for the field where no sentence of the function fits
   same-choice : (f : ℕ) (field : Bytes) →
-      Chosen table field (recovererAt table f) (chooseFrom 0 (codeAt (translate table) f) field) (choose (functionAt table f) field)
-  same-choice f field = rw (code-at table f) (chosen-alike table field (recovererAt table f) (facts table ok f) 0)
+      Chosen table field (recovererAt table f) (chooseFrom (codeAt (translate table) f) field) (choose (functionAt table f) field)
+  same-choice f field = rw (code-at table f) (chosen-alike table field (recovererAt table f) (facts table ok f))
 
   -- where one application comes to a second function, it comes to no third
-  pub recovered-once : (f r : ℕ) (field : Bytes) → triedNext (chooseFrom 0 (codeAt (translate table) f) field) ≡ suc r →
-      triedNext (chooseFrom 0 (codeAt (translate table) (suc r)) field) ≡ 0
+  pub recovered-once : (f r : ℕ) (field : Bytes) → triedNext (chooseFrom (codeAt (translate table) f) field) ≡ suc r →
+      triedNext (chooseFrom (codeAt (translate table) (suc r)) field) ≡ 0
   recovered-once f r field e =
       let first : recovererAt table f ≡ suc r = tried-recovers field (recovererAt table f) r (same-choice f field) e in
       tried-none field (recovererAt table (suc r)) (same-choice (suc r) field) (recoverer-last table f r first)

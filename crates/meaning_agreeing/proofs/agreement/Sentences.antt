@@ -1,5 +1,5 @@
 -- The machine chooses the sentence that rewriting chooses, and its instructions do what evaluating its expression does.
-use Prim.Native.Nat.{ℕ, zero, suc, pred}
+use Prim.Native.Nat.{ℕ, zero, suc}
 use mathlib.Core.Path.{_≡_, refl}
 use mathlib.Core.List.{List, [], _∷_, _++_, map}
 use mathlib.Core.Option.{Option, none, some}
@@ -24,33 +24,34 @@ module _ (table : Table) (field : Bytes) where
   -- the same sentence is chosen, with the same bindings; or none, and there is the number of the function that recovers
   pub data Chosen (r : ℕ) : Choice → Option Fit → Type 0 where
     nowhere : Chosen r (chosenNone r) none
-    here : {number at : ℕ} {s : Sentence} {bound : Bindings} → Allowable table s → Fitting (shapeOf (s .pattern)) (sitesOf (s .pattern)) field at bound →
+    here : {at : ℕ} {s : Sentence} {bound : Bindings} → Allowable table s → Fitting (shapeOf (s .pattern)) (sitesOf (s .pattern)) field at bound →
         Chosen r
-        (chosen number at (storesOf (testedShape (shapeOf (s .pattern)))) (actionsOf table (shapeOf (s .pattern)) (sitesOf (s .pattern)) (s .expression)))
+        (chosen at (storesOf (testedShape (shapeOf (s .pattern)))) (actionsOf table (shapeOf (s .pattern)) (sitesOf (s .pattern)) (s .expression)))
         (some (record { sentence = s; bindings = bound }))
 
   -- this sentence if it fits, else what the later ones give
-  first-fitting : {r : ℕ} {s : Sentence} {found : Found} {o : Option Bindings} (number : ℕ) {choice : Choice} {later : Option Fit} →
+  first-fitting : {r : ℕ} {s : Sentence} {found : Found} {o : Option Bindings} {choice : Choice} {later : Option Fit} →
       Allowable table s → Agreeing (Fitting (shapeOf (s .pattern)) (sitesOf (s .pattern)) field) found o → Chosen r choice later →
       Chosen r
-      (choiceOf found number (storesOf (testedShape (shapeOf (s .pattern))))
+      (choiceOf found (storesOf (testedShape (shapeOf (s .pattern))))
       (actionsOf table (shapeOf (s .pattern)) (sitesOf (s .pattern)) (s .expression)) choice)
       (orElse (fitted s o) later)
-  first-fitting number a neither c = c
-  first-fitting number a (alike f) c = here a f
+  first-fitting a neither c = c
+  first-fitting a (alike f) c = here a f
 
-  pub chosen-alike : (r : ℕ) {ss : List Sentence} → Allowables table ss → (number : ℕ) →
-      Chosen r (chooseFrom number (translatedSentences table r ss) field) (choose ss field)
+  pub chosen-alike : (r : ℕ) {ss : List Sentence} → Allowables table ss →
+      Chosen r (chooseFrom (translatedSentences table r ss) field) (choose ss field)
   unfolding chooseFrom translatedSentences choose
-  chosen-alike r noSentence number = nowhere
-  chosen-alike r (sentences {s} {ss} a more) number =
-      first-fitting number a (rw (a .pattern) at (agrees (s .conditions) (shapeOf (s .pattern)) field (a .apart) (a .asks)))
-      (chosen-alike r more (suc number))
+  chosen-alike r noSentence = nowhere
+  chosen-alike r (sentences {s} {ss} a more) =
+      first-fitting a (rw (a .pattern) at (agrees (s .conditions) (shapeOf (s .pattern)) field (a .apart) (a .asks)))
+      (chosen-alike r more)
 
 -- a function's code is the translation of its sentences
 pub code-at : (table : Table) (f : ℕ) → codeAt (translate table) f ≡ translatedSentences table (recovererAt table f) (functionAt table f)
 unfolding nth translatedSentences
-code-at table f = there table (pred f)
+code-at table zero = refl
+code-at table (suc i) = there table i
   where
     there : (fs : Table) (i : ℕ) →
         functionOf (nth i (map (translatedFunction table) fs)) ≡ translatedSentences table (recovererFor table (nth i fs)) (sentencesOf (nth i fs))

@@ -1,12 +1,12 @@
 -- The counts of all functions add up to the steps: every function in rewriting's history is one of the table's.
-use Prim.Native.Nat.{ℕ, zero, suc, pred, _≤_, _<_}
+use Prim.Native.Nat.{ℕ, zero, suc, _≤_, _<_}
 use native.Mathlib.Omega.{arith}
 use mathlib.Core.Path.{_≡_}
 use mathlib.Core.List.{[], _∷_, _++_}
 use mathlib.Core.Option.{Option, none, some}
 use lib.Dec.{T, leb, ltb, ltb→lt, leb→le}
 use lib.ListN.{length}
-use Rattle.meaning.specs.Choice.{Bytes, Name, either, lookup, nth}
+use Rattle.meaning.specs.Choice.{Bytes, Name, either, lookup, numbered}
 use Rattle.meaning.specs.Tree.{Expression, end, thenCharacter, thenSymbol, thenPart, thenCall, Function, Table}
 use Rattle.meaning.specs.Angles.{Angled, sum, notAngles, outOfRange, angled}
 use Rattle.meaning.specs.Names.{numberOf, Calling, asEmission, asAngles, asFunction, callingOf, builtIn, isKnown}
@@ -82,13 +82,13 @@ module _ (table : Table) (ok : T (allowed table)) where
 
     rewritten-counted : (f : ℕ) (text : Bytes) (t : Course) {choice : Choice} {fit : Option Fit} →
         Chosen table text (recovererAt table f) choice fit → Counted t → StaysCounted (rewritten table apply₁ f text fit t)
-    rewritten-counted f text t nowhere c = recoverer-counted (recovererAt table f) f text t (recoverer-at (nth (pred f) table)) c
+    rewritten-counted f text t nowhere c = recoverer-counted (recovererAt table f) f text t (recoverer-at (numbered f table)) c
     rewritten-counted f text t (here {s} {bound} a fits) c =
         evaluate-counted (callNamed table apply₁) bound (λ n text t. called-counted (callingOf n) n text t) (s .expression) t (a .calls) c
 
     applied-counted : (left f : ℕ) (text : Bytes) (t : Course) → HasCount f → Counted t → StaysCounted (applied table apply₁ f text t (tookFrom left f t))
     applied-counted zero f text t h c = c
-    applied-counted (suc n) f text t h c = rewritten-counted f text _ (chosen-alike table text (recovererAt table f) (facts table ok f) 0) (cons h c)
+    applied-counted (suc n) f text t h c = rewritten-counted f text _ (chosen-alike table text (recovererAt table f) (facts table ok f)) (cons h c)
 
   apply-counted : (depth f : ℕ) (text : Bytes) (t : Course) → HasCount f → Counted t → StaysCounted (apply depth table f text t)
   unfolding apply

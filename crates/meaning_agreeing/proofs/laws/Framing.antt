@@ -1,5 +1,5 @@
 -- Which instructions add a frame: a Call, and nothing else. What the machine chooses of code without any has none.
-use Prim.Native.Nat.{ℕ, zero, suc, pred}
+use Prim.Native.Nat.{ℕ, zero, suc}
 use mathlib.Core.Bool.{Bool, true, false}
 use mathlib.Core.List.{List, [], _∷_}
 use lib.Dec.{T}
@@ -36,7 +36,7 @@ codeCalls [] = false
 codeCalls (f ∷ fs) = either (sentencesCall f) (codeCalls fs)
 
 abbrev pub choiceCalls : Choice → Bool
-choiceCalls (chosen number at stores actions) = anyCall actions
+choiceCalls (chosen at stores actions) = anyCall actions
 choiceCalls (chosenNone r) = false
 choiceCalls chosenWrong = false
 
@@ -59,16 +59,16 @@ pub neither : (a b : Bool) → (T a → ⊥) → (T b → ⊥) → T (either a b
 neither true b h k t = h tt
 neither false b h k t = k t
 
-chosen-calls : (number : ℕ) (s : Sentences) (field : Bytes) → T (choiceCalls (chooseFrom number s field)) → T (sentencesCall s)
+chosen-calls : (s : Sentences) (field : Bytes) → T (choiceCalls (chooseFrom s field)) → T (sentencesCall s)
 unfolding chooseFrom sentencesCall
-chosen-calls number (noMore r) field t = t
-chosen-calls number unknownSentence field t = t
-chosen-calls number (sentence metric tests stores actions more) field t =
-    by (place metric tests field) (either-right (anyCall actions) (sentencesCall more)) (chosen-calls (suc number) more field) t
+chosen-calls (noMore r) field t = t
+chosen-calls unknownSentence field t = t
+chosen-calls (sentence metric tests stores actions more) field t =
+    by (place metric tests field) (either-right (anyCall actions) (sentencesCall more)) (chosen-calls more field) t
   where
     by : (found : Found) → (T (sentencesCall more) → T (either (anyCall actions) (sentencesCall more))) →
-        (T (choiceCalls (chooseFrom (suc number) more field)) → T (sentencesCall more)) →
-        T (choiceCalls (choiceOf found number stores actions (chooseFrom (suc number) more field))) →
+        (T (choiceCalls (chooseFrom more field)) → T (sentencesCall more)) →
+        T (choiceCalls (choiceOf found stores actions (chooseFrom more field))) →
         T (either (anyCall actions) (sentencesCall more))
     by (foundAt at) wider later t = either-left (anyCall actions) (sentencesCall more) t
     by foundNone wider later t = wider (later t)
@@ -81,5 +81,10 @@ nth-calls (f ∷ fs) zero t = either-left (sentencesCall f) (codeCalls fs) t
 nth-calls (f ∷ fs) (suc i) t = either-right (sentencesCall f) (codeCalls fs) (nth-calls fs i t)
 
 -- a chosen sentence is one of the code
-pub choice-calls : (code : Code) (f : ℕ) (field : Bytes) → T (choiceCalls (chooseFrom 0 (codeAt code f) field)) → T (codeCalls code)
-choice-calls code f field t = nth-calls code (pred f) (chosen-calls 0 (codeAt code f) field t)
+pub choice-calls : (code : Code) (f : ℕ) (field : Bytes) → T (choiceCalls (chooseFrom (codeAt code f) field)) → T (codeCalls code)
+unfolding sentencesCall
+choice-calls code f field t = function-calls f (chosen-calls (codeAt code f) field t)
+  where
+    function-calls : (f : ℕ) → T (sentencesCall (codeAt code f)) → T (codeCalls code)
+    function-calls zero t = absurd t
+    function-calls (suc i) t = nth-calls code i t

@@ -1,6 +1,6 @@
 -- 02, T-07: "No run may need more cells than under the earlier translation". The earlier code and the new differ only in how a tail call's last part
 -- comes to its place, and there the new code asks for one need less; so what the earlier run never passes, the new one never passes either.
-use Prim.Native.Nat.{ℕ, zero, suc, pred, _+_, _≤_, _<_}
+use Prim.Native.Nat.{ℕ, zero, suc, _+_, _≤_, _<_}
 use native.Mathlib.Omega.{arith}
 use native.Mathlib.Nat.{zero-add}
 use mathlib.Core.Path.{_≡_, refl, sym, ap, _∙_}
@@ -279,19 +279,19 @@ module _ (A : Type 0) (step : Need → Tally → A → A) (Under : A → A → T
   data AlikeChoice : Choice → Choice → Type 0 where
     neither : (r : ℕ) → AlikeChoice (chosenNone r) (chosenNone r)
     unknown : AlikeChoice chosenWrong chosenWrong
-    alike : {number at : ℕ} {stores : List Store} {xs ys : List Action} → Alike xs ys →
-        AlikeChoice (chosen number at stores xs) (chosen number at stores ys)
+    alike : {at : ℕ} {stores : List Store} {xs ys : List Action} → Alike xs ys →
+        AlikeChoice (chosen at stores xs) (chosen at stores ys)
 
-  chooses : (number : ℕ) {more₀ more : Sentences} (field : Bytes) → AlikeSentences more₀ more →
-      AlikeChoice (chooseFrom number more₀ field) (chooseFrom number more field)
+  chooses : {more₀ more : Sentences} (field : Bytes) → AlikeSentences more₀ more →
+      AlikeChoice (chooseFrom more₀ field) (chooseFrom more field)
   unfolding chooseFrom
-  chooses number field (noneLeft {r}) = neither r
-  chooses number field (oneMore {metric} {tests} {stores} {xs} {ys} {more₀} {more} a later) =
-      by (place metric tests field) (chooses (suc number) field later)
+  chooses field (noneLeft {r}) = neither r
+  chooses field (oneMore {metric} {tests} {stores} {xs} {ys} {more₀} {more} a later) =
+      by (place metric tests field) (chooses field later)
     where
-      by : (found : Found) → AlikeChoice (chooseFrom (suc number) more₀ field) (chooseFrom (suc number) more field) →
-          AlikeChoice (choiceOf found number stores xs (chooseFrom (suc number) more₀ field))
-          (choiceOf found number stores ys (chooseFrom (suc number) more field))
+      by : (found : Found) → AlikeChoice (chooseFrom more₀ field) (chooseFrom more field) →
+          AlikeChoice (choiceOf found stores xs (chooseFrom more₀ field))
+          (choiceOf found stores ys (chooseFrom more field))
       by (foundAt at) c = alike a
       by foundNone c = c
       by foundWrong c = unknown
@@ -313,7 +313,7 @@ module _ (A : Type 0) (step : Need → Tally → A → A) (Under : A → A → T
     pays : AlikeSentences (codeAt code₀ f) (codeAt code f) → (t : Tally) (m₀ m : A) → Under m₀ m → (o : Option Tally) →
         Lighter (length (s .output)) (ranPaid W code₀ e₀ frame f s (at t m₀) o) (ranPaid W code e frame f s (at t m) o)
     pays fs t m₀ m u none = bothStop u
-    pays fs t m₀ m u (some t₁) = runs (chooses 0 (take (s .selected) (s .input)) fs) .each t₁ m₀ m u
+    pays fs t m₀ m u (some t₁) = runs (chooses (take (s .selected) (s .input)) fs) .each t₁ m₀ m u
 
   module _ (code₀ code : Code) (size : length code₀ ≡ length code) (functions : (f : ℕ) → AlikeSentences (codeAt code₀ f) (codeAt code f)) where
     applies : (depth frame f : ℕ) (s : Stacks) → Less (length (s .output)) (enter W depth code₀ frame f s) (enter W depth code frame f s)
@@ -404,7 +404,8 @@ alike-sentences table r (s ∷ ss) =
 
 alike-functions : (table : Table) (f : ℕ) → AlikeSentences (codeAt (earlier table) f) (codeAt (translate table) f)
 unfolding nth
-alike-functions table f = there table (pred f)
+alike-functions table zero = noneLeft
+alike-functions table (suc i) = there table i
   where
     there : (fs : Table) (i : ℕ) →
         AlikeSentences (functionOf (nth i (map (earlierFunction table) fs))) (functionOf (nth i (map (translatedFunction table) fs)))

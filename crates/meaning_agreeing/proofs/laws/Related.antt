@@ -51,7 +51,7 @@ Enters W = ℕ → ℕ → Stacks → Computation W
 
 -- what is chosen of a function's code
 abbrev pub choiceFor : Code → ℕ → Stacks → Choice
-choiceFor code f s = chooseFrom 0 (codeAt code f) (take (s .selected) (s .input))
+choiceFor code f s = chooseFrom (codeAt code f) (take (s .selected) (s .input))
 
 -- nothing is chosen that adds a frame, where no frame may be added
 abbrev pub Nested : Type 0 → Code → Type 0
@@ -149,7 +149,7 @@ module _ (W U : Watch) (Nesting : Type 0) (R : Relation W U) (closed : Closed W 
 
     pub chooses : (frame f : ℕ) (c : Choice) → (T (choiceCalls c) → Nesting) → (s : Stacks) →
         R (ranChoice W code e frame f c s) (ranChoice U code e′ frame f c s)
-    chooses frame f (chosen number at stores actions) calls s =
+    chooses frame f (chosen at stores actions) calls s =
         starts frame actions calls at (storedValues stores (take (s .selected) (s .input)) at) s
     chooses frame f (chosenNone zero) calls s = closed .ends noSentenceFits f (unfitting refl)
     chooses frame f (chosenNone (suc r)) calls s = there (isDeclared code (suc r)) _ _ (entering frame (suc r) s)

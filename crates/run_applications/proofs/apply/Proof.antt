@@ -32,7 +32,7 @@ meant : (c : tie.After-choose) (r : Choice) → c .choose .result ≡ r → choi
 meant c r e =
     let code = entry c .args .code .now in
     (rw (c .before .wide .ensures, e) at (c .choose .ensures)) .same ∙
-    ap (chooseFrom 0 (unpackSentences 0 (drop (getD code (entry c .args .number) 0) code))) (c .before .before .before .part .ensures)
+    ap (chooseFrom (unpackSentences 0 (drop (getD code (entry c .args .number) 0) code))) (c .before .before .before .part .ensures)
 
 count-application-requires : tie.Need-count-application-requires
 count-application-requires c κs =
@@ -56,7 +56,7 @@ returns-2 c =
     let at-place = at-start-sentence .before .before .before .before in
     let at-choose = at-place .before .before in
     let v = at-place .place .given .0 in
-    λ output «record». apply-starts _ _ _ _ _ (may at-choose) (v .0) (v .1 .0) (v .1 .1 .0 .0) (v .1 .1 .1 .0) _ _ (at-count at-choose .count-application .ensures) (meant at-choose _ (at-place .place .given .1))
+    λ output «record». apply-starts _ _ _ _ _ (may at-choose) (v .0) (v .1 .0 .0) (v .1 .1 .0) _ _ (at-count at-choose .count-application .ensures) (meant at-choose _ (at-place .place .given .1))
     (at-start-sentence .start-sentence .ensures _ output «record»)
 
 returns-3 : tie.Need-returns-3

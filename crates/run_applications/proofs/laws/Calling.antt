@@ -120,7 +120,7 @@ paidOf g =
 
 -- the sentence chosen for the field
 abbrev pub Chosen : Words → ℕ → Registers → Bytes → Choice
-Chosen words number g input = chooseFrom 0 (unpackSentences 0 (drop (getD words number 0) words)) (take (g .q .0 - g .p .0) (drop (g .p .0) input))
+Chosen words number g input = chooseFrom (unpackSentences 0 (drop (getD words number 0) words)) (take (g .q .0 - g .p .0) (drop (g .p .0) input))
 
 -- a function that is declared, and a step that is left for it
 pub record Payable (words : Words) (allowance number : ℕ) (g : Registers) : Type 0 where
@@ -207,12 +207,12 @@ module _ (words : Words) (allowance number : ℕ) (g : Registers) (m : Memory) w
         }
 
     -- in frames with the application counted
-    pub apply-starts : (sentence place stores stored : ℕ) (next : Next) (n : Memory) {frames : List ℕ} → frames ≡ countedIn number (m .frames) →
-        chosen sentence place (unpackStores stored (drop stores words)) (unpackActions 0 (drop (stores + stored) words))
+    pub apply-starts : (place stores stored : ℕ) (next : Next) (n : Memory) {frames : List ℕ} → frames ≡ countedIn number (m .frames) →
+        chosen place (unpackStores stored (drop stores words)) (unpackActions 0 (drop (stores + stored) words))
         ≡ Chosen words number g (m .input) →
         Starts words allowance place stores stored (paidOf g) (memory (m .input) (m .output) (m .«record») frames (m .values)) next n →
         Applies words allowance number g m next n
-    apply-starts sentence place stores stored next n is e starts = apply-leads _ e next n (λ u. (rw is at starts) (u .ready))
+    apply-starts place stores stored next n is e starts = apply-leads _ e next n (λ u. (rw is at starts) (u .ready))
 
     -- where no sentence fits, the run ends, or the function that recovers is called
     pub apply-recovers : (recoverer : ℕ) → chosenNone recoverer ≡ Chosen words number g (m .input) →

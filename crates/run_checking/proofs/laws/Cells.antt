@@ -8,8 +8,7 @@ use lib.Arith.{mod-mul}
 use lib.Dec.{eqb}
 use borrow.Author.Tests.{ne-eqb}
 use Rattle.meaning.specs.Choice.{Bytes, pick}
-use Rattle.meaning.specs.Classes.{Class, digit, upper, lower, alphabetic, blank, inClass}
-use Rattle.meaning.specs.Rewriting.{sameTruth}
+use Rattle.meaning.specs.Classes.{Class, digit, upper, lower, alphabetic, blank, inClass, sameTruth}
 use Rattle.meaning.specs.Instructions.{Site}
 use Rattle.meaning.specs.Matching.{checked, asked, wrong, check}
 use Rattle.meaning.specs.Packing.{numberIn, firstIn, secondIn, thirdIn, classOf, siteOf, lookOf, compareOf, predicateFor, testOf}

@@ -9,8 +9,7 @@ use lib.Dec.{leb}
 use lib.ListN.{length, take, drop}
 use borrow.Author.Tests.{le-leb, lt-leb, leb-true, leb-false}
 use Rattle.meaning.specs.Choice.{Bytes, pick, both, guard, every}
-use Rattle.meaning.specs.Classes.{Class, inClass}
-use Rattle.meaning.specs.Rewriting.{sameTruth}
+use Rattle.meaning.specs.Classes.{Class, inClass, sameTruth}
 use Rattle.meaning.specs.Instructions.{Site, unknownTest}
 use Rattle.meaning.specs.Matching.{cellsBefore, cut, Checked, checked, asked, wrong, check}
 use Rattle.meaning.specs.Packing.{classOf, predicatePartFor}

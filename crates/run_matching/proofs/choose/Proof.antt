@@ -14,10 +14,10 @@ use Rattle.run_matching.proofs.choose.Statement.{statement}
 use Rattle.run_matching.proofs.choose.Tie as tie
 
 abbrev Inv-loop : tie.InvT-loop
-Inv-loop bits code field at₀ number₀ at number = (choosing code field number at ≡ choosing code field 0 at₀) × (number ≤ at)
+Inv-loop bits code field at₀ at = choosing code field at ≡ choosing code field at₀
 
 abbrev μ-loop : tie.MeasureT-loop
-μ-loop bits code field at₀ number₀ at number = length code - at
+μ-loop bits code field at₀ at = length code - at
 
 -- WHERE A SENTENCE IS TRIED
 
@@ -34,14 +34,14 @@ field c = turn c .before .before .before .args .field .now
 found : (c : tie.After-try-sentence Inv-loop μ-loop) (r : Found) → c .try-sentence .result ≡ r →
     let at = turn c .loop .at in
     let v = getD (words c) (at + 1) 0 in
-    choiceOf (foundMeant r) (turn c .loop .number) (unpackStores (storesIn v) (drop (at + 2 + testsIn v) (words c)))
+    choiceOf (foundMeant r) (unpackStores (storesIn v) (drop (at + 2 + testsIn v) (words c)))
     (unpackActions 0 (drop (at + 2 + testsIn v + storesIn v) (words c)))
-    (choosing (words c) (field c) (turn c .loop .number + 1) (at + (2 + bodyIn v))) ≡
-    choosing (words c) (field c) 0 (turn c .before .before .before .args .entry .0)
+    (choosing (words c) (field c) (at + (2 + bodyIn v))) ≡
+    choosing (words c) (field c) (turn c .before .before .before .args .entry .0)
 found c r e =
     let at-if2 = c .before .before in
-    rw (choosing-next _ _ _ _ (at-if2 .if2 .left) (at-if2 .before .if1 .left), ← (sym (ap foundMeant e) ∙ c .try-sentence .ensures)) at
-    (turn c .loop .inv .0)
+    rw (choosing-next _ _ _ (at-if2 .if2 .left) (at-if2 .before .if1 .left), ← (sym (ap foundMeant e) ∙ c .try-sentence .ensures)) at
+    (turn c .loop .inv)
 
 -- the word of counts is one
 counted : (c : tie.After-shared-slice-known4 Inv-loop μ-loop) →
@@ -50,15 +50,15 @@ counted : (c : tie.After-shared-slice-known4 Inv-loop μ-loop) →
 counted c = omega (arith, c .shared-slice-known4 .given (c .before .before .before .before .before .loop .at + 1))
 
 loop-holds : tie.Need-loop-holds Inv-loop μ-loop
-loop-holds c = (refl, omega arith)
+loop-holds c = refl
 
 returns : tie.Need-returns Inv-loop μ-loop
 returns c =
     let at-if1 = c .before in
     let at-loop-test = at-if1 .before .before in
     record {
-      same = rw (choosing-end _ _ _ _ (at-loop-test .loop-test .taken) (at-if1 .if1 .taken), ← (c .wide .ensures)) at
-          (at-loop-test .before .loop .inv .0);
+      same = rw (choosing-end _ _ _ (at-loop-test .loop-test .taken) (at-if1 .if1 .taken), ← (c .wide .ensures)) at
+          (at-loop-test .before .loop .inv);
       few = tt;
     }
 
@@ -67,8 +67,8 @@ returns-2 c =
     let at-loop-test = c .before .before .before in
     let at-loop = at-loop-test .before in
     record {
-      same = rw (choosing-cut _ _ _ _ (at-loop-test .loop-test .taken) (c .if2 .taken) (c .before .if1 .left)) at
-          (at-loop .loop .inv .0);
+      same = rw (choosing-cut _ _ _ (at-loop-test .loop-test .taken) (c .if2 .taken) (c .before .if1 .left)) at
+          (at-loop .loop .inv);
       few = tt;
     }
 
@@ -100,10 +100,10 @@ add-at-2 : tie.Need-add-at-2 Inv-loop μ-loop
 add-at-2 c = omega (arith, counted (c .before .before .before .before))
 
 loop-again : tie.Need-loop-again Inv-loop μ-loop
-loop-again c = (rw (← (c .wide4 .ensures)) at (found (c .before .before .before) _ (c .before .enum-told2 .given .1)), omega arith)
+loop-again c = rw (← (c .wide4 .ensures)) at (found (c .before .before .before) _ (c .before .enum-told2 .given .1))
 
 returns-5 : tie.Need-returns-5 Inv-loop μ-loop
-returns-5 c = record { same = rw (choosing-past _ _ _ _ (c .loop-test .left)) at (c .before .loop .inv .0); few = tt }
+returns-5 c = record { same = rw (choosing-past _ _ _ (c .loop-test .left)) at (c .before .loop .inv); few = tt }
 
 pub choose-spec : {M : Type 1} → statement M
 choose-spec =
@@ -134,7 +134,6 @@ choose-spec =
     (λ c κs. search needs)
     add-at
     add-at-2
-    (λ c. omega arith)
     (λ c. omega arith)
     loop-again
     returns-5)

@@ -2,7 +2,6 @@
 use Prim.Native.Nat.{ℕ, zero, suc, _+_, _≤_, _<_, _-_, _/_}
 use native.Mathlib.Omega.{arith}
 use native.Mathlib.Nat.{add-assoc}
-use native.Mathlib.Numerals.{add-one}
 use mathlib.Core.Path.{_≡_, refl, _∙_}
 use mathlib.Core.Bool.{Bool, true, false}
 use mathlib.Core.Option.{Option, none, some}
@@ -97,70 +96,69 @@ skipped (suc skip) [] = refl
 skipped (suc skip) (w ∷ ws) = skipped skip ws
 
 module _ (words : Words) (field : Bytes) where
-  -- the choice among the sentences from a place on, the first of them having a number
-  abbrev pub choosing : ℕ → ℕ → Choice
-  choosing number at = chooseFrom number (unpackSentences 0 (drop at words)) field
+  -- the choice among the sentences from a place on
+  abbrev pub choosing : ℕ → Choice
+  choosing at = chooseFrom (unpackSentences 0 (drop at words)) field
 
-  pub choosing-past : (number at : ℕ) → length words ≤ at → choosing number at ≡ chosenWrong
+  pub choosing-past : (at : ℕ) → length words ≤ at → choosing at ≡ chosenWrong
   unfolding unpackSentences chooseFrom
-  choosing-past number at h = rw (past-end words at h)
+  choosing-past at h = rw (past-end words at h)
 
-  pub choosing-end : (number at : ℕ) → at < length words → numberIn (getD words at 0) ≡ sentencesEnd →
-      choosing number at ≡ chosenNone (getD words at 0 / 256)
+  pub choosing-end : (at : ℕ) → at < length words → numberIn (getD words at 0) ≡ sentencesEnd →
+      choosing at ≡ chosenNone (getD words at 0 / 256)
   unfolding unpackSentences chooseFrom
-  choosing-end number at h e = rw (at-place words at h, e)
+  choosing-end at h e = rw (at-place words at h, e)
 
-  pub choosing-cut : (number at : ℕ) → at < length words → length words - at < 2 → (numberIn (getD words at 0) ≡ sentencesEnd → ⊥) →
-      choosing number at ≡ chosenWrong
+  pub choosing-cut : (at : ℕ) → at < length words → length words - at < 2 → (numberIn (getD words at 0) ≡ sentencesEnd → ⊥) →
+      choosing at ≡ chosenWrong
   unfolding unpackSentences chooseFrom
-  choosing-cut number at h h′ ne =
+  choosing-cut at h h′ ne =
       let past : length words ≤ at + 1 = omega arith in
       rw (at-place words at h, past-end words (at + 1) past, ne-eqb _ sentencesEnd ne)
 
-  chosen-picked : (b : Bool) (metric : Metric) (tests : List Test) (stores : List Store) (actions : List Action) (more : Sentences) (number : ℕ) →
-      chooseFrom number (pick b (sentence metric tests stores actions more) unknownSentence) field ≡
-      choiceOf (pick b (place metric tests field) foundWrong) number stores actions (chooseFrom (suc number) more field)
+  chosen-picked : (b : Bool) (metric : Metric) (tests : List Test) (stores : List Store) (actions : List Action) (more : Sentences) →
+      chooseFrom (pick b (sentence metric tests stores actions more) unknownSentence) field ≡
+      choiceOf (pick b (place metric tests field) foundWrong) stores actions (chooseFrom more field)
   unfolding chooseFrom
-  chosen-picked true metric tests stores actions more number = refl
-  chosen-picked false metric tests stores actions more number = refl
+  chosen-picked true metric tests stores actions more = refl
+  chosen-picked false metric tests stores actions more = refl
 
-  chosen-of : (o : Option Metric) (number v : ℕ) (ws : Words) (more : Sentences) →
-      chooseFrom number (sentenceOf o v ws more) field ≡
-      choiceOf (tried o v ws field) number (unpackStores (storesIn v) (drop (testsIn v) ws)) (unpackActions 0 (drop (testsIn v + storesIn v) ws))
-      (chooseFrom (suc number) more field)
+  chosen-of : (o : Option Metric) (v : ℕ) (ws : Words) (more : Sentences) →
+      chooseFrom (sentenceOf o v ws more) field ≡
+      choiceOf (tried o v ws field) (unpackStores (storesIn v) (drop (testsIn v) ws)) (unpackActions 0 (drop (testsIn v + storesIn v) ws))
+      (chooseFrom more field)
   unfolding chooseFrom
-  chosen-of none number v ws more = refl
-  chosen-of (some m) number v ws more = chosen-picked (leb (storesIn v) maxStored) m _ _ _ more number
+  chosen-of none v ws more = refl
+  chosen-of (some m) v ws more = chosen-picked (leb (storesIn v) maxStored) m _ _ _ more
 
   -- what stands at a sentence's first word and after it
-  begun : (number at : ℕ) → 2 ≤ length words - at → (numberIn (getD words at 0) ≡ sentencesEnd → ⊥) →
+  begun : (at : ℕ) → 2 ≤ length words - at → (numberIn (getD words at 0) ≡ sentencesEnd → ⊥) →
       let v : ℕ = getD words (at + 1) 0 in
       let ws : Words = drop (at + 2) words in
-      choosing number at ≡ chooseFrom number (sentenceOf (metricIn (getD words at 0)) v ws (unpackSentences (bodyIn v) ws)) field
+      choosing at ≡ chooseFrom (sentenceOf (metricIn (getD words at 0)) v ws (unpackSentences (bodyIn v) ws)) field
   unfolding unpackSentences
-  begun number at h ne =
+  begun at h ne =
       let first : at < length words = omega arith in
       let second : at + 1 < length words = omega arith in
       let next : at + 1 + 1 ≡ at + 2 = omega arith in
       rw (at-place words at first, at-place words (at + 1) second, next, ne-eqb _ sentencesEnd ne)
 
-  pub choosing-next : (number at : ℕ) → 2 ≤ length words - at → (numberIn (getD words at 0) ≡ sentencesEnd → ⊥) →
+  pub choosing-next : (at : ℕ) → 2 ≤ length words - at → (numberIn (getD words at 0) ≡ sentencesEnd → ⊥) →
       let v : ℕ = getD words (at + 1) 0 in
       let stores : ℕ = at + 2 + testsIn v in
-      choosing number at ≡
-      choiceOf (tried (metricIn (getD words at 0)) v (drop (at + 2) words) field) number
+      choosing at ≡
+      choiceOf (tried (metricIn (getD words at 0)) v (drop (at + 2) words) field)
       (unpackStores (storesIn v) (drop stores words)) (unpackActions 0 (drop (stores + storesIn v) words))
-      (choosing (number + 1) (at + (2 + bodyIn v)))
-  choosing-next number at h ne =
+      (choosing (at + (2 + bodyIn v)))
+  choosing-next at h ne =
       let v = getD words (at + 1) 0 in
       let ws = drop (at + 2) words in
-      begun number at h ne ∙ chosen-of (metricIn (getD words at 0)) number v ws (unpackSentences (bodyIn v) ws) ∙
+      begun at h ne ∙ chosen-of (metricIn (getD words at 0)) v ws (unpackSentences (bodyIn v) ws) ∙
       rw (
         skipped (bodyIn v) ws,
         drop-drop (testsIn v) (at + 2) words,
         drop-drop (testsIn v + storesIn v) (at + 2) words,
         drop-drop (bodyIn v) (at + 2) words,
-        add-one number,
         ← (add-assoc (at + 2) (testsIn v) (storesIn v)),
         ← (add-assoc at 2 (bodyIn v)),
       )

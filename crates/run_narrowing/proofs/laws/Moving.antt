@@ -8,8 +8,7 @@ use lib.Dec.{leb, eqb}
 use lib.ListN.{length}
 use borrow.Author.Tests.{eqb-true, eqb-false, ne-eqb, leb-true, leb-false}
 use Rattle.meaning.specs.Choice.{Bytes, pick, either, nth}
-use Rattle.meaning.specs.Classes.{Class, inClass}
-use Rattle.meaning.specs.Rewriting.{sameTruth}
+use Rattle.meaning.specs.Classes.{Class, inClass, sameTruth}
 use Rattle.meaning.specs.Instructions.{Site, fromStart, fromEnd, fromPlace, Test, unknownTest}
 use Rattle.meaning.specs.Matching.{cellAt, cellsBefore, checked, asked, wrong, check}
 use Rattle.meaning.specs.Packing.{numberIn, firstIn, secondIn, thirdIn, classOf, siteOf}

@@ -11,7 +11,7 @@ use lib.ListN.{length, take, drop, length-drop}
 use lib.Seq.{take-take, take-nil, drop-drop, length-take-le}
 use borrow.Author.Tests.{le-leb, lt-ltb, le-ltb, leb-true, leb-false, ltb-true, ltb-false}
 use Rattle.meaning.specs.Choice.{Bytes, pick}
-use Rattle.meaning.specs.Rewriting.{sameTruth}
+use Rattle.meaning.specs.Classes.{sameTruth}
 use Rattle.meaning.specs.Instructions.{Site, fromPlace}
 use Rattle.meaning.specs.Matching.{Checked, checked, check}
 use Rattle.meaning.specs.Packing.{numberIn, firstIn, secondIn, thirdIn, siteOf, classOf, predicatePartFor, predicatePartOf, testOf}
