@@ -3,7 +3,7 @@ use mathlib.Core.Path.{_≡_, ap}
 use lib.Dec.{T}
 use Rattle.meaning.specs.Tree.{Table}
 use Rattle.meaning.specs.Allowed.{allowed}
-use Rattle.meaning.specs.Tape.{tape}
+use Rattle.tape_layout.specs.Tape.{tape}
 use Rattle.meaning.specs.Translation.{translate}
 use Rattle.meaning.specs.Packing.{pack}
 use Rattle.code_table.specs.Leaves.{codeOf}

@@ -11,7 +11,7 @@ use Rattle.meaning.specs.Choice.{Bytes, pick, every}
 use Rattle.meaning.specs.Answers.{finished, bufferTooShort}
 use Rattle.meaning.specs.Tree.{Table}
 use Rattle.meaning.specs.Allowed.{distinct, sentencesIn, allowed}
-use Rattle.meaning.specs.Tape.{tape}
+use Rattle.tape_layout.specs.Tape.{tape}
 use Rattle.meaning.specs.Reading.{Read, accepted, refused, read}
 use Rattle.meaning.specs.Listing.{listing}
 use Rattle.meaning.specs.Translation.{translate}

@@ -12,7 +12,7 @@ use Rattle.meaning.specs.Choice.{Bytes, Name, pick, both, every}
 use Rattle.meaning.specs.Classes.{Class, classNumber, className}
 use Rattle.meaning.specs.Tree.{character, symbol, Element, letter, part, Subject, ofSymbol, ofPart, Condition, Expression, end, thenCharacter, thenSymbol, thenPart, thenCall, Sentence, Function, Table}
 use Rattle.meaning.specs.Allowed.{maxIdentifier, isByte, spelledName, spelledIdentifier, spelledElement, allowedSentence, someSentence, allowedFunction, allowed}
-use Rattle.meaning.specs.Tape.{tapeWord, symbolKind, partKind, conditionKind, equalsKind, closeKind, nextKind, endKind, functionKind, callKind, named, patternTape, truthNumber, subjectTape, conditionTape, conditionsTape, expressionTape, sentenceTape, sentencesTape, functionTape, tape}
+use Rattle.tape_layout.specs.Tape.{tapeWord, symbolKind, partKind, conditionKind, equalsKind, closeKind, nextKind, endKind, functionKind, callKind, named, patternTape, truthNumber, subjectTape, conditionTape, conditionsTape, expressionTape, sentenceTape, sentencesTape, functionTape, tape}
 use Rattle.meaning.specs.Grammar.{truthByte}
 use Rattle.meaning.specs.Listing.{Quoted, unquoted, inString, afterCode, closeQuote, isCoded, afterCharacter, quotedCharacter, patternText, subjectText, conditionText, conditionsText, expressionText, withoutBlank, sentenceText, sentencesText, functionText, listing}
 use Rattle.meaning.proofs.laws.Passing.{both-left, both-right, every-head, every-tail}

@@ -5,7 +5,7 @@ use mathlib.Core.List.{List, [], _∷_, _++_}
 use lib.Dec.{ltb, leb, eqb}
 use lib.ListN.{length}
 use Rattle.meaning.specs.Choice.{Bytes, pick}
-use Rattle.meaning.specs.Tape.{symbolKind, partKind, conditionKind, equalsKind, closeKind, nextKind, endKind, functionKind}
+use Rattle.tape_layout.specs.Tape.{symbolKind, partKind, conditionKind, equalsKind, closeKind, nextKind, endKind, functionKind}
 use Rattle.list_strings.specs.declared.State.{State}
 use Rattle.list_strings.specs.declared.State.the-variants.{Start, Plain, InString, AfterCode, Name, Condition, Header}
 use Rattle.list_strings.specs.Steps.{Step, step, characterStep}

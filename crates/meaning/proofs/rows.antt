@@ -12,7 +12,6 @@ pub mod Listed
 pub mod Classes
 pub mod Entries
 pub mod Leaving
-pub mod Tape
 pub mod Words
 pub mod Parts
 pub mod Flatness

@@ -10,7 +10,6 @@ pub mod Outcome
 pub mod Rewriting
 pub mod Fits
 pub mod Allowed
-pub mod Tape
 pub mod Instructions
 pub mod Matching
 pub mod Machine

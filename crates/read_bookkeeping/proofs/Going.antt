@@ -7,7 +7,7 @@ use native.Mathlib.Omega.{arith}
 use lib.Dec.{T, eqb, lt→ltb}
 use lib.ListN.{length, set, length-append}
 use Rattle.meaning.specs.Choice.{Bytes, every}
-use Rattle.meaning.specs.Tape.{named}
+use Rattle.tape_layout.specs.Tape.{named}
 use Rattle.meaning.specs.Tokens.{Placed}
 use Rattle.meaning.specs.Reading.{Parsed, stopped, parsed, follow, whether, isSign, pass, check}
 use Rattle.meaning.proofs.laws.Passing.{both-pass}

@@ -6,7 +6,7 @@ use native.Mathlib.Numerals.{add-one}
 use native.Mathlib.Omega.{arith}
 use lib.Dec.{T}
 use Rattle.meaning.specs.Choice.{Bytes, every}
-use Rattle.meaning.specs.Tape.{named}
+use Rattle.tape_layout.specs.Tape.{named}
 use Rattle.read_tokens.specs.View as View
 use Rattle.read_tokens.specs.View.{IsClosed, charactersIn, quotationAt}
 use Rattle.read_tokens.specs.declared.Span.{Span}

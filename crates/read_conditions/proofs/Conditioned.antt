@@ -18,7 +18,7 @@ use Rattle.meaning.specs.Tree.{Subject, Condition}
 use Rattle.meaning.specs.Answers.{overLimit, wrongLaterVariable}
 use Rattle.meaning.specs.Allowed.{member, maxIdentifier}
 use Rattle.meaning.specs.Names.{predicateOf}
-use Rattle.meaning.specs.Tape.{truthNumber, subjectTape, conditionTape, conditionsTape}
+use Rattle.tape_layout.specs.Tape.{truthNumber, subjectTape, conditionTape, conditionsTape}
 use Rattle.meaning.specs.Tokens as Tokens
 use Rattle.meaning.specs.Grammar.{standing}
 use Rattle.meaning.specs.Reading as Reading

@@ -10,7 +10,7 @@ use lib.ListN.{length}
 use Rattle.meaning.specs.Choice.{Bytes, Name, pick, every}
 use Rattle.meaning.specs.Classes.{Class}
 use Rattle.meaning.specs.Tree.{Subject, ofSymbol, ofPart, Condition}
-use Rattle.meaning.specs.Tape.{conditionTape, conditionsTape}
+use Rattle.tape_layout.specs.Tape.{conditionTape, conditionsTape}
 use Rattle.meaning.specs.Tokens as Tokens
 use Rattle.meaning.specs.Reading.{Parsed, parsed, pass, passSubject, truthOf, passTruth}
 use Rattle.read_tokens.specs.View.{Sound, stream}

@@ -7,7 +7,7 @@ use native.Mathlib.Numerals.{add-one}
 use native.Mathlib.Omega.{arith}
 use lib.ListN.{length, set}
 use Rattle.meaning.specs.Choice.{Bytes, Name}
-use Rattle.meaning.specs.Tape.{tapeWord, closeKind}
+use Rattle.tape_layout.specs.Tape.{tapeWord, closeKind}
 use Rattle.meaning.specs.Tokens as Tokens
 use Rattle.meaning.specs.Grammar.{standing}
 use Rattle.meaning.specs.Reading as Reading

@@ -8,7 +8,7 @@ use lib.Dec.{T}
 use lib.ListN.{length}
 use Rattle.meaning.specs.Choice.{Bytes, Name, every}
 use Rattle.meaning.specs.Tree.{Expression, end, thenCall}
-use Rattle.meaning.specs.Tape.{named, callKind, closeKind, tapeWord, expressionTape}
+use Rattle.tape_layout.specs.Tape.{named, callKind, closeKind, tapeWord, expressionTape}
 use Rattle.meaning.specs.Tokens as Tokens
 use Rattle.meaning.specs.Grammar.{standing, written}
 use Rattle.meaning.specs.Reading as Reading

@@ -13,8 +13,8 @@ use Rattle.meaning.specs.Choice.{Bytes, Name, pick, every}
 use Rattle.meaning.specs.Answers.{overLimit}
 use Rattle.meaning.specs.Tree.{Function, Table}
 use Rattle.meaning.specs.Allowed.{namesOf}
-use Rattle.meaning.specs.Tape as Tape
-use Rattle.meaning.specs.Tape.{named, functionKind, functionTape}
+use Rattle.tape_layout.specs.Tape as Tape
+use Rattle.tape_layout.specs.Tape.{named, functionKind, functionTape}
 use Rattle.meaning.specs.Tokens as Tokens
 use Rattle.meaning.specs.Reading as Reading
 use Rattle.meaning.specs.Reading.{Parsed, stopped, parsed, follow}

@@ -11,7 +11,7 @@ use borrow.Author.Tests.{lt-leb, le-leb, lt-ltb, le-ltb}
 use Rattle.meaning.specs.Choice.{Bytes, Name, pick, both, isSome, every}
 use Rattle.meaning.specs.Answers.{overLimit, wrongLaterVariable}
 use Rattle.meaning.specs.Allowed.{maxIdentifier, comingAfter}
-use Rattle.meaning.specs.Tape.{named}
+use Rattle.tape_layout.specs.Tape.{named}
 use Rattle.meaning.specs.Reading as Reading
 use Rattle.meaning.specs.Reading.{Item, characters, symbolItem, partItem, subjectFault, faultUnless}
 use Rattle.read_tokens.specs.View as View

@@ -8,7 +8,7 @@ use lib.Dec.{T, leb, ltb, eqb}
 use lib.ListN.{length}
 use borrow.Author.Tests.{lt-leb, le-leb, lt-ltb, le-ltb}
 use Rattle.meaning.specs.Choice.{Bytes, both, every}
-use Rattle.meaning.specs.Tape.{callKind}
+use Rattle.tape_layout.specs.Tape.{callKind}
 use Rattle.meaning.specs.Tokens as Tokens
 use Rattle.meaning.specs.Grammar.{standing}
 use Rattle.meaning.specs.Reading as Reading

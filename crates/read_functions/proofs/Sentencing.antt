@@ -7,7 +7,7 @@ use native.Mathlib.Omega.{arith}
 use lib.ListN.{length, set, length-append}
 use Rattle.meaning.specs.Choice.{Bytes}
 use Rattle.meaning.specs.Tree.{Sentence}
-use Rattle.meaning.specs.Tape.{tapeWord, nextKind, endKind, sentenceTape, sentencesTape}
+use Rattle.tape_layout.specs.Tape.{tapeWord, nextKind, endKind, sentenceTape, sentencesTape}
 use Rattle.meaning.specs.Tokens as Tokens
 use Rattle.meaning.specs.Reading as Reading
 use Rattle.meaning.specs.Reading.{Parsed, follow, whether, afterSentence}

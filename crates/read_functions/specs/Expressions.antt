@@ -8,7 +8,7 @@ use lib.ListN.{length, set}
 use lib.Seq.{slice}
 use Rattle.meaning.specs.Choice.{Bytes, Name, every}
 use Rattle.meaning.specs.Tree.{Expression, end, thenCharacter, thenSymbol, thenPart, thenCall}
-use Rattle.meaning.specs.Tape.{tapeWord, named, symbolKind, partKind, callKind, closeKind, expressionTape}
+use Rattle.tape_layout.specs.Tape.{tapeWord, named, symbolKind, partKind, callKind, closeKind, expressionTape}
 use Rattle.meaning.specs.Tokens as Tokens
 use Rattle.meaning.specs.Reading as Reading
 use Rattle.meaning.specs.Reading.{parsed, Item, characters, symbolItem, partItem, noItem, isItem}

@@ -8,7 +8,7 @@ use lib.ListN.{length}
 use Rattle.meaning.specs.Choice.{Bytes, Name, either, every}
 use Rattle.meaning.specs.Answers.{overLimit}
 use Rattle.meaning.specs.Tree.{Sentence}
-use Rattle.meaning.specs.Tape.{tapeWord, equalsKind, patternTape, conditionsTape, expressionTape, sentenceTape, sentencesTape}
+use Rattle.tape_layout.specs.Tape.{tapeWord, equalsKind, patternTape, conditionsTape, expressionTape, sentenceTape, sentencesTape}
 use Rattle.meaning.specs.Tokens as Tokens
 use Rattle.meaning.specs.Reading as Reading
 use Rattle.meaning.specs.Reading.{Parsed, stopped, parsed, follow, pass, whether, cutShort, afterSentence}

@@ -12,7 +12,7 @@ use Rattle.meaning.specs.Choice.{Bytes, Name, pick, both, every}
 use Rattle.meaning.specs.Tree.{symbol, Element, letter, part}
 use Rattle.meaning.specs.Answers.{overLimit}
 use Rattle.meaning.specs.Allowed.{added, member, symbolsFrom, partsOf, lettersIn}
-use Rattle.meaning.specs.Tape.{named, patternTape}
+use Rattle.tape_layout.specs.Tape.{named, patternTape}
 use Rattle.meaning.specs.Reading.{Item, characters, symbolItem, partItem, elementsOf, endsInPart, faultUnless, patternFault}
 use Rattle.meaning_accepting.proofs.reading.Basics.{both-left, both-right}
 use Rattle.meaning_accepting.proofs.reading.PatternFacts.{parts-append, letters-append, symbols-append, characters-parts, characters-letters, characters-symbols}

@@ -8,7 +8,7 @@ use lib.ListN.{length}
 use Rattle.meaning.specs.Choice.{Bytes, both}
 use Rattle.meaning.specs.Tree.{character, Element, letter, part}
 use Rattle.meaning.specs.Grammar.{charactersOf}
-use Rattle.meaning.specs.Tape.{elementTape, patternTape}
+use Rattle.tape_layout.specs.Tape.{elementTape, patternTape}
 use Rattle.meaning.specs.Reading.{endsInPart}
 use Rattle.read_bookkeeping.proofs.Choosing.{both-true, both-false}
 

@@ -9,7 +9,7 @@ use lib.ListN.{length}
 use Rattle.meaning.specs.Choice.{every}
 use Rattle.meaning.specs.Tree.{Element}
 use Rattle.meaning.specs.Allowed.{symbolsFrom, partsOf, lettersIn}
-use Rattle.meaning.specs.Tape.{patternTape}
+use Rattle.tape_layout.specs.Tape.{patternTape}
 use Rattle.meaning.specs.Tokens.{inside}
 use Rattle.meaning.specs.Reading.{endsInPart, elementsOf, pattern}
 use Rattle.read_tokens.specs.View.{stream, Comes}

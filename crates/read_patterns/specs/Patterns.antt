@@ -9,7 +9,7 @@ use Rattle.meaning.specs.Choice.{Bytes, Name, both, every}
 use Rattle.meaning.specs.Tree.{Element}
 use Rattle.meaning.specs.Answers.{notAllowedHere, overLimit, wrongPatternVariable}
 use Rattle.meaning.specs.Allowed.{maxIdentifier, maxLetters, maxSymbols, member, added, symbolsOf, partsOf, lettersIn}
-use Rattle.meaning.specs.Tape.{patternTape}
+use Rattle.tape_layout.specs.Tape.{patternTape}
 use Rattle.meaning.specs.Tokens as Tokens
 use Rattle.meaning.specs.Reading as Reading
 use Rattle.meaning.specs.Reading.{Item, isItem, elementsOf, endsInPart, faultUnless, patternFault}

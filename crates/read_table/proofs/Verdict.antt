@@ -10,7 +10,7 @@ use lib.Seq.{take-at, sets-eq, length-sets}
 use Rattle.meaning.specs.Choice.{Bytes}
 use Rattle.meaning.specs.Answers.{tableTooLong}
 use Rattle.meaning.specs.Tree.{Table}
-use Rattle.meaning.specs.Tape.{tape}
+use Rattle.tape_layout.specs.Tape.{tape}
 use Rattle.meaning.specs.Reading.{unknownIn, accepted, refused, known, verdict, read}
 use Rattle.read_tokens.specs.View.{stream}
 use Rattle.read_bookkeeping.specs.declared.Answer.{Answer}

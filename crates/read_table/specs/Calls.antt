@@ -9,7 +9,7 @@ use Rattle.meaning.specs.Choice.{Bytes, Name, either}
 use Rattle.meaning.specs.Tree.{Table}
 use Rattle.meaning.specs.Names.{isBuiltIn}
 use Rattle.meaning.specs.Allowed.{member, namesOf}
-use Rattle.meaning.specs.Tape.{callKind, tape}
+use Rattle.tape_layout.specs.Tape.{callKind, tape}
 use Rattle.read_tokens.specs.View.{part}
 use Rattle.read_tokens.specs.declared.Span.{Span}
 use Rattle.read_table.specs.declared.calls.Unknown.{Unknown}

@@ -5,7 +5,7 @@ use mathlib.Core.List.{List, []}
 use lib.ListN.{length, take}
 use Rattle.meaning.specs.Choice.{Bytes}
 use Rattle.meaning.specs.Allowed.{maxTable}
-use Rattle.meaning.specs.Tape.{tape}
+use Rattle.tape_layout.specs.Tape.{tape}
 use Rattle.meaning.specs.Reading.{Read, accepted, refused, read}
 use Rattle.meaning.specs.Entries.{answered, readAnswer}
 use Rattle.read_bookkeeping.specs.declared.Answer.{Answer}

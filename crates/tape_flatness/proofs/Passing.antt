@@ -10,7 +10,7 @@ use lib.Seq.{drop-drop, drop-append-seam}
 use borrow.Author.Tests.{lt-ltb, le-ltb, lt-leb, eq-eqb, ne-eqb}
 use Rattle.meaning.specs.Choice.{pick, both, every}
 use Rattle.meaning.specs.Names.{isBuiltIn}
-use Rattle.meaning.specs.Tape.{callKind}
+use Rattle.tape_layout.specs.Tape.{callKind}
 use Rattle.meaning.proofs.laws.Passing.{every-head, every-tail}
 use Rattle.meaning.proofs.laws.Remaining.{at-place}
 use Rattle.tape_words.specs.Words.{carried, nameIn, headName}

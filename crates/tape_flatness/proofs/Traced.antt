@@ -12,7 +12,7 @@ use Rattle.meaning.specs.Choice.{Name, both, every}
 use Rattle.meaning.specs.Names.{Calling as Called, asEmission, asAngles, asFunction, callingOf, builtIn, isBuiltIn, isReserved}
 use Rattle.meaning.specs.Tree.{Expression, end, thenCharacter, thenSymbol, thenPart, thenCall, Sentence, Function, Table}
 use Rattle.meaning.specs.Allowed.{isByte, spelledName, spelledIdentifier, someSentence, allowedSentence, allowedFunction, allowed}
-use Rattle.meaning.specs.Tape.{tapeWord, named, symbolKind, partKind, equalsKind, closeKind, nextKind, endKind, functionKind, callKind, patternTape, conditionsTape, expressionTape, sentenceTape, sentencesTape, tape}
+use Rattle.tape_layout.specs.Tape.{tapeWord, named, symbolKind, partKind, equalsKind, closeKind, nextKind, endKind, functionKind, callKind, patternTape, conditionsTape, expressionTape, sentenceTape, sentencesTape, tape}
 use Rattle.meaning.specs.Translation.{Manner, emits, computes, replaces, nests, Level, outermost, inside, isLast, mannerAs, mannerOf}
 use Rattle.meaning.specs.Flat.{nestedAt, nestedCalls, nestedSentences, nestedIn, leftmost}
 use Rattle.meaning.proofs.laws.Passing.{both-left, both-right, both-pass, every-head, every-tail}

@@ -8,7 +8,7 @@ use lib.Dec.{eqb, leb, ltb}
 use lib.ListN.{drop}
 use Rattle.meaning.specs.Choice.{pick, either}
 use Rattle.meaning.specs.Names.{isBuiltIn}
-use Rattle.meaning.specs.Tape.{tapeWord, conditionKind, closeKind, callKind}
+use Rattle.tape_layout.specs.Tape.{tapeWord, conditionKind, closeKind, callKind}
 use Rattle.tape_words.specs.Words.{carried, nameIn}
 use Rattle.tape_flatness.specs.declared.Place.{Place}
 use Rattle.tape_flatness.specs.declared.Place.the-variants.{At, Nowhere}

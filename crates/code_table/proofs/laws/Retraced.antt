@@ -18,8 +18,8 @@ use Rattle.meaning.specs.Allowed.{maxFunctions, maxSentences, maxLetters, maxIt
 use Rattle.meaning.specs.Allowed.{allowedPattern, ofPattern, allOfPattern, allowedConditions, allowedSentence, allowedFunction, namesOf, allowed}
 use Rattle.meaning.specs.Allowed.{isByte, spelledName, spelledIdentifier, spelledElement, lettersIn, partsOf, itemsIn, nesting, someSentence}
 use Rattle.meaning.specs.Allowed.{sentencesIn as sentencesOf}
-use Rattle.meaning.specs.Tape.{tapeWord, named, symbolKind, partKind, conditionKind, equalsKind, closeKind, nextKind, endKind, functionKind, callKind}
-use Rattle.meaning.specs.Tape.{truthNumber, subjectTape, patternTape, conditionsTape, expressionTape, sentenceTape, sentencesTape, functionTape, tape}
+use Rattle.tape_layout.specs.Tape.{tapeWord, named, symbolKind, partKind, conditionKind, equalsKind, closeKind, nextKind, endKind, functionKind, callKind}
+use Rattle.tape_layout.specs.Tape.{truthNumber, subjectTape, patternTape, conditionsTape, expressionTape, sentenceTape, sentencesTape, functionTape, tape}
 use Rattle.meaning.specs.Packing.{truthBit}
 use Rattle.tape_words.specs.declared.tape.Parts.{Parts}
 use Rattle.tape_words.specs.declared.tape.Parts.the-variants.{Zero, One, Two}

@@ -4,7 +4,7 @@ use mathlib.Core.Bool.{true, false}
 use mathlib.Core.List.{List, [], _∷_}
 use Rattle.meaning.specs.Classes.{digit, blank}
 use Rattle.meaning.specs.Tree.{symbol, letter, part, ofSymbol, ofPart, end, Table}
-use Rattle.meaning.specs.Tape.{tape, patternTape, conditionsTape, expressionTape, sentencesTape}
+use Rattle.tape_layout.specs.Tape.{tape, patternTape, conditionsTape, expressionTape, sentencesTape}
 use Rattle.meaning.proofs.rows.Tables.{x1, x2, function, tableZ, tableR, tableH, tableK, tableP, tableM}
 use Rattle.code_sentences.specs.Trees.{treeOf, sentencesIn, functionsIn}
 use Rattle.code_patterns.specs.Scans.{patternIn, conditionsIn}

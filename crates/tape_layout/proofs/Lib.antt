@@ -1,0 +1,2 @@
+-- A worked row of the tape.
+pub mod Rows

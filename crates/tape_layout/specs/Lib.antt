@@ -1,0 +1,2 @@
+-- How a table's tree lies on the tape.
+pub mod Tape
