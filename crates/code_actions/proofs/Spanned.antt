@@ -16,7 +16,7 @@ use Rattle.code_actions.specs.declared.spans.Stand.{Stand}
 use Rattle.code_actions.specs.declared.spans.Stand.the-variants.{AtStart, AfterFirst, AfterSecond}
 use Rattle.code_actions.specs.declared.spans.Span.{Span}
 use Rattle.code_patterns.specs.Testing.{total}
-use Rattle.code_patterns.specs.Measuring.{lengthsOf, variableOf}
+use Rattle.code_patterns.specs.Measuring.{lengthsOf, firstPartOr}
 use Rattle.code_actions.specs.Spanning.{meantStand, spanNumbers, gapBy, pieceSpan, standAfter, restBy, endsBy, SmallSpan}
 
 pub rest-span : (s : Shape) (w : Stand) → restBy (lengthsOf s .parts) (lengthsOf s) w ≡ spanNumbers (restOf s (meantStand w))
@@ -41,7 +41,7 @@ of-two h m t x y z false AtStart e = rw e (refl, refl, refl)
 of-two h m t x y z false AfterFirst e = rw e (refl, refl, refl)
 of-two h m t x y z false AfterSecond e = rw e (refl, refl, refl)
 
-pub passage-spans : (s : Shape) (x other : Name) (w : Stand) → Passes s x (sameBytes x (variableOf other s)) w
+pub passage-spans : (s : Shape) (x other : Name) (w : Stand) → Passes s x (sameBytes x (firstPartOr other s)) w
 passage-spans (fixed t) x other w = (refl, refl, refl)
 passage-spans (open₁ h y t) x other w = (refl, refl, refl)
 passage-spans (open₂ h y m z t) x other w = of-two h m t x y z (sameBytes x y) w refl
@@ -51,7 +51,7 @@ none-long : (t : List Letter) → eqb (length t) 0 ≡ isNone t
 none-long [] = refl
 none-long (c ∷ t) = eqb·suc-zero (length t)
 
-pub ends-same : (s : Shape) (x other : Name) → endsBy (lengthsOf s .parts) (lengthsOf s) (sameBytes x (variableOf other s)) ≡ endsPattern s x
+pub ends-same : (s : Shape) (x other : Name) → endsBy (lengthsOf s .parts) (lengthsOf s) (sameBytes x (firstPartOr other s)) ≡ endsPattern s x
 ends-same (fixed t) x other = refl
 ends-same (open₁ h y t) x other = none-long t
 ends-same (open₂ h y m z t) x other = of-second (sameBytes x y)

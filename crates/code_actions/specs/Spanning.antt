@@ -21,28 +21,28 @@ meantStand AfterSecond = afterSecond
 abbrev pub spanNumbers : MeantSpan → Span
 spanNumbers s = record { register = lengthNumber (s .register); add = s .add; back = s .back }
 
-abbrev pub spanOf : ℕ → ℕ → ℕ → Span
-spanOf register add back = record { register = register; add = add; back = back }
+abbrev pub codeSpan : ℕ → ℕ → ℕ → Span
+codeSpan register add back = record { register = register; add = add; back = back }
 
 -- from where p stands to the second e-variable of two
 abbrev pub gapToSecond : Lengths → Stand → Span
-gapToSecond l AtStart = spanOf 2 (l .second) 0
-gapToSecond l AfterFirst = spanOf 0 (l .second) 0
-gapToSecond l AfterSecond = spanOf 0 0 0
+gapToSecond l AtStart = codeSpan 2 (l .second) 0
+gapToSecond l AfterFirst = codeSpan 0 (l .second) 0
+gapToSecond l AfterSecond = codeSpan 0 0 0
 
 -- from where p stands to an e-variable, which is the pattern's first or not
 abbrev pub gapBy : Parts → Lengths → Bool → Stand → Span
-gapBy Zero l first w = spanOf 0 0 0
-gapBy One l first w = spanOf 0 (l .first) 0
-gapBy Two l true w = spanOf 0 (l .first) 0
+gapBy Zero l first w = codeSpan 0 0 0
+gapBy One l first w = codeSpan 0 (l .first) 0
+gapBy Two l true w = codeSpan 0 (l .first) 0
 gapBy Two l false w = gapToSecond l w
 
 -- the e-variable itself
 abbrev pub pieceSpan : Parts → Lengths → Bool → Span
-pieceSpan Zero l first = spanOf 0 0 0
-pieceSpan One l first = spanOf 1 0 (l .first + l .second)
-pieceSpan Two l true = spanOf 2 0 (l .first)
-pieceSpan Two l false = spanOf 3 0 (l .second + l .third)
+pieceSpan Zero l first = codeSpan 0 0 0
+pieceSpan One l first = codeSpan 1 0 (l .first + l .second)
+pieceSpan Two l true = codeSpan 2 0 (l .first)
+pieceSpan Two l false = codeSpan 3 0 (l .second + l .third)
 
 -- where p stands after it
 abbrev pub standAfter : Parts → Bool → Stand → Stand
@@ -53,13 +53,13 @@ standAfter Two false w = AfterSecond
 
 -- the rest of the field
 abbrev pub restBy : Parts → Lengths → Stand → Span
-restBy Zero l w = spanOf 1 0 0
-restBy One l AtStart = spanOf 1 0 0
-restBy One l AfterFirst = spanOf 0 (l .second) 0
-restBy One l AfterSecond = spanOf 0 0 0
-restBy Two l AtStart = spanOf 1 0 0
-restBy Two l AfterFirst = spanOf 3 0 0
-restBy Two l AfterSecond = spanOf 0 (l .third) 0
+restBy Zero l w = codeSpan 1 0 0
+restBy One l AtStart = codeSpan 1 0 0
+restBy One l AfterFirst = codeSpan 0 (l .second) 0
+restBy One l AfterSecond = codeSpan 0 0 0
+restBy Two l AtStart = codeSpan 1 0 0
+restBy Two l AfterFirst = codeSpan 3 0 0
+restBy Two l AfterSecond = codeSpan 0 (l .third) 0
 
 -- an e-variable, which is the pattern's first or not, is its last, and no template comes after it
 abbrev pub endsBy : Parts → Lengths → Bool → Bool

@@ -3,7 +3,7 @@ use code_patterns::pattern::Lengths;
 use tape_words::tape::Parts;
 ghost use mathlib.Core.Path.{_≡_};
 ghost use Prim.Native.Nat.{_+_, _≤_};
-ghost use Rattle.code_actions.specs.Spanning.{spanOf, gapBy, pieceSpan, standAfter, restBy, endsBy};
+ghost use Rattle.code_actions.specs.Spanning.{codeSpan, gapBy, pieceSpan, standAfter, restBy, endsBy};
 
 // Where p stands: at the field's start, or just after its first or second e-variable.
 pub enum Stand {
@@ -20,7 +20,7 @@ pub struct Span {
 }
 
 fn span_of(register: usize, add: usize, back: usize) -> Span
-    ensures { λ r. ⌜ r ≡ spanOf register add back ⌝ }
+    ensures { λ r. ⌜ r ≡ codeSpan register add back ⌝ }
 {
     Span {
         register,

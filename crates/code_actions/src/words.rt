@@ -12,7 +12,7 @@ ghost use mathlib.Core.Path.{_≡_};
 ghost use mathlib.Core.List.{[], _∷_};
 ghost use Prim.Native.Nat.{_+_, _*_, _≤_, _<_, _^_};
 ghost use lib.ListN.{length, take, drop};
-ghost use Rattle.meaning.specs.Packing.{word};
+ghost use Rattle.meaning.specs.Packing.{codeWord};
 ghost use Rattle.code_words.specs.Writing.{Wrote};
 ghost use Rattle.code_patterns.specs.Testing.{total};
 ghost use Rattle.code_actions.specs.Spanning.{SmallSpan};
@@ -46,7 +46,7 @@ fn argument_ready(code: &mut [u32], at: usize) -> usize
 
 pub fn write_emission(tape: &[u32], from: usize, size: usize, code: &mut [u32], at: usize) -> usize
     requires { ⌜ (from + size ≤ length (now tape)) × (size < 256) × (at < 2 ^ 61) ⌝ }
-    ensures { λ r. ⌜ Wrote (now (code .entry)) at (readyWords (word 14 size 0 0 ∷ take size (drop from (now (tape .entry))))) (now (code .exit)) r ⌝ }
+    ensures { λ r. ⌜ Wrote (now (code .entry)) at (readyWords (codeWord 14 size 0 0 ∷ take size (drop from (now (tape .entry))))) (now (code .exit)) r ⌝ }
 {
     let ready = argument_ready(code, at);
     let named = put_operands(code, ready, 14, size, 0, 0);

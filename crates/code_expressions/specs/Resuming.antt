@@ -10,8 +10,8 @@ use Rattle.meaning.specs.Tree.{Expression, Table}
 use Rattle.meaning.specs.Names.{callingOf, numberOf}
 use Rattle.meaning.specs.Allowed.{namesOf}
 use Rattle.meaning.specs.Instructions.{Site, Action}
-use Rattle.meaning.specs.Translation.{Shape, Stand as MeantStand, Level, outermost, mannerOf, levelIn, calling, items, passesRest, actionsOf}
-use Rattle.meaning.specs.Packing.{Words, word, packActions}
+use Rattle.meaning.specs.Translation.{Shape, Stand as MeantStand, Level, outermost, mannerOf, levelIn, calling, itemActions, passesRest, actionsOf}
+use Rattle.meaning.specs.Packing.{Words, codeWord, packActions}
 use Rattle.tape_words.specs.declared.names.Calling.{Calling}
 use Rattle.tape_words.specs.declared.names.Calling.the-variants.{Emission, Angles, Function}
 use Rattle.tape_words.specs.declared.tape.Item.{Item}
@@ -26,7 +26,7 @@ use Rattle.tape_words.specs.Words.{headName, headNames, itemAt}
 use Rattle.code_expressions.specs.Levels.{Levels, firstOf, othersOf, levelsIn}
 use Rattle.code_words.specs.Writing.{Wrote, Same}
 use Rattle.tape_words.specs.Finding.{numberAmong, callingIn}
-use Rattle.code_patterns.specs.Measuring.{flag, lengthsOf, variableOf}
+use Rattle.code_patterns.specs.Measuring.{flag, lengthsOf, firstPartOr}
 use Rattle.code_actions.specs.Spanning.{meantStand, endsBy}
 use Rattle.code_actions.specs.ActionWords.{restWord, readyWords, computationWord}
 
@@ -39,9 +39,9 @@ levelAt t (n ∷ ns) outer = levelIn (mannerOf (levelAt t ns (othersOf outer)) (
 
 -- the actions still to come: the rest of the innermost open call's argument, then that call, what comes after it, and so on outwards
 unfoldable pub resume : Table → Shape → List (Named Site) → List Name → Expression → List Expression → MeantStand → List Action
-resume t s ss [] e outer w = items t s ss outermost e w (passesRest s)
+resume t s ss [] e outer w = itemActions t s ss outermost e w (passesRest s)
 resume t s ss (n ∷ ns) e outer w =
-    items t s ss (levelAt t (n ∷ ns) outer) e w
+    itemActions t s ss (levelAt t (n ∷ ns) outer) e w
     (λ w₁.
     let more = resume t s ss ns (firstOf outer) (othersOf outer) w₁ in
     calling s (mannerOf (levelAt t ns (othersOf outer)) (firstOf outer) n) (numberOf t n) n w₁ more)
@@ -78,7 +78,7 @@ callDone w next at more =
 
 -- what follows a call's argument
 abbrev pub callWords : Manner → Lengths → Stand → ℕ → Name → Words
-callWords Emits l w number n = readyWords (word 14 (length n) 0 0 ∷ n)
+callWords Emits l w number n = readyWords (codeWord 14 (length n) 0 0 ∷ n)
 callWords (Computes subtract) l w number n = readyWords (computationWord subtract ∷ [])
 callWords Replaces l w number n = restWord l w ∷ readyWords ((13 + 256 * number) ∷ 15 ∷ [])
 callWords Nests l w number n = readyWords ((12 + 256 * number) ∷ [])
@@ -95,7 +95,7 @@ isStop Stop = true
 
 -- the call that ends is the last item outermost: none is open round it, and no item follows
 abbrev pub lastCall : ℕ → List ℕ → ℕ → Bool
-lastCall depth ws items = pick (eqb depth 0) (isStop (itemAt ws 0 items)) false
+lastCall depth ws itemActions = pick (eqb depth 0) (isStop (itemAt ws 0 itemActions)) false
 
 abbrev pub mannerBy : Calling → Bool → Manner
 mannerBy Emission last = Emits
@@ -107,11 +107,11 @@ abbrev pub mannerNow : List ℕ → List ℕ → ℕ → Walk → Manner
 mannerNow ws calls next w =
     mannerBy (callingIn (callingOf (headName ws (getD calls (w .depth - 1) 0)))) (lastCall (w .depth - 1) (drop next ws) (w .items))
 
-abbrev pub goesOn : Manner → Bool
-goesOn Emits = true
-goesOn (Computes subtract) = true
-goesOn Replaces = false
-goesOn Nests = true
+abbrev pub continues : Manner → Bool
+continues Emits = true
+continues (Computes subtract) = true
+continues Replaces = false
+continues Nests = true
 
 -- what follows the argument of the innermost open call
 abbrev pub endingWords : List ℕ → List ℕ → Lengths → List ℕ → ℕ → Walk → Words
@@ -126,8 +126,8 @@ endingBy Symbol ws calls w = w
 endingBy Part ws calls w = w
 endingBy Call ws calls w = w
 endingBy Pass ws calls w = w
-endingBy Close ws calls w = callDone w (w .next + 1) (w .at) (goesOn (mannerNow ws calls (w .next + 1) w))
-endingBy Unclosed ws calls w = callDone w (w .next) (w .at) (goesOn (mannerNow ws calls (w .next) w))
+endingBy Close ws calls w = callDone w (w .next + 1) (w .at) (continues (mannerNow ws calls (w .next + 1) w))
+endingBy Unclosed ws calls w = callDone w (w .next) (w .at) (continues (mannerNow ws calls (w .next) w))
 endingBy Stop ws calls w = w
 
 abbrev pub pastEnding : List ℕ → List ℕ → Walk → Walk
@@ -157,7 +157,7 @@ pub record Means (ws heads names : List ℕ) (m : Pattern) (t : Table) (s : Shap
   pub functions : namesOf t ≡ headNames ws heads
   pub symbols : map (λ x. x .name) ss ≡ headNames ws names
   pub lengths : m .lengths ≡ lengthsOf s
-  pub variable : headName ws (m .variable) ≡ variableOf (headName ws (m .variable)) s
+  pub variable : headName ws (m .variable) ≡ firstPartOr (headName ws (m .variable)) s
 
 pub record InItems (ws calls : List ℕ) (w : Walk) : Type 0 where
   pub room : length calls ≡ 16

@@ -29,7 +29,7 @@ ghost use mathlib.Core.List.{[], _∷_};
 ghost use Prim.Native.Nat.{_+_, _-_, _≤_, _<_, _^_};
 ghost use lib.ListN.{length, drop, getD, set};
 ghost use Rattle.meaning.specs.Choice.{pick};
-ghost use Rattle.meaning.specs.Packing.{word};
+ghost use Rattle.meaning.specs.Packing.{codeWord};
 ghost use Rattle.tape_words.specs.Words.{headName, headNames};
 ghost use Rattle.code_words.specs.Writing.{Wrote};
 ghost use Rattle.tape_words.specs.Finding.{numberAmong};
@@ -37,7 +37,7 @@ ghost use Rattle.code_patterns.specs.Testing.{total};
 ghost use Rattle.code_actions.specs.Spanning.{standAfter};
 ghost use Rattle.code_actions.specs.ActionWords.{partWords, restWord, leftWords};
 ghost use Rattle.code_expressions.specs.declared.expression.Manner.the-variants.{Replaces, Nests};
-ghost use Rattle.code_expressions.specs.Resuming.{itemDone, wordDone, callDone, callWords, isStop, lastCall, mannerBy, mannerNow, goesOn, endingWords, pastEnding, pastName, isFirst, stays, allDone, InItems, Innermost, ItemsOn, ItemsAll};
+ghost use Rattle.code_expressions.specs.Resuming.{itemDone, wordDone, callDone, callWords, isStop, lastCall, mannerBy, mannerNow, continues, endingWords, pastEnding, pastName, isFirst, stays, allDone, InItems, Innermost, ItemsOn, ItemsAll};
 
 // Where the writing of an expression stands: the tape's next word, the code's, the items so far, the open calls, and where p stands.
 pub struct Walk {
@@ -74,7 +74,7 @@ fn past_item(walk: Walk, size: usize, at: usize, depth: usize, stand: Stand) -> 
 
 fn write_character(tape: &[u32], code: &mut [u32], walk: Walk) -> Walk
     requires { ⌜ (getD (now tape) (walk .next) 0 < 256) × (walk .next < length (now tape)) × (walk .items < 128) × (walk .at < 2 ^ 61) ⌝ }
-    ensures { λ r. ⌜ Wrote (now (code .entry)) (walk .at) (word 8 (getD (now (tape .entry)) (walk .next) 0) 0 0 ∷ []) (now (code .exit)) (r .at) ⌝ }
+    ensures { λ r. ⌜ Wrote (now (code .entry)) (walk .at) (codeWord 8 (getD (now (tape .entry)) (walk .next) 0) 0 0 ∷ []) (now (code .exit)) (r .at) ⌝ }
     ensures { λ r. ⌜ r ≡ itemDone walk 0 (r .at) (walk .depth) (walk .stand) ⌝ }
 {
     let at = put_operands(code, walk.at, 8, word_at(tape, walk.next), 0, 0);
@@ -85,7 +85,7 @@ fn write_character(tape: &[u32], code: &mut [u32], walk: Walk) -> Walk
 fn write_value(tape: &[u32], names: &[usize], code: &mut [u32], walk: Walk) -> Walk
     requires { ⌜ (walk .next < length (now tape)) × (walk .items < 128) × (walk .at < 2 ^ 61) × (length (now names) ≤ 64) ⌝ }
     ensures { λ r. ⌜ Wrote (now (code .entry)) (walk .at)
-        (word 9 (numberAmong 0 (headNames (now (tape .entry)) (now (names .entry))) (headName (now (tape .entry)) (walk .next)) - 1) 0 0 ∷ []) (now (code .exit)) (r .at) ⌝ }
+        (codeWord 9 (numberAmong 0 (headNames (now (tape .entry)) (now (names .entry))) (headName (now (tape .entry)) (walk .next)) - 1) 0 0 ∷ []) (now (code .exit)) (r .at) ⌝ }
     ensures { λ r. ⌜ r ≡ itemDone walk (length (headName (now (tape .entry)) (walk .next))) (r .at) (walk .depth) (walk .stand) ⌝ }
 {
     let size = size_of(tape, walk.next);
@@ -123,7 +123,7 @@ fn write_part(tape: &[u32], m: Pattern, code: &mut [u32], walk: Walk) -> Walk
 
 fn open_call(tape: &[u32], calls: &mut [usize], code: &mut [u32], walk: Walk) -> Walk
     requires { ⌜ (walk .depth < length (now calls)) × (walk .next < length (now tape)) × (walk .items < 128) × (walk .at < 2 ^ 61) ⌝ }
-    ensures { λ r. ⌜ Wrote (now (code .entry)) (walk .at) (word 10 0 0 0 ∷ []) (now (code .exit)) (r .at) ⌝ }
+    ensures { λ r. ⌜ Wrote (now (code .entry)) (walk .at) (codeWord 10 0 0 0 ∷ []) (now (code .exit)) (r .at) ⌝ }
     ensures { λ r. ⌜ r ≡ itemDone walk (length (headName (now (tape .entry)) (walk .next))) (r .at) (walk .depth + 1) (walk .stand) ⌝ }
     ensures { λ r. ⌜ now (calls .exit) ≡ set (now (calls .entry)) (walk .depth) (walk .next) ⌝ }
 {
@@ -235,7 +235,7 @@ fn end_actions(lengths: Lengths, code: &mut [u32], walk: Walk) -> Walk
 }
 
 fn goes_on(manner: Manner) -> bool
-    ensures { λ r. ⌜ r ≡ goesOn manner ⌝ }
+    ensures { λ r. ⌜ r ≡ continues manner ⌝ }
 {
     match manner {
         Manner::Emits => true,
@@ -284,7 +284,7 @@ fn close_call(
     requires { ⌜ (length (now heads) ≤ 64) × (total lengths ≤ 64) × (walk .at < 2 ^ 61) ⌝ }
     ensures { λ r. ⌜ Wrote (now (code .entry)) (walk .at) (endingWords (now (tape .entry)) (now (heads .entry)) lengths (now (calls .entry)) next walk)
         (now (code .exit)) (r .at) ⌝ }
-    ensures { λ r. ⌜ r ≡ callDone walk next (r .at) (goesOn (mannerNow (now (tape .entry)) (now (calls .entry)) next walk)) ⌝ }
+    ensures { λ r. ⌜ r ≡ callDone walk next (r .at) (continues (mannerNow (now (tape .entry)) (now (calls .entry)) next walk)) ⌝ }
 {
     let manner = manner_now(tape, calls, next, walk);
     let head = calls[walk.depth - 1];
@@ -297,7 +297,7 @@ fn close_call(
 fn past_argument(tape: &[u32], calls: &[usize], next: usize, walk: Walk) -> Walk
     requires { ⌜ Innermost (now tape) (now calls) walk ⌝ }
     ensures { λ r. ⌜ r ≡ callDone walk next (walk .at)
-        (goesOn (mannerNow (now (tape .entry)) (now (calls .entry)) next walk)) ⌝ }
+        (continues (mannerNow (now (tape .entry)) (now (calls .entry)) next walk)) ⌝ }
 {
     let manner = manner_now(tape, calls, next, walk);
     past_call(walk, next, walk.at, goes_on(manner))

@@ -8,7 +8,7 @@ use Rattle.meaning.specs.Choice.{Name, Named, lookup, sameBytes}
 use Rattle.meaning.specs.Classes.{Class}
 use Rattle.meaning.specs.Tree.{Subject, ofSymbol, ofPart, Condition}
 use Rattle.meaning.specs.Instructions.{Site as MeantSite, fromStart, fromEnd, fromPlace, Test, predicate}
-use Rattle.meaning.specs.Translation.{siteOr, Bounds, between, partTest}
+use Rattle.meaning.specs.Translation.{siteOr, Bounds, fromTo, partTest}
 use Rattle.meaning.specs.Packing.{Words, testWord}
 use Rattle.tape_words.specs.declared.tape.Parts.{Parts}
 use Rattle.tape_words.specs.declared.tape.Parts.the-variants.{Zero, One, Two}
@@ -17,7 +17,7 @@ use Rattle.code_patterns.specs.declared.pattern.Pattern.{Pattern}
 use Rattle.code_patterns.specs.declared.symbols.Site.{Site}
 use Rattle.code_patterns.specs.declared.conditions.Conditions.{Conditions}
 use Rattle.tape_words.specs.Words.{headName, isConditionWord}
-use Rattle.code_patterns.specs.Scans.{Scan, scanned, conditionsIn}
+use Rattle.code_patterns.specs.Scans.{Scan, scanned, conditionsOnTape}
 use Rattle.code_words.specs.Writing.{Wrote, Same}
 use Rattle.code_patterns.specs.Measuring.{flag}
 use Rattle.code_patterns.specs.Testing.{AllSites, held, total}
@@ -46,10 +46,10 @@ cellOf register offset = record { register = register; offset = offset }
 
 -- the bounds of an e-variable's part, by how many there are, the templates' lengths, and whether it is the first
 abbrev pub boundsBy : Parts → Lengths → Bool → Bounds
-boundsBy Zero l first = between (fromStart 0) (fromStart 0)
-boundsBy One l first = between (fromStart (l .first)) (fromEnd (l .second))
-boundsBy Two l true = between (fromStart (l .first)) (fromPlace 0)
-boundsBy Two l false = between (fromPlace (l .second)) (fromEnd (l .third))
+boundsBy Zero l first = fromTo (fromStart 0) (fromStart 0)
+boundsBy One l first = fromTo (fromStart (l .first)) (fromEnd (l .second))
+boundsBy Two l true = fromTo (fromStart (l .first)) (fromPlace 0)
+boundsBy Two l false = fromTo (fromPlace (l .second)) (fromEnd (l .third))
 
 abbrev pub subjectTestBy : Located → Class → Bool → Subject → Test
 subjectTestBy known class expected (ofSymbol x) = predicate (siteOr (lookup x (known .sites))) class expected
@@ -68,7 +68,7 @@ conditionAt count (w ∷ ws) = isConditionWord count w
 
 -- the conditions that are still to come, and the words after them
 abbrev pub coming : Bool → List ℕ → Conditions → Scan (List Condition)
-coming true ws c = conditionsIn (c .count) 0 (drop (c .next) ws)
+coming true ws c = conditionsOnTape (c .count) 0 (drop (c .next) ws)
 coming false ws c = scanned [] (drop (c .next) ws)
 
 abbrev pub conditionWords : Located → Scan (List Condition) → Words
@@ -97,7 +97,7 @@ pub record ConditionsOn (ws : List ℕ) (known : Located) (code : List ℕ) (c :
 -- all conditions are written
 pub record ConditionsAll (ws : List ℕ) (known : Located) (start : ℕ) (code : List ℕ) (at : ℕ) (code′ : List ℕ)
     (r : Conditions) : Type 0 where
-  pub wrote : Wrote code at (conditionWords known (conditionsIn 0 0 (drop start ws))) code′ (r .at)
-  pub rest : drop (r .next) ws ≡ conditionsIn 0 0 (drop start ws) .rest
+  pub wrote : Wrote code at (conditionWords known (conditionsOnTape 0 0 (drop start ws))) code′ (r .at)
+  pub rest : drop (r .next) ws ≡ conditionsOnTape 0 0 (drop start ws) .rest
   pub next : r .next ≤ length ws
   pub grown : r .at ≤ at + 8

@@ -11,7 +11,7 @@ use Rattle.tape_words.specs.declared.tape.Parts.the-variants.{Zero, One, Two}
 use Rattle.code_patterns.specs.declared.pattern.Lengths.{Lengths}
 use Rattle.code_patterns.specs.declared.pattern.Pattern.{Pattern}
 use Rattle.tape_words.specs.Words.{headName}
-use Rattle.code_patterns.specs.Scans.{oneMore, patternIn, patternAt}
+use Rattle.code_patterns.specs.Scans.{oneMore, patternOnTape, patternAt}
 
 abbrev pub lengths : Parts → ℕ → ℕ → ℕ → Lengths
 lengths parts first second third = record { parts = parts; first = first; second = second; third = third }
@@ -23,10 +23,10 @@ lengthsOf (open₁ h x t) = lengths One (length h) (length t) 0
 lengthsOf (open₂ h x m y t) = lengths Two (length h) (length m) (length t)
 
 -- its first e-variable; `other` where it has none
-abbrev pub variableOf : Name → Shape → Name
-variableOf other (fixed t) = other
-variableOf other (open₁ h x t) = x
-variableOf other (open₂ h x m y t) = x
+abbrev pub firstPartOr : Name → Shape → Name
+firstPartOr other (fixed t) = other
+firstPartOr other (open₁ h x t) = x
+firstPartOr other (open₂ h x m y t) = x
 
 -- THE STEPS
 
@@ -92,7 +92,7 @@ measuredBy Two l (open₂ h x m y t) = l
 
 -- the first e-variable: known, or the first of the rest of the pattern
 abbrev pub variableBy : Parts → Name → Shape → Name
-variableBy Zero known s = variableOf known s
+variableBy Zero known s = firstPartOr known s
 variableBy One known s = known
 variableBy Two known s = known
 
@@ -104,7 +104,7 @@ pub record Measured : Type 0 where
 
 abbrev pub measuring : Bool → List ℕ → Pattern → Measured
 measuring true ws m =
-    let p = patternIn (m .letters) (m .lengths .parts) 0 (drop (m .next) ws) in
+    let p = patternOnTape (m .letters) (m .lengths .parts) 0 (drop (m .next) ws) in
     record {
       lengths = measuredBy (m .lengths .parts) (m .lengths) (shapeOf (p .value));
       variable = variableBy (m .lengths .parts) (headName ws (m .variable)) (shapeOf (p .value));
@@ -131,5 +131,5 @@ pub record Measures (ws : List ℕ) (m r : Pattern) : Type 0 where
 -- the whole pattern is measured
 pub record MeasuresAll (ws : List ℕ) (start : ℕ) (r : Pattern) : Type 0 where
   pub lengths : r .lengths ≡ lengthsOf (shapeOf (patternAt (drop start ws) .value))
-  pub variable : headName ws (r .variable) ≡ variableOf (headName ws start) (shapeOf (patternAt (drop start ws) .value))
+  pub variable : headName ws (r .variable) ≡ firstPartOr (headName ws start) (shapeOf (patternAt (drop start ws) .value))
   pub within : InPattern ws r

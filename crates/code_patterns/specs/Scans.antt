@@ -20,8 +20,8 @@ pub record Scan (A : Type 0) : Type 0 where
 abbrev pub scanned : {A : Type 0} → A → List ℕ → Scan A
 scanned a ws = record { value = a; rest = ws }
 
-abbrev pub andThen : {A : Type 0} → A → Scan (List A) → Scan (List A)
-andThen a s = record { value = a ∷ s .value; rest = s .rest }
+abbrev pub prepended : {A : Type 0} → A → Scan (List A) → Scan (List A)
+prepended a s = record { value = a ∷ s .value; rest = s .rest }
 
 -- THE PATTERN
 
@@ -32,19 +32,19 @@ oneMore Two = Two
 
 -- `next` reads on after so many letters and e-variables, so many words further on
 abbrev pub pieceBy : Piece → ℕ → Parts → ℕ → List ℕ → (ℕ → Parts → ℕ → Scan (List Element)) → Scan (List Element)
-pieceBy Character letters parts w ws next = andThen (letter (character w)) (next (letters + 1) parts 0)
-pieceBy SVariable letters parts w ws next = andThen (letter (symbol (take (carried w) ws))) (next (letters + 1) parts (carried w))
-pieceBy EVariable letters parts w ws next = andThen (part (take (carried w) ws)) (next letters (oneMore parts) (carried w))
+pieceBy Character letters parts w ws next = prepended (letter (character w)) (next (letters + 1) parts 0)
+pieceBy SVariable letters parts w ws next = prepended (letter (symbol (take (carried w) ws))) (next (letters + 1) parts (carried w))
+pieceBy EVariable letters parts w ws next = prepended (part (take (carried w) ws)) (next letters (oneMore parts) (carried w))
 pieceBy PatternEnd letters parts w ws next = scanned [] (w ∷ ws)
 
 -- the pattern after so many letters and e-variables; `skip` words are passed over first
-unfoldable pub patternIn : ℕ → Parts → ℕ → List ℕ → Scan (List Element)
-patternIn letters parts skip [] = scanned [] []
-patternIn letters parts (suc skip) (w ∷ ws) = patternIn letters parts skip ws
-patternIn letters parts zero (w ∷ ws) = pieceBy (pieceOf w letters parts) letters parts w ws (λ l p skip. patternIn l p skip ws)
+unfoldable pub patternOnTape : ℕ → Parts → ℕ → List ℕ → Scan (List Element)
+patternOnTape letters parts skip [] = scanned [] []
+patternOnTape letters parts (suc skip) (w ∷ ws) = patternOnTape letters parts skip ws
+patternOnTape letters parts zero (w ∷ ws) = pieceBy (pieceOf w letters parts) letters parts w ws (λ l p skip. patternOnTape l p skip ws)
 
 abbrev pub patternAt : List ℕ → Scan (List Element)
-patternAt ws = patternIn 0 Zero 0 ws
+patternAt ws = patternOnTape 0 Zero 0 ws
 
 -- THE CONDITIONS
 
@@ -65,10 +65,10 @@ abbrev pub conditionIn : ℕ → List ℕ → Condition
 conditionIn w ws = conditionOf (carried w) (take (carried w / 20) ws)
 
 abbrev pub conditionBy : Bool → ℕ → ℕ → List ℕ → (ℕ → ℕ → Scan (List Condition)) → Scan (List Condition)
-conditionBy true count w ws next = andThen (conditionIn w ws) (next (count + 1) (carried w / 20))
+conditionBy true count w ws next = prepended (conditionIn w ws) (next (count + 1) (carried w / 20))
 conditionBy false count w ws next = scanned [] (w ∷ ws)
 
-unfoldable pub conditionsIn : ℕ → ℕ → List ℕ → Scan (List Condition)
-conditionsIn count skip [] = scanned [] []
-conditionsIn count (suc skip) (w ∷ ws) = conditionsIn count skip ws
-conditionsIn count zero (w ∷ ws) = conditionBy (isConditionWord count w) count w ws (λ n skip. conditionsIn n skip ws)
+unfoldable pub conditionsOnTape : ℕ → ℕ → List ℕ → Scan (List Condition)
+conditionsOnTape count skip [] = scanned [] []
+conditionsOnTape count (suc skip) (w ∷ ws) = conditionsOnTape count skip ws
+conditionsOnTape count zero (w ∷ ws) = conditionBy (isConditionWord count w) count w ws (λ n skip. conditionsOnTape n skip ws)

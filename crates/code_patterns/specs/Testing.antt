@@ -16,7 +16,7 @@ use Rattle.code_patterns.specs.declared.pattern.Lengths.{Lengths}
 use Rattle.code_patterns.specs.declared.symbols.Site.{Site}
 use Rattle.code_patterns.specs.declared.tests.Tests.{Tests}
 use Rattle.tape_words.specs.Words.{headName}
-use Rattle.code_patterns.specs.Scans.{Scan, scanned, oneMore, patternIn, patternAt}
+use Rattle.code_patterns.specs.Scans.{Scan, scanned, oneMore, patternOnTape, patternAt}
 use Rattle.code_words.specs.Writing.{Wrote, Same}
 use Rattle.code_patterns.specs.Measuring.{flag}
 
@@ -88,7 +88,7 @@ startFrom sites = record { tests = []; sites = sites }
 -- what is still to be tested, and the words after the pattern
 abbrev pub testing : Bool → List ℕ → Lengths → List ℕ → List ℕ → Tests → Scan Tested
 testing true ws l names sites t =
-    let p = patternIn (t .letters) (t .parts) 0 (drop (t .next) ws) in
+    let p = patternOnTape (t .letters) (t .parts) 0 (drop (t .next) ws) in
     scanned (walk l (t .parts) (t .offset) (p .value) (startFrom (held ws names sites (t .symbols)))) (p .rest)
 testing false ws l names sites t = scanned (startFrom (held ws names sites (t .symbols))) (drop (t .next) ws)
 

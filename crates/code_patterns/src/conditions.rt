@@ -14,7 +14,7 @@ ghost use mathlib.Core.Path.{_≡_};
 ghost use mathlib.Core.Bool.{true};
 ghost use Prim.Native.Nat.{_+_, _*_, _/_, _%_, _≤_, _<_, _^_};
 ghost use lib.ListN.{length, take, drop};
-ghost use Rattle.meaning.specs.Packing.{word, testWord};
+ghost use Rattle.meaning.specs.Packing.{codeWord, testWord};
 ghost use Rattle.code_patterns.specs.Scans.{conditionOf};
 ghost use Rattle.code_patterns.specs.Conditioning.{located, Kept, conditionTestBy, conditionAt, conditionsDone, InConditions, ConditionsOn, ConditionsAll};
 
@@ -49,7 +49,7 @@ fn symbol_word(site: usize, carried: usize) -> usize
 fn part_word(from: Site, to: Site, carried: usize) -> usize
     requires { ⌜ (from .register ≤ 2) × (from .offset ≤ 64) × (to .register ≤ 2) × (to .offset ≤ 64) ⌝ }
     requires { ⌜ carried < 256 ⌝ }
-    ensures { λ r. ⌜ (r ≡ word 20 (from .register + 4 * to .register + 16 * (carried / 5 % 2) + 32 * (carried % 5))
+    ensures { λ r. ⌜ (r ≡ codeWord 20 (from .register + 4 * to .register + 16 * (carried / 5 % 2) + 32 * (carried % 5))
         (from .offset) (to .offset)) × (r < 2 ^ 32) ⌝ }
 {
     let truth = carried / 5 % 2;

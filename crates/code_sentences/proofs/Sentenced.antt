@@ -13,7 +13,7 @@ use Rattle.meaning.specs.Tree.{Function, Table}
 use Rattle.meaning.specs.Allowed.{namesOf, maxSentences}
 use Rattle.meaning.specs.Instructions.{store}
 use Rattle.meaning.specs.Translation.{Shape, fixed, open₁, open₂, Tested, conditionTest, metricOf, translatedSentences}
-use Rattle.meaning.specs.Packing.{Words, word, testWord, storeWord, packActions, metricWord, endWord, packSentences}
+use Rattle.meaning.specs.Packing.{Words, codeWord, testWord, storeWord, packActions, metricWord, endWord, packSentences}
 use Rattle.tape_words.specs.declared.tape.Parts.{Parts}
 use Rattle.tape_words.specs.declared.tape.Parts.the-variants.{Zero, One, Two}
 use Rattle.code_patterns.specs.declared.pattern.Lengths.{Lengths}
@@ -24,10 +24,10 @@ use Rattle.code_expressions.specs.declared.expression.Walk.{Walk}
 use Rattle.code_sentences.specs.declared.Body.{Body}
 use Rattle.code_sentences.specs.declared.Sentences.{Sentences}
 use Rattle.tape_words.specs.Words.{headName, headNames}
-use Rattle.code_sentences.specs.Trees.{isNextWord, conditionsAt, levelsAt, followedBy, sentencesIn}
-use Rattle.code_patterns.specs.Scans.{patternAt, conditionsIn}
+use Rattle.code_sentences.specs.Trees.{isNextWord, conditionsAt, levelsAt, followedBy, sentencesOnTape}
+use Rattle.code_patterns.specs.Scans.{patternAt, conditionsOnTape}
 use Rattle.code_words.specs.Writing.{Wrote, Same}
-use Rattle.code_patterns.specs.Measuring.{lengthsOf, variableOf, MeasuresAll}
+use Rattle.code_patterns.specs.Measuring.{lengthsOf, firstPartOr, MeasuresAll}
 use Rattle.code_patterns.specs.Testing.{AllSites, heldSites, held, storeOfSite, total, walk, startFrom, TestsAll}
 use Rattle.code_patterns.specs.Conditioning.{located, conditionWords, ConditionsAll}
 use Rattle.code_expressions.specs.Resuming.{Means, ItemsAll}
@@ -45,7 +45,7 @@ metric-small Zero = omega arith
 metric-small One = omega arith
 metric-small Two = omega arith
 
-pub metric-fits : (l : Lengths) (number : ℕ) → number ≡ metricNumber (l .parts) → total l ≤ 64 → word number (l .first) (l .second) (l .third) < 2 ^ 32
+pub metric-fits : (l : Lengths) (number : ℕ) → number ≡ metricNumber (l .parts) → total l ≤ 64 → codeWord number (l .first) (l .second) (l .third) < 2 ^ 32
 metric-fits l number e h = omega (arith, metric-small (l .parts))
 
 -- TESTS, CONDITIONS AND STORES
@@ -91,7 +91,7 @@ matched {ws} {names} {sites} {code} {code₂ = code₂} {m = m} {start} {at} {t 
     let lie : located ws m names sites n ≡ locatedIn (shapeAt l₀) (headName ws start) (testedAt l₀ .sites) =
     rw (measured .lengths, measured .variable, known) in
     let conditionTests = map (conditionTest (shapeAt l₀) (testedAt l₀ .sites)) cs in
-    let asked : conditionWords (located ws m names sites n) (conditionsIn 0 0 (drop (t .next) ws)) ≡ map testWord conditionTests =
+    let asked : conditionWords (located ws m names sites n) (conditionsOnTape 0 0 (drop (t .next) ws)) ≡ map testWord conditionTests =
     rw (lie, tests .rest) (ap (map testWord) (conditions-same (shapeAt l₀) (headName ws start) (testedAt l₀ .sites) cs)) in
     let kept : map storeOfSite (take n sites) ≡ map storeWord (storesAt l₀) =
     sym (stores-held ws (take n names) (take n sites) (symbols ∙ sym cells))
@@ -103,7 +103,7 @@ matched {ws} {names} {sites} {code} {code₂ = code₂} {m = m} {start} {at} {t 
       tests = omega (arith, tested .next, length-map (testsAt l₀) testWord);
       stores = sym cells ∙ sym (length-map (take n sites) storeOfSite) ∙ ap length kept ∙ length-map (storesAt l₀) storeWord;
       symbols = rw (← known) (held-names ws (take n names) (take n sites) (symbols ∙ sym cells));
-      rest = conditions .rest ∙ ap (λ (r : List ℕ). conditionsIn 0 0 r .rest) (tests .rest);
+      rest = conditions .rest ∙ ap (λ (r : List ℕ). conditionsOnTape 0 0 r .rest) (tests .rest);
       next = conditions .next;
       few = (omega (arith, tests .grown, conditions .grown), omega (arith, tests .within .symbols, tests .within .letters));
       grown = omega (arith, tests .grown, conditions .grown, stores .next, length-map (take n sites) storeOfSite, tests .within .symbols, tests .within .letters);
@@ -111,7 +111,7 @@ matched {ws} {names} {sites} {code} {code₂ = code₂} {m = m} {start} {at} {t 
 
 -- AND ACTIONS
 
-same-variable : (x other : Name) (s : Shape) → x ≡ variableOf other s → x ≡ variableOf x s
+same-variable : (x other : Name) (s : Shape) → x ≡ firstPartOr other s → x ≡ firstPartOr x s
 same-variable x other (fixed t) e = refl
 same-variable x other (open₁ h y t) e = e
 same-variable x other (open₂ h y m z t) e = e
@@ -156,17 +156,17 @@ body-ahead {ws} {heads} b = omega (arith, b .wrote (map named (headNames ws head
 
 -- THE WHOLE SENTENCE
 
-metric-word : (l : Lengths) (s : Shape) → l ≡ lengthsOf s → word (metricNumber (l .parts)) (l .first) (l .second) (l .third) ≡ metricWord (metricOf s)
+metric-word : (l : Lengths) (s : Shape) → l ≡ lengthsOf s → codeWord (metricNumber (l .parts)) (l .first) (l .second) (l .third) ≡ metricWord (metricOf s)
 metric-word l s e = rw e (by-shape s)
   where
-    by-shape : (s : Shape) → word (metricNumber (lengthsOf s .parts)) (lengthsOf s .first) (lengthsOf s .second) (lengthsOf s .third) ≡ metricWord (metricOf s)
+    by-shape : (s : Shape) → codeWord (metricNumber (lengthsOf s .parts)) (lengthsOf s .first) (lengthsOf s .second) (lengthsOf s .third) ≡ metricWord (metricOf s)
     by-shape (fixed t) = refl
     by-shape (open₁ h x t) = refl
     by-shape (open₂ h x m y t) = refl
 
 pub sentenced : {ws heads code code₁ code₂ code₃ : List ℕ} {start at counts next : ℕ} {m : Pattern} {b : Body}
     → MeasuresAll ws start m
-    → Wrote code at (word (metricNumber (m .lengths .parts)) (m .lengths .first) (m .lengths .second) (m .lengths .third) ∷ []) code₁ counts
+    → Wrote code at (codeWord (metricNumber (m .lengths .parts)) (m .lengths .first) (m .lengths .second) (m .lengths .third) ∷ []) code₁ counts
     → BodyAll ws heads start code₁ (counts + 1) code₂ b
     → Wrote code₂ counts ((b .tests + 256 * (b .symbols + 256 * (b .at - (counts + 1)))) ∷ []) code₃ next
     → SentenceAll ws heads start code at code₃ b
@@ -185,7 +185,7 @@ sentenced {ws} {start = start} {counts = counts} {m = m} {b} measured metric bod
 -- ANOTHER SENTENCE
 
 -- by the word at a place, 0 past the end
-pub follows-by-word : (ws : List ℕ) (i count : ℕ) {word : ℕ} {r : Bool} → count < 512 → word ≡ getD ws i 0 → r ≡ isNextWord word
+pub follows-by-word : (ws : List ℕ) (i count : ℕ) {codeWord : ℕ} {r : Bool} → count < 512 → codeWord ≡ getD ws i 0 → r ≡ isNextWord codeWord
     → r ≡ followsAt (leb 512 count) (drop i ws)
 follows-by-word ws i count h e f =
     f ∙ rw (e, lt-leb 512 count h) (by-place ws i (λ k. rw (at-place ws i k)) (λ k. rw (drop-of-length-le ws k, List·getD-eq-default ws 0 k)))
@@ -199,18 +199,18 @@ follows-inside ws i false e =
 module _ (t : Table) (recoverer : ℕ) (ws : List ℕ) where
   -- the words after a sentence, where the tape goes on at `i`
   abbrev wordsAfter : ℕ → ℕ → Words
-  wordsAfter i left = packSentences (translatedSentences t recoverer (followedBy (drop i ws) (λ r. sentencesIn left r)))
+  wordsAfter i left = packSentences (translatedSentences t recoverer (followedBy (drop i ws) (λ r. sentencesOnTape left r)))
 
   -- the same by whether another follows
   abbrev wordsBy : ℕ → ℕ → Bool → Words
-  wordsBy i left more = pick more (packSentences (translatedSentences t recoverer (sentencesIn left (drop (i + 1) ws)))) (endWord recoverer ∷ [])
+  wordsBy i left more = pick more (packSentences (translatedSentences t recoverer (sentencesOnTape left (drop (i + 1) ws)))) (endWord recoverer ∷ [])
 
   after-sentence : (i left : ℕ) (full more : Bool) → (full ≡ true → left ≡ 0) → followsAt full (drop i ws) ≡ more → wordsAfter i left ≡ wordsBy i left more
-  unfolding packSentences translatedSentences sentencesIn
+  unfolding packSentences translatedSentences sentencesOnTape
   after-sentence i left full more h e = by-place ws i here there
     where
       by-word : (full more b : Bool) → (full ≡ true → left ≡ 0) → pick full false b ≡ more
-          → packSentences (translatedSentences t recoverer (pick b (sentencesIn left (drop (i + 1) ws)) [])) ≡ wordsBy i left more
+          → packSentences (translatedSentences t recoverer (pick b (sentencesOnTape left (drop (i + 1) ws)) [])) ≡ wordsBy i left more
       by-word true more true h e = rw (← e, h refl)
       by-word true more false h e = rw (← e)
       by-word false more true h e = rw (← e)
@@ -226,7 +226,7 @@ module _ (t : Table) (recoverer : ℕ) (ws : List ℕ) where
   sentence-first : (s : Sentences) (b : Body) (more : Bool) → s .count < 512 → drop (b .next) ws ≡ levelsAt (drop (s .next) ws) .rest
       → followsAt (leb 512 (s .count + 1)) (drop (b .next) ws) ≡ more
       → sentencesLeft true t recoverer ws s ≡ sentenceAt t (drop (s .next) ws) ++ sentencesLeft more t recoverer ws (sentenceDone more s b)
-  unfolding packSentences translatedSentences sentencesIn
+  unfolding packSentences translatedSentences sentencesOnTape
   sentence-first s b more h rest e =
       let left = 512 - (s .count + 1) in
       let one : 512 - s .count ≡ suc left = omega arith in
@@ -260,7 +260,7 @@ sentence-on more {ws} {code = code} {s = s} {b} h all is e =
 -- what is written so far and what is still to be written are the whole function's words
 pub record SentencesSoFar (ws heads : List ℕ) (start recoverer : ℕ) (code₀ code : List ℕ) (s : Sentences) : Type 0 where
   pub same : (t : Table) → namesOf t ≡ headNames ws heads
-      → Same code₀ 0 (packSentences (translatedSentences t recoverer (sentencesIn maxSentences (drop start ws)))) code (s .at)
+      → Same code₀ 0 (packSentences (translatedSentences t recoverer (sentencesOnTape maxSentences (drop start ws)))) code (s .at)
       (sentencesLeft (s .more) t recoverer ws s)
   pub within : InSentences ws s
   pub grown : s .at ≤ 35000 * s .count

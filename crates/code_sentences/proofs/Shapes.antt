@@ -8,12 +8,12 @@ use Rattle.meaning.specs.Choice.{Name, Named, pick, sameBytes}
 use Rattle.meaning.specs.Classes.{Class}
 use Rattle.meaning.specs.Tree.{Letter, Element, letter, part, Subject, ofSymbol, ofPart, Condition}
 use Rattle.meaning.specs.Instructions.{Site, fromStart, fromEnd, fromPlace}
-use Rattle.meaning.specs.Translation.{Shape, fixed, open₁, open₂, withLetter, cutAt, shapeOf, Tested, testedLetter, testedTemplate, untested, testedShape, Bounds, between, boundsOf, partTest, subjectTest, conditionTest}
+use Rattle.meaning.specs.Translation.{Shape, fixed, open₁, open₂, withLetter, cutAt, shapeOf, Tested, testedLetter, testedTemplate, untested, testedShape, Bounds, fromTo, boundsOf, partTest, subjectTest, conditionTest}
 use Rattle.tape_words.specs.declared.tape.Parts.{Parts}
 use Rattle.tape_words.specs.declared.tape.Parts.the-variants.{Zero, One, Two}
 use Rattle.code_patterns.specs.declared.pattern.Lengths.{Lengths}
 use Rattle.code_patterns.specs.Scans.{oneMore, patternAt}
-use Rattle.code_patterns.specs.Measuring.{lengthsOf, variableOf}
+use Rattle.code_patterns.specs.Measuring.{lengthsOf, firstPartOr}
 use Rattle.code_patterns.specs.Testing.{siteAt, walk, startFrom}
 use Rattle.code_patterns.specs.Conditioning.{Located, boundsBy, subjectTestBy, conditionTestBy}
 use Rattle.code_patterns.proofs.laws.Scanning.{Fits, AtMost, at-most-later, pattern-at-most, at-most-fits}
@@ -70,19 +70,19 @@ walk-all ws =
 -- CONDITIONS
 
 -- the bounds of a part, by whether it is the pattern's first
-bounds-same : (s : Shape) (x other : Name) → boundsBy (lengthsOf s .parts) (lengthsOf s) (sameBytes x (variableOf other s)) ≡ boundsOf s x
+bounds-same : (s : Shape) (x other : Name) → boundsBy (lengthsOf s .parts) (lengthsOf s) (sameBytes x (firstPartOr other s)) ≡ boundsOf s x
 bounds-same (fixed t) x other = refl
 bounds-same (open₁ h y t) x other = refl
 bounds-same (open₂ h y m z t) x other = by-first (lengthsOf (open₂ h y m z t)) (sameBytes x y)
   where
     by-first : (l : Lengths) (first : Bool)
-        → boundsBy Two l first ≡ pick first (between (fromStart (l .first)) (fromPlace 0)) (between (fromPlace (l .second)) (fromEnd (l .third)))
+        → boundsBy Two l first ≡ pick first (fromTo (fromStart (l .first)) (fromPlace 0)) (fromTo (fromPlace (l .second)) (fromEnd (l .third)))
     by-first l true = refl
     by-first l false = refl
 
 -- where a shape's variables lie; `other` stands for the first e-variable where it has none
 abbrev pub locatedIn : Shape → Name → List (Named Site) → Located
-locatedIn s other sites = record { lengths = lengthsOf s; variable = variableOf other s; sites = sites }
+locatedIn s other sites = record { lengths = lengthsOf s; variable = firstPartOr other s; sites = sites }
 
 module _ (s : Shape) (other : Name) (sites : List (Named Site)) where
   subject-same : (class : Class) (expected : Bool) (v : Subject)

@@ -15,7 +15,7 @@ use Rattle.tape_words.specs.declared.tape.Parts.the-variants.{Zero, One, Two}
 use Rattle.code_sentences.specs.declared.Body.{Body}
 use Rattle.code_sentences.specs.declared.Sentences.{Sentences}
 use Rattle.tape_words.specs.Words.{headNames}
-use Rattle.code_sentences.specs.Trees.{isNextWord, conditionsAt, levelsAt, sentencesIn}
+use Rattle.code_sentences.specs.Trees.{isNextWord, conditionsAt, levelsAt, sentencesOnTape}
 use Rattle.code_patterns.specs.Scans.{patternAt}
 use Rattle.code_words.specs.Writing.{Wrote, Same}
 use Rattle.code_patterns.specs.Measuring.{flag}
@@ -98,7 +98,7 @@ sentenceDone more s b = record { count = s .count + 1; next = pastNext more (b .
 -- the words still to come, of a function that another recovers
 abbrev pub sentencesLeft : Bool → Table → ℕ → List ℕ → Sentences → Words
 sentencesLeft true t recoverer ws s =
-    packSentences (translatedSentences t recoverer (sentencesIn (maxSentences - s .count) (drop (s .next) ws)))
+    packSentences (translatedSentences t recoverer (sentencesOnTape (maxSentences - s .count) (drop (s .next) ws)))
 sentencesLeft false t recoverer ws s = endWord recoverer ∷ []
 
 pub record InSentences (ws : List ℕ) (s : Sentences) : Type 0 where
@@ -116,6 +116,6 @@ pub record SentencesOn (ws heads code : List ℕ) (s : Sentences) (code′ : Lis
 -- all sentences are written, from the start of what is lent
 pub record FunctionAll (ws heads : List ℕ) (start recoverer : ℕ) (code code′ : List ℕ) (r : ℕ) : Type 0 where
   pub wrote : (t : Table) → namesOf t ≡ headNames ws heads
-      → Wrote code 0 (packSentences (translatedSentences t recoverer (sentencesIn maxSentences (drop start ws))))
+      → Wrote code 0 (packSentences (translatedSentences t recoverer (sentencesOnTape maxSentences (drop start ws))))
       code′ r
   pub grown : r ≤ 17920001

@@ -8,20 +8,20 @@ use Rattle.meaning.specs.Choice.{pick}
 use Rattle.meaning.specs.Tree.{Condition, Sentence, Function, Table}
 use Rattle.meaning.specs.Allowed.{maxFunctions, maxSentences}
 use Rattle.tape_words.specs.Words.{carried}
-use Rattle.code_patterns.specs.Scans.{Scan, patternAt, conditionsIn}
+use Rattle.code_patterns.specs.Scans.{Scan, patternAt, conditionsOnTape}
 use Rattle.code_expressions.specs.Levels.{Levels, levelsIn}
 
 -- A SENTENCE
 
 abbrev pub conditionsAt : List ℕ → Scan (List Condition)
-conditionsAt ws = conditionsIn 0 0 (patternAt ws .rest)
+conditionsAt ws = conditionsOnTape 0 0 (patternAt ws .rest)
 
 -- the expression begins after one word more, `=` in a tape
 abbrev pub levelsAt : List ℕ → Levels
 levelsAt ws = levelsIn 0 0 0 (drop 1 (conditionsAt ws .rest))
 
-abbrev pub sentenceIn : List ℕ → Sentence
-sentenceIn ws =
+abbrev pub sentenceOnTape : List ℕ → Sentence
+sentenceOnTape ws =
     record { pattern = patternAt ws .value; conditions = conditionsAt ws .value; expression = levelsAt ws .current }
 
 -- SENTENCES, FUNCTIONS, THE TABLE
@@ -36,22 +36,22 @@ followedBy [] next = []
 followedBy (w ∷ ws) next = let later = next ws in pick (isNextWord w) later []
 
 -- the sentences, so many at most
-unfoldable pub sentencesIn : ℕ → List ℕ → List Sentence
-sentencesIn zero ws = []
-sentencesIn (suc left) ws = sentenceIn ws ∷ followedBy (levelsAt ws .rest) (λ r. sentencesIn left r)
+unfoldable pub sentencesOnTape : ℕ → List ℕ → List Sentence
+sentencesOnTape zero ws = []
+sentencesOnTape (suc left) ws = sentenceOnTape ws ∷ followedBy (levelsAt ws .rest) (λ r. sentencesOnTape left r)
 
 -- a function's word
 abbrev pub isFunctionWord : ℕ → Bool
 isFunctionWord w = pick (ltb w 2048) false (ltb w 2304)
 
 -- the words from each function's word on
-unfoldable pub functionsIn : List ℕ → List (List ℕ)
-functionsIn [] = []
-functionsIn (w ∷ ws) = let later = functionsIn ws in pick (isFunctionWord w) ((w ∷ ws) ∷ later) later
+unfoldable pub functionsOnTape : List ℕ → List (List ℕ)
+functionsOnTape [] = []
+functionsOnTape (w ∷ ws) = let later = functionsOnTape ws in pick (isFunctionWord w) ((w ∷ ws) ∷ later) later
 
-abbrev pub functionIn : List ℕ → Function
-functionIn [] = record { name = []; sentences = [] }
-functionIn (w ∷ ws) = record { name = take (carried w) ws; sentences = sentencesIn maxSentences (drop (carried w) ws) }
+abbrev pub functionOnTape : List ℕ → Function
+functionOnTape [] = record { name = []; sentences = [] }
+functionOnTape (w ∷ ws) = record { name = take (carried w) ws; sentences = sentencesOnTape maxSentences (drop (carried w) ws) }
 
 abbrev pub treeOf : List ℕ → Table
-treeOf ws = map functionIn (take maxFunctions (functionsIn ws))
+treeOf ws = map functionOnTape (take maxFunctions (functionsOnTape ws))

@@ -17,7 +17,7 @@ ghost use mathlib.Core.List.{[], _∷_};
 ghost use Prim.Native.Nat.{_+_, _≤_, _<_, _^_};
 ghost use lib.Dec.{leb};
 ghost use lib.ListN.{length, drop};
-ghost use Rattle.meaning.specs.Packing.{word};
+ghost use Rattle.meaning.specs.Packing.{codeWord};
 ghost use Rattle.code_words.specs.Writing.{Wrote};
 ghost use Rattle.code_patterns.specs.Measuring.{MeasuresAll};
 ghost use Rattle.code_patterns.specs.Testing.{total, AllSites};
@@ -51,7 +51,7 @@ fn metric_number(parts: Parts) -> usize
 
 fn put_metric(lengths: Lengths, code: &mut [u32], at: usize) -> usize
     requires { ⌜ (total lengths ≤ 64) × (at < 2 ^ 62) ⌝ }
-    ensures { λ r. ⌜ Wrote (now (code .entry)) at (word (metricNumber (lengths .parts)) (lengths .first) (lengths .second) (lengths .third) ∷ []) (now (code .exit)) r ⌝ }
+    ensures { λ r. ⌜ Wrote (now (code .entry)) at (codeWord (metricNumber (lengths .parts)) (lengths .first) (lengths .second) (lengths .third) ∷ []) (now (code .exit)) r ⌝ }
 {
     let parts = lengths.parts;
     let number = metric_number(parts);

@@ -4,7 +4,7 @@ ghost use mathlib.Core.Path.{_≡_};
 ghost use mathlib.Core.List.{[], _∷_};
 ghost use Prim.Native.Nat.{_+_, _≤_, _<_, _^_};
 ghost use lib.ListN.{length, take, drop};
-ghost use Rattle.meaning.specs.Packing.{word};
+ghost use Rattle.meaning.specs.Packing.{codeWord};
 ghost use Rattle.code_words.specs.Writing.{clearedFrom, Wrote};
 
 // Every word from a place on is 0.
@@ -37,8 +37,8 @@ pub fn put_operands(
     b: usize,
     c: usize,
 ) -> usize
-    requires { ⌜ (word number a b c < 2 ^ 32) × (at < 2 ^ 62) ⌝ }
-    ensures { λ r. ⌜ Wrote (now (code .entry)) at (word number a b c ∷ []) (now (code .exit)) r ⌝ }
+    requires { ⌜ (codeWord number a b c < 2 ^ 32) × (at < 2 ^ 62) ⌝ }
+    ensures { λ r. ⌜ Wrote (now (code .entry)) at (codeWord number a b c ∷ []) (now (code .exit)) r ⌝ }
 {
     put(code, at, number + 256 * (a + 256 * (b + 256 * c)))
 }

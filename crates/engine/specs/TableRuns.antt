@@ -11,8 +11,8 @@ use Rattle.meaning.specs.Tree.{Table}
 use Rattle.meaning.specs.Reading.{Read, accepted, refused}
 use Rattle.meaning.specs.Translation.{translate}
 use Rattle.meaning.specs.Packing.{Words, pack}
-use Rattle.meaning.specs.Leaving.{Cells, Leaving, zeros, padded, left, roomOf}
-use Rattle.meaning.specs.Leaving.{refused as unrun}
+use Rattle.meaning.specs.Leaving.{Cells, Leaving, zeros, padded, afterRun, roomOf}
+use Rattle.meaning.specs.Leaving.{refusedRun as unrun}
 use Rattle.meaning.specs.Entries.{runAnswer}
 use Rattle.meaning.specs.Demanded.{demanded}
 use Rattle.engine.specs.declared.Report.{Report}
@@ -30,7 +30,7 @@ hasFunction t start = both (ltb 0 start) (leb start (length t))
 -- 9, then 10, and else demand 3: rewriting's outcome where the run without end keeps within what is lent, or the first room that it passes
 abbrev pub tableLeaving : Table → ℕ → Bytes → Cells → ℕ → Leaving
 tableLeaving t start text cells allowance =
-    let ran = left (demanded (roomOf cells) t start text allowance) cells in
+    let ran = afterRun (demanded (roomOf cells) t start text allowance) cells in
     let fitting = pick (leb (length text) (length (cells .stackIn))) ran (unrun textTooLong cells) in
     pick (hasFunction t start) fitting (unrun noSuchStart cells)
 

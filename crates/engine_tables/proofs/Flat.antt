@@ -12,7 +12,7 @@ use Rattle.meaning.specs.Flat.{nestedIn, leftmost}
 use Rattle.meaning.specs.Entries.{answered, readAnswer, flatness, flatAnswer}
 use Rattle.tape_flatness.specs.declared.Place.{Place}
 use Rattle.tape_flatness.specs.declared.Place.the-variants.{At, Nowhere}
-use Rattle.tape_flatness.specs.Scanned.{placed, scanned, nestedCall}
+use Rattle.tape_flatness.specs.Scanned.{placed, scannedCalls, nestedCall}
 use Rattle.tape_flatness.proofs.Traced.{tape-traced}
 use Rattle.read_table.specs.declared.Reading.{Reading}
 use Rattle.read_table.specs.Reads.{treeTape, Reads}
@@ -29,7 +29,7 @@ is-nowhere none functions e = refl
 is-nowhere (some place) functions e = let z : _≡_ {A = ℕ} 0 1 = cc in absurd (omega arith)
 
 tape-nested : (x : Read) → Known x → (place : ℕ) → nestedCall (treeTape x) ≡ At place → answered notTailCall place 0 ≡ flatAnswer x
-unfolding scanned
+unfolding scannedCalls
 tape-nested (accepted t) known place e = is-there (leftmost (nestedIn t)) place (length t) (sym (tape-traced t known) ∙ e)
 tape-nested (refused number at) known place e = let z : _≡_ {A = ℕ} 0 1 = cc in absurd (omega arith)
 

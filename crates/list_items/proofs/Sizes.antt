@@ -9,12 +9,12 @@ use Rattle.meaning.specs.Classes.{className, digit, upper, lower, alphabetic, b
 use Rattle.list_strings.specs.declared.State.{State}
 use Rattle.list_strings.specs.Steps.{isQuoted}
 use Rattle.list_strings.proofs.Sizes.{pick-size, gap-size}
-use Rattle.list_items.specs.Steps.{ending, parting, classText, letterText}
+use Rattle.list_items.specs.Steps.{ending, separator, classText, letterText}
 
 pub ending-size : (s : State) → length (ending s) ≤ 1
 ending-size s = pick-size (isQuoted s) (39 ∷ []) [] (omega arith) (omega arith)
 
-pub parting-size : (s : State) → length (parting s) ≤ 2
+pub parting-size : (s : State) → length (separator s) ≤ 2
 parting-size s = rw length-append (omega (arith, ending-size s, gap-size s))
 
 pub letter-size : (bit : ℕ) → length (letterText bit) ≤ 2

@@ -12,8 +12,8 @@ use Rattle.list_strings.specs.Steps.{Step, step, isQuoted, gap}
 abbrev pub ending : State → Bytes
 ending s = pick (isQuoted s) (39 ∷ []) []
 
-abbrev pub parting : State → Bytes
-parting s = ending s ++ gap s
+abbrev pub separator : State → Bytes
+separator s = ending s ++ gap s
 
 -- a class's name by its number
 abbrev pub classText : ℕ → Bytes
@@ -41,7 +41,7 @@ conditionStep s carried =
 
 -- a byte after the blank between items
 abbrev pub partedStep : State → ℕ → State → Step
-partedStep s b after = step (parting s ++ b ∷ []) after
+partedStep s b after = step (separator s ++ b ∷ []) after
 
 -- bytes right after an item
 abbrev pub endedStep : State → Bytes → State → Step

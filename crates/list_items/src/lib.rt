@@ -10,7 +10,7 @@ ghost use Prim.Native.Nat.{_+_, _<_};
 ghost use lib.ListN.{length};
 ghost use Rattle.byte_writing.specs.Put.{Put, farthest};
 ghost use Rattle.list_strings.specs.Steps.{Wrote};
-ghost use Rattle.list_items.specs.Steps.{ending, parting, classText, letterText, truthText, conditionStep, partedStep, endedStep};
+ghost use Rattle.list_items.specs.Steps.{ending, separator, classText, letterText, truthText, conditionStep, partedStep, endedStep};
 
 // The closing quote, where a string is open.
 fn put_ending(state: State, out: &mut [u8], at: usize) -> usize
@@ -26,7 +26,7 @@ fn put_ending(state: State, out: &mut [u8], at: usize) -> usize
 // What stands between two items.
 fn put_parting(state: State, out: &mut [u8], at: usize) -> usize
     requires { ⌜ at + 1 < farthest ⌝ }
-    ensures { λ r. ⌜ Put at (now (out .entry)) (parting state) r (now (out .exit)) ⌝ }
+    ensures { λ r. ⌜ Put at (now (out .entry)) (separator state) r (now (out .exit)) ⌝ }
 {
     let next = put_ending(state, out, at);
     put_gap(state, out, next)

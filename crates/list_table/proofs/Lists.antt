@@ -22,7 +22,7 @@ use Rattle.meaning_accepting.proofs.roundtrip.Legible.{legible}
 use Rattle.list_strings.specs.declared.State.{State}
 use Rattle.list_strings.specs.declared.State.the-variants.{Start, Plain, InString, AfterCode, Name as NameLeft, Condition as ConditionLeft, Header}
 use Rattle.list_strings.specs.Steps.{Step, step, characterStep}
-use Rattle.list_items.specs.Steps.{ending, parting, classText, letterText, truthText, partedStep, endedStep}
+use Rattle.list_items.specs.Steps.{ending, separator, classText, letterText, truthText, partedStep, endedStep}
 use Rattle.list_table.specs.Words.{kindStep, itemStep, copyStep, wordStep, listFrom}
 use Rattle.list_table.proofs.Stepping.{others, other-kind}
 use Rattle.list_table.proofs.Spelled.{Short, short-name, short-identifier, identifierOf, spelledVariable, Written, sentence-written}
@@ -74,8 +74,8 @@ ended-follows w bytes t is ws =
 -- a byte after the blank between items
 parted-follows : (w b : ℕ) (t : State) → ((s : State) → itemStep s w ≡ partedStep s b t) → (ws : List ℕ) → Follows (w ∷ ws) (32 ∷ b ∷ listFrom t ws)
 parted-follows w b t is ws =
-    word-follows w ws (λ s. parting s ++ b ∷ []) t _ is
-    (by-quoted (λ q. (parting (standing q) ++ b ∷ []) ++ listFrom t ws ≡ closeQuote q ++ (32 ∷ b ∷ listFrom t ws)) refl refl refl)
+    word-follows w ws (λ s. separator s ++ b ∷ []) t _ is
+    (by-quoted (λ q. (separator (standing q) ++ b ∷ []) ++ listFrom t ws ≡ closeQuote q ++ (32 ∷ b ∷ listFrom t ws)) refl refl refl)
 
 equals-follows : (ws : List ℕ) → Follows (tapeWord equalsKind 0 ∷ ws) (32 ∷ 61 ∷ listFrom Plain ws)
 equals-follows = parted-follows (tapeWord equalsKind 0) 61 Plain (λ s. refl)

@@ -33,8 +33,8 @@ cutAfter b [] = []
 cutAfter b (c ∷ cs) = pick (eqb c b) cs (cutAfter b cs)
 
 -- a number of so many digits, from the first count to the second, and up to the greatest
-abbrev pub numberIn : ℕ → ℕ → ℕ → Bytes → Option ℕ
-numberIn least most greatest ds =
+abbrev pub numeralIn : ℕ → ℕ → ℕ → Bytes → Option ℕ
+numeralIn least most greatest ds =
     guard (both (within least most (length ds)) (both (every (inClass digit) ds) (leb (numeralFrom 0 ds) greatest)))
     (some (numeralFrom 0 ds))
 
@@ -45,7 +45,7 @@ minutesOf none m = none
 
 -- degrees and minutes in minutes
 abbrev pub sizeIn : Bytes → Option ℕ
-sizeIn text = minutesOf (numberIn 1 3 359 (cutBefore 58 text)) (numberIn 2 2 59 (cutAfter 58 text))
+sizeIn text = minutesOf (numeralIn 1 3 359 (cutBefore 58 text)) (numeralIn 2 2 59 (cutAfter 58 text))
 
 abbrev pub signed : Bool → ℕ → ℤ
 signed true n = negℤ (pos n)

@@ -6,7 +6,7 @@ use Rattle.meaning.specs.Choice.{Named}
 use Rattle.meaning.specs.Tree.{Expression, end, thenCharacter, thenSymbol, thenPart, thenCall, Sentence, Function, Table}
 use Rattle.meaning.specs.Names.{numberOf, recovererOf}
 use Rattle.meaning.specs.Instructions.{Site, Action, go, select, out, outC, outV, beginSeq, Sentences, noMore, sentence, Code}
-use Rattle.meaning.specs.Translation.{Shape, shapeOf, metricOf, testedShape, testsOf, storesOf, valueNumber, Stand, atStart, passage, Level, outermost, inside, mannerOf, calling, passesRest}
+use Rattle.meaning.specs.Translation.{Shape, shapeOf, metricOf, testedShape, testsOf, storesOf, valueNumber, Stand, atStart, passage, Level, outermost, inArgument, mannerOf, calling, passesRest}
 
 module _ (table : Table) (shape : Shape) (sites : List (Named Site)) where
   unfoldable pub earlierItems : Level → Expression → Stand → (Stand → List Action) → List Action
@@ -18,7 +18,7 @@ module _ (table : Table) (shape : Shape) (sites : List (Named Site)) where
       go (way .gap) ∷ select (way .piece) ∷ out ∷ earlierItems level e (way .after) rest
   earlierItems level (thenCall place n a e) w rest =
       beginSeq ∷
-      earlierItems inside a w
+      earlierItems inArgument a w
       (λ w₁. let more = earlierItems level e w₁ rest in calling shape (mannerOf level e n) (numberOf table n) n w₁ more)
 
 unfoldable pub earlierSentences : Table → ℕ → List Sentence → Sentences
@@ -32,5 +32,5 @@ earlierSentences table r (s ∷ ss) =
 abbrev pub earlierFunction : Table → Function → Sentences
 earlierFunction table f = earlierSentences table (recovererOf table (f .name)) (f .sentences)
 
-abbrev pub earlier : Table → Code
-earlier table = map (earlierFunction table) table
+abbrev pub earlierTranslation : Table → Code
+earlierTranslation table = map (earlierFunction table) table

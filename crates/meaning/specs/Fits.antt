@@ -30,5 +30,5 @@ filled bound [] = some []
 filled bound (e ∷ es) = joined (standsFor bound e) (filled bound es)
 
 pub record Fits (pattern : List Element) (conditions : List Condition) (text : Bytes) (bound : Bindings) : Type 0 where
-  pub whole : filled bound pattern ≡ some text
+  pub fills : filled bound pattern ≡ some text
   pub holds : hold conditions bound ≡ true

@@ -7,7 +7,7 @@ use mathlib.Core.List.{List, [], _∷_, _++_}
 use mathlib.Core.Option.{Option, none, some}
 use Rattle.meaning.specs.Choice.{isSome}
 use Rattle.meaning.specs.Tree.{Expression, end, thenCharacter, thenSymbol, thenPart, thenCall, Sentence, Table}
-use Rattle.meaning.specs.Translation.{Manner, emits, computes, replaces, nests, Level, outermost, inside, mannerOf}
+use Rattle.meaning.specs.Translation.{Manner, emits, computes, replaces, nests, Level, outermost, inArgument, mannerOf}
 
 -- a call's place, where it is done in a frame of its own, and those of others
 abbrev pub nestedAt : Manner → ℕ → List ℕ → List ℕ
@@ -23,7 +23,7 @@ nestedCalls level (thenCharacter c e) = nestedCalls level e
 nestedCalls level (thenSymbol x e) = nestedCalls level e
 nestedCalls level (thenPart x e) = nestedCalls level e
 nestedCalls level (thenCall place n a e) =
-    nestedAt (mannerOf level e n) place (nestedCalls inside a ++ nestedCalls level e)
+    nestedAt (mannerOf level e n) place (nestedCalls inArgument a ++ nestedCalls level e)
 
 unfoldable pub nestedSentences : List Sentence → List ℕ
 nestedSentences [] = []

@@ -115,9 +115,9 @@ pub data IsConditions : List Placed → List Condition → List Placed → Type 
 -- EXPRESSIONS
 
 -- the characters of a string in an expression
-unfoldable pub written : Bytes → Expression → Expression
-written [] e = e
-written (c ∷ text) e = thenCharacter c (written text e)
+unfoldable pub thenCharacters : Bytes → Expression → Expression
+thenCharacters [] e = e
+thenCharacters (c ∷ text) e = thenCharacter c (thenCharacters text e)
 
 -- "Выражение = {Строка | s-Переменная | е-Переменная | ВызовФункции}" and "ВызовФункции = "<" ИмяФункции Выражение ">"": a call has the place of
 -- its name
@@ -125,7 +125,7 @@ pub data IsExpression : List Placed → Expression → List Placed → Type 0 wh
   noItems : {ts : List Placed} → IsExpression ts end ts
   stringThen : {ts rest : List Placed} {place past : ℕ} {text : Bytes} {e : Expression}
       → IsExpression ts e rest
-      → IsExpression (standing (quoted text) place past ∷ ts) (written text e) rest
+      → IsExpression (standing (quoted text) place past ∷ ts) (thenCharacters text e) rest
   symbolThen : {ts rest : List Placed} {place past b : ℕ} {x : Bytes} {e : Expression}
       → IsExpression ts e rest
       → IsExpression (standing (symbolWord b x) place past ∷ ts) (thenSymbol (b ∷ x) e) rest

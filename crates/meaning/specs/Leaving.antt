@@ -39,12 +39,12 @@ abbrev pub over : Bytes → Bytes → Bytes
 over bytes old = bytes ++ drop (length bytes) old
 
 -- "9 precedes 10; 18 in the function table precedes both and changes nothing, as they do"
-abbrev pub refused : ℕ → Cells → Leaving
-refused answer cells = record { result = told answer 0 [] (fresh 0); cells = cells }
+abbrev pub refusedRun : ℕ → Cells → Leaving
+refusedRun answer cells = record { result = told answer 0 [] (fresh 0); cells = cells }
 
 -- "After every run in is zero, and out is the result with zeros after it, or all zero if the answer isn't 0. Record bytes past the emissions are unchanged"
-abbrev pub left : Result → Cells → Leaving
-left r cells =
+abbrev pub afterRun : Result → Cells → Leaving
+afterRun r cells =
     record {
       result = r;
       cells =
@@ -65,11 +65,11 @@ roomOf cells =
     }
 
 abbrev pub leavingCode : Option Code → ℕ → Bytes → Cells → ℕ → Leaving
-leavingCode none start text cells allowance = refused noInstruction cells
+leavingCode none start text cells allowance = refusedRun noInstruction cells
 leavingCode (some code) start text cells allowance =
-    let ran = left (runLent (roomOf cells) code start text allowance) cells in
-    let fitting = pick (leb (length text) (length (cells .stackIn))) ran (refused textTooLong cells) in
-    pick (isDeclared code start) fitting (refused noSuchStart cells)
+    let ran = afterRun (runLent (roomOf cells) code start text allowance) cells in
+    let fitting = pick (leb (length text) (length (cells .stackIn))) ran (refusedRun textTooLong cells) in
+    pick (isDeclared code start) fitting (refusedRun noSuchStart cells)
 
 abbrev pub leaving : Words → ℕ → Bytes → Cells → ℕ → Leaving
 leaving words start text cells allowance = leavingCode (unpack words) start text cells allowance

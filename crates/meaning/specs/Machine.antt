@@ -83,8 +83,8 @@ abbrev pub withOpened : List ℕ → Local → Local
 withOpened rs l = record { field = l .field; place = l .place; values = l .values; opened = rs }
 
 -- UseSeq: in[p-(r-r0)..p-1] := out[r0..r-1]; p := p-(r-r0); r := r0; q stays where it is
-abbrev pub moved : ℕ → Stacks → Stacks
-moved r s =
+abbrev pub sequenceMoved : ℕ → Stacks → Stacks
+sequenceMoved r s =
     record {
       input = drop r (s .output) ++ s .input;
       selected = s .selected + length (drop r (s .output));
@@ -164,7 +164,7 @@ module _ (W : Watch) where
       whereThere (ltb (length (l .opened)) maxOpened) g ran
   perform code enter next frame useSeq l s g =
       whereOpened (l .opened) g
-      (λ r rs. noting (inCells (length (drop r (s .output)) + length (s .input))) g (next (withOpened rs l) (moved r s)))
+      (λ r rs. noting (inCells (length (drop r (s .output)) + length (s .input))) g (next (withOpened rs l) (sequenceMoved r s)))
   perform code enter next frame (call f) l s g =
       let ran = noting (frames (suc frame)) g
       (λ g₁. andThen (enter (suc frame) f s g₁) (λ s₁ g₂. next l (returned (afterField s) s₁) g₂)) in

@@ -89,8 +89,8 @@ firstPlace (exactly n) = 0
 firstPlace (ends head tail) = 0
 firstPlace (middle head med tail) = head
 
-abbrev pub place : Metric → List Test → Bytes → Found
-place metric tests field = search (checkAll tests field) (placesOf metric (length field)) (firstPlace metric)
+abbrev pub findPlace : Metric → List Test → Bytes → Found
+findPlace metric tests field = search (checkAll tests field) (placesOf metric (length field)) (firstPlace metric)
 
 -- "Store of each different s-variable"
 abbrev pub kept : Option ℕ → Option Bytes → Option Bytes
@@ -123,4 +123,4 @@ chooseFrom (noMore r) field = chosenNone r
 chooseFrom unknownSentence field = chosenWrong
 chooseFrom (sentence metric tests stores actions more) field =
     let later = chooseFrom more field in
-    choiceOf (place metric tests field) stores actions later
+    choiceOf (findPlace metric tests field) stores actions later

@@ -11,7 +11,7 @@ use Rattle.meaning.specs.Answers.{finished, argumentNotAngles, angleOutO
 
 -- steps left of the allowance, steps made, the applications of each function, and the record
 pub record Tally : Type 0 where
-  pub left : ℕ
+  pub stepsLeft : ℕ
   pub steps : ℕ
   pub counts : List ℕ
   pub emissions : Bytes
@@ -30,16 +30,16 @@ counted (suc i) counts = set counts i (suc (getD counts i 0))
 
 -- "Steps are 0 and the record empty before the start"
 abbrev pub fresh : ℕ → Tally
-fresh allowance = record { left = allowance; steps = 0; counts = uncounted; emissions = [] }
+fresh allowance = record { stepsLeft = allowance; steps = 0; counts = uncounted; emissions = [] }
 
 abbrev pub paidFrom : ℕ → ℕ → Tally → Option Tally
 paidFrom zero f t = none
 paidFrom (suc n) f t =
-    some (record { left = n; steps = suc (t .steps); counts = counted f (t .counts); emissions = t .emissions })
+    some (record { stepsLeft = n; steps = suc (t .steps); counts = counted f (t .counts); emissions = t .emissions })
 
 -- one step taken for a function, if one is left
 abbrev pub pay : ℕ → Tally → Option Tally
-pay f t = paidFrom (t .left) f t
+pay f t = paidFrom (t .stepsLeft) f t
 
 abbrev pub emittedLine : Name → Bytes → Bytes
 emittedLine name argument = name ++ 32 ∷ (argument ++ 10 ∷ [])
@@ -47,7 +47,7 @@ emittedLine name argument = name ++ 32 ∷ (argument ++ 10 ∷ [])
 abbrev pub emitted : Name → Bytes → Tally → Tally
 emitted name argument t =
     let line = emittedLine name argument in
-    record { left = t .left; steps = t .steps; counts = t .counts; emissions = t .emissions ++ line }
+    record { stepsLeft = t .stepsLeft; steps = t .steps; counts = t .counts; emissions = t .emissions ++ line }
 
 -- done with a value, or stopped with an answer and a function number; either with what was counted
 pub data Outcome (A L : Type 0) : Type 0 where

@@ -16,8 +16,8 @@ abbrev pub Words : Type 0
 Words = List ℕ
 
 -- four bytes to a word, the first being the lowest
-abbrev pub word : ℕ → ℕ → ℕ → ℕ → ℕ
-word number a b c = number + 256 * (a + 256 * (b + 256 * c))
+abbrev pub codeWord : ℕ → ℕ → ℕ → ℕ → ℕ
+codeWord number a b c = number + 256 * (a + 256 * (b + 256 * c))
 
 abbrev pub numberIn : ℕ → ℕ
 numberIn w = w % 256
@@ -83,10 +83,10 @@ partOperand s r class expected =
     siteRegister s + 4 * siteRegister r + 16 * truthBit expected + 32 * classNumber class
 
 abbrev pub testWord : Test → ℕ
-testWord (look s c) = word 1 (siteRegister s) (siteOffset s) c
-testWord (compare s r) = word 2 (siteRegister s + 4 * siteRegister r) (siteOffset s) (siteOffset r)
-testWord (predicate s class expected) = word 3 (siteRegister s + 4 * truthBit expected) (siteOffset s) (classNumber class)
-testWord (predicatePart s r class expected) = word 20 (partOperand s r class expected) (siteOffset s) (siteOffset r)
+testWord (look s c) = codeWord 1 (siteRegister s) (siteOffset s) c
+testWord (compare s r) = codeWord 2 (siteRegister s + 4 * siteRegister r) (siteOffset s) (siteOffset r)
+testWord (predicate s class expected) = codeWord 3 (siteRegister s + 4 * truthBit expected) (siteOffset s) (classNumber class)
+testWord (predicatePart s r class expected) = codeWord 20 (partOperand s r class expected) (siteOffset s) (siteOffset r)
 testWord unknownTest = 0
 
 abbrev pub lookOf : Option Site → ℕ → Test
@@ -123,7 +123,7 @@ testOf w =
     unknownTest)))
 
 abbrev pub storeWord : Store → ℕ
-storeWord (store s) = word 4 (siteRegister s) (siteOffset s) 0
+storeWord (store s) = codeWord 4 (siteRegister s) (siteOffset s) 0
 storeWord unknownStore = 0
 
 abbrev pub storeAt : Option Site → Store
@@ -136,21 +136,21 @@ storeOf w = pick (eqb (numberIn w) 4) (storeAt (siteOf (firstIn w) (secondIn w))
 -- ACTIONS
 
 abbrev pub spanWord : ℕ → Span → ℕ
-spanWord number s = word number (lengthNumber (s .register)) (s .add) (s .back)
+spanWord number s = codeWord number (lengthNumber (s .register)) (s .add) (s .back)
 
 -- an action's words; a called function's number stands in all three operands
 abbrev pub actionWords : Action → Words
 actionWords (go s) = spanWord 5 s ∷ []
 actionWords (select s) = spanWord 6 s ∷ []
-actionWords out = word 7 0 0 0 ∷ []
-actionWords (outC c) = word 8 c 0 0 ∷ []
-actionWords (outV k) = word 9 k 0 0 ∷ []
-actionWords beginSeq = word 10 0 0 0 ∷ []
-actionWords useSeq = word 11 0 0 0 ∷ []
+actionWords out = codeWord 7 0 0 0 ∷ []
+actionWords (outC c) = codeWord 8 c 0 0 ∷ []
+actionWords (outV k) = codeWord 9 k 0 0 ∷ []
+actionWords beginSeq = codeWord 10 0 0 0 ∷ []
+actionWords useSeq = codeWord 11 0 0 0 ∷ []
 actionWords (call f) = (12 + 256 * f) ∷ []
 actionWords (tailCall f) = (13 + 256 * f) ∷ []
-actionWords (emission n) = word 14 (length n) 0 0 ∷ n
-actionWords (compute op) = word 21 (operationNumber op) 0 0 ∷ []
+actionWords (emission n) = codeWord 14 (length n) 0 0 ∷ n
+actionWords (compute op) = codeWord 21 (operationNumber op) 0 0 ∷ []
 actionWords unknownAction = 0 ∷ []
 
 abbrev pub actionsEnd : ℕ
@@ -199,9 +199,9 @@ unpackActions zero (w ∷ ws) =
 -- SENTENCES
 
 abbrev pub metricWord : Metric → ℕ
-metricWord (exactly n) = word 16 n 0 0
-metricWord (ends head tail) = word 17 head tail 0
-metricWord (middle head med tail) = word 18 head med tail
+metricWord (exactly n) = codeWord 16 n 0 0
+metricWord (ends head tail) = codeWord 17 head tail 0
+metricWord (middle head med tail) = codeWord 18 head med tail
 
 abbrev pub sentencesEnd : ℕ
 sentencesEnd = 19

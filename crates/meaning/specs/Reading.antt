@@ -14,7 +14,7 @@ use Rattle.meaning.specs.Answers.{tableTooLong, malformedToken, notAllow
 use Rattle.meaning.specs.Allowed.{maxTable, maxFunctions, maxSentences, maxName, maxIdentifier, maxLetters, maxSymbols, maxConditions, maxItems, maxNesting, member, added, symbolsOf, partsOf, lettersIn, comingAfter, namesOf}
 use Rattle.meaning.specs.Tokens.{Token, functionName, word, quoted, sign, textEnd, malformed, Placed, tokens}
 pub use Rattle.meaning.specs.Tokens.{isSign, isTextEnd, nameOf, Item, characters, symbolItem, partItem, noItem, variableOf, itemOf, isItem, begins}
-use Rattle.meaning.specs.Grammar.{written}
+use Rattle.meaning.specs.Grammar.{thenCharacters}
 pub use Rattle.meaning.specs.Grammar.{elementsOf}
 
 -- what every reader comes to: the number and place of a fault, or what was read and the tokens after it
@@ -51,9 +51,9 @@ whether true t later = later
 whether false t later = refuse t
 
 -- what follows where the token has no fault, which is number 0
-abbrev pub check : {A : Type 0} → ℕ → Placed → Parsed A → Parsed A
-check zero t later = later
-check (suc number) t later = stopped (suc number) (t .place)
+abbrev pub whereFaultless : {A : Type 0} → ℕ → Placed → Parsed A → Parsed A
+whereFaultless zero t later = later
+whereFaultless (suc number) t later = stopped (suc number) (t .place)
 
 -- the number of the first test that fails, or 0
 abbrev pub faultUnless : Bool → ℕ → ℕ → ℕ
@@ -69,7 +69,7 @@ pass b (t ∷ ts) next = let later = next ts in whether (isSign b (t .token)) t 
 
 abbrev pub nameOn : {A : Type 0} → Option Name → (Name → ℕ) → Placed → (Name → Parsed A) → Parsed A
 nameOn none fault t next = refuse t
-nameOn (some n) fault t next = let later = next n in check (fault n) t later
+nameOn (some n) fault t next = let later = next n in whereFaultless (fault n) t later
 
 -- a function's name without a fault, with its place
 abbrev pub passName : {A : Type 0} → (Name → ℕ) → List Placed → (ℕ → Name → List Placed → Parsed A) → Parsed A
@@ -106,12 +106,12 @@ patternFault before (partItem x) =
 patternFault before noItem = 0
 
 -- a pattern, with its elements before these tokens
-unfoldable pub pattern : List Element → List Placed → Parsed (List Element)
-pattern before [] = cutShort
-pattern before (t ∷ ts) =
+unfoldable pub parsePattern : List Element → List Placed → Parsed (List Element)
+parsePattern before [] = cutShort
+parsePattern before (t ∷ ts) =
     let item = itemOf (t .token) in
-    let later = pattern (before ++ elementsOf item) ts in
-    pick (isItem item) (check (patternFault before item) t later) (parsed before (t ∷ ts))
+    let later = parsePattern (before ++ elementsOf item) ts in
+    pick (isItem item) (whereFaultless (patternFault before item) t later) (parsed before (t ∷ ts))
 
 -- CONDITIONS
 
@@ -127,8 +127,8 @@ subjectFault names x =
 
 abbrev pub subjectOn : {A : Type 0} → Item → List Name → List Name → Placed → (Subject → Parsed A) → Parsed A
 subjectOn (characters text) symbols parts t next = refuse t
-subjectOn (symbolItem x) symbols parts t next = let later = next (ofSymbol x) in check (subjectFault symbols x) t later
-subjectOn (partItem x) symbols parts t next = let later = next (ofPart x) in check (subjectFault parts x) t later
+subjectOn (symbolItem x) symbols parts t next = let later = next (ofSymbol x) in whereFaultless (subjectFault symbols x) t later
+subjectOn (partItem x) symbols parts t next = let later = next (ofPart x) in whereFaultless (subjectFault parts x) t later
 subjectOn noItem symbols parts t next = refuse t
 
 abbrev pub passSubject
@@ -157,8 +157,8 @@ passTruth [] next = cutShort
 passTruth (t ∷ ts) next = truthOn (truthOf (t .token) (eqb (t .past) (t .place + 3))) t (λ truth. next truth ts)
 
 -- "`, <Predicate sX>: 'T'` or `'F'`, on an s-variable of the pattern", or on an e-variable of it, after its `,`
-unfoldable pub condition : List Name → List Name → List Placed → Parsed Condition
-condition symbols parts ts =
+unfoldable pub parseCondition : List Name → List Name → List Placed → Parsed Condition
+parseCondition symbols parts ts =
     pass 60 ts λ ts₁.
     passName (λ n. lengthFault n 0) ts₁ λ place n ts₂.
     withClass (predicateOf n) place λ class.
@@ -174,12 +174,12 @@ atComma [] next = cutShort
 atComma (t ∷ ts) next = let later = next t ts in pick (isSign 44 (t .token)) later (parsed [] (t ∷ ts))
 
 -- conditions, of which so many may still come; "a condition over its limit is refused at its first token (a condition's is `,`)"
-unfoldable pub conditions : ℕ → List Name → List Name → List Placed → Parsed (List Condition)
-conditions zero symbols parts ts = atComma ts λ comma rest. stopped overLimit (comma .place)
-conditions (suc left) symbols parts ts =
+unfoldable pub parseConditions : ℕ → List Name → List Name → List Placed → Parsed (List Condition)
+parseConditions zero symbols parts ts = atComma ts λ comma rest. stopped overLimit (comma .place)
+parseConditions (suc left) symbols parts ts =
     atComma ts λ comma ts₁.
-    follow (condition symbols parts ts₁) λ c ts₂.
-    follow (conditions left symbols parts ts₂) λ cs rest.
+    follow (parseCondition symbols parts ts₁) λ c ts₂.
+    follow (parseConditions left symbols parts ts₂) λ cs rest.
     parsed (c ∷ cs) rest
 
 -- THE EXPRESSION
@@ -245,7 +245,7 @@ abbrev pub calledFault : Name → ℕ
 calledFault n = lengthFault n (faultUnless (not (isPredicate n)) wrongName 0)
 
 abbrev pub thenItem : Item → Expression → Expression
-thenItem (characters text) e = written text e
+thenItem (characters text) e = thenCharacters text e
 thenItem (symbolItem x) e = thenSymbol x e
 thenItem (partItem x) e = thenPart x e
 thenItem noItem e = e
@@ -255,44 +255,44 @@ withFirst first (stopped number place) = stopped number place
 withFirst first (parsed i rest) = parsed (record { expression = first (i .expression); progress = i .progress }) rest
 
 -- A call from its `<` on. It takes the reader of its argument, which is fed how many calls stand round it, the progress and the tokens.
-abbrev pub call : (ℕ → Progress → List Placed → Parsed Items) → ℕ → Progress → Placed → List Placed → Parsed Called
-call argument depth so t ts =
+abbrev pub parseCall : (ℕ → Progress → List Placed → Parsed Items) → ℕ → Progress → Placed → List Placed → Parsed Called
+parseCall argument depth so t ts =
     let later : Parsed Called =
     passName calledFault ts λ place n ts₁.
     follow (argument (suc depth) (pastCall so) ts₁) λ given ts₂.
     pass 62 ts₂ λ rest.
     parsed (record { place = place; name = n; argument = given .expression; progress = given .progress }) rest
     in
-    check (callFault depth so) t later
+    whereFaultless (callFault depth so) t later
 
 -- an expression from its first token on, fed the reader of what comes after an item and inside a call
-abbrev pub expressionFrom
+abbrev pub parseExpressionFrom
     : (ℕ → Progress → List Placed → Parsed Items) → List Name → ℕ → Progress → Placed → List Placed → Parsed Items
-expressionFrom next symbols depth so t ts =
+parseExpressionFrom next symbols depth so t ts =
     let item = itemOf (t .token) in
     let afterItem = withFirst (thenItem item) (next depth (pastItem item so) ts) in
     let afterCall =
-    follow (call next depth so t ts) λ c rest.
+    follow (parseCall next depth so t ts) λ c rest.
     withFirst (thenCall (c .place) (c .name) (c .argument)) (next depth (c .progress) rest)
     in
-    pick (isItem item) (check (itemFault symbols so item) t afterItem)
+    pick (isItem item) (whereFaultless (itemFault symbols so item) t afterItem)
     (pick (isSign 60 (t .token)) afterCall (parsed (record { expression = end; progress = so }) (t ∷ ts)))
 
 -- An expression that so many calls stand round. Each step eats a token, so a bound of the number of tokens is never reached (proved in proofs/reading).
-unfoldable pub expression : ℕ → List Name → ℕ → Progress → List Placed → Parsed Items
-expression zero symbols depth so ts = cutShort
-expression (suc bound) symbols depth so [] = cutShort
-expression (suc bound) symbols depth so (t ∷ ts) = expressionFrom (expression bound symbols) symbols depth so t ts
+unfoldable pub parseExpression : ℕ → List Name → ℕ → Progress → List Placed → Parsed Items
+parseExpression zero symbols depth so ts = cutShort
+parseExpression (suc bound) symbols depth so [] = cutShort
+parseExpression (suc bound) symbols depth so (t ∷ ts) = parseExpressionFrom (parseExpression bound symbols) symbols depth so t ts
 
 -- SENTENCES AND FUNCTIONS
 
 -- "Sentence: pattern, conditions, `=`, expression"
-unfoldable pub sentence : List Placed → Parsed Sentence
-sentence ts =
-    follow (pattern [] ts) λ p ts₁.
-    follow (conditions maxConditions (symbolsOf p) (partsOf p) ts₁) λ cs ts₂.
+unfoldable pub parseSentence : List Placed → Parsed Sentence
+parseSentence ts =
+    follow (parsePattern [] ts) λ p ts₁.
+    follow (parseConditions maxConditions (symbolsOf p) (partsOf p) ts₁) λ cs ts₂.
     pass 61 ts₂ λ ts₃.
-    follow (expression (length ts₃) (symbolsOf p) 0 (record { items = 0; coming = partsOf p }) ts₃) λ e rest.
+    follow (parseExpression (length ts₃) (symbolsOf p) 0 (record { items = 0; coming = partsOf p }) ts₃) λ e rest.
     parsed (record { pattern = p; conditions = cs; expression = e .expression }) rest
 
 -- a sentence is read where one can begin
@@ -316,12 +316,12 @@ afterSentence more s (t ∷ ts) =
 
 -- The sentences of a function from its `{` to its `}`, of which so many may still come: "sentences parted by `;`, perhaps one more `;`, `}`"; "a sentence ...
 -- over its limit is refused at its first token".
-unfoldable pub sentences : ℕ → List Placed → Parsed (List Sentence)
-sentences zero ts = atSentence ts λ t. stopped overLimit (t .place)
-sentences (suc left) ts =
+unfoldable pub parseSentences : ℕ → List Placed → Parsed (List Sentence)
+parseSentences zero ts = atSentence ts λ t. stopped overLimit (t .place)
+parseSentences (suc left) ts =
     atSentence ts λ t.
-    follow (sentence ts) λ s ts₁.
-    afterSentence (sentences left) s ts₁
+    follow (parseSentence ts) λ s ts₁.
+    afterSentence (parseSentences left) s ts₁
 
 -- "perhaps `;`"
 abbrev pub passSpare : List Placed → List Placed
@@ -333,11 +333,11 @@ abbrev pub declaredFault : Table → Name → ℕ
 declaredFault before n = lengthFault n (faultUnless (both (not (isReserved n)) (not (member n (namesOf before)))) wrongName 0)
 
 -- a function from its name to its `}`, with a fault of its name
-abbrev pub function : (Name → ℕ) → ℕ → List Placed → Parsed Function
-function fault sentencesLeft ts =
+abbrev pub parseFunction : (Name → ℕ) → ℕ → List Placed → Parsed Function
+parseFunction fault sentencesLeft ts =
     passName fault ts λ place n ts₁.
     pass 123 ts₁ λ ts₂.
-    follow (sentences sentencesLeft ts₂) λ ss rest.
+    follow (parseSentences sentencesLeft ts₂) λ ss rest.
     parsed (record { name = n; sentences = ss }) rest
 
 -- a function is read unless the text ends
@@ -346,14 +346,14 @@ atFunction before [] later = cutShort
 atFunction before (t ∷ ts) later = pick (isTextEnd (t .token)) (parsed before ts) later
 
 -- The functions, after these and with so many functions and sentences that may still come; "a function at its name".
-unfoldable pub functions : ℕ → ℕ → Table → List Placed → Parsed Table
-functions zero sentencesLeft before ts =
-    let later = follow (function (λ n. overLimit) sentencesLeft ts) λ f rest. cutShort in
+unfoldable pub parseFunctions : ℕ → ℕ → Table → List Placed → Parsed Table
+parseFunctions zero sentencesLeft before ts =
+    let later = follow (parseFunction (λ n. overLimit) sentencesLeft ts) λ f rest. cutShort in
     atFunction before ts later
-functions (suc left) sentencesLeft before ts =
+parseFunctions (suc left) sentencesLeft before ts =
     let later =
-    follow (function (declaredFault before) sentencesLeft ts) λ f rest.
-    functions left (sentencesLeft - length (f .sentences)) (before ++ f ∷ []) (passSpare rest)
+    follow (parseFunction (declaredFault before) sentencesLeft ts) λ f rest.
+    parseFunctions left (sentencesLeft - length (f .sentences)) (before ++ f ∷ []) (passSpare rest)
     in
     atFunction before ts later
 
@@ -362,7 +362,7 @@ functions (suc left) sentencesLeft before ts =
 -- a text's functions and the numbers 1 to 7, with so many functions and sentences before them
 abbrev pub readFunctions : ℕ → ℕ → Bytes → Parsed Table
 readFunctions functionsBefore sentencesBefore text =
-    let later = functions (maxFunctions - functionsBefore) (maxSentences - sentencesBefore) [] (tokens text) in
+    let later = parseFunctions (maxFunctions - functionsBefore) (maxSentences - sentencesBefore) [] (tokens text) in
     pick (leb (length text) maxTable) later (stopped tableTooLong 0)
 
 -- the first called name that is neither built in nor declared, by its place

@@ -17,24 +17,24 @@ use Rattle.meaning.specs.Outcome.{Tally, maxCounted, emittedLine, Outcom
 -- the functions applied, the latest first, and the record. "Each application of a declared function is one step", so
 -- the steps made are as many as the functions applied
 pub record Course : Type 0 where
-  pub left : ℕ
+  pub stepsLeft : ℕ
   pub history : List ℕ
   pub emissions : Bytes
 
 abbrev pub unbegun : ℕ → Course
-unbegun allowance = record { left = allowance; history = []; emissions = [] }
+unbegun allowance = record { stepsLeft = allowance; history = []; emissions = [] }
 
 abbrev pub tookFrom : ℕ → ℕ → Course → Option Course
 tookFrom zero f t = none
-tookFrom (suc n) f t = some (record { left = n; history = f ∷ t .history; emissions = t .emissions })
+tookFrom (suc n) f t = some (record { stepsLeft = n; history = f ∷ t .history; emissions = t .emissions })
 
 -- an application of a function, if a step is left
 abbrev pub takeStep : ℕ → Course → Option Course
-takeStep f t = tookFrom (t .left) f t
+takeStep f t = tookFrom (t .stepsLeft) f t
 
 abbrev pub emitting : Name → Bytes → Course → Course
 emitting name argument t =
-    record { left = t .left; history = t .history; emissions = t .emissions ++ emittedLine name argument }
+    record { stepsLeft = t .stepsLeft; history = t .history; emissions = t .emissions ++ emittedLine name argument }
 
 -- 02, T-01: "the function's applications in the rewriting's own history"
 unfoldable pub applications : ℕ → List ℕ → ℕ
@@ -50,7 +50,7 @@ applicationsFrom f (suc n) history = applications f history ∷ applicationsFrom
 abbrev pub tallyOf : Course → Tally
 tallyOf t =
     record {
-      left = t .left;
+      stepsLeft = t .stepsLeft;
       steps = length (t .history);
       counts = applicationsFrom 1 maxCounted (t .history);
       emissions = t .emissions;
@@ -123,12 +123,12 @@ match (part x ∷ pattern) conditions text bound =
 
 -- a sentence that fits, with what its variables take
 pub record Fit : Type 0 where
-  pub sentence : Sentence
+  pub fitting : Sentence
   pub bindings : Bindings
 
 abbrev pub fitted : Sentence → Option Bindings → Option Fit
 fitted s none = none
-fitted s (some bound) = some (record { sentence = s; bindings = bound })
+fitted s (some bound) = some (record { fitting = s; bindings = bound })
 
 -- "A function tries its sentences in order"
 unfoldable pub choose : List Sentence → Bytes → Option Fit
@@ -137,13 +137,13 @@ choose (s ∷ sentences) text =
     let later = choose sentences text in
     orElse (fitted s (match (s .pattern) (s .conditions) text unbound)) later
 
-abbrev pub symbolText : Option ℕ → Bytes
-symbolText none = []
-symbolText (some b) = b ∷ []
+abbrev pub symbolBytes : Option ℕ → Bytes
+symbolBytes none = []
+symbolBytes (some b) = b ∷ []
 
-abbrev pub partText : Option Bytes → Bytes
-partText none = []
-partText (some piece) = piece
+abbrev pub partBytes : Option Bytes → Bytes
+partBytes none = []
+partBytes (some piece) = piece
 
 abbrev pub before : {L : Type 0} → Bytes → Outcome Bytes L → Outcome Bytes L
 before text o = andThen o (λ rest t. done (text ++ rest) t)
@@ -156,8 +156,8 @@ Applying A = A → Bytes → Course → Outcome Bytes Course
 unfoldable pub evaluate : Applying Name → Bindings → Expression → Course → Outcome Bytes Course
 evaluate call bound end t = done [] t
 evaluate call bound (thenCharacter c e) t = before (c ∷ []) (evaluate call bound e t)
-evaluate call bound (thenSymbol x e) t = before (symbolText (lookup x (bound .symbols))) (evaluate call bound e t)
-evaluate call bound (thenPart x e) t = before (partText (lookup x (bound .parts))) (evaluate call bound e t)
+evaluate call bound (thenSymbol x e) t = before (symbolBytes (lookup x (bound .symbols))) (evaluate call bound e t)
+evaluate call bound (thenPart x e) t = before (partBytes (lookup x (bound .parts))) (evaluate call bound e t)
 evaluate call bound (thenCall place n argument e) t =
     andThen (evaluate call bound argument t)
     (λ text t₁. andThen (call n text t₁) (λ given t₂. before given (evaluate call bound e t₂)))
@@ -198,7 +198,7 @@ unfitted apply (suc r) number text t = apply (suc r) text t
 abbrev pub rewritten : Table → Applying ℕ → ℕ → Bytes → Option Fit → Course → Outcome Bytes Course
 rewritten table apply number text none t = unfitted apply (recovererAt table number) number text t
 rewritten table apply number text (some f) t =
-    evaluate (callNamed table apply) (f .bindings) (f .sentence .expression) t
+    evaluate (callNamed table apply) (f .bindings) (f .fitting .expression) t
 
 -- "the first application past the allowance ends the run"; "one answered 12 ... doesn't" count as a step
 abbrev pub applied : Table → Applying ℕ → ℕ → Bytes → Course → Option Course → Outcome Bytes Course

@@ -57,8 +57,8 @@ abbrev pub loaded : Bytes → Stacks
 loaded text = record { input = text; selected = length text; output = [] }
 
 -- the start is an application in frame 1
-abbrev pub from : (W : Watch) → Code → ℕ → Bytes → ℕ → W .Mark → Ran W
-from W code start text allowance mark = enter W allowance code 1 start (loaded text) (record { tally = fresh allowance; mark = mark })
+abbrev pub runUnder : (W : Watch) → Code → ℕ → Bytes → ℕ → W .Mark → Ran W
+runUnder W code start text allowance mark = enter W allowance code 1 start (loaded text) (record { tally = fresh allowance; mark = mark })
 
 abbrev pub textOf : {Mark : Type 0} → Outcome Stacks (Ledger Mark) → Outcome Bytes Tally
 textOf (done s g) = done (s .output) (g .tally)
@@ -69,10 +69,10 @@ markOf (done s g) = g .mark
 markOf (stop answer function g) = g .mark
 
 abbrev pub runEndless : Code → ℕ → Bytes → ℕ → Result
-runEndless code start text allowance = resultOf (textOf (from endless code start text allowance tt))
+runEndless code start text allowance = resultOf (textOf (runUnder endless code start text allowance tt))
 
 abbrev pub runLent : Room → Code → ℕ → Bytes → ℕ → Result
-runLent room code start text allowance = resultOf (textOf (from (lent room) code start text allowance tt))
+runLent room code start text allowance = resultOf (textOf (runUnder (lent room) code start text allowance tt))
 
 abbrev pub passedFirst : Room → Code → ℕ → Bytes → ℕ → Option Passed
-passedFirst room code start text allowance = markOf (from (watching room) code start text allowance none)
+passedFirst room code start text allowance = markOf (runUnder (watching room) code start text allowance none)

@@ -240,18 +240,18 @@ modeAfter mode textEnd = mode
 modeAfter mode malformed = mode
 
 -- no token comes after the end of the text or after a malformed one
-abbrev pub isLast : Token → Bool
-isLast (functionName n) = false
-isLast (word w) = false
-isLast (quoted characters) = false
-isLast (sign b) = false
-isLast textEnd = true
-isLast malformed = true
+abbrev pub isLastToken : Token → Bool
+isLastToken (functionName n) = false
+isLastToken (word w) = false
+isLastToken (quoted characters) = false
+isLastToken (sign b) = false
+isLastToken textEnd = true
+isLastToken malformed = true
 
 abbrev pub tokensPast : (Mode → ℕ → Bytes → List Placed) → Mode → Lexed → List Placed
 tokensPast next mode l =
     let later = next (modeAfter mode (l .first .token)) (l .first .past) (l .rest) in
-    l .first ∷ pick (isLast (l .first .token)) [] later
+    l .first ∷ pick (isLastToken (l .first .token)) [] later
 
 -- Every token but the last eats a byte, so a bound above the number of bytes is never reached (proved in proofs/roundtrip/Remaining).
 unfoldable pub tokensFrom : ℕ → Mode → ℕ → Bytes → List Placed

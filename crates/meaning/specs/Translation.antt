@@ -85,16 +85,16 @@ pub record Bounds : Type 0 where
   pub from : Site
   pub to : Site
 
-abbrev pub between : Site → Site → Bounds
-between from to = record { from = from; to = to }
+abbrev pub fromTo : Site → Site → Bounds
+fromTo from to = record { from = from; to = to }
 
 -- only an e-variable of the pattern is ever asked for
 abbrev pub boundsOf : Shape → Name → Bounds
-boundsOf (fixed t) x = between (fromStart 0) (fromStart 0)
-boundsOf (open₁ h y t) x = between (fromStart (length h)) (fromEnd (length t))
+boundsOf (fixed t) x = fromTo (fromStart 0) (fromStart 0)
+boundsOf (open₁ h y t) x = fromTo (fromStart (length h)) (fromEnd (length t))
 boundsOf (open₂ h y m z t) x =
-    pick (sameBytes x y) (between (fromStart (length h)) (fromPlace 0))
-    (between (fromPlace (length m)) (fromEnd (length t)))
+    pick (sameBytes x y) (fromTo (fromStart (length h)) (fromPlace 0))
+    (fromTo (fromPlace (length m)) (fromEnd (length t)))
 
 abbrev pub partTest : Bounds → Class → Bool → Test
 partTest b class expected = predicatePart (b .from) (b .to) class expected
@@ -178,7 +178,7 @@ pub data Manner : Type 0 where
 
 -- where an expression stands: it is a sentence's, or a call's argument, or the argument of a tail call of a function
 pub data Level : Type 0 where
-  outermost inside : Level
+  outermost inArgument : Level
   inTail : ℕ → Level
 
 abbrev pub isEnd : Expression → Bool
@@ -189,10 +189,10 @@ isEnd (thenPart x e) = false
 isEnd (thenCall place n a e) = false
 
 -- "the last item outermost": nothing comes after it
-abbrev pub isLast : Level → Expression → Bool
-isLast outermost e = isEnd e
-isLast inside e = false
-isLast (inTail f) e = false
+abbrev pub inTailPosition : Level → Expression → Bool
+inTailPosition outermost e = isEnd e
+inTailPosition inArgument e = false
+inTailPosition (inTail f) e = false
 
 abbrev pub mannerAs : Calling → Bool → Manner
 mannerAs asEmission last = emits
@@ -200,14 +200,14 @@ mannerAs (asAngles op) last = computes op
 mannerAs asFunction last = pick last replaces nests
 
 abbrev pub mannerOf : Level → Expression → Name → Manner
-mannerOf level after n = mannerAs (callingOf n) (isLast level after)
+mannerOf level after n = mannerAs (callingOf n) (inTailPosition level after)
 
 -- a call's argument
 abbrev pub levelIn : Manner → ℕ → Level
-levelIn emits number = inside
-levelIn (computes op) number = inside
+levelIn emits number = inArgument
+levelIn (computes op) number = inArgument
 levelIn replaces number = inTail number
-levelIn nests number = inside
+levelIn nests number = inArgument
 
 -- 02, T-07: "Where a tail call's argument ends with an e-variable that also ends the pattern, that part stays on in"
 
@@ -224,7 +224,7 @@ endsPattern (open₂ h y m z t) x = pick (sameBytes x y) false (isNone t)
 -- the function whose tail call leaves an e-variable on in, `after` being what follows the e-variable in the argument
 abbrev pub leftFor : Shape → Level → Name → Expression → Option ℕ
 leftFor shape outermost x after = none
-leftFor shape inside x after = none
+leftFor shape inArgument x after = none
 leftFor shape (inTail f) x after = guard (both (isEnd after) (endsPattern shape x)) (some f)
 
 -- "Only the items before it go to out, and UseSeq puts them just below it"
@@ -244,24 +244,24 @@ calling shape nests number n w more = argumentReady (call number ∷ more)
 
 module _ (table : Table) (shape : Shape) (sites : List (Named Site)) where
   -- an expression's instructions from where p stands, followed by what comes after it
-  unfoldable pub items : Level → Expression → Stand → (Stand → List Action) → List Action
-  items level end w rest = rest w
-  items level (thenCharacter c e) w rest = outC c ∷ items level e w rest
-  items level (thenSymbol x e) w rest = outV (valueNumber sites x) ∷ items level e w rest
-  items level (thenPart x e) w rest =
+  unfoldable pub itemActions : Level → Expression → Stand → (Stand → List Action) → List Action
+  itemActions level end w rest = rest w
+  itemActions level (thenCharacter c e) w rest = outC c ∷ itemActions level e w rest
+  itemActions level (thenSymbol x e) w rest = outV (valueNumber sites x) ∷ itemActions level e w rest
+  itemActions level (thenPart x e) w rest =
       let way = passage shape x w in
-      let moving = go (way .gap) ∷ select (way .piece) ∷ out ∷ items level e (way .after) rest in
+      let moving = go (way .gap) ∷ select (way .piece) ∷ out ∷ itemActions level e (way .after) rest in
       whereLeft (leftFor shape level x e) way moving
-  items level (thenCall place n a e) w rest =
+  itemActions level (thenCall place n a e) w rest =
       beginSeq ∷
-      items (levelIn (mannerOf level e n) (numberOf table n)) a w
-      (λ w₁. let more = items level e w₁ rest in calling shape (mannerOf level e n) (numberOf table n) n w₁ more)
+      itemActions (levelIn (mannerOf level e n) (numberOf table n)) a w
+      (λ w₁. let more = itemActions level e w₁ rest in calling shape (mannerOf level e n) (numberOf table n) n w₁ more)
 
 abbrev pub passesRest : Shape → Stand → List Action
 passesRest shape w = go (restOf shape w) ∷ []
 
 abbrev pub actionsOf : Table → Shape → List (Named Site) → Expression → List Action
-actionsOf table shape sites e = items table shape sites outermost e atStart (passesRest shape)
+actionsOf table shape sites e = itemActions table shape sites outermost e atStart (passesRest shape)
 
 -- SENTENCES, FUNCTIONS, THE TABLE
 

@@ -14,7 +14,7 @@ use Rattle.meaning.specs.Machine.{isDeclared}
 use Rattle.meaning.specs.Translation.{translate}
 use Rattle.meaning.specs.Packing.{pack}
 use Rattle.meaning.specs.Flat.{isFlat}
-use Rattle.meaning.specs.Leaving.{Cells, zeros, left, roomOf, leaving, padded}
+use Rattle.meaning.specs.Leaving.{Cells, zeros, afterRun, roomOf, leaving, padded}
 use Rattle.meaning.specs.Entries.{answered, translated}
 use Rattle.meaning.specs.Demanded.{demanded}
 use Rattle.meaning_accepting.proofs.reading.Accepted.{Allows, allows-accepted}
@@ -42,7 +42,7 @@ module _ {table : Bytes} {t : Table} (a : Allows table t) (room : ℕ) (fits : l
 
   -- running that buffer leaves what rewriting comes to, or stops at the first room that is passed
   pub run-left : (start : ℕ) (text : Bytes) (cells : Cells) (allowance : ℕ) → T (isDeclared (translate t) start) → length text ≤ length (cells .stackIn) →
-      leaving (translated (read table) room .buffer) start text cells allowance ≡ left (demanded (roomOf cells) t start text allowance) cells
+      leaving (translated (read table) room .buffer) start text cells allowance ≡ afterRun (demanded (roomOf cells) t start text allowance) cells
   run-left start text cells allowance declared inside =
       rw (code-left .1, on-words t rules start text allowance (zeros (room - length (pack (translate t)))) cells declared inside)
-      (ap (λ r. left r cells) (as-demanded t rules start text allowance (roomOf cells)))
+      (ap (λ r. afterRun r cells) (as-demanded t rules start text allowance (roomOf cells)))

@@ -15,10 +15,10 @@ use Rattle.meaning.specs.Outcome.{maxCounted, done}
 use Rattle.meaning.specs.Rewriting.{Course, unbegun, applicationsFrom, tallyOf, apply, historyOf, rewrite}
 use Rattle.meaning.specs.Allowed.{allowed}
 use Rattle.meaning.specs.Machine.{isDeclared}
-use Rattle.meaning.specs.Runs.{Room, endless, Passed, from, runEndless, runLent, passedFirst}
+use Rattle.meaning.specs.Runs.{Room, endless, Passed, runUnder, runEndless, runLent, passedFirst}
 use Rattle.meaning.specs.Translation.{translatedFunction, translate}
 use Rattle.meaning.specs.Packing.{Words, pack}
-use Rattle.meaning.specs.Leaving.{Cells, left, roomOf, leaving}
+use Rattle.meaning.specs.Leaving.{Cells, afterRun, roomOf, leaving}
 use Rattle.meaning.specs.Demanded.{stoppedAt, unlessPassed, demanded}
 use Rattle.meaning_agreeing.proofs.agreement.Agree.{agree-done, agree-result, agree-steps}
 use Rattle.meaning.proofs.laws.Choosing.{both-pair, passed-true}
@@ -35,7 +35,7 @@ module _ (table : Table) (ok : T (allowed table)) (start : ℕ) (text : Bytes) (
 
   -- at the end stack in holds nothing, and out is the text
   pub at-the-end : (result : Bytes) (t : Course) → apply allowance table start text (unbegun allowance) ≡ done result t →
-      from endless (translate table) start text allowance tt ≡
+      runUnder endless (translate table) start text allowance tt ≡
       done (record { input = []; selected = 0; output = result }) (record { tally = tallyOf t; mark = tt })
   at-the-end = agree-done table ok start text allowance
 
@@ -86,7 +86,7 @@ module _ (table : Table) (ok : T (allowed table)) (start : ℕ) (text : Bytes) (
   -- 3. ON WORDS: the packed code, whatever words follow it, leaves what the run on lent cells gives
   pub on-words : (junk : Words) (cells : Cells) → T (isDeclared (translate table) start) → length text ≤ length (cells .stackIn) →
       leaving (pack (translate table) ++ junk) start text cells allowance ≡
-      left (runLent (roomOf cells) (translate table) start text allowance) cells
+      afterRun (runLent (roomOf cells) (translate table) start text allowance) cells
   on-words junk cells declared fits =
       rw (unpacked table ok junk, passed-true (isDeclared (translate table) start) declared, le-leb (length text) (length (cells .stackIn)) fits)
 

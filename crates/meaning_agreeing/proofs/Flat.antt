@@ -16,7 +16,7 @@ use Rattle.meaning.specs.Names.{numberOf, recovererOf}
 use Rattle.meaning.specs.Allowed.{allowed}
 use Rattle.meaning.specs.Instructions.{Site, Action}
 use Rattle.meaning.specs.Runs.{Room, runLent}
-use Rattle.meaning.specs.Translation.{Shape, shapeOf, testedShape, Stand, atStart, Passage, passage, Manner, emits, replaces, nests, Level, outermost, inside, inTail, mannerOf, levelIn, leftFor, whereLeft, calling, items, passesRest, actionsOf, translatedSentences, translatedFunction, translate, computes}
+use Rattle.meaning.specs.Translation.{Shape, shapeOf, testedShape, Stand, atStart, Passage, passage, Manner, emits, replaces, nests, Level, outermost, inArgument, inTail, mannerOf, levelIn, leftFor, whereLeft, calling, itemActions, passesRest, actionsOf, translatedSentences, translatedFunction, translate, computes}
 use Rattle.meaning.specs.Packing.{Words, pack}
 use Rattle.meaning.specs.Leaving.{Cells, roomOf, leaving}
 use Rattle.meaning.specs.Reading.{accepted}
@@ -47,7 +47,7 @@ nested-empty replaces place xs ys e = append-empty xs ys e
 nested-empty nests place xs ys e = no-cons (sym e)
 
 -- in a tail call's argument the calls are as in any other
-in-tail : (f : ℕ) (e : Expression) → nestedCalls (inTail f) e ≡ nestedCalls inside e
+in-tail : (f : ℕ) (e : Expression) → nestedCalls (inTail f) e ≡ nestedCalls inArgument e
 unfolding nestedCalls
 in-tail f end = refl
 in-tail f (thenCharacter c e) = in-tail f e
@@ -55,7 +55,7 @@ in-tail f (thenSymbol x e) = in-tail f e
 in-tail f (thenPart x e) = in-tail f e
 in-tail f (thenCall place n a e) = rw (in-tail f e)
 
-in-argument : (m : Manner) (number : ℕ) (e : Expression) → nestedCalls (levelIn m number) e ≡ nestedCalls inside e
+in-argument : (m : Manner) (number : ℕ) (e : Expression) → nestedCalls (levelIn m number) e ≡ nestedCalls inArgument e
 in-argument emits number e = refl
 in-argument (computes op) number e = refl
 in-argument replaces number e = in-tail number e
@@ -77,17 +77,17 @@ module _ (table : Table) (shape : Shape) (sites : List (Named Site)) where
   left-flat (some f) way moving h t = t
 
   items-flat : (level : Level) (e : Expression) (w : Stand) (rest : Stand → List Action) → nestedCalls level e ≡ [] →
-      ((w₁ : Stand) → T (anyCall (rest w₁)) → ⊥) → T (anyCall (items table shape sites level e w rest)) → ⊥
-  unfolding nestedCalls items anyCall
+      ((w₁ : Stand) → T (anyCall (rest w₁)) → ⊥) → T (anyCall (itemActions table shape sites level e w rest)) → ⊥
+  unfolding nestedCalls itemActions anyCall
   items-flat level end w rest empty h t = h w t
   items-flat level (thenCharacter c e) w rest empty h t = items-flat level e w rest empty h t
   items-flat level (thenSymbol x e) w rest empty h t = items-flat level e w rest empty h t
   items-flat level (thenPart x e) w rest empty h t =
       left-flat (leftFor shape level x e) (passage shape x w) _ (items-flat level e (passage shape x w .after) rest empty h) t
   items-flat level (thenCall place n a e) w rest empty h t =
-      let parts = nested-empty (mannerOf level e n) place (nestedCalls inside a) (nestedCalls level e) empty in
+      let parts = nested-empty (mannerOf level e n) place (nestedCalls inArgument a) (nestedCalls level e) empty in
       items-flat (levelIn (mannerOf level e n) (numberOf table n)) a w _ (in-argument (mannerOf level e n) (numberOf table n) a ∙ parts .first)
-      (λ w₁. calling-flat (mannerOf level e n) place _ n w₁ (items table shape sites level e w₁ rest) empty
+      (λ w₁. calling-flat (mannerOf level e n) place _ n w₁ (itemActions table shape sites level e w₁ rest) empty
       (items-flat level e w₁ rest (parts .second) h))
       t
 

@@ -10,7 +10,7 @@ use Rattle.meaning.specs.Tree.{Element}
 use Rattle.meaning.specs.Tokens.{Token, Placed, comma, equals, lessThan, greaterThan, isSign, nameOf, Item, characters, symbolItem, partItem, noItem, itemOf, begins}
 use Rattle.meaning.specs.Grammar.{elementsOf}
 use Rattle.meaning_accepting.proofs.reading.Lists.{every-append}
-use Rattle.meaning_refusing.specs.Looking.{beforeFirst, afterFirst, afterLast, count, listed, namesFrom, called, declared, leads, begunFrom, begun, elementsIn, parting, sentenceIn}
+use Rattle.meaning_refusing.specs.Looking.{beforeFirst, pastFirst, afterLast, count, toList, namesFrom, called, declared, leads, begunFrom, begun, elementsIn, parting, sentenceIn}
 use Rattle.meaning_refusing.specs.Faults.{isMalformed, shortToken}
 use Rattle.meaning_refusing.proofs.Stages.{Stage, start, run, run-append, step}
 use Rattle.meaning_refusing.proofs.Sums.{SentenceSum, Sum, noSentence, addName, addItem, grow, next, atFirst, tallyFrom, tally}
@@ -55,8 +55,8 @@ before-more f (u ∷ s) t = by (f (u .token)) (before-more f s t)
     by true e = refl
     by false e = ap (λ z. u ∷ z) e
 
-after-more : (f : Token → Bool) (s : List Placed) (t : Placed) → afterFirst f (s ++ t ∷ []) ≡ afterFirst f s ++ pick (anyOf f s) (t ∷ []) []
-unfolding afterFirst anyOf
+after-more : (f : Token → Bool) (s : List Placed) (t : Placed) → pastFirst f (s ++ t ∷ []) ≡ pastFirst f s ++ pick (anyOf f s) (t ∷ []) []
+unfolding pastFirst anyOf
 after-more f [] t = by (f (t .token))
   where
     by : (q : Bool) → _≡_ {A = List Placed} (pick q [] []) []
@@ -64,8 +64,8 @@ after-more f [] t = by (f (t .token))
     by false = refl
 after-more f (u ∷ s) t = by (f (u .token)) (after-more f s t)
   where
-    by : (q : Bool) → afterFirst f (s ++ t ∷ []) ≡ afterFirst f s ++ pick (anyOf f s) (t ∷ []) []
-        → pick q (s ++ t ∷ []) (afterFirst f (s ++ t ∷ [])) ≡ pick q s (afterFirst f s) ++ pick (either q (anyOf f s)) (t ∷ []) []
+    by : (q : Bool) → pastFirst f (s ++ t ∷ []) ≡ pastFirst f s ++ pick (anyOf f s) (t ∷ []) []
+        → pick q (s ++ t ∷ []) (pastFirst f (s ++ t ∷ [])) ≡ pick q s (pastFirst f s) ++ pick (either q (anyOf f s)) (t ∷ []) []
     by true e = refl
     by false e = e
 
@@ -115,20 +115,20 @@ elements-append (u ∷ s) t =
 elements-more : (s : List Placed) (t : Placed) → elementsIn (s ++ t ∷ []) ≡ addItem (itemOf (t .token)) (elementsIn s)
 elements-more s t = elements-append s t ∙ add-item (itemOf (t .token)) (elementsIn s)
 
-add-name : (q : Bool) (o : Option Name) (names : List Name) → names ++ pick q (listed o) [] ≡ pick q (addName o names) names
+add-name : (q : Bool) (o : Option Name) (names : List Name) → names ++ pick q (toList o) [] ≡ pick q (addName o names) names
 add-name true none names = append-nil names
 add-name true (some n) names = refl
 add-name false o names = append-nil names
 
 names-append : (so : Bool → Bool) (q : Bool) (s : List Placed) (t : Placed)
-    → namesFrom so q (s ++ t ∷ []) ≡ namesFrom so q s ++ pick (so (lastIs (isSign lessThan) q s)) (listed (nameOf (t .token))) []
+    → namesFrom so q (s ++ t ∷ []) ≡ namesFrom so q s ++ pick (so (lastIs (isSign lessThan) q s)) (toList (nameOf (t .token))) []
 unfolding namesFrom lastIs
-names-append so q [] t = append-nil (pick (so q) (listed (nameOf (t .token))) [])
+names-append so q [] t = append-nil (pick (so q) (toList (nameOf (t .token))) [])
 names-append so q (u ∷ s) t =
     let after = isSign lessThan (u .token) in
-    ap (λ z. pick (so q) (listed (nameOf (u .token))) [] ++ z) (names-append so after s t)
-    ∙ sym (append-assoc (pick (so q) (listed (nameOf (u .token))) []) (namesFrom so after s)
-    (pick (so (lastIs (isSign lessThan) after s)) (listed (nameOf (t .token))) []))
+    ap (λ z. pick (so q) (toList (nameOf (u .token))) [] ++ z) (names-append so after s t)
+    ∙ sym (append-assoc (pick (so q) (toList (nameOf (u .token))) []) (namesFrom so after s)
+    (pick (so (lastIs (isSign lessThan) after s)) (toList (nameOf (t .token))) []))
 
 names-more : (so : Bool → Bool) (s : List Placed) (t : Placed)
     → namesFrom so false (s ++ t ∷ [])
@@ -170,9 +170,9 @@ module _ (l : List Placed) (t : Placed) where
   grown-before f true = before-more f l t
   grown-before f false = ap (beforeFirst f) (append-nil l) ∙ sym (append-nil (beforeFirst f l))
 
-  grown-after : (f : Token → Bool) (q : Bool) → afterFirst f (grown q) ≡ afterFirst f l ++ pick (both q (anyOf f l)) (t ∷ []) []
+  grown-after : (f : Token → Bool) (q : Bool) → pastFirst f (grown q) ≡ pastFirst f l ++ pick (both q (anyOf f l)) (t ∷ []) []
   grown-after f true = after-more f l t
-  grown-after f false = ap (afterFirst f) (append-nil l) ∙ sym (append-nil (afterFirst f l))
+  grown-after f false = ap (pastFirst f) (append-nil l) ∙ sym (append-nil (pastFirst f l))
 
 -- THE SENTENCE
 
@@ -184,14 +184,14 @@ sentenceOf s =
       anyEquals = anyOf (isSign equals) s;
       pattern = elementsIn (beforeFirst (isSign comma) (beforeFirst (isSign equals) s));
       commas = count (isSign comma) (beforeFirst (isSign equals) s);
-      middle = elementsIn (afterFirst (isSign comma) (beforeFirst (isSign equals) s));
-      predicates = called (afterFirst (isSign comma) (beforeFirst (isSign equals) s));
-      middleBracket = lastIs (isSign lessThan) false (afterFirst (isSign comma) (beforeFirst (isSign equals) s));
-      items = elementsIn (afterFirst (isSign equals) s);
-      calls = called (afterFirst (isSign equals) s);
-      rightBracket = lastIs (isSign lessThan) false (afterFirst (isSign equals) s);
-      opens = count (isSign lessThan) (afterFirst (isSign equals) s);
-      closes = count (isSign greaterThan) (afterFirst (isSign equals) s);
+      middle = elementsIn (pastFirst (isSign comma) (beforeFirst (isSign equals) s));
+      predicates = called (pastFirst (isSign comma) (beforeFirst (isSign equals) s));
+      middleBracket = lastIs (isSign lessThan) false (pastFirst (isSign comma) (beforeFirst (isSign equals) s));
+      items = elementsIn (pastFirst (isSign equals) s);
+      calls = called (pastFirst (isSign equals) s);
+      rightBracket = lastIs (isSign lessThan) false (pastFirst (isSign equals) s);
+      opens = count (isSign lessThan) (pastFirst (isSign equals) s);
+      closes = count (isSign greaterThan) (pastFirst (isSign equals) s);
     }
 
 either-pick : (a b : Bool) → pick b true a ≡ either a b
@@ -203,7 +203,7 @@ either-pick false false = refl
 sentence-more : (s : List Placed) (t : Placed) → sentenceOf (s ++ t ∷ []) ≡ grow (sentenceOf s) (t .token)
 sentence-more s t =
     let l = beforeFirst (isSign equals) s in
-    let r = afterFirst (isSign equals) s in
+    let r = pastFirst (isSign equals) s in
     let leftward = not (either (anyOf (isSign equals) s) (isSign equals (t .token))) in
     let middling = both leftward (anyOf (isSign comma) l) in
     rw (
@@ -216,9 +216,9 @@ sentence-more s t =
       grown-any l t (isSign comma) leftward,
       grown-count l t (isSign comma) leftward,
       grown-elements (beforeFirst (isSign comma) l) t (both leftward (not (either (anyOf (isSign comma) l) (isSign comma (t .token))))),
-      grown-elements (afterFirst (isSign comma) l) t middling,
-      grown-called (afterFirst (isSign comma) l) t middling,
-      grown-last (afterFirst (isSign comma) l) t middling,
+      grown-elements (pastFirst (isSign comma) l) t middling,
+      grown-called (pastFirst (isSign comma) l) t middling,
+      grown-last (pastFirst (isSign comma) l) t middling,
       grown-elements r t (anyOf (isSign equals) s),
       grown-called r t (anyOf (isSign equals) s),
       grown-last r t (anyOf (isSign equals) s),
@@ -228,7 +228,7 @@ sentence-more s t =
 
 sentence-parted : (q : Bool) (s : List Placed) (t : Placed)
     → sentenceOf (pick q [] (s ++ t ∷ [])) ≡ pick q noSentence (grow (sentenceOf s) (t .token))
-unfolding anyOf beforeFirst afterFirst count namesFrom lastIs elementsIn
+unfolding anyOf beforeFirst pastFirst count namesFrom lastIs elementsIn
 sentence-parted true s t = refl
 sentence-parted false s t = sentence-more s t
 
@@ -281,7 +281,7 @@ tally-from b [] = ap sumOf (sym (append-nil b))
 tally-from b (t ∷ ts) = ap (λ m. tallyFrom m ts) (sym (sum-more b t)) ∙ (tally-from (b ++ t ∷ []) ts ∙ ap sumOf (append-assoc b (t ∷ []) ts))
 
 sum-first : sumOf [] ≡ atFirst
-unfolding run every namesFrom begunFrom lastIs afterLast anyOf beforeFirst afterFirst count elementsIn
+unfolding run every namesFrom begunFrom lastIs afterLast anyOf beforeFirst pastFirst count elementsIn
 sum-first = refl
 
 -- what tokens come to is what the definitions look at

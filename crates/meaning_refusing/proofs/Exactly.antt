@@ -14,7 +14,7 @@ use Rattle.meaning.specs.Answers.{tableTooLong, undeclaredName}
 use Rattle.meaning.specs.Tree.{Table}
 use Rattle.meaning.specs.Allowed.{isByte, distinct, maxTable}
 use Rattle.meaning.specs.Tokens.{outside, Placed, tokens}
-use Rattle.meaning.specs.Reading.{Parsed, stopped, parsed, functions, unknownIn, known, verdict, refused}
+use Rattle.meaning.specs.Reading.{Parsed, stopped, parsed, parseFunctions, unknownIn, known, verdict, refused}
 use Rattle.meaning_accepting.proofs.reading.TokensSound.{tokens-sound}
 use Rattle.meaning_accepting.proofs.reading.Tables.{functions-sound}
 use Rattle.meaning_accepting.proofs.reading.Accepted.{no-refusal}
@@ -35,7 +35,7 @@ known-refused (some p) t n k e =
 
 module _ (quota : Quota) (text : Bytes) where
   abbrev result : Parsed Table
-  result = functions (quota .functions) (quota .sentences) [] (tokens text)
+  result = parseFunctions (quota .functions) (quota .sentences) [] (tokens text)
 
   abbrev Tells : Parsed Table → Type 0
   Tells x = Told quota (Whole quota) [] (tokens text) x

@@ -7,7 +7,7 @@ use native.Mathlib.Omega.{arith}
 use borrow.Author.Tests.{leb-true, leb-false}
 use lib.Dec.{leb}
 use Rattle.meaning.specs.Choice.{pick}
-use Rattle.meaning.specs.Tokens.{Placed, isLast}
+use Rattle.meaning.specs.Tokens.{Placed, isLastToken}
 use Rattle.meaning.proofs.laws.Choosing.{no-cons, not-both}
 use Rattle.meaning_accepting.proofs.reading.Basics.{impossible}
 use Rattle.meaning_accepting.proofs.reading.Lexing.{ended}
@@ -73,17 +73,17 @@ not-less n m a b = by (leb n m) refl (leb m n) refl
     by true x false y = absurd (a (omega (arith, leb-false m n y)))
 
 -- tokens that come to an end have a last one
-last-step : (q : Bool) (ts : List Placed) → (ended ts ≡ true → lastIs isLast q ts ≡ true) → pick q (isNil ts) (ended ts) ≡ true
-    → lastIs isLast q ts ≡ true
+last-step : (q : Bool) (ts : List Placed) → (ended ts ≡ true → lastIs isLastToken q ts ≡ true) → pick q (isNil ts) (ended ts) ≡ true
+    → lastIs isLastToken q ts ≡ true
 unfolding lastIs
 last-step true [] others e = refl
 last-step true (t ∷ ts) others e = impossible e
 last-step false ts others e = others e
 
-ended-last : (before : Bool) (ts : List Placed) → ended ts ≡ true → lastIs isLast before ts ≡ true
+ended-last : (before : Bool) (ts : List Placed) → ended ts ≡ true → lastIs isLastToken before ts ≡ true
 unfolding ended lastIs
 ended-last before [] e = impossible e
-ended-last before (t ∷ ts) e = last-step (isLast (t .token)) ts (ended-last (isLast (t .token)) ts) e
+ended-last before (t ∷ ts) e = last-step (isLastToken (t .token)) ts (ended-last (isLastToken (t .token)) ts) e
 
 module _ (quota : Quota) where
   -- every beginning of the tokens has no number

@@ -14,9 +14,9 @@ use Rattle.meaning.specs.Names.{predicateOf, isPredicate}
 use Rattle.meaning.specs.Answers.{overLimit, wrongName, wrongLaterVariable}
 use Rattle.meaning.specs.Tree.{Element, letter, symbol, part, Subject, ofSymbol, ofPart, Condition}
 use Rattle.meaning.specs.Allowed.{maxName, maxConditions, maxIdentifier, symbolsOf, partsOf, member}
-use Rattle.meaning.specs.Tokens.{Token, functionName, quoted, Placed, comma, colon, equals, lessThan, greaterThan, isSign, isLast, nameOf, Item, characters, symbolItem, partItem, noItem, itemOf, isItem}
+use Rattle.meaning.specs.Tokens.{Token, functionName, quoted, Placed, comma, colon, equals, lessThan, greaterThan, isSign, isLastToken, nameOf, Item, characters, symbolItem, partItem, noItem, itemOf, isItem}
 use Rattle.meaning.specs.Grammar.{standing, symbolWord, partWord, charactersOf, truthByte}
-use Rattle.meaning.specs.Reading.{Parsed, stopped, parsed, check, faultOf, faultUnless, nameOn, lengthFault, withClass, subjectFault, passSubject, truthOf, truthOn, passTruth, condition, conditions}
+use Rattle.meaning.specs.Reading.{Parsed, stopped, parsed, whereFaultless, faultOf, faultUnless, nameOn, lengthFault, withClass, subjectFault, passSubject, truthOf, truthOn, passTruth, parseCondition, parseConditions}
 use Rattle.meaning_accepting.proofs.reading.Basics.{impossible, both-left, both-right, TokenView, aString, aSymbol, aPart, another, view, sign-of, name-of}
 use Rattle.meaning_accepting.proofs.reading.Conditions.{truth-of, afterTruth, afterColon, afterClose, afterVariable, afterPredicate, afterOpen, afterCondition as goingOn, afterConditions as joining, afterComma as inCondition}
 use Rattle.meaning_accepting.proofs.reading.Lists.{every-append, member-every}
@@ -254,11 +254,11 @@ module _ (names : List Name) (begun : ℕ) (p : List Element) where
 
       -- a variable of either kind adds its element, and its name is looked for among those of its kind
       variable-told : (class : Class) (v : Subject) (c : Middle) → MiddleFits p c → (b : List Placed) (t : Placed) (ts : List Placed)
-          → At (middleAt atVariable false c) b (t ∷ ts) → isLast (t .token) ≡ false → (e : Element) (x : Name) (among : List Name)
+          → At (middleAt atVariable false c) b (t ∷ ts) → isLastToken (t .token) ≡ false → (e : Element) (x : Name) (among : List Name)
           → next (middleAt atVariable false c) t
           ≡ sentenceAt atClose (leb (length x) maxIdentifier) false false (middleSentence p (withElements c (e ∷ [])) false)
           → middleRight p (c .elements ++ e ∷ []) ≡ member x among
-          → Told quota (ConditionLeft (c .commas)) b (t ∷ ts) (check (subjectFault among x) t (afterVariable class v ts))
+          → Told quota (ConditionLeft (c .commas)) b (t ∷ ts) (whereFaultless (subjectFault among x) t (afterVariable class v ts))
       variable-told class v c f b t ts at inner e x among grows known =
           let later = withElements c (e ∷ []) in
           let m = sentenceAt atClose (leb (length x) maxIdentifier) false false (middleSentence p later false) in
@@ -317,7 +317,7 @@ module _ (names : List Name) (begun : ℕ) (p : List Element) where
 
           by-class : (n : Name) → t .token ≡ functionName n → (l : Bool) → leb (length n) maxName ≡ l → (o : Option Class) → predicateOf n ≡ o
               → Told quota (ConditionLeft (c .commas)) b (t ∷ ts)
-              (check (faultUnless l overLimit 0) t (withClass o (t .place) (λ class. passSubject (symbolsOf p) (partsOf p) ts (afterVariable class))))
+              (whereFaultless (faultUnless l overLimit 0) t (withClass o (t .place) (λ class. passSubject (symbolsOf p) (partsOf p) ts (afterVariable class))))
           by-class n e false l o q = told-stop quota (ConditionLeft (c .commas)) m b t ts here _ (name-number n e ∙ rw l)
           by-class n e true l none q = told-stop quota (ConditionLeft (c .commas)) m b t ts here _ (name-number n e ∙ rw (l, q))
           by-class n e true l (some class) q =
@@ -335,8 +335,8 @@ module _ (names : List Name) (begun : ℕ) (p : List Element) where
           by-name (some n) q = by-class n (name-of (t .token) q) (leb (length n) maxName) refl (predicateOf n) refl
 
       condition-told : (c : Middle) → MiddleFits p c → (b ts : List Placed) → At (middleAt atBracket false c) b ts
-          → Told quota (ConditionLeft (c .commas)) b ts (condition (symbolsOf p) (partsOf p) ts)
-      unfolding condition
+          → Told quota (ConditionLeft (c .commas)) b ts (parseCondition (symbolsOf p) (partsOf p) ts)
+      unfolding parseCondition
       condition-told c f b ts here =
           told-sign quota (ConditionLeft (c .commas)) (middleAt atBracket false c) refl b lessThan ts (afterOpen (symbolsOf p) (partsOf p)) here
           (λ t e. rw e)
@@ -385,8 +385,8 @@ module _ (names : List Name) (begun : ℕ) (p : List Element) where
       comma-number c f = middle-number atBracket true false false false (withComma c) refl ∙ rw (f .predicates, f .known)
 
       pub conditions-told : (left : ℕ) (c : Middle) → c .commas + left ≡ maxConditions → MiddleFits p c → (b ts : List Placed) → Waiting c b ts
-          → Told quota ConditionsLeft b ts (conditions left (symbolsOf p) (partsOf p) ts)
-      unfolding conditions
+          → Told quota ConditionsLeft b ts (parseConditions left (symbolsOf p) (partsOf p) ts)
+      unfolding parseConditions
       conditions-told zero c l f b [] w = told-cut quota ConditionsLeft w
       conditions-told zero c l f b (t ∷ ts) w =
           comma-told c b t ts (isSign comma (t .token)) (stopped overLimit (t .place)) f refl w
@@ -403,12 +403,12 @@ module _ (names : List Name) (begun : ℕ) (p : List Element) where
           told-pass quota ConditionsLeft (middleAt atBracket false m) b t ts e (inCondition left (symbolsOf p) (partsOf p) t ts)
           (sign-inner comma (t .token) q) (comma-number c f ∙ rw room)
           (λ at.
-          told-follow quota ConditionsLeft (ConditionLeft (m .commas)) (b ++ t ∷ []) ts (condition (symbolsOf p) (partsOf p) ts)
+          told-follow quota ConditionsLeft (ConditionLeft (m .commas)) (b ++ t ∷ []) ts (parseCondition (symbolsOf p) (partsOf p) ts)
           (goingOn left (symbolsOf p) (partsOf p))
           (condition-told m fits (b ++ t ∷ []) ts at)
           (λ v b₁ us r l₁.
           let same = l₁ .same in
-          told-follow quota ConditionsLeft ConditionsLeft b₁ us (conditions left (symbolsOf p) (partsOf p) us) (joining v)
+          told-follow quota ConditionsLeft ConditionsLeft b₁ us (parseConditions left (symbolsOf p) (partsOf p) us) (joining v)
           (conditions-told left (l₁ .so) (omega arith) (l₁ .fits) b₁ us (waiting-middle (l₁ .so) b₁ us (l₁ .here)))
           (λ vs b₂ vs₁ r₁ l₂.
           told-done quota ConditionsLeft {b = b₂} {ts = vs₁} (v ∷ vs)

@@ -15,7 +15,7 @@ use Rattle.meaning.specs.Tree.{Element, letter, symbol, part, Expression, end, 
 use Rattle.meaning.specs.Allowed.{maxName, maxItems, maxNesting, maxIdentifier, symbolsOf, partsOf, member, comingAfter, whereSome}
 use Rattle.meaning.specs.Tokens.{Token, functionName, sign, Placed, lessThan, greaterThan, isSign, itemOf, isItem}
 use Rattle.meaning.specs.Grammar.{standing, charactersOf}
-use Rattle.meaning.specs.Reading.{Parsed, stopped, parsed, follow, check, whether, faultUnless, passName, Progress, Items, Called, comingOr, pastItem, pastCall, itemFault, callFault, calledFault, thenItem, withFirst, call, expression}
+use Rattle.meaning.specs.Reading.{Parsed, stopped, parsed, follow, whereFaultless, whether, faultUnless, passName, Progress, Items, Called, comingOr, pastItem, pastCall, itemFault, callFault, calledFault, thenItem, withFirst, parseCall, parseExpression}
 use Rattle.meaning_accepting.proofs.reading.Basics.{impossible, passed, both-left, both-right, both-true, TokenView, aString, aSymbol, aPart, another, view, sign-of, standing-as}
 use Rattle.meaning_accepting.proofs.reading.Lists.{agree, every-append, both-comm}
 use Rattle.meaning_accepting.proofs.reading.PatternItems.{characters-same-parts, symbol-same-parts, part-adds}
@@ -142,7 +142,7 @@ abbrev pub NoMore : List Placed → Type 0
 NoMore [] = Unit {0}
 NoMore (t ∷ ts) = (isItem (itemOf (t .token)) ≡ false) × (isSign lessThan (t .token) ≡ false)
 
-follow-check : {A B : Type 0} (n : ℕ) (t : Placed) (x : Parsed A) (k : A → List Placed → Parsed B) → follow (check n t x) k ≡ check n t (follow x k)
+follow-check : {A B : Type 0} (n : ℕ) (t : Placed) (x : Parsed A) (k : A → List Placed → Parsed B) → follow (whereFaultless n t x) k ≡ whereFaultless n t (follow x k)
 follow-check zero t x k = refl
 follow-check (suc n) t x k = refl
 
@@ -287,7 +287,7 @@ module _ (names : List Name) (begun : ℕ) (p : List Element) (any : Bool) (c : 
     abbrev TellsAt : ℕ → Type 0
     TellsAt bound =
         (depth : ℕ) (so : Progress) (r : Right) → RightFits p r → Tied p r depth so → (b ts : List Placed) → length ts ≤ bound
-        → At (here (inExpression depth) false r) b ts → Told quota (ExpressionLeft depth) b ts (expression bound (symbolsOf p) depth so ts)
+        → At (here (inExpression depth) false r) b ts → Told quota (ExpressionLeft depth) b ts (parseExpression bound (symbolsOf p) depth so ts)
 
     close-told : (depth place : ℕ) (n : Name) (given : Items) (r : Right) → RightFits p r → Tied p r (suc depth) (given .progress)
         → (b ts : List Placed) → At (here (inExpression (suc depth)) false r) b ts → NoMore ts
@@ -315,14 +315,14 @@ module _ (names : List Name) (begun : ℕ) (p : List Element) (any : Bool) (c : 
 
     inside-told : (bound : ℕ) → TellsAt bound → (depth : ℕ) (so : Progress) (r : Right) → RightFits p r → Tied p r (suc depth) (pastCall so)
         → (b ts : List Placed) → length ts ≤ bound → At (here (atCalled depth) true r) b ts
-        → Told quota (CallLeft depth) b ts (passName calledFault ts (argued (expression bound (symbolsOf p)) depth so))
+        → Told quota (CallLeft depth) b ts (passName calledFault ts (argued (parseExpression bound (symbolsOf p)) depth so))
     inside-told bound tells depth so r f tied b ts l at =
-        told-name quota (CallLeft depth) (here (atCalled depth) true r) refl b calledFault ts (argued (expression bound (symbolsOf p)) depth so) at
+        told-name quota (CallLeft depth) (here (atCalled depth) true r) refl b calledFault ts (argued (parseExpression bound (symbolsOf p)) depth so) at
         (λ t e. rw e) (called-number depth r f)
         (λ n place past b₁ us shorter z at₁.
         let g = fine quota (next (here (atCalled depth) true r) (standing (functionName n) place past)) (called-number depth r f n place past ∙ z) in
         let fits : RightFits p (withCall r n) = record { limits = f .limits; calls = g .calls; known = f .known; order = f .order } in
-        told-follow quota (CallLeft depth) (ExpressionLeft (suc depth)) b₁ us (expression bound (symbolsOf p) (suc depth) (pastCall so) us)
+        told-follow quota (CallLeft depth) (ExpressionLeft (suc depth)) b₁ us (parseExpression bound (symbolsOf p) (suc depth) (pastCall so) us)
         (closing place n)
         (tells (suc depth) (pastCall so) (withCall r n) fits
         (record { items = tied .items; depth-is = tied .depth-is; coming = tied .coming }) b₁ us (omega arith)
@@ -330,31 +330,31 @@ module _ (names : List Name) (begun : ℕ) (p : List Element) (any : Bool) (c : 
         (λ given b₂ vs s l₁. close-told depth place n given (l₁ .so) (l₁ .fits) (l₁ .tied) b₂ vs (l₁ .at) (l₁ .ended)))
 
     abbrev outside : ℕ → ℕ → Called → List Placed → Parsed Items
-    outside bound depth v rest = withFirst (thenCall (v .place) (v .name) (v .argument)) (expression bound (symbolsOf p) depth (v .progress) rest)
+    outside bound depth v rest = withFirst (thenCall (v .place) (v .name) (v .argument)) (parseExpression bound (symbolsOf p) depth (v .progress) rest)
 
     expression-step : (bound : ℕ) → TellsAt bound → (depth : ℕ) (so : Progress) (r : Right) → RightFits p r → Tied p r depth so
         → (b : List Placed) (t : Placed) (ts : List Placed) → length ts ≤ bound → At (here (inExpression depth) false r) b (t ∷ ts)
         → (i o : Bool) → isItem (itemOf (t .token)) ≡ i → isSign lessThan (t .token) ≡ o
         → Told quota (ExpressionLeft depth) b (t ∷ ts)
         (pick i
-        (check (itemFault (symbolsOf p) so (itemOf (t .token))) t
-        (withFirst (thenItem (itemOf (t .token))) (expression bound (symbolsOf p) depth (pastItem (itemOf (t .token)) so) ts)))
-        (pick o (follow (call (expression bound (symbolsOf p)) depth so t ts) (outside bound depth))
+        (whereFaultless (itemFault (symbolsOf p) so (itemOf (t .token))) t
+        (withFirst (thenItem (itemOf (t .token))) (parseExpression bound (symbolsOf p) depth (pastItem (itemOf (t .token)) so) ts)))
+        (pick o (follow (parseCall (parseExpression bound (symbolsOf p)) depth so t ts) (outside bound depth))
         (parsed (record { expression = end; progress = so }) (t ∷ ts))))
     expression-step bound tells depth so r f tied b t ts l at true o q s =
         let item = itemOf (t .token) in
         let m = next (here (inExpression depth) false r) t in
         let value = item-number depth so r f tied (t .place) (t .past) (view (t .token)) q in
         told-check quota (ExpressionLeft depth) m b t ts at (itemFault (symbolsOf p) so item)
-        (withFirst (thenItem item) (expression bound (symbolsOf p) depth (pastItem item so) ts)) (item-inner (t .token) q) value
+        (withFirst (thenItem item) (parseExpression bound (symbolsOf p) depth (pastItem item so) ts)) (item-inner (t .token) q) value
         (λ z at₁.
         let (r₁, same, fits, tied₁) = item-next depth so r f tied (t .place) (t .past) (view (t .token)) q (fine quota m (value ∙ z)) in
-        told-first depth (thenItem item) (b ++ t ∷ []) ts (expression bound (symbolsOf p) depth (pastItem item so) ts)
+        told-first depth (thenItem item) (b ++ t ∷ []) ts (parseExpression bound (symbolsOf p) depth (pastItem item so) ts)
         (tells depth (pastItem item so) r₁ fits tied₁ (b ++ t ∷ []) ts l (subst (λ w. At w (b ++ t ∷ []) ts) same at₁)))
     expression-step bound tells depth so r f tied b t ts l at false true q s =
         let m = here (inExpression depth) false r in
         let mark = standing-as t (sign-of lessThan (t .token) s) in
-        let inside = passName calledFault ts (argued (expression bound (symbolsOf p)) depth so) in
+        let inside = passName calledFault ts (argued (parseExpression bound (symbolsOf p)) depth so) in
         subst (λ x. Told quota (ExpressionLeft depth) b (t ∷ ts) x) (sym (follow-check (callFault depth so) t inside (outside bound depth)))
         (told-check quota (ExpressionLeft depth) (next m t) b t ts at (callFault depth so) (follow inside (outside bound depth))
         (sign-inner lessThan (t .token) s) (ap (λ w. number quota (next m w)) mark ∙ bracket-number depth so r f tied (t .place) (t .past))
@@ -363,14 +363,14 @@ module _ (names : List Name) (begun : ℕ) (p : List Element) (any : Bool) (c : 
         (inside-told bound tells depth so (withBracket r) (bracket-fits p r f depth so tied z) (bracket-tied p r f depth so tied) (b ++ t ∷ []) ts l
         (subst (λ w. At (next m w) (b ++ t ∷ []) ts) mark at₁))
         (λ v b₁ us passes l₁.
-        told-first depth (thenCall (v .place) (v .name) (v .argument)) b₁ us (expression bound (symbolsOf p) depth (v .progress) us)
+        told-first depth (thenCall (v .place) (v .name) (v .argument)) b₁ us (parseExpression bound (symbolsOf p) depth (v .progress) us)
         (tells depth (v .progress) (l₁ .so) (l₁ .fits) (l₁ .tied) b₁ us (omega (arith, trace-length quota passes)) (l₁ .at)))))
     expression-step bound tells depth so r f tied b t ts l at false false q s =
         told-done quota (ExpressionLeft depth) (record { expression = end; progress = so })
         (record { so = r; fits = f; tied = tied; at = at; ended = (q, s) })
 
     pub expression-told : (bound : ℕ) → TellsAt bound
-    unfolding expression
+    unfolding parseExpression
     expression-told zero depth so r f tied b [] l at = told-cut quota (ExpressionLeft depth) at
     expression-told zero depth so r f tied b (t ∷ ts) l at = absurd (omega arith)
     expression-told (suc bound) depth so r f tied b [] l at = told-cut quota (ExpressionLeft depth) at

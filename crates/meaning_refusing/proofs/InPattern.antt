@@ -11,7 +11,7 @@ use Rattle.meaning.specs.Tree.{Element, letter, symbol, part}
 use Rattle.meaning.specs.Allowed.{maxLetters, maxSymbols, symbolsOf, symbolsFrom, partsOf, lettersIn, parted, distinct, member, added}
 use Rattle.meaning.specs.Tokens.{Token, Placed, itemOf, isItem}
 use Rattle.meaning.specs.Grammar.{standing, charactersOf, elementsOf}
-use Rattle.meaning.specs.Reading.{Parsed, parsed, check, patternFault, pattern, endsInPart}
+use Rattle.meaning.specs.Reading.{Parsed, parsed, whereFaultless, patternFault, parsePattern, endsInPart}
 use Rattle.meaning_accepting.proofs.reading.Basics.{impossible, both-left, both-right, TokenView, aString, aSymbol, aPart, another, view}
 use Rattle.meaning_accepting.proofs.reading.Lists.{agree}
 use Rattle.meaning_accepting.proofs.reading.PatternFacts.{parted-letter, parted-part, parted-characters}
@@ -189,7 +189,7 @@ module _ (quota : Quota) where
         → isItem (itemOf (t .token)) ≡ q → At (patternAt names begun p) b (t ∷ ts)
         → (Patterned (p ++ elementsOf (itemOf (t .token))) → At (patternAt names begun (p ++ elementsOf (itemOf (t .token)))) (b ++ t ∷ []) ts
         → Told quota (PatternLeft names begun) (b ++ t ∷ []) ts later)
-        → Told quota (PatternLeft names begun) b (t ∷ ts) (pick q (check (patternFault p (itemOf (t .token))) t later) (parsed p (t ∷ ts)))
+        → Told quota (PatternLeft names begun) b (t ∷ ts) (pick q (whereFaultless (patternFault p (itemOf (t .token))) t later) (parsed p (t ∷ ts)))
     pattern-step p h b t ts true later i here go =
         let m = patternAt names begun p in
         let seen = view (t .token) in
@@ -201,9 +201,9 @@ module _ (quota : Quota) where
     pattern-step p h b t ts false later i here go = told-done quota (PatternLeft names begun) p (record { fits = h; here = here; ended = i })
 
     pub pattern-told : (p : List Element) → Patterned p → (b ts : List Placed) → At (patternAt names begun p) b ts
-        → Told quota (PatternLeft names begun) b ts (pattern p ts)
-    unfolding pattern
+        → Told quota (PatternLeft names begun) b ts (parsePattern p ts)
+    unfolding parsePattern
     pattern-told p h b [] here = told-cut quota (PatternLeft names begun) here
     pattern-told p h b (t ∷ ts) here =
-        pattern-step p h b t ts (isItem (itemOf (t .token))) (pattern (p ++ elementsOf (itemOf (t .token))) ts) refl here
+        pattern-step p h b t ts (isItem (itemOf (t .token))) (parsePattern (p ++ elementsOf (itemOf (t .token))) ts) refl here
         (λ g at. pattern-told (p ++ elementsOf (itemOf (t .token))) g (b ++ t ∷ []) ts at)

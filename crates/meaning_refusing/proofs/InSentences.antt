@@ -13,7 +13,7 @@ use Rattle.meaning.specs.Tree.{Element, Condition, Sentence}
 use Rattle.meaning.specs.Allowed.{maxConditions, symbolsOf, symbolsFrom, partsOf, lettersIn, parted, distinct}
 use Rattle.meaning.specs.Tokens.{Token, sign, Placed, rightBrace, semicolon, comma, equals, isSign, begins}
 use Rattle.meaning.specs.Grammar.{standing}
-use Rattle.meaning.specs.Reading.{stopped, parsed, follow, whether, faultOf, faultUnless, Items, pattern, conditions, expression, sentence, afterSemicolon, afterSentence, sentences}
+use Rattle.meaning.specs.Reading.{stopped, parsed, follow, whether, faultOf, faultUnless, Items, parsePattern, parseConditions, parseExpression, parseSentence, afterSemicolon, afterSentence, parseSentences}
 use Rattle.meaning.proofs.laws.Choosing.{is-false}
 use Rattle.meaning_accepting.proofs.reading.Basics.{impossible, both-left, both-true, TokenView, aString, aSymbol, aPart, another, view, sign-of}
 use Rattle.meaning_accepting.proofs.reading.Sentences.{start as progress, afterExpression, afterEquals, afterConditions, afterPattern}
@@ -162,7 +162,7 @@ module _ (quota : Quota) where
             (quiet names begun p any (l .so) quota a h (l .fits) (inExpression 0) false noRight refl f)
             (λ at.
             told-follow quota SentenceLeft (ExpressionLeft names begun p any (l .so) 0) (b ++ t ∷ []) ts
-            (expression (length ts) (symbolsOf p) 0 (progress (partsOf p)) ts) (afterExpression p cs)
+            (parseExpression (length ts) (symbolsOf p) 0 (progress (partsOf p)) ts) (afterExpression p cs)
             (expression-told names begun p any (l .so) quota a h (l .fits) (length ts) 0 (progress (partsOf p)) noRight f (none-tied p)
             (b ++ t ∷ []) ts (omega arith) at)
             (λ v b₁ us r l₁.
@@ -170,13 +170,13 @@ module _ (quota : Quota) where
             (ending p (l .so) any v b₁ us l₁)))
         by-sign false q = told-fault quota SentenceLeft (tally (b ++ t ∷ [])) b t ts refl (l .here .on-other (l .ended) q)
 
-    sentence-told : (b ts : List Placed) → At (patternAt names begun []) b ts → Told quota SentenceLeft b ts (sentence ts)
-    unfolding sentence
+    sentence-told : (b ts : List Placed) → At (patternAt names begun []) b ts → Told quota SentenceLeft b ts (parseSentence ts)
+    unfolding parseSentence
     sentence-told b ts at =
-        told-follow quota SentenceLeft (PatternLeft names begun) b ts (pattern [] ts) afterPattern
+        told-follow quota SentenceLeft (PatternLeft names begun) b ts (parsePattern [] ts) afterPattern
         (pattern-told quota names begun a [] no-pattern b ts at)
         (λ p b₁ us r l.
-        told-follow quota SentenceLeft (ConditionsLeft names begun p quota) b₁ us (conditions maxConditions (symbolsOf p) (partsOf p) us)
+        told-follow quota SentenceLeft (ConditionsLeft names begun p quota) b₁ us (parseConditions maxConditions (symbolsOf p) (partsOf p) us)
         (afterConditions p)
         (conditions-told names begun p quota a (l .fits) maxConditions noMiddle refl
         (record { few = refl; predicates = no-predicates; known = no-middle p }) b₁ us
@@ -215,7 +215,7 @@ module _ (quota : Quota) where
   abbrev TellsSentences : ℕ → Type 0
   TellsSentences left =
       (names : List Name) (begun : ℕ) → Around quota names begun → begun + left ≡ quota .sentences → (b ts : List Placed)
-      → At (tableAt opened true names begun) b ts → Told quota (SentencesLeft names begun left) b ts (sentences left ts)
+      → At (tableAt opened true names begun) b ts → Told quota (SentencesLeft names begun left) b ts (parseSentences left ts)
 
   module _ (left : ℕ) (tells : TellsSentences left) (names : List Name) (begun : ℕ) (a : Around quota names (suc begun))
       (l : begun + suc left ≡ quota .sentences) (s : Sentence)
@@ -233,15 +233,15 @@ module _ (quota : Quota) where
           (record { begun₁ = suc begun; counted = omega arith; few = omega arith; around = a; here = at }))
 
       semicolon-told : (b ts : List Placed) → At (tableAt pastSemicolon true names (suc begun)) b ts
-          → Told quota reads b ts (afterSemicolon (sentences left) s ts)
+          → Told quota reads b ts (afterSemicolon (parseSentences left) s ts)
       semicolon-told b [] at = told-cut quota reads at
       semicolon-told b (t ∷ ts) at = by-sign (isSign rightBrace (t .token)) refl
         where
           by-sign : (q : Bool) → isSign rightBrace (t .token) ≡ q
-              → Told quota reads b (t ∷ ts) (pick q (parsed (s ∷ []) ts) (follow (sentences left (t ∷ ts)) (joined s)))
+              → Told quota reads b (t ∷ ts) (pick q (parsed (s ∷ []) ts) (follow (parseSentences left (t ∷ ts)) (joined s)))
           by-sign true q = brace-told b t ts q (at ∙ closing t (sign-of rightBrace (t .token) q))
           by-sign false q =
-              told-follow quota reads (SentencesLeft names (suc begun) left) b (t ∷ ts) (sentences left (t ∷ ts)) (joined s)
+              told-follow quota reads (SentencesLeft names (suc begun) left) b (t ∷ ts) (parseSentences left (t ∷ ts)) (joined s)
               (tells names (suc begun) a (omega arith) b (t ∷ ts) (at ∙ semicolon-open names (suc begun) t q))
               (λ ss b₁ us r l₁.
               let n = l₁ .counted in
@@ -249,21 +249,21 @@ module _ (quota : Quota) where
               told-done quota reads {b = b₁} {ts = us} (s ∷ ss)
               (record { begun₁ = l₁ .begun₁; counted = omega arith; few = omega arith; around = l₁ .around; here = l₁ .here }))
 
-      sentence-after : (b ts : List Placed) → Ending names (suc begun) b ts → Told quota reads b ts (afterSentence (sentences left) s ts)
+      sentence-after : (b ts : List Placed) → Ending names (suc begun) b ts → Told quota reads b ts (afterSentence (parseSentences left) s ts)
       sentence-after b [] w = told-cut quota reads w
       sentence-after b (t ∷ ts) w = by-sign (isSign rightBrace (t .token)) refl (isSign semicolon (t .token)) refl
         where
           by-sign : (q : Bool) → isSign rightBrace (t .token) ≡ q → (r : Bool) → isSign semicolon (t .token) ≡ r
-              → Told quota reads b (t ∷ ts) (pick q (parsed (s ∷ []) ts) (whether r t (afterSemicolon (sentences left) s ts)))
+              → Told quota reads b (t ∷ ts) (pick q (parsed (s ∷ []) ts) (whether r t (afterSemicolon (parseSentences left) s ts)))
           by-sign true q r o = brace-told b t ts q (w .on-brace q)
           by-sign false q true o =
-              told-pass quota reads (tableAt pastSemicolon true names (suc begun)) b t ts (w .on-semicolon o) (afterSemicolon (sentences left) s ts)
+              told-pass quota reads (tableAt pastSemicolon true names (suc begun)) b t ts (w .on-semicolon o) (afterSemicolon (parseSentences left) s ts)
               (sign-inner semicolon (t .token) o) (table-fine pastSemicolon true names (suc begun) refl a)
               (λ at. semicolon-told (b ++ t ∷ []) ts at)
           by-sign false q false o = told-fault quota reads (tally (b ++ t ∷ [])) b t ts refl (w .on-other q o)
 
   pub sentences-told : (left : ℕ) → TellsSentences left
-  unfolding sentences
+  unfolding parseSentences
   sentences-told zero names begun a l b [] at = told-cut quota (SentencesLeft names begun 0) at
   sentences-told zero names begun a l b (t ∷ ts) at = by-begin (begins (t .token)) refl
     where
@@ -278,11 +278,11 @@ module _ (quota : Quota) where
   sentences-told (suc left) names begun a l b (t ∷ ts) at = by-begin (sentences-told left) (begins (t .token)) refl
     where
       by-begin : TellsSentences left → (q : Bool) → begins (t .token) ≡ q
-          → Told quota (SentencesLeft names begun (suc left)) b (t ∷ ts) (whether q t (follow (sentence (t ∷ ts)) (afterSentence (sentences left))))
+          → Told quota (SentencesLeft names begun (suc left)) b (t ∷ ts) (whether q t (follow (parseSentence (t ∷ ts)) (afterSentence (parseSentences left))))
       by-begin tells true q =
           let more = around-more names begun a (omega arith) in
           told-follow quota (SentencesLeft names begun (suc left)) (SentenceLeft names (suc begun) more) b (t ∷ ts)
-          (sentence (t ∷ ts)) (afterSentence (sentences left))
+          (parseSentence (t ∷ ts)) (afterSentence (parseSentences left))
           (sentence-told names (suc begun) more b (t ∷ ts) (at ∙ begin-pattern names begun t q))
           (λ s b₁ us r w. sentence-after left tells names begun more l s b₁ us w)
       by-begin tells false q =

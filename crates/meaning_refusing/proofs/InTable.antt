@@ -13,8 +13,8 @@ use Rattle.meaning.specs.Names.{isReserved}
 use Rattle.meaning.specs.Answers.{overLimit, wrongName}
 use Rattle.meaning.specs.Tree.{Function, Table}
 use Rattle.meaning.specs.Allowed.{maxName, distinct, member, namesOf}
-use Rattle.meaning.specs.Tokens.{Placed, isLast, leftBrace, semicolon, isSign, isTextEnd, nameOf}
-use Rattle.meaning.specs.Reading.{Parsed, parsed, cutShort, follow, check, faultOf, nameOn, sentences, passSpare, declaredFault, function, functions}
+use Rattle.meaning.specs.Tokens.{Placed, isLastToken, leftBrace, semicolon, isSign, isTextEnd, nameOf}
+use Rattle.meaning.specs.Reading.{Parsed, parsed, cutShort, follow, whereFaultless, faultOf, nameOn, parseSentences, passSpare, declaredFault, parseFunction, parseFunctions}
 use Rattle.meaning_accepting.proofs.reading.Basics.{impossible, passed, both-left, both-right, both-true, sign-of, name-of}
 use Rattle.meaning_accepting.proofs.reading.Lists.{every-append, distinct-after, both-comm}
 use Rattle.meaning_accepting.proofs.reading.Tables.{declared, afterBrace, afterName, afterFunction as goingOn, names-append}
@@ -43,7 +43,7 @@ ended-closed (t ∷ ts) e = e
 
 closed-tail : (t : Placed) (ts : List Placed) → Closed (t ∷ ts) → Closed ts
 unfolding ended
-closed-tail t ts e = by-last (isLast (t .token)) e
+closed-tail t ts e = by-last (isLastToken (t .token)) e
   where
     by-last : (q : Bool) → pick q (isNil ts) (ended ts) ≡ true → Closed ts
     by-last true e = subst Closed (sym (is-nil ts e)) tt
@@ -158,14 +158,14 @@ module _ (quota : Quota) where
         (λ t e. rw e)
         (λ place past. table-fine quota opened true (names ++ n ∷ []) begun refl more)
         (λ place past b₁ us at₁.
-        told-follow quota (FunctionLeft names begun left) (SentencesLeft quota (names ++ n ∷ []) begun left) b₁ us (sentences left us) (declared n)
+        told-follow quota (FunctionLeft names begun left) (SentencesLeft quota (names ++ n ∷ []) begun left) b₁ us (parseSentences left us) (declared n)
         (sentences-told quota left (names ++ n ∷ []) begun more l b₁ us at₁)
         (λ ss b₂ vs r l₁.
         told-done quota (FunctionLeft names begun left) {b = b₂} {ts = vs} (record { name = n; sentences = ss })
         (record { begun₁ = l₁ .begun₁; counted = l₁ .counted; few = l₁ .few; around = l₁ .around; here = l₁ .here })))
 
     function-told : length names + 1 ≤ quota .functions → (b : List Placed) (t : Placed) (ts : List Placed) → OutsideAt names begun b t
-        → isTextEnd (t .token) ≡ false → Told quota (FunctionLeft names begun left) b (t ∷ ts) (function (declaredFault before) left (t ∷ ts))
+        → isTextEnd (t .token) ≡ false → Told quota (FunctionLeft names begun left) b (t ∷ ts) (parseFunction (declaredFault before) left (t ∷ ts))
     unfolding names
     function-told few b t ts w e = by-name (nameOf (t .token)) refl
       where
@@ -185,7 +185,7 @@ module _ (quota : Quota) where
         by-name (some n) q = by-fault (declaredFault before n) refl
           where
             by-fault : (m : ℕ) → declaredFault before n ≡ m
-                → Told quota (FunctionLeft names begun left) b (t ∷ ts) (check m t (afterName left (t .place) n ts))
+                → Told quota (FunctionLeft names begun left) b (t ∷ ts) (whereFaultless m t (afterName left (t .place) n ts))
             by-fault zero z =
                 told-pass quota (FunctionLeft names begun left) (nameAt names begun n) b t ts (w .on-name n q) (afterName left (t .place) n ts)
                 (name-inner (t .token) q) (name-number n ∙ z)
@@ -213,30 +213,30 @@ module _ (quota : Quota) where
   TellsFunctions left =
       (sentencesLeft : ℕ) (before : Table) (begun : ℕ) → Around quota (namesOf before) begun → length before + left ≡ quota .functions
       → begun + sentencesLeft ≡ quota .sentences → (b ts : List Placed) → Outside (namesOf before) begun b ts → Closed ts
-      → Told quota Whole b ts (functions left sentencesLeft before ts)
+      → Told quota Whole b ts (parseFunctions left sentencesLeft before ts)
 
   -- a spare `;`
   spare-told : (left : ℕ) → TellsFunctions left → (sentencesLeft : ℕ) (before : Table) (begun : ℕ) → Around quota (namesOf before) begun
       → length before + left ≡ quota .functions → begun + sentencesLeft ≡ quota .sentences → (b ts : List Placed)
       → At (tableAt afterFunction false (namesOf before) begun) b ts → Closed ts
-      → Told quota Whole b ts (functions left sentencesLeft before (passSpare ts))
+      → Told quota Whole b ts (parseFunctions left sentencesLeft before (passSpare ts))
   spare-told left tells sentencesLeft before begun a l m b [] here c = tells sentencesLeft before begun a l m b [] here tt
   spare-told left tells sentencesLeft before begun a l m b (t ∷ ts) here c = by-sign (isSign semicolon (t .token)) refl
     where
-      by-sign : (q : Bool) → isSign semicolon (t .token) ≡ q → Told quota Whole b (t ∷ ts) (functions left sentencesLeft before (pick q ts (t ∷ ts)))
+      by-sign : (q : Bool) → isSign semicolon (t .token) ≡ q → Told quota Whole b (t ∷ ts) (parseFunctions left sentencesLeft before (pick q ts (t ∷ ts)))
       by-sign true q =
           told-pass quota Whole (tableAt start true (namesOf before) begun) b t ts (here ∙ rw (sign-of semicolon (t .token) q))
-          (functions left sentencesLeft before ts) (sign-inner semicolon (t .token) q) (table-fine quota start true (namesOf before) begun refl a)
+          (parseFunctions left sentencesLeft before ts) (sign-inner semicolon (t .token) q) (table-fine quota start true (namesOf before) begun refl a)
           (λ at.
           tells sentencesLeft before begun a l m (b ++ t ∷ []) ts (outside-start (namesOf before) begun true a (b ++ t ∷ []) ts at)
           (closed-tail t ts c))
       by-sign false q = tells sentencesLeft before begun a l m b (t ∷ ts) (outside-after (namesOf before) begun a b t ts here q) c
 
   functions-told : (left : ℕ) → TellsFunctions left
-  unfolding functions names
+  unfolding parseFunctions names
   functions-told zero sentencesLeft before begun a l m b [] w c = told-cut quota Whole w
   functions-told zero sentencesLeft before begun a l m b (t ∷ ts) w c =
-      end-told before begun b t ts (follow (function (λ n. overLimit) sentencesLeft (t ∷ ts)) (λ f rest. cutShort)) w c (isTextEnd (t .token)) refl
+      end-told before begun b t ts (follow (parseFunction (λ n. overLimit) sentencesLeft (t ∷ ts)) (λ f rest. cutShort)) w c (isTextEnd (t .token)) refl
       (λ e. by-name e (nameOf (t .token)) refl)
     where
       by-name : isTextEnd (t .token) ≡ false → (o : Option Name) → nameOf (t .token) ≡ o
@@ -249,11 +249,11 @@ module _ (quota : Quota) where
   functions-told (suc left) sentencesLeft before begun a l m b [] w c = told-cut quota Whole w
   functions-told (suc left) sentencesLeft before begun a l m b (t ∷ ts) w c =
       end-told before begun b t ts
-      (follow (function (declaredFault before) sentencesLeft (t ∷ ts)) (goingOn (functions left) sentencesLeft before)) w c
+      (follow (parseFunction (declaredFault before) sentencesLeft (t ∷ ts)) (goingOn (parseFunctions left) sentencesLeft before)) w c
       (isTextEnd (t .token)) refl
       (λ e.
-      told-follow quota Whole (FunctionLeft (namesOf before) begun sentencesLeft) b (t ∷ ts) (function (declaredFault before) sentencesLeft (t ∷ ts))
-      (goingOn (functions left) sentencesLeft before)
+      told-follow quota Whole (FunctionLeft (namesOf before) begun sentencesLeft) b (t ∷ ts) (parseFunction (declaredFault before) sentencesLeft (t ∷ ts))
+      (goingOn (parseFunctions left) sentencesLeft before)
       (function-told before begun sentencesLeft a m (rw (names-length before) (omega arith)) b t ts w e)
       (λ f b₁ us passes r.
       let n = r .counted in
@@ -272,7 +272,7 @@ module _ (quota : Quota) where
   unfolding tallyFrom
   nothing-fine = table-fine quota start false [] 0 refl none-around
 
-  pub table-told : (ts : List Placed) → Closed ts → Told quota Whole [] ts (functions (quota .functions) (quota .sentences) [] ts)
+  pub table-told : (ts : List Placed) → Closed ts → Told quota Whole [] ts (parseFunctions (quota .functions) (quota .sentences) [] ts)
   unfolding tallyFrom lastIs
   table-told ts c =
       functions-told (quota .functions) (quota .sentences) [] 0 none-around (omega arith) (omega arith) [] ts

@@ -10,7 +10,7 @@ use Rattle.meaning.specs.Allowed.{parted, distinct}
 use Rattle.meaning.specs.Tokens.{Placed, tokens}
 use Rattle.meaning.specs.Reading.{Read, accepted, refused, read}
 use Rattle.meaning.proofs.rows.Read.{bytes, again, hold}
-use Rattle.meaning_refusing.specs.Looking.{beforeFirst, afterFirst, afterLast, count, namesFrom, begunFrom, elementsIn}
+use Rattle.meaning_refusing.specs.Looking.{beforeFirst, pastFirst, afterLast, count, namesFrom, begunFrom, elementsIn}
 use Rattle.meaning_refusing.specs.Faults.{Quota, quotaAfter, comingAfterEach, unknownFrom, undeclared}
 use Rattle.meaning_refusing.proofs.Stages.{run}
 use Rattle.meaning_refusing.proofs.Computed.{faultsOf}
@@ -40,7 +40,7 @@ answered (refused n k) next = next n k
 
 -- every definition on the way to a row's numbers
 unfoldable faultsAmong : Quota → List Placed → List ℕ
-unfolding hold every distinct parted beforeFirst afterFirst afterLast count namesFrom begunFrom elementsIn comingAfterEach run
+unfolding hold every distinct parted beforeFirst pastFirst afterLast count namesFrom begunFrom elementsIn comingAfterEach run
 faultsAmong quota ts = faultsOf quota ts
 
 unfoldable computed : Bytes → Row

@@ -9,10 +9,10 @@ use lib.Dec.{leb}
 use lib.ListN.{length}
 use Rattle.meaning.specs.Choice.{Name}
 use Rattle.meaning.specs.Answers.{malformedToken, notAllowedHere}
-use Rattle.meaning.specs.Tokens.{Token, functionName, word, quoted, sign, textEnd, malformed, Placed, isLast, isSign, nameOf, itemOf, isItem}
+use Rattle.meaning.specs.Tokens.{Token, functionName, word, quoted, sign, textEnd, malformed, Placed, isLastToken, isSign, nameOf, itemOf, isItem}
 use Rattle.meaning.specs.Allowed.{maxConditions}
 use Rattle.meaning.specs.Grammar.{standing}
-use Rattle.meaning.specs.Reading.{Parsed, stopped, parsed, cutShort, follow, faultOf, refuse, whether, check, faultUnless, pass, passName, nameOn}
+use Rattle.meaning.specs.Reading.{Parsed, stopped, parsed, cutShort, follow, faultOf, refuse, whether, whereFaultless, faultUnless, pass, passName, nameOn}
 use Rattle.meaning_accepting.proofs.reading.Basics.{impossible, both-left, both-right, passed, sign-of, name-of, standing-as}
 use Rattle.meaning_refusing.specs.Faults.{isMalformed, Quota}
 use Rattle.meaning_refusing.proofs.Stages.{failed, step, going}
@@ -20,13 +20,13 @@ use Rattle.meaning_refusing.proofs.Sums.{Sum, next, tally, atFirst, tal
 
 -- TOKENS AFTER WHICH OTHERS COME
 
-pub sign-inner : (c : ℕ) (token : Token) → isSign c token ≡ true → isLast token ≡ false
+pub sign-inner : (c : ℕ) (token : Token) → isSign c token ≡ true → isLastToken token ≡ false
 sign-inner c token e = rw (sign-of c token e)
 
-pub name-inner : (token : Token) {n : Name} → nameOf token ≡ some n → isLast token ≡ false
+pub name-inner : (token : Token) {n : Name} → nameOf token ≡ some n → isLastToken token ≡ false
 name-inner token e = rw (name-of token e)
 
-pub item-inner : (token : Token) → isItem (itemOf token) ≡ true → isLast token ≡ false
+pub item-inner : (token : Token) → isItem (itemOf token) ≡ true → isLastToken token ≡ false
 item-inner (functionName n) e = refl
 item-inner (word w) e = refl
 item-inner (quoted text) e = refl
@@ -46,7 +46,7 @@ last-more f before (u ∷ s) t = last-more f (f (u .token)) s t
 
 -- others come after the tokens
 abbrev pub Open : List Placed → Type 0
-Open b = lastIs isLast false b ≡ false
+Open b = lastIs isLastToken false b ≡ false
 
 -- the tokens so far come to this, as far as the next token shows
 abbrev pub At : Sum → List Placed → List Placed → Type 0
@@ -126,13 +126,13 @@ module _ (quota : Quota) where
       pub told-stop : (n : ℕ) → number quota m ≡ suc n → Told reads b (t ∷ ts) (stopped (suc n) (t .place))
       told-stop n e = record { used = b; first = t; others = ts; trace = stay; place = refl; fault = ap (number quota) same ∙ e }
 
-      pub told-pass : (later : Parsed A) → isLast (t .token) ≡ false → number quota m ≡ 0
+      pub told-pass : (later : Parsed A) → isLastToken (t .token) ≡ false → number quota m ≡ 0
           → (At m (b ++ t ∷ []) ts → Told reads (b ++ t ∷ []) ts later) → Told reads b (t ∷ ts) later
       told-pass later o e h =
-          told-after (go (ap (number quota) same ∙ e) stay) later (h (at-tally m (b ++ t ∷ []) ts (last-more isLast false b t ∙ o) same))
+          told-after (go (ap (number quota) same ∙ e) stay) later (h (at-tally m (b ++ t ∷ []) ts (last-more isLastToken false b t ∙ o) same))
 
-      pub told-check : (n : ℕ) (later : Parsed A) → isLast (t .token) ≡ false → number quota m ≡ n
-          → (n ≡ 0 → At m (b ++ t ∷ []) ts → Told reads (b ++ t ∷ []) ts later) → Told reads b (t ∷ ts) (check n t later)
+      pub told-check : (n : ℕ) (later : Parsed A) → isLastToken (t .token) ≡ false → number quota m ≡ n
+          → (n ≡ 0 → At m (b ++ t ∷ []) ts → Told reads (b ++ t ∷ []) ts later) → Told reads b (t ∷ ts) (whereFaultless n t later)
       told-check zero later o e h = told-pass later o e (h refl)
       told-check (suc n) later o e h = told-stop n e
 

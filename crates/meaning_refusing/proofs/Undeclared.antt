@@ -12,7 +12,7 @@ use Rattle.meaning.specs.Names.{isPredicate, isBuiltIn, isReserved, numberFrom,
 use Rattle.meaning.specs.Tree.{Element, Subject, Condition, Expression, end, thenCharacter, thenSymbol, thenPart, thenCall, Sentence, Function, Table}
 use Rattle.meaning.specs.Allowed.{isByte, member, namesOf, allowedFunction, allowedSentence, allowedPattern, allowedConditions, spelledItems, spelledName, someSentence, symbolsOf, partsOf}
 use Rattle.meaning.specs.Tokens.{Token, functionName, quoted, Placed, lessThan, isSign, nameOf}
-use Rattle.meaning.specs.Grammar.{standing, symbolWord, partWord, written, IsLetters, stringLetters, variableLetter, IsTemplate, lettersAlone, lettersThen, IsTemplateOrNone, noTemplate, someTemplate, IsPattern, noPart, onePart, twoParts, IsSubject, symbolSubject, partSubject, IsCondition, isCondition, IsConditions, noConditions, conditionThen, IsExpression, noItems, stringThen, symbolThen, partThen, callThen, IsSentence, isSentence, IsSentences, lastSentence, lastSentenceParted, sentenceThen, IsFunction, isFunction, IsProgram, noFunctions, functionThen, functionPartedThen}
+use Rattle.meaning.specs.Grammar.{standing, symbolWord, partWord, thenCharacters, IsLetters, stringLetters, variableLetter, IsTemplate, lettersAlone, lettersThen, IsTemplateOrNone, noTemplate, someTemplate, IsPattern, noPart, onePart, twoParts, IsSubject, symbolSubject, partSubject, IsCondition, isCondition, IsConditions, noConditions, conditionThen, IsExpression, noItems, stringThen, symbolThen, partThen, callThen, IsSentence, isSentence, IsSentences, lastSentence, lastSentenceParted, sentenceThen, IsFunction, isFunction, IsProgram, noFunctions, functionThen, functionPartedThen}
 use Rattle.meaning.specs.Reading.{unknownCall, unknownInSentences, unknownIn}
 use Rattle.meaning_accepting.proofs.reading.Basics.{both-left, both-right}
 use Rattle.meaning_refusing.specs.Looking.{namesFrom, declared}
@@ -82,8 +82,8 @@ module _ {R : Type 0} (k : Look R) where
   conditions-scan noConditions = refl
   conditions-scan (conditionThen c d) = k .quiet _ _ refl ∙ (condition-scan c ∙ conditions-scan d)
 
-  over-written : (text : Bytes) (e : Expression) (r : R) → overExpression (written text e) r ≡ overExpression e r
-  unfolding written overExpression
+  over-written : (text : Bytes) (e : Expression) (r : R) → overExpression (thenCharacters text e) r ≡ overExpression e r
+  unfolding thenCharacters overExpression
   over-written [] e r = refl
   over-written (c ∷ text) e r = over-written text e r
 

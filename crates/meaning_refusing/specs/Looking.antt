@@ -14,9 +14,9 @@ unfoldable pub beforeFirst : (Token → Bool) → List Placed → List Placed
 beforeFirst f [] = []
 beforeFirst f (t ∷ ts) = pick (f (t .token)) [] (t ∷ beforeFirst f ts)
 
-unfoldable pub afterFirst : (Token → Bool) → List Placed → List Placed
-afterFirst f [] = []
-afterFirst f (t ∷ ts) = pick (f (t .token)) ts (afterFirst f ts)
+unfoldable pub pastFirst : (Token → Bool) → List Placed → List Placed
+pastFirst f [] = []
+pastFirst f (t ∷ ts) = pick (f (t .token)) ts (pastFirst f ts)
 
 unfoldable pub afterLast : List Placed → (Token → Bool) → List Placed → List Placed
 afterLast so f [] = so
@@ -27,16 +27,16 @@ count f [] = 0
 count f (t ∷ ts) = pick (f (t .token)) 1 0 + count f ts
 
 -- a function's name, if the token is one
-abbrev pub listed : Option Name → List Name
-listed none = []
-listed (some n) = n ∷ []
+abbrev pub toList : Option Name → List Name
+toList none = []
+toList (some n) = n ∷ []
 
 -- the names that stand right after a `<`, or the others, as a test on that says; the flag says whether a `<` stands
 -- right before the tokens
 unfoldable pub namesFrom : (Bool → Bool) → Bool → List Placed → List Name
 namesFrom wanted after [] = []
 namesFrom wanted after (t ∷ ts) =
-    pick (wanted after) (listed (nameOf (t .token))) [] ++ namesFrom wanted (isSign lessThan (t .token)) ts
+    pick (wanted after) (toList (nameOf (t .token))) [] ++ namesFrom wanted (isSign lessThan (t .token)) ts
 
 abbrev pub called : List Placed → List Name
 called ts = namesFrom (λ after. after) false ts
@@ -74,10 +74,10 @@ abbrev pub leftSide : List Placed → List Placed
 leftSide ts = beforeFirst (isSign equals) (sentenceIn ts)
 
 abbrev pub rightSide : List Placed → List Placed
-rightSide ts = afterFirst (isSign equals) (sentenceIn ts)
+rightSide ts = pastFirst (isSign equals) (sentenceIn ts)
 
 abbrev pub patternIn : List Placed → List Element
 patternIn ts = elementsIn (beforeFirst (isSign comma) (leftSide ts))
 
 abbrev pub conditionsIn : List Placed → List Placed
-conditionsIn ts = afterFirst (isSign comma) (leftSide ts)
+conditionsIn ts = pastFirst (isSign comma) (leftSide ts)

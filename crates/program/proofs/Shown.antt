@@ -14,8 +14,8 @@ use Rattle.meaning.specs.Demanded.{demanded}
 use Rattle.meaning.specs.Reading.{Read, accepted, refused, read}
 use Rattle.meaning.specs.Translation.{translate}
 use Rattle.meaning.specs.Packing.{Words, pack}
-use Rattle.meaning.specs.Leaving.{Cells, Leaving, left, roomOf}
-use Rattle.meaning.specs.Leaving.{refused as unrun}
+use Rattle.meaning.specs.Leaving.{Cells, Leaving, afterRun, roomOf}
+use Rattle.meaning.specs.Leaving.{refusedRun as unrun}
 use Rattle.meaning.proofs.laws.Choosing.{of-either}
 use Rattle.run_code.specs.Leaving.{cells}
 use Rattle.engine.specs.declared.Report.{Report}
@@ -32,7 +32,7 @@ record Kept (leaving : Leaving) : Type 0 where
 kept-unrun : (number : ℕ) (lent : Cells) → Kept (unrun number lent)
 kept-unrun number lent = record { emissions = refl; text = refl }
 
-kept-left : (r : Result) (lent : Cells) → Kept (left r lent)
+kept-left : (r : Result) (lent : Cells) → Kept (afterRun r lent)
 kept-left r lent =
     record { emissions = take-at (r .emissions) _ _ refl; text = take-at (r .text) _ _ refl }
 

@@ -12,13 +12,13 @@ use Rattle.meaning.specs.Choice.{Bytes}
 use Rattle.io.specs.Digits.{digits, Fewest}
 use Rattle.byte_writing.specs.Put.{Put}
 use Rattle.byte_writing.proofs.Writing.{put-then}
-use Rattle.program_printing.specs.Texts.{numberCells, counted, Prints, PutAtMost}
+use Rattle.program_printing.specs.Texts.{numberCells, numberThen, Prints, PutAtMost}
 use Rattle.program_printing.proofs.Numerals.{fewest-numeral, fewest-short}
 
 -- the digits of a number, and the byte after them
 pub counted-put : {n after at count next last : ℕ} (text : Bytes) {old mid new : Bytes} → count ≡ length (take count text) → Fits w64 n → Fewest 10 1 n count
     → take count text ≡ digits 10 count n → Put at old (take count text) next mid → Put next mid (after ∷ []) last new
-    → PutAtMost numberCells at old (counted n after) last new
+    → PutAtMost numberCells at old (numberThen n after) last new
 counted-put {n} {count = count} text size fits fewest are p q =
     record {
       put = put-then (rw (are, fewest-numeral count n fewest) at p) q;

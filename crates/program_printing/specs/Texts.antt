@@ -21,15 +21,15 @@ abbrev pub numeral : ℕ → Bytes
 numeral n = numeralOf (suc n) n
 
 -- the bytes after a number or a name
-abbrev pub blank : ℕ
-blank = 32
+abbrev pub space : ℕ
+space = 32
 
 abbrev pub lineEnd : ℕ
 lineEnd = 10
 
 -- a number, and the byte after it
-abbrev pub counted : ℕ → ℕ → Bytes
-counted n after = numeral n ++ after ∷ []
+abbrev pub numberThen : ℕ → ℕ → Bytes
+numberThen n after = numeral n ++ after ∷ []
 
 -- its cells at most: a number of the code has up to 20 digits
 abbrev pub numberCells : ℕ
@@ -41,16 +41,16 @@ isRefusal number = either (both (ltb 0 number) (ltb number noSuchStart)) (eqb nu
 
 -- "For a refused table it prints number and place only"
 abbrev pub refusalText : ℕ → ℕ → Bytes
-refusalText number place = counted number blank ++ counted place lineEnd
+refusalText number place = numberThen number space ++ numberThen place lineEnd
 
 -- "prints answer, function, steps; the record; the result and a line end"
 abbrev pub resultText : ℕ → ℕ → ℕ → Bytes → Bytes → Bytes
 resultText answer function steps emissions text =
-    counted answer blank ++ (counted function blank ++ (counted steps lineEnd ++ (emissions ++ (text ++ lineEnd ∷ []))))
+    numberThen answer space ++ (numberThen function space ++ (numberThen steps lineEnd ++ (emissions ++ (text ++ lineEnd ∷ []))))
 
 -- 02, T-01: "After the result the program prints a line for each function in declaration order, with number, name and applications"
 abbrev pub profileLine : ℕ → Name → ℕ → Bytes
-profileLine number name applications = counted number blank ++ (name ++ (blank ∷ counted applications lineEnd))
+profileLine number name applications = numberThen number space ++ (name ++ (space ∷ numberThen applications lineEnd))
 
 -- the lines of functions numbered on after `before`, with as many counts
 unfoldable pub profileLines : ℕ → List Name → List ℕ → Bytes
@@ -61,10 +61,10 @@ profileLines before (name ∷ names) (applications ∷ counts) =
 
 -- "then `total` and the steps"
 abbrev pub totalWord : Bytes
-totalWord = 116 ∷ 111 ∷ 116 ∷ 97 ∷ 108 ∷ blank ∷ []
+totalWord = 116 ∷ 111 ∷ 116 ∷ 97 ∷ 108 ∷ space ∷ []
 
 abbrev pub profileText : List Name → List ℕ → ℕ → Bytes
-profileText names counts steps = profileLines 0 names counts ++ (totalWord ++ counted steps lineEnd)
+profileText names counts steps = profileLines 0 names counts ++ (totalWord ++ numberThen steps lineEnd)
 
 -- a text stands at the front of the cells, and those after it are as they were
 pub record Prints (text old : Bytes) (count : ℕ) (new : Bytes) : Type 0 where

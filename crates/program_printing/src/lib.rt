@@ -5,7 +5,7 @@ ghost use mathlib.Core.Path.{_≡_};
 ghost use Prim.Native.Nat.{_+_, _*_, _<_};
 ghost use lib.ListN.{length};
 ghost use Rattle.byte_writing.specs.Put.{farthest};
-ghost use Rattle.program_printing.specs.Texts.{numberCells, isRefusal, counted, refusalText, resultText, PutAtMost};
+ghost use Rattle.program_printing.specs.Texts.{numberCells, isRefusal, numberThen, refusalText, resultText, PutAtMost};
 
 // 1 to 8 and 17 are answered before any run.
 pub fn is_refusal(number: u64) -> bool
@@ -23,7 +23,7 @@ pub fn is_refusal(number: u64) -> bool
 // A number in decimal and the byte after it.
 pub fn put_number(out: &mut [u8], at: usize, n: u64, after: u8) -> usize
     requires { ⌜ at + numberCells < farthest ⌝ }
-    ensures { λ r. ⌜ PutAtMost numberCells at (now (out .entry)) (counted n after) r (now (out .exit)) ⌝ }
+    ensures { λ r. ⌜ PutAtMost numberCells at (now (out .entry)) (numberThen n after) r (now (out .exit)) ⌝ }
 {
     let mut digits = [0u8; 20];
     let count = io::decimal(n, &mut digits);

@@ -16,8 +16,8 @@ use Rattle.meaning.proofs.laws.Passing.{both-left, both-pass, every-head, every
 use Rattle.meaning.proofs.laws.Spelling.{name-bytes, name-short}
 use Rattle.tape_words.specs.Words.{nameIn, headName, headNames}
 use Rattle.tape_words.proofs.laws.Names.{name-part}
-use Rattle.code_sentences.specs.Trees.{functionsIn, functionIn, treeOf}
-use Rattle.code_table.specs.Declaring.{Inside, wordsFrom, HeadsAll}
+use Rattle.code_sentences.specs.Trees.{functionsOnTape, functionOnTape, treeOf}
+use Rattle.code_table.specs.Declaring.{HeadsInside, wordsFrom, HeadsAll}
 use Rattle.code_table.proofs.laws.Retraced.{tape-retraced}
 use Rattle.read_table.specs.declared.Reading.{Reading}
 use Rattle.read_table.specs.Reads.{treeTape, Reads}
@@ -27,11 +27,11 @@ use Rattle.program_profile.specs.Profiles.{namesRead, Spelled, AllSpelle
 -- NAMES
 
 -- the names of the functions found are those of the tree that the words are read as
-function-name : (ws : List ℕ) → nameIn ws ≡ functionIn ws .name
+function-name : (ws : List ℕ) → nameIn ws ≡ functionOnTape ws .name
 function-name [] = refl
 function-name (w ∷ ws) = refl
 
-names-found : (ws : List (List ℕ)) → map nameIn ws ≡ namesOf (map functionIn ws)
+names-found : (ws : List (List ℕ)) → map nameIn ws ≡ namesOf (map functionOnTape ws)
 names-found [] = refl
 names-found (w ∷ ws) = rw (function-name w, names-found ws)
 
@@ -41,14 +41,14 @@ names-from ws (h ∷ hs) = rw (names-from ws hs)
 
 -- those of a read table
 tree-names : (x : Read) → Known x → namesOf (treeOf (treeTape x)) ≡ namesRead x
-unfolding functionsIn
+unfolding functionsOnTape
 tree-names (accepted t) known = ap namesOf (tape-retraced t known)
 tree-names (refused number place) known = refl
 
 heads-named : {ws heads : List ℕ} {count : ℕ} (x : Read) → Known x → ws ≡ treeTape x → HeadsAll ws heads count
     → headNames ws (take count heads) ≡ namesRead x
 heads-named {ws} {heads} {count} x known e all =
-    names-from ws (take count heads) ∙ ap (map nameIn) (all .found) ∙ names-found (take maxFunctions (functionsIn ws)) ∙ rw e (tree-names x known)
+    names-from ws (take count heads) ∙ ap (map nameIn) (all .found) ∙ names-found (take maxFunctions (functionsOnTape ws)) ∙ rw e (tree-names x known)
 
 -- SPELLING
 
@@ -85,7 +85,7 @@ name-byte ws head i s h =
     ap (λ (n : Name). getD n i 0) (name-part ws head) ∙ getD-take (length (headName ws head)) (drop (head + 1) ws) i 0 h ∙ getD-drop (head + 1) ws i 0 in
     rw (← there) (byte-at (headName ws head) i (s .bytes))
 
-heads-spelled : (ws heads : List ℕ) (x : Read) → Known x → headNames ws heads ≡ namesRead x → Inside ws heads (length heads) → AllSpelled ws heads
+heads-spelled : (ws heads : List ℕ) (x : Read) → Known x → headNames ws heads ≡ namesRead x → HeadsInside ws heads (length heads) → AllSpelled ws heads
 heads-spelled ws heads x known e inside k h =
     let spelled = name-at ws heads k h (rw e (names-spelled x known)) in
     record {

@@ -9,7 +9,7 @@ use lib.ListN.{length, set, length-append}
 use Rattle.meaning.specs.Choice.{Bytes, every}
 use Rattle.tape_layout.specs.Tape.{named}
 use Rattle.meaning.specs.Tokens.{Placed}
-use Rattle.meaning.specs.Reading.{Parsed, stopped, parsed, follow, whether, isSign, pass, check}
+use Rattle.meaning.specs.Reading.{Parsed, stopped, parsed, follow, whether, isSign, pass, whereFaultless}
 use Rattle.meaning.proofs.laws.Passing.{both-pass}
 use Rattle.read_tokens.specs.View as View
 use Rattle.read_tokens.specs.declared.Span.{Span}
@@ -26,7 +26,7 @@ use Rattle.read_bookkeeping.proofs.Words.{written-none, written-one, wr
 -- STOPPING
 
 -- a fault that is none of no faults stops
-pub check-wrong : {A : Type 0} (number : ℕ) (t : Placed) (later : Parsed A) → eqb number 0 ≡ false → check number t later ≡ stopped number (t .place)
+pub check-wrong : {A : Type 0} (number : ℕ) (t : Placed) (later : Parsed A) → eqb number 0 ≡ false → whereFaultless number t later ≡ stopped number (t .place)
 check-wrong zero t later e = absurd (true≢false e)
 check-wrong (suc number) t later e = refl
 

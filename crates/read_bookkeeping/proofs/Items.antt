@@ -101,8 +101,8 @@ module _ (text : Bytes) (place past : ℕ) where
   abbrev GoesOn : Token → Type 0
   GoesOn k =
       isItem (itemOf (tokenOf text k place past)) ≡ true
-      → T (not (Tokens.isLast (tokenOf text k place past)))
-      × (pick (Tokens.isLast (tokenOf text k place past)) [] (stream text (Tokens.modeAfter Tokens.inside (tokenOf text k place past)) past)
+      → T (not (Tokens.isLastToken (tokenOf text k place past)))
+      × (pick (Tokens.isLastToken (tokenOf text k place past)) [] (stream text (Tokens.modeAfter Tokens.inside (tokenOf text k place past)) past)
       ≡ stream text Tokens.inside past)
 
   item-goes-on : (k : Token) → GoesOn k

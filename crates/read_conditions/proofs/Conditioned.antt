@@ -108,7 +108,7 @@ tells text place past =
 subject-asked : {A : Type 0} (text : Bytes) (table : List ℕ) (symbols parts : ℕ) (isPart : Bool) (x : Name) (t : Tokens.Placed)
     (next : Subject → Parsed A)
     → subjectOn (variableItem isPart x) (symbolNames text table symbols) (partNames text table parts) t next
-    ≡ Reading.check (subjectFault (variableNames text table symbols parts isPart) x) t (next (subjectOf isPart x))
+    ≡ Reading.whereFaultless (subjectFault (variableNames text table symbols parts isPart) x) t (next (subjectOf isPart x))
 subject-asked text table symbols parts false x t next = refl
 subject-asked text table symbols parts true x t next = refl
 
@@ -201,7 +201,7 @@ withTruth c v truth rest = parsed (record { predicate = c; subject = v; expected
 abbrev GoesOn : Bytes → ℕ → ℕ → Bool → Bool → Token → Type 0
 GoesOn text place past is truth k =
     Reading.truthOf (tokenOf text k place past) is ≡ some truth
-    → pick (Tokens.isLast (tokenOf text k place past)) [] (stream text (Tokens.modeAfter Tokens.inside (tokenOf text k place past)) past) ≡ stream text Tokens.inside past
+    → pick (Tokens.isLastToken (tokenOf text k place past)) [] (stream text (Tokens.modeAfter Tokens.inside (tokenOf text k place past)) past) ≡ stream text Tokens.inside past
 
 goes-on : (text : Bytes) (place past : ℕ) (is truth : Bool) (k : Token) → GoesOn text place past is truth k
 goes-on text place past is truth =
@@ -317,7 +317,7 @@ module _ {text table : List ℕ} {symbols parts from words : ℕ} {t : Code.Plac
     on-inside a = identifier-inside (variable-at (on .first) isPart _ (a .variable))
 
     at-subject : OnVariable on isPart x → (c : Class) → onNames text table symbols parts c (stream text Tokens.inside from)
-        ≡ Reading.check (subjectFault (variableNames text table symbols parts isPart) (View.part text x)) (placedOf text t)
+        ≡ Reading.whereFaultless (subjectFault (variableNames text table symbols parts isPart) (View.part text x)) (placedOf text t)
         (conditionEnd c (subjectOf isPart (View.part text x)) (stream text Tokens.inside (t .past)))
     at-subject a c =
         let h = variable-here (on .first) isPart _ (a .variable) in
@@ -355,7 +355,7 @@ module _ {text table : List ℕ} {symbols parts from words : ℕ} {t : Code.Plac
 
 -- with the variables of a table
 abbrev conditionNames : Bytes → List ℕ → ℕ → ℕ → List Tokens.Placed → Parsed Condition
-conditionNames text table symbols parts = Reading.condition (symbolNames text table symbols) (partNames text table parts)
+conditionNames text table symbols parts = Reading.parseCondition (symbolNames text table symbols) (partNames text table parts)
 
 abbrev ConditionAgrees : Bytes → List ℕ → ℕ → ℕ → ℕ → ℕ → List ℕ → List ℕ → CodeParsed → Type 0
 ConditionAgrees text table symbols parts from words tape tape′ r =
@@ -379,14 +379,14 @@ pub record NamedAt {text table : List ℕ} {symbols parts from words start : ℕ
 module _ {text table : List ℕ} {symbols parts from words : ℕ} where
   pub open-not : {tape tape′ : List ℕ} {fault : Fault} → Variables text table symbols parts → Barred text Tokens.inside 60 from fault
       → ConditionAgrees text table symbols parts from words tape tape′ (Stopped fault)
-  unfolding Reading.condition
+  unfolding Reading.parseCondition
   open-not known b = barred-stops _ b
 
   module _ {start : ℕ} {t : Code.Placed} where
     at-name : OpenedAt text table symbols parts from words start t
         → conditionNames text table symbols parts (stream text Tokens.inside from)
         ≡ Reading.passName (λ n. Reading.lengthFault n 0) (stream text Tokens.naming start) (withName (onNames text table symbols parts))
-    unfolding Reading.condition
+    unfolding Reading.parseCondition
     at-name a = passes-on _ (a .opened)
 
     pub name-not : {tape tape′ : List ℕ} {fault : Fault} → OpenedAt text table symbols parts from words start t
@@ -425,27 +425,27 @@ module _ {text table : List ℕ} {symbols parts from words : ℕ} where
 module _ (symbols parts : List Name) where
   -- where no `,` stands the conditions end
   conditions-end : (left : ℕ) (t : Tokens.Placed) (ts : List Tokens.Placed) → Reading.isSign 44 (t .token) ≡ false
-      → Reading.conditions left symbols parts (t ∷ ts) ≡ parsed [] (t ∷ ts)
-  unfolding Reading.conditions
+      → Reading.parseConditions left symbols parts (t ∷ ts) ≡ parsed [] (t ∷ ts)
+  unfolding Reading.parseConditions
   conditions-end zero t ts e = rw e
   conditions-end (suc left) t ts e = rw e
 
   conditions-full : (t : Tokens.Placed) (ts : List Tokens.Placed) → Reading.isSign 44 (t .token) ≡ true
-      → Reading.conditions 0 symbols parts (t ∷ ts) ≡ stopped overLimit (t .place)
-  unfolding Reading.conditions
+      → Reading.parseConditions 0 symbols parts (t ∷ ts) ≡ stopped overLimit (t .place)
+  unfolding Reading.parseConditions
   conditions-full t ts e = rw e
 
   conditions-next : (more left : ℕ) (t : Tokens.Placed) (ts : List Tokens.Placed) → more ≡ suc left → Reading.isSign 44 (t .token) ≡ true
-      → Reading.conditions more symbols parts (t ∷ ts)
-      ≡ follow (Reading.condition symbols parts ts) (λ c ts₁. follow (Reading.conditions left symbols parts ts₁) (λ cs rest. parsed (c ∷ cs) rest))
-  unfolding Reading.conditions
+      → Reading.parseConditions more symbols parts (t ∷ ts)
+      ≡ follow (Reading.parseCondition symbols parts ts) (λ c ts₁. follow (Reading.parseConditions left symbols parts ts₁) (λ cs rest. parsed (c ∷ cs) rest))
+  unfolding Reading.parseConditions
   conditions-next more left t ts n e = rw (n, e)
 
 -- the conditions from the start are those from here with these before them
 pub record Conditioned (text start : List ℕ) (symbols parts : List Name) (from words : ℕ) (tape : List ℕ) (at to left : ℕ) : Type 0 where
   pub before : List Condition
-  pub same : Reading.conditions 8 symbols parts (stream text Tokens.inside from)
-      ≡ follow (Reading.conditions left symbols parts (stream text Tokens.inside at)) (behind before)
+  pub same : Reading.parseConditions 8 symbols parts (stream text Tokens.inside from)
+      ≡ follow (Reading.parseConditions left symbols parts (stream text Tokens.inside at)) (behind before)
   pub went : Went text from words start at to tape (conditionsTape before)
   pub quiet : T (every isQuiet (conditionsTape before))
   pub short : length text ≤ 32768
@@ -465,7 +465,7 @@ unfolding conditionsTape every
 conditions-start text start symbols parts from words r =
     record {
       before = [];
-      same = follow-alone (Reading.conditions 8 symbols parts (stream text Tokens.inside from));
+      same = follow-alone (Reading.parseConditions 8 symbols parts (stream text Tokens.inside from));
       went = went-none text from words start r;
       quiet = tt;
       short = r .short;
@@ -480,7 +480,7 @@ pub record LookedAt (text start : List ℕ) (symbols parts : List Name) (from wo
 
 abbrev ConditionsAgree : List ℕ → List ℕ → List Name → List Name → ℕ → ℕ → List ℕ → CodeParsed → Type 0
 ConditionsAgree text start symbols parts from words tape r =
-    Agrees (ConditionsRead text from words start tape) (Reading.conditions 8 symbols parts (stream text Tokens.inside from)) r
+    Agrees (ConditionsRead text from words start tape) (Reading.parseConditions 8 symbols parts (stream text Tokens.inside from)) r
 
 module _ {text start : List ℕ} {symbols parts : List Name} {from words : ℕ} {tape : List ℕ} {at to left : ℕ} {t : Code.Placed} where
   shown : {comma : Bool} → LookedAt text start symbols parts from words tape at to left t comma
@@ -516,14 +516,14 @@ module _ {text start : List ℕ} {symbols parts : List Name} {from words : ℕ} 
     ConditionsOn tape′ (Done s) = Conditioned text start symbols parts from words tape′ (s .at) (s .words) (left - 1)
 
     pub conditions-on : (left ≡ 0 → ⊥) → {tape′ : List ℕ} (r : CodeParsed)
-        → Agrees (ConditionRead text (t .past) to tape tape′) (Reading.condition symbols parts (stream text Tokens.inside (t .past))) r
+        → Agrees (ConditionRead text (t .past) to tape tape′) (Reading.parseCondition symbols parts (stream text Tokens.inside (t .past))) r
         → ConditionsOn tape′ r
     conditions-on z {tape′} r e = turned r e
       where
-        at-condition : Reading.conditions 8 symbols parts (stream text Tokens.inside from)
+        at-condition : Reading.parseConditions 8 symbols parts (stream text Tokens.inside from)
             ≡ follow
-            (follow (Reading.condition symbols parts (stream text Tokens.inside (t .past)))
-            (λ d ts. follow (Reading.conditions (left - 1) symbols parts ts) (λ ds rest. parsed (d ∷ ds) rest)))
+            (follow (Reading.parseCondition symbols parts (stream text Tokens.inside (t .past)))
+            (λ d ts. follow (Reading.parseConditions (left - 1) symbols parts ts) (λ ds rest. parsed (d ∷ ds) rest)))
             (behind (a .read .before))
         at-condition =
             let comma = takes text Tokens.inside at 44 t (a .first) (a .sign) in
@@ -535,7 +535,7 @@ module _ {text start : List ℕ} {symbols parts : List Name} {from words : ℕ} 
             )
 
         goes-with : {s : Progress} (d : Condition) (rest : List Tokens.Placed)
-            → Reading.condition symbols parts (stream text Tokens.inside (t .past)) ≡ parsed d rest
+            → Reading.parseCondition symbols parts (stream text Tokens.inside (t .past)) ≡ parsed d rest
             → ConditionRead text (t .past) to tape tape′ d rest s
             → ConditionsOn tape′ (Done s)
         goes-with {s} d rest q h =
@@ -544,7 +544,7 @@ module _ {text start : List ℕ} {symbols parts : List Name} {from words : ℕ} 
               before = k .before ++ d ∷ [];
               same =
                   at-condition
-                  ∙ rw (q, h .tokens) (behind-more (k .before) d (Reading.conditions (left - 1) symbols parts (stream text Tokens.inside (s .at))));
+                  ∙ rw (q, h .tokens) (behind-more (k .before) d (Reading.parseConditions (left - 1) symbols parts (stream text Tokens.inside (s .at))));
               went = rw (tape-more (k .before) d) (went-then (k .went) (went-from (omega (arith, a .first .onward, a .first .forward)) (h .went)));
               quiet =
                   rw (tape-more (k .before) d)
@@ -553,7 +553,7 @@ module _ {text start : List ℕ} {symbols parts : List Name} {from words : ℕ} 
             }
 
         turned : (r′ : CodeParsed)
-            → Agrees (ConditionRead text (t .past) to tape tape′) (Reading.condition symbols parts (stream text Tokens.inside (t .past))) r′
+            → Agrees (ConditionRead text (t .past) to tape tape′) (Reading.parseCondition symbols parts (stream text Tokens.inside (t .past))) r′
             → ConditionsOn tape′ r′
         turned (Stopped fault) e′ = stops-too e′ refl (λ h. at-condition ∙ rw h)
         turned (Done s) e′ = let h = has-read _ s e′ in goes-with (h .value) (h .rest) (h .same) (h .how)

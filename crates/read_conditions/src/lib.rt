@@ -203,7 +203,7 @@ fn condition(
 ) -> Parsed
     requires { ⌜ Ready (now text) from words × Variables (now text) (now table) symbols parts ⌝ }
     ensures { λ r. ⌜ Agrees (ConditionRead (now (text .entry)) from words (now (tape .entry)) (now (tape .exit)))
-        (Reading.condition (symbolNames (now (text .entry)) (now (table .entry)) symbols)
+        (Reading.parseCondition (symbolNames (now (text .entry)) (now (table .entry)) symbols)
         (partNames (now (text .entry)) (now (table .entry)) parts) (stream (now (text .entry)) inside from)) r ⌝ }
 {
     let open = match pass(text, from, Mode::Inside, b'<') {
@@ -243,7 +243,7 @@ pub fn conditions(
 ) -> Parsed
     requires { ⌜ Ready (now text) from words × Variables (now text) (now table) symbols parts ⌝ }
     ensures { λ r. ⌜ Agrees (ConditionsRead (now (text .entry)) from words (now (tape .entry)) (now (tape .exit)))
-        (Reading.conditions 8 (symbolNames (now (text .entry)) (now (table .entry)) symbols)
+        (Reading.parseConditions 8 (symbolNames (now (text .entry)) (now (table .entry)) symbols)
         (partNames (now (text .entry)) (now (table .entry)) parts) (stream (now (text .entry)) inside from)) r ⌝ }
 {
     let mut s = Progress {

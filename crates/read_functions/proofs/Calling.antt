@@ -11,7 +11,7 @@ use Rattle.tape_layout.specs.Tape.{tapeWord, closeKind}
 use Rattle.meaning.specs.Tokens as Tokens
 use Rattle.meaning.specs.Grammar.{standing}
 use Rattle.meaning.specs.Reading as Reading
-use Rattle.meaning.specs.Reading.{Parsed, parsed, follow, check, nameOn, passName}
+use Rattle.meaning.specs.Reading.{Parsed, parsed, follow, whereFaultless, nameOn, passName}
 use Rattle.read_tokens.specs.View.{stream}
 use Rattle.read_bookkeeping.specs.declared.progress.Fault.{Fault}
 use Rattle.read_bookkeeping.specs.declared.progress.Progress.{Progress}
@@ -32,7 +32,7 @@ use Rattle.read_functions.proofs.Onward.{going-on, going-after}
 
 -- what follows a token without a fault, or a name without one, follows all that begins with it
 check-follow : {A B : Type 0} (number : ℕ) (t : Tokens.Placed) (p : Parsed A) (next : A → List Tokens.Placed → Parsed B)
-    → check number t (follow p next) ≡ follow (check number t p) next
+    → whereFaultless number t (follow p next) ≡ follow (whereFaultless number t p) next
 check-follow zero t p next = refl
 check-follow (suc number) t p next = refl
 
@@ -56,7 +56,7 @@ afterName argument deeper so n ts =
     follow (argument deeper (Reading.pastCall so) ts) (afterArgument n)
 
 call-is : (argument : ℕ → Reading.Progress → List Tokens.Placed → Parsed Reading.Items) (depth : ℕ) (so : Reading.Progress) (t : Tokens.Placed) (ts : List Tokens.Placed)
-    → Reading.call argument depth so t ts ≡ follow (opening depth (so .items) t ts) (afterName argument (suc depth) so)
+    → Reading.parseCall argument depth so t ts ≡ follow (opening depth (so .items) t ts) (afterName argument (suc depth) so)
 call-is argument depth so t ts =
     rw (name-follow Reading.calledFault ts (λ place n rest. parsed (record { place = place; name = n }) rest) (afterName argument (suc depth) so))
     (check-follow (Reading.callFault depth so) t (passName Reading.calledFault ts (λ place n rest. parsed (record { place = place; name = n }) rest))
@@ -67,7 +67,7 @@ call-is argument depth so t ts =
 -- what the definition reads of a call after its `<`
 abbrev pub callAt : Bytes → List ℕ → ℕ → ℕ → ℕ → ℕ → Progress → ℕ → Parsed Reading.Called
 callAt text table symbols parts bound depth s place =
-    Reading.call (Reading.expression bound (symbolNames text table symbols)) depth (progressAt text table parts s) (standing (Tokens.sign 60) place (s .at))
+    Reading.parseCall (Reading.parseExpression bound (symbolNames text table symbols)) depth (progressAt text table parts s) (standing (Tokens.sign 60) place (s .at))
     (stream text Tokens.naming (s .at))
 
 abbrev pub CallAgrees : Bytes → List ℕ → ℕ → ℕ → ℕ → ℕ → Progress → ℕ → List ℕ → List ℕ → CodeParsed → Type 0
@@ -77,7 +77,7 @@ CallAgrees text table symbols parts bound depth s place tape tape′ r =
 -- what it reads of an expression
 abbrev pub expressionAt : Bytes → List ℕ → ℕ → ℕ → ℕ → ℕ → Progress → Parsed Reading.Items
 expressionAt text table symbols parts bound depth start =
-    Reading.expression bound (symbolNames text table symbols) depth (progressAt text table parts start) (stream text Tokens.inside (start .at))
+    Reading.parseExpression bound (symbolNames text table symbols) depth (progressAt text table parts start) (stream text Tokens.inside (start .at))
 
 abbrev pub ExpressionAgrees : Bytes → List ℕ → ℕ → ℕ → ℕ → ℕ → Progress → List ℕ → List ℕ → CodeParsed → Type 0
 ExpressionAgrees text table symbols parts bound depth start tape tape′ r =
@@ -90,9 +90,9 @@ ExpressionsAgree text table symbols parts depth start tape tape′ r =
 
 module _ (text table : List ℕ) (symbols parts bound depth : ℕ) (s : Progress) (place : ℕ) where
   at-opening : callAt text table symbols parts bound depth s place
-      ≡ follow (openingAt text depth s place) (afterName (Reading.expression bound (symbolNames text table symbols)) (suc depth) (progressAt text table parts s))
+      ≡ follow (openingAt text depth s place) (afterName (Reading.parseExpression bound (symbolNames text table symbols)) (suc depth) (progressAt text table parts s))
   at-opening =
-      call-is (Reading.expression bound (symbolNames text table symbols)) depth (progressAt text table parts s) (standing (Tokens.sign 60) place (s .at))
+      call-is (Reading.parseExpression bound (symbolNames text table symbols)) depth (progressAt text table parts s) (standing (Tokens.sign 60) place (s .at))
       (stream text Tokens.naming (s .at))
 
   pub call-unopened : {tape tape′ : List ℕ} {r : CodeParsed} {fault : Fault} → OpeningAgrees text depth s place tape tape′ r → r ≡ Stopped fault

@@ -10,7 +10,7 @@ use Rattle.meaning.specs.Choice.{Bytes, Name, every}
 use Rattle.meaning.specs.Tree.{Expression, end, thenCall}
 use Rattle.tape_layout.specs.Tape.{named, callKind, closeKind, tapeWord, expressionTape}
 use Rattle.meaning.specs.Tokens as Tokens
-use Rattle.meaning.specs.Grammar.{standing, written}
+use Rattle.meaning.specs.Grammar.{standing, thenCharacters}
 use Rattle.meaning.specs.Reading as Reading
 use Rattle.meaning.specs.Reading.{Parsed, stopped, parsed, follow, withFirst, Item, characters, symbolItem, partItem, noItem, isItem, thenItem}
 use Rattle.meaning.proofs.laws.Passing.{every-head, every-tail}
@@ -37,8 +37,8 @@ use Rattle.read_functions.proofs.Onward.{going-on}
 
 -- ITEMS AND CALLS BEFORE AN EXPRESSION
 
-tape-characters : (cs : Bytes) (e : Expression) → expressionTape (written cs e) ≡ cs ++ expressionTape e
-unfolding expressionTape written
+tape-characters : (cs : Bytes) (e : Expression) → expressionTape (thenCharacters cs e) ≡ cs ++ expressionTape e
+unfolding expressionTape thenCharacters
 tape-characters [] e = refl
 tape-characters (c ∷ cs) e = ap (λ (ws : List ℕ). c ∷ ws) (tape-characters cs e)
 
@@ -57,8 +57,8 @@ tape-call place n a e =
     ∙ sym (append-assoc (named (callKind + place) n) (expressionTape a ++ tapeWord closeKind 0 ∷ []) (expressionTape e))
 
 module _ (text : Bytes) where
-  stands-characters : (cs : Bytes) (e : Expression) → T (every isQuiet cs) → Stands text e → Stands text (written cs e)
-  unfolding Stands written
+  stands-characters : (cs : Bytes) (e : Expression) → T (every isQuiet cs) → Stands text e → Stands text (thenCharacters cs e)
+  unfolding Stands thenCharacters
   stands-characters [] e q h = h
   stands-characters (c ∷ cs) e q h = (every-head isQuiet c cs q, stands-characters cs e (every-tail isQuiet c cs q) h)
 
@@ -91,8 +91,8 @@ first-first f g (stopped number place) = refl
 first-first f g (parsed i rest) = refl
 
 expression-step : (more left : ℕ) (names : List Name) (depth : ℕ) (so : Reading.Progress) (t : Tokens.Placed) (ts : List Tokens.Placed) → more ≡ suc left
-    → Reading.expression more names depth so (t ∷ ts) ≡ Reading.expressionFrom (Reading.expression left names) names depth so t ts
-unfolding Reading.expression
+    → Reading.parseExpression more names depth so (t ∷ ts) ≡ Reading.parseExpressionFrom (Reading.parseExpression left names) names depth so t ts
+unfolding Reading.parseExpression
 expression-step more left names depth so t ts n = rw n
 
 -- THE LOOP
@@ -102,9 +102,9 @@ pub record Behind (text table : List ℕ) (symbols parts depth : ℕ) (start : P
   pub first : Expression → Expression
   pub left : ℕ
   pub words : List ℕ
-  pub same : Reading.expression bound (symbolNames text table symbols) depth (progressAt text table parts start) (stream text Tokens.inside (start .at))
+  pub same : Reading.parseExpression bound (symbolNames text table symbols) depth (progressAt text table parts start) (stream text Tokens.inside (start .at))
       ≡ withFirst first
-      (Reading.expression left (symbolNames text table symbols) depth (progressAt text table parts s) (stream text Tokens.inside (s .at)))
+      (Reading.parseExpression left (symbolNames text table symbols) depth (progressAt text table parts s) (stream text Tokens.inside (s .at)))
   pub enough : length (stream text Tokens.inside (s .at)) ≤ left
   pub shorter : length (stream text Tokens.inside (s .at)) ≤ length (stream text Tokens.inside (start .at))
   pub tapes : (e : Expression) → expressionTape (first e) ≡ words ++ expressionTape e
@@ -149,7 +149,7 @@ module _ {text table : List ℕ} {symbols parts depth : ℕ} {start : Progress} 
 
   at-step : expressionAt text table symbols parts bound depth start
       ≡ withFirst (b .first)
-      (Reading.expressionFrom (Reading.expression (b .left - 1) (symbolNames text table symbols)) (symbolNames text table symbols) depth (progressAt text table parts s) t ts)
+      (Reading.parseExpressionFrom (Reading.parseExpression (b .left - 1) (symbolNames text table symbols)) (symbolNames text table symbols) depth (progressAt text table parts s) t ts)
   at-step =
       b .same
       ∙ rw (u, expression-step (b .left) (b .left - 1) (symbolNames text table symbols) depth (progressAt text table parts s) t ts (omega (arith, step-enough)))
@@ -220,7 +220,7 @@ module _ {text table : List ℕ} {symbols parts depth : ℕ} {start : Progress} 
       let b = q .so .behind bound h in
       let i = item-then (q .comes) (g .1) in
       let item = itemAt text t in
-      let rest = Reading.expression (b .left - 1) (symbolNames text table symbols) depth (Reading.pastItem item (progressAt text table parts s))
+      let rest = Reading.parseExpression (b .left - 1) (symbolNames text table symbols) depth (Reading.pastItem item (progressAt text table parts s))
       (stream text Tokens.inside (t .past)) in
       stops (stopped-before (at-step b (i .unrolled)
       ∙ rw (g .1, g .0 .fault, check-wrong (numberOf answer) (placedOf text t) (withFirst (thenItem item) rest) (g .0 .wrong))))
@@ -290,7 +290,7 @@ module _ {text table : List ℕ} {symbols parts depth : ℕ} {start : Progress} 
       → expressionAt text table symbols parts bound depth start
       ≡ withFirst (b .first)
       (follow (calledAt (b .left - 1)) λ d rest.
-      withFirst (thenCall (d .place) (d .name) (d .argument)) (Reading.expression (b .left - 1) (symbolNames text table symbols) depth (d .progress) rest))
+      withFirst (thenCall (d .place) (d .name) (d .argument)) (Reading.parseExpression (b .left - 1) (symbolNames text table symbols) depth (d .progress) rest))
   at-call b = at-step b unrolled
 
   left-enough : {bound : ℕ} (b : Behind text table symbols parts depth start tape₀ (k .tape) s bound) → length (stream text Tokens.naming (t .past)) ≤ b .left - 1

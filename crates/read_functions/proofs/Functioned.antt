@@ -74,7 +74,7 @@ module _ {text : Bytes} {words : ℕ} {n : Span} {at : ℕ} (b : AfterBrace text
     body-ready = ready-after (b .name .short) named-went
 
     pub body-reads : {limit : ℕ} {tape′ : List ℕ} {r : CodeParsed}
-        → Agrees (SentencesRead text limit at to tape₁ tape′) (Reading.sentences limit (stream text Tokens.inside at)) r
+        → Agrees (SentencesRead text limit at to tape₁ tape′) (Reading.parseSentences limit (stream text Tokens.inside at)) r
         → BodyAgrees text limit words n tape tape′ r
     body-reads a =
         makes (λ ss. ss) _
@@ -92,7 +92,7 @@ module _ {text : Bytes} {words : ℕ} {n : Span} {at : ℕ} (b : AfterBrace text
 abbrev FunctionAgrees : Bytes → List ℕ → ℕ → ℕ → ℕ → Code.Placed → List ℕ → List ℕ → List ℕ → CodeParsed → Type 0
 FunctionAgrees text names functions limit words t tape tape′ names′ r =
     Agrees (DeclaredRead text limit (t .place) words functions tape tape′ names names′)
-    (Reading.function (nameFault functions (tableNames text names 0 functions)) limit (stream text Tokens.outside (t .place))) r
+    (Reading.parseFunction (nameFault functions (tableNames text names 0 functions)) limit (stream text Tokens.outside (t .place))) r
 
 module _ {text names : List ℕ} {functions words : ℕ} {t : Code.Placed} {limit : ℕ} (o : Opening text names functions words t) where
   pub function-nameless : {tape tape′ names′ : List ℕ} {fault : Fault} → NoName (t .token)
@@ -167,7 +167,7 @@ module _ {text names : List ℕ} {functions words : ℕ} {t : Code.Placed} {n : 
         long = rw w (length-set names functions entry ∙ o .long);
       })
       (rw (here .unrolled, lt-ltb functions 64 (name .few), m .sound, ← here .past)
-      (pass-follow 123 (stream text Tokens.outside (n .past)) (λ ts. Reading.sentences limit ts) (λ ss rest. parsed (declared (View.part text n) ss) rest)))
+      (pass-follow 123 (stream text Tokens.outside (n .past)) (λ ts. Reading.parseSentences limit ts) (λ ss rest. parsed (declared (View.part text n) ss) rest)))
       a
 
 -- A SPARE `;`
@@ -196,29 +196,29 @@ end-same text place past =
 -- THE DEFINITION
 
 module _ (limit : ℕ) (before : Table) (t : Tokens.Placed) (ts : List Tokens.Placed) where
-  functions-end : (room : ℕ) → Reading.isTextEnd (t .token) ≡ true → Reading.functions room limit before (t ∷ ts) ≡ parsed before ts
-  unfolding Reading.functions
+  functions-end : (room : ℕ) → Reading.isTextEnd (t .token) ≡ true → Reading.parseFunctions room limit before (t ∷ ts) ≡ parsed before ts
+  unfolding Reading.parseFunctions
   functions-end zero e = rw e
   functions-end (suc room) e = rw e
 
   functions-next : (more room : ℕ) → more ≡ suc room → Reading.isTextEnd (t .token) ≡ false
-      → Reading.functions more limit before (t ∷ ts)
-      ≡ follow (Reading.function (Reading.declaredFault before) limit (t ∷ ts))
-      (λ f rest. Reading.functions room (limit - length (f .sentences)) (before ++ f ∷ []) (Reading.passSpare rest))
-  unfolding Reading.functions
+      → Reading.parseFunctions more limit before (t ∷ ts)
+      ≡ follow (Reading.parseFunction (Reading.declaredFault before) limit (t ∷ ts))
+      (λ f rest. Reading.parseFunctions room (limit - length (f .sentences)) (before ++ f ∷ []) (Reading.passSpare rest))
+  unfolding Reading.parseFunctions
   functions-next more room n e = rw (n, e)
 
   -- the faults of a name before the last function and after it
   fault-is : (count : ℕ) {room : Bool} → ltb count 64 ≡ room
-      → Reading.function (λ n. pick room (declaredFaultIn (namesOf before) n) overLimit) limit (t ∷ ts)
-      ≡ Reading.function (nameFault count (namesOf before)) limit (t ∷ ts)
-  fault-is count e = ap (λ (room : Bool). Reading.function (λ n. pick room (declaredFaultIn (namesOf before) n) overLimit) limit (t ∷ ts)) (sym e)
+      → Reading.parseFunction (λ n. pick room (declaredFaultIn (namesOf before) n) overLimit) limit (t ∷ ts)
+      ≡ Reading.parseFunction (nameFault count (namesOf before)) limit (t ∷ ts)
+  fault-is count e = ap (λ (room : Bool). Reading.parseFunction (λ n. pick room (declaredFaultIn (namesOf before) n) overLimit) limit (t ∷ ts)) (sym e)
 
   -- what stops a function stops the functions
   functions-stop : (room count : ℕ) {number place : ℕ} → count + room ≡ 64 → Reading.isTextEnd (t .token) ≡ false
-      → Reading.function (nameFault count (namesOf before)) limit (t ∷ ts) ≡ stopped number place
-      → Reading.functions room limit before (t ∷ ts) ≡ stopped number place
-  unfolding Reading.functions
+      → Reading.parseFunction (nameFault count (namesOf before)) limit (t ∷ ts) ≡ stopped number place
+      → Reading.parseFunctions room limit before (t ∷ ts) ≡ stopped number place
+  unfolding Reading.parseFunctions
   functions-stop zero count n e h = rw (e, fault-is count (le-ltb count 64 (omega arith)) ∙ h)
   functions-stop (suc room) count n e h = rw (e, fault-is count (lt-ltb count 64 (omega arith)) ∙ h)
 
@@ -270,7 +270,7 @@ module _ {text start tape names : List ℕ} {at words count left : ℕ} {t : Cod
   -- the tokens after it
   abbrev following : List Tokens.Placed
   following =
-      pick (Tokens.isLast (tokenOf text (t .token) (t .place) (t .past))) []
+      pick (Tokens.isLastToken (tokenOf text (t .token) (t .place) (t .past))) []
       (stream text (Tokens.modeAfter Tokens.outside (tokenOf text (t .token) (t .place) (t .past))) (t .past))
 
   few : count ≤ 64
@@ -284,12 +284,12 @@ module _ {text start tape names : List ℕ} {at words count left : ℕ} {t : Cod
 
   -- the function that comes next, by the names before it
   abbrev nextFunction : Parsed Function
-  nextFunction = Reading.function (nameFault count (tableNames text names 0 count)) left (stream text Tokens.outside (t .place))
+  nextFunction = Reading.parseFunction (nameFault count (tableNames text names 0 count)) left (stream text Tokens.outside (t .place))
 
-  next-is : Reading.function (nameFault count (namesOf (k .before))) left (stream text Tokens.outside at) ≡ nextFunction
+  next-is : Reading.parseFunction (nameFault count (namesOf (k .before))) left (stream text Tokens.outside at) ≡ nextFunction
   next-is =
-      ap (λ (ts : List Tokens.Placed). Reading.function (nameFault count (namesOf (k .before))) left ts) (sym (c .again))
-      ∙ ap (λ (known : List Name). Reading.function (nameFault count known) left (stream text Tokens.outside (t .place))) (k .names)
+      ap (λ (ts : List Tokens.Placed). Reading.parseFunction (nameFault count (namesOf (k .before))) left ts) (sym (c .again))
+      ∙ ap (λ (known : List Name). Reading.parseFunction (nameFault count known) left (stream text Tokens.outside (t .place))) (k .names)
 
 -- another function comes after those
 pub record Another {text start tape names : List ℕ} {at words count left : ℕ} (others : Functioned text start tape names at words count left) (t : Code.Placed) : Type 0 where
@@ -355,11 +355,11 @@ module _ {text start tape₁ names₁ : List ℕ} {count : ℕ} {p : Progress} (
   room-before = omega (arith, o .read .how .entries .inside, o .read .how .long)
 
   at-next : functionsOf text
-      ≡ Reading.functions (64 - (count + 1)) (p .count) (o .others .before ++ o .read .value ∷ []) (Reading.passSpare (stream text Tokens.outside (p .at)))
+      ≡ Reading.parseFunctions (64 - (count + 1)) (p .count) (o .others .before ++ o .read .value ∷ []) (Reading.passSpare (stream text Tokens.outside (p .at)))
   at-next =
       let c = o .next .comes in
       let t = placedOf text (o .token) in
-      let q : Reading.function (Reading.declaredFault (o .others .before)) (o .left) (t ∷ following (o .others) c) ≡ parsed (o .read .value) (o .read .rest) =
+      let q : Reading.parseFunction (Reading.declaredFault (o .others .before)) (o .left) (t ∷ following (o .others) c) ≡ parsed (o .read .value) (o .read .rest) =
       fault-is (o .left) (o .others .before) t (following (o .others) c) count (lt-ltb count 64 room-before) ∙ (rw (c .unrolled) at (next-is (o .others) c ∙ o .read .same))
       in
       let n : 64 - count ≡ suc (64 - (count + 1)) = omega (arith, room-before) in

@@ -140,7 +140,7 @@ module _ {text : Bytes} {from words at : ℕ} (q : AfterEquals text from words a
 
 abbrev SentenceAgrees : Bytes → ℕ → ℕ → List ℕ → List ℕ → CodeParsed → Type 0
 SentenceAgrees text from words tape tape′ r =
-    Agrees (SentenceRead text from words tape tape′) (unlessWord (Reading.sentence (stream text Tokens.inside from))) r
+    Agrees (SentenceRead text from words tape tape′) (unlessWord (Reading.parseSentence (stream text Tokens.inside from))) r
 
 -- after its pattern, and after its conditions
 abbrev withExpression : List Element → List Condition → Reading.Items → Sentence
@@ -148,30 +148,30 @@ withExpression p cs i = record { pattern = p; conditions = cs; expression = i .e
 
 abbrev afterPattern : List Element → List Tokens.Placed → Parsed Sentence
 afterPattern p ts =
-    follow (Reading.conditions 8 (symbolsOf p) (partsOf p) ts) λ cs ts₁.
+    follow (Reading.parseConditions 8 (symbolsOf p) (partsOf p) ts) λ cs ts₁.
     Reading.pass 61 ts₁ λ ts₂.
-    follow (unlessWord (Reading.expression (length ts₂) (symbolsOf p) 0 (record { items = 0; coming = partsOf p }) ts₂)) λ i rest.
+    follow (unlessWord (Reading.parseExpression (length ts₂) (symbolsOf p) 0 (record { items = 0; coming = partsOf p }) ts₂)) λ i rest.
     parsed (withExpression p cs i) rest
 
 -- a word that is no variable is refused after the pattern and after the expression
-sentence-is : (ts : List Tokens.Placed) → unlessWord (Reading.sentence ts) ≡ follow (unlessWord (Reading.pattern [] ts)) afterPattern
-unfolding Reading.sentence Reading.conditions
+sentence-is : (ts : List Tokens.Placed) → unlessWord (Reading.parseSentence ts) ≡ follow (unlessWord (Reading.parsePattern [] ts)) afterPattern
+unfolding Reading.parseSentence Reading.parseConditions
 sentence-is ts =
-    word-after (Reading.pattern [] ts) _ afterPattern (λ p ts₁.
-    word-after (Reading.conditions 8 (symbolsOf p) (partsOf p) ts₁) _ _ λ cs ts₂.
+    word-after (Reading.parsePattern [] ts) _ afterPattern (λ p ts₁.
+    word-after (Reading.parseConditions 8 (symbolsOf p) (partsOf p) ts₁) _ _ λ cs ts₂.
     word-after-pass 61 ts₂ _ _ λ ts₃.
-    word-after-made (withExpression p cs) (Reading.expression (length ts₃) (symbolsOf p) 0 (record { items = 0; coming = partsOf p }) ts₃))
-    ∙ word-at-once (Reading.pattern [] ts) afterPattern (λ p w place past rest. refl)
+    word-after-made (withExpression p cs) (Reading.parseExpression (length ts₃) (symbolsOf p) 0 (record { items = 0; coming = partsOf p }) ts₃))
+    ∙ word-at-once (Reading.parsePattern [] ts) afterPattern (λ p w place past rest. refl)
 
 -- what the definition reads after the pattern
 abbrev conditionsAt : Bytes → List ℕ → Progress → Parsed (List Condition)
 conditionsAt text table p =
-    Reading.conditions 8 (symbolNames text table (p .count)) (partNames text table (p .parts)) (stream text Tokens.inside (p .at))
+    Reading.parseConditions 8 (symbolNames text table (p .count)) (partNames text table (p .parts)) (stream text Tokens.inside (p .at))
 
 -- the pattern was read
 pub record AfterPattern (text : Bytes) (from words : ℕ) (tape table tape₁ : List ℕ) (p : Progress) : Type 0 where
   pub ready : Ready text from words
-  pub read : ReadAt (PatternRead text from words tape table tape₁) (unlessWord (Reading.pattern [] (stream text Tokens.inside from))) p
+  pub read : ReadAt (PatternRead text from words tape table tape₁) (unlessWord (Reading.parsePattern [] (stream text Tokens.inside from))) p
 
 -- the conditions were read after it
 pub record AfterConditions {text : Bytes} {from words : ℕ} {tape table tape₁ : List ℕ} {p : Progress} (pattern : AfterPattern text from words tape table tape₁ p) (tape₂ : List ℕ) (c : Progress) : Type 0 where
@@ -192,7 +192,7 @@ module _ {text : Bytes} {from words : ℕ} {tape table tape₁ : List ℕ} {p : 
   pub pattern-variables : Variables text table (p .count) (p .parts)
   pattern-variables = k .read .how .variables
 
-  at-conditions : unlessWord (Reading.sentence (stream text Tokens.inside from))
+  at-conditions : unlessWord (Reading.parseSentence (stream text Tokens.inside from))
       ≡ follow (conditionsAt text table p) (λ cs ts. follow (fromEquals (symbolNames text table (p .count)) (partNames text table (p .parts)) ts)
       (λ i rest. parsed (withExpression (k .read .value) cs i) rest))
   at-conditions =
@@ -227,7 +227,7 @@ module _ {text : Bytes} {from words : ℕ} {tape table tape₁ : List ℕ} {p : 
 
 -- THE NEXT SENTENCE
 
-sentence-of : (left : ℕ) (t : Tokens.Placed) (ts : List Tokens.Placed) → (left ≡ 0 → ⊥) → sentenceOf left t ts ≡ unlessWord (Reading.sentence (t ∷ ts))
+sentence-of : (left : ℕ) (t : Tokens.Placed) (ts : List Tokens.Placed) → (left ≡ 0 → ⊥) → sentenceOf left t ts ≡ unlessWord (Reading.parseSentence (t ∷ ts))
 sentence-of zero t ts h = absurd (h refl)
 sentence-of (suc left) t ts h = refl
 

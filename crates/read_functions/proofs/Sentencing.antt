@@ -47,16 +47,16 @@ whether-follow false t p next = refl
 
 -- the first, and what comes after it
 sentences-are : (left : ℕ) (ts : List Tokens.Placed)
-    → Reading.sentences left ts ≡ follow (firstSentence left ts) (λ s rest. afterSentence (Reading.sentences (left - 1)) s rest)
-unfolding Reading.sentences
+    → Reading.parseSentences left ts ≡ follow (firstSentence left ts) (λ s rest. afterSentence (Reading.parseSentences (left - 1)) s rest)
+unfolding Reading.parseSentences
 sentences-are zero [] = refl
 sentences-are zero (t ∷ ts) = whether-follow (Reading.begins (t .token)) t (sentenceOf zero t ts) _
 sentences-are (suc left) [] = refl
 sentences-are (suc left) (t ∷ ts) =
     let e : suc left - 1 ≡ left = omega arith in
-    let after = afterSentence (Reading.sentences left) in
+    let after = afterSentence (Reading.parseSentences left) in
     rw e
-    (ap (λ (p : Parsed (List Sentence)). whether (Reading.begins (t .token)) t p) (word-at-once (Reading.sentence (t ∷ ts)) after (λ s w place past rest. refl))
+    (ap (λ (p : Parsed (List Sentence)). whether (Reading.begins (t .token)) t p) (word-at-once (Reading.parseSentence (t ∷ ts)) after (λ s w place past rest. refl))
     ∙ whether-follow (Reading.begins (t .token)) t (sentenceOf (suc left) t ts) after)
 
 -- THE TAPE
@@ -97,7 +97,7 @@ parted-none = refl
 -- the sentences from the start are those from here with these before them
 pub record Sentenced (text start : List ℕ) (limit from words : ℕ) (tape : List ℕ) (at to left : ℕ) : Type 0 where
   pub before : List Sentence
-  pub same : Reading.sentences limit (stream text Tokens.inside from) ≡ follow (Reading.sentences left (stream text Tokens.inside at)) (behind before)
+  pub same : Reading.parseSentences limit (stream text Tokens.inside from) ≡ follow (Reading.parseSentences left (stream text Tokens.inside at)) (behind before)
   pub went : Went text from words start at to tape (partedTape before)
   pub counted : left + length before ≡ limit
   pub stand : Each (SentenceStands text) before
@@ -105,13 +105,13 @@ pub record Sentenced (text start : List ℕ) (limit from words : ℕ) (tape : Li
 
 abbrev SentencesAgree : Bytes → ℕ → ℕ → ℕ → List ℕ → List ℕ → CodeParsed → Type 0
 SentencesAgree text limit from words start tape r =
-    Agrees (SentencesRead text limit from words start tape) (Reading.sentences limit (stream text Tokens.inside from)) r
+    Agrees (SentencesRead text limit from words start tape) (Reading.parseSentences limit (stream text Tokens.inside from)) r
 
 pub sentences-start : (text start : List ℕ) (limit from words : ℕ) → Ready text from words → Sentenced text start limit from words start from words limit
 sentences-start text start limit from words r =
     record {
       before = [];
-      same = follow-alone (Reading.sentences limit (stream text Tokens.inside from));
+      same = follow-alone (Reading.parseSentences limit (stream text Tokens.inside from));
       went = rw parted-none (went-none text from words start r);
       counted = omega arith;
       stand = each-none (SentenceStands text);
@@ -122,9 +122,9 @@ module _ {text start : List ℕ} {limit from words : ℕ} {tape : List ℕ} {at 
   pub next-ready : Ready text at to
   next-ready = ready-after (k .short) (k .went)
 
-  at-sentence : Reading.sentences limit (stream text Tokens.inside from)
+  at-sentence : Reading.parseSentences limit (stream text Tokens.inside from)
       ≡ follow
-      (follow (firstSentence left (stream text Tokens.inside at)) (λ s rest. afterSentence (Reading.sentences (left - 1)) s rest))
+      (follow (firstSentence left (stream text Tokens.inside at)) (λ s rest. afterSentence (Reading.parseSentences (left - 1)) s rest))
       (behind (k .before))
   at-sentence = k .same ∙ rw (sentences-are left (stream text Tokens.inside at))
 
@@ -159,8 +159,8 @@ module _ {text start : List ℕ} {limit from words left : ℕ} {tape₁ : List �
   abbrev read-so : FirstRead text left (o .at) (o .to) (o .tape) tape₁ last (o .read .rest) s
   read-so = o .read .how
 
-  at-sequel : Reading.sentences limit (stream text Tokens.inside from)
-      ≡ follow (afterSentence (Reading.sentences (left - 1)) (o .read .value) (stream text Tokens.inside (s .at))) (behind (o .others .before))
+  at-sequel : Reading.parseSentences limit (stream text Tokens.inside from)
+      ≡ follow (afterSentence (Reading.parseSentences (left - 1)) (o .read .value) (stream text Tokens.inside (s .at))) (behind (o .others .before))
   at-sequel = at-sentence (o .others) ∙ rw (o .read .same, read-so .read .tokens)
 
   -- it was one of those that might come, and the tape is within the text
@@ -197,14 +197,14 @@ module _ {text start : List ℕ} {limit from words left : ℕ} {tape₁ : List �
 
   pub sequel-refused : {tape′ : List ℕ} {fault : Fault} → q ≡ Refused fault → SentencesAgree text limit from words start tape′ (Stopped fault)
   sequel-refused e =
-      stops (at-sequel one ∙ rw (followed e .gives (Reading.sentences (left - 1)) newest))
+      stops (at-sequel one ∙ rw (followed e .gives (Reading.parseSentences (left - 1)) newest))
 
   pub sequel-ends : {tape′ : List ℕ} {past : ℕ} → q ≡ Ends past → tape′ ≡ set tape₁ (s .words) 1792
       → SentencesAgree text limit from words start tape′ (Done (record { at = past; words = s .words + 1; count = left - 1; parts = 0 }))
   sequel-ends {past = past} e put =
       let f = followed e .gives in
       reads (others ++ newest ∷ []) (stream text Tokens.outside past)
-      (at-sequel one ∙ rw (f .0 (Reading.sentences (left - 1)) newest))
+      (at-sequel one ∙ rw (f .0 (Reading.parseSentences (left - 1)) newest))
       (record {
         tokens = refl;
         went = rw (parted-last others newest) (sentence-went one (tapeWord endKind 0) (f .1) (f .2) put);
@@ -220,8 +220,8 @@ module _ {text start : List ℕ} {limit from words left : ℕ} {tape₁ : List �
         before = others ++ newest ∷ [];
         same =
             at-sequel one
-            ∙ rw (f .0 (Reading.sentences (left - 1)) newest)
-            (behind-more others newest (Reading.sentences (left - 1) (stream text Tokens.inside place)));
+            ∙ rw (f .0 (Reading.parseSentences (left - 1)) newest)
+            (behind-more others newest (Reading.parseSentences (left - 1) (stream text Tokens.inside place)));
         went = rw (parted-more others newest) (sentence-went one (tapeWord nextKind 0) (f .1) (f .2) put);
         counted = counted-more one;
         stand = stand-more one;

@@ -131,7 +131,7 @@ opening depth items t ts =
     let later : Reading.Parsed CalledName =
     Reading.passName Reading.calledFault ts λ place n rest. parsed (record { place = place; name = n }) rest
     in
-    Reading.check (Reading.callFault depth (record { items = items; coming = [] })) t later
+    Reading.whereFaultless (Reading.callFault depth (record { items = items; coming = [] })) t later
 
 -- a call was read up to its argument, which may begin here
 pub record OpeningRead (text : Bytes) (depth : ℕ) (s : Progress) (tape tape′ : List ℕ) (n : CalledName) (rest : List Tokens.Placed) (start : Progress) : Type 0 where

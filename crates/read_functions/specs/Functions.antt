@@ -39,7 +39,7 @@ pub record FunctionStands (text : Bytes) (f : Function) : Type 0 where
 
 -- `function` after its name
 abbrev pub fromBrace : ℕ → List Tokens.Placed → Parsed (List Sentence)
-fromBrace limit ts = pass 123 ts λ ts₁. Reading.sentences limit ts₁
+fromBrace limit ts = pass 123 ts λ ts₁. Reading.parseSentences limit ts₁
 
 abbrev pub declared : Name → List Sentence → Function
 declared n ss = record { name = n; sentences = ss }
@@ -100,7 +100,7 @@ isEnd Malformed = false
 
 -- what the definition reads of a text's functions
 abbrev pub functionsOf : Bytes → Parsed Table
-functionsOf text = Reading.functions 64 512 [] (stream text Tokens.outside 0)
+functionsOf text = Reading.parseFunctions 64 512 [] (stream text Tokens.outside 0)
 
 -- the functions of a text were read
 pub record FunctionsRead (text : Bytes) (tape tape′ table : List ℕ) (t : Table) (rest : List Tokens.Placed) (p : Progress) : Type 0 where
@@ -113,7 +113,7 @@ pub record FunctionsRead (text : Bytes) (tape tape′ table : List ℕ) (t : Tab
 -- the functions from the start, where the tape was this, are those from a place on after these
 pub record Functioned (text start tape table : List ℕ) (at words count left : ℕ) : Type 0 where
   pub before : Table
-  pub same : functionsOf text ≡ Reading.functions (64 - count) left before (stream text Tokens.outside at)
+  pub same : functionsOf text ≡ Reading.parseFunctions (64 - count) left before (stream text Tokens.outside at)
   pub went : Went text 0 0 start at words tape (Tape.tape before)
   pub entries : Entries text table 0 count
   pub names : namesOf before ≡ tableNames text table 0 count

@@ -37,7 +37,7 @@ pub record SentenceStands (text : Bytes) (s : Sentence) : Type 0 where
 -- `sentence` from its `=` on
 abbrev pub fromEquals : List Name → List Name → List Tokens.Placed → Parsed Reading.Items
 fromEquals symbols parts ts =
-    pass 61 ts λ ts₁. unlessWord (Reading.expression (length ts₁) symbols 0 (record { items = 0; coming = parts }) ts₁)
+    pass 61 ts λ ts₁. unlessWord (Reading.parseExpression (length ts₁) symbols 0 (record { items = 0; coming = parts }) ts₁)
 
 -- `=` and an expression were read
 pub record EqualsRead (text : Bytes) (at words : ℕ) (tape tape′ : List ℕ) (i : Reading.Items) (rest : List Tokens.Placed) (s : Progress) : Type 0 where
@@ -65,7 +65,7 @@ beginsSentence Malformed = false
 -- a sentence, if one may still come
 abbrev pub sentenceOf : ℕ → Tokens.Placed → List Tokens.Placed → Parsed Sentence
 sentenceOf zero t ts = stopped overLimit (t .place)
-sentenceOf (suc left) t ts = unlessWord (Reading.sentence (t ∷ ts))
+sentenceOf (suc left) t ts = unlessWord (Reading.parseSentence (t ∷ ts))
 
 -- `sentences` up to what comes after the first
 abbrev pub firstSentence : ℕ → List Tokens.Placed → Parsed Sentence

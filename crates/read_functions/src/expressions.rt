@@ -255,8 +255,8 @@ fn call(
     requires { ⌜ Going (now text) (now table) symbols parts s × (s .words < s .at) ⌝ }
     ensures { λ r. ⌜ ((bound : ℕ) → length (stream (now (text .entry)) Tokens.naming (s .at)) ≤ bound
         → Agrees (CallRead (now (text .entry)) (now (table .entry)) symbols parts s (now (tape .entry)) (now (tape .exit)))
-        (Reading.call (Reading.expression bound (symbolNames (now (text .entry)) (now (table .entry)) symbols)) depth
-        (progressAt (now (text .entry)) (now (table .entry)) parts s) (standing (Tokens.sign 60) place (s .at))
+        (Reading.parseCall (Reading.parseExpression bound (symbolNames (now (text .entry)) (now (table .entry)) symbols))
+        depth (progressAt (now (text .entry)) (now (table .entry)) parts s) (standing (Tokens.sign 60) place (s .at))
         (stream (now (text .entry)) Tokens.naming (s .at))) r) ⌝ }
 {
     let start = match open_call(text, tape, depth, s, place) {
@@ -282,7 +282,7 @@ pub fn expression(
     requires { ⌜ Going (now text) (now table) symbols parts start ⌝ }
     ensures { λ r. ⌜ ((bound : ℕ) → length (stream (now (text .entry)) Tokens.inside (start .at)) ≤ bound
         → Agrees (ExpressionRead (now (text .entry)) (now (table .entry)) symbols parts start (now (tape .entry)) (now (tape .exit)))
-        (unlessWord (Reading.expression bound (symbolNames (now (text .entry)) (now (table .entry)) symbols) depth
+        (unlessWord (Reading.parseExpression bound (symbolNames (now (text .entry)) (now (table .entry)) symbols) depth
         (progressAt (now (text .entry)) (now (table .entry)) parts start) (stream (now (text .entry)) Tokens.inside (start .at)))) r) ⌝ }
 {
     let mut s = start;

@@ -66,7 +66,7 @@ fn sentence_end(
 fn sentence(text: &[u8], tape: &mut [u32], from: usize, words: usize) -> Parsed
     requires { ⌜ Ready (now text) from words ⌝ }
     ensures { λ r. ⌜ Agrees (SentenceRead (now (text .entry)) from words (now (tape .entry)) (now (tape .exit)))
-        (unlessWord (Reading.sentence (stream (now (text .entry)) Tokens.inside from))) r ⌝ }
+        (unlessWord (Reading.parseSentence (stream (now (text .entry)) Tokens.inside from))) r ⌝ }
 {
     let mut table = variable_room();
     let p = match pattern(text, tape, &mut table, from, words) {
@@ -139,7 +139,7 @@ fn after_sentence(text: &[u8], from: usize) -> Sequel
 pub fn sentences(text: &[u8], tape: &mut [u32], limit: usize, from: usize, words: usize) -> Parsed
     requires { ⌜ Ready (now text) from words ⌝ }
     ensures { λ r. ⌜ Agrees (SentencesRead (now (text .entry)) limit from words (now (tape .entry)) (now (tape .exit)))
-        (Reading.sentences limit (stream (now (text .entry)) Tokens.inside from)) r ⌝ }
+        (Reading.parseSentences limit (stream (now (text .entry)) Tokens.inside from)) r ⌝ }
 {
     let mut at = from;
     let mut to = words;

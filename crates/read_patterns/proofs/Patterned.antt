@@ -11,7 +11,7 @@ use Rattle.meaning.specs.Tree.{Element}
 use Rattle.meaning.specs.Allowed.{symbolsFrom, partsOf, lettersIn}
 use Rattle.tape_layout.specs.Tape.{patternTape}
 use Rattle.meaning.specs.Tokens.{inside}
-use Rattle.meaning.specs.Reading.{endsInPart, elementsOf, pattern}
+use Rattle.meaning.specs.Reading.{endsInPart, elementsOf, parsePattern}
 use Rattle.read_tokens.specs.View.{stream, Comes}
 use Rattle.read_tokens.specs.declared.Placed as Code
 use Rattle.read_bookkeeping.specs.declared.progress.Parsed.{Parsed}
@@ -32,7 +32,7 @@ use Rattle.read_bookkeeping.proofs.Refusing.{stopped-before}
 -- the pattern from the start is that from here with these elements before it
 pub record Patterned (text start : List ℕ) (at words : ℕ) (tape table : List ℕ) (p : Counts) : Type 0 where
   pub before : List Element
-  pub same : pattern [] (stream text inside at) ≡ pattern before (stream text inside (p .at))
+  pub same : parsePattern [] (stream text inside at) ≡ parsePattern before (stream text inside (p .at))
   pub held : Held text table p
   pub seen : Seen text table p before
   pub went : Went text at words start (p .at) (p .words) tape (patternTape before)
@@ -76,7 +76,7 @@ module _ {text start : List ℕ} {at words : ℕ} {tape table : List ℕ} {p : C
   PatternOn Other = Agree (Done (record { at = t .place; words = p .words; count = p .symbols; parts = p .parts }))
 
   pub pattern-on : (r : Added) → TokenGives text table p tape t table′ tape′ r → PatternOn r
-  unfolding pattern
+  unfolding parsePattern
   pattern-on (Taken next) g =
       let i = item-then c (g .1) in (
         omega (arith, g .0 .at, i .moves),

@@ -101,4 +101,4 @@ pub record PatternRead (text : Bytes) (at words : ℕ) (tape table′ tape′ : 
 
 abbrev pub PatternAgrees : Bytes → ℕ → ℕ → List ℕ → List ℕ → List ℕ → Parsed → Type 0
 PatternAgrees text at words tape table′ tape′ r =
-    Agrees (PatternRead text at words tape table′ tape′) (unlessWord (Reading.pattern [] (stream text Tokens.inside at))) r
+    Agrees (PatternRead text at words tape table′ tape′) (unlessWord (Reading.parsePattern [] (stream text Tokens.inside at))) r

@@ -12,7 +12,7 @@ use lib.Seq.{drop-drop}
 use Rattle.meaning.specs.Choice.{Bytes, pick, both}
 use Rattle.meaning.specs.Classes.{inClass, alphabetic, isBlankByte}
 use Rattle.meaning.specs.Allowed.{wordByte, nameByte}
-use Rattle.meaning.specs.Tokens.{Mode, outside, inside, naming, Token, sign, textEnd, Lexed, lexed, Gap, between, opening, commented, starred, Skipped, found, unclosed, ahead, skip, skipOn, Run, run, Turn, goesOn, closes, breaks, Quoting, plain, Quotation, closed, broken, turn, quotation, quoteOn, wordAt, quotedAt, bracketAt, tokenAt, tokenPast, lex, isLast}
+use Rattle.meaning.specs.Tokens.{Mode, outside, inside, naming, Token, sign, textEnd, Lexed, lexed, Gap, between, opening, commented, starred, Skipped, found, unclosed, ahead, skip, skipOn, Run, run, Turn, goesOn, closes, breaks, Quoting, plain, Quotation, closed, broken, turn, quotation, quoteOn, wordAt, quotedAt, bracketAt, tokenAt, tokenPast, lex, isLastToken}
 
 -- PLACES
 
@@ -178,14 +178,14 @@ module _ (text : Bytes) where
     pub place : l .first .place ≡ at
     pub forward : at ≤ l .first .past
     pub inside : l .first .past ≤ length text
-    pub moves : T (not (isLast (l .first .token))) → Ends text (suc at) (l .first .past) (l .rest)
+    pub moves : T (not (isLastToken (l .first .token))) → Ends text (suc at) (l .first .past) (l .rest)
 
   -- a token that passes a byte
   moving : (at past : ℕ) (token : Token) (rest : Bytes) → Ends text (suc at) past rest → TokenEnds at (lexed token at past rest)
   moving at past token rest s = record { place = refl; forward = omega (arith, s .onward); inside = s .inside; moves = λ m. s }
 
   -- a token after which none comes
-  last : (at past : ℕ) (token : Token) (rest : Bytes) → (T (not (isLast token)) → ⊥) → Ends text at past rest → TokenEnds at (lexed token at past rest)
+  last : (at past : ℕ) (token : Token) (rest : Bytes) → (T (not (isLastToken token)) → ⊥) → Ends text at past rest → TokenEnds at (lexed token at past rest)
   last at past token rest t s = record { place = refl; forward = s .onward; inside = s .inside; moves = λ m. absurd (t m) }
 
   module _ (at b : ℕ) (rest : Bytes) (e : b ∷ rest ≡ drop at text) where

@@ -34,13 +34,13 @@ module _ (text : Bytes) where
   -- the first token, and those after it under another bound
   first-then : (b c : ℕ) → Bounded b c → (mode : Tokens.Mode) (at : ℕ) → at ≤ length text → length text - at < suc b → length text - at < suc c
       → Tokens.tokensFrom (suc b) mode at (drop at text)
-      ≡ lexAt mode at .first ∷ pick (Tokens.isLast (lexAt mode at .first .token)) []
+      ≡ lexAt mode at .first ∷ pick (Tokens.isLastToken (lexAt mode at .first .token)) []
       (Tokens.tokensFrom c (after mode at) (lexAt mode at .first .past) (drop (lexAt mode at .first .past) text))
   unfolding Tokens.tokensFrom
   first-then b c bounded mode at h p q =
       let l = lex-ends text mode at h in
       ap (λ (later : List Tokens.Placed). lexAt mode at .first ∷ later)
-      (picked (Tokens.isLast (lexAt mode at .first .token)) [] _ _ λ m.
+      (picked (Tokens.isLastToken (lexAt mode at .first .token)) [] _ _ λ m.
       let s = l .ends .moves m in
       let o = l .onward in
       rw (s .left) (bounded (after mode at) (lexAt mode at .first .past) (s .inside) (omega (arith, s .onward)) (omega (arith, s .onward))))
@@ -54,19 +54,19 @@ module _ (text : Bytes) where
 
   pub stream-step : (mode : Tokens.Mode) (at : ℕ) → at ≤ length text
       → stream text mode at
-      ≡ lexAt mode at .first ∷ pick (Tokens.isLast (lexAt mode at .first .token)) [] (stream text (after mode at) (lexAt mode at .first .past))
+      ≡ lexAt mode at .first ∷ pick (Tokens.isLastToken (lexAt mode at .first .token)) [] (stream text (after mode at) (lexAt mode at .first .past))
   unfolding stream
   stream-step mode at h =
       first-then (length text) (suc (length text)) (bounds (length text) (suc (length text))) mode at h (omega arith) (omega arith)
 
   -- a token comes first from a place on: what comes after it, and that it is read again at its place
   record First (mode : Tokens.Mode) (at : ℕ) (p : Tokens.Placed) : Type 0 where
-    unrolled : stream text mode at ≡ p ∷ pick (Tokens.isLast (p .token)) [] (stream text (Tokens.modeAfter mode (p .token)) (p .past))
+    unrolled : stream text mode at ≡ p ∷ pick (Tokens.isLastToken (p .token)) [] (stream text (Tokens.modeAfter mode (p .token)) (p .past))
     again : stream text mode (p .place) ≡ stream text mode at
     onward : at ≤ p .place
     forward : p .place ≤ p .past
     inside : p .past ≤ length text
-    moves : T (not (Tokens.isLast (p .token))) → p .place < p .past
+    moves : T (not (Tokens.isLastToken (p .token))) → p .place < p .past
 
   first : (mode : Tokens.Mode) (at : ℕ) → at ≤ length text → First mode at (lexAt mode at .first)
   unfolding stream Tokens.tokensFrom

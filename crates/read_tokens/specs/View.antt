@@ -105,11 +105,11 @@ stream text mode at = Tokens.tokensFrom (suc (length text)) mode at (drop at tex
 pub record Comes (text : Bytes) (mode : Tokens.Mode) (at : ℕ) (t : Placed) : Type 0 where
   pub unrolled : stream text mode at
       ≡ placedOf text t
-      ∷ pick (Tokens.isLast (tokenOf text (t .token) (t .place) (t .past))) []
+      ∷ pick (Tokens.isLastToken (tokenOf text (t .token) (t .place) (t .past))) []
       (stream text (Tokens.modeAfter mode (tokenOf text (t .token) (t .place) (t .past))) (t .past))
   pub again : stream text mode (t .place) ≡ stream text mode at
   pub onward : at ≤ t .place
   pub forward : t .place ≤ t .past
   pub inside : t .past ≤ length text
-  pub moves : T (not (Tokens.isLast (tokenOf text (t .token) (t .place) (t .past)))) → t .place < t .past
+  pub moves : T (not (Tokens.isLastToken (tokenOf text (t .token) (t .place) (t .past)))) → t .place < t .past
   pub sound : Sound text (t .token) (t .place) (t .past)

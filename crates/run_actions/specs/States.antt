@@ -135,7 +135,7 @@ ledgerOf allowance g m =
     record {
       tally =
           record {
-            left = allowance - g .steps;
+            stepsLeft = allowance - g .steps;
             steps = g .steps;
             counts = countsIn (m .frames);
             emissions = take (g .emitted) (m .«record»);

@@ -13,8 +13,8 @@ use borrow.Author.Tests.{le-leb, lt-leb, eq-eqb, ne-eqb}
 use Rattle.meaning.specs.Choice.{Bytes, pick, both, guard, every}
 use Rattle.meaning.specs.Classes.{inClass, digit, within}
 use Rattle.meaning.specs.Numerals.{numeralFrom}
-use Rattle.meaning.specs.Angles.{cutBefore, cutAfter, numberIn}
-use Rattle.run_angles.specs.Post.{Cut, numberOf}
+use Rattle.meaning.specs.Angles.{cutBefore, cutAfter, numeralIn}
+use Rattle.run_angles.specs.Post.{Cut, numberRead}
 use Rattle.run_angles.specs.declared.Number.the-variants.{Of, Nothing}
 
 -- THE FIRST BYTE OF A VALUE
@@ -98,36 +98,36 @@ read-on {text} {value} {at} s h low high =
     }
 
 module _ (least most greatest : ℕ) (text : Bytes) where
-  pub too-few : length text < least → Nothing ≡ numberOf (numberIn least most greatest text)
+  pub too-few : length text < least → Nothing ≡ numberRead (numeralIn least most greatest text)
   too-few h = rw (lt-leb least (length text) h)
 
-  pub too-many : most < length text → Nothing ≡ numberOf (numberIn least most greatest text)
+  pub too-many : most < length text → Nothing ≡ numberRead (numeralIn least most greatest text)
   too-many h = rw (lt-leb (length text) most h, after-false (leb least (length text)))
 
   module _ {value at : ℕ} (s : Reads text value at) where
     module _ (h : at < length text) where
-      read-not : inClass digit (getD text at 0) ≡ false → Nothing ≡ numberOf (numberIn least most greatest text)
+      read-not : inClass digit (getD text at 0) ≡ false → Nothing ≡ numberRead (numeralIn least most greatest text)
       unfolding every
       read-not e = rw (s .digits, drop-cons text at 0 h, e, after-false (within least most (length text)))
 
-      pub read-under : getD text at 0 < 48 → Nothing ≡ numberOf (numberIn least most greatest text)
+      pub read-under : getD text at 0 < 48 → Nothing ≡ numberRead (numeralIn least most greatest text)
       read-under b = read-not (rw (lt-leb 48 (getD text at 0) b))
 
-      pub read-over : 57 < getD text at 0 → Nothing ≡ numberOf (numberIn least most greatest text)
+      pub read-over : 57 < getD text at 0 → Nothing ≡ numberRead (numeralIn least most greatest text)
       read-over b = read-not (rw (lt-leb (getD text at 0) 57 b, after-false (leb 48 (getD text at 0))))
 
     module _ (l : least ≤ length text) (m : length text ≤ most) (h : length text ≤ at) where
-      ended : (b : Bool) → leb value greatest ≡ b → pick b (Of value) Nothing ≡ numberOf (numberIn least most greatest text)
+      ended : (b : Bool) → leb value greatest ≡ b → pick b (Of value) Nothing ≡ numberRead (numeralIn least most greatest text)
       unfolding every numeralFrom
       ended b e =
           rw (le-leb least (length text) l, le-leb (length text) most m, s .digits, s .number, drop-of-length-le text h, e) (by-test b)
         where
-          by-test : (b : Bool) → pick b (Of value) Nothing ≡ numberOf (guard b (some value))
+          by-test : (b : Bool) → pick b (Of value) Nothing ≡ numberRead (guard b (some value))
           by-test true = refl
           by-test false = refl
 
-      pub read-past : greatest < value → Nothing ≡ numberOf (numberIn least most greatest text)
+      pub read-past : greatest < value → Nothing ≡ numberRead (numeralIn least most greatest text)
       read-past b = ended false (lt-leb value greatest b)
 
-      pub read-done : value ≤ greatest → Of value ≡ numberOf (numberIn least most greatest text)
+      pub read-done : value ≤ greatest → Of value ≡ numberRead (numeralIn least most greatest text)
       read-done b = ended true (le-leb value greatest b)

@@ -16,7 +16,7 @@ use Rattle.meaning.specs.Angles.{Operation, cutBefore, signed, angleIn, angleTe
 use Rattle.meaning.proofs.laws.Angles.{angle-form}
 use Rattle.meaning.specs.Leaving.{over}
 use Rattle.byte_writing.specs.Put.{Put}
-use Rattle.run_angles.specs.Post.{Cut, Found, valueOf, Worked, known, meant, signText, left, leaves}
+use Rattle.run_angles.specs.Post.{Cut, AngleFound, valueOf, Worked, knownValue, meant, signText, leftWith, leaves}
 use Rattle.run_angles.specs.declared.Angle.{Angle}
 use Rattle.run_angles.specs.declared.Minutes.{Minutes}
 use Rattle.run_angles.specs.declared.Value.{Value}
@@ -85,35 +85,35 @@ size-of true zero = refl
 size-of true (suc n) = refl
 
 module _ (op : Operation) {text : Bytes} {at : ℕ} (cut : Cut 32 text at) (old : Bytes) where
-  pub none-cut : at ≡ length text → left NotAngles old ≡ leaves (angled op text) old
+  pub none-cut : at ≡ length text → leftWith NotAngles old ≡ leaves (angled op text) old
   none-cut e = rw (back-none cut e) (by-first (angleIn (cutBefore 32 text)))
     where
-      by-first : (o : Option ℤ) → left NotAngles old ≡ leaves (angledOf op o none) old
+      by-first : (o : Option ℤ) → leftWith NotAngles old ≡ leaves (angledOf op o none) old
       by-first none = refl
       by-first (some x) = refl
 
-  module _ {a b : Angle} {r : Value} (first : Found (take (at - 0) (drop 0 text)) a)
-      (second : Found (take (length text - (at + 1)) (drop (at + 1) text)) b) (w : Worked op (valueOf a) (valueOf b) r) where
-    by-value : angled op text ≡ angledFrom (known r)
+  module _ {a b : Angle} {r : Value} (first : AngleFound (take (at - 0) (drop 0 text)) a)
+      (second : AngleFound (take (length text - (at + 1)) (drop (at + 1) text)) b) (w : Worked op (valueOf a) (valueOf b) r) where
+    by-value : angled op text ≡ angledFrom (knownValue r)
     by-value =
         rw (front-is cut, back-is cut, ← (first .value), ← (second .value), w .value) (from-meant op (valueOf a) (valueOf b))
 
-    pub none-known : r ≡ Unknown → left NotAngles old ≡ leaves (angled op text) old
+    pub none-known : r ≡ Unknown → leftWith NotAngles old ≡ leaves (angled op text) old
     none-known e = rw (by-value, e)
 
     module _ {m : Minutes} (e : r ≡ Known m) where
-      pub too-far : maxMinutes < m .size → left OutOfRange old ≡ leaves (angled op text) old
+      pub too-far : maxMinutes < m .size → leftWith OutOfRange old ≡ leaves (angled op text) old
       too-far h = rw (by-value, e, size-of (m .below) (m .size), lt-leb (m .size) maxMinutes h)
 
       pub given : {count : ℕ} {new : Bytes} → length old ≡ 7 → m .size ≤ maxMinutes → Put 0 old (angleText (signed (m .below) (m .size))) count new →
-          left (Sum count) new ≡ leaves (angled op text) old
+          leftWith (Sum count) new ≡ leaves (angled op text) old
       given {count} {new} seven h put =
           let x = signed (m .below) (m .size) in
           let abs = size-of (m .below) (m .size) in
           let form = angle-form x (omega arith) in
           let place : count ≡ length (angleText x) = omega (arith, put .place) in
           rw (by-value, e, size-of (m .below) (m .size), le-leb (m .size) maxMinutes h, place)
-          (ap (left (Sum (length (angleText x)))) (put .cells ∙ written x (form .short)))
+          (ap (leftWith (Sum (length (angleText x)))) (put .cells ∙ written x (form .short)))
         where
           nought : (n : ℕ) → 0 + n ≡ n
           nought n = omega arith

@@ -25,9 +25,9 @@ pub record Cut (byte : ℕ) (text : Bytes) (at : ℕ) : Type 0 where
   pub before : cutBefore byte text ≡ take at text
   pub after : cutAfter byte text ≡ drop (at + 1) text
 
-abbrev pub numberOf : Option ℕ → Number
-numberOf none = Nothing
-numberOf (some n) = Of n
+abbrev pub numberRead : Option ℕ → Number
+numberRead none = Nothing
+numberRead (some n) = Of n
 
 abbrev pub valueOf : Angle → Option ℤ
 valueOf (Above n) = some (signed false n)
@@ -40,7 +40,7 @@ sizeOf (Below n) = n
 sizeOf NoAngle = 0
 
 -- the angle that a text is
-pub record Found (text : Bytes) (r : Angle) : Type 0 where
+pub record AngleFound (text : Bytes) (r : Angle) : Type 0 where
   pub value : valueOf r ≡ angleIn text
   pub low : sizeOf r ≤ maxMinutes
 
@@ -55,16 +55,16 @@ meant op (some x) (some y) = some (worked op x y)
 meant op (some x) none = none
 meant op none y = none
 
-abbrev pub known : Value → Option ℤ
-known (Known m) = some (signed (m .below) (m .size))
-known Unknown = none
+abbrev pub knownValue : Value → Option ℤ
+knownValue (Known m) = some (signed (m .below) (m .size))
+knownValue Unknown = none
 
 abbrev pub knownSize : Value → ℕ
 knownSize (Known m) = m .size
 knownSize Unknown = 0
 
 pub record Worked (op : Operation) (first second : Option ℤ) (r : Value) : Type 0 where
-  pub value : known r ≡ meant op first second
+  pub value : knownValue r ≡ meant op first second
   pub low : knownSize r ≤ 2 * maxMinutes
 
 -- a sign is written only below zero
@@ -78,10 +78,10 @@ pub record Left : Type 0 where
   pub answer : Angled
   pub result : Bytes
 
-abbrev pub left : Angled → Bytes → Left
-left answer result = record { answer = answer; result = result }
+abbrev pub leftWith : Angled → Bytes → Left
+leftWith answer result = record { answer = answer; result = result }
 
 abbrev pub leaves : Meant → Bytes → Left
-leaves (sum text) old = left (Sum (length text)) (over text old)
-leaves notAngles old = left NotAngles old
-leaves outOfRange old = left OutOfRange old
+leaves (sum text) old = leftWith (Sum (length text)) (over text old)
+leaves notAngles old = leftWith NotAngles old
+leaves outOfRange old = leftWith OutOfRange old

@@ -3,10 +3,10 @@ use byte_writing::put;
 ghost use mathlib.Core.Path.{_≡_};
 ghost use mathlib.Core.Option.{some};
 ghost use Prim.Native.Nat.{_+_, _<_, _≤_};
-ghost use Rattle.meaning.specs.Angles.{operation, numberIn, sizeIn, signed, angleText, angled, maxMinutes};
+ghost use Rattle.meaning.specs.Angles.{operation, numeralIn, sizeIn, signed, angleText, angled, maxMinutes};
 ghost use Rattle.meaning.specs.Numerals.{decimal, twoDigits};
 ghost use Rattle.byte_writing.specs.Put.{Put, farthest};
-ghost use Rattle.run_angles.specs.Post.{Cut, numberOf, Found, valueOf, sizeOf, Total, Worked, signText, left, leaves};
+ghost use Rattle.run_angles.specs.Post.{Cut, numberRead, AngleFound, valueOf, sizeOf, Total, Worked, signText, leftWith, leaves};
 
 // What a call comes to: so many bytes of the result, or one of two faults.
 pub enum Angled {
@@ -56,7 +56,7 @@ fn place_of(text: &[u8], byte: u8) -> usize
 // A number of so many digits, from the first count to the second, and up to the greatest.
 fn number_in(text: &[u8], least: usize, most: usize, greatest: u32) -> Number
     requires { ⌜ most ≤ 3 ⌝ }
-    ensures { λ r. ⌜ r ≡ numberOf (numberIn least most greatest (now (text .entry))) ⌝ }
+    ensures { λ r. ⌜ r ≡ numberRead (numeralIn least most greatest (now (text .entry))) ⌝ }
 {
     if text.len() < least {
         return Number::Nothing;
@@ -86,7 +86,7 @@ fn number_in(text: &[u8], least: usize, most: usize, greatest: u32) -> Number
 
 // Degrees and minutes in minutes.
 fn size_in(text: &[u8]) -> Number
-    ensures { λ r. ⌜ r ≡ numberOf (sizeIn (now (text .entry))) ⌝ }
+    ensures { λ r. ⌜ r ≡ numberRead (sizeIn (now (text .entry))) ⌝ }
 {
     let colon = place_of(text, b':');
     if colon == text.len() {
@@ -103,7 +103,7 @@ fn size_in(text: &[u8]) -> Number
 }
 
 fn angle_in(text: &[u8]) -> Angle
-    ensures { λ r. ⌜ Found (now (text .entry)) r ⌝ }
+    ensures { λ r. ⌜ AngleFound (now (text .entry)) r ⌝ }
 {
     if text.len() == 0 {
         return Angle::NoAngle;
@@ -221,7 +221,7 @@ fn worked(subtract: bool, first: Angle, second: Angle) -> Value
 
 // DmAdd, or DmSub where `subtract` is set: the result's bytes come first in what is lent, and the others stay.
 pub fn compute_angles(subtract: bool, argument: &[u8], result: &mut [u8; 7]) -> Angled
-    ensures { λ r. ⌜ left r (now (result .exit)) ≡ leaves (angled (operation subtract) (now (argument .entry))) (now (result .entry)) ⌝ }
+    ensures { λ r. ⌜ leftWith r (now (result .exit)) ≡ leaves (angled (operation subtract) (now (argument .entry))) (now (result .entry)) ⌝ }
 {
     let blank = place_of(argument, b' ');
     if blank == argument.len() {

@@ -6,7 +6,7 @@ ghost use Rattle.run_actions.specs.declared.registers.Next.the-variants.{Onward
 ghost use Rattle.byte_classes.specs.Tests.{Answers};
 ghost use Rattle.meaning.specs.Outcome.{uncounted};
 ghost use Rattle.meaning.specs.Runs.{runLent};
-ghost use Rattle.meaning.specs.Leaving.{roomOf as roomOfCells, left};
+ghost use Rattle.meaning.specs.Leaving.{roomOf as roomOfCells, afterRun};
 ghost use Rattle.run_actions.specs.States.{firstFrames, wordsFor, valuesFor, countsIn, memory};
 ghost use Rattle.run_applications.specs.Waiting.{countIn, soundIn, functionsIn};
 ghost use Rattle.run_applications.specs.Advancing.{Underway, Keeps, Follows, FollowsToEnd};
@@ -267,7 +267,7 @@ pub fn run_lent(
     requires { ⌜ length (now frames) ≡ wordsFor firstFrames ⌝ }
     requires { ⌜ length (now values) ≡ valuesFor firstFrames ⌝ }
     requires { ⌜ countsIn (now frames) ≡ uncounted ⌝ }
-    ensures { λ r. ⌜ Leaves r (countsIn (now (frames .exit))) (cells (now (input .exit)) (now (output .exit)) (now («record» .exit))) (left (runLent (roomOfCells (cells (now (input .entry)) (now (output .entry)) (now («record» .entry)))) (functionsIn (now (code .entry))) start (now (text .entry)) allowance) (cells (now (input .entry)) (now (output .entry)) (now («record» .entry)))) ⌝ }
+    ensures { λ r. ⌜ Leaves r (countsIn (now (frames .exit))) (cells (now (input .exit)) (now (output .exit)) (now («record» .exit))) (afterRun (runLent (roomOfCells (cells (now (input .entry)) (now (output .entry)) (now («record» .entry)))) (functionsIn (now (code .entry))) start (now (text .entry)) allowance) (cells (now (input .entry)) (now (output .entry)) (now («record» .entry)))) ⌝ }
 {
     let g = loaded(input.len(), text.len(), start);
     copy_to_in(input, g.p, text);

@@ -11,8 +11,8 @@ use Rattle.run_finding.specs.declared.Occurrence.{Occurrence}
 use Rattle.run_finding.specs.declared.Occurrence.the-variants.{At, Nowhere, Unsuited}
 
 -- the leftmost of so many places from the first on at which the string stands
-abbrev pub standing : Bytes → Bytes → ℕ → ℕ → Found
-standing string text places first = search (λ at. checked (startsWith string (drop at text))) places first
+abbrev pub leftmostOccurrence : Bytes → Bytes → ℕ → ℕ → Found
+leftmostOccurrence string text places first = search (λ at. checked (startsWith string (drop at text))) places first
 
 abbrev pub occurrenceOf : Found → Occurrence
 occurrenceOf (foundAt at) = At at
@@ -26,7 +26,7 @@ suited size whole places first =
 
 abbrev pub occurrence : Bytes → Bytes → ℕ → ℕ → Occurrence
 occurrence string text places first =
-    let found = occurrenceOf (standing string text places first) in
+    let found = occurrenceOf (leftmostOccurrence string text places first) in
     pick (suited (length string) (length text) places first) found Unsuited
 
 -- BITS
@@ -40,10 +40,10 @@ backwards bytes zero = []
 backwards bytes (suc n) = getD bytes n 0 ∷ backwards bytes n
 
 -- the places of a byte, the first of them being bit 0
-unfoldable pub placesOf : Bytes → ℕ → ℕ
-placesOf [] c = 0
-placesOf (x ∷ xs) c = placesOf xs c * 2 + bit (eqb x c)
+unfoldable pub occurrenceBits : Bytes → ℕ → ℕ
+occurrenceBits [] c = 0
+occurrenceBits (x ∷ xs) c = occurrenceBits xs c * 2 + bit (eqb x c)
 
 -- a table that has for each byte its places in the string, the string's last place being bit 0
 pub record Marks (string marks : List ℕ) : Type 0 where
-  pub each : (c : ℕ) → c < 256 → getD marks c 0 ≡ placesOf (backwards string (length string)) c
+  pub each : (c : ℕ) → c < 256 → getD marks c 0 ≡ occurrenceBits (backwards string (length string)) c

@@ -2,7 +2,7 @@
 ghost use Prim.Native.Nat.{ℕ, _+_, _≤_, _<_, _-_, _^_};
 ghost use mathlib.Core.Path.{_≡_};
 ghost use lib.ListN.{length, getD, replicate};
-ghost use Rattle.run_finding.specs.Occurrences.{occurrence, suited, occurrenceOf, standing, Marks};
+ghost use Rattle.run_finding.specs.Occurrences.{occurrence, suited, occurrenceOf, leftmostOccurrence, Marks};
 
 // Where a string stands; or that it isn't looked for, since it is empty or longer than a word has bits, or the places
 // run past the text.
@@ -51,7 +51,7 @@ fn pass(marks: &[u64; 256], string: &[u8], text: &[u8], first: usize, places: us
     requires { ⌜ length (now string) ≤ 64 ⌝ }
     requires { ⌜ first + places + length (now string) ≤ length (now text) + 1 ⌝ }
     requires { ⌜ 1 ≤ places ⌝ }
-    ensures { λ r. ⌜ r ≡ occurrenceOf (standing (now (string .entry)) (now (text .entry)) places first) ⌝ }
+    ensures { λ r. ⌜ r ≡ occurrenceOf (leftmostOccurrence (now (string .entry)) (now (text .entry)) places first) ⌝ }
 {
     let most = string.len();
     let top = power(most - 1);

@@ -6,7 +6,7 @@ use lib.Dec.{leb}
 use lib.ListN.{drop}
 use Rattle.meaning.specs.Choice.{Bytes, pick}
 use Rattle.meaning.specs.Instructions.{Metric}
-use Rattle.meaning.specs.Matching.{Found, foundWrong, chosen, chosenNone, chosenWrong, place, placesOf, firstPlace}
+use Rattle.meaning.specs.Matching.{Found, foundWrong, chosen, chosenNone, chosenWrong, findPlace, placesOf, firstPlace}
 use Rattle.meaning.specs.Matching.{Choice as Choosing}
 use Rattle.meaning.specs.Packing.{Words, testsIn, storesIn, maxStored, unpackTests, unpackStores, unpackActions}
 use Rattle.run_matching.specs.declared.Places.{Places}
@@ -23,7 +23,7 @@ placesFor (some metric) whole = From (firstPlace metric) (placesOf metric whole)
 abbrev pub tried : Option Metric → ℕ → Words → Bytes → Found
 tried none v ws field = foundWrong
 tried (some metric) v ws field =
-    let found = place metric (unpackTests (testsIn v) ws) field in
+    let found = findPlace metric (unpackTests (testsIn v) ws) field in
     pick (leb (storesIn v) maxStored) found foundWrong
 
 abbrev pub choiceMeant : Words → Choice → Choosing

@@ -24,10 +24,10 @@ beforeMeant (Cells n) = some n
 beforeMeant Outside = none
 
 -- so many cells lie before a site, if the field has as many
-abbrev pub inside : ℕ → Option ℕ → Option ℕ
-inside whole none = none
-inside whole (some n) = guard (leb n whole) (some n)
+abbrev pub withinField : ℕ → Option ℕ → Option ℕ
+withinField whole none = none
+withinField whole (some n) = guard (leb n whole) (some n)
 
 abbrev pub siteBefore : Option Site → ℕ → ℕ → Option ℕ
 siteBefore none whole at = none
-siteBefore (some s) whole at = inside whole (cellsBefore s whole at)
+siteBefore (some s) whole at = withinField whole (cellsBefore s whole at)

@@ -5,7 +5,7 @@ ghost use Rattle.meaning.specs.Choice.{nth};
 ghost use Rattle.meaning.specs.Instructions.{fromEnd, fromPlace};
 ghost use Rattle.meaning.specs.Matching.{cellAt, cellsBefore};
 ghost use Rattle.meaning.specs.Packing.{siteOf};
-ghost use Rattle.run_sites.specs.Sites.{cellMeant, siteCell, beforeMeant, inside, siteBefore};
+ghost use Rattle.run_sites.specs.Sites.{cellMeant, siteCell, beforeMeant, withinField, siteBefore};
 use run_code_places::wide;
 
 // A byte of the field, or no cell there.
@@ -68,7 +68,7 @@ pub fn cell_at(field: &[u8], place: usize, register: u32, offset: u32) -> Cell
 
 // The cells before a site so far from a place, which may lie past the end.
 fn before_ahead(whole: usize, place: usize, offset: usize) -> Before
-    ensures { λ r. ⌜ beforeMeant r ≡ inside whole (cellsBefore (fromPlace offset) whole place) ⌝ }
+    ensures { λ r. ⌜ beforeMeant r ≡ withinField whole (cellsBefore (fromPlace offset) whole place) ⌝ }
 {
     if place <= whole {
         if offset <= whole - place {
@@ -80,7 +80,7 @@ fn before_ahead(whole: usize, place: usize, offset: usize) -> Before
 
 // The cells before a site so far back from the end; 0 is the end itself.
 fn before_back(whole: usize, back: usize) -> Before
-    ensures { λ r. ⌜ beforeMeant r ≡ inside whole (cellsBefore (fromEnd back) whole 0) ⌝ }
+    ensures { λ r. ⌜ beforeMeant r ≡ withinField whole (cellsBefore (fromEnd back) whole 0) ⌝ }
 {
     if back <= whole {
         Before::Cells(whole - back)

@@ -15,24 +15,24 @@ use Rattle.meaning.proofs.laws.Passing.{every-head, every-tail}
 use Rattle.meaning.proofs.laws.Remaining.{at-place}
 use Rattle.tape_words.specs.Words.{carried, nameIn, headName}
 use Rattle.tape_words.proofs.laws.Names.{name-part}
-use Rattle.tape_flatness.specs.Scanned.{earlier, onlyIf, opensCall, closesCall, itemFollows, declaredCall, calledSize, Scan, outOfCalls, inCall, leftmostBy, opened, closed, passed, scanned, ArgumentPassed}
+use Rattle.tape_flatness.specs.Scanned.{earlier, onlyIf, opensCall, closesCall, itemFollows, declaredCall, calledSize, CallScan, outOfCalls, inCall, leftmostBy, callOpened, callClosed, passedWord, scannedCalls, ArgumentPassed}
 
 -- NAMES
 
 -- a name is passed over at once
-pub name-passed : (k : ℕ) (ws : List ℕ) (s : Scan) → scanned k ws s ≡ scanned 0 (drop k ws) s
-unfolding scanned
+pub name-passed : (k : ℕ) (ws : List ℕ) (s : CallScan) → scannedCalls k ws s ≡ scannedCalls 0 (drop k ws) s
+unfolding scannedCalls
 name-passed zero ws s = refl
 name-passed (suc k) [] s = refl
 name-passed (suc k) (w ∷ ws) s = name-passed k ws s
 
-pub name-then : (n rest : List ℕ) (s : Scan) → scanned (length n) (n ++ rest) s ≡ scanned 0 rest s
+pub name-then : (n rest : List ℕ) (s : CallScan) → scannedCalls (length n) (n ++ rest) s ≡ scannedCalls 0 rest s
 name-then n rest s = name-passed (length n) (n ++ rest) s ∙ rw (drop-append-seam n rest)
 
 -- THE WORD AT A PLACE
 
-pub word-then : (w : ℕ) (ws : List ℕ) (s : Scan) → scanned 0 (w ∷ ws) s ≡ scanned (calledSize w) ws (passed (w ∷ ws) s)
-unfolding scanned
+pub word-then : (w : ℕ) (ws : List ℕ) (s : CallScan) → scannedCalls 0 (w ∷ ws) s ≡ scannedCalls (calledSize w) ws (passedWord (w ∷ ws) s)
+unfolding scannedCalls
 word-then w ws s = refl
 
 module _ (ws : List ℕ) (i : ℕ) (h : i < length ws) {w : ℕ} (e : w ≡ getD ws i 0) where
@@ -57,51 +57,51 @@ module _ (ws : List ℕ) (i : ℕ) (h : i < length ws) {w : ℕ} (e : w ≡ getD
         rw (more, f) (rw m at declared-by)
 
   -- what the word does to the scan
-  word-passed : (s : Scan) → scanned 0 (drop i ws) s
-      ≡ scanned (calledSize w) (drop (i + 1) ws)
-      (pick (opensCall w) (opened (declaredCall (drop i ws)) s) (pick (closesCall w) (closed (itemFollows (drop (i + 1) ws)) s) s))
+  word-passed : (s : CallScan) → scannedCalls 0 (drop i ws) s
+      ≡ scannedCalls (calledSize w) (drop (i + 1) ws)
+      (pick (opensCall w) (callOpened (declaredCall (drop i ws)) s) (pick (closesCall w) (callClosed (itemFollows (drop (i + 1) ws)) s) s))
   word-passed s = rw (at-place ws i h, e) (word-then (getD ws i 0) (drop (i + 1) ws) s)
 
-  opens-here : opensCall w ≡ true → {next : ℕ} → next ≡ i + 1 + carried (getD ws i 0) → (s : Scan)
-      → scanned 0 (drop i ws) s ≡ scanned 0 (drop next ws) (opened (declaredCall (drop i ws)) s)
+  opens-here : opensCall w ≡ true → {next : ℕ} → next ≡ i + 1 + carried (getD ws i 0) → (s : CallScan)
+      → scannedCalls 0 (drop i ws) s ≡ scannedCalls 0 (drop next ws) (callOpened (declaredCall (drop i ws)) s)
   opens-here o f s =
       let far : drop (carried w) (drop (i + 1) ws) ≡ drop (i + 1 + carried w) ws = drop-drop (carried w) (i + 1) ws in
-      rw (word-passed s, o, name-passed (carried w) (drop (i + 1) ws) (opened (declaredCall (drop i ws)) s), far, f, e)
+      rw (word-passed s, o, name-passed (carried w) (drop (i + 1) ws) (callOpened (declaredCall (drop i ws)) s), far, f, e)
 
   module _ {opens : Bool} (f : opens ≡ opensCall w) where
     pub inner-opens : opens ≡ true → {next : ℕ} → next ≡ i + 1 + carried (getD ws i 0) → {call : ℕ} → call ≡ declaredCall (drop i ws)
         → (found : ℕ) → {leftmost : ℕ} → leftmost ≡ earlier call found → (more p : ℕ)
-        → scanned 0 (drop i ws) (inCall more p found) ≡ scanned 0 (drop next ws) (inCall (more + 1) p leftmost)
+        → scannedCalls 0 (drop i ws) (inCall more p found) ≡ scannedCalls 0 (drop next ws) (inCall (more + 1) p leftmost)
     inner-opens o t d found l more p =
         let one : more + 1 ≡ suc more = omega arith in
         rw (one, l, d) (opens-here (sym f ∙ o) t (inCall more p found))
 
     module _ (o : opens ≡ false) where
-      pub closes-here : w ≡ 1280 → (s : Scan) → scanned 0 (drop i ws) s ≡ scanned 0 (drop (i + 1) ws) (closed (itemFollows (drop (i + 1) ws)) s)
+      pub closes-here : w ≡ 1280 → (s : CallScan) → scannedCalls 0 (drop i ws) s ≡ scannedCalls 0 (drop (i + 1) ws) (callClosed (itemFollows (drop (i + 1) ws)) s)
       closes-here k s = word-passed s ∙ rw (← f, o, eq-eqb w 1280 k)
 
       pub inner-closes : w ≡ 1280 → (more : ℕ) → (more ≡ 0 → ⊥) → (p found : ℕ)
-          → scanned 0 (drop i ws) (inCall more p found) ≡ scanned 0 (drop (i + 1) ws) (inCall (more - 1) p found)
+          → scannedCalls 0 (drop i ws) (inCall more p found) ≡ scannedCalls 0 (drop (i + 1) ws) (inCall (more - 1) p found)
       inner-closes k zero m p found = absurd (m refl)
       inner-closes k (suc more) m p found =
           let less : suc more - 1 ≡ more = omega arith in
           rw less (closes-here k (inCall (suc more) p found))
 
-      pub stays-here : (w ≡ 1280 → ⊥) → (s : Scan) → scanned 0 (drop i ws) s ≡ scanned 0 (drop (i + 1) ws) s
+      pub stays-here : (w ≡ 1280 → ⊥) → (s : CallScan) → scannedCalls 0 (drop i ws) s ≡ scannedCalls 0 (drop (i + 1) ws) s
       stays-here k s = word-passed s ∙ rw (← f, o, ne-eqb w 1280 k)
 
       -- between outermost calls none is open that could close
-      pub outer-stays : (found : ℕ) → scanned 0 (drop i ws) (outOfCalls found) ≡ scanned 0 (drop (i + 1) ws) (outOfCalls found)
+      pub outer-stays : (found : ℕ) → scannedCalls 0 (drop i ws) (outOfCalls found) ≡ scannedCalls 0 (drop (i + 1) ws) (outOfCalls found)
       outer-stays found = word-passed (outOfCalls found) ∙ rw (← f, o) (by (closesCall w))
         where
           by : (closes : Bool)
-              → scanned 0 (drop (i + 1) ws) (pick closes (outOfCalls found) (outOfCalls found)) ≡ scanned 0 (drop (i + 1) ws) (outOfCalls found)
+              → scannedCalls 0 (drop (i + 1) ws) (pick closes (outOfCalls found) (outOfCalls found)) ≡ scannedCalls 0 (drop (i + 1) ws) (outOfCalls found)
           by true = refl
           by false = refl
 
 -- a word below those that open and close calls
 pub stays-low : (ws : List ℕ) (i : ℕ) → i < length ws → {w : ℕ} → w ≡ getD ws i 0 → w < 1280
-    → (s : Scan) → scanned 0 (drop i ws) s ≡ scanned 0 (drop (i + 1) ws) s
+    → (s : CallScan) → scannedCalls 0 (drop i ws) s ≡ scannedCalls 0 (drop (i + 1) ws) s
 stays-low ws i h {w = w} e k s = stays-here ws i h e {opens = opensCall w} refl (lt-leb 2304 w (omega arith)) (λ z. omega arith) s
 
 -- THE END OF A CALL, AND OF THE TAPE
@@ -110,23 +110,23 @@ stays-low ws i h {w = w} e k s = stays-here ws i h e {opens = opensCall w} refl 
 module _ (ws : List ℕ) (i : ℕ) (h : i < length ws) (o : opensCall (getD ws i 0) ≡ true) (leftmost next found : ℕ) {from : ℕ}
     (f : from ≡ i + 1 + carried (getD ws i 0)) (a : ArgumentPassed ws from leftmost next found)
     {followed : Bool} (g : followed ≡ itemFollows (drop next ws)) where
-  call-ends : scanned 0 (drop i ws) (outOfCalls leftmost)
-      ≡ scanned 0 (drop next ws) (outOfCalls (earlier (onlyIf followed (declaredCall (drop i ws))) found))
+  call-ends : scannedCalls 0 (drop i ws) (outOfCalls leftmost)
+      ≡ scannedCalls 0 (drop next ws) (outOfCalls (earlier (onlyIf followed (declaredCall (drop i ws))) found))
   call-ends = opens-here ws i h refl o f (outOfCalls leftmost) ∙ a (declaredCall (drop i ws)) ∙ rw g
 
   pub call-followed : followed ≡ true → {call : ℕ} → call ≡ declaredCall (drop i ws) → {all : ℕ} → all ≡ earlier call found
-      → scanned 0 (drop i ws) (outOfCalls leftmost) ≡ scanned 0 (drop next ws) (outOfCalls all)
+      → scannedCalls 0 (drop i ws) (outOfCalls leftmost) ≡ scannedCalls 0 (drop next ws) (outOfCalls all)
   call-followed t d l = rw (l, d) (rw t at call-ends)
 
-  pub call-last : followed ≡ false → scanned 0 (drop i ws) (outOfCalls leftmost) ≡ scanned 0 (drop next ws) (outOfCalls found)
+  pub call-last : followed ≡ false → scannedCalls 0 (drop i ws) (outOfCalls leftmost) ≡ scannedCalls 0 (drop next ws) (outOfCalls found)
   call-last t = rw t at call-ends
 
-pub scan-ends : (ws : List ℕ) (i : ℕ) → length ws ≤ i → (s : Scan) → scanned 0 (drop i ws) s ≡ leftmostBy s
-unfolding scanned
+pub scan-ends : (ws : List ℕ) (i : ℕ) → length ws ≤ i → (s : CallScan) → scannedCalls 0 (drop i ws) s ≡ leftmostBy s
+unfolding scannedCalls
 scan-ends ws i h s = rw (drop-of-length-le ws h)
 
 pub argument-ends : (ws : List ℕ) (i : ℕ) → length ws ≤ i → (more p found : ℕ)
-    → scanned 0 (drop i ws) (inCall more p found) ≡ scanned 0 (drop i ws) (closed (itemFollows (drop i ws)) (inCall 0 p found))
+    → scannedCalls 0 (drop i ws) (inCall more p found) ≡ scannedCalls 0 (drop i ws) (callClosed (itemFollows (drop i ws)) (inCall 0 p found))
 argument-ends ws i h more p found = scan-ends ws i h (inCall more p found) ∙ sym (scan-ends ws i h _ ∙ rw (drop-of-length-le ws h))
 
 -- WORDS THAT CHANGE NOTHING
@@ -138,18 +138,18 @@ quiet w = both (not (opensCall w)) (not (closesCall w))
 pub quiet-low : (w : ℕ) → w < 1280 → T (quiet w)
 quiet-low w h = rw (lt-leb 2304 w (omega arith), ne-eqb w 1280 (omega arith)) tt
 
-pub quiet-word : (w : ℕ) (rest : List ℕ) (s : Scan) → T (quiet w) → scanned 0 (w ∷ rest) s ≡ scanned 0 rest s
-unfolding scanned
+pub quiet-word : (w : ℕ) (rest : List ℕ) (s : CallScan) → T (quiet w) → scannedCalls 0 (w ∷ rest) s ≡ scannedCalls 0 rest s
+unfolding scannedCalls
 quiet-word w rest s q = by (opensCall w) (closesCall w) q
   where
     by : (opens closes : Bool) → T (both (not opens) (not closes))
-        → scanned (pick opens (carried w) 0) rest (pick opens (opened (declaredCall (w ∷ rest)) s) (pick closes (closed (itemFollows rest) s) s))
-        ≡ scanned 0 rest s
+        → scannedCalls (pick opens (carried w) 0) rest (pick opens (callOpened (declaredCall (w ∷ rest)) s) (pick closes (callClosed (itemFollows rest) s) s))
+        ≡ scannedCalls 0 rest s
     by false false q = refl
     by false true q = absurd q
     by true closes q = absurd q
 
-pub quiet-then : (ws rest : List ℕ) (s : Scan) → T (every quiet ws) → scanned 0 (ws ++ rest) s ≡ scanned 0 rest s
+pub quiet-then : (ws rest : List ℕ) (s : CallScan) → T (every quiet ws) → scannedCalls 0 (ws ++ rest) s ≡ scannedCalls 0 rest s
 quiet-then [] rest s q = refl
 quiet-then (w ∷ ws) rest s q =
     quiet-word w (ws ++ rest) s (every-head quiet w ws q) ∙ quiet-then ws rest s (every-tail quiet w ws q)

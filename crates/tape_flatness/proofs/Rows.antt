@@ -5,7 +5,7 @@ use mathlib.Core.List.{List, [], _∷_, map}
 use Rattle.meaning.specs.Choice.{sameBytes, startsWith}
 use Rattle.tape_flatness.specs.declared.Place.{Place}
 use Rattle.tape_flatness.specs.declared.Place.the-variants.{At, Nowhere}
-use Rattle.tape_flatness.specs.Scanned.{scanned, nestedCall}
+use Rattle.tape_flatness.specs.Scanned.{scannedCalls, nestedCall}
 
 pub record Row : Type 0 where
   pub words : List ℕ
@@ -42,5 +42,5 @@ rows =
     row (2817 ∷ 70 ∷ 2561 ∷ 71 ∷ 1280 ∷ 1280 ∷ 120 ∷ []) (At 1) ∷ []
 
 pub scanned-rows : map (λ (r : Row). nestedCall (r .words)) rows ≡ map (λ (r : Row). r .found) rows
-unfolding scanned sameBytes startsWith
+unfolding scannedCalls sameBytes startsWith
 scanned-rows = refl

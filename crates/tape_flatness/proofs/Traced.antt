@@ -13,12 +13,12 @@ use Rattle.meaning.specs.Names.{Calling as Called, asEmission, asAngles, asFunc
 use Rattle.meaning.specs.Tree.{Expression, end, thenCharacter, thenSymbol, thenPart, thenCall, Sentence, Function, Table}
 use Rattle.meaning.specs.Allowed.{isByte, spelledName, spelledIdentifier, someSentence, allowedSentence, allowedFunction, allowed}
 use Rattle.tape_layout.specs.Tape.{tapeWord, named, symbolKind, partKind, equalsKind, closeKind, nextKind, endKind, functionKind, callKind, patternTape, conditionsTape, expressionTape, sentenceTape, sentencesTape, tape}
-use Rattle.meaning.specs.Translation.{Manner, emits, computes, replaces, nests, Level, outermost, inside, isLast, mannerAs, mannerOf}
+use Rattle.meaning.specs.Translation.{Manner, emits, computes, replaces, nests, Level, outermost, inArgument, inTailPosition, mannerAs, mannerOf}
 use Rattle.meaning.specs.Flat.{nestedAt, nestedCalls, nestedSentences, nestedIn, leftmost}
 use Rattle.meaning.proofs.laws.Passing.{both-left, both-right, both-pass, every-head, every-tail}
 use Rattle.meaning.proofs.laws.Spelling.{name-short, identifier-short, identifier-bytes}
 use Rattle.meaning_accepting.proofs.roundtrip.Legible.{legible}
-use Rattle.tape_flatness.specs.Scanned.{placed, placeOf, earlier, onlyIf, isItem, itemFollows, Scan, outOfCalls, inCall, opened, closed, scanned, nestedCall}
+use Rattle.tape_flatness.specs.Scanned.{placed, placeOf, earlier, onlyIf, isItemWord, itemFollows, CallScan, outOfCalls, inCall, callOpened, callClosed, scannedCalls, nestedCall}
 use Rattle.tape_flatness.proofs.Places.{earlier-nothing, earlier-either-way, earlier-assoc, told-placed, foundIn, found-first, found-append, found-then}
 use Rattle.tape_flatness.proofs.Passing.{word-then, name-then, quiet, quiet-low, quiet-word, quiet-then}
 use Rattle.tape_flatness.proofs.Spelled.{byte-quiet, bytes-quiet, name-quiet, allowed-plain}
@@ -33,10 +33,10 @@ data Standing : Type 0 where
 -- as translation says it
 abbrev levelOf : Standing → Level
 levelOf outside = outermost
-levelOf (within d p) = inside
+levelOf (within d p) = inArgument
 
 -- there, with the leftmost place so far
-abbrev at : Standing → ℕ → Scan
+abbrev at : Standing → ℕ → CallScan
 at outside o = outOfCalls o
 at (within d p) o = inCall d p o
 
@@ -60,32 +60,32 @@ abbrev whenClosed : Standing → Bool → ℕ → ℕ → ℕ
 whenClosed outside followed call o = earlier (onlyIf followed call) o
 whenClosed (within d p) followed call o = o
 
-opens : (st : Standing) (call o : ℕ) → opened call (at st o) ≡ at (deeper st call) (whenOpened st call o)
+opens : (st : Standing) (call o : ℕ) → callOpened call (at st o) ≡ at (deeper st call) (whenOpened st call o)
 opens outside call o = refl
 opens (within d p) call o = refl
 
-closes : (st : Standing) (followed : Bool) (call o : ℕ) → closed followed (at (deeper st call) o) ≡ at st (whenClosed st followed call o)
+closes : (st : Standing) (followed : Bool) (call o : ℕ) → callClosed followed (at (deeper st call) o) ≡ at st (whenClosed st followed call o)
 closes outside followed call o = refl
 closes (within d p) followed call o = refl
 
 close-then : (st : Standing) (call : ℕ) (rest : List ℕ) (o : ℕ)
-    → scanned 0 (tapeWord closeKind 0 ∷ rest) (at (deeper st call) o) ≡ scanned 0 rest (at st (whenClosed st (itemFollows rest) call o))
-unfolding scanned
-close-then st call rest o = ap (scanned 0 rest) (closes st (itemFollows rest) call o)
+    → scannedCalls 0 (tapeWord closeKind 0 ∷ rest) (at (deeper st call) o) ≡ scannedCalls 0 rest (at st (whenClosed st (itemFollows rest) call o))
+unfolding scannedCalls
+close-then st call rest o = ap (scannedCalls 0 rest) (closes st (itemFollows rest) call o)
 
 -- the word of a call and the name after it
-module _ (place : ℕ) (n : Name) (rest : List ℕ) (s : Scan) (t : T (spelledName n)) where
+module _ (place : ℕ) (n : Name) (rest : List ℕ) (s : CallScan) (t : T (spelledName n)) where
   abbrev word : ℕ
   word = tapeWord (callKind + place) (length n)
 
-  call-passed : scanned 0 (word ∷ (n ++ rest)) s ≡ scanned (length n) (n ++ rest) (opened (onlyIf (not (isBuiltIn n)) (suc place)) s)
+  call-passed : scannedCalls 0 (word ∷ (n ++ rest)) s ≡ scannedCalls (length n) (n ++ rest) (callOpened (onlyIf (not (isBuiltIn n)) (suc place)) s)
   call-passed =
       let short = name-short n t in
       let size : word % 256 ≡ length n = omega arith in
       let stands : word / 256 - callKind ≡ place = omega arith in
       rw (word-then word (n ++ rest) s, le-leb 2304 word (omega arith), size, take-append-seam n rest, stands)
 
-  named-opens : scanned 0 (named (callKind + place) n ++ rest) s ≡ scanned 0 rest (opened (onlyIf (not (isBuiltIn n)) (suc place)) s)
+  named-opens : scannedCalls 0 (named (callKind + place) n ++ rest) s ≡ scannedCalls 0 rest (callOpened (onlyIf (not (isBuiltIn n)) (suc place)) s)
   named-opens = call-passed ∙ name-then n rest _
 
 -- a call that is done in this manner, where it counts
@@ -127,7 +127,7 @@ found-early q a e o =
 
 -- an item follows a call unless it is the last
 item-follows : (e : Expression) (rest : List ℕ) → T (legible e) → itemFollows rest ≡ false
-    → itemFollows (expressionTape e ++ rest) ≡ not (isLast outermost e)
+    → itemFollows (expressionTape e ++ rest) ≡ not (inTailPosition outermost e)
 unfolding expressionTape legible
 item-follows end rest t h = h
 item-follows (thenCharacter c e) rest t h = rw (lt-ltb c 768 (omega (arith, ltb→lt c 256 (both-left (isByte c) _ t))))
@@ -151,14 +151,14 @@ call-told : (st : Standing) (place : ℕ) (n : Name) (e : Expression) (rest : Li
     ≡ earlier (foundIn (nestedAt (mannerOf (levelOf st) e n) place (xs ++ ys))) o
 call-told outside place n e rest xs o t h =
     let m = mannerOf outermost e n in
-    rw (item-follows e rest t h, manner-place (callingOf n) (isLast outermost e) place, nested-found m place xs (nestedCalls outermost e))
+    rw (item-follows e rest t h, manner-place (callingOf n) (inTailPosition outermost e) place, nested-found m place xs (nestedCalls outermost e))
     (found-late (countedCall m place) (foundIn xs) (foundIn (nestedCalls outermost e)) o)
 call-told (within d p) place n e rest xs o t h =
-    rw (nested-found (mannerOf inside e n) place xs (nestedCalls inside e), ← (manner-place (callingOf n) false place))
-    (found-early (onlyIf (not (isBuiltIn n)) (suc place)) (foundIn xs) (foundIn (nestedCalls inside e)) o)
+    rw (nested-found (mannerOf inArgument e n) place xs (nestedCalls inArgument e), ← (manner-place (callingOf n) false place))
+    (found-early (onlyIf (not (isBuiltIn n)) (suc place)) (foundIn xs) (foundIn (nestedCalls inArgument e)) o)
 
-variable-then : (kind : ℕ) (x : Name) (ws : List ℕ) (s : Scan) → kind < 3 → T (spelledIdentifier x)
-    → scanned 0 (named kind x ++ ws) s ≡ scanned 0 ws s
+variable-then : (kind : ℕ) (x : Name) (ws : List ℕ) (s : CallScan) → kind < 3 → T (spelledIdentifier x)
+    → scannedCalls 0 (named kind x ++ ws) s ≡ scannedCalls 0 ws s
 unfolding every
 variable-then kind x ws s h t =
     quiet-then (named kind x) ws s
@@ -166,7 +166,7 @@ variable-then kind x ws s h t =
     (bytes-quiet x (identifier-bytes x t)))
 
 expression-traced : (st : Standing) (e : Expression) (rest : List ℕ) (o : ℕ) → T (legible e) → Ends st rest
-    → scanned 0 (expressionTape e ++ rest) (at st o) ≡ scanned 0 rest (at st (earlier (foundIn (nestedCalls (levelOf st) e)) o))
+    → scannedCalls 0 (expressionTape e ++ rest) (at st o) ≡ scannedCalls 0 rest (at st (earlier (foundIn (nestedCalls (levelOf st) e)) o))
 unfolding expressionTape legible nestedCalls leftmost
 expression-traced st end rest o t h = refl
 expression-traced st (thenCharacter c e) rest o t h =
@@ -187,24 +187,24 @@ expression-traced st (thenCall place n a e) rest o t h =
     let inE = both-right (legible a) (legible e) others in
     let call = onlyIf (not (isBuiltIn n)) (suc place) in
     let later = expressionTape e ++ rest in
-    let xs = nestedCalls inside a in
+    let xs = nestedCalls inArgument a in
     rw (
       append-assoc (named (callKind + place) n) (expressionTape a ++ tapeWord closeKind 0 ∷ expressionTape e) rest,
       append-assoc (expressionTape a) (tapeWord closeKind 0 ∷ expressionTape e) rest,
     )
     (named-opens place n (expressionTape a ++ tapeWord closeKind 0 ∷ later) (at st o) spelled)
-    ∙ ap (scanned 0 (expressionTape a ++ tapeWord closeKind 0 ∷ later)) (opens st call o)
+    ∙ ap (scannedCalls 0 (expressionTape a ++ tapeWord closeKind 0 ∷ later)) (opens st call o)
     ∙ expression-traced (deeper st call) a (tapeWord closeKind 0 ∷ later) (whenOpened st call o) inA tt
     ∙ close-then st call later _
     ∙ expression-traced st e rest _ inE h
-    ∙ ap (λ (q : ℕ). scanned 0 rest (at st q)) (call-told st place n e rest xs o inE h)
+    ∙ ap (λ (q : ℕ). scannedCalls 0 rest (at st q)) (call-told st place n e rest xs o inE h)
 
 -- SENTENCES
 
 -- the word after a sentence: another follows, or the function ends
-sentence-traced : (s : Sentence) (w : ℕ) (ws : List ℕ) (o : ℕ) → T (allowedSentence s) → isItem w ≡ false
-    → scanned 0 (sentenceTape s ++ (w ∷ ws)) (at outside o)
-    ≡ scanned 0 (w ∷ ws) (at outside (earlier (foundIn (nestedCalls outermost (s .expression))) o))
+sentence-traced : (s : Sentence) (w : ℕ) (ws : List ℕ) (o : ℕ) → T (allowedSentence s) → isItemWord w ≡ false
+    → scannedCalls 0 (sentenceTape s ++ (w ∷ ws)) (at outside o)
+    ≡ scannedCalls 0 (w ∷ ws) (at outside (earlier (foundIn (nestedCalls outermost (s .expression))) o))
 sentence-traced s w ws o t h =
     let plain = allowed-plain s t in
     let p = patternTape (s .pattern) in
@@ -217,7 +217,7 @@ sentence-traced s w ws o t h =
     ∙ expression-traced outside (s .expression) (w ∷ ws) o (plain .expression) h
 
 sentences-traced : (ss : List Sentence) (rest : List ℕ) (o : ℕ) → T (every allowedSentence ss)
-    → scanned 0 (sentencesTape ss ++ rest) (at outside o) ≡ scanned 0 rest (at outside (earlier (foundIn (nestedSentences ss)) o))
+    → scannedCalls 0 (sentencesTape ss ++ rest) (at outside o) ≡ scannedCalls 0 rest (at outside (earlier (foundIn (nestedSentences ss)) o))
 unfolding sentencesTape nestedSentences leftmost
 sentences-traced [] rest o t = quiet-word (tapeWord endKind 0) rest (at outside o) tt
 sentences-traced (s ∷ []) rest o t =
@@ -230,7 +230,7 @@ sentences-traced (s ∷ r ∷ rs) rest o t =
     (sentence-traced s (tapeWord nextKind 0) (later ++ rest) o (every-head allowedSentence s (r ∷ rs) t) refl)
     ∙ quiet-word (tapeWord nextKind 0) (later ++ rest) _ tt
     ∙ sentences-traced (r ∷ rs) rest _ (every-tail allowedSentence s (r ∷ rs) t)
-    ∙ ap (λ (q : ℕ). scanned 0 rest (at outside q)) (found-then (nestedCalls outermost (s .expression)) (nestedSentences (r ∷ rs)) o)
+    ∙ ap (λ (q : ℕ). scannedCalls 0 rest (at outside q)) (found-then (nestedCalls outermost (s .expression)) (nestedSentences (r ∷ rs)) o)
 
 -- THE TABLE
 
@@ -242,8 +242,8 @@ head-quiet n t =
     rw (lt-leb 2304 w (omega arith), ne-eqb w 1280 (omega arith)) (name-quiet n t)
 
 functions-traced : (fs : List Function) (o : ℕ) → T (every allowedFunction fs)
-    → scanned 0 (tape fs) (at outside o) ≡ earlier (foundIn (nestedIn fs)) o
-unfolding tape scanned nestedIn leftmost
+    → scannedCalls 0 (tape fs) (at outside o) ≡ earlier (foundIn (nestedIn fs)) o
+unfolding tape scannedCalls nestedIn leftmost
 functions-traced [] o t = refl
 functions-traced (f ∷ fs) o t =
     let this = every-head allowedFunction f fs t in

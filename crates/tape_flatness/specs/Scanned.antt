@@ -46,12 +46,12 @@ abbrev pub closesCall : ℕ → Bool
 closesCall w = eqb w (tapeWord closeKind 0)
 
 -- a character, a variable or a call: the kinds before that of a condition, and the last
-abbrev pub isItem : ℕ → Bool
-isItem w = either (ltb w (tapeWord conditionKind 0)) (opensCall w)
+abbrev pub isItemWord : ℕ → Bool
+isItemWord w = either (ltb w (tapeWord conditionKind 0)) (opensCall w)
 
 abbrev pub itemFollows : List ℕ → Bool
 itemFollows [] = false
-itemFollows (w ∷ ws) = isItem w
+itemFollows (w ∷ ws) = isItemWord w
 
 -- the call that the first word opens, unless it needs no declaration: every other is declared
 abbrev pub declaredCall : List ℕ → ℕ
@@ -66,44 +66,44 @@ calledSize w = pick (opensCall w) (carried w) 0
 
 -- what is known of the words so far: the leftmost declared call that is no tail call; in a call also how many more are
 -- open, and the outermost one, if it is declared
-pub data Scan : Type 0 where
-  outOfCalls : (leftmost : ℕ) → Scan
-  inCall : (more outermost leftmost : ℕ) → Scan
+pub data CallScan : Type 0 where
+  outOfCalls : (leftmost : ℕ) → CallScan
+  inCall : (more outermost leftmost : ℕ) → CallScan
 
-abbrev pub leftmostBy : Scan → ℕ
+abbrev pub leftmostBy : CallScan → ℕ
 leftmostBy (outOfCalls leftmost) = leftmost
 leftmostBy (inCall more outermost leftmost) = leftmost
 
 -- a call is opened: inside another it is no tail call; an outermost one is kept until it closes
-abbrev pub opened : ℕ → Scan → Scan
-opened call (outOfCalls leftmost) = inCall 0 call leftmost
-opened call (inCall more outermost leftmost) = inCall (suc more) outermost (earlier call leftmost)
+abbrev pub callOpened : ℕ → CallScan → CallScan
+callOpened call (outOfCalls leftmost) = inCall 0 call leftmost
+callOpened call (inCall more outermost leftmost) = inCall (suc more) outermost (earlier call leftmost)
 
 -- a call is closed: where an item follows it, the outermost one is no tail call
-abbrev pub closed : Bool → Scan → Scan
-closed followed (outOfCalls leftmost) = outOfCalls leftmost
-closed followed (inCall zero outermost leftmost) = outOfCalls (earlier (onlyIf followed outermost) leftmost)
-closed followed (inCall (suc more) outermost leftmost) = inCall more outermost leftmost
+abbrev pub callClosed : Bool → CallScan → CallScan
+callClosed followed (outOfCalls leftmost) = outOfCalls leftmost
+callClosed followed (inCall zero outermost leftmost) = outOfCalls (earlier (onlyIf followed outermost) leftmost)
+callClosed followed (inCall (suc more) outermost leftmost) = inCall more outermost leftmost
 
-abbrev pub passed : List ℕ → Scan → Scan
-passed [] s = s
-passed (w ∷ ws) s =
-    pick (opensCall w) (opened (declaredCall (w ∷ ws)) s)
-    (pick (closesCall w) (closed (itemFollows ws) s) s)
+abbrev pub passedWord : List ℕ → CallScan → CallScan
+passedWord [] s = s
+passedWord (w ∷ ws) s =
+    pick (opensCall w) (callOpened (declaredCall (w ∷ ws)) s)
+    (pick (closesCall w) (callClosed (itemFollows ws) s) s)
 
 -- the leftmost in the end, where so many words of a name are still to be passed over
-unfoldable pub scanned : ℕ → List ℕ → Scan → ℕ
-scanned zero [] s = leftmostBy s
-scanned zero (w ∷ ws) s = scanned (calledSize w) ws (passed (w ∷ ws) s)
-scanned (suc name) [] s = leftmostBy s
-scanned (suc name) (w ∷ ws) s = scanned name ws s
+unfoldable pub scannedCalls : ℕ → List ℕ → CallScan → ℕ
+scannedCalls zero [] s = leftmostBy s
+scannedCalls zero (w ∷ ws) s = scannedCalls (calledSize w) ws (passedWord (w ∷ ws) s)
+scannedCalls (suc name) [] s = leftmostBy s
+scannedCalls (suc name) (w ∷ ws) s = scannedCalls name ws s
 
 -- from one place to another stands the argument of an outermost call, whichever that is
 abbrev pub ArgumentPassed : List ℕ → ℕ → ℕ → ℕ → ℕ → Type 0
 ArgumentPassed ws from leftmost next found =
-    (outermost : ℕ) → scanned 0 (drop from ws) (inCall 0 outermost leftmost)
-    ≡ scanned 0 (drop next ws) (closed (itemFollows (drop next ws)) (inCall 0 outermost found))
+    (outermost : ℕ) → scannedCalls 0 (drop from ws) (inCall 0 outermost leftmost)
+    ≡ scannedCalls 0 (drop next ws) (callClosed (itemFollows (drop next ws)) (inCall 0 outermost found))
 
 -- "the place of its name, leftmost"
 abbrev pub nestedCall : List ℕ → Place
-nestedCall ws = placeOf (scanned 0 ws (outOfCalls 0))
+nestedCall ws = placeOf (scannedCalls 0 ws (outOfCalls 0))

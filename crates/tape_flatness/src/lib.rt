@@ -10,7 +10,7 @@ ghost use Prim.Native.Nat.{_+_, _≤_, _<_};
 ghost use lib.ListN.{length, drop, getD};
 ghost use Rattle.tape_words.specs.Words.{carried};
 ghost use Rattle.tape_flatness.specs.Scanned.{earlier, placeOf, opensCall, itemFollows, declaredCall};
-ghost use Rattle.tape_flatness.specs.Scanned.{outOfCalls, scanned, ArgumentPassed, nestedCall};
+ghost use Rattle.tape_flatness.specs.Scanned.{outOfCalls, scannedCalls, ArgumentPassed, nestedCall};
 
 // A word is so many times its kind, and what it carries.
 const KIND: usize = 256;
@@ -140,8 +140,8 @@ fn pass_argument(tape: &[u32], from: usize, leftmost: usize) -> Passed
 // An outermost call, with its argument: it is no tail call where an item follows it. Its name is asked only then.
 fn pass_call(tape: &[u32], i: usize, leftmost: usize) -> Passed
     requires { ⌜ (i < length (now tape)) × (opensCall (getD (now tape) i 0) ≡ true) ⌝ }
-    ensures { λ r. ⌜ (i < r .next) × (scanned 0 (drop i (now (tape .entry))) (outOfCalls leftmost)
-        ≡ scanned 0 (drop (r .next) (now (tape .entry))) (outOfCalls (r .leftmost))) ⌝ }
+    ensures { λ r. ⌜ (i < r .next) × (scannedCalls 0 (drop i (now (tape .entry))) (outOfCalls leftmost)
+        ≡ scannedCalls 0 (drop (r .next) (now (tape .entry))) (outOfCalls (r .leftmost))) ⌝ }
 {
     let passed = pass_argument(tape, past_name(tape, i), leftmost);
     let next = passed.next;

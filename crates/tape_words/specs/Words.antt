@@ -64,8 +64,8 @@ endingOf w depth = pick (eqb depth 0) Stop (pick (ltb w 1280) Unclosed (pick (lt
 abbrev pub openingOf : ℕ → Item
 openingOf depth = pick (ltb depth maxNesting) Call Pass
 
-abbrev pub itemOf : ℕ → ℕ → ℕ → Item
-itemOf w depth items =
+abbrev pub itemOfWord : ℕ → ℕ → ℕ → Item
+itemOfWord w depth items =
     pick (leb maxItems items) (endingOf w depth)
     (pick (ltb w 256) Byte
     (pick (ltb w 512) Symbol
@@ -75,4 +75,4 @@ itemOf w depth items =
 
 abbrev pub itemAt : List ℕ → ℕ → ℕ → Item
 itemAt [] depth items = pick (eqb depth 0) Stop Unclosed
-itemAt (w ∷ ws) depth items = itemOf w depth items
+itemAt (w ∷ ws) depth items = itemOfWord w depth items

@@ -6,7 +6,7 @@ ghost use Prim.Native.Nat.{_+_, _-_, _<_, _^_, min};
 ghost use lib.Dec.{ltb};
 ghost use lib.ListN.{length, take, drop, getD, replicate};
 ghost use Rattle.meaning.specs.Choice.{pick};
-ghost use Rattle.tape_words.specs.Words.{headName, partPiece, pieceOf, pieceAt, endingOf, openingOf, itemOf, itemAt};
+ghost use Rattle.tape_words.specs.Words.{headName, partPiece, pieceOf, pieceAt, endingOf, openingOf, itemOfWord, itemAt};
 
 // How many e-variables a pattern has, or has had so far.
 pub enum Parts {
@@ -172,7 +172,7 @@ fn opening_of(depth: usize) -> Item
 }
 
 fn item_of(word: usize, depth: usize, items: usize) -> Item
-    ensures { λ r. ⌜ r ≡ itemOf word depth items ⌝ }
+    ensures { λ r. ⌜ r ≡ itemOfWord word depth items ⌝ }
 {
     if 128 <= items {
         return ending_of(word, depth);

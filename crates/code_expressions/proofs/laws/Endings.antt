@@ -12,7 +12,7 @@ use Rattle.meaning.specs.Choice.{Name, pick, both, guard}
 use Rattle.meaning.specs.Tree.{Expression, end, Table}
 use Rattle.meaning.specs.Angles.{plus, minus, operation}
 use Rattle.meaning.specs.Names.{Calling as Called, asEmission, asAngles, asFunction, callingOf, numberOf}
-use Rattle.meaning.specs.Translation.{Shape, Manner as MeantManner, emits, computes, replaces, nests, Level, outermost, inside, inTail, isEnd, mannerAs, mannerOf, levelIn, endsPattern, leftFor}
+use Rattle.meaning.specs.Translation.{Shape, Manner as MeantManner, emits, computes, replaces, nests, Level, outermost, inArgument, inTail, isEnd, mannerAs, mannerOf, levelIn, endsPattern, leftFor}
 use Rattle.tape_words.specs.Finding.{callingIn}
 use Rattle.tape_words.specs.declared.names.Calling.{Calling}
 use Rattle.tape_words.specs.declared.names.Calling.the-variants.{Emission, Angles, Function}
@@ -22,8 +22,8 @@ use Rattle.tape_words.specs.Words.{headName, itemAt}
 use Rattle.code_expressions.specs.declared.expression.Walk.{Walk}
 use Rattle.code_expressions.specs.declared.expression.Manner.{Manner}
 use Rattle.code_expressions.specs.declared.expression.Manner.the-variants.{Emits, Computes, Replaces, Nests}
-use Rattle.code_expressions.specs.Levels.{Levels, stopped, firstOf, othersOf, itemBy, levelsIn}
-use Rattle.code_expressions.specs.Resuming.{levelAt, openNames, levelsNow, restNow, callDone, isStop, lastCall, mannerBy, mannerNow, goesOn, endingBy}
+use Rattle.code_expressions.specs.Levels.{Levels, levelsEnded, firstOf, othersOf, itemBy, levelsIn}
+use Rattle.code_expressions.specs.Resuming.{levelAt, openNames, levelsNow, restNow, callDone, isStop, lastCall, mannerBy, mannerNow, continues, endingBy}
 use Rattle.code_expressions.proofs.laws.Items.{stops, Told, told, levels-at, levels-stop, stops-below, last-item}
 use Rattle.code_expressions.proofs.laws.Resumed.{open-less, open-last, outermost-moves, nested-moves}
 
@@ -46,7 +46,7 @@ stop-stops Stop e = refl
 -- an e-variable that an item follows moves
 followed-moves : (s : Shape) (level : Level) (x : Name) (e : Expression) → isEnd e ≡ false → leftFor s level x e ≡ none
 followed-moves s outermost x e h = refl
-followed-moves s inside x e h = refl
+followed-moves s inArgument x e h = refl
 followed-moves s (inTail f) x e h = rw h
 
 module _ (ws calls : List ℕ) (w : Walk) where
@@ -84,12 +84,12 @@ module _ (ws calls : List ℕ) (w : Walk) where
 
   pub unclosed-ends : here ≡ Unclosed → Ends (w .next) []
   unclosed-ends e =
-      let below : later (w .next) ≡ stopped (drop (w .next) ws) =
+      let below : later (w .next) ≡ levelsEnded (drop (w .next) ws) =
       levels-stop ws (w .next) under (w .items) (stops-below ws (w .next) (w .depth) (w .items) e) in
       record {
         deep = told ws (w .next) (w .depth) (w .items) Unclosed e;
         forward = omega arith;
-        now = levels-stop ws (w .next) (w .depth) (w .items) (ap stops e) ∙ ap (λ (r : List ℕ). stopped r) (sym (ap (λ (l : Levels). l .rest) below));
+        now = levels-stop ws (w .next) (w .depth) (w .items) (ap stops e) ∙ ap (λ (r : List ℕ). levelsEnded r) (sym (ap (λ (l : Levels). l .rest) below));
         first = sym (ap (λ (l : Levels). l .current) below);
         others = sym (ap (λ (l : Levels). l .outer) below);
       }
@@ -127,13 +127,13 @@ module _ (ws calls : List ℕ) (w : Walk) where
     last-stops true c e = (refl, e)
     last-stops false c e = (cc, cc)
 
-    pub rest-same : (k : Manner) (at : ℕ) → manner ≡ k → restNow (goesOn k) ws (callDone w next at (goesOn k)) ≡ levelsNow ws w .rest
+    pub rest-same : (k : Manner) (at : ℕ) → manner ≡ k → restNow (continues k) ws (callDone w next at (continues k)) ≡ levelsNow ws w .rest
     rest-same Emits at e = sym (ap (λ (l : Levels). l .rest) (ends .now))
     rest-same (Computes subtract) at e = sym (ap (λ (l : Levels). l .rest) (ends .now))
     rest-same Nests at e = sym (ap (λ (l : Levels). l .rest) (ends .now))
     rest-same Replaces at e =
         let tests = last-stops (eqb under 0) (isStop (itemAt (drop next ws) 0 (w .items))) (replaces-last (callingIn (callingOf called)) last e) in
-        let none-read : later next ≡ stopped (drop next ws) =
+        let none-read : later next ≡ levelsEnded (drop next ws) =
         rw (eqb-true under 0 (tests .0)) (levels-stop ws next 0 (w .items) (stop-stops (itemAt (drop next ws) 0 (w .items)) (tests .1))) in
         sym (ap (λ (l : Levels). l .rest) none-read) ∙ sym (ap (λ (l : Levels). l .rest) (ends .now))
 
@@ -148,12 +148,12 @@ module _ (ws calls : List ℕ) (w : Walk) where
 
   end-left : {next : ℕ} {outer : List Expression} → Ends next outer → (t : Table) (s : Shape) (x : Name)
       → leftFor s (levelAt t (openNames ws calls (w .depth)) (levelsNow ws w .outer)) x (levelsNow ws w .current)
-      ≡ guard (both (not (goesOn (mannerNow ws calls next w))) (endsPattern s x)) (some (numberOf t called))
+      ≡ guard (both (not (continues (mannerNow ws calls next w))) (endsPattern s x)) (some (numberOf t called))
   unfolding levelAt
   end-left {next} ends t s x =
       rw (ends .now, open-less ws calls (w .depth) (ends .deep), manner-same ends t) (by-manner (mannerNow ws calls next w) (numberOf t called))
     where
-      by-manner : (k : Manner) (f : ℕ) → leftFor s (levelIn (meant k) f) x end ≡ guard (both (not (goesOn k)) (endsPattern s x)) (some f)
+      by-manner : (k : Manner) (f : ℕ) → leftFor s (levelIn (meant k) f) x end ≡ guard (both (not (continues k)) (endsPattern s x)) (some f)
       by-manner Emits f = refl
       by-manner (Computes subtract) f = refl
       by-manner Replaces f = refl
@@ -175,10 +175,10 @@ module _ (ws calls : List ℕ) (w : Walk) where
     pub items : p .items ≡ w .items
     pub depth : p .depth ≡ under
 
-  end-passed : {next : ℕ} {outer : List Expression} → Ends next outer → next ≤ length ws + 1 → goesOn (mannerNow ws calls next w) ≡ false
-      → Passed (callDone w next (w .at) (goesOn (mannerNow ws calls next w)))
+  end-passed : {next : ℕ} {outer : List Expression} → Ends next outer → next ≤ length ws + 1 → continues (mannerNow ws calls next w) ≡ false
+      → Passed (callDone w next (w .at) (continues (mannerNow ws calls next w)))
   end-passed {next} ends fits e =
-      let more = goesOn (mannerNow ws calls next w) in
+      let more = continues (mannerNow ws calls next w) in
       let rest : restNow more ws (callDone w next (w .at) more) ≡ levelsNow ws w .rest = rest-same ends (mannerNow ws calls next w) (w .at) refl in
       record { deep = ends .deep; rest = rw e at rest; forward = ends .forward; next = fits; items = refl; depth = refl }
 

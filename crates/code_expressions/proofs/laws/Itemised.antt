@@ -13,7 +13,7 @@ use Rattle.meaning.specs.Tree.{Expression, thenCharacter, thenSymbol, thenPart,
 use Rattle.meaning.specs.Names.{numberOf}
 use Rattle.meaning.specs.Instructions.{Site, Action, go, select, out}
 use Rattle.meaning.specs.Translation.{Shape, Manner as MeantManner, Passage, passage, restOf, valueNumber, endsPattern, leftFor, whereLeft, calling, actionsOf}
-use Rattle.meaning.specs.Packing.{Words, word, spanWord, packActions}
+use Rattle.meaning.specs.Packing.{Words, codeWord, spanWord, packActions}
 use Rattle.tape_words.specs.declared.tape.Item.{Item}
 use Rattle.tape_words.specs.declared.tape.Item.the-variants.{Byte, Symbol, Part, Call, Pass, Close, Unclosed, Stop}
 use Rattle.code_patterns.specs.declared.pattern.Lengths.{Lengths}
@@ -23,13 +23,13 @@ use Rattle.code_expressions.specs.declared.expression.Walk.{Walk}
 use Rattle.code_expressions.specs.declared.expression.Manner.{Manner}
 use Rattle.code_expressions.specs.declared.expression.Manner.the-variants.{Emits, Computes, Replaces, Nests}
 use Rattle.tape_words.specs.Words.{carried, headName, headNames, itemAt}
-use Rattle.code_expressions.specs.Levels.{placeIn, Levels, stopped, onCurrent, firstOf, othersOf, opened, itemBy, levelsIn}
+use Rattle.code_expressions.specs.Levels.{placeIn, Levels, levelsEnded, onCurrent, firstOf, othersOf, levelOpened, itemBy, levelsIn}
 use Rattle.code_words.specs.Writing.{Wrote, Same}
 use Rattle.tape_words.specs.Finding.{numberAmong}
-use Rattle.code_patterns.specs.Measuring.{flag, variableOf}
+use Rattle.code_patterns.specs.Measuring.{flag, firstPartOr}
 use Rattle.code_actions.specs.ActionWords.{spanWords, partWords, restWord, leftWords}
 use Rattle.code_actions.specs.Spanning.{meantStand, gapBy, pieceSpan, standAfter, endsBy}
-use Rattle.code_expressions.specs.Resuming.{levelAt, resume, openNames, levelsNow, remaining, restNow, itemDone, wordDone, callDone, callWords, mannerNow, goesOn, endingWords, pastEnding, pastName, isFirst, stays, allDone, Means, InItems, Innermost, ItemsOn, ItemsAll}
+use Rattle.code_expressions.specs.Resuming.{levelAt, resume, openNames, levelsNow, remaining, restNow, itemDone, wordDone, callDone, callWords, mannerNow, continues, endingWords, pastEnding, pastName, isFirst, stays, allDone, Means, InItems, Innermost, ItemsOn, ItemsAll}
 use Rattle.tape_words.proofs.laws.Names.{name-here, name-fits-here, name-short}
 use Rattle.code_expressions.proofs.laws.Naming.{value-among, number-among}
 use Rattle.code_words.proofs.laws.Stores.{same-refl, same-trans, same-words, same-wrote, same-end}
@@ -123,7 +123,7 @@ module _ (ws heads names : List ℕ) (m : Pattern) (calls : List ℕ) (w : Walk)
   variable-now variable read now =
       now ∙ rw (levels-past (w .depth) (w .items + 1) ws (w .next) (read .inside), ← (name-here ws (w .next) (read .inside)))
 
-  pub character-on : {code code′ : List ℕ} {r : Walk} → it ≡ Byte → Wrote code (w .at) (word 8 (getD ws (w .next) 0) 0 0 ∷ []) code′ (r .at)
+  pub character-on : {code code′ : List ℕ} {r : Walk} → it ≡ Byte → Wrote code (w .at) (codeWord 8 (getD ws (w .next) 0) 0 0 ∷ []) code′ (r .at)
       → r ≡ itemDone w 0 (r .at) (w .depth) (w .stand) → ItemsOn ws heads names m calls code w calls code′ r
   unfolding packActions
   character-on e wrote done =
@@ -136,7 +136,7 @@ module _ (ws heads names : List ℕ) (m : Pattern) (calls : List ℕ) (w : Walk)
       wrote done (omega arith)
 
   pub value-on : {code code′ : List ℕ} {r : Walk} → it ≡ Symbol
-      → Wrote code (w .at) (word 9 (numberAmong 0 (headNames ws names) name - 1) 0 0 ∷ []) code′ (r .at)
+      → Wrote code (w .at) (codeWord 9 (numberAmong 0 (headNames ws names) name - 1) 0 0 ∷ []) code′ (r .at)
       → r ≡ itemDone w size (r .at) (w .depth) (w .stand) → ItemsOn ws heads names m calls code w calls code′ r
   unfolding packActions
   value-on e wrote done =
@@ -147,7 +147,7 @@ module _ (ws heads names : List ℕ) (m : Pattern) (calls : List ℕ) (w : Walk)
       let value : valueNumber ss name ≡ numberAmong 0 (headNames ws names) name - 1 =
       value-among 0 ss name ∙ ap (λ (l : List Name). numberAmong 0 l name - 1) (means .symbols) in
       ap packActions (resume-symbol t s ss (openNames ws calls (w .depth)) name (after size .current) (after size .outer) (meantStand (w .stand)))
-      ∙ ap (λ (v : ℕ). word 9 v 0 0 ∷ packActions (resume t s ss (openNames ws calls (w .depth)) (after size .current) (after size .outer) (meantStand (w .stand)))) value)
+      ∙ ap (λ (v : ℕ). codeWord 9 v 0 0 ∷ packActions (resume t s ss (openNames ws calls (w .depth)) (after size .current) (after size .outer) (meantStand (w .stand)))) value)
       wrote done (omega arith)
 
   -- the number of the innermost open call's function
@@ -179,7 +179,7 @@ module _ (ws heads names : List ℕ) (m : Pattern) (calls : List ℕ) (w : Walk)
     part-spans =
         let st = w .stand in
         let h = headName ws (m .variable) in
-        let f : first ≡ sameBytes name (variableOf h s) = ap (sameBytes name) (means .variable) in
+        let f : first ≡ sameBytes name (firstPartOr h s) = ap (sameBytes name) (means .variable) in
         let spans = passage-spans s name h st in (
           ap₂ (λ (l : Lengths) (b : Bool). spanWords 5 (gapBy (l .parts) l b st)) (means .lengths) f ∙ ap (spanWords 5) (spans .0),
           ap₂ (λ (l : Lengths) (b : Bool). spanWords 6 (pieceSpan (l .parts) l b)) (means .lengths) f ∙ ap (spanWords 6) (spans .1),
@@ -244,14 +244,14 @@ module _ (ws heads names : List ℕ) (m : Pattern) (calls : List ℕ) (w : Walk)
         grown = omega (arith, wrote .next, gone .depth, gone .deep, gone .items);
       }
 
-  pub open-on : {calls′ code code′ : List ℕ} {r : Walk} → it ≡ Call → Wrote code (w .at) (word 10 0 0 0 ∷ []) code′ (r .at)
+  pub open-on : {calls′ code code′ : List ℕ} {r : Walk} → it ≡ Call → Wrote code (w .at) (codeWord 10 0 0 0 ∷ []) code′ (r .at)
       → r ≡ itemDone w size (r .at) (w .depth + 1) (w .stand) → calls′ ≡ set calls (w .depth) (w .next)
       → ItemsOn ws heads names m calls code w calls′ code′ r
   unfolding packActions
   open-on e wrote done more =
       let (read, deep) = tells Call e in
       let later = levelsIn (w .depth + 1) (w .items + 1) 0 (drop (w .next + 1 + size) ws) in
-      let now : levelsNow ws w ≡ opened (placeIn (getD ws (w .next) 0)) name later =
+      let now : levelsNow ws w ≡ levelOpened (placeIn (getD ws (w .next) 0)) name later =
       reads Call (read .inside) e
       ∙ rw (levels-past (w .depth + 1) (w .items + 1) ws (w .next) (read .inside), ← (name-here ws (w .next) (read .inside))) in
       rw more (item-on size read (name-fits-here ws (w .next) (read .inside)) (ap (λ (l : Levels). l .rest) now)
@@ -289,7 +289,7 @@ module _ (ws heads names : List ℕ) (m : Pattern) (calls : List ℕ) (w : Walk)
   unfolding packActions openNames
   end-on {code} e wrote done =
       let none = tells Stop e in
-      let now : levelsNow ws w ≡ stopped (drop (w .next) ws) = levels-stop ws (w .next) (w .depth) (w .items) (ap stops (sym is ∙ e)) in
+      let now : levelsNow ws w ≡ levelsEnded (drop (w .next) ws) = levels-stop ws (w .next) (w .depth) (w .items) (ap stops (sym is ∙ e)) in
       rw done record {
         same = λ t s ss means. same-wrote []
             (same-words (same-refl code (w .at) _)
@@ -321,7 +321,7 @@ module _ (ws heads names : List ℕ) (m : Pattern) (calls : List ℕ) (w : Walk)
     -- its words, and what comes after them
     calling-words : (t : Table) (s : Shape) (ss : List (Named Site)) → Means ws heads names m t s ss → (k : Manner) (number : ℕ) (more : List Action)
         → packActions (calling s (meant k) number name-called (meantStand (w .stand)) more)
-        ≡ callWords k (m .lengths) (w .stand) number name-called ++ pick (goesOn k) (packActions more) []
+        ≡ callWords k (m .lengths) (w .stand) number name-called ++ pick (continues k) (packActions more) []
     unfolding packActions
     calling-words t s ss means Emits number more = refl
     calling-words t s ss means (Computes subtract) number more = refl
@@ -343,7 +343,7 @@ module _ (ws heads names : List ℕ) (m : Pattern) (calls : List ℕ) (w : Walk)
     more-same t s ss false at = refl
 
     close-on : {code code′ : List ℕ} {r : Walk} → Wrote code (w .at) (endingWords ws heads (m .lengths) calls next w) code′ (r .at)
-        → r ≡ callDone w next (r .at) (goesOn manner) → ItemsOn ws heads names m calls code w calls code′ r
+        → r ≡ callDone w next (r .at) (continues manner) → ItemsOn ws heads names m calls code w calls code′ r
     close-on {code} {r = r} wrote done =
         rw done record {
           same = λ t s ss means.
@@ -356,7 +356,7 @@ module _ (ws heads names : List ℕ) (m : Pattern) (calls : List ℕ) (w : Walk)
               ∙ ap₂ (λ (k : MeantManner) (f : ℕ). packActions (calling s k f name-called st more)) (manner-same ws calls w ends t)
               (number-same t s ss means)
               ∙ calling-words t s ss means manner (numberAmong 0 (headNames ws heads) name-called) more
-              ∙ ap (λ (r : Words). endingWords ws heads (m .lengths) calls next w ++ r) (more-same t s ss (goesOn manner) (r .at)))))
+              ∙ ap (λ (r : Words). endingWords ws heads (m .lengths) calls next w ++ r) (more-same t s ss (continues manner) (r .at)))))
               wrote;
           rest = rest-same ws calls w ends manner (r .at) refl;
           within =
@@ -367,7 +367,7 @@ module _ (ws heads names : List ℕ) (m : Pattern) (calls : List ℕ) (w : Walk)
                 items = within .items;
                 next = fits;
               };
-          ahead = omega (arith, flag-small (goesOn manner), ends .deep, ends .forward);
+          ahead = omega (arith, flag-small (continues manner), ends .deep, ends .forward);
           grown = omega (arith, wrote .next, ends .deep, words-short manner (numberAmong 0 (headNames ws heads) name-called));
         }
       where
@@ -377,12 +377,12 @@ module _ (ws heads names : List ℕ) (m : Pattern) (calls : List ℕ) (w : Walk)
 
   pub closed-on : {code code′ : List ℕ} {r : Walk} → it ≡ Close
       → Wrote code (w .at) (endingWords ws heads (m .lengths) calls (w .next + 1) w) code′ (r .at)
-      → r ≡ callDone w (w .next + 1) (r .at) (goesOn (mannerNow ws calls (w .next + 1) w)) → ItemsOn ws heads names m calls code w calls code′ r
+      → r ≡ callDone w (w .next + 1) (r .at) (continues (mannerNow ws calls (w .next + 1) w)) → ItemsOn ws heads names m calls code w calls code′ r
   closed-on e wrote done = close-on (closed-ends ws calls w (sym is ∙ e)) (omega (arith, tells Close e .0)) wrote done
 
   pub unclosed-on : {code code′ : List ℕ} {r : Walk} → it ≡ Unclosed
       → Wrote code (w .at) (endingWords ws heads (m .lengths) calls (w .next) w) code′ (r .at)
-      → r ≡ callDone w (w .next) (r .at) (goesOn (mannerNow ws calls (w .next) w)) → ItemsOn ws heads names m calls code w calls code′ r
+      → r ≡ callDone w (w .next) (r .at) (continues (mannerNow ws calls (w .next) w)) → ItemsOn ws heads names m calls code w calls code′ r
   unclosed-on e wrote done = close-on (unclosed-ends ws calls w (sym is ∙ e)) (within .next) wrote done
 
 -- ALL OF THEM

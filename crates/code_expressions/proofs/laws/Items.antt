@@ -11,8 +11,8 @@ use Rattle.meaning.specs.Choice.{pick}
 use Rattle.meaning.specs.Translation.{isEnd}
 use Rattle.tape_words.specs.declared.tape.Item.{Item}
 use Rattle.tape_words.specs.declared.tape.Item.the-variants.{Byte, Symbol, Part, Call, Pass, Close, Unclosed, Stop}
-use Rattle.tape_words.specs.Words.{carried, headName, itemOf, itemAt}
-use Rattle.code_expressions.specs.Levels.{stopped, itemBy, levelsIn}
+use Rattle.tape_words.specs.Words.{carried, headName, itemOfWord, itemAt}
+use Rattle.code_expressions.specs.Levels.{levelsEnded, itemBy, levelsIn}
 use Rattle.code_expressions.specs.Resuming.{isStop}
 use Rattle.meaning.proofs.laws.Remaining.{at-place}
 use Rattle.tape_words.proofs.laws.Names.{by-place, name-skip}
@@ -131,7 +131,7 @@ pub levels-at : (ws : List ℕ) (i depth items : ℕ) (it : Item) → i < length
     → levelsIn depth items 0 (drop i ws) ≡ itemBy it depth items (getD ws i 0) (drop (i + 1) ws) (λ d n skip. levelsIn d n skip (drop (i + 1) ws))
 unfolding levelsIn
 levels-at ws i depth items it h e =
-    let f : itemOf (getD ws i 0) depth items ≡ it = rw (at-place ws i h) at e in
+    let f : itemOfWord (getD ws i 0) depth items ≡ it = rw (at-place ws i h) at e in
     rw (at-place ws i h, f)
 
 pub levels-skip : (depth items skip : ℕ) (ws : List ℕ) → levelsIn depth items skip ws ≡ levelsIn depth items 0 (drop skip ws)
@@ -145,12 +145,12 @@ pub levels-past : (depth items : ℕ) (ws : List ℕ) (i : ℕ) → i < length w
 levels-past depth items ws i h =
     levels-skip depth items (carried (getD ws i 0)) (drop (i + 1) ws) ∙ ap (levelsIn depth items 0) (name-skip ws i h)
 
-pub levels-stop : (ws : List ℕ) (i depth items : ℕ) → stops (itemAt (drop i ws) depth items) ≡ true → levelsIn depth items 0 (drop i ws) ≡ stopped (drop i ws)
+pub levels-stop : (ws : List ℕ) (i depth items : ℕ) → stops (itemAt (drop i ws) depth items) ≡ true → levelsIn depth items 0 (drop i ws) ≡ levelsEnded (drop i ws)
 unfolding levelsIn
 levels-stop ws i depth items e =
     by-place ws i (λ h. at-word h (itemAt (drop i ws) depth items) refl e) (λ h. rw (drop-of-length-le ws h))
   where
-    at-word : i < length ws → (it : Item) → itemAt (drop i ws) depth items ≡ it → stops it ≡ true → levelsIn depth items 0 (drop i ws) ≡ stopped (drop i ws)
+    at-word : i < length ws → (it : Item) → itemAt (drop i ws) depth items ≡ it → stops it ≡ true → levelsIn depth items 0 (drop i ws) ≡ levelsEnded (drop i ws)
     at-word h Byte f s = cc
     at-word h Symbol f s = cc
     at-word h Part f s = cc
@@ -167,7 +167,7 @@ stops-below ws i depth items e =
     (λ h.
     let w = getD ws i 0 in
     let deep : eqb depth 0 ≡ false = ne-eqb depth 0 (λ z. omega (arith, told ws i depth items Unclosed e)) in
-    let now : stops (itemOf w depth items) ≡ true = rw (at-place ws i h) at (ap stops e) in
+    let now : stops (itemOfWord w depth items) ≡ true = rw (at-place ws i h) at (ap stops e) in
     rw (at-place ws i h)
     (below-tests (leb 128 items) (ltb w 256) (ltb w 512) (ltb w 768) (ltb w 2304) (eqb (depth - 1) 0) (ltb w 1280) (ltb w 1536) (ltb depth 16) (ltb (depth - 1) 16)
     (rw deep at now)))

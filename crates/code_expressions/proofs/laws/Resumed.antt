@@ -13,7 +13,7 @@ use Rattle.meaning.specs.Choice.{Name, pick, Named}
 use Rattle.meaning.specs.Tree.{Expression, end, thenCharacter, thenSymbol, thenPart, thenCall, Table}
 use Rattle.meaning.specs.Names.{Calling, asEmission, asAngles, asFunction, callingOf, numberOf}
 use Rattle.meaning.specs.Instructions.{Site, go, select, out, outC, outV, beginSeq}
-use Rattle.meaning.specs.Translation.{Shape, Stand, passage, restOf, valueNumber, Manner, emits, computes, replaces, nests, mannerAs, isEnd, isLast, mannerOf, levelIn, leftFor, whereLeft, calling, items}
+use Rattle.meaning.specs.Translation.{Shape, Stand, passage, restOf, valueNumber, Manner, emits, computes, replaces, nests, mannerAs, isEnd, inTailPosition, mannerOf, levelIn, leftFor, whereLeft, calling, itemActions}
 use Rattle.tape_words.specs.Words.{headName}
 use Rattle.code_expressions.specs.Levels.{firstOf, othersOf}
 use Rattle.code_expressions.specs.Resuming.{levelAt, resume, openNames}
@@ -21,13 +21,13 @@ use Rattle.code_expressions.specs.Resuming.{levelAt, resume, openNames}
 module _ (t : Table) (s : Shape) (ss : List (Named Site)) where
   pub resume-character : (ns : List Name) (c : ℕ) (e : Expression) (outer : List Expression) (w : Stand)
       → resume t s ss ns (thenCharacter c e) outer w ≡ outC c ∷ resume t s ss ns e outer w
-  unfolding resume items
+  unfolding resume itemActions
   resume-character [] c e outer w = refl
   resume-character (n ∷ ns) c e outer w = refl
 
   pub resume-symbol : (ns : List Name) (x : Name) (e : Expression) (outer : List Expression) (w : Stand)
       → resume t s ss ns (thenSymbol x e) outer w ≡ outV (valueNumber ss x) ∷ resume t s ss ns e outer w
-  unfolding resume items
+  unfolding resume itemActions
   resume-symbol [] x e outer w = refl
   resume-symbol (n ∷ ns) x e outer w = refl
 
@@ -35,13 +35,13 @@ module _ (t : Table) (s : Shape) (ss : List (Named Site)) where
       → resume t s ss ns (thenPart x e) outer w
       ≡ whereLeft (leftFor s (levelAt t ns outer) x e) (passage s x w)
       (go (passage s x w .gap) ∷ select (passage s x w .piece) ∷ out ∷ resume t s ss ns e outer (passage s x w .after))
-  unfolding levelAt resume items
+  unfolding levelAt resume itemActions
   resume-part [] x e outer w = refl
   resume-part (n ∷ ns) x e outer w = refl
 
   pub resume-call : (ns : List Name) (place : ℕ) (n : Name) (a : Expression) (outer : List Expression) (w : Stand)
       → resume t s ss ns (thenCall place n a (firstOf outer)) (othersOf outer) w ≡ beginSeq ∷ resume t s ss (n ∷ ns) a outer w
-  unfolding levelAt resume items
+  unfolding levelAt resume itemActions
   resume-call [] place n a outer w = refl
   resume-call (m ∷ ns) place n a outer w = refl
 
@@ -49,11 +49,11 @@ module _ (t : Table) (s : Shape) (ss : List (Named Site)) where
       → resume t s ss (n ∷ ns) end outer w
       ≡ calling s (mannerOf (levelAt t ns (othersOf outer)) (firstOf outer) n) (numberOf t n) n w
       (resume t s ss ns (firstOf outer) (othersOf outer) w)
-  unfolding resume items
+  unfolding resume itemActions
   resume-end n ns outer w = refl
 
   pub resume-last : (outer : List Expression) (w : Stand) → resume t s ss [] end outer w ≡ go (restOf s w) ∷ []
-  unfolding resume items
+  unfolding resume itemActions
   resume-last outer w = refl
 
 -- THE OPEN CALLS
@@ -78,14 +78,14 @@ open-less ws calls (suc depth) h =
 -- WHERE THEY STAND
 
 -- no item of an argument is the last one outermost
-argument-last : (k : Manner) (f : ℕ) (e : Expression) → isLast (levelIn k f) e ≡ false
+argument-last : (k : Manner) (f : ℕ) (e : Expression) → inTailPosition (levelIn k f) e ≡ false
 argument-last emits f e = refl
 argument-last (computes op) f e = refl
 argument-last replaces f e = refl
 argument-last nests f e = refl
 
 pub open-last : (t : Table) (ws calls : List ℕ) (depth : ℕ) (outer : List Expression) (e : Expression)
-    → isLast (levelAt t (openNames ws calls depth) outer) e ≡ pick (eqb depth 0) (isEnd e) false
+    → inTailPosition (levelAt t (openNames ws calls depth) outer) e ≡ pick (eqb depth 0) (isEnd e) false
 unfolding openNames levelAt
 open-last t ws calls zero outer e = refl
 open-last t ws calls (suc depth) outer e =

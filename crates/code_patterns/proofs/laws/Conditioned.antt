@@ -14,7 +14,7 @@ use Rattle.meaning.specs.Classes.{classNumber}
 use Rattle.meaning.specs.Tree.{Condition}
 use Rattle.meaning.specs.Instructions.{predicate}
 use Rattle.meaning.specs.Translation.{siteOr, Bounds, partTest}
-use Rattle.meaning.specs.Packing.{word, siteRegister, siteOffset, truthBit, testWord}
+use Rattle.meaning.specs.Packing.{codeWord, siteRegister, siteOffset, truthBit, testWord}
 use Rattle.tape_words.specs.declared.tape.Parts.{Parts}
 use Rattle.tape_words.specs.declared.tape.Parts.the-variants.{Zero, One, Two}
 use Rattle.code_patterns.specs.declared.pattern.Lengths.{Lengths}
@@ -22,7 +22,7 @@ use Rattle.code_patterns.specs.declared.pattern.Pattern.{Pattern}
 use Rattle.code_patterns.specs.declared.symbols.Site.{Site}
 use Rattle.code_patterns.specs.declared.conditions.Conditions.{Conditions}
 use Rattle.tape_words.specs.Words.{carried, headNames, isConditionWord, classIn}
-use Rattle.code_patterns.specs.Scans.{Scan, scanned, andThen, conditionOf, conditionIn, conditionBy, conditionsIn}
+use Rattle.code_patterns.specs.Scans.{Scan, scanned, prepended, conditionOf, conditionIn, conditionBy, conditionsOnTape}
 use Rattle.code_words.specs.Writing.{Wrote, Same}
 use Rattle.tape_words.specs.Finding.{numberAmong}
 use Rattle.code_patterns.specs.Testing.{siteNumbers, siteNumber, IsSite, storeOfSite, foundSite, held, total}
@@ -36,19 +36,19 @@ use Rattle.code_patterns.proofs.laws.Held.{lookup-none, lookup-some}
 -- READING
 
 pub conditions-at : (ws : List ℕ) (i count : ℕ) (b : Bool) → i < length ws → conditionAt count (drop i ws) ≡ b
-    → conditionsIn count 0 (drop i ws) ≡ conditionBy b count (getD ws i 0) (drop (i + 1) ws) (λ n skip. conditionsIn n skip (drop (i + 1) ws))
-unfolding conditionsIn
+    → conditionsOnTape count 0 (drop i ws) ≡ conditionBy b count (getD ws i 0) (drop (i + 1) ws) (λ n skip. conditionsOnTape n skip (drop (i + 1) ws))
+unfolding conditionsOnTape
 conditions-at ws i count b h e =
     let f : isConditionWord count (getD ws i 0) ≡ b = rw (at-place ws i h) at e in
     rw (at-place ws i h, f)
 
-pub conditions-end : (ws : List ℕ) (i count : ℕ) → conditionAt count (drop i ws) ≡ false → conditionsIn count 0 (drop i ws) ≡ scanned [] (drop i ws)
-unfolding conditionsIn
+pub conditions-end : (ws : List ℕ) (i count : ℕ) → conditionAt count (drop i ws) ≡ false → conditionsOnTape count 0 (drop i ws) ≡ scanned [] (drop i ws)
+unfolding conditionsOnTape
 conditions-end ws i count e =
     by-place ws i (λ h. conditions-at ws i count false h e ∙ rw (at-place ws i h)) (λ h. rw (drop-of-length-le ws h))
 
-pub conditions-skip : (count skip : ℕ) (ws : List ℕ) → conditionsIn count skip ws ≡ conditionsIn count 0 (drop skip ws)
-unfolding conditionsIn
+pub conditions-skip : (count skip : ℕ) (ws : List ℕ) → conditionsOnTape count skip ws ≡ conditionsOnTape count 0 (drop skip ws)
+unfolding conditionsOnTape
 conditions-skip count zero ws = refl
 conditions-skip count (suc skip) [] = refl
 conditions-skip count (suc skip) (w ∷ ws) = conditions-skip count skip ws
@@ -73,8 +73,8 @@ conditions-full count [] h = refl
 conditions-full count (w ∷ l) h = rw (le-leb 8 count h)
 
 -- by the word at a place, 0 past the end
-pub condition-by-word : (ws : List ℕ) (i count : ℕ) {word : ℕ} {r : Bool} → count < 8 → word ≡ getD ws i 0
-    → r ≡ pick (ltb word 768) false (ltb word 1024) → r ≡ conditionAt count (drop i ws)
+pub condition-by-word : (ws : List ℕ) (i count : ℕ) {codeWord : ℕ} {r : Bool} → count < 8 → codeWord ≡ getD ws i 0
+    → r ≡ pick (ltb codeWord 768) false (ltb codeWord 1024) → r ≡ conditionAt count (drop i ws)
 condition-by-word ws i count h e f =
     f ∙ rw e (by-place ws i (λ k. rw (at-place ws i k, lt-leb 8 count h)) (λ k. rw (drop-of-length-le ws k, List·getD-eq-default ws 0 k)))
 
@@ -106,7 +106,7 @@ bounds-small l first h e f = rw (e, f) (by-parts (l .parts) first)
     by-parts Two false = omega arith
 
 part-word : (b : Bounds) (n : ℕ)
-    → word 20 (siteRegister (b .from) + 4 * siteRegister (b .to) + 16 * (n / 5 % 2) + 32 * (n % 5)) (siteOffset (b .from)) (siteOffset (b .to))
+    → codeWord 20 (siteRegister (b .from) + 4 * siteRegister (b .to) + 16 * (n / 5 % 2) + 32 * (n % 5)) (siteOffset (b .from)) (siteOffset (b .to))
     ≡ testWord (partTest b (classIn (n % 5)) (eqb (n / 5 % 2) 1))
 part-word b n = omega (arith, class-number (n % 5) (omega arith), truth-bit (n / 5 % 2) (omega arith))
 
@@ -114,7 +114,7 @@ part-word b n = omega (arith, class-number (n % 5) (omega arith), truth-bit (n /
 pub part-asked : (known : Located) (n : ℕ) (x : Name) {first : Bool} {from to : Site} {r : ℕ} → n / 10 % 2 ≡ 1 → first ≡ sameBytes x (known .variable)
     → let b = boundsBy (known .lengths .parts) (known .lengths) first in
     from ≡ siteNumbers (b .from) → to ≡ siteNumbers (b .to)
-    → r ≡ word 20 (from .register + 4 * to .register + 16 * (n / 5 % 2) + 32 * (n % 5)) (from .offset) (to .offset)
+    → r ≡ codeWord 20 (from .register + 4 * to .register + 16 * (n / 5 % 2) + 32 * (n % 5)) (from .offset) (to .offset)
     → r ≡ testWord (conditionTestBy known (conditionOf n x))
 part-asked known n x {first} k is ef et e =
     e ∙ rw (ef, et, eq-eqb (n / 10 % 2) 1 k, ← is) (part-word (boundsBy (known .lengths .parts) (known .lengths) first) n)
@@ -164,7 +164,7 @@ module _ (ws : List ℕ) (known : Located) (c : Conditions) (within : InConditio
       let room = condition-room ws (c .next) (c .count) e in
       let after : drop (carried here / 20) (drop (c .next + 1) ws) ≡ drop (c .next + 1 + length name) ws =
       sym (drop-again (carried here / 20) (drop (c .next + 1) ws)) ∙ drop-drop (length name) (c .next + 1) ws in
-      let now : coming true ws c ≡ andThen (conditionIn here (drop (c .next + 1) ws)) (coming true ws (conditionDone c (length name) at)) =
+      let now : coming true ws c ≡ prepended (conditionIn here (drop (c .next + 1) ws)) (coming true ws (conditionDone c (length name) at)) =
       conditions-at ws (c .next) (c .count) true inside e
       ∙ rw (conditions-skip (c .count + 1) (carried here / 20) (drop (c .next + 1) ws), after) in
       record {
@@ -203,8 +203,8 @@ module _ (ws : List ℕ) (known : Located) (c : Conditions) (within : InConditio
 -- ALL OF THEM
 
 pub record ConditionsSoFar (ws : List ℕ) (known : Located) (start at : ℕ) (code₀ code : List ℕ) (c : Conditions) : Type 0 where
-  pub same : Same code₀ at (conditionWords known (conditionsIn 0 0 (drop start ws))) code (c .at) (conditionWords known (coming (c .more) ws c))
-  pub rest : coming (c .more) ws c .rest ≡ conditionsIn 0 0 (drop start ws) .rest
+  pub same : Same code₀ at (conditionWords known (conditionsOnTape 0 0 (drop start ws))) code (c .at) (conditionWords known (coming (c .more) ws c))
+  pub rest : coming (c .more) ws c .rest ≡ conditionsOnTape 0 0 (drop start ws) .rest
   pub within : InConditions ws c
   pub grown : c .at ≤ at + c .count
 

@@ -15,7 +15,7 @@ use Rattle.tape_words.specs.declared.tape.Piece.{Piece}
 use Rattle.tape_words.specs.declared.tape.Piece.the-variants.{Character, SVariable, EVariable, PatternEnd}
 use Rattle.code_patterns.specs.declared.pattern.Pattern.{Pattern}
 use Rattle.tape_words.specs.Words.{headName, pieceAt}
-use Rattle.code_patterns.specs.Scans.{Scan, scanned, andThen, oneMore, pieceBy, patternIn, patternAt}
+use Rattle.code_patterns.specs.Scans.{Scan, scanned, prepended, oneMore, pieceBy, patternOnTape, patternAt}
 use Rattle.code_patterns.specs.Measuring.{lengths, lengthsOf, addFirst, addSecond, addThird, longerLengths, cutLengths, variablePlace, pastLetter, pastPart, pastAll, measuredBy, variableBy, Measured, measuring, InPattern, flag, Measures, MeasuresAll}
 use Rattle.tape_words.proofs.laws.Names.{name-here}
 use Rattle.code_patterns.proofs.laws.Scanning.{pattern-at, pattern-end, pattern-past, Fits, pattern-fits, NotBoth, Told, told}
@@ -81,16 +81,16 @@ whole-lengths (open₂ h x m y t) = rw (zero-add, zero-add, zero-add)
 
 module _ (ws : List ℕ) (m : Pattern) where
   abbrev here : Scan (List Element)
-  here = patternIn (m .letters) (m .lengths .parts) 0 (drop (m .next) ws)
+  here = patternOnTape (m .letters) (m .lengths .parts) 0 (drop (m .next) ws)
 
   -- the pattern after a letter, and after an e-variable, whose name is of so many words
   abbrev afterLetter : ℕ → Scan (List Element)
-  afterLetter size = patternIn (m .letters + 1) (m .lengths .parts) 0 (drop (m .next + 1 + size) ws)
+  afterLetter size = patternOnTape (m .letters + 1) (m .lengths .parts) 0 (drop (m .next + 1 + size) ws)
 
   abbrev afterPart : ℕ → Scan (List Element)
-  afterPart size = patternIn (m .letters) (oneMore (m .lengths .parts)) 0 (drop (m .next + 1 + size) ws)
+  afterPart size = patternOnTape (m .letters) (oneMore (m .lengths .parts)) 0 (drop (m .next + 1 + size) ws)
 
-  letter-same : (l : Letter) (size : ℕ) → here ≡ andThen (letter l) (afterLetter size) → measuring true ws (pastLetter m size) ≡ measuring true ws m
+  letter-same : (l : Letter) (size : ℕ) → here ≡ prepended (letter l) (afterLetter size) → measuring true ws (pastLetter m size) ≡ measuring true ws m
   unfolding shapeOf
   letter-same l size e =
       rw (
@@ -100,7 +100,7 @@ module _ (ws : List ℕ) (m : Pattern) where
         longer-variable (m .lengths .parts) (headName ws (m .variable)) l (shapeOf (afterLetter size .value)),
       )
 
-  part-same : (size : ℕ) → here ≡ andThen (part (headName ws (m .next))) (afterPart size) → NotBoth (m .lengths .parts)
+  part-same : (size : ℕ) → here ≡ prepended (part (headName ws (m .next))) (afterPart size) → NotBoth (m .lengths .parts)
       → measuring true ws (pastPart m size) ≡ measuring true ws m
   unfolding shapeOf
   part-same size e h =
@@ -127,7 +127,7 @@ module _ (ws : List ℕ) (m : Pattern) where
     tells p e = told ws (m .next) (m .letters) (m .lengths .parts) p (sym is ∙ e)
 
     reads : (p : Piece) → m .next < length ws → piece ≡ p
-        → here ≡ pieceBy p (m .letters) (m .lengths .parts) (getD ws (m .next) 0) (drop (m .next + 1) ws) (λ l q skip. patternIn l q skip (drop (m .next + 1) ws))
+        → here ≡ pieceBy p (m .letters) (m .lengths .parts) (getD ws (m .next) 0) (drop (m .next + 1) ws) (λ l q skip. patternOnTape l q skip (drop (m .next + 1) ws))
     reads p inside e = pattern-at ws (m .next) (m .letters) (m .lengths .parts) p inside (sym is ∙ e)
 
     sum-longer : (p : Parts) (a b c n : ℕ) → a + b + c ≡ n → addFirst p a + addSecond p b + addThird p c ≡ n + 1

@@ -15,7 +15,7 @@ use Rattle.tape_words.specs.declared.tape.Parts.the-variants.{Zero, One, Two}
 use Rattle.tape_words.specs.declared.tape.Piece.{Piece}
 use Rattle.tape_words.specs.declared.tape.Piece.the-variants.{Character, SVariable, EVariable, PatternEnd}
 use Rattle.tape_words.specs.Words.{carried, headName, partPiece, pieceOf, pieceAt}
-use Rattle.code_patterns.specs.Scans.{scanned, oneMore, pieceBy, patternIn}
+use Rattle.code_patterns.specs.Scans.{scanned, oneMore, pieceBy, patternOnTape}
 use Rattle.meaning.proofs.laws.Remaining.{at-place}
 use Rattle.tape_words.proofs.laws.Names.{by-place, name-skip, name-fits-here}
 
@@ -68,30 +68,30 @@ module _ (ws : List ℕ) (i letters : ℕ) where
 -- READING
 
 pub pattern-at : (ws : List ℕ) (i letters : ℕ) (parts : Parts) (p : Piece) → i < length ws → pieceAt (drop i ws) letters parts ≡ p
-    → patternIn letters parts 0 (drop i ws) ≡ pieceBy p letters parts (getD ws i 0) (drop (i + 1) ws) (λ l q skip. patternIn l q skip (drop (i + 1) ws))
-unfolding patternIn
+    → patternOnTape letters parts 0 (drop i ws) ≡ pieceBy p letters parts (getD ws i 0) (drop (i + 1) ws) (λ l q skip. patternOnTape l q skip (drop (i + 1) ws))
+unfolding patternOnTape
 pattern-at ws i letters parts p h e =
     let f : pieceOf (getD ws i 0) letters parts ≡ p = rw (at-place ws i h) at e in
     rw (at-place ws i h, f)
 
 -- where the pattern ends it is read no further
 pub pattern-end : (ws : List ℕ) (i letters : ℕ) (parts : Parts) → pieceAt (drop i ws) letters parts ≡ PatternEnd
-    → patternIn letters parts 0 (drop i ws) ≡ scanned [] (drop i ws)
-unfolding patternIn
+    → patternOnTape letters parts 0 (drop i ws) ≡ scanned [] (drop i ws)
+unfolding patternOnTape
 pattern-end ws i letters parts e =
     by-place ws i (λ h. pattern-at ws i letters parts PatternEnd h e ∙ rw (at-place ws i h)) (λ h. rw (drop-of-length-le ws h))
 
-pub pattern-skip : (letters : ℕ) (parts : Parts) (skip : ℕ) (ws : List ℕ) → patternIn letters parts skip ws ≡ patternIn letters parts 0 (drop skip ws)
-unfolding patternIn
+pub pattern-skip : (letters : ℕ) (parts : Parts) (skip : ℕ) (ws : List ℕ) → patternOnTape letters parts skip ws ≡ patternOnTape letters parts 0 (drop skip ws)
+unfolding patternOnTape
 pattern-skip letters parts zero ws = refl
 pattern-skip letters parts (suc skip) [] = refl
 pattern-skip letters parts (suc skip) (w ∷ ws) = pattern-skip letters parts skip ws
 
 -- the pattern after the name of the word at a place
 pub pattern-past : (letters : ℕ) (parts : Parts) (ws : List ℕ) (i : ℕ) → i < length ws
-    → patternIn letters parts (carried (getD ws i 0)) (drop (i + 1) ws) ≡ patternIn letters parts 0 (drop (i + 1 + length (headName ws i)) ws)
+    → patternOnTape letters parts (carried (getD ws i 0)) (drop (i + 1) ws) ≡ patternOnTape letters parts 0 (drop (i + 1 + length (headName ws i)) ws)
 pattern-past letters parts ws i h =
-    pattern-skip letters parts (carried (getD ws i 0)) (drop (i + 1) ws) ∙ ap (patternIn letters parts 0) (name-skip ws i h)
+    pattern-skip letters parts (carried (getD ws i 0)) (drop (i + 1) ws) ∙ ap (patternOnTape letters parts 0) (name-skip ws i h)
 
 -- AT MOST TWO E-VARIABLES
 
@@ -140,19 +140,19 @@ at-most-part One w letters x es e h = h
 at-most-part Two w letters x es e h = absurd (told (w ∷ []) 0 letters Two EVariable e .1)
 
 abbrev AllAtMost : List ℕ → Type 0
-AllAtMost ws = (letters : ℕ) (parts : Parts) (skip : ℕ) → AtMost parts (patternIn letters parts skip ws .value)
+AllAtMost ws = (letters : ℕ) (parts : Parts) (skip : ℕ) → AtMost parts (patternOnTape letters parts skip ws .value)
 
 at-most-by : (p : Piece) (letters : ℕ) (parts : Parts) (w : ℕ) (ws : List ℕ) → pieceOf w letters parts ≡ p → AllAtMost ws
-    → AtMost parts (pieceBy p letters parts w ws (λ l q skip. patternIn l q skip ws) .value)
+    → AtMost parts (pieceBy p letters parts w ws (λ l q skip. patternOnTape l q skip ws) .value)
 unfolding AtMost
 at-most-by Character letters parts w ws e h = h (letters + 1) parts 0
 at-most-by SVariable letters parts w ws e h = h (letters + 1) parts (carried w)
 at-most-by EVariable letters parts w ws e h =
-    at-most-part parts w letters (take (carried w) ws) (patternIn letters (oneMore parts) (carried w) ws .value) e (h letters (oneMore parts) (carried w))
+    at-most-part parts w letters (take (carried w) ws) (patternOnTape letters (oneMore parts) (carried w) ws .value) e (h letters (oneMore parts) (carried w))
 at-most-by PatternEnd letters parts w ws e h = tt
 
-pub pattern-at-most : (ws : List ℕ) (letters : ℕ) (parts : Parts) (skip : ℕ) → AtMost parts (patternIn letters parts skip ws .value)
-unfolding patternIn AtMost
+pub pattern-at-most : (ws : List ℕ) (letters : ℕ) (parts : Parts) (skip : ℕ) → AtMost parts (patternOnTape letters parts skip ws .value)
+unfolding patternOnTape AtMost
 pattern-at-most [] letters parts skip = tt
 pattern-at-most (w ∷ ws) letters parts zero = at-most-by (pieceOf w letters parts) letters parts w ws refl (pattern-at-most ws)
 pattern-at-most (w ∷ ws) letters parts (suc skip) = pattern-at-most ws letters parts skip
@@ -174,5 +174,5 @@ at-most-fits parts [] h = fits-none parts
 at-most-fits parts (letter l ∷ es) h = fits-letter parts l (shapeOf es) (at-most-fits parts es h)
 at-most-fits parts (part x ∷ es) h = cut-fits parts x es h (at-most-fits (oneMore parts) es (at-most-later parts x es h))
 
-pub pattern-fits : (ws : List ℕ) (letters : ℕ) (parts : Parts) (skip : ℕ) → Fits parts (shapeOf (patternIn letters parts skip ws .value))
-pattern-fits ws letters parts skip = at-most-fits parts (patternIn letters parts skip ws .value) (pattern-at-most ws letters parts skip)
+pub pattern-fits : (ws : List ℕ) (letters : ℕ) (parts : Parts) (skip : ℕ) → Fits parts (shapeOf (patternOnTape letters parts skip ws .value))
+pattern-fits ws letters parts skip = at-most-fits parts (patternOnTape letters parts skip ws .value) (pattern-at-most ws letters parts skip)

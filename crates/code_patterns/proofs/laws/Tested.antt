@@ -19,7 +19,7 @@ use Rattle.code_patterns.specs.declared.pattern.Lengths.{Lengths}
 use Rattle.code_patterns.specs.declared.symbols.Site.{Site as Cell}
 use Rattle.code_patterns.specs.declared.tests.Tests.{Tests}
 use Rattle.tape_words.specs.Words.{headName, headNames, pieceAt}
-use Rattle.code_patterns.specs.Scans.{Scan, scanned, andThen, oneMore, pieceBy, patternIn, patternAt}
+use Rattle.code_patterns.specs.Scans.{Scan, scanned, prepended, oneMore, pieceBy, patternOnTape, patternAt}
 use Rattle.code_words.specs.Writing.{Wrote, Same}
 use Rattle.tape_words.specs.Finding.{numberAmong}
 use Rattle.code_patterns.specs.Measuring.{flag}
@@ -76,7 +76,7 @@ site-near {t = t} l within small = site-small l (t .parts) (t .offset) small (om
 module _ (ws : List ℕ) (l : Lengths) (names sites : List ℕ) (t : Tests) (within : InTests ws names sites t) {piece : Piece}
     (is : piece ≡ pieceAt (drop (t .next) ws) (t .letters) (t .parts)) where
   abbrev here : Scan (List Element)
-  here = patternIn (t .letters) (t .parts) 0 (drop (t .next) ws)
+  here = patternOnTape (t .letters) (t .parts) 0 (drop (t .next) ws)
 
   abbrev known : List (Named Site)
   known = held ws names sites (t .symbols)
@@ -88,7 +88,7 @@ module _ (ws : List ℕ) (l : Lengths) (names sites : List ℕ) (t : Tests) (wit
   size = length (headName ws (t .next))
 
   abbrev afterLetter : ℕ → Scan (List Element)
-  afterLetter n = patternIn (t .letters + 1) (t .parts) 0 (drop (t .next + 1 + n) ws)
+  afterLetter n = patternOnTape (t .letters + 1) (t .parts) 0 (drop (t .next + 1 + n) ws)
 
   abbrev walked : ℕ → List (Named Site) → Tested
   walked n ss = walk l (t .parts) (t .offset + 1) (afterLetter n .value) (startFrom ss)
@@ -97,7 +97,7 @@ module _ (ws : List ℕ) (l : Lengths) (names sites : List ℕ) (t : Tests) (wit
   tells p e = told ws (t .next) (t .letters) (t .parts) p (sym is ∙ e)
 
   reads : (p : Piece) → t .next < length ws → piece ≡ p
-      → here ≡ pieceBy p (t .letters) (t .parts) (getD ws (t .next) 0) (drop (t .next + 1) ws) (λ l q skip. patternIn l q skip (drop (t .next + 1) ws))
+      → here ≡ pieceBy p (t .letters) (t .parts) (getD ws (t .next) 0) (drop (t .next + 1) ws) (λ l q skip. patternOnTape l q skip (drop (t .next + 1) ws))
   reads p inside e = pattern-at ws (t .next) (t .letters) (t .parts) p inside (sym is ∙ e)
 
   -- BOUNDS AFTER A STEP
@@ -175,7 +175,7 @@ module _ (ws : List ℕ) (l : Lengths) (names sites : List ℕ) (t : Tests) (wit
       let c = getD ws (t .next) 0 in
       let (inside, room, byte) = tells Character e in
       let z : t .next + 1 + 0 ≡ t .next + 1 = omega arith in
-      let now : here ≡ andThen (letter (character c)) (afterLetter 0) = reads Character inside e ∙ rw z in
+      let now : here ≡ prepended (letter (character c)) (afterLetter 0) = reads Character inside e ∙ rw z in
       test-on 0 (look site c) refl
       (rw (now, walk-prefix l (afterLetter 0 .value) (t .parts) (t .offset + 1) (look site c ∷ []) known)) wrote done room (omega arith)
 
@@ -196,7 +196,7 @@ module _ (ws : List ℕ) (l : Lengths) (names sites : List ℕ) (t : Tests) (wit
   unfolding walk
   symbol-now o e h = base ∙ ap afterSymbol h
     where
-      now : here ≡ andThen (letter (symbol (headName ws (t .next)))) (afterLetter size)
+      now : here ≡ prepended (letter (symbol (headName ws (t .next)))) (afterLetter size)
       now =
           let inside = tells SVariable e .0 .inside in
           reads SVariable inside e
@@ -242,7 +242,7 @@ module _ (ws : List ℕ) (l : Lengths) (names sites : List ℕ) (t : Tests) (wit
   unfolding walk
   part-on e long done =
       let (named, one) = tells EVariable e in
-      let now : here ≡ andThen (part (headName ws (t .next))) (patternIn (t .letters) (oneMore (t .parts)) 0 (drop (t .next + 1 + size) ws)) =
+      let now : here ≡ prepended (part (headName ws (t .next))) (patternOnTape (t .letters) (oneMore (t .parts)) 0 (drop (t .next + 1 + size) ws)) =
       reads EVariable (named .inside) e
       ∙ rw (pattern-past (t .letters) (oneMore (t .parts)) ws (t .next) (named .inside), ← (name-here ws (t .next) (named .inside))) in
       rw (done, long)

@@ -17,10 +17,10 @@ use Rattle.meaning.specs.Translation.{translate, translatedSentences, translate
 use Rattle.meaning.specs.Packing.{Words, packSentences, packFunctions, placesFrom}
 use Rattle.tape_words.specs.Words.{nameIn, headName, headNames}
 use Rattle.tape_words.specs.Finding.{recovererAmong}
-use Rattle.code_sentences.specs.Trees.{isFunctionWord, functionsIn, functionIn, sentencesIn, treeOf}
+use Rattle.code_sentences.specs.Trees.{isFunctionWord, functionsOnTape, functionOnTape, sentencesOnTape, treeOf}
 use Rattle.code_words.specs.Writing.{Wrote}
 use Rattle.code_sentences.specs.Sentencing.{FunctionAll}
-use Rattle.code_table.specs.Declaring.{Inside, wordsFrom, headsLeft, HeadsOn, HeadsAll, functionAt, functionsOf, EntryAll, FunctionsAll}
+use Rattle.code_table.specs.Declaring.{HeadsInside, wordsFrom, headsLeft, HeadsOn, HeadsAll, translatedAt, translatedAll, EntryAll, FunctionsAll}
 use Rattle.code_table.specs.Leaves.{codeOf}
 use Rattle.meaning.proofs.laws.Remaining.{at-place}
 use Rattle.tape_words.proofs.laws.Names.{name-part, name-skip}
@@ -32,11 +32,11 @@ use Rattle.code_sentences.proofs.Patching.{sets-comm, lentFrom, backFrom, sets-
 -- THE HEADS
 
 functions-at : (ws : List ℕ) (i : ℕ) (b : Bool) → i < length ws → isFunctionWord (getD ws i 0) ≡ b
-    → functionsIn (drop i ws) ≡ pick b (drop i ws ∷ functionsIn (drop (i + 1) ws)) (functionsIn (drop (i + 1) ws))
-unfolding functionsIn
+    → functionsOnTape (drop i ws) ≡ pick b (drop i ws ∷ functionsOnTape (drop (i + 1) ws)) (functionsOnTape (drop (i + 1) ws))
+unfolding functionsOnTape
 functions-at ws i b h e = rw (at-place ws i h, e)
 
-module _ (ws : List ℕ) (i : ℕ) (heads : List ℕ) (count : ℕ) (inside : Inside ws heads count) where
+module _ (ws : List ℕ) (i : ℕ) (heads : List ℕ) (count : ℕ) (inside : HeadsInside ws heads count) where
   -- there were 64
   pub heads-full : count ≤ 64 → 64 ≤ count → HeadsOn ws i heads count heads count
   heads-full h g =
@@ -53,7 +53,7 @@ module _ (ws : List ℕ) (i : ℕ) (heads : List ℕ) (count : ℕ) (inside : In
   head-noted h room k p q e =
       let more : 64 - count ≡ suc (64 - (count + 1)) = omega arith in
       let here : count < length heads = omega arith in
-      let later = take (64 - (count + 1)) (functionsIn (drop (i + 1) ws)) in
+      let later = take (64 - (count + 1)) (functionsOnTape (drop (i + 1) ws)) in
       let taken : wordsFrom ws (take (count + 1) (set heads count i)) ≡ wordsFrom ws (take count heads) ++ (drop i ws ∷ []) =
       rw (add-one, take-suc-set heads count i here) (map-append (λ p. drop p ws) (take count heads) (i ∷ [])) in
       record {
@@ -70,8 +70,8 @@ module _ (ws : List ℕ) (i : ℕ) (heads : List ℕ) (count : ℕ) (inside : In
 
 -- what is found so far and what is still to be found are all the heads
 pub record HeadsSoFar (ws heads : List ℕ) (count i : ℕ) : Type 0 where
-  pub same : headsLeft ws i heads count ≡ take maxFunctions (functionsIn ws)
-  pub inside : Inside ws heads count
+  pub same : headsLeft ws i heads count ≡ take maxFunctions (functionsOnTape ws)
+  pub inside : HeadsInside ws heads count
   pub few : count ≤ 64
   pub next : i ≤ length ws
   pub room : length heads ≡ 64
@@ -85,9 +85,9 @@ heads-go-on s h o e =
     record { same = o .same ∙ s .same; inside = o .inside; few = o .few; next = omega arith; room = e ∙ s .room }
 
 pub heads-all : {ws heads : List ℕ} {count i : ℕ} → HeadsSoFar ws heads count i → length ws ≤ i → HeadsAll ws heads count
-unfolding functionsIn
+unfolding functionsOnTape
 heads-all {ws} {heads} {count} {i} s h =
-    let none : take (64 - count) (functionsIn (drop i ws)) ≡ [] = rw (drop-of-length-le ws h) (take-nil (64 - count)) in
+    let none : take (64 - count) (functionsOnTape (drop i ws)) ≡ [] = rw (drop-of-length-le ws h) (take-nil (64 - count)) in
     record {
       found = sym (append-nil (wordsFrom ws (take count heads))) ∙ ap (λ (r : List (List ℕ)). wordsFrom ws (take count heads) ++ r) (sym none) ∙ s .same;
       inside = s .inside;
@@ -98,21 +98,21 @@ heads-all {ws} {heads} {count} {i} s h =
 
 -- its sentences begin after its name
 function-sentences : (ws : List ℕ) (head : ℕ) → head < length ws
-    → functionIn (drop head ws) .sentences ≡ sentencesIn maxSentences (drop (head + 1 + length (headName ws head)) ws)
-function-sentences ws head h = ap (λ (l : List ℕ). functionIn l .sentences) (at-place ws head h) ∙ ap (sentencesIn maxSentences) (name-skip ws head h)
+    → functionOnTape (drop head ws) .sentences ≡ sentencesOnTape maxSentences (drop (head + 1 + length (headName ws head)) ws)
+function-sentences ws head h = ap (λ (l : List ℕ). functionOnTape l .sentences) (at-place ws head h) ∙ ap (sentencesOnTape maxSentences) (name-skip ws head h)
 
-function-name : (l : List ℕ) → functionIn l .name ≡ nameIn l
+function-name : (l : List ℕ) → functionOnTape l .name ≡ nameIn l
 function-name [] = refl
 function-name (w ∷ ws) = refl
 
 -- the function that recovers it is found among the heads by the words of its name
 function-recoverer : (t : Table) (ws heads : List ℕ) (head : ℕ) {named recoverer : ℕ}
     → namesOf t ≡ headNames ws heads → named ≡ length (headName ws head)
-    → recoverer ≡ recovererAmong (headNames ws heads) (take named (drop (head + 1) ws)) → recoverer ≡ recovererOf t (functionIn (drop head ws) .name)
+    → recoverer ≡ recovererAmong (headNames ws heads) (take named (drop (head + 1) ws)) → recoverer ≡ recovererOf t (functionOnTape (drop head ws) .name)
 function-recoverer t ws heads head names e found =
-    let name : take (length (headName ws head)) (drop (head + 1) ws) ≡ functionIn (drop head ws) .name =
+    let name : take (length (headName ws head)) (drop (head + 1) ws) ≡ functionOnTape (drop head ws) .name =
     sym (name-part ws head) ∙ sym (function-name (drop head ws)) in
-    found ∙ rw (e, name, ← names) (sym (by-names (functionIn (drop head ws) .name)))
+    found ∙ rw (e, name, ← names) (sym (by-names (functionOnTape (drop head ws) .name)))
   where
     by-names : (n : Name) → recovererOf t n ≡ recovererAmong (namesOf t) n
     by-names n = rw (number-among 0 t (recoverPrefix ++ n))
@@ -129,7 +129,7 @@ entry-written {ws} {heads} {part} {part₁} {part₂} {k} {at} {named = named} {
     record {
       left = λ t h.
           let z : at - (k + 1) + 0 ≡ at - (k + 1) = omega arith in
-          sets-lent part₁ (at - (k + 1)) from 0 0 [] (packSentences (functionAt t ws (getD heads k 0))) part₂ f
+          sets-lent part₁ (at - (k + 1)) from 0 0 [] (packSentences (translatedAt t ws (getD heads k 0))) part₂ f
           (all .wrote t h .left ∙ ap (λ (r : Words). sets (lentFrom part₁ from) 0 r) (same-words t h))
           ∙ rw (z, put .left);
       next = λ t h. omega (arith, all .wrote t h .next, ap length (same-words t h));
@@ -138,10 +138,10 @@ entry-written {ws} {heads} {part} {part₁} {part₂} {k} {at} {named = named} {
     }
   where
     same-words : (t : Table) → namesOf t ≡ headNames ws heads
-        → packSentences (translatedSentences t recoverer (sentencesIn maxSentences (drop (getD heads k 0 + 1 + named) ws)))
-        ≡ packSentences (functionAt t ws (getD heads k 0))
+        → packSentences (translatedSentences t recoverer (sentencesOnTape maxSentences (drop (getD heads k 0 + 1 + named) ws)))
+        ≡ packSentences (translatedAt t ws (getD heads k 0))
     same-words t h =
-        let sentences : sentencesIn maxSentences (drop (getD heads k 0 + 1 + named) ws) ≡ functionIn (drop (getD heads k 0) ws) .sentences =
+        let sentences : sentencesOnTape maxSentences (drop (getD heads k 0 + 1 + named) ws) ≡ functionOnTape (drop (getD heads k 0) ws) .sentences =
         rw e (sym (function-sentences ws (getD heads k 0) inside)) in
         ap₂ (λ (r : ℕ) (ss : List Sentence). packSentences (translatedSentences t r ss))
         (function-recoverer t ws heads (getD heads k 0) h e found) sentences
@@ -150,27 +150,27 @@ entry-written {ws} {heads} {part} {part₁} {part₂} {k} {at} {named = named} {
 
 -- the entries and functions still to be written
 abbrev tableLeft : Table → List ℕ → List ℕ → ℕ → List ℕ → ℕ → List ℕ
-tableLeft t ws hs k code at = sets (sets code (k + 1) (placesFrom at (functionsOf t ws hs))) at (packFunctions (functionsOf t ws hs))
+tableLeft t ws hs k code at = sets (sets code (k + 1) (placesFrom at (translatedAll t ws hs))) at (packFunctions (translatedAll t ws hs))
 
 -- an entry and its function
 entry-first : (t : Table) (ws : List ℕ) (h : ℕ) (hs : List ℕ) (k : ℕ) (code : List ℕ) (at : ℕ) → k + 1 + suc (length hs) ≤ at
     → tableLeft t ws (h ∷ hs) k code at
-    ≡ tableLeft t ws hs (k + 1) (sets (set code (k + 1) at) at (packSentences (functionAt t ws h))) (at + length (packSentences (functionAt t ws h)))
+    ≡ tableLeft t ws hs (k + 1) (sets (set code (k + 1) at) at (packSentences (translatedAt t ws h))) (at + length (packSentences (translatedAt t ws h)))
 unfolding placesFrom packFunctions
 entry-first t ws h hs k code at room =
-    let words = packSentences (functionAt t ws h) in
+    let words = packSentences (translatedAt t ws h) in
     let later = at + length words in
-    let places = placesFrom later (functionsOf t ws hs) in
-    let fit : suc (k + 1) + length places ≤ at = omega (arith, places-length later (functionsOf t ws hs), length-map hs (functionAt t ws)) in
-    sym (sets-append (sets (set code (k + 1) at) (suc (k + 1)) places) at words (packFunctions (functionsOf t ws hs)))
-    ∙ ap (λ (r : List ℕ). sets r later (packFunctions (functionsOf t ws hs))) (sets-comm (set code (k + 1) at) (suc (k + 1)) places at words fit)
+    let places = placesFrom later (translatedAll t ws hs) in
+    let fit : suc (k + 1) + length places ≤ at = omega (arith, places-length later (translatedAll t ws hs), length-map hs (translatedAt t ws)) in
+    sym (sets-append (sets (set code (k + 1) at) (suc (k + 1)) places) at words (packFunctions (translatedAll t ws hs)))
+    ∙ ap (λ (r : List ℕ). sets r later (packFunctions (translatedAll t ws hs))) (sets-comm (set code (k + 1) at) (suc (k + 1)) places at words fit)
     ∙ rw (add-one (k + 1))
 
 -- what is written so far and what is still to be written are all entries and functions
 pub record FunctionsSoFar (ws heads code₀ : List ℕ) (at₀ : ℕ) (code : List ℕ) (at k : ℕ) : Type 0 where
   pub left : (t : Table) → namesOf t ≡ headNames ws heads → tableLeft t ws (drop k heads) k code at ≡ tableLeft t ws heads 0 code₀ at₀
   pub next : (t : Table) → namesOf t ≡ headNames ws heads
-      → at + length (packFunctions (functionsOf t ws (drop k heads))) ≡ at₀ + length (packFunctions (functionsOf t ws heads))
+      → at + length (packFunctions (translatedAll t ws (drop k heads))) ≡ at₀ + length (packFunctions (translatedAll t ws heads))
   pub size : length code ≡ length code₀
   pub few : k ≤ length heads
   pub after : length heads < at
@@ -194,7 +194,7 @@ functions-go-on {ws} {heads} {code₀} {code} {part} {at₀} {at} {k} {from} {r}
           rw (entry .next t g)
           (omega (
             arith,
-            ap (λ (hs : List ℕ). length (packFunctions (functionsOf t ws hs))) (at-place heads k h),
+            ap (λ (hs : List ℕ). length (packFunctions (translatedAll t ws hs))) (at-place heads k h),
             functions-length t (getD heads k 0) (drop (k + 1) heads),
             s .next t g,
           ));
@@ -204,16 +204,16 @@ functions-go-on {ws} {heads} {code₀} {code} {part} {at₀} {at} {k} {from} {r}
       grown = omega (arith, s .grown, entry .grown);
     }
   where
-    functions-length : (t : Table) (p : ℕ) (ps : List ℕ) → length (packFunctions (functionsOf t ws (p ∷ ps)))
-        ≡ length (packSentences (functionAt t ws p)) + length (packFunctions (functionsOf t ws ps))
-    functions-length t p ps = length-append (packSentences (functionAt t ws p)) (packFunctions (functionsOf t ws ps))
+    functions-length : (t : Table) (p : ℕ) (ps : List ℕ) → length (packFunctions (translatedAll t ws (p ∷ ps)))
+        ≡ length (packSentences (translatedAt t ws p)) + length (packFunctions (translatedAll t ws ps))
+    functions-length t p ps = length-append (packSentences (translatedAt t ws p)) (packFunctions (translatedAll t ws ps))
 
     now : (t : Table) → namesOf t ≡ headNames ws heads
-        → backFrom code from part ≡ sets (set code (k + 1) at) at (packSentences (functionAt t ws (getD heads k 0)))
+        → backFrom code from part ≡ sets (set code (k + 1) at) at (packSentences (translatedAt t ws (getD heads k 0)))
     now t g =
         let y : k + 1 + 0 ≡ k + 1 = omega arith in
         let z : k + 1 + (at - (k + 1)) ≡ at = omega (arith, s .after) in
-        sets-lent code (k + 1) from 0 (at - (k + 1)) (at ∷ []) (packSentences (functionAt t ws (getD heads k 0))) part e (entry .left t g) ∙ rw (y, z)
+        sets-lent code (k + 1) from 0 (at - (k + 1)) (at ∷ []) (packSentences (translatedAt t ws (getD heads k 0))) part e (entry .left t g) ∙ rw (y, z)
 
 pub functions-all : {ws heads code code₀ code′ : List ℕ} {next at k : ℕ}
     → Wrote code 0 (length heads ∷ []) code₀ next → FunctionsSoFar ws heads code₀ (next + length heads) code′ at k → length heads ≤ k → FunctionsAll ws heads code code′ at
@@ -221,8 +221,8 @@ unfolding packFunctions placesFrom
 functions-all {ws} {heads} {code} {code₀} {code′} {next} {at} {k} count s h =
     record {
       wrote = λ t g.
-          let fs = functionsOf t ws heads in
-          let many : length fs ≡ length heads = length-map heads (functionAt t ws) in
+          let fs = translatedAll t ws heads in
+          let many : length fs ≡ length heads = length-map heads (translatedAt t ws) in
           let none : drop k heads ≡ [] = drop-of-length-le heads h in
           let start : next + length heads ≡ suc (length fs) = omega (arith, count .next) in
           let places = placesFrom (suc (length fs)) fs in
@@ -239,18 +239,18 @@ functions-all {ws} {heads} {code} {code₀} {code′} {next} {at} {k} count s h 
 
 -- THE WHOLE TABLE
 
-names-found : (ws hs : List ℕ) → namesOf (map functionIn (wordsFrom ws hs)) ≡ headNames ws hs
+names-found : (ws hs : List ℕ) → namesOf (map functionOnTape (wordsFrom ws hs)) ≡ headNames ws hs
 names-found ws [] = refl
 names-found ws (h ∷ hs) = ap₂ (λ (n : Name) (ns : List Name). n ∷ ns) (function-name (drop h ws)) (names-found ws hs)
 
-functions-found : (t : Table) (ws hs : List ℕ) → functionsOf t ws hs ≡ map (translatedFunction t) (map functionIn (wordsFrom ws hs))
+functions-found : (t : Table) (ws hs : List ℕ) → translatedAll t ws hs ≡ map (translatedFunction t) (map functionOnTape (wordsFrom ws hs))
 functions-found t ws [] = refl
-functions-found t ws (h ∷ hs) = ap (λ (r : Code). functionAt t ws h ∷ r) (functions-found t ws hs)
+functions-found t ws (h ∷ hs) = ap (λ (r : Code). translatedAt t ws h ∷ r) (functions-found t ws hs)
 
 pub table-written : {ws heads code code′ : List ℕ} {count r : ℕ} → HeadsAll ws heads count → FunctionsAll ws (take count heads) code code′ r → Wrote code 0 (codeOf ws) code′ r
 table-written {ws} {heads} {count = count} found all =
     let hs = take count heads in
-    let names : namesOf (treeOf ws) ≡ headNames ws hs = ap (λ (r : List (List ℕ)). namesOf (map functionIn r)) (sym (found .found)) ∙ names-found ws hs in
-    let functions : functionsOf (treeOf ws) ws hs ≡ translate (treeOf ws) =
-    functions-found (treeOf ws) ws hs ∙ ap (λ (r : List (List ℕ)). map (translatedFunction (treeOf ws)) (map functionIn r)) (found .found) in
+    let names : namesOf (treeOf ws) ≡ headNames ws hs = ap (λ (r : List (List ℕ)). namesOf (map functionOnTape r)) (sym (found .found)) ∙ names-found ws hs in
+    let functions : translatedAll (treeOf ws) ws hs ≡ translate (treeOf ws) =
+    functions-found (treeOf ws) ws hs ∙ ap (λ (r : List (List ℕ)). map (translatedFunction (treeOf ws)) (map functionOnTape r)) (found .found) in
     rw functions at (all .wrote (treeOf ws) names)

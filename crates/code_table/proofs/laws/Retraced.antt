@@ -25,10 +25,10 @@ use Rattle.tape_words.specs.declared.tape.Parts.{Parts}
 use Rattle.tape_words.specs.declared.tape.Parts.the-variants.{Zero, One, Two}
 use Rattle.tape_words.specs.declared.tape.Piece.the-variants.{EVariable}
 use Rattle.tape_words.specs.declared.tape.Item.the-variants.{Byte, Symbol, Part, Call, Close, Stop}
-use Rattle.tape_words.specs.Words.{carried, pieceOf, classIn, openingOf, itemOf}
-use Rattle.code_expressions.specs.Levels.{placeIn, Levels, stopped, onCurrent, opened, itemBy, levelsIn}
-use Rattle.code_sentences.specs.Trees.{isFunctionWord, conditionsAt, levelsAt, sentenceIn, sentencesIn, functionsIn, functionIn, treeOf}
-use Rattle.code_patterns.specs.Scans.{scanned, andThen, oneMore, patternIn, subjectOf, conditionBy, conditionsIn, patternAt}
+use Rattle.tape_words.specs.Words.{carried, pieceOf, classIn, openingOf, itemOfWord}
+use Rattle.code_expressions.specs.Levels.{placeIn, Levels, levelsEnded, onCurrent, levelOpened, itemBy, levelsIn}
+use Rattle.code_sentences.specs.Trees.{isFunctionWord, conditionsAt, levelsAt, sentenceOnTape, sentencesOnTape, functionsOnTape, functionOnTape, treeOf}
+use Rattle.code_patterns.specs.Scans.{scanned, prepended, oneMore, patternOnTape, subjectOf, conditionBy, conditionsOnTape, patternAt}
 use Rattle.code_patterns.proofs.laws.Scanning.{pattern-skip}
 use Rattle.code_patterns.proofs.laws.Conditioned.{conditions-skip}
 use Rattle.code_expressions.proofs.laws.Items.{levels-skip}
@@ -89,13 +89,13 @@ Short (thenCall place n a e) = (length n < 256) × Short a × Short e
 
 -- ITEMS OF WORDS
 module _ (depth items : ℕ) (low : items < 128) where
-  byte-item : (c : ℕ) → c < 256 → itemOf c depth items ≡ Byte
+  byte-item : (c : ℕ) → c < 256 → itemOfWord c depth items ≡ Byte
   byte-item c h = rw (lt-leb 128 items low, lt-ltb c 256 h)
 
-  symbol-item : (n : ℕ) → n < 256 → itemOf (tapeWord symbolKind n) depth items ≡ Symbol
+  symbol-item : (n : ℕ) → n < 256 → itemOfWord (tapeWord symbolKind n) depth items ≡ Symbol
   symbol-item n h = rw (lt-leb 128 items low, le-ltb (tapeWord symbolKind n) 256 (omega arith), lt-ltb (tapeWord symbolKind n) 512 (omega arith))
 
-  part-item : (n : ℕ) → n < 256 → itemOf (tapeWord partKind n) depth items ≡ Part
+  part-item : (n : ℕ) → n < 256 → itemOfWord (tapeWord partKind n) depth items ≡ Part
   part-item n h =
       rw (
         lt-leb 128 items low,
@@ -105,7 +105,7 @@ module _ (depth items : ℕ) (low : items < 128) where
             (tapeWord partKind n) 768 (omega arith),
       )
 
-  call-item : (place n : ℕ) → n < 256 → depth < 16 → itemOf (tapeWord (callKind + place) n) depth items ≡ Call
+  call-item : (place n : ℕ) → n < 256 → depth < 16 → itemOfWord (tapeWord (callKind + place) n) depth items ≡ Call
   call-item place n h d =
       let w = tapeWord (callKind + place) n in
       rw (
@@ -117,7 +117,7 @@ module _ (depth items : ℕ) (low : items < 128) where
         lt-ltb depth 16 d,
       )
 
-close-item : (depth items : ℕ) → itemOf (tapeWord closeKind 0) (depth + 1) items ≡ Close
+close-item : (depth items : ℕ) → itemOfWord (tapeWord closeKind 0) (depth + 1) items ≡ Close
 close-item depth items = go (leb 128 items)
   where
     go : (b : Bool) → pick b (pick (eqb (depth + 1) 0) Stop Close) (pick (eqb (depth + 1) 0) Stop Close) ≡ Close
@@ -127,7 +127,7 @@ close-item depth items = go (leb 128 items)
 -- a call's argument is closed, and what comes after the call is read on
 call-closed : (place : ℕ) (n : Name) (a e : Expression) (depth items : ℕ) (ws : List ℕ) (l : Levels) → levelsIn depth items 0 ws
     ≡ onCurrent (followed e) l →
-    opened place n (onCurrent (followed a) (levelsIn (depth + 1) items 0 (tapeWord closeKind 0 ∷ ws))) ≡ onCurrent (followed (thenCall place n a e)) l
+    levelOpened place n (onCurrent (followed a) (levelsIn (depth + 1) items 0 (tapeWord closeKind 0 ∷ ws))) ≡ onCurrent (followed (thenCall place n a e)) l
 unfolding levelsIn followed
 call-closed place n a e depth items ws l ih =
     let back : depth + 1 - 1 ≡ depth = omega arith in
@@ -159,7 +159,7 @@ levels-expression (thenCall place n a e) depth items ws s h k =
     let outer = levels-expression e depth (items + 1 + itemsIn a) ws (s .2) (omega arith) (omega arith) in
     let sum : items + suc (itemsIn a + itemsIn e) ≡ items + 1 + itemsIn a + itemsIn e = omega arith in
     rw (call-item depth items (omega arith) place (length n) (s .0) (omega arith), place-back place (length n) (s .0), sum)
-    (named-back (opened place) (levelsIn (depth + 1) (items + 1)) (levels-skip (depth + 1) (items + 1)) (callKind + place) n
+    (named-back (levelOpened place) (levelsIn (depth + 1) (items + 1)) (levels-skip (depth + 1) (items + 1)) (callKind + place) n
     (expressionTape a ++ tapeWord closeKind 0 ∷ expressionTape e) ws (s .0)
     (ap (levelsIn (depth + 1) (items + 1) 0) (append-assoc (expressionTape a) (tapeWord closeKind 0 ∷ expressionTape e) ws) ∙ inner)
     ∙ call-closed place n a e depth (items + 1 + itemsIn a) (expressionTape e ++ ws) (levelsIn depth (items + 1 + itemsIn a + itemsIn e) 0 ws) outer)
@@ -199,10 +199,10 @@ partsLeft Two = 0
 
 -- no pattern goes on here
 abbrev PatternEnds : List ℕ → Type 0
-PatternEnds ws = (letters : ℕ) (parts : Parts) → patternIn letters parts 0 ws ≡ scanned [] ws
+PatternEnds ws = (letters : ℕ) (parts : Parts) → patternOnTape letters parts 0 ws ≡ scanned [] ws
 
 ends-at : (w : ℕ) (ws : List ℕ) → 768 ≤ w → PatternEnds (w ∷ ws)
-unfolding patternIn
+unfolding patternOnTape
 ends-at w ws h letters parts = rw (le-leb 768 w h)
 
 part-piece : (n letters : ℕ) (parts : Parts) → n < 256 → 0 < partsLeft parts → pieceOf (tapeWord partKind n) letters parts ≡ EVariable
@@ -216,27 +216,27 @@ one-less One n h = omega arith
 one-less Two n h = omega arith
 
 pub pattern-back : (p : List Element) (letters : ℕ) (parts : Parts) (ws : List ℕ) → every spelledElement p ≡ true → letters + lettersIn p ≤ 64 →
-    length (partsOf p) ≤ partsLeft parts → PatternEnds ws → patternIn letters parts 0 (patternTape p ++ ws) ≡ scanned p ws
-unfolding patternIn patternTape lettersIn partsOf every
+    length (partsOf p) ≤ partsLeft parts → PatternEnds ws → patternOnTape letters parts 0 (patternTape p ++ ws) ≡ scanned p ws
+unfolding patternOnTape patternTape lettersIn partsOf every
 pattern-back [] letters parts ws s h k ends = ends letters parts
 pattern-back (letter (character c) ∷ p) letters parts ws s h k ends =
     let low = ltb-true c 256 (both-left (isByte c) (every spelledElement p) s) in
     let ih = pattern-back p (letters + 1) parts ws (both-right (isByte c) (every spelledElement p) s) (omega arith) k ends in
     rw (lt-leb 768 c (omega arith), lt-leb 512 c (omega arith), lt-leb 64 letters (omega arith), lt-leb 256 c low)
-    (ap (andThen (letter (character c))) ih)
+    (ap (prepended (letter (character c))) ih)
 pattern-back (letter (symbol x) ∷ p) letters parts ws s h k ends =
     let short = identifier-short x (both-left (spelledIdentifier x) (every spelledElement p) s) in
     let ih = pattern-back p (letters + 1) parts ws (both-right (spelledIdentifier x) (every spelledElement p) s) (omega arith) k ends in
     let w = tapeWord symbolKind (length x) in
     rw (lt-leb 768 w (omega arith), lt-leb 512 w (omega arith), lt-leb 64 letters (omega arith), le-leb 256 w (omega arith))
-    (named-back (λ y. andThen (letter (symbol y))) (patternIn (letters + 1) parts) (pattern-skip (letters + 1) parts) symbolKind x (patternTape p) ws
+    (named-back (λ y. prepended (letter (symbol y))) (patternOnTape (letters + 1) parts) (pattern-skip (letters + 1) parts) symbolKind x (patternTape p) ws
     (omega arith) ih)
 pattern-back (part x ∷ p) letters parts ws s h k ends =
     let short = identifier-short x (both-left (spelledIdentifier x) (every spelledElement p) s) in
     let ih = pattern-back p letters (oneMore parts) ws (both-right (spelledIdentifier x) (every spelledElement p) s) h
     (one-less parts (length (partsOf p)) k) ends in
     rw (part-piece (length x) letters parts (omega arith) (omega arith))
-    (named-back (λ y. andThen (part y)) (patternIn letters (oneMore parts)) (pattern-skip letters (oneMore parts)) partKind x (patternTape p) ws
+    (named-back (λ y. prepended (part y)) (patternOnTape letters (oneMore parts)) (pattern-skip letters (oneMore parts)) partKind x (patternTape p) ws
     (omega arith) ih)
 
 -- CONDITIONS
@@ -294,10 +294,10 @@ by-kind P told each (ofSymbol x) = each false x
 by-kind P told each (ofPart x) = each true x
 
 condition-back : (count : ℕ) (class : Class) (expected kind : Bool) (x : Name) (cs : List Condition) (tail ws : List ℕ)
-    → count < 8 → conditionsIn (count + 1) 0 (tail ++ ws) ≡ scanned cs ws → spelledIdentifier x ≡ true
-    → conditionsIn count 0 (tapeWord conditionKind (carriedBy kind (length x) (truthNumber expected + classNumber class)) ∷ ((x ++ tail) ++ ws))
+    → count < 8 → conditionsOnTape (count + 1) 0 (tail ++ ws) ≡ scanned cs ws → spelledIdentifier x ≡ true
+    → conditionsOnTape count 0 (tapeWord conditionKind (carriedBy kind (length x) (truthNumber expected + classNumber class)) ∷ ((x ++ tail) ++ ws))
     ≡ scanned (record { predicate = class; subject = subjectOf kind x; expected = expected } ∷ cs) ws
-unfolding conditionsIn
+unfolding conditionsOnTape
 condition-back count class expected kind x cs tail ws h ih s =
     let n = carriedBy kind (length x) (truthNumber expected + classNumber class) in
     let told = carries kind (length x) expected (classNumber class) (identifier-short x s) (class-below class) in
@@ -313,22 +313,22 @@ condition-back count class expected kind x cs tail ws h ih s =
       bit-back kind (told .part),
       bit-back expected (told .truth),
     )
-    (name-back (λ y. andThen (record { predicate = class; subject = subjectOf kind y; expected = expected })) (conditionsIn (count + 1))
+    (name-back (λ y. prepended (record { predicate = class; subject = subjectOf kind y; expected = expected })) (conditionsOnTape (count + 1))
     (conditions-skip (count + 1)) x tail ws ih)
 
 pub conditions-back : (cs : List Condition) (count w : ℕ) (ws : List ℕ) → every spelledCondition cs ≡ true → count + length cs ≤ 8 → 1024 ≤ w →
-    conditionsIn count 0 (conditionsTape cs ++ (w ∷ ws)) ≡ scanned cs (w ∷ ws)
-unfolding conditionsIn conditionsTape every
+    conditionsOnTape count 0 (conditionsTape cs ++ (w ∷ ws)) ≡ scanned cs (w ∷ ws)
+unfolding conditionsOnTape conditionsTape every
 conditions-back [] count w ws s h k = go (leb 8 count)
   where
-    go : (b : Bool) → conditionBy (pick b false (pick (ltb w 768) false (ltb w 1024))) count w ws (λ n skip. conditionsIn n skip ws)
+    go : (b : Bool) → conditionBy (pick b false (pick (ltb w 768) false (ltb w 1024))) count w ws (λ n skip. conditionsOnTape n skip ws)
         ≡ scanned [] (w ∷ ws)
     go true = refl
     go false = rw (le-ltb w 768 (omega arith), le-ltb w 1024 k)
 conditions-back (c ∷ cs) count w ws s h k =
     let ih = conditions-back cs (count + 1) w ws (both-right (spelledCondition c) (every spelledCondition cs) s) (omega arith) k in
     by-kind
-    (λ x tape v. spelledIdentifier x ≡ true → conditionsIn count 0 ((tape ++ conditionsTape cs) ++ (w ∷ ws))
+    (λ x tape v. spelledIdentifier x ≡ true → conditionsOnTape count 0 ((tape ++ conditionsTape cs) ++ (w ∷ ws))
     ≡ scanned (record { predicate = c .predicate; subject = v; expected = c .expected } ∷ cs) (w ∷ ws))
     (truthNumber (c .expected) + classNumber (c .predicate))
     (λ kind x. condition-back count (c .predicate) (c .expected) kind x cs (conditionsTape cs) (w ∷ ws) (omega arith) ih)
@@ -348,13 +348,13 @@ pub record Retraceable (s : Sentence) : Type 0 where
   pub nested : nesting (s .expression) ≤ 16
 
 -- the word after a sentence ends its expression
-level-ends : (items w : ℕ) (ws : List ℕ) → 1536 ≤ w → w < 2304 → levelsIn 0 items 0 (w ∷ ws) ≡ stopped (w ∷ ws)
+level-ends : (items w : ℕ) (ws : List ℕ) → 1536 ≤ w → w < 2304 → levelsIn 0 items 0 (w ∷ ws) ≡ levelsEnded (w ∷ ws)
 unfolding levelsIn
 level-ends items w ws h k = go (leb 128 items)
   where
     go : (b : Bool) → itemBy (pick b Stop (pick (ltb w 256) Byte
         (pick (ltb w 512) Symbol (pick (ltb w 768) Part (pick (ltb w 2304) Stop (openingOf 0)))))) 0 items w ws
-        (λ d n skip. levelsIn d n skip ws) ≡ stopped (w ∷ ws)
+        (λ d n skip. levelsIn d n skip ws) ≡ levelsEnded (w ∷ ws)
     go true = refl
     go false = rw (le-ltb w 256 (omega arith), le-ltb w 512 (omega arith), le-ltb w 768 (omega arith), lt-ltb w 2304 k)
 
@@ -397,7 +397,7 @@ module _ (s : Sentence) (r : Retraceable s) (w : ℕ) (ws : List ℕ) (h : 1536 
       (omega (arith, r .nested))
       ∙ rw (level-ends (0 + itemsIn (s .expression)) w ws h k, followed-end (s .expression)))
 
-  pub sentence-back : sentenceIn (sentenceTape s ++ (w ∷ ws)) ≡ s
+  pub sentence-back : sentenceOnTape (sentenceTape s ++ (w ∷ ws)) ≡ s
   sentence-back = rw (levels-read, conditions-read, pattern-read)
 
 -- every sentence of a list can be read back
@@ -406,8 +406,8 @@ AllRetraceable [] = Unit {0}
 AllRetraceable (s ∷ ss) = Retraceable s × AllRetraceable ss
 
 pub sentences-back : (s : Sentence) (ss : List Sentence) (left : ℕ) (ws : List ℕ) → AllRetraceable (s ∷ ss) → length (s ∷ ss) ≤ left →
-    sentencesIn left (sentencesTape (s ∷ ss) ++ ws) ≡ s ∷ ss
-unfolding sentencesIn sentencesTape
+    sentencesOnTape left (sentencesTape (s ∷ ss) ++ ws) ≡ s ∷ ss
+unfolding sentencesOnTape sentencesTape
 sentences-back s ss zero ws r h = absurd (omega arith)
 sentences-back s [] (suc left) ws r h =
     let last = tapeWord endKind 0 in
@@ -440,14 +440,14 @@ quiet-low w h = rw (lt-ltb w 2048 h)
 quiet-high : (w : ℕ) → 2304 ≤ w → quiet w ≡ true
 quiet-high w h = rw (le-ltb w 2048 (omega arith), le-ltb w 2304 h)
 
-functions-past : (xs ws : List ℕ) → every quiet xs ≡ true → functionsIn (xs ++ ws) ≡ functionsIn ws
-unfolding functionsIn every
+functions-past : (xs ws : List ℕ) → every quiet xs ≡ true → functionsOnTape (xs ++ ws) ≡ functionsOnTape ws
+unfolding functionsOnTape every
 functions-past [] ws q = refl
 functions-past (x ∷ xs) ws q = go (isFunctionWord x) (both-left (quiet x) (every quiet xs) q)
     (functions-past xs ws (both-right (quiet x) (every quiet xs) q))
   where
-    go : (b : Bool) → not b ≡ true → functionsIn (xs ++ ws) ≡ functionsIn ws
-        → pick b ((x ∷ (xs ++ ws)) ∷ functionsIn (xs ++ ws)) (functionsIn (xs ++ ws)) ≡ functionsIn ws
+    go : (b : Bool) → not b ≡ true → functionsOnTape (xs ++ ws) ≡ functionsOnTape ws
+        → pick b ((x ∷ (xs ++ ws)) ∷ functionsOnTape (xs ++ ws)) (functionsOnTape (xs ++ ws)) ≡ functionsOnTape ws
     go true e ih = absurd (false≢true e)
     go false e ih = ih
 
@@ -545,16 +545,16 @@ pub record RetraceableFunction (f : Function) : Type 0 where
   pub few : length (f .sentences) ≤ 512
   pub each : AllRetraceable (f .sentences)
 
-function-back : (f : Function) (ws : List ℕ) → RetraceableFunction f → functionIn (functionTape f ++ ws) ≡ f
+function-back : (f : Function) (ws : List ℕ) → RetraceableFunction f → functionOnTape (functionTape f ++ ws) ≡ f
 function-back f ws r = go (f .sentences) refl
   where
     short : length (f .name) < 256
     short = omega (arith, name-small (f .name) (r .spelled))
 
-    go : (ss : List Sentence) → f .sentences ≡ ss → functionIn (functionTape f ++ ws) ≡ f
+    go : (ss : List Sentence) → f .sentences ≡ ss → functionOnTape (functionTape f ++ ws) ≡ f
     go [] e = absurd (false≢true (rw e at (r .some)))
     go (s ∷ ss) e =
-        named-back (λ n x. record { name = n; sentences = x }) (λ n l. sentencesIn 512 (drop n l)) (λ n l. refl) functionKind (f .name)
+        named-back (λ n x. record { name = n; sentences = x }) (λ n l. sentencesOnTape 512 (drop n l)) (λ n l. refl) functionKind (f .name)
         (sentencesTape (f .sentences)) ws short (rw e (sentences-back s ss 512 ws (rw e at (r .each)) (rw e at (r .few))))
 
 abbrev pub AllFunctions : Table → Type 0
@@ -565,8 +565,8 @@ is-function : (n : ℕ) → n < 256 → isFunctionWord (tapeWord functionKind n)
 is-function n h = rw (le-ltb (tapeWord functionKind n) 2048 (omega arith), lt-ltb (tapeWord functionKind n) 2304 (omega arith))
 
 -- a tape's functions, one after another
-functions-here : (f : Function) (ws : List ℕ) → RetraceableFunction f → functionsIn (functionTape f ++ ws) ≡ (functionTape f ++ ws) ∷ functionsIn ws
-unfolding functionsIn
+functions-here : (f : Function) (ws : List ℕ) → RetraceableFunction f → functionsOnTape (functionTape f ++ ws) ≡ (functionTape f ++ ws) ∷ functionsOnTape ws
+unfolding functionsOnTape
 functions-here f ws r =
     let quietly = every-append quiet (f .name) (sentencesTape (f .sentences)) (name-quiet (f .name) (r .spelled))
     (sentences-quiet (f .sentences) (r .each)) in
@@ -576,8 +576,8 @@ functions-here f ws r =
           quietly,
     )
 
-pub functions-back : (t : Table) (limit : ℕ) → AllFunctions t → length t ≤ limit → map functionIn (take limit (functionsIn (tape t))) ≡ t
-unfolding functionsIn tape
+pub functions-back : (t : Table) (limit : ℕ) → AllFunctions t → length t ≤ limit → map functionOnTape (take limit (functionsOnTape (tape t))) ≡ t
+unfolding functionsOnTape tape
 functions-back [] zero r h = refl
 functions-back [] (suc limit) r h = refl
 functions-back (f ∷ fs) zero r h = absurd (omega arith)

@@ -6,8 +6,8 @@ use Rattle.meaning.specs.Classes.{digit, blank}
 use Rattle.meaning.specs.Tree.{symbol, letter, part, ofSymbol, ofPart, end, Table}
 use Rattle.tape_layout.specs.Tape.{tape, patternTape, conditionsTape, expressionTape, sentencesTape}
 use Rattle.meaning.proofs.rows.Tables.{x1, x2, function, tableZ, tableR, tableH, tableK, tableP, tableM}
-use Rattle.code_sentences.specs.Trees.{treeOf, sentencesIn, functionsIn}
-use Rattle.code_patterns.specs.Scans.{patternIn, conditionsIn}
+use Rattle.code_sentences.specs.Trees.{treeOf, sentencesOnTape, functionsOnTape}
+use Rattle.code_patterns.specs.Scans.{patternOnTape, conditionsOnTape}
 use Rattle.code_expressions.specs.Levels.{levelsIn}
 
 -- F { s1 e2, <IsDigit s1>: 'T', <IsBlank e2>: 'F', <IsDigit e2>: 'T' = }
@@ -29,5 +29,5 @@ Back [] = Unit {0}
 Back (t ∷ ts) = (treeOf (tape t) ≡ t) × Back ts
 
 pub back : Back (tableZ ∷ tableR ∷ tableH ∷ tableK ∷ tableP ∷ tableM ∷ tableF ∷ [])
-unfolding tape patternTape conditionsTape expressionTape sentencesTape patternIn conditionsIn levelsIn sentencesIn functionsIn
+unfolding tape patternTape conditionsTape expressionTape sentencesTape patternOnTape conditionsOnTape levelsIn sentencesOnTape functionsOnTape
 back = (refl, (refl, (refl, (refl, (refl, (refl, (refl, tt)))))))

@@ -14,7 +14,7 @@ use borrow.Author.Tests.{leb-true, le-leb, lt-leb, leb-false, eqb-true, eqb-fals
 use Rattle.meaning.specs.Choice.{Bytes, pick, both, either, every, startsWith}
 use Rattle.meaning.specs.Classes.{inClass, digit, within}
 use Rattle.meaning.specs.Numerals.{decimal, twoDigits, numeralFrom}
-use Rattle.meaning.specs.Angles.{Operation, cutBefore, cutAfter, numberIn, minutesOf, sizeIn, signed, withSign, angleIn, sizeText, angleText, Angled, sum, notAngles, outOfRange, worked, maxMinutes, inRange, angledOf, angled}
+use Rattle.meaning.specs.Angles.{Operation, cutBefore, cutAfter, numeralIn, minutesOf, sizeIn, signed, withSign, angleIn, sizeText, angleText, Angled, sum, notAngles, outOfRange, worked, maxMinutes, inRange, angledOf, angled}
 use Rattle.meaning.proofs.laws.Choosing.{not-both, some-none, both-parts, guard-some}
 
 -- WHAT AN ANGLE IS
@@ -84,7 +84,7 @@ cut-whole b (c ∷ cs) h = cut-step b c cs (cutBefore b cs) (cutAfter b cs) (eqb
 
 -- NUMBERS
 
-pub number-is : (least most greatest : ℕ) (ds : Bytes) {n : ℕ} → numberIn least most greatest ds ≡ some n → IsNumber least most greatest ds n
+pub number-is : (least most greatest : ℕ) (ds : Bytes) {n : ℕ} → numeralIn least most greatest ds ≡ some n → IsNumber least most greatest ds n
 number-is least most greatest ds e =
     let g = guard-some _ (some (numeralFrom 0 ds)) e in
     let p = both-parts (within least most (length ds)) _ (g .0) in
@@ -100,7 +100,7 @@ number-is least most greatest ds e =
       low = omega arith;
     }
 
-number-read : {least most greatest : ℕ} {ds : Bytes} {n : ℕ} → IsNumber least most greatest ds n → numberIn least most greatest ds ≡ some n
+number-read : {least most greatest : ℕ} {ds : Bytes} {n : ℕ} → IsNumber least most greatest ds n → numeralIn least most greatest ds ≡ some n
 number-read {least} {most} {greatest} {ds} {n} i =
     rw (le-leb least (length ds) (i .long), le-leb (length ds) most (i .short), i .digits, i .value, le-leb n greatest (i .low))
 
@@ -154,9 +154,9 @@ pub record IsSize (text : Bytes) (n : ℕ) : Type 0 where
   pub size : 60 * degrees + minutes ≡ n
 
 pub size-is : (text : Bytes) {n : ℕ} → sizeIn text ≡ some n → IsSize text n
-size-is text {n} e = by-parts (numberIn 1 3 359 (cutBefore 58 text)) (numberIn 2 2 59 (cutAfter 58 text)) refl refl e
+size-is text {n} e = by-parts (numeralIn 1 3 359 (cutBefore 58 text)) (numeralIn 2 2 59 (cutAfter 58 text)) refl refl e
   where
-    by-parts : (o p : Option ℕ) → numberIn 1 3 359 (cutBefore 58 text) ≡ o → numberIn 2 2 59 (cutAfter 58 text) ≡ p →
+    by-parts : (o p : Option ℕ) → numeralIn 1 3 359 (cutBefore 58 text) ≡ o → numeralIn 2 2 59 (cutAfter 58 text) ≡ p →
         minutesOf o p ≡ some n → IsSize text n
     by-parts none p q r e = absurd (some-none e refl)
     by-parts (some d) none q r e = absurd (some-none e refl)

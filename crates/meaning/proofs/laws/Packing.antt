@@ -13,7 +13,7 @@ use Rattle.meaning.specs.Choice.{every}
 use Rattle.meaning.specs.Classes.{classNumber}
 use Rattle.meaning.specs.Allowed.{isByte}
 use Rattle.meaning.specs.Instructions.{Test, look, compare, predicate, predicatePart, unknownTest, Store, store, unknownStore, Span, Action, go, select, out, outC, outV, beginSeq, useSeq, call, tailCall, emission, compute, unknownAction, Metric, exactly, ends, middle, Sentences, noMore, sentence, Code}
-use Rattle.meaning.specs.Packing.{Words, word, numberIn, firstIn, secondIn, thirdIn, siteRegister, siteOffset, lengthNumber, lengthOf, spanAction, truthBit, operationNumber, partOperand, testWord, testOf, storeWord, storeOf, actionWords, actionOf, actionsEnd, packActions, emissionOf, unpackActions, metricWord, metricIn, sentencesEnd, endWord, bodyWords, countsWord, packSentences, testsIn, storesIn, bodyIn, unpackTests, unpackStores, maxStored, bodyOf, unpackSentences, packFunctions, placesFrom, pack, functionsAt, soundTable, unpack}
+use Rattle.meaning.specs.Packing.{Words, codeWord, numberIn, firstIn, secondIn, thirdIn, siteRegister, siteOffset, lengthNumber, lengthOf, spanAction, truthBit, operationNumber, partOperand, testWord, testOf, storeWord, storeOf, actionWords, actionOf, actionsEnd, packActions, emissionOf, unpackActions, metricWord, metricIn, sentencesEnd, endWord, bodyWords, countsWord, packSentences, testsIn, storesIn, bodyIn, unpackTests, unpackStores, maxStored, bodyOf, unpackSentences, packFunctions, placesFrom, pack, functionsAt, soundTable, unpack}
 use Rattle.meaning.proofs.laws.Passing.{passed}
 use Rattle.meaning.proofs.laws.Words.{word-holds, register-below, class-below, truth-below, operation-back, operation-below, length-below, look-held, compare-held, predicate-held, predicate-part-held, store-held, length-back, called-number, called-function}
 use Rattle.meaning.proofs.laws.Packable.{All, nil, cons, FitsTest, FitsStore, FitsSpan, FitsAction, FitsMetric, FitsSentence, FitsSentences, eachNone, eachMore, Packable}
@@ -62,14 +62,14 @@ module _ (n : ℕ) (named : eqb n 14 ≡ false) (ended : eqb n 15 ≡ false) whe
   span-first : (instruction : Span → Action) → n < 256
       → ((w : ℕ) → numberIn w ≡ n → actionOf w ≡ spanAction instruction (lengthOf (firstIn w)) (secondIn w) (thirdIn w))
       → (s : Span) (ws : Words) → FitsSpan s
-      → unpackActions 0 (word n (lengthNumber (s .register)) (s .add) (s .back) ∷ ws) ≡ instruction s ∷ unpackActions 0 ws
+      → unpackActions 0 (codeWord n (lengthNumber (s .register)) (s .add) (s .back) ∷ ws) ≡ instruction s ∷ unpackActions 0 ws
   span-first instruction small read s ws f =
       let holds = word-holds n (lengthNumber (s .register)) (s .add) (s .back) small (length-below (s .register)) (f .0) (f .1) in
       single _ ws (instruction s) (holds .number)
       (read _ (holds .number) ∙ rw (holds .first, holds .second, holds .third, length-back (s .register)))
 
   byte-first : (instruction : ℕ → Action) → n < 256 → ((w : ℕ) → numberIn w ≡ n → actionOf w ≡ instruction (firstIn w))
-      → (b : ℕ) (ws : Words) → b < 256 → unpackActions 0 (word n b 0 0 ∷ ws) ≡ instruction b ∷ unpackActions 0 ws
+      → (b : ℕ) (ws : Words) → b < 256 → unpackActions 0 (codeWord n b 0 0 ∷ ws) ≡ instruction b ∷ unpackActions 0 ws
   byte-first instruction small read b ws f =
       let holds = word-holds n b 0 0 small f (omega arith) (omega arith) in
       single _ ws (instruction b) (holds .number) (read _ (holds .number) ∙ rw (holds .first))

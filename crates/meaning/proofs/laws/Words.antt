@@ -8,7 +8,7 @@ use lib.Dec.{eqb}
 use Rattle.meaning.specs.Angles.{Operation, plus, minus}
 use Rattle.meaning.specs.Classes.{Class, digit, upper, lower, alphabetic, blank, classNumber}
 use Rattle.meaning.specs.Instructions.{Site, fromStart, fromEnd, fromPlace, look, compare, predicate, predicatePart, store, Length, null, whole, left, right}
-use Rattle.meaning.specs.Packing.{word, numberIn, firstIn, secondIn, thirdIn, siteRegister, siteOffset, siteOf, lengthNumber, lengthOf, classOf, truthBit, operationNumber, operationOf, partOperand, testOf, storeOf}
+use Rattle.meaning.specs.Packing.{codeWord, numberIn, firstIn, secondIn, thirdIn, siteRegister, siteOffset, siteOf, lengthNumber, lengthOf, classOf, truthBit, operationNumber, operationOf, partOperand, testOf, storeOf}
 
 -- THE FOUR BYTES
 
@@ -20,7 +20,7 @@ pub record Holds (w n a b c : ℕ) : Type 0 where
   pub third : thirdIn w ≡ c
 
 module _ (n a b c : ℕ) (hn : n < 256) (ha : a < 256) (hb : b < 256) (hc : c < 256) where
-  pub word-holds : Holds (word n a b c) n a b c
+  pub word-holds : Holds (codeWord n a b c) n a b c
   word-holds = omega arith
 
 -- REGISTERS, CLASSES AND TRUTH VALUES

@@ -8,7 +8,7 @@ use Rattle.meaning.specs.Allowed.{member, symbolsFrom, partsOf, lettersI
 use Rattle.meaning.specs.Rewriting.{applications, applicationsFrom, hold, shortest, match, choose, evaluate, apply}
 use Rattle.meaning.specs.Matching.{checkAll, search, storedValues, chooseFrom}
 use Rattle.meaning.specs.Machine.{process, enter}
-use Rattle.meaning.specs.Translation.{shapeOf, testedTemplate, valueFrom, items, translatedSentences}
+use Rattle.meaning.specs.Translation.{shapeOf, testedTemplate, valueFrom, itemActions, translatedSentences}
 use Rattle.meaning.specs.Packing.{packActions, unpackActions, packSentences, unpackTests, unpackStores, unpackSentences, packFunctions, placesFrom}
 
 unfoldable pub computing : ℕ
@@ -19,6 +19,6 @@ unfolding every sameBytes startsWith lookup nth
     applications applicationsFrom hold shortest match choose evaluate apply
     checkAll search storedValues chooseFrom
     process enter
-    shapeOf testedTemplate valueFrom items translatedSentences
+    shapeOf testedTemplate valueFrom itemActions translatedSentences
     packActions unpackActions packSentences unpackTests unpackStores unpackSentences packFunctions placesFrom
 computing = 0

@@ -7,7 +7,7 @@ use Rattle.meaning.specs.Tree.{character, symbol, Element, letter, part,
 use Rattle.meaning.specs.Outcome.{Result}
 use Rattle.meaning.specs.Runs.{runLent}
 use Rattle.meaning.specs.Translation.{translate}
-use Rattle.meaning.specs.Earlier.{earlierItems, earlierSentences, earlier}
+use Rattle.meaning.specs.Earlier.{earlierItems, earlierSentences, earlierTranslation}
 use Rattle.meaning.proofs.rows.Tables.{x1, x2, all1, plain, function, emitName, tableZ}
 use Rattle.meaning.proofs.rows.Starred.{Row, AllHold, cells, most, result, same, short, sixty}
 use Rattle.meaning.proofs.rows.Computing.{computing}
@@ -86,7 +86,7 @@ endings-hold = refl
 
 -- the earlier code has no cell of out for the part
 earlier-endings :
-    map (λ (r : Row). runLent (r .room) (earlier (r .table)) 1 (r .text) (r .allowance)) endings
+    map (λ (r : Row). runLent (r .room) (earlierTranslation (r .table)) 1 (r .text) (r .allowance)) endings
     ≡ outFull ∷ outFull ∷ outFull ∷ outFull ∷ outFull ∷ outFull ∷ outFull ∷ outFull ∷ []
 unfolding computing earlierItems earlierSentences
 earlier-endings = refl
@@ -108,6 +108,6 @@ unchanged =
     -- an emission: `F { e1 = <EmitA e1> }`
     withG all1 (thenCall 0 (emitName 65) given end) ∷ []
 
-as-before : map translate unchanged ≡ map earlier unchanged
+as-before : map translate unchanged ≡ map earlierTranslation unchanged
 unfolding computing earlierItems earlierSentences
 as-before = refl

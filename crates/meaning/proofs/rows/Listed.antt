@@ -6,7 +6,7 @@ use mathlib.Core.List.{List, [], _∷_}
 use Rattle.meaning.specs.Choice.{Bytes, Name, every, sameBytes}
 use Rattle.meaning.specs.Classes.{digit, blank}
 use Rattle.meaning.specs.Tree.{character, symbol, Element, letter, part, ofSymbol, Expression, end, thenCharacter, thenSymbol, thenPart, thenCall}
-use Rattle.meaning.specs.Grammar.{written}
+use Rattle.meaning.specs.Grammar.{thenCharacters}
 use Rattle.meaning.specs.Listing.{unquoted, decimal, patternText, conditionsText, expressionText, sentenceText, sentencesText, listing}
 use Rattle.meaning.proofs.rows.Read.{bytes}
 use Rattle.meaning.proofs.rows.Tables.{x1, x2, tableZ, tableR, tableH, tableK, tableP, tableM}
@@ -20,13 +20,13 @@ abbrev lists : Bytes → String → Row
 lists listed text = record { listed = listed; text = bytes text }
 
 hold : List Row → Bool
-unfolding every sameBytes patternText conditionsText expressionText sentencesText listing written
+unfolding every sameBytes patternText conditionsText expressionText sentencesText listing thenCharacters
 hold rows = every (λ r. sameBytes (r .listed) (r .text)) rows
 
 -- STRINGS
 
 abbrev string : Bytes → Bytes
-string text = expressionText unquoted (written text end)
+string text = expressionText unquoted (thenCharacters text end)
 
 -- "others use shortest codes, and a digit right after a code is a code too"; \t, \n and the escaped ones are no codes
 codes :

@@ -12,7 +12,7 @@ use Rattle.meaning.specs.Allowed.{allowed}
 use Rattle.meaning.specs.Reading.{accepted, read}
 use Rattle.meaning.specs.Listing.{patternText, conditionsText, expressionText, sentencesText, listing}
 use Rattle.meaning.specs.Translation.{translate}
-use Rattle.meaning.specs.Packing.{word, countsWord, pack}
+use Rattle.meaning.specs.Packing.{codeWord, countsWord, pack}
 use Rattle.meaning.proofs.rows.Computing.{computing}
 use Rattle.meaning.proofs.rows.Tables.{x1, x2, all1, plain, function}
 use Rattle.meaning.proofs.rows.Read.{bytes, hold, says}
@@ -117,9 +117,9 @@ words-of-digits = refl
 -- Predicate over a part is word 20: the registers of start and end, 16 for 'T', 32 for each class, and the two offsets
 words-of-round : pack (translate round₂) ≡
     1 ∷ 2 ∷
-    word 18 1 2 1 ∷ countsWord 6 0 14 ∷
-    word 1 0 0 40 ∷ word 1 2 0 41 ∷ word 1 2 1 61 ∷ word 1 1 1 46 ∷ word 20 24 1 0 ∷ word 20 54 2 1 ∷
-    word 5 0 1 0 ∷ word 6 2 0 1 ∷ 7 ∷ word 5 0 2 0 ∷ word 6 3 0 3 ∷ 7 ∷ word 5 0 1 0 ∷ 15 ∷ 19 ∷ []
+    codeWord 18 1 2 1 ∷ countsWord 6 0 14 ∷
+    codeWord 1 0 0 40 ∷ codeWord 1 2 0 41 ∷ codeWord 1 2 1 61 ∷ codeWord 1 1 1 46 ∷ codeWord 20 24 1 0 ∷ codeWord 20 54 2 1 ∷
+    codeWord 5 0 1 0 ∷ codeWord 6 2 0 1 ∷ 7 ∷ codeWord 5 0 2 0 ∷ codeWord 6 3 0 3 ∷ 7 ∷ codeWord 5 0 1 0 ∷ 15 ∷ 19 ∷ []
 unfolding computing
 words-of-round = refl
 

@@ -7,7 +7,7 @@ use lib.ListN.{length, replicate}
 use Rattle.meaning.specs.Choice.{Bytes}
 use Rattle.meaning.specs.Classes.{digit, lower}
 use Rattle.meaning.specs.Instructions.{fromStart, fromEnd, fromPlace, Test, look, predicatePart, Store, store, null, whole, left, right, Span, Action, go, select, out, outC, outV, beginSeq, useSeq, call, tailCall, emission, Metric, exactly, ends, Sentences, noMore, sentence}
-use Rattle.meaning.specs.Packing.{Words, word, countsWord, endWord, pack}
+use Rattle.meaning.specs.Packing.{Words, codeWord, countsWord, endWord, pack}
 use Rattle.meaning.specs.Leaving.{Cells, Leaving, leaving}
 use Rattle.meaning.proofs.rows.Starred.{result}
 use Rattle.meaning.proofs.rows.Computing.{computing}
@@ -85,7 +85,7 @@ counting n (suc count) = n ∷ counting (suc n) count
 abbrev code : Words → Words → Words → Words
 code tests stores actions =
     1 ∷ 2 ∷
-    word 16 1 0 0 ∷ countsWord (length tests) (length stores) (length (tests ++ stores ++ actions)) ∷
+    codeWord 16 1 0 0 ∷ countsWord (length tests) (length stores) (length (tests ++ stores ++ actions)) ∷
     tests ++ stores ++ actions ++ 19 ∷ []
 
 abbrev tests : Words → Words
@@ -116,23 +116,23 @@ matchRows =
     wrong (1 ∷ 2 ∷ 272 ∷ []) ∷
     wrong (1 ∷ 2 ∷ 272 ∷ 65537 ∷ []) ∷
     -- a test of another number, a register, a class and a cell that are not there
-    wrong (tests (word 4 0 0 0 ∷ [])) ∷
-    wrong (tests (word 1 3 0 97 ∷ [])) ∷
-    wrong (tests (word 3 4 0 5 ∷ [])) ∷
-    wrong (tests (word 1 0 1 97 ∷ [])) ∷
+    wrong (tests (codeWord 4 0 0 0 ∷ [])) ∷
+    wrong (tests (codeWord 1 3 0 97 ∷ [])) ∷
+    wrong (tests (codeWord 3 4 0 5 ∷ [])) ∷
+    wrong (tests (codeWord 1 0 1 97 ∷ [])) ∷
     -- a Predicate over a part: registers and a class that are not there, a start after its end, and cells before p or past q
-    wrong (tests (word 20 3 0 0 ∷ [])) ∷
-    wrong (tests (word 20 12 0 0 ∷ [])) ∷
-    wrong (tests (word 20 160 0 0 ∷ [])) ∷
-    wrong (tests (word 20 0 1 0 ∷ [])) ∷
-    wrong (tests (word 20 1 2 0 ∷ [])) ∷
-    wrong (tests (word 20 4 0 2 ∷ [])) ∷
-    wrong (tests (word 20 0 0 2 ∷ [])) ∷
+    wrong (tests (codeWord 20 3 0 0 ∷ [])) ∷
+    wrong (tests (codeWord 20 12 0 0 ∷ [])) ∷
+    wrong (tests (codeWord 20 160 0 0 ∷ [])) ∷
+    wrong (tests (codeWord 20 0 1 0 ∷ [])) ∷
+    wrong (tests (codeWord 20 1 2 0 ∷ [])) ∷
+    wrong (tests (codeWord 20 4 0 2 ∷ [])) ∷
+    wrong (tests (codeWord 20 0 0 2 ∷ [])) ∷
     -- the whole field is of small letters, and no digit; the empty part at q is of digits
-    finished (tests (word 20 84 0 0 ∷ word 20 4 0 0 ∷ word 20 20 1 0 ∷ [])) ∷
+    finished (tests (codeWord 20 84 0 0 ∷ codeWord 20 4 0 0 ∷ codeWord 20 20 1 0 ∷ [])) ∷
     -- a store of another number, a cell that is not there, and one store too many
-    wrong (stores (word 5 0 0 0 ∷ [])) ∷
-    wrong (stores (word 4 1 2 0 ∷ [])) ∷
+    wrong (stores (codeWord 5 0 0 0 ∷ [])) ∷
+    wrong (stores (codeWord 4 1 2 0 ∷ [])) ∷
     wrong (stores (replicate 17 4)) ∷
     finished (stores (replicate 16 4)) ∷ []
     -- numbers that begin no sentence, are no test and no store
@@ -144,15 +144,15 @@ matchRows =
 abbrev actionRows : List Row
 actionRows =
     -- an unknown number in the middle, and no end
-    wrong (actions (word 8 97 0 0 ∷ 99 ∷ word 8 98 0 0 ∷ [])) ∷
-    wrong (1 ∷ 2 ∷ 272 ∷ 65536 ∷ word 8 97 0 0 ∷ []) ∷
+    wrong (actions (codeWord 8 97 0 0 ∷ 99 ∷ codeWord 8 98 0 0 ∷ [])) ∷
+    wrong (1 ∷ 2 ∷ 272 ∷ 65536 ∷ codeWord 8 97 0 0 ∷ []) ∷
     -- a length that is not there; Go and Select past the stack
-    wrong (actions (word 5 4 0 0 ∷ [])) ∷
-    wrong (actions (word 5 0 2 0 ∷ [])) ∷
-    finished (actions (word 5 0 1 0 ∷ [])) ∷
-    wrong (actions (word 6 1 1 0 ∷ [])) ∷
+    wrong (actions (codeWord 5 4 0 0 ∷ [])) ∷
+    wrong (actions (codeWord 5 0 2 0 ∷ [])) ∷
+    finished (actions (codeWord 5 0 1 0 ∷ [])) ∷
+    wrong (actions (codeWord 6 1 1 0 ∷ [])) ∷
     -- a value that is not stored
-    wrong (code [] (4 ∷ []) (word 9 1 0 0 ∷ 15 ∷ [])) ∷
+    wrong (code [] (4 ∷ []) (codeWord 9 1 0 0 ∷ 15 ∷ [])) ∷
     -- a call past the count, and of function 0
     wrong (actions (524 ∷ [])) ∷
     wrong (actions (525 ∷ [])) ∷
@@ -162,12 +162,12 @@ actionRows =
     wrong (actions (replicate 17 10)) ∷
     finished (actions (replicate 16 10)) ∷
     -- a name byte over 255, and a name that the words do not hold
-    wrong (actions (word 14 1 0 0 ∷ 256 ∷ [])) ∷
-    wrong (actions (word 14 4 0 0 ∷ 65 ∷ [])) ∷
+    wrong (actions (codeWord 14 1 0 0 ∷ 256 ∷ [])) ∷
+    wrong (actions (codeWord 14 4 0 0 ∷ 65 ∷ [])) ∷
     -- an angle call with an operand above 1
-    wrong (actions (word 21 2 0 0 ∷ [])) ∷
+    wrong (actions (codeWord 21 2 0 0 ∷ [])) ∷
     -- after an emission, and in a called function
-    stoppedWith 18 (97 ∷ []) 1 (65 ∷ 32 ∷ 10 ∷ []) (actions (word 14 1 0 0 ∷ 65 ∷ 0 ∷ [])) ∷
+    stoppedWith 18 (97 ∷ []) 1 (65 ∷ 32 ∷ 10 ∷ []) (actions (codeWord 14 1 0 0 ∷ 65 ∷ 0 ∷ [])) ∷
     stoppedWith 18 (97 ∷ []) 2 [] (2 ∷ 3 ∷ 8 ∷ 272 ∷ 131072 ∷ 524 ∷ 15 ∷ 19 ∷ 0 ∷ []) ∷ []
     -- numbers that are no action: among them would be OutS, PutC, PutV and Loop, which have none
     ++ map (λ n. wrong (actions (n ∷ []))) (counting 0 5 ++ counting 16 5 ++ counting 22 234)

@@ -14,7 +14,7 @@ use Rattle.meaning.specs.Names.{isKnown}
 use Rattle.meaning.specs.Allowed.{isByte, allowed, allowedFunction, callsKnown, namesOf, distinct, sentencesIn, maxTable, maxFunctions, maxSentences}
 use Rattle.meaning.specs.Tokens.{outside, Placed, tokens}
 use Rattle.meaning.specs.Grammar.{IsProgram}
-use Rattle.meaning.specs.Reading.{Parsed, stopped, parsed, functions, unknownCall, unknownInSentences, unknownIn, known, verdict, accepted, refused, read}
+use Rattle.meaning.specs.Reading.{Parsed, stopped, parsed, parseFunctions, unknownCall, unknownInSentences, unknownIn, known, verdict, accepted, refused, read}
 use Rattle.meaning_accepting.proofs.reading.Basics.{both-left, both-right, both-true, impossible}
 use Rattle.meaning_accepting.proofs.reading.TokensSound.{tokens-sound}
 use Rattle.meaning_accepting.proofs.reading.Tables.{functions-sound, functions-complete}
@@ -101,7 +101,7 @@ allowed-parts t a d l s n =
 
 -- the tree that reading finds is derived and allowed
 functions-allow : (text : Bytes) (t : Table) (rest : List Placed) → every isByte text ≡ true → length text ≤ maxTable
-    → functions maxFunctions maxSentences [] (tokens text) ≡ parsed t rest → unknownIn t t ≡ none → Allows text t
+    → parseFunctions maxFunctions maxSentences [] (tokens text) ≡ parsed t rest → unknownIn t t ≡ none → Allows text t
 unfolding distinct
 functions-allow text t rest s l e n =
     let r = functions-sound maxFunctions maxSentences [] (tokens text) t rest (tokens-sound (suc (length text)) outside 0 text s) refl e in
@@ -113,9 +113,9 @@ functions-allow text t rest s l e n =
     }
 
 read-step : (text : Bytes) (t : Table) (b : Bool) → leb (length text) maxTable ≡ b → every isByte text ≡ true
-    → verdict (pick b (functions maxFunctions maxSentences [] (tokens text)) (stopped 1 0)) ≡ accepted t → Allows text t
+    → verdict (pick b (parseFunctions maxFunctions maxSentences [] (tokens text)) (stopped 1 0)) ≡ accepted t → Allows text t
 read-step text t true p s e =
-    let v = verdict-accepted (functions maxFunctions maxSentences [] (tokens text)) t e in
+    let v = verdict-accepted (parseFunctions maxFunctions maxSentences [] (tokens text)) t e in
     functions-allow text t (v .0) s (leb-true (length text) maxTable p) (v .1) (v .2)
 read-step text t false p s e = no-refusal 1 0 t e
 

@@ -9,7 +9,7 @@ use borrow.Author.Tests.{eqb-true}
 use lib.Dec.{eqb}
 use Rattle.meaning.specs.Choice.{Bytes, Name, both}
 use Rattle.meaning.specs.Tokens.{Token, functionName, word, quoted, sign, textEnd, malformed, Placed}
-use Rattle.meaning.specs.Reading.{Parsed, stopped, parsed, follow, check, whether, faultUnless, isSign, nameOf, pass, passName, nameOn, noItem, itemOf}
+use Rattle.meaning.specs.Reading.{Parsed, stopped, parsed, follow, whereFaultless, whether, faultUnless, isSign, nameOf, pass, passName, nameOn, noItem, itemOf}
 use Rattle.meaning.specs.Grammar.{standing, symbolWord, partWord}
 use Rattle.meaning.proofs.laws.Choosing.{both-parts}
 
@@ -48,7 +48,7 @@ follow-parsed (stopped n k) next {v} {rest} e = never-both n k v rest e
 follow-parsed (parsed a ts) next e = record { value = a; between = ts; before = refl; after = e }
 
 pub check-parsed : {A : Type 0} (n : ℕ) (t : Placed) (later : Parsed A) {v : A} {rest : List Placed}
-    → check n t later ≡ parsed v rest → (n ≡ 0) × (later ≡ parsed v rest)
+    → whereFaultless n t later ≡ parsed v rest → (n ≡ 0) × (later ≡ parsed v rest)
 check-parsed zero t later e = (refl, e)
 check-parsed (suc n) t later {v} {rest} e = never-both (suc n) (t .place) v rest e
 

@@ -15,7 +15,7 @@ use Rattle.meaning.specs.Names.{predicateOf, classNamed}
 use Rattle.meaning.specs.Allowed.{member, ofPattern, allOfPattern, spelledIdentifier, maxIdentifier, maxName}
 use Rattle.meaning.specs.Tokens.{Token, functionName, word, quoted, sign, textEnd, malformed, Placed}
 use Rattle.meaning.specs.Grammar.{standing, truthByte, truthString, IsSubject, symbolSubject, partSubject, IsCondition, isCondition, IsConditions, noConditions, conditionThen}
-use Rattle.meaning.specs.Reading.{Parsed, stopped, parsed, follow, check, isSign, passSubject, subjectFault, passTruth, truthOn, truthOf, truthIn, withClass, condition, atComma, conditions, pass, passName, lengthFault}
+use Rattle.meaning.specs.Reading.{Parsed, stopped, parsed, follow, whereFaultless, isSign, passSubject, subjectFault, passTruth, truthOn, truthOf, truthIn, withClass, parseCondition, atComma, parseConditions, pass, passName, lengthFault}
 use Rattle.meaning_accepting.proofs.reading.Basics.{both-left, both-right, both-true, impossible, no-value, never-both, check-parsed, passed, Followed, follow-parsed, Passed, pass-parsed, NamePassed, name-parsed, TokenView, aString, aSymbol, aPart, another, view, sign-of, standing-as}
 use Rattle.meaning.proofs.laws.Choosing.{same-bytes}
 use Rattle.meaning.proofs.laws.Words.{by-class}
@@ -42,7 +42,7 @@ subject-known names x e =
 variable-step : {A : Type 0} (symbols parts names : List Name) (x : Name) {token : Token} {on : Subject} (place past : ℕ) (ts : List Placed)
     (next : Subject → List Placed → Parsed A) {v : A} {rest : List Placed}
     → IsSubject token on → ofPattern symbols parts on ≡ member x names
-    → check (subjectFault names x) (standing token place past) (next on ts) ≡ parsed v rest
+    → whereFaultless (subjectFault names x) (standing token place past) (next on ts) ≡ parsed v rest
     → SubjectPassed A symbols parts (standing token place past ∷ ts) next v rest
 variable-step symbols parts names x {token} {on} place past ts next is same e =
     let (faultless, after) = check-parsed (subjectFault names x) (standing token place past) (next on ts) e in
@@ -220,8 +220,8 @@ module _ (symbols parts : List Name) {c : Condition} {rest : List Placed} where
         sound = sound-six _ _ _ _ _ _ rest (rw shape at s);
       }
 
-  condition-sound : (ts : List Placed) → soundTokens ts ≡ true → condition symbols parts ts ≡ parsed c rest → ConditionRead symbols parts ts c rest
-  unfolding condition
+  condition-sound : (ts : List Placed) → soundTokens ts ≡ true → parseCondition symbols parts ts ≡ parsed c rest → ConditionRead symbols parts ts c rest
+  unfolding parseCondition
   condition-sound ts s e =
       let p₁ = pass-parsed 60 ts (afterOpen symbols parts) e in
       let p₂ = name-parsed (λ n. lengthFault n 0) (p₁ .tail) (afterPredicate symbols parts) (p₁ .after) in
@@ -262,8 +262,8 @@ member-short names s x m = spelled-identifier-short x (member-every spelledIdent
 
 pub condition-complete : (symbols parts : List Name) → every spelledIdentifier symbols ≡ true → every spelledIdentifier parts ≡ true
     → {ts rest : List Placed} {c : Condition} → IsCondition ts c rest → ofPattern symbols parts (c .subject) ≡ true
-    → condition symbols parts ts ≡ parsed c rest
-unfolding condition
+    → parseCondition symbols parts ts ≡ parsed c rest
+unfolding parseCondition
 condition-complete symbols parts s q
     (isCondition {n = n} {class = class} {truth = truth} {rest = rest} {at₆ = at₆} known (symbolSubject {b = b} {x = x})) m =
     rw (predicate-short n known, known, member-short symbols s (b ∷ x) m, m) (truth-passed truth at₆ rest (afterTruth class (ofSymbol (b ∷ x))))
@@ -313,18 +313,18 @@ abbrev pub afterConditions : Condition → List Condition → List Placed → Pa
 afterConditions c cs rest = parsed (c ∷ cs) rest
 
 abbrev pub afterCondition : ℕ → List Name → List Name → Condition → List Placed → Parsed (List Condition)
-afterCondition left symbols parts c ts = follow (conditions left symbols parts ts) (afterConditions c)
+afterCondition left symbols parts c ts = follow (parseConditions left symbols parts ts) (afterConditions c)
 
 abbrev pub afterComma : ℕ → List Name → List Name → Placed → List Placed → Parsed (List Condition)
-afterComma left symbols parts comma ts = follow (condition symbols parts ts) (afterCondition left symbols parts)
+afterComma left symbols parts comma ts = follow (parseCondition symbols parts ts) (afterCondition left symbols parts)
 
 module _ (left : ℕ) (symbols parts : List Name) {cs : List Condition} {rest : List Placed}
     (later : (ts : List Placed) (cs : List Condition) (rest : List Placed)
-    → soundTokens ts ≡ true → conditions left symbols parts ts ≡ parsed cs rest → ConditionsRead left symbols parts ts cs rest)
+    → soundTokens ts ≡ true → parseConditions left symbols parts ts ≡ parsed cs rest → ConditionsRead left symbols parts ts cs rest)
   where
     with-conditions : (place past : ℕ) {ts between : List Placed} (c : Condition)
         → ConditionRead symbols parts ts c between
-        → (q : Followed (List Condition) (List Condition) (conditions left symbols parts between) (afterConditions c) cs rest)
+        → (q : Followed (List Condition) (List Condition) (parseConditions left symbols parts between) (afterConditions c) cs rest)
         → ConditionsRead left symbols parts between (q .value) (q .between)
         → ConditionsRead (suc left) symbols parts (standing (sign 44) place past ∷ ts) cs rest
     unfolding every
@@ -343,9 +343,9 @@ module _ (left : ℕ) (symbols parts : List Name) {cs : List Condition} {rest : 
         → afterComma left symbols parts (standing (sign 44) place past) ts ≡ parsed cs rest
         → ConditionsRead (suc left) symbols parts (standing (sign 44) place past ∷ ts) cs rest
     with-comma place past ts s e =
-        let p = follow-parsed (condition symbols parts ts) (afterCondition left symbols parts) e in
+        let p = follow-parsed (parseCondition symbols parts ts) (afterCondition left symbols parts) e in
         let r = condition-sound symbols parts ts s (p .before) in
-        let q = follow-parsed (conditions left symbols parts (p .between)) (afterConditions (p .value)) (p .after) in
+        let q = follow-parsed (parseConditions left symbols parts (p .between)) (afterConditions (p .value)) (p .after) in
         with-conditions place past (p .value) r q (later (p .between) (q .value) (q .between) (r .sound) (q .before))
 
     conditions-step : {ts : List Placed} → soundTokens ts ≡ true → AtComma ts (afterComma left symbols parts) cs rest
@@ -364,8 +364,8 @@ conditions-none symbols parts {cs = cs} {rest = rest} s (with place past tail sh
 
 -- what the conditions' reader reads are conditions of the grammar, on variables of the pattern
 pub conditions-sound : (left : ℕ) (symbols parts : List Name) (ts : List Placed) {cs : List Condition} {rest : List Placed}
-    → soundTokens ts ≡ true → conditions left symbols parts ts ≡ parsed cs rest → ConditionsRead left symbols parts ts cs rest
-unfolding conditions
+    → soundTokens ts ≡ true → parseConditions left symbols parts ts ≡ parsed cs rest → ConditionsRead left symbols parts ts cs rest
+unfolding parseConditions
 conditions-sound zero symbols parts ts s e = conditions-none symbols parts s (at-comma ts overComma e)
 conditions-sound (suc left) symbols parts ts s e =
     conditions-step left symbols parts (λ us ds more t f. conditions-sound left symbols parts us {cs = ds} {rest = more} t f) s
@@ -376,8 +376,8 @@ pub conditions-complete : (left : ℕ) (symbols parts : List Name) → every spe
     → {ts rest : List Placed} {cs : List Condition} → IsConditions ts cs rest
     → (h : Placed) (more : List Placed) → rest ≡ h ∷ more → isSign 44 (h .token) ≡ false
     → allOfPattern symbols parts cs ≡ true → length cs ≤ left
-    → conditions left symbols parts ts ≡ parsed cs rest
-unfolding conditions every
+    → parseConditions left symbols parts ts ≡ parsed cs rest
+unfolding parseConditions every
 conditions-complete zero symbols parts s q noConditions h more e n k l = rw (e, n)
 conditions-complete (suc left) symbols parts s q noConditions h more e n k l = rw (e, n)
 conditions-complete zero symbols parts s q (conditionThen d ds) h more e n k l = absurd (omega arith)

@@ -12,7 +12,7 @@ use lib.ListN.{length}
 use Rattle.meaning.specs.Choice.{Bytes, Name, pick, both, every, isSome, sameBytes}
 use Rattle.meaning.specs.Tree.{Expression}
 use Rattle.meaning.specs.Allowed.{isByte, member, itemsIn, nesting, spelledItems, comingAfter, comingAfterAll, whereSome, spelledIdentifier, maxItems, maxNesting, maxIdentifier}
-use Rattle.meaning.specs.Grammar.{written}
+use Rattle.meaning.specs.Grammar.{thenCharacters}
 use Rattle.meaning.specs.Reading.{Item, characters, symbolItem, partItem, noItem, isItem, Progress, itemCount, comingPast, comingOr, pastItem, itemFault, faultUnless, thenItem}
 use Rattle.meaning_accepting.proofs.reading.Basics.{both-left, both-right, both-true, impossible, no-value, passed}
 use Rattle.meaning.proofs.laws.Choosing.{both-some, same-bytes}
@@ -29,25 +29,25 @@ pub record Leads (symbols : List Name) (depth : ℕ) (so : Progress) (e : Expres
 
 -- STRINGS
 
-written-items : (text : Bytes) (e : Expression) → itemsIn (written text e) ≡ length text + itemsIn e
-unfolding written itemsIn
+written-items : (text : Bytes) (e : Expression) → itemsIn (thenCharacters text e) ≡ length text + itemsIn e
+unfolding thenCharacters itemsIn
 written-items [] e = sym (zero-add (itemsIn e))
 written-items (c ∷ text) e = rw (written-items text e) (sym (suc-add (length text) (itemsIn e)))
 
-written-nesting : (text : Bytes) (e : Expression) → nesting (written text e) ≡ nesting e
-unfolding written nesting
+written-nesting : (text : Bytes) (e : Expression) → nesting (thenCharacters text e) ≡ nesting e
+unfolding thenCharacters nesting
 written-nesting [] e = refl
 written-nesting (c ∷ text) e = written-nesting text e
 
 written-spelled : (symbols : List Name) (text : Bytes) (e : Expression)
-    → spelledItems symbols (written text e) ≡ both (every isByte text) (spelledItems symbols e)
-unfolding written spelledItems every
+    → spelledItems symbols (thenCharacters text e) ≡ both (every isByte text) (spelledItems symbols e)
+unfolding thenCharacters spelledItems every
 written-spelled symbols [] e = refl
 written-spelled symbols (c ∷ text) e =
     rw (written-spelled symbols text e) (sym (both-assoc (isByte c) (every isByte text) (spelledItems symbols e)))
 
-written-order : (text : Bytes) (e : Expression) (coming : List Name) → comingAfterAll (written text e) coming ≡ comingAfterAll e coming
-unfolding written comingAfterAll
+written-order : (text : Bytes) (e : Expression) (coming : List Name) → comingAfterAll (thenCharacters text e) coming ≡ comingAfterAll e coming
+unfolding thenCharacters comingAfterAll
 written-order [] e coming = refl
 written-order (c ∷ text) e coming = written-order text e coming
 

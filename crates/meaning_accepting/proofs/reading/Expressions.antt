@@ -13,7 +13,7 @@ use Rattle.meaning.specs.Names.{isPredicate}
 use Rattle.meaning.specs.Allowed.{itemsIn, nesting, spelledItems, spelledName, comingAfterAll, maxItems, maxNesting, maxName}
 use Rattle.meaning.specs.Tokens.{Token, functionName, sign, Placed}
 use Rattle.meaning.specs.Grammar.{standing, IsExpression, noItems, stringThen, symbolThen, partThen, callThen}
-use Rattle.meaning.specs.Reading.{Parsed, stopped, parsed, follow, check, pass, passName, itemOf, isItem, isSign, Progress, Items, Called, pastItem, pastCall, itemFault, callFault, calledFault, thenItem, withFirst, call, expression}
+use Rattle.meaning.specs.Reading.{Parsed, stopped, parsed, follow, whereFaultless, pass, passName, itemOf, isItem, isSign, Progress, Items, Called, pastItem, pastCall, itemFault, callFault, calledFault, thenItem, withFirst, parseCall, parseExpression}
 use Rattle.meaning_accepting.proofs.reading.Basics.{both-left, both-right, both-true, impossible, never-both, check-parsed, passed, Followed, follow-parsed, Passed, pass-parsed, NamePassed, name-parsed, TokenView, aString, aSymbol, aPart, another, view, sign-of, standing-as}
 use Rattle.meaning_accepting.proofs.reading.Sound.{soundTokens, sound-first, sound-rest, item-sound, name-spelled}
 use Rattle.meaning_accepting.proofs.reading.ExpressionItems.{Leads, item-fits, item-leads}
@@ -105,7 +105,7 @@ module _ (next : Reader) (symbols : List Name) (later : Sound next symbols) (dep
         }
 
     call-sound : (t : Placed) (ts : List Placed) → t .token ≡ sign 60 → soundTokens ts ≡ true
-        → call next depth so t ts ≡ parsed c rest → CallRead symbols depth so (t ∷ ts) c rest
+        → parseCall next depth so t ts ≡ parsed c rest → CallRead symbols depth so (t ∷ ts) c rest
     call-sound t ts o s e =
         let named = passName calledFault ts (argued next depth so) in
         let (z, after) = check-parsed (callFault depth so) t named e in
@@ -141,7 +141,7 @@ module _ (next : Reader) (symbols : List Name) (later : Sound next symbols) (dep
         }
 
     after-call : (t : Placed) (ts : List Placed) → isSign 60 (t .token) ≡ true → depth ≤ maxNesting → soundTokens (t ∷ ts) ≡ true
-        → (p : Followed Called Items (call next depth so t ts) outside i rest)
+        → (p : Followed Called Items (parseCall next depth so t ts) outside i rest)
         → CallRead symbols depth so (t ∷ ts) (p .value) (p .between)
         → ExpressionRead symbols depth so (t ∷ ts) i rest
     after-call t ts o d s p r =
@@ -169,23 +169,23 @@ module _ (next : Reader) (symbols : List Name) (later : Sound next symbols) (dep
     expression-step : (t : Placed) (ts : List Placed) (a b : Bool) → isItem (itemOf (t .token)) ≡ a → isSign 60 (t .token) ≡ b
         → so .items ≤ maxItems → depth ≤ maxNesting → soundTokens (t ∷ ts) ≡ true
         → pick a
-        (check (itemFault symbols so (itemOf (t .token))) t (withFirst (thenItem (itemOf (t .token))) (next depth (pastItem (itemOf (t .token)) so) ts)))
-        (pick b (follow (call next depth so t ts) outside) (parsed (record { expression = end; progress = so }) (t ∷ ts)))
+        (whereFaultless (itemFault symbols so (itemOf (t .token))) t (withFirst (thenItem (itemOf (t .token))) (next depth (pastItem (itemOf (t .token)) so) ts)))
+        (pick b (follow (parseCall next depth so t ts) outside) (parsed (record { expression = end; progress = so }) (t ∷ ts)))
         ≡ parsed i rest
         → ExpressionRead symbols depth so (t ∷ ts) i rest
     expression-step t ts true b p q m d s e =
         let (z, after) = check-parsed (itemFault symbols so (itemOf (t .token))) t _ e in
         after-item t ts p d s z after
     expression-step t ts false true p q m d s e =
-        let f = follow-parsed (call next depth so t ts) outside e in
+        let f = follow-parsed (parseCall next depth so t ts) outside e in
         after-call t ts q d s f (call-sound t ts (sign-of 60 (t .token) q) (sound-rest t ts s) (f .before))
     expression-step t ts false false p q m d s e = at-end t ts m d s e
 
 -- what the expression's reader reads is an expression of the grammar and leads within the limits
-pub expression-sound : (bound : ℕ) (symbols : List Name) → Sound (expression bound symbols) symbols
-unfolding expression
+pub expression-sound : (bound : ℕ) (symbols : List Name) → Sound (parseExpression bound symbols) symbols
+unfolding parseExpression
 expression-sound zero symbols depth so ts i rest m d s e = never-both 0 0 i rest e
 expression-sound (suc bound) symbols depth so [] i rest m d s e = never-both 0 0 i rest e
 expression-sound (suc bound) symbols depth so (t ∷ ts) i rest m d s e =
-    expression-step (expression bound symbols) symbols (expression-sound bound symbols) depth so t ts
+    expression-step (parseExpression bound symbols) symbols (expression-sound bound symbols) depth so t ts
     (isItem (itemOf (t .token))) (isSign 60 (t .token)) refl refl m d s e

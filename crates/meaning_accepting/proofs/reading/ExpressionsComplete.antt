@@ -14,7 +14,7 @@ use Rattle.meaning.specs.Names.{isPredicate}
 use Rattle.meaning.specs.Allowed.{itemsIn, nesting, spelledItems, spelledName, comingAfter, comingAfterAll, spelledIdentifier, maxItems, maxNesting}
 use Rattle.meaning.specs.Tokens.{functionName, quoted, sign, Placed}
 use Rattle.meaning.specs.Grammar.{standing, symbolWord, partWord, IsExpression, noItems, stringThen, symbolThen, partThen, callThen}
-use Rattle.meaning.specs.Reading.{parsed, itemOf, isItem, thenItem, isSign, Progress, pastItem, pastCall, callFault, calledFault, expression}
+use Rattle.meaning.specs.Reading.{parsed, itemOf, isItem, thenItem, isSign, Progress, pastItem, pastCall, callFault, calledFault, parseExpression}
 use Rattle.meaning.proofs.laws.Choosing.{both-some}
 use Rattle.meaning_accepting.proofs.reading.Basics.{both-left, both-right}
 use Rattle.meaning_accepting.proofs.reading.Sound.{spelled-name-short}
@@ -131,8 +131,8 @@ module _ (symbols : List Name) (s : every spelledIdentifier symbols ≡ true) wh
   pub itemed-complete : {ts rest : List Placed} {e : Expression} → IsItemed ts e rest → Ends rest
       → (bound depth : ℕ) (so then : Progress) → every spelledIdentifier (so .coming) ≡ true → length ts ≤ bound
       → Leads symbols depth so e then
-      → expression bound symbols depth so ts ≡ parsed (record { expression = e; progress = then }) rest
-  unfolding expression
+      → parseExpression bound symbols depth so ts ≡ parsed (record { expression = e; progress = then }) rest
+  unfolding parseExpression
   itemed-complete (nothingMore {ts = ts}) h zero depth so then c b l = absurd (omega (arith, ap length (h .shape)))
   itemed-complete (oneItemThen item d) h zero depth so then c b l = absurd (omega arith)
   itemed-complete (calledThen k d) h zero depth so then c b l = absurd (omega arith)

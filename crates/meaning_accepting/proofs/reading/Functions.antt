@@ -12,7 +12,7 @@ use Rattle.meaning.specs.Tree.{Sentence}
 use Rattle.meaning.specs.Allowed.{allowedSentence}
 use Rattle.meaning.specs.Tokens.{Token, functionName, word, quoted, sign, textEnd, malformed, Placed}
 use Rattle.meaning.specs.Grammar.{standing, IsSentence, IsSentences, lastSentence, lastSentenceParted, sentenceThen}
-use Rattle.meaning.specs.Reading.{Parsed, stopped, parsed, follow, whether, isSign, begins, sentence, atSentence, afterSemicolon, afterSentence, sentences}
+use Rattle.meaning.specs.Reading.{Parsed, stopped, parsed, follow, whether, isSign, begins, parseSentence, atSentence, afterSemicolon, afterSentence, parseSentences}
 use Rattle.meaning_accepting.proofs.reading.Basics.{both-left, both-right, both-true, impossible, never-both, whether-parsed, Followed, follow-parsed, sign-of, standing-as}
 use Rattle.meaning_accepting.proofs.reading.Sound.{soundTokens, sound-rest}
 use Rattle.meaning_accepting.proofs.reading.ExpressionsComplete.{ends-with}
@@ -108,15 +108,15 @@ at-sentence [] next {ss} {rest} e = never-both 0 0 ss rest e
 at-sentence (t ∷ ts) next e = (t, whether-parsed (begins (t .token)) t (next t) e .1)
 
 pub sentences-sound : (left : ℕ) (ts : List Placed) (ss : List Sentence) (rest : List Placed)
-    → soundTokens ts ≡ true → sentences left ts ≡ parsed ss rest → SentencesRead left ts ss rest
-unfolding sentences
+    → soundTokens ts ≡ true → parseSentences left ts ≡ parsed ss rest → SentencesRead left ts ss rest
+unfolding parseSentences
 sentences-sound zero ts ss rest k e =
     let (t, f) = at-sentence ts (λ t. stopped 4 (t .place)) e in
     never-both 4 (t .place) ss rest f
 sentences-sound (suc left) ts ss rest k e =
-    let (t, g) = at-sentence ts (λ t. follow (sentence ts) (λ s ts₁. afterSentence (sentences left) s ts₁)) e in
-    let f = follow-parsed (sentence ts) (λ s ts₁. afterSentence (sentences left) s ts₁) g in
-    after-sentence left (sentences left) (λ us rs more l h. sentences-sound left us rs more l h) (f .value) (f .between)
+    let (t, g) = at-sentence ts (λ t. follow (parseSentence ts) (λ s ts₁. afterSentence (parseSentences left) s ts₁)) e in
+    let f = follow-parsed (parseSentence ts) (λ s ts₁. afterSentence (parseSentences left) s ts₁) g in
+    after-sentence left (parseSentences left) (λ us rs more l h. sentences-sound left us rs more l h) (f .value) (f .between)
     (sentence-sound ts k (f .before)) (f .after)
 
 at-begins : {ts : List Placed} (b : Begins ts) (next : Placed → Parsed (List Sentence)) → atSentence ts next ≡ next (b .first)
@@ -146,18 +146,18 @@ more-sentences more s b = rw (b .shape, begins-open (b .first .token) (b .beginn
 
 -- the first sentence is read
 first-read : (left : ℕ) {c place past : ℕ} {ts rest : List Placed} {s : Sentence} → IsSentence ts s (standing (sign c) place past ∷ rest)
-    → eqb c 60 ≡ false → allowedSentence s ≡ true → sentences (suc left) ts ≡ afterSentence (sentences left) s (standing (sign c) place past ∷ rest)
-unfolding sentences
+    → eqb c 60 ≡ false → allowedSentence s ≡ true → parseSentences (suc left) ts ≡ afterSentence (parseSentences left) s (standing (sign c) place past ∷ rest)
+unfolding parseSentences
 first-read left {c} {place} {past} {ts} {rest} d e a =
     rw (
-      at-begins (sentence-begins d) (λ t. follow (sentence ts) (afterSentence (sentences left))),
+      at-begins (sentence-begins d) (λ t. follow (parseSentence ts) (afterSentence (parseSentences left))),
       sentence-complete d (ends-with c place past rest e) a,
     )
 
 -- sentences that the grammar and the limits allow are read
 pub sentences-complete : (left : ℕ) {ts rest : List Placed} {ss : List Sentence} → IsSentences ts ss rest
-    → every allowedSentence ss ≡ true → length ss ≤ left → sentences left ts ≡ parsed ss rest
-unfolding sentences every
+    → every allowedSentence ss ≡ true → length ss ≤ left → parseSentences left ts ≡ parsed ss rest
+unfolding parseSentences every
 sentences-complete zero (lastSentence d) a l = absurd (omega arith)
 sentences-complete zero (lastSentenceParted d) a l = absurd (omega arith)
 sentences-complete zero (sentenceThen d ds) a l = absurd (omega arith)
@@ -166,6 +166,6 @@ sentences-complete (suc left) (lastSentenceParted {s = s} d) a l = first-read le
 sentences-complete (suc left) (sentenceThen {s = s} {ss = ss} d ds) a l =
     first-read left d refl (both-left (allowedSentence s) (every allowedSentence ss) a)
     ∙ rw (
-      more-sentences (sentences left) s (sentences-begin ds),
+      more-sentences (parseSentences left) s (sentences-begin ds),
       sentences-complete left ds (both-right (allowedSentence s) (every allowedSentence ss) a) (omega arith),
     )

@@ -10,7 +10,7 @@ use lib.ListN.{length}
 use Rattle.meaning.specs.Choice.{Bytes, pick}
 use Rattle.meaning.specs.Classes.{inClass, alphabetic}
 use Rattle.meaning.specs.Allowed.{wordByte, nameByte}
-use Rattle.meaning.specs.Tokens.{Mode, outside, inside, naming, Token, functionName, word, malformed, Placed, Lexed, lexed, ahead, Gap, between, opening, commented, starred, gapAfter, Skipped, found, skippedEnd, skipOn, skip, Run, run, wordAt, Quoting, plain, Turn, goesOn, closes, breaks, turn, Quotation, quoteOn, quotation, quotedAt, bracketAt, tokenAt, tokenPast, lex, modeAfter, isLast, tokensFrom}
+use Rattle.meaning.specs.Tokens.{Mode, outside, inside, naming, Token, functionName, word, malformed, Placed, Lexed, lexed, ahead, Gap, between, opening, commented, starred, gapAfter, Skipped, found, skippedEnd, skipOn, skip, Run, run, wordAt, Quoting, plain, Turn, goesOn, closes, breaks, turn, Quotation, quoteOn, quotation, quotedAt, bracketAt, tokenAt, tokenPast, lex, modeAfter, isLastToken, tokensFrom}
 use Rattle.meaning.proofs.laws.Choosing.{of-either}
 use Rattle.meaning_accepting.proofs.reading.Basics.{impossible}
 use Rattle.meaning_accepting.proofs.reading.Sound.{isNil}
@@ -87,7 +87,7 @@ token-within mode at b rest =
 -- after blanks and comments: the place goes forward, and a token that isn't the last eats a byte
 pub record Eats (at size : ℕ) (l : Lexed) : Type 0 where
   pub forward : at ≤ l .first .past
-  pub eaten : isLast (l .first .token) ≡ false → length (l .rest) < size
+  pub eaten : isLastToken (l .first .token) ≡ false → length (l .rest) < size
 
 end-eats : (mode : Mode) (gap : Gap) (at size : ℕ) → (slash : ℕ) → Eats at size (lexed malformed slash at [])
 end-eats mode gap at size slash = record { forward = omega arith; eaten = λ e. impossible (sym e) }
@@ -134,9 +134,9 @@ lex-eats mode at bytes = skip-eats mode between at bytes
 -- the last token is one after which none comes, and no other is
 unfoldable pub ended : List Placed → Bool
 ended [] = false
-ended (t ∷ ts) = pick (isLast (t .token)) (isNil ts) (ended ts)
+ended (t ∷ ts) = pick (isLastToken (t .token)) (isNil ts) (ended ts)
 
-ended-cases : (t : Placed) (b : Bool) (later : List Placed) → isLast (t .token) ≡ b → (isLast (t .token) ≡ false → ended later ≡ true)
+ended-cases : (t : Placed) (b : Bool) (later : List Placed) → isLastToken (t .token) ≡ b → (isLastToken (t .token) ≡ false → ended later ≡ true)
     → ended (t ∷ pick b [] later) ≡ true
 unfolding ended
 ended-cases t true later p e = rw p
@@ -148,10 +148,10 @@ unfolding tokensFrom
 tokens-ended zero mode at bytes l = absurd (omega arith)
 tokens-ended (suc bound) mode at bytes l =
     let x = lex mode at bytes in
-    ended-cases (x .first) (isLast (x .first .token)) (tokensFrom bound (modeAfter mode (x .first .token)) (x .first .past) (x .rest)) refl
+    ended-cases (x .first) (isLastToken (x .first .token)) (tokensFrom bound (modeAfter mode (x .first .token)) (x .first .past) (x .rest)) refl
     (λ e. tokens-ended bound (modeAfter mode (x .first .token)) (x .first .past) (x .rest) (omega (arith, lex-eats mode at bytes .eaten e)))
 
-later-same : (b : Bool) (t : Placed) (x y : List Placed) → isLast (t .token) ≡ b → (isLast (t .token) ≡ false → x ≡ y) → t ∷ pick b [] x ≡ t ∷ pick b [] y
+later-same : (b : Bool) (t : Placed) (x y : List Placed) → isLastToken (t .token) ≡ b → (isLastToken (t .token) ≡ false → x ≡ y) → t ∷ pick b [] x ≡ t ∷ pick b [] y
 later-same true t x y p e = refl
 later-same false t x y p e = ap (λ z. t ∷ z) (e p)
 
@@ -163,7 +163,7 @@ tokens-bound zero c mode at bytes l m = absurd (omega arith)
 tokens-bound (suc b) zero mode at bytes l m = absurd (omega arith)
 tokens-bound (suc b) (suc c) mode at bytes l m =
     let x = lex mode at bytes in
-    later-same (isLast (x .first .token)) (x .first)
+    later-same (isLastToken (x .first .token)) (x .first)
     (tokensFrom b (modeAfter mode (x .first .token)) (x .first .past) (x .rest))
     (tokensFrom c (modeAfter mode (x .first .token)) (x .first .past) (x .rest)) refl
     (λ e.

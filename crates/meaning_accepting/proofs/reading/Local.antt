@@ -10,7 +10,7 @@ use lib.ListN.{length, take}
 use Rattle.meaning.specs.Choice.{Bytes, pick}
 use Rattle.meaning.specs.Classes.{inClass, alphabetic}
 use Rattle.meaning.specs.Allowed.{wordByte, nameByte}
-use Rattle.meaning.specs.Tokens.{Mode, outside, inside, naming, Token, functionName, word, Placed, Lexed, lexed, ahead, Gap, between, opening, commented, starred, gapAfter, Skipped, found, skipOn, skip, Run, run, wordAt, Quoting, plain, Turn, goesOn, closes, breaks, turn, Quotation, quoteOn, quotation, quotedAt, bracketAt, tokenAt, tokenPast, lex, modeAfter, isLast, tokensFrom}
+use Rattle.meaning.specs.Tokens.{Mode, outside, inside, naming, Token, functionName, word, Placed, Lexed, lexed, ahead, Gap, between, opening, commented, starred, gapAfter, Skipped, found, skipOn, skip, Run, run, wordAt, Quoting, plain, Turn, goesOn, closes, breaks, turn, Quotation, quoteOn, quotation, quotedAt, bracketAt, tokenAt, tokenPast, lex, modeAfter, isLastToken, tokensFrom}
 use Rattle.meaning.proofs.laws.Choosing.{no-cons}
 use Rattle.meaning_accepting.proofs.reading.Lexing.{run-within, quotation-within, token-within, skip-eats, skip-beyond, lex-eats}
 
@@ -183,13 +183,13 @@ later-token false later used t others e = (refl, e)
 -- a token that is not the first one stands among those after the first
 pub tokens-later : (b : ℕ) (mode : Mode) (at : ℕ) (xs : Bytes) {u : Placed} (used : List Placed) (t : Placed) (others : List Placed)
     → tokensFrom (suc b) mode at xs ≡ u ∷ (used ++ t ∷ others)
-    → (isLast (lex mode at xs .first .token) ≡ false)
+    → (isLastToken (lex mode at xs .first .token) ≡ false)
     × (tokensFrom b (modeAfter mode (lex mode at xs .first .token)) (lex mode at xs .first .past) (lex mode at xs .rest) ≡ used ++ t ∷ others)
 unfolding tokensFrom
 tokens-later b mode at xs used t others e =
     let x = lex mode at xs in
-    let rest : pick (isLast (x .first .token)) [] (tokensFrom b (modeAfter mode (x .first .token)) (x .first .past) (x .rest)) ≡ used ++ t ∷ others = cc in
-    later-token (isLast (x .first .token)) (tokensFrom b (modeAfter mode (x .first .token)) (x .first .past) (x .rest)) used t others rest
+    let rest : pick (isLastToken (x .first .token)) [] (tokensFrom b (modeAfter mode (x .first .token)) (x .first .past) (x .rest)) ≡ used ++ t ∷ others = cc in
+    later-token (isLastToken (x .first .token)) (tokensFrom b (modeAfter mode (x .first .token)) (x .first .past) (x .rest)) used t others rest
 
 -- tokens end no earlier than the place that lexing begins at
 tokens-forward : (b : ℕ) (mode : Mode) (at : ℕ) (xs : Bytes) (used : List Placed) (t : Placed) (others : List Placed)
@@ -204,9 +204,9 @@ tokens-forward (suc b) mode at xs (u ∷ used) t others e =
     let later = tokens-later b mode at xs used t others e .1 in
     omega (arith, lex-eats mode at xs .forward, tokens-forward b (modeAfter mode (x .first .token)) (x .first .past) (x .rest) used t others later)
 
-one-before : (mode : Mode) (c : ℕ) (rest : Bytes) (x y u : Placed) (tail : List Placed) → x ≡ y → x ≡ u → isLast (x .token) ≡ false
+one-before : (mode : Mode) (c : ℕ) (rest : Bytes) (x y u : Placed) (tail : List Placed) → x ≡ y → x ≡ u → isLastToken (x .token) ≡ false
     → tokensFrom c (modeAfter mode (x .token)) (x .past) rest ≡ tail
-    → y ∷ pick (isLast (y .token)) [] (tokensFrom c (modeAfter mode (y .token)) (y .past) rest) ≡ u ∷ tail
+    → y ∷ pick (isLastToken (y .token)) [] (tokensFrom c (modeAfter mode (y .token)) (y .past) rest) ≡ u ∷ tail
 one-before mode c rest x y u tail p o q r = rw (← p, q, r) (ap (λ z. z ∷ tail) o)
 
 -- a text that agrees with another up to one byte past a token has that token too, after the same ones
@@ -221,8 +221,8 @@ tokens-local (suc b) (suc c) mode at xs ys [] t others e d l =
     let y = lex mode at ys in
     let one : x .first ≡ t = cc in
     let s = lex-local mode (suc (t .past)) at xs ys d (rw one (omega arith)) in (
-      pick (isLast (y .first .token)) [] (tokensFrom c (modeAfter mode (y .first .token)) (y .first .past) (y .rest)),
-      ap (λ z. z ∷ pick (isLast (y .first .token)) [] (tokensFrom c (modeAfter mode (y .first .token)) (y .first .past) (y .rest))) (sym (s .first) ∙ one),
+      pick (isLastToken (y .first .token)) [] (tokensFrom c (modeAfter mode (y .first .token)) (y .first .past) (y .rest)),
+      ap (λ z. z ∷ pick (isLastToken (y .first .token)) [] (tokensFrom c (modeAfter mode (y .first .token)) (y .first .past) (y .rest))) (sym (s .first) ∙ one),
     )
 tokens-local (suc b) (suc c) mode at xs ys (u ∷ used) t others e d l =
     let x = lex mode at xs in
@@ -230,7 +230,7 @@ tokens-local (suc b) (suc c) mode at xs ys (u ∷ used) t others e d l =
     let forward = tokens-forward b (modeAfter mode (x .first .token)) (x .first .past) (x .rest) used t others (later .1) in
     let s = lex-local mode (suc (t .past)) at xs ys d (omega arith) in
     let y = lex mode at ys in
-    let passed : isLast (y .first .token) ≡ false = rw (← (s .first)) (later .0) in
+    let passed : isLastToken (y .first .token) ≡ false = rw (← (s .first)) (later .0) in
     let r =
     tokens-local b c (modeAfter mode (x .first .token)) (x .first .past) (x .rest) (y .rest) used t others (later .1) (s .rest)
     (omega (arith, lex-eats mode at ys .eaten passed))

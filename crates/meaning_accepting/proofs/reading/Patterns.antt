@@ -10,7 +10,7 @@ use Rattle.meaning.specs.Tree.{Element, letter, part}
 use Rattle.meaning.specs.Allowed.{partsOf, parted}
 use Rattle.meaning.specs.Tokens.{Token, Placed}
 use Rattle.meaning.specs.Grammar.{standing, symbolWord, partWord, charactersOf, IsLetters, stringLetters, variableLetter, IsTemplate, lettersAlone, lettersThen, IsTemplateOrNone, noTemplate, someTemplate, IsPattern, noPart, onePart, twoParts}
-use Rattle.meaning.specs.Reading.{parsed, check, Item, noItem, itemOf, isItem, elementsOf, patternFault, pattern}
+use Rattle.meaning.specs.Reading.{parsed, whereFaultless, Item, noItem, itemOf, isItem, elementsOf, patternFault, parsePattern}
 use Rattle.meaning.proofs.laws.Choosing.{no-cons}
 use Rattle.meaning_accepting.proofs.reading.Basics.{impossible, never-both, check-parsed, TokenView, aString, aSymbol, aPart, another, view}
 use Rattle.meaning_accepting.proofs.reading.Sound.{soundTokens, sound-first, sound-rest, item-sound}
@@ -37,9 +37,9 @@ pub record PatternRead (before : List Element) (ts : List Placed) (p : List Elem
 module _ (before : List Element) (t : Placed) (ts : List Placed) {p : List Element} {rest : List Placed} where
   pattern-step : (b : Bool) → isItem (itemOf (t .token)) ≡ b → PatternFacts before → soundTokens (t ∷ ts) ≡ true
       → (PatternFacts (before ++ elementsOf (itemOf (t .token))) → soundTokens ts ≡ true
-      → pattern (before ++ elementsOf (itemOf (t .token))) ts ≡ parsed p rest
+      → parsePattern (before ++ elementsOf (itemOf (t .token))) ts ≡ parsed p rest
       → PatternRead (before ++ elementsOf (itemOf (t .token))) ts p rest)
-      → pick b (check (patternFault before (itemOf (t .token))) t (pattern (before ++ elementsOf (itemOf (t .token))) ts)) (parsed before (t ∷ ts))
+      → pick b (whereFaultless (patternFault before (itemOf (t .token))) t (parsePattern (before ++ elementsOf (itemOf (t .token))) ts)) (parsed before (t ∷ ts))
       ≡ parsed p rest
       → PatternRead before (t ∷ ts) p rest
   pattern-step true i f s later e =
@@ -65,8 +65,8 @@ module _ (before : List Element) (t : Placed) (ts : List Placed) {p : List Eleme
       }
 
 pub pattern-sound : (before : List Element) (ts : List Placed) {p : List Element} {rest : List Placed}
-    → PatternFacts before → soundTokens ts ≡ true → pattern before ts ≡ parsed p rest → PatternRead before ts p rest
-unfolding pattern
+    → PatternFacts before → soundTokens ts ≡ true → parsePattern before ts ≡ parsed p rest → PatternRead before ts p rest
+unfolding parsePattern
 pattern-sound before [] {p} {rest} f s e = never-both 0 0 p rest e
 pattern-sound before (t ∷ ts) f s e =
     pattern-step before t ts (isItem (itemOf (t .token))) refl f s (pattern-sound (before ++ elementsOf (itemOf (t .token))) ts) e
@@ -74,8 +74,8 @@ pattern-sound before (t ∷ ts) f s e =
 -- the reader passes the items, up to a token that is none
 pub pattern-complete : (before : List Element) {ts rest : List Placed} {q : List Element}
     → IsItems ts q rest → (h : Placed) (more : List Placed) → rest ≡ h ∷ more → isItem (itemOf (h .token)) ≡ false
-    → PatternFacts (before ++ q) → pattern before ts ≡ parsed (before ++ q) rest
-unfolding pattern
+    → PatternFacts (before ++ q) → parsePattern before ts ≡ parsed (before ++ q) rest
+unfolding parsePattern
 pattern-complete before (noMore {ts = ts}) h more e n f = rw (e, append-nil before, n)
 pattern-complete before (itemThen {t = t} {ts = ts} {q = q} i d) h more e n f =
     let item = itemOf (t .token) in

@@ -12,7 +12,7 @@ use Rattle.meaning.specs.Tree.{character, symbol, Element, letter, part, Condit
 use Rattle.meaning.specs.Allowed.{spelledElement, spelledIdentifier, member, added, symbolsOf, symbolsFrom, partsOf, lettersIn, parted, distinct, itemsIn, nesting, spelledItems, comingAfterAll, maxItems, maxNesting, maxConditions, allowedPattern, allOfPattern, allowedConditions, allowedExpression, allowedSentence}
 use Rattle.meaning.specs.Tokens.{sign, Placed}
 use Rattle.meaning.specs.Grammar.{standing, IsPattern, IsConditions, noConditions, conditionThen, IsSentence, isSentence}
-use Rattle.meaning.specs.Reading.{Parsed, parsed, follow, pass, itemOf, isItem, begins, Progress, Items, pattern, conditions, expression, sentence}
+use Rattle.meaning.specs.Reading.{Parsed, parsed, follow, pass, itemOf, isItem, begins, Progress, Items, parsePattern, parseConditions, parseExpression, parseSentence}
 use Rattle.meaning.proofs.laws.Choosing.{given-some}
 use Rattle.meaning_accepting.proofs.reading.Basics.{both-left, both-right, both-true, Followed, follow-parsed, Passed, pass-parsed}
 use Rattle.meaning_accepting.proofs.reading.Lists.{every-append}
@@ -98,22 +98,22 @@ abbrev pub afterExpression : List Element → List Condition → Items → List 
 afterExpression p cs e rest = parsed (record { pattern = p; conditions = cs; expression = e .expression }) rest
 
 abbrev pub afterEquals : List Element → List Condition → List Placed → Parsed Sentence
-afterEquals p cs ts = follow (expression (length ts) (symbolsOf p) 0 (start (partsOf p)) ts) (afterExpression p cs)
+afterEquals p cs ts = follow (parseExpression (length ts) (symbolsOf p) 0 (start (partsOf p)) ts) (afterExpression p cs)
 
 abbrev pub afterConditions : List Element → List Condition → List Placed → Parsed Sentence
 afterConditions p cs ts = pass 61 ts (afterEquals p cs)
 
 abbrev pub afterPattern : List Element → List Placed → Parsed Sentence
-afterPattern p ts = follow (conditions maxConditions (symbolsOf p) (partsOf p) ts) (afterConditions p)
+afterPattern p ts = follow (parseConditions maxConditions (symbolsOf p) (partsOf p) ts) (afterConditions p)
 
 module _ {ts : List Placed} {s : Sentence} {rest : List Placed} where
-  sentence-whole : (p : Followed (List Element) Sentence (pattern [] ts) afterPattern s rest)
+  sentence-whole : (p : Followed (List Element) Sentence (parsePattern [] ts) afterPattern s rest)
       → PatternRead [] ts (p .value) (p .between)
-      → (q : Followed (List Condition) Sentence (conditions maxConditions (symbolsOf (p .value)) (partsOf (p .value)) (p .between))
+      → (q : Followed (List Condition) Sentence (parseConditions maxConditions (symbolsOf (p .value)) (partsOf (p .value)) (p .between))
       (afterConditions (p .value)) s rest)
       → ConditionsRead maxConditions (symbolsOf (p .value)) (partsOf (p .value)) (p .between) (q .value) (q .between)
       → (r : Passed Sentence 61 (q .between) (afterEquals (p .value) (q .value)) s rest)
-      → (e : Followed Items Sentence (expression (length (r .tail)) (symbolsOf (p .value)) 0 (start (partsOf (p .value))) (r .tail))
+      → (e : Followed Items Sentence (parseExpression (length (r .tail)) (symbolsOf (p .value)) 0 (start (partsOf (p .value))) (r .tail))
       (afterExpression (p .value) (q .value)) s rest)
       → ExpressionRead (symbolsOf (p .value)) 0 (start (partsOf (p .value))) (r .tail) (e .value) (e .between)
       → SentenceRead ts s rest
@@ -121,9 +121,9 @@ module _ {ts : List Placed} {s : Sentence} {rest : List Placed} where
       let end = e .after in
       let left : e .between ≡ rest = cc in
       let made : record { pattern = p .value; conditions = q .value; expression = e .value .expression } ≡ s = cc in
-      let pattern = subst (λ z. IsPattern ts z (p .between)) (sym (d₁ .whole)) (items-pattern (rw (d₁ .whole) at (d₁ .facts)) (d₁ .items)) in
+      let parsePattern = subst (λ z. IsPattern ts z (p .between)) (sym (d₁ .whole)) (items-pattern (rw (d₁ .whole) at (d₁ .facts)) (d₁ .items)) in
       record {
-        derived = rw (← made, ← left) (isSentence pattern (rw (r .shape) at (d₂ .derived)) (d₃ .derived));
+        derived = rw (← made, ← left) (isSentence parsePattern (rw (r .shape) at (d₂ .derived)) (d₃ .derived));
         allowed =
             rw (← made)
             (both-true (facts-pattern (p .value) (d₁ .facts))
@@ -133,17 +133,17 @@ module _ {ts : List Placed} {s : Sentence} {rest : List Placed} where
       }
 
 -- what the sentence's reader reads is an allowed sentence of the grammar
-pub sentence-sound : (ts : List Placed) {s : Sentence} {rest : List Placed} → soundTokens ts ≡ true → sentence ts ≡ parsed s rest → SentenceRead ts s rest
-unfolding sentence
+pub sentence-sound : (ts : List Placed) {s : Sentence} {rest : List Placed} → soundTokens ts ≡ true → parseSentence ts ≡ parsed s rest → SentenceRead ts s rest
+unfolding parseSentence
 sentence-sound ts t read =
-    let p = follow-parsed (pattern [] ts) afterPattern read in
+    let p = follow-parsed (parsePattern [] ts) afterPattern read in
     let d₁ = pattern-sound [] ts empty-facts t (p .before) in
     let symbols = symbolsOf (p .value) in
     let parts = start (partsOf (p .value)) in
-    let q = follow-parsed (conditions maxConditions symbols (partsOf (p .value)) (p .between)) (afterConditions (p .value)) (p .after) in
+    let q = follow-parsed (parseConditions maxConditions symbols (partsOf (p .value)) (p .between)) (afterConditions (p .value)) (p .after) in
     let d₂ = conditions-sound maxConditions symbols (partsOf (p .value)) (p .between) (d₁ .sound) (q .before) in
     let r = pass-parsed 61 (q .between) (afterEquals (p .value) (q .value)) (q .after) in
-    let e = follow-parsed (expression (length (r .tail)) symbols 0 parts (r .tail)) (afterExpression (p .value) (q .value)) (r .after) in
+    let e = follow-parsed (parseExpression (length (r .tail)) symbols 0 parts (r .tail)) (afterExpression (p .value) (q .value)) (r .after) in
     sentence-whole p d₁ q d₂ r e
     (expression-sound (length (r .tail)) symbols 0 parts (r .tail) (e .value) (e .between) (omega arith) (omega arith)
     (sound-rest (standing (sign 61) (r .place) (r .past)) (r .tail) (rw (r .shape) at (d₂ .sound))) (e .before))
@@ -165,8 +165,8 @@ conditions-first : {ts rest : List Placed} {cs : List Condition} → IsCondition
 conditions-first noConditions h = h
 conditions-first (conditionThen {ts = ts} {place = place} {past = past} d ds) h = sign-first 44 place past ts refl
 
-pub sentence-complete : {ts rest : List Placed} {s : Sentence} → IsSentence ts s rest → Ends rest → allowedSentence s ≡ true → sentence ts ≡ parsed s rest
-unfolding sentence every
+pub sentence-complete : {ts rest : List Placed} {s : Sentence} → IsSentence ts s rest → Ends rest → allowedSentence s ≡ true → parseSentence ts ≡ parsed s rest
+unfolding parseSentence every
 sentence-complete (isSentence {ts = ts} {ts₂ = ts₂} {place = place} {past = past} {p = p} {cs = cs} {e = e} d₁ d₂ d₃) h a =
     let f = pattern-facts p (both-left (allowedPattern p) _ a) in
     let a₁ = both-right (allowedPattern p) _ a in

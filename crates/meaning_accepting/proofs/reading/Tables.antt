@@ -12,7 +12,7 @@ use Rattle.meaning.specs.Names.{isReserved}
 use Rattle.meaning.specs.Allowed.{allowedSentence, allowedFunction, someSentence, sentencesIn, namesOf, distinct, member, spelledName, maxName}
 use Rattle.meaning.specs.Tokens.{Token, functionName, word, quoted, sign, textEnd, malformed, Placed}
 use Rattle.meaning.specs.Grammar.{standing, IsSentences, lastSentence, lastSentenceParted, sentenceThen, IsFunction, isFunction, IsProgram, noFunctions, functionThen, functionPartedThen}
-use Rattle.meaning.specs.Reading.{Parsed, stopped, parsed, follow, pass, isSign, isTextEnd, sentences, passSpare, declaredFault, function, atFunction, functions}
+use Rattle.meaning.specs.Reading.{Parsed, stopped, parsed, follow, pass, isSign, isTextEnd, parseSentences, passSpare, declaredFault, parseFunction, atFunction, parseFunctions}
 use Rattle.meaning_accepting.proofs.reading.Basics.{both-left, both-right, both-true, impossible, never-both, passed, Followed, follow-parsed, Passed, pass-parsed, NamePassed, name-parsed, sign-of, standing-as}
 use Rattle.meaning_accepting.proofs.reading.Lists.{distinct-after, distinct-first}
 use Rattle.meaning_accepting.proofs.reading.Sound.{soundTokens, sound-first, sound-rest, sound-end, nameSpelling, name-spelled, spelled-name-short}
@@ -38,7 +38,7 @@ abbrev pub declared : Name → List Sentence → List Placed → Parsed Function
 declared n ss rest = parsed (record { name = n; sentences = ss }) rest
 
 abbrev pub afterBrace : ℕ → Name → List Placed → Parsed Function
-afterBrace left n ts = follow (sentences left ts) (declared n)
+afterBrace left n ts = follow (parseSentences left ts) (declared n)
 
 abbrev pub afterName : ℕ → ℕ → Name → List Placed → Parsed Function
 afterName left place n ts = pass 123 ts (afterBrace left n)
@@ -47,7 +47,7 @@ module _ (fault : Name → ℕ) (left : ℕ) {ts : List Placed} {f : Function} {
   function-whole : soundTokens ts ≡ true
       → (p : NamePassed Function fault ts (afterName left) f rest)
       → (q : Passed Function 123 (p .tail) (afterBrace left (p .name)) f rest)
-      → (r : Followed (List Sentence) Function (sentences left (q .tail)) (declared (p .name)) f rest)
+      → (r : Followed (List Sentence) Function (parseSentences left (q .tail)) (declared (p .name)) f rest)
       → SentencesRead left (q .tail) (r .value) (r .between)
       → FunctionRead fault left ts f rest
   function-whole k p q r d =
@@ -66,11 +66,11 @@ module _ (fault : Name → ℕ) (left : ℕ) {ts : List Placed} {f : Function} {
       }
 
 pub function-sound : (fault : Name → ℕ) (left : ℕ) (ts : List Placed) {f : Function} {rest : List Placed}
-    → soundTokens ts ≡ true → function fault left ts ≡ parsed f rest → FunctionRead fault left ts f rest
+    → soundTokens ts ≡ true → parseFunction fault left ts ≡ parsed f rest → FunctionRead fault left ts f rest
 function-sound fault left ts k e =
     let p = name-parsed fault ts (afterName left) e in
     let q = pass-parsed 123 (p .tail) (afterBrace left (p .name)) (p .after) in
-    let r = follow-parsed (sentences left (q .tail)) (declared (p .name)) (q .after) in
+    let r = follow-parsed (parseSentences left (q .tail)) (declared (p .name)) (q .after) in
     let sound =
     sound-rest (standing (sign 123) (q .place) (q .past)) (q .tail)
     (rw (q .shape) at (sound-rest (standing (functionName (p .name)) (p .place) (p .past)) (p .tail) (rw (p .shape) at k)))
@@ -79,7 +79,7 @@ function-sound fault left ts k e =
 
 pub function-complete : (fault : Name → ℕ) (left : ℕ) {ts rest : List Placed} {f : Function} → IsFunction ts f rest
     → fault (f .name) ≡ 0 → every allowedSentence (f .sentences) ≡ true → length (f .sentences) ≤ left
-    → function fault left ts ≡ parsed f rest
+    → parseFunction fault left ts ≡ parsed f rest
 function-complete fault left (isFunction d) z a l = rw (z, sentences-complete left d a l)
 
 -- THE FUNCTIONS
@@ -179,7 +179,7 @@ abbrev pub afterFunction : Rest → ℕ → Table → Function → List Placed �
 afterFunction next sentencesLeft before f rest = next (sentencesLeft - length (f .sentences)) (before ++ f ∷ []) (passSpare rest)
 
 module _ (left sentencesLeft : ℕ) (before : Table) {ts : List Placed} {table : Table} {rest : List Placed} (next : Rest) where
-  one-more : (p : Followed Function Table (function (declaredFault before) sentencesLeft ts) (afterFunction next sentencesLeft before) table rest)
+  one-more : (p : Followed Function Table (parseFunction (declaredFault before) sentencesLeft ts) (afterFunction next sentencesLeft before) table rest)
       → FunctionRead (declaredFault before) sentencesLeft ts (p .value) (p .between)
       → FunctionsRead left (sentencesLeft - length (p .value .sentences)) (before ++ p .value ∷ []) (passSpare (p .between)) table
       → FunctionsRead (suc left) sentencesLeft before ts table
@@ -211,23 +211,23 @@ functions-step left sentencesLeft before t ts false later p k d go e = go e
 
 -- what the functions' reader reads is a program of the grammar within the limits and with different names
 pub functions-sound : (left sentencesLeft : ℕ) (before : Table) (ts : List Placed) (table : Table) (rest : List Placed)
-    → soundTokens ts ≡ true → distinct (namesOf before) ≡ true → functions left sentencesLeft before ts ≡ parsed table rest
+    → soundTokens ts ≡ true → distinct (namesOf before) ≡ true → parseFunctions left sentencesLeft before ts ≡ parsed table rest
     → FunctionsRead left sentencesLeft before ts table
-unfolding functions
+unfolding parseFunctions
 functions-sound zero sentencesLeft before [] table rest k d e = never-both 0 0 table rest e
 functions-sound zero sentencesLeft before (t ∷ ts) table rest k d e =
     functions-step zero sentencesLeft before t ts (isTextEnd (t .token))
-    (follow (function (λ n. 4) sentencesLeft (t ∷ ts)) (λ f more. stopped 0 0)) refl k d
-    (λ g. never-both 0 0 table rest (follow-parsed (function (λ n. 4) sentencesLeft (t ∷ ts)) (λ f more. stopped 0 0) g .after))
+    (follow (parseFunction (λ n. 4) sentencesLeft (t ∷ ts)) (λ f more. stopped 0 0)) refl k d
+    (λ g. never-both 0 0 table rest (follow-parsed (parseFunction (λ n. 4) sentencesLeft (t ∷ ts)) (λ f more. stopped 0 0) g .after))
     e
 functions-sound (suc left) sentencesLeft before [] table rest k d e = never-both 0 0 table rest e
 functions-sound (suc left) sentencesLeft before (t ∷ ts) table rest k d e =
     functions-step (suc left) sentencesLeft before t ts (isTextEnd (t .token))
-    (follow (function (declaredFault before) sentencesLeft (t ∷ ts)) (afterFunction (functions left) sentencesLeft before)) refl k d
+    (follow (parseFunction (declaredFault before) sentencesLeft (t ∷ ts)) (afterFunction (parseFunctions left) sentencesLeft before)) refl k d
     (λ g.
-    let p = follow-parsed (function (declaredFault before) sentencesLeft (t ∷ ts)) (afterFunction (functions left) sentencesLeft before) g in
+    let p = follow-parsed (parseFunction (declaredFault before) sentencesLeft (t ∷ ts)) (afterFunction (parseFunctions left) sentencesLeft before) g in
     let r = function-sound (declaredFault before) sentencesLeft (t ∷ ts) k (p .before) in
-    one-more left sentencesLeft before (functions left) p r
+    one-more left sentencesLeft before (parseFunctions left) p r
     (functions-sound left (sentencesLeft - length (p .value .sentences)) (before ++ p .value ∷ []) (passSpare (p .between)) table rest
     (passed-spare-sound (p .between) (r .sound)) (name-different before (p .value) d (r .faultless)) (p .after)))
     e
@@ -276,11 +276,11 @@ led left sentencesLeft before f fs a d l s =
 
 -- the first function is read
 first-read : (left : ℕ) {sentencesLeft : ℕ} {before : Table} {ts rest : List Placed} {f : Function} {fs : Table} → IsFunction ts f rest
-    → Led left sentencesLeft before f fs → functions (suc left) sentencesLeft before ts ≡ afterFunction (functions left) sentencesLeft before f rest
-unfolding functions
+    → Led left sentencesLeft before f fs → parseFunctions (suc left) sentencesLeft before ts ≡ afterFunction (parseFunctions left) sentencesLeft before f rest
+unfolding parseFunctions
 first-read left {sentencesLeft} {before} d o =
     rw (
-      at-function d before (follow (function (declaredFault before) sentencesLeft _) (afterFunction (functions left) sentencesLeft before)),
+      at-function d before (follow (parseFunction (declaredFault before) sentencesLeft _) (afterFunction (parseFunctions left) sentencesLeft before)),
       function-complete (declaredFault before) sentencesLeft d (o .faultless) (o .own) (o .room),
     )
 
@@ -288,7 +288,7 @@ first-read left {sentencesLeft} {before} d o =
 abbrev ReadOn : ℕ → ℕ → Table → List Placed → Table → Type 0
 ReadOn left sentencesLeft before ts fs =
     every allowedFunction fs ≡ true → distinct (namesOf (before ++ fs)) ≡ true → length fs ≤ left → sentencesIn fs ≤ sentencesLeft
-    → functions left sentencesLeft before ts ≡ parsed (before ++ fs) []
+    → parseFunctions left sentencesLeft before ts ≡ parsed (before ++ fs) []
 
 one-complete : (left sentencesLeft : ℕ) (before : Table) {ts between rest : List Placed} {f : Function} {fs : Table} → IsFunction ts f between
     → passSpare between ≡ rest → ((m : ℕ) (b : Table) → ReadOn left m b rest fs) → ReadOn (suc left) sentencesLeft before ts (f ∷ fs)
@@ -301,8 +301,8 @@ one-complete left sentencesLeft before {f = f} {fs = fs} d spare later a e l s =
 -- a program of the grammar within the limits and with different names is read
 pub functions-complete : (left sentencesLeft : ℕ) (before : Table) {ts : List Placed} {fs : Table} → IsProgram ts fs
     → every allowedFunction fs ≡ true → distinct (namesOf (before ++ fs)) ≡ true → length fs ≤ left → sentencesIn fs ≤ sentencesLeft
-    → functions left sentencesLeft before ts ≡ parsed (before ++ fs) []
-unfolding functions
+    → parseFunctions left sentencesLeft before ts ≡ parsed (before ++ fs) []
+unfolding parseFunctions
 functions-complete zero sentencesLeft before noFunctions a d l s = rw (append-nil before)
 functions-complete (suc left) sentencesLeft before noFunctions a d l s = rw (append-nil before)
 functions-complete zero sentencesLeft before (functionThen f p) a d l s = absurd (omega arith)

@@ -8,7 +8,7 @@ use lib.Dec.{ltb, eqb}
 use Rattle.meaning.specs.Choice.{Bytes, pick, both, either, every}
 use Rattle.meaning.specs.Classes.{inClass, digit, alphabetic}
 use Rattle.meaning.specs.Allowed.{isByte, wordByte, nameByte}
-use Rattle.meaning.specs.Tokens.{Mode, outside, inside, naming, Token, functionName, word, quoted, sign, textEnd, malformed, Placed, Lexed, ahead, Gap, between, opening, commented, starred, gapAfter, Skipped, found, unclosed, skippedEnd, skipOn, skip, Run, run, nameToken, wordToken, wordAt, Quoting, plain, escaped, coded, Turn, goesOn, closes, breaks, plainTurn, codeTurn, escapedTurn, digitValue, turn, Quotation, closed, broken, quoteOn, quotation, quotedAt, bracketAt, tokenAt, tokenPast, lex, modeAfter, isLast, tokensFrom}
+use Rattle.meaning.specs.Tokens.{Mode, outside, inside, naming, Token, functionName, word, quoted, sign, textEnd, malformed, Placed, Lexed, ahead, Gap, between, opening, commented, starred, gapAfter, Skipped, found, unclosed, skippedEnd, skipOn, skip, Run, run, nameToken, wordToken, wordAt, Quoting, plain, escaped, coded, Turn, goesOn, closes, breaks, plainTurn, codeTurn, escapedTurn, digitValue, turn, Quotation, closed, broken, quoteOn, quotation, quotedAt, bracketAt, tokenAt, tokenPast, lex, modeAfter, isLastToken, tokensFrom}
 use Rattle.meaning.proofs.laws.Choosing.{of-either}
 use Rattle.meaning_accepting.proofs.reading.Basics.{both-left, both-right, both-true}
 use Rattle.meaning_accepting.proofs.reading.Lists.{every-append}
@@ -212,7 +212,7 @@ pub lex-sound : (mode : Mode) (at : ℕ) (bytes : Bytes) → every isByte bytes 
 unfolding lex
 lex-sound mode at bytes s = token-past-sound mode (skip between at bytes) (skip-sound between at bytes s)
 
-nothing-after : (token : Token) (later : List Placed) → endsText token (pick (isLast token) [] later) ≡ true
+nothing-after : (token : Token) (later : List Placed) → endsText token (pick (isLastToken token) [] later) ≡ true
 nothing-after (functionName n) later = refl
 nothing-after (word w) later = refl
 nothing-after (quoted text) later = refl
@@ -229,6 +229,6 @@ tokens-sound (suc bound) mode at bytes s =
     let later = tokensFrom bound (modeAfter mode (l .first .token)) (l .first .past) (l .rest) in
     both-true
     (both-true (both-left (soundToken (l .first .token)) (every isByte (l .rest)) k) (nothing-after (l .first .token) later))
-    (pick-sound soundTokens (isLast (l .first .token)) [] later refl
+    (pick-sound soundTokens (isLastToken (l .first .token)) [] later refl
     (tokens-sound bound (modeAfter mode (l .first .token)) (l .first .past) (l .rest)
     (both-right (soundToken (l .first .token)) (every isByte (l .rest)) k)))

@@ -8,7 +8,7 @@ use Rattle.meaning.specs.Classes.{inClass, alphabetic}
 use Rattle.meaning.specs.Tree.{Expression, end, thenCharacter, thenSymbol, thenPart, thenCall, unplaced}
 use Rattle.meaning.specs.Allowed.{isByte, wordByte, spelledName, spelledIdentifier}
 use Rattle.meaning.specs.Tokens.{inside, naming, word, Placed}
-use Rattle.meaning.specs.Grammar.{standing, written, IsExpression, noItems, stringThen, symbolThen, partThen, callThen}
+use Rattle.meaning.specs.Grammar.{standing, thenCharacters, IsExpression, noItems, stringThen, symbolThen, partThen, callThen}
 use Rattle.meaning.specs.Listing.{Quoted, unquoted, closeQuote, quotedCharacter, afterCharacter, expressionText}
 use Rattle.meaning_accepting.proofs.reading.Basics.{both-left, both-right, both-true, impossible}
 use Rattle.meaning_accepting.proofs.roundtrip.Remaining.{remaining}
@@ -33,8 +33,8 @@ pastLeading (thenSymbol x e) = thenSymbol x e
 pastLeading (thenPart x e) = thenPart x e
 pastLeading (thenCall place n a e) = thenCall place n a e
 
-leading-split : (e : Expression) → written (leading e) (pastLeading e) ≡ e
-unfolding leading pastLeading written
+leading-split : (e : Expression) → thenCharacters (leading e) (pastLeading e) ≡ e
+unfolding leading pastLeading thenCharacters
 leading-split end = refl
 leading-split (thenCharacter c e) = ap (thenCharacter c) (leading-split e)
 leading-split (thenSymbol x e) = refl
@@ -67,8 +67,8 @@ expression-parted (thenSymbol x e) rest parted = refl
 expression-parted (thenPart x e) rest parted = refl
 expression-parted (thenCall place n a e) rest parted = refl
 
-unplaced-written : (text : Bytes) (e : Expression) → unplaced (written text e) ≡ written text (unplaced e)
-unfolding unplaced written
+unplaced-written : (text : Bytes) (e : Expression) → unplaced (thenCharacters text e) ≡ thenCharacters text (unplaced e)
+unfolding unplaced thenCharacters
 unplaced-written [] e = refl
 unplaced-written (c ∷ text) e = ap (thenCharacter c) (unplaced-written text e)
 
@@ -92,10 +92,10 @@ string-lists c e byte spelled later rest parted at =
     rw (leading-text unquoted (thenCharacter c e), append-assoc (joined unquoted (c ∷ leading e)) (expressionText unquoted (pastLeading e)) rest)
     record {
       past = l .past;
-      tree = written (c ∷ leading e) (l .tree);
+      tree = thenCharacters (c ∷ leading e) (l .tree);
       same =
           unplaced-written (c ∷ leading e) (l .tree)
-          ∙ (ap (written (c ∷ leading e)) (l .same)
+          ∙ (ap (thenCharacters (c ∷ leading e)) (l .same)
           ∙ (sym (unplaced-written (c ∷ leading e) (pastLeading e)) ∙ ap unplaced (leading-split (thenCharacter c e))));
       derived = rw (b .tokens) (stringThen (l .derived));
     }

@@ -8,7 +8,7 @@ use Rattle.meaning.specs.Choice.{Bytes, every}
 use Rattle.meaning.specs.Tree.{character, symbol, Element, letter, part, Expression, end, thenCharacter, thenSymbol, thenPart, thenCall, unplaced}
 use Rattle.meaning.specs.Allowed.{isByte, spelledElement, spelledIdentifier, nesting, allowedPattern}
 use Rattle.meaning.specs.Tokens.{inside, Placed}
-use Rattle.meaning.specs.Grammar.{charactersOf, written, IsPattern}
+use Rattle.meaning.specs.Grammar.{charactersOf, thenCharacters, IsPattern}
 use Rattle.meaning.specs.Listing.{Quoted, unquoted, closeQuote, quotedCharacter, afterCharacter, symbolText, partText, patternText, expressionText}
 use Rattle.meaning.specs.Reading.{Item, characters, symbolItem, partItem, noItem, itemOf, elementsOf, thenItem}
 use Rattle.meaning_accepting.proofs.reading.Basics.{both-left, both-right, both-true}
@@ -65,8 +65,8 @@ elements-unplaced (thenSymbol x e) = ap (λ z. letter (symbol x) ∷ z) (element
 elements-unplaced (thenPart x e) = ap (λ z. part x ∷ z) (elements-unplaced e)
 elements-unplaced (thenCall place n a e) = refl
 
-elements-written : (text : Bytes) (e : Expression) → elementsIn (written text e) ≡ charactersOf text ++ elementsIn e
-unfolding elementsIn written
+elements-written : (text : Bytes) (e : Expression) → elementsIn (thenCharacters text e) ≡ charactersOf text ++ elementsIn e
+unfolding elementsIn thenCharacters
 elements-written [] e = refl
 elements-written (c ∷ text) e = ap (λ z. letter (character c) ∷ z) (elements-written text e)
 

@@ -10,7 +10,7 @@ use Rattle.meaning.specs.Names.{isPredicate, numberFrom, numberOf, recoverPrefi
 use Rattle.meaning.specs.Allowed.{isByte, member, spelledName, symbolsOf, partsOf, itemsIn, nesting, spelledItems, comingAfter, whereSome, comingAfterAll, allowedSentence, someSentence, allowedFunction, sentencesIn, callsKnown, namesOf, allowed}
 use Rattle.meaning.specs.Listing.{Quoted, unquoted, closeQuote, quotedCharacter, afterCharacter, symbolText, partText, expressionText, sentencesText, listing}
 use Rattle.meaning.specs.Instructions.{Site, Action, go, select, out}
-use Rattle.meaning.specs.Translation.{Shape, Stand, Level, outermost, inside, inTail, isEnd, isLast, mannerOf, levelIn, leftFor, whereLeft, calling, items, atStart, passage, passesRest, shapeOf, testedShape, translatedSentences, translatedFunction, translate}
+use Rattle.meaning.specs.Translation.{Shape, Stand, Level, outermost, inArgument, inTail, isEnd, inTailPosition, mannerOf, levelIn, leftFor, whereLeft, calling, itemActions, atStart, passage, passesRest, shapeOf, testedShape, translatedSentences, translatedFunction, translate}
 
 -- THE LISTING
 
@@ -134,20 +134,20 @@ end-unplaced (thenSymbol x e) = refl
 end-unplaced (thenPart x e) = refl
 end-unplaced (thenCall place n a e) = refl
 
-last-unplaced : (level : Level) (e : Expression) → isLast level (unplaced e) ≡ isLast level e
+last-unplaced : (level : Level) (e : Expression) → inTailPosition level (unplaced e) ≡ inTailPosition level e
 last-unplaced outermost e = end-unplaced e
-last-unplaced inside e = refl
+last-unplaced inArgument e = refl
 last-unplaced (inTail f) e = refl
 
 left-unplaced : (shape : Shape) (level : Level) (x : Name) (e : Expression) → leftFor shape level x (unplaced e) ≡ leftFor shape level x e
 left-unplaced shape outermost x e = refl
-left-unplaced shape inside x e = refl
+left-unplaced shape inArgument x e = refl
 left-unplaced shape (inTail f) x e = rw (end-unplaced e)
 
 module _ (t : Table) (shape : Shape) (sites : List (Named Site)) where
   actions-unplaced : (level : Level) (e : Expression) (w : Stand) (rest : Stand → List Action) →
-      items (unplacedTable t) shape sites level (unplaced e) w rest ≡ items t shape sites level e w rest
-  unfolding items unplaced
+      itemActions (unplacedTable t) shape sites level (unplaced e) w rest ≡ itemActions t shape sites level e w rest
+  unfolding itemActions unplaced
   actions-unplaced level end w rest = refl
   actions-unplaced level (thenCharacter c e) w rest = rw (actions-unplaced level e w rest)
   actions-unplaced level (thenSymbol x e) w rest = rw (actions-unplaced level e w rest)
@@ -161,7 +161,7 @@ module _ (t : Table) (shape : Shape) (sites : List (Named Site)) where
         number-unplaced 0 t n,
         fun-ext (λ w₁. ap (calling shape (mannerOf level e n) (numberOf t n) n w₁) (actions-unplaced level e w₁ rest)),
         actions-unplaced (levelIn (mannerOf level e n) (numberOf t n)) a w
-            (λ w₁. calling shape (mannerOf level e n) (numberOf t n) n w₁ (items t shape sites level e w₁ rest)),
+            (λ w₁. calling shape (mannerOf level e n) (numberOf t n) n w₁ (itemActions t shape sites level e w₁ rest)),
       )
 
 sentences-unplaced : (t : Table) (r : ℕ) (ss : List Sentence) →

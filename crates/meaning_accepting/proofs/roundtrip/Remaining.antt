@@ -6,7 +6,7 @@ use mathlib.Core.Bool.{false}
 use mathlib.Core.List.{List, [], _∷_}
 use lib.ListN.{length}
 use Rattle.meaning.specs.Choice.{Bytes}
-use Rattle.meaning.specs.Tokens.{Mode, outside, Token, Placed, lexed, skip, lex, modeAfter, isLast, tokensFrom, tokens}
+use Rattle.meaning.specs.Tokens.{Mode, outside, Token, Placed, lexed, skip, lex, modeAfter, isLastToken, tokensFrom, tokens}
 use Rattle.meaning.specs.Grammar.{standing}
 use Rattle.meaning_accepting.proofs.reading.Lexing.{Eats, lex-eats, tokens-bound}
 
@@ -19,7 +19,7 @@ remaining-whole text = refl
 
 -- a token, and the tokens after it
 pub remaining-token : (mode : Mode) (at : ℕ) (bytes : Bytes) (token : Token) (place past : ℕ) (rest : Bytes) →
-    lex mode at bytes ≡ lexed token place past rest → isLast token ≡ false →
+    lex mode at bytes ≡ lexed token place past rest → isLastToken token ≡ false →
     remaining mode at bytes ≡ standing token place past ∷ remaining (modeAfter mode token) past rest
 unfolding remaining tokensFrom
 remaining-token mode at bytes token place past rest e last =

@@ -17,7 +17,7 @@ use Rattle.meaning.specs.Rewriting.{Course, unbegun, takeStep, applicationsFrom
 use Rattle.meaning.specs.Allowed.{allowed}
 use Rattle.meaning.specs.Matching.{Choice, chosenNone}
 use Rattle.meaning.specs.Machine.{isDeclared, ranChoice, ranPaid, enter}
-use Rattle.meaning.specs.Runs.{endless, from, textOf, runEndless}
+use Rattle.meaning.specs.Runs.{endless, runUnder, textOf, runEndless}
 use Rattle.meaning.specs.Translation.{translate}
 use Rattle.meaning_agreeing.proofs.laws.Translated.{recoverer-low}
 use Rattle.meaning_agreeing.proofs.laws.Counts.{told as toldOf, none-applied, paid-alike}
@@ -80,11 +80,11 @@ module _ (table : Table) (ok : T (allowed table)) where
   -- The run from the start. `carried` says all of it: where rewriting is done, the machine is done, in holds nothing and out exactly the text; where rewriting stops, the
   -- machine stops with the same answer and function; and either way steps and emissions are the same.
   pub agree : (start : ℕ) (text : Bytes) (allowance : ℕ) →
-      from endless (translate table) start text allowance tt ≡ carried [] [] (apply allowance table start text (unbegun allowance))
+      runUnder endless (translate table) start text allowance tt ≡ carried [] [] (apply allowance table start text (unbegun allowance))
   agree start text allowance = rw none-applied at (rw append-nil at (application allowance 1 start text [] [] (unbegun allowance)))
 
   pub agree-done : (start : ℕ) (text : Bytes) (allowance : ℕ) (result : Bytes) (t : Course) → apply allowance table start text (unbegun allowance) ≡ done result t →
-      from endless (translate table) start text allowance tt ≡ done (stacks [] 0 result) (ledger t)
+      runUnder endless (translate table) start text allowance tt ≡ done (stacks [] 0 result) (ledger t)
   agree-done start text allowance result t e = agree start text allowance ∙ ap (carried [] []) e
 
   -- the outcome as 01 tells it

@@ -13,12 +13,12 @@ use Rattle.meaning.specs.Tree.{Letter, Expression, end, thenCharacter, thenSymb
 use Rattle.meaning.specs.Names.{Calling, asEmission, asAngles, asFunction, callingOf, builtIn, numberOf}
 use Rattle.meaning.specs.Answers.{allowanceSpent}
 use Rattle.meaning.specs.Outcome.{Tally, pay, Outcome, done, stop, andThen}
-use Rattle.meaning.specs.Rewriting.{Course, tallyOf, Bindings, before, partText, evaluate, calledAs, callNamed}
+use Rattle.meaning.specs.Rewriting.{Course, tallyOf, Bindings, before, partBytes, evaluate, calledAs, callNamed}
 use Rattle.meaning.specs.Allowed.{nesting}
 use Rattle.meaning.specs.Instructions.{Site, Action, go, select, out, useSeq, call, tailCall, emission, compute, Code}
 use Rattle.meaning.specs.Machine.{Stacks, Local, spanOf, isDeclared, afterField, returned, withOpened, maxOpened, wherePayable, process}
 use Rattle.meaning.specs.Runs.{endless}
-use Rattle.meaning.specs.Translation.{Shape, fixed, open₁, open₂, Stand, atStart, passageFirst, passageSecond, passage, restOf, nowhere, replaces, nests, Level, outermost, inside, inTail, isEnd, isLast, mannerAs, mannerOf, levelIn, isNone, endsPattern, leftFor, whereLeft, valueNumber, argumentReady, calling, items, passesRest, translatedFunction, translate}
+use Rattle.meaning.specs.Translation.{Shape, fixed, open₁, open₂, Stand, atStart, passageFirst, passageSecond, passage, restOf, nowhere, replaces, nests, Level, outermost, inArgument, inTail, isEnd, inTailPosition, mannerAs, mannerOf, levelIn, isNone, endsPattern, leftFor, whereLeft, valueNumber, argumentReady, calling, itemActions, passesRest, translatedFunction, translate}
 use Rattle.meaning_agreeing.proofs.laws.Translated.{number-low}
 use Rattle.meaning_agreeing.proofs.agreement.Carrying.{Endless, ledger, stacks, into, carried, returned-law, carried-andThen, into-andThen, into-written, into-same, Applying, doing, span-opened, go-law, select-law, out-law, character-law, value-law, begin-law, use-law, emission-law, compute-law, call-law, tail-law}
 use Rattle.meaning_agreeing.proofs.agreement.Standing.{Move, Standing}
@@ -57,7 +57,7 @@ pub record Called (code : Code) (shape : Shape) (f : ℕ) (k : Stand → List Ac
 
 abbrev pub Ending : Code → Shape → Level → (Stand → List Action) → List ℕ → Bytes → Type 0
 Ending code shape outermost k opened o = (w : Stand) → k w ≡ passesRest shape w
-Ending code shape inside k opened o = Unit {0}
+Ending code shape inArgument k opened o = Unit {0}
 Ending code shape (inTail f) k opened o = Called code shape f k opened o
 
 -- it stays so as more is written
@@ -65,7 +65,7 @@ ending-on : (code : Code) (shape : Shape) (level : Level) (k : Stand → List Ac
     Ending code shape level k opened o → (more : Bytes) →
     Ending code shape level k opened (o ++ more)
 ending-on code shape outermost k opened o e more = e
-ending-on code shape inside k opened o e more = tt
+ending-on code shape inArgument k opened o e more = tt
 ending-on code shape (inTail f) k opened o e more = record { declared = e .declared; follows = e .follows; argued = argued-on (e .argued) more }
 
 -- the numbers of the table's functions are those of the code's
@@ -186,10 +186,10 @@ module _ (table : Table) (shape : Shape) (sites : List (Named Site)) (bound : Bi
 
   -- nothing follows the last item outermost but the way to the end of the field
   last-ends : (level : Level) (e : Expression) (w : Stand) (k : Stand → List Action) (opened : List ℕ) (o : Bytes) →
-      Ending (translate table) shape level k opened o → T (isLast level e) →
-      items table shape sites level e w k ≡ passesRest shape w
-  unfolding items
-  last-ends inside e w k opened o ending h = absurd h
+      Ending (translate table) shape level k opened o → T (inTailPosition level e) →
+      itemActions table shape sites level e w k ≡ passesRest shape w
+  unfolding itemActions
+  last-ends inArgument e w k opened o ending h = absurd h
   last-ends (inTail f) e w k opened o ending h = absurd h
   last-ends outermost end w k opened o ending h = ending w
   last-ends outermost (thenCharacter c e) w k opened o ending h = absurd h
@@ -281,7 +281,7 @@ module _ (table : Table) (shape : Shape) (sites : List (Named Site)) (bound : Bi
       from opened (go (passage shape x w .gap) ∷ useSeq ∷ select (passage shape x w .piece) ∷ tailCall f ∷ []) w o t ≡ r) →
       from opened (whereLeft (leftFor shape level x e) (passage shape x w) moving) w o t ≡ r
   left-or outermost x e w k opened o t moving r ending moved left = moved
-  left-or inside x e w k opened o t moving r ending moved left = moved
+  left-or inArgument x e w k opened o t moving r ending moved left = moved
   left-or (inTail f) x e w k opened o t moving r ending moved left = by (isEnd e) (endsPattern shape x) refl refl
     where
       by : (a b : Bool) → isEnd e ≡ a → endsPattern shape x ≡ b →
@@ -306,39 +306,39 @@ module _ (table : Table) (shape : Shape) (sites : List (Named Site)) (bound : Bi
   pub expressed : {e : Expression} {w w₁ : Stand} (sound : Sound table shape sites bound l standing e w w₁)
       (b : Level) (k : Stand → List Action) (opened : List ℕ) (o : Bytes) (t : Course) → Ending (translate table) shape b k opened o →
       nesting e + length opened ≤ maxOpened →
-      from opened (items table shape sites b e w k) w o t ≡
+      from opened (itemActions table shape sites b e w k) w o t ≡
       into (evaluate (callNamed table apply) bound e t) (λ text t₁. from opened (k w₁) w₁ (o ++ text) t₁)
-  unfolding items evaluate nesting
+  unfolding itemActions evaluate nesting
   expressed theEnd b k opened o t ending h = rw append-nil
   expressed {w} {w₁} (aCharacter {c} {e} sound) b k opened o t ending h =
-      character-law (translate table) enter frame (items table shape sites b e w k) (withOpened opened l) t c 0 (standing .remaining w ++ below) o ∙
+      character-law (translate table) enter frame (itemActions table shape sites b e w k) (withOpened opened l) t c 0 (standing .remaining w ++ below) o ∙
       expressed sound b k opened (o ++ c ∷ []) t (ending-on (translate table) shape b k opened o ending _) h ∙
       into-written (c ∷ []) o (evaluate (callNamed table apply) bound e t) (λ text t₁. from opened (k w₁) w₁ text t₁)
   expressed {w} {w₁} (aSymbol {x} {e} v sound) b k opened o t ending h =
-      value-law (translate table) enter frame (items table shape sites b e w k) (withOpened opened l) t (valueNumber sites x) (v .byte) 0
+      value-law (translate table) enter frame (itemActions table shape sites b e w k) (withOpened opened l) t (valueNumber sites x) (v .byte) 0
       (standing .remaining w ++ below) o (v .stored) ∙
       expressed sound b k opened (o ++ v .byte ∷ []) t (ending-on (translate table) shape b k opened o ending _) h ∙
       rw (v .taken) (into-written (v .byte ∷ []) o (evaluate (callNamed table apply) bound e t) (λ text t₁. from opened (k w₁) w₁ text t₁))
   expressed {w} {w₁} (aPart {x} {e} {later} m sound) b k opened o t ending h =
       left-or b x e w k opened o t _ _ ending
-      (part-law x w later (items table shape sites b e (passage shape x w .after) k) opened o t m ∙
+      (part-law x w later (itemActions table shape sites b e (passage shape x w .after) k) opened o t m ∙
       expressed sound b k opened (o ++ m .piece) t (ending-on (translate table) shape b k opened o ending _) h ∙ written)
       (λ f c last ends. left-law f x w later k opened o t m ends c ∙
       rw append-nil at (ended sound last t (λ w text t₁. from opened (k w) w ((o ++ m .piece) ++ text) t₁)) ∙ written)
     where
       written : into (evaluate (callNamed table apply) bound e t) (λ text t₁. from opened (k w₁) w₁ ((o ++ m .piece) ++ text) t₁) ≡
-          into (before (partText (lookup x (bound .parts))) (evaluate (callNamed table apply) bound e t))
+          into (before (partBytes (lookup x (bound .parts))) (evaluate (callNamed table apply) bound e t))
           (λ text t₁. from opened (k w₁) w₁ (o ++ text) t₁)
       written = rw (m .taken) (into-written (m .piece) o (evaluate (callNamed table apply) bound e t) (λ text t₁. from opened (k w₁) w₁ text t₁))
   expressed {w} {w₁ = w₂} (aCall {place} {n} {a} {e} {w₁} known soundA sound) b k opened o t ending h =
-      begin-law (translate table) enter frame (items table shape sites (levelIn (mannerOf b e n) (numberOf table n)) a w more) (withOpened opened l) t
+      begin-law (translate table) enter frame (itemActions table shape sites (levelIn (mannerOf b e n) (numberOf table n)) a w more) (withOpened opened l) t
       (standing .remaining w ++ below) o 0 (omega arith) ∙
       expressed soundA (levelIn (mannerOf b e n) (numberOf table n)) more (length o ∷ opened) o t
-      (argument-ends (callingOf n) (isLast b e) n (λ w₁. items table shape sites b e w₁ k) opened o known) (omega arith) ∙
+      (argument-ends (callingOf n) (inTailPosition b e) n (λ w₁. itemActions table shape sites b e w₁ k) opened o known) (omega arith) ∙
       into-same (evaluate (callNamed table apply) bound a t) (λ text t₁. from (length o ∷ opened) (more w₁) w₁ (o ++ text) t₁)
       (λ text t₁. into (called text t₁) (λ text t₂. j (o ++ text) t₂)) (λ text t₁.
-      any-call (callingOf n) (isLast b e) n w₁ (items table shape sites b e w₁ k) opened o text t₁ known (last-ends b e w₁ k opened o ending) ∙
-      into-same (callNamed table apply n text t₁) (λ given t₂. from opened (items table shape sites b e w₁ k) w₁ (o ++ given) t₂)
+      any-call (callingOf n) (inTailPosition b e) n w₁ (itemActions table shape sites b e w₁ k) opened o text t₁ known (last-ends b e w₁ k opened o ending) ∙
+      into-same (callNamed table apply n text t₁) (λ given t₂. from opened (itemActions table shape sites b e w₁ k) w₁ (o ++ given) t₂)
       (λ given t₂. into (before given (evaluate (callNamed table apply) bound e t₂)) (λ text t₃. j (o ++ text) t₃)) (λ given t₂.
       expressed sound b k opened (o ++ given) t₂ (ending-on (translate table) shape b k opened o ending _) (omega arith) ∙
       into-written given o (evaluate (callNamed table apply) bound e t₂) j) ∙
@@ -346,7 +346,7 @@ module _ (table : Table) (shape : Shape) (sites : List (Named Site)) (bound : Bi
       sym (into-andThen (evaluate (callNamed table apply) bound a t) called (λ text t₃. j (o ++ text) t₃))
     where
       more : Stand → List Action
-      more w₁ = calling shape (mannerOf b e n) (numberOf table n) n w₁ (items table shape sites b e w₁ k)
+      more w₁ = calling shape (mannerOf b e n) (numberOf table n) n w₁ (itemActions table shape sites b e w₁ k)
 
       j : Bytes → Course → Endless
       j text t₁ = from opened (k w₂) w₂ text t₁
@@ -356,7 +356,7 @@ module _ (table : Table) (shape : Shape) (sites : List (Named Site)) (bound : Bi
 
   -- a sentence's whole expression, from the field's start to its end
   pub evaluated : {e : Expression} {w : Stand} → Sound table shape sites bound l standing e atStart w → nesting e ≤ maxOpened → (o : Bytes) (t : Course) →
-      from [] (items table shape sites outermost e atStart (passesRest shape)) atStart o t ≡
+      from [] (itemActions table shape sites outermost e atStart (passesRest shape)) atStart o t ≡
       carried below o (evaluate (callNamed table apply) bound e t)
   evaluated {e} {w} sound h o t =
       expressed sound outermost (passesRest shape) [] o t (λ w. refl) (omega arith) ∙

@@ -15,7 +15,7 @@ use Rattle.meaning.specs.Tree.{Letter, part, Condition}
 use Rattle.meaning.specs.Rewriting.{Bindings, unbound, hold, shortest, withSymbols, withPart, match}
 use Rattle.meaning.specs.Allowed.{whereSome, allOfPattern}
 use Rattle.meaning.specs.Instructions.{Site, fromStart, fromPlace}
-use Rattle.meaning.specs.Matching.{Checked, wherePassed, checkAll, search, placesOf, firstPlace, place, storedValues}
+use Rattle.meaning.specs.Matching.{Checked, wherePassed, checkAll, search, placesOf, firstPlace, findPlace, storedValues}
 use Rattle.meaning.specs.Translation.{Shape, fixed, open₁, open₂, metricOf, Tested, testedTemplate, beforeEnd, untested, testedShape, conditionTest, testsOf, atStart}
 use Rattle.meaning.proofs.laws.Choosing.{namesIn}
 use Rattle.meaning.proofs.laws.Choosing.{true-passed, where-same, where-none, where-strict}
@@ -160,7 +160,7 @@ module _ (cs : List Condition) where
   -- the machine's place for the middle template and its tests, against the matcher
   abbrev pub Agrees : Shape → Bytes → Type 0
   Agrees shape field =
-      Agreeing (Fitting shape (testedShape shape .sites) field) (place (metricOf shape) (testsOf shape (testedShape shape) cs) field)
+      Agreeing (Fitting shape (testedShape shape .sites) field) (findPlace (metricOf shape) (testsOf shape (testedShape shape) cs) field)
       (match (elementsOf shape) cs field unbound)
 
   agrees-fixed : (t : List Letter) (field : Bytes) → Asks (fixed t) → Agrees (fixed t) field

@@ -13,7 +13,7 @@ use Rattle.meaning.specs.Rewriting.{Bindings}
 use Rattle.meaning.specs.Allowed.{member, comingAfter}
 use Rattle.meaning.specs.Instructions.{fromStart, fromEnd, fromPlace}
 use Rattle.meaning.specs.Machine.{Local, spanOf}
-use Rattle.meaning.specs.Translation.{Shape, fixed, open₁, open₂, Stand, atStart, afterFirst, afterSecond, passageOne, passageFirst, gapToSecond, passageSecond, passage, restOf, between, boundsOf}
+use Rattle.meaning.specs.Translation.{Shape, fixed, open₁, open₂, Stand, atStart, afterFirst, afterSecond, passageOne, passageFirst, gapToSecond, passageSecond, passage, restOf, fromTo, boundsOf}
 use Rattle.meaning_agreeing.proofs.agreement.Standing.{comingAt, Move}
 use Rattle.meaning_agreeing.proofs.agreement.Cells.{Between, between-shows, end-before}
 
@@ -61,9 +61,9 @@ module _ (h : List Letter) (x : Name) (t : List Letter) (hs p ts : Bytes) (sizeH
       record { remaining = remaining₁; whole = refl; toEnd = toEnd; toPart = toPart; between = λ y m. bounds (sameBytes y x) m }
     where
       bounds : (q : Bool) → T (either q false) →
-          Between (hs ++ (p ++ ts)) 0 (between (fromStart (length h)) (fromEnd (length t))) (pick q (some p) none)
+          Between (hs ++ (p ++ ts)) 0 (fromTo (fromStart (length h)) (fromEnd (length t))) (pick q (some p) none)
       bounds true m =
-          between-shows (hs ++ (p ++ ts)) hs p ts 0 refl (between (fromStart (length h)) (fromEnd (length t))) (rw sizeHead)
+          between-shows (hs ++ (p ++ ts)) hs p ts 0 refl (fromTo (fromStart (length h)) (fromEnd (length t))) (rw sizeHead)
           (end-before (length t) _ _ 0 (simp length-append (omega arith)))
       bounds false m = absurd m
 
@@ -114,13 +114,13 @@ module _ (h : List Letter) (x : Name) (m : List Letter) (y : Name) (t : List Let
     where
       bounds : (q₁ q₂ : Bool) → T (either q₁ (either q₂ false)) →
           Between field₂ (length hs + length p)
-          (pick q₁ (between (fromStart (length h)) (fromPlace 0)) (between (fromPlace (length m)) (fromEnd (length t))))
+          (pick q₁ (fromTo (fromStart (length h)) (fromPlace 0)) (fromTo (fromPlace (length m)) (fromEnd (length t))))
           (pick q₁ (some p) (pick q₂ (some r) none))
       bounds true q₂ in₂ =
-          between-shows field₂ hs p (ms ++ (r ++ ts)) (length hs + length p) refl (between (fromStart (length h)) (fromPlace 0)) (rw sizeHead)
+          between-shows field₂ hs p (ms ++ (r ++ ts)) (length hs + length p) refl (fromTo (fromStart (length h)) (fromPlace 0)) (rw sizeHead)
           (ap some (omega arith))
       bounds false true in₂ =
-          between-shows field₂ (hs ++ (p ++ ms)) r ts (length hs + length p) (simp append-assoc) (between (fromPlace (length m)) (fromEnd (length t)))
+          between-shows field₂ (hs ++ (p ++ ms)) r ts (length hs + length p) (simp append-assoc) (fromTo (fromPlace (length m)) (fromEnd (length t)))
           (ap some (simp length-append (omega arith))) (end-before (length t) _ _ (length hs + length p) (simp length-append (omega arith)))
       bounds false false in₂ = absurd in₂
 

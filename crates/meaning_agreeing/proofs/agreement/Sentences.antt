@@ -27,7 +27,7 @@ module _ (table : Table) (field : Bytes) where
     here : {at : ℕ} {s : Sentence} {bound : Bindings} → Allowable table s → Fitting (shapeOf (s .pattern)) (sitesOf (s .pattern)) field at bound →
         Chosen r
         (chosen at (storesOf (testedShape (shapeOf (s .pattern)))) (actionsOf table (shapeOf (s .pattern)) (sitesOf (s .pattern)) (s .expression)))
-        (some (record { sentence = s; bindings = bound }))
+        (some (record { fitting = s; bindings = bound }))
 
   -- this sentence if it fits, else what the later ones give
   first-fitting : {r : ℕ} {s : Sentence} {found : Found} {o : Option Bindings} {choice : Choice} {later : Option Fit} →

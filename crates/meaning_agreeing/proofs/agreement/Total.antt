@@ -11,7 +11,7 @@ use Rattle.meaning.specs.Tree.{Expression, end, thenCharacter, thenSymbol, then
 use Rattle.meaning.specs.Angles.{Angled, sum, notAngles, outOfRange, angled}
 use Rattle.meaning.specs.Names.{numberOf, Calling, asEmission, asAngles, asFunction, callingOf, builtIn, isKnown}
 use Rattle.meaning.specs.Outcome.{Outcome, done, stop, andThen, resultOf, computed}
-use Rattle.meaning.specs.Rewriting.{Course, unbegun, tookFrom, tallied, Bindings, Fit, symbolText, partText, before, evaluate, callNamed, recovererFor, recovererAt, unfitted, rewritten, applied, apply, rewrite, calledAs}
+use Rattle.meaning.specs.Rewriting.{Course, unbegun, tookFrom, tallied, Bindings, Fit, symbolBytes, partBytes, before, evaluate, callNamed, recovererFor, recovererAt, unfitted, rewritten, applied, apply, rewrite, calledAs}
 use Rattle.meaning.specs.Allowed.{allowed, callsKnown, maxFunctions}
 use Rattle.meaning.specs.Matching.{Choice}
 use Rattle.meaning.proofs.laws.Packable.{All, nil, cons}
@@ -48,9 +48,9 @@ module _ (table : Table) (ok : T (allowed table)) where
     evaluate-counted end t known c = c
     evaluate-counted (thenCharacter b e) t known c = before-counted (b ∷ []) (evaluate call bound e t) (evaluate-counted e t known c)
     evaluate-counted (thenSymbol x e) t known c =
-        before-counted (symbolText (lookup x (bound .symbols))) (evaluate call bound e t) (evaluate-counted e t known c)
+        before-counted (symbolBytes (lookup x (bound .symbols))) (evaluate call bound e t) (evaluate-counted e t known c)
     evaluate-counted (thenPart x e) t known c =
-        before-counted (partText (lookup x (bound .parts))) (evaluate call bound e t) (evaluate-counted e t known c)
+        before-counted (partBytes (lookup x (bound .parts))) (evaluate call bound e t) (evaluate-counted e t known c)
     evaluate-counted (thenCall place n a e) t known c =
         let k = both-pair (isKnown table n) _ known in
         let p = both-pair (callsKnown table a) (callsKnown table e) (k .1) in
@@ -93,7 +93,7 @@ module _ (table : Table) (ok : T (allowed table)) where
   apply-counted : (depth f : ℕ) (text : Bytes) (t : Course) → HasCount f → Counted t → StaysCounted (apply depth table f text t)
   unfolding apply
   apply-counted zero f text t h c = c
-  apply-counted (suc depth) f text t h c = applied-counted (apply depth table) (apply-counted depth) (t .left) f text t h c
+  apply-counted (suc depth) f text t h c = applied-counted (apply depth table) (apply-counted depth) (t .stepsLeft) f text t h c
 
   pub rewrite-total : (start : ℕ) (text : Bytes) (allowance : ℕ) → 0 < start → start ≤ length table →
       total (rewrite table start text allowance .counts) ≡ rewrite table start text allowance .steps

@@ -9,7 +9,7 @@ use Rattle.meaning.specs.Tree.{Expression, end, thenCharacter, thenSymbol, then
 use Rattle.meaning.specs.Angles.{Angled, sum, notAngles, outOfRange, angled}
 use Rattle.meaning.specs.Names.{Calling, asEmission, asAngles, asFunction, callingOf, numberOf}
 use Rattle.meaning.specs.Outcome.{Outcome, done, stop, andThen, computed, resultOf}
-use Rattle.meaning.specs.Rewriting.{Course, unbegun, takeStep, tallied, Bindings, Fit, symbolText, partText, before, evaluate, functionAt, choose, calledAs, callNamed, recovererAt, unfitted as unfittedAt, rewritten, applied, apply, rewrite}
+use Rattle.meaning.specs.Rewriting.{Course, unbegun, takeStep, tallied, Bindings, Fit, symbolBytes, partBytes, before, evaluate, functionAt, choose, calledAs, callNamed, recovererAt, unfitted as unfittedAt, rewritten, applied, apply, rewrite}
 
 -- an answer with its function number
 pub data Ends (answer function : ℕ) : Type 0 where
@@ -40,8 +40,8 @@ module _ (call : Name → Bytes → Course → Outcome Bytes Course) (plain : (n
   unfolding evaluate
   evaluate-plain end t = tt
   evaluate-plain (thenCharacter c e) t = before-plain (c ∷ []) (evaluate call bound e t) (evaluate-plain e t)
-  evaluate-plain (thenSymbol x e) t = before-plain (symbolText (lookup x (bound .symbols))) (evaluate call bound e t) (evaluate-plain e t)
-  evaluate-plain (thenPart x e) t = before-plain (partText (lookup x (bound .parts))) (evaluate call bound e t) (evaluate-plain e t)
+  evaluate-plain (thenSymbol x e) t = before-plain (symbolBytes (lookup x (bound .symbols))) (evaluate call bound e t) (evaluate-plain e t)
+  evaluate-plain (thenPart x e) t = before-plain (partBytes (lookup x (bound .parts))) (evaluate call bound e t) (evaluate-plain e t)
   evaluate-plain (thenCall place n a e) t =
       then-stops Ends (evaluate call bound a t) (λ text t₁. andThen (call n text t₁) (λ given t₂. before given (evaluate call bound e t₂))) (evaluate-plain a t)
       (λ text t₁. then-stops Ends (call n text t₁) (λ given t₂. before given (evaluate call bound e t₂)) (plain n text t₁)
@@ -67,7 +67,7 @@ module _ (table : Table) (apply₁ : ℕ → Bytes → Course → Outcome Bytes 
   rewritten-plain number text (some f) t =
       evaluate-plain (callNamed table apply₁)
       (λ n text t₁. as-plain (callingOf n) n text t₁ (apply₁ (numberOf table n) text t₁) (plain (numberOf table n) text t₁))
-      (f .bindings) (f .sentence .expression) t
+      (f .bindings) (f .fitting .expression) t
 
   applied-plain : (number : ℕ) (text : Bytes) (t : Course) (paid : Option Course) → Plain (applied table apply₁ number text t paid)
   applied-plain number text t none = spent refl refl

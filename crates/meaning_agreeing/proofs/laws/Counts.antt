@@ -73,7 +73,7 @@ told (some t) = some (tallyOf t)
 
 -- the machine pays as rewriting takes a step
 pub paid-alike : (f : ℕ) (t : Course) → pay f (tallyOf t) ≡ told (takeStep f t)
-paid-alike f t = by (t .left)
+paid-alike f t = by (t .stepsLeft)
   where
     by : (left : ℕ) → Rattle.meaning.specs.Outcome.paidFrom left f (tallyOf t) ≡ told (tookFrom left f t)
     by zero = refl

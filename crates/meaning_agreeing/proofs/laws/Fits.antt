@@ -11,7 +11,7 @@ use lib.ListN.{length}
 use Rattle.meaning.specs.Choice.{Bytes, Name, pick, orElse, isSome, every, Named, sameBytes, lookup}
 use Rattle.meaning.specs.Classes.{Class, inClass}
 use Rattle.meaning.specs.Tree.{Letter, character, symbol, Element, letter, part, Subject, ofSymbol, ofPart, Condition}
-use Rattle.meaning.specs.Rewriting.{Bindings, unbound, agreed, takeSymbol, askedOf, holdsFor, hold, shortest, withSymbols, withPart, matchRest, match, partText}
+use Rattle.meaning.specs.Rewriting.{Bindings, unbound, agreed, takeSymbol, askedOf, holdsFor, hold, shortest, withSymbols, withPart, matchRest, match, partBytes}
 use Rattle.meaning.specs.Fits.{oneByte, standsFor, joined, filled, Fits}
 use Rattle.meaning.specs.Allowed.{member, added, symbolsFrom, symbolsOf, partsOf, parted, distinct, spelledElement, allowedPattern, ofPattern, allOfPattern, allowedConditions}
 use Rattle.meaning.proofs.laws.Choosing.{Given, no-cons, not-both, is-false, either-second, some-none, both-parts, guard-some, same-itself, same-bytes, lookup-append, lookup-one, namesIn, names-append, member-bound, distinct-second}
@@ -84,7 +84,7 @@ fresh-after x piece names known apart fresh y h = rw (lookup-append, fresh y (ei
 fits-step : (e : Element) (a : Bytes) (p : List Element) (cs : List Condition) (text : Bytes) (bound : Bindings) → standsFor bound e ≡ some a →
     Fits p cs text bound → Fits (e ∷ p) cs (a ++ text) bound
 unfolding filled
-fits-step e a p cs text bound h f = record { whole = rw (h, f .whole); holds = f .holds }
+fits-step e a p cs text bound h f = record { fills = rw (h, f .fills); holds = f .holds }
 
 symbol-step : (x : Name) (b : ℕ) (p : List Element) (cs : List Condition) (text : Bytes) (bound later : Bindings) (o : Option (List (Named ℕ))) →
     takeSymbol x b (bound .symbols) ≡ o → matchRest (match p cs text) bound o ≡ some later →
@@ -137,7 +137,7 @@ unfolding match partsOf distinct filled member
 sound [] cs [] bound later d fresh h =
     let t = guard-some (hold cs bound) (some bound) h in
     let same : bound ≡ later = cc (t .1) in
-    rw (← same) (record { fits = record { whole = refl; holds = t .0 }; symbols = λ y v g. g; parts = λ y v g. g })
+    rw (← same) (record { fits = record { fills = refl; holds = t .0 }; symbols = λ y v g. g; parts = λ y v g. g })
 sound [] cs (b ∷ text) bound later d fresh h = absurd (some-none h refl)
 sound (letter (character c) ∷ p) cs [] bound later d fresh h = absurd (some-none h refl)
 sound (letter (character c) ∷ p) cs (b ∷ text) bound later d fresh h =
@@ -236,7 +236,7 @@ hold-kept (c ∷ cs) bound fit m k h =
 record Best (p : List Element) (cs : List Condition) (text : Bytes) (bound fit : Bindings) : Type 0 where
   value : Bindings
   is : match p cs text bound ≡ some value
-  least : (x : Name) (more : List Name) → partsOf p ≡ x ∷ more → length (partText (lookup x (value .parts))) ≤ length (partText (lookup x (fit .parts)))
+  least : (x : Name) (more : List Name) → partsOf p ≡ x ∷ more → length (partBytes (lookup x (value .parts))) ≤ length (partBytes (lookup x (fit .parts)))
 
 -- conditions on what is bound so far or comes in the pattern
 abbrev OnPattern : Bindings → List Element → List Condition → Type 0
@@ -282,7 +282,7 @@ best-nothing : (cs : List Condition) (text : Bytes) (bound fit : Bindings) → O
     Best [] cs text bound fit
 unfolding match partsOf filled symbolsFrom
 best-nothing cs text bound fit on k f =
-    let e : [] ≡ text = cc (f .whole) in
+    let e : [] ≡ text = cc (f .fills) in
     rw (← e)
     (record {
       value = bound;
@@ -294,11 +294,11 @@ best-character : (c : ℕ) (p : List Element) (cs : List Condition) (text : Byte
     ((rest : Bytes) → Fits p cs rest fit → Best p cs rest bound fit) → Best (letter (character c) ∷ p) cs text bound fit
 unfolding match filled
 best-character c p cs text bound fit f after =
-    let s = split (some (c ∷ [])) (filled fit p) text (f .whole) in
+    let s = split (some (c ∷ [])) (filled fit p) text (f .fills) in
     let e : text ≡ c ∷ s .rest = cc (s .whole, s .isFirst) in
     rw e
     (best-letter (character c) p cs (c ∷ s .rest) (s .rest) bound bound fit
-    (after (s .rest) (record { whole = s .isLater; holds = f .holds }))
+    (after (s .rest) (record { fills = s .isLater; holds = f .holds }))
     (rw (eq-eqb c c refl)))
 
 best-symbol : (x : Name) (p : List Element) (cs : List Condition) (text : Bytes) (bound fit : Bindings) →
@@ -308,14 +308,14 @@ best-symbol : (x : Name) (p : List Element) (cs : List Condition) (text : Bytes)
     Best (letter (symbol x) ∷ p) cs text bound fit
 unfolding match filled symbolsFrom partsOf
 best-symbol x p cs text bound fit on kept f after =
-    let s = split (oneByte (lookup x (fit .symbols))) (filled fit p) text (f .whole) in
+    let s = split (oneByte (lookup x (fit .symbols))) (filled fit p) text (f .fills) in
     let o = one-byte (lookup x (fit .symbols)) (s .piece) (s .isFirst) in
     let k = takes x (o .byte) (bound .symbols) (fit .symbols) (lookup x (bound .symbols)) refl (o .is) (kept .symbols) in
     let names = took x (o .byte) (bound .symbols) (k .after) (lookup x (bound .symbols)) refl (k .is) .names in
     let e : text ≡ o .byte ∷ s .rest = cc (s .whole, o .alone) in
     rw e
     (best-letter (symbol x) p cs (o .byte ∷ s .rest) (s .rest) bound (withSymbols bound (k .after)) fit
-    (after (k .after) (s .rest) (rw names on) (record { symbols = k .keeps; parts = kept .parts }) (record { whole = s .isLater; holds = f .holds }))
+    (after (k .after) (s .rest) (rw names on) (record { symbols = k .keeps; parts = kept .parts }) (record { fills = s .isLater; holds = f .holds }))
     (rw (k .is)))
 
 best-piece : (x : Name) (p : List Element) (cs : List Condition) (text : Bytes) (bound fit : Bindings) → distinct (x ∷ partsOf p) ≡ true →
@@ -326,7 +326,7 @@ best-piece : (x : Name) (p : List Element) (cs : List Condition) (text : Bytes) 
 unfolding distinct filled symbolsFrom partsOf
 best-piece x p cs text bound fit d fresh on k f after =
     let t = both-parts (not (member x (partsOf p))) (distinct (partsOf p)) d in
-    let s = split (lookup x (fit .parts)) (filled fit p) text (f .whole) in
+    let s = split (lookup x (fit .parts)) (filled fit p) text (f .fills) in
     let apart = not-true (member x (partsOf p)) (t .0) in
     rw (s .whole)
     (best-part x p cs (s .rest) (s .piece) bound fit (t .1) fresh apart (s .isFirst)
@@ -334,7 +334,7 @@ best-piece x p cs text bound fit d fresh on k f after =
     (fresh-after x (s .piece) (partsOf p) (bound .parts) apart fresh)
     (rw (names-append (bound .parts) (record { name = x; value = s .piece }), append-assoc) on)
     (record { symbols = k .symbols; parts = takes-new x (s .piece) (bound .parts) (fit .parts) (s .isFirst) (k .parts) })
-    (record { whole = s .isLater; holds = f .holds })))
+    (record { fills = s .isLater; holds = f .holds })))
 
 best : (p : List Element) (cs : List Condition) (text : Bytes) (bound fit : Bindings) → distinct (partsOf p) ≡ true → Fresh (partsOf p) (bound .parts) →
     OnPattern bound p cs → Kept bound fit → Fits p cs text fit → Best p cs text bound fit
@@ -364,7 +364,7 @@ match-none p cs text fit d on h f = some-none (from-nothing p cs text fit d on f
 -- equalities and conditions hold".
 pub match-shortest : (p : List Element) (cs : List Condition) (text : Bytes) (later fit : Bindings) (x : Name) (more : List Name) → distinct (partsOf p) ≡ true →
     allOfPattern (symbolsOf p) (partsOf p) cs ≡ true → partsOf p ≡ x ∷ more → match p cs text unbound ≡ some later → Fits p cs text fit →
-    length (partText (lookup x (later .parts))) ≤ length (partText (lookup x (fit .parts)))
+    length (partBytes (lookup x (later .parts))) ≤ length (partBytes (lookup x (fit .parts)))
 match-shortest p cs text later fit x more d on e h f =
     let b = from-nothing p cs text fit d on f in
     let same : b .value ≡ later = cc (b .is) in

@@ -11,7 +11,7 @@ use Rattle.meaning.specs.Answers.{framesFull}
 use Rattle.meaning.specs.Outcome.{Tally, fresh, pay, emitted, Outcome, done, stop, andThen, resultOf}
 use Rattle.meaning.specs.Instructions.{Code}
 use Rattle.meaning.specs.Machine.{Need, inCells, outCells, recordBytes, frames, onward, halt, Ledger, Stacks, Ran, withTally, afterNote, wherePayable, ranChoice, ranPaid}
-use Rattle.meaning.specs.Runs.{Room, passes, answerTo, lent, loaded, from, textOf, runLent}
+use Rattle.meaning.specs.Runs.{Room, passes, answerTo, lent, loaded, runUnder, textOf, runLent}
 use Rattle.meaning_agreeing.proofs.laws.Answers.{StopsSo, then-stops}
 use Rattle.meaning_agreeing.proofs.laws.Framing.{isFrames, codeCalls, choice-calls}
 use Rattle.meaning_agreeing.proofs.laws.Related.{Own, unfitting, spent, unreadable, Computation, Closed, Enters, choiceFor, Nested, applies, misformed, past}
@@ -140,7 +140,7 @@ module _ (room : Room) where
   pub never-framed : (code : Code) → (T (codeCalls code) → ⊥) → (start : ℕ) (text : Bytes) (allowance : ℕ) →
       runLent room code start text allowance .answer ≡ framesFull → ⊥
   never-framed code h start text allowance =
-      framed-result (from (lent room) code start text allowance tt)
+      framed-result (runUnder (lent room) code start text allowance tt)
       (applies (lent room) (lent room) ⊥ KeepsFrame framed-closed
       (λ code e e′ frame f s framed g. framed-paid (pay f (g .tally)) code e frame f s g framed)
       allowance code (uncalled code h) 1 start (loaded text) (record { tally = fresh allowance; mark = tt }))

@@ -5,7 +5,7 @@ use mathlib.Core.List.{List, [], _∷_}
 use lib.Dec.{T}
 use Rattle.meaning.specs.Choice.{Bytes, either, nth}
 use Rattle.meaning.specs.Instructions.{Action, go, select, out, outC, outV, beginSeq, useSeq, call, tailCall, emission, unknownAction, Sentences, noMore, sentence, unknownSentence, Code, compute}
-use Rattle.meaning.specs.Matching.{Found, foundAt, foundNone, foundWrong, Choice, chosen, chosenNone, chosenWrong, choiceOf, place, chooseFrom}
+use Rattle.meaning.specs.Matching.{Found, foundAt, foundNone, foundWrong, Choice, chosen, chosenNone, chosenWrong, choiceOf, findPlace, chooseFrom}
 use Rattle.meaning.specs.Machine.{Need, inCells, outCells, recordBytes, frames, functionOf, codeAt}
 
 abbrev pub isCall : Action → Bool
@@ -64,7 +64,7 @@ unfolding chooseFrom sentencesCall
 chosen-calls (noMore r) field t = t
 chosen-calls unknownSentence field t = t
 chosen-calls (sentence metric tests stores actions more) field t =
-    by (place metric tests field) (either-right (anyCall actions) (sentencesCall more)) (chosen-calls more field) t
+    by (findPlace metric tests field) (either-right (anyCall actions) (sentencesCall more)) (chosen-calls more field) t
   where
     by : (found : Found) → (T (sentencesCall more) → T (either (anyCall actions) (sentencesCall more))) →
         (T (choiceCalls (chooseFrom more field)) → T (sentencesCall more)) →

@@ -17,7 +17,7 @@ use Rattle.meaning.specs.Machine.{Need, inCells, outCells, recordBytes, frames,
 use Rattle.meaning.specs.Runs.{answerTo, runLent}
 use Rattle.meaning.specs.Translation.{translate}
 use Rattle.meaning.specs.Packing.{Words, pack}
-use Rattle.meaning.specs.Leaving.{Cells, Leaving, refused, left, roomOf, leaving}
+use Rattle.meaning.specs.Leaving.{Cells, Leaving, refusedRun, afterRun, roomOf, leaving}
 use Rattle.meaning_agreeing.proofs.laws.Answers.{Ends, ended, unfitted, spent, misformed, past, rewrite-ends}
 use Rattle.meaning_agreeing.proofs.laws.Translated.{unpacked}
 
@@ -58,14 +58,14 @@ module _ (number : ℕ) (high : textTooLong < number) (code : Code) (start : ℕ
   ran = runLent (roomOf cells) code start text allowance
 
   abbrev fitting : Bool → Leaving
-  fitting fits = pick fits (left ran cells) (refused textTooLong cells)
+  fitting fits = pick fits (afterRun ran cells) (refusedRun textTooLong cells)
 
   fitting-avoids : (fits : Bool) → Avoids number (ran .answer) → Avoids number (fitting fits .result .answer)
   fitting-avoids true avoids h = avoids h
   fitting-avoids false avoids h = omega arith
 
   declared-avoids : (declared fits : Bool) → (T declared → Avoids number (ran .answer)) →
-      Avoids number (pick declared (fitting fits) (refused noSuchStart cells) .result .answer)
+      Avoids number (pick declared (fitting fits) (refusedRun noSuchStart cells) .result .answer)
   declared-avoids true fits avoids h = fitting-avoids fits (avoids tt) h
   declared-avoids false fits avoids h = omega arith
 

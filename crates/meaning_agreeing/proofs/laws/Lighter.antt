@@ -19,11 +19,11 @@ use Rattle.meaning.specs.Allowed.{allowed}
 use Rattle.meaning.specs.Answers.{noInstruction}
 use Rattle.meaning.specs.Outcome.{Tally, fresh, pay, emitted, emittedLine, done, stop, andThen, Result, resultOf, computed}
 use Rattle.meaning.specs.Instructions.{Site, Span, Action, go, select, out, outC, outV, beginSeq, useSeq, call, tailCall, emission, unknownAction, Metric, Test, Store, Sentences, noMore, sentence, Code, compute}
-use Rattle.meaning.specs.Matching.{Found, foundAt, foundNone, foundWrong, place, choiceOf, Choice, chosen, chosenNone, chosenWrong, chooseFrom, storedValues}
-use Rattle.meaning.specs.Machine.{Need, inCells, outCells, recordBytes, frames, onward, Watch, Ledger, Stacks, Local, Ran, Next, withTally, noting, whereThere, whereStored, whereOpened, wherePayable, maxOpened, spanOf, isDeclared, movedOn, withSelected, withOutput, withOpened, moved, afterField, returned, writing, perform, process, started, ranChoice, ranPaid, enter, functionOf, codeAt}
-use Rattle.meaning.specs.Runs.{Room, passes, Passed, firstPassed, endless, watching, loaded, from, textOf, markOf, passedFirst}
-use Rattle.meaning.specs.Translation.{Shape, shapeOf, testedShape, Stand, atStart, passage, restOf, nowhere, Manner, emits, replaces, nests, Level, outermost, inside, inTail, isEnd, mannerOf, levelIn, endsPattern, leftFor, whereLeft, argumentReady, calling, items, translatedSentences, translatedFunction, translate, computes}
-use Rattle.meaning.specs.Earlier.{earlierItems, earlierSentences, earlierFunction, earlier}
+use Rattle.meaning.specs.Matching.{Found, foundAt, foundNone, foundWrong, findPlace, choiceOf, Choice, chosen, chosenNone, chosenWrong, chooseFrom, storedValues}
+use Rattle.meaning.specs.Machine.{Need, inCells, outCells, recordBytes, frames, onward, Watch, Ledger, Stacks, Local, Ran, Next, withTally, noting, whereThere, whereStored, whereOpened, wherePayable, maxOpened, spanOf, isDeclared, movedOn, withSelected, withOutput, withOpened, sequenceMoved, afterField, returned, writing, perform, process, started, ranChoice, ranPaid, enter, functionOf, codeAt}
+use Rattle.meaning.specs.Runs.{Room, passes, Passed, firstPassed, endless, watching, loaded, runUnder, textOf, markOf, passedFirst}
+use Rattle.meaning.specs.Translation.{Shape, shapeOf, testedShape, Stand, atStart, passage, restOf, nowhere, Manner, emits, replaces, nests, Level, outermost, inArgument, inTail, isEnd, mannerOf, levelIn, endsPattern, leftFor, whereLeft, argumentReady, calling, itemActions, translatedSentences, translatedFunction, translate, computes}
+use Rattle.meaning.specs.Earlier.{earlierItems, earlierSentences, earlierFunction, earlierTranslation}
 use Rattle.meaning_agreeing.proofs.laws.Known.{rewrite-known}
 use Rattle.meaning_agreeing.proofs.laws.Room.{readFor, seenEndless, watched-endless}
 use Rattle.meaning_agreeing.proofs.agreement.Carrying.{span-opened}
@@ -167,13 +167,13 @@ module _ (A : Type 0) (step : Need → Tally → A → A) (Under : A → A → T
       where
         opened : (rs : List ℕ) → Chain base (length (s .output)) rs →
             Less base (λ g. whereOpened W rs g (λ x rs. noting W (inCells (length (drop x (s .output)) + length (s .input))) g
-            (next₀ (withOpened rs l) (moved x s))))
+            (next₀ (withOpened rs l) (sequenceMoved x s))))
             (λ g. whereOpened W rs g (λ x rs. noting W (inCells (length (drop x (s .output)) + length (s .input))) g
-            (next (withOpened rs l) (moved x s))))
+            (next (withOpened rs l) (sequenceMoved x s))))
         opened [] c = wrong base
         opened (x ∷ rs) (above h c) =
             noted base (λ t. inCells (length (drop x (s .output)) + length (s .input))) _ _
-            (r (withOpened rs l) (moved x s) (rw (length-take-le x (s .output) h) c))
+            (r (withOpened rs l) (sequenceMoved x s) (rw (length-take-le x (s .output) h) c))
     performs next₀ next r (call f) l s c =
         both-there base (isDeclared code₀ f) (isDeclared code f) _ _ (declared f)
         (affords base f _ _
@@ -287,7 +287,7 @@ module _ (A : Type 0) (step : Need → Tally → A → A) (Under : A → A → T
   unfolding chooseFrom
   chooses field (noneLeft {r}) = neither r
   chooses field (oneMore {metric} {tests} {stores} {xs} {ys} {more₀} {more} a later) =
-      by (place metric tests field) (chooses field later)
+      by (findPlace metric tests field) (chooses field later)
     where
       by : (found : Found) → AlikeChoice (chooseFrom more₀ field) (chooseFrom more field) →
           AlikeChoice (choiceOf found stores xs (chooseFrom more₀ field))
@@ -331,9 +331,9 @@ module _ (table : Table) (shape : Shape) (sites : List (Named Site)) where
   -- an expression's level under the earlier translation and now; the argument of a tail call is followed by the call
   data Levels : Level → Level → (Stand → List Action) → Type 0 where
     whole : {k : Stand → List Action} → Levels outermost outermost k
-    within : {k : Stand → List Action} → Levels inside inside k
+    within : {k : Stand → List Action} → Levels inArgument inArgument k
     tail : {k : Stand → List Action} (f : ℕ) → ((w : Stand) → k w ≡ go (restOf shape w) ∷ argumentReady (tailCall f ∷ [])) →
-        Levels inside (inTail f) k
+        Levels inArgument (inTail f) k
 
   same-ready : {xs ys : List Action} → Alike xs ys → Alike (argumentReady xs) (argumentReady ys)
   same-ready a = same useSeq (same (select nowhere) a)
@@ -346,7 +346,7 @@ module _ (table : Table) (shape : Shape) (sites : List (Named Site)) where
   same-call nests number n w a = same-ready (same (call number) a)
 
   argument-level : (m : Manner) (number : ℕ) (n : Name) (more : Stand → List Action) →
-      Levels inside (levelIn m number) (λ w. calling shape m number n w (more w))
+      Levels inArgument (levelIn m number) (λ w. calling shape m number n w (more w))
   argument-level emits number n more = within
   argument-level (computes op) number n more = within
   argument-level replaces number n more = tail number (λ w. refl)
@@ -362,9 +362,9 @@ module _ (table : Table) (shape : Shape) (sites : List (Named Site)) where
   alike-part within x w e a = same _ (same _ (same out a))
   alike-part {k} (tail f follows) x w e {ys} a = by (endsPattern shape x) e refl a
     where
-      by : (q : Bool) (e : Expression) → endsPattern shape x ≡ q → Alike (earlierItems table shape sites inside e (passage shape x w .after) k) ys →
+      by : (q : Bool) (e : Expression) → endsPattern shape x ≡ q → Alike (earlierItems table shape sites inArgument e (passage shape x w .after) k) ys →
           Alike (go (passage shape x w .gap) ∷ select (passage shape x w .piece) ∷ out ∷
-          earlierItems table shape sites inside e (passage shape x w .after) k)
+          earlierItems table shape sites inArgument e (passage shape x w .after) k)
           (whereLeft (guard (both (isEnd e) q) (some f)) (passage shape x w)
           (go (passage shape x w .gap) ∷ select (passage shape x w .piece) ∷ out ∷ ys))
       by true end ends a =
@@ -383,8 +383,8 @@ module _ (table : Table) (shape : Shape) (sites : List (Named Site)) where
 
   alike-items : {level₀ level : Level} {k₀ k : Stand → List Action} → Levels level₀ level k₀ → (e : Expression) (w : Stand) →
       ((w : Stand) → Alike (k₀ w) (k w)) →
-      Alike (earlierItems table shape sites level₀ e w k₀) (items table shape sites level e w k)
-  unfolding earlierItems items
+      Alike (earlierItems table shape sites level₀ e w k₀) (itemActions table shape sites level e w k)
+  unfolding earlierItems itemActions
   alike-items v end w a = a w
   alike-items v (thenCharacter c e) w a = same (outC c) (alike-items v e w a)
   alike-items v (thenSymbol x e) w a = same _ (alike-items v e w a)
@@ -402,7 +402,7 @@ alike-sentences table r (s ∷ ss) =
     oneMore (alike-items table (shapeOf (s .pattern)) (testedShape (shapeOf (s .pattern)) .sites) whole (s .expression) atStart
     (λ w. same (go (restOf (shapeOf (s .pattern)) w)) nothing)) (alike-sentences table r ss)
 
-alike-functions : (table : Table) (f : ℕ) → AlikeSentences (codeAt (earlier table) f) (codeAt (translate table) f)
+alike-functions : (table : Table) (f : ℕ) → AlikeSentences (codeAt (earlierTranslation table) f) (codeAt (translate table) f)
 unfolding nth
 alike-functions table zero = noneLeft
 alike-functions table (suc i) = there table i
@@ -439,11 +439,11 @@ module _ (room : Room) where
     told (done s g) = refl
     told (stop answer function g) = refl
 
-    known : resultOf (textOf (from (watching room) (translate table) start text allowance none)) .answer ≡ noInstruction → ⊥
+    known : resultOf (textOf (runUnder (watching room) (translate table) start text allowance none)) .answer ≡ noInstruction → ⊥
     known h =
         rewrite-known table start text allowance
         (sym (ap (λ (r : Result). r .answer)
-        (sym (told (from (watching room) (translate table) start text allowance none)) ∙
+        (sym (told (runUnder (watching room) (translate table) start text allowance none)) ∙
         ap (λ o. resultOf (textOf o)) (watched-endless room (translate table) start text allowance) ∙
         agree-result table ok start text allowance)) ∙ h)
 
@@ -456,11 +456,11 @@ module _ (room : Room) where
     unmarked bothWrong k h = absurd (k refl)
 
     -- what a run of the earlier code keeps within, a run of the new code keeps within
-    pub no-more-cells : passedFirst room (earlier table) start text allowance ≡ none → passedFirst room (translate table) start text allowance ≡ none
+    pub no-more-cells : passedFirst room (earlierTranslation table) start text allowance ≡ none → passedFirst room (translate table) start text allowance ≡ none
     no-more-cells =
         unmarked
         (applies (Option Passed) notes Unpassed (λ need t m₀ m. first-alike (passes room need) need t m₀ m)
         (λ need t m₀ m. first-more (passes room need) need t m₀ m)
-        (earlier table) (translate table) (length-map table (earlierFunction table) ∙ sym (length-map table (translatedFunction table)))
+        (earlierTranslation table) (translate table) (length-map table (earlierFunction table) ∙ sym (length-map table (translatedFunction table)))
         (alike-functions table) allowance 1 start (loaded text) .each (fresh allowance) none none (λ e. e))
         known

@@ -9,7 +9,7 @@ use Rattle.meaning.specs.Tree.{Table}
 use Rattle.meaning.specs.Allowed.{isByte, allowed}
 use Rattle.meaning.specs.Instructions.{Test, look, compare, predicate, predicatePart, unknownTest, Store, store, unknownStore, Span, Action, go, select, out, outC, outV, beginSeq, useSeq, call, tailCall, emission, compute, unknownAction, Metric, exactly, ends, middle, Sentences, Code}
 use Rattle.meaning.specs.Translation.{translate}
-use Rattle.meaning.specs.Packing.{word, operationNumber, testWord, storeWord, spanWord, actionWords, packActions, maxStored, metricWord, countsWord, packSentences, packFunctions, placesFrom, pack}
+use Rattle.meaning.specs.Packing.{codeWord, operationNumber, testWord, storeWord, spanWord, actionWords, packActions, maxStored, metricWord, countsWord, packSentences, packFunctions, placesFrom, pack}
 use Rattle.meaning.proofs.laws.Passing.{every-head, every-tail}
 use Rattle.meaning.proofs.laws.Words.{register-below, class-below, truth-below, operation-below, length-below}
 use Rattle.meaning.proofs.laws.Packable.{All, nil, cons, FitsTest, FitsStore, FitsSpan, FitsAction, FitsMetric, FitsSentences, eachNone, eachMore, Packable, all-append, all-map}
@@ -38,7 +38,7 @@ bytes-narrow [] t = nil
 bytes-narrow (b ∷ n) t = cons {x = b} (omega (arith, ltb→lt b 256 (every-head isByte b n t))) (bytes-narrow n (every-tail isByte b n t))
 
 -- a word with one operand
-operand-narrow : (n a : ℕ) → n < 256 → a < 256 → Narrow (word n a 0 0)
+operand-narrow : (n a : ℕ) → n < 256 → a < 256 → Narrow (codeWord n a 0 0)
 operand-narrow n a hn ha = omega arith
 
 one : {w : ℕ} → Narrow w → All Narrow (w ∷ [])

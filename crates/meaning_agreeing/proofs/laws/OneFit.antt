@@ -8,7 +8,7 @@ use mathlib.Core.Option.{Option, some}
 use lib.ListN.{length, length-append}
 use Rattle.meaning.specs.Choice.{Bytes, Name, lookup}
 use Rattle.meaning.specs.Tree.{Letter, character, symbol, Element, letter, part, Condition}
-use Rattle.meaning.specs.Rewriting.{Bindings, unbound, match, partText}
+use Rattle.meaning.specs.Rewriting.{Bindings, unbound, match, partBytes}
 use Rattle.meaning.specs.Fits.{standsFor, filled, Fits}
 use Rattle.meaning.specs.Allowed.{partsOf, distinct}
 use Rattle.meaning_agreeing.proofs.laws.Fits.{Split, split, one-byte, tail-equal, nil-length, match-fits}
@@ -38,7 +38,7 @@ alike-step e p a b text f g same later =
     let behind = later (s .rest) (s .isLater) (cc (u .isLater, t .1)) in
     cc (here, behind)
 
-taken-length : {o : Option Bytes} {piece : Bytes} → o ≡ some piece → length piece ≡ length (partText o)
+taken-length : {o : Option Bytes} {piece : Bytes} → o ≡ some piece → length piece ≡ length (partBytes o)
 taken-length h = rw h
 
 letter-length : (l : Letter) (a : Bindings) (piece : Bytes) → standsFor a (letter l) ≡ some piece → length piece ≡ 1
@@ -85,7 +85,7 @@ alike-last (part x ∷ p) a b text few f g =
 
 -- with a second one, where the first parts are of one length
 alike-first : (p : List Element) (a b : Bindings) (text : Bytes) (x : Name) (more : List Name) → partsOf p ≡ x ∷ more → length more ≤ 1 →
-    length (partText (lookup x (a .parts))) ≡ length (partText (lookup x (b .parts))) → filled a p ≡ some text → filled b p ≡ some text → Alike a b p
+    length (partBytes (lookup x (a .parts))) ≡ length (partBytes (lookup x (b .parts))) → filled a p ≡ some text → filled b p ≡ some text → Alike a b p
 unfolding partsOf
 alike-first [] a b text x more e few same f g = refl
 alike-first (letter l ∷ p) a b text x more e few same f g =
@@ -100,17 +100,17 @@ alike-first (part y ∷ p) a b text x more e few same f g =
 -- What is found is the only fit with its first part's length; with one e-variable or none, the only fit.
 pub match-only : (p : List Element) (cs : List Condition) (text : Bytes) (later fit : Bindings) → distinct (partsOf p) ≡ true → length (partsOf p) ≤ 2 →
     match p cs text unbound ≡ some later → Fits p cs text fit →
-    ((x y : Name) → partsOf p ≡ x ∷ y ∷ [] → length (partText (lookup x (fit .parts))) ≡ length (partText (lookup x (later .parts)))) →
+    ((x y : Name) → partsOf p ≡ x ∷ y ∷ [] → length (partBytes (lookup x (fit .parts))) ≡ length (partBytes (lookup x (later .parts)))) →
     map (standsFor fit) p ≡ map (standsFor later) p
 match-only p cs text later fit d few h f same = go (partsOf p) refl few same
   where
     whole : filled later p ≡ some text
-    whole = match-fits p cs text later d h .whole
+    whole = match-fits p cs text later d h .fills
 
     go : (names : List Name) → partsOf p ≡ names → length names ≤ 2 →
-        ((x y : Name) → names ≡ x ∷ y ∷ [] → length (partText (lookup x (fit .parts))) ≡ length (partText (lookup x (later .parts)))) →
+        ((x y : Name) → names ≡ x ∷ y ∷ [] → length (partBytes (lookup x (fit .parts))) ≡ length (partBytes (lookup x (later .parts)))) →
         Alike fit later p
-    go [] e few same = alike-last p fit later text (rw e (omega arith)) (f .whole) whole
-    go (x ∷ []) e few same = alike-last p fit later text (rw e (omega arith)) (f .whole) whole
-    go (x ∷ y ∷ []) e few same = alike-first p fit later text x (y ∷ []) e (omega arith) (same x y refl) (f .whole) whole
+    go [] e few same = alike-last p fit later text (rw e (omega arith)) (f .fills) whole
+    go (x ∷ []) e few same = alike-last p fit later text (rw e (omega arith)) (f .fills) whole
+    go (x ∷ y ∷ []) e few same = alike-first p fit later text x (y ∷ []) e (omega arith) (same x y refl) (f .fills) whole
     go (x ∷ y ∷ z ∷ more) e few same = absurd (omega arith)

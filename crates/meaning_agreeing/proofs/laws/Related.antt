@@ -14,7 +14,7 @@ use Rattle.meaning.specs.Answers.{noSentenceFits, allowanceSpent, noInstruction
 use Rattle.meaning.specs.Outcome.{Tally, pay, emitted, emittedLine, done, stop, andThen, computed}
 use Rattle.meaning.specs.Instructions.{Action, go, select, out, outC, outV, beginSeq, useSeq, call, tailCall, emission, compute, unknownAction, Code}
 use Rattle.meaning.specs.Matching.{Choice, chosen, chosenNone, chosenWrong, chooseFrom, storedValues}
-use Rattle.meaning.specs.Machine.{Need, inCells, outCells, recordBytes, frames, Watch, Ledger, Stacks, Local, Ran, Next, withTally, noting, whereThere, whereStored, whereOpened, wherePayable, maxOpened, spanOf, isDeclared, movedOn, withSelected, withOutput, withOpened, moved, afterField, returned, writing, perform, process, started, ranChoice, ranPaid, enter, codeAt}
+use Rattle.meaning.specs.Machine.{Need, inCells, outCells, recordBytes, frames, Watch, Ledger, Stacks, Local, Ran, Next, withTally, noting, whereThere, whereStored, whereOpened, wherePayable, maxOpened, spanOf, isDeclared, movedOn, withSelected, withOutput, withOpened, sequenceMoved, afterField, returned, writing, perform, process, started, ranChoice, ranPaid, enter, codeAt}
 use Rattle.meaning_agreeing.proofs.laws.Framing.{isFrames, isCall, anyCall, choiceCalls, either-left, either-right}
 
 -- the answers that a run gives whatever is lent: 11, 12, 18, 20 and 21
@@ -109,10 +109,10 @@ module _ (W U : Watch) (Nesting : Type 0) (R : Relation W U) (closed : Closed W 
         there (ltb (length (l .opened)) maxOpened) _ _ (r (withOpened (length (s .output) ∷ l .opened) l) s)
     performs next next′ frame r useSeq calls l s =
         openedAt (l .opened)
-        (λ r rs g. noting W (inCells (length (drop r (s .output)) + length (s .input))) g (next (withOpened rs l) (moved r s)))
-        (λ r rs g. noting U (inCells (length (drop r (s .output)) + length (s .input))) g (next′ (withOpened rs l) (moved r s)))
+        (λ r rs g. noting W (inCells (length (drop r (s .output)) + length (s .input))) g (next (withOpened rs l) (sequenceMoved r s)))
+        (λ r rs g. noting U (inCells (length (drop r (s .output)) + length (s .input))) g (next′ (withOpened rs l) (sequenceMoved r s)))
         (λ at rs.
-        closed .notes (λ t. inCells (length (drop at (s .output)) + length (s .input))) (λ t h. absurd h) _ _ (r (withOpened rs l) (moved at s)))
+        closed .notes (λ t. inCells (length (drop at (s .output)) + length (s .input))) (λ t h. absurd h) _ _ (r (withOpened rs l) (sequenceMoved at s)))
     performs next next′ frame r (call f) calls l s =
         there (isDeclared code f) _ _
         (closed .affords f _ _

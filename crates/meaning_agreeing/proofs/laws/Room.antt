@@ -11,7 +11,7 @@ use Rattle.meaning.specs.Answers.{inFull, recordFull}
 use Rattle.meaning.specs.Outcome.{Tally, fresh, pay, emitted, Outcome, done, stop, andThen, told, resultOf}
 use Rattle.meaning.specs.Instructions.{Code}
 use Rattle.meaning.specs.Machine.{Need, inCells, outCells, recordBytes, frames, onward, halt, Watch, Ledger, Stacks, Ran, withTally, afterNote, noting, wherePayable, ranChoice, ranPaid, enter}
-use Rattle.meaning.specs.Runs.{Room, passes, answerTo, endless, lent, Passed, firstPassed, watching, loaded, from, textOf, markOf, runEndless, runLent, passedFirst}
+use Rattle.meaning.specs.Runs.{Room, passes, answerTo, endless, lent, Passed, firstPassed, watching, loaded, runUnder, textOf, markOf, runEndless, runLent, passedFirst}
 use Rattle.meaning_agreeing.proofs.laws.Answers.{StopsSo, then-stops}
 use Rattle.meaning_agreeing.proofs.laws.Related.{Own, unfitting, spent, unreadable, misformed, past, Computation, Closed, Enters, choiceFor, Paying, applies}
 
@@ -165,7 +165,7 @@ answers-differ (stop answer function g) own h = own-differs own h
 -- "This run never answers 13 to 16"
 pub endless-never : (code : Code) (start : ℕ) (text : Bytes) (allowance : ℕ) → ForRoom (runEndless code start text allowance .answer) → ⊥
 endless-never code start text allowance =
-    answers-differ (from endless code start text allowance tt)
+    answers-differ (runUnder endless code start text allowance tt)
     (endless-own allowance code 1 start (loaded text) (record { tally = fresh allowance; mark = tt }))
 
 -- for a run without end the mark says nothing
@@ -203,27 +203,27 @@ module _ (room : Room) where
 
   module _ (code : Code) (start : ℕ) (text : Bytes) (allowance : ℕ) where
     abbrev watched : Ran (watching room)
-    watched = from (watching room) code start text allowance none
+    watched = runUnder (watching room) code start text allowance none
 
     -- The watched run without its mark is the run without end.
-    pub watched-endless : readFor endless seenEndless watched ≡ from endless code start text allowance tt
+    pub watched-endless : readFor endless seenEndless watched ≡ runUnder endless code start text allowance tt
     watched-endless =
         enter-read (Option Passed) watches endless seenEndless (λ need t m k. refl) allowance code 1 start (loaded text)
         (record { tally = fresh allowance; mark = none })
 
-    watched-lent : readFor (lent room) seenLent watched ≡ from (lent room) code start text allowance tt
+    watched-lent : readFor (lent room) seenLent watched ≡ runUnder (lent room) code start text allowance tt
     watched-lent =
         enter-read (Option Passed) watches (lent room) seenLent lent-law allowance code 1 start (loaded text)
         (record { tally = fresh allowance; mark = none })
 
     -- Where nothing is passed, the run on lent cells is the run without end, its stacks included.
     pub lent-endless : passedFirst room code start text allowance ≡ none →
-        from (lent room) code start text allowance tt ≡ from endless code start text allowance tt
+        runUnder (lent room) code start text allowance tt ≡ runUnder endless code start text allowance tt
     lent-endless h = sym watched-lent ∙ unpassed watched h ∙ watched-endless
 
     -- Where something is passed, the run on lent cells stops there.
     pub lent-stops : (p : Passed) → passedFirst room code start text allowance ≡ some p →
-        from (lent room) code start text allowance tt ≡ stop (answerTo (p .need)) 0 (record { tally = p .tally; mark = tt })
+        runUnder (lent room) code start text allowance tt ≡ stop (answerTo (p .need)) 0 (record { tally = p .tally; mark = tt })
     lent-stops p h = sym watched-lent ∙ stopped watched p h
 
     pub lent-equal : passedFirst room code start text allowance ≡ none →

@@ -14,7 +14,7 @@ use Rattle.meaning.specs.Classes.{Class}
 use Rattle.meaning.specs.Names.{numberFrom, numberOf, recoverPrefix, isRecovering, recovererOf}
 use Rattle.meaning.specs.Allowed.{isByte, member, spelledName, spelledElement, lettersIn, symbolsOf, maxLetters, maxSymbols, maxConditions, maxItems, maxName, itemsIn, spelledItems, allowedSentence, allowedFunction, allowed, sentencesIn, maxFunctions, maxSentences}
 use Rattle.meaning.specs.Instructions.{Site, Test, Store, store, Span, Action, go, select, out, outC, outV, beginSeq, useSeq, call, tailCall, emission, Metric, Code, compute}
-use Rattle.meaning.specs.Translation.{Shape, fixed, open₁, open₂, shapeOf, metricOf, Tested, testedShape, siteOr, Bounds, boundsOf, subjectTest, conditionTest, testsOf, storesOf, valueFrom, valueNumber, Stand, atStart, afterFirst, afterSecond, nowhere, Passage, passageFirst, gapToSecond, passageSecond, passage, restOf, Manner, emits, replaces, nests, Level, outermost, inside, inTail, isEnd, mannerOf, levelIn, endsPattern, leftFor, whereLeft, argumentReady, calling, items, passesRest, actionsOf, translatedSentences, translatedFunction, translate, computes}
+use Rattle.meaning.specs.Translation.{Shape, fixed, open₁, open₂, shapeOf, metricOf, Tested, testedShape, siteOr, Bounds, boundsOf, subjectTest, conditionTest, testsOf, storesOf, valueFrom, valueNumber, Stand, atStart, afterFirst, afterSecond, nowhere, Passage, passageFirst, gapToSecond, passageSecond, passage, restOf, Manner, emits, replaces, nests, Level, outermost, inArgument, inTail, isEnd, mannerOf, levelIn, endsPattern, leftFor, whereLeft, argumentReady, calling, itemActions, passesRest, actionsOf, translatedSentences, translatedFunction, translate, computes}
 use Rattle.meaning.specs.Packing.{Words, pack, unpack}
 use Rattle.meaning.proofs.laws.Choosing.{of-either}
 use Rattle.meaning.proofs.laws.Passing.{both-left, both-right, every-head, every-tail}
@@ -148,7 +148,7 @@ module _ (table : Table) (P : Action → Type 0) (kinds : Kinds table P) (shape 
   -- the tail call of a level has it
   abbrev Tailed : Level → Type 0
   Tailed outermost = Unit {0}
-  Tailed inside = Unit {0}
+  Tailed inArgument = Unit {0}
   Tailed (inTail f) = P (tailCall f)
 
   tailed-in : (m : Manner) (n : Name) → Tailed (levelIn m (numberOf table n))
@@ -160,7 +160,7 @@ module _ (table : Table) (P : Action → Type 0) (kinds : Kinds table P) (shape 
   left-all : {way : Passage} {moving : List Action} (level : Level) (x : Name) (e : Expression) → Tailed level → FitsPassage way → All P moving →
       All P (whereLeft (leftFor shape level x e) way moving)
   left-all outermost x e tail fits a = a
-  left-all inside x e tail fits a = a
+  left-all inArgument x e tail fits a = a
   left-all {way} {moving} (inTail f) x e tail fits a = left (both (isEnd e) (endsPattern shape x))
     where
       left : (q : Bool) → All P (whereLeft (guard q (some f)) way moving)
@@ -169,8 +169,8 @@ module _ (table : Table) (P : Action → Type 0) (kinds : Kinds table P) (shape 
 
   items-all : (symbols : List Name) (level : Level) (e : Expression) (w : Stand) (rest : Stand → List Action) → T (spelledItems symbols e) →
       Tailed level →
-      ((w₁ : Stand) → All P (rest w₁)) → All P (items table shape sites level e w rest)
-  unfolding items spelledItems
+      ((w₁ : Stand) → All P (rest w₁)) → All P (itemActions table shape sites level e w rest)
+  unfolding itemActions spelledItems
   items-all symbols level end w rest t tail a = a w
   items-all symbols level (thenCharacter c e) w rest t tail a =
       cons (kinds .characters c (ltb→lt c 256 (both-left (isByte c) (spelledItems symbols e) t)))
@@ -186,7 +186,7 @@ module _ (table : Table) (P : Action → Type 0) (kinds : Kinds table P) (shape 
       let spelt = spelled-call symbols place n argument e t in
       cons (kinds .begins)
       (items-all symbols (levelIn (mannerOf level e n) (numberOf table n)) argument w _ (spelt .argument) (tailed-in (mannerOf level e n) n)
-      (λ w₁. calling-all (mannerOf level e n) n w₁ (items table shape sites level e w₁ rest) (spelt .name)
+      (λ w₁. calling-all (mannerOf level e n) n w₁ (itemActions table shape sites level e w₁ rest) (spelt .name)
       (items-all symbols level e w₁ rest (spelt .after) tail a)))
 
   pub actions-all : (symbols : List Name) (e : Expression) → T (spelledItems symbols e) → All P (actionsOf table shape sites e)
@@ -229,7 +229,7 @@ module _ (table : Table) (shape : Shape) (sites : List (Named Site)) where
       actionsLength (whereLeft (leftFor shape level x e) way moving) ≤ 4 + bound
   unfolding actionsLength
   left-length outermost x e way moving bound h = h
-  left-length inside x e way moving bound h = h
+  left-length inArgument x e way moving bound h = h
   left-length (inTail f) x e way moving bound h = left (both (isEnd e) (endsPattern shape x))
     where
       left : (q : Bool) → actionsLength (whereLeft (guard q (some f)) way moving) ≤ 4 + bound
@@ -238,8 +238,8 @@ module _ (table : Table) (shape : Shape) (sites : List (Named Site)) where
 
   items-length : (symbols : List Name) (bound : ℕ) (level : Level) (e : Expression) (w : Stand) (rest : Stand → List Action) →
       T (spelledItems symbols e) → ((w₁ : Stand) → actionsLength (rest w₁) ≤ bound) →
-      actionsLength (items table shape sites level e w rest) ≤ maxItemWords * itemsIn e + bound
-  unfolding items spelledItems itemsIn actionsLength
+      actionsLength (itemActions table shape sites level e w rest) ≤ maxItemWords * itemsIn e + bound
+  unfolding itemActions spelledItems itemsIn actionsLength
   items-length symbols bound level end w rest t h = omega (arith, h w)
   items-length symbols bound level (thenCharacter c e) w rest t h =
       omega (arith, items-length symbols bound level e w rest (both-right (isByte c) (spelledItems symbols e) t) h)
@@ -249,18 +249,18 @@ module _ (table : Table) (shape : Shape) (sites : List (Named Site)) where
       omega (
         arith,
         left-length level x e (passage shape x w)
-            (go (passage shape x w .gap) ∷ select (passage shape x w .piece) ∷ out ∷ items table shape sites level e (passage shape x w .after) rest)
+            (go (passage shape x w .gap) ∷ select (passage shape x w .piece) ∷ out ∷ itemActions table shape sites level e (passage shape x w .after) rest)
             (maxItemWords * itemsIn e + bound) (omega (arith, items-length symbols bound level e (passage shape x w .after) rest t h)),
       )
   items-length symbols bound level (thenCall place n a e) w rest t h =
       let spelt = spelled-call symbols place n a e t in
-      let after : Stand → List Action = λ w₁. calling shape (mannerOf level e n) (numberOf table n) n w₁ (items table shape sites level e w₁ rest) in
+      let after : Stand → List Action = λ w₁. calling shape (mannerOf level e n) (numberOf table n) n w₁ (itemActions table shape sites level e w₁ rest) in
       omega (
         arith,
         items-length symbols (27 + (maxItemWords * itemsIn e + bound)) (levelIn (mannerOf level e n) (numberOf table n)) a w after (spelt .argument)
             (λ w₁. omega (
               arith,
-              calling-length (mannerOf level e n) (numberOf table n) n w₁ (items table shape sites level e w₁ rest)
+              calling-length (mannerOf level e n) (numberOf table n) n w₁ (itemActions table shape sites level e w₁ rest)
                   (spelt .name),
               items-length symbols bound level e w₁ rest (spelt .after) h,
             )),

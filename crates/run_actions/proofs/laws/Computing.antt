@@ -10,7 +10,7 @@ use Rattle.meaning.specs.Angles.{Operation, Angled as Meant, sum, notAngles, ou
 use Rattle.meaning.specs.Instructions.{compute}
 use Rattle.run_angles.specs.declared.Angled.{Angled}
 use Rattle.run_angles.specs.declared.Angled.the-variants.{Sum, NotAngles, OutOfRange}
-use Rattle.run_angles.specs.Post.{Left, left, leaves}
+use Rattle.run_angles.specs.Post.{Left, leftWith, leaves}
 use Rattle.run_actions.specs.declared.registers.Registers.{Registers}
 use Rattle.run_actions.specs.declared.registers.Ending.the-variants.{ArgumentNotAngles, AngleOutOfRange}
 use Rattle.run_actions.specs.declared.registers.Next.the-variants.{Stopped}
@@ -37,11 +37,11 @@ pub record Given (a : Meant) (count : ℕ) (result : Bytes) : Type 0 where
   pub same : a ≡ sum (take count result)
   pub within : count ≤ length result
 
-answered : {r q : Angled} {result old : Bytes} → left r result ≡ left q old → r ≡ q
+answered : {r q : Angled} {result old : Bytes} → leftWith r result ≡ leftWith q old → r ≡ q
 answered e = ap (λ (l : Left). l .answer) e
 
 module _ (old : Bytes) {result : Bytes} where
-  pub given : (a : Meant) {r : Angled} {count : ℕ} → r ≡ Sum count → left r result ≡ leaves a old → Given a count result
+  pub given : (a : Meant) {r : Angled} {count : ℕ} → r ≡ Sum count → leftWith r result ≡ leaves a old → Given a count result
   given (sum text) {count = count} told e =
       let counts : Sum (length text) ≡ Sum count = sym (answered e) ∙ told in
       let counted : count ≡ length text = cc in
@@ -59,7 +59,7 @@ module _ (old : Bytes) {result : Bytes} where
       let z : _≡_ {A = ℕ} 0 1 = cc in
       absurd (omega arith)
 
-  pub refused-angles : (a : Meant) {r : Angled} → r ≡ NotAngles → left r result ≡ leaves a old → a ≡ notAngles
+  pub refused-angles : (a : Meant) {r : Angled} → r ≡ NotAngles → leftWith r result ≡ leaves a old → a ≡ notAngles
   refused-angles (sum text) told e =
       let other : Sum (length text) ≡ NotAngles = sym (answered e) ∙ told in
       let z : _≡_ {A = ℕ} 0 1 = cc in
@@ -70,7 +70,7 @@ module _ (old : Bytes) {result : Bytes} where
       let z : _≡_ {A = ℕ} 0 1 = cc in
       absurd (omega arith)
 
-  pub refused-range : (a : Meant) {r : Angled} → r ≡ OutOfRange → left r result ≡ leaves a old → a ≡ outOfRange
+  pub refused-range : (a : Meant) {r : Angled} → r ≡ OutOfRange → leftWith r result ≡ leaves a old → a ≡ outOfRange
   refused-range (sum text) told e =
       let other : Sum (length text) ≡ OutOfRange = sym (answered e) ∙ told in
       let z : _≡_ {A = ℕ} 0 1 = cc in

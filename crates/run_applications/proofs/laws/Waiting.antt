@@ -94,7 +94,7 @@ module _ (room : Room) (allowance : ℕ) (words : Words) where
   waiting-stop (suc k) frames values answer function l = waiting-stop k frames values answer function l
 
   -- an application is its one step
-  pub entering-paid : (frame f : ℕ) (s : Stacks) (l : Ledgers) → l .tally .left ≤ allowance →
+  pub entering-paid : (frame f : ℕ) (s : Stacks) (l : Ledgers) → l .tally .stepsLeft ≤ allowance →
       entering room allowance words frame f s l ≡
       ranPaid (lent room) (functionsIn words) (entering room allowance words) frame f s l (pay f (l .tally))
   entering-paid frame f s l h = enter-step (lent room) allowance allowance (functionsIn words) frame f s l h (omega arith)

@@ -14,7 +14,7 @@ use Rattle.meaning.specs.Instructions.{Site, unknownTest}
 use Rattle.meaning.specs.Matching.{cellsBefore, cut, Checked, checked, asked, wrong, check}
 use Rattle.meaning.specs.Packing.{classOf, predicatePartFor}
 use Rattle.byte_classes.specs.Tests.{classTest}
-use Rattle.run_sites.specs.Sites.{inside, siteBefore}
+use Rattle.run_sites.specs.Sites.{withinField, siteBefore}
 use Rattle.run_sites.proofs.laws.Sites.{site-most}
 use Rattle.run_checking.proofs.laws.Cells.{class-unknown, class-known}
 
@@ -45,7 +45,7 @@ module _ (field : Bytes) where
   cut-within n m true false p q = rw (q, both-past (leb n m))
   cut-within n m false b′ p q = rw (crossed n m (leb n m) refl (leb-false n (length field) p))
 
-  cut-inside : (a b : Option ℕ) → cut (inside (length field) a) (inside (length field) b) field ≡ cut a b field
+  cut-inside : (a b : Option ℕ) → cut (withinField (length field) a) (withinField (length field) b) field ≡ cut a b field
   cut-inside none b = refl
   cut-inside (some n) none = cut-none (guard (leb n (length field)) (some n))
   cut-inside (some n) (some m) = cut-within n m (leb n (length field)) (leb m (length field)) refl refl

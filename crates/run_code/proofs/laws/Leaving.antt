@@ -13,9 +13,9 @@ use borrow.Author.Tests.{le-leb, lt-leb}
 use Rattle.meaning.specs.Choice.{Bytes}
 use Rattle.meaning.specs.Outcome.{maxCounted, uncounted, fresh, resultOf}
 use Rattle.meaning.specs.Machine.{isDeclared}
-use Rattle.meaning.specs.Runs.{Room, lent, loaded, from, textOf, runLent}
+use Rattle.meaning.specs.Runs.{Room, lent, loaded, runUnder, textOf, runLent}
 use Rattle.meaning.specs.Packing.{Words}
-use Rattle.meaning.specs.Leaving.{Cells, zeros, refused, left, leaving}
+use Rattle.meaning.specs.Leaving.{Cells, zeros, refusedRun, afterRun, leaving}
 use Rattle.meaning.specs.Leaving.{roomOf as roomOfCells}
 use Rattle.run_actions.specs.declared.registers.Registers.{Registers}
 use Rattle.run_actions.specs.declared.registers.Ending.{Ending}
@@ -101,7 +101,7 @@ module _ (room : Room) (allowance : ℕ) (words : Words) (m : Memory) where
   cells-end : (last : Next) (before : Cells) → HasEnded last → Keeps allowance last m → roomOf m ≡ roomOfCells before →
       drop (registersIn last .emitted) (m .«record») ≡ drop (registersIn last .emitted) (before .«record») →
       cells (clearedFrom 0 (m .input)) (clearedFrom (reportedOf last .text) (m .output)) (m .«record») ≡
-      left (resultOf (textOf (comesTo room allowance words last m))) before .cells
+      afterRun (resultOf (textOf (comesTo room allowance words last m))) before .cells
   cells-end (Onward g) before o k e beyond = absurd o
   cells-end (Deeper g) before o k e beyond = absurd o
   cells-end (Done g) before o k e beyond =
@@ -127,7 +127,7 @@ module _ (room : Room) (allowance : ℕ) (words : Words) (m : Memory) where
   pub leaves-end : (last : Next) (before : Cells) (o : Outcomes) → o ≡ comesTo room allowance words last m → HasEnded last → Keeps allowance last m →
       roomOf m ≡ roomOfCells before → drop (registersIn last .emitted) (m .«record») ≡ drop (registersIn last .emitted) (before .«record») →
       Leaves (reportedOf last) (countsIn (m .frames)) (cells (clearedFrom 0 (m .input)) (clearedFrom (reportedOf last .text) (m .output)) (m .«record»))
-      (left (resultOf (textOf o)) before)
+      (afterRun (resultOf (textOf o)) before)
   leaves-end last before o e over k room beyond =
       rw e (record { tells = tells-end last over k; counted = counts-end last over; leaves = cells-end last before over k room beyond })
 
@@ -167,7 +167,7 @@ module _ (text input input′ : Bytes) (l : Loaded text input input′) where
 
     -- what the run comes to
     abbrev pub Whole : Outcomes
-    Whole = from (lent (roomOf Start)) (functionsIn words) start text allowance tt
+    Whole = runUnder (lent (roomOf Start)) (functionsIn words) start text allowance tt
 
     pub underway-start : length frames ≡ wordsFor firstFrames → length values ≡ valuesFor firstFrames → countsIn frames ≡ uncounted → Held 0 frames →
         Underway allowance Beginning Start
@@ -206,7 +206,7 @@ module _ (text input input′ : Bytes) (l : Loaded text input input′) where
     -- and leaves what it should when it has been followed to its end
     pub ending : (last : Next) (m : Memory) → Leads words allowance Whole Beginning Start last m → HasEnded last →
         Leaves (reportedOf last) (countsIn (m .frames)) (cells (clearedFrom 0 (m .input)) (clearedFrom (reportedOf last .text) (m .output)) (m .«record»))
-        (left (runLent (roomOfCells (cells input output «record»)) (functionsIn words) start text allowance) (cells input output «record»))
+        (afterRun (runLent (roomOfCells (cells input output «record»)) (functionsIn words) start text allowance) (cells input output «record»))
     ending last m leads over =
         rw (l .sized) at
         (leaves-end (roomOf Start) allowance words m last (cells input output «record») Whole (leads .same) over (leads .keeps) (leads .room ∙ rw (l .sized))
@@ -214,22 +214,22 @@ module _ (text input input′ : Bytes) (l : Loaded text input input′) where
 
 -- BEFORE A RUN
 
-pub refused-leaves : (ending : Ending) (before : Cells) → Leaves (refusedWith ending) uncounted before (refused (endingNumber ending) before)
+pub refused-leaves : (ending : Ending) (before : Cells) → Leaves (refusedWith ending) uncounted before (refusedRun (endingNumber ending) before)
 refused-leaves ending before =
     record { tells = record { answer = refl; function = refl; steps = refl; text = refl; emissions = refl }; counted = refl; leaves = refl }
 
 module _ (words : Words) (start : ℕ) (text : Bytes) (before : Cells) (allowance : ℕ) where
-  pub leaving-unsound : soundIn words ≡ false → leaving words start text before allowance ≡ refused 18 before
+  pub leaving-unsound : soundIn words ≡ false → leaving words start text before allowance ≡ refusedRun 18 before
   leaving-unsound e = rw (unpacked words, e)
 
   module _ (sound : soundIn words ≡ true) where
-    pub leaving-undeclared : isDeclared (functionsIn words) start ≡ false → leaving words start text before allowance ≡ refused 9 before
+    pub leaving-undeclared : isDeclared (functionsIn words) start ≡ false → leaving words start text before allowance ≡ refusedRun 9 before
     leaving-undeclared d = rw (unpacked words, sound, d)
 
     module _ (declared : isDeclared (functionsIn words) start ≡ true) where
-      pub leaving-long : length (before .stackIn) < length text → leaving words start text before allowance ≡ refused 10 before
+      pub leaving-long : length (before .stackIn) < length text → leaving words start text before allowance ≡ refusedRun 10 before
       leaving-long l = rw (unpacked words, sound, declared, lt-leb (length text) (length (before .stackIn)) l)
 
       pub leaving-runs : length text ≤ length (before .stackIn) →
-          leaving words start text before allowance ≡ left (runLent (roomOfCells before) (functionsIn words) start text allowance) before
+          leaving words start text before allowance ≡ afterRun (runLent (roomOfCells before) (functionsIn words) start text allowance) before
       leaving-runs l = rw (unpacked words, sound, declared, le-leb (length text) (length (before .stackIn)) l)

@@ -9,7 +9,7 @@ use lib.Bits.{bitAnd, and-step}
 use lib.Dec.{eqb}
 use lib.ListN.{length}
 use Rattle.meaning.specs.Choice.{Bytes, both, startsWith}
-use Rattle.run_finding.specs.Occurrences.{bit, backwards, placesOf}
+use Rattle.run_finding.specs.Occurrences.{bit, backwards, occurrenceBits}
 
 -- which beginnings of the string end here: the string and what was read both stand backwards
 unfoldable pub stateOf : Bytes → Bytes → ℕ
@@ -38,14 +38,14 @@ and-bits u v a b =
     and-step (u * 2 + bit a) (v * 2 + bit b) ∙ rw (half, half′, odd, odd′, least-bit a b)
 
 pub one-more : (xs : Bytes) (x c : ℕ) (past : Bytes) →
-    bitAnd (stateOf xs past + 2 ^ length xs) (placesOf (x ∷ xs) c) ≡ stateOf (x ∷ xs) (c ∷ past)
-unfolding stateOf placesOf startsWith
+    bitAnd (stateOf xs past + 2 ^ length xs) (occurrenceBits (x ∷ xs) c) ≡ stateOf (x ∷ xs) (c ∷ past)
+unfolding stateOf occurrenceBits startsWith
 one-more [] x c past = and-bits 0 0 true (eqb x c)
 one-more (y ∷ ys) x c past =
     let s = startsWith (y ∷ ys) past in
     let power : 2 ^ suc (length ys) ≡ 2 ^ length ys * 2 = pow-suc 2 (length ys) in
     let shifted : stateOf ys past * 2 + bit s + 2 ^ suc (length ys) ≡ (stateOf ys past + 2 ^ length ys) * 2 + bit s = rw power (omega arith) in
-    rw (shifted, and-bits (stateOf ys past + 2 ^ length ys) (placesOf (y ∷ ys) c) s (eqb x c), one-more ys y c past)
+    rw (shifted, and-bits (stateOf ys past + 2 ^ length ys) (occurrenceBits (y ∷ ys) c) s (eqb x c), one-more ys y c past)
 
 -- the bits of the beginnings that are shorter
 pub shorter : (xs : Bytes) (x : ℕ) (past : Bytes) → stateOf (x ∷ xs) past / 2 ≡ stateOf xs past
@@ -65,8 +65,8 @@ state-small (x ∷ xs) past =
     let small = bit-small (startsWith (x ∷ xs) past) in
     rw power (omega (arith, state-small xs past))
 
-pub places-small : (xs : Bytes) (c : ℕ) → placesOf xs c < 2 ^ length xs
-unfolding placesOf
+pub places-small : (xs : Bytes) (c : ℕ) → occurrenceBits xs c < 2 ^ length xs
+unfolding occurrenceBits
 places-small [] c = omega arith
 places-small (x ∷ xs) c =
     let power : 2 ^ suc (length xs) ≡ 2 ^ length xs * 2 = pow-suc 2 (length xs) in

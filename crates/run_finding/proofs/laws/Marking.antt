@@ -12,20 +12,20 @@ use lib.Seq.{getD-set-same, getD-set-other}
 use lib.Pow.{pow-mono, shl-lt}
 use borrow.Author.Tests.{eqb-true, eqb-false}
 use Rattle.meaning.specs.Choice.{Bytes, pick}
-use Rattle.run_finding.specs.Occurrences.{bit, backwards, placesOf, Marks}
+use Rattle.run_finding.specs.Occurrences.{bit, backwards, occurrenceBits, Marks}
 use Rattle.run_finding.proofs.laws.Bits.{places-small, backwards-length}
 
 -- the table after some bytes of the string: the bits of those to come are still 0
 pub record Marked (string marks : List ℕ) (unit at : ℕ) : Type 0 where
   pub size : length marks ≡ 256
-  pub each : (c : ℕ) → c < 256 → getD marks c 0 ≡ placesOf (backwards string at) c * 2 ^ (length string - at)
+  pub each : (c : ℕ) → c < 256 → getD marks c 0 ≡ occurrenceBits (backwards string at) c * 2 ^ (length string - at)
   pub unit-is : unit ≡ 2 ^ (length string - at) / 2
 
 half-power : (n : ℕ) → 2 ^ suc n / 2 ≡ 2 ^ n
 half-power n = let power : 2 ^ suc n ≡ 2 ^ n * 2 = pow-suc 2 n in rw power (omega arith)
 
 pub marked-first : (string marks : List ℕ) (unit : ℕ) → 1 ≤ length string → marks ≡ replicate 256 0 → unit ≡ 2 ^ (length string - 1) → Marked string marks unit 0
-unfolding placesOf backwards
+unfolding occurrenceBits backwards
 marked-first string marks unit h e e′ =
     let whole : length string - 0 ≡ suc (length string - 1) = omega arith in
     record {
@@ -42,8 +42,8 @@ one-bit-more m p b =
     by-bit true = rw (one-mul p)
     by-bit false = rw (zero-mul p)
 
-next-byte : (string : Bytes) (at c : ℕ) → placesOf (backwards string (at + 1)) c ≡ placesOf (backwards string at) c * 2 + bit (eqb (getD string at 0) c)
-unfolding placesOf backwards
+next-byte : (string : Bytes) (at c : ℕ) → occurrenceBits (backwards string (at + 1)) c ≡ occurrenceBits (backwards string at) c * 2 + bit (eqb (getD string at 0) c)
+unfolding occurrenceBits backwards
 next-byte string at c = rw (add-one at)
 
 module _ (string marks : List ℕ) (unit at : ℕ) (m : Marked string marks unit at) (h : at < length string) where
@@ -54,10 +54,10 @@ module _ (string marks : List ℕ) (unit at : ℕ) (m : Marked string marks unit
   left = length string - (at + 1)
 
   -- what stands in the table, with the bit of this byte
-  grown : (c : ℕ) → c < 256 → getD marks c 0 + pick (eqb byte c) (2 ^ left) 0 ≡ placesOf (backwards string (at + 1)) c * 2 ^ left
+  grown : (c : ℕ) → c < 256 → getD marks c 0 + pick (eqb byte c) (2 ^ left) 0 ≡ occurrenceBits (backwards string (at + 1)) c * 2 ^ left
   grown c below =
       let more : length string - at ≡ suc left = omega arith in
-      rw (m .each c below, more, pow-suc 2 left, next-byte string at c) (sym (one-bit-more (placesOf (backwards string at) c) (2 ^ left) (eqb byte c)))
+      rw (m .each c below, more, pow-suc 2 left, next-byte string at c) (sym (one-bit-more (occurrenceBits (backwards string at) c) (2 ^ left) (eqb byte c)))
 
   unit-here : unit ≡ 2 ^ left
   unit-here = let more : length string - at ≡ suc left = omega arith in m .unit-is ∙ rw more (half-power left)
@@ -71,12 +71,12 @@ module _ (string marks : List ℕ) (unit at : ℕ) (m : Marked string marks unit
 
   pub mark-fits : length string ≤ 64 → byte < 256 → getD marks byte 0 + unit < 2 ^ 64
   mark-fits short below =
-      let value : getD marks byte 0 + unit ≡ placesOf (backwards string (at + 1)) byte * 2 ^ left =
+      let value : getD marks byte 0 + unit ≡ occurrenceBits (backwards string (at + 1)) byte * 2 ^ left =
       rw (unit-here, ← (rw (same-byte byte) at (grown byte below))) in
-      let small : placesOf (backwards string (at + 1)) byte < 2 ^ (at + 1) =
+      let small : occurrenceBits (backwards string (at + 1)) byte < 2 ^ (at + 1) =
       rw (backwards-length string (at + 1)) at (places-small (backwards string (at + 1)) byte) in
       let whole : at + 1 + left ≡ length string = omega arith in
-      let bound : placesOf (backwards string (at + 1)) byte * 2 ^ left < 2 ^ length string = rw whole at (shl-lt (at + 1) left small) in
+      let bound : occurrenceBits (backwards string (at + 1)) byte * 2 ^ left < 2 ^ length string = rw whole at (shl-lt (at + 1) left small) in
       rw value (omega (arith, bound, pow-mono {i = length string} {j = 64} short))
 
   pub marked-next : byte < 256 → Marked string (set marks byte (getD marks byte 0 + unit)) (unit / 2) (at + 1)
@@ -88,7 +88,7 @@ module _ (string marks : List ℕ) (unit at : ℕ) (m : Marked string marks unit
       }
     where
       by-byte : (c : ℕ) → c < 256 → (t : Bool) → eqb byte c ≡ t →
-          getD (set marks byte (getD marks byte 0 + unit)) c 0 ≡ placesOf (backwards string (at + 1)) c * 2 ^ left
+          getD (set marks byte (getD marks byte 0 + unit)) c 0 ≡ occurrenceBits (backwards string (at + 1)) c * 2 ^ left
       by-byte c inside true e =
           let here : byte ≡ c = eqb-true byte c e in
           rw (← here, getD-set-same marks byte (getD marks byte 0 + unit) 0 (omega (arith, m .size)), unit-here)
@@ -102,4 +102,4 @@ pub marked-last : (string marks : List ℕ) (unit at : ℕ) → Marked string ma
 marked-last string marks unit at m h h′ =
     let whole : at ≡ length string = omega arith in
     let none : length string - length string ≡ 0 = omega arith in
-    record { each = λ c below. rw (whole, none, mul-one (placesOf (backwards string (length string)) c)) at (m .each c below) }
+    record { each = λ c below. rw (whole, none, mul-one (occurrenceBits (backwards string (length string)) c)) at (m .each c below) }

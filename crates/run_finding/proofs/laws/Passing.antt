@@ -14,7 +14,7 @@ use lib.Pow.{pow-mono}
 use borrow.Author.Tests.{leb-true, leb-false}
 use Rattle.meaning.specs.Choice.{Bytes, startsWith}
 use Rattle.meaning.specs.Matching.{Checked, checked, passed, failed, Found, foundAt, foundNone, settled, search}
-use Rattle.run_finding.specs.Occurrences.{bit, backwards, placesOf, standing}
+use Rattle.run_finding.specs.Occurrences.{bit, backwards, occurrenceBits, leftmostOccurrence}
 use Rattle.run_finding.proofs.laws.Bits.{stateOf, one-more, shorter, whole, state-small, backwards-length}
 use Rattle.run_finding.proofs.laws.Standing.{stands, starts-short}
 
@@ -55,7 +55,7 @@ module _ (string text : Bytes) (first : ℕ) where
     unfolding backwards
     shorter-bits = rw size (shorter (backwards string k) (getD string k 0) (backwards (drop first text) read))
 
-    byte-more : bitAnd (stateOf (backwards string k) (backwards (drop first text) read) + 2 ^ k) (placesOf (backwards string (length string)) (getD text (first + read) 0)) ≡
+    byte-more : bitAnd (stateOf (backwards string k) (backwards (drop first text) read) + 2 ^ k) (occurrenceBits (backwards string (length string)) (getD text (first + read) 0)) ≡
         after (read + 1)
     unfolding backwards
     byte-more =
@@ -65,7 +65,7 @@ module _ (string text : Bytes) (first : ℕ) where
         (rw (backwards-length string k) at (one-more xs x (getD text (first + read) 0) (backwards (drop first text) read)))
 
     module _ (state top : ℕ) (e : state ≡ after read) (e′ : top ≡ 2 ^ k) where
-      pub next-bits : (marked : ℕ) → marked ≡ placesOf (backwards string (length string)) (getD text (first + read) 0) → bitAnd (state / 2 + top) marked ≡ after (read + 1)
+      pub next-bits : (marked : ℕ) → marked ≡ occurrenceBits (backwards string (length string)) (getD text (first + read) 0) → bitAnd (state / 2 + top) marked ≡ after (read + 1)
       next-bits marked e″ = rw (e, e′, e″, shorter-bits) byte-more
 
       pub bits-fit : length string ≤ 64 → state / 2 + top < 2 ^ 64
@@ -96,15 +96,15 @@ module _ (string text : Bytes) (first : ℕ) where
       rw (← (drop-drop q first text), ← (stands string (drop first text) q room), e)
 
   decides-on : (places q left from : ℕ) → q < places → first + q + length string ≤ length text → ended (q + length string) ≡ false →
-      left ≡ places - q - 1 → from ≡ first + q + 1 → standing string text (places - q) (first + q) ≡ standing string text left from
+      left ≡ places - q - 1 → from ≡ first + q + 1 → leftmostOccurrence string text (places - q) (first + q) ≡ leftmostOccurrence string text left from
   decides-on places q left from h h′ e e′ e″ = rw (e′, e″) (place-fails test (places - q) (first + q) (omega arith) (decided q h′ false e))
 
-  same-range : (places left from left′ from′ : ℕ) → left ≡ left′ → from ≡ from′ → standing string text left from ≡ standing string text left′ from′
+  same-range : (places left from left′ from′ : ℕ) → left ≡ left′ → from ≡ from′ → leftmostOccurrence string text left from ≡ leftmostOccurrence string text left′ from′
   same-range places left from left′ from′ e e′ = rw (e, e′)
 
   -- the search over the places that so many bytes leave undecided
   abbrev pub undecided : ℕ → ℕ → Found
-  undecided places read = standing string text (places - (read + 1 - length string)) (first + (read + 1 - length string))
+  undecided places read = leftmostOccurrence string text (places - (read + 1 - length string)) (first + (read + 1 - length string))
 
   module _ (places read : ℕ) (inside : first + read < length text) (more : read + 1 < places + length string) where
     again : length string ≤ read + 1 → read + 1 - length string + length string ≡ read + 1
@@ -131,14 +131,14 @@ module _ (string text : Bytes) (first : ℕ) where
     ended-size = ended-short (read + 1)
 
   -- before the first byte, and after the last that is read
-  pub none-decided : (places : ℕ) → 1 ≤ length string → undecided places 0 ≡ standing string text places first
+  pub none-decided : (places : ℕ) → 1 ≤ length string → undecided places 0 ≡ leftmostOccurrence string text places first
   none-decided places h = same-range places _ _ _ _ (omega arith) (omega arith)
 
   pub all-decided : (places read : ℕ) → 1 ≤ length string → places + length string - 1 ≤ read → undecided places read ≡ foundNone
   unfolding search
   all-decided places read h h′ = no-places (places - (read + 1 - length string)) (first + (read + 1 - length string)) (omega arith)
     where
-      no-places : (left from : ℕ) → left ≡ 0 → standing string text left from ≡ foundNone
+      no-places : (left from : ℕ) → left ≡ 0 → leftmostOccurrence string text left from ≡ foundNone
       no-places left from e = rw e
 
   -- what bit 0 says

@@ -6,14 +6,14 @@ use mathlib.Core.Bool.{true}
 use lib.Bits.{bitAnd}
 use lib.ListN.{length, getD, drop}
 use Rattle.meaning.specs.Choice.{Bytes, startsWith}
-use Rattle.run_finding.specs.Occurrences.{standing, occurrenceOf, backwards}
+use Rattle.run_finding.specs.Occurrences.{leftmostOccurrence, occurrenceOf, backwards}
 use Rattle.run_finding.proofs.laws.Passing.{after, undecided, none-read, next-bits, bits-fit, goes-on, ends-here, ended-size, all-decided, none-decided, odd-ended, even-on}
 use Rattle.run_finding.proofs.pass.Statement.{statement}
 use Rattle.run_finding.proofs.pass.Tie as tie
 
 abbrev Inv-loop : tie.InvT-loop
 Inv-loop marks string text first places most top last state₀ read₀ state read =
-    (state ≡ after string text first read) × (undecided string text first places read ≡ standing string text places first)
+    (state ≡ after string text first read) × (undecided string text first places read ≡ leftmostOccurrence string text places first)
 
 abbrev μ-loop : tie.MeasureT-loop
 μ-loop marks string text first places most top last state₀ read₀ state read = last - read

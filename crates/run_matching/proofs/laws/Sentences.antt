@@ -15,7 +15,7 @@ use Rattle.meaning.specs.Packing.{numberIn, firstIn, metricIn, Words, testsIn, 
 use Rattle.meaning.specs.Packing.{maxStored, sentencesEnd, unpackTests, unpackStores, unpackActions, unpackSentences, sentenceOf}
 use Rattle.meaning.specs.Instructions.{Metric, exactly, ends, middle, Sentences, sentence, unknownSentence, Test, Store, Action}
 use Rattle.meaning.specs.Matching.{Found, foundAt, foundWrong, checkAll, search, Choice}
-use Rattle.meaning.specs.Matching.{chosenNone, chosenWrong, choiceOf, chooseFrom, place, placesOf, firstPlace}
+use Rattle.meaning.specs.Matching.{chosenNone, chosenWrong, choiceOf, chooseFrom, findPlace, placesOf, firstPlace}
 use Rattle.meaning.proofs.laws.Remaining.{at-place, past-end}
 use Rattle.run_matching.specs.declared.Places.the-variants.{From, Unknown}
 use Rattle.run_matching.specs.Matched.{placesFor, tried}
@@ -118,7 +118,7 @@ module _ (words : Words) (field : Bytes) where
 
   chosen-picked : (b : Bool) (metric : Metric) (tests : List Test) (stores : List Store) (actions : List Action) (more : Sentences) →
       chooseFrom (pick b (sentence metric tests stores actions more) unknownSentence) field ≡
-      choiceOf (pick b (place metric tests field) foundWrong) stores actions (chooseFrom more field)
+      choiceOf (pick b (findPlace metric tests field) foundWrong) stores actions (chooseFrom more field)
   unfolding chooseFrom
   chosen-picked true metric tests stores actions more = refl
   chosen-picked false metric tests stores actions more = refl

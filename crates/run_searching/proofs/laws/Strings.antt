@@ -15,7 +15,7 @@ use Rattle.meaning.specs.Instructions.{fromPlace, look, Test}
 use Rattle.meaning.specs.Matching.{checked, wrong, Checked, passed, failed, wherePassed}
 use Rattle.meaning.specs.Matching.{checkAll, Found, foundAt, foundNone, foundWrong, settled, search}
 use Rattle.meaning.specs.Packing.{secondIn, thirdIn, testOf, Words, unpackTests}
-use Rattle.run_finding.specs.Occurrences.{standing, suited, occurrence, occurrenceOf}
+use Rattle.run_finding.specs.Occurrences.{leftmostOccurrence, suited, occurrence, occurrenceOf}
 use Rattle.run_finding.specs.declared.Occurrence.{Occurrence}
 use Rattle.run_finding.specs.declared.Occurrence.the-variants.{At, Nowhere, Unsuited}
 use Rattle.run_searching.specs.Searches.{looks, Spelled}
@@ -127,12 +127,12 @@ module _ (string field : Bytes) (places first : ℕ) where
 
   -- an occurrence that is looked for
   looked-for : (o : Occurrence) → o ≡ occurrence string field places first → (o ≡ Unsuited → ⊥) →
-      Suited string field places first × (o ≡ occurrenceOf (standing string field places first))
+      Suited string field places first × (o ≡ occurrenceOf (leftmostOccurrence string field places first))
   looked-for o e ne = by-test (suited (length string) (length field) places first) refl e
     where
       by-test : (b : Bool) → suited (length string) (length field) places first ≡ b →
-          o ≡ pick b (occurrenceOf (standing string field places first)) Unsuited →
-          Suited string field places first × (o ≡ occurrenceOf (standing string field places first))
+          o ≡ pick b (occurrenceOf (leftmostOccurrence string field places first)) Unsuited →
+          Suited string field places first × (o ≡ occurrenceOf (leftmostOccurrence string field places first))
       by-test true s h = (is-suited s, h)
       by-test false s h = absurd (ne h)
 

@@ -10,7 +10,7 @@ use Rattle.meaning.specs.Instructions.{Site}
 use Rattle.meaning.specs.Packing.{siteOf}
 use Rattle.meaning.specs.Choice.{guard}
 use Rattle.meaning.specs.Matching.{cellsBefore}
-use Rattle.run_sites.specs.Sites.{inside, siteBefore}
+use Rattle.run_sites.specs.Sites.{withinField, siteBefore}
 
 -- the three registers have the numbers 0 to 2
 pub site-unknown : (register k : ℕ) → (register ≡ 0 → ⊥) → (register ≡ 1 → ⊥) → (register ≡ 2 → ⊥) → siteOf register k ≡ none
@@ -20,7 +20,7 @@ inside-most : (whole n m : ℕ) (b : Bool) → leb m whole ≡ b → some n ≡ 
 inside-most whole n m true p e = let same : n ≡ m = cc in rw same (leb-true m whole p)
 inside-most whole n m false p e = let z : _≡_ {A = ℕ} 0 1 = cc in absurd (omega arith)
 
-counted-most : (whole n : ℕ) (a : Option ℕ) → some n ≡ inside whole a → n ≤ whole
+counted-most : (whole n : ℕ) (a : Option ℕ) → some n ≡ withinField whole a → n ≤ whole
 counted-most whole n none e = let z : _≡_ {A = ℕ} 0 1 = cc in absurd (omega arith)
 counted-most whole n (some m) e = inside-most whole n m (leb m whole) refl e
 

@@ -3,14 +3,14 @@ use native.Mathlib.Omega.{arith}
 use Prim.Native.Nat.{_-_}
 use mathlib.Core.Path.{_≡_, refl, sym, _∙_, ap}
 use lib.ListN.{length, drop}
-use Rattle.tape_flatness.specs.Scanned.{placeOf, outOfCalls, opensCall, scanned}
+use Rattle.tape_flatness.specs.Scanned.{placeOf, outOfCalls, opensCall, scannedCalls}
 use Rattle.tape_flatness.proofs.Passing.{outer-stays, scan-ends}
 use borrow.Author.Needs.{needs}
 use Rattle.tape_flatness.proofs.nested_call.Statement.{statement}
 use Rattle.tape_flatness.proofs.nested_call.Tie as tie
 
 abbrev Inv-loop : tie.InvT-loop
-Inv-loop tape leftmost₀ i₀ leftmost i = scanned 0 (drop i tape) (outOfCalls leftmost) ≡ scanned 0 tape (outOfCalls 0)
+Inv-loop tape leftmost₀ i₀ leftmost i = scannedCalls 0 (drop i tape) (outOfCalls leftmost) ≡ scannedCalls 0 tape (outOfCalls 0)
 
 abbrev μ-loop : tie.MeasureT-loop
 μ-loop tape leftmost₀ i₀ leftmost i = length tape - i

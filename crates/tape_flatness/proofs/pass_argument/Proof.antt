@@ -4,7 +4,7 @@ use borrow.Author.Needs.{needs}
 use Prim.Native.Nat.{ℕ, _-_, _≤_}
 use mathlib.Core.Path.{_≡_, refl, _∙_}
 use lib.ListN.{length, drop}
-use Rattle.tape_flatness.specs.Scanned.{inCall, scanned}
+use Rattle.tape_flatness.specs.Scanned.{inCall, scannedCalls}
 use Rattle.tape_flatness.proofs.Passing.{inner-opens, closes-here, inner-closes, stays-here, stays-low, argument-ends}
 use Rattle.tape_flatness.proofs.pass_argument.Statement.{statement}
 use Rattle.tape_flatness.proofs.pass_argument.Tie as tie
@@ -12,7 +12,7 @@ use Rattle.tape_flatness.proofs.pass_argument.Tie as tie
 abbrev Inv-loop : tie.InvT-loop
 Inv-loop tape from leftmost found₀ more₀ i₀ found more i =
     (from ≤ i) × (more ≤ i)
-    × ((outermost : ℕ) → scanned 0 (drop from tape) (inCall 0 outermost leftmost) ≡ scanned 0 (drop i tape) (inCall more outermost found))
+    × ((outermost : ℕ) → scannedCalls 0 (drop from tape) (inCall 0 outermost leftmost) ≡ scannedCalls 0 (drop i tape) (inCall more outermost found))
 
 abbrev μ-loop : tie.MeasureT-loop
 μ-loop tape from leftmost found₀ more₀ i₀ found more i = length tape - i

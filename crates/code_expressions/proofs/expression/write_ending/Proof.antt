@@ -5,7 +5,7 @@ use mathlib.Core.Bool.{Bool}
 use mathlib.Core.List.{List, [], _∷_}
 use lib.ListN.{take, drop}
 use Rattle.meaning.specs.Choice.{Name}
-use Rattle.meaning.specs.Packing.{word}
+use Rattle.meaning.specs.Packing.{codeWord}
 use Rattle.code_patterns.specs.declared.pattern.Lengths.{Lengths}
 use Rattle.tape_words.specs.Words.{headName}
 use Rattle.code_words.specs.Writing.{Wrote}
@@ -25,7 +25,7 @@ written : (k : Manner) {manner : Manner} {code code′ : List ℕ} {at r : ℕ} 
 written k l w number found n e f wrote = rw (e, ← f) wrote
 
 emission-written : {ws : List ℕ} {head size : ℕ} {manner : Manner} {code code′ : List ℕ} {at r : ℕ} (l : Lengths) (w : Stand) (number : ℕ)
-    → manner ≡ Emits → Sized ws head size → Wrote code at (readyWords (word 14 size 0 0 ∷ take size (drop (head + 1) ws))) code′ r
+    → manner ≡ Emits → Sized ws head size → Wrote code at (readyWords (codeWord 14 size 0 0 ∷ take size (drop (head + 1) ws))) code′ r
     → Wrote code at (callWords manner l w number (headName ws head)) code′ r
 emission-written l w number e s wrote = rw e (rw (s .words, s .long) at wrote)
 
