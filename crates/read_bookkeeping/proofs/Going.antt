@@ -15,9 +15,8 @@ use Rattle.read_tokens.specs.View as View
 use Rattle.read_tokens.specs.declared.Span.{Span}
 use Rattle.read_bookkeeping.specs.declared.progress.Fault.{Fault}
 use Rattle.read_bookkeeping.specs.declared.progress.Progress.{Progress}
-use Rattle.read_bookkeeping.specs.declared.progress.Parsed.{Parsed as CodeParsed}
 use Rattle.read_bookkeeping.specs.declared.progress.Parsed.the-variants.{Stopped, Done}
-use Rattle.read_bookkeeping.specs.Answered.{numberOf, Comes, Agrees}
+use Rattle.read_bookkeeping.specs.Answered.{numberOf, Outcome, halted, reached, Comes, AgreesBy, Agrees}
 use Rattle.read_bookkeeping.specs.Tables.{Inside}
 use Rattle.read_bookkeeping.specs.Written.{Wrote, isQuiet, Ready, Went}
 use Rattle.read_bookkeeping.proofs.Lengths.{part-length}
@@ -31,37 +30,56 @@ check-wrong zero t later e = absurd (true≢false e)
 check-wrong (suc number) t later e = refl
 
 -- what the definition has read, where the code has
-pub record ReadAt {A : Type 0} (Reads : A → List Placed → Progress → Type 0) (p : Parsed A) (s : Progress) : Type 0 where
+pub record ReadAt {A P : Type 0} (Reads : A → List Placed → P → Type 0) (p : Parsed A) (s : P) : Type 0 where
   pub value : A
   pub rest : List Placed
   pub same : p ≡ parsed value rest
   pub how : Reads value rest s
 
-module _ {A : Type 0} {Reads : A → List Placed → Progress → Type 0} where
+-- whatever the code's reader hands back
+module _ {A P R : Type 0} {outcome : R → Outcome P} {Reads : A → List Placed → P → Type 0} where
   -- the definition stops with this fault
-  pub stops : {p : Parsed A} {fault : Fault} → p ≡ stopped (numberOf (fault .answer)) (fault .place) → Agrees Reads p (Stopped fault)
-  stops e = record { comes = rw e (refl, refl) }
+  pub stops-by : {p : Parsed A} {r : R} {fault : Fault} → outcome r ≡ halted fault
+      → p ≡ stopped (numberOf (fault .answer)) (fault .place)
+      → AgreesBy outcome Reads p r
+  stops-by h e = record { comes = rw (h, e) (refl, refl) }
 
   -- the definition reads
-  pub reads : {p : Parsed A} {s : Progress} (value : A) (rest : List Placed) → p ≡ parsed value rest → Reads value rest s → Agrees Reads p (Done s)
-  reads value rest e r = record { comes = rw e r }
+  pub reads-by : {p : Parsed A} {r : R} {s : P} → outcome r ≡ reached s → (value : A) (rest : List Placed) → p ≡ parsed value rest → Reads value rest s
+      → AgreesBy outcome Reads p r
+  reads-by h value rest e how = record { comes = rw (h, e) how }
 
   -- the code has stopped, so the definition has
-  pub has-stopped : (p : Parsed A) (fault : Fault) → Agrees Reads p (Stopped fault) → p ≡ stopped (numberOf (fault .answer)) (fault .place)
-  has-stopped (stopped number place) fault a = let c = a .comes in rw (c .0, c .1)
-  has-stopped (parsed value rest) fault a = absurd (a .comes)
+  pub has-stopped : (p : Parsed A) {r : R} (fault : Fault) → outcome r ≡ halted fault → AgreesBy outcome Reads p r
+      → p ≡ stopped (numberOf (fault .answer)) (fault .place)
+  has-stopped p fault h a = told p (rw h at (a .comes))
+    where
+      told : (p′ : Parsed A) → Comes Reads p′ (halted fault) → p′ ≡ stopped (numberOf (fault .answer)) (fault .place)
+      told (stopped number place) c = rw (c .0, c .1)
+      told (parsed value rest) c = absurd c
 
   -- the code has read, so the definition has
-  pub has-read : (p : Parsed A) (s : Progress) → Agrees Reads p (Done s) → ReadAt Reads p s
-  has-read (stopped number place) s a = absurd (a .comes)
-  has-read (parsed value rest) s a = record { value = value; rest = rest; same = refl; how = a .comes }
+  pub has-read : (p : Parsed A) {r : R} (s : P) → outcome r ≡ reached s → AgreesBy outcome Reads p r → ReadAt Reads p s
+  has-read p s h a = told p (rw h at (a .comes))
+    where
+      told : (p′ : Parsed A) → Comes Reads p′ (reached s) → ReadAt Reads p′ s
+      told (stopped number place) c = absurd c
+      told (parsed value rest) c = record { value = value; rest = rest; same = refl; how = c }
+
+-- where it counts nothing
+module _ {A : Type 0} {Reads : A → List Placed → Progress → Type 0} where
+  pub stops : {p : Parsed A} {fault : Fault} → p ≡ stopped (numberOf (fault .answer)) (fault .place) → Agrees Reads p (Stopped fault)
+  stops e = stops-by refl e
+
+  pub reads : {p : Parsed A} {s : Progress} (value : A) (rest : List Placed) → p ≡ parsed value rest → Reads value rest s → Agrees Reads p (Done s)
+  reads value rest e r = reads-by refl value rest e r
 
 -- what stops a reader stops what begins with it
-pub stops-too : {A B : Type 0} {Reads : A → List Placed → Progress → Type 0} {Makes : B → List Placed → Progress → Type 0} {p : Parsed A} {q : Parsed B} {r : CodeParsed}
-    {fault : Fault} → Agrees Reads p r → r ≡ Stopped fault
+pub stops-too : {A B P Q R S : Type 0} {outcome : R → Outcome P} {ended : S → Outcome Q} {Reads : A → List Placed → P → Type 0} {Makes : B → List Placed → Q → Type 0}
+    {p : Parsed A} {q : Parsed B} {r : R} {s : S} {fault : Fault} → AgreesBy outcome Reads p r → outcome r ≡ halted fault → ended s ≡ halted fault
     → (p ≡ stopped (numberOf (fault .answer)) (fault .place) → q ≡ stopped (numberOf (fault .answer)) (fault .place))
-    → Agrees Makes q (Stopped fault)
-stops-too {fault = fault} a e begins = stops (begins (has-stopped _ fault (rw e at a)))
+    → AgreesBy ended Makes q s
+stops-too {fault = fault} a e h begins = stops-by h (begins (has-stopped _ fault e a))
 
 -- FOLLOWING
 
@@ -87,19 +105,19 @@ follow-alone (stopped number place) = refl
 follow-alone (parsed value rest) = refl
 
 -- what the definition makes of what it has read, the code has read
-pub makes : {A B : Type 0} {Reads : A → List Placed → Progress → Type 0} {Makes : B → List Placed → Progress → Type 0} {p : Parsed B} {r : CodeParsed}
+pub makes : {A B P R : Type 0} {outcome : R → Outcome P} {Reads : A → List Placed → P → Type 0} {Makes : B → List Placed → P → Type 0} {p : Parsed B} {r : R}
     (make : A → B) (q : Parsed A)
-    → ((value : A) (rest : List Placed) (s : Progress) → Reads value rest s → Makes (make value) rest s)
+    → ((value : A) (rest : List Placed) (s : P) → Reads value rest s → Makes (make value) rest s)
     → p ≡ follow q (λ value rest. parsed (make value) rest)
-    → Agrees Reads q r
-    → Agrees Makes p r
-makes {A} {B} {Reads} {Makes} {p} {r} make q how e a = rw e (record { comes = made q r (a .comes) })
+    → AgreesBy outcome Reads q r
+    → AgreesBy outcome Makes p r
+makes {A} {B} {P} {outcome = outcome} {Reads} {Makes} {p} {r} make q how e a = rw e (record { comes = made q (outcome r) (a .comes) })
   where
-    made : (q′ : Parsed A) (r′ : CodeParsed) → Comes Reads q′ r′ → Comes Makes (follow q′ (λ value rest. parsed (make value) rest)) r′
-    made (stopped number place) (Stopped fault) c = c
-    made (stopped number place) (Done s) c = c
-    made (parsed value rest) (Stopped fault) c = c
-    made (parsed value rest) (Done s) c = how value rest s c
+    made : (q′ : Parsed A) (o : Outcome P) → Comes Reads q′ o → Comes Makes (follow q′ (λ value rest. parsed (make value) rest)) o
+    made (stopped number place) (halted fault) c = c
+    made (stopped number place) (reached s) c = c
+    made (parsed value rest) (halted fault) c = c
+    made (parsed value rest) (reached s) c = how value rest s c
 
 -- these before the others
 abbrev pub behind : {A : Type 0} → List A → List A → List Placed → Parsed (List A)

@@ -1,88 +1,62 @@
 -- What a name is: a predicate, built in, declared, too long.
-use Prim.Native.Nat.{ℕ, zero, suc, _+_, _-_, _≤_, _<_}
-use mathlib.Core.Path.{_≡_, refl, _∙_}
+use Prim.Native.Nat.{ℕ, _+_, _-_, _≤_, _<_}
+use mathlib.Core.Path.{_≡_, refl, sym, _∙_}
 use mathlib.Core.Bool.{Bool, true, false, not, true≢false}
-use mathlib.Core.List.{List, _∷_}
+use mathlib.Core.List.{List, [], _∷_}
 use mathlib.Core.Option.{none, some}
-use native.Mathlib.Numerals.{add-one}
 use native.Mathlib.Omega.{arith}
 use lib.Dec.{leb, ltb, eqb}
-use lib.ListN.{length, drop}
-use borrow.Author.Tests.{ltb-true, ltb-false}
+use lib.ListN.{length}
 use Rattle.meaning.specs.Choice.{Bytes, Name, pick, both, either, sameBytes}
-use Rattle.meaning.specs.Classes.{Class, digit, upper, lower, alphabetic, blank, className, classNumber, classes}
+use Rattle.meaning.specs.Classes.{Class, className, classes}
 use Rattle.meaning.specs.Angles.{plus, minus}
 use Rattle.meaning.specs.Names.{isEmission, operationName, isBuiltIn, classNamed, predicateOf, isPredicate}
-use Rattle.meaning.specs.Answers.{overLimit, wrongName}
-use Rattle.meaning.specs.Allowed.{member}
-use Rattle.meaning.specs.Reading.{faultUnless, calledFault}
-use Rattle.meaning.specs.Packing.{classOf}
+use Rattle.meaning.specs.Answers.{overLimit, wrongName, wrongLaterVariable}
+use Rattle.meaning.specs.Allowed.{member, maxIdentifier}
+use Rattle.meaning.specs.Reading.{faultUnless, calledFault, subjectFault}
 use Rattle.read_tokens.specs.View.{part}
 use Rattle.read_tokens.specs.declared.Span.{Span}
-use Rattle.read_bookkeeping.specs.Tables.{Inside, Entries, tableNames, declaredFaultIn}
-use Rattle.read_bookkeeping.proofs.Choosing.{fault-if, no-fault-here, a-fault-here}
+use Rattle.read_bookkeeping.specs.declared.names.Class.{Class as CodeClass}
+use Rattle.read_bookkeeping.specs.declared.names.Predicate.{Predicate}
+use Rattle.read_bookkeeping.specs.declared.names.Predicate.the-variants.{Asks, NoPredicate}
+use Rattle.read_bookkeeping.specs.Classed.{predicateMeant}
+use Rattle.read_bookkeeping.specs.Tables.{Inside, Entries, tableNames, position, declaredFaultIn}
+use Rattle.read_bookkeeping.proofs.Choosing.{fault-if, fault-if-not, no-fault-here, a-fault-here}
+use Rattle.read_bookkeeping.proofs.Finding.{among}
 use Rattle.read_bookkeeping.proofs.Lengths.{too-long, short-enough}
 
--- the class that a number below 5 names, and those asked after it; 5 names none
-pub record Classed (n : ℕ) : Type 0 where
-  pub class : Class
-  pub same : classOf n ≡ some class
-  pub number : classNumber class ≡ n
-  pub listed : drop n classes ≡ class ∷ drop (suc n) classes
+-- PREDICATES
 
-pub classed : (n : ℕ) → n < 5 → Classed n
-classed zero h = record { class = digit; same = refl; number = refl; listed = refl }
-classed (suc zero) h = record { class = upper; same = refl; number = refl; listed = refl }
-classed (suc (suc zero)) h = record { class = lower; same = refl; number = refl; listed = refl }
-classed (suc (suc (suc zero))) h = record { class = alphabetic; same = refl; number = refl; listed = refl }
-classed (suc (suc (suc (suc zero)))) h = record { class = blank; same = refl; number = refl; listed = refl }
-classed (suc (suc (suc (suc (suc n))))) h = absurd (omega arith)
+-- the classes that are left to be asked about
+pub record Asked (name : Name) (left : List Class) : Type 0 where
+  pub same : predicateOf name ≡ classNamed left name
 
-pub class-number : (n : ℕ) (c : Class) → n < 5 → classOf n ≡ some c → classNumber c ≡ n
-class-number n c h e =
-    let k = classed n h in
-    let same : k .class ≡ c = cc in
-    rw (← same) (k .number)
+pub asked-none : (name : Name) → Asked name classes
+asked-none name = record { same = refl }
 
--- a name that was compared with that of one class was compared with that of every class of its number
-pub class-word : {n : ℕ} (name : Name) {is : Bool} (m : ℕ) (d : Class) → n ≡ m → classOf m ≡ some d → is ≡ sameBytes name (className d)
-    → (c : Class) → classOf n ≡ some c → is ≡ sameBytes name (className c)
-class-word name m d e f s c g = let same : c ≡ d = cc in rw same s
+-- all were asked about
+pub asked-all : {name : Name} → Asked name [] → none ≡ predicateOf name
+unfolding classNamed
+asked-all a = sym (a .same)
 
--- the classes from the start are those from here
-pub record Asked (name : Name) (class : ℕ) : Type 0 where
-  pub low : class ≤ 5
-  pub same : predicateOf name ≡ classNamed (drop class classes) name
-
-pub asked-none : (name : Name) → Asked name 0
-asked-none name = record { low = omega arith; same = refl }
-
-module _ {name : Name} {class : ℕ} (a : Asked name class) where
-  -- all were asked
-  pub asked-all : 5 ≤ class → predicateOf name ≡ none
+module _ {name : Name} {class : Class} {left : List Class} (a : Asked name (class ∷ left)) {is : Bool} (s : is ≡ sameBytes name (className class)) where
+  asked : predicateOf name ≡ pick is (some class) (classNamed left name)
   unfolding classNamed
-  asked-all h = let w : class ≡ 5 = omega (arith, a .low) in a .same ∙ rw w
+  asked = a .same ∙ rw s
 
-  module _ (h : class < 5) {is : Bool} (s : (c : Class) → classOf class ≡ some c → is ≡ sameBytes name (className c)) where
-    asked : predicateOf name ≡ pick is (classOf class) (classNamed (drop (suc class) classes) name)
-    unfolding classNamed
-    asked = let k = classed class h in a .same ∙ rw (k .listed, ← (s (k .class) (k .same)), k .same)
+  pub asked-is : is ≡ true → some class ≡ predicateOf name
+  asked-is e = sym (rw e at asked)
 
-    pub asked-is : is ≡ true → predicateOf name ≡ classOf class
-    asked-is e = rw e at asked
+  pub asked-not : is ≡ false → Asked name left
+  asked-not e = record { same = rw e at asked }
 
-    pub asked-not : is ≡ false → Asked name (class + 1)
-    asked-not e =
-        let n : predicateOf name ≡ classNamed (drop (suc class) classes) name = rw e at asked in
-        record { low = omega arith; same = rw add-one n }
+-- what a name was found to be
+module _ (name : Name) {p : Predicate} (e : predicateMeant p ≡ predicateOf name) where
+  pub a-predicate : {class : CodeClass} → p ≡ Asks class → true ≡ isPredicate name
+  a-predicate f = rw (← e, f)
 
--- a number below 5 is a predicate's
-pub a-predicate : (n : Name) (r : ℕ) → predicateOf n ≡ classOf r → r ≤ 5 → isPredicate n ≡ ltb r 5
-a-predicate n r e low = told (ltb r 5) refl
-  where
-    told : (is : Bool) → ltb r 5 ≡ is → isPredicate n ≡ is
-    told true h = rw (e, classed r (ltb-true r 5 h) .same)
-    told false h = let w : r ≡ 5 = omega (arith, low, ltb-false r 5 h) in rw (e, w)
+  pub no-predicate : p ≡ NoPredicate → false ≡ isPredicate name
+  no-predicate f = rw (← e, f)
 
 -- BUILT-IN NAMES
 
@@ -106,6 +80,29 @@ module _ (text : Bytes) (x : Span) (p : Inside text x) where
 
   pub called-is : x .past - x .from ≤ 24 → {is : Bool} → isPredicate (part text x) ≡ is → pick is wrongName 0 ≡ calledFault (part text x)
   called-is h {is} e = rw (short-enough text x p 24 h, e) (fault-if is wrongName)
+
+-- A LATER VARIABLE
+
+later-fault-is : (names : List Name) (x : Name) {short known : Bool} → leb (length x) maxIdentifier ≡ short → member x names ≡ known
+    → faultUnless short overLimit (faultUnless known wrongLaterVariable 0) ≡ subjectFault names x
+later-fault-is names x p q = rw (p, q)
+
+module _ {text : Bytes} {table : List ℕ} {from to : ℕ} {x : Span} (pre : Inside text x × Entries text table from to) where
+  abbrev Later : ℕ → Type 0
+  Later number = number ≡ subjectFault (tableNames text table from to) (part text x)
+
+  pub later-long : 8 < x .past - x .from → Later overLimit
+  later-long l = later-fault-is (tableNames text table from to) (part text x) (too-long text x (pre .0) 8 l) refl
+
+  pub later-is : x .past - x .from ≤ 8 → (r : ℕ) → r ≡ from + position (part text x) (tableNames text table from to)
+      → {known : Bool} → ltb r to ≡ known
+      → Later (pick (not known) wrongLaterVariable 0)
+  later-is l r f {known} h =
+      fault-if-not known wrongLaterVariable
+      ∙ later-fault-is (tableNames text table from to) (part text x) (short-enough text x (pre .0) 8 l)
+      (among text table from to (pre .1) (part text x) r f h)
+
+-- A DECLARED NAME
 
 -- what is wrong with a name where it is called, and whether that is nothing
 pub record Asked-called (text : Bytes) (x : Span) (number : ℕ) (is : Bool) : Type 0 where

@@ -24,10 +24,10 @@ use Rattle.read_bookkeeping.specs.declared.progress.Fault.{Fault}
 use Rattle.read_bookkeeping.specs.declared.progress.Progress.{Progress}
 use Rattle.read_bookkeeping.specs.declared.progress.Parsed.the-variants.{Stopped}
 use Rattle.read_bookkeeping.specs.Tables.{Inside}
-use Rattle.read_bookkeeping.specs.Answered.{numberOf, Agrees}
+use Rattle.read_bookkeeping.specs.Answered.{numberOf, Outcome, halted, AgreesBy, Agrees}
 use Rattle.read_bookkeeping.specs.Written.{Ready, Went}
 use Rattle.read_bookkeeping.specs.Tokened.{tokenFault, signIs, Taken, Barred}
-use Rattle.read_bookkeeping.proofs.Going.{stops, went-on}
+use Rattle.read_bookkeeping.proofs.Going.{stops-by, went-on}
 
 -- a token's fault, and a token that is no name
 abbrev pub FaultOf : Placed → Fault → Type 0
@@ -105,9 +105,14 @@ module _ {A : Type 0} {text : Bytes} {mode : Tokens.Mode} {byte at : ℕ} (next 
   passes-not b = rw (b .unrolled, b .other, b .number, b .place)
 
   -- a byte that isn't there stops a reader that begins with it
+  pub barred-stops-by : {P R : Type 0} {outcome : R → Outcome P} {Reads : A → List Tokens.Placed → P → Type 0} {r : R} {fault : Fault} → outcome r ≡ halted fault
+      → Barred text mode byte at fault
+      → AgreesBy outcome Reads (Reading.pass byte (stream text mode at) next) r
+  barred-stops-by h b = stops-by h (passes-not b)
+
   pub barred-stops : {Reads : A → List Tokens.Placed → Progress → Type 0} {fault : Fault} → Barred text mode byte at fault
       → Agrees Reads (Reading.pass byte (stream text mode at) next) (Stopped fault)
-  barred-stops b = stops (passes-not b)
+  barred-stops b = barred-stops-by refl b
 
 -- NAMES
 
@@ -145,12 +150,16 @@ module _ {text : Bytes} {mode : Tokens.Mode} {at : ℕ} {t : Placed} (c : Comes 
   names-not fault next o = rw (c .unrolled, no-name (t .token) (t .place) (t .past) o)
 
 -- a token is refused
-pub refused : {text : Bytes} {mode : Tokens.Mode} {at : ℕ} {t : Placed} {fault : Fault} {A : Type 0} {Reads : A → List Tokens.Placed → Progress → Type 0} {p : Reading.Parsed A}
-    → Comes text mode at t
-    → p ≡ Reading.refuse (placedOf text t)
-    → FaultOf t fault
-    → Agrees Reads p (Stopped fault)
-refused {text} {t = t} c e f = stops (e ∙ rw (f .0 ∙ fault-same text (t .place) (t .past) (t .token), f .1))
+module _ {text : Bytes} {mode : Tokens.Mode} {at : ℕ} {t : Placed} {fault : Fault} {A : Type 0} {p : Reading.Parsed A} where
+  pub refused-by : {P R : Type 0} {outcome : R → Outcome P} {Reads : A → List Tokens.Placed → P → Type 0} {r : R} → outcome r ≡ halted fault → Comes text mode at t
+      → p ≡ Reading.refuse (placedOf text t)
+      → FaultOf t fault
+      → AgreesBy outcome Reads p r
+  refused-by h c e f = stops-by h (e ∙ rw (f .0 ∙ fault-same text (t .place) (t .past) (t .token), f .1))
+
+  pub refused : {Reads : A → List Tokens.Placed → Progress → Type 0} → Comes text mode at t → p ≡ Reading.refuse (placedOf text t) → FaultOf t fault
+      → Agrees Reads p (Stopped fault)
+  refused c e f = refused-by refl c e f
 
 -- a reader may go on at a token's place and after it
 module _ {text : Bytes} {mode : Tokens.Mode} {at words : ℕ} {t : Placed} (r : Ready text at words) (c : Comes text mode at t) where

@@ -1,4 +1,4 @@
--- The answers of the code as 01's numbers, and what a reader of the code comes to as what one of the definitions comes to.
+-- The answers of the code as 01's numbers, and what a reader of the code comes to as what a definition's comes to.
 use Prim.Native.Nat.{ℕ}
 use mathlib.Core.Path.{_≡_}
 use mathlib.Core.List.{List}
@@ -6,7 +6,11 @@ use Rattle.meaning.specs.Answers as Answers
 use Rattle.meaning.specs.Tokens.{Placed}
 use Rattle.meaning.specs.Reading as Reading
 use Rattle.read_bookkeeping.specs.declared.Answer.{Answer}
-use Rattle.read_bookkeeping.specs.declared.Answer.the-variants.{Accepted, TableTooLong, MalformedToken, NotAllowedHere, OverLimit, WrongName, WrongPatternVariable, WrongLaterVariable, UndeclaredName}
+use Rattle.read_bookkeeping.specs.declared.Answer.the-variants.{Accepted, TableTooLong, MalformedToken}
+use Rattle.read_bookkeeping.specs.declared.Answer.the-variants.{NotAllowedHere, OverLimit, WrongName}
+use Rattle.read_bookkeeping.specs.declared.Answer.the-variants.{WrongPatternVariable}
+use Rattle.read_bookkeeping.specs.declared.Answer.the-variants.{WrongLaterVariable, UndeclaredName}
+use Rattle.read_bookkeeping.specs.declared.progress.Fault.{Fault}
 use Rattle.read_bookkeeping.specs.declared.progress.Progress.{Progress}
 use Rattle.read_bookkeeping.specs.declared.progress.Parsed.{Parsed}
 use Rattle.read_bookkeeping.specs.declared.progress.Parsed.the-variants.{Stopped, Done}
@@ -23,12 +27,27 @@ numberOf WrongPatternVariable = Answers.wrongPatternVariable
 numberOf WrongLaterVariable = Answers.wrongLaterVariable
 numberOf UndeclaredName = Answers.undeclaredName
 
--- both stop at one place with one number, or both read, and then this holds of what was read, of the tokens after it and of how far the code has come
-abbrev pub Comes : {A : Type 0} → (A → List Placed → Progress → Type 0) → Reading.Parsed A → Parsed → Type 0
-Comes Reads (Reading.stopped number place) (Stopped fault) = (numberOf (fault .answer) ≡ number) × (fault .place ≡ place)
-Comes Reads (Reading.stopped number place) (Done progress) = ⊥
-Comes Reads (Reading.parsed value rest) (Stopped fault) = ⊥
-Comes Reads (Reading.parsed value rest) (Done progress) = Reads value rest progress
+-- what a reader of the code comes to, whatever it counts: it is halted by a fault, or has reached this
+pub data Outcome (P : Type 0) : Type 0 where
+  halted : Fault → Outcome P
+  reached : P → Outcome P
 
-pub record Agrees {A : Type 0} (Reads : A → List Placed → Progress → Type 0) (p : Reading.Parsed A) (r : Parsed) : Type 0 where
-  pub comes : Comes Reads p r
+-- both stop at one place with one number, or both read, and then this holds of what was read, of the tokens after it
+-- and of how far the code has come
+abbrev pub Comes : {A P : Type 0} → (A → List Placed → P → Type 0) → Reading.Parsed A → Outcome P → Type 0
+Comes Reads (Reading.stopped number place) (halted fault) = (numberOf (fault .answer) ≡ number) × (fault .place ≡ place)
+Comes Reads (Reading.stopped number place) (reached progress) = ⊥
+Comes Reads (Reading.parsed value rest) (halted fault) = ⊥
+Comes Reads (Reading.parsed value rest) (reached progress) = Reads value rest progress
+
+-- so it is with what a reader of the code hands back, of which `outcome` tells what it has come to
+pub record AgreesBy {A P R : Type 0} (outcome : R → Outcome P) (Reads : A → List Placed → P → Type 0)
+    (p : Reading.Parsed A) (r : R) : Type 0 where
+  pub comes : Comes Reads p (outcome r)
+
+abbrev pub parsedOutcome : Parsed → Outcome Progress
+parsedOutcome (Stopped fault) = halted fault
+parsedOutcome (Done progress) = reached progress
+
+abbrev pub Agrees : {A : Type 0} → (A → List Placed → Progress → Type 0) → Reading.Parsed A → Parsed → Type 0
+Agrees Reads p r = AgreesBy parsedOutcome Reads p r

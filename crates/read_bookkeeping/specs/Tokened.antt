@@ -57,16 +57,19 @@ isWord (Tokens.sign b) = false
 isWord Tokens.textEnd = false
 isWord Tokens.malformed = false
 
--- "Inside a sentence a word that is no variable is refused with 3": what was read as long as variables went, unless a word comes after it
+-- "Inside a sentence a word that is no variable is refused with 3": what was read as long as variables went, unless a
+-- word comes after it
 abbrev pub unlessWord : {A : Type 0} → Parsed A → Parsed A
 unlessWord (stopped number place) = stopped number place
 unlessWord (parsed value []) = parsed value []
-unlessWord (parsed value (t ∷ rest)) = pick (isWord (t .token)) (stopped notAllowedHere (t .place)) (parsed value (t ∷ rest))
+unlessWord (parsed value (t ∷ rest)) =
+    pick (isWord (t .token)) (stopped notAllowedHere (t .place)) (parsed value (t ∷ rest))
 
 -- the first token from a place on is this byte, and the next come from another place on
 pub record Taken (text : Bytes) (mode : Tokens.Mode) (byte at past : ℕ) : Type 0 where
   pub place : ℕ
-  pub unrolled : stream text mode at ≡ standing (Tokens.sign byte) place past ∷ stream text (Tokens.modeAfter mode (Tokens.sign byte)) past
+  pub unrolled : stream text mode at
+      ≡ standing (Tokens.sign byte) place past ∷ stream text (Tokens.modeAfter mode (Tokens.sign byte)) past
   pub onward : at < past
   pub inside : past ≤ length text
 

@@ -26,7 +26,8 @@ stringFrom text from = Tokens.quotation Tokens.plain [] from (drop from text)
 abbrev pub isQuiet : ℕ → Bool
 isQuiet word = ltb word 2304
 
--- a reader may begin at a place: the text is no longer than a table may be, and each word of the tape is charged to a byte
+-- a reader may begin at a place: the text is no longer than a table may be, and each word of the tape is charged to a
+-- byte
 pub record Ready (text : Bytes) (at words : ℕ) : Type 0 where
   pub inside : at ≤ length text
   pub charged : words ≤ at

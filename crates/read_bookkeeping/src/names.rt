@@ -1,23 +1,37 @@
-// Names and identifiers: parts of the text, and tables of them. An entry of a table is 32 times the place of a name and its length.
+// Names and identifiers: parts of the text, and tables of them. An entry of a table is 32 times the place of a name,
+// plus the name's length.
 use crate::Answer;
 use crate::progress::fault_if;
 use crate::progress::is_accepted;
 use read_tokens::Span;
 ghost use mathlib.Core.Path.{_≡_};
-ghost use mathlib.Core.Option.{some};
 ghost use Prim.Native.Nat.{_+_, _-_, _*_, _≤_, _<_};
 ghost use lib.ListN.{length};
 ghost use Rattle.meaning.specs.Choice.{sameBytes, startsWith};
-ghost use Rattle.meaning.specs.Classes.{Class, className};
-ghost use Rattle.meaning.specs.Names.{isBuiltIn, predicateOf};
-ghost use Rattle.meaning.specs.Reading.{calledFault};
-ghost use Rattle.meaning.specs.Packing.{classOf};
+ghost use Rattle.meaning.specs.Names.{isBuiltIn, predicateOf, isPredicate};
+ghost use Rattle.meaning.specs.Reading.{calledFault, subjectFault};
 ghost use Rattle.read_tokens.specs.View.{part};
 ghost use Rattle.read_bookkeeping.specs.Answered.{numberOf};
+ghost use Rattle.read_bookkeeping.specs.Classed.{predicateMeant};
 ghost use Rattle.read_bookkeeping.specs.Tables.{Inside, tableNames, Entries, position, declaredFaultIn};
 
 // In bytes.
 pub const LONGEST_NAME: usize = 24;
+
+// The byte classes that conditions ask for.
+pub enum Class {
+    Digit,
+    Upper,
+    Lower,
+    Letter,
+    Blank,
+}
+
+// A name as a predicate's.
+pub enum Predicate {
+    Asks(Class),
+    NoPredicate,
+}
 
 // A table of no functions yet.
 pub fn function_room() -> [usize; 64]
@@ -33,7 +47,7 @@ pub fn variable_room() -> [usize; 18]
     [0; 18]
 }
 
-// A name's entry in a table.
+// The entry of text[name] in a table.
 pub fn entry(name: Span) -> usize
     requires { ⌜ (name .from ≤ name .past) × (name .past ≤ 32768) ⌝ }
     ensures { λ r. ⌜ r ≡ name .from * 32 + (name .past - name .from) ⌝ }
@@ -41,7 +55,7 @@ pub fn entry(name: Span) -> usize
     name.from * 32 + (name.past - name.from)
 }
 
-// Whether two parts of the text have the same bytes.
+// Whether text[x] and text[y] are the same bytes.
 pub fn same(text: &[u8], x: Span, y: Span) -> bool
     requires { ⌜ Inside (now text) x × Inside (now text) y ⌝ }
     ensures { λ r. ⌜ r ≡ sameBytes (part (now (text .entry)) x) (part (now (text .entry)) y) ⌝ }
@@ -51,7 +65,7 @@ pub fn same(text: &[u8], x: Span, y: Span) -> bool
     spells(text, x, &text[from..past])
 }
 
-// Whether a part of the text begins with a word.
+// Whether text[x] begins with `word`.
 pub fn begins_with(text: &[u8], x: Span, word: &[u8]) -> bool
     requires { ⌜ Inside (now text) x ⌝ }
     ensures { λ r. ⌜ r ≡ startsWith (now (word .entry)) (part (now (text .entry)) x) ⌝ }
@@ -71,7 +85,7 @@ pub fn begins_with(text: &[u8], x: Span, word: &[u8]) -> bool
     true
 }
 
-// Whether a part of the text is a word.
+// Whether text[x] is `word`.
 pub fn spells(text: &[u8], x: Span, word: &[u8]) -> bool
     requires { ⌜ Inside (now text) x ⌝ }
     ensures { λ r. ⌜ r ≡ sameBytes (part (now (text .entry)) x) (now (word .entry)) ⌝ }
@@ -82,10 +96,11 @@ pub fn spells(text: &[u8], x: Span, word: &[u8]) -> bool
     begins_with(text, x, word)
 }
 
-// The first entry of a table from one on, and before another, that names what a part of the text does; that other where there is none.
+// Index of the first entry of table[from..to] that names text[x]; `to` if none.
 pub fn find(text: &[u8], table: &[usize], from: usize, to: usize, x: Span) -> usize
     requires { ⌜ Inside (now text) x × Entries (now text) (now table) from to ⌝ }
-    ensures { λ r. ⌜ r ≡ from + position (part (now (text .entry)) x) (tableNames (now (text .entry)) (now (table .entry)) from to) ⌝ }
+    ensures { λ r. ⌜ r
+        ≡ from + position (part (now (text .entry)) x) (tableNames (now (text .entry)) (now (table .entry)) from to) ⌝ }
 {
     let mut i = from;
     while i < to {
@@ -103,36 +118,41 @@ pub fn find(text: &[u8], table: &[usize], from: usize, to: usize, x: Span) -> us
     to
 }
 
-// Whether a part of the text is the name of the class with a number.
-fn names_class(text: &[u8], x: Span, class: usize) -> bool
-    requires { ⌜ Inside (now text) x × (class < 5) ⌝ }
-    ensures { λ r. ⌜ ((c : Class) → classOf class ≡ some c → r ≡ sameBytes (part (now (text .entry)) x) (className c)) ⌝ }
-{
-    match class {
-        0 => spells(text, x, b"IsDigit"),
-        1 => spells(text, x, b"IsUpper"),
-        2 => spells(text, x, b"IsLower"),
-        3 => spells(text, x, b"IsLetter"),
-        _ => spells(text, x, b"IsBlank"),
-    }
-}
-
-// The class of a predicate by its number, or 5 where the name is no predicate's.
-pub fn class_named(text: &[u8], x: Span) -> usize
+// The class that text[x] asks for as a predicate's name, if it is one's.
+pub fn class_named(text: &[u8], x: Span) -> Predicate
     requires { ⌜ Inside (now text) x ⌝ }
-    ensures { λ r. ⌜ (predicateOf (part (now (text .entry)) x) ≡ classOf r) × (r ≤ 5) ⌝ }
+    ensures { λ r. ⌜ predicateMeant r ≡ predicateOf (part (now (text .entry)) x) ⌝ }
 {
-    let mut class = 0;
-    while class < 5 {
-        if names_class(text, x, class) {
-            return class;
-        }
-        class += 1;
+    if spells(text, x, b"IsDigit") {
+        return Predicate::Asks(Class::Digit);
     }
-    5
+    if spells(text, x, b"IsUpper") {
+        return Predicate::Asks(Class::Upper);
+    }
+    if spells(text, x, b"IsLower") {
+        return Predicate::Asks(Class::Lower);
+    }
+    if spells(text, x, b"IsLetter") {
+        return Predicate::Asks(Class::Letter);
+    }
+    if spells(text, x, b"IsBlank") {
+        return Predicate::Asks(Class::Blank);
+    }
+    Predicate::NoPredicate
 }
 
-// Whether a call of a name needs no declaration: emissions begin with `Emit`, and two names compute with angles.
+// Whether text[x] is a predicate's name.
+fn is_predicate(text: &[u8], x: Span) -> bool
+    requires { ⌜ Inside (now text) x ⌝ }
+    ensures { λ r. ⌜ r ≡ isPredicate (part (now (text .entry)) x) ⌝ }
+{
+    match class_named(text, x) {
+        Predicate::Asks(_) => true,
+        Predicate::NoPredicate => false,
+    }
+}
+
+// Whether a call of text[x] needs no declaration: emissions begin with `Emit`, and two names compute with angles.
 pub fn is_built_in(text: &[u8], x: Span) -> bool
     requires { ⌜ Inside (now text) x ⌝ }
     ensures { λ r. ⌜ r ≡ isBuiltIn (part (now (text .entry)) x) ⌝ }
@@ -146,7 +166,7 @@ pub fn is_built_in(text: &[u8], x: Span) -> bool
     spells(text, x, b"DmSub")
 }
 
-// What is wrong with a called name.
+// What is wrong with text[x] as a called name.
 pub fn called_fault(text: &[u8], x: Span) -> Answer
     requires { ⌜ Inside (now text) x ⌝ }
     ensures { λ r. ⌜ numberOf r ≡ calledFault (part (now (text .entry)) x) ⌝ }
@@ -154,13 +174,15 @@ pub fn called_fault(text: &[u8], x: Span) -> Answer
     if LONGEST_NAME < x.past - x.from {
         return Answer::OverLimit;
     }
-    fault_if(class_named(text, x) < 5, Answer::WrongName)
+    fault_if(is_predicate(text, x), Answer::WrongName)
 }
 
-// What is wrong with a declared name, after those of a table.
+// What is wrong with text[x] as a declared name, where the first `functions` entries of `names` are declared before it.
 pub fn declared_fault(text: &[u8], names: &[usize], functions: usize, x: Span) -> Answer
     requires { ⌜ Inside (now text) x × Entries (now text) (now names) 0 functions ⌝ }
-    ensures { λ r. ⌜ numberOf r ≡ declaredFaultIn (tableNames (now (text .entry)) (now (names .entry)) 0 functions) (part (now (text .entry)) x) ⌝ }
+    ensures { λ r. ⌜ numberOf r
+        ≡ declaredFaultIn (tableNames (now (text .entry)) (now (names .entry)) 0 functions)
+        (part (now (text .entry)) x) ⌝ }
 {
     let fault = called_fault(text, x);
     if !is_accepted(fault) {
@@ -173,4 +195,18 @@ pub fn declared_fault(text: &[u8], names: &[usize], functions: usize, x: Span) -
         find(text, names, 0, functions, x) < functions,
         Answer::WrongName,
     )
+}
+
+// What is wrong with the variable text[x] after the pattern, whose own of its kind are table[from..to].
+pub fn later_fault(text: &[u8], table: &[usize], from: usize, to: usize, x: Span) -> Answer
+    requires { ⌜ Inside (now text) x × Entries (now text) (now table) from to ⌝ }
+    ensures { λ r. ⌜ numberOf r
+        ≡ subjectFault (tableNames (now (text .entry)) (now (table .entry)) from to)
+        (part (now (text .entry)) x) ⌝ }
+{
+    if 8 < x.past - x.from {
+        return Answer::OverLimit;
+    }
+    let known = find(text, table, from, to, x) < to;
+    fault_if(!known, Answer::WrongLaterVariable)
 }

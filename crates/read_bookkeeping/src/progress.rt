@@ -18,16 +18,13 @@ pub struct Fault {
     pub place: usize,
 }
 
-// The place in the text, the words on the tape, and what the reader counts: of a pattern its different s-variables and its e-variables, of an expression
-// its items and the e-variables that it has passed, of sentences how many more may come, of a table its functions.
+// The place in the text, and the words on the tape. A reader that counts something has a struct of its own.
 pub struct Progress {
     pub at: usize,
     pub words: usize,
-    pub count: usize,
-    pub parts: usize,
 }
 
-// What every reader comes to.
+// What a reader that counts nothing comes to.
 pub enum Parsed {
     Stopped(Fault),
     Done(Progress),

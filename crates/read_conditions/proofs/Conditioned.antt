@@ -3,10 +3,9 @@ use Prim.Native.Nat.{ℕ, zero, suc, _+_, _-_, _*_, _≤_, _<_}
 use mathlib.Core.Path.{_≡_, refl, sym, _∙_, ap}
 use mathlib.Core.Bool.{Bool, true, false, not}
 use mathlib.Core.List.{List, [], _∷_, _++_, append-nil, append-assoc}
-use mathlib.Core.Logic.{_⊎_, inl, inr, ⊎-elim}
 use mathlib.Core.Option.{Option, none, some}
 use native.Mathlib.Omega.{arith}
-use lib.Dec.{T, leb, ltb, eqb, lt→ltb}
+use lib.Dec.{T, eqb, lt→ltb}
 use lib.ListN.{length, getD}
 use lib.Seq.{length-slice}
 use types.Run.{OneOf, miss}
@@ -15,16 +14,14 @@ use borrow.Author.Tests.{eq-eqb, ne-eqb}
 use Rattle.meaning.specs.Choice.{Bytes, Name, pick, both, every, sameBytes}
 use Rattle.meaning.specs.Classes.{Class, classNumber}
 use Rattle.meaning.specs.Tree.{Subject, Condition}
-use Rattle.meaning.specs.Answers.{overLimit, wrongLaterVariable}
-use Rattle.meaning.specs.Allowed.{member, maxIdentifier}
+use Rattle.meaning.specs.Answers.{overLimit}
 use Rattle.meaning.specs.Names.{predicateOf}
 use Rattle.tape_layout.specs.Tape.{truthNumber, subjectTape, conditionTape, conditionsTape}
 use Rattle.meaning.specs.Tokens as Tokens
 use Rattle.meaning.specs.Grammar.{standing}
 use Rattle.meaning.specs.Reading as Reading
-use Rattle.meaning.specs.Reading.{Parsed, stopped, parsed, follow, faultUnless, subjectFault, itemOf, subjectOn}
+use Rattle.meaning.specs.Reading.{Parsed, stopped, parsed, follow, subjectFault, itemOf, subjectOn}
 use Rattle.meaning.proofs.laws.Passing.{both-pass}
-use Rattle.meaning.specs.Packing.{classOf}
 use Rattle.read_tokens.proofs.Token as token
 use Rattle.read_tokens.proofs.Shortest.{three-bytes}
 use Rattle.read_tokens.specs.View as View
@@ -36,48 +33,32 @@ use Rattle.read_tokens.proofs.Variants.{by-kind}
 use Rattle.read_tokens.specs.declared.Placed as Code
 use Rattle.read_bookkeeping.specs.declared.Answer.{Answer}
 use Rattle.read_bookkeeping.specs.declared.Answer.the-variants.{OverLimit, WrongName}
+use Rattle.read_bookkeeping.specs.declared.names.Class.{Class as CodeClass}
+use Rattle.read_bookkeeping.specs.declared.names.Predicate.{Predicate}
+use Rattle.read_bookkeeping.specs.declared.names.Predicate.the-variants.{Asks, NoPredicate}
+use Rattle.read_bookkeeping.specs.Classed.{classMeant, predicateMeant}
 use Rattle.read_bookkeeping.specs.declared.progress.Fault.{Fault}
 use Rattle.read_bookkeeping.specs.declared.progress.Progress.{Progress}
 use Rattle.read_bookkeeping.specs.declared.progress.Parsed.{Parsed as CodeParsed}
 use Rattle.read_bookkeeping.specs.declared.progress.Parsed.the-variants.{Stopped, Done}
-use Rattle.read_bookkeeping.specs.Tables.{Inside, tableNames, Entries, position}
+use Rattle.read_bookkeeping.specs.Tables.{Inside}
 use Rattle.read_bookkeeping.specs.Answered.{numberOf, Agrees}
 use Rattle.read_bookkeeping.specs.Written.{Wrote, isQuiet, Ready, Went}
 use Rattle.read_bookkeeping.specs.Tokened.{signIs, Taken, Barred}
 use Rattle.read_bookkeeping.specs.Items.{Variables, symbolNames, partNames}
 use Rattle.read_conditions.specs.declared.Named.{Named}
 use Rattle.read_conditions.specs.declared.Named.the-variants.{Variable, Other}
-use Rattle.read_conditions.specs.Conditions.{variableOf, variableNames, subjectOf, kindNumber, conditionEnd, conditionOn, truthAt, TruthNumber, truthBetween, Standing, Before, ConditionRead, ConditionsRead}
+use Rattle.read_conditions.specs.declared.Closing.{Closing}
+use Rattle.read_conditions.specs.declared.Closing.the-variants.{Says, NoTruth}
+use Rattle.read_conditions.specs.Conditions.{variableOf, variableNames, subjectOf, kindNumber, conditionEnd, conditionOn}
+use Rattle.read_conditions.specs.Conditions.{closingAs, truthIn, truthBetween, Standing, Before, ConditionRead, ConditionsRead}
 use Rattle.meaning_accepting.proofs.reading.Basics.{no-value}
-use Rattle.read_bookkeeping.proofs.Choosing.{both-true, fault-if-not, no-fault-here, a-fault-here}
-use Rattle.read_bookkeeping.proofs.Finding.{among}
-use Rattle.read_bookkeeping.proofs.Naming.{classed, class-number}
+use Rattle.read_bookkeeping.proofs.Choosing.{both-true, no-fault-here, a-fault-here}
 use Rattle.read_bookkeeping.proofs.Lengths.{too-long, short-enough, within}
 use Rattle.read_bookkeeping.proofs.Going.{check-wrong, stops, reads, has-read, stops-too, follow-alone, makes, behind, behind-more, went-none, ready-after, went-from, went-then}
 use Rattle.read_bookkeeping.proofs.Items.{variableToken, variableItem, identifier-inside, variable-at, variable-here, item-then}
 use Rattle.read_bookkeeping.proofs.Tabling.{every-append}
 use Rattle.read_bookkeeping.proofs.Tokening.{FaultOf, NoName, NameFirst, sign-shown, takes, passes-on, passes-not, barred-stops, names-not, refused, ready-past, ready-taken, went-before}
-
--- A LATER VARIABLE
-
-later-fault-is : (names : List Name) (x : Name) {short known : Bool} → leb (length x) maxIdentifier ≡ short → member x names ≡ known
-    → faultUnless short overLimit (faultUnless known wrongLaterVariable 0) ≡ subjectFault names x
-later-fault-is names x p q = rw (p, q)
-
-module _ {text : Bytes} {table : List ℕ} {from to : ℕ} {x : Span} (pre : Inside text x × Entries text table from to) where
-  abbrev Later : ℕ → Type 0
-  Later number = number ≡ subjectFault (tableNames text table from to) (View.part text x)
-
-  pub later-long : 8 < x .past - x .from → Later overLimit
-  later-long l = later-fault-is (tableNames text table from to) (View.part text x) (too-long text x (pre .0) 8 l) refl
-
-  pub later-is : x .past - x .from ≤ 8 → (r : ℕ) → r ≡ from + position (View.part text x) (tableNames text table from to)
-      → {known : Bool} → ltb r to ≡ known
-      → Later (pick (not known) wrongLaterVariable 0)
-  later-is l r f {known} h =
-      fault-if-not known wrongLaterVariable
-      ∙ later-fault-is (tableNames text table from to) (View.part text x) (short-enough text x (pre .0) 8 l)
-      (among text table from to (pre .1) (View.part text x) r f h)
 
 -- A CONDITION'S VARIABLE
 
@@ -129,29 +110,21 @@ no-string text k place past three =
     by-kind (λ t. OneOf allButQuoted (tagOf token.the-type t) → Reading.truthOf (tokenOf text t place past) three ≡ none) (λ n o. refl) (λ x o. refl) (λ x o. refl)
     (λ o. refl) (λ n o. absurd (miss allButQuoted 4 tt o)) (λ b o. refl) (λ o. refl) (λ o. refl) k
 
--- the truth value of a token
-abbrev truthIn : Bytes → Code.Placed → Option Bool
-truthIn text t = Reading.truthOf (tokenOf text (t .token) (t .place) (t .past)) (eqb (t .past) (t .place + 3))
+-- what a token says that says nothing, and that says a truth value
+pub says-nothing : (o : Option Bool) → NoTruth ≡ closingAs o → o ≡ none
+says-nothing none e = refl
+says-nothing (some truth) e = let z : _≡_ {A = ℕ} 1 0 = cc in absurd (omega arith)
 
-abbrev Truth : Bytes → Code.Placed → ℕ → Type 0
-Truth text t n = TruthNumber (truthIn text t) n
+pub says-truth : (o : Option Bool) {truth : Bool} → Says truth ≡ closingAs o → o ≡ some truth
+says-truth none e = let z : _≡_ {A = ℕ} 0 1 = cc in absurd (omega arith)
+says-truth (some truth) e = cc
 
--- what is no truth value has the number 1
-pub number-none : {value : Option Bool} → value ≡ none → TruthNumber value 1
-number-none e = record { same = e; known = inr (inl refl); low = omega arith }
-
-pub number-true : {value : Option Bool} → value ≡ some true → TruthNumber value 5
-number-true e = record { same = e; known = inr (inr refl); low = omega arith }
-
-pub number-false : {value : Option Bool} → value ≡ some false → TruthNumber value 0
-number-false e = record { same = e; known = inl refl; low = omega arith }
-
-pub truth-none : (text : Bytes) (t : Code.Placed) → OneOf allButQuoted (tagOf token.the-type (t .token)) → Truth text t 1
-truth-none text t o = number-none (no-string text (t .token) (t .place) (t .past) _ o)
+pub truth-none : (text : Bytes) (t : Code.Placed) → OneOf allButQuoted (tagOf token.the-type (t .token)) → NoTruth ≡ closingAs (truthIn text t)
+truth-none text t o = rw (no-string text (t .token) (t .place) (t .past) (eqb (t .past) (t .place + 3)) o)
 
 module _ (text : Bytes) (t : Code.Placed) (count : ℕ) (e : t .token ≡ Quoted count) where
-  pub truth-long : (t .past ≡ t .place + 3 → ⊥) → Truth text t 1
-  truth-long d = number-none (rw (e, ne-eqb (t .past) (t .place + 3) d))
+  pub truth-long : (t .past ≡ t .place + 3 → ⊥) → NoTruth ≡ closingAs (truthIn text t)
+  truth-long d = rw (e, ne-eqb (t .past) (t .place + 3) d)
 
   module _ (s : Standing text t) (d : t .past ≡ t .place + 3) where
     abbrev middle : ℕ
@@ -163,22 +136,10 @@ module _ (text : Bytes) (t : Code.Placed) (count : ℕ) (e : t .token ≡ Quoted
         let q = rw e at (s .sound) in
         rw (e, eq-eqb (t .past) (t .place + 3) d, three-bytes text (t .place) (t .past) d (s .inside) (q .0))
 
-    pub truth-three : {n : ℕ} → TruthNumber (truthBetween middle) n → Truth text t n
+    pub truth-three : {closing : Closing} → closing ≡ closingAs (truthBetween middle) → closing ≡ closingAs (truthIn text t)
     truth-three v =
-        record { same = three ∙ rw (← (both-true (eqb middle 84)), ← (both-true (eqb middle 70))) (v .same); known = v .known; low = v .low }
-
--- a number other than 1 is that of a truth value
-pub record Value (n : ℕ) : Type 0 where
-  pub truth : Bool
-  pub same : truthAt n ≡ some truth
-  pub number : truthNumber truth ≡ n
-
-pub value-of : (n : ℕ) → (n ≡ 0) ⊎ ((n ≡ 1) ⊎ (n ≡ 5)) → (n ≡ 1 → ⊥) → Value n
-value-of n k d =
-    ⊎-elim
-    (λ e. record { truth = false; same = rw e; number = sym e })
-    (λ l. ⊎-elim (λ e. absurd (d e)) (λ e. record { truth = true; same = rw e; number = sym e }) l)
-    k
+        let e : truthIn text t ≡ truthBetween middle = three ∙ rw (← (both-true (eqb middle 84)), ← (both-true (eqb middle 70))) in
+        v ∙ ap closingAs (sym e)
 
 -- a condition that is read from a later place on is read from here
 earlier : {text : Bytes} {at from words : ℕ} {tape tape′ : List ℕ} {p q : Parsed Condition} {r : CodeParsed} → at ≤ from → p ≡ q
@@ -208,14 +169,22 @@ goes-on text place past is truth =
     by-kind (GoesOn text place past is truth) (λ n e. no-value e) (λ x e. no-value e) (λ x e. no-value e) (λ e. no-value e) (λ n e. refl) (λ b e. no-value e)
     (λ e. no-value e) (λ e. no-value e)
 
--- `>` and `:` stand after a condition's variable, and a token with this truth value after them
-pub record ClosingAt (text : Bytes) (from words : ℕ) (x : Span) (close colon : ℕ) (t : Code.Placed) (n : ℕ) : Type 0 where
+-- the variable lies in the text, and the tape has room for it
+pub before-room : {text : Bytes} {from words : ℕ} {x : Span} → Ready text from words → Before text words from x
+    → Inside text x × (words + 1 + (x .past - x .from) ≤ 32768)
+before-room r b = (
+  record { forward = omega (arith, b .some); inside = omega (arith, b .before, r .inside) },
+  omega (arith, b .after, b .some, b .before, r .inside, r .short),
+)
+
+-- `>` and `:` stand after a condition's variable, and a token that says this after them
+pub record ClosingAt (text : Bytes) (from words : ℕ) (x : Span) (close colon : ℕ) (t : Code.Placed) (closing : Closing) : Type 0 where
   pub ready : Ready text from words
   pub variable : Before text words from x
   pub closed : Taken text Tokens.inside 62 from close
   pub parted : Taken text Tokens.inside 58 close colon
   pub first : Comes text Tokens.inside colon t
-  pub truth : Truth text t n
+  pub truth : closing ≡ closingAs (truthIn text t)
 
 module _ (isPart : Bool) {text : Bytes} {from words : ℕ} {x : Span} where
   pub end-no-close : Before text words from x → (c : Class) {tape tape′ : List ℕ} {fault : Fault} → Barred text Tokens.inside 62 from fault
@@ -226,31 +195,32 @@ module _ (isPart : Bool) {text : Bytes} {from words : ℕ} {x : Span} where
       → EndAgrees text from words tape tape′ isPart x c (Stopped fault)
   end-no-colon b c t k = stops (passes-on _ t ∙ passes-not _ k)
 
-  module _ {close colon : ℕ} {t : Code.Placed} {n : ℕ} (a : ClosingAt text from words x close colon t n) (c : Class) where
+  module _ {close colon : ℕ} {t : Code.Placed} {closing : Closing} (a : ClosingAt text from words x close colon t closing) (c : Class) where
     at-truth : conditionEnd c (subjectOf isPart (View.part text x)) (stream text Tokens.inside from)
         ≡ Reading.passTruth (stream text Tokens.inside colon) (withTruth c (subjectOf isPart (View.part text x)))
     at-truth = passes-on _ (a .closed) ∙ passes-on _ (a .parted)
 
-    pub end-no-truth : {tape tape′ : List ℕ} {fault : Fault} → n ≡ 1 → FaultOf t fault
+    pub end-no-truth : {tape tape′ : List ℕ} {fault : Fault} → closing ≡ NoTruth → FaultOf t fault
         → EndAgrees text from words tape tape′ isPart x c (Stopped fault)
-    end-no-truth e f = refused (a .first) (at-truth ∙ rw (a .first .unrolled, a .truth .same, e)) f
+    end-no-truth e f = refused (a .first) (at-truth ∙ rw (a .first .unrolled, says-nothing (truthIn text t) (rw e at (a .truth)))) f
 
-    pub end-reads : {tape tape′ : List ℕ} {class kind word after : ℕ} → class < 5 → classOf class ≡ some c → (n ≡ 1 → ⊥)
+    pub end-reads : {tape tape′ : List ℕ} {expected : Bool} {kind truth class word after : ℕ} → closing ≡ Says expected
         → (kind ≡ kindNumber isPart) × (kind ≤ 10)
-        → word ≡ 768 + (x .past - x .from) * 20 + kind + n + class
+        → (truth ≡ truthNumber expected) × (truth ≤ 5)
+        → (class ≡ classNumber c) × (class ≤ 4)
+        → word ≡ 768 + (x .past - x .from) * 20 + kind + truth + class
         → Wrote tape words (word ∷ View.part text x) after tape′ × T (every isQuiet (View.part text x))
-        → EndAgrees text from words tape tape′ isPart x c (Done (record { at = t .past; words = after; count = 0; parts = 0 }))
+        → EndAgrees text from words tape tape′ isPart x c (Done (record { at = t .past; words = after }))
     unfolding every
-    end-reads {class = class} {word = word} {after = after} low e d h w o =
+    end-reads {expected = expected} {truth = truth} {class = class} {word = word} {after = after} e h u k w o =
         let b = a .variable in
-        let u = value-of n (a .truth .known) d in
-        let same : truthIn text t ≡ some (u .truth) = a .truth .same ∙ u .same in
+        let same : truthIn text t ≡ some expected = says-truth (truthIn text t) (rw e at (a .truth)) in
         let l : length (View.part text x) ≡ x .past - x .from = length-slice (x .from) (x .past) text (omega (arith, b .before, a .ready .inside)) in
-        let q : subjectTape (truthNumber (u .truth) + classNumber c) (subjectOf isPart (View.part text x)) ≡ word ∷ View.part text x =
-        rw (u .number, class-number class c low e) (subject-tape isPart (View.part text x) n class (rw (l, ← (h .0)) w))
+        let q : subjectTape (truthNumber expected + classNumber c) (subjectOf isPart (View.part text x)) ≡ word ∷ View.part text x =
+        rw (← (u .0), ← (k .0)) (subject-tape isPart (View.part text x) truth class (rw (l, ← (h .0)) w))
         in
         let m : after ≡ words + suc (length (View.part text x)) = o .0 .reached in
-        reads (record { predicate = c; subject = subjectOf isPart (View.part text x); expected = u .truth }) (stream text Tokens.inside (t .past))
+        reads (record { predicate = c; subject = subjectOf isPart (View.part text x); expected = expected }) (stream text Tokens.inside (t .past))
         (at-truth ∙ rw (a .first .unrolled, same, goes-on text (t .place) (t .past) _ _ (t .token) same))
         (record {
           tokens = refl;
@@ -264,7 +234,7 @@ module _ (isPart : Bool) {text : Bytes} {from words : ℕ} {x : Span} where
               };
           quiet =
               rw q
-              (both-pass (isQuiet word) (every isQuiet (View.part text x)) (lt→ltb word 2304 (omega (arith, b .short, a .truth .low, h .1))) (o .1));
+              (both-pass (isQuiet word) (every isQuiet (View.part text x)) (lt→ltb word 2304 (omega (arith, b .short, h .1, u .1, k .1))) (o .1));
         })
 
 -- A CONDITION AFTER ITS PREDICATE
@@ -409,16 +379,15 @@ module _ {text table : List ℕ} {symbols parts from words : ℕ} where
             ≡ withName (onNames text table symbols parts) (t .place) (View.part text n) (stream text Tokens.inside (t .past))
         at-class = at-name o ∙ rw (a .name .unrolled, short-enough text n (a .name .inside) 24 l)
 
-        pub class-not : {tape tape′ : List ℕ} → predicateOf (View.part text n) ≡ none
+        pub class-not : {tape tape′ : List ℕ} {p : Predicate} → predicateMeant p ≡ predicateOf (View.part text n) → p ≡ NoPredicate
             → ConditionAgrees text table symbols parts from words tape tape′ (Stopped (record { answer = WrongName; place = t .place }))
-        class-not d = stops (at-class ∙ rw d)
+        class-not d e = stops (at-class ∙ rw (← d, e))
 
-        pub class-reads : {tape tape′ : List ℕ} {r : CodeParsed} (class : ℕ) → class < 5 → predicateOf (View.part text n) ≡ classOf class
-            → ((c : Class) → classOf class ≡ some c → OnAgrees text table symbols parts (t .past) words tape tape′ c r)
+        pub class-reads : {tape tape′ : List ℕ} {r : CodeParsed} {p : Predicate} {class : CodeClass} → predicateMeant p ≡ predicateOf (View.part text n) → p ≡ Asks class
+            → OnAgrees text table symbols parts (t .past) words tape tape′ (classMeant class) r
             → ConditionAgrees text table symbols parts from words tape tape′ r
-        class-reads class low d e =
-            let c = classed class low in
-            earlier (omega (arith, o .opened .onward, o .first .onward, o .first .forward)) (at-class ∙ rw (d, c .same)) (e (c .class) (c .same))
+        class-reads d e a₁ =
+            earlier (omega (arith, o .opened .onward, o .first .onward, o .first .forward)) (at-class ∙ rw (← d, e)) a₁
 
 -- CONDITIONS
 
@@ -487,8 +456,8 @@ module _ {text start : List ℕ} {symbols parts : List Name} {from words : ℕ} 
       → Reading.isSign 44 (tokenOf text (t .token) (t .place) (t .past)) ≡ comma
   shown a = sign-shown text t 44 (a .sign)
 
-  pub conditions-done : {count passed : ℕ} → LookedAt text start symbols parts from words tape at to left t false
-      → ConditionsAgree text start symbols parts from words tape (Done (record { at = t .place; words = to; count = count; parts = passed }))
+  pub conditions-done : LookedAt text start symbols parts from words tape at to left t false
+      → ConditionsAgree text start symbols parts from words tape (Done (record { at = t .place; words = to }))
   conditions-done a =
       let k = a .read in
       let c = a .first in
@@ -555,5 +524,5 @@ module _ {text start : List ℕ} {symbols parts : List Name} {from words : ℕ} 
         turned : (r′ : CodeParsed)
             → Agrees (ConditionRead text (t .past) to tape tape′) (Reading.parseCondition symbols parts (stream text Tokens.inside (t .past))) r′
             → ConditionsOn tape′ r′
-        turned (Stopped fault) e′ = stops-too e′ refl (λ h. at-condition ∙ rw h)
-        turned (Done s) e′ = let h = has-read _ s e′ in goes-with (h .value) (h .rest) (h .same) (h .how)
+        turned (Stopped fault) e′ = stops-too e′ refl refl (λ h. at-condition ∙ rw h)
+        turned (Done s) e′ = let h = has-read _ s refl e′ in goes-with (h .value) (h .rest) (h .same) (h .how)

@@ -1,9 +1,8 @@
 -- Conditions while they are read.
-use Prim.Native.Nat.{ℕ, _-_, _≤_, _<_}
+use Prim.Native.Nat.{ℕ, _+_, _-_, _≤_, _<_}
 use mathlib.Core.Path.{_≡_}
 use mathlib.Core.Bool.{Bool, true, false}
 use mathlib.Core.List.{List}
-use mathlib.Core.Logic.{_⊎_}
 use mathlib.Core.Option.{Option, none, some}
 use lib.Dec.{T, eqb}
 use lib.ListN.{length}
@@ -13,16 +12,19 @@ use Rattle.meaning.specs.Tree.{Subject, ofSymbol, ofPart, Condition}
 use Rattle.tape_layout.specs.Tape.{conditionTape, conditionsTape}
 use Rattle.meaning.specs.Tokens as Tokens
 use Rattle.meaning.specs.Reading.{Parsed, parsed, pass, passSubject, truthOf, passTruth}
-use Rattle.read_tokens.specs.View.{Sound, stream}
+use Rattle.read_tokens.specs.View.{tokenOf, Sound, stream}
 use Rattle.read_tokens.specs.declared.Span.{Span}
 use Rattle.read_tokens.specs.declared.Placed.{Placed}
 use Rattle.read_tokens.specs.declared.Token.{Token}
-use Rattle.read_tokens.specs.declared.Token.the-variants.{Name as NameToken, Symbol, Part, Word, Quoted, Sign, End, Malformed}
+use Rattle.read_tokens.specs.declared.Token.the-variants.{Name as NameToken, Symbol, Part, Word, Quoted, Sign, End}
+use Rattle.read_tokens.specs.declared.Token.the-variants.{Malformed}
 use Rattle.read_bookkeeping.specs.declared.progress.Progress.{Progress}
 use Rattle.read_bookkeeping.specs.Items.{symbolNames, partNames}
 use Rattle.read_bookkeeping.specs.Written.{isQuiet, Went}
 use Rattle.read_conditions.specs.declared.Named.{Named}
 use Rattle.read_conditions.specs.declared.Named.the-variants.{Variable, Other}
+use Rattle.read_conditions.specs.declared.Closing.{Closing}
+use Rattle.read_conditions.specs.declared.Closing.the-variants.{Says, NoTruth}
 
 -- a token as a variable: whether it is an e-variable, and its identifier
 abbrev pub variableOf : Token → Named
@@ -60,20 +62,15 @@ conditionEnd class v ts =
 abbrev pub conditionOn : List Name → List Name → Class → List Tokens.Placed → Parsed Condition
 conditionOn symbols parts class ts = passSubject symbols parts ts λ v ts₁. conditionEnd class v ts₁
 
--- the truth value of a closing string by its number on the tape; 1 stands for none
-abbrev pub truthAt : ℕ → Option Bool
-truthAt n = pick (eqb n 5) (some true) (pick (eqb n 0) (some false) none)
+-- what a closing string says, as the code says it
+abbrev pub closingAs : Option Bool → Closing
+closingAs none = NoTruth
+closingAs (some truth) = Says truth
 
--- this is its number
-pub record TruthNumber (value : Option Bool) (n : ℕ) : Type 0 where
-  pub same : value ≡ truthAt n
-  pub known : (n ≡ 0) ⊎ ((n ≡ 1) ⊎ (n ≡ 5))
-  pub low : n ≤ 5
+-- the truth value of a token, and of the byte between a closing string's quotes
+abbrev pub truthIn : Bytes → Placed → Option Bool
+truthIn text t = truthOf (tokenOf text (t .token) (t .place) (t .past)) (eqb (t .past) (t .place + 3))
 
-abbrev pub TruthIs : Tokens.Token → Bool → ℕ → Type 0
-TruthIs token three n = TruthNumber (truthOf token three) n
-
--- that of the byte between a closing string's quotes
 abbrev pub truthBetween : ℕ → Option Bool
 truthBetween byte = pick (eqb byte 84) (some true) (pick (eqb byte 70) (some false) none)
 
@@ -91,12 +88,14 @@ pub record Before (text : Bytes) (words at : ℕ) (x : Span) : Type 0 where
   pub short : x .past - x .from ≤ 8
 
 -- a condition and conditions were read
-pub record ConditionRead (text : Bytes) (at words : ℕ) (tape tape′ : List ℕ) (c : Condition) (rest : List Tokens.Placed) (s : Progress) : Type 0 where
+pub record ConditionRead (text : Bytes) (at words : ℕ) (tape tape′ : List ℕ) (c : Condition)
+    (rest : List Tokens.Placed) (s : Progress) : Type 0 where
   pub tokens : rest ≡ stream text Tokens.inside (s .at)
   pub went : Went text at words tape (s .at) (s .words) tape′ (conditionTape c)
   pub quiet : T (every isQuiet (conditionTape c))
 
-pub record ConditionsRead (text : Bytes) (at words : ℕ) (tape tape′ : List ℕ) (cs : List Condition) (rest : List Tokens.Placed) (s : Progress) : Type 0 where
+pub record ConditionsRead (text : Bytes) (at words : ℕ) (tape tape′ : List ℕ) (cs : List Condition)
+    (rest : List Tokens.Placed) (s : Progress) : Type 0 where
   pub tokens : rest ≡ stream text Tokens.inside (s .at)
   pub went : Went text at words tape (s .at) (s .words) tape′ (conditionsTape cs)
   pub quiet : T (every isQuiet (conditionsTape cs))

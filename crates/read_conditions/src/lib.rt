@@ -1,13 +1,14 @@
 // The conditions' reader.
 use read_bookkeeping::Answer;
+use read_bookkeeping::names::Class;
 use read_bookkeeping::names::LONGEST_NAME;
+use read_bookkeeping::names::Predicate;
 use read_bookkeeping::names::class_named;
-use read_bookkeeping::names::find;
+use read_bookkeeping::names::later_fault;
 use read_bookkeeping::progress::Fault;
 use read_bookkeeping::progress::Parsed;
 use read_bookkeeping::progress::Passed;
 use read_bookkeeping::progress::Progress;
-use read_bookkeeping::progress::fault_if;
 use read_bookkeeping::progress::is_accepted;
 use read_bookkeeping::progress::is_sign;
 use read_bookkeeping::progress::pass;
@@ -20,33 +21,20 @@ use read_tokens::Span;
 use read_tokens::Token;
 use read_tokens::lex;
 ghost use mathlib.Core.Path.{_≡_};
-ghost use mathlib.Core.Option.{some};
-ghost use Prim.Native.Nat.{_+_, _≤_, _<_};
-ghost use lib.Dec.{eqb};
-ghost use Rattle.meaning.specs.Classes.{Class};
+ghost use Prim.Native.Nat.{_≤_};
+ghost use Rattle.meaning.specs.Classes.{classNumber};
+ghost use Rattle.tape_layout.specs.Tape.{truthNumber};
 ghost use Rattle.meaning.specs.Tokens.{inside};
 ghost use Rattle.meaning.specs.Reading as Reading;
-ghost use Rattle.meaning.specs.Packing.{classOf};
-ghost use Rattle.read_tokens.specs.View.{tokenOf, part, stream};
+ghost use Rattle.read_tokens.specs.View.{part, stream};
 ghost use Rattle.read_bookkeeping.specs.Answered.{numberOf, Agrees};
-ghost use Rattle.read_bookkeeping.specs.Tables.{Inside, tableNames, Entries};
+ghost use Rattle.read_bookkeeping.specs.Classed.{classMeant};
+ghost use Rattle.read_bookkeeping.specs.Tables.{Inside};
 ghost use Rattle.read_bookkeeping.specs.Written.{Ready};
 ghost use Rattle.read_bookkeeping.specs.Items.{Variables, symbolNames, partNames};
-ghost use Rattle.read_conditions.specs.Conditions.{variableOf, variableNames, subjectOf, kindNumber, conditionEnd, conditionOn, truthBetween, TruthNumber, TruthIs, Standing, Before, ConditionRead, ConditionsRead};
-
-// What is wrong with a variable after the pattern, whose own are in a table from one entry on and before another.
-pub fn later_fault(text: &[u8], table: &[usize], from: usize, to: usize, x: Span) -> Answer
-    requires { ⌜ Inside (now text) x × Entries (now text) (now table) from to ⌝ }
-    ensures { λ r. ⌜ numberOf r
-        ≡ Reading.subjectFault (tableNames (now (text .entry)) (now (table .entry)) from to)
-        (part (now (text .entry)) x) ⌝ }
-{
-    if 8 < x.past - x.from {
-        return Answer::OverLimit;
-    }
-    let known = find(text, table, from, to, x) < to;
-    fault_if(!known, Answer::WrongLaterVariable)
-}
+ghost use Rattle.read_conditions.specs.Conditions.{variableOf, variableNames, subjectOf, kindNumber};
+ghost use Rattle.read_conditions.specs.Conditions.{conditionEnd, conditionOn, closingAs, truthBetween, truthIn};
+ghost use Rattle.read_conditions.specs.Conditions.{Standing, Before, ConditionRead, ConditionsRead};
 
 // A token as a variable: whether it is an e-variable, and its identifier.
 pub enum Named {
@@ -91,32 +79,58 @@ fn kind_number(is_part: bool) -> usize
     if is_part { 10 } else { 0 }
 }
 
-// The truth value of the byte between a closing string's quotes: 5 for T, 0 for F, and 1 for any other.
-fn truth_between(byte: u8) -> usize
-    ensures { λ r. ⌜ TruthNumber (truthBetween byte) r ⌝ }
+// A class by its number on the tape.
+fn class_number(class: Class) -> usize
+    ensures { λ r. ⌜ (r ≡ classNumber (classMeant class)) × (r ≤ 4) ⌝ }
 {
-    if byte == b'T' {
-        return 5;
+    match class {
+        Class::Digit => 0,
+        Class::Upper => 1,
+        Class::Lower => 2,
+        Class::Letter => 3,
+        Class::Blank => 4,
     }
-    if byte == b'F' {
-        return 0;
-    }
-    1
 }
 
-// The closing string's truth value by the same numbers; 1 for any other token.
-fn truth_in(text: &[u8], t: Placed) -> usize
+// A truth value by its number on the tape: 5 for T.
+fn truth_number(truth: bool) -> usize
+    ensures { λ r. ⌜ (r ≡ truthNumber truth) × (r ≤ 5) ⌝ }
+{
+    if truth { 5 } else { 0 }
+}
+
+// A condition's closing string: the truth value that it says, if it says one.
+pub enum Closing {
+    Says(bool),
+    NoTruth,
+}
+
+// What a closing string says with `byte` between its quotes.
+fn truth_between(byte: u8) -> Closing
+    ensures { λ r. ⌜ r ≡ closingAs (truthBetween byte) ⌝ }
+{
+    if byte == b'T' {
+        return Closing::Says(true);
+    }
+    if byte == b'F' {
+        return Closing::Says(false);
+    }
+    Closing::NoTruth
+}
+
+// What the token `t` says as a closing string.
+fn truth_in(text: &[u8], t: Placed) -> Closing
     requires { ⌜ Standing (now text) t ⌝ }
-    ensures { λ r. ⌜ TruthIs (tokenOf (now (text .entry)) (t .token) (t .place) (t .past)) (eqb (t .past) (t .place + 3)) r ⌝ }
+    ensures { λ r. ⌜ r ≡ closingAs (truthIn (now (text .entry)) t) ⌝ }
 {
     let token = t.token;
     let Token::Quoted(_) = token else {
-        return 1;
+        return Closing::NoTruth;
     };
     let past = t.past;
     let three = t.place + 3;
     if past != three {
-        return 1;
+        return Closing::NoTruth;
     }
     truth_between(text[t.place + 1])
 }
@@ -127,14 +141,14 @@ fn condition_end(
     tape: &mut [u32],
     from: usize,
     words: usize,
-    class: usize,
+    class: Class,
     is_part: bool,
     x: Span,
 ) -> Parsed
-    requires { ⌜ Ready (now text) from words × Before (now text) words from x × (class < 5) ⌝ }
-    ensures { λ r. ⌜ ((c : Class) → classOf class ≡ some c → Agrees (ConditionRead (now (text .entry)) from words (now (tape .entry)) (now (tape .exit)))
-        (conditionEnd c (subjectOf «is_part» (part (now (text .entry)) x))
-        (stream (now (text .entry)) inside from)) r) ⌝ }
+    requires { ⌜ Ready (now text) from words × Before (now text) words from x ⌝ }
+    ensures { λ r. ⌜ Agrees (ConditionRead (now (text .entry)) from words (now (tape .entry)) (now (tape .exit)))
+        (conditionEnd (classMeant class) (subjectOf «is_part» (part (now (text .entry)) x))
+        (stream (now (text .entry)) inside from)) r ⌝ }
 {
     let close = match pass(text, from, Mode::Inside, b'>') {
         Passed::Past(at) => at,
@@ -145,18 +159,17 @@ fn condition_end(
         Passed::Refused(fault) => return Parsed::Stopped(fault),
     };
     let t = lex(text, colon, Mode::Inside);
-    let truth = truth_in(text, t);
-    if truth == 1 {
+    let Closing::Says(expected) = truth_in(text, t) else {
         return Parsed::Stopped(refuse(t));
-    }
+    };
     let kind = kind_number(is_part);
-    let word = (CONDITION_WORD + (x.past - x.from) * 20 + kind + truth + class) as u32;
+    let truth = truth_number(expected);
+    let number = class_number(class);
+    let word = (CONDITION_WORD + (x.past - x.from) * 20 + kind + truth + number) as u32;
     let after = put_named(text, tape, words, word, x);
     Parsed::Done(Progress {
         at: t.past,
         words: after,
-        count: 0,
-        parts: 0,
     })
 }
 
@@ -169,12 +182,13 @@ fn condition_on(
     parts: usize,
     from: usize,
     words: usize,
-    class: usize,
+    class: Class,
 ) -> Parsed
-    requires { ⌜ Ready (now text) from words × Variables (now text) (now table) symbols parts × (class < 5) ⌝ }
-    ensures { λ r. ⌜ ((c : Class) → classOf class ≡ some c → Agrees (ConditionRead (now (text .entry)) from words (now (tape .entry)) (now (tape .exit)))
+    requires { ⌜ Ready (now text) from words × Variables (now text) (now table) symbols parts ⌝ }
+    ensures { λ r. ⌜ Agrees (ConditionRead (now (text .entry)) from words (now (tape .entry)) (now (tape .exit)))
         (conditionOn (symbolNames (now (text .entry)) (now (table .entry)) symbols)
-        (partNames (now (text .entry)) (now (table .entry)) parts) c (stream (now (text .entry)) inside from)) r) ⌝ }
+        (partNames (now (text .entry)) (now (table .entry)) parts) (classMeant class)
+        (stream (now (text .entry)) inside from)) r ⌝ }
 {
     let t = lex(text, from, Mode::Inside);
     let token = t.token;
@@ -221,13 +235,12 @@ fn condition(
             place: t.place,
         });
     }
-    let class = class_named(text, name);
-    if class == 5 {
+    let Predicate::Asks(class) = class_named(text, name) else {
         return Parsed::Stopped(Fault {
             answer: Answer::WrongName,
             place: t.place,
         });
-    }
+    };
     condition_on(text, tape, table, symbols, parts, t.past, words, class)
 }
 
@@ -249,8 +262,6 @@ pub fn conditions(
     let mut s = Progress {
         at: from,
         words: words,
-        count: 0,
-        parts: 0,
     };
     let mut left: usize = 8;
     loop {

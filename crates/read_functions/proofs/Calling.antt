@@ -1,6 +1,6 @@
 -- The call's reader.
 use Prim.Native.Nat.{ℕ, zero, suc, _+_, _≤_}
-use mathlib.Core.Path.{_≡_, refl, _∙_}
+use mathlib.Core.Path.{_≡_, refl, _∙_, ap}
 use mathlib.Core.List.{List, [], _∷_}
 use mathlib.Core.Option.{Option, none, some}
 use native.Mathlib.Numerals.{add-one}
@@ -14,15 +14,15 @@ use Rattle.meaning.specs.Reading as Reading
 use Rattle.meaning.specs.Reading.{Parsed, parsed, follow, whereFaultless, nameOn, passName}
 use Rattle.read_tokens.specs.View.{stream}
 use Rattle.read_bookkeeping.specs.declared.progress.Fault.{Fault}
-use Rattle.read_bookkeeping.specs.declared.progress.Progress.{Progress}
-use Rattle.read_bookkeeping.specs.declared.progress.Parsed.{Parsed as CodeParsed}
-use Rattle.read_bookkeeping.specs.declared.progress.Parsed.the-variants.{Stopped, Done}
-use Rattle.read_bookkeeping.specs.Answered.{Agrees}
+use Rattle.read_functions.specs.declared.expressions.ExpressionCounts.{ExpressionCounts}
+use Rattle.read_functions.specs.declared.expressions.ParsedExpression.{ParsedExpression}
+use Rattle.read_functions.specs.declared.expressions.ParsedExpression.the-variants.{Stopped, Done}
+use Rattle.read_bookkeeping.specs.Answered.{AgreesBy}
 use Rattle.read_bookkeeping.specs.Written.{Ready, Went}
 use Rattle.read_bookkeeping.specs.Tokened.{unlessWord, Taken, Barred}
 use Rattle.read_bookkeeping.specs.Items.{symbolNames}
-use Rattle.read_functions.specs.Expressions.{progressAt, Going, ExpressionRead, CalledName, opening, OpeningRead, CallRead, CloseGives, Closes}
-use Rattle.read_bookkeeping.proofs.Going.{stops, reads, ReadAt, has-read, went-then, word-went, ready-after, stops-too}
+use Rattle.read_functions.specs.Expressions.{expressionOutcome, progressAt, Going, ExpressionRead, CalledName, opening, OpeningRead, CallRead, CloseGives, Closes}
+use Rattle.read_bookkeeping.proofs.Going.{stops-by, reads-by, ReadAt, has-read, went-then, word-went, ready-after, stops-too}
 use Rattle.read_bookkeeping.proofs.Tokening.{passes-on, passes-not}
 use Rattle.read_bookkeeping.proofs.Refusing.{word-at-once}
 use Rattle.read_functions.proofs.Opened.{openingAt, OpeningAgrees}
@@ -65,45 +65,45 @@ call-is argument depth so t ts =
 -- THE READER
 
 -- what the definition reads of a call after its `<`
-abbrev pub callAt : Bytes → List ℕ → ℕ → ℕ → ℕ → ℕ → Progress → ℕ → Parsed Reading.Called
+abbrev pub callAt : Bytes → List ℕ → ℕ → ℕ → ℕ → ℕ → ExpressionCounts → ℕ → Parsed Reading.Called
 callAt text table symbols parts bound depth s place =
     Reading.parseCall (Reading.parseExpression bound (symbolNames text table symbols)) depth (progressAt text table parts s) (standing (Tokens.sign 60) place (s .at))
     (stream text Tokens.naming (s .at))
 
-abbrev pub CallAgrees : Bytes → List ℕ → ℕ → ℕ → ℕ → ℕ → Progress → ℕ → List ℕ → List ℕ → CodeParsed → Type 0
+abbrev pub CallAgrees : Bytes → List ℕ → ℕ → ℕ → ℕ → ℕ → ExpressionCounts → ℕ → List ℕ → List ℕ → ParsedExpression → Type 0
 CallAgrees text table symbols parts bound depth s place tape tape′ r =
-    Agrees (CallRead text table symbols parts s tape tape′) (callAt text table symbols parts bound depth s place) r
+    AgreesBy expressionOutcome (CallRead text table symbols parts s tape tape′) (callAt text table symbols parts bound depth s place) r
 
 -- what it reads of an expression
-abbrev pub expressionAt : Bytes → List ℕ → ℕ → ℕ → ℕ → ℕ → Progress → Parsed Reading.Items
+abbrev pub expressionAt : Bytes → List ℕ → ℕ → ℕ → ℕ → ℕ → ExpressionCounts → Parsed Reading.Items
 expressionAt text table symbols parts bound depth start =
     Reading.parseExpression bound (symbolNames text table symbols) depth (progressAt text table parts start) (stream text Tokens.inside (start .at))
 
-abbrev pub ExpressionAgrees : Bytes → List ℕ → ℕ → ℕ → ℕ → ℕ → Progress → List ℕ → List ℕ → CodeParsed → Type 0
+abbrev pub ExpressionAgrees : Bytes → List ℕ → ℕ → ℕ → ℕ → ℕ → ExpressionCounts → List ℕ → List ℕ → ParsedExpression → Type 0
 ExpressionAgrees text table symbols parts bound depth start tape tape′ r =
-    Agrees (ExpressionRead text table symbols parts start tape tape′) (unlessWord (expressionAt text table symbols parts bound depth start)) r
+    AgreesBy expressionOutcome (ExpressionRead text table symbols parts start tape tape′) (unlessWord (expressionAt text table symbols parts bound depth start)) r
 
 -- with every bound that is large enough
-abbrev pub ExpressionsAgree : Bytes → List ℕ → ℕ → ℕ → ℕ → Progress → List ℕ → List ℕ → CodeParsed → Type 0
+abbrev pub ExpressionsAgree : Bytes → List ℕ → ℕ → ℕ → ℕ → ExpressionCounts → List ℕ → List ℕ → ParsedExpression → Type 0
 ExpressionsAgree text table symbols parts depth start tape tape′ r =
     (bound : ℕ) → length (stream text Tokens.inside (start .at)) ≤ bound → ExpressionAgrees text table symbols parts bound depth start tape tape′ r
 
-module _ (text table : List ℕ) (symbols parts bound depth : ℕ) (s : Progress) (place : ℕ) where
+module _ (text table : List ℕ) (symbols parts bound depth : ℕ) (s : ExpressionCounts) (place : ℕ) where
   at-opening : callAt text table symbols parts bound depth s place
       ≡ follow (openingAt text depth s place) (afterName (Reading.parseExpression bound (symbolNames text table symbols)) (suc depth) (progressAt text table parts s))
   at-opening =
       call-is (Reading.parseExpression bound (symbolNames text table symbols)) depth (progressAt text table parts s) (standing (Tokens.sign 60) place (s .at))
       (stream text Tokens.naming (s .at))
 
-  pub call-unopened : {tape tape′ : List ℕ} {r : CodeParsed} {fault : Fault} → OpeningAgrees text depth s place tape tape′ r → r ≡ Stopped fault
+  pub call-unopened : {tape tape′ : List ℕ} {r : ParsedExpression} {fault : Fault} → OpeningAgrees text depth s place tape tape′ r → r ≡ Stopped fault
       → CallAgrees text table symbols parts bound depth s place tape tape′ (Stopped fault)
-  call-unopened a e = stops-too a e (λ h. at-opening ∙ rw h)
+  call-unopened a e = stops-too a (ap expressionOutcome e) refl (λ h. at-opening ∙ rw h)
 
 -- the call is open
-pub record Opened (text : Bytes) (depth : ℕ) (s : Progress) (place : ℕ) (tape tape₁ : List ℕ) (start : Progress) : Type 0 where
+pub record Opened (text : Bytes) (depth : ℕ) (s : ExpressionCounts) (place : ℕ) (tape tape₁ : List ℕ) (start : ExpressionCounts) : Type 0 where
   pub read : ReadAt (OpeningRead text depth s tape tape₁) (openingAt text depth s place) start
 
-module _ {text : Bytes} {depth : ℕ} {s : Progress} {place : ℕ} {tape tape₁ : List ℕ} {start : Progress} (o : Opened text depth s place tape tape₁ start) where
+module _ {text : Bytes} {depth : ℕ} {s : ExpressionCounts} {place : ℕ} {tape tape₁ : List ℕ} {start : ExpressionCounts} (o : Opened text depth s place tape tape₁ start) where
   argument-shorter : length (stream text Tokens.inside (start .at)) ≤ length (stream text Tokens.naming (s .at))
   argument-shorter = rw (o .read .how .tokens) at (o .read .how .shorter)
 
@@ -112,12 +112,12 @@ module _ {text : Bytes} {depth : ℕ} {s : Progress} {place : ℕ} {tape tape₁
       going-after g (o .read .how .went) (omega (arith, o .read .how .counted, o .read .how .few)) (rw (o .read .how .passed) (g .passed))
 
   -- the argument was read
-  pub argument-ready : {table : List ℕ} {symbols parts : ℕ} {tape₂ : List ℕ} {r : CodeParsed} {argument : Progress}
+  pub argument-ready : {table : List ℕ} {symbols parts : ℕ} {tape₂ : List ℕ} {r : ParsedExpression} {argument : ExpressionCounts}
       → ExpressionsAgree text table symbols parts (depth + 1) start tape₁ tape₂ r
       → r ≡ Done argument
       → Ready text (argument .at) (argument .words)
   argument-ready a e =
-      has-read _ _ (rw e at (a (length (stream text Tokens.inside (start .at))) (omega arith))) .how .going .ready
+      has-read _ _ refl (rw e at (a (length (stream text Tokens.inside (start .at))) (omega arith))) .how .going .ready
 
   module _ (table : List ℕ) (symbols parts bound : ℕ) where
     from-argument : callAt text table symbols parts bound depth s place
@@ -134,16 +134,16 @@ module _ {text : Bytes} {depth : ℕ} {s : Progress} {place : ℕ} {tape tape₁
         ∙ word-at-once (expressionAt text table symbols parts bound (depth + 1) start) (afterArgument (o .read .value)) (λ given w at past rest. refl)
 
     -- the argument is read
-    module _ {tape₂ tape₃ : List ℕ} {argument : Progress}
+    module _ {tape₂ tape₃ : List ℕ} {argument : ExpressionCounts}
         (h : ReadAt (ExpressionRead text table symbols parts start tape₁ tape₂) (unlessWord (expressionAt text table symbols parts bound (depth + 1) start)) argument) where
       close-barred : {fault : Fault} → Barred text Tokens.inside 62 (argument .at) fault
           → CallAgrees text table symbols parts bound depth s place tape tape₃ (Stopped fault)
-      close-barred x = stops (at-argument ∙ rw (h .same, h .how .tokens) (passes-not _ x))
+      close-barred x = stops-by refl (at-argument ∙ rw (h .same, h .how .tokens) (passes-not _ x))
 
       close-done : {at : ℕ} → Taken text Tokens.inside 62 (argument .at) at
           → tape₃ ≡ set tape₂ (argument .words) (tapeWord closeKind 0)
           → CallAgrees text table symbols parts bound depth s place tape tape₃
-          (Done (record { at = at; words = argument .words + 1; count = argument .count; parts = argument .parts }))
+          (Done (record { at = at; words = argument .words + 1; items = argument .items; passed = argument .passed }))
       close-done {at} x y =
           let w : Went text (argument .at) (argument .words) tape₂ at (argument .words + 1) tape₃ (tapeWord closeKind 0 ∷ []) =
           word-went (h .how .going .ready) (x .onward) (x .inside) y
@@ -151,7 +151,7 @@ module _ {text : Bytes} {depth : ℕ} {s : Progress} {place : ℕ} {tape tape₁
           let short : suc (length (stream text Tokens.inside at)) ≤ length (stream text Tokens.inside (start .at)) =
           rw (h .how .tokens, x .unrolled) at (h .how .shorter)
           in
-          reads _ (stream text Tokens.inside at) (at-argument ∙ rw (h .same, h .how .tokens) (passes-on _ x))
+          reads-by refl _ (stream text Tokens.inside at) (at-argument ∙ rw (h .same, h .how .tokens) (passes-on _ x))
           (record {
             tokens = refl;
             shorter = omega (arith, argument-shorter);
@@ -163,16 +163,16 @@ module _ {text : Bytes} {depth : ℕ} {s : Progress} {place : ℕ} {tape tape₁
           })
 
       -- what comes of the `>`
-      close-with : (r : CodeParsed) → CloseGives text argument tape₂ tape₃ r → CallAgrees text table symbols parts bound depth s place tape tape₃ r
+      close-with : (r : ParsedExpression) → CloseGives text argument tape₂ tape₃ r → CallAgrees text table symbols parts bound depth s place tape tape₃ r
       close-with (Stopped fault) x = close-barred x
       close-with (Done next) x = rw (x .1) (close-done (x .0) (x .2))
 
-  module _ {table : List ℕ} {symbols parts : ℕ} {tape₂ : List ℕ} {r : CodeParsed} (a : ExpressionsAgree text table symbols parts (depth + 1) start tape₁ tape₂ r)
+  module _ {table : List ℕ} {symbols parts : ℕ} {tape₂ : List ℕ} {r : ParsedExpression} (a : ExpressionsAgree text table symbols parts (depth + 1) start tape₁ tape₂ r)
       (bound : ℕ) (h : length (stream text Tokens.naming (s .at)) ≤ bound) where
     pub argument-stops : {fault : Fault} → r ≡ Stopped fault → CallAgrees text table symbols parts bound depth s place tape tape₂ (Stopped fault)
-    argument-stops e = stops-too (a bound (omega (arith, argument-shorter))) e (λ q. at-argument table symbols parts bound ∙ rw q)
+    argument-stops e = stops-too (a bound (omega (arith, argument-shorter))) (ap expressionOutcome e) refl (λ q. at-argument table symbols parts bound ∙ rw q)
 
-    pub call-closes : {tape₃ : List ℕ} {argument : Progress} {q : CodeParsed} → r ≡ Done argument → Closes text argument tape₂ tape₃ q
+    pub call-closes : {tape₃ : List ℕ} {argument : ExpressionCounts} {q : ParsedExpression} → r ≡ Done argument → Closes text argument tape₂ tape₃ q
         → CallAgrees text table symbols parts bound depth s place tape tape₃ q
     call-closes {q = q} e x =
-        close-with table symbols parts bound (has-read _ _ (rw e at (a bound (omega (arith, argument-shorter))))) q (x .gives)
+        close-with table symbols parts bound (has-read _ _ refl (rw e at (a bound (omega (arith, argument-shorter))))) q (x .gives)

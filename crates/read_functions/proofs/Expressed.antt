@@ -18,18 +18,18 @@ use Rattle.read_tokens.specs.View.{placedOf, stream, Comes}
 use Rattle.read_tokens.specs.declared.Placed as Code
 use Rattle.read_bookkeeping.specs.declared.Answer.{Answer}
 use Rattle.read_bookkeeping.specs.declared.progress.Fault.{Fault}
-use Rattle.read_bookkeeping.specs.declared.progress.Progress.{Progress}
-use Rattle.read_bookkeeping.specs.declared.progress.Parsed.{Parsed as CodeParsed}
-use Rattle.read_bookkeeping.specs.declared.progress.Parsed.the-variants.{Stopped, Done}
+use Rattle.read_functions.specs.declared.expressions.ExpressionCounts.{ExpressionCounts}
+use Rattle.read_functions.specs.declared.expressions.ParsedExpression.{ParsedExpression}
+use Rattle.read_functions.specs.declared.expressions.ParsedExpression.the-variants.{Stopped, Done}
 use Rattle.read_functions.specs.declared.expressions.Joined.{Joined}
 use Rattle.read_functions.specs.declared.expressions.Joined.the-variants.{Taken, Wrong, Refused, Other}
 use Rattle.read_bookkeeping.specs.Answered.{numberOf}
 use Rattle.read_bookkeeping.specs.Written.{isQuiet, Went}
 use Rattle.read_bookkeeping.specs.Tokened.{signIs}
 use Rattle.read_bookkeeping.specs.Items.{symbolNames, itemAt}
-use Rattle.read_functions.specs.Expressions.{progressAt, Going, CallStands, Stands, itemTape, TakenIn, TokenGives, JoinsToken, stoppedWith, callTape, CallRead}
+use Rattle.read_functions.specs.Expressions.{expressionOutcome, progressAt, Going, CallStands, Stands, itemTape, TakenIn, TokenGives, JoinsToken, faultAt, callTape, CallRead}
 use Rattle.read_bookkeeping.proofs.Items.{item-then}
-use Rattle.read_bookkeeping.proofs.Going.{check-wrong, stops, reads, ReadAt, has-read, went-none, went-from, went-then, stops-too}
+use Rattle.read_bookkeeping.proofs.Going.{check-wrong, stops-by, reads-by, ReadAt, has-read, went-none, went-from, went-then, stops-too}
 use Rattle.read_bookkeeping.proofs.Tokening.{sign-shown, sign-first, takes, ready-place, ready-past, went-before}
 use Rattle.read_bookkeeping.proofs.Refusing.{stopped-before, word-no-sign}
 use Rattle.read_functions.proofs.Calling.{callAt, CallAgrees, expressionAt, ExpressionAgrees}
@@ -98,7 +98,7 @@ expression-step more left names depth so t ts n = rw n
 -- THE LOOP
 
 -- with a bound: the expression from the start is that from here with these items and calls first
-pub record Behind (text table : List ℕ) (symbols parts depth : ℕ) (start : Progress) (tape₀ tape : List ℕ) (s : Progress) (bound : ℕ) : Type 0 where
+pub record Behind (text table : List ℕ) (symbols parts depth : ℕ) (start : ExpressionCounts) (tape₀ tape : List ℕ) (s : ExpressionCounts) (bound : ℕ) : Type 0 where
   pub first : Expression → Expression
   pub left : ℕ
   pub words : List ℕ
@@ -111,12 +111,12 @@ pub record Behind (text table : List ℕ) (symbols parts depth : ℕ) (start : P
   pub stand : (e : Expression) → Stands text e → Stands text (first e)
   pub went : Went text (start .at) (start .words) tape₀ (s .at) (s .words) tape words
 
-pub record Expressed (text table : List ℕ) (symbols parts depth : ℕ) (start : Progress) (tape₀ tape : List ℕ) (s : Progress) : Type 0 where
+pub record Expressed (text table : List ℕ) (symbols parts depth : ℕ) (start : ExpressionCounts) (tape₀ tape : List ℕ) (s : ExpressionCounts) : Type 0 where
   pub going : Going text table symbols parts s
   pub onward : start .at ≤ s .at
   pub behind : (bound : ℕ) → length (stream text Tokens.inside (start .at)) ≤ bound → Behind text table symbols parts depth start tape₀ tape s bound
 
-pub expression-starts : (text table : List ℕ) (symbols parts depth : ℕ) (start : Progress) (tape : List ℕ) → Going text table symbols parts start
+pub expression-starts : (text table : List ℕ) (symbols parts depth : ℕ) (start : ExpressionCounts) (tape : List ℕ) → Going text table symbols parts start
     → Expressed text table symbols parts depth start tape tape start
 expression-starts text table symbols parts depth start tape g =
     record {
@@ -138,7 +138,7 @@ expression-starts text table symbols parts depth start tape g =
     }
 
 -- the definition's step at the first token
-module _ {text table : List ℕ} {symbols parts depth : ℕ} {start : Progress} {tape₀ tape : List ℕ} {s : Progress} {bound : ℕ} {t : Tokens.Placed} {ts : List Tokens.Placed}
+module _ {text table : List ℕ} {symbols parts depth : ℕ} {start : ExpressionCounts} {tape₀ tape : List ℕ} {s : ExpressionCounts} {bound : ℕ} {t : Tokens.Placed} {ts : List Tokens.Placed}
     (b : Behind text table symbols parts depth start tape₀ tape s bound)
     (u : stream text Tokens.inside (s .at) ≡ t ∷ ts) where
   step-enough : suc (length ts) ≤ b .left
@@ -155,7 +155,7 @@ module _ {text table : List ℕ} {symbols parts depth : ℕ} {start : Progress} 
       ∙ rw (u, expression-step (b .left) (b .left - 1) (symbolNames text table symbols) depth (progressAt text table parts s) t ts (omega (arith, step-enough)))
 
   -- one item or call more
-  behind-more : {next : Progress} {tape′ : List ℕ} (f : Expression → Expression) (added : List ℕ)
+  behind-more : {next : ExpressionCounts} {tape′ : List ℕ} (f : Expression → Expression) (added : List ℕ)
       → expressionAt text table symbols parts bound depth start
       ≡ withFirst (b .first) (withFirst f (expressionAt text table symbols parts (b .left - 1) depth next))
       → length (stream text Tokens.inside (next .at)) ≤ length ts
@@ -177,25 +177,25 @@ module _ {text table : List ℕ} {symbols parts depth : ℕ} {start : Progress} 
       }
 
 -- a token was joined to the expression, or is no item
-pub record AtToken (text table : List ℕ) (symbols parts depth : ℕ) (start : Progress) (tape₀ : List ℕ) (s : Progress) (t : Code.Placed) (tape′ : List ℕ) (r : Joined) : Type 0 where
+pub record AtToken (text table : List ℕ) (symbols parts depth : ℕ) (start : ExpressionCounts) (tape₀ : List ℕ) (s : ExpressionCounts) (t : Code.Placed) (tape′ : List ℕ) (r : Joined) : Type 0 where
   pub tape : List ℕ
   pub so : Expressed text table symbols parts depth start tape₀ tape s
   pub comes : Comes text Tokens.inside (s .at) t
   pub joins : JoinsToken text table symbols parts s tape t tape′ r
 
-module _ {text table : List ℕ} {symbols parts depth : ℕ} {start : Progress} {tape₀ : List ℕ} {s : Progress} {t : Code.Placed} {tape′ : List ℕ} {r : Joined}
+module _ {text table : List ℕ} {symbols parts depth : ℕ} {start : ExpressionCounts} {tape₀ : List ℕ} {s : ExpressionCounts} {t : Code.Placed} {tape′ : List ℕ} {r : Joined}
     (q : AtToken text table symbols parts depth start tape₀ s t tape′ r) where
   given : {r′ : Joined} → r ≡ r′ → TokenGives text table symbols parts s (q .tape) t tape′ r′
   given e = rw e at (q .joins .gives)
 
   -- AN ITEM
 
-  pub item-moves : {next : Progress} → r ≡ Taken next → (s .at < next .at) × (next .at ≤ length text)
+  pub item-moves : {next : ExpressionCounts} → r ≡ Taken next → (s .at < next .at) × (next .at ≤ length text)
   item-moves e =
       let g = given e in
       (omega (arith, g .0 .at, item-then (q .comes) (g .1) .moves), g .0 .going .ready .inside)
 
-  item-behind : {next : Progress} (bound : ℕ) → TakenIn text table symbols parts s (q .tape) (itemAt text t) (t .past) tape′ next → isItem (itemAt text t) ≡ true
+  item-behind : {next : ExpressionCounts} (bound : ℕ) → TakenIn text table symbols parts s (q .tape) (itemAt text t) (t .past) tape′ next → isItem (itemAt text t) ≡ true
       → Behind text table symbols parts depth start tape₀ (q .tape) s bound
       → Behind text table symbols parts depth start tape₀ tape′ next bound
   item-behind bound g y b =
@@ -204,7 +204,7 @@ module _ {text table : List ℕ} {symbols parts depth : ℕ} {start : Progress} 
       behind-more b (i .unrolled) (thenItem item) (itemTape item) (at-step b (i .unrolled) ∙ rw (y, g .fault, g .progress, g .at)) (rw (g .at) (omega arith))
       (tape-item item) (λ e h. stands-item text item e (g .quiet) h) (g .went)
 
-  pub item-taken : {next : Progress} → r ≡ Taken next → Expressed text table symbols parts depth start tape₀ tape′ next
+  pub item-taken : {next : ExpressionCounts} → r ≡ Taken next → Expressed text table symbols parts depth start tape₀ tape′ next
   item-taken e =
       let g = given e in
       record {
@@ -214,7 +214,7 @@ module _ {text table : List ℕ} {symbols parts depth : ℕ} {start : Progress} 
       }
 
   pub item-wrong : {answer : Answer} {bound : ℕ} → r ≡ Wrong answer → length (stream text Tokens.inside (start .at)) ≤ bound
-      → ExpressionAgrees text table symbols parts bound depth start tape₀ tape′ (stoppedWith answer (t .place))
+      → ExpressionAgrees text table symbols parts bound depth start tape₀ tape′ (Stopped (faultAt answer (t .place)))
   item-wrong {answer} {bound} e h =
       let g = given e in
       let b = q .so .behind bound h in
@@ -222,7 +222,7 @@ module _ {text table : List ℕ} {symbols parts depth : ℕ} {start : Progress} 
       let item = itemAt text t in
       let rest = Reading.parseExpression (b .left - 1) (symbolNames text table symbols) depth (Reading.pastItem item (progressAt text table parts s))
       (stream text Tokens.inside (t .past)) in
-      stops (stopped-before (at-step b (i .unrolled)
+      stops-by refl (stopped-before (at-step b (i .unrolled)
       ∙ rw (g .1, g .0 .fault, check-wrong (numberOf answer) (placedOf text t) (withFirst (thenItem item) rest) (g .0 .wrong))))
 
   -- A WORD
@@ -232,18 +232,18 @@ module _ {text table : List ℕ} {symbols parts depth : ℕ} {start : Progress} 
   word-refused {bound = bound} e h =
       let g = given e in
       let b = q .so .behind bound h in
-      stops (rw (at-step b (q .comes .unrolled), g .other, word-no-sign 60 _ (g .word), g .word, g .number, g .place))
+      stops-by refl (rw (at-step b (q .comes .unrolled), g .other, word-no-sign 60 _ (g .word), g .word, g .number, g .place))
 
   -- THE END
 
   pub expression-ends : {bound : ℕ} → r ≡ Other → signIs 60 (t .token) ≡ false → length (stream text Tokens.inside (start .at)) ≤ bound
       → ExpressionAgrees text table symbols parts bound depth start tape₀ tape′
-      (Done (record { at = t .place; words = s .words; count = s .count; parts = s .parts }))
+      (Done (record { at = t .place; words = s .words; items = s .items; passed = s .passed }))
   expression-ends {bound} e n h =
       let g = given e in
       let b = q .so .behind bound h in
       let u = q .comes .unrolled in
-      reads (record { expression = b .first end; progress = progressAt text table parts s }) (stream text Tokens.inside (s .at))
+      reads-by refl (record { expression = b .first end; progress = progressAt text table parts s }) (stream text Tokens.inside (s .at))
       (rw (at-step b u, u, g .0 .other, sign-shown text t 60 n, g .0 .wordless))
       (record {
         tokens = sym (q .comes .again);
@@ -257,15 +257,15 @@ module _ {text table : List ℕ} {symbols parts depth : ℕ} {start : Progress} 
 -- A CALL
 
 -- the token is the `<` of a call
-pub record AtCall {text table : List ℕ} {symbols parts depth : ℕ} {start : Progress} {tape₀ : List ℕ} {s : Progress} {t : Code.Placed} {tape′ : List ℕ} {r : Joined}
+pub record AtCall {text table : List ℕ} {symbols parts depth : ℕ} {start : ExpressionCounts} {tape₀ : List ℕ} {s : ExpressionCounts} {t : Code.Placed} {tape′ : List ℕ} {r : Joined}
     (k : AtToken text table symbols parts depth start tape₀ s t tape′ r) : Type 0 where
   pub other : r ≡ Other
   pub angle : signIs 60 (t .token) ≡ true
 
-module _ {text table : List ℕ} {symbols parts depth : ℕ} {start : Progress} {tape₀ : List ℕ} {s : Progress} {t : Code.Placed} {tape′ : List ℕ} {r : Joined}
+module _ {text table : List ℕ} {symbols parts depth : ℕ} {start : ExpressionCounts} {tape₀ : List ℕ} {s : ExpressionCounts} {t : Code.Placed} {tape′ : List ℕ} {r : Joined}
     {k : AtToken text table symbols parts depth start tape₀ s t tape′ r} (q : AtCall k) where
-  abbrev opened : Progress
-  opened = record { at = t .past; words = s .words; count = s .count; parts = s .parts }
+  abbrev opened : ExpressionCounts
+  opened = record { at = t .past; words = s .words; items = s .items; passed = s .passed }
 
   abbrev calledAt : ℕ → Parsed Reading.Called
   calledAt left = callAt text table symbols parts left depth opened (t .place)
@@ -296,7 +296,7 @@ module _ {text table : List ℕ} {symbols parts depth : ℕ} {start : Progress} 
   left-enough : {bound : ℕ} (b : Behind text table symbols parts depth start tape₀ (k .tape) s bound) → length (stream text Tokens.naming (t .past)) ≤ b .left - 1
   left-enough b = omega (arith, step-enough b unrolled)
 
-  call-behind : {tape″ : List ℕ} {next : Progress} {bound : ℕ} (b : Behind text table symbols parts depth start tape₀ (k .tape) s bound)
+  call-behind : {tape″ : List ℕ} {next : ExpressionCounts} {bound : ℕ} (b : Behind text table symbols parts depth start tape₀ (k .tape) s bound)
       → ReadAt (CallRead text table symbols parts opened tape′ tape″) (calledAt (b .left - 1)) next
       → Behind text table symbols parts depth start tape₀ tape″ next bound
   call-behind {tape″} {next} b read =
@@ -309,17 +309,17 @@ module _ {text table : List ℕ} {symbols parts depth : ℕ} {start : Progress} 
       (went-from (omega (arith, c .onward, c .forward)) (rw (given k (q .other) .1) at (h .went)))
 
   -- what the call's reader came to, with every bound that is large enough
-  module _ {tape″ : List ℕ} {p : CodeParsed}
+  module _ {tape″ : List ℕ} {p : ParsedExpression}
       (a : (left : ℕ) → length (stream text Tokens.naming (t .past)) ≤ left → CallAgrees text table symbols parts left depth opened (t .place) tape′ tape″ p) where
     pub call-stopped : {fault : Fault} {bound : ℕ} → p ≡ Stopped fault → length (stream text Tokens.inside (start .at)) ≤ bound
         → ExpressionAgrees text table symbols parts bound depth start tape₀ tape″ (Stopped fault)
     call-stopped {bound = bound} e h =
         let b = k .so .behind bound h in
-        stops-too (a (b .left - 1) (left-enough b)) e (λ g. stopped-before (at-call b ∙ rw g))
+        stops-too (a (b .left - 1) (left-enough b)) (ap expressionOutcome e) refl (λ g. stopped-before (at-call b ∙ rw g))
 
-    module _ {next : Progress} (e : p ≡ Done next) where
+    module _ {next : ExpressionCounts} (e : p ≡ Done next) where
       called : (left : ℕ) → length (stream text Tokens.naming (t .past)) ≤ left → ReadAt (CallRead text table symbols parts opened tape′ tape″) (calledAt left) next
-      called left h = has-read _ next (rw e at (a left h))
+      called left h = has-read _ next refl (rw e at (a left h))
 
       shown : ReadAt (CallRead text table symbols parts opened tape′ tape″) (calledAt (length (stream text Tokens.naming (t .past)))) next
       shown = called _ (omega arith)

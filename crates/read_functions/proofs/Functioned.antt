@@ -28,31 +28,33 @@ use Rattle.read_tokens.specs.declared.Placed as Code
 use Rattle.read_bookkeeping.specs.declared.Answer.{Answer}
 use Rattle.read_bookkeeping.specs.declared.Answer.the-variants.{OverLimit}
 use Rattle.read_bookkeeping.specs.declared.progress.Fault.{Fault}
-use Rattle.read_bookkeeping.specs.declared.progress.Progress.{Progress}
-use Rattle.read_bookkeeping.specs.declared.progress.Parsed.{Parsed as CodeParsed}
-use Rattle.read_bookkeeping.specs.declared.progress.Parsed.the-variants.{Stopped, Done}
+use Rattle.read_functions.specs.declared.sentences.SentencesEnd.{SentencesEnd}
+use Rattle.read_functions.specs.declared.sentences.ParsedSentences.{ParsedSentences}
+use Rattle.read_functions.specs.declared.sentences.ParsedSentences.the-variants.{Stopped, Done}
+use Rattle.read_functions.specs.declared.functions.ParsedTable.{ParsedTable}
+use Rattle.read_functions.specs.declared.functions.ParsedTable.the-variants.{Stopped as StoppedTable, Done as DoneTable}
 use Rattle.read_bookkeeping.specs.Tables.{Inside, nameIn, inText, tableNames, declaredFaultIn}
-use Rattle.read_bookkeeping.specs.Answered.{numberOf, Agrees}
+use Rattle.read_bookkeeping.specs.Answered.{numberOf, AgreesBy}
 use Rattle.read_bookkeeping.specs.Written.{Wrote, isQuiet, Ready, Went}
 use Rattle.read_bookkeeping.specs.Tokened.{signIs, Taken}
 use Rattle.read_functions.specs.declared.functions.Tally.{Tally}
 use Rattle.read_functions.specs.declared.functions.Stage.{Stage}
 use Rattle.read_functions.specs.declared.functions.Stage.the-variants.{Onward, Over}
-use Rattle.read_functions.specs.Expressions.{stoppedWith}
-use Rattle.read_functions.specs.Sentences.{SentencesRead}
-use Rattle.read_functions.specs.Functions.{FunctionStands, fromBrace, declared, Declarable, BodyRead, Opening, nameFault, DeclaredRead, SpareTo, isEnd, functionsOf, FunctionsRead, Functioned, StageIs, Underway, firstStage, readSoFar, Declares}
+use Rattle.read_functions.specs.Expressions.{faultAt}
+use Rattle.read_functions.specs.Sentences.{SentencesRead, sentencesOutcome}
+use Rattle.read_functions.specs.Functions.{FunctionStands, fromBrace, declared, Declarable, BodyRead, Opening, nameFault, DeclaredRead, SpareTo, isEnd, functionsOf, FunctionsRead, Functioned, StageIs, Underway, firstStage, tableOutcome, Declares}
 use Rattle.read_bookkeeping.proofs.Lengths.{within}
 use Rattle.read_bookkeeping.proofs.Tabling.{Grown, grown, entry-name, entry-inside, none-yet, no-names}
-use Rattle.read_bookkeeping.proofs.Going.{check-wrong, stops, reads, ReadAt, has-read, pass-follow, follow-alone, makes, went-none, went-from, went-on, went-then, ready-after, name-went, stops-too, name-quiet}
-use Rattle.read_bookkeeping.proofs.Tokening.{NameFirst, sign-shown, passes-on, name-first, names-not, refused, ready-place, FaultOf, NoName}
+use Rattle.read_bookkeeping.proofs.Going.{check-wrong, stops-by, reads-by, ReadAt, has-read, pass-follow, follow-alone, makes, went-none, went-from, went-on, went-then, ready-after, name-went, stops-too, name-quiet}
+use Rattle.read_bookkeeping.proofs.Tokening.{NameFirst, sign-shown, passes-on, name-first, names-not, refused-by, ready-place, FaultOf, NoName}
 use Rattle.read_functions.proofs.Sentencing.{each-none, each-more}
 use Rattle.read_tokens.proofs.Variants.{by-kind}
 
 -- A FUNCTION AFTER ITS NAME
 
-abbrev BodyAgrees : Bytes → ℕ → ℕ → Span → List ℕ → List ℕ → CodeParsed → Type 0
+abbrev BodyAgrees : Bytes → ℕ → ℕ → Span → List ℕ → List ℕ → ParsedSentences → Type 0
 BodyAgrees text limit words n tape tape′ r =
-    Agrees (BodyRead text limit (n .from) words (View.part text n) tape tape′) (fromBrace limit (stream text Tokens.outside (n .past))) r
+    AgreesBy sentencesOutcome (BodyRead text limit (n .from) words (View.part text n) tape tape′) (fromBrace limit (stream text Tokens.outside (n .past))) r
 
 -- the `{` was passed after a name
 pub record AfterBrace (text : Bytes) (words : ℕ) (n : Span) (at : ℕ) : Type 0 where
@@ -73,8 +75,8 @@ module _ {text : Bytes} {words : ℕ} {n : Span} {at : ℕ} (b : AfterBrace text
     pub body-ready : Ready text at to
     body-ready = ready-after (b .name .short) named-went
 
-    pub body-reads : {limit : ℕ} {tape′ : List ℕ} {r : CodeParsed}
-        → Agrees (SentencesRead text limit at to tape₁ tape′) (Reading.parseSentences limit (stream text Tokens.inside at)) r
+    pub body-reads : {limit : ℕ} {tape′ : List ℕ} {r : ParsedSentences}
+        → AgreesBy sentencesOutcome (SentencesRead text limit at to tape₁ tape′) (Reading.parseSentences limit (stream text Tokens.inside at)) r
         → BodyAgrees text limit words n tape tape′ r
     body-reads a =
         makes (λ ss. ss) _
@@ -89,21 +91,21 @@ module _ {text : Bytes} {words : ℕ} {n : Span} {at : ℕ} (b : AfterBrace text
 
 -- A FUNCTION
 
-abbrev FunctionAgrees : Bytes → List ℕ → ℕ → ℕ → ℕ → Code.Placed → List ℕ → List ℕ → List ℕ → CodeParsed → Type 0
+abbrev FunctionAgrees : Bytes → List ℕ → ℕ → ℕ → ℕ → Code.Placed → List ℕ → List ℕ → List ℕ → ParsedSentences → Type 0
 FunctionAgrees text names functions limit words t tape tape′ names′ r =
-    Agrees (DeclaredRead text limit (t .place) words functions tape tape′ names names′)
+    AgreesBy sentencesOutcome (DeclaredRead text limit (t .place) words functions tape tape′ names names′)
     (Reading.parseFunction (nameFault functions (tableNames text names 0 functions)) limit (stream text Tokens.outside (t .place))) r
 
 module _ {text names : List ℕ} {functions words : ℕ} {t : Code.Placed} {limit : ℕ} (o : Opening text names functions words t) where
   pub function-nameless : {tape tape′ names′ : List ℕ} {fault : Fault} → NoName (t .token)
       → FaultOf t fault
       → FunctionAgrees text names functions limit words t tape tape′ names′ (Stopped fault)
-  function-nameless n f = refused (o .comes) (names-not (o .comes) _ _ n) f
+  function-nameless n f = refused-by refl (o .comes) (names-not (o .comes) _ _ n) f
 
   module _ {n : Span} (e : t .token ≡ NameToken n) where
     pub function-many : {tape tape′ names′ : List ℕ} → 64 ≤ functions
-        → FunctionAgrees text names functions limit words t tape tape′ names′ (stoppedWith OverLimit (t .place))
-    function-many h = stops (rw (name-first (o .comes) e .unrolled, le-ltb functions 64 h))
+        → FunctionAgrees text names functions limit words t tape tape′ names′ (Stopped (faultAt OverLimit (t .place)))
+    function-many h = stops-by refl (rw (name-first (o .comes) e .unrolled, le-ltb functions 64 h))
 
 -- a name comes, and one more function may
 pub record NameComes (text names : List ℕ) (functions words : ℕ) (t : Code.Placed) (n : Span) : Type 0 where
@@ -119,9 +121,9 @@ module _ {text names : List ℕ} {functions words : ℕ} {t : Code.Placed} {n : 
     pub function-misnamed : {tape tape′ names′ : List ℕ} {answer : Answer}
         → numberOf answer ≡ declaredFaultIn (tableNames text names 0 functions) (View.part text n)
         → eqb (numberOf answer) 0 ≡ false
-        → FunctionAgrees text names functions limit words t tape tape′ names′ (stoppedWith answer (t .place))
+        → FunctionAgrees text names functions limit words t tape tape′ names′ (Stopped (faultAt answer (t .place)))
     function-misnamed {answer = answer} f w =
-        stops (rw (named-here .unrolled, lt-ltb functions 64 (m .few), ← f) (check-wrong (numberOf answer) _ _ w))
+        stops-by refl (rw (named-here .unrolled, lt-ltb functions 64 (m .few), ← f) (check-wrong (numberOf answer) _ _ w))
 
 -- its name has no fault
 pub record Named {text names : List ℕ} {functions words : ℕ} {t : Code.Placed} {n : Span} (name : NameComes text names functions words t n) : Type 0 where
@@ -140,7 +142,7 @@ module _ {text names : List ℕ} {functions words : ℕ} {t : Code.Placed} {n : 
         short = name .opening .ready .short;
       }
 
-  pub function-reads : {tape tape′ names′ : List ℕ} {entry limit : ℕ} {r : CodeParsed}
+  pub function-reads : {tape tape′ names′ : List ℕ} {entry limit : ℕ} {r : ParsedSentences}
       → entry ≡ n .from * 32 + (n .past - n .from)
       → names′ ≡ set names functions entry
       → BodyAgrees text limit words n tape tape′ r
@@ -234,9 +236,9 @@ tape-none = refl
 
 -- ONE AFTER ANOTHER
 
-abbrev FunctionsAgree : Bytes → List ℕ → List ℕ → List ℕ → CodeParsed → Type 0
+abbrev FunctionsAgree : Bytes → List ℕ → List ℕ → List ℕ → ParsedTable → Type 0
 FunctionsAgree text start tape names r =
-    Agrees (FunctionsRead text start tape names) (functionsOf text) r
+    AgreesBy tableOutcome (FunctionsRead text start tape names) (functionsOf text) r
 
 pub functions-start : (text start names : List ℕ) → length text ≤ 32768 → length names ≡ 64 → StageIs text start start names 0 firstStage
 functions-start text start names h l =
@@ -276,11 +278,11 @@ module _ {text start tape names : List ℕ} {at words count left : ℕ} {t : Cod
   few : count ≤ 64
   few = omega (arith, k .entries .inside, k .long)
 
-  functions-done : isEnd (t .token) ≡ true → FunctionsAgree text start tape names (Done (record { at = at; words = words; count = count; parts = 0 }))
+  functions-done : isEnd (t .token) ≡ true → FunctionsAgree text start tape names (DoneTable (record { words = words; functions = count; left = left }))
   functions-done e =
-      reads (k .before) following
+      reads-by refl (k .before) following
       (k .same ∙ rw (c .unrolled) (functions-end left (k .before) (placedOf text t) following (64 - count) (end-same text (t .place) (t .past) (t .token) ∙ e)))
-      (record { went = k .went; entries = k .entries; names = k .names; count = k .counted; stand = k .stand })
+      (record { at = at; went = k .went; entries = k .entries; names = k .names; count = k .counted; stand = k .stand })
 
   -- the function that comes next, by the names before it
   abbrev nextFunction : Parsed Function
@@ -309,18 +311,18 @@ module _ {text start tape names : List ℕ} {at words count left : ℕ} {k : Fun
   not-end : Reading.isTextEnd (tokenOf text (t .token) (t .place) (t .past)) ≡ false
   not-end = end-same text (t .place) (t .past) (t .token) ∙ n .is
 
-  function-stops : {tape′ names′ : List ℕ} {fault : Fault} {r : CodeParsed} → FunctionAgrees text names count left words t tape tape′ names′ r → r ≡ Stopped fault
-      → FunctionsAgree text start tape′ names′ (Stopped fault)
+  function-stops : {tape′ names′ : List ℕ} {fault : Fault} {r : ParsedSentences} → FunctionAgrees text names count left words t tape tape′ names′ r → r ≡ Stopped fault
+      → FunctionsAgree text start tape′ names′ (StoppedTable fault)
   function-stops a q =
       let c = n .comes in
-      stops-too a q λ h.
+      stops-too a (ap sentencesOutcome q) refl λ h.
       k .same
       ∙ rw (c .unrolled)
       (functions-stop left (k .before) (placedOf text t) (following k c) (64 - count) count (omega (arith, few k c)) not-end
       (rw (c .unrolled) at (next-is k c ∙ h)))
 
 -- a function was read after those
-pub record OneMore (text start tape₁ names₁ : List ℕ) (count : ℕ) (p : Progress) : Type 0 where
+pub record OneMore (text start tape₁ names₁ : List ℕ) (count : ℕ) (p : SentencesEnd) : Type 0 where
   pub tape : List ℕ
   pub names : List ℕ
   pub at : ℕ
@@ -332,7 +334,7 @@ pub record OneMore (text start tape₁ names₁ : List ℕ) (count : ℕ) (p : P
   pub read : ReadAt (DeclaredRead text left (token .place) words count tape tape₁ names names₁) (nextFunction others (next .comes)) p
 
 one-more : {text start tape names tape₁ names₁ : List ℕ} {at words count left : ℕ} {k : Functioned text start tape names at words count left} {t : Code.Placed}
-    {p : Progress} {r : CodeParsed} → Another k t
+    {p : SentencesEnd} {r : ParsedSentences} → Another k t
     → FunctionAgrees text names count left words t tape tape₁ names₁ r
     → r ≡ Done p
     → OneMore text start tape₁ names₁ count p
@@ -346,16 +348,16 @@ one-more n a q =
       token = _;
       others = _;
       next = n;
-      read = has-read _ _ (rw q at a);
+      read = has-read _ _ refl (rw q at a);
     }
 
-module _ {text start tape₁ names₁ : List ℕ} {count : ℕ} {p : Progress} (o : OneMore text start tape₁ names₁ count p) where
+module _ {text start tape₁ names₁ : List ℕ} {count : ℕ} {p : SentencesEnd} (o : OneMore text start tape₁ names₁ count p) where
   -- it was one of at most 64
   room-before : count < 64
   room-before = omega (arith, o .read .how .entries .inside, o .read .how .long)
 
   at-next : functionsOf text
-      ≡ Reading.parseFunctions (64 - (count + 1)) (p .count) (o .others .before ++ o .read .value ∷ []) (Reading.passSpare (stream text Tokens.outside (p .at)))
+      ≡ Reading.parseFunctions (64 - (count + 1)) (p .left) (o .others .before ++ o .read .value ∷ []) (Reading.passSpare (stream text Tokens.outside (p .at)))
   at-next =
       let c = o .next .comes in
       let t = placedOf text (o .token) in
@@ -363,13 +365,13 @@ module _ {text start tape₁ names₁ : List ℕ} {count : ℕ} {p : Progress} (
       fault-is (o .left) (o .others .before) t (following (o .others) c) count (lt-ltb count 64 room-before) ∙ (rw (c .unrolled) at (next-is (o .others) c ∙ o .read .same))
       in
       let n : 64 - count ≡ suc (64 - (count + 1)) = omega (arith, room-before) in
-      let l : o .left - length (o .read .value .sentences) ≡ p .count = omega (arith, o .read .how .read .left) in
+      let l : o .left - length (o .read .value .sentences) ≡ p .left = omega (arith, o .read .how .read .left) in
       o .others .same
       ∙ rw (c .unrolled)
       (functions-next (o .left) (o .others .before) t (following (o .others) c) (64 - count) (64 - (count + 1)) n (not-end (o .next))
       ∙ rw (q, o .read .how .read .tokens, l))
 
-  function-goes : {at′ : ℕ} → SpareTo text (p .at) at′ → Functioned text start tape₁ names₁ at′ (p .words) (count + 1) (p .count)
+  function-goes : {at′ : ℕ} → SpareTo text (p .at) at′ → Functioned text start tape₁ names₁ at′ (p .words) (count + 1) (p .left)
   function-goes {at′} s =
       record {
         before = o .others .before ++ o .read .value ∷ [];
@@ -388,7 +390,7 @@ module _ {text start tape₁ names₁ : List ℕ} {count : ℕ} {p : Progress} (
 -- STAGES
 
 -- what is over stays so
-pub stage-over : {text tape names : List ℕ} {at : ℕ} {stage : Stage} {p : CodeParsed} → stage ≡ Over p → Declares text tape names at stage tape names at stage
+pub stage-over : {text tape names : List ℕ} {at : ℕ} {stage : Stage} {p : ParsedTable} → stage ≡ Over p → Declares text tape names at stage tape names at stage
 stage-over e = record { keeps = λ start s. s; falls = λ o. absurd (false≢true (rw e at o)) }
 
 pub place-inside : {text tape names : List ℕ} {at : ℕ} {stage : Stage} {n : Tally} → Underway text tape names at stage → stage ≡ Onward n → at ≤ length text
@@ -411,13 +413,13 @@ module _ {text tape names : List ℕ} {at : ℕ} {stage : Stage} {n : Tally} {t 
   Changed tape′ names′ at′ stage′ = Declares text tape names at stage tape′ names′ at′ stage′
 
   -- the reading is over
-  ends-with : {tape′ names′ : List ℕ} {p : CodeParsed}
+  ends-with : {tape′ names′ : List ℕ} {p : ParsedTable}
       → ((start : List ℕ) → Functioned text start tape names at (n .words) (n .functions) (n .left) → FunctionsAgree text start tape′ names′ p)
       → Changed tape′ names′ at (Over p)
   ends-with a =
       record { keeps = λ start s. a start (functioned s); falls = λ o. rw (k .onward) (omega (arith, few so-far (k .comes))) }
 
-  pub stage-ends : isEnd (t .token) ≡ true → Changed tape names at (Over (readSoFar n at))
+  pub stage-ends : isEnd (t .token) ≡ true → Changed tape names at (Over (DoneTable n))
   stage-ends e = ends-with (λ start f. functions-done f (k .comes) e)
 
   module _ (e : isEnd (t .token) ≡ false) where
@@ -427,11 +429,11 @@ module _ {text tape names : List ℕ} {at : ℕ} {stage : Stage} {n : Tally} {t 
     pub stage-opening : Opening text names (n .functions) (n .words) t
     stage-opening = opening (another so-far)
 
-    module _ {tape′ names′ : List ℕ} {r : CodeParsed} (a : FunctionAgrees text names (n .functions) (n .left) (n .words) t tape tape′ names′ r) where
-      pub stage-stops : {fault : Fault} → r ≡ Stopped fault → Changed tape′ names′ at (Over (Stopped fault))
+    module _ {tape′ names′ : List ℕ} {r : ParsedSentences} (a : FunctionAgrees text names (n .functions) (n .left) (n .words) t tape tape′ names′ r) where
+      pub stage-stops : {fault : Fault} → r ≡ Stopped fault → Changed tape′ names′ at (Over (StoppedTable fault))
       stage-stops q = ends-with (λ start f. function-stops (another f) a q)
 
-      module _ {p : Progress} (q : r ≡ Done p) where
+      module _ {p : SentencesEnd} (q : r ≡ Done p) where
         more : {start : List ℕ} → Functioned text start tape names at (n .words) (n .functions) (n .left) → OneMore text start tape′ names′ (n .functions) p
         more f = one-more (another f) a q
 
@@ -442,6 +444,6 @@ module _ {text tape names : List ℕ} {at : ℕ} {stage : Stage} {n : Tally} {t 
         stage-few = room-before (more so-far)
 
         pub stage-goes : {at′ : ℕ} → SpareTo text (p .at) at′
-            → Changed tape′ names′ at′ (Onward (record { words = p .words; functions = n .functions + 1; left = p .count }))
+            → Changed tape′ names′ at′ (Onward (record { words = p .words; functions = n .functions + 1; left = p .left }))
         stage-goes s =
             record { keeps = λ start f. function-goes (more (functioned f)) s; falls = λ o. rw (k .onward) (omega (arith, stage-few)) }

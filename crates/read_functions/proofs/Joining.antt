@@ -20,7 +20,7 @@ use Rattle.read_tokens.specs.declared.Span.{Span}
 use Rattle.read_tokens.specs.declared.Placed.{Placed}
 use Rattle.read_bookkeeping.specs.declared.Answer.{Answer}
 use Rattle.read_bookkeeping.specs.declared.Answer.the-variants.{OverLimit, WrongLaterVariable}
-use Rattle.read_bookkeeping.specs.declared.progress.Progress.{Progress}
+use Rattle.read_functions.specs.declared.expressions.ExpressionCounts.{ExpressionCounts}
 use Rattle.read_functions.specs.declared.expressions.Joined.{Joined}
 use Rattle.read_functions.specs.declared.expressions.Joined.the-variants.{Taken, Wrong, Refused, Other}
 use Rattle.read_bookkeeping.specs.Tables.{tableNames, Entries, position}
@@ -37,7 +37,7 @@ use Rattle.read_bookkeeping.proofs.Items.{identifier-inside}
 use Rattle.read_functions.proofs.Onward.{going-after}
 
 -- an item with a fault
-wrongs : {text : Bytes} {table : List ℕ} {symbols parts : ℕ} {s : Progress} {tape : List ℕ} {item : Item} {past : ℕ} {tape′ : List ℕ} {answer : Answer}
+wrongs : {text : Bytes} {table : List ℕ} {symbols parts : ℕ} {s : ExpressionCounts} {tape : List ℕ} {item : Item} {past : ℕ} {tape′ : List ℕ} {answer : Answer}
     → eqb (numberOf answer) 0 ≡ false
     → Reading.itemFault (symbolNames text table symbols) (progressAt text table parts s) item ≡ numberOf answer
     → JoinsItem text table symbols parts s tape item past tape′ (Wrong answer)
@@ -45,17 +45,17 @@ wrongs w f = record { gives = record { wrong = w; fault = f } }
 
 -- STRINGS
 
-module _ {text : Bytes} {table : List ℕ} {symbols parts : ℕ} {s : Progress} {place past count : ℕ}
+module _ {text : Bytes} {table : List ℕ} {symbols parts : ℕ} {s : ExpressionCounts} {place past count : ℕ}
     (p : Going text table symbols parts s × StringAt text (s .at) place past count) where
   abbrev string : Item
   string = characters (charactersIn (quotationAt text place))
 
-  pub string-many : 128 < s .count + count → {tape tape′ : List ℕ} → JoinsItem text table symbols parts s tape string past tape′ (Wrong OverLimit)
-  string-many w = wrongs refl (rw (p .1 .counted, lt-leb (s .count + count) 128 w))
+  pub string-many : 128 < s .items + count → {tape tape′ : List ℕ} → JoinsItem text table symbols parts s tape string past tape′ (Wrong OverLimit)
+  string-many w = wrongs refl (rw (p .1 .counted, lt-leb (s .items + count) 128 w))
 
-  pub string-joined : s .count + count ≤ 128 → {tape tape′ : List ℕ} {words : ℕ}
+  pub string-joined : s .items + count ≤ 128 → {tape tape′ : List ℕ} {words : ℕ}
       → Wrote tape (s .words) (charactersIn (stringFrom text (place + 1))) words tape′ × T (every isQuiet (charactersIn (stringFrom text (place + 1))))
-      → JoinsItem text table symbols parts s tape string past tape′ (Taken (record { at = past; words = words; count = s .count + count; parts = s .parts }))
+      → JoinsItem text table symbols parts s tape string past tape′ (Taken (record { at = past; words = words; items = s .items + count; passed = s .passed }))
   string-joined few w =
       let g = p .0 in
       let o = string-went (g .ready) (p .1) (w .0) in
@@ -66,14 +66,14 @@ module _ {text : Bytes} {table : List ℕ} {symbols parts : ℕ} {s : Progress} 
               at = refl;
               went = o;
               quiet = string-quiet (g .ready) (p .1) (w .1);
-              fault = rw (p .1 .counted, le-leb (s .count + count) 128 few);
+              fault = rw (p .1 .counted, le-leb (s .items + count) 128 few);
               progress = rw (p .1 .counted);
             };
       }
 
 -- VARIABLES
 
-module _ {text : Bytes} {table : List ℕ} {symbols parts : ℕ} {s : Progress} {x : Span}
+module _ {text : Bytes} {table : List ℕ} {symbols parts : ℕ} {s : ExpressionCounts} {x : Span}
     (p : Going text table symbols parts s × Identifier text (s .at) x) where
   abbrev name : Name
   name = View.part text x
@@ -82,39 +82,39 @@ module _ {text : Bytes} {table : List ℕ} {symbols parts : ℕ} {s : Progress} 
   short = leb (length name) maxIdentifier
 
   -- too many items, whatever else
-  many : {is : Bool} → short ≡ is → 128 ≤ s .count → both short (leb (s .count + 1) 128) ≡ false
-  many {is = true} e m = rw (e, lt-leb (s .count + 1) 128 (omega arith))
+  many : {is : Bool} → short ≡ is → 128 ≤ s .items → both short (leb (s .items + 1) 128) ≡ false
+  many {is = true} e m = rw (e, lt-leb (s .items + 1) 128 (omega arith))
   many {is = false} e m = rw e
 
   pub variable-many : {item : Item}
-      → (both short (leb (s .count + 1) 128) ≡ false → Reading.itemFault (symbolNames text table symbols) (progressAt text table parts s) item ≡ overLimit)
-      → 128 ≤ s .count
+      → (both short (leb (s .items + 1) 128) ≡ false → Reading.itemFault (symbolNames text table symbols) (progressAt text table parts s) item ≡ overLimit)
+      → 128 ≤ s .items
       → {tape tape′ : List ℕ} → JoinsItem text table symbols parts s tape item (x .past) tape′ (Wrong OverLimit)
   variable-many limited m = wrongs refl (limited (many refl m))
 
   pub part-long : 8 < x .past - x .from → {tape tape′ : List ℕ} → JoinsItem text table symbols parts s tape (partItem name) (x .past) tape′ (Wrong OverLimit)
   part-long l = wrongs refl (rw (too-long text x (identifier-inside (p .1)) 8 l))
 
-  few-items : s .count < 128 → leb (s .count + 1) 128 ≡ true
-  few-items m = le-leb (s .count + 1) 128 (omega arith)
+  few-items : s .items < 128 → leb (s .items + 1) 128 ≡ true
+  few-items m = le-leb (s .items + 1) 128 (omega arith)
 
   -- an s-variable that has room: what is wrong with it later is wrong with it here
-  symbol-like : (m : s .count < 128) → {is : Bool} → short ≡ is
+  symbol-like : (m : s .items < 128) → {is : Bool} → short ≡ is
       → Reading.itemFault (symbolNames text table symbols) (progressAt text table parts s) (symbolItem name)
       ≡ subjectFault (symbolNames text table symbols) name
   symbol-like m {is = true} e = rw (e, few-items m)
   symbol-like m {is = false} e = rw e
 
-  pub symbol-bad : s .count < 128 → {answer : Answer} → numberOf answer ≡ subjectFault (symbolNames text table symbols) name
+  pub symbol-bad : s .items < 128 → {answer : Answer} → numberOf answer ≡ subjectFault (symbolNames text table symbols) name
       → eqb (numberOf answer) 0 ≡ false
       → {tape tape′ : List ℕ} → JoinsItem text table symbols parts s tape (symbolItem name) (x .past) tape′ (Wrong answer)
   symbol-bad m e w = wrongs w (symbol-like m refl ∙ sym e)
 
   -- a variable that has no fault, as an item of a kind
-  variable-joined : s .count < 128 → x .past - x .from ≤ 8 → (item : Item) (kind : ℕ) → itemTape item ≡ named kind name → kind ≤ 2 → {passed : ℕ} → passed ≤ parts
+  variable-joined : s .items < 128 → x .past - x .from ≤ 8 → (item : Item) (kind : ℕ) → itemTape item ≡ named kind name → kind ≤ 2 → {passed : ℕ} → passed ≤ parts
       → Reading.itemFault (symbolNames text table symbols) (progressAt text table parts s) item ≡ 0
-      → Reading.pastItem item (progressAt text table parts s) ≡ record { items = s .count + 1; coming = tableNames text table (16 + passed) (16 + parts) }
-      → {tape tape′ : List ℕ} {next : Progress} → VariableTaken text s x (kind * 256) passed tape tape′ next
+      → Reading.pastItem item (progressAt text table parts s) ≡ record { items = s .items + 1; coming = tableNames text table (16 + passed) (16 + parts) }
+      → {tape tape′ : List ℕ} {next : ExpressionCounts} → VariableTaken text s x (kind * 256) passed tape tape′ next
       → JoinsItem text table symbols parts s tape item (x .past) tape′ (Taken next)
   variable-joined m brief item kind q low h f e {tape} {tape′} {next} v =
       let g = p .0 in
@@ -132,45 +132,45 @@ module _ {text : Bytes} {table : List ℕ} {symbols parts : ℕ} {s : Progress} 
             });
       }
 
-  pub symbol-joined : s .count < 128 → subjectFault (symbolNames text table symbols) name ≡ 0 → {tape tape′ : List ℕ} {next : Progress}
-      → VariableTaken text s x 256 (s .parts) tape tape′ next
+  pub symbol-joined : s .items < 128 → subjectFault (symbolNames text table symbols) name ≡ 0 → {tape tape′ : List ℕ} {next : ExpressionCounts}
+      → VariableTaken text s x 256 (s .passed) tape tape′ next
       → JoinsItem text table symbols parts s tape (symbolItem name) (x .past) tape′ (Taken next)
   symbol-joined m f v =
       variable-joined m (within text x (identifier-inside (p .1)) 8 3 _ f) (symbolItem name) 1 refl (omega arith) (p .0 .passed) (symbol-like m refl ∙ f) refl v
 
   -- the entries of e-variables that may still come
-  pub coming-entries : Entries text table (16 + s .parts) (16 + parts)
-  coming-entries = entries-later text table 16 (16 + parts) (p .0 .variables .partEntries) (s .parts) (omega (arith, p .0 .passed))
+  pub coming-entries : Entries text table (16 + s .passed) (16 + parts)
+  coming-entries = entries-later text table 16 (16 + parts) (p .0 .variables .partEntries) (s .passed) (omega (arith, p .0 .passed))
 
 -- an e-variable that has room was looked for among those that may still come
-pub record Sought (text : Bytes) (table : List ℕ) (symbols parts : ℕ) (s : Progress) (x : Span) (r : ℕ) : Type 0 where
+pub record Sought (text : Bytes) (table : List ℕ) (symbols parts : ℕ) (s : ExpressionCounts) (x : Span) (r : ℕ) : Type 0 where
   pub here : Going text table symbols parts s × Identifier text (s .at) x
-  pub few : s .count < 128
+  pub few : s .items < 128
   pub brief : x .past - x .from ≤ 8
-  pub found : r ≡ 16 + s .parts + position (View.part text x) (progressAt text table parts s .coming)
+  pub found : r ≡ 16 + s .passed + position (View.part text x) (progressAt text table parts s .coming)
 
-module _ {text : Bytes} {table : List ℕ} {symbols parts : ℕ} {s : Progress} {x : Span} {r : ℕ} (q : Sought text table symbols parts s x r) where
+module _ {text : Bytes} {table : List ℕ} {symbols parts : ℕ} {s : ExpressionCounts} {x : Span} {r : ℕ} (q : Sought text table symbols parts s x r) where
   abbrev sought : Name
   sought = View.part text x
 
   abbrev those : List Name
   those = progressAt text table parts s .coming
 
-  passed : s .parts ≤ parts
+  passed : s .passed ≤ parts
   passed = q .here .0 .passed
 
-  after-it : comingAfter sought those ≡ pick (ltb (position sought those) (parts - s .parts)) (some (drop (suc (position sought those)) those)) none
+  after-it : comingAfter sought those ≡ pick (ltb (position sought those) (parts - s .passed)) (some (drop (suc (position sought those)) those)) none
   after-it =
-      let count : length those ≡ parts - s .parts =
-      table-length text table (16 + s .parts) (16 + parts) (coming-entries (q .here)) ∙ omega (arith, passed)
+      let count : length those ≡ parts - s .passed =
+      table-length text table (16 + s .passed) (16 + parts) (coming-entries (q .here)) ∙ omega (arith, passed)
       in
       position-coming sought those ∙ rw count
 
   known : r < 16 + parts → comingAfter sought those ≡ some (drop (suc (position sought those)) those)
-  known h = after-it ∙ rw (lt-ltb (position sought those) (parts - s .parts) (omega (arith, passed, q .found)))
+  known h = after-it ∙ rw (lt-ltb (position sought those) (parts - s .passed) (omega (arith, passed, q .found)))
 
   unknown : 16 + parts ≤ r → comingAfter sought those ≡ none
-  unknown h = after-it ∙ rw (le-ltb (position sought those) (parts - s .parts) (omega (arith, passed, q .found)))
+  unknown h = after-it ∙ rw (le-ltb (position sought those) (parts - s .passed) (omega (arith, passed, q .found)))
 
   fault-is : {is : Bool} → isSome (comingAfter sought those) ≡ is
       → Reading.itemFault (symbolNames text table symbols) (progressAt text table parts s) (partItem sought) ≡ faultUnless is wrongLaterVariable 0
@@ -179,19 +179,19 @@ module _ {text : Bytes} {table : List ℕ} {symbols parts : ℕ} {s : Progress} 
   pub part-unknown : 16 + parts ≤ r → {tape tape′ : List ℕ} → JoinsItem text table symbols parts s tape (partItem sought) (x .past) tape′ (Wrong WrongLaterVariable)
   part-unknown h = wrongs refl (fault-is {is = false} (rw (unknown h)))
 
-  pub part-joined : r < 16 + parts → {tape tape′ : List ℕ} {next : Progress} → VariableTaken text s x 512 (r - 15) tape tape′ next
+  pub part-joined : r < 16 + parts → {tape tape′ : List ℕ} {next : ExpressionCounts} → VariableTaken text s x 512 (r - 15) tape tape′ next
       → JoinsItem text table symbols parts s tape (partItem sought) (x .past) tape′ (Taken next)
   part-joined h v =
-      let n : 16 + (r - 15) ≡ 16 + s .parts + suc (position sought those) = omega (arith, q .found) in
+      let n : 16 + (r - 15) ≡ 16 + s .passed + suc (position sought those) = omega (arith, q .found) in
       variable-joined (q .here) (q .few) (q .brief) (partItem sought) 2 refl (omega arith) (omega arith)
       (fault-is {is = true} (rw (known h)))
-      (rw (known h, n, names-later text table (16 + s .parts) (16 + parts) (suc (position sought those))))
+      (rw (known h, n, names-later text table (16 + s .passed) (16 + parts) (suc (position sought those))))
       v
 
 -- TOKENS
 
 -- what comes of the item comes of the token
-pub joins : {text : Bytes} {table : List ℕ} {symbols parts : ℕ} {s : Progress} {tape : List ℕ} {t : Placed} {item : Item} {past : ℕ} {tape′ : List ℕ} {r : Joined}
+pub joins : {text : Bytes} {table : List ℕ} {symbols parts : ℕ} {s : ExpressionCounts} {tape : List ℕ} {t : Placed} {item : Item} {past : ℕ} {tape′ : List ℕ} {r : Joined}
     → ItemHere text t item past → JoinsItem text table symbols parts s tape item past tape′ r
     → JoinsToken text table symbols parts s tape t tape′ r
 joins {text} {table} {symbols} {parts} {s} {tape} {t} {item} {past} {tape′} {r} h a = record { gives = gives r (a .gives) }

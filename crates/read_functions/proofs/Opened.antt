@@ -21,24 +21,24 @@ use Rattle.read_tokens.specs.declared.Placed as Code
 use Rattle.read_bookkeeping.specs.declared.Answer.{Answer}
 use Rattle.read_bookkeeping.specs.declared.Answer.the-variants.{OverLimit}
 use Rattle.read_bookkeeping.specs.declared.progress.Fault.{Fault}
-use Rattle.read_bookkeeping.specs.declared.progress.Progress.{Progress}
-use Rattle.read_bookkeeping.specs.declared.progress.Parsed.{Parsed as CodeParsed}
-use Rattle.read_bookkeeping.specs.declared.progress.Parsed.the-variants.{Stopped, Done}
+use Rattle.read_functions.specs.declared.expressions.ExpressionCounts.{ExpressionCounts}
+use Rattle.read_functions.specs.declared.expressions.ParsedExpression.{ParsedExpression}
+use Rattle.read_functions.specs.declared.expressions.ParsedExpression.the-variants.{Stopped, Done}
 use Rattle.read_bookkeeping.specs.Tables.{Inside}
-use Rattle.read_bookkeeping.specs.Answered.{numberOf, Agrees}
+use Rattle.read_bookkeeping.specs.Answered.{numberOf, AgreesBy}
 use Rattle.read_bookkeeping.specs.Written.{Wrote, isQuiet, Ready}
-use Rattle.read_functions.specs.Expressions.{CallStands, stoppedWith, CalledName, opening, OpeningRead}
+use Rattle.read_functions.specs.Expressions.{expressionOutcome, CallStands, faultAt, CalledName, opening, OpeningRead}
 use Rattle.read_bookkeeping.proofs.Choosing.{both-false}
 use Rattle.read_bookkeeping.proofs.Lengths.{part-length, within}
-use Rattle.read_bookkeeping.proofs.Going.{check-wrong, stops, reads, name-went}
-use Rattle.read_bookkeeping.proofs.Tokening.{NameFirst, name-first, names-not, refused, FaultOf, NoName}
+use Rattle.read_bookkeeping.proofs.Going.{check-wrong, stops-by, reads-by, name-went}
+use Rattle.read_bookkeeping.proofs.Tokening.{NameFirst, name-first, names-not, refused-by, FaultOf, NoName}
 
 -- what the definition reads of a call after its `<`, up to its argument
-abbrev pub openingAt : Bytes → ℕ → Progress → ℕ → Parsed CalledName
-openingAt text depth s place = opening depth (s .count) (standing (Tokens.sign 60) place (s .at)) (stream text Tokens.naming (s .at))
+abbrev pub openingAt : Bytes → ℕ → ExpressionCounts → ℕ → Parsed CalledName
+openingAt text depth s place = opening depth (s .items) (standing (Tokens.sign 60) place (s .at)) (stream text Tokens.naming (s .at))
 
-abbrev pub OpeningAgrees : Bytes → ℕ → Progress → ℕ → List ℕ → List ℕ → CodeParsed → Type 0
-OpeningAgrees text depth s place tape tape′ r = Agrees (OpeningRead text depth s tape tape′) (openingAt text depth s place) r
+abbrev pub OpeningAgrees : Bytes → ℕ → ExpressionCounts → ℕ → List ℕ → List ℕ → ParsedExpression → Type 0
+OpeningAgrees text depth s place tape tape′ r = AgreesBy expressionOutcome (OpeningRead text depth s tape tape′) (openingAt text depth s place) r
 
 -- one call too deep, one item too many
 module _ (depth items : ℕ) where
@@ -48,46 +48,46 @@ module _ (depth items : ℕ) where
   pub too-many : 128 ≤ items → both (ltb depth 16) (leb (items + 1) 128) ≡ false
   too-many h = rw (lt-leb (items + 1) 128 (omega arith)) (sym (both-false (ltb depth 16) refl))
 
-pub call-limited : (text : Bytes) (depth : ℕ) (s : Progress) (place : ℕ) {tape tape′ : List ℕ} → both (ltb depth 16) (leb (s .count + 1) 128) ≡ false
-    → OpeningAgrees text depth s place tape tape′ (stoppedWith OverLimit place)
-call-limited text depth s place e = stops (rw e)
+pub call-limited : (text : Bytes) (depth : ℕ) (s : ExpressionCounts) (place : ℕ) {tape tape′ : List ℕ} → both (ltb depth 16) (leb (s .items + 1) 128) ≡ false
+    → OpeningAgrees text depth s place tape tape′ (Stopped (faultAt OverLimit place))
+call-limited text depth s place e = stops-by refl (rw e)
 
 -- a call may stand here, and a token comes after its `<`
-pub record CallComes (text : Bytes) (depth : ℕ) (s : Progress) (place : ℕ) (t : Code.Placed) : Type 0 where
+pub record CallComes (text : Bytes) (depth : ℕ) (s : ExpressionCounts) (place : ℕ) (t : Code.Placed) : Type 0 where
   pub ready : Ready text (s .at) (s .words)
   pub after : s .words < s .at
   pub shallow : depth < 16
-  pub few : s .count < 128
+  pub few : s .items < 128
   pub comes : Comes text Tokens.naming (s .at) t
 
-module _ {text : Bytes} {depth : ℕ} {s : Progress} {place : ℕ} {t : Code.Placed} (k : CallComes text depth s place t) where
+module _ {text : Bytes} {depth : ℕ} {s : ExpressionCounts} {place : ℕ} {t : Code.Placed} (k : CallComes text depth s place t) where
   at-name : openingAt text depth s place
       ≡ Reading.passName Reading.calledFault (stream text Tokens.naming (s .at)) (λ at n rest. parsed (record { place = at; name = n }) rest)
-  at-name = rw (lt-ltb depth 16 (k .shallow), le-leb (s .count + 1) 128 (omega (arith, k .few)))
+  at-name = rw (lt-ltb depth 16 (k .shallow), le-leb (s .items + 1) 128 (omega (arith, k .few)))
 
   pub call-nameless : {tape tape′ : List ℕ} {fault : Fault} → NoName (t .token)
       → FaultOf t fault
       → OpeningAgrees text depth s place tape tape′ (Stopped fault)
-  call-nameless n f = refused (k .comes) (at-name ∙ names-not (k .comes) _ _ n) f
+  call-nameless n f = refused-by refl (k .comes) (at-name ∙ names-not (k .comes) _ _ n) f
 
 -- the token is a name
-pub record CallName {text : Bytes} {depth : ℕ} {s : Progress} {place : ℕ} {t : Code.Placed} (call : CallComes text depth s place t) (n : Span) : Type 0 where
+pub record CallName {text : Bytes} {depth : ℕ} {s : ExpressionCounts} {place : ℕ} {t : Code.Placed} (call : CallComes text depth s place t) (n : Span) : Type 0 where
   pub is : t .token ≡ NameToken n
 
-module _ {text : Bytes} {depth : ℕ} {s : Progress} {place : ℕ} {t : Code.Placed} {call : CallComes text depth s place t} {n : Span} (m : CallName call n) where
+module _ {text : Bytes} {depth : ℕ} {s : ExpressionCounts} {place : ℕ} {t : Code.Placed} {call : CallComes text depth s place t} {n : Span} (m : CallName call n) where
   pub named-here : NameFirst text Tokens.naming (s .at) t n
   named-here = name-first (call .comes) (m .is)
 
   pub call-misnamed : {tape tape′ : List ℕ} {answer : Answer} → numberOf answer ≡ Reading.calledFault (View.part text n) → eqb (numberOf answer) 0 ≡ false
-      → OpeningAgrees text depth s place tape tape′ (stoppedWith answer (t .place))
+      → OpeningAgrees text depth s place tape tape′ (Stopped (faultAt answer (t .place)))
   call-misnamed {answer = answer} f w =
-      stops (at-name call ∙ rw (named-here .unrolled, ← f) (check-wrong (numberOf answer) _ _ w))
+      stops-by refl (at-name call ∙ rw (named-here .unrolled, ← f) (check-wrong (numberOf answer) _ _ w))
 
 -- it has no fault
-pub record CallNamed {text : Bytes} {depth : ℕ} {s : Progress} {place : ℕ} {t : Code.Placed} {call : CallComes text depth s place t} {n : Span} (name : CallName call n) : Type 0 where
+pub record CallNamed {text : Bytes} {depth : ℕ} {s : ExpressionCounts} {place : ℕ} {t : Code.Placed} {call : CallComes text depth s place t} {n : Span} (name : CallName call n) : Type 0 where
   pub sound : Reading.calledFault (View.part text n) ≡ 0
 
-module _ {text : Bytes} {depth : ℕ} {s : Progress} {place : ℕ} {t : Code.Placed} {call : CallComes text depth s place t} {n : Span} {name : CallName call n}
+module _ {text : Bytes} {depth : ℕ} {s : ExpressionCounts} {place : ℕ} {t : Code.Placed} {call : CallComes text depth s place t} {n : Span} {name : CallName call n}
     (m : CallNamed name) where
   abbrev here : NameFirst text Tokens.naming (s .at) t n
   here = named-here name
@@ -119,10 +119,10 @@ module _ {text : Bytes} {depth : ℕ} {s : Progress} {place : ℕ} {t : Code.Pla
 
   pub call-opens : {tape tape′ : List ℕ} {words : ℕ}
       → Wrote tape (s .words) (((9 + t .place) * 256 + (n .past - n .from)) ∷ View.part text n) words tape′ × T (every isQuiet (View.part text n))
-      → OpeningAgrees text depth s place tape tape′ (Done (record { at = t .past; words = words; count = s .count + 1; parts = s .parts }))
+      → OpeningAgrees text depth s place tape tape′ (Done (record { at = t .past; words = words; items = s .items + 1; passed = s .passed }))
   call-opens w =
       let k = call .comes in
-      reads (record { place = t .place; name = View.part text n }) (stream text Tokens.inside (t .past)) (at-name call ∙ rw (here .unrolled, m .sound))
+      reads-by refl (record { place = t .place; name = View.part text n }) (stream text Tokens.inside (t .past)) (at-name call ∙ rw (here .unrolled, m .sound))
       (record {
         tokens = refl;
         shorter = rw (here .unrolled) (omega arith);

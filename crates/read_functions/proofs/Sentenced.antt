@@ -1,6 +1,6 @@
 -- The sentence's reader, and what comes before and after a sentence.
 use Prim.Native.Nat.{ℕ, zero, suc, _+_, _≤_, _<_}
-use mathlib.Core.Path.{_≡_, refl, _∙_}
+use mathlib.Core.Path.{_≡_, refl, _∙_, ap}
 use mathlib.Core.Bool.{true, false}
 use mathlib.Core.List.{List, [], _∷_}
 use native.Mathlib.Omega.{arith}
@@ -25,17 +25,23 @@ use Rattle.read_bookkeeping.specs.declared.progress.Fault.{Fault}
 use Rattle.read_bookkeeping.specs.declared.progress.Progress.{Progress}
 use Rattle.read_bookkeeping.specs.declared.progress.Parsed.{Parsed as CodeParsed}
 use Rattle.read_bookkeeping.specs.declared.progress.Parsed.the-variants.{Stopped, Done}
+use Rattle.read_patterns.specs.declared.Counts.{Counts}
+use Rattle.read_patterns.specs.declared.ParsedPattern.{ParsedPattern}
+use Rattle.read_patterns.specs.declared.ParsedPattern.the-variants.{Stopped as StoppedPattern, Done as DonePattern}
+use Rattle.read_functions.specs.declared.expressions.ExpressionCounts.{ExpressionCounts}
+use Rattle.read_functions.specs.declared.expressions.ParsedExpression.{ParsedExpression}
+use Rattle.read_functions.specs.declared.expressions.ParsedExpression.the-variants.{Stopped as StoppedEarly, Done as DoneEarly}
 use Rattle.read_functions.specs.declared.sentences.Sequel.the-variants.{Ends, Another, Refused}
-use Rattle.read_bookkeeping.specs.Answered.{Agrees}
+use Rattle.read_bookkeeping.specs.Answered.{parsedOutcome, Agrees}
 use Rattle.read_bookkeeping.specs.Written.{Ready}
 use Rattle.read_bookkeeping.specs.Tokened.{signIs, unlessWord, Taken}
 use Rattle.read_bookkeeping.specs.Items.{Variables, symbolNames, partNames}
-use Rattle.read_patterns.specs.Patterns.{PatternRead, PatternAgrees}
+use Rattle.read_patterns.specs.Patterns.{PatternRead, patternOutcome, PatternAgrees}
 use Rattle.read_conditions.specs.Conditions.{ConditionsRead}
-use Rattle.read_functions.specs.Expressions.{Going, stoppedWith}
+use Rattle.read_functions.specs.Expressions.{Going, faultAt, withoutCounts}
 use Rattle.read_functions.specs.Sentences.{fromEquals, EqualsRead, SentenceRead, beginsSentence, sentenceOf, firstSentence, FirstRead, Follows}
 use Rattle.read_bookkeeping.proofs.Items.{variable-of, variable-at}
-use Rattle.read_bookkeeping.proofs.Going.{stops, ReadAt, has-read, follow-same, pass-follow, follow-alone, makes, went-from, went-then, word-went, ready-after, stops-too}
+use Rattle.read_bookkeeping.proofs.Going.{stops, reads, ReadAt, has-read, follow-same, pass-follow, follow-alone, makes, went-from, went-then, word-went, ready-after, stops-too}
 use Rattle.read_bookkeeping.proofs.Tokening.{fault-same, sign-shown, passes-on, refused, FaultOf}
 use Rattle.read_bookkeeping.proofs.Refusing.{word-at-once, word-after, word-after-pass, word-after-made}
 use Rattle.read_functions.proofs.Calling.{ExpressionAgrees}
@@ -91,8 +97,8 @@ module _ {text : Bytes} {from : ℕ} where
 
 -- A SENTENCE FROM ITS `=` ON
 
-abbrev expressionStart : ℕ → ℕ → Progress
-expressionStart at words = record { at = at; words = words + 1; count = 0; parts = 0 }
+abbrev expressionStart : ℕ → ℕ → ExpressionCounts
+expressionStart at words = record { at = at; words = words + 1; items = 0; passed = 0 }
 
 abbrev EqualsAgrees : Bytes → List ℕ → ℕ → ℕ → ℕ → ℕ → List ℕ → List ℕ → CodeParsed → Type 0
 EqualsAgrees text table symbols parts from words tape tape′ r =
@@ -122,19 +128,25 @@ module _ {text : Bytes} {from words at : ℕ} (q : AfterEquals text from words a
               };
         }
 
-    pub equals-reads : {tape tape₁ tape′ : List ℕ} {r : CodeParsed} → tape₁ ≡ set tape words 1024
+    pub equals-reads : {tape tape₁ tape′ : List ℕ} {r : ParsedExpression} {there : CodeParsed} → tape₁ ≡ set tape words 1024
         → ((bound : ℕ) → length (stream text Tokens.inside at) ≤ bound
         → ExpressionAgrees text table symbols parts bound 0 (expressionStart at words) tape₁ tape′ r)
-        → EqualsAgrees text table symbols parts from words tape tape′ r
-    equals-reads e a =
-        makes (λ i. i) _
-        (λ i rest s h. record {
-          tokens = h .tokens;
-          went = went-then (word-went (q .ready) (q .taken .onward) (q .taken .inside) e) (h .went);
-          stands = h .stands;
-        })
-        (passes-on _ (q .taken) ∙ follow-alone _)
-        (a (length (stream text Tokens.inside at)) (omega arith))
+        → there ≡ withoutCounts r
+        → EqualsAgrees text table symbols parts from words tape tape′ there
+    equals-reads {tape} {tape₁} {tape′} {r} e a same = rw same (told r (a (length (stream text Tokens.inside at)) (omega arith)))
+      where
+        told : (q′ : ParsedExpression)
+            → ExpressionAgrees text table symbols parts (length (stream text Tokens.inside at)) 0 (expressionStart at words) tape₁ tape′ q′
+            → EqualsAgrees text table symbols parts from words tape tape′ (withoutCounts q′)
+        told (StoppedEarly fault) h = stops-too h refl refl (λ k. passes-on _ (q .taken) ∙ k)
+        told (DoneEarly s) h =
+            let k = has-read _ s refl h in
+            reads (k .value) (k .rest) (passes-on _ (q .taken) ∙ k .same)
+            (record {
+              tokens = k .how .tokens;
+              went = went-then (word-went (q .ready) (q .taken .onward) (q .taken .inside) e) (k .how .went);
+              stands = k .how .stands;
+            })
 
 -- A SENTENCE
 
@@ -164,36 +176,36 @@ sentence-is ts =
     ∙ word-at-once (Reading.parsePattern [] ts) afterPattern (λ p w place past rest. refl)
 
 -- what the definition reads after the pattern
-abbrev conditionsAt : Bytes → List ℕ → Progress → Parsed (List Condition)
+abbrev conditionsAt : Bytes → List ℕ → Counts → Parsed (List Condition)
 conditionsAt text table p =
-    Reading.parseConditions 8 (symbolNames text table (p .count)) (partNames text table (p .parts)) (stream text Tokens.inside (p .at))
+    Reading.parseConditions 8 (symbolNames text table (p .symbols)) (partNames text table (p .parts)) (stream text Tokens.inside (p .at))
 
 -- the pattern was read
-pub record AfterPattern (text : Bytes) (from words : ℕ) (tape table tape₁ : List ℕ) (p : Progress) : Type 0 where
+pub record AfterPattern (text : Bytes) (from words : ℕ) (tape table tape₁ : List ℕ) (p : Counts) : Type 0 where
   pub ready : Ready text from words
   pub read : ReadAt (PatternRead text from words tape table tape₁) (unlessWord (Reading.parsePattern [] (stream text Tokens.inside from))) p
 
 -- the conditions were read after it
-pub record AfterConditions {text : Bytes} {from words : ℕ} {tape table tape₁ : List ℕ} {p : Progress} (pattern : AfterPattern text from words tape table tape₁ p) (tape₂ : List ℕ) (c : Progress) : Type 0 where
+pub record AfterConditions {text : Bytes} {from words : ℕ} {tape table tape₁ : List ℕ} {p : Counts} (pattern : AfterPattern text from words tape table tape₁ p) (tape₂ : List ℕ) (c : Progress) : Type 0 where
   pub read : ReadAt (ConditionsRead text (p .at) (p .words) tape₁ tape₂) (conditionsAt text table p) c
 
-module _ {text : Bytes} {from words : ℕ} {tape table tape₁ : List ℕ} {r : CodeParsed}
+module _ {text : Bytes} {from words : ℕ} {tape table tape₁ : List ℕ} {r : ParsedPattern}
     (a : PatternAgrees text from words tape table tape₁ r) where
-  pub pattern-stops : {fault : Fault} → r ≡ Stopped fault → SentenceAgrees text from words tape tape₁ (Stopped fault)
-  pattern-stops e = stops-too a e (λ h. sentence-is _ ∙ rw h)
+  pub pattern-stops : {fault : Fault} → r ≡ StoppedPattern fault → SentenceAgrees text from words tape tape₁ (Stopped fault)
+  pattern-stops e = stops-too a (ap patternOutcome e) refl (λ h. sentence-is _ ∙ rw h)
 
-  pub pattern-done : {p : Progress} → Ready text from words → r ≡ Done p → AfterPattern text from words tape table tape₁ p
-  pattern-done ready e = record { ready = ready; read = has-read _ _ (rw e at a) }
+  pub pattern-done : {p : Counts} → Ready text from words → r ≡ DonePattern p → AfterPattern text from words tape table tape₁ p
+  pattern-done ready e = record { ready = ready; read = has-read _ _ refl (rw e at a) }
 
-module _ {text : Bytes} {from words : ℕ} {tape table tape₁ : List ℕ} {p : Progress} (k : AfterPattern text from words tape table tape₁ p) where
+module _ {text : Bytes} {from words : ℕ} {tape table tape₁ : List ℕ} {p : Counts} (k : AfterPattern text from words tape table tape₁ p) where
   pub pattern-ready : Ready text (p .at) (p .words)
   pattern-ready = ready-after (k .ready .short) (k .read .how .went)
 
-  pub pattern-variables : Variables text table (p .count) (p .parts)
+  pub pattern-variables : Variables text table (p .symbols) (p .parts)
   pattern-variables = k .read .how .variables
 
   at-conditions : unlessWord (Reading.parseSentence (stream text Tokens.inside from))
-      ≡ follow (conditionsAt text table p) (λ cs ts. follow (fromEquals (symbolNames text table (p .count)) (partNames text table (p .parts)) ts)
+      ≡ follow (conditionsAt text table p) (λ cs ts. follow (fromEquals (symbolNames text table (p .symbols)) (partNames text table (p .parts)) ts)
       (λ i rest. parsed (withExpression (k .read .value) cs i) rest))
   at-conditions =
       sentence-is _
@@ -202,18 +214,18 @@ module _ {text : Bytes} {from words : ℕ} {tape table tape₁ : List ℕ} {p : 
 
   module _ {tape₂ : List ℕ} {r : CodeParsed} (a : Agrees (ConditionsRead text (p .at) (p .words) tape₁ tape₂) (conditionsAt text table p) r) where
     pub conditions-stop : {fault : Fault} → r ≡ Stopped fault → SentenceAgrees text from words tape tape₂ (Stopped fault)
-    conditions-stop e = stops-too a e (λ h. at-conditions ∙ rw h)
+    conditions-stop e = stops-too a (ap parsedOutcome e) refl (λ h. at-conditions ∙ rw h)
 
     pub conditions-done : {c : Progress} → r ≡ Done c → AfterConditions k tape₂ c
-    conditions-done e = record { read = has-read _ _ (rw e at a) }
+    conditions-done e = record { read = has-read _ _ refl (rw e at a) }
 
-module _ {text : Bytes} {from words : ℕ} {tape table tape₁ : List ℕ} {p : Progress} {k : AfterPattern text from words tape table tape₁ p} {tape₂ : List ℕ} {c : Progress}
+module _ {text : Bytes} {from words : ℕ} {tape table tape₁ : List ℕ} {p : Counts} {k : AfterPattern text from words tape table tape₁ p} {tape₂ : List ℕ} {c : Progress}
     (l : AfterConditions k tape₂ c) where
   pub conditions-ready : Ready text (c .at) (c .words)
   conditions-ready = ready-after (k .ready .short) (l .read .how .went)
 
   pub sentence-reads : {tape′ : List ℕ} {r : CodeParsed}
-      → EqualsAgrees text table (p .count) (p .parts) (c .at) (c .words) tape₂ tape′ r
+      → EqualsAgrees text table (p .symbols) (p .parts) (c .at) (c .words) tape₂ tape′ r
       → SentenceAgrees text from words tape tape′ r
   sentence-reads a =
       makes (withExpression (k .read .value) (l .read .value)) _
@@ -241,7 +253,7 @@ module _ (left words : ℕ) {text : Bytes} {from : ℕ} {t : Code.Placed} (c : C
   first-refused e f = refused c (rw (c .unrolled, begins-same c ∙ e)) f
 
   module _ (e : beginsSentence (t .token) ≡ true) where
-    pub first-many : {tape tape′ : List ℕ} → left ≡ 0 → FirstAgrees text left from words tape tape′ (stoppedWith OverLimit (t .place))
+    pub first-many : {tape tape′ : List ℕ} → left ≡ 0 → FirstAgrees text left from words tape tape′ (Stopped (faultAt OverLimit (t .place)))
     first-many z = stops (rw (c .unrolled, begins-same c ∙ e, z))
 
     pub first-reads : (left ≡ 0 → ⊥) → {tape tape′ : List ℕ} {r : CodeParsed} → SentenceAgrees text (t .place) words tape tape′ r

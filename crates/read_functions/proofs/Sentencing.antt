@@ -15,14 +15,16 @@ use Rattle.read_tokens.specs.View.{stream}
 use Rattle.read_bookkeeping.specs.declared.progress.Fault.{Fault}
 use Rattle.read_bookkeeping.specs.declared.progress.Progress.{Progress}
 use Rattle.read_bookkeeping.specs.declared.progress.Parsed.{Parsed as CodeParsed}
-use Rattle.read_bookkeeping.specs.declared.progress.Parsed.the-variants.{Stopped, Done}
+use Rattle.read_bookkeeping.specs.declared.progress.Parsed.the-variants.{Stopped as StoppedOne, Done as DoneOne}
+use Rattle.read_functions.specs.declared.sentences.ParsedSentences.{ParsedSentences}
+use Rattle.read_functions.specs.declared.sentences.ParsedSentences.the-variants.{Stopped, Done}
 use Rattle.read_functions.specs.declared.sentences.Sequel.{Sequel}
 use Rattle.read_functions.specs.declared.sentences.Sequel.the-variants.{Ends, Another, Refused}
-use Rattle.read_bookkeeping.specs.Answered.{Agrees}
+use Rattle.read_bookkeeping.specs.Answered.{parsedOutcome, AgreesBy, Agrees}
 use Rattle.read_bookkeeping.specs.Written.{Ready, Went}
-use Rattle.read_functions.specs.Sentences.{Each, SentenceStands, sentenceOf, firstSentence, FirstRead, Follows, SentencesRead}
+use Rattle.read_functions.specs.Sentences.{Each, SentenceStands, sentenceOf, firstSentence, FirstRead, Follows, SentencesRead, sentencesOutcome}
 use Rattle.read_bookkeeping.proofs.Refusing.{word-at-once}
-use Rattle.read_bookkeeping.proofs.Going.{stops, reads, ReadAt, has-read, follow-alone, behind, behind-more, went-none, went-then, word-went, ready-after, stops-too}
+use Rattle.read_bookkeeping.proofs.Going.{stops-by, reads-by, ReadAt, has-read, follow-alone, behind, behind-more, went-none, went-then, word-went, ready-after, stops-too}
 
 -- it holds of none, of these and those, and of one more
 pub each-none : {A : Type 0} (holds : A → Type 0) → Each holds []
@@ -103,9 +105,9 @@ pub record Sentenced (text start : List ℕ) (limit from words : ℕ) (tape : Li
   pub stand : Each (SentenceStands text) before
   pub short : length text ≤ 32768
 
-abbrev SentencesAgree : Bytes → ℕ → ℕ → ℕ → List ℕ → List ℕ → CodeParsed → Type 0
+abbrev SentencesAgree : Bytes → ℕ → ℕ → ℕ → List ℕ → List ℕ → ParsedSentences → Type 0
 SentencesAgree text limit from words start tape r =
-    Agrees (SentencesRead text limit from words start tape) (Reading.parseSentences limit (stream text Tokens.inside from)) r
+    AgreesBy sentencesOutcome (SentencesRead text limit from words start tape) (Reading.parseSentences limit (stream text Tokens.inside from)) r
 
 pub sentences-start : (text start : List ℕ) (limit from words : ℕ) → Ready text from words → Sentenced text start limit from words start from words limit
 sentences-start text start limit from words r =
@@ -130,9 +132,9 @@ module _ {text start : List ℕ} {limit from words : ℕ} {tape : List ℕ} {at 
 
   pub sentence-stops : {tape′ : List ℕ} {r : CodeParsed} {fault : Fault}
       → Agrees (FirstRead text left at to tape tape′) (firstSentence left (stream text Tokens.inside at)) r
-      → r ≡ Stopped fault
+      → r ≡ StoppedOne fault
       → SentencesAgree text limit from words start tape′ (Stopped fault)
-  sentence-stops a e = stops-too a e (λ h. at-sentence ∙ rw h)
+  sentence-stops a e = stops-too a (ap parsedOutcome e) refl (λ h. at-sentence ∙ rw h)
 
 -- a sentence was read after those
 pub record OneMore (text start : List ℕ) (limit from words left : ℕ) (tape₁ : List ℕ) (s : Progress) : Type 0 where
@@ -144,10 +146,10 @@ pub record OneMore (text start : List ℕ) (limit from words left : ℕ) (tape�
 
 pub one-more : {text start : List ℕ} {limit from words : ℕ} {tape : List ℕ} {at to left : ℕ} {tape₁ : List ℕ} {s : Progress} {p : CodeParsed}
     → Sentenced text start limit from words tape at to left
-    → p ≡ Done s
+    → p ≡ DoneOne s
     → Agrees (FirstRead text left at to tape tape₁) (firstSentence left (stream text Tokens.inside at)) p
     → OneMore text start limit from words left tape₁ s
-one-more k e a = record { tape = _; at = _; to = _; others = k; read = has-read _ _ (rw e at a) }
+one-more k e a = record { tape = _; at = _; to = _; others = k; read = has-read _ _ refl (rw e at a) }
 
 module _ {text start : List ℕ} {limit from words left : ℕ} {tape₁ : List ℕ} {s : Progress} (o : OneMore text start limit from words left tape₁ s) where
   abbrev before : List Sentence
@@ -197,13 +199,13 @@ module _ {text start : List ℕ} {limit from words left : ℕ} {tape₁ : List �
 
   pub sequel-refused : {tape′ : List ℕ} {fault : Fault} → q ≡ Refused fault → SentencesAgree text limit from words start tape′ (Stopped fault)
   sequel-refused e =
-      stops (at-sequel one ∙ rw (followed e .gives (Reading.parseSentences (left - 1)) newest))
+      stops-by refl (at-sequel one ∙ rw (followed e .gives (Reading.parseSentences (left - 1)) newest))
 
   pub sequel-ends : {tape′ : List ℕ} {past : ℕ} → q ≡ Ends past → tape′ ≡ set tape₁ (s .words) 1792
-      → SentencesAgree text limit from words start tape′ (Done (record { at = past; words = s .words + 1; count = left - 1; parts = 0 }))
+      → SentencesAgree text limit from words start tape′ (Done (record { at = past; words = s .words + 1; left = left - 1 }))
   sequel-ends {past = past} e put =
       let f = followed e .gives in
-      reads (others ++ newest ∷ []) (stream text Tokens.outside past)
+      reads-by refl (others ++ newest ∷ []) (stream text Tokens.outside past)
       (at-sequel one ∙ rw (f .0 (Reading.parseSentences (left - 1)) newest))
       (record {
         tokens = refl;

@@ -16,26 +16,31 @@ use Rattle.read_tokens.specs.View.{part, stream}
 use Rattle.read_tokens.specs.declared.Span.{Span}
 use Rattle.read_tokens.specs.declared.Placed.{Placed}
 use Rattle.read_bookkeeping.specs.declared.Answer.{Answer}
-use Rattle.read_bookkeeping.specs.declared.progress.Progress.{Progress}
+use Rattle.read_functions.specs.declared.expressions.ExpressionCounts.{ExpressionCounts}
 use Rattle.read_functions.specs.declared.expressions.Joined.{Joined}
 use Rattle.read_functions.specs.declared.expressions.Joined.the-variants.{Taken as Takes, Wrong, Refused, Other}
 use Rattle.read_bookkeeping.specs.Tables.{tableNames}
+use Rattle.read_bookkeeping.specs.declared.progress.Fault.{Fault}
+use Rattle.read_bookkeeping.specs.declared.progress.Progress.{Progress}
 use Rattle.read_bookkeeping.specs.declared.progress.Parsed.{Parsed}
-use Rattle.read_bookkeeping.specs.declared.progress.Parsed.the-variants.{Stopped, Done}
-use Rattle.read_bookkeeping.specs.Answered.{numberOf}
+use Rattle.read_bookkeeping.specs.declared.progress.Parsed.the-variants.{Stopped as StoppedThere, Done as DoneThere}
+use Rattle.read_functions.specs.declared.expressions.ParsedExpression.{ParsedExpression}
+use Rattle.read_functions.specs.declared.expressions.ParsedExpression.the-variants.{Stopped, Done}
+use Rattle.read_bookkeeping.specs.Answered.{numberOf, Outcome, halted, reached}
 use Rattle.read_bookkeeping.specs.Tokened.{Taken, Barred}
 use Rattle.read_bookkeeping.specs.Written.{Wrote, isQuiet, Ready, Went}
 use Rattle.read_bookkeeping.specs.Items.{Variables, symbolNames, itemAt, NoItem, WordRefused}
 
 -- how far an expression is: its items, and the e-variables of the table that may still come
-abbrev pub progressAt : Bytes → List ℕ → ℕ → Progress → Reading.Progress
-progressAt text table parts s = record { items = s .count; coming = tableNames text table (16 + s .parts) (16 + parts) }
+abbrev pub progressAt : Bytes → List ℕ → ℕ → ExpressionCounts → Reading.Progress
+progressAt text table parts s =
+    record { items = s .items; coming = tableNames text table (16 + s .passed) (16 + parts) }
 
 -- what may come next is safe
-pub record Going (text : Bytes) (table : List ℕ) (symbols parts : ℕ) (s : Progress) : Type 0 where
+pub record Going (text : Bytes) (table : List ℕ) (symbols parts : ℕ) (s : ExpressionCounts) : Type 0 where
   pub variables : Variables text table symbols parts
-  pub passed : s .parts ≤ parts
-  pub few : s .count ≤ 128
+  pub passed : s .passed ≤ parts
+  pub few : s .items ≤ 128
   pub ready : Ready text (s .at) (s .words)
 
 -- WHAT STANDS IN THE TEXT
@@ -63,14 +68,17 @@ itemTape (symbolItem x) = named symbolKind x
 itemTape (partItem x) = named partKind x
 itemTape noItem = []
 
--- a variable is taken in: its word, a base plus the identifier's length, and the identifier; so many e-variables have passed then
-pub record VariableTaken (text : Bytes) (s : Progress) (x : Span) (base parts : ℕ) (tape tape′ : List ℕ) (next : Progress) : Type 0 where
+-- a variable is taken in: its word, a base plus the identifier's length, and the identifier; so many e-variables have
+-- passed then
+pub record VariableTaken (text : Bytes) (s : ExpressionCounts) (x : Span) (base passed : ℕ) (tape tape′ : List ℕ)
+    (next : ExpressionCounts) : Type 0 where
   pub wrote : Wrote tape (s .words) ((base + (x .past - x .from)) ∷ part text x) (next .words) tape′
   pub quiet : T (every isQuiet (part text x))
-  pub same : next ≡ record { at = x .past; words = next .words; count = s .count + 1; parts = parts }
+  pub same : next ≡ record { at = x .past; words = next .words; items = s .items + 1; passed = passed }
 
 -- an item is taken into an expression
-pub record TakenIn (text : Bytes) (table : List ℕ) (symbols parts : ℕ) (s : Progress) (tape : List ℕ) (item : Item) (past : ℕ) (tape′ : List ℕ) (next : Progress) : Type 0 where
+pub record TakenIn (text : Bytes) (table : List ℕ) (symbols parts : ℕ) (s : ExpressionCounts) (tape : List ℕ)
+    (item : Item) (past : ℕ) (tape′ : List ℕ) (next : ExpressionCounts) : Type 0 where
   pub going : Going text table symbols parts next
   pub at : next .at ≡ past
   pub went : Went text (s .at) (s .words) tape (next .at) (next .words) tape′ (itemTape item)
@@ -79,21 +87,25 @@ pub record TakenIn (text : Bytes) (table : List ℕ) (symbols parts : ℕ) (s : 
   pub progress : Reading.pastItem item (progressAt text table parts s) ≡ progressAt text table parts next
 
 -- an item has a fault in an expression
-pub record WrongIn (text : Bytes) (table : List ℕ) (symbols parts : ℕ) (s : Progress) (item : Item) (answer : Answer) : Type 0 where
+pub record WrongIn (text : Bytes) (table : List ℕ) (symbols parts : ℕ) (s : ExpressionCounts) (item : Item)
+    (answer : Answer) : Type 0 where
   pub wrong : eqb (numberOf answer) 0 ≡ false
   pub fault : Reading.itemFault (symbolNames text table symbols) (progressAt text table parts s) item ≡ numberOf answer
 
-abbrev pub ItemGives : Bytes → List ℕ → ℕ → ℕ → Progress → List ℕ → Item → ℕ → List ℕ → Joined → Type 0
-ItemGives text table symbols parts s tape item past tape′ (Takes next) = TakenIn text table symbols parts s tape item past tape′ next
-ItemGives text table symbols parts s tape item past tape′ (Wrong answer) = WrongIn text table symbols parts s item answer
+abbrev pub ItemGives : Bytes → List ℕ → ℕ → ℕ → ExpressionCounts → List ℕ → Item → ℕ → List ℕ → Joined → Type 0
+ItemGives text table symbols parts s tape item past tape′ (Takes next) =
+    TakenIn text table symbols parts s tape item past tape′ next
+ItemGives text table symbols parts s tape item past tape′ (Wrong answer) =
+    WrongIn text table symbols parts s item answer
 ItemGives text table symbols parts s tape item past tape′ (Refused fault) = ⊥
 ItemGives text table symbols parts s tape item past tape′ Other = ⊥
 
 -- what comes of an item
-pub record JoinsItem (text : Bytes) (table : List ℕ) (symbols parts : ℕ) (s : Progress) (tape : List ℕ) (item : Item) (past : ℕ) (tape′ : List ℕ) (r : Joined) : Type 0 where
+pub record JoinsItem (text : Bytes) (table : List ℕ) (symbols parts : ℕ) (s : ExpressionCounts) (tape : List ℕ)
+    (item : Item) (past : ℕ) (tape′ : List ℕ) (r : Joined) : Type 0 where
   pub gives : ItemGives text table symbols parts s tape item past tape′ r
 
-abbrev pub TokenGives : Bytes → List ℕ → ℕ → ℕ → Progress → List ℕ → Placed → List ℕ → Joined → Type 0
+abbrev pub TokenGives : Bytes → List ℕ → ℕ → ℕ → ExpressionCounts → List ℕ → Placed → List ℕ → Joined → Type 0
 TokenGives text table symbols parts s tape t tape′ (Takes next) =
     TakenIn text table symbols parts s tape (itemAt text t) (t .past) tape′ next × (isItem (itemAt text t) ≡ true)
 TokenGives text table symbols parts s tape t tape′ (Wrong answer) =
@@ -102,17 +114,28 @@ TokenGives text table symbols parts s tape t tape′ (Refused fault) = WordRefus
 TokenGives text table symbols parts s tape t tape′ Other = NoItem text t × (tape′ ≡ tape)
 
 -- what comes of a token
-pub record JoinsToken (text : Bytes) (table : List ℕ) (symbols parts : ℕ) (s : Progress) (tape : List ℕ) (t : Placed) (tape′ : List ℕ) (r : Joined) : Type 0 where
+pub record JoinsToken (text : Bytes) (table : List ℕ) (symbols parts : ℕ) (s : ExpressionCounts) (tape : List ℕ)
+    (t : Placed) (tape′ : List ℕ) (r : Joined) : Type 0 where
   pub gives : TokenGives text table symbols parts s tape t tape′ r
 
 -- EXPRESSIONS AND CALLS
 
 -- a refusal
-abbrev pub stoppedWith : Answer → ℕ → Parsed
-stoppedWith answer place = Stopped (record { answer = answer; place = place })
+abbrev pub faultAt : Answer → ℕ → Fault
+faultAt answer place = record { answer = answer; place = place }
+
+abbrev pub expressionOutcome : ParsedExpression → Outcome ExpressionCounts
+expressionOutcome (Stopped fault) = halted fault
+expressionOutcome (Done e) = reached e
+
+-- where nothing is counted
+abbrev pub withoutCounts : ParsedExpression → Parsed
+withoutCounts (Stopped fault) = StoppedThere fault
+withoutCounts (Done e) = DoneThere (record { at = e .at; words = e .words })
 
 -- an expression was read
-pub record ExpressionRead (text : Bytes) (table : List ℕ) (symbols parts : ℕ) (start : Progress) (tape tape′ : List ℕ) (i : Reading.Items) (rest : List Tokens.Placed) (s : Progress) : Type 0 where
+pub record ExpressionRead (text : Bytes) (table : List ℕ) (symbols parts : ℕ) (start : ExpressionCounts)
+    (tape tape′ : List ℕ) (i : Reading.Items) (rest : List Tokens.Placed) (s : ExpressionCounts) : Type 0 where
   pub tokens : rest ≡ stream text Tokens.inside (s .at)
   pub shorter : length rest ≤ length (stream text Tokens.inside (start .at))
   pub went : Went text (start .at) (start .words) tape (s .at) (s .words) tape′ (expressionTape (i .expression))
@@ -134,21 +157,23 @@ opening depth items t ts =
     Reading.whereFaultless (Reading.callFault depth (record { items = items; coming = [] })) t later
 
 -- a call was read up to its argument, which may begin here
-pub record OpeningRead (text : Bytes) (depth : ℕ) (s : Progress) (tape tape′ : List ℕ) (n : CalledName) (rest : List Tokens.Placed) (start : Progress) : Type 0 where
+pub record OpeningRead (text : Bytes) (depth : ℕ) (s : ExpressionCounts) (tape tape′ : List ℕ) (n : CalledName)
+    (rest : List Tokens.Placed) (start : ExpressionCounts) : Type 0 where
   pub tokens : rest ≡ stream text Tokens.inside (start .at)
   pub shorter : length rest ≤ length (stream text Tokens.naming (s .at))
   pub went : Went text (s .at) (s .words) tape (start .at) (start .words) tape′ (named (callKind + n .place) (n .name))
   pub shallow : depth < 16
-  pub few : s .count < 128
-  pub counted : start .count ≡ s .count + 1
-  pub passed : start .parts ≡ s .parts
+  pub few : s .items < 128
+  pub counted : start .items ≡ s .items + 1
+  pub passed : start .passed ≡ s .passed
   pub stands : CallStands text (n .place) (n .name)
 
 abbrev pub callTape : Reading.Called → List ℕ
 callTape c = named (callKind + c .place) (c .name) ++ (expressionTape (c .argument) ++ tapeWord closeKind 0 ∷ [])
 
 -- a call was read, after its `<`
-pub record CallRead (text : Bytes) (table : List ℕ) (symbols parts : ℕ) (start : Progress) (tape tape′ : List ℕ) (c : Reading.Called) (rest : List Tokens.Placed) (s : Progress) : Type 0 where
+pub record CallRead (text : Bytes) (table : List ℕ) (symbols parts : ℕ) (start : ExpressionCounts) (tape tape′ : List ℕ)
+    (c : Reading.Called) (rest : List Tokens.Placed) (s : ExpressionCounts) : Type 0 where
   pub tokens : rest ≡ stream text Tokens.inside (s .at)
   pub shorter : length rest ≤ length (stream text Tokens.naming (start .at))
   pub went : Went text (start .at) (start .words) tape (s .at) (s .words) tape′ (callTape c)
@@ -158,12 +183,12 @@ pub record CallRead (text : Bytes) (table : List ℕ) (symbols parts : ℕ) (sta
   pub stands : Stands text (c .argument)
 
 -- the end of a call's argument: its `>` and the word for it
-abbrev pub CloseGives : Bytes → Progress → List ℕ → List ℕ → Parsed → Type 0
+abbrev pub CloseGives : Bytes → ExpressionCounts → List ℕ → List ℕ → ParsedExpression → Type 0
 CloseGives text s tape tape′ (Stopped fault) = Barred text Tokens.inside 62 (s .at) fault
 CloseGives text s tape tape′ (Done next) =
     Taken text Tokens.inside 62 (s .at) (next .at)
-    × (next ≡ record { at = next .at; words = s .words + 1; count = s .count; parts = s .parts })
+    × (next ≡ record { at = next .at; words = s .words + 1; items = s .items; passed = s .passed })
     × (tape′ ≡ set tape (s .words) (tapeWord closeKind 0))
 
-pub record Closes (text : Bytes) (s : Progress) (tape tape′ : List ℕ) (r : Parsed) : Type 0 where
+pub record Closes (text : Bytes) (s : ExpressionCounts) (tape tape′ : List ℕ) (r : ParsedExpression) : Type 0 where
   pub gives : CloseGives text s tape tape′ r

@@ -17,13 +17,14 @@ use Rattle.meaning.specs.Reading.{Parsed, pass}
 use Rattle.read_tokens.specs.View.{stream, Comes}
 use Rattle.read_tokens.specs.declared.Span.{Span}
 use Rattle.read_tokens.specs.declared.Token.{Token}
-use Rattle.read_tokens.specs.declared.Token.the-variants.{Name as NameToken, Symbol, Part, Word, Quoted, Sign, End, Malformed}
+use Rattle.read_tokens.specs.declared.Token.the-variants.{Name as NameToken, Symbol, Part, Word, Quoted, Sign, End}
+use Rattle.read_tokens.specs.declared.Token.the-variants.{Malformed}
 use Rattle.read_tokens.specs.declared.Placed.{Placed}
-use Rattle.read_bookkeeping.specs.declared.progress.Progress.{Progress}
-use Rattle.read_bookkeeping.specs.declared.progress.Parsed.{Parsed as CodeParsed}
-use Rattle.read_bookkeeping.specs.declared.progress.Parsed.the-variants.{Done}
-use Rattle.read_bookkeeping.specs.Answered.{Agrees}
+use Rattle.read_bookkeeping.specs.Answered.{Outcome, halted, reached, AgreesBy}
+use Rattle.read_functions.specs.declared.sentences.SentencesEnd.{SentencesEnd}
 use Rattle.read_functions.specs.declared.functions.Tally.{Tally}
+use Rattle.read_functions.specs.declared.functions.ParsedTable.{ParsedTable}
+use Rattle.read_functions.specs.declared.functions.ParsedTable.the-variants.{Stopped, Done}
 use Rattle.read_functions.specs.declared.functions.Stage.{Stage}
 use Rattle.read_functions.specs.declared.functions.Stage.the-variants.{Onward, Over}
 use Rattle.read_bookkeeping.specs.Tables.{Inside, tableNames, Entries, declaredFaultIn}
@@ -52,14 +53,16 @@ pub record Declarable (text : Bytes) (words : ℕ) (n : Span) : Type 0 where
   pub short : length text ≤ 32768
 
 -- a function was read, with so many sentences that might come
-pub record FunctionRead (text : Bytes) (limit at words : ℕ) (tape tape′ : List ℕ) (f : Function) (rest : List Tokens.Placed) (p : Progress) : Type 0 where
+pub record FunctionRead (text : Bytes) (limit at words : ℕ) (tape tape′ : List ℕ) (f : Function)
+    (rest : List Tokens.Placed) (p : SentencesEnd) : Type 0 where
   pub tokens : rest ≡ stream text Tokens.outside (p .at)
   pub went : Went text at words tape (p .at) (p .words) tape′ (functionTape f)
-  pub left : p .count + length (f .sentences) ≡ limit
+  pub left : p .left + length (f .sentences) ≡ limit
   pub stands : FunctionStands text f
 
 -- the sentences of a function with this name were read, and its name before them
-abbrev pub BodyRead : Bytes → ℕ → ℕ → ℕ → Name → List ℕ → List ℕ → List Sentence → List Tokens.Placed → Progress → Type 0
+abbrev pub BodyRead : Bytes → ℕ → ℕ → ℕ → Name → List ℕ → List ℕ → List Sentence → List Tokens.Placed → SentencesEnd
+    → Type 0
 BodyRead text limit at words n tape tape′ ss rest p = FunctionRead text limit at words tape tape′ (declared n ss) rest p
 
 -- what may come next is safe: a token after so many functions
@@ -74,7 +77,8 @@ abbrev pub nameFault : ℕ → List Name → Name → ℕ
 nameFault functions names n = pick (ltb functions maxFunctions) (declaredFaultIn names n) overLimit
 
 -- a function was read, and its name added to the table
-pub record DeclaredRead (text : Bytes) (limit at words functions : ℕ) (tape tape′ table table′ : List ℕ) (f : Function) (rest : List Tokens.Placed) (p : Progress) : Type 0 where
+pub record DeclaredRead (text : Bytes) (limit at words functions : ℕ) (tape tape′ table table′ : List ℕ) (f : Function)
+    (rest : List Tokens.Placed) (p : SentencesEnd) : Type 0 where
   pub read : FunctionRead text limit at words tape tape′ f rest p
   pub entries : Entries text table′ 0 (functions + 1)
   pub names : tableNames text table′ 0 (functions + 1) ≡ tableNames text table 0 functions ++ f .name ∷ []
@@ -102,12 +106,14 @@ isEnd Malformed = false
 abbrev pub functionsOf : Bytes → Parsed Table
 functionsOf text = Reading.parseFunctions 64 512 [] (stream text Tokens.outside 0)
 
--- the functions of a text were read
-pub record FunctionsRead (text : Bytes) (tape tape′ table : List ℕ) (t : Table) (rest : List Tokens.Placed) (p : Progress) : Type 0 where
-  pub went : Went text 0 0 tape (p .at) (p .words) tape′ (Tape.tape t)
-  pub entries : Entries text table 0 (p .count)
-  pub names : namesOf t ≡ tableNames text table 0 (p .count)
-  pub count : p .count ≡ length t
+-- the functions of a text were read, up to this place
+pub record FunctionsRead (text : Bytes) (tape tape′ table : List ℕ) (t : Table) (rest : List Tokens.Placed)
+    (p : Tally) : Type 0 where
+  pub at : ℕ
+  pub went : Went text 0 0 tape at (p .words) tape′ (Tape.tape t)
+  pub entries : Entries text table 0 (p .functions)
+  pub names : namesOf t ≡ tableNames text table 0 (p .functions)
+  pub count : p .functions ≡ length t
   pub stand : Each (FunctionStands text) t
 
 -- the functions from the start, where the tape was this, are those from a place on after these
@@ -122,10 +128,15 @@ pub record Functioned (text start tape table : List ℕ) (at words count left : 
   pub stand : Each (FunctionStands text) before
   pub short : length text ≤ 32768
 
+abbrev pub tableOutcome : ParsedTable → Outcome Tally
+tableOutcome (Stopped fault) = halted fault
+tableOutcome (Done n) = reached n
+
 -- how reading stands at a place, from a tape at the start on
 abbrev pub StageIs : Bytes → List ℕ → List ℕ → List ℕ → ℕ → Stage → Type 0
 StageIs text start tape table at (Onward n) = Functioned text start tape table at (n .words) (n .functions) (n .left)
-StageIs text start tape table at (Over p) = Agrees (FunctionsRead text start tape table) (functionsOf text) p
+StageIs text start tape table at (Over p) =
+    AgreesBy tableOutcome (FunctionsRead text start tape table) (functionsOf text) p
 
 pub record Underway (text tape table : List ℕ) (at : ℕ) (stage : Stage) : Type 0 where
   pub start : List ℕ
@@ -138,11 +149,8 @@ abbrev pub onward : Stage → Bool
 onward (Onward n) = true
 onward (Over p) = false
 
-abbrev pub readSoFar : Tally → ℕ → CodeParsed
-readSoFar n at = Done (record { at = at; words = n .words; count = n .functions; parts = 0 })
-
-abbrev pub outcomeOf : Stage → CodeParsed
-outcomeOf (Onward n) = readSoFar n 0
+abbrev pub outcomeOf : Stage → ParsedTable
+outcomeOf (Onward n) = Done n
 outcomeOf (Over p) = p
 
 -- the declarations that may still come, and the end of the text
@@ -151,6 +159,7 @@ toCome (Onward n) = 65 - n .functions
 toCome (Over p) = 0
 
 -- a declaration was read: reading stands at the place reached as it stood before, and less may come
-pub record Declares (text tape table : List ℕ) (at : ℕ) (stage : Stage) (tape′ table′ : List ℕ) (at′ : ℕ) (stage′ : Stage) : Type 0 where
+pub record Declares (text tape table : List ℕ) (at : ℕ) (stage : Stage) (tape′ table′ : List ℕ) (at′ : ℕ)
+    (stage′ : Stage) : Type 0 where
   pub keeps : (start : List ℕ) → StageIs text start tape table at stage → StageIs text start tape′ table′ at′ stage′
   pub falls : onward stage ≡ true → toCome stage′ < toCome stage

@@ -8,17 +8,22 @@ use lib.ListN.{length}
 use Rattle.meaning.specs.Choice.{Bytes, Name, either, every}
 use Rattle.meaning.specs.Answers.{overLimit}
 use Rattle.meaning.specs.Tree.{Sentence}
-use Rattle.tape_layout.specs.Tape.{tapeWord, equalsKind, patternTape, conditionsTape, expressionTape, sentenceTape, sentencesTape}
+use Rattle.tape_layout.specs.Tape.{tapeWord, equalsKind, patternTape, conditionsTape, expressionTape, sentenceTape}
+use Rattle.tape_layout.specs.Tape.{sentencesTape}
 use Rattle.meaning.specs.Tokens as Tokens
 use Rattle.meaning.specs.Reading as Reading
 use Rattle.meaning.specs.Reading.{Parsed, stopped, parsed, follow, pass, whether, cutShort, afterSentence}
 use Rattle.read_tokens.specs.View.{stream}
 use Rattle.read_tokens.specs.declared.Token.{Token}
-use Rattle.read_tokens.specs.declared.Token.the-variants.{Name as NameToken, Symbol, Part, Word, Quoted, Sign, End, Malformed}
+use Rattle.read_tokens.specs.declared.Token.the-variants.{Name as NameToken, Symbol, Part, Word, Quoted, Sign, End}
+use Rattle.read_tokens.specs.declared.Token.the-variants.{Malformed}
 use Rattle.read_bookkeeping.specs.declared.progress.Progress.{Progress}
+use Rattle.read_functions.specs.declared.sentences.SentencesEnd.{SentencesEnd}
+use Rattle.read_functions.specs.declared.sentences.ParsedSentences.{ParsedSentences}
+use Rattle.read_functions.specs.declared.sentences.ParsedSentences.the-variants.{Stopped, Done}
 use Rattle.read_functions.specs.declared.sentences.Sequel.{Sequel}
 use Rattle.read_functions.specs.declared.sentences.Sequel.the-variants.{Ends, Another, Refused}
-use Rattle.read_bookkeeping.specs.Answered.{numberOf}
+use Rattle.read_bookkeeping.specs.Answered.{numberOf, Outcome, halted, reached}
 use Rattle.read_bookkeeping.specs.Tokened.{unlessWord}
 use Rattle.read_bookkeeping.specs.Written.{isQuiet, Went}
 use Rattle.read_functions.specs.Expressions.{Stands}
@@ -40,13 +45,15 @@ fromEquals symbols parts ts =
     pass 61 ts λ ts₁. unlessWord (Reading.parseExpression (length ts₁) symbols 0 (record { items = 0; coming = parts }) ts₁)
 
 -- `=` and an expression were read
-pub record EqualsRead (text : Bytes) (at words : ℕ) (tape tape′ : List ℕ) (i : Reading.Items) (rest : List Tokens.Placed) (s : Progress) : Type 0 where
+pub record EqualsRead (text : Bytes) (at words : ℕ) (tape tape′ : List ℕ) (i : Reading.Items)
+    (rest : List Tokens.Placed) (s : Progress) : Type 0 where
   pub tokens : rest ≡ stream text Tokens.inside (s .at)
   pub went : Went text at words tape (s .at) (s .words) tape′ (tapeWord equalsKind 0 ∷ expressionTape (i .expression))
   pub stands : Stands text (i .expression)
 
 -- a sentence was read
-pub record SentenceRead (text : Bytes) (at words : ℕ) (tape tape′ : List ℕ) (s : Sentence) (rest : List Tokens.Placed) (p : Progress) : Type 0 where
+pub record SentenceRead (text : Bytes) (at words : ℕ) (tape tape′ : List ℕ) (s : Sentence) (rest : List Tokens.Placed)
+    (p : Progress) : Type 0 where
   pub tokens : rest ≡ stream text Tokens.inside (p .at)
   pub went : Went text at words tape (p .at) (p .words) tape′ (sentenceTape s)
   pub stands : SentenceStands text s
@@ -73,7 +80,8 @@ firstSentence left [] = cutShort
 firstSentence left (t ∷ ts) = let later = sentenceOf left t ts in whether (Reading.begins (t .token)) t later
 
 -- the first of so many sentences was read
-pub record FirstRead (text : Bytes) (left at words : ℕ) (tape tape′ : List ℕ) (s : Sentence) (rest : List Tokens.Placed) (p : Progress) : Type 0 where
+pub record FirstRead (text : Bytes) (left at words : ℕ) (tape tape′ : List ℕ) (s : Sentence) (rest : List Tokens.Placed)
+    (p : Progress) : Type 0 where
   pub read : SentenceRead text at words tape tape′ s rest p
   pub some : 0 < left
 
@@ -98,8 +106,13 @@ pub record Follows (text : Bytes) (from : ℕ) (r : Sequel) : Type 0 where
   pub gives : SequelGives text from r
 
 -- the sentences of a function were read, of which so many might come
-pub record SentencesRead (text : Bytes) (limit at words : ℕ) (tape tape′ : List ℕ) (ss : List Sentence) (rest : List Tokens.Placed) (p : Progress) : Type 0 where
+pub record SentencesRead (text : Bytes) (limit at words : ℕ) (tape tape′ : List ℕ) (ss : List Sentence)
+    (rest : List Tokens.Placed) (p : SentencesEnd) : Type 0 where
   pub tokens : rest ≡ stream text Tokens.outside (p .at)
   pub went : Went text at words tape (p .at) (p .words) tape′ (sentencesTape ss)
-  pub left : p .count + length ss ≡ limit
+  pub left : p .left + length ss ≡ limit
   pub stand : Each (SentenceStands text) ss
+
+abbrev pub sentencesOutcome : ParsedSentences → Outcome SentencesEnd
+sentencesOutcome (Stopped fault) = halted fault
+sentencesOutcome (Done p) = reached p

@@ -1,8 +1,9 @@
 // The readers of an expression and of a call, which call each other.
-use crate::stopped;
+use crate::fault_at;
 use read_bookkeeping::Answer;
 use read_bookkeeping::names::called_fault;
 use read_bookkeeping::names::find;
+use read_bookkeeping::names::later_fault;
 use read_bookkeeping::progress::Fault;
 use read_bookkeeping::progress::Parsed;
 use read_bookkeeping::progress::Passed;
@@ -19,12 +20,12 @@ use read_bookkeeping::writing::SYMBOL_WORD;
 use read_bookkeeping::writing::put;
 use read_bookkeeping::writing::put_characters;
 use read_bookkeeping::writing::put_named;
-use read_conditions::later_fault;
 use read_tokens::Mode;
 use read_tokens::Placed;
 use read_tokens::Span;
 use read_tokens::Token;
 use read_tokens::lex;
+ghost use mathlib.Core.Path.{_≡_};
 ghost use Prim.Native.Nat.{ℕ, _+_, _-_, _*_, _≤_, _<_};
 ghost use lib.Dec.{T};
 ghost use lib.ListN.{length};
@@ -34,16 +35,34 @@ ghost use Rattle.meaning.specs.Grammar.{standing};
 ghost use Rattle.meaning.specs.Tokens as Tokens;
 ghost use Rattle.meaning.specs.Reading as Reading;
 ghost use Rattle.read_tokens.specs.View.{charactersIn, quotationAt, part, stream, Comes};
-ghost use Rattle.read_bookkeeping.specs.Answered.{Agrees};
+ghost use Rattle.read_bookkeeping.specs.Answered.{AgreesBy};
 ghost use Rattle.read_bookkeeping.specs.Tables.{Inside};
 ghost use Rattle.read_bookkeeping.specs.Tokened.{unlessWord};
 ghost use Rattle.read_bookkeeping.specs.Written.{Wrote, isQuiet, Ready};
 ghost use Rattle.read_bookkeeping.specs.Items.{symbolNames, Identifier, StringAt};
-ghost use Rattle.read_functions.specs.Expressions.{progressAt, Going, VariableTaken, JoinsItem, JoinsToken, ExpressionRead, opening, OpeningRead, CallRead, Closes};
+ghost use Rattle.read_functions.specs.Expressions.{expressionOutcome, withoutCounts, progressAt, Going};
+ghost use Rattle.read_functions.specs.Expressions.{VariableTaken, JoinsItem, JoinsToken, ExpressionRead};
+ghost use Rattle.read_functions.specs.Expressions.{opening, OpeningRead, CallRead, Closes};
 
-// An expression with a token joined to it, what is wrong with the token, that it is a word but no variable, or that it is no item.
+// An expression so far: the place in the text and the words on the tape, its items, and how many of the pattern's
+// e-variables can't come any more.
+pub struct ExpressionCounts {
+    pub at: usize,
+    pub words: usize,
+    pub items: usize,
+    pub passed: usize,
+}
+
+// What the readers of expressions and calls come to.
+pub enum ParsedExpression {
+    Stopped(Fault),
+    Done(ExpressionCounts),
+}
+
+// An expression with a token joined to it, what is wrong with the token, that it is a word but no variable, or that it
+// is no item.
 pub enum Joined {
-    Taken(Progress),
+    Taken(ExpressionCounts),
     Wrong(Answer),
     Refused(Fault),
     Other,
@@ -56,7 +75,7 @@ fn join_string(
     table: &[usize],
     symbols: usize,
     parts: usize,
-    s: Progress,
+    s: ExpressionCounts,
     place: usize,
     past: usize,
     count: usize,
@@ -65,37 +84,39 @@ fn join_string(
     ensures { λ r. ⌜ JoinsItem (now (text .entry)) (now (table .entry)) symbols parts s (now (tape .entry))
         (Reading.characters (charactersIn (quotationAt (now (text .entry)) place))) past (now (tape .exit)) r ⌝ }
 {
-    if 128 < s.count + count {
+    if 128 < s.items + count {
         return Joined::Wrong(Answer::OverLimit);
     }
     let words = put_characters(text, tape, s.words, place + 1);
-    Joined::Taken(Progress {
+    Joined::Taken(ExpressionCounts {
         at: past,
         words: words,
-        count: s.count + count,
-        parts: s.parts,
+        items: s.items + count,
+        passed: s.passed,
     })
 }
 
-// A variable taken into an expression: its word, a base plus the identifier's length, and the identifier. So many e-variables have passed then.
+// A variable taken into an expression: its word, `base` plus the identifier's length, and the identifier. `passed`
+// e-variables can't come any more then.
 fn take_variable(
     text: &[u8],
     tape: &mut [u32],
-    s: Progress,
+    s: ExpressionCounts,
     x: Span,
     base: usize,
-    parts: usize,
-) -> Progress
-    requires { ⌜ Ready (now text) (s .at) (s .words) × Identifier (now text) (s .at) x × (s .count < 128) × (base ≤ 512) ⌝ }
-    ensures { λ r. ⌜ VariableTaken (now (text .entry)) s x base parts (now (tape .entry)) (now (tape .exit)) r ⌝ }
+    passed: usize,
+) -> ExpressionCounts
+    requires { ⌜ Ready (now text) (s .at) (s .words) × Identifier (now text) (s .at) x × (s .items < 128)
+        × (base ≤ 512) ⌝ }
+    ensures { λ r. ⌜ VariableTaken (now (text .entry)) s x base passed (now (tape .entry)) (now (tape .exit)) r ⌝ }
 {
     let word = (base + (x.past - x.from)) as u32;
     let words = put_named(text, tape, s.words, word, x);
-    Progress {
+    ExpressionCounts {
         at: x.past,
         words: words,
-        count: s.count + 1,
-        parts: parts,
+        items: s.items + 1,
+        passed: passed,
     }
 }
 
@@ -106,21 +127,21 @@ fn join_symbol(
     table: &[usize],
     symbols: usize,
     parts: usize,
-    s: Progress,
+    s: ExpressionCounts,
     x: Span,
 ) -> Joined
     requires { ⌜ Going (now text) (now table) symbols parts s × Identifier (now text) (s .at) x ⌝ }
     ensures { λ r. ⌜ JoinsItem (now (text .entry)) (now (table .entry)) symbols parts s (now (tape .entry))
         (Reading.symbolItem (part (now (text .entry)) x)) (x .past) (now (tape .exit)) r ⌝ }
 {
-    if 128 <= s.count {
+    if 128 <= s.items {
         return Joined::Wrong(Answer::OverLimit);
     }
     let fault = later_fault(text, table, 0, symbols, x);
     if !is_accepted(fault) {
         return Joined::Wrong(fault);
     }
-    Joined::Taken(take_variable(text, tape, s, x, SYMBOL_WORD, s.parts))
+    Joined::Taken(take_variable(text, tape, s, x, SYMBOL_WORD, s.passed))
 }
 
 // An e-variable joined to an expression: those of the pattern that came before it can't come any more.
@@ -130,7 +151,7 @@ fn join_part(
     table: &[usize],
     symbols: usize,
     parts: usize,
-    s: Progress,
+    s: ExpressionCounts,
     x: Span,
 ) -> Joined
     requires { ⌜ Going (now text) (now table) symbols parts s × Identifier (now text) (s .at) x ⌝ }
@@ -140,10 +161,10 @@ fn join_part(
     if 8 < x.past - x.from {
         return Joined::Wrong(Answer::OverLimit);
     }
-    if 128 <= s.count {
+    if 128 <= s.items {
         return Joined::Wrong(Answer::OverLimit);
     }
-    let start = 16 + s.parts;
+    let start = 16 + s.passed;
     let end = 16 + parts;
     let found = find(text, table, start, end, x);
     if end <= found {
@@ -160,11 +181,12 @@ fn join(
     table: &[usize],
     symbols: usize,
     parts: usize,
-    s: Progress,
+    s: ExpressionCounts,
     t: Placed,
 ) -> Joined
     requires { ⌜ Going (now text) (now table) symbols parts s × Comes (now text) Tokens.inside (s .at) t ⌝ }
-    ensures { λ r. ⌜ JoinsToken (now (text .entry)) (now (table .entry)) symbols parts s (now (tape .entry)) t (now (tape .exit)) r ⌝ }
+    ensures { λ r. ⌜ JoinsToken (now (text .entry)) (now (table .entry)) symbols parts s (now (tape .entry)) t
+        (now (tape .exit)) r ⌝ }
 {
     let token = t.token;
     if let Token::Quoted(count) = token {
@@ -187,8 +209,10 @@ fn join(
 
 // The word of a call and its name, which stands at a place.
 fn put_call(text: &[u8], tape: &mut [u32], words: usize, place: usize, name: Span) -> usize
-    requires { ⌜ Inside (now text) name × (words + 1 + (name .past - name .from) ≤ 32768) × (name .past - name .from ≤ 24) × (place ≤ 32768) ⌝ }
-    ensures { λ r. ⌜ Wrote (now (tape .entry)) words (((9 + place) * 256 + (name .past - name .from)) ∷ part (now (text .entry)) name) r (now (tape .exit))
+    requires { ⌜ Inside (now text) name × (words + 1 + (name .past - name .from) ≤ 32768)
+        × (name .past - name .from ≤ 24) × (place ≤ 32768) ⌝ }
+    ensures { λ r. ⌜ Wrote (now (tape .entry)) words
+        (((9 + place) * 256 + (name .past - name .from)) ∷ part (now (text .entry)) name) r (now (tape .exit))
         × T (every isQuiet (part (now (text .entry)) name)) ⌝ }
 {
     let word = ((CALL_KIND + place) * 256 + (name.past - name.from)) as u32;
@@ -196,47 +220,55 @@ fn put_call(text: &[u8], tape: &mut [u32], words: usize, place: usize, name: Spa
 }
 
 // The `>` of a call.
-fn close_call(text: &[u8], tape: &mut [u32], s: Progress) -> Parsed
+fn close_call(text: &[u8], tape: &mut [u32], s: ExpressionCounts) -> ParsedExpression
     requires { ⌜ Ready (now text) (s .at) (s .words) ⌝ }
     ensures { λ r. ⌜ Closes (now (text .entry)) s (now (tape .entry)) (now (tape .exit)) r ⌝ }
 {
     match pass(text, s.at, Mode::Inside, b'>') {
         Passed::Past(at) => {
             put(tape, s.words, CLOSE_WORD);
-            Parsed::Done(Progress {
+            ParsedExpression::Done(ExpressionCounts {
                 at: at,
                 words: s.words + 1,
-                count: s.count,
-                parts: s.parts,
+                items: s.items,
+                passed: s.passed,
             })
         }
-        Passed::Refused(fault) => Parsed::Stopped(fault),
+        Passed::Refused(fault) => ParsedExpression::Stopped(fault),
     }
 }
 
 // What comes before a call's argument, after its `<`, which stands at a place: its name, and the word for it.
-fn open_call(text: &[u8], tape: &mut [u32], depth: usize, s: Progress, place: usize) -> Parsed
+fn open_call(
+    text: &[u8],
+    tape: &mut [u32],
+    depth: usize,
+    s: ExpressionCounts,
+    place: usize,
+) -> ParsedExpression
     requires { ⌜ Ready (now text) (s .at) (s .words) × (s .words < s .at) ⌝ }
-    ensures { λ r. ⌜ Agrees (OpeningRead (now (text .entry)) depth s (now (tape .entry)) (now (tape .exit)))
-        (opening depth (s .count) (standing (Tokens.sign 60) place (s .at)) (stream (now (text .entry)) Tokens.naming (s .at))) r ⌝ }
+    ensures { λ r. ⌜ AgreesBy expressionOutcome
+        (OpeningRead (now (text .entry)) depth s (now (tape .entry)) (now (tape .exit)))
+        (opening depth (s .items) (standing (Tokens.sign 60) place (s .at))
+        (stream (now (text .entry)) Tokens.naming (s .at))) r ⌝ }
 {
-    if 16 <= depth || 128 <= s.count {
-        return stopped(Answer::OverLimit, place);
+    if 16 <= depth || 128 <= s.items {
+        return ParsedExpression::Stopped(fault_at(Answer::OverLimit, place));
     }
     let t = lex(text, s.at, Mode::Naming);
     let token = t.token;
     let Token::Name(name) = token else {
-        return Parsed::Stopped(refuse(t));
+        return ParsedExpression::Stopped(refuse(t));
     };
     let fault = called_fault(text, name);
     if !is_accepted(fault) {
-        return stopped(fault, t.place);
+        return ParsedExpression::Stopped(fault_at(fault, t.place));
     }
     let words = put_call(text, tape, s.words, t.place, name);
-    Parsed::Done(Progress {
+    ParsedExpression::Done(ExpressionCounts {
         at: t.past,
         words: words,
-        count: s.count + 1,
+        items: s.items + 1,
         ..s
     })
 }
@@ -249,23 +281,24 @@ fn call(
     symbols: usize,
     parts: usize,
     depth: usize,
-    s: Progress,
+    s: ExpressionCounts,
     place: usize,
-) -> Parsed
+) -> ParsedExpression
     requires { ⌜ Going (now text) (now table) symbols parts s × (s .words < s .at) ⌝ }
     ensures { λ r. ⌜ ((bound : ℕ) → length (stream (now (text .entry)) Tokens.naming (s .at)) ≤ bound
-        → Agrees (CallRead (now (text .entry)) (now (table .entry)) symbols parts s (now (tape .entry)) (now (tape .exit)))
-        (Reading.parseCall (Reading.parseExpression bound (symbolNames (now (text .entry)) (now (table .entry)) symbols))
-        depth (progressAt (now (text .entry)) (now (table .entry)) parts s) (standing (Tokens.sign 60) place (s .at))
+        → AgreesBy expressionOutcome
+        (CallRead (now (text .entry)) (now (table .entry)) symbols parts s (now (tape .entry)) (now (tape .exit)))
+        (Reading.parseCall (Reading.parseExpression bound (symbolNames (now (text .entry)) (now (table .entry)) symbols)) depth
+        (progressAt (now (text .entry)) (now (table .entry)) parts s) (standing (Tokens.sign 60) place (s .at))
         (stream (now (text .entry)) Tokens.naming (s .at))) r) ⌝ }
 {
     let start = match open_call(text, tape, depth, s, place) {
-        Parsed::Stopped(fault) => return Parsed::Stopped(fault),
-        Parsed::Done(start) => start,
+        ParsedExpression::Stopped(fault) => return ParsedExpression::Stopped(fault),
+        ParsedExpression::Done(start) => start,
     };
     match expression(text, tape, table, symbols, parts, depth + 1, start) {
-        Parsed::Stopped(fault) => Parsed::Stopped(fault),
-        Parsed::Done(argument) => close_call(text, tape, argument),
+        ParsedExpression::Stopped(fault) => ParsedExpression::Stopped(fault),
+        ParsedExpression::Done(argument) => close_call(text, tape, argument),
     }
 }
 
@@ -277,13 +310,16 @@ pub fn expression(
     symbols: usize,
     parts: usize,
     depth: usize,
-    start: Progress,
-) -> Parsed
+    start: ExpressionCounts,
+) -> ParsedExpression
     requires { ⌜ Going (now text) (now table) symbols parts start ⌝ }
     ensures { λ r. ⌜ ((bound : ℕ) → length (stream (now (text .entry)) Tokens.inside (start .at)) ≤ bound
-        → Agrees (ExpressionRead (now (text .entry)) (now (table .entry)) symbols parts start (now (tape .entry)) (now (tape .exit)))
+        → AgreesBy expressionOutcome
+        (ExpressionRead (now (text .entry)) (now (table .entry)) symbols parts start (now (tape .entry))
+        (now (tape .exit)))
         (unlessWord (Reading.parseExpression bound (symbolNames (now (text .entry)) (now (table .entry)) symbols) depth
-        (progressAt (now (text .entry)) (now (table .entry)) parts start) (stream (now (text .entry)) Tokens.inside (start .at)))) r) ⌝ }
+        (progressAt (now (text .entry)) (now (table .entry)) parts start)
+        (stream (now (text .entry)) Tokens.inside (start .at)))) r) ⌝ }
 {
     let mut s = start;
     loop {
@@ -292,20 +328,33 @@ pub fn expression(
             Joined::Taken(next) => {
                 s = next;
             }
-            Joined::Wrong(answer) => return stopped(answer, t.place),
-            Joined::Refused(fault) => return Parsed::Stopped(fault),
+            Joined::Wrong(answer) => return ParsedExpression::Stopped(fault_at(answer, t.place)),
+            Joined::Refused(fault) => return ParsedExpression::Stopped(fault),
             Joined::Other => {
                 if !is_sign(t, b'<') {
-                    return Parsed::Done(Progress { at: t.place, ..s });
+                    return ParsedExpression::Done(ExpressionCounts { at: t.place, ..s });
                 }
-                let opened = Progress { at: t.past, ..s };
+                let opened = ExpressionCounts { at: t.past, ..s };
                 match call(text, tape, table, symbols, parts, depth, opened, t.place) {
-                    Parsed::Stopped(fault) => return Parsed::Stopped(fault),
-                    Parsed::Done(next) => {
+                    ParsedExpression::Stopped(fault) => return ParsedExpression::Stopped(fault),
+                    ParsedExpression::Done(next) => {
                         s = next;
                     }
                 }
             }
         }
+    }
+}
+
+// What a reader that counts nothing comes to where it ends in an expression.
+pub fn without_counts(parsed: ParsedExpression) -> Parsed
+    ensures { λ r. ⌜ r ≡ withoutCounts parsed ⌝ }
+{
+    match parsed {
+        ParsedExpression::Stopped(fault) => Parsed::Stopped(fault),
+        ParsedExpression::Done(e) => Parsed::Done(Progress {
+            at: e.at,
+            words: e.words,
+        }),
     }
 }

@@ -1,12 +1,12 @@
 // The readers of a function and of a table's next function.
+use crate::fault_at;
+use crate::sentences::ParsedSentences;
 use crate::sentences::sentences;
-use crate::stopped;
 use read_bookkeeping::Answer;
 use read_bookkeeping::names::declared_fault;
 use read_bookkeeping::names::entry;
-use read_bookkeeping::progress::Parsed;
+use read_bookkeeping::progress::Fault;
 use read_bookkeeping::progress::Passed;
-use read_bookkeeping::progress::Progress;
 use read_bookkeeping::progress::is_accepted;
 use read_bookkeeping::progress::is_sign;
 use read_bookkeeping::progress::pass;
@@ -24,9 +24,13 @@ ghost use lib.ListN.{length};
 ghost use Rattle.meaning.specs.Tokens as Tokens;
 ghost use Rattle.meaning.specs.Reading as Reading;
 ghost use Rattle.read_tokens.specs.View.{part, stream};
-ghost use Rattle.read_bookkeeping.specs.Answered.{Agrees};
+ghost use Rattle.read_bookkeeping.specs.Answered.{AgreesBy};
 ghost use Rattle.read_bookkeeping.specs.Tables.{tableNames};
-ghost use Rattle.read_functions.specs.Functions.{fromBrace, Declarable, BodyRead, Opening, nameFault, DeclaredRead, SpareTo, isEnd, firstStage, onward, readSoFar, outcomeOf, Underway, Declares};
+ghost use Rattle.read_functions.specs.Sentences.{sentencesOutcome};
+ghost use Rattle.read_functions.specs.Functions.{fromBrace, Declarable, BodyRead, Opening, nameFault};
+ghost use Rattle.read_functions.specs.Functions.{DeclaredRead};
+ghost use Rattle.read_functions.specs.Functions.{SpareTo, isEnd, firstStage, onward, outcomeOf, Underway};
+ghost use Rattle.read_functions.specs.Functions.{Declares};
 
 // The words on the tape, the functions that were read, and the sentences that may still come.
 pub struct Tally {
@@ -35,10 +39,16 @@ pub struct Tally {
     pub left: usize,
 }
 
+// What the reader of a table's functions comes to.
+pub enum ParsedTable {
+    Stopped(Fault),
+    Done(Tally),
+}
+
 // How the reading of a table's functions stands: another may come, or it is over.
 pub enum Stage {
     Onward(Tally),
-    Over(Parsed),
+    Over(ParsedTable),
 }
 
 // A stage, and the place in the text where it was reached.
@@ -48,14 +58,15 @@ pub struct Reached {
 }
 
 // A function after its name: `{`, sentences, of which so many may still come, and `}`.
-fn body(text: &[u8], tape: &mut [u32], name: Span, limit: usize, words: usize) -> Parsed
+fn body(text: &[u8], tape: &mut [u32], name: Span, limit: usize, words: usize) -> ParsedSentences
     requires { ⌜ Declarable (now text) words name ⌝ }
-    ensures { λ r. ⌜ Agrees (BodyRead (now (text .entry)) limit (name .from) words (part (now (text .entry)) name) (now (tape .entry)) (now (tape .exit)))
+    ensures { λ r. ⌜ AgreesBy sentencesOutcome (BodyRead (now (text .entry)) limit (name .from) words
+        (part (now (text .entry)) name) (now (tape .entry)) (now (tape .exit)))
         (fromBrace limit (stream (now (text .entry)) Tokens.outside (name .past))) r ⌝ }
 {
     let at = match pass(text, name.past, Mode::Outside, b'{') {
         Passed::Past(at) => at,
-        Passed::Refused(fault) => return Parsed::Stopped(fault),
+        Passed::Refused(fault) => return ParsedSentences::Stopped(fault),
     };
     let word = (FUNCTION_WORD + (name.past - name.from)) as u32;
     let to = put_named(text, tape, words, word, name);
@@ -71,22 +82,23 @@ fn function(
     limit: usize,
     t: Placed,
     words: usize,
-) -> Parsed
+) -> ParsedSentences
     requires { ⌜ Opening (now text) (now names) functions words t ⌝ }
-    ensures { λ r. ⌜ Agrees (DeclaredRead (now (text .entry)) limit (t .place) words functions (now (tape .entry)) (now (tape .exit)) (now (names .entry)) (now (names .exit)))
-        (Reading.parseFunction (nameFault functions (tableNames (now (text .entry)) (now (names .entry)) 0 functions))
-        limit (stream (now (text .entry)) Tokens.outside (t .place))) r ⌝ }
+    ensures { λ r. ⌜ AgreesBy sentencesOutcome (DeclaredRead (now (text .entry)) limit (t .place) words functions
+        (now (tape .entry)) (now (tape .exit)) (now (names .entry)) (now (names .exit)))
+        (Reading.parseFunction (nameFault functions (tableNames (now (text .entry)) (now (names .entry)) 0 functions)) limit
+        (stream (now (text .entry)) Tokens.outside (t .place))) r ⌝ }
 {
     let token = t.token;
     let Token::Name(name) = token else {
-        return Parsed::Stopped(refuse(t));
+        return ParsedSentences::Stopped(refuse(t));
     };
     if 64 <= functions {
-        return stopped(Answer::OverLimit, t.place);
+        return ParsedSentences::Stopped(fault_at(Answer::OverLimit, t.place));
     }
     let fault = declared_fault(text, names, functions, name);
     if !is_accepted(fault) {
-        return stopped(fault, t.place);
+        return ParsedSentences::Stopped(fault_at(fault, t.place));
     }
     names[functions] = entry(name);
     body(text, tape, name, limit, words)
@@ -128,24 +140,12 @@ pub fn is_onward(stage: Stage) -> bool
     }
 }
 
-// The functions that were read up to a place.
-fn read_so_far(n: Tally, at: usize) -> Parsed
-    ensures { λ r. ⌜ r ≡ readSoFar n at ⌝ }
-{
-    Parsed::Done(Progress {
-        at: at,
-        words: n.words,
-        count: n.functions,
-        parts: 0,
-    })
-}
-
 // What reading has come to.
-pub fn outcome(stage: Stage) -> Parsed
+pub fn outcome(stage: Stage) -> ParsedTable
     ensures { λ r. ⌜ r ≡ outcomeOf stage ⌝ }
 {
     match stage {
-        Stage::Onward(n) => read_so_far(n, 0),
+        Stage::Onward(n) => ParsedTable::Done(n),
         Stage::Over(parsed) => parsed,
     }
 }
@@ -159,28 +159,29 @@ pub fn declaration(
     stage: Stage,
 ) -> Reached
     requires { ⌜ Underway (now text) (now tape) (now names) at stage ⌝ }
-    ensures { λ r. ⌜ Declares (now (text .entry)) (now (tape .entry)) (now (names .entry)) at stage (now (tape .exit)) (now (names .exit)) (r .at) (r .stage) ⌝ }
+    ensures { λ r. ⌜ Declares (now (text .entry)) (now (tape .entry)) (now (names .entry)) at stage (now (tape .exit))
+        (now (names .exit)) (r .at) (r .stage) ⌝ }
 {
     let Stage::Onward(n) = stage else {
         return Reached { stage, at };
     };
     let t = lex(text, at, Mode::Outside);
     if is_end(t) {
-        let stage = Stage::Over(read_so_far(n, at));
+        let stage = Stage::Over(ParsedTable::Done(n));
         return Reached { stage, at };
     }
     match function(text, tape, names, n.functions, n.left, t, n.words) {
-        Parsed::Stopped(fault) => {
-            let stage = Stage::Over(Parsed::Stopped(fault));
+        ParsedSentences::Stopped(fault) => {
+            let stage = Stage::Over(ParsedTable::Stopped(fault));
             Reached { stage, at }
         }
-        Parsed::Done(f) => {
+        ParsedSentences::Done(f) => {
             let past = pass_spare(text, f.at);
             let functions = n.functions + 1;
             let stage = Stage::Onward(Tally {
                 words: f.words,
                 functions: functions,
-                left: f.count,
+                left: f.left,
             });
             Reached { stage, at: past }
         }

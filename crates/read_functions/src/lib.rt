@@ -5,16 +5,15 @@ pub mod sentences;
 
 use read_bookkeeping::Answer;
 use read_bookkeeping::progress::Fault;
-use read_bookkeeping::progress::Parsed;
 ghost use mathlib.Core.Path.{_≡_};
-ghost use Rattle.read_functions.specs.Expressions.{stoppedWith};
+ghost use Rattle.read_functions.specs.Expressions.{faultAt};
 
-// A refusal at a place.
-pub fn stopped(answer: Answer, place: usize) -> Parsed
-    ensures { λ r. ⌜ r ≡ stoppedWith answer place ⌝ }
+// `answer` at `place`.
+pub fn fault_at(answer: Answer, place: usize) -> Fault
+    ensures { λ r. ⌜ r ≡ faultAt answer place ⌝ }
 {
-    Parsed::Stopped(Fault {
+    Fault {
         answer: answer,
         place: place,
-    })
+    }
 }

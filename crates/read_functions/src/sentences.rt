@@ -1,12 +1,13 @@
 // The readers of a sentence and of a function's sentences.
+use crate::expressions::ExpressionCounts;
 use crate::expressions::expression;
-use crate::stopped;
+use crate::expressions::without_counts;
+use crate::fault_at;
 use read_bookkeeping::Answer;
 use read_bookkeeping::names::variable_room;
 use read_bookkeeping::progress::Fault;
 use read_bookkeeping::progress::Parsed;
 use read_bookkeeping::progress::Passed;
-use read_bookkeeping::progress::Progress;
 use read_bookkeeping::progress::is_sign;
 use read_bookkeeping::progress::pass;
 use read_bookkeeping::progress::refuse;
@@ -15,6 +16,7 @@ use read_bookkeeping::writing::EQUALS_WORD;
 use read_bookkeeping::writing::NEXT_WORD;
 use read_bookkeeping::writing::put;
 use read_conditions::conditions;
+use read_patterns::ParsedPattern;
 use read_patterns::pattern;
 use read_tokens::Mode;
 use read_tokens::Placed;
@@ -26,11 +28,27 @@ ghost use lib.ListN.{length};
 ghost use Rattle.meaning.specs.Tokens as Tokens;
 ghost use Rattle.meaning.specs.Reading as Reading;
 ghost use Rattle.read_tokens.specs.View.{stream};
-ghost use Rattle.read_bookkeeping.specs.Answered.{Agrees};
+ghost use Rattle.read_bookkeeping.specs.Answered.{AgreesBy, Agrees};
 ghost use Rattle.read_bookkeeping.specs.Tokened.{unlessWord};
 ghost use Rattle.read_bookkeeping.specs.Written.{Ready};
 ghost use Rattle.read_bookkeeping.specs.Items.{Variables, symbolNames, partNames};
-ghost use Rattle.read_functions.specs.Sentences.{fromEquals, EqualsRead, SentenceRead, beginsSentence, firstSentence, FirstRead, Follows, SentencesRead};
+ghost use Rattle.read_functions.specs.Sentences.{fromEquals, EqualsRead, SentenceRead, beginsSentence};
+ghost use Rattle.read_functions.specs.Sentences.{firstSentence, FirstRead, Follows, sentencesOutcome};
+ghost use Rattle.read_functions.specs.Sentences.{SentencesRead};
+
+// Where the sentences of a function end: the place in the text and the words on the tape, and how many more sentences
+// the table may have.
+pub struct SentencesEnd {
+    pub at: usize,
+    pub words: usize,
+    pub left: usize,
+}
+
+// What the readers of sentences and functions come to.
+pub enum ParsedSentences {
+    Stopped(Fault),
+    Done(SentencesEnd),
+}
 
 // A sentence from its `=` on.
 fn sentence_end(
@@ -44,20 +62,21 @@ fn sentence_end(
 ) -> Parsed
     requires { ⌜ Variables (now text) (now table) symbols parts × Ready (now text) from words ⌝ }
     ensures { λ r. ⌜ Agrees (EqualsRead (now (text .entry)) from words (now (tape .entry)) (now (tape .exit)))
-        (fromEquals (symbolNames (now (text .entry)) (now (table .entry)) symbols) (partNames (now (text .entry)) (now (table .entry)) parts)
+        (fromEquals (symbolNames (now (text .entry)) (now (table .entry)) symbols)
+        (partNames (now (text .entry)) (now (table .entry)) parts)
         (stream (now (text .entry)) Tokens.inside from)) r ⌝ }
 {
     match pass(text, from, Mode::Inside, b'=') {
         Passed::Refused(fault) => Parsed::Stopped(fault),
         Passed::Past(at) => {
             put(tape, words, EQUALS_WORD);
-            let start = Progress {
+            let start = ExpressionCounts {
                 at: at,
                 words: words + 1,
-                count: 0,
-                parts: 0,
+                items: 0,
+                passed: 0,
             };
-            expression(text, tape, table, symbols, parts, 0, start)
+            without_counts(expression(text, tape, table, symbols, parts, 0, start))
         }
     }
 }
@@ -70,14 +89,14 @@ fn sentence(text: &[u8], tape: &mut [u32], from: usize, words: usize) -> Parsed
 {
     let mut table = variable_room();
     let p = match pattern(text, tape, &mut table, from, words) {
-        Parsed::Stopped(fault) => return Parsed::Stopped(fault),
-        Parsed::Done(p) => p,
+        ParsedPattern::Stopped(fault) => return Parsed::Stopped(fault),
+        ParsedPattern::Done(p) => p,
     };
-    let c = match conditions(text, tape, &table, p.count, p.parts, p.at, p.words) {
+    let c = match conditions(text, tape, &table, p.symbols, p.parts, p.at, p.words) {
         Parsed::Stopped(fault) => return Parsed::Stopped(fault),
         Parsed::Done(c) => c,
     };
-    sentence_end(text, tape, &table, p.count, p.parts, c.at, c.words)
+    sentence_end(text, tape, &table, p.symbols, p.parts, c.at, c.words)
 }
 
 // Whether a sentence can begin with a token.
@@ -105,7 +124,7 @@ fn next_sentence(text: &[u8], tape: &mut [u32], left: usize, from: usize, words:
         return Parsed::Stopped(refuse(t));
     }
     if left == 0 {
-        return stopped(Answer::OverLimit, t.place);
+        return Parsed::Stopped(fault_at(Answer::OverLimit, t.place));
     }
     sentence(text, tape, t.place, words)
 }
@@ -136,9 +155,16 @@ fn after_sentence(text: &[u8], from: usize) -> Sequel
 }
 
 // Reads the sentences of a function from its `{` to its `}`, of which so many may still come.
-pub fn sentences(text: &[u8], tape: &mut [u32], limit: usize, from: usize, words: usize) -> Parsed
+pub fn sentences(
+    text: &[u8],
+    tape: &mut [u32],
+    limit: usize,
+    from: usize,
+    words: usize,
+) -> ParsedSentences
     requires { ⌜ Ready (now text) from words ⌝ }
-    ensures { λ r. ⌜ Agrees (SentencesRead (now (text .entry)) limit from words (now (tape .entry)) (now (tape .exit)))
+    ensures { λ r. ⌜ AgreesBy sentencesOutcome
+        (SentencesRead (now (text .entry)) limit from words (now (tape .entry)) (now (tape .exit)))
         (Reading.parseSentences limit (stream (now (text .entry)) Tokens.inside from)) r ⌝ }
 {
     let mut at = from;
@@ -146,7 +172,7 @@ pub fn sentences(text: &[u8], tape: &mut [u32], limit: usize, from: usize, words
     let mut left = limit;
     loop {
         let s = match next_sentence(text, tape, left, at, to) {
-            Parsed::Stopped(fault) => return Parsed::Stopped(fault),
+            Parsed::Stopped(fault) => return ParsedSentences::Stopped(fault),
             Parsed::Done(s) => s,
         };
         left -= 1;
@@ -154,18 +180,17 @@ pub fn sentences(text: &[u8], tape: &mut [u32], limit: usize, from: usize, words
         match after_sentence(text, s.at) {
             Sequel::Ends(past) => {
                 put(tape, s.words, END_WORD);
-                return Parsed::Done(Progress {
+                return ParsedSentences::Done(SentencesEnd {
                     at: past,
                     words: to,
-                    count: left,
-                    parts: 0,
+                    left: left,
                 });
             }
             Sequel::Another(place) => {
                 put(tape, s.words, NEXT_WORD);
                 at = place;
             }
-            Sequel::Refused(fault) => return Parsed::Stopped(fault),
+            Sequel::Refused(fault) => return ParsedSentences::Stopped(fault),
         }
     }
 }

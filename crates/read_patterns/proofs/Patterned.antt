@@ -14,8 +14,8 @@ use Rattle.meaning.specs.Tokens.{inside}
 use Rattle.meaning.specs.Reading.{endsInPart, elementsOf, parsePattern}
 use Rattle.read_tokens.specs.View.{stream, Comes}
 use Rattle.read_tokens.specs.declared.Placed as Code
-use Rattle.read_bookkeeping.specs.declared.progress.Parsed.{Parsed}
-use Rattle.read_bookkeeping.specs.declared.progress.Parsed.the-variants.{Stopped, Done}
+use Rattle.read_patterns.specs.declared.ParsedPattern.{ParsedPattern}
+use Rattle.read_patterns.specs.declared.ParsedPattern.the-variants.{Stopped, Done}
 use Rattle.read_patterns.specs.declared.Counts.{Counts}
 use Rattle.read_patterns.specs.declared.Added.{Added}
 use Rattle.read_patterns.specs.declared.Added.the-variants.{Taken, Wrong, Refused, Other}
@@ -25,7 +25,7 @@ use Rattle.read_patterns.specs.Patterns.{Held, Seen, TokenGives, Pattern
 use Rattle.read_bookkeeping.proofs.Tabling.{none-yet, no-names, every-append}
 use Rattle.read_patterns.proofs.Elements.{tape-append}
 use Rattle.read_bookkeeping.proofs.Items.{item-then}
-use Rattle.read_bookkeeping.proofs.Going.{check-wrong, stops, reads, went-none, went-then}
+use Rattle.read_bookkeeping.proofs.Going.{check-wrong, stops-by, reads-by, went-none, went-then}
 use Rattle.read_bookkeeping.proofs.Tokening.{went-before}
 use Rattle.read_bookkeeping.proofs.Refusing.{stopped-before}
 
@@ -66,14 +66,14 @@ pattern-starts text start table at words r l =
 -- what the pattern comes to, or how it goes on, after a token
 module _ {text start : List ℕ} {at words : ℕ} {tape table : List ℕ} {p : Counts} (k : Patterned text start at words tape table p) {t : Code.Placed} (c : Comes text inside (p .at) t)
     (table′ tape′ : List ℕ) where
-  abbrev Agree : Parsed → Type 0
+  abbrev Agree : ParsedPattern → Type 0
   Agree r = PatternAgrees text at words start table′ tape′ r
 
   abbrev pub PatternOn : Added → Type 0
   PatternOn (Taken next) = (p .at < next .at) × Patterned text start at words tape′ table′ next
   PatternOn (Wrong answer) = Agree (Stopped (record { answer = answer; place = t .place }))
   PatternOn (Refused fault) = Agree (Stopped fault)
-  PatternOn Other = Agree (Done (record { at = t .place; words = p .words; count = p .symbols; parts = p .parts }))
+  PatternOn Other = Agree (Done (record { at = t .place; words = p .words; letters = p .letters; symbols = p .symbols; parts = p .parts; ending = p .ending }))
 
   pub pattern-on : (r : Added) → TokenGives text table p tape t table′ tape′ r → PatternOn r
   unfolding parsePattern
@@ -93,10 +93,10 @@ module _ {text start : List ℕ} {at words : ℕ} {tape table : List ℕ} {p : C
       )
   pattern-on (Wrong answer) g =
       let i = item-then c (g .1) in
-      stops (stopped-before (k .same ∙ rw (i .unrolled, g .1, g .0 .fault (k .before) (k .seen)) (check-wrong _ _ _ (g .0 .wrong))))
-  pattern-on (Refused fault) g = stops (rw (k .same, c .unrolled, g .other, g .word, g .number, g .place))
+      stops-by refl (stopped-before (k .same ∙ rw (i .unrolled, g .1, g .0 .fault (k .before) (k .seen)) (check-wrong _ _ _ (g .0 .wrong))))
+  pattern-on (Refused fault) g = stops-by refl (rw (k .same, c .unrolled, g .other, g .word, g .number, g .place))
   pattern-on Other g =
-      reads (k .before) (stream text inside (p .at)) (rw (k .same, c .unrolled, g .0 .other, g .0 .wordless))
+      reads-by refl (k .before) (stream text inside (p .at)) (rw (k .same, c .unrolled, g .0 .other, g .0 .wordless))
       (record {
         tokens = sym (c .again);
         went = rw (g .2) (went-before (k .went) c);

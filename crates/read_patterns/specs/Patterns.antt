@@ -16,13 +16,13 @@ use Rattle.meaning.specs.Reading.{Item, isItem, elementsOf, endsInPart, faultUn
 use Rattle.read_tokens.specs.View.{stream}
 use Rattle.read_tokens.specs.declared.Placed.{Placed}
 use Rattle.read_bookkeeping.specs.declared.Answer.{Answer}
-use Rattle.read_bookkeeping.specs.declared.progress.Progress.{Progress}
-use Rattle.read_bookkeeping.specs.declared.progress.Parsed.{Parsed}
 use Rattle.read_patterns.specs.declared.Counts.{Counts}
+use Rattle.read_patterns.specs.declared.ParsedPattern.{ParsedPattern}
+use Rattle.read_patterns.specs.declared.ParsedPattern.the-variants.{Stopped, Done}
 use Rattle.read_patterns.specs.declared.Added.{Added}
 use Rattle.read_patterns.specs.declared.Added.the-variants.{Taken, Wrong, Refused, Other}
 use Rattle.read_bookkeeping.specs.Items.{Variables, symbolNames, partNames, itemAt, WordRefused, NoItem}
-use Rattle.read_bookkeeping.specs.Answered.{numberOf, Agrees}
+use Rattle.read_bookkeeping.specs.Answered.{numberOf, Outcome, halted, reached, AgreesBy}
 use Rattle.read_bookkeeping.specs.Tokened.{unlessWord}
 use Rattle.read_bookkeeping.specs.Written.{isQuiet, Ready, Went}
 
@@ -56,7 +56,8 @@ patternPartFault symbols parts ending x =
     (faultUnless (both (not (member x (symbols ++ parts))) (not ending)) wrongPatternVariable 0))
 
 -- an item is taken into a pattern
-pub record TakenIn (text : Bytes) (table : List ℕ) (p : Counts) (tape : List ℕ) (item : Item) (past : ℕ) (table′ tape′ : List ℕ) (next : Counts) : Type 0 where
+pub record TakenIn (text : Bytes) (table : List ℕ) (p : Counts) (tape : List ℕ) (item : Item) (past : ℕ)
+    (table′ tape′ : List ℕ) (next : Counts) : Type 0 where
   pub held : Held text table′ next
   pub at : next .at ≡ past
   pub went : Went text (p .at) (p .words) tape (next .at) (next .words) tape′ (patternTape (elementsOf item))
@@ -76,29 +77,38 @@ ItemGives text table p tape item past table′ tape′ (Wrong answer) = WrongIn 
 ItemGives text table p tape item past table′ tape′ (Refused fault) = ⊥
 ItemGives text table p tape item past table′ tape′ Other = ⊥
 
-pub record AddsItem (text : Bytes) (table : List ℕ) (p : Counts) (tape : List ℕ) (item : Item) (past : ℕ) (table′ tape′ : List ℕ) (r : Added) : Type 0 where
+pub record AddsItem (text : Bytes) (table : List ℕ) (p : Counts) (tape : List ℕ) (item : Item) (past : ℕ)
+    (table′ tape′ : List ℕ) (r : Added) : Type 0 where
   pub gives : ItemGives text table p tape item past table′ tape′ r
 
 -- what comes of a token
 abbrev pub TokenGives : Bytes → List ℕ → Counts → List ℕ → Placed → List ℕ → List ℕ → Added → Type 0
 TokenGives text table p tape t table′ tape′ (Taken next) =
     TakenIn text table p tape (itemAt text t) (t .past) table′ tape′ next × (isItem (itemAt text t) ≡ true)
-TokenGives text table p tape t table′ tape′ (Wrong answer) = WrongIn text table p (itemAt text t) answer × (isItem (itemAt text t) ≡ true)
+TokenGives text table p tape t table′ tape′ (Wrong answer) =
+    WrongIn text table p (itemAt text t) answer × (isItem (itemAt text t) ≡ true)
 TokenGives text table p tape t table′ tape′ (Refused fault) = WordRefused text t fault
 TokenGives text table p tape t table′ tape′ Other = NoItem text t × (table′ ≡ table) × (tape′ ≡ tape)
 
-pub record AddsToken (text : Bytes) (table : List ℕ) (p : Counts) (tape : List ℕ) (t : Placed) (table′ tape′ : List ℕ) (r : Added) : Type 0 where
+pub record AddsToken (text : Bytes) (table : List ℕ) (p : Counts) (tape : List ℕ) (t : Placed) (table′ tape′ : List ℕ)
+    (r : Added) : Type 0 where
   pub gives : TokenGives text table p tape t table′ tape′ r
 
 -- a pattern was read
-pub record PatternRead (text : Bytes) (at words : ℕ) (tape table′ tape′ : List ℕ) (p : List Element) (rest : List Tokens.Placed) (s : Progress) : Type 0 where
+pub record PatternRead (text : Bytes) (at words : ℕ) (tape table′ tape′ : List ℕ) (p : List Element)
+    (rest : List Tokens.Placed) (s : Counts) : Type 0 where
   pub tokens : rest ≡ stream text Tokens.inside (s .at)
   pub went : Went text at words tape (s .at) (s .words) tape′ (patternTape p)
   pub quiet : T (every isQuiet (patternTape p))
-  pub variables : Variables text table′ (s .count) (s .parts)
-  pub symbols : symbolsOf p ≡ symbolNames text table′ (s .count)
+  pub variables : Variables text table′ (s .symbols) (s .parts)
+  pub symbols : symbolsOf p ≡ symbolNames text table′ (s .symbols)
   pub parts : partsOf p ≡ partNames text table′ (s .parts)
 
-abbrev pub PatternAgrees : Bytes → ℕ → ℕ → List ℕ → List ℕ → List ℕ → Parsed → Type 0
+abbrev pub patternOutcome : ParsedPattern → Outcome Counts
+patternOutcome (Stopped fault) = halted fault
+patternOutcome (Done p) = reached p
+
+abbrev pub PatternAgrees : Bytes → ℕ → ℕ → List ℕ → List ℕ → List ℕ → ParsedPattern → Type 0
 PatternAgrees text at words tape table′ tape′ r =
-    Agrees (PatternRead text at words tape table′ tape′) (unlessWord (Reading.parsePattern [] (stream text Tokens.inside at))) r
+    AgreesBy patternOutcome (PatternRead text at words tape table′ tape′)
+    (unlessWord (Reading.parsePattern [] (stream text Tokens.inside at))) r

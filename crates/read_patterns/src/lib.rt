@@ -3,8 +3,6 @@ use read_bookkeeping::Answer;
 use read_bookkeeping::names::entry;
 use read_bookkeeping::names::find;
 use read_bookkeeping::progress::Fault;
-use read_bookkeeping::progress::Parsed;
-use read_bookkeeping::progress::Progress;
 use read_bookkeeping::progress::fault_if;
 use read_bookkeeping::progress::is_accepted;
 use read_bookkeeping::progress::is_word;
@@ -29,9 +27,11 @@ ghost use Rattle.read_bookkeeping.specs.Answered.{numberOf};
 ghost use Rattle.read_bookkeeping.specs.Tables.{Inside, position};
 ghost use Rattle.read_bookkeeping.specs.Written.{Ready};
 ghost use Rattle.read_bookkeeping.specs.Items.{symbolNames, partNames, Identifier, StringAt};
-ghost use Rattle.read_patterns.specs.Patterns.{Held, patternSymbolFault, patternPartFault, AddsItem, AddsToken, PatternAgrees};
+ghost use Rattle.read_patterns.specs.Patterns.{Held, patternSymbolFault, patternPartFault, AddsItem, AddsToken};
+ghost use Rattle.read_patterns.specs.Patterns.{PatternAgrees};
 
-// A pattern so far: the place in the text and the words on the tape, its letters, its different s-variables, its e-variables, and whether it ends in one.
+// A pattern so far: the place in the text and the words on the tape, its letters, its different s-variables, its
+// e-variables, and whether it ends in one.
 pub struct Counts {
     pub at: usize,
     pub words: usize,
@@ -41,7 +41,14 @@ pub struct Counts {
     pub ending: bool,
 }
 
-// A pattern with a token added, what is wrong with the token, that it is a word but no variable, or that it belongs to no pattern.
+// What the pattern's reader comes to.
+pub enum ParsedPattern {
+    Stopped(Fault),
+    Done(Counts),
+}
+
+// A pattern with a token added, what is wrong with the token, that it is a word but no variable, or that it belongs to
+// no pattern.
 pub enum Added {
     Taken(Counts),
     Wrong(Answer),
@@ -68,7 +75,8 @@ fn add_string(
 ) -> Added
     requires { ⌜ Held (now text) (now table) p × StringAt (now text) (p .at) place past count ⌝ }
     ensures { λ r. ⌜ AddsItem (now (text .entry)) (now (table .entry)) p (now (tape .entry))
-        (Reading.characters (charactersIn (quotationAt (now (text .entry)) place))) past (now (table .entry)) (now (tape .exit)) r ⌝ }
+        (Reading.characters (charactersIn (quotationAt (now (text .entry)) place))) past (now (table .entry))
+        (now (tape .exit)) r ⌝ }
 {
     if 64 < p.letters + count {
         return Added::Wrong(Answer::OverLimit);
@@ -87,8 +95,10 @@ fn add_string(
 
 // What is wrong with an s-variable of a pattern, which is found at an entry of the table.
 fn symbol_fault(text: &[u8], table: &[usize], p: Counts, x: Span, known: usize) -> Answer
-    requires { ⌜ Held (now text) (now table) p × Identifier (now text) (p .at) x × (known ≡ position (part (now text) x) (symbolNames (now text) (now table) (p .symbols))) ⌝ }
-    ensures { λ r. ⌜ numberOf r ≡ patternSymbolFault (p .letters) (symbolNames (now (text .entry)) (now (table .entry)) (p .symbols))
+    requires { ⌜ Held (now text) (now table) p × Identifier (now text) (p .at) x
+        × (known ≡ position (part (now text) x) (symbolNames (now text) (now table) (p .symbols))) ⌝ }
+    ensures { λ r. ⌜ numberOf r ≡ patternSymbolFault (p .letters)
+        (symbolNames (now (text .entry)) (now (table .entry)) (p .symbols))
         (partNames (now (text .entry)) (now (table .entry)) (p .parts)) (part (now (text .entry)) x) ⌝ }
 {
     if 8 < x.past - x.from {
@@ -192,7 +202,8 @@ fn add_part(text: &[u8], tape: &mut [u32], table: &mut [usize; 18], p: Counts, x
 // A token added to a pattern, by the item that it is.
 fn add(text: &[u8], tape: &mut [u32], table: &mut [usize; 18], p: Counts, t: Placed) -> Added
     requires { ⌜ Held (now text) (now table) p × Comes (now text) Tokens.inside (p .at) t ⌝ }
-    ensures { λ r. ⌜ AddsToken (now (text .entry)) (now (table .entry)) p (now (tape .entry)) t (now (table .exit)) (now (tape .exit)) r ⌝ }
+    ensures { λ r. ⌜ AddsToken (now (text .entry)) (now (table .entry)) p (now (tape .entry)) t (now (table .exit))
+        (now (tape .exit)) r ⌝ }
 {
     let token = t.token;
     if let Token::Quoted(count) = token {
@@ -220,9 +231,10 @@ pub fn pattern(
     table: &mut [usize; 18],
     at: usize,
     words: usize,
-) -> Parsed
+) -> ParsedPattern
     requires { ⌜ Ready (now text) at words × (length (now table) ≡ 18) ⌝ }
-    ensures { λ r. ⌜ PatternAgrees (now (text .entry)) at words (now (tape .entry)) (now (table .exit)) (now (tape .exit)) r ⌝ }
+    ensures { λ r. ⌜ PatternAgrees (now (text .entry)) at words (now (tape .entry)) (now (table .exit))
+        (now (tape .exit)) r ⌝ }
 {
     let mut p = Counts {
         at: at,
@@ -237,19 +249,14 @@ pub fn pattern(
         match add(text, tape, table, p, t) {
             Added::Taken(next) => p = next,
             Added::Wrong(answer) => {
-                return Parsed::Stopped(Fault {
+                return ParsedPattern::Stopped(Fault {
                     answer: answer,
                     place: t.place,
                 });
             }
-            Added::Refused(fault) => return Parsed::Stopped(fault),
+            Added::Refused(fault) => return ParsedPattern::Stopped(fault),
             Added::Other => {
-                return Parsed::Done(Progress {
-                    at: t.place,
-                    words: p.words,
-                    count: p.symbols,
-                    parts: p.parts,
-                });
+                return ParsedPattern::Done(Counts { at: t.place, ..p });
             }
         }
     }

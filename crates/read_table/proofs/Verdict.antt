@@ -17,16 +17,16 @@ use Rattle.read_bookkeeping.specs.declared.Answer.{Answer}
 use Rattle.read_bookkeeping.specs.declared.Answer.the-variants.{Accepted, TableTooLong, UndeclaredName}
 use Rattle.read_table.specs.declared.Reading.{Reading}
 use Rattle.read_bookkeeping.specs.declared.progress.Fault.{Fault}
-use Rattle.read_bookkeeping.specs.declared.progress.Progress.{Progress}
-use Rattle.read_bookkeeping.specs.declared.progress.Parsed.{Parsed as CodeParsed}
-use Rattle.read_bookkeeping.specs.declared.progress.Parsed.the-variants.{Stopped, Done}
+use Rattle.read_functions.specs.declared.functions.Tally.{Tally}
+use Rattle.read_functions.specs.declared.functions.ParsedTable.{ParsedTable}
+use Rattle.read_functions.specs.declared.functions.ParsedTable.the-variants.{Stopped, Done}
 use Rattle.read_table.specs.declared.calls.Unknown.{Unknown}
 use Rattle.read_table.specs.declared.calls.Unknown.the-variants.{At, Nowhere}
-use Rattle.read_bookkeeping.specs.Answered.{numberOf, Agrees}
+use Rattle.read_bookkeeping.specs.Answered.{numberOf, AgreesBy}
 use Rattle.read_bookkeeping.specs.Written.{written, Went}
 use Rattle.read_bookkeeping.specs.Tables.{tableNames, Entries}
 use Rattle.read_functions.specs.Sentences.{Each}
-use Rattle.read_functions.specs.Functions.{functionsOf, FunctionsRead}
+use Rattle.read_functions.specs.Functions.{functionsOf, FunctionsRead, tableOutcome}
 use Rattle.read_table.specs.Calls.{unknownAs, CallWithin, Holds}
 use Rattle.read_table.specs.Reads.{Reads, refusedWith}
 use Rattle.read_bookkeeping.proofs.Going.{ReadAt, has-stopped, has-read}
@@ -76,38 +76,38 @@ module _ (text : Bytes) where
 -- THE FUNCTIONS
 
 -- a text's functions were read
-pub record TableRead (text tape′ names : List ℕ) (p : Progress) : Type 0 where
+pub record TableRead (text tape′ names : List ℕ) (p : Tally) : Type 0 where
   pub start : List ℕ
   pub short : length text ≤ 32768
   pub room : length text ≤ length tape′
   pub read : ReadAt (FunctionsRead text start tape′ names) (functionsOf text) p
 
-module _ {text start tape′ names : List ℕ} {q : CodeParsed} (h : length text ≤ 32768) (a : Agrees (FunctionsRead text start tape′ names) (functionsOf text) q) where
+module _ {text start tape′ names : List ℕ} {q : ParsedTable} (h : length text ≤ 32768) (a : AgreesBy tableOutcome (FunctionsRead text start tape′ names) (functionsOf text) q) where
   pub functions-stop : {fault : Fault} {r : Reading} → q ≡ Stopped fault → r ≡ refusedWith (fault .answer) (fault .place) → Reads text r tape′
-  functions-stop {fault} f e = refuses text (fault .answer) (fault .place) _ _ e (read-short text h ∙ ap verdict (has-stopped _ fault (rw f at a)))
+  functions-stop {fault} f e = refuses text (fault .answer) (fault .place) _ _ e (read-short text h ∙ ap verdict (has-stopped _ fault refl (rw f at a)))
 
-  pub functions-done : {p : Progress} → q ≡ Done p → length text ≤ length tape′ → TableRead text tape′ names p
-  functions-done e room = record { start = start; short = h; room = room; read = has-read _ _ (rw e at a) }
+  pub functions-done : {p : Tally} → q ≡ Done p → length text ≤ length tape′ → TableRead text tape′ names p
+  functions-done e room = record { start = start; short = h; room = room; read = has-read _ _ refl (rw e at a) }
 
-module _ {text tape′ names : List ℕ} {p : Progress} (k : TableRead text tape′ names p) where
+module _ {text tape′ names : List ℕ} {p : Tally} (k : TableRead text tape′ names p) where
   abbrev table : Table
   table = k .read .value
 
   on-tape : take (p .words) tape′ ≡ tape table
   on-tape = begins (k .read .how .went) (k .room)
 
-  pub held : Holds text (take (p .words) tape′) (tableNames text names 0 (p .count)) table
+  pub held : Holds text (take (p .words) tape′) (tableNames text names 0 (p .functions)) table
   held = record { written = on-tape; declared = sym (k .read .how .names); stand = k .read .how .stand }
 
   -- what the search for undeclared names requires
-  pub searchable : (p .words ≤ length tape′) × Each (CallWithin text) (take (p .words) tape′) × Entries text names 0 (p .count)
+  pub searchable : (p .words ≤ length tape′) × Each (CallWithin text) (take (p .words) tape′) × Entries text names 0 (p .functions)
   searchable =
       let w = k .read .how .went in
       (omega (arith, w .charged, w .inside, k .room), table-within held, k .read .how .entries)
 
   -- THE CALLS
 
-  module _ {found : Unknown} (search : (t : Table) → Holds text (take (p .words) tape′) (tableNames text names 0 (p .count)) t → found ≡ unknownAs (unknownIn t t)) where
+  module _ {found : Unknown} (search : (t : Table) → Holds text (take (p .words) tape′) (tableNames text names 0 (p .functions)) t → found ≡ unknownAs (unknownIn t t)) where
     judged : {o : Option ℕ} → unknownIn table table ≡ o → read text ≡ known o table
     judged e = read-short text (k .short) ∙ ap verdict (k .read .same) ∙ ap (λ o. known o table) e
 
@@ -118,9 +118,9 @@ module _ {text tape′ names : List ℕ} {p : Progress} (k : TableRead text tape
         is-some none f = let z : _≡_ {A = ℕ} 0 1 = cc in absurd (omega arith)
         is-some (some q) f = cc
 
-    pub calls-known : {r : Reading} → found ≡ Nowhere → r ≡ acceptedWith (p .count) (p .words) → Reads text r tape′
+    pub calls-known : {r : Reading} → found ≡ Nowhere → r ≡ acceptedWith (p .functions) (p .words) → Reads text r tape′
     calls-known e f =
-        accepts text table (p .count) (p .words) _ _ f (judged (is-none (unknownIn table table) (sym (search table held) ∙ e)))
+        accepts text table (p .functions) (p .words) _ _ f (judged (is-none (unknownIn table table) (sym (search table held) ∙ e)))
         (k .read .how .count) (counts (k .read .how .went)) on-tape
       where
         is-none : (o : Option ℕ) → unknownAs o ≡ Nowhere → o ≡ none

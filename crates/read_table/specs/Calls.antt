@@ -1,4 +1,5 @@
--- The called names of a table that was read: which words of the tape open calls, and where the first undeclared name stands.
+-- The called names of a table that was read: which words of the tape open calls, and where the first undeclared name
+-- stands.
 use Prim.Native.Nat.{ℕ, _+_, _-_, _/_, _%_, _≤_}
 use mathlib.Core.Path.{_≡_}
 use mathlib.Core.Bool.{Bool}
@@ -23,7 +24,8 @@ abbrev pub unknownAs : Option ℕ → Unknown
 unknownAs none = Nowhere
 unknownAs (some place) = At place
 
--- a word that opens a call: its number of 256 counts on by the place of the name, and above that it carries the name's length
+-- a word that opens a call: its number of 256 counts on by the place of the name, and above that it carries the name's
+-- length
 abbrev pub calledPlace : ℕ → ℕ
 calledPlace word = word / 256 - callKind
 

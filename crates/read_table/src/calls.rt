@@ -21,7 +21,8 @@ pub enum Unknown {
 // Whether a word of the tape opens no call, or one of a name that is built in or declared.
 fn is_known(text: &[u8], names: &[usize], functions: usize, word: usize) -> bool
     requires { ⌜ CallWithin (now text) word × Entries (now text) (now names) 0 functions ⌝ }
-    ensures { λ r. ⌜ r ≡ wordKnown (now (text .entry)) (tableNames (now (text .entry)) (now (names .entry)) 0 functions) word ⌝ }
+    ensures { λ r. ⌜ r ≡ wordKnown (now (text .entry))
+        (tableNames (now (text .entry)) (now (names .entry)) 0 functions) word ⌝ }
 {
     if word < 2304 {
         return true;
@@ -46,8 +47,10 @@ pub fn unknown_call(
     functions: usize,
     words: usize,
 ) -> Unknown
-    requires { ⌜ (words ≤ length (now tape)) × Each (CallWithin (now text)) (take words (now tape)) × Entries (now text) (now names) 0 functions ⌝ }
-    ensures { λ r. ⌜ ((t : Table) → Holds (now (text .entry)) (take words (now (tape .entry))) (tableNames (now (text .entry)) (now (names .entry)) 0 functions) t
+    requires { ⌜ (words ≤ length (now tape)) × Each (CallWithin (now text)) (take words (now tape))
+        × Entries (now text) (now names) 0 functions ⌝ }
+    ensures { λ r. ⌜ ((t : Table) → Holds (now (text .entry)) (take words (now (tape .entry)))
+        (tableNames (now (text .entry)) (now (names .entry)) 0 functions) t
         → r ≡ unknownAs (unknownIn t t)) ⌝ }
 {
     let mut i = 0;

@@ -1,5 +1,5 @@
 // A table's functions, read through a reader of its text.
-use read_bookkeeping::progress::Parsed;
+use read_functions::functions::ParsedTable;
 use read_functions::functions::Stage;
 use read_functions::functions::declaration;
 use read_functions::functions::first_stage;
@@ -10,8 +10,8 @@ use read_tokens::reader::Reader;
 ghost use mathlib.Core.Path.{_≡_};
 ghost use Prim.Native.Nat.{_≤_};
 ghost use lib.ListN.{length};
-ghost use Rattle.read_bookkeeping.specs.Answered.{Agrees};
-ghost use Rattle.read_functions.specs.Functions.{functionsOf, FunctionsRead, Underway};
+ghost use Rattle.read_bookkeeping.specs.Answered.{AgreesBy};
+ghost use Rattle.read_functions.specs.Functions.{functionsOf, FunctionsRead, tableOutcome, Underway};
 ghost use Rattle.read_table.specs.Through.{GoesOn};
 
 // Reads the next declaration, and the reader goes on to the place that was reached.
@@ -22,7 +22,8 @@ fn next_declaration<'s, 'a, 't, 'n>(
     stage: Stage,
 ) -> Stage
     requires { ⌜ Underway (now (now reader .text)) (now tape) (now names) (now reader .at) stage ⌝ }
-    ensures { λ r. ⌜ GoesOn (now (reader .entry)) (now (tape .entry)) (now (names .entry)) stage (now (reader .exit)) (now (tape .exit)) (now (names .exit)) r ⌝ }
+    ensures { λ r. ⌜ GoesOn (now (reader .entry)) (now (tape .entry)) (now (names .entry)) stage (now (reader .exit))
+        (now (tape .exit)) (now (names .exit)) r ⌝ }
 {
     let reached = declaration(reader.text, reader.at, tape, names, stage);
     reader.at = reached.at;
@@ -30,9 +31,10 @@ fn next_declaration<'s, 'a, 't, 'n>(
 }
 
 // Reads the functions of a text and fills the table of their names.
-pub fn functions(text: &[u8], tape: &mut [u32], names: &mut [usize; 64]) -> Parsed
+pub fn functions(text: &[u8], tape: &mut [u32], names: &mut [usize; 64]) -> ParsedTable
     requires { ⌜ (length (now text) ≤ 32768) × (length (now names) ≡ 64) ⌝ }
-    ensures { λ r. ⌜ Agrees (FunctionsRead (now (text .entry)) (now (tape .entry)) (now (tape .exit)) (now (names .exit))) (functionsOf (now (text .entry))) r ⌝ }
+    ensures { λ r. ⌜ AgreesBy tableOutcome (FunctionsRead (now (text .entry)) (now (tape .entry)) (now (tape .exit))
+        (now (names .exit))) (functionsOf (now (text .entry))) r ⌝ }
 {
     let mut reader = reader::new(text);
     let mut stage = first_stage();

@@ -7,7 +7,7 @@ use calls::unknown_call;
 use functions::functions;
 use read_bookkeeping::Answer;
 use read_bookkeeping::names::function_room;
-use read_bookkeeping::progress::Parsed;
+use read_functions::functions::ParsedTable;
 ghost use mathlib.Core.Path.{_≡_};
 ghost use Rattle.read_bookkeeping.specs.Answered.{numberOf};
 ghost use Rattle.read_table.specs.Reads.{LongEnough, Reads, refusedWith};
@@ -58,18 +58,18 @@ pub fn read(text: &[u8], tape: &mut [u32]) -> Reading
     }
     let mut names = function_room();
     let table = match functions(text, tape, &mut names) {
-        Parsed::Stopped(fault) => {
+        ParsedTable::Stopped(fault) => {
             let answer = fault.answer;
             return refusal(answer, fault.place);
         }
-        Parsed::Done(table) => table,
+        ParsedTable::Done(table) => table,
     };
-    match unknown_call(text, tape, &names, table.count, table.words) {
+    match unknown_call(text, tape, &names, table.functions, table.words) {
         Unknown::At(place) => refusal(Answer::UndeclaredName, place),
         Unknown::Nowhere => Reading {
             answer: Answer::Accepted,
             place: 0,
-            functions: table.count,
+            functions: table.functions,
             words: table.words,
         },
     }

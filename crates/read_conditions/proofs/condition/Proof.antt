@@ -2,8 +2,6 @@
 use borrow.Author.Needs.{needs}
 use Rattle.read_conditions.proofs.condition.Statement.{statement}
 use Rattle.read_conditions.proofs.condition.Tie as tie
-use Prim.Native.Nat.{_<_}
-use native.Mathlib.Omega.{arith}
 use Rattle.meaning.specs.Tokens.{naming}
 use Rattle.read_tokens.proofs.Stream.{comes}
 use Rattle.read_bookkeeping.proofs.Tokening.{name-first}
@@ -39,24 +37,22 @@ class-named-requires : tie.Need-class-named-requires
 class-named-requires c κs = named (c .before .before .before) .name .inside
 
 returns-4 : tie.Need-returns-4
-returns-4 c = class-not (named (c .before .before .before .before .before)) (c .before .before .if1 .left) (rw (c .if2 .taken) at (c .before .class-named .ensures .0))
-
-predicate : (c : tie.Else2) → c .before .class-named .result < 5
-predicate c =
-    let l = c .before .class-named .ensures .1 in
-    let d = c .if2 .left in
-    omega arith
+returns-4 c =
+    let at-class-named = c .before .before in
+    let at-if1 = at-class-named .before in
+    class-not (named (at-if1 .before .before .before)) (at-if1 .if1 .left) (at-class-named .class-named .ensures) (c .enum-told .given .1)
 
 condition-on-requires : tie.Need-condition-on-requires
 condition-on-requires c κs =
-    let at-token = c .before .before .before .before .before .before in
-    (name-ready (named at-token), opened (at-token .before .before) .known, predicate (c .before))
+    let at-token = c .before .before .before .before .before .before .before .before in
+    (name-ready (named at-token), opened (at-token .before .before) .known)
 
 returns-5 : tie.Need-returns-5
 returns-5 c =
-    let at-class-named = c .before .before .before .before .before in
+    let at-class = c .before .before .before .before .before in
+    let at-class-named = at-class .before .before in
     let at-if1 = at-class-named .before in
-    class-reads (named (at-if1 .before .before .before)) (at-if1 .if1 .left) _ (predicate (c .before .before .before .before)) (at-class-named .class-named .ensures .0)
+    class-reads (named (at-if1 .before .before .before)) (at-if1 .if1 .left) (at-class-named .class-named .ensures) (at-class .class .given .1)
     (c .before .before .condition-on .ensures)
 
 pub condition-spec : {M : Type 1} → statement M
@@ -74,6 +70,8 @@ condition-spec =
     sub-if1
     returns-3
     class-named-requires
+    (λ c. search needs)
+    (λ c. search needs)
     returns-4
     condition-on-requires
     (λ c. search needs)

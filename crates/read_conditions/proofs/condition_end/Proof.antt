@@ -7,13 +7,13 @@ use Rattle.meaning.specs.Tokens.{inside}
 use Rattle.read_tokens.specs.View.{Comes}
 use Rattle.read_tokens.proofs.Stream.{comes}
 use Rattle.read_bookkeeping.specs.Tokened.{Taken}
-use Rattle.read_conditions.proofs.Conditioned.{ClosingAt, end-no-close, end-no-colon, end-no-truth, end-reads}
+use Rattle.read_conditions.proofs.Conditioned.{ClosingAt, before-room, end-no-close, end-no-colon, end-no-truth, end-reads}
 
 returns : tie.Need-returns
 returns c =
     let at-pass = c .before .before .before in
     let entry = at-pass .before .before .before in
-    λ k e. end-no-close (entry .args .is-part) (entry .pre .1) k (rw (c .before .fault .given .1) at (at-pass .pass .ensures))
+    end-no-close (entry .args .is-part) (entry .pre .1) _ (rw (c .before .fault .given .1) at (at-pass .pass .ensures))
 
 abbrev start : tie.After-at → tie.Start
 start c = c .before .before .before .before .before
@@ -28,7 +28,7 @@ returns-2 : tie.Need-returns-2
 returns-2 c =
     let at-pass2 = c .before .before .before in
     let at-at = at-pass2 .before .before in
-    λ k e. end-no-colon (start at-at .args .is-part) (start at-at .pre .1) k (closed at-at)
+    end-no-colon (start at-at .args .is-part) (start at-at .pre .1) _ (closed at-at)
     (rw (c .before .fault2 .given .1) at (at-pass2 .pass2 .ensures))
 
 parted : (c : tie.After-at2) → let at-at = c .before .before .before .before in
@@ -59,16 +59,23 @@ truth-in-requires c κs = let m = first c in record { forward = m .forward; insi
 
 returns-3 : tie.Need-returns-3
 returns-3 c =
-    let at-truth-in = c .before .before in
-    λ k e. end-no-truth (started at-truth-in .args .is-part) (closing at-truth-in) k (c .before .if1 .taken) (c .refuse .ensures)
+    let at-truth-in = c .before .before .before in
+    end-no-truth (started at-truth-in .args .is-part) (closing at-truth-in) _ (c .before .enum-told .given .1) (c .refuse .ensures)
+
+put-named-requires : tie.Need-put-named-requires
+put-named-requires c κs =
+    let entry = started (c .before .before .before .before .before .before .before .before) in
+    before-room (entry .pre .0) (entry .pre .1)
 
 returns-4 : tie.Need-returns-4
 returns-4 c =
-    let at-kind-number = c .before .before .before .before .before in
-    let at-if1 = at-kind-number .before in
-    let s = started (at-if1 .before) in
-    λ k e. end-reads (s .args .is-part) (closing (at-if1 .before)) k (s .pre .2) e (at-if1 .if1 .left) (at-kind-number .kind-number .ensures) refl
-    (c .before .before .put-named .ensures)
+    let at-class-number = c .before .before .before .before .before in
+    let at-truth-number = at-class-number .before in
+    let at-kind-number = at-truth-number .before in
+    let at-expected = at-kind-number .before .before in
+    let at-truth-in = at-expected .before .before in
+    end-reads (started at-truth-in .args .is-part) (closing at-truth-in) _ (at-expected .expected .given .1) (at-kind-number .kind-number .ensures)
+    (at-truth-number .truth-number .ensures) (at-class-number .class-number .ensures) refl (c .before .before .put-named .ensures)
 
 pub condition-end-spec : {M : Type 1} → statement M
 condition-end-spec =
@@ -84,16 +91,20 @@ condition-end-spec =
     returns-2
     (λ c κs. search needs)
     truth-in-requires
+    (λ c. search needs)
+    (λ c. search needs)
     (λ c κs. search needs)
     returns-3
     (λ c κs. search needs)
-    (λ c. search needs)
-    (λ c. search needs)
-    (λ c. search needs)
-    (λ c. search needs)
-    (λ c. search needs)
-    (λ c. search needs)
-    (λ c. search needs)
     (λ c κs. search needs)
+    (λ c κs. search needs)
+    (λ c. search needs)
+    (λ c. search needs)
+    (λ c. search needs)
+    (λ c. search needs)
+    (λ c. search needs)
+    (λ c. search needs)
+    (λ c. search needs)
+    put-named-requires
     (λ c. search needs)
     returns-4)

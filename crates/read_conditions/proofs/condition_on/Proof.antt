@@ -28,21 +28,21 @@ returns : tie.Need-returns
 returns c =
     let at-variable-in = c .before .before .before in
     let other = sym (c .before .enum-told .given .1) ∙ at-variable-in .variable-in .ensures in
-    λ k e. on-no-variable (looked (at-variable-in .before)) k other (c .refuse .ensures)
+    on-no-variable (looked (at-variable-in .before)) _ other (c .refuse .ensures)
 
 subject-fault-requires : tie.Need-subject-fault-requires
 subject-fault-requires c κs = (on-inside (variable (c .before)), start (c .before .before .before .before) .pre .1)
 
 returns-2 : tie.Need-returns-2
-returns-2 c = λ k e. on-wrong (asked (c .before)) k (c .if1 .taken)
+returns-2 c = on-wrong (asked (c .before)) _ (c .if1 .taken)
 
 condition-end-requires : tie.Need-condition-end-requires
 condition-end-requires c κs =
     let b = on-before (asked (c .before .before)) (c .before .if1 .left) in
-    (b .0, b .1, start (c .before .before .before .before .before .before .before .before) .pre .2)
+    (b .0, b .1)
 
 returns-3 : tie.Need-returns-3
-returns-3 c = λ k e. on-reads (asked (c .before .before .before .before .before)) (c .before .before .before .before .if1 .left) k (c .before .before .condition-end .ensures k e)
+returns-3 c = on-reads (asked (c .before .before .before .before .before)) (c .before .before .before .before .if1 .left) _ (c .before .before .condition-end .ensures)
 
 pub condition-on-spec : {M : Type 1} → statement M
 condition-on-spec =

@@ -2,16 +2,15 @@
 use Rattle.read_conditions.proofs.truth_between.Statement.{statement}
 use Rattle.read_conditions.proofs.truth_between.Tie as tie
 use borrow.Author.Tests.{ne-eqb}
-use Rattle.read_conditions.proofs.Conditioned.{number-none, number-true, number-false}
 
 returns : tie.Need-returns
-returns c = number-true (rw (c .if1 .taken))
+returns c = rw (c .if1 .taken)
 
 returns-2 : tie.Need-returns-2
-returns-2 c = number-false (rw (c .if2 .taken))
+returns-2 c = rw (c .if2 .taken)
 
 returns-3 : tie.Need-returns-3
-returns-3 c = number-none (rw (ne-eqb _ 84 (c .before .if1 .left), ne-eqb _ 70 (c .if2 .left)))
+returns-3 c = rw (ne-eqb _ 84 (c .before .if1 .left), ne-eqb _ 70 (c .if2 .left))
 
 pub truth-between-spec : {M : Type 1} → statement M
 truth-between-spec = tie.close (tie.spec

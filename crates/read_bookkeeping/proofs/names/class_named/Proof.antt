@@ -1,44 +1,62 @@
--- `read_bookkeeping::names::class_named` meets its contract: the classes from the start are those from here.
+-- `read_bookkeeping::names::class_named` meets its contract: the classes are asked about one after the other.
+use borrow.Author.Needs.{needs}
 use Rattle.read_bookkeeping.proofs.names.class_named.Statement.{statement}
 use Rattle.read_bookkeeping.proofs.names.class_named.Tie as tie
-use Prim.Native.Nat.{_-_}
-use native.Mathlib.Omega.{arith}
+use mathlib.Core.List.{List, [], _∷_}
+use Rattle.meaning.specs.Classes.{Class, upper, lower, alphabetic, blank}
 use Rattle.read_tokens.specs.View.{part}
 use Rattle.read_bookkeeping.proofs.Naming.{Asked, asked-none, asked-all, asked-is, asked-not}
 
-abbrev Inv-loop : tie.InvT-loop
-Inv-loop text x class₀ class = Asked (part text x) class
+abbrev Left : tie.Start → List Class → Type 0
+Left s classes = Asked (part (s .args .text .now) (s .args .x)) classes
 
-abbrev μ-loop : tie.MeasureT-loop
-μ-loop text x class₀ class = 5 - class
+no-digit : (c : tie.Else1) → Left (c .before .before .before .before) (upper ∷ lower ∷ alphabetic ∷ blank ∷ [])
+no-digit c = asked-not (asked-none _) (c .before .spells .ensures) (c .if1 .left)
 
-loop-holds : tie.Need-loop-holds Inv-loop μ-loop
-loop-holds c = asked-none _
+no-upper : (c : tie.Else2) → Left (c .before .before .before .before .before .before .before) (lower ∷ alphabetic ∷ blank ∷ [])
+no-upper c = asked-not (no-digit (c .before .before .before)) (c .before .spells2 .ensures) (c .if2 .left)
 
-names-class-requires : tie.Need-names-class-requires Inv-loop μ-loop
-names-class-requires c κs = (c .before .before .before .pre, c .loop-test .taken)
+no-lower : (c : tie.Else3) → Left (c .before .before .before .before .before .before .before .before .before .before) (alphabetic ∷ blank ∷ [])
+no-lower c = asked-not (no-upper (c .before .before .before)) (c .before .spells3 .ensures) (c .if3 .left)
 
-returns : tie.Need-returns Inv-loop μ-loop
-returns c =
-    let i = c .before .before .before .loop .inv in
-    (asked-is i (omega arith) (c .before .names-class .ensures) (c .if1 .taken), omega (arith, i .low))
+no-letter : (c : tie.Else4) → Left (c .before .before .before .before .before .before .before .before .before .before .before .before .before) (blank ∷ [])
+no-letter c = asked-not (no-lower (c .before .before .before)) (c .before .spells4 .ensures) (c .if4 .left)
 
-loop-again : tie.Need-loop-again Inv-loop μ-loop
-loop-again c = asked-not (c .before .before .before .loop .inv) (omega arith) (c .before .names-class .ensures) (c .if1 .left)
+returns : tie.Need-returns
+returns c = asked-is (asked-none _) (c .before .spells .ensures) (c .if1 .taken)
 
-returns-2 : tie.Need-returns-2 Inv-loop μ-loop
-returns-2 c = (asked-all (c .before .loop .inv) (c .loop-test .left), omega arith)
+returns-2 : tie.Need-returns-2
+returns-2 c = asked-is (no-digit (c .before .before .before)) (c .before .spells2 .ensures) (c .if2 .taken)
+
+returns-3 : tie.Need-returns-3
+returns-3 c = asked-is (no-upper (c .before .before .before)) (c .before .spells3 .ensures) (c .if3 .taken)
+
+returns-4 : tie.Need-returns-4
+returns-4 c = asked-is (no-lower (c .before .before .before)) (c .before .spells4 .ensures) (c .if4 .taken)
+
+returns-5 : tie.Need-returns-5
+returns-5 c = asked-is (no-letter (c .before .before .before)) (c .before .spells5 .ensures) (c .if5 .taken)
+
+returns-6 : tie.Need-returns-6
+returns-6 c = asked-all (asked-not (no-letter (c .before .before .before)) (c .before .spells5 .ensures) (c .if5 .left))
 
 pub class-named-spec : {M : Type 1} → statement M
 class-named-spec =
     tie.close
     (tie.spec
-    Inv-loop
-    μ-loop
-    loop-holds
-    names-class-requires
+    (λ c. search needs)
+    (λ c κs. search needs)
     returns
-    (λ c. omega arith)
-    (λ c. omega arith)
-    loop-again
-    returns-2)
+    (λ c. search needs)
+    (λ c κs. search needs)
+    returns-2
+    (λ c. search needs)
+    (λ c κs. search needs)
+    returns-3
+    (λ c. search needs)
+    (λ c κs. search needs)
+    returns-4
+    (λ c. search needs)
+    (λ c κs. search needs)
+    returns-5
+    returns-6)

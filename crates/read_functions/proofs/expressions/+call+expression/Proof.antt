@@ -14,11 +14,11 @@ use Rattle.read_bookkeeping.proofs.progress.is_sign.Reads as is-sign-reads
 use Rattle.read_functions.proofs.expressions.close_call.Reads as close-call-reads
 use Rattle.read_functions.proofs.expressions.join.Reads as join-reads
 use Rattle.read_functions.proofs.expressions.open_call.Reads as open-call-reads
-use Rattle.read_functions.proofs.stopped.Reads as stopped-reads
+use Rattle.read_functions.proofs.fault_at.Reads as fault-at-reads
 use Rattle.read_functions.proofs.expressions.+call+expression.{statement}
 use Rattle.read_functions.proofs.expressions.+call+expression.Tie.{close}
 use Prim.Native.Nat.{ℕ, _+_, _-_, _<_}
-use mathlib.Core.Path.{_≡_, sym, _∙_}
+use mathlib.Core.Path.{_≡_, refl, sym, _∙_}
 use mathlib.Core.List.{List}
 use native.Mathlib.Nat.{le-refl}
 use native.Mathlib.Omega.{arith}
@@ -28,13 +28,13 @@ use lib.ListN.{length}
 use Rattle.meaning.specs.Tokens as Tokens
 use Rattle.meaning.specs.Choice.{Bytes}
 use Rattle.read_tokens.specs.View.{Comes}
-use Rattle.read_bookkeeping.specs.declared.progress.Progress.{Progress}
+use Rattle.read_functions.specs.declared.expressions.ExpressionCounts.{ExpressionCounts}
 use Rattle.read_tokens.proofs.Stream.{comes}
 use Rattle.read_bookkeeping.proofs.Going.{has-read, went-length}
 use Rattle.read_functions.proofs.Calling.{Opened, call-unopened, argument-ready, argument-going, argument-stops, call-closes}
 use Rattle.read_functions.proofs.Expressed.{Expressed, expression-starts, AtToken, item-moves, item-taken, item-wrong, word-refused, expression-ends, AtCall, call-onward, call-ready, call-stopped, call-moves, call-read}
 
-abbrev remaining : Bytes → Progress → ℕ → ℕ
+abbrev remaining : Bytes → ExpressionCounts → ℕ → ℕ
 remaining text s depth = (length text - s .at) + (16 - depth)
 
 abbrev μ-call : Measures 3 call-kinds.ps ℕ
@@ -72,8 +72,8 @@ expression-claims t = (
   lex-reads.Learnt,
   join-reads.Asked,
   join-reads.Learnt,
-  stopped-reads.Asked,
-  stopped-reads.Learnt,
+  fault-at-reads.Asked,
+  fault-at-reads.Learnt,
   is-sign-reads.Asked,
   is-sign-reads.Learnt,
   below-measure call-kinds.ps μ-call call.Pre t,
@@ -87,7 +87,7 @@ module _ (t : ℕ) where
       → let at-open-call = c .before .before .before .before in
       let a = at-open-call .before .before .before .before .before .args in
       Opened (a .text .now) (a .depth) (a .s) (a .place) (a .tape .now) (at-open-call .open-call .last .1 .0) (c .start .given .0 .0)
-  opened-here c = record { read = has-read _ _ (rw (c .start .given .1) at (c .before .before .before .before .open-call .ensures)) }
+  opened-here c = record { read = has-read _ _ refl (rw (c .start .given .1) at (c .before .before .before .before .open-call .ensures)) }
 
   call-open-call-requires : call-lts.Need-open-call-requires (call-claims t) (call-at t) call.Post
   call-open-call-requires c κs = (c .before .before .before .before .pre .1 .0 .ready, c .before .before .before .before .pre .1 .1)
@@ -186,7 +186,7 @@ module _ (t : ℕ) where
 
   expression-returns : expression-lts.Need-returns (expression-claims t) (expression-at t) expression.Post Inv-loop μ-loop
   expression-returns c =
-      λ bound h. rw (c .stopped .ensures) (item-wrong (joined-here (c .before .before .before .before .before .before)) (c .before .before .answer .given .1) h)
+      λ bound h. rw (c .fault-at .ensures) (item-wrong (joined-here (c .before .before .before .before .before .before)) (c .before .before .answer .given .1) h)
 
   expression-returns-2 : expression-lts.Need-returns-2 (expression-claims t) (expression-at t) expression.Post Inv-loop μ-loop
   expression-returns-2 c = λ bound h. word-refused (joined-here (c .before .before .before .before .before)) (c .before .fault .given .1) h

@@ -33,9 +33,9 @@ sound-here c = record { sound = no-fault-here (c .before .before .called-fault .
 returns : tie.Need-returns
 returns c =
     let a = c .before .before .before .before .args in
-    rw (c .stopped .ensures)
+    rw (c .fault-at .ensures)
     (call-limited (a .text .now) (a .depth) (a .s) (a .place)
-    (⊎-elim (λ w. too-deep (a .depth) (a .s .count) (w .taken)) (λ w. too-many (a .depth) (a .s .count) (leb-true 128 _ (w .2 .taken))) (c .before .if1 .came)))
+    (⊎-elim (λ w. too-deep (a .depth) (a .s .items) (w .taken)) (λ w. too-many (a .depth) (a .s .items) (leb-true 128 _ (w .2 .taken))) (c .before .if1 .came)))
 
 returns-2 : tie.Need-returns-2
 returns-2 c = call-nameless (call-here (c .before .before)) (c .before .match .keys2) (c .refuse .ensures)
@@ -48,14 +48,14 @@ returns-3 c =
     let at-is-accepted = c .before .before in
     let at-called-fault = at-is-accepted .before in
     let f = at-called-fault .called-fault .ensures in
-    rw (c .stopped2 .ensures)
+    rw (c .fault-at2 .ensures)
     (call-misnamed (name-here (at-called-fault .before .before)) f (a-fault-here f (at-is-accepted .is-accepted .ensures) (c .before .if3 .taken)))
 
 put-call-requires : tie.Need-put-call-requires
 put-call-requires c κs = name-room (sound-here (c .before))
 
-add-t20 : tie.Need-add-t20
-add-t20 c = let few = call-here (c .before .before .before .before .before .before .before .before .before .before .before) .few in omega arith
+add-t22 : tie.Need-add-t22
+add-t22 c = let few = call-here (c .before .before .before .before .before .before .before .before .before .before .before) .few in omega arith
 
 returns-4 : tie.Need-returns-4
 returns-4 c = call-opens (sound-here (c .before .before .before .before .before)) (c .before .before .before .put-call .ensures)
@@ -75,6 +75,6 @@ open-call-spec =
     (λ c κs. search needs)
     returns-3
     put-call-requires
-    add-t20
+    add-t22
     (λ c. search needs)
     returns-4)

@@ -5,7 +5,7 @@ use Rattle.read_functions.proofs.functions.body.Tie as tie
 use mathlib.Core.Path.{refl}
 use native.Mathlib.Omega.{arith}
 use Rattle.read_functions.proofs.Functioned.{AfterBrace, name-room, body-ready, body-reads}
-use Rattle.read_bookkeeping.proofs.Tokening.{barred-stops}
+use Rattle.read_bookkeeping.proofs.Tokening.{barred-stops-by}
 
 brace-here : (c : tie.After-at) → let a = c .before .before .before .before .before .args in AfterBrace (a .text .now) (a .words) (a .name) (c .at .given .0 .0)
 brace-here c =
@@ -16,7 +16,7 @@ pass-requires : tie.Need-pass-requires
 pass-requires c κs = c .before .before .pre .inside .inside
 
 returns : tie.Need-returns
-returns c = barred-stops _ (rw (c .before .fault .given .1) at (c .before .before .before .pass .ensures))
+returns c = barred-stops-by _ refl (rw (c .before .fault .given .1) at (c .before .before .before .pass .ensures))
 
 sub-word : tie.Need-sub-word
 sub-word c = brace-here (c .before .before) .name .inside .forward

@@ -30,8 +30,8 @@ returns c = stage-over (c .enum-told .given .1)
 
 returns-2 : tie.Need-returns-2
 returns-2 c =
-    let at-is-end = c .before .before in
-    rw (c .read-so-far .ensures) (stage-ends (token-here (at-is-end .before)) (sym (at-is-end .is-end .ensures) ∙ c .before .if1 .taken))
+    let at-is-end = c .before in
+    stage-ends (token-here (at-is-end .before)) (sym (at-is-end .is-end .ensures) ∙ c .if1 .taken)
 
 function-requires : tie.Need-function-requires
 function-requires c κs =
@@ -70,7 +70,6 @@ declaration-spec =
     (λ c. search needs)
     (λ c. search needs)
     returns
-    (λ c κs. search needs)
     (λ c κs. search needs)
     (λ c κs. search needs)
     returns-2

@@ -27,7 +27,7 @@ returns c = function-nameless (c .before .before .before .before .pre) (c .befor
 returns-2 : tie.Need-returns-2
 returns-2 c =
     let at-token = c .before .before .before in
-    rw (c .stopped .ensures) (function-many (start at-token .pre) (at-token .token .given .1) (c .before .if1 .taken))
+    rw (c .fault-at .ensures) (function-many (start at-token .pre) (at-token .token .given .1) (c .before .if1 .taken))
 
 declared-fault-requires : tie.Need-declared-fault-requires
 declared-fault-requires c κs =
@@ -39,7 +39,7 @@ returns-3 c =
     let at-is-accepted = c .before .before in
     let at-declared-fault = at-is-accepted .before in
     let f = at-declared-fault .declared-fault .ensures in
-    rw (c .stopped2 .ensures)
+    rw (c .fault-at2 .ensures)
     (function-misnamed (name-here (at-declared-fault .before .before .before)) f
     (a-fault-here f (at-is-accepted .is-accepted .ensures) (c .before .if2 .taken)))
 

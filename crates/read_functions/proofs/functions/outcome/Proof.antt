@@ -2,15 +2,13 @@
 use borrow.Author.Needs.{needs}
 use Rattle.read_functions.proofs.functions.outcome.Statement.{statement}
 use Rattle.read_functions.proofs.functions.outcome.Tie as tie
-use mathlib.Core.Path.{_∙_}
 
 returns : tie.Need-returns
-returns c = c .read-so-far .ensures ∙ rw (c .before .before .stage .given .1)
+returns c = rw (c .before .stage .given .1)
 
 pub outcome-spec : {M : Type 1} → statement M
 outcome-spec = tie.close (tie.spec
     (λ c. search needs)
-    (λ c κs. search needs)
     (λ c. search needs)
     returns
     (λ c. search needs))

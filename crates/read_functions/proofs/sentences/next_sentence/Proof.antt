@@ -26,7 +26,7 @@ returns c =
 returns-2 : tie.Need-returns-2
 returns-2 c =
     let at-if1 = c .before .before in
-    rw (c .stopped .ensures) (first-many _ _ (token-here (at-if1 .before .before)) (begins-here at-if1) (c .before .if2 .taken))
+    rw (c .fault-at .ensures) (first-many _ _ (token-here (at-if1 .before .before)) (begins-here at-if1) (c .before .if2 .taken))
 
 sentence-requires : tie.Need-sentence-requires
 sentence-requires c κs =

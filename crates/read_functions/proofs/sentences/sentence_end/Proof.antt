@@ -24,8 +24,8 @@ returns c = barred-stops _ (rw (c .before .fault .given .1) at (c .before .befor
 
 returns-2 : tie.Need-returns-2
 returns-2 c =
-    let at-put = c .before .before .before .before .before .before in
-    equals-reads (equals-here (at-put .before .before .before)) (at-put .put .ensures) (c .before .before .expression .ensures)
+    let at-put = c .before .before .before .before .before .before .before in
+    equals-reads (equals-here (at-put .before .before .before)) (at-put .put .ensures) (c .before .before .before .expression .ensures) (c .without-counts .ensures)
 
 pub sentence-end-spec : {M : Type 1} → statement M
 sentence-end-spec =
@@ -37,6 +37,7 @@ sentence-end-spec =
     (λ c κs. search needs)
     add-t17
     expression-requires
+    (λ c κs. search needs)
     returns
     (λ c. search needs)
     returns-2)

@@ -47,10 +47,10 @@ use denote.Triple.Table.{cited}
 use denote.Triple.Walked.{says, Stays, stay-dropped, stay-ref, stay-slice, walkOf, goes-ref, goes-slice, ends-at}
 use Rattle.read_tokens.specs.declared.reader.Reader.{Reader}
 use Rattle.read_tokens.specs.Readers.{readerAt}
-use Rattle.read_bookkeeping.specs.declared.progress.Parsed.{Parsed}
-use Rattle.read_bookkeeping.specs.Answered.{Agrees}
+use Rattle.read_functions.specs.declared.functions.ParsedTable.{ParsedTable}
+use Rattle.read_bookkeeping.specs.Answered.{AgreesBy}
 use Rattle.read_functions.specs.declared.functions.Stage.{Stage}
-use Rattle.read_functions.specs.Functions.{functionsOf, FunctionsRead, Underway, firstStage, onward, outcomeOf}
+use Rattle.read_functions.specs.Functions.{functionsOf, FunctionsRead, tableOutcome, Underway, firstStage, onward, outcomeOf}
 use Rattle.proof_walks.proofs.Answering.{clause, answers, answers-back, answers-lasts}
 use Rattle.proof_walks.proofs.Apart.{tokens-apart, tokens-joined, owned-apart, owned-joined}
 use Rattle.proof_walks.proofs.Entering.{calls-framed, walk-enters, required-one}
@@ -64,8 +64,8 @@ use Rattle.read_tokens.proofs.reader.new as new
 use Rattle.read_tokens.proofs.reader.new.Symbol as new-def
 use Rattle.read_tokens.proofs.reader.new.Symbol.{name as #read-tokens·reader·new}
 use Rattle.read_tokens.proofs.reader.new.Met as new-thm
-use Rattle.read_bookkeeping.proofs.progress.Parsed as P
-use Rattle.read_bookkeeping.proofs.progress.Parsed.Laws as P′
+use Rattle.read_functions.proofs.functions.ParsedTable as P
+use Rattle.read_functions.proofs.functions.ParsedTable.Laws as P′
 use Rattle.read_functions.proofs.functions.Stage as S
 use Rattle.read_functions.proofs.functions.Stage.Laws as S′
 use Rattle.read_functions.proofs.functions.first_stage as first-stage
@@ -129,7 +129,7 @@ module _ {M : Type 1} (𝓤 : URA M) (H : Heap 𝓤) (A : Atoms 𝓤) (at-mem : 
   onward-said : (x : Stage) (y : Bool) → ent 𝓤 (ensured 𝓤 H A is-onward.ended (is-onward.clauses 𝓤 H A at-mem run) tt (x, tt) tt y) (fact 𝓤 (y ≡ onward x))
   onward-said x y = clause 𝓤 H A (lasts is-onward.ended tt (x, tt)) (y ≡ onward x)
 
-  outcome-said : (x : Stage) (r : Parsed) → ent 𝓤 (ensured 𝓤 H A outcome.ended (outcome.clauses 𝓤 H A at-mem run) tt (x, tt) tt r) (fact 𝓤 (r ≡ outcomeOf x))
+  outcome-said : (x : Stage) (r : ParsedTable) → ent 𝓤 (ensured 𝓤 H A outcome.ended (outcome.clauses 𝓤 H A at-mem run) tt (x, tt) tt r) (fact 𝓤 (r ≡ outcomeOf x))
   outcome-said x r = clause 𝓤 H A (lasts outcome.ended tt (x, tt)) (r ≡ outcomeOf x)
 
 module _ {M : Type 1} (𝓤 : URA M) (H : Heap 𝓤) (A : Atoms 𝓤) (W : Given 𝓤 H A) (at-mem : Memory → SProp 𝓤) (run : Routine → Fun 𝓤)
@@ -174,7 +174,7 @@ module _ {M : Type 1} (𝓤 : URA M) (H : Heap 𝓤) (A : Atoms 𝓤) (W : Given
       ‵ (Ours Entries (κs .1 .1 .0) (qs .1 .1 .0) names (t .names)) ∷ ‵ (flft (κs .0) (qs .0)) ∷ ‵ (flft (κs .1 .0) (qs .1 .0)) ∷
       ‵ (flft (κs .1 .1 .0) (qs .1 .1 .0)) ∷ []
 
-  exits : (t : State) (r : Parsed) (u : Val) → Agrees (FunctionsRead (now text) (now tape) (t .tape) (t .names)) (functionsOf (now text)) r
+  exits : (t : State) (r : ParsedTable) (u : Val) → AgreesBy tableOutcome (FunctionsRead (now text) (now tape) (t .tape) (t .names)) (functionsOf (now text)) r
       → ent 𝓤 (⋆ 𝓤 H A (‵ (P.the-row .own r (u ∷ [])) ∷ Kept t)) (Post u)
   exits t r u said =
       qed W (‵ (P.the-row .own r (u ∷ [])) ∷ Kept t) ∵

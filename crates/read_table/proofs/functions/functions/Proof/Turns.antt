@@ -11,11 +11,11 @@ use denote.Laws.{Is}
 use denote.Ref.{RefT, now}
 use Rattle.read_tokens.specs.declared.reader.Reader.{Reader}
 use Rattle.read_tokens.specs.Readers.{readerAt}
-use Rattle.read_bookkeeping.specs.declared.progress.Parsed.{Parsed}
-use Rattle.read_bookkeeping.specs.Answered.{Agrees}
+use Rattle.read_functions.specs.declared.functions.ParsedTable.{ParsedTable}
+use Rattle.read_bookkeeping.specs.Answered.{AgreesBy}
 use Rattle.read_functions.specs.declared.functions.Stage.{Stage}
 use Rattle.read_functions.specs.declared.functions.Stage.the-variants.{Onward, Over}
-use Rattle.read_functions.specs.Functions.{functionsOf, FunctionsRead, StageIs, Underway, firstStage, onward, outcomeOf, toCome}
+use Rattle.read_functions.specs.Functions.{functionsOf, FunctionsRead, tableOutcome, StageIs, Underway, firstStage, onward, outcomeOf, toCome}
 use Rattle.read_functions.proofs.Functioned.{functions-start}
 use Rattle.read_functions.proofs.functions.Stage as S
 use Rattle.read_table.specs.Through.{GoesOn}
@@ -41,7 +41,7 @@ pub begins : (text : RefT (List ℕ)) (start names : List ℕ) → (length (now 
 begins text start names req r made x how = rw (made, how) (functions-start (now text) start names (req .0) (req .1))
 
 over : (text start tape names : List ℕ) (at : ℕ) (x : Stage) → onward x ≡ false → StageIs text start tape names at x
-    → Agrees (FunctionsRead text start tape names) (functionsOf text) (outcomeOf x)
+    → AgreesBy tableOutcome (FunctionsRead text start tape names) (functionsOf text) (outcomeOf x)
 over text start tape names at (Onward n) said s = absurd (true≢false said)
 over text start tape names at (Over p) said s = s
 
@@ -97,6 +97,6 @@ module _ {text : RefT (List ℕ)} {start : List ℕ} where
       }
 
   -- the last state
-  pub finished : (t : Turn text start) (r : Parsed) → onward (t .stage) ≡ false → r ≡ outcomeOf (t .stage)
-      → Agrees (FunctionsRead (now text) start (t .tape) (t .names)) (functionsOf (now text)) r
+  pub finished : (t : Turn text start) (r : ParsedTable) → onward (t .stage) ≡ false → r ≡ outcomeOf (t .stage)
+      → AgreesBy tableOutcome (FunctionsRead (now text) start (t .tape) (t .names)) (functionsOf (now text)) r
   finished t r said last = rw last (over (now text) start (t .tape) (t .names) (t .reader .at) (t .stage) said (t .stands))

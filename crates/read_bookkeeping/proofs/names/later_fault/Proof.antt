@@ -1,9 +1,9 @@
--- `read_conditions::later_fault` meets its contract.
+-- `read_bookkeeping::names::later_fault` meets its contract.
 use borrow.Author.Needs.{needs}
-use Rattle.read_conditions.proofs.later_fault.Statement.{statement}
-use Rattle.read_conditions.proofs.later_fault.Tie as tie
+use Rattle.read_bookkeeping.proofs.names.later_fault.Statement.{statement}
+use Rattle.read_bookkeeping.proofs.names.later_fault.Tie as tie
 use mathlib.Core.Path.{refl, _∙_}
-use Rattle.read_conditions.proofs.Conditioned.{later-long, later-is}
+use Rattle.read_bookkeeping.proofs.Naming.{later-long, later-is}
 
 returns : tie.Need-returns
 returns c = later-long (c .before .before .before .before .pre) (c .if1 .taken)
