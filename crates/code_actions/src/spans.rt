@@ -1,4 +1,8 @@
 // Spans: from where p stands to an e-variable, the e-variable itself, and the rest of the field.
+use code_numbers::wide::LEFT;
+use code_numbers::wide::NULL;
+use code_numbers::wide::RIGHT;
+use code_numbers::wide::WHOLE;
 use code_patterns::pattern::Lengths;
 use tape_words::tape::Parts;
 ghost use mathlib.Core.Path.{_≡_};
@@ -35,16 +39,16 @@ pub fn gap_of(lengths: Lengths, first: bool, stand: Stand) -> Span
 {
     let parts = lengths.parts;
     match parts {
-        Parts::Zero => span_of(0, 0, 0),
-        Parts::One => span_of(0, lengths.first, 0),
+        Parts::Zero => span_of(NULL, 0, 0),
+        Parts::One => span_of(NULL, lengths.first, 0),
         Parts::Two => {
             if first {
-                return span_of(0, lengths.first, 0);
+                return span_of(NULL, lengths.first, 0);
             }
             match stand {
-                Stand::AtStart => span_of(2, lengths.second, 0),
-                Stand::AfterFirst => span_of(0, lengths.second, 0),
-                Stand::AfterSecond => span_of(0, 0, 0),
+                Stand::AtStart => span_of(LEFT, lengths.second, 0),
+                Stand::AfterFirst => span_of(NULL, lengths.second, 0),
+                Stand::AfterSecond => span_of(NULL, 0, 0),
             }
         }
     }
@@ -57,13 +61,13 @@ pub fn piece_span(lengths: Lengths, first: bool) -> Span
 {
     let parts = lengths.parts;
     match parts {
-        Parts::Zero => span_of(0, 0, 0),
-        Parts::One => span_of(1, 0, lengths.first + lengths.second),
+        Parts::Zero => span_of(NULL, 0, 0),
+        Parts::One => span_of(WHOLE, 0, lengths.first + lengths.second),
         Parts::Two => {
             if first {
-                return span_of(2, 0, lengths.first);
+                return span_of(LEFT, 0, lengths.first);
             }
-            span_of(3, 0, lengths.second + lengths.third)
+            span_of(RIGHT, 0, lengths.second + lengths.third)
         }
     }
 }
@@ -90,16 +94,16 @@ pub fn rest_of(lengths: Lengths, stand: Stand) -> Span
 {
     let parts = lengths.parts;
     match parts {
-        Parts::Zero => span_of(1, 0, 0),
+        Parts::Zero => span_of(WHOLE, 0, 0),
         Parts::One => match stand {
-            Stand::AtStart => span_of(1, 0, 0),
-            Stand::AfterFirst => span_of(0, lengths.second, 0),
-            Stand::AfterSecond => span_of(0, 0, 0),
+            Stand::AtStart => span_of(WHOLE, 0, 0),
+            Stand::AfterFirst => span_of(NULL, lengths.second, 0),
+            Stand::AfterSecond => span_of(NULL, 0, 0),
         },
         Parts::Two => match stand {
-            Stand::AtStart => span_of(1, 0, 0),
-            Stand::AfterFirst => span_of(3, 0, 0),
-            Stand::AfterSecond => span_of(0, lengths.third, 0),
+            Stand::AtStart => span_of(WHOLE, 0, 0),
+            Stand::AfterFirst => span_of(RIGHT, 0, 0),
+            Stand::AfterSecond => span_of(NULL, lengths.third, 0),
         },
     }
 }

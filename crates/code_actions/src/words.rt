@@ -4,6 +4,19 @@ use crate::spans::Stand;
 use crate::spans::gap_of;
 use crate::spans::piece_span;
 use crate::spans::rest_of;
+use code_numbers::wide::ACTIONS_END;
+use code_numbers::wide::CALL;
+use code_numbers::wide::COMPUTE;
+use code_numbers::wide::EMISSION;
+use code_numbers::wide::FIRST;
+use code_numbers::wide::GO;
+use code_numbers::wide::MINUS;
+use code_numbers::wide::NULL;
+use code_numbers::wide::OUT;
+use code_numbers::wide::PLUS;
+use code_numbers::wide::SELECT;
+use code_numbers::wide::TAIL_CALL;
+use code_numbers::wide::USE_SEQ;
 use code_patterns::pattern::Lengths;
 use code_words::put;
 use code_words::put_name;
@@ -18,6 +31,11 @@ ghost use Rattle.code_patterns.specs.Testing.{total};
 ghost use Rattle.code_actions.specs.Spanning.{SmallSpan};
 ghost use Rattle.code_actions.specs.ActionWords.{spanWords, partWords, restWord, readyWords, leftWords, computationWord};
 
+// The words of DmAdd and DmSub.
+const SUM: usize = COMPUTE + FIRST * PLUS;
+
+const DIFFERENCE: usize = COMPUTE + FIRST * MINUS;
+
 pub fn put_span(code: &mut [u32], at: usize, number: usize, span: Span) -> usize
     requires { ⌜ SmallSpan span × (number < 256) × (at < 2 ^ 62) ⌝ }
     ensures { λ r. ⌜ Wrote (now (code .entry)) at (spanWords number span ∷ []) (now (code .exit)) r ⌝ }
@@ -30,9 +48,9 @@ pub fn put_part(lengths: Lengths, first: bool, stand: Stand, code: &mut [u32], a
     requires { ⌜ (total lengths ≤ 64) × (at < 2 ^ 61) ⌝ }
     ensures { λ r. ⌜ Wrote (now (code .entry)) at (partWords lengths first stand) (now (code .exit)) r ⌝ }
 {
-    let gone = put_span(code, at, 5, gap_of(lengths, first, stand));
-    let selected = put_span(code, gone, 6, piece_span(lengths, first));
-    put_operands(code, selected, 7, 0, 0, 0)
+    let gone = put_span(code, at, GO, gap_of(lengths, first, stand));
+    let selected = put_span(code, gone, SELECT, piece_span(lengths, first));
+    put_operands(code, selected, OUT, 0, 0, 0)
 }
 
 // UseSeq, and Select of nothing more.
@@ -40,8 +58,8 @@ fn argument_ready(code: &mut [u32], at: usize) -> usize
     requires { ⌜ at < 2 ^ 61 + 8 ⌝ }
     ensures { λ r. ⌜ Wrote (now (code .entry)) at (readyWords []) (now (code .exit)) r ⌝ }
 {
-    let used = put_operands(code, at, 11, 0, 0, 0);
-    put_operands(code, used, 6, 0, 0, 0)
+    let used = put_operands(code, at, USE_SEQ, 0, 0, 0);
+    put_operands(code, used, SELECT, NULL, 0, 0)
 }
 
 pub fn write_emission(tape: &[u32], from: usize, size: usize, code: &mut [u32], at: usize) -> usize
@@ -49,14 +67,14 @@ pub fn write_emission(tape: &[u32], from: usize, size: usize, code: &mut [u32], 
     ensures { λ r. ⌜ Wrote (now (code .entry)) at (readyWords (codeWord 14 size 0 0 ∷ take size (drop from (now (tape .entry))))) (now (code .exit)) r ⌝ }
 {
     let ready = argument_ready(code, at);
-    let named = put_operands(code, ready, 14, size, 0, 0);
+    let named = put_operands(code, ready, EMISSION, size, 0, 0);
     put_name(tape, from, size, code, named)
 }
 
 fn computation_word(subtract: bool) -> usize
     ensures { λ r. ⌜ r ≡ computationWord subtract ⌝ }
 {
-    if subtract { 21 + 256 } else { 21 }
+    if subtract { DIFFERENCE } else { SUM }
 }
 
 // DmAdd, or DmSub where `subtract` is set.
@@ -78,10 +96,10 @@ pub fn write_tail_call(
     requires { ⌜ (total lengths ≤ 64) × (number ≤ 64) × (at < 2 ^ 61) ⌝ }
     ensures { λ r. ⌜ Wrote (now (code .entry)) at (restWord lengths stand ∷ readyWords ((13 + 256 * number) ∷ 15 ∷ [])) (now (code .exit)) r ⌝ }
 {
-    let gone = put_span(code, at, 5, rest_of(lengths, stand));
+    let gone = put_span(code, at, GO, rest_of(lengths, stand));
     let ready = argument_ready(code, gone);
-    let called = put(code, ready, 13 + 256 * number);
-    put(code, called, 15)
+    let called = put(code, ready, TAIL_CALL + FIRST * number);
+    put(code, called, ACTIONS_END)
 }
 
 pub fn write_call(number: usize, code: &mut [u32], at: usize) -> usize
@@ -89,7 +107,7 @@ pub fn write_call(number: usize, code: &mut [u32], at: usize) -> usize
     ensures { λ r. ⌜ Wrote (now (code .entry)) at (readyWords ((12 + 256 * number) ∷ [])) (now (code .exit)) r ⌝ }
 {
     let ready = argument_ready(code, at);
-    put(code, ready, 12 + 256 * number)
+    put(code, ready, CALL + FIRST * number)
 }
 
 // A tail call's last e-variable stays on in: Go to it, UseSeq below it, Select it, the call.
@@ -104,9 +122,9 @@ pub fn write_left(
     requires { ⌜ (total lengths ≤ 64) × (number ≤ 64) × (at < 2 ^ 61) ⌝ }
     ensures { λ r. ⌜ Wrote (now (code .entry)) at (leftWords lengths first stand number) (now (code .exit)) r ⌝ }
 {
-    let gone = put_span(code, at, 5, gap_of(lengths, first, stand));
-    let used = put_operands(code, gone, 11, 0, 0, 0);
-    let selected = put_span(code, used, 6, piece_span(lengths, first));
-    let called = put(code, selected, 13 + 256 * number);
-    put(code, called, 15)
+    let gone = put_span(code, at, GO, gap_of(lengths, first, stand));
+    let used = put_operands(code, gone, USE_SEQ, 0, 0, 0);
+    let selected = put_span(code, used, SELECT, piece_span(lengths, first));
+    let called = put(code, selected, TAIL_CALL + FIRST * number);
+    put(code, called, ACTIONS_END)
 }

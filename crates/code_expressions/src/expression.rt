@@ -12,10 +12,16 @@ use code_actions::words::write_computation;
 use code_actions::words::write_emission;
 use code_actions::words::write_left;
 use code_actions::words::write_tail_call;
+use code_numbers::wide::ACTIONS_END;
+use code_numbers::wide::BEGIN_SEQ;
+use code_numbers::wide::GO;
+use code_numbers::wide::OUT_C;
+use code_numbers::wide::OUT_V;
 use code_patterns::pattern::Lengths;
 use code_patterns::pattern::Pattern;
 use code_words::put;
 use code_words::put_operands;
+use tape_words::limits::MAX_NESTING;
 use tape_words::names::Calling;
 use tape_words::names::calling_of;
 use tape_words::names::name_is;
@@ -77,7 +83,7 @@ fn write_character(tape: &[u32], code: &mut [u32], walk: Walk) -> Walk
     ensures { λ r. ⌜ Wrote (now (code .entry)) (walk .at) (codeWord 8 (getD (now (tape .entry)) (walk .next) 0) 0 0 ∷ []) (now (code .exit)) (r .at) ⌝ }
     ensures { λ r. ⌜ r ≡ itemDone walk 0 (r .at) (walk .depth) (walk .stand) ⌝ }
 {
-    let at = put_operands(code, walk.at, 8, word_at(tape, walk.next), 0, 0);
+    let at = put_operands(code, walk.at, OUT_C, word_at(tape, walk.next), 0, 0);
     let stand = walk.stand;
     past_item(walk, 0, at, walk.depth, stand)
 }
@@ -90,7 +96,7 @@ fn write_value(tape: &[u32], names: &[usize], code: &mut [u32], walk: Walk) -> W
 {
     let size = size_of(tape, walk.next);
     let value = less(number_of(tape, names, walk.next, size), 1);
-    let at = put_operands(code, walk.at, 9, value, 0, 0);
+    let at = put_operands(code, walk.at, OUT_V, value, 0, 0);
     let stand = walk.stand;
     past_item(walk, size, at, walk.depth, stand)
 }
@@ -129,7 +135,7 @@ fn open_call(tape: &[u32], calls: &mut [usize], code: &mut [u32], walk: Walk) ->
 {
     let depth = walk.depth;
     calls[depth] = walk.next;
-    let at = put_operands(code, walk.at, 10, 0, 0, 0);
+    let at = put_operands(code, walk.at, BEGIN_SEQ, 0, 0, 0);
     let size = size_of(tape, walk.next);
     let stand = walk.stand;
     past_item(walk, size, at, depth + 1, stand)
@@ -229,8 +235,8 @@ fn end_actions(lengths: Lengths, code: &mut [u32], walk: Walk) -> Walk
     ensures { λ r. ⌜ r ≡ callDone walk (walk .next) (r .at) false ⌝ }
 {
     let stand = walk.stand;
-    let gone = put_span(code, walk.at, 5, rest_of(lengths, stand));
-    let at = put(code, gone, 15);
+    let gone = put_span(code, walk.at, GO, rest_of(lengths, stand));
+    let at = put(code, gone, ACTIONS_END);
     past_call(walk, walk.next, at, false)
 }
 
@@ -435,7 +441,7 @@ pub fn write_expression(
     requires { ⌜ (length (now heads) ≤ 64) × (length (now names) ≤ 64) × (total (m .lengths) ≤ 64) × (start ≤ length (now tape) + 1) × (at < 2 ^ 60) ⌝ }
     ensures { λ r. ⌜ ItemsAll (now (tape .entry)) (now (heads .entry)) (now (names .entry)) m start (now (code .entry)) at (now (code .exit)) r ⌝ }
 {
-    let mut calls = [0usize; 16];
+    let mut calls = [0usize; MAX_NESTING];
     let mut walk = Walk {
         next: start,
         at,

@@ -1,6 +1,9 @@
 // Where an e-variable's part begins, and where what follows it begins.
 use crate::pattern::Lengths;
 use crate::symbols::Site;
+use code_numbers::wide::FROM_END;
+use code_numbers::wide::FROM_PLACE;
+use code_numbers::wide::FROM_START;
 use tape_words::tape::Parts;
 ghost use mathlib.Core.Path.{_≡_};
 ghost use Rattle.code_patterns.specs.Testing.{siteNumbers};
@@ -18,13 +21,13 @@ pub fn part_start(lengths: Lengths, first: bool) -> Site
 {
     let parts = lengths.parts;
     match parts {
-        Parts::Zero => cell(0, 0),
-        Parts::One => cell(0, lengths.first),
+        Parts::Zero => cell(FROM_START, 0),
+        Parts::One => cell(FROM_START, lengths.first),
         Parts::Two => {
             if first {
-                return cell(0, lengths.first);
+                return cell(FROM_START, lengths.first);
             }
-            cell(2, lengths.second)
+            cell(FROM_PLACE, lengths.second)
         }
     }
 }
@@ -34,13 +37,13 @@ pub fn part_end(lengths: Lengths, first: bool) -> Site
 {
     let parts = lengths.parts;
     match parts {
-        Parts::Zero => cell(0, 0),
-        Parts::One => cell(1, lengths.second),
+        Parts::Zero => cell(FROM_START, 0),
+        Parts::One => cell(FROM_END, lengths.second),
         Parts::Two => {
             if first {
-                return cell(2, 0);
+                return cell(FROM_PLACE, 0);
             }
-            cell(1, lengths.third)
+            cell(FROM_END, lengths.third)
         }
     }
 }

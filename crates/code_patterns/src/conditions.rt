@@ -4,12 +4,28 @@ use crate::bounds::part_start;
 use crate::pattern::Pattern;
 use crate::symbols::Site;
 use crate::symbols::found_site;
+use code_numbers::wide::FIRST;
+use code_numbers::wide::OPERAND;
+use code_numbers::wide::PART_CLASS;
+use code_numbers::wide::PART_TRUTH;
+use code_numbers::wide::PREDICATE;
+use code_numbers::wide::PREDICATE_PART;
+use code_numbers::wide::REGISTERS;
+use code_numbers::wide::THIRD;
+use code_numbers::wide::TRUTH;
 use code_words::put;
+use tape_words::limits::MAX_CONDITIONS;
 use tape_words::names::find;
 use tape_words::names::name_is;
 use tape_words::tape::of_kind;
 use tape_words::tape::reach;
 use tape_words::tape::word_at;
+use tape_words::wide::CLASSES;
+use tape_words::wide::CONDITION_PART;
+use tape_words::wide::CONDITION_SIZE;
+use tape_words::wide::CONDITION_TRUTH;
+use tape_words::wide::CONDITION_WORD;
+use tape_words::wide::KIND;
 ghost use mathlib.Core.Path.{_≡_};
 ghost use mathlib.Core.Bool.{true};
 ghost use Prim.Native.Nat.{_+_, _*_, _/_, _%_, _≤_, _<_, _^_};
@@ -29,10 +45,10 @@ pub struct Conditions {
 fn is_condition(tape: &[u32], i: usize, count: usize) -> bool
     ensures { λ r. ⌜ r ≡ conditionAt count (drop i (now (tape .entry))) ⌝ }
 {
-    if 8 <= count {
+    if MAX_CONDITIONS <= count {
         return false;
     }
-    of_kind(word_at(tape, i), 768)
+    of_kind(word_at(tape, i), CONDITION_WORD)
 }
 
 // The test of the class and truth value that a condition's word carries, on the cell that was found.
@@ -40,9 +56,9 @@ fn symbol_word(site: usize, carried: usize) -> usize
     requires { ⌜ (site < 16896) × (carried < 256) ⌝ }
     ensures { λ r. ⌜ (r ≡ 3 + 256 * site + 1024 * (carried / 5 % 2) + 16777216 * (carried % 5)) × (r < 2 ^ 32) ⌝ }
 {
-    let truth = carried / 5 % 2;
-    let class = carried % 5;
-    3 + 256 * site + 1024 * truth + 16777216 * class
+    let truth = carried / CONDITION_TRUTH % 2;
+    let class = carried % CLASSES;
+    PREDICATE + FIRST * site + TRUTH * truth + THIRD * class
 }
 
 // The same on the part between two cells.
@@ -52,10 +68,10 @@ fn part_word(from: Site, to: Site, carried: usize) -> usize
     ensures { λ r. ⌜ (r ≡ codeWord 20 (from .register + 4 * to .register + 16 * (carried / 5 % 2) + 32 * (carried % 5))
         (from .offset) (to .offset)) × (r < 2 ^ 32) ⌝ }
 {
-    let truth = carried / 5 % 2;
-    let class = carried % 5;
-    let operand = from.register + 4 * to.register + 16 * truth + 32 * class;
-    20 + 256 * (operand + 256 * (from.offset + 256 * to.offset))
+    let truth = carried / CONDITION_TRUTH % 2;
+    let class = carried % CLASSES;
+    let operand = from.register + REGISTERS * to.register + PART_TRUTH * truth + PART_CLASS * class;
+    PREDICATE_PART + OPERAND * (operand + OPERAND * (from.offset + OPERAND * to.offset))
 }
 
 // The test of a condition on the variable whose name is `size` words at `from`.
@@ -75,7 +91,7 @@ fn condition_word(
         (now (sites .entry)) symbols) (conditionOf carried (take size (drop from (now (tape .entry)))))))
         × (r < 2 ^ 32) ⌝ }
 {
-    if carried / 10 % 2 == 1 {
+    if carried / CONDITION_PART % 2 == 1 {
         let lengths = m.lengths;
         let first = name_is(tape, m.variable, from, size);
         let start = part_start(lengths, first);
@@ -100,9 +116,9 @@ fn write_condition(
     ensures { λ r. ⌜ ConditionsOn (now (tape .entry)) (located (now (tape .entry)) m (now (names .entry))
         (now (sites .entry)) symbols) (now (code .entry)) c (now (code .exit)) r ⌝ }
 {
-    let carried = word_at(tape, c.next) % 256;
+    let carried = word_at(tape, c.next) % KIND;
     let from = c.next + 1;
-    let size = reach(tape, from, carried / 20);
+    let size = reach(tape, from, carried / CONDITION_SIZE);
     let word = condition_word(tape, m, names, sites, symbols, from, size, carried);
     let at = put(code, c.at, word);
     Conditions {

@@ -1,5 +1,8 @@
 // The cell that a letter of a pattern is tested at.
 use crate::pattern::Lengths;
+use code_numbers::wide::FROM_END;
+use code_numbers::wide::FROM_PLACE;
+use code_numbers::wide::FROM_START;
 use tape_words::tape::Parts;
 use tape_words::tape::less;
 ghost use mathlib.Core.Path.{_≡_};
@@ -29,7 +32,7 @@ fn from_end(lengths: Lengths, offset: usize) -> Site
     ensures { λ r. ⌜ r ≡ siteNumbers (fromEnd (lastOf (lengths .parts) lengths - offset)) ⌝ }
 {
     Site {
-        register: 1,
+        register: FROM_END,
         offset: less(last(lengths), offset),
     }
 }
@@ -41,14 +44,14 @@ pub fn site_of(lengths: Lengths, template: Parts, offset: usize) -> Site
     let parts = lengths.parts;
     match template {
         Parts::Zero => Site {
-            register: 0,
+            register: FROM_START,
             offset,
         },
         Parts::One => match parts {
             Parts::Zero => from_end(lengths, offset),
             Parts::One => from_end(lengths, offset),
             Parts::Two => Site {
-                register: 2,
+                register: FROM_PLACE,
                 offset,
             },
         },

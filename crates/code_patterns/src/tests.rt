@@ -4,6 +4,13 @@ use crate::pattern::one_more;
 use crate::symbols::Site;
 use crate::symbols::found_site;
 use crate::symbols::site_of;
+use code_numbers::wide::COMPARE;
+use code_numbers::wide::FIRST;
+use code_numbers::wide::LOOK;
+use code_numbers::wide::OPERAND;
+use code_numbers::wide::SECOND_REGISTER;
+use code_numbers::wide::STORE;
+use code_numbers::wide::THIRD;
 use code_words::put;
 use code_words::put_operands;
 use tape_words::names::find;
@@ -63,7 +70,7 @@ fn test_character(tape: &[u32], lengths: Lengths, code: &mut [u32], t: Tests) ->
     let at = put_operands(
         code,
         t.at,
-        1,
+        LOOK,
         site.register,
         site.offset,
         word_at(tape, t.next),
@@ -81,7 +88,7 @@ fn new_symbol(names: &mut [usize], sites: &mut [usize], site: Site, t: Tests, si
 {
     let symbols = t.symbols;
     names[symbols] = t.next;
-    sites[symbols] = site.register + 256 * site.offset;
+    sites[symbols] = site.register + OPERAND * site.offset;
     past_letter(t, symbols + 1, size, t.at)
 }
 
@@ -104,7 +111,7 @@ fn equal_symbol(
     let at = put(
         code,
         t.at,
-        2 + 256 * first + 1024 * site.register + 16777216 * site.offset,
+        COMPARE + FIRST * first + SECOND_REGISTER * site.register + THIRD * site.offset,
     );
     past_letter(t, t.symbols, size, at)
 }
@@ -225,7 +232,7 @@ pub fn write_stores(sites: &[usize], symbols: usize, code: &mut [u32], at: usize
     let mut place = at;
     let mut k = 0;
     while k < symbols {
-        place = put(code, place, 4 + 256 * sites[k]);
+        place = put(code, place, STORE + FIRST * sites[k]);
         k += 1;
     }
     place

@@ -1,5 +1,11 @@
 // A sentence's words, and a function's.
 use code_expressions::expression::write_expression;
+use code_numbers::wide::ENDS;
+use code_numbers::wide::EXACTLY;
+use code_numbers::wide::FIRST;
+use code_numbers::wide::MIDDLE;
+use code_numbers::wide::OPERAND;
+use code_numbers::wide::SENTENCES_END;
 use code_patterns::conditions::write_conditions;
 use code_patterns::pattern::Lengths;
 use code_patterns::pattern::Pattern;
@@ -8,10 +14,12 @@ use code_patterns::tests::write_stores;
 use code_patterns::tests::write_tests;
 use code_words::put;
 use code_words::put_operands;
+use tape_words::limits::MAX_SENTENCES;
 use tape_words::tape::Parts;
 use tape_words::tape::of_kind;
 use tape_words::tape::room;
 use tape_words::tape::word_at;
+use tape_words::wide::NEXT_WORD;
 ghost use mathlib.Core.Path.{_≡_};
 ghost use mathlib.Core.List.{[], _∷_};
 ghost use Prim.Native.Nat.{_+_, _≤_, _<_, _^_};
@@ -43,9 +51,9 @@ fn metric_number(parts: Parts) -> usize
     ensures { λ r. ⌜ r ≡ metricNumber parts ⌝ }
 {
     match parts {
-        Parts::Zero => 16,
-        Parts::One => 17,
-        Parts::Two => 18,
+        Parts::Zero => EXACTLY,
+        Parts::One => ENDS,
+        Parts::Two => MIDDLE,
     }
 }
 
@@ -138,19 +146,19 @@ fn write_sentence(tape: &[u32], heads: &[usize], start: usize, code: &mut [u32],
     put(
         code,
         counts,
-        body.tests + 256 * (body.symbols + 256 * (body.at - from)),
+        body.tests + OPERAND * (body.symbols + OPERAND * (body.at - from)),
     );
     body
 }
 
-// Another sentence follows, if there were not 512.
+// Another sentence follows, if there were not as many as a table may have.
 fn follows(tape: &[u32], i: usize, count: usize) -> bool
     ensures { λ r. ⌜ r ≡ followsAt (leb 512 count) (drop i (now (tape .entry))) ⌝ }
 {
-    if 512 <= count {
+    if MAX_SENTENCES <= count {
         return false;
     }
-    of_kind(word_at(tape, i), 1536)
+    of_kind(word_at(tape, i), NEXT_WORD)
 }
 
 fn next_sentence(tape: &[u32], heads: &[usize], code: &mut [u32], s: Sentences) -> Sentences
@@ -197,5 +205,5 @@ pub fn write_function(
     while s.more {
         s = next_sentence(tape, heads, code, s);
     }
-    put(code, s.at, 19 + 256 * recoverer)
+    put(code, s.at, SENTENCES_END + FIRST * recoverer)
 }

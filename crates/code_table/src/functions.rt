@@ -1,12 +1,14 @@
 // The functions of a tape, and the table of their places before them.
 use code_sentences::write_function;
 use code_words::put;
+use tape_words::limits::MAX_FUNCTIONS;
 use tape_words::names::find_recoverer;
 use tape_words::tape::lesser;
 use tape_words::tape::name_size;
 use tape_words::tape::of_kind;
 use tape_words::tape::room;
 use tape_words::tape::word_at;
+use tape_words::wide::FUNCTION_WORD;
 ghost use mathlib.Core.Path.{_≡_};
 ghost use Prim.Native.Nat.{_+_, _≤_, _<_, _^_};
 ghost use lib.ListN.{length, take};
@@ -18,15 +20,15 @@ ghost use Rattle.code_table.specs.Declaring.{HeadsInside, HeadsOn, Heads
 fn is_function(word: usize) -> bool
     ensures { λ r. ⌜ r ≡ isFunctionWord word ⌝ }
 {
-    of_kind(word, 2048)
+    of_kind(word, FUNCTION_WORD)
 }
 
-// The tape's word `i` is noted if it is a function's and there were not 64.
+// The tape's word `i` is noted if it is a function's and there were not as many as a table may have.
 fn note_head(tape: &[u32], i: usize, heads: &mut [usize], count: usize) -> usize
     requires { ⌜ (i < length (now tape)) × (length (now heads) ≡ 64) × (count ≤ 64) × HeadsInside (now tape) (now heads) count ⌝ }
     ensures { λ r. ⌜ HeadsOn (now (tape .entry)) i (now (heads .entry)) count (now (heads .exit)) r ⌝ }
 {
-    if 64 <= count {
+    if MAX_FUNCTIONS <= count {
         return count;
     }
     if is_function(word_at(tape, i)) {

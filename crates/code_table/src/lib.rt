@@ -3,6 +3,7 @@ pub mod functions;
 
 use code_words::clear_from;
 use functions::write_table;
+use tape_words::limits::MAX_TABLE;
 use tape_words::tape::lesser;
 ghost use lib.ListN.{length, take};
 ghost use Rattle.code_table.specs.Leaves.{codeOf, Leaves};
@@ -14,11 +15,11 @@ pub struct Translated {
 }
 
 // The code of so many words of a tape. Words after it are zero, and where it doesn't fit all are.
-pub fn translate(tape: &[u32; 32768], words: usize, code: &mut [u32]) -> Translated
+pub fn translate(tape: &[u32; MAX_TABLE], words: usize, code: &mut [u32]) -> Translated
     ensures { λ r. ⌜ Leaves (codeOf (take words (now (tape .entry)))) (length (now (code .entry))) r (now (code .exit)) ⌝ }
 {
     clear_from(code, 0); // words after the code are zero
-    let count = lesser(words, 32768);
+    let count = lesser(words, MAX_TABLE);
     let written = write_table(tape, count, code);
     if code.len() < written {
         clear_from(code, 0);

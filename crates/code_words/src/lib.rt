@@ -1,4 +1,5 @@
 // Writing code words: past the end of the lent slice nothing is written, and the place counts on.
+use code_numbers::wide::OPERAND;
 use tape_words::tape::word_at;
 ghost use mathlib.Core.Path.{_≡_};
 ghost use mathlib.Core.List.{[], _∷_};
@@ -40,7 +41,11 @@ pub fn put_operands(
     requires { ⌜ (codeWord number a b c < 2 ^ 32) × (at < 2 ^ 62) ⌝ }
     ensures { λ r. ⌜ Wrote (now (code .entry)) at (codeWord number a b c ∷ []) (now (code .exit)) r ⌝ }
 {
-    put(code, at, number + 256 * (a + 256 * (b + 256 * c)))
+    put(
+        code,
+        at,
+        number + OPERAND * (a + OPERAND * (b + OPERAND * c)),
+    )
 }
 
 // A name's words as they stand on the tape.

@@ -5,6 +5,14 @@ use list_strings::State;
 use list_strings::Stepped;
 use list_strings::is_quoted;
 use list_strings::put_gap;
+use tape_words::wide::ALPHABETIC;
+use tape_words::wide::CLASSES;
+use tape_words::wide::CONDITION_PART;
+use tape_words::wide::CONDITION_SIZE;
+use tape_words::wide::CONDITION_TRUTH;
+use tape_words::wide::DIGIT;
+use tape_words::wide::LOWER;
+use tape_words::wide::UPPER;
 ghost use mathlib.Core.Path.{_≡_};
 ghost use Prim.Native.Nat.{_+_, _<_};
 ghost use lib.ListN.{length};
@@ -63,16 +71,16 @@ fn put_class(class: usize, out: &mut [u8], at: usize) -> usize
     requires { ⌜ at + 8 < farthest ⌝ }
     ensures { λ r. ⌜ Put at (now (out .entry)) (classText class) r (now (out .exit)) ⌝ }
 {
-    if class == 0 {
+    if class == DIGIT {
         return put_all(out, at, b"IsDigit");
     }
-    if class == 1 {
+    if class == UPPER {
         return put_all(out, at, b"IsUpper");
     }
-    if class == 2 {
+    if class == LOWER {
         return put_all(out, at, b"IsLower");
     }
-    if class == 3 {
+    if class == ALPHABETIC {
         return put_all(out, at, b"IsLetter");
     }
     put_all(out, at, b"IsBlank")
@@ -102,11 +110,11 @@ pub fn list_condition(state: State, carried: usize, out: &mut [u8], at: usize) -
 {
     let ended = put_ending(state, out, at);
     let opened = put_all(out, ended, b", <");
-    let named = put_class(carried % 5, out, opened);
-    let next = put_letter(carried / 10 % 2, out, named);
-    let truth = truth_byte(carried / 5 % 2);
+    let named = put_class(carried % CLASSES, out, opened);
+    let next = put_letter(carried / CONDITION_PART % 2, out, named);
+    let truth = truth_byte(carried / CONDITION_TRUTH % 2);
     Stepped {
-        state: State::Condition(carried / 20, truth),
+        state: State::Condition(carried / CONDITION_SIZE, truth),
         at: next,
     }
 }

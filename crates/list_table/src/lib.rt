@@ -1,6 +1,7 @@
 // From the tape to the listing text. The listing is written word by word of the tape; its length is found first, by writing into no cells.
 mod words;
 
+use tape_words::limits::MAX_TABLE;
 use words::list_length;
 use words::list_words;
 ghost use mathlib.Core.Path.{_≡_};
@@ -16,18 +17,18 @@ pub struct Listed {
     pub length: usize,
 }
 
-// A tape has at most 32,768 words.
+// A tape has at most as many words as a table text has bytes.
 fn counted(words: usize) -> usize
     ensures { λ r. ⌜ r ≡ min words mostWords ⌝ }
 {
-    if words < 32768 {
+    if words < MAX_TABLE {
         return words;
     }
-    32768
+    MAX_TABLE
 }
 
 // The listing of so many words of a tape. No byte is written before it is known that all have a cell.
-pub fn list(tape: &[u32; 32768], words: usize, out: &mut [u8]) -> Listed
+pub fn list(tape: &[u32; MAX_TABLE], words: usize, out: &mut [u8]) -> Listed
     ensures { λ r. ⌜ Leaves (listFrom Start (take words (now (tape .entry)))) (now (out .entry)) r (now (out .exit)) ⌝ }
 {
     let count = counted(words);

@@ -7,6 +7,15 @@ use list_items::list_parted;
 use list_strings::State;
 use list_strings::Stepped;
 use list_strings::list_character;
+use tape_words::kinds::CLOSE_KIND;
+use tape_words::kinds::CONDITION_KIND;
+use tape_words::kinds::END_KIND;
+use tape_words::kinds::EQUALS_KIND;
+use tape_words::kinds::FUNCTION_KIND;
+use tape_words::kinds::KIND;
+use tape_words::kinds::NEXT_KIND;
+use tape_words::kinds::PART_KIND;
+use tape_words::kinds::SYMBOL_KIND;
 ghost use mathlib.Core.Path.{_≡_};
 ghost use Prim.Native.Nat.{pred, _+_, _<_};
 ghost use lib.ListN.{length, take};
@@ -21,14 +30,14 @@ pub fn list_kind(state: State, kind: u32, carried: usize, out: &mut [u8], at: us
     ensures { λ r. ⌜ Wrote at (now (out .entry)) (kindStep state kind carried) r (now (out .exit)) ⌝ }
 {
     match kind {
-        1 => list_parted(state, b's', State::Name(carried), out, at),
-        2 => list_parted(state, b'e', State::Name(carried), out, at),
-        3 => list_condition(state, carried, out, at),
-        4 => list_parted(state, b'=', State::Plain, out, at),
-        5 => list_ended(state, b">", State::Plain, out, at),
-        6 => list_ended(state, b";\n", State::Start, out, at),
-        7 => list_ended(state, b";\n}\n", State::Start, out, at),
-        8 => Stepped {
+        SYMBOL_KIND => list_parted(state, b's', State::Name(carried), out, at),
+        PART_KIND => list_parted(state, b'e', State::Name(carried), out, at),
+        CONDITION_KIND => list_condition(state, carried, out, at),
+        EQUALS_KIND => list_parted(state, b'=', State::Plain, out, at),
+        CLOSE_KIND => list_ended(state, b">", State::Plain, out, at),
+        NEXT_KIND => list_ended(state, b";\n", State::Start, out, at),
+        END_KIND => list_ended(state, b";\n}\n", State::Start, out, at),
+        FUNCTION_KIND => Stepped {
             state: State::Header(carried),
             at,
         },
@@ -41,12 +50,12 @@ pub fn list_item(state: State, word: u32, out: &mut [u8], at: usize) -> Stepped
     requires { ⌜ at + 20 < farthest ⌝ }
     ensures { λ r. ⌜ Wrote at (now (out .entry)) (itemStep state word) r (now (out .exit)) ⌝ }
 {
-    if word < 256 {
+    if word < KIND {
         let character = word as u8;
         return list_character(state, character, out, at);
     }
-    let carried = (word % 256) as usize;
-    list_kind(state, word / 256, carried, out, at)
+    let carried = (word % KIND) as usize;
+    list_kind(state, word / KIND, carried, out, at)
 }
 
 // A byte of a name, and after the last one what follows the name.
@@ -90,7 +99,7 @@ pub fn list_word(state: State, word: u32, out: &mut [u8], at: usize) -> Stepped
     requires { ⌜ at + 20 < farthest ⌝ }
     ensures { λ r. ⌜ Wrote at (now (out .entry)) (wordStep state word) r (now (out .exit)) ⌝ }
 {
-    let byte = (word % 256) as u8;
+    let byte = (word % KIND) as u8;
     match state {
         State::Name(n) => {
             let left = one_less(n);

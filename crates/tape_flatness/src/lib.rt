@@ -4,6 +4,11 @@ use tape_words::tape::less;
 use tape_words::tape::lesser;
 use tape_words::tape::name_size;
 use tape_words::tape::word_at;
+use tape_words::wide::CALL_KIND;
+use tape_words::wide::CALL_WORD;
+use tape_words::wide::CLOSE_WORD;
+use tape_words::wide::CONDITION_WORD;
+use tape_words::wide::KIND;
 ghost use mathlib.Core.Path.{_≡_};
 ghost use mathlib.Core.Bool.{true};
 ghost use Prim.Native.Nat.{_+_, _≤_, _<_};
@@ -11,19 +16,6 @@ ghost use lib.ListN.{length, drop, getD};
 ghost use Rattle.tape_words.specs.Words.{carried};
 ghost use Rattle.tape_flatness.specs.Scanned.{earlier, placeOf, opensCall, itemFollows, declaredCall};
 ghost use Rattle.tape_flatness.specs.Scanned.{outOfCalls, scannedCalls, ArgumentPassed, nestedCall};
-
-// A word is so many times its kind, and what it carries.
-const KIND: usize = 256;
-
-// A call's kind is this and the place of its name.
-const CALL_KIND: usize = 9;
-
-// Words of the tape: the first that opens a call, the one that closes it, and the first after those of variables.
-const CALL_WORD: usize = 2304;
-
-const CLOSE_WORD: usize = 1280;
-
-const CONDITION_WORD: usize = 768;
 
 // The place of a called name, if there is one.
 pub enum Place {

@@ -1,4 +1,14 @@
 // A word of the tape: reading it, how long the name after it is, and what it is in a pattern and in an expression.
+use crate::limits::MAX_ITEMS;
+use crate::limits::MAX_LETTERS;
+use crate::limits::MAX_NESTING;
+use crate::wide::CALL_WORD;
+use crate::wide::CLOSE_WORD;
+use crate::wide::CONDITION_WORD;
+use crate::wide::KIND;
+use crate::wide::NEXT_WORD;
+use crate::wide::PART_WORD;
+use crate::wide::SYMBOL_WORD;
 ghost use mathlib.Core.Path.{_≡_};
 ghost use mathlib.Core.Bool.{false};
 ghost use mathlib.Core.List.{_∷_};
@@ -35,11 +45,11 @@ pub enum Item {
     Stop,
 }
 
-// Room for 64 numbers: as many as a pattern may have letters, and a table functions.
-pub fn room() -> [usize; 64]
+// Room for as many numbers as a pattern may have letters, and a table functions.
+pub fn room() -> [usize; MAX_LETTERS]
     ensures { λ r. ⌜ r ≡ replicate 64 0 ⌝ }
 {
-    [0usize; 64]
+    [0usize; MAX_LETTERS]
 }
 
 pub fn lesser(a: usize, b: usize) -> usize
@@ -82,7 +92,7 @@ fn word_on(tape: &[u32], i: usize) -> usize
     word_at(tape, i)
 }
 
-// It is one of the 256 words of a kind, whose first is `low`.
+// It is one of the words of a kind, whose first is `low`.
 pub fn of_kind(word: usize, low: usize) -> bool
     requires { ⌜ low < 2 ^ 32 ⌝ }
     ensures { λ r. ⌜ r ≡ pick (ltb word low) false (ltb word (low + 256)) ⌝ }
@@ -90,7 +100,7 @@ pub fn of_kind(word: usize, low: usize) -> bool
     if word < low {
         return false;
     }
-    word < low + 256
+    word < low + KIND
 }
 
 // How many of so many words from a place on the tape has.
@@ -105,7 +115,7 @@ pub fn name_size(tape: &[u32], head: usize) -> usize
     ensures { λ r. ⌜ r ≡ length (headName (now (tape .entry)) head) ⌝ }
 {
     if head < tape.len() {
-        reach(tape, head + 1, word_on(tape, head) % 256)
+        reach(tape, head + 1, word_on(tape, head) % KIND)
     } else {
         0
     }
@@ -124,16 +134,16 @@ fn part_piece(parts: Parts) -> Piece
 fn piece_of(word: usize, letters: usize, parts: Parts) -> Piece
     ensures { λ r. ⌜ r ≡ pieceOf word letters parts ⌝ }
 {
-    if 768 <= word {
+    if CONDITION_WORD <= word {
         return Piece::PatternEnd;
     }
-    if 512 <= word {
+    if PART_WORD <= word {
         return part_piece(parts);
     }
-    if 64 <= letters {
+    if MAX_LETTERS <= letters {
         return Piece::PatternEnd;
     }
-    if 256 <= word {
+    if SYMBOL_WORD <= word {
         return Piece::SVariable;
     }
     Piece::Character
@@ -156,10 +166,10 @@ fn ending_of(word: usize, depth: usize) -> Item
     if depth == 0 {
         return Item::Stop;
     }
-    if word < 1280 {
+    if word < CLOSE_WORD {
         return Item::Unclosed;
     }
-    if word < 1536 {
+    if word < NEXT_WORD {
         return Item::Close;
     }
     Item::Unclosed
@@ -168,25 +178,29 @@ fn ending_of(word: usize, depth: usize) -> Item
 fn opening_of(depth: usize) -> Item
     ensures { λ r. ⌜ r ≡ openingOf depth ⌝ }
 {
-    if depth < 16 { Item::Call } else { Item::Pass }
+    if depth < MAX_NESTING {
+        Item::Call
+    } else {
+        Item::Pass
+    }
 }
 
 fn item_of(word: usize, depth: usize, items: usize) -> Item
     ensures { λ r. ⌜ r ≡ itemOfWord word depth items ⌝ }
 {
-    if 128 <= items {
+    if MAX_ITEMS <= items {
         return ending_of(word, depth);
     }
-    if word < 256 {
+    if word < SYMBOL_WORD {
         return Item::Byte;
     }
-    if word < 512 {
+    if word < PART_WORD {
         return Item::Symbol;
     }
-    if word < 768 {
+    if word < CONDITION_WORD {
         return Item::Part;
     }
-    if word < 2304 {
+    if word < CALL_WORD {
         return ending_of(word, depth);
     }
     opening_of(depth)

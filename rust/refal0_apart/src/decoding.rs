@@ -2,7 +2,7 @@
 
 use crate::angles::Operation;
 use crate::class::Class;
-use crate::packing::{BASES, REGISTERS, number};
+use crate::packing::{BASES, REGISTERS, number, operand};
 use crate::reader::SYMBOL_LIMIT;
 use crate::translation::{Action, Cell, Length, Metric, Register, Test};
 
@@ -58,10 +58,10 @@ impl<'c> Words<'c> {
         let (number, operands) = self.word(at)?;
         let [first, second, third] = operands;
         let metric = match number {
-            number::NO_PART => Metric { head: first, middle: 0, tail: 0, parts: 0 },
-            number::ONE_PART => Metric { head: first, middle: 0, tail: second, parts: 1 },
-            number::TWO_PARTS => Metric { head: first, middle: second, tail: third, parts: 2 },
-            number::END_OF_FUNCTION => return Some(Trial::EndOfFunction(joined(operands))),
+            number::EXACTLY => Metric { head: first, middle: 0, tail: 0, parts: 0 },
+            number::ENDS => Metric { head: first, middle: 0, tail: second, parts: 1 },
+            number::MIDDLE => Metric { head: first, middle: second, tail: third, parts: 2 },
+            number::SENTENCES_END => return Some(Trial::EndOfFunction(joined(operands))),
             _ => return None,
         };
         let counts = *self.0.get(at + 1)? as usize;
@@ -79,11 +79,18 @@ impl<'c> Words<'c> {
         let (number, [first, second, third]) = self.word(at)?;
         Some(match number {
             number::LOOK => Test::Look(cell(first, second)?, third as u8),
-            number::COMPARE => Test::Compare(cell(first % 4, second)?, cell(first / 4, third)?),
-            number::PREDICATE => Test::Predicate(cell(first % 4, second)?, *Class::ALL.get(third)?, first / 4 == 1),
+            number::COMPARE => {
+                Test::Compare(cell(first % operand::REGISTERS, second)?, cell(first / operand::REGISTERS, third)?)
+            }
+            number::PREDICATE => {
+                let cell = cell(first % operand::REGISTERS, second)?;
+                Test::Predicate(cell, *Class::ALL.get(third)?, first / operand::REGISTERS == 1)
+            }
             number::PREDICATE_PART => {
-                let (from, to) = (cell(first % 4, second)?, cell(first / 4 % 4, third)?);
-                Test::PredicatePart(from, to, *Class::ALL.get(first / 32)?, first / 16 % 2 == 1)
+                let from = cell(first % operand::REGISTERS, second)?;
+                let to = cell(first / operand::REGISTERS % operand::REGISTERS, third)?;
+                let class = *Class::ALL.get(first / operand::PART_CLASS)?;
+                Test::PredicatePart(from, to, class, first / operand::PART_TRUTH % 2 == 1)
             }
             _ => return None,
         })
@@ -112,7 +119,7 @@ impl<'c> Words<'c> {
             number::TAIL_CALL => Action::TailCall(function()?),
             number::EMISSION => Action::Emit(self.name(at + 1, first)?),
             number::COMPUTE => Action::Compute(*Operation::ALL.get(first)?),
-            number::END_OF_ACTIONS => return Some(None),
+            number::ACTIONS_END => return Some(None),
             _ => return None,
         }))
     }

@@ -21,15 +21,23 @@ pub mod number {
     pub const CALL: u8 = 12;
     pub const TAIL_CALL: u8 = 13;
     pub const EMISSION: u8 = 14;
-    pub const END_OF_ACTIONS: u8 = 15;
-    pub const NO_PART: u8 = 16;
-    pub const ONE_PART: u8 = 17;
-    pub const TWO_PARTS: u8 = 18;
-    pub const END_OF_FUNCTION: u8 = 19;
+    pub const ACTIONS_END: u8 = 15;
+    pub const EXACTLY: u8 = 16;
+    pub const ENDS: u8 = 17;
+    pub const MIDDLE: u8 = 18;
+    pub const SENTENCES_END: u8 = 19;
     pub const PREDICATE_PART: u8 = 20;
     pub const COMPUTE: u8 = 21;
     /// The highest number that a word may have.
     pub const LAST: u8 = COMPUTE;
+}
+
+/// What the parts of an operand that holds several count: a second register, or the truth value after one; and in a
+/// Predicate over a part, after two registers, the truth value and the class.
+pub mod operand {
+    pub const REGISTERS: usize = 4;
+    pub const PART_TRUTH: usize = REGISTERS * REGISTERS;
+    pub const PART_CLASS: usize = 2 * PART_TRUTH;
 }
 
 pub const REGISTERS: [Register; 3] = [Register::P, Register::Q, Register::I];
@@ -54,7 +62,7 @@ pub fn pack(program: &Program) -> Vec<u32> {
 
 fn function_words(function: &FunctionCode) -> Vec<u32> {
     let mut words: Vec<u32> = function.sentences.iter().flat_map(sentence_words).collect();
-    words.push(word(number::END_OF_FUNCTION, function.recoverer, 0, 0));
+    words.push(word(number::SENTENCES_END, function.recoverer, 0, 0));
     words
 }
 
@@ -67,7 +75,7 @@ fn sentence_words(code: &Code) -> Vec<u32> {
             rest.extend(name.iter().map(|&byte| u32::from(byte)));
         }
     }
-    rest.push(bare(number::END_OF_ACTIONS));
+    rest.push(bare(number::ACTIONS_END));
     let counts = code.tests.len() + (code.store.len() << 8) + (rest.len() << 16);
     [vec![metric_word(&code.metric), counts as u32], rest].concat()
 }
@@ -82,9 +90,9 @@ fn bare(number: u8) -> u32 {
 
 fn metric_word(metric: &Metric) -> u32 {
     match metric.parts {
-        0 => word(number::NO_PART, metric.head, 0, 0),
-        1 => word(number::ONE_PART, metric.head, metric.tail, 0),
-        _ => word(number::TWO_PARTS, metric.head, metric.middle, metric.tail),
+        0 => word(number::EXACTLY, metric.head, 0, 0),
+        1 => word(number::ENDS, metric.head, metric.tail, 0),
+        _ => word(number::MIDDLE, metric.head, metric.middle, metric.tail),
     }
 }
 
@@ -92,14 +100,16 @@ fn test_word(test: &Test) -> u32 {
     match test {
         Test::Look(cell, byte) => word(number::LOOK, register(cell), cell.offset, usize::from(*byte)),
         Test::Compare(one, other) => {
-            word(number::COMPARE, register(one) + 4 * register(other), one.offset, other.offset)
+            word(number::COMPARE, register(one) + operand::REGISTERS * register(other), one.offset, other.offset)
         }
         Test::Predicate(cell, class, expected) => {
-            word(number::PREDICATE, register(cell) + 4 * usize::from(*expected), cell.offset, class_number(*class))
+            let first = register(cell) + operand::REGISTERS * usize::from(*expected);
+            word(number::PREDICATE, first, cell.offset, class_number(*class))
         }
         Test::PredicatePart(from, to, class, expected) => {
-            let asked = 16 * usize::from(*expected) + 32 * class_number(*class);
-            word(number::PREDICATE_PART, register(from) + 4 * register(to) + asked, from.offset, to.offset)
+            let registers = register(from) + operand::REGISTERS * register(to);
+            let asked = operand::PART_TRUTH * usize::from(*expected) + operand::PART_CLASS * class_number(*class);
+            word(number::PREDICATE_PART, registers + asked, from.offset, to.offset)
         }
     }
 }

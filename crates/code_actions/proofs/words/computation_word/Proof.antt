@@ -10,4 +10,4 @@ returns-2 : tie.Need-returns-2
 returns-2 c = rw (c .if1 .left)
 
 pub computation-word-spec : {M : Type 1} → statement M
-computation-word-spec = tie.close (tie.spec (λ c. omega arith) returns returns-2)
+computation-word-spec = tie.close (tie.spec returns returns-2)
