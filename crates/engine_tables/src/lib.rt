@@ -1,6 +1,7 @@
 // What is asked of a table text: whether it is accepted and whether it is flat, its listing, its code.
 use tape_flatness::Place;
 use tape_flatness::nested_call;
+use tape_words::limits::MAX_TABLE;
 ghost use mathlib.Core.Path.{_≡_};
 ghost use lib.ListN.{length};
 ghost use Rattle.meaning.specs.Reading.{read};
@@ -19,12 +20,12 @@ pub struct Told {
 const SHORT_TABLE: usize = 2048;
 
 // The tapes, in functions of their own, so that no caller's facts hold their elements.
-pub fn tape_room() -> [u32; 32768] {
-    [0u32; 32768]
+pub fn tape_room() -> [u32; MAX_TABLE] {
+    [0u32; MAX_TABLE]
 }
 
-fn short_tape_room() -> [u32; 2048] {
-    [0u32; 2048]
+fn short_tape_room() -> [u32; SHORT_TABLE] {
+    [0u32; SHORT_TABLE]
 }
 
 fn tell(number: u64, place: usize, count: usize) -> Told

@@ -4,9 +4,11 @@ use byte_writing::put_all;
 use code_table::functions::find_heads;
 use engine_tables::tape_room;
 use program_printing::put_number;
+use tape_words::limits::MAX_FUNCTIONS;
 use tape_words::tape::name_size;
 use tape_words::tape::room;
 use tape_words::tape::word_at;
+use tape_words::wide::KIND;
 ghost use Prim.Native.Nat.{suc, _+_, _*_, _≤_, _<_};
 ghost use lib.ListN.{length};
 ghost use Rattle.meaning.specs.Allowed.{maxName};
@@ -26,7 +28,7 @@ fn put_name(tape: &[u32], head: usize, out: &mut [u8], at: usize) -> usize
     let mut next = at;
     let mut i = 0;
     while i < size {
-        next = put(out, next, (word_at(tape, first + i) % 256) as u8);
+        next = put(out, next, (word_at(tape, first + i) % KIND) as u8);
         i += 1;
     }
     next
@@ -66,7 +68,13 @@ fn put_lines(tape: &[u32], heads: &[usize], counts: &[u64], out: &mut [u8], at: 
 }
 
 // The lines of a table's functions, then the steps. A table that is refused has no functions.
-pub fn put_profile(table: &[u8], counts: &[u64; 64], steps: u32, out: &mut [u8], at: usize) -> usize
+pub fn put_profile(
+    table: &[u8],
+    counts: &[u64; MAX_FUNCTIONS],
+    steps: u32,
+    out: &mut [u8],
+    at: usize,
+) -> usize
     requires { ⌜ at + profileCells < farthest ⌝ }
     ensures { λ r. ⌜ PutAtMost profileCells at (now (out .entry)) (profileText (namesRead (read (now (table .entry)))) (now (counts .entry)) steps) r (now (out .exit)) ⌝ }
 {
