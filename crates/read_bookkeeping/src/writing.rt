@@ -12,26 +12,6 @@ ghost use Rattle.read_tokens.specs.View.{IsClosed, charactersIn, part};
 ghost use Rattle.read_bookkeeping.specs.Tables.{Inside};
 ghost use Rattle.read_bookkeeping.specs.Written.{isQuiet, Ready, Wrote, stringFrom};
 
-// Words of the tape: a kind times 256, to which what the word carries is added.
-pub const SYMBOL_WORD: usize = 256;
-
-pub const PART_WORD: usize = 512;
-
-pub const CONDITION_WORD: usize = 768;
-
-pub const EQUALS_WORD: u32 = 1024;
-
-pub const CLOSE_WORD: u32 = 1280;
-
-pub const NEXT_WORD: u32 = 1536;
-
-pub const END_WORD: u32 = 1792;
-
-pub const FUNCTION_WORD: usize = 2048;
-
-// A call's kind is this and the place of its name.
-pub const CALL_KIND: usize = 9;
-
 // A word past the tape's end is left out: `reading::read` requires a tape on which none is.
 pub fn put(tape: &mut [u32], at: usize, word: u32)
     ensures { λ _. ⌜ now (tape .exit) ≡ set (now (tape .entry)) at word ⌝ }

@@ -13,10 +13,6 @@ use read_bookkeeping::progress::is_sign;
 use read_bookkeeping::progress::is_word;
 use read_bookkeeping::progress::pass;
 use read_bookkeeping::progress::refuse;
-use read_bookkeeping::writing::CALL_KIND;
-use read_bookkeeping::writing::CLOSE_WORD;
-use read_bookkeeping::writing::PART_WORD;
-use read_bookkeeping::writing::SYMBOL_WORD;
 use read_bookkeeping::writing::put;
 use read_bookkeeping::writing::put_characters;
 use read_bookkeeping::writing::put_named;
@@ -26,6 +22,11 @@ use read_tokens::Span;
 use read_tokens::Token;
 use read_tokens::lex;
 ghost use mathlib.Core.Path.{_≡_};
+use tape_words::kinds::CLOSE_WORD;
+use tape_words::wide::CALL_KIND;
+use tape_words::wide::KIND;
+use tape_words::wide::PART_WORD;
+use tape_words::wide::SYMBOL_WORD;
 ghost use Prim.Native.Nat.{ℕ, _+_, _-_, _*_, _≤_, _<_};
 ghost use lib.Dec.{T};
 ghost use lib.ListN.{length};
@@ -215,7 +216,7 @@ fn put_call(text: &[u8], tape: &mut [u32], words: usize, place: usize, name: Spa
         (((9 + place) * 256 + (name .past - name .from)) ∷ part (now (text .entry)) name) r (now (tape .exit))
         × T (every isQuiet (part (now (text .entry)) name)) ⌝ }
 {
-    let word = ((CALL_KIND + place) * 256 + (name.past - name.from)) as u32;
+    let word = ((CALL_KIND + place) * KIND + (name.past - name.from)) as u32;
     put_named(text, tape, words, word, name)
 }
 

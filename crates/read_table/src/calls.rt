@@ -1,8 +1,10 @@
 // The called names of a table, once it is read.
 use read_bookkeeping::names::find;
 use read_bookkeeping::names::is_built_in;
-use read_bookkeeping::writing::CALL_KIND;
 use read_tokens::Span;
+use tape_words::wide::CALL_KIND;
+use tape_words::wide::CALL_WORD;
+use tape_words::wide::KIND;
 ghost use mathlib.Core.Path.{_≡_};
 ghost use Prim.Native.Nat.{_≤_};
 ghost use lib.ListN.{length, take};
@@ -24,11 +26,11 @@ fn is_known(text: &[u8], names: &[usize], functions: usize, word: usize) -> bool
     ensures { λ r. ⌜ r ≡ wordKnown (now (text .entry))
         (tableNames (now (text .entry)) (now (names .entry)) 0 functions) word ⌝ }
 {
-    if word < 2304 {
+    if word < CALL_WORD {
         return true;
     }
-    let place = word / 256 - CALL_KIND;
-    let past = place + word % 256;
+    let place = word / KIND - CALL_KIND;
+    let past = place + word % KIND;
     let name = Span {
         from: place,
         past: past,
@@ -39,7 +41,7 @@ fn is_known(text: &[u8], names: &[usize], functions: usize, word: usize) -> bool
     find(text, names, 0, functions, name) < functions
 }
 
-// Where the first unknown name is called, by a tape's first words. A word of 2,304 or more opens a call.
+// Where the first unknown name is called, by a tape's first words. A word of CALL_WORD or more opens a call.
 pub fn unknown_call(
     text: &[u8],
     tape: &[u32],
@@ -57,7 +59,7 @@ pub fn unknown_call(
     while i < words {
         let word = tape[i] as usize;
         if !is_known(text, names, functions, word) {
-            let place = word / 256 - CALL_KIND;
+            let place = word / KIND - CALL_KIND;
             return Unknown::At(place);
         }
         i += 1;

@@ -8,6 +8,7 @@ use functions::functions;
 use read_bookkeeping::Answer;
 use read_bookkeeping::names::function_room;
 use read_functions::functions::ParsedTable;
+use tape_words::limits::MAX_TABLE;
 ghost use mathlib.Core.Path.{_≡_};
 ghost use Rattle.read_bookkeeping.specs.Answered.{numberOf};
 ghost use Rattle.read_table.specs.Reads.{LongEnough, Reads, refusedWith};
@@ -53,7 +54,7 @@ pub fn read(text: &[u8], tape: &mut [u32]) -> Reading
     requires { ⌜ LongEnough (now text) (now tape) ⌝ }
     ensures { λ r. ⌜ Reads (now (text .entry)) r (now (tape .exit)) ⌝ }
 {
-    if 32768 < text.len() {
+    if MAX_TABLE < text.len() {
         return refusal(Answer::TableTooLong, 0);
     }
     let mut names = function_room();
