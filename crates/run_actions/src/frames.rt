@@ -6,6 +6,11 @@ ghost use lib.ListN.{length, take, drop};
 ghost use Rattle.meaning.specs.Outcome.{maxCounted, uncounted};
 ghost use Rattle.meaning.specs.Leaving.{maxFrames};
 ghost use Rattle.run_actions.specs.States.{frameWords, firstFrames, wordsFor, valuesFor, HasFrame, crowdedAt, withWord, frameWord, countsIn, countedIn, CountsWithin, begun, callingFrom};
+use code_numbers::wide::LEFT;
+use code_numbers::wide::MAX_STORED;
+use code_numbers::wide::NULL;
+use code_numbers::wide::RIGHT;
+use code_numbers::wide::WHOLE;
 use run_cells::places::InCell;
 use run_cells::places::OutCell;
 use run_cells::places::less;
@@ -18,19 +23,11 @@ pub const LENGTHS: usize = 4;
 // How many sequences may be open in one frame.
 pub const OPEN_SEQUENCES: usize = 16;
 // How many values a frame stores.
-pub const FRAME_VALUES: usize = 16;
+pub const FRAME_VALUES: usize = MAX_STORED;
 
 // A frame's words: the lengths by their numbers, how many values are stored, how many sequences are open, where its call returns to, q as
 // the call was made; and r at each open BeginSeq, the latest first, up to the end.
 const FRAME_WORDS: usize = 24;
-
-const NULL: usize = 0;
-
-const WHOLE: usize = 1;
-
-const LEFT: usize = 2;
-
-const RIGHT: usize = 3;
 
 const STORED: usize = 4;
 

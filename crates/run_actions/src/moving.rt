@@ -22,6 +22,10 @@ use crate::frames::stored_values;
 use crate::registers::Ending;
 use crate::registers::Next;
 use crate::registers::Registers;
+use code_numbers::FIRST;
+use code_numbers::OPERAND;
+use code_numbers::SECOND;
+use code_numbers::THIRD;
 use run_cells::copying::copy_to_out;
 use run_cells::moving::move_down;
 use run_cells::places::InCell;
@@ -74,12 +78,12 @@ fn span_cells(frames: &[usize], frame: usize, span: u32, there: usize) -> Cells
     requires { ⌜ there < 2 ^ 63 ⌝ }
     ensures { λ r. ⌜ ((values : Bytes) → r ≡ cellsOf (lengthOf (firstIn span)) (secondIn span) (thirdIn span) (localAt frame (now (frames .entry)) values) there) ⌝ }
 {
-    let register = wide(span / 256 % 256);
+    let register = wide(span / FIRST % OPERAND);
     if LENGTHS <= register {
         return Cells::Wrong;
     }
-    let add = wide(span / 65536 % 256);
-    let back = wide(span / 16777216 % 256);
+    let add = wide(span / SECOND % OPERAND);
+    let back = wide(span / THIRD % OPERAND);
     within(length_numbered(frames, frame, register), add, back, there)
 }
 

@@ -16,6 +16,10 @@ ghost use Rattle.run_decoding.specs.Decoded.{callMeant};
 ghost use Rattle.run_actions.specs.States.{HasFrame, Paired, crowdedAt, CountsWithin, memory};
 ghost use Rattle.run_applications.specs.Waiting.{countIn, functionsIn, leftBy, recoveredBy};
 ghost use Rattle.run_applications.specs.Advancing.{Performs, Applies, Starts};
+use code_numbers::FIRST;
+use code_numbers::OPERAND;
+use code_numbers::SECOND;
+use code_numbers::STORE;
 use run_actions::frames::FRAME_VALUES;
 use run_actions::frames::FRAMES;
 use run_actions::frames::begin_frame;
@@ -87,8 +91,13 @@ fn store_values(
 fn stored_cell(field: &[u8], place: usize, word: u32) -> Cell
     ensures { λ r. ⌜ cellMeant r ≡ storedCell (storeOf word) (now (field .entry)) place ⌝ }
 {
-    if word % 256 == 4 {
-        cell_at(field, place, word / 256 % 256, word / 65536 % 256)
+    if word % OPERAND == STORE {
+        cell_at(
+            field,
+            place,
+            word / FIRST % OPERAND,
+            word / SECOND % OPERAND,
+        )
     } else {
         Cell::Nowhere
     }

@@ -12,6 +12,19 @@ ghost use Rattle.meaning.specs.Packing.{firstIn, secondIn, thirdIn, siteOf, cla
 ghost use Rattle.meaning.specs.Packing.{testOf, lookOf, compareOf, predicateFor, unpackTests};
 ghost use Rattle.byte_classes.specs.Tests.{Answers};
 ghost use Rattle.run_checking.specs.Checks.{checkedMeant, lastTest};
+use code_numbers::BLANK;
+use code_numbers::COMPARE;
+use code_numbers::FIRST;
+use code_numbers::LOOK;
+use code_numbers::LOOK_FROM_START;
+use code_numbers::OPERAND;
+use code_numbers::PART_CLASS;
+use code_numbers::PART_TRUTH;
+use code_numbers::PREDICATE;
+use code_numbers::PREDICATE_PART;
+use code_numbers::REGISTERS;
+use code_numbers::SECOND;
+use code_numbers::THIRD;
 use run_class_runs::every_in_class;
 use run_code_places::CodePlace;
 use run_code_places::wide;
@@ -38,10 +51,15 @@ fn look(field: &[u8], place: usize, word: u32) -> Checked
     ensures { λ r. ⌜ checkedMeant r ≡
         tested (lookOf (siteOf (firstIn word) (secondIn word)) (thirdIn word)) (now (field .entry)) place ⌝ }
 {
-    let Cell::Byte(b) = cell_at(field, place, word / 256 % 256, word / 65536 % 256) else {
+    let Cell::Byte(b) = cell_at(
+        field,
+        place,
+        word / FIRST % OPERAND,
+        word / SECOND % OPERAND,
+    ) else {
         return Checked::Wrong;
     };
-    told((word / 16777216 % 256) as u8 == b)
+    told((word / THIRD % OPERAND) as u8 == b)
 }
 
 // Look at a cell counted from p, the commonest of the tests.
@@ -49,11 +67,11 @@ fn look_ahead(field: &[u8], word: u32) -> Checked
     ensures { λ r. ⌜ checkedMeant r ≡
         tested (looking (fromStart (secondIn word)) (thirdIn word)) (now (field .entry)) 0 ⌝ }
 {
-    let offset = wide(word / 65536 % 256);
+    let offset = wide(word / SECOND % OPERAND);
     if field.len() <= offset {
         return Checked::Wrong;
     }
-    told((word / 16777216 % 256) as u8 == field[offset])
+    told((word / THIRD % OPERAND) as u8 == field[offset])
 }
 
 // The bytes at two sites are equal.
@@ -62,11 +80,11 @@ fn compare(field: &[u8], place: usize, word: u32) -> Checked
         tested (compareOf (siteOf (firstIn word % 4) (secondIn word)) (siteOf (firstIn word / 4) (thirdIn word)))
         (now (field .entry)) place ⌝ }
 {
-    let sites = word / 256 % 256;
-    let Cell::Byte(b) = cell_at(field, place, sites % 4, word / 65536 % 256) else {
+    let sites = word / FIRST % OPERAND;
+    let Cell::Byte(b) = cell_at(field, place, sites % REGISTERS, word / SECOND % OPERAND) else {
         return Checked::Wrong;
     };
-    let Cell::Byte(a) = cell_at(field, place, sites / 4, word / 16777216 % 256) else {
+    let Cell::Byte(a) = cell_at(field, place, sites / REGISTERS, word / THIRD % OPERAND) else {
         return Checked::Wrong;
     };
     told(b == a)
@@ -85,17 +103,17 @@ fn predicate(bits: &[u8; 256], field: &[u8], place: usize, word: u32) -> Checked
         tested (predicateFor (siteOf (firstIn word % 4) (secondIn word)) (classOf (thirdIn word))
         (eqb (firstIn word / 4) 1)) (now (field .entry)) place ⌝ }
 {
-    let site = word / 256 % 256;
-    let class = word / 16777216 % 256;
-    if 4 < class {
+    let site = word / FIRST % OPERAND;
+    let class = word / THIRD % OPERAND;
+    if BLANK < class {
         return Checked::Wrong;
     }
-    let Cell::Byte(b) = cell_at(field, place, site % 4, word / 65536 % 256) else {
+    let Cell::Byte(b) = cell_at(field, place, site % REGISTERS, word / SECOND % OPERAND) else {
         return Checked::Wrong;
     };
     let entry = bits[b as usize];
     let within = byte_classes::bit(entry, class as u8);
-    let expected = site / 4 == 1;
+    let expected = site / REGISTERS == 1;
     told(as_expected(expected, within))
 }
 
@@ -105,28 +123,28 @@ fn predicate_part(bits: &[u8; 256], field: &[u8], place: usize, word: u32) -> Ch
     requires { ⌜ Answers (now bits) ⌝ }
     ensures { λ r. ⌜ checkedMeant r ≡ tested (lastTest word) (now (field .entry)) place ⌝ }
 {
-    let operand = word / 256 % 256;
-    let class = operand / 32;
-    if 4 < class {
+    let operand = word / FIRST % OPERAND;
+    let class = operand / PART_CLASS;
+    if BLANK < class {
         return Checked::Wrong;
     }
-    if word % 256 != 20 {
+    if word % OPERAND != PREDICATE_PART {
         return Checked::Wrong;
     }
-    let start = word / 65536 % 256;
-    let end = word / 16777216 % 256;
+    let start = word / SECOND % OPERAND;
+    let end = word / THIRD % OPERAND;
     let whole = field.len();
-    let Before::Cells(from) = cells_before(whole, place, operand % 4, start) else {
+    let Before::Cells(from) = cells_before(whole, place, operand % REGISTERS, start) else {
         return Checked::Wrong;
     };
-    let Before::Cells(to) = cells_before(whole, place, operand / 4 % 4, end) else {
+    let Before::Cells(to) = cells_before(whole, place, operand / REGISTERS % REGISTERS, end) else {
         return Checked::Wrong;
     };
     if to < from {
         return Checked::Wrong;
     }
     let within = every_in_class(bits, &field[from..to], class as u8);
-    let expected = operand / 16 % 2 == 1;
+    let expected = operand / PART_TRUTH % 2 == 1;
     told(as_expected(expected, within))
 }
 
@@ -135,14 +153,14 @@ fn check(bits: &[u8; 256], field: &[u8], place: usize, word: u32) -> Checked
     requires { ⌜ Answers (now bits) ⌝ }
     ensures { λ r. ⌜ checkedMeant r ≡ tested (testOf word) (now (field .entry)) place ⌝ }
 {
-    if word % 65536 == 1 {
+    if word % SECOND == LOOK_FROM_START {
         return look_ahead(field, word);
     }
-    let number = word % 256;
+    let number = word % OPERAND;
     match number {
-        1 => look(field, place, word),
-        2 => compare(field, place, word),
-        3 => predicate(bits, field, place, word),
+        LOOK => look(field, place, word),
+        COMPARE => compare(field, place, word),
+        PREDICATE => predicate(bits, field, place, word),
         _ => predicate_part(bits, field, place, word),
     }
 }

@@ -1,4 +1,20 @@
 // Code words as instructions.
+use code_numbers::ACTIONS_END;
+use code_numbers::BEGIN_SEQ;
+use code_numbers::CALL;
+use code_numbers::COMPUTE;
+use code_numbers::EMISSION;
+use code_numbers::FIRST;
+use code_numbers::GO;
+use code_numbers::OPERAND;
+use code_numbers::OUT;
+use code_numbers::OUT_C;
+use code_numbers::OUT_V;
+use code_numbers::SELECT;
+use code_numbers::TAIL_CALL;
+use code_numbers::USE_SEQ;
+use code_numbers::wide::MINUS;
+use code_numbers::wide::PLUS;
 use run_code_places::CodePlace;
 use run_code_places::wide;
 ghost use mathlib.Core.Path.{_≡_};
@@ -43,7 +59,7 @@ fn call_of(tail: bool, word: u32) -> Call
 {
     Call {
         tail: tail,
-        function: wide(word / 256),
+        function: wide(word / FIRST),
     }
 }
 
@@ -52,8 +68,8 @@ fn computation_of(operand: usize) -> Instruction
     ensures { λ r. ⌜ r ≡ computationIn operand ⌝ }
 {
     match operand {
-        0 => Instruction::Compute(false),
-        1 => Instruction::Compute(true),
+        PLUS => Instruction::Compute(false),
+        MINUS => Instruction::Compute(true),
         _ => Instruction::Unknown,
     }
 }
@@ -62,21 +78,21 @@ fn computation_of(operand: usize) -> Instruction
 pub fn decode(word: u32) -> Instruction
     ensures { λ r. ⌜ r ≡ instructionIn word ⌝ }
 {
-    let number = word % 256;
-    let first = wide(word / 256 % 256);
+    let number = word % OPERAND;
+    let first = wide(word / FIRST % OPERAND);
     match number {
-        5 => Instruction::Go(word),
-        6 => Instruction::Select(word),
-        7 => Instruction::Write(Write::Part),
-        8 => Instruction::Write(Write::Character((word / 256 % 256) as u8)),
-        9 => Instruction::Write(Write::Value(first)),
-        10 => Instruction::Begin,
-        11 => Instruction::Use,
-        12 => Instruction::Call(call_of(false, word)),
-        13 => Instruction::Call(call_of(true, word)),
-        14 => Instruction::Emit(first),
-        15 => Instruction::End,
-        21 => computation_of(first),
+        GO => Instruction::Go(word),
+        SELECT => Instruction::Select(word),
+        OUT => Instruction::Write(Write::Part),
+        OUT_C => Instruction::Write(Write::Character((word / FIRST % OPERAND) as u8)),
+        OUT_V => Instruction::Write(Write::Value(first)),
+        BEGIN_SEQ => Instruction::Begin,
+        USE_SEQ => Instruction::Use,
+        CALL => Instruction::Call(call_of(false, word)),
+        TAIL_CALL => Instruction::Call(call_of(true, word)),
+        EMISSION => Instruction::Emit(first),
+        ACTIONS_END => Instruction::End,
+        COMPUTE => computation_of(first),
         _ => Instruction::Unknown,
     }
 }
@@ -90,7 +106,7 @@ pub fn find_word(code: &[u32], at: CodePlace, number: u32) -> Found
         return Found::Other;
     }
     let word = code[from];
-    if word % 256 != number {
+    if word % OPERAND != number {
         return Found::Other;
     }
     Found::Word(word, CodePlace(from + 1))

@@ -8,12 +8,25 @@ ghost use Rattle.meaning.specs.Packing.{metricIn, unpackSentences};
 ghost use Rattle.byte_classes.specs.Tests.{Answers};
 ghost use Rattle.run_searching.specs.Searches.{foundMeant};
 ghost use Rattle.run_matching.specs.Matched.{placesFor, tried, Chooses};
+use code_numbers::ENDS;
+use code_numbers::EXACTLY;
+use code_numbers::FIRST;
+use code_numbers::MAX_STORED;
+use code_numbers::MIDDLE;
+use code_numbers::OPERAND;
+use code_numbers::SECOND;
+use code_numbers::SENTENCES_END;
+use code_numbers::THIRD;
 use run_code_places::CodePlace;
 use run_code_places::wide;
 use run_placing::find_place;
 use run_searching::Found;
 
-// The sentence's middle template's place, the place of its stores and how many there are; its actions follow them. Nothing names the function that recovers, 0 for none.
+// How many words a sentence has before its tests.
+const SENTENCE_HEAD: usize = 2;
+
+// The place of the sentence's middle template, the place of its stores and how many there are; its actions follow them.
+// Nothing names the function that recovers, 0 for none.
 pub enum Choice {
     Sentence {
         place: usize,
@@ -49,20 +62,20 @@ fn places_of(word: u32, whole: usize) -> Places
     requires { ⌜ whole < 2 ^ 63 ⌝ }
     ensures { λ r. ⌜ r ≡ placesFor (metricIn word) whole ⌝ }
 {
-    let number = word % 256;
-    let a = wide(word / 256 % 256);
-    let b = wide(word / 65536 % 256);
-    let c = wide(word / 16777216 % 256);
+    let number = word % OPERAND;
+    let a = wide(word / FIRST % OPERAND);
+    let b = wide(word / SECOND % OPERAND);
+    let c = wide(word / THIRD % OPERAND);
     match number {
-        16 => Places::From {
+        EXACTLY => Places::From {
             first: 0,
             count: one_if(whole == a),
         },
-        17 => Places::From {
+        ENDS => Places::From {
             first: 0,
             count: one_if(a + b <= whole),
         },
-        18 => Places::From {
+        MIDDLE => Places::From {
             first: a,
             count: places_for(a + b + c, whole),
         },
@@ -87,11 +100,19 @@ fn try_sentence(
     let Places::From { first, count } = places_of(word, field.len()) else {
         return Found::Wrong;
     };
-    if 16 < counts / 256 % 256 {
+    if MAX_STORED < counts / FIRST % OPERAND {
         return Found::Wrong;
     }
-    let tests = CodePlace(at.0 + 2);
-    find_place(bits, code, tests, wide(counts % 256), field, first, count)
+    let tests = CodePlace(at.0 + SENTENCE_HEAD);
+    find_place(
+        bits,
+        code,
+        tests,
+        wide(counts % OPERAND),
+        field,
+        first,
+        count,
+    )
 }
 
 // The sentence chosen for a field among those from a place on.
@@ -103,10 +124,10 @@ pub fn choose(bits: &[u8; 256], code: &[u32], entry: CodePlace, field: &[u8]) ->
     let mut at = entry.0;
     while at < code.len() {
         let word = code[at];
-        if word % 256 == 19 {
-            return Choice::Nothing(wide(word / 256));
+        if word % OPERAND == SENTENCES_END {
+            return Choice::Nothing(wide(word / FIRST));
         }
-        if code.len() - at < 2 {
+        if code.len() - at < SENTENCE_HEAD {
             return Choice::Wrong;
         }
         let counts = code[at + 1];
@@ -115,13 +136,13 @@ pub fn choose(bits: &[u8; 256], code: &[u32], entry: CodePlace, field: &[u8]) ->
             Found::At(place) => {
                 return Choice::Sentence {
                     place: place,
-                    stores: CodePlace(at + 2 + wide(counts % 256)),
-                    stored: wide(counts / 256 % 256),
+                    stores: CodePlace(at + SENTENCE_HEAD + wide(counts % OPERAND)),
+                    stored: wide(counts / FIRST % OPERAND),
                 };
             }
             Found::Nowhere => {}
         }
-        at += 2 + wide(counts / 65536);
+        at += SENTENCE_HEAD + wide(counts / SECOND);
     }
     Choice::Wrong
 }

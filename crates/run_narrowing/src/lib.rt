@@ -7,6 +7,16 @@ ghost use Rattle.meaning.specs.Matching.{check as tested};
 ghost use Rattle.meaning.specs.Packing.{numberIn, firstIn, testOf};
 ghost use Rattle.byte_classes.specs.Tests.{Answers};
 ghost use Rattle.run_narrowing.specs.Narrowed.{asksPlace, Sifts};
+use code_numbers::BLANK;
+use code_numbers::FIRST;
+use code_numbers::FROM_PLACE;
+use code_numbers::OPERAND;
+use code_numbers::PART_CLASS;
+use code_numbers::PART_TRUTH;
+use code_numbers::PREDICATE_PART;
+use code_numbers::REGISTERS;
+use code_numbers::SECOND;
+use code_numbers::THIRD;
 use run_class_runs::leading;
 use run_class_runs::trailing;
 use run_code_places::CodePlace;
@@ -28,11 +38,11 @@ pub enum Sifted {
 fn asks_place(word: u32) -> bool
     ensures { λ r. ⌜ r ≡ asksPlace word ⌝ }
 {
-    let registers = word / 256 % 256;
-    if registers % 4 == 2 {
+    let registers = word / FIRST % OPERAND;
+    if registers % REGISTERS == FROM_PLACE {
         return true;
     }
-    registers / 4 % 4 == 2
+    registers / REGISTERS % REGISTERS == FROM_PLACE
 }
 
 fn least(a: usize, b: usize) -> usize
@@ -75,19 +85,23 @@ fn sift_first(bits: &[u8; 256], field: &[u8], word: u32, first: usize, places: u
     requires { ⌜ firstIn word / 4 % 4 ≡ 2 ⌝ }
     ensures { λ r. ⌜ Sifts r (tested (testOf word) (now (field .entry))) first places ⌝ }
 {
-    let operand = word / 256 % 256;
-    let class = operand / 32;
-    if 4 < class {
+    let operand = word / FIRST % OPERAND;
+    let class = operand / PART_CLASS;
+    if BLANK < class {
         return Sifted::Unknown;
     }
-    if operand % 4 == 2 {
+    if operand % REGISTERS == FROM_PLACE {
         return Sifted::Unknown;
     }
-    let Before::Cells(from) = cells_before(field.len(), first, operand % 4, word / 65536 % 256)
-    else {
+    let Before::Cells(from) = cells_before(
+        field.len(),
+        first,
+        operand % REGISTERS,
+        word / SECOND % OPERAND,
+    ) else {
         return Sifted::Unknown;
     };
-    let nearest = first + wide(word / 16777216 % 256);
+    let nearest = first + wide(word / THIRD % OPERAND);
     let to = nearest + (places - 1);
     if field.len() < to {
         return Sifted::Unknown;
@@ -97,7 +111,12 @@ fn sift_first(bits: &[u8; 256], field: &[u8], word: u32, first: usize, places: u
     }
     let lead = leading(bits, &field[from..to], class as u8);
     let passing = less(lead + 1, nearest - from);
-    part_at(first, places, least(passing, places), operand / 16 % 2 == 1)
+    part_at(
+        first,
+        places,
+        least(passing, places),
+        operand / PART_TRUTH % 2 == 1,
+    )
 }
 
 // A condition on the second part: from a turn on all its bytes are in the class, and before it they aren't.
@@ -109,24 +128,33 @@ fn sift_second(bits: &[u8; 256], field: &[u8], word: u32, first: usize, places: 
     requires { ⌜ firstIn word % 4 ≡ 2 ⌝ }
     ensures { λ r. ⌜ Sifts r (tested (testOf word) (now (field .entry))) first places ⌝ }
 {
-    let operand = word / 256 % 256;
-    let class = operand / 32;
-    if 4 < class {
+    let operand = word / FIRST % OPERAND;
+    let class = operand / PART_CLASS;
+    if BLANK < class {
         return Sifted::Unknown;
     }
-    if operand / 4 % 4 == 2 {
+    if operand / REGISTERS % REGISTERS == FROM_PLACE {
         return Sifted::Unknown;
     }
-    let Before::Cells(to) = cells_before(field.len(), first, operand / 4 % 4, word / 16777216 % 256)
-    else {
+    let Before::Cells(to) = cells_before(
+        field.len(),
+        first,
+        operand / REGISTERS % REGISTERS,
+        word / THIRD % OPERAND,
+    ) else {
         return Sifted::Unknown;
     };
-    let from = first + wide(word / 65536 % 256);
+    let from = first + wide(word / SECOND % OPERAND);
     if to < from + (places - 1) {
         return Sifted::Unknown;
     }
     let turn = trailing(bits, &field[from..to], class as u8);
-    part_at(first, places, least(turn, places), operand / 16 % 2 != 1)
+    part_at(
+        first,
+        places,
+        least(turn, places),
+        operand / PART_TRUTH % 2 != 1,
+    )
 }
 
 // A test that no place changes is asked once. One on cells that are all there at the last place finds them at each.
@@ -147,8 +175,8 @@ pub fn sift(
 {
     let word = code[at];
     if asks_place(word) {
-        if word % 256 == 20 {
-            if word / 256 % 256 % 4 == 2 {
+        if word % OPERAND == PREDICATE_PART {
+            if word / FIRST % OPERAND % REGISTERS == FROM_PLACE {
                 return sift_second(bits, field, word, first, places);
             }
             return sift_first(bits, field, word, first, places);

@@ -8,6 +8,10 @@ ghost use Rattle.meaning.specs.Packing.{unpackTests};
 ghost use Rattle.byte_classes.specs.Tests.{Answers};
 ghost use Rattle.run_searching.specs.Searches.{foundMeant};
 ghost use Rattle.run_placing.specs.Placed.{Settles, HeadsSay};
+use code_numbers::LOOK_FROM_START;
+use code_numbers::OPERAND;
+use code_numbers::SECOND;
+use code_numbers::THIRD;
 use run_code_places::CodePlace;
 use run_code_places::wide;
 use run_narrowing::Sifted;
@@ -15,6 +19,9 @@ use run_narrowing::sift;
 use run_searching::Found;
 use run_searching::find_among;
 use run_searching::search;
+
+// Room for the tests that are kept: a pattern has at most 64 characters and s-variables, and 8 conditions.
+const MAX_TESTS: usize = 72;
 
 // The tests from a place of the code on that are left once the first ones passed; or one of these failed.
 enum Heads {
@@ -93,9 +100,8 @@ fn settle(
     }
 }
 
-// Room for the tests that are kept: a pattern has at most 64 characters and s-variables, and 8 conditions.
-fn no_tests() -> [u32; 72] {
-    [0u32; 72]
+fn no_tests() -> [u32; MAX_TESTS] {
+    [0u32; MAX_TESTS]
 }
 
 // The leftmost of so many places at which all tests pass: what doesn't depend on the place is tested once.
@@ -145,20 +151,20 @@ fn pass_heads(code: &[u32], tests: CodePlace, count: usize, field: &[u8]) -> Hea
             };
         }
         let word = code[at];
-        if word % 65536 != 1 {
+        if word % SECOND != LOOK_FROM_START {
             return Heads::Passed {
                 at: CodePlace(at),
                 left: left,
             };
         }
-        let offset = wide(word / 65536 % 256);
+        let offset = wide(word / SECOND % OPERAND);
         if field.len() <= offset {
             return Heads::Passed {
                 at: CodePlace(at),
                 left: left,
             };
         }
-        if field[offset] != (word / 16777216 % 256) as u8 {
+        if field[offset] != (word / THIRD % OPERAND) as u8 {
             return Heads::Failed;
         }
         at += 1;

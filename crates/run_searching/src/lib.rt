@@ -9,11 +9,21 @@ ghost use Rattle.meaning.specs.Matching.{check as tested, search as searched};
 ghost use Rattle.meaning.specs.Packing.{secondIn, thirdIn, unpackTests};
 ghost use Rattle.byte_classes.specs.Tests.{Answers};
 ghost use Rattle.run_searching.specs.Searches.{foundMeant, Spells, Occurs};
+use code_numbers::LOOK_FROM_PLACE;
+use code_numbers::OPERAND;
+use code_numbers::SECOND;
+use code_numbers::THIRD;
 use run_checking::Checked;
 use run_checking::check_all;
 use run_code_places::CodePlace;
 use run_code_places::wide;
 use run_finding::Occurrence;
+
+// The most characters that a pattern has, and so a string that is looked for.
+const MAX_STRING: usize = 64;
+
+// For fewer places the tables of one pass over the field would cost more than they save.
+const FEW_PLACES: usize = 64;
 
 // Where the middle template lies; without one, place 0.
 pub enum Found {
@@ -64,8 +74,8 @@ fn scan(field: &[u8], word: u32, first: usize, places: usize) -> Found
     ensures { λ r. ⌜ foundMeant r ≡
         searched (tested (looking (fromPlace (secondIn word)) (thirdIn word)) (now (field .entry))) places first ⌝ }
 {
-    let offset = wide(word / 65536 % 256);
-    let byte = (word / 16777216 % 256) as u8;
+    let offset = wide(word / SECOND % OPERAND);
+    let byte = (word / THIRD % OPERAND) as u8;
     let mut here = first;
     let mut left = places;
     while 0 < left {
@@ -96,29 +106,27 @@ fn string_of(code: &[u32], tests: CodePlace, count: usize, string: &mut [u8]) ->
     if string.len() < count {
         return Template::Mixed;
     }
-    let offset = wide(code[at] / 65536 % 256);
+    let offset = wide(code[at] / SECOND % OPERAND);
     let mut size = 0;
     while size < count {
         let word = code[at + size];
-        if word % 65536 != 513 {
+        if word % SECOND != LOOK_FROM_PLACE {
             return Template::Mixed;
         }
-        if wide(word / 65536 % 256) != offset + size {
+        if wide(word / SECOND % OPERAND) != offset + size {
             return Template::Mixed;
         }
-        string[size] = (word / 16777216 % 256) as u8;
+        string[size] = (word / THIRD % OPERAND) as u8;
         size += 1;
     }
     Template::String(offset)
 }
 
-// Room for a string: a pattern has at most 64 characters.
-fn no_string() -> [u8; 64] {
-    [0u8; 64]
+fn no_string() -> [u8; MAX_STRING] {
+    [0u8; MAX_STRING]
 }
 
-// The same search for a string, in one pass over the field. For few places the tables of the pass would cost more than
-// they save.
+// The same search for a string, in one pass over the field.
 fn find_string(
     code: &[u32],
     tests: CodePlace,
@@ -132,14 +140,14 @@ fn find_string(
         (searched (checkAll (unpackTests count (drop (tests .0) (now (code .entry)))) (now (field .entry)))
         places first) ⌝ }
 {
-    if places < 64 {
+    if places < FEW_PLACES {
         return Occurrence::Unsuited;
     }
     let mut string = no_string();
     let Template::String(offset) = string_of(code, tests, count, &mut string) else {
         return Occurrence::Unsuited;
     };
-    if 64 < count {
+    if MAX_STRING < count {
         return Occurrence::Unsuited;
     }
     match run_finding::find(&string[0..count], field, first + offset, places) {
@@ -169,7 +177,7 @@ pub fn find_among(
     if count == 1 {
         if at < code.len() {
             let word = code[at];
-            if word % 65536 == 513 {
+            if word % SECOND == LOOK_FROM_PLACE {
                 return scan(field, word, first, places);
             }
         }

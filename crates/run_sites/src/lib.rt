@@ -6,6 +6,9 @@ ghost use Rattle.meaning.specs.Instructions.{fromEnd, fromPlace};
 ghost use Rattle.meaning.specs.Matching.{cellAt, cellsBefore};
 ghost use Rattle.meaning.specs.Packing.{siteOf};
 ghost use Rattle.run_sites.specs.Sites.{cellMeant, siteCell, beforeMeant, withinField, siteBefore};
+use code_numbers::FROM_END;
+use code_numbers::FROM_PLACE;
+use code_numbers::FROM_START;
 use run_code_places::wide;
 
 // A byte of the field, or no cell there.
@@ -59,9 +62,9 @@ pub fn cell_at(field: &[u8], place: usize, register: u32, offset: u32) -> Cell
     ensures { λ r. ⌜ cellMeant r ≡ siteCell (siteOf register offset) (now (field .entry)) place ⌝ }
 {
     match register {
-        0 => byte_at(field, wide(offset)),
-        1 => byte_before_end(field, wide(offset)),
-        2 => byte_after(field, place, wide(offset)),
+        FROM_START => byte_at(field, wide(offset)),
+        FROM_END => byte_before_end(field, wide(offset)),
+        FROM_PLACE => byte_after(field, place, wide(offset)),
         _ => Cell::Nowhere,
     }
 }
@@ -94,9 +97,9 @@ pub fn cells_before(whole: usize, place: usize, register: u32, offset: u32) -> B
     ensures { λ r. ⌜ beforeMeant r ≡ siteBefore (siteOf register offset) whole place ⌝ }
 {
     match register {
-        0 => before_ahead(whole, 0, wide(offset)),
-        1 => before_back(whole, wide(offset)),
-        2 => before_ahead(whole, place, wide(offset)),
+        FROM_START => before_ahead(whole, 0, wide(offset)),
+        FROM_END => before_back(whole, wide(offset)),
+        FROM_PLACE => before_ahead(whole, place, wide(offset)),
         _ => Before::Outside,
     }
 }

@@ -8,6 +8,10 @@ ghost use Rattle.meaning.specs.Leaving.{maxFrames};
 ghost use Rattle.run_actions.specs.States.{HasFrame, Paired, memory, Held, CountsWithin};
 ghost use Rattle.run_applications.specs.Waiting.{countIn};
 ghost use Rattle.run_applications.specs.Advancing.{Underway, Acting, Ongoing, registersIn, statusIn, nextOf, onward, Steps, keptOf, Tries, Uses, Does, Enters};
+use code_numbers::BEGIN_SEQ;
+use code_numbers::GO;
+use code_numbers::SELECT;
+use code_numbers::USE_SEQ;
 use run_actions::computing::compute;
 use run_actions::emitting::emit;
 use run_actions::frames::crowded;
@@ -81,7 +85,7 @@ fn try_go(g: Registers, code: &[u32], input: &[u8], frames: &[usize]) -> Registe
     ensures { λ h. ⌜ ((allowance : ℕ) (output «record» values : Bytes) → Tries (now (code .entry)) allowance g (memory (now (input .entry)) output «record» (now (frames .entry)) values)
         h (memory (now (input .entry)) output «record» (now (frames .entry)) values)) ⌝ }
 {
-    let Found::Word(word, next) = find_word(code, g.at, 5) else {
+    let Found::Word(word, next) = find_word(code, g.at, GO) else {
         return g;
     };
     let h = Registers { at: next, ..g };
@@ -98,7 +102,7 @@ fn try_select(g: Registers, code: &[u32], input: &[u8], frames: &[usize]) -> Reg
     ensures { λ h. ⌜ ((allowance : ℕ) (output «record» values : Bytes) → Tries (now (code .entry)) allowance g (memory (now (input .entry)) output «record» (now (frames .entry)) values)
         h (memory (now (input .entry)) output «record» (now (frames .entry)) values)) ⌝ }
 {
-    let Found::Word(word, next) = find_word(code, g.at, 6) else {
+    let Found::Word(word, next) = find_word(code, g.at, SELECT) else {
         return g;
     };
     let h = Registers { at: next, ..g };
@@ -113,7 +117,7 @@ fn try_begin(g: Registers, code: &[u32], frames: &mut [usize]) -> Registers
     ensures { λ h. ⌜ ((allowance : ℕ) (input output «record» values : Bytes) → Tries (now (code .entry)) allowance g (memory input output «record» (now (frames .entry)) values)
         h (memory input output «record» (now (frames .exit)) values)) ⌝ }
 {
-    let Found::Word(_, next) = find_word(code, g.at, 10) else {
+    let Found::Word(_, next) = find_word(code, g.at, BEGIN_SEQ) else {
         return g;
     };
     if open_sequence(frames, g.frame, g.r) {
@@ -173,7 +177,7 @@ fn try_use(
     ensures { λ r. ⌜ ((allowance : ℕ) («record» values : Bytes) → Uses (now (code .entry)) allowance g (memory (now (input .entry)) (now (output .entry)) «record» (now (frames .entry)) values)
         r (memory (now (input .exit)) (now (output .entry)) «record» (now (frames .exit)) values)) ⌝ }
 {
-    let Found::Word(_, next) = find_word(code, g.at, 11) else {
+    let Found::Word(_, next) = find_word(code, g.at, USE_SEQ) else {
         return Next::Onward(g);
     };
     let h = Registers { at: next, ..g };
