@@ -161,41 +161,65 @@ movedTo g p q r =
       callee = g .callee;
     }
 
--- the registers stay within what is lent
-pub record Fits (g : Registers) (m : Memory) : Type 0 where
-  pub ordered : g .p .0 ≤ g .q .0
-  pub inside : g .q .0 ≤ length (m .input)
-  pub below : g .r .0 ≤ length (m .output)
-  pub logged : g .emitted ≤ length (m .«record»)
-  pub framed : g .frame < maxFrames
-  pub held : Held (g .frame) (m .frames)
-  pub frameRoom : HasFrame (g .frame) (m .frames)
-  pub valueRoom : Paired (m .frames) (m .values)
+-- WHAT HOLDS OF REGISTERS AND CELLS
 
--- what a run comes to, and what is left to do in a frame
+-- p and q stand in order on in
+pub record SelectionWithin (p q : ℕ) (input : Bytes) : Type 0 where
+  pub ordered : p ≤ q
+  pub inside : q ≤ length input
+
+-- what is written lies within what is lent for it: r on out, the emissions in the record
+pub record WrittenWithin (r emitted : ℕ) (output «record» : Bytes) : Type 0 where
+  pub below : r ≤ length output
+  pub logged : emitted ≤ length «record»
+
+-- a frame's number is allowed, and the frame is there
+pub record FrameWithin (k : ℕ) (frames : List ℕ) : Type 0 where
+  pub framed : k < maxFrames
+  pub frameRoom : HasFrame k frames
+
+pub record RoomFor (p q r emitted k : ℕ) (m : Memory) : Type 0 where
+  pub selection : SelectionWithin p q (m .input)
+  pub written : WrittenWithin r emitted (m .output) (m .«record»)
+  pub frame : FrameWithin k (m .frames)
+  pub values : Paired (m .frames) (m .values)
+
+-- the registers stay within what is lent
+abbrev pub WithinRoom : Registers → Memory → Type 0
+WithinRoom g m = RoomFor (g .p .0) (g .q .0) (g .r .0) (g .emitted) (g .frame) m
+
+-- THE INVARIANT OF AN ACTION: the registers stay within what is lent, and the frame's words agree
+pub record ActionInvariant (g : Registers) (m : Memory) : Type 0 where
+  pub room : WithinRoom g m
+  pub held : Held (g .frame) (m .frames)
+
+-- WHAT AN ACTION COMES TO
+
+-- what a run comes to; and what is still to be done in a frame, as a function of its state
 abbrev pub Outcomes : Type 0
 Outcomes = Outcome Stacks Ledgers
 
-abbrev pub Going : Type 0
-Going = Local → Stacks → Ledgers → Outcomes
+abbrev pub Continuation : Type 0
+Continuation = Local → Stacks → Ledgers → Outcomes
 
--- how a run goes on, given what is left to do from a place of the code on
-abbrev pub after : ℕ → (ℕ → Going) → Next → Memory → Outcomes
-after allowance k (Onward g) m = k (g .at .0) (localOf g m) (stacksOf g m) (ledgerOf allowance g m)
-after allowance k (Done g) m = done (stacksOf g m) (ledgerOf allowance g m)
-after allowance k (Stopped g ending function) m = stop (endingNumber ending) function (ledgerOf allowance g m)
-after allowance k (Deeper g) m = k (g .at .0) (localOf g m) (stacksOf g m) (ledgerOf allowance g m)
+-- the outcome of a run from an action's answer on, given what is still to be done from each place of the code on
+abbrev pub outcomeAfter : ℕ → (ℕ → Continuation) → Next → Memory → Outcomes
+outcomeAfter allowance k (Onward g) m = k (g .at .0) (localOf g m) (stacksOf g m) (ledgerOf allowance g m)
+outcomeAfter allowance k (Done g) m = done (stacksOf g m) (ledgerOf allowance g m)
+outcomeAfter allowance k (Stopped g ending function) m = stop (endingNumber ending) function (ledgerOf allowance g m)
+outcomeAfter allowance k (Deeper g) m = k (g .at .0) (localOf g m) (stacksOf g m) (ledgerOf allowance g m)
 
--- an action passes the selected cells, and leaves a text on out where there is room for it
+-- an action of the machine passes the selected cells, and leaves a text on out where there is room for it
 pub record Writes (action : Action) (text : Bytes) (g : Registers) (m : Memory) : Type 0 where
-  pub same : (allowance : ℕ) (code : Code) (enter : ℕ → ℕ → Stacks → Ledgers → Outcomes) (k : Going) → let s = stacksOf g m in
+  pub same : (allowance : ℕ) (code : Code) (enter : ℕ → ℕ → Stacks → Ledgers → Outcomes) (k : Continuation) →
+      let s = stacksOf g m in
       perform (lent (roomOf m)) code enter k (suc (g .frame)) action (localOf g m) s (ledgerOf allowance g m) ≡
       noting (lent (roomOf m)) (outCells (length (s .output) + length text)) (ledgerOf allowance g m)
       (k (localOf g m) (movedOn (s .selected) (withOutput (s .output ++ text) s)))
 
--- an instruction that goes on at a place, in the same frame and step, with all but its own cells as they were
-pub record Stayed (at : ℕ) (g : Registers) (m : Memory) (h : Registers) (n : Memory) : Type 0 where
-  pub fits : Fits g m → Fits h n
+-- an action preserves the invariant and all but its own cells, and goes on at a place of the code, in the same frame and step
+pub record Preserves (at : ℕ) (g : Registers) (m : Memory) (h : Registers) (n : Memory) : Type 0 where
+  pub invariant : ActionInvariant g m → ActionInvariant h n
   pub frame : h .frame ≡ g .frame
   pub place : h .at .0 ≡ at
   pub steps : h .steps ≡ g .steps
@@ -203,18 +227,20 @@ pub record Stayed (at : ℕ) (g : Registers) (m : Memory) (h : Registers) (n : M
   pub waiting : wordsBelow (g .frame) (n .frames) ≡ wordsBelow (g .frame) (m .frames)
   pub counts : countsIn (n .frames) ≡ countsIn (m .frames)
   pub values : n .values ≡ m .values
-  pub beyond : (old : Bytes) → drop (g .emitted) (m .«record») ≡ drop (g .emitted) old → drop (h .emitted) (n .«record») ≡ drop (h .emitted) old
+  pub beyond : (old : Bytes) → drop (g .emitted) (m .«record») ≡ drop (g .emitted) old →
+      drop (h .emitted) (n .«record») ≡ drop (h .emitted) old
 
--- an instruction that stops does nothing
-abbrev pub Stays : ℕ → Registers → Memory → Next → Memory → Type 0
-Stays at g m (Onward h) n = Stayed at g m h n
-Stays at g m (Done h) n = ⊥
-Stays at g m (Stopped h ending function) n = (h ≡ g) × (n ≡ m)
-Stays at g m (Deeper h) n = ⊥
+-- an action that goes on preserves all that; one that stops changes nothing
+abbrev pub PreservesOrStops : ℕ → Registers → Memory → Next → Memory → Type 0
+PreservesOrStops at g m (Onward h) n = Preserves at g m h n
+PreservesOrStops at g m (Done h) n = ⊥
+PreservesOrStops at g m (Stopped h ending function) n = (h ≡ g) × (n ≡ m)
+PreservesOrStops at g m (Deeper h) n = ⊥
 
--- an action's function does the machine's action, whatever is left to do, and goes on at a place
-pub record Acts (action : Action) (at : ℕ) (g : Registers) (m : Memory) (next : Next) (n : Memory) : Type 0 where
-  pub same : (allowance : ℕ) (code : Code) (enter : ℕ → ℕ → Stacks → Ledgers → Outcomes) (k : Going) →
-      perform (lent (roomOf m)) code enter k (suc (g .frame)) action (localOf g m) (stacksOf g m) (ledgerOf allowance g m) ≡
-      after allowance (λ place. k) next n
-  pub stays : Stays at g m next n
+-- a function implements an action of the machine: whatever is still to be done then, both have the same outcome
+pub record ImplementsAction (action : Action) (at : ℕ) (g : Registers) (m : Memory) (next : Next) (n : Memory) : Type 0 where
+  pub same : (allowance : ℕ) (code : Code) (enter : ℕ → ℕ → Stacks → Ledgers → Outcomes) (k : Continuation) →
+      let l = ledgerOf allowance g m in
+      perform (lent (roomOf m)) code enter k (suc (g .frame)) action (localOf g m) (stacksOf g m) l ≡
+      outcomeAfter allowance (λ place. k) next n
+  pub preserves : PreservesOrStops at g m next n

@@ -5,7 +5,7 @@ ghost use lib.ListN.{length};
 ghost use Rattle.meaning.specs.Choice.{Bytes};
 ghost use Rattle.meaning.specs.Angles.{operation};
 ghost use Rattle.meaning.specs.Instructions.{compute as computing};
-ghost use Rattle.run_actions.specs.States.{memory, Acts};
+ghost use Rattle.run_actions.specs.States.{memory, ImplementsAction};
 use crate::moving::write_text;
 use crate::registers::Ending;
 use crate::registers::Next;
@@ -19,7 +19,7 @@ pub fn compute(g: Registers, subtract: bool, input: &[u8], output: &mut [u8]) ->
     requires { ⌜ g .q .0 ≤ length (now input) ⌝ }
     requires { ⌜ g .r .0 ≤ length (now output) ⌝ }
     ensures { λ r. ⌜ ((«record» values : Bytes) (frames : List ℕ) →
-        Acts (computing (operation subtract)) (g .at .0) g
+        ImplementsAction (computing (operation subtract)) (g .at .0) g
         (memory (now (input .entry)) (now (output .entry)) «record» frames values) r
         (memory (now (input .entry)) (now (output .exit)) «record» frames values)) ⌝ }
 {

@@ -9,7 +9,7 @@ ghost use Rattle.meaning.specs.Choice.{Bytes};
 ghost use Rattle.meaning.specs.Outcome.{emittedLine};
 ghost use Rattle.meaning.specs.Packing.{emissionOf};
 ghost use Rattle.run_decoding.specs.Decoded.{isName};
-ghost use Rattle.run_actions.specs.States.{memory, Acts};
+ghost use Rattle.run_actions.specs.States.{memory, ImplementsAction};
 use crate::registers::Ending;
 use crate::registers::Next;
 use crate::registers::Registers;
@@ -86,7 +86,7 @@ pub fn emit(g: Registers, code: &[u32], size: usize, input: &[u8], record: &mut 
     requires { ⌜ g .p .0 ≤ g .q .0 ⌝ }
     requires { ⌜ g .q .0 ≤ length (now input) ⌝ }
     requires { ⌜ g .emitted ≤ length (now «record») ⌝ }
-    ensures { λ r. ⌜ ((output values : Bytes) (frames : List ℕ) → Acts (emissionOf size (drop (g .at .0) (now (code .entry)))) (g .at .0 + size) g
+    ensures { λ r. ⌜ ((output values : Bytes) (frames : List ℕ) → ImplementsAction (emissionOf size (drop (g .at .0) (now (code .entry)))) (g .at .0 + size) g
         (memory (now (input .entry)) output (now («record» .entry)) frames values) r (memory (now (input .entry)) output (now («record» .exit)) frames values)) ⌝ }
 {
     if !named(code, g.at, size) {

@@ -8,7 +8,7 @@ ghost use Rattle.meaning.specs.Instructions.{Action, go as going, select as sel
 ghost use Rattle.meaning.specs.Leaving.{maxFrames};
 ghost use Rattle.meaning.specs.Packing.{firstIn, secondIn, thirdIn, lengthOf};
 ghost use Rattle.run_decoding.specs.Decoded.{spanMeant, writeMeant};
-ghost use Rattle.run_actions.specs.States.{memory, HasFrame, Paired, localAt, Held, Opens, Writes, Acts};
+ghost use Rattle.run_actions.specs.States.{memory, HasFrame, Paired, localAt, Held, Opens, Writes, ImplementsAction};
 ghost use Rattle.run_actions.specs.Spans.{withinCells, cellsOf, reachedBy};
 use crate::frames::FRAME_VALUES;
 use crate::frames::LENGTHS;
@@ -109,7 +109,7 @@ pub fn go(g: Registers, span: u32, input: &[u8], frames: &[usize]) -> Next
     requires { ⌜ g .frame < maxFrames ⌝ }
     requires { ⌜ HasFrame (g .frame) (now frames) ⌝ }
     requires { ⌜ Held (g .frame) (now frames) ⌝ }
-    ensures { λ r. ⌜ ((output «record» values : Bytes) → Acts (spanMeant going span) (g .at .0) g (memory (now (input .entry)) output «record» (now (frames .entry)) values)
+    ensures { λ r. ⌜ ((output «record» values : Bytes) → ImplementsAction (spanMeant going span) (g .at .0) g (memory (now (input .entry)) output «record» (now (frames .entry)) values)
         r (memory (now (input .entry)) output «record» (now (frames .entry)) values)) ⌝ }
 {
     let Reached::At(to) = reach(g.p, span, g.frame, input, frames) else {
@@ -125,7 +125,7 @@ pub fn select(g: Registers, span: u32, input: &[u8], frames: &[usize]) -> Next
     requires { ⌜ g .frame < maxFrames ⌝ }
     requires { ⌜ HasFrame (g .frame) (now frames) ⌝ }
     requires { ⌜ Held (g .frame) (now frames) ⌝ }
-    ensures { λ r. ⌜ ((output «record» values : Bytes) → Acts (spanMeant selecting span) (g .at .0) g (memory (now (input .entry)) output «record» (now (frames .entry)) values)
+    ensures { λ r. ⌜ ((output «record» values : Bytes) → ImplementsAction (spanMeant selecting span) (g .at .0) g (memory (now (input .entry)) output «record» (now (frames .entry)) values)
         r (memory (now (input .entry)) output «record» (now (frames .entry)) values)) ⌝ }
 {
     let Reached::At(to) = reach(g.q, span, g.frame, input, frames) else {
@@ -140,7 +140,7 @@ pub fn write_text(g: Registers, text: &[u8], output: &mut [u8]) -> Next
     requires { ⌜ g .r .0 ≤ length (now output) ⌝ }
     ensures { λ r. ⌜ ((action : Action) (input «record» values : Bytes) (frames : List ℕ) →
         Writes action (now (text .entry)) g (memory input (now (output .entry)) «record» frames values) →
-        Acts action (g .at .0) g (memory input (now (output .entry)) «record» frames values) r
+        ImplementsAction action (g .at .0) g (memory input (now (output .entry)) «record» frames values) r
         (memory input (now (output .exit)) «record» frames values)) ⌝ }
 {
     if room_from(output, g.r) < text.len() {
@@ -156,7 +156,7 @@ pub fn write_part(g: Registers, input: &[u8], output: &mut [u8]) -> Next
     requires { ⌜ g .p .0 ≤ g .q .0 ⌝ }
     requires { ⌜ g .q .0 ≤ length (now input) ⌝ }
     requires { ⌜ g .r .0 ≤ length (now output) ⌝ }
-    ensures { λ r. ⌜ ((«record» values : Bytes) (frames : List ℕ) → Acts out (g .at .0) g (memory (now (input .entry)) (now (output .entry)) «record» frames values) r
+    ensures { λ r. ⌜ ((«record» values : Bytes) (frames : List ℕ) → ImplementsAction out (g .at .0) g (memory (now (input .entry)) (now (output .entry)) «record» frames values) r
         (memory (now (input .entry)) (now (output .exit)) «record» frames values)) ⌝ }
 {
     write_text(g, part(input, g.p, g.q), output)
@@ -164,7 +164,7 @@ pub fn write_part(g: Registers, input: &[u8], output: &mut [u8]) -> Next
 
 pub fn write_byte(g: Registers, byte: u8, output: &mut [u8]) -> Next
     requires { ⌜ g .r .0 ≤ length (now output) ⌝ }
-    ensures { λ r. ⌜ ((input «record» values : Bytes) (frames : List ℕ) → Acts (outC byte) (g .at .0) g
+    ensures { λ r. ⌜ ((input «record» values : Bytes) (frames : List ℕ) → ImplementsAction (outC byte) (g .at .0) g
         (memory input (now (output .entry)) «record» frames values) r (memory input (now (output .exit)) «record» frames values)) ⌝ }
 {
     if room_from(output, g.r) == 0 {
@@ -187,7 +187,7 @@ fn write_value(
     requires { ⌜ HasFrame (g .frame) (now frames) ⌝ }
     requires { ⌜ Held (g .frame) (now frames) ⌝ }
     requires { ⌜ Paired (now frames) (now values) ⌝ }
-    ensures { λ r. ⌜ ((input «record» : Bytes) → Acts (outV index) (g .at .0) g
+    ensures { λ r. ⌜ ((input «record» : Bytes) → ImplementsAction (outV index) (g .at .0) g
         (memory input (now (output .entry)) «record» (now (frames .entry)) (now (values .entry))) r
         (memory input (now (output .exit)) «record» (now (frames .entry)) (now (values .entry)))) ⌝ }
 {
@@ -215,7 +215,7 @@ pub fn write(
     requires { ⌜ HasFrame (g .frame) (now frames) ⌝ }
     requires { ⌜ Held (g .frame) (now frames) ⌝ }
     requires { ⌜ Paired (now frames) (now values) ⌝ }
-    ensures { λ r. ⌜ ((«record» : Bytes) → Acts (writeMeant what) (g .at .0) g
+    ensures { λ r. ⌜ ((«record» : Bytes) → ImplementsAction (writeMeant what) (g .at .0) g
         (memory (now (input .entry)) (now (output .entry)) «record» (now (frames .entry)) (now (values .entry))) r
         (memory (now (input .entry)) (now (output .exit)) «record» (now (frames .entry)) (now (values .entry)))) ⌝ }
 {
@@ -248,7 +248,7 @@ pub fn begin_seq(g: Registers, frames: &mut [usize]) -> Next
     requires { ⌜ HasFrame (g .frame) (now frames) ⌝ }
     requires { ⌜ Held (g .frame) (now frames) ⌝ }
     ensures { λ r. ⌜ ((input output «record» values : Bytes) → g .r .0 ≤ length output →
-        Acts beginSeq (g .at .0) g (memory input output «record» (now (frames .entry)) values) r (memory input output «record» (now (frames .exit)) values)) ⌝ }
+        ImplementsAction beginSeq (g .at .0) g (memory input output «record» (now (frames .entry)) values) r (memory input output «record» (now (frames .exit)) values)) ⌝ }
 {
     if !open_sequence(frames, g.frame, g.r) {
         return Next::Stopped(g, Ending::NoInstruction, 0);
@@ -264,7 +264,7 @@ pub fn use_seq(g: Registers, input: &mut [u8], output: &[u8], frames: &mut [usiz
     requires { ⌜ g .frame < maxFrames ⌝ }
     requires { ⌜ HasFrame (g .frame) (now frames) ⌝ }
     requires { ⌜ Held (g .frame) (now frames) ⌝ }
-    ensures { λ r. ⌜ ((«record» values : Bytes) → Acts useSeq (g .at .0) g
+    ensures { λ r. ⌜ ((«record» values : Bytes) → ImplementsAction useSeq (g .at .0) g
         (memory (now (input .entry)) (now (output .entry)) «record» (now (frames .entry)) values) r
         (memory (now (input .exit)) (now (output .entry)) «record» (now (frames .exit)) values)) ⌝ }
 {

@@ -1,6 +1,6 @@
 -- Laws over plain values.
 pub mod Storing
 pub mod Waiting
-pub mod Advancing
+pub mod Simulation
 pub mod Applying
 pub mod Calling

@@ -1,4 +1,4 @@
 -- The definitions that this crate's contracts cite, in the order in which they build on each other.
 pub mod Storing
 pub mod Waiting
-pub mod Advancing
+pub mod Simulation

@@ -15,7 +15,7 @@ use Rattle.run_actions.specs.declared.registers.Ending.the-variants.{NoSentence
 use Rattle.run_actions.specs.declared.registers.Next.{Next}
 use Rattle.run_actions.specs.declared.registers.Next.the-variants.{Onward, Done, Stopped, Deeper}
 use Rattle.run_actions.specs.Endings.{endingNumber}
-use Rattle.run_actions.specs.States.{Memory, frameWord, localAt, localOf, Held, stacksOf, Ledgers, ledgerOf, Outcomes, Going}
+use Rattle.run_actions.specs.States.{Memory, frameWord, localAt, localOf, Held, stacksOf, Ledgers, ledgerOf, Outcomes, Continuation}
 
 -- how many functions the table tells, and whether it is sound
 abbrev pub countIn : Words → ℕ
@@ -34,38 +34,38 @@ module _ (room : Room) (allowance : ℕ) (words : Words) where
   entering = enter (lent room) allowance (functionsIn words)
 
   -- what is left to do in a frame from a place of the code on, the frame being told by how many wait below it
-  abbrev pub going : ℕ → ℕ → Going
-  going k at = process (lent room) (functionsIn words) entering (suc k) (unpackActions 0 (drop at words))
+  abbrev pub continuationAt : ℕ → ℕ → Continuation
+  continuationAt k at = process (lent room) (functionsIn words) entering (suc k) (unpackActions 0 (drop at words))
 
   -- the frames that wait, the uppermost first: each goes on where its call returns to, with q where it was
   unfoldable pub waiting : ℕ → List ℕ → Bytes → Outcomes → Outcomes
   waiting zero frames values o = o
   waiting (suc k) frames values o =
-      waiting k frames values (andThen o (λ s g. going k (frameWord k 6 frames) (localAt k frames values) (returned (room .inCells - frameWord k 7 frames) s) g))
+      waiting k frames values (andThen o (λ s g. continuationAt k (frameWord k 6 frames) (localAt k frames values) (returned (room .inCells - frameWord k 7 frames) s) g))
 
   -- what comes of an outcome in the current frame
   abbrev pub returning : Registers → Memory → Outcomes → Outcomes
   returning g m o = waiting (g .frame) (m .frames) (m .values) o
 
   -- what comes next there: the application of a function, where the registers name one that is declared, or else actions
-  abbrev pub applied : Registers → Memory → Outcomes
-  applied g m =
+  abbrev pub outcomeOfApplication : Registers → Memory → Outcomes
+  outcomeOfApplication g m =
       ranPaid (lent room) (functionsIn words) entering (suc (g .frame)) (g .callee) (stacksOf g m) (ledgerOf allowance g m) (pay (g .callee) (ledgerOf allowance g m .tally))
 
-  abbrev pub acted : Registers → Memory → Outcomes
-  acted g m = going (g .frame) (g .at .0) (localOf g m) (stacksOf g m) (ledgerOf allowance g m)
+  abbrev pub outcomeOfActions : Registers → Memory → Outcomes
+  outcomeOfActions g m = continuationAt (g .frame) (g .at .0) (localOf g m) (stacksOf g m) (ledgerOf allowance g m)
 
-  abbrev pub ongoing : Registers → Memory → Outcomes
-  ongoing g m =
-      let application = applied g m in
-      let actions = acted g m in
+  abbrev pub outcomeOnward : Registers → Memory → Outcomes
+  outcomeOnward g m =
+      let application = outcomeOfApplication g m in
+      let actions = outcomeOfActions g m in
       returning g m (pick (isDeclared (functionsIn words) (g .callee)) application actions)
 
-  abbrev pub comesTo : Next → Memory → Outcomes
-  comesTo (Onward g) m = ongoing g m
-  comesTo (Done g) m = done (stacksOf g m) (ledgerOf allowance g m)
-  comesTo (Stopped g ending function) m = stop (endingNumber ending) function (ledgerOf allowance g m)
-  comesTo (Deeper g) m = ongoing g m
+  abbrev pub outcomeFrom : Next → Memory → Outcomes
+  outcomeFrom (Onward g) m = outcomeOnward g m
+  outcomeFrom (Done g) m = done (stacksOf g m) (ledgerOf allowance g m)
+  outcomeFrom (Stopped g ending function) m = stop (endingNumber ending) function (ledgerOf allowance g m)
+  outcomeFrom (Deeper g) m = outcomeOnward g m
 
 -- a frame that waits holds what it should, and its q is a cell of in or the end
 pub record Waits (cells k : ℕ) (frames : List ℕ) : Type 0 where
@@ -73,27 +73,27 @@ pub record Waits (cells k : ℕ) (frames : List ℕ) : Type 0 where
   pub kept : frameWord k 7 frames ≤ cells
 
 -- what one instruction comes to in its frame, which then goes on at a place
-abbrev pub performing : Room → ℕ → Words → Action → ℕ → Registers → Memory → Outcomes
-performing room allowance words action at g m =
+abbrev pub outcomeOfAction : Room → ℕ → Words → Action → ℕ → Registers → Memory → Outcomes
+outcomeOfAction room allowance words action at g m =
     returning room allowance words g m
-    (perform (lent room) (functionsIn words) (entering room allowance words) (going room allowance words (g .frame) at) (suc (g .frame)) action
+    (perform (lent room) (functionsIn words) (entering room allowance words) (continuationAt room allowance words (g .frame) at) (suc (g .frame)) action
     (localOf g m) (stacksOf g m) (ledgerOf allowance g m))
 
 -- HOW MUCH IS LEFT TO DO: code words for each step that is left, and those left in the frames
 
 -- the words left in the frames that wait
-unfoldable pub leftWaiting : ℕ → ℕ → List ℕ → ℕ
-leftWaiting size zero frames = 0
-leftWaiting size (suc k) frames = size - frameWord k 6 frames + leftWaiting size k frames
+unfoldable pub measureWaiting : ℕ → ℕ → List ℕ → ℕ
+measureWaiting size zero frames = 0
+measureWaiting size (suc k) frames = size - frameWord k 6 frames + measureWaiting size k frames
 
-abbrev pub leftBelow : ℕ → ℕ → Registers → Memory → ℕ
-leftBelow size allowance g m = (allowance - g .steps) * suc size + leftWaiting size (g .frame) (m .frames)
+abbrev pub measureBelow : ℕ → ℕ → Registers → Memory → ℕ
+measureBelow size allowance g m = (allowance - g .steps) * suc size + measureWaiting size (g .frame) (m .frames)
 
-abbrev pub leftToDo : ℕ → ℕ → Next → Memory → ℕ
-leftToDo size allowance (Onward g) m = suc (leftBelow size allowance g m + (size - g .at .0))
-leftToDo size allowance (Done g) m = 0
-leftToDo size allowance (Stopped g ending function) m = 0
-leftToDo size allowance (Deeper g) m = 0
+abbrev pub measure : ℕ → ℕ → Next → Memory → ℕ
+measure size allowance (Onward g) m = suc (measureBelow size allowance g m + (size - g .at .0))
+measure size allowance (Done g) m = 0
+measure size allowance (Stopped g ending function) m = 0
+measure size allowance (Deeper g) m = 0
 
 -- THE END OF AN APPLICATION: the frame below goes on, its q where it was or at p where that has passed it, or the run is done
 

@@ -15,11 +15,11 @@ ghost use Rattle.run_applications.specs.Storing.{Stores};
 ghost use Rattle.run_decoding.specs.Decoded.{callMeant};
 ghost use Rattle.run_actions.specs.States.{HasFrame, Paired, crowdedAt, CountsWithin, memory};
 ghost use Rattle.run_applications.specs.Waiting.{countIn, functionsIn, leftBy, recoveredBy};
-ghost use Rattle.run_applications.specs.Advancing.{Performs, Applies, Starts};
 use code_numbers::FIRST;
 use code_numbers::OPERAND;
 use code_numbers::SECOND;
 use code_numbers::STORE;
+ghost use Rattle.run_applications.specs.Simulation.{SimulatesAction, SimulatesApplication, SimulatesSentence};
 use run_actions::frames::FRAME_VALUES;
 use run_actions::frames::FRAMES;
 use run_actions::frames::begin_frame;
@@ -120,7 +120,7 @@ fn start_sentence(
     requires { ⌜ HasFrame (g .frame) (now frames) ⌝ }
     requires { ⌜ Paired (now frames) (now values) ⌝ }
     requires { ⌜ stored ≤ 16 ⌝ }
-    ensures { λ r. ⌜ ((allowance : ℕ) (output «record» : Bytes) → Starts (now (code .entry)) allowance place (stores .0) stored g (memory (now (input .entry)) output «record» (now (frames .entry)) (now (values .entry))) r (memory (now (input .entry)) output «record» (now (frames .exit)) (now (values .exit)))) ⌝ }
+    ensures { λ r. ⌜ ((allowance : ℕ) (output «record» : Bytes) → SimulatesSentence (now (code .entry)) allowance place (stores .0) stored g (memory (now (input .entry)) output «record» (now (frames .entry)) (now (values .entry))) r (memory (now (input .entry)) output «record» (now (frames .exit)) (now (values .exit)))) ⌝ }
 {
     let field = part(input, g.p, g.q);
     let Stored::Before(actions) = store_values(code, stores, stored, field, place, values, g.frame)
@@ -172,7 +172,7 @@ pub fn apply(
     requires { ⌜ HasFrame (g .frame) (now frames) ⌝ }
     requires { ⌜ Paired (now frames) (now values) ⌝ }
     requires { ⌜ CountsWithin (g .steps) (now frames) ⌝ }
-    ensures { λ r. ⌜ ((output «record» : Bytes) → Applies (now (code .entry)) allowance number g (memory (now (input .entry)) output «record» (now (frames .entry)) (now (values .entry))) r (memory (now (input .entry)) output «record» (now (frames .exit)) (now (values .exit)))) ⌝ }
+    ensures { λ r. ⌜ ((output «record» : Bytes) → SimulatesApplication (now (code .entry)) allowance number g (memory (now (input .entry)) output «record» (now (frames .entry)) (now (values .entry))) r (memory (now (input .entry)) output «record» (now (frames .exit)) (now (values .exit)))) ⌝ }
 {
     let steps = g.steps;
     if allowance <= steps {
@@ -205,7 +205,7 @@ fn framed_call(
     requires { ⌜ g .frame < maxFrames ⌝ }
     requires { ⌜ HasFrame (g .frame) (now frames) ⌝ }
     requires { ⌜ crowdedAt (g .frame) (now frames) ≡ false ⌝ }
-    ensures { λ r. ⌜ ((input output «record» values : Bytes) → Performs (now (code .entry)) allowance (calling number) (g .at .0) g
+    ensures { λ r. ⌜ ((input output «record» values : Bytes) → SimulatesAction (now (code .entry)) allowance (calling number) (g .at .0) g
         (memory input output «record» (now (frames .entry)) values) r (memory input output «record» (now (frames .exit)) values)) ⌝ }
 {
     if allowance <= g.steps {
@@ -231,7 +231,7 @@ pub fn call(g: Registers, code: &[u32], what: Call, allowance: u32, frames: &mut
     requires { ⌜ g .frame < maxFrames ⌝ }
     requires { ⌜ HasFrame (g .frame) (now frames) ⌝ }
     requires { ⌜ crowdedAt (g .frame) (now frames) ≡ false ⌝ }
-    ensures { λ r. ⌜ ((input output «record» values : Bytes) → Performs (now (code .entry)) allowance (callMeant what) (g .at .0) g
+    ensures { λ r. ⌜ ((input output «record» values : Bytes) → SimulatesAction (now (code .entry)) allowance (callMeant what) (g .at .0) g
         (memory input output «record» (now (frames .entry)) values) r (memory input output «record» (now (frames .exit)) values)) ⌝ }
 {
     let number = what.function;

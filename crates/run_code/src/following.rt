@@ -9,7 +9,9 @@ ghost use Rattle.meaning.specs.Runs.{runLent};
 ghost use Rattle.meaning.specs.Leaving.{roomOf as roomOfCells, afterRun};
 ghost use Rattle.run_actions.specs.States.{firstFrames, wordsFor, valuesFor, countsIn, memory};
 ghost use Rattle.run_applications.specs.Waiting.{countIn, soundIn, functionsIn};
-ghost use Rattle.run_applications.specs.Advancing.{Underway, Keeps, Follows, FollowsToEnd};
+ghost use Rattle.run_applications.specs.Simulation.{Invariant, NextInvariant};
+ghost use Rattle.run_turns.specs.Turns.{IsOver};
+ghost use Rattle.run_code.specs.Following.{SimulatesUntil, HasEnded};
 ghost use Rattle.run_code.specs.Leaving.{cells, Leaves, refusedWith, finishedWith, reportedOf, clearedFrom, loadedWith};
 use run_actions::frames::COUNTED;
 use run_actions::frames::all_values;
@@ -80,8 +82,8 @@ fn follow(
 ) -> Next
     requires { ⌜ Answers (now bits) ⌝ }
     requires { ⌜ countIn (now code) < length (now code) ⌝ }
-    requires { ⌜ Keeps allowance first (memory (now input) (now output) (now «record») (now frames) (now values)) ⌝ }
-    ensures { λ r. ⌜ Follows (now (code .entry)) allowance first
+    requires { ⌜ NextInvariant allowance first (memory (now input) (now output) (now «record») (now frames) (now values)) ⌝ }
+    ensures { λ r. ⌜ SimulatesUntil IsOver (now (code .entry)) allowance first
         (memory (now (input .entry)) (now (output .entry)) (now («record» .entry)) (now (frames .entry)) (now (values .entry))) r
         (memory (now (input .exit)) (now (output .exit)) (now («record» .exit)) (now (frames .exit)) (now (values .exit))) ⌝ }
 {
@@ -117,10 +119,10 @@ fn follow_all(
 ) -> Next
     requires { ⌜ Answers (now bits) ⌝ }
     requires { ⌜ countIn (now code) < length (now code) ⌝ }
-    requires { ⌜ Keeps allowance first (memory (now input) (now output) (now «record») (now frames) (now values)) ⌝ }
+    requires { ⌜ NextInvariant allowance first (memory (now input) (now output) (now «record») (now frames) (now values)) ⌝ }
     requires { ⌜ length (now frames) ≡ wordsFor firstFrames ⌝ }
     requires { ⌜ length (now values) ≡ valuesFor firstFrames ⌝ }
-    ensures { λ r. ⌜ FollowsToEnd (now (code .entry)) allowance first
+    ensures { λ r. ⌜ SimulatesUntil HasEnded (now (code .entry)) allowance first
         (memory (now (input .entry)) (now (output .entry)) (now («record» .entry)) (now (frames .entry)) (now (values .entry))) r
         (memory (now (input .exit)) (now (output .exit)) (now («record» .exit)) (now (frames .exit)) (now (values .exit))) ⌝ }
 {
@@ -165,10 +167,10 @@ fn follow_deeper(
 ) -> Next
     requires { ⌜ Answers (now bits) ⌝ }
     requires { ⌜ countIn (now code) < length (now code) ⌝ }
-    requires { ⌜ Underway allowance g (memory (now input) (now output) (now «record») (now frames) (now values)) ⌝ }
+    requires { ⌜ Invariant allowance g (memory (now input) (now output) (now «record») (now frames) (now values)) ⌝ }
     requires { ⌜ length (now frames) ≡ wordsFor firstFrames ⌝ }
     requires { ⌜ length (now values) ≡ valuesFor firstFrames ⌝ }
-    ensures { λ r. ⌜ FollowsToEnd (now (code .entry)) allowance (Onward g)
+    ensures { λ r. ⌜ SimulatesUntil HasEnded (now (code .entry)) allowance (Onward g)
         (memory (now (input .entry)) (now (output .entry)) (now («record» .entry)) (now (frames .entry)) (now (values .entry))) r
         (memory (now (input .exit)) (now (output .exit)) (now («record» .exit)) (now (frames .exit)) (now (values .entry))) ⌝ }
 {

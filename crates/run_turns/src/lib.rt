@@ -7,11 +7,13 @@ ghost use Rattle.byte_classes.specs.Tests.{Answers};
 ghost use Rattle.meaning.specs.Leaving.{maxFrames};
 ghost use Rattle.run_actions.specs.States.{HasFrame, Paired, memory, Held, CountsWithin};
 ghost use Rattle.run_applications.specs.Waiting.{countIn};
-ghost use Rattle.run_applications.specs.Advancing.{Underway, Acting, Ongoing, registersIn, statusIn, nextOf, onward, Steps, keptOf, Tries, Uses, Does, Enters};
 use code_numbers::BEGIN_SEQ;
 use code_numbers::GO;
 use code_numbers::SELECT;
 use code_numbers::USE_SEQ;
+ghost use Rattle.run_applications.specs.Simulation.{Invariant, registersIn};
+ghost use Rattle.run_turns.specs.Turns.{statusIn, nextOf, onward, keptOf, ActingInvariant, SomeActingInvariant};
+ghost use Rattle.run_turns.specs.Turns.{SimulatesEntry, SimulatesTry, SimulatesUse, SimulatesInstruction, SimulatesTurn};
 use run_actions::computing::compute;
 use run_actions::emitting::emit;
 use run_actions::frames::crowded;
@@ -53,8 +55,10 @@ fn enter(
     requires { ⌜ HasFrame (g .frame) (now frames) ⌝ }
     requires { ⌜ Paired (now frames) (now values) ⌝ }
     requires { ⌜ CountsWithin (g .steps) (now frames) ⌝ }
-    ensures { λ r. ⌜ ((output «record» : Bytes) → Enters (now (code .entry)) allowance g (memory (now (input .entry)) output «record» (now (frames .entry)) (now (values .entry)))
-        r (memory (now (input .entry)) output «record» (now (frames .exit)) (now (values .exit)))) ⌝ }
+    ensures simulates { λ r. ⌜ ((output «record» : Bytes) →
+        let m = memory (now (input .entry)) output «record» (now (frames .entry)) (now (values .entry)) in
+        let n = memory (now (input .entry)) output «record» (now (frames .exit)) (now (values .exit)) in
+        Invariant allowance g m → SimulatesEntry (now (code .entry)) allowance g m r n) ⌝ }
 {
     let number = g.callee;
     if !declared(code, number) {
@@ -82,8 +86,9 @@ fn try_go(g: Registers, code: &[u32], input: &[u8], frames: &[usize]) -> Registe
     requires { ⌜ g .frame < maxFrames ⌝ }
     requires { ⌜ HasFrame (g .frame) (now frames) ⌝ }
     requires { ⌜ Held (g .frame) (now frames) ⌝ }
-    ensures { λ h. ⌜ ((allowance : ℕ) (output «record» values : Bytes) → Tries (now (code .entry)) allowance g (memory (now (input .entry)) output «record» (now (frames .entry)) values)
-        h (memory (now (input .entry)) output «record» (now (frames .entry)) values)) ⌝ }
+    ensures simulates { λ h. ⌜ ((allowance : ℕ) (output «record» values : Bytes) →
+        let m = memory (now (input .entry)) output «record» (now (frames .entry)) values in
+        ActingInvariant allowance g m → SimulatesTry (now (code .entry)) allowance g m h m) ⌝ }
 {
     let Found::Word(word, next) = find_word(code, g.at, GO) else {
         return g;
@@ -99,8 +104,9 @@ fn try_select(g: Registers, code: &[u32], input: &[u8], frames: &[usize]) -> Reg
     requires { ⌜ g .frame < maxFrames ⌝ }
     requires { ⌜ HasFrame (g .frame) (now frames) ⌝ }
     requires { ⌜ Held (g .frame) (now frames) ⌝ }
-    ensures { λ h. ⌜ ((allowance : ℕ) (output «record» values : Bytes) → Tries (now (code .entry)) allowance g (memory (now (input .entry)) output «record» (now (frames .entry)) values)
-        h (memory (now (input .entry)) output «record» (now (frames .entry)) values)) ⌝ }
+    ensures simulates { λ h. ⌜ ((allowance : ℕ) (output «record» values : Bytes) →
+        let m = memory (now (input .entry)) output «record» (now (frames .entry)) values in
+        ActingInvariant allowance g m → SimulatesTry (now (code .entry)) allowance g m h m) ⌝ }
 {
     let Found::Word(word, next) = find_word(code, g.at, SELECT) else {
         return g;
@@ -114,8 +120,10 @@ fn try_begin(g: Registers, code: &[u32], frames: &mut [usize]) -> Registers
     requires { ⌜ g .frame < maxFrames ⌝ }
     requires { ⌜ HasFrame (g .frame) (now frames) ⌝ }
     requires { ⌜ Held (g .frame) (now frames) ⌝ }
-    ensures { λ h. ⌜ ((allowance : ℕ) (input output «record» values : Bytes) → Tries (now (code .entry)) allowance g (memory input output «record» (now (frames .entry)) values)
-        h (memory input output «record» (now (frames .exit)) values)) ⌝ }
+    ensures simulates { λ h. ⌜ ((allowance : ℕ) (input output «record» values : Bytes) →
+        let m = memory input output «record» (now (frames .entry)) values in
+        let n = memory input output «record» (now (frames .exit)) values in
+        ActingInvariant allowance g m → SimulatesTry (now (code .entry)) allowance g m h n) ⌝ }
 {
     let Found::Word(_, next) = find_word(code, g.at, BEGIN_SEQ) else {
         return g;
@@ -135,10 +143,11 @@ fn try_writes(
     frames: &[usize],
     values: &[u8],
 ) -> Registers
-    requires { ⌜ Ongoing g (now input) (now output) (now frames) (now values) ⌝ }
-    ensures { λ h. ⌜ ((allowance : ℕ) («record» : Bytes) → Tries (now (code .entry)) allowance g
-        (memory (now (input .entry)) (now (output .entry)) «record» (now (frames .entry)) (now (values .entry)))
-        h (memory (now (input .entry)) (now (output .exit)) «record» (now (frames .entry)) (now (values .entry)))) ⌝ }
+    requires { ⌜ SomeActingInvariant g (now input) (now output) (now frames) (now values) ⌝ }
+    ensures simulates { λ h. ⌜ ((allowance : ℕ) («record» : Bytes) →
+        let m = memory (now (input .entry)) (now (output .entry)) «record» (now (frames .entry)) (now (values .entry)) in
+        let n = memory (now (input .entry)) (now (output .exit)) «record» (now (frames .entry)) (now (values .entry)) in
+        ActingInvariant allowance g m → SimulatesTry (now (code .entry)) allowance g m h n) ⌝ }
 {
     let mut h = g;
     loop {
@@ -174,8 +183,10 @@ fn try_use(
     requires { ⌜ g .frame < maxFrames ⌝ }
     requires { ⌜ HasFrame (g .frame) (now frames) ⌝ }
     requires { ⌜ Held (g .frame) (now frames) ⌝ }
-    ensures { λ r. ⌜ ((allowance : ℕ) («record» values : Bytes) → Uses (now (code .entry)) allowance g (memory (now (input .entry)) (now (output .entry)) «record» (now (frames .entry)) values)
-        r (memory (now (input .exit)) (now (output .entry)) «record» (now (frames .exit)) values)) ⌝ }
+    ensures simulates { λ r. ⌜ ((allowance : ℕ) («record» values : Bytes) →
+        let m = memory (now (input .entry)) (now (output .entry)) «record» (now (frames .entry)) values in
+        let n = memory (now (input .exit)) (now (output .entry)) «record» (now (frames .exit)) values in
+        ActingInvariant allowance g m → SimulatesUse (now (code .entry)) allowance g m r n) ⌝ }
 {
     let Found::Word(_, next) = find_word(code, g.at, USE_SEQ) else {
         return Next::Onward(g);
@@ -196,8 +207,8 @@ fn act(
     values: &[u8],
 ) -> Next
     requires { ⌜ countIn (now code) < length (now code) ⌝ }
-    requires { ⌜ Acting allowance g (memory (now input) (now output) (now «record») (now frames) (now values)) ⌝ }
-    ensures { λ r. ⌜ Does (now (code .entry)) allowance g
+    requires { ⌜ ActingInvariant allowance g (memory (now input) (now output) (now «record») (now frames) (now values)) ⌝ }
+    ensures { λ r. ⌜ SimulatesInstruction (now (code .entry)) allowance g
         (memory (now (input .entry)) (now (output .entry)) (now («record» .entry)) (now (frames .entry)) (now (values .entry))) r
         (memory (now (input .entry)) (now (output .exit)) (now («record» .exit)) (now (frames .exit)) (now (values .entry))) ⌝ }
 {
@@ -238,10 +249,11 @@ fn write_items(
     frames: &mut [usize],
     values: &[u8],
 ) -> Registers
-    requires { ⌜ Ongoing g (now input) (now output) (now frames) (now values) ⌝ }
-    ensures { λ h. ⌜ ((allowance : ℕ) («record» : Bytes) → Tries (now (code .entry)) allowance g
-        (memory (now (input .entry)) (now (output .entry)) «record» (now (frames .entry)) (now (values .entry)))
-        h (memory (now (input .entry)) (now (output .exit)) «record» (now (frames .exit)) (now (values .entry)))) ⌝ }
+    requires { ⌜ SomeActingInvariant g (now input) (now output) (now frames) (now values) ⌝ }
+    ensures simulates { λ h. ⌜ ((allowance : ℕ) («record» : Bytes) →
+        let m = memory (now (input .entry)) (now (output .entry)) «record» (now (frames .entry)) (now (values .entry)) in
+        let n = memory (now (input .entry)) (now (output .exit)) «record» (now (frames .exit)) (now (values .entry)) in
+        ActingInvariant allowance g m → SimulatesTry (now (code .entry)) allowance g m h n) ⌝ }
 {
     let begun = try_begin(g, code, frames);
     let gone = try_go(begun, code, input, frames);
@@ -265,8 +277,8 @@ fn advance(
 ) -> Next
     requires { ⌜ Answers (now bits) ⌝ }
     requires { ⌜ countIn (now code) < length (now code) ⌝ }
-    requires { ⌜ Underway allowance g (memory (now input) (now output) (now «record») (now frames) (now values)) ⌝ }
-    ensures { λ r. ⌜ Steps (now (code .entry)) allowance g
+    requires { ⌜ Invariant allowance g (memory (now input) (now output) (now «record») (now frames) (now values)) ⌝ }
+    ensures { λ r. ⌜ SimulatesTurn (now (code .entry)) allowance g
         (memory (now (input .entry)) (now (output .entry)) (now («record» .entry)) (now (frames .entry)) (now (values .entry))) r
         (memory (now (input .exit)) (now (output .exit)) (now («record» .exit)) (now (frames .exit)) (now (values .exit))) ⌝ }
 {
@@ -354,8 +366,8 @@ pub fn step(
 ) -> Status
     requires { ⌜ Answers (now bits) ⌝ }
     requires { ⌜ countIn (now code) < length (now code) ⌝ }
-    requires { ⌜ Underway allowance (now g) (memory (now input) (now output) (now «record») (now frames) (now values)) ⌝ }
-    ensures { λ r. ⌜ Steps (now (code .entry)) allowance (now (g .entry))
+    requires { ⌜ Invariant allowance (now g) (memory (now input) (now output) (now «record») (now frames) (now values)) ⌝ }
+    ensures { λ r. ⌜ SimulatesTurn (now (code .entry)) allowance (now (g .entry))
         (memory (now (input .entry)) (now (output .entry)) (now («record» .entry)) (now (frames .entry)) (now (values .entry)))
         (nextOf r (now (g .exit)))
         (memory (now (input .exit)) (now (output .exit)) (now («record» .exit)) (now (frames .exit)) (now (values .exit))) ⌝ }

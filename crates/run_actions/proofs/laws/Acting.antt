@@ -28,7 +28,7 @@ use Rattle.run_actions.specs.declared.moving.Reached.the-variants.{At, W
 use Rattle.run_decoding.specs.Decoded.{spanMeant}
 use Rattle.run_actions.specs.Endings.{endingNumber}
 use Rattle.run_actions.specs.Spans.{cellsOf, reachedBy}
-use Rattle.run_actions.specs.States.{Memory, memory, frameWord, localOf, stacksOf, Ledgers, ledgerOf, roomOf, movedTo, Fits, Outcomes, Going, Writes, Stayed, Acts, HasValues}
+use Rattle.run_actions.specs.States.{Memory, memory, frameWord, localOf, stacksOf, Ledgers, ledgerOf, roomOf, movedTo, ActionInvariant, Outcomes, Continuation, Writes, Preserves, ImplementsAction, HasValues}
 use Rattle.run_sites.proofs.laws.Lists.{nth-in, nth-out}
 use Rattle.run_actions.proofs.laws.Spanning.{counted, not-counted, led, not-led}
 
@@ -51,31 +51,31 @@ stored-value frame k n values h few there =
 
 module _ (g : Registers) (m : Memory) where
   -- what the machine's action does here
-  abbrev pub Performing : Action → ℕ → Code → (ℕ → ℕ → Stacks → Ledgers → Outcomes) → Going → Outcomes
+  abbrev pub Performing : Action → ℕ → Code → (ℕ → ℕ → Stacks → Ledgers → Outcomes) → Continuation → Outcomes
   Performing action allowance code enter k =
       perform (lent (roomOf m)) code enter k (suc (g .frame)) action (localOf g m) (stacksOf g m) (ledgerOf allowance g m)
 
   -- an action that stops
   pub stops : (action : Action) (at : ℕ) (ending : Ending) →
-      ((allowance : ℕ) (code : Code) (enter : ℕ → ℕ → Stacks → Ledgers → Outcomes) (k : Going) →
+      ((allowance : ℕ) (code : Code) (enter : ℕ → ℕ → Stacks → Ledgers → Outcomes) (k : Continuation) →
       Performing action allowance code enter k ≡ stop (endingNumber ending) 0 (ledgerOf allowance g m)) →
-      Acts action at g m (Stopped g ending 0) m
-  stops action at ending h = record { same = h; stays = (refl, refl) }
+      ImplementsAction action at g m (Stopped g ending 0) m
+  stops action at ending h = record { same = h; preserves = (refl, refl) }
 
   -- only p, q, r and cells of the stacks change
-  stayed : (p q r : ℕ) (input output : Bytes) → (Fits g m → p ≤ q) → (Fits g m → q ≤ length input) → (Fits g m → r ≤ length output) →
-      Stayed (g .at .0) g m (movedTo g p q r) (memory input output (m .«record») (m .frames) (m .values))
-  stayed p q r input output o i b =
+  preserved : (p q r : ℕ) (input output : Bytes) → (ActionInvariant g m → p ≤ q) → (ActionInvariant g m → q ≤ length input) →
+      (ActionInvariant g m → r ≤ length output) →
+      Preserves (g .at .0) g m (movedTo g p q r) (memory input output (m .«record») (m .frames) (m .values))
+  preserved p q r input output o i b =
       record {
-        fits = λ f. record {
-          ordered = o f;
-          inside = i f;
-          below = b f;
-          logged = f .logged;
-          framed = f .framed;
+        invariant = λ f. record {
+          room = record {
+            selection = record { ordered = o f; inside = i f };
+            written = record { below = b f; logged = f .room .written .logged };
+            frame = f .room .frame;
+            values = f .room .values;
+          };
           held = f .held;
-          frameRoom = f .frameRoom;
-          valueRoom = f .valueRoom;
         };
         frame = refl;
         place = refl;
@@ -94,13 +94,13 @@ module _ (g : Registers) (m : Memory) where
     abbrev Spanned : Option Register → ℕ → Cells
     Spanned o from = cellsOf o add back (localOf g m) (length (m .input) - from)
 
-    go-none : (o : Option Register) → Wrong ≡ Spanned o (g .p .0) → Acts (spanAction go o add back) (g .at .0) g m (Stopped g NoInstruction 0) m
+    go-none : (o : Option Register) → Wrong ≡ Spanned o (g .p .0) → ImplementsAction (spanAction go o add back) (g .at .0) g m (Stopped g NoInstruction 0) m
     go-none none e = stops _ _ NoInstruction (λ allowance code enter k. refl)
     go-none (some r) e =
         stops _ _ NoInstruction (λ allowance code enter k. rw (length-drop (g .p .0) (m .input), lt-leb _ (length (m .input) - g .p .0) (not-counted _ _ e)))
 
     go-moved : (o : Option Register) (to : InCell) → At to ≡ reachedBy (Spanned o (g .p .0)) (g .p .0) →
-        Acts (spanAction go o add back) (g .at .0) g m (Onward (movedTo g (to .0) (to .0) (g .r .0))) m
+        ImplementsAction (spanAction go o add back) (g .at .0) g m (Onward (movedTo g (to .0) (to .0) (g .r .0))) m
     go-moved o to e =
         let l = led _ _ to e in
         let t = counted add back (localOf g m) _ o (l .on) (l .count) in
@@ -115,10 +115,10 @@ module _ (g : Registers) (m : Memory) where
                 ← (l .sum),
                 sub-self (to .0),
               );
-          stays = stayed _ _ _ (m .input) (m .output) (λ f. omega arith) (λ f. omega (arith, t .enough, l .sum)) (λ f. f .below);
+          preserves = preserved _ _ _ (m .input) (m .output) (λ f. omega arith) (λ f. omega (arith, t .enough, l .sum)) (λ f. f .room .written .below);
         }
 
-    select-none : (o : Option Register) → Wrong ≡ Spanned o (g .q .0) → Acts (spanAction select o add back) (g .at .0) g m (Stopped g NoInstruction 0) m
+    select-none : (o : Option Register) → Wrong ≡ Spanned o (g .q .0) → ImplementsAction (spanAction select o add back) (g .at .0) g m (Stopped g NoInstruction 0) m
     select-none none e = stops _ _ NoInstruction (λ allowance code enter k. refl)
     select-none (some r) e =
         let n = registerOf r (localOf g m) + add - back in
@@ -126,7 +126,7 @@ module _ (g : Registers) (m : Memory) where
         stops _ _ NoInstruction (λ allowance code enter k. rw (length-drop (g .p .0) (m .input), lt-leb _ _ short))
 
     select-moved : (o : Option Register) (to : InCell) → At to ≡ reachedBy (Spanned o (g .q .0)) (g .q .0) →
-        Acts (spanAction select o add back) (g .at .0) g m (Onward (movedTo g (g .p .0) (to .0) (g .r .0))) m
+        ImplementsAction (spanAction select o add back) (g .at .0) g m (Onward (movedTo g (g .p .0) (to .0) (g .r .0))) m
     select-moved o to e =
         let l = led _ _ to e in
         let t = counted add back (localOf g m) _ o (l .on) (l .count) in
@@ -134,7 +134,7 @@ module _ (g : Registers) (m : Memory) where
         let moved : g .q .0 - g .p .0 + l .on ≡ to .0 - g .p .0 = omega (arith, l .sum) in
         record {
           same = λ allowance code enter k. rw (t .known, t .amount, length-drop (g .p .0) (m .input), le-leb _ _ there, moved);
-          stays = stayed _ _ _ (m .input) (m .output) (λ f. omega (arith, l .sum)) (λ f. omega (arith, t .enough, l .sum)) (λ f. f .below);
+          preserves = preserved _ _ _ (m .input) (m .output) (λ f. omega (arith, l .sum)) (λ f. omega (arith, t .enough, l .sum)) (λ f. f .room .written .below);
         }
 
   module _ (p≤q : g .p .0 ≤ g .q .0) (q≤in : g .q .0 ≤ length (m .input)) (w : ℕ) where
@@ -146,7 +146,7 @@ module _ (g : Registers) (m : Memory) where
     gone NotThere = Stopped g NoInstruction 0
     gone (At to) = Onward (movedTo g (to .0) (to .0) (g .r .0))
 
-    pub goes : (r : Reached) → r ≡ Leading (g .p .0) → Acts (spanMeant go w) (g .at .0) g m (gone r) m
+    pub goes : (r : Reached) → r ≡ Leading (g .p .0) → ImplementsAction (spanMeant go w) (g .at .0) g m (gone r) m
     goes NotThere e = go-none p≤q q≤in (secondIn w) (thirdIn w) (lengthOf (firstIn w)) (not-led _ _ e)
     goes (At to) e = go-moved p≤q q≤in (secondIn w) (thirdIn w) (lengthOf (firstIn w)) to e
 
@@ -154,20 +154,20 @@ module _ (g : Registers) (m : Memory) where
     selected NotThere = Stopped g NoInstruction 0
     selected (At to) = Onward (movedTo g (g .p .0) (to .0) (g .r .0))
 
-    pub selects : (r : Reached) → r ≡ Leading (g .q .0) → Acts (spanMeant select w) (g .at .0) g m (selected r) m
+    pub selects : (r : Reached) → r ≡ Leading (g .q .0) → ImplementsAction (spanMeant select w) (g .at .0) g m (selected r) m
     selects NotThere e = select-none p≤q q≤in (secondIn w) (thirdIn w) (lengthOf (firstIn w)) (not-led _ _ e)
     selects (At to) e = select-moved p≤q q≤in (secondIn w) (thirdIn w) (lengthOf (firstIn w)) to e
 
   -- OUT, OUTC, OUTV
 
   module _ (r≤out : g .r .0 ≤ length (m .output)) where
-    pub byte-full : (b : ℕ) → length (m .output) ≤ g .r .0 → Acts (outC b) (g .at .0) g m (Stopped g OutFull 0) m
+    pub byte-full : (b : ℕ) → length (m .output) ≤ g .r .0 → ImplementsAction (outC b) (g .at .0) g m (Stopped g OutFull 0) m
     byte-full b h =
         let full : length (m .output) < suc (g .r .0) = omega arith in
         stops _ _ OutFull (λ allowance code enter k. rw (length-take-le (g .r .0) (m .output) r≤out, lt-ltb _ _ full))
 
     pub byte-written : (b : ℕ) → g .r .0 < length (m .output) →
-        Acts (outC b) (g .at .0) g m (Onward (movedTo g (g .p .0) (g .q .0) (g .r .0 + 1)))
+        ImplementsAction (outC b) (g .at .0) g m (Onward (movedTo g (g .p .0) (g .q .0) (g .r .0 + 1)))
         (memory (m .input) (set (m .output) (g .r .0) b) (m .«record») (m .frames) (m .values))
     byte-written b h =
         record {
@@ -178,19 +178,19 @@ module _ (g : Registers) (m : Memory) where
                 add-one (g .r .0),
                 take-suc-set (m .output) (g .r .0) b h,
               );
-          stays = stayed _ _ _ (m .input) _ (λ f. f .ordered) (λ f. f .inside) (λ f. rw length-set (omega arith));
+          preserves = preserved _ _ _ (m .input) _ (λ f. f .room .selection .ordered) (λ f. f .room .selection .inside) (λ f. rw length-set (omega arith));
         }
 
     -- a text, whatever action writes it
     module _ {action : Action} {text : Bytes} (w : Writes action text g m) where
-      pub text-full : length (m .output) - g .r .0 < length text → Acts action (g .at .0) g m (Stopped g OutFull 0) m
+      pub text-full : length (m .output) - g .r .0 < length text → ImplementsAction action (g .at .0) g m (Stopped g OutFull 0) m
       text-full h =
           let full : length (m .output) < g .r .0 + length text = omega arith in
           stops _ _ OutFull (λ allowance code enter k.
           w .same allowance code enter k ∙ rw (length-take-le (g .r .0) (m .output) r≤out, lt-ltb _ _ full))
 
       pub text-written : g .p .0 ≤ g .q .0 → length text ≤ length (m .output) - g .r .0 →
-          Acts action (g .at .0) g m (Onward (movedTo g (g .q .0) (g .q .0) (g .r .0 + length text)))
+          ImplementsAction action (g .at .0) g m (Onward (movedTo g (g .q .0) (g .q .0) (g .r .0 + length text)))
           (memory (m .input) (paste (m .output) (g .r .0) text (length text)) (m .«record») (m .frames) (m .values))
       text-written o h =
           let there : g .r .0 + length text ≤ length (m .output) = omega arith in
@@ -207,7 +207,7 @@ module _ (g : Registers) (m : Memory) where
                   take-paste (m .output) (g .r .0) text (length text) r≤out (omega arith),
                   take-length text,
                 );
-            stays = stayed _ _ _ (m .input) _ (λ f. omega arith) (λ f. f .inside)
+            preserves = preserved _ _ _ (m .input) _ (λ f. omega arith) (λ f. f .room .selection .inside)
                 (λ f. rw (length-paste (m .output) (g .r .0) text (length text) there (omega arith)) there);
           }
 
@@ -215,14 +215,14 @@ module _ (g : Registers) (m : Memory) where
   part-writes i = record { same = λ allowance code enter k. rw (part-long (m .input) (g .p .0) (g .q .0) i) }
 
   -- a stored value is written as a character is
-  pub value-none : (k : ℕ) → frameWord (g .frame) 4 (m .frames) ≤ k → Acts (outV k) (g .at .0) g m (Stopped g NoInstruction 0) m
+  pub value-none : (k : ℕ) → frameWord (g .frame) 4 (m .frames) ≤ k → ImplementsAction (outV k) (g .at .0) g m (Stopped g NoInstruction 0) m
   value-none k h = stops _ _ NoInstruction (λ allowance code enter next. rw (nth-out (localOf g m .values) k (rw length-take (omega arith))))
 
   pub value-written : (k : ℕ) (next : Next) (n : Memory) → k < frameWord (g .frame) 4 (m .frames) → frameWord (g .frame) 4 (m .frames) ≤ 16 → HasValues (g .frame) (m .values) →
-      Acts (outC (getD (m .values) (16 * g .frame + k) 0)) (g .at .0) g m next n →
-      Acts (outV k) (g .at .0) g m next n
+      ImplementsAction (outC (getD (m .values) (16 * g .frame + k) 0)) (g .at .0) g m next n →
+      ImplementsAction (outV k) (g .at .0) g m next n
   value-written k next n h few there a =
       record {
         same = λ allowance code enter k′. rw (stored-value (g .frame) k (frameWord (g .frame) 4 (m .frames)) (m .values) h few there) (a .same allowance code enter k′);
-        stays = a .stays;
+        preserves = a .preserves;
       }

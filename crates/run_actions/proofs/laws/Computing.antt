@@ -14,17 +14,17 @@ use Rattle.run_angles.specs.Post.{Left, leftWith, leaves}
 use Rattle.run_actions.specs.declared.registers.Registers.{Registers}
 use Rattle.run_actions.specs.declared.registers.Ending.the-variants.{ArgumentNotAngles, AngleOutOfRange}
 use Rattle.run_actions.specs.declared.registers.Next.the-variants.{Stopped}
-use Rattle.run_actions.specs.States.{Memory, Writes, Acts}
+use Rattle.run_actions.specs.States.{Memory, Writes, ImplementsAction}
 use Rattle.run_actions.proofs.laws.Acting.{stops}
 
 module _ (g : Registers) (m : Memory) (op : Operation) where
   abbrev called : Meant
   called = angled op (take (g .q .0 - g .p .0) (drop (g .p .0) (m .input)))
 
-  pub not-angles : called ≡ notAngles → Acts (compute op) (g .at .0) g m (Stopped g ArgumentNotAngles 0) m
+  pub not-angles : called ≡ notAngles → ImplementsAction (compute op) (g .at .0) g m (Stopped g ArgumentNotAngles 0) m
   not-angles e = stops g m _ _ ArgumentNotAngles (λ allowance code enter k. rw e)
 
-  pub out-of-range : called ≡ outOfRange → Acts (compute op) (g .at .0) g m (Stopped g AngleOutOfRange 0) m
+  pub out-of-range : called ≡ outOfRange → ImplementsAction (compute op) (g .at .0) g m (Stopped g AngleOutOfRange 0) m
   out-of-range e = stops g m _ _ AngleOutOfRange (λ allowance code enter k. rw e)
 
   pub result-writes : {text : Bytes} → called ≡ sum text → Writes (compute op) text g m

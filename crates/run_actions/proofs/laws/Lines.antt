@@ -14,7 +14,7 @@ use Rattle.run_actions.specs.declared.registers.Registers.{Registers}
 use Rattle.run_actions.specs.declared.registers.Ending.the-variants.{NoInstruction, RecordFull}
 use Rattle.run_actions.specs.declared.registers.Next.the-variants.{Onward, Stopped}
 use Rattle.run_decoding.specs.Decoded.{isName}
-use Rattle.run_actions.specs.States.{Memory, memory, Acts}
+use Rattle.run_actions.specs.States.{Memory, memory, ImplementsAction}
 use Rattle.run_actions.proofs.laws.Acting.{part-long, stops}
 use Rattle.run_actions.proofs.laws.Naming.{spelled, spelled-long, length-line}
 
@@ -23,7 +23,7 @@ further : (a b : Bytes) (i n : ℕ) → drop i a ≡ drop i b → drop (i + n) a
 further a b i n e = sym (drop-drop n i a) ∙ rw e (drop-drop n i b)
 
 module _ (g : Registers) (m : Memory) (words : Words) (n : ℕ) where
-  pub emission-wrong : isName n (drop (g .at .0) words) ≡ false → Acts (emissionOf n (drop (g .at .0) words)) (g .at .0 + n) g m (Stopped g NoInstruction 0) m
+  pub emission-wrong : isName n (drop (g .at .0) words) ≡ false → ImplementsAction (emissionOf n (drop (g .at .0) words)) (g .at .0 + n) g m (Stopped g NoInstruction 0) m
   emission-wrong e = stops g m _ _ NoInstruction (λ allowance code enter k. rw e)
 
   module _ (p≤q : g .p .0 ≤ g .q .0) (q≤in : g .q .0 ≤ length (m .input)) (logged : g .emitted ≤ length (m .«record»))
@@ -43,14 +43,14 @@ module _ (g : Registers) (m : Memory) (words : Words) (n : ℕ) where
           part-long (m .input) (g .p .0) (g .q .0) q≤in,
         )
 
-    pub emission-full : length (m .«record») - g .emitted < size → Acts (emissionOf n (drop (g .at .0) words)) (g .at .0 + n) g m (Stopped g RecordFull 0) m
+    pub emission-full : length (m .«record») - g .emitted < size → ImplementsAction (emissionOf n (drop (g .at .0) words)) (g .at .0 + n) g m (Stopped g RecordFull 0) m
     emission-full h =
         let full : length (m .«record») < g .emitted + size = omega arith in
         stops g m _ _ RecordFull (λ allowance code enter k.
         rw (known, length-take-le (g .emitted) (m .«record») logged, sized, lt-ltb (length (m .«record»)) (g .emitted + size) full))
 
     pub emission-written : size ≤ length (m .«record») - g .emitted →
-        Acts (emissionOf n (drop (g .at .0) words)) (g .at .0 + n) g m
+        ImplementsAction (emissionOf n (drop (g .at .0) words)) (g .at .0 + n) g m
         (Onward (record {
           p = g .q;
           q = g .q;
@@ -79,16 +79,18 @@ module _ (g : Registers) (m : Memory) (words : Words) (n : ℕ) where
                 take-paste (m .«record») (g .emitted) line size logged long,
                 take-all size line (omega (arith, sized)),
               );
-          stays = record {
-            fits = λ f. record {
-              ordered = omega arith;
-              inside = f .inside;
-              below = f .below;
-              logged = rw (length-paste (m .«record») (g .emitted) line size there long) there;
-              framed = f .framed;
+          preserves = record {
+            invariant = λ f. record {
+              room = record {
+                selection = record { ordered = omega arith; inside = f .room .selection .inside };
+                written = record {
+                  below = f .room .written .below;
+                  logged = rw (length-paste (m .«record») (g .emitted) line size there long) there;
+                };
+                frame = f .room .frame;
+                values = f .room .values;
+              };
               held = f .held;
-              frameRoom = f .frameRoom;
-              valueRoom = f .valueRoom;
             };
             frame = refl;
             place = refl;

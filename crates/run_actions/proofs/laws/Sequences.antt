@@ -12,7 +12,7 @@ use Rattle.meaning.specs.Machine.{withOpened}
 use Rattle.run_actions.specs.declared.registers.Registers.{Registers}
 use Rattle.run_actions.specs.declared.registers.Ending.the-variants.{NoInstruction, InFull}
 use Rattle.run_actions.specs.declared.registers.Next.the-variants.{Onward, Stopped}
-use Rattle.run_actions.specs.States.{Memory, memory, frameWord, localAt, openedAt, countsIn, movedTo, Acts, HasFrame, wordsIn, withWord}
+use Rattle.run_actions.specs.States.{Memory, memory, frameWord, localAt, openedAt, countsIn, movedTo, ImplementsAction, HasFrame, wordsIn, withWord}
 use Rattle.run_cells.specs.Moved.{moved, MovedSoFar}
 use Rattle.run_cells.proofs.laws.Moving.{byte-by-byte}
 use Rattle.run_actions.proofs.laws.Frames.{drop-min, take-min, drop-set-here, words-stored, stored-length, stored-there, words-there, word-set, word-kept, openedOf, opened-count, opened-none, opened-next, held-past, held-count, waiting-kept, counts-kept}
@@ -73,12 +73,12 @@ module _ (g : Registers) (m : Memory) (there : HasFrame (g .frame) (m .frames)) 
 
   -- BEGINSEQ
 
-  pub begin-many : count ≤ 16 → 16 ≤ count → Acts beginSeq (g .at .0) g m (Stopped g NoInstruction 0) m
+  pub begin-many : count ≤ 16 → 16 ≤ count → ImplementsAction beginSeq (g .at .0) g m (Stopped g NoInstruction 0) m
   begin-many few h =
       stops g m _ _ NoInstruction (λ allowance code enter k. rw (opened-count (m .frames) (g .frame) there count (omega arith), le-ltb count 16 h))
 
   pub begin-kept : g .r .0 ≤ length (m .output) → count < 16 →
-      Acts beginSeq (g .at .0) g m (Onward g) (memory (m .input) (m .output) (m .«record») (openedAt (g .frame) (g .r .0) (m .frames)) (m .values))
+      ImplementsAction beginSeq (g .at .0) g m (Onward g) (memory (m .input) (m .output) (m .«record») (openedAt (g .frame) (g .r .0) (m .frames)) (m .values))
   begin-kept r≤out h =
       let frames₁ = withWord (g .frame) (23 - count) (g .r .0) (m .frames) in
       let there₁ : HasFrame (g .frame) frames₁ = stored-there (m .frames) (g .frame) (23 - count) (g .r .0) there in
@@ -94,16 +94,15 @@ module _ (g : Registers) (m : Memory) (there : HasFrame (g .frame) (m .frames)) 
               local-opened (m .frames) (m .values) (g .frame) there count (g .r .0) h there₁,
               counted,
             );
-        stays = record {
-          fits = λ f. record {
-            ordered = f .ordered;
-            inside = f .inside;
-            below = f .below;
-            logged = f .logged;
-            framed = f .framed;
+        preserves = record {
+          invariant = λ f. record {
+            room = record {
+              selection = f .room .selection;
+              written = f .room .written;
+              frame = record { framed = f .room .frame .framed; frameRoom = stored-there frames₁ (g .frame) 5 (count + 1) there₁ };
+              values = rw (stored-length frames₁ (g .frame) 5 (count + 1), stored-length (m .frames) (g .frame) (23 - count) (g .r .0)) (f .room .values);
+            };
             held = held-count frames₁ (g .frame) (count + 1) there₁ (omega arith) (held-past (m .frames) (g .frame) (23 - count) (g .r .0) (omega arith) (f .held));
-            frameRoom = stored-there frames₁ (g .frame) 5 (count + 1) there₁;
-            valueRoom = rw (stored-length frames₁ (g .frame) 5 (count + 1), stored-length (m .frames) (g .frame) (23 - count) (g .r .0)) (f .valueRoom);
           };
           frame = refl;
           place = refl;
@@ -130,10 +129,10 @@ module _ (g : Registers) (m : Memory) (there : HasFrame (g .frame) (m .frames)) 
     abbrev pub mark : ℕ
     mark = frameWord (g .frame) (24 - count) (m .frames)
 
-    pub use-none : count ≡ 0 → Acts useSeq (g .at .0) g m (Stopped g NoInstruction 0) m
+    pub use-none : count ≡ 0 → ImplementsAction useSeq (g .at .0) g m (Stopped g NoInstruction 0) m
     use-none e = stops g m _ _ NoInstruction (λ allowance code enter k. rw (e, opened-none (m .frames) (g .frame) there))
 
-    pub use-full : (count ≡ 0 → ⊥) → g .p .0 < g .r .0 - min mark (g .r .0) → Acts useSeq (g .at .0) g m (Stopped g InFull 0) m
+    pub use-full : (count ≡ 0 → ⊥) → g .p .0 < g .r .0 - min mark (g .r .0) → ImplementsAction useSeq (g .at .0) g m (Stopped g InFull 0) m
     use-full ne h =
         let full : length (m .input) < (g .r .0 - mark) + (length (m .input) - g .p .0) = omega arith in
         stops g m _ _ InFull (λ allowance code enter k.
@@ -180,7 +179,7 @@ module _ (g : Registers) (m : Memory) (there : HasFrame (g .frame) (m .frames)) 
           sym (take-append-drop size (drop to input)) ∙ rw (drop-drop size to input, begins, moved, whole .above)
 
       pub use-moved : (count ≡ 0 → ⊥) → length input ≡ length (m .input) →
-          Acts useSeq (g .at .0) g m (Onward (movedTo g to (g .q .0) first)) afterUse
+          ImplementsAction useSeq (g .at .0) g m (Onward (movedTo g to (g .q .0) first)) afterUse
       use-moved ne long =
           let free : (g .r .0 - mark) + (length (m .input) - g .p .0) ≤ length (m .input) = omega arith in
           let selected : (g .q .0 - g .p .0) + (g .r .0 - mark) ≡ g .q .0 - to =
@@ -200,16 +199,15 @@ module _ (g : Registers) (m : Memory) (there : HasFrame (g .frame) (m .frames)) 
                   below-p,
                   selected,
                 );
-            stays = record {
-              fits = λ f. record {
-                ordered = omega (arith, begins);
-                inside = rw long (omega arith);
-                below = omega arith;
-                logged = f .logged;
-                framed = f .framed;
+            preserves = record {
+              invariant = λ f. record {
+                room = record {
+                  selection = record { ordered = omega (arith, begins); inside = rw long (omega arith) };
+                  written = record { below = omega arith; logged = f .room .written .logged };
+                  frame = record { framed = f .room .frame .framed; frameRoom = stored-there (m .frames) (g .frame) 5 (count - 1) there };
+                  values = rw (stored-length (m .frames) (g .frame) 5 (count - 1)) (f .room .values);
+                };
                 held = held-count (m .frames) (g .frame) (count - 1) there (omega arith) (f .held);
-                frameRoom = stored-there (m .frames) (g .frame) 5 (count - 1) there;
-                valueRoom = rw (stored-length (m .frames) (g .frame) 5 (count - 1)) (f .valueRoom);
               };
               frame = refl;
               place = refl;

@@ -27,9 +27,9 @@ use Rattle.run_actions.specs.States.{Memory, memory, frameWord, localAt, Held, 
 use Rattle.run_actions.proofs.laws.Frames.{word-set, word-kept, waiting-kept, counts-kept}
 use Rattle.run_applications.specs.Storing.{Stores}
 use Rattle.run_applications.specs.Waiting.{countIn, functionsIn, returning}
-use Rattle.run_applications.specs.Advancing.{Ready, Advances, Starts}
+use Rattle.run_applications.specs.Simulation.{Ready, SimulatesBelow, SimulatesSentence}
 use Rattle.meaning.proofs.laws.Remaining.{past-end}
-use Rattle.run_applications.proofs.laws.Waiting.{left-same, waits-same, waiting-same, waiting-stop}
+use Rattle.run_applications.proofs.laws.Waiting.{measure-same, waits-same, waiting-same, waiting-stop}
 
 -- THE FUNCTION TABLE
 
@@ -73,17 +73,17 @@ module _ (words : Words) (allowance : ℕ) (g : Registers) (m n : Memory) (r : R
   pub stopping : (tocome : Outcomes) (bound : ℕ) (ending : Ending) (function : ℕ) (h : Registers) → 0 < bound →
       tocome ≡ stop (endingNumber ending) function (ledgerOf allowance h n) →
       h .r ≡ g .r → h .emitted ≡ g .emitted → n .input ≡ m .input → n .output ≡ m .output → n .«record» ≡ m .«record» →
-      Advances words allowance (returning (roomOf m) allowance words g m tocome) bound g m (Stopped h ending function) n
+      SimulatesBelow words allowance (returning (roomOf m) allowance words g m tocome) bound g m (Stopped h ending function) n
   stopping tocome bound ending function h b e er ee ei eo ej =
       record {
-        leads =
+        simulates =
             record {
               same = rw e (waiting-stop (roomOf m) allowance words (g .frame) (m .frames) (m .values) _ _ _);
-              keeps = record { below = rw (er, eo) (r .below); logged = rw (ee, ej) (r .logged) };
+              invariant = record { below = rw (er, eo) (r .room .written .below); logged = rw (ee, ej) (r .room .written .logged) };
               room = rw (ei, eo, ej);
               beyond = λ old b. rw (ee, ej) b;
             };
-        falls = b;
+        decreases = b;
       }
 
 -- A SENTENCE BEGUN
@@ -179,7 +179,7 @@ module _ (words : Words) (allowance place stores stored : ℕ) (g : Registers) (
   Kept = storedValues (unpackStores stored (drop stores words)) (take (g .q .0 - g .p .0) (drop (g .p .0) input)) place
 
   pub starts-wrong : Stores (16 * g .frame) stored (stores + stored) Kept values values′ Wrong →
-      Starts words allowance place stores stored g Before-start (Stopped g NoInstruction 0) (memory input output «record» frames values′)
+      SimulatesSentence words allowance place stores stored g Before-start (Stopped g NoInstruction 0) (memory input output «record» frames values′)
   starts-wrong s r =
       stopping words allowance g Before-start (memory input output «record» frames values′) r _ _ NoInstruction 0 g (omega arith)
       (rw (← (s .same))) refl refl refl refl refl
@@ -190,39 +190,46 @@ module _ (words : Words) (allowance place stores stored : ℕ) (g : Registers) (
       record { p = g .p; q = g .p; r = g .r; frame = g .frame; at = actions; steps = g .steps; emitted = g .emitted; callee = 0 }
 
   pub starts-right : (actions : CodePlace) → length values′ ≡ length values → Stores (16 * g .frame) stored (stores + stored) Kept values values′ (Before actions) →
-      Starts words allowance place stores stored g Before-start (Onward (startedAt actions))
+      SimulatesSentence words allowance place stores stored g Before-start (Onward (startedAt actions))
       (memory input output «record» (begun (g .frame) (g .q .0 - g .p .0) place stored frames) values′)
   starts-right actions sized s r =
       let k = g .frame in
       let d = g .q .0 - g .p .0 in
       let frames′ = begun k d place stored frames in
-      let kept : wordsBelow k frames′ ≡ wordsBelow k frames = begun-below frames k d place stored (r .frameRoom) in
-      let counted : countsIn frames′ ≡ countsIn frames = begun-counts frames k d place stored (r .frameRoom) in
+      let there : HasFrame k frames = r .room .frame .frameRoom in
+      let kept : wordsBelow k frames′ ≡ wordsBelow k frames = begun-below frames k d place stored there in
+      let counted : countsIn frames′ ≡ countsIn frames = begun-counts frames k d place stored there in
       record {
-        leads =
+        simulates =
             record {
               same =
-                  rw (← (s .same), s .ends, begun-local frames k d place stored (r .frameRoom) values′ (rw sized (r .valueRoom k (r .frameRoom))) few, sub-self (g .p .0), counted)
+                  rw (
+                    ← (s .same),
+                    s .ends,
+                    begun-local frames k d place stored there values′ (rw sized (r .room .values k there)) few,
+                    sub-self (g .p .0),
+                    counted,
+                  )
                   (waiting-same (roomOf Before-start) allowance words frames frames′ values values′ k (sym kept) (sym (s .below)) _);
-              keeps =
+              invariant =
                   record {
                     ready =
                         record {
-                          ordered = omega arith;
-                          inside = omega (arith, r .ordered, r .inside);
-                          below = r .below;
-                          logged = r .logged;
-                          framed = r .framed;
-                          frameRoom = rw (begun-length frames k d place stored (r .frameRoom)) (r .frameRoom);
-                          valueRoom = rw (begun-length frames k d place stored (r .frameRoom), sized) (r .valueRoom);
+                          room =
+                              record {
+                                selection = record { ordered = omega arith; inside = omega (arith, r .room .selection) };
+                                written = r .room .written;
+                                frame = record { framed = r .room .frame .framed; frameRoom = rw (begun-length frames k d place stored there) there };
+                                values = rw (begun-length frames k d place stored there, sized) (r .room .values);
+                              };
                           paid = r .paid;
                           counts = λ i. rw counted (r .counts i);
                           waits = waits-same frames frames′ k (sym kept) (length input) (r .waits);
                         };
-                    current = begun-held frames k d place stored (r .frameRoom) few;
+                    current = begun-held frames k d place stored there few;
                   };
               room = refl;
               beyond = λ old b. b;
             };
-        falls = rw (left-same frames′ frames k kept (length words)) (omega arith);
+        decreases = rw (measure-same frames′ frames k kept (length words)) (omega arith);
       }

@@ -28,10 +28,10 @@ use Rattle.run_actions.specs.States.{Memory, memory, frameWord, countsIn, count
 use Rattle.run_actions.specs.States.{HasFrame, crowdedAt, wordsFor, wordsIn, wordsBelow, withWord, callingFrom}
 use Rattle.run_actions.proofs.laws.Frames.{words-stored, stored-length, stored-there, word-set, word-kept, held-past, waiting-kept, counts-kept}
 use Rattle.run_actions.proofs.laws.Frames.{counts-counted, counted-words, counted-length, counted-within}
-use Rattle.run_applications.specs.Waiting.{countIn, functionsIn, entering, going, waiting, returning, applied, acted, Waits, performing, leftWaiting}
-use Rattle.run_applications.specs.Waiting.{leftBelow, calledIn, recoveredBy}
-use Rattle.run_applications.specs.Advancing.{Ready, Underway, Advances, Performs, Applies, Starts}
-use Rattle.run_applications.proofs.laws.Waiting.{left-same, held-same, waits-same, waiting-same, entering-paid}
+use Rattle.run_applications.specs.Waiting.{countIn, functionsIn, entering, continuationAt, waiting, returning, outcomeOfApplication, outcomeOfActions, Waits, outcomeOfAction, measureWaiting}
+use Rattle.run_applications.specs.Waiting.{measureBelow, calledIn, recoveredBy}
+use Rattle.run_applications.specs.Simulation.{Ready, Invariant, SimulatesBelow, SimulatesAction, SimulatesApplication, SimulatesSentence}
+use Rattle.run_applications.proofs.laws.Waiting.{measure-same, held-same, waits-same, waiting-same, entering-paid}
 use Rattle.run_applications.proofs.laws.Applying.{code-at, stopping}
 
 -- A TAIL CALL, AND A FUNCTION THAT RECOVERS
@@ -44,13 +44,13 @@ module _ (words : Words) (allowance number : ℕ) (g : Registers) (m : Memory) w
       Ready allowance (calledIn frame size number g) (memory (m .input) (m .output) (m .«record») frames (m .values))
   called-ready frame size frames framed there sized counted waits r =
       record {
-        ordered = r .ordered;
-        inside = r .inside;
-        below = r .below;
-        logged = r .logged;
-        framed = framed;
-        frameRoom = there;
-        valueRoom = rw sized (r .valueRoom);
+        room =
+            record {
+              selection = r .room .selection;
+              written = r .room .written;
+              frame = record { framed = framed; frameRoom = there };
+              values = rw sized (r .room .values);
+            };
         paid = r .paid;
         counts = λ i. rw counted (r .counts i);
         waits = waits;
@@ -60,48 +60,47 @@ module _ (words : Words) (allowance number : ℕ) (g : Registers) (m : Memory) w
   called-there : (declared : Bool) →
       whereThere (lent (roomOf m)) declared (ledgerOf allowance g m)
       (entering (roomOf m) allowance words (suc (g .frame)) number (stacksOf g m) (ledgerOf allowance g m)) ≡
-      pick declared (applied (roomOf m) allowance words (calledIn (g .frame) (length words) number g) m)
-      (acted (roomOf m) allowance words (calledIn (g .frame) (length words) number g) m)
+      pick declared (outcomeOfApplication (roomOf m) allowance words (calledIn (g .frame) (length words) number g) m)
+      (outcomeOfActions (roomOf m) allowance words (calledIn (g .frame) (length words) number g) m)
   unfolding process
   called-there true = entering-paid (roomOf m) allowance words (suc (g .frame)) number (stacksOf g m) (ledgerOf allowance g m) (omega arith)
   called-there false = rw (actions-none words (length words) (omega arith))
 
   -- a tail call is an application in the caller's frame
-  pub tail-enters : Performs words allowance (tailCall number) (g .at .0) g m (Onward (calledIn (g .frame) (length words) number g)) m
+  pub tail-enters : SimulatesAction words allowance (tailCall number) (g .at .0) g m (Onward (calledIn (g .frame) (length words) number g)) m
   tail-enters u =
       let r = u .ready in
       record {
-        leads =
+        simulates =
             record {
               same = ap (waiting (roomOf m) allowance words (g .frame) (m .frames) (m .values))
                   (called-there (isDeclared (functionsIn words) number));
-              keeps = record {
-                ready = called-ready (g .frame) (length words) (m .frames) (r .framed) (r .frameRoom) refl refl (r .waits) r;
-                current =
-                    u .current;
+              invariant = record {
+                ready = called-ready (g .frame) (length words) (m .frames) (r .room .frame .framed) (r .room .frame .frameRoom) refl refl (r .waits) r;
+                current = u .current;
               };
               room = refl;
               beyond = λ old e. e;
             };
-        falls = omega arith;
+        decreases = omega arith;
       }
 
 -- what comes of a choice in the frame of the registers
-abbrev ChoiceLeads : Words → ℕ → ℕ → Choice → Registers → Memory → Next → Memory → Type 0
-ChoiceLeads words allowance number choice g m next n =
-    Advances words allowance
+abbrev ChoiceSimulates : Words → ℕ → ℕ → Choice → Registers → Memory → Next → Memory → Type 0
+ChoiceSimulates words allowance number choice g m next n =
+    SimulatesBelow words allowance
     (returning (roomOf m) allowance words g m
     (ranChoice (lent (roomOf m)) (functionsIn words) (entering (roomOf m) allowance words) (suc (g .frame)) number choice (stacksOf g m)
     (ledgerOf allowance g m)))
-    (leftBelow (length words) allowance g m + suc (suc (length words)))
+    (measureBelow (length words) allowance g m + suc (suc (length words)))
     g m next n
 
 -- the function that recovers is called as by a tail call
-recovers : (words : Words) (allowance number recoverer : ℕ) (g : Registers) (m : Memory) → Underway allowance g m →
-    ChoiceLeads words allowance number (chosenNone recoverer) g m (recoveredBy (length words) number recoverer g) m
+recovers : (words : Words) (allowance number recoverer : ℕ) (g : Registers) (m : Memory) → Invariant allowance g m →
+    ChoiceSimulates words allowance number (chosenNone recoverer) g m (recoveredBy (length words) number recoverer g) m
 recovers words allowance number zero g m u =
     stopping words allowance g m m (u .ready) _ _ NoSentenceFits number g (omega arith) refl refl refl refl refl refl
-recovers words allowance number (suc r) g m u = record { leads = tail-enters words allowance (suc r) g m u .leads; falls = omega arith }
+recovers words allowance number (suc r) g m u = record { simulates = tail-enters words allowance (suc r) g m u .simulates; decreases = omega arith }
 
 -- THE STEP
 
@@ -134,7 +133,7 @@ abbrev countedFor : ℕ → Memory → Memory
 countedFor number m = memory (m .input) (m .output) (m .«record») (countedIn number (m .frames)) (m .values)
 
 module _ (words : Words) (allowance number : ℕ) (g : Registers) (m : Memory) where
-  pub apply-spent : allowance ≤ g .steps → Applies words allowance number g m (Stopped g AllowanceSpent 0) m
+  pub apply-spent : allowance ≤ g .steps → SimulatesApplication words allowance number g m (Stopped g AllowanceSpent 0) m
   apply-spent h u =
       stopping words allowance g m m (u .ready) _ _ AllowanceSpent 0 g (omega arith) (rw (none-left h)) refl refl refl refl refl
 
@@ -161,20 +160,24 @@ module _ (words : Words) (allowance number : ℕ) (g : Registers) (m : Memory) w
     ready-paid : Ready allowance g m → Ready allowance (paidOf g) (countedFor number m)
     ready-paid r =
         record {
-          ordered = r .ordered;
-          inside = r .inside;
-          below = r .below;
-          logged = r .logged;
-          framed = r .framed;
-          frameRoom = rw (counted-length (m .frames) number) (r .frameRoom);
-          valueRoom = rw (counted-length (m .frames) number) (r .valueRoom);
+          room =
+              record {
+                selection = r .room .selection;
+                written = r .room .written;
+                frame =
+                    record {
+                      framed = r .room .frame .framed;
+                      frameRoom = rw (counted-length (m .frames) number) (r .room .frame .frameRoom);
+                    };
+                values = rw (counted-length (m .frames) number) (r .room .values);
+              };
           paid = omega (arith, may .left);
           counts = λ i. rw (add-one (g .steps)) (counted-within (m .frames) number (g .steps) (may .positive) (r .counts) i);
           waits = waits-same (m .frames) (countedIn number (m .frames)) (g .frame) (counted-waiting (g .frame)) (length (m .input)) (r .waits);
         }
 
-    underway-paid : Underway allowance g m → Underway allowance (paidOf g) (countedFor number m)
-    underway-paid u =
+    invariant-paid : Invariant allowance g m → Invariant allowance (paidOf g) (countedFor number m)
+    invariant-paid u =
         record {
           ready = ready-paid (u .ready);
           current = held-same (m .frames) (countedIn number (m .frames)) (suc (g .frame)) (counted-waiting (suc (g .frame))) (g .frame) (omega arith)
@@ -182,48 +185,48 @@ module _ (words : Words) (allowance number : ℕ) (g : Registers) (m : Memory) w
         }
 
     -- what the choice leads to, its step paid, is what the application leads to
-    apply-leads : (choice : Choice) → choice ≡ Chosen words number g (m .input) → (next : Next) (n : Memory) →
-        (Underway allowance (paidOf g) (countedFor number m) → ChoiceLeads words allowance number choice (paidOf g) (countedFor number m) next n) →
-        Applies words allowance number g m next n
-    apply-leads choice e next n leads u =
-        let d = leads (underway-paid u) in
+    apply-simulates : (choice : Choice) → choice ≡ Chosen words number g (m .input) → (next : Next) (n : Memory) →
+        (Invariant allowance (paidOf g) (countedFor number m) → ChoiceSimulates words allowance number choice (paidOf g) (countedFor number m) next n) →
+        SimulatesApplication words allowance number g m next n
+    apply-simulates choice e next n simulates u =
+        let d = simulates (invariant-paid u) in
         let below = counted-waiting (g .frame) in
         let one : allowance - g .steps ≡ suc (allowance - (g .steps + 1)) = omega (arith, may .left) in
         let times : (allowance - g .steps) * suc (length words) ≡ (allowance - (g .steps + 1)) * suc (length words) + suc (length words) =
         rw one (suc-mul (allowance - (g .steps + 1)) (suc (length words))) in
         record {
-          leads =
+          simulates =
               record {
                 same =
                     ap (waiting (roomOf m) allowance words (g .frame) (m .frames) (m .values)) (paying choice e) ∙
                     waiting-same (roomOf m) allowance words (m .frames) (countedIn number (m .frames)) (m .values) (m .values) (g .frame) below refl _
                     ∙
-                    d .leads .same;
-                keeps = d .leads .keeps;
-                room = d .leads .room;
-                beyond = d .leads .beyond;
+                    d .simulates .same;
+                invariant = d .simulates .invariant;
+                room = d .simulates .room;
+                beyond = d .simulates .beyond;
               };
-          falls = omega (arith, d .falls, times, left-same (m .frames) (countedIn number (m .frames)) (g .frame) below (length words));
+          decreases = omega (arith, d .decreases, times, measure-same (m .frames) (countedIn number (m .frames)) (g .frame) below (length words));
         }
 
     -- in frames with the application counted
     pub apply-starts : (place stores stored : ℕ) (next : Next) (n : Memory) {frames : List ℕ} → frames ≡ countedIn number (m .frames) →
         chosen place (unpackStores stored (drop stores words)) (unpackActions 0 (drop (stores + stored) words))
         ≡ Chosen words number g (m .input) →
-        Starts words allowance place stores stored (paidOf g) (memory (m .input) (m .output) (m .«record») frames (m .values)) next n →
-        Applies words allowance number g m next n
-    apply-starts place stores stored next n is e starts = apply-leads _ e next n (λ u. (rw is at starts) (u .ready))
+        SimulatesSentence words allowance place stores stored (paidOf g) (memory (m .input) (m .output) (m .«record») frames (m .values)) next n →
+        SimulatesApplication words allowance number g m next n
+    apply-starts place stores stored next n is e starts = apply-simulates _ e next n (λ u. (rw is at starts) (u .ready))
 
     -- where no sentence fits, the run ends, or the function that recovers is called
     pub apply-recovers : (recoverer : ℕ) → chosenNone recoverer ≡ Chosen words number g (m .input) →
-        Applies words allowance number g m (recoveredBy (length words) number recoverer (paidOf g)) (countedFor number m)
-    apply-recovers recoverer e = apply-leads (chosenNone recoverer) e _ _ (recovers words allowance number recoverer (paidOf g) (countedFor number m))
+        SimulatesApplication words allowance number g m (recoveredBy (length words) number recoverer (paidOf g)) (countedFor number m)
+    apply-recovers recoverer e = apply-simulates (chosenNone recoverer) e _ _ (recovers words allowance number recoverer (paidOf g) (countedFor number m))
 
     -- words that are no sentence end the run
     pub apply-wrong : chosenWrong ≡ Chosen words number g (m .input)
-        → Applies words allowance number g m (Stopped (paidOf g) NoInstruction 0) (countedFor number m)
+        → SimulatesApplication words allowance number g m (Stopped (paidOf g) NoInstruction 0) (countedFor number m)
     apply-wrong e =
-        apply-leads chosenWrong e _ _
+        apply-simulates chosenWrong e _ _
         (λ u. stopping words allowance (paidOf g) (countedFor number m) (countedFor number m) (u .ready) _ _ NoInstruction 0 (paidOf g) (omega arith)
         refl refl refl refl refl refl)
 
@@ -294,12 +297,12 @@ module _ (frames : List ℕ) (k at end : ℕ) (there : HasFrame k frames) where
     above-waits cells within waits current = waits-same Calling above (suc k) (sym same) cells (called-waits cells within waits current)
 
     module _ (roomy : Room) (allowance : ℕ) (words : Words) where
-      above-left : (size : ℕ) → leftWaiting size (suc k) above ≡ size - at + leftWaiting size k frames
-      unfolding leftWaiting
-      above-left size = left-same above Calling (suc k) same size ∙ rw (called-back, left-same Calling frames k called-below size)
+      above-left : (size : ℕ) → measureWaiting size (suc k) above ≡ size - at + measureWaiting size k frames
+      unfolding measureWaiting
+      above-left size = measure-same above Calling (suc k) same size ∙ rw (called-back, measure-same Calling frames k called-below size)
 
       above-waiting : (values : Bytes) → Held k frames → (o : Outcomes) →
-          waiting roomy allowance words k frames values (andThen o (λ s l. going roomy allowance words k at (localAt k frames values)
+          waiting roomy allowance words k frames values (andThen o (λ s l. continuationAt roomy allowance words k at (localAt k frames values)
           (returned (roomy .inCells - end) s) l)) ≡
           waiting roomy allowance words (suc k) above values o
       unfolding waiting
@@ -310,11 +313,11 @@ module _ (frames : List ℕ) (k at end : ℕ) (there : HasFrame k frames) where
 
 module _ (words : Words) (allowance number : ℕ) (g : Registers) (m : Memory) where
   pub undeclared : (tail : Bool) → isDeclared (functionsIn words) number ≡ false →
-      Performs words allowance (pick tail (tailCall number) (call number)) (g .at .0) g m (Stopped g NoInstruction 0) m
+      SimulatesAction words allowance (pick tail (tailCall number) (call number)) (g .at .0) g m (Stopped g NoInstruction 0) m
   undeclared tail e u = stopping words allowance g m m (u .ready) _ _ NoInstruction 0 g (omega arith) (stops tail) refl refl refl refl refl
     where
       stops : (tail : Bool) →
-          perform (lent (roomOf m)) (functionsIn words) (entering (roomOf m) allowance words) (going (roomOf m) allowance words (g .frame) (g .at .0))
+          perform (lent (roomOf m)) (functionsIn words) (entering (roomOf m) allowance words) (continuationAt (roomOf m) allowance words (g .frame) (g .at .0))
           (suc (g .frame))
           (pick tail (tailCall number) (call number)) (localOf g m) (stacksOf g m) (ledgerOf allowance g m) ≡
           stop noInstruction 0 (ledgerOf allowance g m)
@@ -322,11 +325,11 @@ module _ (words : Words) (allowance number : ℕ) (g : Registers) (m : Memory) w
       stops false = rw e
 
   module _ (declared : isDeclared (functionsIn words) number ≡ true) where
-    pub call-spent : allowance ≤ g .steps → Performs words allowance (call number) (g .at .0) g m (Stopped g AllowanceSpent 0) m
+    pub call-spent : allowance ≤ g .steps → SimulatesAction words allowance (call number) (g .at .0) g m (Stopped g AllowanceSpent 0) m
     call-spent h u =
         stopping words allowance g m m (u .ready) _ _ AllowanceSpent 0 g (omega arith) (rw (declared, none-left h)) refl refl refl refl refl
 
-    pub call-full : g .steps < allowance → 255 ≤ g .frame → Performs words allowance (call number) (g .at .0) g m (Stopped g FramesFull 0) m
+    pub call-full : g .steps < allowance → 255 ≤ g .frame → SimulatesAction words allowance (call number) (g .at .0) g m (Stopped g FramesFull 0) m
     call-full h l u =
         stopping words allowance g m m (u .ready) _ _ FramesFull 0 g (omega arith)
         (rw (declared, one-left h, lt-ltb 256 (suc (suc (g .frame))) (omega arith))) refl refl refl refl refl
@@ -340,7 +343,7 @@ module _ (words : Words) (allowance number : ℕ) (g : Registers) (input output 
       → HasFrame (suc (g .frame)) above → length above ≡ length frames → countsIn above ≡ countsIn frames →
       wordsBelow (suc (g .frame)) above ≡ wordsBelow (suc (g .frame)) (callingFrom (g .frame) (g .at .0) (g .q .0) frames)
       → Held (suc (g .frame)) above →
-      Performs words allowance (call number) (g .at .0) g Caller (Onward (calledIn (suc (g .frame)) (length words) number g))
+      SimulatesAction words allowance (call number) (g .at .0) g Caller (Onward (calledIn (suc (g .frame)) (length words) number g))
       (memory input output «record» above values)
   call-enters declared h l above there sized counted same empty u =
       let k = g .frame in
@@ -348,33 +351,33 @@ module _ (words : Words) (allowance number : ℕ) (g : Registers) (input output 
       let r = u .ready in
       let application = entering room allowance words (suc (suc k)) number (stacksOf g Caller) (ledgerOf allowance g Caller) in
       let entered = entering-paid room allowance words (suc (suc k)) number (stacksOf g Caller) (ledgerOf allowance g Caller) (omega arith) in
-      let left = above-left frames k (g .at .0) (g .q .0) (r .frameRoom) above same room allowance words (length words) in
-      let selected : length input - g .p .0 - (g .q .0 - g .p .0) ≡ length input - g .q .0 = omega (arith, r .ordered, r .inside) in
+      let left = above-left frames k (g .at .0) (g .q .0) (r .room .frame .frameRoom) above same room allowance words (length words) in
+      let selected : length input - g .p .0 - (g .q .0 - g .p .0) ≡ length input - g .q .0 = omega (arith, r .room .selection) in
       record {
-        leads =
+        simulates =
             record {
               same =
                   opens declared (one-left h) (le-ltb 256 (suc (suc k)) (omega arith)) (length-drop (g .p .0) input) selected ∙
-                  above-waiting frames k (g .at .0) (g .q .0) (r .frameRoom) above same room allowance words values (u .current) application ∙
+                  above-waiting frames k (g .at .0) (g .q .0) (r .room .frame .frameRoom) above same room allowance words values (u .current) application ∙
                   rw (declared, counted) (ap (waiting room allowance words (suc k) above values) entered);
-              keeps =
+              invariant =
                   record {
                     ready = called-ready words allowance number g Caller (suc k) (length words) above (omega arith) there sized counted
-                        (above-waits frames k (g .at .0) (g .q .0) (r .frameRoom) above same (length input) (r .inside) (r .waits) (u .current)) r;
+                        (above-waits frames k (g .at .0) (g .q .0) (r .room .frame .frameRoom) above same (length input) (r .room .selection .inside) (r .waits) (u .current)) r;
                     current = empty;
                   };
               room = refl;
               beyond = λ old e. e;
             };
-        falls = rw left (omega arith);
+        decreases = rw left (omega arith);
       }
     where
       -- a call that is declared, paid for and has a frame enters its function
       opens : {n : ℕ} → isDeclared (functionsIn words) number ≡ true → allowance - g .steps ≡ suc n → ltb 256 (suc (suc (g .frame))) ≡ false →
           length (drop (g .p .0) input) ≡ length input - g .p .0 → length input - g .p .0 - (g .q .0 - g .p .0) ≡ length input - g .q .0 →
-          performing (roomOf Caller) allowance words (call number) (g .at .0) g Caller ≡
+          outcomeOfAction (roomOf Caller) allowance words (call number) (g .at .0) g Caller ≡
           waiting (roomOf Caller) allowance words (g .frame) frames values
           (andThen (entering (roomOf Caller) allowance words (suc (suc (g .frame))) number (stacksOf g Caller) (ledgerOf allowance g Caller))
-          (λ s l. going (roomOf Caller) allowance words (g .frame) (g .at .0) (localAt (g .frame) frames values) (returned (length input - g .q .0) s)
+          (λ s l. continuationAt (roomOf Caller) allowance words (g .frame) (g .at .0) (localAt (g .frame) frames values) (returned (length input - g .q .0) s)
           l))
       opens e e′ e″ long selected = rw (e, e′, e″, long, selected)

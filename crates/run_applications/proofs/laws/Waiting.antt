@@ -14,7 +14,7 @@ use Rattle.meaning_agreeing.proofs.laws.Depth.{enter-step}
 use Rattle.run_actions.specs.declared.registers.Registers.{Registers}
 use Rattle.run_actions.specs.declared.registers.Next.the-variants.{Onward}
 use Rattle.run_actions.specs.States.{Memory, wordsIn, wordsBelow, frameWord, localAt, Held, stacksOf, Ledgers, ledgerOf, roomOf, Outcomes}
-use Rattle.run_applications.specs.Waiting.{functionsIn, entering, waiting, comesTo, Waits, leftWaiting, backIn, leftFrom, leftBy, calledIn, recoveredBy}
+use Rattle.run_applications.specs.Waiting.{functionsIn, entering, waiting, outcomeFrom, Waits, measureWaiting, backIn, leftFrom, leftBy, calledIn, recoveredBy}
 
 -- A FRAME DEPENDS ON ITS OWN WORDS AND VALUES ALONE
 
@@ -46,13 +46,13 @@ module _ (frames frames′ : List ℕ) (k : ℕ) (e : wordsBelow k frames ≡ wo
   pub waits-same : (cells : ℕ) → ((i : ℕ) → i < k → Waits cells i frames) → (i : ℕ) → i < k → Waits cells i frames′
   waits-same cells waits i h = record { held = held-same i h (waits i h .held); kept = rw (← (word-same i h 7 (omega arith))) (waits i h .kept) }
 
-  left-upto : (size i : ℕ) → i ≤ k → leftWaiting size i frames ≡ leftWaiting size i frames′
-  unfolding leftWaiting
-  left-upto size zero h = refl
-  left-upto size (suc i) h = rw (word-same i (omega arith) 6 (omega arith), left-upto size i (omega arith))
+  measure-upto : (size i : ℕ) → i ≤ k → measureWaiting size i frames ≡ measureWaiting size i frames′
+  unfolding measureWaiting
+  measure-upto size zero h = refl
+  measure-upto size (suc i) h = rw (word-same i (omega arith) 6 (omega arith), measure-upto size i (omega arith))
 
-  pub left-same : (size : ℕ) → leftWaiting size k frames ≡ leftWaiting size k frames′
-  left-same size = left-upto size k (omega arith)
+  pub measure-same : (size : ℕ) → measureWaiting size k frames ≡ measureWaiting size k frames′
+  measure-same size = measure-upto size k (omega arith)
 
   module _ (values values′ : Bytes) (e′ : take (16 * k) values ≡ take (16 * k) values′) where
     values-same : (i : ℕ) → i < k → take (16 * i + 16) values ≡ take (16 * i + 16) values′
@@ -103,7 +103,7 @@ module _ (room : Room) (allowance : ℕ) (words : Words) where
 pub waiting-done : (allowance : ℕ) (words : Words) (k : ℕ) (g : Registers) (m : Memory) → g .callee ≡ 0 → g .p .0 ≤ length (m .input) →
     ((i : ℕ) → i < k → Waits (length (m .input)) i (m .frames)) →
     waiting (roomOf m) allowance words k (m .frames) (m .values) (done (stacksOf g m) (ledgerOf allowance g m)) ≡
-    comesTo (roomOf m) allowance words (leftFrom k g (m .frames)) m
+    outcomeFrom (roomOf m) allowance words (leftFrom k g (m .frames)) m
 unfolding waiting
 waiting-done allowance words zero g m idle h waits = refl
 waiting-done allowance words (suc k) g m idle h waits =

@@ -19,9 +19,11 @@ use Rattle.run_actions.specs.declared.registers.Next.{Next}
 use Rattle.run_actions.specs.declared.registers.Next.the-variants.{Onward, Done, Stopped, Deeper}
 use Rattle.run_actions.proofs.registers.Next as next-declared
 use Rattle.run_actions.specs.States.{Memory, memory, wordsFor, valuesFor, crowdedAt, wordsBelow, countsIn, roomOf}
-use Rattle.run_applications.specs.Waiting.{comesTo}
-use Rattle.run_applications.specs.Advancing.{Underway, Keeps, registersIn, Leads, Follows, IsOver, HasEnded, FollowsToEnd}
-use Rattle.run_applications.proofs.laws.Advancing.{leads-on}
+use Rattle.run_applications.specs.Waiting.{outcomeFrom}
+use Rattle.run_applications.specs.Simulation.{Invariant, NextInvariant, registersIn, Simulates}
+use Rattle.run_turns.specs.Turns.{IsOver}
+use Rattle.run_code.specs.Following.{SimulatesUntil, HasEnded}
+use Rattle.run_applications.proofs.laws.Simulation.{simulates-on}
 use Rattle.run_applications.proofs.laws.Waiting.{held-same, waits-same, local-same, waiting-same}
 
 -- WHERE ALL FRAMES ARE THERE
@@ -32,12 +34,12 @@ not-all k true frames sized few e = omega (arith, sized, ltb-true (suc k) maxFra
 not-all k false frames sized few e = absurd (subst T (sym e) tt)
 
 -- a run that doesn't go on has ended
-pub has-ended : (allowance : ℕ) (last : Next) (n : Memory) → length (n .frames) ≡ wordsFor maxFrames → IsOver last → Keeps allowance last n
+pub has-ended : (allowance : ℕ) (last : Next) (n : Memory) → length (n .frames) ≡ wordsFor maxFrames → IsOver last → NextInvariant allowance last n
     → HasEnded last
-has-ended allowance (Onward g) n sized over keeps = absurd over
-has-ended allowance (Done g) n sized over keeps = tt
-has-ended allowance (Stopped g ending function) n sized over keeps = tt
-has-ended allowance (Deeper g) n sized over keeps = not-all (g .frame) (ltb (suc (g .frame)) maxFrames) (n .frames) sized refl (keeps .crowded)
+has-ended allowance (Onward g) n sized over invariant = absurd over
+has-ended allowance (Done g) n sized over invariant = tt
+has-ended allowance (Stopped g ending function) n sized over invariant = tt
+has-ended allowance (Deeper g) n sized over invariant = not-all (g .frame) (ltb (suc (g .frame)) maxFrames) (n .frames) sized refl (invariant .crowded)
 
 -- nor does one that goes on nowhere else
 pub ended-tagged : (last : Next) → (tagOf next-declared.the-type last ≡ 0) ⊎
@@ -51,35 +53,35 @@ ended-tagged (Deeper g) (inr (inl e)) over = absurd (subst (λ (k : ℕ). T (eqb
 ended-tagged (Deeper g) (inr (inr e)) over = absurd (subst (λ (k : ℕ). T (eqb 3 k)) e tt)
 
 -- where a run goes on deeper, it is under way, and what follows from there follows from its start
-pub crowded-underway : {allowance : ℕ} {last : Next} {g : Registers} {n : Memory} → last ≡ Deeper g → Keeps allowance last n → Underway allowance g n
-crowded-underway e keeps = (rw e at keeps) .underway
+pub crowded-invariant : {allowance : ℕ} {last : Next} {g : Registers} {n : Memory} → last ≡ Deeper g → NextInvariant allowance last n → Invariant allowance g n
+crowded-invariant e invariant = (rw e at invariant) .invariant
 
 pub deeper-on : {words : Words} {allowance : ℕ} {first mid last : Next} {m n l : Memory} {g : Registers} → mid ≡ Deeper g
-    → Follows words allowance first m mid n →
-    FollowsToEnd words allowance (Onward g) n last l → FollowsToEnd words allowance first m last l
+    → SimulatesUntil IsOver words allowance first m mid n →
+    SimulatesUntil HasEnded words allowance (Onward g) n last l → SimulatesUntil HasEnded words allowance first m last l
 deeper-on {words} {allowance} {first} {mid} {last} {m} {n} {l} {g} e follows deeper =
     record {
-      leads = leads-on words allowance _ (registersIn first) m n l (Deeper g) last (rw e at (follows .leads)) (deeper .leads);
+      simulates = simulates-on words allowance _ (registersIn first) m n l (Deeper g) last (rw e at (follows .simulates)) (deeper .simulates);
       ended = deeper .ended;
     }
 
 -- of the frames only the counts are left at a run's end
 module _ (words : Words) (allowance : ℕ) (m : Memory) (input output «record» : Bytes) (frames few : List ℕ) (values all : Bytes)
     (counts : countsIn few ≡ countsIn frames) where
-  comes-ended : (last : Next) → HasEnded last →
-      comesTo (roomOf m) allowance words last (memory input output «record» frames all)
-      ≡ comesTo (roomOf m) allowance words last (memory input output «record» few values)
-  comes-ended (Onward g) ended = absurd ended
-  comes-ended (Done g) ended = rw counts
-  comes-ended (Stopped g ending function) ended = rw counts
-  comes-ended (Deeper g) ended = absurd ended
+  outcome-ended : (last : Next) → HasEnded last →
+      outcomeFrom (roomOf m) allowance words last (memory input output «record» frames all)
+      ≡ outcomeFrom (roomOf m) allowance words last (memory input output «record» few values)
+  outcome-ended (Onward g) ended = absurd ended
+  outcome-ended (Done g) ended = rw counts
+  outcome-ended (Stopped g ending function) ended = rw counts
+  outcome-ended (Deeper g) ended = absurd ended
 
-  keeps-ended : (last : Next) → HasEnded last → Keeps allowance last (memory input output «record» frames all)
-      → Keeps allowance last (memory input output «record» few values)
-  keeps-ended (Onward g) ended keeps = absurd ended
-  keeps-ended (Done g) ended keeps = record { below = keeps .below; logged = keeps .logged }
-  keeps-ended (Stopped g ending function) ended keeps = record { below = keeps .below; logged = keeps .logged }
-  keeps-ended (Deeper g) ended keeps = absurd ended
+  invariant-ended : (last : Next) → HasEnded last → NextInvariant allowance last (memory input output «record» frames all)
+      → NextInvariant allowance last (memory input output «record» few values)
+  invariant-ended (Onward g) ended invariant = absurd ended
+  invariant-ended (Done g) ended invariant = invariant
+  invariant-ended (Stopped g ending function) ended invariant = invariant
+  invariant-ended (Deeper g) ended invariant = absurd ended
 
 -- THE ROOM GROWN
 
@@ -94,34 +96,34 @@ module _ (few rest : List ℕ) (values all : Bytes) (begins : take (length value
   grown-values k h = rw begins at (take-take (16 * k) (length values) all h)
 
   module _ (input output «record» : Bytes) (words : Words) (allowance : ℕ) (g : Registers)
-      (u : Underway allowance g (memory input output «record» few values))
+      (u : Invariant allowance g (memory input output «record» few values))
       (sized : length (few ++ rest) ≡ wordsFor maxFrames) (wide : length all ≡ valuesFor maxFrames) where
     grown-counts : countsIn (few ++ rest) ≡ countsIn few
-    grown-counts = take-append-le maxCounted few rest (omega (arith, u .ready .frameRoom))
+    grown-counts = take-append-le maxCounted few rest (omega (arith, u .ready .room .frame .frameRoom))
 
     -- the frames that wait, and the current one with them
     waiting-there : wordsBelow (g .frame) few ≡ wordsBelow (g .frame) (few ++ rest)
-    waiting-there = grown-below (g .frame) (omega (arith, u .ready .frameRoom))
+    waiting-there = grown-below (g .frame) (omega (arith, u .ready .room .frame .frameRoom))
 
     current-there : wordsBelow (suc (g .frame)) few ≡ wordsBelow (suc (g .frame)) (few ++ rest)
-    current-there = grown-below (suc (g .frame)) (u .ready .frameRoom)
+    current-there = grown-below (suc (g .frame)) (u .ready .room .frame .frameRoom)
 
     stored-there : valuesFor (suc (g .frame)) ≤ length values
-    stored-there = u .ready .valueRoom (g .frame) (u .ready .frameRoom)
+    stored-there = u .ready .room .values (g .frame) (u .ready .room .frame .frameRoom)
 
-    grown-underway : Underway allowance g (memory input output «record» (few ++ rest) all)
-    grown-underway =
+    grown-invariant : Invariant allowance g (memory input output «record» (few ++ rest) all)
+    grown-invariant =
         let r = u .ready in
         record {
           ready =
               record {
-                ordered = r .ordered;
-                inside = r .inside;
-                below = r .below;
-                logged = r .logged;
-                framed = r .framed;
-                frameRoom = omega (arith, sized, r .framed);
-                valueRoom = λ k h. omega (arith, sized, wide, h);
+                room =
+                    record {
+                      selection = r .room .selection;
+                      written = r .room .written;
+                      frame = record { framed = r .room .frame .framed; frameRoom = omega (arith, sized, r .room .frame .framed) };
+                      values = λ k h. omega (arith, sized, wide, h);
+                    };
                 paid = r .paid;
                 counts = λ i. rw grown-counts (r .counts i);
                 waits = waits-same few (few ++ rest) (g .frame) waiting-there (length input) (r .waits);
@@ -129,9 +131,9 @@ module _ (few rest : List ℕ) (values all : Bytes) (begins : take (length value
           current = held-same few (few ++ rest) (suc (g .frame)) current-there (g .frame) (omega arith) (u .current);
         }
 
-    grown-comes : comesTo (roomOf (memory input output «record» few values)) allowance words (Onward g) (memory input output «record» few values) ≡
-        comesTo (roomOf (memory input output «record» few values)) allowance words (Onward g) (memory input output «record» (few ++ rest) all)
-    grown-comes =
+    grown-outcome : outcomeFrom (roomOf (memory input output «record» few values)) allowance words (Onward g) (memory input output «record» few values) ≡
+        outcomeFrom (roomOf (memory input output «record» few values)) allowance words (Onward g) (memory input output «record» (few ++ rest) all)
+    grown-outcome =
         rw (
           grown-counts,
           local-same few (few ++ rest) (suc (g .frame)) current-there values all (grown-values (suc (g .frame)) stored-there)
@@ -143,19 +145,19 @@ module _ (few rest : List ℕ) (values all : Bytes) (begins : take (length value
     -- followed to its end there, and the counts brought back
     grown-follows : (last : Next) (input′ output′ «record′» : Bytes) (frames few′ : List ℕ) (values′ : Bytes) → length frames ≡ wordsFor maxFrames →
         countsIn few′ ≡ countsIn frames →
-        Follows words allowance (Onward g) (memory input output «record» (few ++ rest) all) last (memory input′ output′ «record′» frames values′) →
-        FollowsToEnd words allowance (Onward g) (memory input output «record» few values) last (memory input′ output′ «record′» few′ values)
+        SimulatesUntil IsOver words allowance (Onward g) (memory input output «record» (few ++ rest) all) last (memory input′ output′ «record′» frames values′) →
+        SimulatesUntil HasEnded words allowance (Onward g) (memory input output «record» few values) last (memory input′ output′ «record′» few′ values)
     grown-follows last input′ output′ «record′» frames few′ values′ whole counts follows =
-        let l = follows .leads in
-        let ended = has-ended allowance last (memory input′ output′ «record′» frames values′) whole (follows .over) (l .keeps) in
+        let l = follows .simulates in
+        let ended = has-ended allowance last (memory input′ output′ «record′» frames values′) whole (follows .ended) (l .invariant) in
         record {
-          leads =
+          simulates =
               record {
-                same = grown-comes ∙ l .same ∙
-                    comes-ended words allowance (memory input output «record» few values) input′ output′ «record′» frames few′ values values′ counts
+                same = grown-outcome ∙ l .same ∙
+                    outcome-ended words allowance (memory input output «record» few values) input′ output′ «record′» frames few′ values values′ counts
                     last ended;
-                keeps = keeps-ended words allowance (memory input output «record» few values) input′ output′ «record′» frames few′ values values′ counts
-                    last ended (l .keeps);
+                invariant = invariant-ended words allowance (memory input output «record» few values) input′ output′ «record′» frames few′ values values′ counts
+                    last ended (l .invariant);
                 room = l .room;
                 beyond = l .beyond;
               };
@@ -183,17 +185,17 @@ counts-back few few′ words e h = rw e (take-at (take maxCounted words) (drop m
 
 module _ {few many : List ℕ} {values stored : Bytes} (grown : Grown few many values stored) (input output «record» : Bytes) (words : Words)
     (allowance : ℕ) (g : Registers)
-    (u : Underway allowance g (memory input output «record» few values)) where
-  pub deeper-underway : Underway allowance g (memory input output «record» many stored)
-  deeper-underway =
+    (u : Invariant allowance g (memory input output «record» few values)) where
+  pub deeper-invariant : Invariant allowance g (memory input output «record» many stored)
+  deeper-invariant =
       rw (grown .begun)
-      (grown-underway few (grown .rest) values stored (grown .begins) input output «record» words allowance g u (rw (grown .begun) at (grown .sized))
+      (grown-invariant few (grown .rest) values stored (grown .begins) input output «record» words allowance g u (rw (grown .begun) at (grown .sized))
       (grown .wide))
 
   pub deeper-follows : (last : Next) (input′ output′ «record′» : Bytes) (frames few′ : List ℕ) (values′ : Bytes) → length frames ≡ wordsFor maxFrames →
       countsIn few′ ≡ countsIn frames →
-      Follows words allowance (Onward g) (memory input output «record» many stored) last (memory input′ output′ «record′» frames values′) →
-      FollowsToEnd words allowance (Onward g) (memory input output «record» few values) last (memory input′ output′ «record′» few′ values)
+      SimulatesUntil IsOver words allowance (Onward g) (memory input output «record» many stored) last (memory input′ output′ «record′» frames values′) →
+      SimulatesUntil HasEnded words allowance (Onward g) (memory input output «record» few values) last (memory input′ output′ «record′» few′ values)
   deeper-follows last input′ output′ «record′» frames few′ values′ whole counts follows =
       grown-follows few (grown .rest) values stored (grown .begins) input output «record» words allowance g u (rw (grown .begun) at (grown .sized))
       (grown .wide)

@@ -23,8 +23,9 @@ use Rattle.run_actions.specs.declared.registers.Next.{Next}
 use Rattle.run_actions.specs.declared.registers.Next.the-variants.{Onward, Done, Stopped, Deeper}
 use Rattle.run_actions.specs.Endings.{endingNumber}
 use Rattle.run_actions.specs.States.{firstFrames, wordsFor, valuesFor, Memory, memory, Held, countsIn, stacksOf, roomOf, Outcomes}
-use Rattle.run_applications.specs.Waiting.{soundIn, functionsIn, waiting, comesTo}
-use Rattle.run_applications.specs.Advancing.{Underway, Keeps, registersIn, Leads, HasEnded}
+use Rattle.run_applications.specs.Waiting.{soundIn, functionsIn, waiting, outcomeFrom}
+use Rattle.run_applications.specs.Simulation.{Invariant, NextInvariant, registersIn, Simulates}
+use Rattle.run_code.specs.Following.{HasEnded}
 use Rattle.run_code.specs.Leaving.{cells, Tells, Leaves, refusedWith, reportedOf, clearedFrom, loadedWith}
 use Rattle.run_applications.proofs.laws.Waiting.{entering-paid}
 use Rattle.run_code.proofs.laws.Tables.{unpacked}
@@ -64,14 +65,14 @@ module _ (bytes : Bytes) (start : ℕ) (within : start ≤ length bytes) where
 
 -- THE END
 
-pub reported-within : (allowance : ℕ) (last : Next) (m : Memory) → HasEnded last → Keeps allowance last m → reportedOf last .text ≤ length (m .output)
+pub reported-within : (allowance : ℕ) (last : Next) (m : Memory) → HasEnded last → NextInvariant allowance last m → reportedOf last .text ≤ length (m .output)
 reported-within allowance (Onward g) m o k = absurd o
 reported-within allowance (Deeper g) m o k = absurd o
 reported-within allowance (Done g) m o k = k .below
 reported-within allowance (Stopped g ending function) m o k = omega arith
 
 module _ (room : Room) (allowance : ℕ) (words : Words) (m : Memory) where
-  tells-end : (last : Next) → HasEnded last → Keeps allowance last m → Tells (reportedOf last) (resultOf (textOf (comesTo room allowance words last m)))
+  tells-end : (last : Next) → HasEnded last → NextInvariant allowance last m → Tells (reportedOf last) (resultOf (textOf (outcomeFrom room allowance words last m)))
   tells-end (Onward g) o k = absurd o
   tells-end (Deeper g) o k = absurd o
   tells-end (Done g) o k =
@@ -91,17 +92,17 @@ module _ (room : Room) (allowance : ℕ) (words : Words) (m : Memory) where
         emissions = sym (length-take-le (g .emitted) (m .«record») (k .logged));
       }
 
-  counts-end : (last : Next) → HasEnded last → countsIn (m .frames) ≡ resultOf (textOf (comesTo room allowance words last m)) .counts
+  counts-end : (last : Next) → HasEnded last → countsIn (m .frames) ≡ resultOf (textOf (outcomeFrom room allowance words last m)) .counts
   counts-end (Onward g) o = absurd o
   counts-end (Deeper g) o = absurd o
   counts-end (Done g) o = refl
   counts-end (Stopped g ending function) o = refl
 
   -- the cells after the stacks are cleared
-  cells-end : (last : Next) (before : Cells) → HasEnded last → Keeps allowance last m → roomOf m ≡ roomOfCells before →
+  cells-end : (last : Next) (before : Cells) → HasEnded last → NextInvariant allowance last m → roomOf m ≡ roomOfCells before →
       drop (registersIn last .emitted) (m .«record») ≡ drop (registersIn last .emitted) (before .«record») →
       cells (clearedFrom 0 (m .input)) (clearedFrom (reportedOf last .text) (m .output)) (m .«record») ≡
-      afterRun (resultOf (textOf (comesTo room allowance words last m))) before .cells
+      afterRun (resultOf (textOf (outcomeFrom room allowance words last m))) before .cells
   cells-end (Onward g) before o k e beyond = absurd o
   cells-end (Deeper g) before o k e beyond = absurd o
   cells-end (Done g) before o k e beyond =
@@ -124,7 +125,7 @@ module _ (room : Room) (allowance : ℕ) (words : Words) (m : Memory) where
         ap (λ r. r .outCells) e,
       )
 
-  pub leaves-end : (last : Next) (before : Cells) (o : Outcomes) → o ≡ comesTo room allowance words last m → HasEnded last → Keeps allowance last m →
+  pub leaves-end : (last : Next) (before : Cells) (o : Outcomes) → o ≡ outcomeFrom room allowance words last m → HasEnded last → NextInvariant allowance last m →
       roomOf m ≡ roomOfCells before → drop (registersIn last .emitted) (m .«record») ≡ drop (registersIn last .emitted) (before .«record») →
       Leaves (reportedOf last) (countsIn (m .frames)) (cells (clearedFrom 0 (m .input)) (clearedFrom (reportedOf last .text) (m .output)) (m .«record»))
       (afterRun (resultOf (textOf o)) before)
@@ -169,19 +170,19 @@ module _ (text input input′ : Bytes) (l : Loaded text input input′) where
     abbrev pub Whole : Outcomes
     Whole = runUnder (lent (roomOf Start)) (functionsIn words) start text allowance tt
 
-    pub underway-start : length frames ≡ wordsFor firstFrames → length values ≡ valuesFor firstFrames → countsIn frames ≡ uncounted → Held 0 frames →
-        Underway allowance Beginning Start
-    underway-start f v none empty =
+    pub invariant-start : length frames ≡ wordsFor firstFrames → length values ≡ valuesFor firstFrames → countsIn frames ≡ uncounted → Held 0 frames →
+        Invariant allowance Beginning Start
+    invariant-start f v none empty =
         record {
           ready =
               record {
-                ordered = omega arith;
-                inside = omega (arith, l .sized);
-                below = omega arith;
-                logged = omega arith;
-                framed = omega arith;
-                frameRoom = omega (arith, f);
-                valueRoom = λ k h. omega (arith, f, v, h);
+                room =
+                    record {
+                      selection = record { ordered = omega arith; inside = omega (arith, l .sized) };
+                      written = record { below = omega arith; logged = omega arith };
+                      frame = record { framed = omega arith; frameRoom = omega (arith, f) };
+                      values = λ k h. omega (arith, f, v, h);
+                    };
                 paid = omega arith;
                 counts = λ i. rw none (omega (arith, getD-zeros i));
                 waits = λ k h. absurd (omega arith);
@@ -190,27 +191,27 @@ module _ (text input input′ : Bytes) (l : Loaded text input input′) where
         }
 
     -- the run is followed from where its first application is to begin
-    pub starting : Underway allowance Beginning Start → countsIn frames ≡ uncounted → isDeclared (functionsIn words) start ≡ true →
-        Leads words allowance Whole Beginning Start (Onward Beginning) Start
+    pub starting : Invariant allowance Beginning Start → countsIn frames ≡ uncounted → isDeclared (functionsIn words) start ≡ true →
+        Simulates words allowance Whole Beginning Start (Onward Beginning) Start
     unfolding waiting
-    starting underway none declared =
+    starting invariant none declared =
         record {
           same =
               entering-paid (roomOf Start) allowance words 1 start (loaded text) (record { tally = fresh allowance; mark = tt }) (omega arith) ∙
               rw (declared, loaded-stacks, sub-zero allowance, none);
-          keeps = underway;
+          invariant = invariant;
           room = refl;
           beyond = λ old e. e;
         }
 
     -- and leaves what it should when it has been followed to its end
-    pub ending : (last : Next) (m : Memory) → Leads words allowance Whole Beginning Start last m → HasEnded last →
+    pub ending : (last : Next) (m : Memory) → Simulates words allowance Whole Beginning Start last m → HasEnded last →
         Leaves (reportedOf last) (countsIn (m .frames)) (cells (clearedFrom 0 (m .input)) (clearedFrom (reportedOf last .text) (m .output)) (m .«record»))
         (afterRun (runLent (roomOfCells (cells input output «record»)) (functionsIn words) start text allowance) (cells input output «record»))
-    ending last m leads over =
+    ending last m simulates over =
         rw (l .sized) at
-        (leaves-end (roomOf Start) allowance words m last (cells input output «record») Whole (leads .same) over (leads .keeps) (leads .room ∙ rw (l .sized))
-        (leads .beyond «record» refl))
+        (leaves-end (roomOf Start) allowance words m last (cells input output «record») Whole (simulates .same) over (simulates .invariant) (simulates .room ∙ rw (l .sized))
+        (simulates .beyond «record» refl))
 
 -- BEFORE A RUN
 

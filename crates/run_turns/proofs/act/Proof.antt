@@ -11,9 +11,9 @@ use Rattle.run_decoding.specs.Decoded.{actionsMeant}
 use Rattle.run_decoding.proofs.laws.Reading.{use-numbered, actions-at, actions-none, actions-named}
 use Rattle.run_actions.specs.declared.registers.Registers.{Registers}
 use Rattle.run_actions.specs.declared.registers.Next.{Next}
-use Rattle.run_actions.specs.States.{Memory, memory, roomOf, Acts}
-use Rattle.run_applications.specs.Advancing.{Acting, stepped, Does}
-use Rattle.run_applications.proofs.laws.Advancing.{advance-does, advance-acts, advance-unknown, advance-leaves}
+use Rattle.run_actions.specs.States.{Memory, memory, roomOf, ImplementsAction}
+use Rattle.run_turns.specs.Turns.{ActingInvariant, stepped, SimulatesInstruction}
+use Rattle.run_turns.proofs.laws.Turning.{turn-simulates, turn-implements, turn-unknown, turn-leaves}
 use borrow.Author.Needs.{needs}
 use Rattle.run_turns.proofs.laws.Trying.{does-step, does-use, does-deeper}
 use Rattle.run_turns.proofs.act.Statement.{statement}
@@ -33,7 +33,7 @@ words c = entry c .args .code .now
 abbrev lent : tie.After-decode → Memory
 lent c = memory (entry c .args .input .now) (entry c .args .output .now) (entry c .args .«record» .now) (entry c .args .frames .now) (entry c .args .values .now)
 
-acting : (c : tie.After-decode) → Acting (entry c .args .allowance) (g c) (lent c)
+acting : (c : tie.After-decode) → ActingInvariant (entry c .args .allowance) (g c) (lent c)
 acting c = entry c .pre .1
 
 within : (c : tie.After-decode) → g c .at .0 < length (words c)
@@ -45,22 +45,22 @@ read c i e = actions-at (words c) (g c .at .0) i (rw e at (c .decode .ensures)) 
 -- an instruction that is one action, and leads on to a place
 acts : (c : tie.After-decode) (i : Instruction) → c .decode .result ≡ i → (action : Action) (at : ℕ) →
     actionsMeant i (drop (g c .at .0 + 1) (words c)) ≡ action ∷ unpackActions 0 (drop at (words c)) → g c .at .0 + 1 ≤ at →
-    (next : Next) (n : Memory) → roomOf n ≡ roomOf (lent c) → Acts action at (stepped (g c)) (lent c) next n →
-    Does (words c) (entry c .args .allowance) (g c) (lent c) next n
+    (next : Next) (n : Memory) → roomOf n ≡ roomOf (lent c) → ImplementsAction action at (stepped (g c)) (lent c) next n →
+    SimulatesInstruction (words c) (entry c .args .allowance) (g c) (lent c) next n
 acts c i e action at means l next n room a =
     does-step _ _
-    (advance-acts (words c) _ (g c) (lent c) (acting c .idle) action at next n (within c) (acting c .underway) (read c i e ∙ means) room l a)
+    (turn-implements (words c) _ (g c) (lent c) (acting c .idle) action at next n (within c) (acting c .invariant) (read c i e ∙ means) room l a)
 
 returns : tie.Need-returns
 returns c =
     let entry = c .before .before .before .before .before .before .before in
     let a = entry .args in
-    does-step _ _ (advance-unknown _ _ _ _ (entry .pre .1 .idle) [] (entry .pre .1 .underway) (actions-none (a .code .now) (a .g .at .0) (c .if1 .taken)) (a .g) refl refl refl)
+    does-step _ _ (turn-unknown _ _ _ _ (entry .pre .1 .idle) [] (entry .pre .1 .invariant) (actions-none (a .code .now) (a .g .at .0) (c .if1 .taken)) (a .g) refl refl refl)
 
 write-requires : tie.Need-write-requires
 write-requires c κs =
-    let u = acting (c .before .before .before .before .before) .underway in
-    (u .ready .ordered, (u .ready .inside, (u .ready .below, (u .ready .framed, (u .ready .frameRoom, (u .current, u .ready .valueRoom))))))
+    let u = acting (c .before .before .before .before .before) .invariant in
+    (u .ready .room .selection .ordered, (u .ready .room .selection .inside, (u .ready .room .written .below, (u .ready .room .frame .framed, (u .ready .room .frame .frameRoom, (u .current, u .ready .room .values))))))
 
 returns-2 : tie.Need-returns-2
 returns-2 c = acts (c .before .before .before .before .before) _ (c .before .before .before .span .given .1) _ _ refl (omega arith) _ _ refl (c .go .ensures _ _ _)
@@ -74,7 +74,7 @@ returns-4 c = acts (c .before .before .before .before .before .before .before .b
 returns-5 : tie.Need-returns-5
 returns-5 c =
     let at-decode = (c .before .before .before .before .before .before) in
-    acts at-decode _ (c .before .before .before .before .enum-told .given .1) _ _ refl (omega arith) _ _ refl (c .before .before .begin-seq .ensures _ _ _ _ (acting at-decode .underway .ready .below))
+    acts at-decode _ (c .before .before .before .before .enum-told .given .1) _ _ refl (omega arith) _ _ refl (c .before .before .begin-seq .ensures _ _ _ _ (acting at-decode .invariant .ready .room .written .below))
 
 returns-6 : tie.Need-returns-6
 returns-6 c =
@@ -92,8 +92,8 @@ call-requires : tie.Need-call-requires
 call-requires c κs =
     let at-crowded = c .before .before in
     let at-decode = decoded at-crowded in
-    let r = acting at-decode .underway .ready in
-    (entry at-decode .pre .0, (r .framed, (r .frameRoom, sym (at-crowded .crowded .ensures) ∙ c .before .if2 .left)))
+    let r = acting at-decode .invariant .ready in
+    (entry at-decode .pre .0, (r .room .frame .framed, (r .room .frame .frameRoom, sym (at-crowded .crowded .ensures) ∙ c .before .if2 .left)))
 
 returns-7 : tie.Need-returns-7
 returns-7 c =
@@ -105,7 +105,7 @@ returns-8 c =
     let at-crowded = c .before .before .before .before .before in
     let at-decode = decoded at-crowded in
     does-step _ _
-    (advance-does _ _ _ _ (acting at-decode .idle) _ (g at-decode .at .0 + 1) _ _ (within at-decode) (acting at-decode .underway) (read at-decode _ (at-what at-crowded .what2 .given .1))
+    (turn-simulates _ _ _ _ (acting at-decode .idle) _ (g at-decode .at .0 + 1) _ _ (within at-decode) (acting at-decode .invariant) (read at-decode _ (at-what at-crowded .what2 .given .1))
     (c .before .before .call .ensures _ _ _ _))
 
 returns-9 : tie.Need-returns-9
@@ -123,13 +123,13 @@ returns-11 : tie.Need-returns-11
 returns-11 c =
     let at-decode = (c .before .before .before .before) in
     rw (c .leave .ensures)
-    (does-step _ _ (advance-leaves _ _ _ _ (acting at-decode .idle) (within at-decode) (acting at-decode .underway) (read at-decode _ (c .before .before .enum-told3 .given .1))))
+    (does-step _ _ (turn-leaves _ _ _ _ (acting at-decode .idle) (within at-decode) (acting at-decode .invariant) (read at-decode _ (c .before .before .enum-told3 .given .1))))
 
 returns-12 : tie.Need-returns-12
 returns-12 c =
     let at-decode = (c .before .before) in
     does-step _ _
-    (advance-unknown _ _ _ _ (acting at-decode .idle) _ (acting at-decode .underway) (read at-decode _ (c .enum-told4 .given .1)) (stepped (g at-decode)) refl refl refl)
+    (turn-unknown _ _ _ _ (acting at-decode .idle) _ (acting at-decode .invariant) (read at-decode _ (c .enum-told4 .given .1)) (stepped (g at-decode)) refl refl refl)
 
 pub act-spec : {M : Type 1} → statement M
 act-spec =

@@ -1,13 +1,11 @@
 -- `run_turns::advance` meets its contract.
 use mathlib.Core.Path.{subst, _∙_}
-use lib.ListN.{length}
 use Rattle.meaning.specs.Packing.{Words}
 use Rattle.run_actions.specs.declared.registers.Registers.{Registers}
 use Rattle.run_actions.specs.declared.registers.Next.{Next}
 use Rattle.run_actions.specs.declared.registers.Next.the-variants.{Onward}
-use Rattle.run_actions.specs.States.{Memory, memory, roomOf}
-use Rattle.run_applications.specs.Waiting.{comesTo, leftToDo}
-use Rattle.run_applications.specs.Advancing.{Acting, Begins, Tried, Used}
+use Rattle.run_actions.specs.States.{Memory, memory}
+use Rattle.run_turns.specs.Turns.{ActingInvariant, SimulatesEntry, SimulatesTry, SimulatesUse}
 use borrow.Author.Needs.{needs}
 use Rattle.run_turns.proofs.laws.Statuses.{over-tagged, over-left}
 use Rattle.run_turns.proofs.laws.Trying.{acting-on, acting-used, turn-begun, turn-again, turn-used, turn-done}
@@ -33,8 +31,7 @@ entered c =
 
 abbrev BeginsTo : tie.Start → Next → Memory → Type 0
 BeginsTo e next n =
-    Begins (words e) (e .args .allowance) (comesTo (roomOf (lent e)) (e .args .allowance) (words e) (Onward (e .args .g)) (lent e))
-    (leftToDo (length (words e)) (e .args .allowance) (Onward (e .args .g)) (lent e)) (e .args .g) (lent e) next n
+    SimulatesEntry (words e) (e .args .allowance) (e .args .g) (lent e) next n
 
 begun : (c : tie.After-enter) → BeginsTo (entry c) (c .enter .result) (entered c)
 begun c = c .enter .ensures _ _ (entry c .pre .1 .1)
@@ -54,8 +51,8 @@ begun-first c =
 abbrev goes-on : tie.Else1 → tie.After-entered
 goes-on c = c .before .before .before
 
-acting-first : (c : tie.Else1) → Acting (entry (before-first (goes-on c)) .args .allowance) (first (goes-on c)) (entered (before-first (goes-on c)))
-acting-first c = record { underway = begun-first (goes-on c) .advances .leads .keeps; idle = c .if1 .left }
+acting-first : (c : tie.Else1) → ActingInvariant (entry (before-first (goes-on c)) .args .allowance) (first (goes-on c)) (entered (before-first (goes-on c)))
+acting-first c = record { invariant = begun-first (goes-on c) .below .simulates .invariant; idle = c .if1 .left }
 
 -- WHERE ITEMS ARE WRITTEN, WHERE USESEQ WAS TRIED, AND WHERE SELECT WAS
 
@@ -74,7 +71,7 @@ written-in c =
     memory (m .input) (c .write-items .last .1 .1 .1 .0) (m .«record») (c .write-items .last .1 .1 .1 .1 .0) (m .values)
 
 written : (c : tie.After-write-items) →
-    Tried (words (start c)) (start c .args .allowance) (first (before-items c)) (entered (before-first (before-items c))) (c .write-items .result) (written-in c)
+    SimulatesTry (words (start c)) (start c .args .allowance) (first (before-items c)) (entered (before-first (before-items c))) (c .write-items .result) (written-in c)
 written c = c .write-items .ensures _ _ (acting-first (acting-before c))
 
 abbrev before-use : tie.After-try-use → tie.After-write-items
@@ -88,7 +85,7 @@ used-in c =
 -- what UseSeq, or another instruction in its place, was told to lead to
 abbrev UsedTo : tie.After-try-use → Next → Type 0
 UsedTo c next =
-    Used (words (start (before-use c))) (start (before-use c) .args .allowance) (before-use c .write-items .result) (written-in (before-use c)) next (used-in c)
+    SimulatesUse (words (start (before-use c))) (start (before-use c) .args .allowance) (before-use c .write-items .result) (written-in (before-use c)) next (used-in c)
 
 used : (c : tie.After-try-use) → UsedTo c (c .try-use .result)
 used c = c .try-use .ensures _ _ _ (acting-on _ _ (written (before-use c)))
@@ -102,21 +99,21 @@ second c = c .used .given .0 .0
 used-second : (c : tie.After-used) → UsedTo (before-second c) (Onward (second c))
 used-second c = subst (UsedTo (before-second c)) (c .used .given .1) (used (before-second c))
 
-acting-second : (c : tie.After-used) → Acting (start (before-use (before-second c)) .args .allowance) (second c) (used-in (before-second c))
+acting-second : (c : tie.After-used) → ActingInvariant (start (before-use (before-second c)) .args .allowance) (second c) (used-in (before-second c))
 acting-second c = acting-used _ _ (acting-on _ _ (written (before-use (before-second c)))) (used-second c)
 
 abbrev before-select : tie.After-try-select → tie.After-used
 before-select c = c .before .before .before .before
 
 selected : (c : tie.After-try-select) → let at-use = before-second (before-select c) in
-    Tried (words (start (before-use at-use))) (start (before-use at-use) .args .allowance) (second (before-select c)) (used-in at-use) (c .try-select .result) (used-in at-use)
+    SimulatesTry (words (start (before-use at-use))) (start (before-use at-use) .args .allowance) (second (before-select c)) (used-in at-use) (c .try-select .result) (used-in at-use)
 selected c = c .try-select .ensures _ _ _ _ (acting-second (before-select c))
 
 enter-requires : tie.Need-enter-requires
 enter-requires c κs =
     let pre = c .before .before .before .before .before .before .before .before .before .pre in
     let r = pre .1 .1 .ready in
-    (pre .0, (pre .1 .0, (r .ordered, (r .inside, (r .framed, (r .frameRoom, (r .valueRoom, r .counts)))))))
+    (pre .0, (pre .1 .0, (r .room .selection .ordered, (r .room .selection .inside, (r .room .frame .framed, (r .room .frame .frameRoom, (r .room .values, r .counts)))))))
 
 returns : tie.Need-returns
 returns c =
@@ -135,8 +132,8 @@ write-items-requires c κs =
 
 try-use-requires : tie.Need-try-use-requires
 try-use-requires c κs =
-    let u = acting-on _ _ (written (c .before .before .before .before .before .before .before)) .underway in
-    (u .ready .ordered, (u .ready .inside, (u .ready .below, (u .ready .framed, (u .ready .frameRoom, u .current)))))
+    let u = acting-on _ _ (written (c .before .before .before .before .before .before .before)) .invariant in
+    (u .ready .room .selection .ordered, (u .ready .room .selection .inside, (u .ready .room .written .below, (u .ready .room .frame .framed, (u .ready .room .frame .frameRoom, u .current)))))
 
 -- where UseSeq was tried, back to where the application had begun
 abbrev use-enter : tie.After-try-use → tie.After-enter
@@ -158,8 +155,8 @@ returns-3 c =
 
 try-select-requires : tie.Need-try-select-requires
 try-select-requires c κs =
-    let u = acting-second (c .before .before .before) .underway in
-    (u .ready .ordered, (u .ready .inside, (u .ready .framed, (u .ready .frameRoom, u .current))))
+    let u = acting-second (c .before .before .before) .invariant in
+    (u .ready .room .selection .ordered, (u .ready .room .selection .inside, (u .ready .room .frame .framed, (u .ready .room .frame .frameRoom, u .current))))
 
 act-requires : tie.Need-act-requires
 act-requires c κs =

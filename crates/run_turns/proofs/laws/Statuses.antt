@@ -13,8 +13,9 @@ use Rattle.run_actions.specs.declared.registers.Status.the-variants as status
 use Rattle.run_actions.proofs.registers.Next as next-declared
 use Rattle.run_actions.proofs.registers.Status as status-declared
 use Rattle.run_actions.specs.States.{Memory}
-use Rattle.run_applications.specs.Waiting.{leftToDo}
-use Rattle.run_applications.specs.Advancing.{registersIn, statusIn, nextOf, onward, keptOf, IsOver}
+use Rattle.run_applications.specs.Waiting.{measure}
+use Rattle.run_applications.specs.Simulation.{registersIn}
+use Rattle.run_turns.specs.Turns.{statusIn, nextOf, onward, keptOf, IsOver}
 
 parts-join : (r : Next) → nextOf (statusIn r) (registersIn r) ≡ r
 parts-join (Onward g) = refl
@@ -47,7 +48,7 @@ over-tagged (Stopped g ending function) e = tt
 over-tagged (Deeper g) e = tt
 
 -- nothing is left to do then
-pub over-left : (size allowance : ℕ) (r : Next) (n : Memory) → IsOver r → leftToDo size allowance r n ≡ 0
+pub over-left : (size allowance : ℕ) (r : Next) (n : Memory) → IsOver r → measure size allowance r n ≡ 0
 over-left size allowance (Onward g) n over = absurd over
 over-left size allowance (Done g) n over = refl
 over-left size allowance (Stopped g ending function) n over = refl

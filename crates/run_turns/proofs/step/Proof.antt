@@ -46,7 +46,8 @@ use Rattle.run_actions.specs.declared.registers.Registers.{Registers}
 use Rattle.run_actions.specs.declared.registers.Next.{Next}
 use Rattle.run_actions.specs.declared.registers.Status.{Status}
 use Rattle.run_actions.specs.States.{Memory as Memories, memory}
-use Rattle.run_applications.specs.Advancing.{registersIn, statusIn, nextOf, Steps}
+use Rattle.run_applications.specs.Simulation.{registersIn}
+use Rattle.run_turns.specs.Turns.{statusIn, nextOf, SimulatesTurn}
 use Rattle.run_turns.proofs.laws.Statuses.{rejoined}
 use Rattle.run_turns.proofs.walks.Callees.{registers-vals, RegistersOf, StatusOf, registers-said, status-said, to-parts, goes-parts}
 use Rattle.proof_walks.proofs.Entering.{calls-framed, walk-enters}
@@ -133,7 +134,7 @@ module _ {M : Type 1} (𝓤 : URA M) (H : Heap 𝓤) (A : Atoms 𝓤) (W : Given
   before = memory (now input) (now output) (now «record») (now frames) (now values)
 
   abbrev Told : Next → Lasts advance.ended (κs .1) (g, a .1) → Type 0
-  Told r ws = Steps (now words) allowance g before r (memory (ws .1 .1 .1 .1 .0) (ws .1 .1 .1 .1 .1 .0) (ws .1 .1 .1 .1 .1 .1 .0) (ws .1 .1 .1 .1 .1 .1 .1 .0)
+  Told r ws = SimulatesTurn (now words) allowance g before r (memory (ws .1 .1 .1 .1 .0) (ws .1 .1 .1 .1 .1 .0) (ws .1 .1 .1 .1 .1 .1 .0) (ws .1 .1 .1 .1 .1 .1 .1 .0)
       (ws .1 .1 .1 .1 .1 .1 .1 .1 .0))
 
   exits : (ws : Lasts advance.ended (κs .1) (g, a .1)) (g′ : Registers) (x : Status) (v : Val) → Told (nextOf x g′) ws

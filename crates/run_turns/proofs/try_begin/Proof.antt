@@ -6,7 +6,7 @@ use Rattle.run_decoding.proofs.laws.Reading.{found-means, found-number}
 use Rattle.run_actions.specs.declared.registers.Next.the-variants.{Onward}
 use Rattle.run_actions.specs.States.{memory}
 use Rattle.run_actions.proofs.laws.Sequences.{begin-kept}
-use Rattle.run_applications.specs.Advancing.{stepped}
+use Rattle.run_turns.specs.Turns.{stepped}
 use Rattle.run_turns.proofs.laws.Trying.{tries-nothing, tries-action}
 use Rattle.run_turns.proofs.try_begin.Statement.{statement}
 use Rattle.run_turns.proofs.try_begin.Tie as tie
@@ -22,7 +22,7 @@ returns-2 c =
     let opened = rw (c .before .before .before .if1 .taken) at (c .before .before .before .before .before .before .open-sequence .ensures) in
     λ allowance input output «record» values acting. rw (taken .after, opened .1)
     (tries-action _ _ _ (Onward (stepped (a .g))) _ (taken .numbered .within) (found-means taken Begin (rw (found-number taken))) refl
-    (begin-kept (stepped (a .g)) (memory input output «record» (a .frames .now) values) (entry .pre .1 .0) (acting .underway .ready .below) (opened .0)) acting)
+    (begin-kept (stepped (a .g)) (memory input output «record» (a .frames .now) values) (entry .pre .1 .0) (acting .invariant .ready .room .written .below) (opened .0)) acting)
 
 returns-3 : tie.Need-returns-3
 returns-3 c =

@@ -3,7 +3,7 @@ use borrow.Author.Needs.{needs}
 use mathlib.Core.Path.{refl}
 use Rattle.run_decoding.specs.declared.Instruction.the-variants.{Use}
 use Rattle.run_decoding.proofs.laws.Reading.{found-means, found-number}
-use Rattle.run_applications.specs.Advancing.{other}
+use Rattle.run_turns.specs.Turns.{other}
 use Rattle.run_turns.proofs.laws.Trying.{uses-action}
 use Rattle.run_turns.proofs.try_use.Statement.{statement}
 use Rattle.run_turns.proofs.try_use.Tie as tie

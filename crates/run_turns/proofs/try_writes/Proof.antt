@@ -10,8 +10,8 @@ use Rattle.run_decoding.specs.Decoded.{writeMeant, actionsMeant}
 use Rattle.run_decoding.proofs.laws.Reading.{actions-at}
 use Rattle.run_actions.specs.declared.registers.Registers.{Registers}
 use Rattle.run_actions.specs.declared.registers.Next.{Next}
-use Rattle.run_actions.specs.States.{Memory, memory, Acts}
-use Rattle.run_applications.specs.Advancing.{Acting, Tries, stepped, keptOf}
+use Rattle.run_actions.specs.States.{Memory, memory, ImplementsAction}
+use Rattle.run_turns.specs.Turns.{ActingInvariant, SimulatesTry, stepped, keptOf}
 use borrow.Author.Needs.{needs}
 use Rattle.run_turns.proofs.laws.Statuses.{over-tagged, over-kept}
 use Rattle.run_turns.proofs.laws.Trying.{acting-on, tries-nothing, tries-action, tries-then}
@@ -22,7 +22,8 @@ abbrev Inv-loop : tie.InvT-loop
 Inv-loop code input output₀ frames values h₀ output h =
     (length output ≡ length output₀) ×
     ((allowance : ℕ) («record» : Bytes) →
-    Tries code allowance h₀ (memory input output₀ «record» frames values) h (memory input output «record» frames values))
+    let m = memory input output₀ «record» frames values in
+    ActingInvariant allowance h₀ m → SimulatesTry code allowance h₀ m h (memory input output «record» frames values))
 
 abbrev μ-loop : tie.MeasureT-loop
 μ-loop code input output₀ frames values h₀ output h = length code - h .at .0
@@ -42,9 +43,10 @@ lent c output «record» =
 abbrev TriesTo : tie.At-loop Inv-loop μ-loop → Registers → Bytes → Type 0
 TriesTo c h output =
     let a = entry c .args in
-    (allowance : ℕ) («record» : Bytes) → Tries (a .code .now) allowance (a .g) (lent c (a .output .now) «record») h (lent c output «record»)
+    (allowance : ℕ) («record» : Bytes) → let m = lent c (a .output .now) «record» in
+    ActingInvariant allowance (a .g) m → SimulatesTry (a .code .now) allowance (a .g) m h (lent c output «record»)
 
-acting : (c : tie.At-loop Inv-loop μ-loop) → let o = entry c .pre in Acting (o .allowance) (c .loop .h) (lent c (c .loop .output) (o .«record»))
+acting : (c : tie.At-loop Inv-loop μ-loop) → let o = entry c .pre in ActingInvariant (o .allowance) (c .loop .h) (lent c (c .loop .output) (o .«record»))
 acting c =
     let o = entry c .pre in
     acting-on _ _ (c .loop .inv .1 (o .allowance) (o .«record») (o .acting))
@@ -62,7 +64,7 @@ after c = c .write .last .1 .1 .1 .0
 acts : (c : tie.After-write Inv-loop μ-loop) (next : Next) → c .write .result ≡ next → («record» : Bytes) →
     let l = at-loop c in
     let h = l .loop .h in
-    Acts (writeMeant (at-what c .what .given .0 .0)) (h .at .0 + 1) (stepped h) (lent l (l .loop .output) «record») next (lent l (after c) «record»)
+    ImplementsAction (writeMeant (at-what c .what .given .0 .0)) (h .at .0 + 1) (stepped h) (lent l (l .loop .output) «record») next (lent l (after c) «record»)
 acts c next e «record» = rw e at (c .write .ensures «record»)
 
 -- what was decoded, as the actions from its place on
@@ -92,8 +94,8 @@ returns-2 c = c .before .before .before .before .loop .inv .1
 
 write-requires : tie.Need-write-requires Inv-loop μ-loop
 write-requires c κs =
-    let u = acting (c .before .before .before .before .before .before .before .before .before .before) .underway in
-    (u .ready .ordered, (u .ready .inside, (u .ready .below, (u .ready .framed, (u .ready .frameRoom, (u .current, u .ready .valueRoom))))))
+    let u = acting (c .before .before .before .before .before .before .before .before .before .before) .invariant in
+    (u .ready .room .selection .ordered, (u .ready .room .selection .inside, (u .ready .room .written .below, (u .ready .room .frame .framed, (u .ready .room .frame .frameRoom, (u .current, u .ready .room .values))))))
 
 returns-3 : tie.Need-returns-3 Inv-loop μ-loop
 returns-3 c allowance «record» a =
@@ -106,7 +108,7 @@ returns-3 c allowance «record» a =
 loop-less : tie.Need-loop-less Inv-loop μ-loop
 loop-less c =
     let at-write = c .before .before .before .before .before in
-    let place = acts at-write _ (c .before .written .given .1) (entry (at-loop at-write) .pre .«record») .stays .place in
+    let place = acts at-write _ (c .before .written .given .1) (entry (at-loop at-write) .pre .«record») .preserves .place in
     omega (arith, place, at-what at-write .before .before .before .before .if1 .left)
 
 loop-again : tie.Need-loop-again Inv-loop μ-loop

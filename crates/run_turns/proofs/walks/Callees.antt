@@ -33,7 +33,8 @@ use Rattle.proof_walks.proofs.Lending.{local-laid, local-lifted}
 use Rattle.run_actions.specs.declared.registers.Registers.{Registers}
 use Rattle.run_actions.specs.declared.registers.Next.{Next}
 use Rattle.run_actions.specs.declared.registers.Status.{Status}
-use Rattle.run_applications.specs.Advancing.{registersIn, statusIn, nextOf, onward}
+use Rattle.run_applications.specs.Simulation.{registersIn}
+use Rattle.run_turns.specs.Turns.{statusIn, nextOf, onward}
 use Rattle.run_actions.proofs.registers.Registers as R
 use Rattle.run_actions.proofs.registers.Registers.Laws as R′
 use Rattle.run_actions.proofs.registers.Next as N

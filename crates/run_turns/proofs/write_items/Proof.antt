@@ -4,7 +4,7 @@ use mathlib.Core.List.{List}
 use Rattle.meaning.specs.Choice.{Bytes}
 use Rattle.run_actions.specs.declared.registers.Registers.{Registers}
 use Rattle.run_actions.specs.States.{memory}
-use Rattle.run_applications.specs.Advancing.{Ongoing, Tries}
+use Rattle.run_turns.specs.Turns.{ActingInvariant, SomeActingInvariant, SimulatesTry}
 use borrow.Author.Needs.{needs}
 use Rattle.run_turns.proofs.laws.Trying.{acting-on, tries-then}
 use Rattle.run_turns.proofs.write_items.Statement.{statement}
@@ -20,8 +20,9 @@ abbrev TriesTo : tie.Start → Registers → Bytes → List ℕ → Type 0
 TriesTo e h output frames =
     let a = e .args in
     (allowance : ℕ) («record» : Bytes) →
-    Tries (a .code .now) allowance (a .g) (memory (a .input .now) (a .output .now) «record» (a .frames .now) (a .values .now))
-    h (memory (a .input .now) output «record» frames (a .values .now))
+    let m = memory (a .input .now) (a .output .now) «record» (a .frames .now) (a .values .now) in
+    let n = memory (a .input .now) output «record» frames (a .values .now) in
+    ActingInvariant allowance (a .g) m → SimulatesTry (a .code .now) allowance (a .g) m h n
 
 begun : (c : tie.After-try-begin) → TriesTo (entry c) (c .try-begin .result) (entry c .args .output .now) (c .try-begin .last .1 .1 .0)
 begun c allowance «record» = c .try-begin .ensures allowance _ _ «record» _
@@ -58,7 +59,7 @@ written c allowance «record» a =
 
 -- the registers keep within what is lent after each of them
 ready : (e : tie.Start) (h : Registers) (output : Bytes) (frames : List ℕ) → TriesTo e h output frames →
-    Ongoing h (e .args .input .now) output frames (e .args .values .now)
+    SomeActingInvariant h (e .args .input .now) output frames (e .args .values .now)
 ready e h output frames tries =
     let o = e .pre in
     record { allowance = o .allowance; «record» = o .«record»; acting = acting-on _ _ (tries (o .allowance) (o .«record») (o .acting)) }
@@ -66,13 +67,13 @@ ready e h output frames tries =
 try-go-requires : tie.Need-try-go-requires
 try-go-requires c κs =
     let at-begin = c .before .before .before in
-    let u = ready (entry at-begin) _ _ _ (begun at-begin) .acting .underway in
-    (u .ready .ordered, (u .ready .inside, (u .ready .framed, (u .ready .frameRoom, u .current))))
+    let u = ready (entry at-begin) _ _ _ (begun at-begin) .acting .invariant in
+    (u .ready .room .selection .ordered, (u .ready .room .selection .inside, (u .ready .room .frame .framed, (u .ready .room .frame .frameRoom, u .current))))
 
 try-select-requires : tie.Need-try-select-requires
 try-select-requires c κs =
-    let u = ready (entry (before-go (c .before))) _ _ _ (gone (c .before)) .acting .underway in
-    (u .ready .ordered, (u .ready .inside, (u .ready .framed, (u .ready .frameRoom, u .current))))
+    let u = ready (entry (before-go (c .before))) _ _ _ (gone (c .before)) .acting .invariant in
+    (u .ready .room .selection .ordered, (u .ready .room .selection .inside, (u .ready .room .frame .framed, (u .ready .room .frame .frameRoom, u .current))))
 
 try-writes-requires : tie.Need-try-writes-requires
 try-writes-requires c κs =
@@ -82,8 +83,8 @@ try-writes-requires c κs =
 try-go-requires-2 : tie.Need-try-go-requires-2
 try-go-requires-2 c κs =
     let at-writes = c .before .before .before in
-    let u = ready (entry (start at-writes)) _ _ _ (written at-writes) .acting .underway in
-    (u .ready .ordered, (u .ready .inside, (u .ready .framed, (u .ready .frameRoom, u .current))))
+    let u = ready (entry (start at-writes)) _ _ _ (written at-writes) .acting .invariant in
+    (u .ready .room .selection .ordered, (u .ready .room .selection .inside, (u .ready .room .frame .framed, (u .ready .room .frame .frameRoom, u .current))))
 
 same-length-2 : tie.Need-same-length-2
 same-length-2 c = start (c .before .before .before .before) .try-begin .kept .1 .1 .0

@@ -1,7 +1,7 @@
 -- `following::follow_all` meets its contract.
 use mathlib.Core.Path.{_≡_, _∙_}
 use borrow.Author.Needs.{needs}
-use Rattle.run_code.proofs.laws.Growing.{ended-tagged, crowded-underway, deeper-on}
+use Rattle.run_code.proofs.laws.Growing.{ended-tagged, crowded-invariant, deeper-on}
 use Rattle.run_code.proofs.following.follow_all.Statement.{statement}
 use Rattle.run_code.proofs.following.follow_all.Tie as tie
 
@@ -16,14 +16,14 @@ entry c = c .before .before .before .before .before .before .before .before .bef
 returns : tie.Need-returns
 returns c =
     let at-follow = c .before .before .before .before .before .before .before .before .before .before .before in
-    record { leads = at-follow .follow .ensures .leads; ended = ended-tagged (at-follow .follow .result) (c .match .keys2) (at-follow .follow .ensures .over) }
+    record { simulates = at-follow .follow .ensures .simulates; ended = ended-tagged (at-follow .follow .result) (c .match .keys2) (at-follow .follow .ensures .ended) }
 
 follow-deeper-requires : tie.Need-follow-deeper-requires
 follow-deeper-requires c κs =
     let at-last = c .before .before .before .before .before .before in
     let at-follow = followed at-last in
     let p = entry at-follow .pre in
-    (p .0, (p .1 .0, (crowded-underway (at-last .last .given .1) (at-follow .follow .ensures .leads .keeps), (at-follow .follow .kept .1 .1 .1 .1 .1 .1 .1 .0 ∙ p .1 .1 .1 .0, at-follow .follow .kept .1 .1 .1 .1 .1 .1 .1 .1 .0 ∙ p .1 .1 .1 .1))))
+    (p .0, (p .1 .0, (crowded-invariant (at-last .last .given .1) (at-follow .follow .ensures .simulates .invariant), (at-follow .follow .kept .1 .1 .1 .1 .1 .1 .1 .0 ∙ p .1 .1 .1 .0, at-follow .follow .kept .1 .1 .1 .1 .1 .1 .1 .1 .0 ∙ p .1 .1 .1 .1))))
 
 same-length-6 : tie.Need-same-length-6
 same-length-6 c =

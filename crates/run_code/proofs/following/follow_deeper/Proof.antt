@@ -9,7 +9,7 @@ use borrow.Author.Needs.{needs}
 use Rattle.meaning.specs.Choice.{Bytes}
 use Rattle.meaning.specs.Leaving.{maxFrames}
 use Rattle.run_actions.specs.States.{wordsFor}
-use Rattle.run_code.proofs.laws.Growing.{Grown, pasted-begins, counts-back, deeper-underway, deeper-follows}
+use Rattle.run_code.proofs.laws.Growing.{Grown, pasted-begins, counts-back, deeper-invariant, deeper-follows}
 use Rattle.run_code.proofs.following.follow_deeper.Statement.{statement}
 use Rattle.run_code.proofs.following.follow_deeper.Tie as tie
 
@@ -47,7 +47,7 @@ follow-requires : tie.Need-follow-requires
 follow-requires c κs =
     let p = entry c .pre in
     let a = entry c .args in
-    (p .0, (p .1 .0, deeper-underway (grown c) (a .input .now) (a .output .now) (a .«record» .now) (a .code .now) (a .allowance) (a .g) (p .1 .1 .0)))
+    (p .0, (p .1 .0, deeper-invariant (grown c) (a .input .now) (a .output .now) (a .«record» .now) (a .code .now) (a .allowance) (a .g) (p .1 .1 .0)))
 
 whole : (c : tie.After-follow) → length (c .follow .last .1 .1 .1 .1 .1 .1 .1 .0) ≡ wordsFor maxFrames
 whole c = c .follow .kept .1 .1 .1 .1 .1 .1 .1 .0 ∙ grown (c .before) .sized

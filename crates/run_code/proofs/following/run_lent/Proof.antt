@@ -8,11 +8,11 @@ use Rattle.meaning.specs.Machine.{isDeclared}
 use Rattle.meaning.specs.Outcome.{uncounted}
 use Rattle.run_actions.specs.States.{Memory, memory, countsIn}
 use Rattle.run_applications.specs.Waiting.{countIn, functionsIn}
-use Rattle.run_applications.specs.Advancing.{Underway}
-use Rattle.run_applications.proofs.laws.Advancing.{leads-on}
+use Rattle.run_applications.specs.Simulation.{Invariant}
+use Rattle.run_applications.proofs.laws.Simulation.{simulates-on}
 use Rattle.run_applications.proofs.laws.Applying.{declared-some, begun-held, begun-counts}
 use Rattle.run_code.specs.Leaving.{loadedWith}
-use Rattle.run_code.proofs.laws.Leaving.{Loaded, underway-start, starting, ending, reported-within}
+use Rattle.run_code.proofs.laws.Leaving.{Loaded, invariant-start, starting, ending, reported-within}
 use borrow.Author.Needs.{needs}
 use Rattle.run_code.proofs.following.run_lent.Statement.{statement}
 use Rattle.run_code.proofs.following.run_lent.Tie as tie
@@ -49,13 +49,13 @@ none c =
     let rooms = entry at-copy .pre .1 .1 .1 .1 in
     rw (c .begin-frame .ensures) (begun-counts (entry at-copy .args .frames .now) 0 0 0 0 (omega (arith, rooms .0)) ∙ rooms .1 .1)
 
-underway : (c : tie.After-begin-frame) → let a = entry (loading c) .args in
-    Underway (a .allowance) (loadedWith (length (a .input .now)) (length (a .text .now)) (a .start)) (begun-in c)
-underway c =
+invariant : (c : tie.After-begin-frame) → let a = entry (loading c) .args in
+    Invariant (a .allowance) (loadedWith (length (a .input .now)) (length (a .text .now)) (a .start)) (begun-in c)
+invariant c =
     let at-copy = loading c in
     let a = entry at-copy .args in
     let rooms = entry at-copy .pre .1 .1 .1 .1 in
-    underway-start _ _ _ (on-in at-copy) _ _ _ _ (a .code .now) (a .start) _ (c .begin-frame .kept .0 ∙ rooms .0) (rooms .1 .0) (none c)
+    invariant-start _ _ _ (on-in at-copy) _ _ _ _ (a .code .now) (a .start) _ (c .begin-frame .kept .0 ∙ rooms .0) (rooms .1 .0) (none c)
     (rw (c .begin-frame .ensures) (begun-held (a .frames .now) 0 0 0 0 (omega (arith, rooms .0)) (omega arith)))
 
 -- the start is declared
@@ -83,13 +83,13 @@ follow-requires c κs =
     let p = entry at-copy .pre in
     let rooms = p .1 .1 .1 .1 in (
       c .before .before .before .before .before .before .class-table .ensures,
-      (p .0, (rw (at-copy .before .before .loaded .ensures) (underway at-begin), (at-begin .begin-frame .kept .0 ∙ rooms .0, rooms .1 .0))),
+      (p .0, (rw (at-copy .before .before .loaded .ensures) (invariant at-begin), (at-begin .begin-frame .kept .0 ∙ rooms .0, rooms .1 .0))),
     )
 
 clear-from-requires-2 : tie.Need-clear-from-requires-2
 clear-from-requires-2 c κs =
     let at-follow = (c .before .before .before .before .before .before .before .before .before .before .before .before .before .before .before .before) in
-    rw (c .before .before .before .before .before .reported .ensures) (reported-within (c .before .before .before .before .before .before .before .before .before .before .before .before .before .before .before .before .before .before .before .before .before .before .before .before .before .before .before .before .before .before .before .before .before .before .before .before .before .before .before .before .args .allowance) (at-follow .follow-all .result) (left at-follow) (at-follow .follow-all .ensures .ended) (at-follow .follow-all .ensures .leads .keeps))
+    rw (c .before .before .before .before .before .reported .ensures) (reported-within (c .before .before .before .before .before .before .before .before .before .before .before .before .before .before .before .before .before .before .before .before .before .before .before .before .before .before .before .before .before .before .before .before .before .before .before .before .before .before .before .before .args .allowance) (at-follow .follow-all .result) (left at-follow) (at-follow .follow-all .ensures .ended) (at-follow .follow-all .ensures .simulates .invariant))
 
 same-length : tie.Need-same-length
 same-length c = c .before .before .before .before .before .before .clear-from .kept .0 ∙ c .before .before .before .before .before .before .before .before .before .before .before .before .before .before .before .before .before .before .before .follow-all .kept .1 .1 .1 .1 .0 ∙ c .before .before .before .before .before .before .before .before .before .before .before .before .before .before .before .before .before .before .before .before .before .before .before .before .before .before .before .before .before .before .before .before .before .copy-to-in .kept .0
@@ -102,7 +102,7 @@ returns c =
     let followed = rw (at-copy .before .before .loaded .ensures) at (at-follow .follow-all .ensures) in
     rw (c .before .before .before .before .before .before .clear-from .ensures, c .before .before .clear-from2 .ensures, c .before .before .before .before .before .before .before .before .reported .ensures)
     (ending _ _ _ (on-in at-copy) _ _ _ _ _ _ _ _ (left at-follow)
-    (leads-on _ _ _ _ _ _ _ _ _ (starting _ _ _ (on-in at-copy) _ _ _ _ _ _ _ (underway at-begin) (none at-begin) (declared at-copy)) (followed .leads))
+    (simulates-on _ _ _ _ _ _ _ _ _ (starting _ _ _ (on-in at-copy) _ _ _ _ _ _ _ (invariant at-begin) (none at-begin) (declared at-copy)) (followed .simulates))
     (followed .ended))
 
 pub run-lent-spec : {M : Type 1} → statement M

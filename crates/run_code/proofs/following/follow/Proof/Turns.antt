@@ -14,9 +14,11 @@ use Rattle.run_actions.specs.declared.registers.Next.{Next}
 use Rattle.run_actions.specs.declared.registers.Next.the-variants.{Onward}
 use Rattle.run_actions.specs.declared.registers.Status.{Status}
 use Rattle.run_actions.specs.States.{Memory, memory, roomOf}
-use Rattle.run_applications.specs.Waiting.{comesTo, leftToDo}
-use Rattle.run_applications.specs.Advancing.{Underway, Keeps, registersIn, statusIn, nextOf, onward, Leads, Steps, Follows}
-use Rattle.run_applications.proofs.laws.Advancing.{leads-start, leads-on}
+use Rattle.run_applications.specs.Waiting.{outcomeFrom, measure}
+use Rattle.run_applications.specs.Simulation.{Invariant, NextInvariant, registersIn, Simulates}
+use Rattle.run_turns.specs.Turns.{statusIn, nextOf, onward, SimulatesTurn, IsOver}
+use Rattle.run_code.specs.Following.{SimulatesUntil}
+use Rattle.run_applications.proofs.laws.Simulation.{simulates-start, simulates-on}
 use Rattle.run_turns.proofs.laws.Statuses.{rejoined, goes-onward, is-over}
 use Rattle.run_actions.proofs.registers.Registers as R
 use Rattle.run_actions.proofs.registers.Status as S
@@ -45,15 +47,15 @@ pub record Turn (words : Words) (allowance : ℕ) (first : Next) (m : Memory) : 
   pub same-record : length «record» ≡ length (m .«record»)
   pub same-frames : length frames ≡ length (m .frames)
   pub same-values : length values ≡ length (m .values)
-  pub leads : Leads words allowance (comesTo (roomOf m) allowance words first m) (registersIn first) m (nextOf how g) (memory input output «record» frames values)
+  pub simulates : Simulates words allowance (outcomeFrom (roomOf m) allowance words first m) (registersIn first) m (nextOf how g) (memory input output «record» frames values)
 
 module _ {words : Words} {allowance : ℕ} {first : Next} {m : Memory} where
   abbrev pub memory-in : Turn words allowance first m → Memory
   memory-in t = memory (t .input) (t .output) (t .«record») (t .frames) (t .values)
 
-  -- what is left to do falls
+  -- what is left to do decreases
   abbrev pub left : Turn words allowance first m → ℕ
-  left t = leftToDo (length words) allowance (nextOf (t .how) (t .g)) (memory-in t)
+  left t = measure (length words) allowance (nextOf (t .how) (t .g)) (memory-in t)
 
   abbrev pub Less : Turn words allowance first m → Turn words allowance first m → Type 0
   Less t′ t = left t′ < left t
@@ -64,12 +66,12 @@ module _ {words : Words} {allowance : ℕ} {first : Next} {m : Memory} where
   -- what `step` ensures in a state
   abbrev pub Told : Turn words allowance first m → Status → Changed → Type 0
   Told t x ws =
-      Steps words allowance (t .g) (memory-in t) (nextOf x (ws .0)) (changed ws)
+      SimulatesTurn words allowance (t .g) (memory-in t) (nextOf x (ws .0)) (changed ws)
 
   -- the first state, and an instruction may come next as long as the run goes on
-  abbrev pub at-start : Keeps allowance first m → (g : Registers) (u : Val) → g ≡ registersIn first → Is R.the-row g (u ∷ []) → (x : Status) (v : Val) → x ≡
+  abbrev pub at-start : NextInvariant allowance first m → (g : Registers) (u : Val) → g ≡ registersIn first → Is R.the-row g (u ∷ []) → (x : Status) (v : Val) → x ≡
       statusIn first → Is S.the-row x (v ∷ []) → Turn words allowance first m
-  at-start keeps g u new is x v how is-x =
+  at-start invariant g u new is x v how is-x =
       record {
         g = g;
         how = x;
@@ -86,12 +88,12 @@ module _ {words : Words} {allowance : ℕ} {first : Next} {m : Memory} where
         same-record = refl;
         same-frames = refl;
         same-values = refl;
-        leads = subst (λ (r : Next). Leads words allowance (comesTo (roomOf m) allowance words first m) (registersIn first) m r m) (sym (rejoined first x g new how))
-            (leads-start words allowance first m keeps);
+        simulates = subst (λ (r : Next). Simulates words allowance (outcomeFrom (roomOf m) allowance words first m) (registersIn first) m r m) (sym (rejoined first x g new how))
+            (simulates-start words allowance first m invariant);
       }
 
-  pub may-step : (t : Turn words allowance first m) → onward (t .how) ≡ true → Underway allowance (t .g) (memory-in t)
-  may-step t said = subst (λ (r : Next). Keeps allowance r (memory-in t)) (goes-onward (t .how) (t .g) said) (t .leads .keeps)
+  pub may-step : (t : Turn words allowance first m) → onward (t .how) ≡ true → Invariant allowance (t .g) (memory-in t)
+  may-step t said = subst (λ (r : Next). NextInvariant allowance r (memory-in t)) (goes-onward (t .how) (t .g) said) (t .simulates .invariant)
 
   -- the next state
   abbrev pub next-turn : (t : Turn words allowance first m) (x : Status) (w : Val) (ws : Changed) → Told t x ws → length (ws .1 .1 .1 .1 .0) ≡ length (t .input) →
@@ -115,17 +117,17 @@ module _ {words : Words} {allowance : ℕ} {first : Next} {m : Memory} where
         same-record = e₃ ∙ t .same-record;
         same-frames = e₄ ∙ t .same-frames;
         same-values = e₅ ∙ t .same-values;
-        leads =
-            leads-on words allowance (comesTo (roomOf m) allowance words first m) (registersIn first) m (memory-in t) (changed ws) (Onward (t .g)) (nextOf x (ws .0))
-            (subst (λ (r : Next). Leads words allowance (comesTo (roomOf m) allowance words first m) (registersIn first) m r (memory-in t))
-            (goes-onward (t .how) (t .g) said) (t .leads)) (told .leads);
+        simulates =
+            simulates-on words allowance (outcomeFrom (roomOf m) allowance words first m) (registersIn first) m (memory-in t) (changed ws) (Onward (t .g)) (nextOf x (ws .0))
+            (subst (λ (r : Next). Simulates words allowance (outcomeFrom (roomOf m) allowance words first m) (registersIn first) m r (memory-in t))
+            (goes-onward (t .how) (t .g) said) (t .simulates)) (told .simulates);
       }
 
-  pub falls : (t : Turn words allowance first m) (x : Status) (ws : Changed) → Told t x ws → onward (t .how) ≡ true →
-      leftToDo (length words) allowance (nextOf x (ws .0)) (changed ws) < left t
-  falls t x ws told said = subst (λ (r : Next). leftToDo (length words) allowance (nextOf x (ws .0)) (changed ws) < leftToDo (length words) allowance r
-      (memory-in t)) (sym (goes-onward (t .how) (t .g) said)) (told .falls)
+  pub decreases : (t : Turn words allowance first m) (x : Status) (ws : Changed) → Told t x ws → onward (t .how) ≡ true →
+      measure (length words) allowance (nextOf x (ws .0)) (changed ws) < left t
+  decreases t x ws told said = subst (λ (r : Next). measure (length words) allowance (nextOf x (ws .0)) (changed ws) < measure (length words) allowance r
+      (memory-in t)) (sym (goes-onward (t .how) (t .g) said)) (told .decreases)
 
   -- the last state
-  pub followed : (t : Turn words allowance first m) (r : Next) → onward (t .how) ≡ false → r ≡ nextOf (t .how) (t .g) → Follows words allowance first m r (memory-in t)
-  followed t r said last = subst (λ (z : Next). Follows words allowance first m z (memory-in t)) (sym last) (record { leads = t .leads; over = is-over (t .how) (t .g) said })
+  pub followed : (t : Turn words allowance first m) (r : Next) → onward (t .how) ≡ false → r ≡ nextOf (t .how) (t .g) → SimulatesUntil IsOver words allowance first m r (memory-in t)
+  followed t r said last = subst (λ (z : Next). SimulatesUntil IsOver words allowance first m z (memory-in t)) (sym last) (record { simulates = t .simulates; ended = is-over (t .how) (t .g) said })

@@ -43,7 +43,9 @@ use Rattle.byte_classes.specs.Tests.{Answers}
 use Rattle.run_actions.specs.declared.registers.Next.{Next}
 use Rattle.run_actions.specs.States.{memory}
 use Rattle.run_applications.specs.Waiting.{countIn}
-use Rattle.run_applications.specs.Advancing.{Underway, Keeps, registersIn, statusIn, nextOf, onward, Follows}
+use Rattle.run_applications.specs.Simulation.{Invariant, NextInvariant, registersIn}
+use Rattle.run_turns.specs.Turns.{statusIn, nextOf, onward, IsOver}
+use Rattle.run_code.specs.Following.{SimulatesUntil}
 use Rattle.run_actions.proofs.registers.Registers as R
 use Rattle.run_actions.proofs.registers.Registers.Laws as R′
 use Rattle.run_actions.proofs.registers.Next as N
@@ -59,7 +61,7 @@ use Rattle.run_turns.proofs.next_of.Symbol.{name as #run-turns·next-of}
 use Rattle.run_code.proofs.following.follow as follow
 use Rattle.run_code.proofs.following.follow.Code as code
 use Rattle.run_code.proofs.following.follow.Code.Mir as body
-use Rattle.run_code.proofs.following.follow.Proof.Turns.{Turn, Changed, Told, Less, less-founded, memory-in, at-start, may-step, next-turn, falls, followed}
+use Rattle.run_code.proofs.following.follow.Proof.Turns.{Turn, Changed, Told, Less, less-founded, memory-in, at-start, may-step, next-turn, decreases, followed}
 use Rattle.run_turns.proofs.walks.Callees.{registers-val, registers-vals, spelled-out, RegistersOf, StatusOf, IsOnward, Step, NextOf, registers-said, status-said, onward-said, next-said, to-parts, to-onward, to-next, goes-parts, asks-onward, goes-next, lends-registers, registers-come-back}
 
 abbrev pub stayed : Stays (follow.ended .signature .params) (follow.ended .kept)
@@ -97,7 +99,7 @@ module _ {M : Type 1} (𝓤 : URA M) (H : Heap 𝓤) (A : Atoms 𝓤) (W : Given
       ‵ (flft (κs .1 .1 .1 .0) (qs .1 .1 .1 .0)) ∷ ‵ (flft (κs .1 .1 .1 .1 .0) (qs .1 .1 .1 .1 .0)) ∷ ‵ (flft (κs .1 .1 .1 .1 .1 .0) (qs .1 .1 .1 .1 .1 .0)) ∷
       ‵ (flft (κs .1 .1 .1 .1 .1 .1 .0) (qs .1 .1 .1 .1 .1 .1 .0)) ∷ ‵ (flft (κs .0) (qs .0)) ∷ ‵ (flft (κs .1 .0) (qs .1 .0)) ∷ ‵ Bits ∷ ‵ Words ∷ []
 
-  exits : (t : State) (r : Next) (u : Val) → Follows (now words) allowance first (memory (now input) (now output) (now «record») (now frames) (now values)) r
+  exits : (t : State) (r : Next) (u : Val) → SimulatesUntil IsOver (now words) allowance first (memory (now input) (now output) (now «record») (now frames) (now values)) r
       (memory-in t) → ent 𝓤 (⋆ 𝓤 H A (‵ (N.the-row .own r (u ∷ [])) ∷ Kept t)) (Post u)
   exits t r u said =
       qed W (‵ (N.the-row .own r (u ∷ [])) ∷ Kept t) ∵
@@ -178,7 +180,7 @@ module _ {M : Type 1} (𝓤 : URA M) (H : Heap 𝓤) (A : Atoms 𝓤) (W : Given
           tokens-joined ! 8 (step-lifetimes ν ν₁ ν₂ ν₃ ν₄ ν₅) step-shares $ move ! (counting 1 9) $
           owned-joined ! (typesAt (step.signature .params) (step-lifetimes ν ν₁ ν₂ ν₃ ν₄ ν₅)) (step-args t ν ν₁ ν₂ ν₃ ν₄ ν₅ δ δ₁ δ₂ δ₃ δ₄ δ₅)
           (to-step t ν ν₁ ν₂ ν₃ ν₄ ν₅ δ δ₁ δ₂ δ₃ δ₄ δ₅ .0 .4) $ move ! (1 ∷ 0 ∷ []) $ join ! $ frame ! $
-          use0 W (raw (fact 𝓤 (Underway allowance (t .g) (memory-in t)))) (factI 𝓤 (Underway allowance (t .g) (memory-in t)) (emp 𝓤) (may-step t said)) $
+          use0 W (raw (fact 𝓤 (Invariant allowance (t .g) (memory-in t)))) (factI 𝓤 (Invariant allowance (t .g) (memory-in t)) (emp 𝓤) (may-step t said)) $
           use0 W (raw (fact 𝓤 (countIn (now words) < length (now words)))) (factI 𝓤 (countIn (now words) < length (now words)) (emp 𝓤) req₂) $
           use0 W (raw (fact 𝓤 (Answers (now bits)))) (factI 𝓤 (Answers (now bits)) (emp 𝓤) req₁) $ done !
 
@@ -241,7 +243,7 @@ module _ {M : Type 1} (𝓤 : URA M) (H : Heap 𝓤) (A : Atoms 𝓤) (W : Given
           forget ! 44 refl $ forget ! 46 refl $ forget ! 48 refl $ forget ! 50 refl $ forget ! 52 refl $ forget ! 54 refl $ forget ! 56 refl $ forget ! 58 refl $
           forget ! 60 refl $ forget ! 62 refl $
           move ! (counting 15 20 ++ 10 ∷ counting 35 29 ++ 8 ∷ 6 ∷ 4 ∷ 2 ∷ 0 ∷ 9 ∷ 7 ∷ 5 ∷ 3 ∷ 1 ∷ 12 ∷ 11 ∷ 14 ∷ []) $
-          again ! Less At t (next-turn t x w ws told e₁ e₂ e₃ e₄ e₅ kept′ is-x said) (falls t x ws told said)))))))))))))))))
+          again ! Less At t (next-turn t x w ws told e₁ e₂ e₃ e₄ e₅ kept′ is-x said) (decreases t x ws told said)))))))))))))))))
 
       -- the turn that leaves the loop, and the rest of the body
       ends : (t : State) → onward (t .how) ≡ false → Goes t
@@ -267,7 +269,7 @@ module _ {M : Type 1} (𝓤 : URA M) (H : Heap 𝓤) (A : Atoms 𝓤) (W : Given
       turns : (t : State) → Goes t
       turns t = either t (onward (t .how)) refl
 
-    pub walk : Keeps allowance first (memory (now input) (now output) (now «record») (now frames) (now values)) →
+    pub walk : NextInvariant allowance first (memory (now input) (now output) (now «record») (now frames) (now values)) →
         Triple 𝓤 (𝓣 .C #run-turns·registers-of) (RegistersOf 𝓤 H A at-mem run) → Triple 𝓤 (𝓣 .C #run-turns·status-of) (StatusOf 𝓤 H A at-mem run)
         → ent 𝓤 (onEntry 𝓤 H A follow.signature κs qs a vss)
         (WpFn 𝓤 H (𝓣 .C) (𝓣 .Λ) code.function (EL.val N.the-type N′.the-laws first ∷ vptr (ptr bits .0) (ptr bits .1) ∷
