@@ -2,7 +2,7 @@
 use Prim.Native.Nat.{ℕ, zero, suc, _+_, _-_, _/_, _≤_, _<_}
 use native.Mathlib.Omega.{arith}
 use mathlib.Core.Path.{_≡_, refl, sym, _∙_, ap}
-use mathlib.Core.Bool.{Bool, true, false, not}
+use mathlib.Core.Bool.{Bool, true, false, not, true≢false}
 use mathlib.Core.List.{List, [], _∷_, _++_}
 use lib.Dec.{T}
 use lib.ListN.{length, take, drop, getD, drop-of-length-le}
@@ -14,7 +14,8 @@ use Rattle.tape_layout.specs.Tape.{callKind}
 use Rattle.meaning.proofs.laws.Passing.{every-head, every-tail}
 use Rattle.meaning.proofs.laws.Remaining.{at-place}
 use Rattle.tape_words.specs.Words.{carried, nameIn, headName}
-use Rattle.tape_words.proofs.laws.Names.{name-part}
+use Rattle.tape_words.proofs.laws.Lists.{part-length}
+use Rattle.tape_words.proofs.laws.Names.{by-place, name-here, name-part}
 use Rattle.tape_flatness.specs.Scanned.{earlier, onlyIf, opensCall, closesCall, itemFollows, declaredCall, calledSize, CallScan, outOfCalls, inCall, leftmostBy, callOpened, callClosed, passedWord, scannedCalls, ArgumentPassed}
 
 -- NAMES
@@ -62,31 +63,34 @@ module _ (ws : List ℕ) (i : ℕ) (h : i < length ws) {w : ℕ} (e : w ≡ getD
       (pick (opensCall w) (callOpened (declaredCall (drop i ws)) s) (pick (closesCall w) (callClosed (itemFollows (drop (i + 1) ws)) s) s))
   word-passed s = rw (at-place ws i h, e) (word-then (getD ws i 0) (drop (i + 1) ws) s)
 
-  opens-here : opensCall w ≡ true → {next : ℕ} → next ≡ i + 1 + carried (getD ws i 0) → (s : CallScan)
-      → scannedCalls 0 (drop i ws) s ≡ scannedCalls 0 (drop next ws) (callOpened (declaredCall (drop i ws)) s)
-  opens-here o f s =
+  opens-here : opensCall w ≡ true → {end : ℕ} → end ≡ i + carried (getD ws i 0) → (s : CallScan)
+      → scannedCalls 0 (drop i ws) s ≡ scannedCalls 0 (drop (end + 1) ws) (callOpened (declaredCall (drop i ws)) s)
+  opens-here o {end = end} f s =
       let far : drop (carried w) (drop (i + 1) ws) ≡ drop (i + 1 + carried w) ws = drop-drop (carried w) (i + 1) ws in
-      rw (word-passed s, o, name-passed (carried w) (drop (i + 1) ws) (callOpened (declaredCall (drop i ws)) s), far, f, e)
+      let past : i + 1 + carried w ≡ end + 1 = omega (arith, e, f) in
+      rw (word-passed s, o, name-passed (carried w) (drop (i + 1) ws) (callOpened (declaredCall (drop i ws)) s), far, past)
+
+  pub closes-here : w ≡ 1280 → (s : CallScan) → scannedCalls 0 (drop i ws) s ≡ scannedCalls 0 (drop (i + 1) ws) (callClosed (itemFollows (drop (i + 1) ws)) s)
+  closes-here k s =
+      let opens : opensCall w ≡ false = lt-leb 2304 w (omega arith) in
+      word-passed s ∙ rw (opens, eq-eqb w 1280 k)
+
+  pub inner-closes : w ≡ 1280 → (more : ℕ) → (more ≡ 0 → ⊥) → (p found : ℕ)
+      → scannedCalls 0 (drop i ws) (inCall more p found) ≡ scannedCalls 0 (drop (i + 1) ws) (inCall (more - 1) p found)
+  inner-closes k zero m p found = absurd (m refl)
+  inner-closes k (suc more) m p found =
+      let less : suc more - 1 ≡ more = omega arith in
+      rw less (closes-here k (inCall (suc more) p found))
 
   module _ {opens : Bool} (f : opens ≡ opensCall w) where
-    pub inner-opens : opens ≡ true → {next : ℕ} → next ≡ i + 1 + carried (getD ws i 0) → {call : ℕ} → call ≡ declaredCall (drop i ws)
+    pub inner-opens : opens ≡ true → {end : ℕ} → end ≡ i + carried (getD ws i 0) → {call : ℕ} → call ≡ declaredCall (drop i ws)
         → (found : ℕ) → {leftmost : ℕ} → leftmost ≡ earlier call found → (more p : ℕ)
-        → scannedCalls 0 (drop i ws) (inCall more p found) ≡ scannedCalls 0 (drop next ws) (inCall (more + 1) p leftmost)
+        → scannedCalls 0 (drop i ws) (inCall more p found) ≡ scannedCalls 0 (drop (end + 1) ws) (inCall (more + 1) p leftmost)
     inner-opens o t d found l more p =
         let one : more + 1 ≡ suc more = omega arith in
         rw (one, l, d) (opens-here (sym f ∙ o) t (inCall more p found))
 
     module _ (o : opens ≡ false) where
-      pub closes-here : w ≡ 1280 → (s : CallScan) → scannedCalls 0 (drop i ws) s ≡ scannedCalls 0 (drop (i + 1) ws) (callClosed (itemFollows (drop (i + 1) ws)) s)
-      closes-here k s = word-passed s ∙ rw (← f, o, eq-eqb w 1280 k)
-
-      pub inner-closes : w ≡ 1280 → (more : ℕ) → (more ≡ 0 → ⊥) → (p found : ℕ)
-          → scannedCalls 0 (drop i ws) (inCall more p found) ≡ scannedCalls 0 (drop (i + 1) ws) (inCall (more - 1) p found)
-      inner-closes k zero m p found = absurd (m refl)
-      inner-closes k (suc more) m p found =
-          let less : suc more - 1 ≡ more = omega arith in
-          rw less (closes-here k (inCall (suc more) p found))
-
       pub stays-here : (w ≡ 1280 → ⊥) → (s : CallScan) → scannedCalls 0 (drop i ws) s ≡ scannedCalls 0 (drop (i + 1) ws) s
       stays-here k s = word-passed s ∙ rw (← f, o, ne-eqb w 1280 k)
 
@@ -106,9 +110,12 @@ stays-low ws i h {w = w} e k s = stays-here ws i h e {opens = opensCall w} refl 
 
 -- THE END OF A CALL, AND OF THE TAPE
 
+follows-inside : (ws : List ℕ) (next : ℕ) → itemFollows (drop next ws) ≡ true → next < length ws
+follows-inside ws next t = by-place ws next (λ h. h) (λ h. absurd (true≢false (sym t ∙ rw (drop-of-length-le ws h))))
+
 -- an outermost call, by what is known where it is closed
-module _ (ws : List ℕ) (i : ℕ) (h : i < length ws) (o : opensCall (getD ws i 0) ≡ true) (leftmost next found : ℕ) {from : ℕ}
-    (f : from ≡ i + 1 + carried (getD ws i 0)) (a : ArgumentPassed ws from leftmost next found)
+module _ (ws : List ℕ) (i : ℕ) (h : i < length ws) (o : opensCall (getD ws i 0) ≡ true) (leftmost next found : ℕ) {end : ℕ}
+    (f : end ≡ i + carried (getD ws i 0)) (a : ArgumentPassed ws (end + 1) leftmost next found)
     {followed : Bool} (g : followed ≡ itemFollows (drop next ws)) where
   call-ends : scannedCalls 0 (drop i ws) (outOfCalls leftmost)
       ≡ scannedCalls 0 (drop next ws) (outOfCalls (earlier (onlyIf followed (declaredCall (drop i ws))) found))
@@ -117,6 +124,14 @@ module _ (ws : List ℕ) (i : ℕ) (h : i < length ws) (o : opensCall (getD ws i
   pub call-followed : followed ≡ true → {call : ℕ} → call ≡ declaredCall (drop i ws) → {all : ℕ} → all ≡ earlier call found
       → scannedCalls 0 (drop i ws) (outOfCalls leftmost) ≡ scannedCalls 0 (drop next ws) (outOfCalls all)
   call-followed t d l = rw (l, d) (rw t at call-ends)
+
+  -- what follows has the whole name before it
+  pub name-whole : end < next → followed ≡ true → {w : ℕ} → w ≡ getD ws i 0 → carried w ≡ length (headName ws i)
+  name-whole l t {w = w} e =
+      let inside : next < length ws = follows-inside ws next (sym g ∙ t) in
+      let size : length (headName ws i) ≡ carried (getD ws i 0)
+      = ap length (name-here ws i h) ∙ part-length (carried (getD ws i 0)) (i + 1) ws (omega (arith, f, l)) in
+      rw e (sym size)
 
   pub call-last : followed ≡ false → scannedCalls 0 (drop i ws) (outOfCalls leftmost) ≡ scannedCalls 0 (drop next ws) (outOfCalls found)
   call-last t = rw t at call-ends

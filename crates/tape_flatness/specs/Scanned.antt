@@ -1,11 +1,11 @@
 -- Which of a tape's words open a declared call that is no tail call, for any words at all: 02, T-06.
-use Prim.Native.Nat.{ℕ, zero, suc, _-_, _/_, min}
+use Prim.Native.Nat.{ℕ, zero, suc, _-_, _/_, _≤_, _<_, min}
 use mathlib.Core.Path.{_≡_}
 use mathlib.Core.Bool.{Bool, not, true, false}
 use mathlib.Core.List.{List, [], _∷_}
 use mathlib.Core.Option.{Option, none, some}
 use lib.Dec.{eqb, leb, ltb}
-use lib.ListN.{drop}
+use lib.ListN.{length, drop, getD}
 use Rattle.meaning.specs.Choice.{pick, either}
 use Rattle.meaning.specs.Names.{isBuiltIn}
 use Rattle.tape_layout.specs.Tape.{tapeWord, conditionKind, closeKind, callKind}
@@ -61,6 +61,17 @@ declaredCall (w ∷ ws) = onlyIf (not (isBuiltIn (nameIn (w ∷ ws)))) (suc (cal
 -- how many words after it are that call's name
 abbrev pub calledSize : ℕ → ℕ
 calledSize w = pick (opensCall w) (carried w) 0
+
+-- from one place to another every word is below a bound
+pub record Below (bound : ℕ) (ws : List ℕ) (from past : ℕ) : Type 0 where
+  pub onward : from ≤ past
+  pub inside : past ≤ length ws
+  pub below : (k : ℕ) → from ≤ k → k < past → getD ws k 0 < bound
+
+-- and none opens a call that stands further left than one
+abbrev pub NoneFurtherLeft : ℕ → List ℕ → ℕ → ℕ → Type 0
+NoneFurtherLeft call ws from past =
+    (k : ℕ) → from ≤ k → k < past → opensCall (getD ws k 0) ≡ true → call ≤ suc (calledPlace (getD ws k 0))
 
 -- THE SCAN
 

@@ -4,6 +4,7 @@ use tape_words::tape::less;
 use tape_words::tape::lesser;
 use tape_words::tape::name_size;
 use tape_words::tape::word_at;
+use tape_words::tape::word_inside;
 use tape_words::wide::CALL_KIND;
 use tape_words::wide::CALL_WORD;
 use tape_words::wide::CLOSE_WORD;
@@ -11,11 +12,19 @@ use tape_words::wide::CONDITION_WORD;
 use tape_words::wide::KIND;
 ghost use mathlib.Core.Path.{_≡_};
 ghost use mathlib.Core.Bool.{true};
-ghost use Prim.Native.Nat.{_+_, _≤_, _<_};
+ghost use Prim.Native.Nat.{ℕ, _+_, _≤_, _<_};
 ghost use lib.ListN.{length, drop, getD};
-ghost use Rattle.tape_words.specs.Words.{carried};
+ghost use Rattle.tape_words.specs.Words.{carried, headName};
 ghost use Rattle.tape_flatness.specs.Scanned.{earlier, placeOf, opensCall, itemFollows, declaredCall};
-ghost use Rattle.tape_flatness.specs.Scanned.{outOfCalls, scannedCalls, ArgumentPassed, nestedCall};
+ghost use Rattle.tape_flatness.specs.Scanned.{outOfCalls, scannedCalls, Below, ArgumentPassed, NoneFurtherLeft, nestedCall};
+
+// So many words are looked at together, and so many of an argument one by one before that.
+const GROUP: usize = 8;
+
+const FEW: usize = 16;
+
+// The furthest call that a word can tell: it has 32 bits.
+const FURTHEST: usize = 16777207;
 
 // The place of a called name, if there is one.
 pub enum Place {
@@ -73,11 +82,10 @@ fn item_follows(tape: &[u32], i: usize) -> bool
 }
 
 // The call that a word opens, unless it needs no declaration.
-fn declared_call(tape: &[u32], i: usize) -> usize
-    requires { ⌜ i < length (now tape) ⌝ }
+fn declared_call(tape: &[u32], i: usize, size: usize) -> usize
+    requires { ⌜ (i < length (now tape)) × (size ≡ length (headName (now tape) i)) ⌝ }
     ensures { λ r. ⌜ r ≡ declaredCall (drop i (now (tape .entry))) ⌝ }
 {
-    let size = name_size(tape, i);
     if is_built_in(tape, i + 1, size) {
         return 0;
     }
@@ -85,17 +93,84 @@ fn declared_call(tape: &[u32], i: usize) -> usize
     place + 1
 }
 
-// The place after the name that a word carries.
-fn past_name(tape: &[u32], i: usize) -> usize
+// Where the name ends that a word carries: the place of its last word.
+fn name_end(tape: &[u32], i: usize) -> usize
     requires { ⌜ i < length (now tape) ⌝ }
-    ensures { λ r. ⌜ r ≡ i + 1 + carried (getD (now (tape .entry)) i 0) ⌝ }
+    ensures { λ r. ⌜ r ≡ i + carried (getD (now (tape .entry)) i 0) ⌝ }
 {
-    i + 1 + word_at(tape, i) % KIND
+    i + word_at(tape, i) % KIND
 }
 
-// What follows the name of an outermost call, to where the call closes: a declared call in it is no tail call. Characters
-// and variables are passed by the first test.
-fn pass_argument(tape: &[u32], from: usize, leftmost: usize) -> Passed
+// Eight words joined bit by bit: none of them is greater. No word ends the loop early, so that all are joined at once.
+fn joined(tape: &[u32], from: usize) -> usize
+    requires { ⌜ from + 8 ≤ length (now tape) ⌝ }
+    ensures { λ r. ⌜ Below (r + 1) (now (tape .entry)) from (from + 8) ⌝ }
+{
+    let mut all = 0usize;
+    let mut k = 0;
+    while k < GROUP {
+        let word = word_inside(tape, from + k);
+        all = all | word;
+        k += 1;
+    }
+    all
+}
+
+// The place after the words below a bound, eight by eight.
+fn eights_past(tape: &[u32], from: usize, bound: usize) -> usize
+    requires { ⌜ from ≤ length (now tape) ⌝ }
+    ensures { λ r. ⌜ Below bound (now (tape .entry)) from r ⌝ }
+{
+    let mut at = from;
+    while GROUP <= tape.len() - at {
+        if bound <= joined(tape, at) {
+            return at;
+        }
+        at += GROUP;
+    }
+    at
+}
+
+// The place after the words below a bound. The first is looked at alone: calls often stand side by side.
+fn low_past(tape: &[u32], from: usize, bound: usize) -> usize
+    requires { ⌜ from ≤ length (now tape) ⌝ }
+    ensures { λ r. ⌜ Below bound (now (tape .entry)) from r ⌝ }
+{
+    if bound <= word_at(tape, from) {
+        return from;
+    }
+    let mut at = eights_past(tape, from, bound);
+    while at < tape.len() {
+        if bound <= word_inside(tape, at) {
+            return at;
+        }
+        at += 1;
+    }
+    at
+}
+
+// How far from the end of a name the words after its argument begin, if that is short and has no call; else 0.
+fn short_past(tape: &[u32], end: usize) -> usize
+    requires { ⌜ end + 16 < length (now tape) ⌝ }
+    ensures { λ r. ⌜ (r ≤ 17) × ((r ≡ 0 → ⊥) → (leftmost : ℕ)
+        → ArgumentPassed (now (tape .entry)) (end + 1) leftmost (end + r) leftmost) ⌝ }
+{
+    let mut k = 1;
+    while k <= FEW {
+        let word = word_inside(tape, end + k);
+        if CLOSE_WORD <= word {
+            if word == CLOSE_WORD {
+                return k + 1;
+            }
+            return 0;
+        }
+        k += 1;
+    }
+    0
+}
+
+// An outermost call's argument from a place on, to where the call closes: a declared call in it is no tail call.
+fn pass_items(tape: &[u32], from: usize, leftmost: usize) -> Passed
     ensures { λ r. ⌜ (from ≤ r .next) × ArgumentPassed (now (tape .entry)) from leftmost (r .next) (r .leftmost) ⌝ }
 {
     let mut found = leftmost;
@@ -103,14 +178,7 @@ fn pass_argument(tape: &[u32], from: usize, leftmost: usize) -> Passed
     let mut i = from;
     while i < tape.len() {
         let word = word_at(tape, i);
-        if word < CLOSE_WORD {
-            i += 1;
-        } else if opens_call(word) {
-            let call = declared_call(tape, i);
-            found = earlier(call, found);
-            more += 1;
-            i = past_name(tape, i);
-        } else if word == CLOSE_WORD {
+        if word == CLOSE_WORD {
             if more == 0 {
                 return Passed {
                     next: i + 1,
@@ -119,8 +187,13 @@ fn pass_argument(tape: &[u32], from: usize, leftmost: usize) -> Passed
             }
             more -= 1;
             i += 1;
+        } else if opens_call(word) {
+            let call = declared_call(tape, i, name_size(tape, i));
+            found = earlier(call, found);
+            more += 1;
+            i = name_end(tape, i) + 1;
         } else {
-            i += 1;
+            i = low_past(tape, i + 1, CLOSE_WORD);
         }
     }
     Passed {
@@ -129,24 +202,62 @@ fn pass_argument(tape: &[u32], from: usize, leftmost: usize) -> Passed
     }
 }
 
+// What follows the end of an outermost call's name. A short argument without calls is passed by one test for each word.
+fn pass_argument(tape: &[u32], end: usize, leftmost: usize) -> Passed
+    requires { ⌜ end < length (now tape) + 256 ⌝ }
+    ensures { λ r. ⌜ (end < r .next) × ArgumentPassed (now (tape .entry)) (end + 1) leftmost (r .next) (r .leftmost) ⌝ }
+{
+    if end + FEW < tape.len() {
+        let past = short_past(tape, end);
+        if past != 0 {
+            return Passed {
+                next: end + past,
+                leftmost,
+            };
+        }
+    }
+    pass_items(tape, end + 1, leftmost)
+}
+
 // An outermost call, with its argument: it is no tail call where an item follows it. Its name is asked only then.
 fn pass_call(tape: &[u32], i: usize, leftmost: usize) -> Passed
     requires { ⌜ (i < length (now tape)) × (opensCall (getD (now tape) i 0) ≡ true) ⌝ }
     ensures { λ r. ⌜ (i < r .next) × (scannedCalls 0 (drop i (now (tape .entry))) (outOfCalls leftmost)
         ≡ scannedCalls 0 (drop (r .next) (now (tape .entry))) (outOfCalls (r .leftmost))) ⌝ }
 {
-    let passed = pass_argument(tape, past_name(tape, i), leftmost);
+    let passed = pass_argument(tape, name_end(tape, i), leftmost);
     let next = passed.next;
     let found = passed.leftmost;
     if item_follows(tape, next) {
-        let call = declared_call(tape, i);
+        let call = declared_call(tape, i, word_at(tape, i) % KIND);
         let leftmost = earlier(call, found);
         return Passed { next, leftmost };
     }
     passed
 }
 
-// Where the leftmost declared call stands that is no tail call, by the name's place.
+// No word from a place on opens a call further left than the one found. No word ends the loop early, so that several
+// are compared at once.
+fn settled(tape: &[u32], from: usize, leftmost: usize) -> bool
+    ensures { λ r. ⌜ (r ≡ true → NoneFurtherLeft leftmost (now (tape .entry)) from (length (now (tape .entry)))) ⌝ }
+{
+    if FURTHEST < leftmost {
+        return false;
+    }
+    let first_call = CALL_WORD as u32;
+    let no_further_left = ((leftmost + CALL_KIND - 1) * KIND) as u32;
+    let mut any = false;
+    let mut at = from;
+    while at < tape.len() {
+        let word = tape[at];
+        any = any | ((first_call <= word) & (word < no_further_left));
+        at += 1;
+    }
+    !any
+}
+
+// Where the leftmost declared call stands that is no tail call, by the name's place. Once one is found, the rest is
+// read only for calls further left: a table's tape has none.
 pub fn nested_call(tape: &[u32]) -> Place
     ensures { λ r. ⌜ r ≡ nestedCall (now (tape .entry)) ⌝ }
 {
@@ -158,7 +269,10 @@ pub fn nested_call(tape: &[u32]) -> Place
             leftmost = passed.leftmost;
             i = passed.next;
         } else {
-            i += 1;
+            if leftmost != 0 && settled(tape, i, leftmost) {
+                return place_of(leftmost);
+            }
+            i = low_past(tape, i + 1, CALL_WORD);
         }
     }
     place_of(leftmost)

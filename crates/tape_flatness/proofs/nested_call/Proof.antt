@@ -5,6 +5,8 @@ use mathlib.Core.Path.{_≡_, refl, sym, _∙_, ap}
 use lib.ListN.{length, drop}
 use Rattle.tape_flatness.specs.Scanned.{placeOf, outOfCalls, opensCall, scannedCalls}
 use Rattle.tape_flatness.proofs.Passing.{outer-stays, scan-ends}
+use Rattle.tape_flatness.proofs.Low.{outer-passed}
+use Rattle.tape_flatness.proofs.Further.{rest-settled}
 use borrow.Author.Needs.{needs}
 use Rattle.tape_flatness.proofs.nested_call.Statement.{statement}
 use Rattle.tape_flatness.proofs.nested_call.Tie as tie
@@ -30,16 +32,29 @@ loop-less c = omega (arith, c .pass-call .ensures .0, c .before .before .before 
 loop-again : tie.Need-loop-again Inv-loop μ-loop
 loop-again c = sym (c .pass-call .ensures .1) ∙ c .before .before .before .before .before .loop .inv
 
-loop-again-2 : tie.Need-loop-again-2 Inv-loop μ-loop
-loop-again-2 c =
-    let at-word-at = c .before .before in
-    sym (outer-stays _ _ (at-word-at .before .loop-test .taken) (at-word-at .word-at .ensures .0) (c .before .opens-call .ensures) (c .if1 .left) _)
-    ∙ at-word-at .before .before .loop .inv
-
 returns : tie.Need-returns Inv-loop μ-loop
 returns c =
+    let at-settled = c .before .before in
+    let at-loop = at-settled .before .before .before .before .before .before in
+    let rest = at-settled .settled .ensures (c .before .if3 .taken) in
+    c .place-of .ensures ∙ ap placeOf (sym (rest-settled _ (at-settled .before .if2 .taken) _ _ rest) ∙ at-loop .loop .inv)
+
+loop-less-2 : tie.Need-loop-less-2 Inv-loop μ-loop
+loop-less-2 c = omega (arith, c .low-past .ensures .onward, c .before .before .before .before .before .loop-test .taken)
+
+loop-again-2 : tie.Need-loop-again-2 Inv-loop μ-loop
+loop-again-2 c =
+    let at-if1 = c .before .before in
+    let at-word-at = at-if1 .before .before in
+    sym (outer-passed (c .low-past .ensures) refl _)
+    ∙ sym (outer-stays _ _ (at-word-at .before .loop-test .taken) (at-word-at .word-at .ensures .0) (at-if1 .before .opens-call .ensures)
+    (at-if1 .if1 .left) _)
+    ∙ at-word-at .before .before .loop .inv
+
+returns-2 : tie.Need-returns-2 Inv-loop μ-loop
+returns-2 c =
     let at-test = c .before in
-    c .place-of .ensures ∙ ap placeOf (sym (scan-ends _ _ (at-test .loop-test .left) (outOfCalls _)) ∙ at-test .before .loop .inv)
+    c .place-of2 .ensures ∙ ap placeOf (sym (scan-ends _ _ (at-test .loop-test .left) (outOfCalls _)) ∙ at-test .before .loop .inv)
 
 pub nested-call-spec : {M : Type 1} → statement M
 nested-call-spec =
@@ -53,8 +68,12 @@ nested-call-spec =
     pass-call-requires
     loop-less
     loop-again
+    (λ c κs. search needs)
+    (λ c κs. search needs)
+    returns
     (λ c. search needs)
-    (λ c. search needs)
+    (λ c κs. search needs)
+    loop-less-2
     loop-again-2
     (λ c κs. search needs)
-    returns)
+    returns-2)
