@@ -19,6 +19,7 @@ const LONG: usize = 30_000;
 const WHOLE: usize = 32_768;
 const MANY: usize = 455;
 const SENTENCE_ITEMS: usize = 128;
+const SENTENCES: usize = 512;
 /// More steps than any text needs that is drawn.
 const STEPS: u32 = 100_000;
 const EXAMPLE_TABLE: &[u8] = include_bytes!("../../../../examples/sheet/table.rf");
@@ -71,6 +72,25 @@ fn drawn() -> Vec<Series> {
     DRAWN.iter().map(series).collect()
 }
 
+/// Tables on which the test for a flat table has most to do beside reading: a pattern, a piece of an expression and its
+/// items.
+const NOTHING_BUT: [(&str, &str, usize); 14] = [
+    ("", "<F>", 1),
+    ("", "<EmitA>", 1),
+    ("", "<DmAdd>", 1),
+    ("", "<DmSub>", 1),
+    ("", "<EmitA 'abcdefg'>", 8),
+    ("", "<F 'abcdefg'>", 8),
+    ("", "<DmAdd 'abcdefg'>", 8),
+    ("", "<EmitA <EmitA>>", 2),
+    ("", "<DmAdd <DmSub>>", 2),
+    ("", "<EmitA> 'a'", 2),
+    ("s1", "s1 ", 1),
+    ("e1", "<F e1>", SENTENCE_ITEMS),
+    ("", "'abcdefg'", 7),
+    ("", "'abcdefghijklmnopqrst'", 20),
+];
+
 /// The rows of the table.
 fn rows() {
     println!("| what | engine | Rust | engine : Rust | Rust's machine | engine : machine | |");
@@ -82,10 +102,12 @@ fn rows() {
     reading(&format!("reading a table of {} bytes", thousands(table.len() as u64)), &table);
     translating(&table);
     flatness("reading it and testing whether it is flat", &table);
-    for (call, items) in [("<F>", 1), ("<EmitA>", 1), ("<DmAdd>", 1), ("<EmitA 'abcdefg'>", 8)] {
-        let table = nothing_but(call, items);
-        flatness(&format!("the same of {} bytes of `{call}`", thousands(table.len() as u64)), &table);
+    for (pattern, piece, items) in NOTHING_BUT {
+        let table = nothing_but(pattern, piece, items);
+        flatness(&format!("the same of {} bytes of `{}`", thousands(table.len() as u64), piece.trim()), &table);
     }
+    let table = nothing_but("", &format!("'{}'", "x".repeat(120)), 120);
+    flatness(&format!("the same of {} bytes of strings of 120 characters", thousands(table.len() as u64)), &table);
     reading("reading 32,768 letters without `<`", &[b'a'; TABLE_LIMIT]);
     reading("reading one comment of 32,768 bytes", &comment());
     running("1,000,000 steps of row Z's kind", b"F { '0' e1 = <F e1 '0'>; e1 = e1 }", b"0000", 1_000_000);
@@ -282,11 +304,11 @@ fn comment() -> Vec<u8> {
     table
 }
 
-/// A table whose sentences are nothing but a call of so many items, as many as the limits allow.
-fn nothing_but(call: &str, items: usize) -> Vec<u8> {
-    let sentence = format!("={};", call.repeat(SENTENCE_ITEMS / items));
+/// A table whose sentences have a pattern and are nothing but a piece of so many items, as many as the limits allow.
+fn nothing_but(pattern: &str, piece: &str, items: usize) -> Vec<u8> {
+    let sentence = format!("{pattern}={};", piece.repeat(SENTENCE_ITEMS / items));
     let room = TABLE_LIMIT - "F{}".len();
-    format!("F{{{}}}", sentence.repeat(room / sentence.len())).into_bytes()
+    format!("F{{{}}}", sentence.repeat(SENTENCES.min(room / sentence.len()))).into_bytes()
 }
 
 /// A table of `functions` with `lines` sentences each; with 64 and 8 it is a little shorter than a table may be.
