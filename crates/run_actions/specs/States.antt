@@ -1,4 +1,5 @@
--- The registers and the lent cells as the specification's state: stack in from p on, the selected cells, stack out up to r, what was counted, and what a frame keeps.
+-- The registers and the lent cells as the specification's state: stack in from p on, the selected cells, stack out up
+-- to r, what was counted, and what a frame keeps; and what it means that a function implements an action of the machine.
 use Prim.Native.Nat.{ℕ, suc, pred, _+_, _*_, _-_, _≤_, _<_}
 use mathlib.Core.Path.{_≡_}
 use mathlib.Core.List.{List, _++_}
@@ -28,7 +29,8 @@ abbrev pub memory : Bytes → Bytes → Bytes → List ℕ → Bytes → Memory
 memory input output «record» frames values =
     record { input = input; output = output; «record» = «record»; frames = frames; values = values }
 
--- the words of a frame; those of so many frames, with the counts of applications before them; and the stored values of so many frames
+-- the words of a frame; those of so many frames, with the counts of applications before them; and the stored values of
+-- so many frames
 abbrev pub frameWords : ℕ
 frameWords = 24
 
@@ -60,7 +62,8 @@ crowdedAt k frames = both (ltb (suc k) maxFrames) (ltb (length frames) (wordsFor
 abbrev pub wordsIn : List ℕ → List ℕ
 wordsIn frames = drop maxCounted frames
 
--- a frame's words: the lengths of null, d, dl and dr, the number of values, the number of open sequences, where its call returns to and q there; and from the end back r at each BeginSeq
+-- a frame's words: the lengths of null, d, dl and dr, the number of values, the number of open sequences, where its
+-- call returns to and q there; and from the end back r at each BeginSeq
 abbrev pub frameWord : ℕ → ℕ → List ℕ → ℕ
 frameWord k i frames = getD (wordsIn frames) (frameWords * k + i) 0
 
@@ -88,10 +91,13 @@ pub record Held (k : ℕ) (frames : List ℕ) : Type 0 where
   pub stored : frameWord k 4 frames ≤ 16
   pub opened : frameWord k 5 frames ≤ 16
 
--- a frame's words as its application begins: the lengths of the registers by their numbers, the number of values, and no sequence open
+-- a frame's words as its application begins: the lengths of the registers by their numbers, the number of values, and
+-- no sequence open
 abbrev pub begun : ℕ → ℕ → ℕ → ℕ → List ℕ → List ℕ
 begun frame field place stored frames =
-    withWord frame 5 0 (withWord frame 4 stored (withWord frame 3 (field - place) (withWord frame 2 place (withWord frame 1 field (withWord frame 0 0 frames)))))
+    withWord frame 5 0
+    (withWord frame 4 stored
+    (withWord frame 3 (field - place) (withWord frame 2 place (withWord frame 1 field (withWord frame 0 0 frames)))))
 
 -- the caller's frame keeps where its call returns to, and q
 abbrev pub callingFrom : ℕ → ℕ → ℕ → List ℕ → List ℕ
@@ -111,7 +117,8 @@ abbrev pub localOf : Registers → Memory → Local
 localOf g m = localAt (g .frame) (m .frames) (m .values)
 
 abbrev pub stacksOf : Registers → Memory → Stacks
-stacksOf g m = record { input = drop (g .p .0) (m .input); selected = g .q .0 - g .p .0; output = take (g .r .0) (m .output) }
+stacksOf g m =
+    record { input = drop (g .p .0) (m .input); selected = g .q .0 - g .p .0; output = take (g .r .0) (m .output) }
 
 -- the applications of each function
 abbrev pub countsIn : List ℕ → List ℕ
@@ -145,7 +152,12 @@ ledgerOf allowance g m =
 
 abbrev pub roomOf : Memory → Room
 roomOf m =
-    record { inCells = length (m .input); outCells = length (m .output); recordBytes = length (m .«record»); frames = maxFrames }
+    record {
+      inCells = length (m .input);
+      outCells = length (m .output);
+      recordBytes = length (m .«record»);
+      frames = maxFrames;
+    }
 
 -- the registers with p, q and r elsewhere
 abbrev pub movedTo : Registers → ℕ → ℕ → ℕ → Registers
@@ -217,7 +229,8 @@ pub record Writes (action : Action) (text : Bytes) (g : Registers) (m : Memory) 
       noting (lent (roomOf m)) (outCells (length (s .output) + length text)) (ledgerOf allowance g m)
       (k (localOf g m) (movedOn (s .selected) (withOutput (s .output ++ text) s)))
 
--- an action preserves the invariant and all but its own cells, and goes on at a place of the code, in the same frame and step
+-- an action preserves the invariant and all but its own cells, and goes on at a place of the code, in the same frame
+-- and step
 pub record Preserves (at : ℕ) (g : Registers) (m : Memory) (h : Registers) (n : Memory) : Type 0 where
   pub invariant : ActionInvariant g m → ActionInvariant h n
   pub frame : h .frame ≡ g .frame
@@ -238,7 +251,8 @@ PreservesOrStops at g m (Stopped h ending function) n = (h ≡ g) × (n ≡ m)
 PreservesOrStops at g m (Deeper h) n = ⊥
 
 -- a function implements an action of the machine: whatever is still to be done then, both have the same outcome
-pub record ImplementsAction (action : Action) (at : ℕ) (g : Registers) (m : Memory) (next : Next) (n : Memory) : Type 0 where
+pub record ImplementsAction (action : Action) (at : ℕ) (g : Registers) (m : Memory)
+    (next : Next) (n : Memory) : Type 0 where
   pub same : (allowance : ℕ) (code : Code) (enter : ℕ → ℕ → Stacks → Ledgers → Outcomes) (k : Continuation) →
       let l = ledgerOf allowance g m in
       perform (lent (roomOf m)) code enter k (suc (g .frame)) action (localOf g m) (stacksOf g m) l ≡

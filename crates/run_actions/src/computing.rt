@@ -5,7 +5,7 @@ ghost use lib.ListN.{length};
 ghost use Rattle.meaning.specs.Choice.{Bytes};
 ghost use Rattle.meaning.specs.Angles.{operation};
 ghost use Rattle.meaning.specs.Instructions.{compute as computing};
-ghost use Rattle.run_actions.specs.States.{memory, ImplementsAction};
+ghost use Rattle.run_actions.specs.States.{memory, SelectionWithin, ImplementsAction};
 use crate::moving::write_text;
 use crate::registers::Ending;
 use crate::registers::Next;
@@ -15,13 +15,12 @@ use run_angles::compute_angles;
 use run_cells::places::part;
 
 pub fn compute(g: Registers, subtract: bool, input: &[u8], output: &mut [u8]) -> Next
-    requires { ⌜ g .p .0 ≤ g .q .0 ⌝ }
-    requires { ⌜ g .q .0 ≤ length (now input) ⌝ }
+    requires { ⌜ SelectionWithin (g .p .0) (g .q .0) (now input) ⌝ }
     requires { ⌜ g .r .0 ≤ length (now output) ⌝ }
-    ensures { λ r. ⌜ ((«record» values : Bytes) (frames : List ℕ) →
-        ImplementsAction (computing (operation subtract)) (g .at .0) g
-        (memory (now (input .entry)) (now (output .entry)) «record» frames values) r
-        (memory (now (input .entry)) (now (output .exit)) «record» frames values)) ⌝ }
+    ensures implements { λ r. ⌜ ((«record» values : Bytes) (frames : List ℕ) →
+        let m = memory (now (input .entry)) (now (output .entry)) «record» frames values in
+        let n = memory (now (input .entry)) (now (output .exit)) «record» frames values in
+        ImplementsAction (computing (operation subtract)) (g .at .0) g m r n) ⌝ }
 {
     let argument = part(input, g.p, g.q);
     let mut result = [0u8; 7];

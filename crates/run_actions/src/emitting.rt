@@ -9,7 +9,7 @@ ghost use Rattle.meaning.specs.Choice.{Bytes};
 ghost use Rattle.meaning.specs.Outcome.{emittedLine};
 ghost use Rattle.meaning.specs.Packing.{emissionOf};
 ghost use Rattle.run_decoding.specs.Decoded.{isName};
-ghost use Rattle.run_actions.specs.States.{memory, ImplementsAction};
+ghost use Rattle.run_actions.specs.States.{memory, SelectionWithin, ImplementsAction};
 use crate::registers::Ending;
 use crate::registers::Next;
 use crate::registers::Registers;
@@ -21,7 +21,7 @@ use run_code_places::CodePlace;
 // Whether so many words from a place on are there and are bytes.
 fn named(code: &[u32], name: CodePlace, size: usize) -> bool
     requires { ⌜ name .0 ≤ length (now code) ⌝ }
-    ensures { λ r. ⌜ r ≡ isName size (drop (name .0) (now (code .entry))) ⌝ }
+    ensures result { λ r. ⌜ r ≡ isName size (drop (name .0) (now (code .entry))) ⌝ }
 {
     let at = name.0;
     if code.len() - at < size {
@@ -40,7 +40,8 @@ fn named(code: &[u32], name: CodePlace, size: usize) -> bool
 fn copy_name(record: &mut [u8], to: RecordByte, code: &[u32], name: CodePlace, size: usize)
     requires { ⌜ isName size (drop (name .0) (now code)) ≡ true ⌝ }
     requires { ⌜ to .0 + size ≤ length (now «record») ⌝ }
-    ensures { λ _. ⌜ now («record» .exit) ≡ paste (now («record» .entry)) (to .0) (take size (drop (name .0) (now (code .entry)))) size ⌝ }
+    ensures pastes { λ _. ⌜ (let spelled = take size (drop (name .0) (now (code .entry))) in
+        now («record» .exit) ≡ paste (now («record» .entry)) (to .0) spelled size) ⌝ }
 {
     let at = name.0;
     let first = to.0;
@@ -62,8 +63,10 @@ fn write_line(
 )
     requires { ⌜ isName size (drop (name .0) (now code)) ≡ true ⌝ }
     requires { ⌜ to .0 + (size + length (now argument) + 2) ≤ length (now «record») ⌝ }
-    ensures { λ _. ⌜ now («record» .exit) ≡ paste (now («record» .entry)) (to .0) (emittedLine (take size (drop (name .0) (now (code .entry)))) (now (argument .entry)))
-        (size + length (now (argument .entry)) + 2) ⌝ }
+    ensures pastes { λ _. ⌜ (let spelled = take size (drop (name .0) (now (code .entry))) in
+        let line = emittedLine spelled (now (argument .entry)) in
+        let count = size + length (now (argument .entry)) + 2 in
+        now («record» .exit) ≡ paste (now («record» .entry)) (to .0) line count) ⌝ }
 {
     copy_name(record, to, code, name, size);
     let gap = to.0 + size;
@@ -76,18 +79,19 @@ fn write_line(
 // The place so many words on.
 fn place_after(at: CodePlace, count: usize) -> CodePlace
     requires { ⌜ at .0 + count < 2 ^ 64 ⌝ }
-    ensures { λ r. ⌜ r ≡ record { 0 = at .0 + count } ⌝ }
+    ensures result { λ r. ⌜ r ≡ record { 0 = at .0 + count } ⌝ }
 {
     CodePlace(at.0 + count)
 }
 
 pub fn emit(g: Registers, code: &[u32], size: usize, input: &[u8], record: &mut [u8]) -> Next
     requires { ⌜ g .at .0 ≤ length (now code) ⌝ }
-    requires { ⌜ g .p .0 ≤ g .q .0 ⌝ }
-    requires { ⌜ g .q .0 ≤ length (now input) ⌝ }
+    requires { ⌜ SelectionWithin (g .p .0) (g .q .0) (now input) ⌝ }
     requires { ⌜ g .emitted ≤ length (now «record») ⌝ }
-    ensures { λ r. ⌜ ((output values : Bytes) (frames : List ℕ) → ImplementsAction (emissionOf size (drop (g .at .0) (now (code .entry)))) (g .at .0 + size) g
-        (memory (now (input .entry)) output (now («record» .entry)) frames values) r (memory (now (input .entry)) output (now («record» .exit)) frames values)) ⌝ }
+    ensures implements { λ r. ⌜ ((output values : Bytes) (frames : List ℕ) →
+        let m = memory (now (input .entry)) output (now («record» .entry)) frames values in
+        let n = memory (now (input .entry)) output (now («record» .exit)) frames values in
+        ImplementsAction (emissionOf size (drop (g .at .0) (now (code .entry)))) (g .at .0 + size) g m r n) ⌝ }
 {
     if !named(code, g.at, size) {
         return Next::Stopped(g, Ending::NoInstruction, 0);

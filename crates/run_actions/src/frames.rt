@@ -5,7 +5,9 @@ ghost use mathlib.Core.List.{_++_};
 ghost use lib.ListN.{length, take, drop};
 ghost use Rattle.meaning.specs.Outcome.{maxCounted, uncounted};
 ghost use Rattle.meaning.specs.Leaving.{maxFrames};
-ghost use Rattle.run_actions.specs.States.{frameWords, firstFrames, wordsFor, valuesFor, HasFrame, crowdedAt, withWord, frameWord, countsIn, countedIn, CountsWithin, begun, callingFrom};
+ghost use Rattle.run_actions.specs.States.{frameWords, firstFrames, wordsFor, valuesFor, FrameWithin};
+ghost use Rattle.run_actions.specs.States.{crowdedAt, withWord, frameWord};
+ghost use Rattle.run_actions.specs.States.{countsIn, countedIn, CountsWithin, begun, callingFrom};
 use code_numbers::wide::LEFT;
 use code_numbers::wide::MAX_STORED;
 use code_numbers::wide::NULL;
@@ -25,8 +27,8 @@ pub const OPEN_SEQUENCES: usize = 16;
 // How many values a frame stores.
 pub const FRAME_VALUES: usize = MAX_STORED;
 
-// A frame's words: the lengths by their numbers, how many values are stored, how many sequences are open, where its call returns to, q as
-// the call was made; and r at each open BeginSeq, the latest first, up to the end.
+// A frame's words: the lengths by their numbers, how many values are stored, how many sequences are open, where its
+// call returns to, q as the call was made; and r at each open BeginSeq, the latest first, up to the end.
 const FRAME_WORDS: usize = 24;
 
 const STORED: usize = 4;
@@ -79,7 +81,7 @@ pub fn all_values() -> [u8; ALL_VALUES]
 // Whether a frame more may be added, but isn't there.
 pub fn crowded(frames: &[usize], frame: usize) -> bool
     requires { ⌜ frame < maxFrames ⌝ }
-    ensures { λ r. ⌜ r ≡ crowdedAt frame (now (frames .entry)) ⌝ }
+    ensures result { λ r. ⌜ r ≡ crowdedAt frame (now (frames .entry)) ⌝ }
 {
     if FRAMES <= frame + 1 {
         return false;
@@ -91,7 +93,7 @@ pub fn crowded(frames: &[usize], frame: usize) -> bool
 pub fn copy_words(from: &[usize], count: usize, to: &mut [usize])
     requires { ⌜ count ≤ length (now from) ⌝ }
     requires { ⌜ count ≤ length (now to) ⌝ }
-    ensures { λ _. ⌜ now (to .exit) ≡ take count (now (from .entry)) ++ drop count (now (to .entry)) ⌝ }
+    ensures leaves { λ _. ⌜ now (to .exit) ≡ take count (now (from .entry)) ++ drop count (now (to .entry)) ⌝ }
 {
     let mut i = 0;
     while i < count {
@@ -101,28 +103,25 @@ pub fn copy_words(from: &[usize], count: usize, to: &mut [usize])
 }
 
 fn word(frames: &[usize], frame: usize, index: usize) -> usize
-    requires { ⌜ frame < maxFrames ⌝ }
+    requires { ⌜ FrameWithin frame (now frames) ⌝ }
     requires { ⌜ index < frameWords ⌝ }
-    requires { ⌜ HasFrame frame (now frames) ⌝ }
-    ensures { λ r. ⌜ r ≡ frameWord frame index (now (frames .entry)) ⌝ }
+    ensures result { λ r. ⌜ r ≡ frameWord frame index (now (frames .entry)) ⌝ }
 {
     frames[COUNTED + (FRAME_WORDS * frame + index)]
 }
 
 fn set_word(frames: &mut [usize], frame: usize, index: usize, value: usize)
-    requires { ⌜ frame < maxFrames ⌝ }
+    requires { ⌜ FrameWithin frame (now frames) ⌝ }
     requires { ⌜ index < frameWords ⌝ }
-    requires { ⌜ HasFrame frame (now frames) ⌝ }
-    ensures { λ _. ⌜ now (frames .exit) ≡ withWord frame index value (now (frames .entry)) ⌝ }
+    ensures leaves { λ _. ⌜ now (frames .exit) ≡ withWord frame index value (now (frames .entry)) ⌝ }
 {
     frames[COUNTED + (FRAME_WORDS * frame + index)] = value;
 }
 
 // A frame's own numbers as its application begins.
 pub fn begin_frame(frames: &mut [usize], frame: usize, field: usize, place: usize, stored: usize)
-    requires { ⌜ frame < maxFrames ⌝ }
-    requires { ⌜ HasFrame frame (now frames) ⌝ }
-    ensures { λ _. ⌜ now (frames .exit) ≡ begun frame field place stored (now (frames .entry)) ⌝ }
+    requires { ⌜ FrameWithin frame (now frames) ⌝ }
+    ensures leaves { λ _. ⌜ now (frames .exit) ≡ begun frame field place stored (now (frames .entry)) ⌝ }
 {
     set_word(frames, frame, NULL, 0);
     set_word(frames, frame, WHOLE, field);
@@ -134,81 +133,72 @@ pub fn begin_frame(frames: &mut [usize], frame: usize, field: usize, place: usiz
 
 // The length that has a number.
 pub fn length_numbered(frames: &[usize], frame: usize, number: usize) -> usize
-    requires { ⌜ frame < maxFrames ⌝ }
+    requires { ⌜ FrameWithin frame (now frames) ⌝ }
     requires { ⌜ number < 4 ⌝ }
-    requires { ⌜ HasFrame frame (now frames) ⌝ }
-    ensures { λ r. ⌜ r ≡ frameWord frame number (now (frames .entry)) ⌝ }
+    ensures result { λ r. ⌜ r ≡ frameWord frame number (now (frames .entry)) ⌝ }
 {
     word(frames, frame, number)
 }
 
 pub fn stored_values(frames: &[usize], frame: usize) -> usize
-    requires { ⌜ frame < maxFrames ⌝ }
-    requires { ⌜ HasFrame frame (now frames) ⌝ }
-    ensures { λ r. ⌜ r ≡ frameWord frame 4 (now (frames .entry)) ⌝ }
+    requires { ⌜ FrameWithin frame (now frames) ⌝ }
+    ensures result { λ r. ⌜ r ≡ frameWord frame 4 (now (frames .entry)) ⌝ }
 {
     word(frames, frame, STORED)
 }
 
 pub fn open_sequences(frames: &[usize], frame: usize) -> usize
-    requires { ⌜ frame < maxFrames ⌝ }
-    requires { ⌜ HasFrame frame (now frames) ⌝ }
-    ensures { λ r. ⌜ r ≡ frameWord frame 5 (now (frames .entry)) ⌝ }
+    requires { ⌜ FrameWithin frame (now frames) ⌝ }
+    ensures result { λ r. ⌜ r ≡ frameWord frame 5 (now (frames .entry)) ⌝ }
 {
     word(frames, frame, OPENED)
 }
 
 pub fn set_open_sequences(frames: &mut [usize], frame: usize, opened: usize)
-    requires { ⌜ frame < maxFrames ⌝ }
-    requires { ⌜ HasFrame frame (now frames) ⌝ }
-    ensures { λ _. ⌜ now (frames .exit) ≡ withWord frame 5 opened (now (frames .entry)) ⌝ }
+    requires { ⌜ FrameWithin frame (now frames) ⌝ }
+    ensures leaves { λ _. ⌜ now (frames .exit) ≡ withWord frame 5 opened (now (frames .entry)) ⌝ }
 {
     set_word(frames, frame, OPENED, opened);
 }
 
 // Where the latest of so many open sequences begins on out.
 pub fn sequence_start(frames: &[usize], frame: usize, opened: usize) -> OutCell
-    requires { ⌜ frame < maxFrames ⌝ }
+    requires { ⌜ FrameWithin frame (now frames) ⌝ }
     requires { ⌜ 0 < opened ⌝ }
     requires { ⌜ opened ≤ 16 ⌝ }
-    requires { ⌜ HasFrame frame (now frames) ⌝ }
-    ensures { λ r. ⌜ r .0 ≡ frameWord frame (frameWords - opened) (now (frames .entry)) ⌝ }
+    ensures result { λ r. ⌜ r .0 ≡ frameWord frame (frameWords - opened) (now (frames .entry)) ⌝ }
 {
     OutCell(word(frames, frame, FRAME_WORDS - opened))
 }
 
 // A further sequence begins, so many being open.
 pub fn keep_sequence_start(frames: &mut [usize], frame: usize, opened: usize, r: OutCell)
-    requires { ⌜ frame < maxFrames ⌝ }
+    requires { ⌜ FrameWithin frame (now frames) ⌝ }
     requires { ⌜ opened < 16 ⌝ }
-    requires { ⌜ HasFrame frame (now frames) ⌝ }
-    ensures { λ _. ⌜ now (frames .exit) ≡ withWord frame (23 - opened) (r .0) (now (frames .entry)) ⌝ }
+    ensures leaves { λ _. ⌜ now (frames .exit) ≡ withWord frame (23 - opened) (r .0) (now (frames .entry)) ⌝ }
 {
     set_word(frames, frame, FRAME_WORDS - 1 - opened, r.0);
 }
 
 // As a frame calls: where the call returns to, and its q.
 pub fn keep_caller(frames: &mut [usize], frame: usize, back: CodePlace, q: InCell)
-    requires { ⌜ frame < maxFrames ⌝ }
-    requires { ⌜ HasFrame frame (now frames) ⌝ }
-    ensures { λ _. ⌜ now (frames .exit) ≡ callingFrom frame (back .0) (q .0) (now (frames .entry)) ⌝ }
+    requires { ⌜ FrameWithin frame (now frames) ⌝ }
+    ensures leaves { λ _. ⌜ now (frames .exit) ≡ callingFrom frame (back .0) (q .0) (now (frames .entry)) ⌝ }
 {
     set_word(frames, frame, RETURN, back.0);
     set_word(frames, frame, SELECTION, q.0);
 }
 
 pub fn return_place(frames: &[usize], frame: usize) -> CodePlace
-    requires { ⌜ frame < maxFrames ⌝ }
-    requires { ⌜ HasFrame frame (now frames) ⌝ }
-    ensures { λ r. ⌜ r .0 ≡ frameWord frame 6 (now (frames .entry)) ⌝ }
+    requires { ⌜ FrameWithin frame (now frames) ⌝ }
+    ensures result { λ r. ⌜ r .0 ≡ frameWord frame 6 (now (frames .entry)) ⌝ }
 {
     CodePlace(word(frames, frame, RETURN))
 }
 
 pub fn kept_selection(frames: &[usize], frame: usize) -> InCell
-    requires { ⌜ frame < maxFrames ⌝ }
-    requires { ⌜ HasFrame frame (now frames) ⌝ }
-    ensures { λ r. ⌜ r .0 ≡ frameWord frame 7 (now (frames .entry)) ⌝ }
+    requires { ⌜ FrameWithin frame (now frames) ⌝ }
+    ensures result { λ r. ⌜ r .0 ≡ frameWord frame 7 (now (frames .entry)) ⌝ }
 {
     InCell(word(frames, frame, SELECTION))
 }
@@ -218,7 +208,7 @@ pub fn count_application(frames: &mut [usize], number: usize)
     requires { ⌜ 0 < number ⌝ }
     requires { ⌜ maxCounted ≤ length (now frames) ⌝ }
     requires { ⌜ CountsWithin (2 ^ 32) (now frames) ⌝ }
-    ensures { λ _. ⌜ now (frames .exit) ≡ countedIn number (now (frames .entry)) ⌝ }
+    ensures leaves { λ _. ⌜ now (frames .exit) ≡ countedIn number (now (frames .entry)) ⌝ }
 {
     if COUNTED < number {
         return;
@@ -231,7 +221,7 @@ pub fn count_application(frames: &mut [usize], number: usize)
 pub fn copy_counts(frames: &[usize], counts: &mut [u64])
     requires { ⌜ maxCounted ≤ length (now frames) ⌝ }
     requires { ⌜ length (now counts) ≡ maxCounted ⌝ }
-    ensures { λ _. ⌜ now (counts .exit) ≡ countsIn (now (frames .entry)) ⌝ }
+    ensures leaves { λ _. ⌜ now (counts .exit) ≡ countsIn (now (frames .entry)) ⌝ }
 {
     let mut i = 0;
     while i < COUNTED {

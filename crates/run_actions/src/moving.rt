@@ -4,11 +4,12 @@ ghost use mathlib.Core.Path.{_≡_};
 ghost use mathlib.Core.List.{List};
 ghost use lib.ListN.{length};
 ghost use Rattle.meaning.specs.Choice.{Bytes};
-ghost use Rattle.meaning.specs.Instructions.{Action, go as going, select as selecting, out, outC, outV, beginSeq, useSeq};
-ghost use Rattle.meaning.specs.Leaving.{maxFrames};
+ghost use Rattle.meaning.specs.Instructions.{Action, go as going, select as selecting, out, outC, outV};
+ghost use Rattle.meaning.specs.Instructions.{beginSeq, useSeq};
 ghost use Rattle.meaning.specs.Packing.{firstIn, secondIn, thirdIn, lengthOf};
 ghost use Rattle.run_decoding.specs.Decoded.{spanMeant, writeMeant};
-ghost use Rattle.run_actions.specs.States.{memory, HasFrame, Paired, localAt, Held, Opens, Writes, ImplementsAction};
+ghost use Rattle.run_actions.specs.States.{memory, Paired, localAt, Held, Opens, Writes};
+ghost use Rattle.run_actions.specs.States.{SelectionWithin, FrameWithin, ImplementsAction};
 ghost use Rattle.run_actions.specs.Spans.{withinCells, cellsOf, reachedBy};
 use crate::frames::FRAME_VALUES;
 use crate::frames::LENGTHS;
@@ -58,7 +59,7 @@ pub enum Reached {
 fn within(cells: usize, add: usize, back: usize, there: usize) -> Cells
     requires { ⌜ back < 256 ⌝ }
     requires { ⌜ there < 2 ^ 63 ⌝ }
-    ensures { λ r. ⌜ r ≡ withinCells (cells + add - back) there ⌝ }
+    ensures result { λ r. ⌜ r ≡ withinCells (cells + add - back) there ⌝ }
 {
     let limit = there + back;
     if limit < add {
@@ -72,11 +73,12 @@ fn within(cells: usize, add: usize, back: usize, there: usize) -> Cells
 
 // The cells of a span: a register's length, with an addition, less what stays back.
 fn span_cells(frames: &[usize], frame: usize, span: u32, there: usize) -> Cells
-    requires { ⌜ frame < maxFrames ⌝ }
-    requires { ⌜ HasFrame frame (now frames) ⌝ }
+    requires { ⌜ FrameWithin frame (now frames) ⌝ }
     requires { ⌜ Held frame (now frames) ⌝ }
     requires { ⌜ there < 2 ^ 63 ⌝ }
-    ensures { λ r. ⌜ ((values : Bytes) → r ≡ cellsOf (lengthOf (firstIn span)) (secondIn span) (thirdIn span) (localAt frame (now (frames .entry)) values) there) ⌝ }
+    ensures counts { λ r. ⌜ ((values : Bytes) →
+        let local = localAt frame (now (frames .entry)) values in
+        r ≡ cellsOf (lengthOf (firstIn span)) (secondIn span) (thirdIn span) local there) ⌝ }
 {
     let register = wide(span / FIRST % OPERAND);
     if LENGTHS <= register {
@@ -90,11 +92,12 @@ fn span_cells(frames: &[usize], frame: usize, span: u32, there: usize) -> Cells
 // The cell that a span's cells lead to from another.
 fn reach(from: InCell, span: u32, frame: usize, input: &[u8], frames: &[usize]) -> Reached
     requires { ⌜ from .0 ≤ length (now input) ⌝ }
-    requires { ⌜ frame < maxFrames ⌝ }
-    requires { ⌜ HasFrame frame (now frames) ⌝ }
+    requires { ⌜ FrameWithin frame (now frames) ⌝ }
     requires { ⌜ Held frame (now frames) ⌝ }
-    ensures { λ r. ⌜ ((values : Bytes) → r ≡ reachedBy (cellsOf (lengthOf (firstIn span)) (secondIn span) (thirdIn span)
-        (localAt frame (now (frames .entry)) values) (length (now (input .entry)) - from .0)) (from .0)) ⌝ }
+    ensures reaches { λ r. ⌜ ((values : Bytes) →
+        let local = localAt frame (now (frames .entry)) values in
+        let there = length (now (input .entry)) - from .0 in
+        r ≡ reachedBy (cellsOf (lengthOf (firstIn span)) (secondIn span) (thirdIn span) local there) (from .0)) ⌝ }
 {
     match span_cells(frames, frame, span, cells_from(input, from)) {
         Cells::Count(n) => Reached::At(cell_after(from, n)),
@@ -104,13 +107,12 @@ fn reach(from: InCell, span: u32, frame: usize, input: &[u8], frames: &[usize]) 
 
 // Go: p moves on by a span's cells, and q to p.
 pub fn go(g: Registers, span: u32, input: &[u8], frames: &[usize]) -> Next
-    requires { ⌜ g .p .0 ≤ g .q .0 ⌝ }
-    requires { ⌜ g .q .0 ≤ length (now input) ⌝ }
-    requires { ⌜ g .frame < maxFrames ⌝ }
-    requires { ⌜ HasFrame (g .frame) (now frames) ⌝ }
+    requires { ⌜ SelectionWithin (g .p .0) (g .q .0) (now input) ⌝ }
+    requires { ⌜ FrameWithin (g .frame) (now frames) ⌝ }
     requires { ⌜ Held (g .frame) (now frames) ⌝ }
-    ensures { λ r. ⌜ ((output «record» values : Bytes) → ImplementsAction (spanMeant going span) (g .at .0) g (memory (now (input .entry)) output «record» (now (frames .entry)) values)
-        r (memory (now (input .entry)) output «record» (now (frames .entry)) values)) ⌝ }
+    ensures implements { λ r. ⌜ ((output «record» values : Bytes) →
+        let m = memory (now (input .entry)) output «record» (now (frames .entry)) values in
+        ImplementsAction (spanMeant going span) (g .at .0) g m r m) ⌝ }
 {
     let Reached::At(to) = reach(g.p, span, g.frame, input, frames) else {
         return Next::Stopped(g, Ending::NoInstruction, 0);
@@ -120,13 +122,12 @@ pub fn go(g: Registers, span: u32, input: &[u8], frames: &[usize]) -> Next
 
 // Select: q moves on by a span's cells.
 pub fn select(g: Registers, span: u32, input: &[u8], frames: &[usize]) -> Next
-    requires { ⌜ g .p .0 ≤ g .q .0 ⌝ }
-    requires { ⌜ g .q .0 ≤ length (now input) ⌝ }
-    requires { ⌜ g .frame < maxFrames ⌝ }
-    requires { ⌜ HasFrame (g .frame) (now frames) ⌝ }
+    requires { ⌜ SelectionWithin (g .p .0) (g .q .0) (now input) ⌝ }
+    requires { ⌜ FrameWithin (g .frame) (now frames) ⌝ }
     requires { ⌜ Held (g .frame) (now frames) ⌝ }
-    ensures { λ r. ⌜ ((output «record» values : Bytes) → ImplementsAction (spanMeant selecting span) (g .at .0) g (memory (now (input .entry)) output «record» (now (frames .entry)) values)
-        r (memory (now (input .entry)) output «record» (now (frames .entry)) values)) ⌝ }
+    ensures implements { λ r. ⌜ ((output «record» values : Bytes) →
+        let m = memory (now (input .entry)) output «record» (now (frames .entry)) values in
+        ImplementsAction (spanMeant selecting span) (g .at .0) g m r m) ⌝ }
 {
     let Reached::At(to) = reach(g.q, span, g.frame, input, frames) else {
         return Next::Stopped(g, Ending::NoInstruction, 0);
@@ -138,10 +139,10 @@ pub fn select(g: Registers, span: u32, input: &[u8], frames: &[usize]) -> Next
 pub fn write_text(g: Registers, text: &[u8], output: &mut [u8]) -> Next
     requires { ⌜ g .p .0 ≤ g .q .0 ⌝ }
     requires { ⌜ g .r .0 ≤ length (now output) ⌝ }
-    ensures { λ r. ⌜ ((action : Action) (input «record» values : Bytes) (frames : List ℕ) →
-        Writes action (now (text .entry)) g (memory input (now (output .entry)) «record» frames values) →
-        ImplementsAction action (g .at .0) g (memory input (now (output .entry)) «record» frames values) r
-        (memory input (now (output .exit)) «record» frames values)) ⌝ }
+    ensures implements { λ r. ⌜ ((action : Action) (input «record» values : Bytes) (frames : List ℕ) →
+        let m = memory input (now (output .entry)) «record» frames values in
+        let n = memory input (now (output .exit)) «record» frames values in
+        Writes action (now (text .entry)) g m → ImplementsAction action (g .at .0) g m r n) ⌝ }
 {
     if room_from(output, g.r) < text.len() {
         return Next::Stopped(g, Ending::OutFull, 0);
@@ -153,19 +154,22 @@ pub fn write_text(g: Registers, text: &[u8], output: &mut [u8]) -> Next
 }
 
 pub fn write_part(g: Registers, input: &[u8], output: &mut [u8]) -> Next
-    requires { ⌜ g .p .0 ≤ g .q .0 ⌝ }
-    requires { ⌜ g .q .0 ≤ length (now input) ⌝ }
+    requires { ⌜ SelectionWithin (g .p .0) (g .q .0) (now input) ⌝ }
     requires { ⌜ g .r .0 ≤ length (now output) ⌝ }
-    ensures { λ r. ⌜ ((«record» values : Bytes) (frames : List ℕ) → ImplementsAction out (g .at .0) g (memory (now (input .entry)) (now (output .entry)) «record» frames values) r
-        (memory (now (input .entry)) (now (output .exit)) «record» frames values)) ⌝ }
+    ensures implements { λ r. ⌜ ((«record» values : Bytes) (frames : List ℕ) →
+        let m = memory (now (input .entry)) (now (output .entry)) «record» frames values in
+        let n = memory (now (input .entry)) (now (output .exit)) «record» frames values in
+        ImplementsAction out (g .at .0) g m r n) ⌝ }
 {
     write_text(g, part(input, g.p, g.q), output)
 }
 
 pub fn write_byte(g: Registers, byte: u8, output: &mut [u8]) -> Next
     requires { ⌜ g .r .0 ≤ length (now output) ⌝ }
-    ensures { λ r. ⌜ ((input «record» values : Bytes) (frames : List ℕ) → ImplementsAction (outC byte) (g .at .0) g
-        (memory input (now (output .entry)) «record» frames values) r (memory input (now (output .exit)) «record» frames values)) ⌝ }
+    ensures implements { λ r. ⌜ ((input «record» values : Bytes) (frames : List ℕ) →
+        let m = memory input (now (output .entry)) «record» frames values in
+        let n = memory input (now (output .exit)) «record» frames values in
+        ImplementsAction (outC byte) (g .at .0) g m r n) ⌝ }
 {
     if room_from(output, g.r) == 0 {
         return Next::Stopped(g, Ending::OutFull, 0);
@@ -183,13 +187,13 @@ fn write_value(
     values: &[u8],
 ) -> Next
     requires { ⌜ g .r .0 ≤ length (now output) ⌝ }
-    requires { ⌜ g .frame < maxFrames ⌝ }
-    requires { ⌜ HasFrame (g .frame) (now frames) ⌝ }
+    requires { ⌜ FrameWithin (g .frame) (now frames) ⌝ }
     requires { ⌜ Held (g .frame) (now frames) ⌝ }
     requires { ⌜ Paired (now frames) (now values) ⌝ }
-    ensures { λ r. ⌜ ((input «record» : Bytes) → ImplementsAction (outV index) (g .at .0) g
-        (memory input (now (output .entry)) «record» (now (frames .entry)) (now (values .entry))) r
-        (memory input (now (output .exit)) «record» (now (frames .entry)) (now (values .entry)))) ⌝ }
+    ensures implements { λ r. ⌜ ((input «record» : Bytes) →
+        let m = memory input (now (output .entry)) «record» (now (frames .entry)) (now (values .entry)) in
+        let n = memory input (now (output .exit)) «record» (now (frames .entry)) (now (values .entry)) in
+        ImplementsAction (outV index) (g .at .0) g m r n) ⌝ }
 {
     let frame = g.frame;
     if stored_values(frames, frame) <= index {
@@ -208,30 +212,29 @@ pub fn write(
     frames: &[usize],
     values: &[u8],
 ) -> Next
-    requires { ⌜ g .p .0 ≤ g .q .0 ⌝ }
-    requires { ⌜ g .q .0 ≤ length (now input) ⌝ }
+    requires { ⌜ SelectionWithin (g .p .0) (g .q .0) (now input) ⌝ }
     requires { ⌜ g .r .0 ≤ length (now output) ⌝ }
-    requires { ⌜ g .frame < maxFrames ⌝ }
-    requires { ⌜ HasFrame (g .frame) (now frames) ⌝ }
+    requires { ⌜ FrameWithin (g .frame) (now frames) ⌝ }
     requires { ⌜ Held (g .frame) (now frames) ⌝ }
     requires { ⌜ Paired (now frames) (now values) ⌝ }
-    ensures { λ r. ⌜ ((«record» : Bytes) → ImplementsAction (writeMeant what) (g .at .0) g
-        (memory (now (input .entry)) (now (output .entry)) «record» (now (frames .entry)) (now (values .entry))) r
-        (memory (now (input .entry)) (now (output .exit)) «record» (now (frames .entry)) (now (values .entry)))) ⌝ }
+    ensures implements { λ r. ⌜ ((«record» : Bytes) →
+        let m = memory (now (input .entry)) (now (output .entry)) «record»
+        (now (frames .entry)) (now (values .entry)) in
+        let n = memory (now (input .entry)) (now (output .exit)) «record» (now (frames .entry)) (now (values .entry)) in
+        ImplementsAction (writeMeant what) (g .at .0) g m r n) ⌝ }
 {
     match what {
-        Write::Part => write_part(g, input, output),
-        Write::Character(byte) => write_byte(g, byte, output),
-        Write::Value(index) => write_value(g, index, output, frames, values),
+        Write::Out => write_part(g, input, output),
+        Write::OutC(byte) => write_byte(g, byte, output),
+        Write::OutV(index) => write_value(g, index, output, frames, values),
     }
 }
 
 // Keeps r as a sequence begins, if one more may be open; a frame's words end with what it keeps, the latest first.
 pub fn open_sequence(frames: &mut [usize], frame: usize, r: OutCell) -> bool
-    requires { ⌜ frame < maxFrames ⌝ }
-    requires { ⌜ HasFrame frame (now frames) ⌝ }
+    requires { ⌜ FrameWithin frame (now frames) ⌝ }
     requires { ⌜ Held frame (now frames) ⌝ }
-    ensures { λ ok. ⌜ Opens frame (r .0) (now (frames .entry)) (now (frames .exit)) ok ⌝ }
+    ensures opens { λ ok. ⌜ Opens frame (r .0) (now (frames .entry)) (now (frames .exit)) ok ⌝ }
 {
     let opened = open_sequences(frames, frame);
     if OPEN_SEQUENCES <= opened {
@@ -244,11 +247,12 @@ pub fn open_sequence(frames: &mut [usize], frame: usize, r: OutCell) -> bool
 
 // BeginSeq: r is kept.
 pub fn begin_seq(g: Registers, frames: &mut [usize]) -> Next
-    requires { ⌜ g .frame < maxFrames ⌝ }
-    requires { ⌜ HasFrame (g .frame) (now frames) ⌝ }
+    requires { ⌜ FrameWithin (g .frame) (now frames) ⌝ }
     requires { ⌜ Held (g .frame) (now frames) ⌝ }
-    ensures { λ r. ⌜ ((input output «record» values : Bytes) → g .r .0 ≤ length output →
-        ImplementsAction beginSeq (g .at .0) g (memory input output «record» (now (frames .entry)) values) r (memory input output «record» (now (frames .exit)) values)) ⌝ }
+    ensures implements { λ r. ⌜ ((input output «record» values : Bytes) → g .r .0 ≤ length output →
+        let m = memory input output «record» (now (frames .entry)) values in
+        let n = memory input output «record» (now (frames .exit)) values in
+        ImplementsAction beginSeq (g .at .0) g m r n) ⌝ }
 {
     if !open_sequence(frames, g.frame, g.r) {
         return Next::Stopped(g, Ending::NoInstruction, 0);
@@ -258,15 +262,14 @@ pub fn begin_seq(g: Registers, frames: &mut [usize]) -> Next
 
 // UseSeq: in[p-(r-r0)..p-1] := out[r0..r-1], with r0 kept by the latest BeginSeq
 pub fn use_seq(g: Registers, input: &mut [u8], output: &[u8], frames: &mut [usize]) -> Next
-    requires { ⌜ g .p .0 ≤ g .q .0 ⌝ }
-    requires { ⌜ g .q .0 ≤ length (now input) ⌝ }
+    requires { ⌜ SelectionWithin (g .p .0) (g .q .0) (now input) ⌝ }
     requires { ⌜ g .r .0 ≤ length (now output) ⌝ }
-    requires { ⌜ g .frame < maxFrames ⌝ }
-    requires { ⌜ HasFrame (g .frame) (now frames) ⌝ }
+    requires { ⌜ FrameWithin (g .frame) (now frames) ⌝ }
     requires { ⌜ Held (g .frame) (now frames) ⌝ }
-    ensures { λ r. ⌜ ((«record» values : Bytes) → ImplementsAction useSeq (g .at .0) g
-        (memory (now (input .entry)) (now (output .entry)) «record» (now (frames .entry)) values) r
-        (memory (now (input .exit)) (now (output .entry)) «record» (now (frames .exit)) values)) ⌝ }
+    ensures implements { λ r. ⌜ ((«record» values : Bytes) →
+        let m = memory (now (input .entry)) (now (output .entry)) «record» (now (frames .entry)) values in
+        let n = memory (now (input .exit)) (now (output .entry)) «record» (now (frames .exit)) values in
+        ImplementsAction useSeq (g .at .0) g m r n) ⌝ }
 {
     let frame = g.frame;
     let opened = open_sequences(frames, frame);

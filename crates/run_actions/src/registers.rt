@@ -5,8 +5,8 @@ use run_code_places::CodePlace;
 ghost use mathlib.Core.Path.{_≡_};
 ghost use Rattle.run_actions.specs.Endings.{endingNumber};
 
-// 000's p, q and r; the current frame, as the number of frames that wait below it; the next code word; the steps made and the length of
-// the emissions; and the function whose application is to begin, 0 while the actions of one are done.
+// 000's p, q and r; the current frame, as the number of frames that wait below it; the next code word; the steps made
+// and the length of the emissions; and the function whose application is to begin, 0 while the actions of one are done.
 pub struct Registers {
     pub p: InCell,
     pub q: InCell,
@@ -50,7 +50,8 @@ pub enum Status {
     Deeper,
 }
 
-// What a run answers: the ending, the function that fits nothing, the steps, and the lengths of the text on out and of the emissions.
+// What a run answers: the ending, the function that fits nothing, the steps, and the lengths of the text on out and of
+// the emissions.
 pub struct Ran {
     pub ending: Ending,
     pub function: usize,
@@ -61,7 +62,7 @@ pub struct Ran {
 
 // 01's number for an ending.
 pub fn ending_number(ending: Ending) -> u64
-    ensures { λ r. ⌜ r ≡ endingNumber ending ⌝ }
+    ensures result { λ r. ⌜ r ≡ endingNumber ending ⌝ }
 {
     match ending {
         Ending::Finished => 0,

@@ -1,4 +1,5 @@
--- The invariant of a run and the simulation: what each step of a run's code has to do with what the machine's definition comes to.
+-- The invariant of a run, and the simulation of the machine: the outcome that was to come by its definition is the one
+-- that comes after a function has done its part.
 use Prim.Native.Nat.{ℕ, suc, _+_, _-_, _≤_, _<_}
 use mathlib.Core.Bool.{true}
 use mathlib.Core.Path.{_≡_}
@@ -28,7 +29,7 @@ pub record Ready (allowance : ℕ) (g : Registers) (m : Memory) : Type 0 where
   pub counts : CountsWithin (g .steps) (m .frames)
   pub waits : (k : ℕ) → k < g .frame → Waits (length (m .input)) k (m .frames)
 
--- a run goes on: an application may begin, and the words of the current frame agree, so that an instruction may come next
+-- a run goes on: an application may begin, or, as the words of the current frame agree, an instruction come next
 pub record Invariant (allowance : ℕ) (g : Registers) (m : Memory) : Type 0 where
   pub ready : Ready allowance g m
   pub current : Held (g .frame) (m .frames)
@@ -53,10 +54,10 @@ registersIn (Deeper g) = g
 
 -- THE SIMULATION
 
--- code simulates the machine: from its answer on the outcome is the one that was to come, the invariant holds of the answer, the room
--- is as it was, and so is the record past the emissions
-pub record Simulates (words : Words) (allowance : ℕ) (tocome : Outcomes) (g : Registers) (m : Memory) (next : Next) (n : Memory)
-    : Type 0 where
+-- code simulates the machine: from its answer on the outcome is the one that was to come, the invariant holds of the
+-- answer, the room is as it was, and so is the record past the emissions
+pub record Simulates (words : Words) (allowance : ℕ) (tocome : Outcomes) (g : Registers) (m : Memory)
+    (next : Next) (n : Memory) : Type 0 where
   pub same : tocome ≡ outcomeFrom (roomOf m) allowance words next n
   pub invariant : NextInvariant allowance next n
   pub room : roomOf n ≡ roomOf m
@@ -85,12 +86,13 @@ SimulatesApplication words allowance number g m next n =
     Invariant allowance g m →
     SimulatesBelow words allowance
     (returning (roomOf m) allowance words g m
-    (ranPaid (lent (roomOf m)) (functionsIn words) (entering (roomOf m) allowance words) (suc (g .frame)) number (stacksOf g m) l
-    (pay number (l .tally))))
+    (ranPaid (lent (roomOf m)) (functionsIn words) (entering (roomOf m) allowance words) (suc (g .frame)) number
+    (stacksOf g m) l (pay number (l .tally))))
     (suc (measureBelow (length words) allowance g m))
     g m next n
 
--- the actions of a sentence, with so many stores from a place of the code on and the middle template at a place of the field
+-- the actions of a sentence, with so many stores from a place of the code on, and the middle template at a place of the
+-- field
 abbrev pub SimulatesSentence : Words → ℕ → ℕ → ℕ → ℕ → Registers → Memory → Next → Memory → Type 0
 SimulatesSentence words allowance at stores stored g m next n =
     let actions = unpackActions 0 (drop (stores + stored) words) in

@@ -1,4 +1,5 @@
--- What a run under way will come to: what is left to do in the current frame, and then in each frame that waits for the one above it.
+-- The outcome of a run from where it stands, by the definition of the machine: what is still to be done in the current
+-- frame, and then in each frame that waits for the one above it; and the measure, which falls with each turn.
 use Prim.Native.Nat.{ℕ, zero, suc, _+_, _*_, _-_, _≤_, max}
 use mathlib.Core.Bool.{Bool}
 use mathlib.Core.List.{List}
@@ -15,14 +16,17 @@ use Rattle.run_actions.specs.declared.registers.Ending.the-variants.{NoSentence
 use Rattle.run_actions.specs.declared.registers.Next.{Next}
 use Rattle.run_actions.specs.declared.registers.Next.the-variants.{Onward, Done, Stopped, Deeper}
 use Rattle.run_actions.specs.Endings.{endingNumber}
-use Rattle.run_actions.specs.States.{Memory, frameWord, localAt, localOf, Held, stacksOf, Ledgers, ledgerOf, Outcomes, Continuation}
+use Rattle.run_actions.specs.States.{Memory, frameWord, localAt, localOf, Held, stacksOf, Ledgers, ledgerOf}
+use Rattle.run_actions.specs.States.{Outcomes, Continuation}
 
 -- how many functions the table tells, and whether it is sound
 abbrev pub countIn : Words → ℕ
 countIn words = getD words 0 0
 
 abbrev pub soundIn : Words → Bool
-soundIn words = both (ltb (countIn words) (length words)) (every (λ at. ltb at (length words)) (take (countIn words) (drop 1 words)))
+soundIn words =
+    both (ltb (countIn words) (length words))
+    (every (λ at. ltb at (length words)) (take (countIn words) (drop 1 words)))
 
 -- the functions of a sound table
 abbrev pub functionsIn : Words → Code
@@ -33,7 +37,7 @@ module _ (room : Room) (allowance : ℕ) (words : Words) where
   abbrev pub entering : ℕ → ℕ → Stacks → Ledgers → Outcomes
   entering = enter (lent room) allowance (functionsIn words)
 
-  -- what is left to do in a frame from a place of the code on, the frame being told by how many wait below it
+  -- what is still to be done in a frame from a place of the code on, the frame being told by how many wait below it
   abbrev pub continuationAt : ℕ → ℕ → Continuation
   continuationAt k at = process (lent room) (functionsIn words) entering (suc k) (unpackActions 0 (drop at words))
 
@@ -41,16 +45,23 @@ module _ (room : Room) (allowance : ℕ) (words : Words) where
   unfoldable pub waiting : ℕ → List ℕ → Bytes → Outcomes → Outcomes
   waiting zero frames values o = o
   waiting (suc k) frames values o =
-      waiting k frames values (andThen o (λ s g. continuationAt k (frameWord k 6 frames) (localAt k frames values) (returned (room .inCells - frameWord k 7 frames) s) g))
+      waiting k frames values
+      (andThen o
+      (λ s g.
+      let back = returned (room .inCells - frameWord k 7 frames) s in
+      continuationAt k (frameWord k 6 frames) (localAt k frames values) back g))
 
-  -- what comes of an outcome in the current frame
+  -- the outcome of a run, from the outcome in its current frame
   abbrev pub returning : Registers → Memory → Outcomes → Outcomes
   returning g m o = waiting (g .frame) (m .frames) (m .values) o
 
-  -- what comes next there: the application of a function, where the registers name one that is declared, or else actions
+  -- what comes next in the current frame: the application of a function, where the registers name one that is declared,
+  -- or else actions
   abbrev pub outcomeOfApplication : Registers → Memory → Outcomes
   outcomeOfApplication g m =
-      ranPaid (lent room) (functionsIn words) entering (suc (g .frame)) (g .callee) (stacksOf g m) (ledgerOf allowance g m) (pay (g .callee) (ledgerOf allowance g m .tally))
+      let l = ledgerOf allowance g m in
+      ranPaid (lent room) (functionsIn words) entering (suc (g .frame)) (g .callee) (stacksOf g m) l
+      (pay (g .callee) (l .tally))
 
   abbrev pub outcomeOfActions : Registers → Memory → Outcomes
   outcomeOfActions g m = continuationAt (g .frame) (g .at .0) (localOf g m) (stacksOf g m) (ledgerOf allowance g m)
@@ -61,6 +72,7 @@ module _ (room : Room) (allowance : ℕ) (words : Words) where
       let actions = outcomeOfActions g m in
       returning g m (pick (isDeclared (functionsIn words) (g .callee)) application actions)
 
+  -- the outcome of a run from an answer on
   abbrev pub outcomeFrom : Next → Memory → Outcomes
   outcomeFrom (Onward g) m = outcomeOnward g m
   outcomeFrom (Done g) m = done (stacksOf g m) (ledgerOf allowance g m)
@@ -72,30 +84,34 @@ pub record Waits (cells k : ℕ) (frames : List ℕ) : Type 0 where
   pub held : Held k frames
   pub kept : frameWord k 7 frames ≤ cells
 
--- what one instruction comes to in its frame, which then goes on at a place
+-- the outcome of a run from an action of the machine on, which then goes on at a place of the code
 abbrev pub outcomeOfAction : Room → ℕ → Words → Action → ℕ → Registers → Memory → Outcomes
 outcomeOfAction room allowance words action at g m =
     returning room allowance words g m
-    (perform (lent room) (functionsIn words) (entering room allowance words) (continuationAt room allowance words (g .frame) at) (suc (g .frame)) action
+    (perform (lent room) (functionsIn words) (entering room allowance words)
+    (continuationAt room allowance words (g .frame) at) (suc (g .frame)) action
     (localOf g m) (stacksOf g m) (ledgerOf allowance g m))
 
--- HOW MUCH IS LEFT TO DO: code words for each step that is left, and those left in the frames
+-- THE MEASURE: code words for each step that is left, and those left in the frames
 
 -- the words left in the frames that wait
 unfoldable pub measureWaiting : ℕ → ℕ → List ℕ → ℕ
 measureWaiting size zero frames = 0
 measureWaiting size (suc k) frames = size - frameWord k 6 frames + measureWaiting size k frames
 
+-- the measure without the words left in the current frame
 abbrev pub measureBelow : ℕ → ℕ → Registers → Memory → ℕ
 measureBelow size allowance g m = (allowance - g .steps) * suc size + measureWaiting size (g .frame) (m .frames)
 
+-- the measure of an answer
 abbrev pub measure : ℕ → ℕ → Next → Memory → ℕ
 measure size allowance (Onward g) m = suc (measureBelow size allowance g m + (size - g .at .0))
 measure size allowance (Done g) m = 0
 measure size allowance (Stopped g ending function) m = 0
 measure size allowance (Deeper g) m = 0
 
--- THE END OF AN APPLICATION: the frame below goes on, its q where it was or at p where that has passed it, or the run is done
+-- THE END OF AN APPLICATION: the frame below goes on, its q where it was, or at p where that has passed it, or the run
+-- is done
 
 abbrev pub backIn : ℕ → Registers → List ℕ → Registers
 backIn k g frames =
@@ -122,7 +138,16 @@ leftBy g frames = leftFrom (g .frame) g frames
 -- where a function's application is to begin: its frame, at no place of the code
 abbrev pub calledIn : ℕ → ℕ → ℕ → Registers → Registers
 calledIn frame size number g =
-    record { p = g .p; q = g .q; r = g .r; frame = frame; at = record { 0 = size }; steps = g .steps; emitted = g .emitted; callee = number }
+    record {
+      p = g .p;
+      q = g .q;
+      r = g .r;
+      frame = frame;
+      at = record { 0 = size };
+      steps = g .steps;
+      emitted = g .emitted;
+      callee = number;
+    }
 
 -- where no sentence of a function fits: 11, or the function that recovers it is to be applied in the same frame
 abbrev pub recoveredBy : ℕ → ℕ → ℕ → Registers → Next

@@ -7,13 +7,12 @@ ghost use Rattle.meaning.specs.Choice.{Bytes};
 ghost use Rattle.meaning.specs.Matching.{storedCell, storedValues};
 ghost use Rattle.meaning.specs.Machine.{isDeclared};
 ghost use Rattle.meaning.specs.Instructions.{call as calling};
-ghost use Rattle.meaning.specs.Leaving.{maxFrames};
 ghost use Rattle.meaning.specs.Packing.{storeOf, unpackStores};
 ghost use Rattle.byte_classes.specs.Tests.{Answers};
 ghost use Rattle.run_sites.specs.Sites.{cellMeant};
 ghost use Rattle.run_applications.specs.Storing.{Stores};
 ghost use Rattle.run_decoding.specs.Decoded.{callMeant};
-ghost use Rattle.run_actions.specs.States.{HasFrame, Paired, crowdedAt, CountsWithin, memory};
+ghost use Rattle.run_actions.specs.States.{memory, SelectionWithin, FrameWithin, Paired, crowdedAt, CountsWithin};
 ghost use Rattle.run_applications.specs.Waiting.{countIn, functionsIn, leftBy, recoveredBy};
 use code_numbers::FIRST;
 use code_numbers::OPERAND;
@@ -42,7 +41,7 @@ use run_sites::cell_at;
 
 pub fn declared(code: &[u32], number: usize) -> bool
     requires { ⌜ countIn (now code) < length (now code) ⌝ }
-    ensures { λ r. ⌜ r ≡ isDeclared (functionsIn (now (code .entry))) number ⌝ }
+    ensures result { λ r. ⌜ r ≡ isDeclared (functionsIn (now (code .entry))) number ⌝ }
 {
     if number == 0 {
         return false;
@@ -67,8 +66,9 @@ fn store_values(
     frame: usize,
 ) -> Stored
     requires { ⌜ 16 * frame + count ≤ length (now values) ⌝ }
-    ensures { λ r. ⌜ Stores (16 * frame) count (stores .0 + count)
-        (storedValues (unpackStores count (drop (stores .0) (now (code .entry)))) (now (field .entry)) place) (now (values .entry)) (now (values .exit)) r ⌝ }
+    ensures stores { λ r. ⌜ (let asked = unpackStores count (drop (stores .0) (now (code .entry))) in
+        Stores (16 * frame) count (stores .0 + count) (storedValues asked (now (field .entry)) place)
+        (now (values .entry)) (now (values .exit)) r) ⌝ }
 {
     let base = FRAME_VALUES * frame;
     let mut at = stores.0;
@@ -114,13 +114,14 @@ fn start_sentence(
     frames: &mut [usize],
     values: &mut [u8],
 ) -> Next
-    requires { ⌜ g .p .0 ≤ g .q .0 ⌝ }
-    requires { ⌜ g .q .0 ≤ length (now input) ⌝ }
-    requires { ⌜ g .frame < maxFrames ⌝ }
-    requires { ⌜ HasFrame (g .frame) (now frames) ⌝ }
+    requires { ⌜ SelectionWithin (g .p .0) (g .q .0) (now input) ⌝ }
+    requires { ⌜ FrameWithin (g .frame) (now frames) ⌝ }
     requires { ⌜ Paired (now frames) (now values) ⌝ }
     requires { ⌜ stored ≤ 16 ⌝ }
-    ensures { λ r. ⌜ ((allowance : ℕ) (output «record» : Bytes) → SimulatesSentence (now (code .entry)) allowance place (stores .0) stored g (memory (now (input .entry)) output «record» (now (frames .entry)) (now (values .entry))) r (memory (now (input .entry)) output «record» (now (frames .exit)) (now (values .exit)))) ⌝ }
+    ensures simulates { λ r. ⌜ ((allowance : ℕ) (output «record» : Bytes) →
+        let m = memory (now (input .entry)) output «record» (now (frames .entry)) (now (values .entry)) in
+        let n = memory (now (input .entry)) output «record» (now (frames .exit)) (now (values .exit)) in
+        SimulatesSentence (now (code .entry)) allowance place (stores .0) stored g m r n) ⌝ }
 {
     let field = part(input, g.p, g.q);
     let Stored::Before(actions) = store_values(code, stores, stored, field, place, values, g.frame)
@@ -139,7 +140,7 @@ fn start_sentence(
 
 // Where no sentence fits: 11, or the function that recovers this one is to be applied next, as by a tail call.
 fn recover(g: Registers, code: &[u32], number: usize, recoverer: usize) -> Next
-    ensures { λ r. ⌜ r ≡ recoveredBy (length (now (code .entry))) number recoverer g ⌝ }
+    ensures result { λ r. ⌜ r ≡ recoveredBy (length (now (code .entry))) number recoverer g ⌝ }
 {
     if recoverer == 0 {
         return Next::Stopped(g, Ending::NoSentenceFits, number);
@@ -166,13 +167,14 @@ pub fn apply(
     requires { ⌜ countIn (now code) < length (now code) ⌝ }
     requires { ⌜ 0 < number ⌝ }
     requires { ⌜ number ≤ countIn (now code) ⌝ }
-    requires { ⌜ g .p .0 ≤ g .q .0 ⌝ }
-    requires { ⌜ g .q .0 ≤ length (now input) ⌝ }
-    requires { ⌜ g .frame < maxFrames ⌝ }
-    requires { ⌜ HasFrame (g .frame) (now frames) ⌝ }
+    requires { ⌜ SelectionWithin (g .p .0) (g .q .0) (now input) ⌝ }
+    requires { ⌜ FrameWithin (g .frame) (now frames) ⌝ }
     requires { ⌜ Paired (now frames) (now values) ⌝ }
     requires { ⌜ CountsWithin (g .steps) (now frames) ⌝ }
-    ensures { λ r. ⌜ ((output «record» : Bytes) → SimulatesApplication (now (code .entry)) allowance number g (memory (now (input .entry)) output «record» (now (frames .entry)) (now (values .entry))) r (memory (now (input .entry)) output «record» (now (frames .exit)) (now (values .exit)))) ⌝ }
+    ensures simulates { λ r. ⌜ ((output «record» : Bytes) →
+        let m = memory (now (input .entry)) output «record» (now (frames .entry)) (now (values .entry)) in
+        let n = memory (now (input .entry)) output «record» (now (frames .exit)) (now (values .exit)) in
+        SimulatesApplication (now (code .entry)) allowance number g m r n) ⌝ }
 {
     let steps = g.steps;
     if allowance <= steps {
@@ -202,11 +204,12 @@ fn framed_call(
     frames: &mut [usize],
 ) -> Next
     requires { ⌜ isDeclared (functionsIn (now code)) number ≡ true ⌝ }
-    requires { ⌜ g .frame < maxFrames ⌝ }
-    requires { ⌜ HasFrame (g .frame) (now frames) ⌝ }
+    requires { ⌜ FrameWithin (g .frame) (now frames) ⌝ }
     requires { ⌜ crowdedAt (g .frame) (now frames) ≡ false ⌝ }
-    ensures { λ r. ⌜ ((input output «record» values : Bytes) → SimulatesAction (now (code .entry)) allowance (calling number) (g .at .0) g
-        (memory input output «record» (now (frames .entry)) values) r (memory input output «record» (now (frames .exit)) values)) ⌝ }
+    ensures simulates { λ r. ⌜ ((input output «record» values : Bytes) →
+        let m = memory input output «record» (now (frames .entry)) values in
+        let n = memory input output «record» (now (frames .exit)) values in
+        SimulatesAction (now (code .entry)) allowance (calling number) (g .at .0) g m r n) ⌝ }
 {
     if allowance <= g.steps {
         return Next::Stopped(g, Ending::AllowanceSpent, 0);
@@ -225,14 +228,16 @@ fn framed_call(
     })
 }
 
-// A call, or a tail call, which takes the caller's frame: its function's application is to begin next, at no place of the code.
+// A call, or a tail call, which takes the caller's frame: its function's application is to begin next, at no place of
+// the code.
 pub fn call(g: Registers, code: &[u32], what: Call, allowance: u32, frames: &mut [usize]) -> Next
     requires { ⌜ countIn (now code) < length (now code) ⌝ }
-    requires { ⌜ g .frame < maxFrames ⌝ }
-    requires { ⌜ HasFrame (g .frame) (now frames) ⌝ }
+    requires { ⌜ FrameWithin (g .frame) (now frames) ⌝ }
     requires { ⌜ crowdedAt (g .frame) (now frames) ≡ false ⌝ }
-    ensures { λ r. ⌜ ((input output «record» values : Bytes) → SimulatesAction (now (code .entry)) allowance (callMeant what) (g .at .0) g
-        (memory input output «record» (now (frames .entry)) values) r (memory input output «record» (now (frames .exit)) values)) ⌝ }
+    ensures simulates { λ r. ⌜ ((input output «record» values : Bytes) →
+        let m = memory input output «record» (now (frames .entry)) values in
+        let n = memory input output «record» (now (frames .exit)) values in
+        SimulatesAction (now (code .entry)) allowance (callMeant what) (g .at .0) g m r n) ⌝ }
 {
     let number = what.function;
     if !declared(code, number) {
@@ -250,9 +255,8 @@ pub fn call(g: Registers, code: &[u32], what: Call, allowance: u32, frames: &mut
 
 // The end of an application: the frame below goes on, its q where it was unless p has passed it, or the run is done.
 pub fn leave(g: Registers, frames: &[usize]) -> Next
-    requires { ⌜ g .frame < maxFrames ⌝ }
-    requires { ⌜ HasFrame (g .frame) (now frames) ⌝ }
-    ensures { λ r. ⌜ r ≡ leftBy g (now (frames .entry)) ⌝ }
+    requires { ⌜ FrameWithin (g .frame) (now frames) ⌝ }
+    ensures result { λ r. ⌜ r ≡ leftBy g (now (frames .entry)) ⌝ }
 {
     if g.frame == 0 {
         return Next::Done(g);

@@ -15,7 +15,8 @@ HasEnded (Stopped g ending function) = Unit {0}
 HasEnded (Deeper g) = ⊥
 
 -- a run simulated from an answer on, until one of which a condition holds
-pub record SimulatesUntil (Last : Next → Type 0) (words : Words) (allowance : ℕ) (first : Next) (m : Memory) (last : Next) (n : Memory)
-    : Type 0 where
-  pub simulates : Simulates words allowance (outcomeFrom (roomOf m) allowance words first m) (registersIn first) m last n
+pub record SimulatesUntil (Last : Next → Type 0) (words : Words) (allowance : ℕ) (first : Next) (m : Memory)
+    (last : Next) (n : Memory) : Type 0 where
+  pub simulates : let tocome = outcomeFrom (roomOf m) allowance words first m in
+      Simulates words allowance tocome (registersIn first) m last n
   pub ended : Last last

@@ -43,13 +43,15 @@ abbrev pub reportedOf : Next → Ran
 reportedOf (Onward g) = finishedWith g
 reportedOf (Done g) = finishedWith g
 reportedOf (Deeper g) = finishedWith g
-reportedOf (Stopped g ending function) = record { ending = ending; function = function; steps = g .steps; text = 0; emissions = g .emitted }
+reportedOf (Stopped g ending function) =
+    record { ending = ending; function = function; steps = g .steps; text = 0; emissions = g .emitted }
 
 -- the cells up to a place, and zeros after it
 abbrev pub clearedFrom : ℕ → Bytes → Bytes
 clearedFrom start bytes = take start bytes ++ zeros (length bytes - start)
 
--- the registers as a run begins: the text lies on in as the field, out is empty, nothing is counted yet, and the start's application is to begin
+-- the registers as a run begins: the text lies on in as the field, out is empty, nothing is counted yet, and the
+-- start's application is to begin
 abbrev pub loadedWith : ℕ → ℕ → ℕ → Registers
 loadedWith count text start =
     record {

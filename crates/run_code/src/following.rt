@@ -12,7 +12,8 @@ ghost use Rattle.run_applications.specs.Waiting.{countIn, soundIn, functionsIn}
 ghost use Rattle.run_applications.specs.Simulation.{Invariant, NextInvariant};
 ghost use Rattle.run_turns.specs.Turns.{IsOver};
 ghost use Rattle.run_code.specs.Following.{SimulatesUntil, HasEnded};
-ghost use Rattle.run_code.specs.Leaving.{cells, Leaves, refusedWith, finishedWith, reportedOf, clearedFrom, loadedWith};
+ghost use Rattle.run_code.specs.Leaving.{cells, Leaves, refusedWith, finishedWith, reportedOf};
+ghost use Rattle.run_code.specs.Leaving.{clearedFrom, loadedWith};
 use run_actions::frames::COUNTED;
 use run_actions::frames::all_values;
 use run_actions::frames::all_words;
@@ -36,7 +37,7 @@ use run_turns::status_of;
 use run_turns::step;
 
 pub fn refused(ending: Ending) -> Ran
-    ensures { λ r. ⌜ r ≡ refusedWith ending ⌝ }
+    ensures result { λ r. ⌜ r ≡ refusedWith ending ⌝ }
 {
     Ran {
         ending: ending,
@@ -49,7 +50,7 @@ pub fn refused(ending: Ending) -> Ran
 
 // The code has its count word, an entry for each function, and each entry names a place inside the code.
 pub fn sound_table(code: &[u32]) -> bool
-    ensures { λ r. ⌜ r ≡ soundIn (now (code .entry)) ⌝ }
+    ensures result { λ r. ⌜ r ≡ soundIn (now (code .entry)) ⌝ }
 {
     if code.len() == 0 {
         return false;
@@ -82,10 +83,13 @@ fn follow(
 ) -> Next
     requires { ⌜ Answers (now bits) ⌝ }
     requires { ⌜ countIn (now code) < length (now code) ⌝ }
-    requires { ⌜ NextInvariant allowance first (memory (now input) (now output) (now «record») (now frames) (now values)) ⌝ }
-    ensures { λ r. ⌜ SimulatesUntil IsOver (now (code .entry)) allowance first
-        (memory (now (input .entry)) (now (output .entry)) (now («record» .entry)) (now (frames .entry)) (now (values .entry))) r
-        (memory (now (input .exit)) (now (output .exit)) (now («record» .exit)) (now (frames .exit)) (now (values .exit))) ⌝ }
+    requires { ⌜ NextInvariant allowance first
+        (memory (now input) (now output) (now «record») (now frames) (now values)) ⌝ }
+    ensures simulates { λ r. ⌜ SimulatesUntil IsOver (now (code .entry)) allowance first
+        (memory (now (input .entry)) (now (output .entry)) (now («record» .entry))
+        (now (frames .entry)) (now (values .entry))) r
+        (memory (now (input .exit)) (now (output .exit)) (now («record» .exit))
+        (now (frames .exit)) (now (values .exit))) ⌝ }
 {
     let mut g = registers_of(first);
     let mut status = status_of(first);
@@ -119,12 +123,15 @@ fn follow_all(
 ) -> Next
     requires { ⌜ Answers (now bits) ⌝ }
     requires { ⌜ countIn (now code) < length (now code) ⌝ }
-    requires { ⌜ NextInvariant allowance first (memory (now input) (now output) (now «record») (now frames) (now values)) ⌝ }
+    requires { ⌜ NextInvariant allowance first
+        (memory (now input) (now output) (now «record») (now frames) (now values)) ⌝ }
     requires { ⌜ length (now frames) ≡ wordsFor firstFrames ⌝ }
     requires { ⌜ length (now values) ≡ valuesFor firstFrames ⌝ }
-    ensures { λ r. ⌜ SimulatesUntil HasEnded (now (code .entry)) allowance first
-        (memory (now (input .entry)) (now (output .entry)) (now («record» .entry)) (now (frames .entry)) (now (values .entry))) r
-        (memory (now (input .exit)) (now (output .exit)) (now («record» .exit)) (now (frames .exit)) (now (values .exit))) ⌝ }
+    ensures simulates { λ r. ⌜ SimulatesUntil HasEnded (now (code .entry)) allowance first
+        (memory (now (input .entry)) (now (output .entry)) (now («record» .entry))
+        (now (frames .entry)) (now (values .entry))) r
+        (memory (now (input .exit)) (now (output .exit)) (now («record» .exit))
+        (now (frames .exit)) (now (values .exit))) ⌝ }
 {
     let last = follow(
         first,
@@ -170,9 +177,11 @@ fn follow_deeper(
     requires { ⌜ Invariant allowance g (memory (now input) (now output) (now «record») (now frames) (now values)) ⌝ }
     requires { ⌜ length (now frames) ≡ wordsFor firstFrames ⌝ }
     requires { ⌜ length (now values) ≡ valuesFor firstFrames ⌝ }
-    ensures { λ r. ⌜ SimulatesUntil HasEnded (now (code .entry)) allowance (Onward g)
-        (memory (now (input .entry)) (now (output .entry)) (now («record» .entry)) (now (frames .entry)) (now (values .entry))) r
-        (memory (now (input .exit)) (now (output .exit)) (now («record» .exit)) (now (frames .exit)) (now (values .entry))) ⌝ }
+    ensures simulates { λ r. ⌜ SimulatesUntil HasEnded (now (code .entry)) allowance (Onward g)
+        (memory (now (input .entry)) (now (output .entry)) (now («record» .entry))
+        (now (frames .entry)) (now (values .entry))) r
+        (memory (now (input .exit)) (now (output .exit)) (now («record» .exit))
+        (now (frames .exit)) (now (values .entry))) ⌝ }
 {
     let mut words = all_words();
     copy_words(frames, frames.len(), &mut words);
@@ -195,7 +204,7 @@ fn follow_deeper(
 
 fn clear_from(cells: &mut [u8], start: usize)
     requires { ⌜ start ≤ length (now cells) ⌝ }
-    ensures { λ _. ⌜ now (cells .exit) ≡ clearedFrom start (now (cells .entry)) ⌝ }
+    ensures leaves { λ _. ⌜ now (cells .exit) ≡ clearedFrom start (now (cells .entry)) ⌝ }
 {
     let mut i = start;
     while i < cells.len() {
@@ -206,7 +215,7 @@ fn clear_from(cells: &mut [u8], start: usize)
 
 // A run that is done gives the text on out.
 fn finished(g: Registers) -> Ran
-    ensures { λ r. ⌜ r ≡ finishedWith g ⌝ }
+    ensures result { λ r. ⌜ r ≡ finishedWith g ⌝ }
 {
     Ran {
         ending: Ending::Finished,
@@ -218,7 +227,7 @@ fn finished(g: Registers) -> Ran
 }
 
 fn reported(next: Next) -> Ran
-    ensures { λ r. ⌜ r ≡ reportedOf next ⌝ }
+    ensures result { λ r. ⌜ r ≡ reportedOf next ⌝ }
 {
     match next {
         Next::Onward(g) => finished(g),
@@ -237,7 +246,7 @@ fn reported(next: Next) -> Ran
 // The text lies on in as the field, out is empty, nothing is counted yet, and the start's application is to begin.
 fn loaded(cells: usize, text: usize, start: usize) -> Registers
     requires { ⌜ text ≤ cells ⌝ }
-    ensures { λ r. ⌜ r ≡ loadedWith cells text start ⌝ }
+    ensures result { λ r. ⌜ r ≡ loadedWith cells text start ⌝ }
 {
     Registers {
         p: InCell(cells - text),
@@ -269,7 +278,12 @@ pub fn run_lent(
     requires { ⌜ length (now frames) ≡ wordsFor firstFrames ⌝ }
     requires { ⌜ length (now values) ≡ valuesFor firstFrames ⌝ }
     requires { ⌜ countsIn (now frames) ≡ uncounted ⌝ }
-    ensures { λ r. ⌜ Leaves r (countsIn (now (frames .exit))) (cells (now (input .exit)) (now (output .exit)) (now («record» .exit))) (afterRun (runLent (roomOfCells (cells (now (input .entry)) (now (output .entry)) (now («record» .entry)))) (functionsIn (now (code .entry))) start (now (text .entry)) allowance) (cells (now (input .entry)) (now (output .entry)) (now («record» .entry)))) ⌝ }
+    ensures leaves { λ r. ⌜ (
+        let before = cells (now (input .entry)) (now (output .entry)) (now («record» .entry)) in
+        let functions = functionsIn (now (code .entry)) in
+        let outcome = runLent (roomOfCells before) functions start (now (text .entry)) allowance in
+        Leaves r (countsIn (now (frames .exit))) (cells (now (input .exit)) (now (output .exit)) (now («record» .exit)))
+        (afterRun outcome before)) ⌝ }
 {
     let g = loaded(input.len(), text.len(), start);
     copy_to_in(input, g.p, text);

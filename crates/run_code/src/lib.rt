@@ -25,8 +25,10 @@ pub fn run(
     allowance: u32,
     counts: &mut [u64; 64],
 ) -> Ran
-    ensures { λ r. ⌜ Leaves r (now (counts .exit)) (cells (now (input .exit)) (now (output .exit)) (now («record» .exit)))
-        (leaving (now (code .entry)) start (now (text .entry)) (cells (now (input .entry)) (now (output .entry)) (now («record» .entry))) allowance) ⌝ }
+    ensures leaves { λ r. ⌜ (
+        let before = cells (now (input .entry)) (now (output .entry)) (now («record» .entry)) in
+        Leaves r (now (counts .exit)) (cells (now (input .exit)) (now (output .exit)) (now («record» .exit)))
+        (leaving (now (code .entry)) start (now (text .entry)) before allowance)) ⌝ }
 {
     *counts = [0u64; 64];
     if !sound_table(code) {

@@ -15,9 +15,9 @@ use Rattle.run_decoding.specs.declared.Found.{Found}
 use Rattle.run_decoding.specs.declared.Found.the-variants.{Word, Other}
 use Rattle.run_decoding.specs.declared.Call.{Call}
 use Rattle.run_decoding.specs.declared.Write.{Write}
-use Rattle.run_decoding.specs.declared.Write.the-variants.{Part, Character, Value}
+use Rattle.run_decoding.specs.declared.Write.the-variants.{Out, OutC, OutV}
 use Rattle.run_decoding.specs.declared.Instruction.{Instruction}
-use Rattle.run_decoding.specs.declared.Instruction.the-variants.{Go, Select, Write as Writes, Begin, Use, Call as Calls, Emit, Compute, End, Unknown}
+use Rattle.run_decoding.specs.declared.Instruction.the-variants.{Go, Select, Write as Writes, BeginSeq, UseSeq, Call as Calls, Emit, Compute, End, Unknown}
 
 abbrev pub callIn : Bool → ℕ → Call
 callIn tail w = record { tail = tail; function = w / 256 }
@@ -31,11 +31,11 @@ instructionIn w =
     (pick (eqb (numberIn w) 14) (Emit (firstIn w))
     (pick (eqb (numberIn w) 5) (Go w)
     (pick (eqb (numberIn w) 6) (Select w)
-    (pick (eqb (numberIn w) 7) (Writes Part)
-    (pick (eqb (numberIn w) 8) (Writes (Character (firstIn w)))
-    (pick (eqb (numberIn w) 9) (Writes (Value (firstIn w)))
-    (pick (eqb (numberIn w) 10) Begin
-    (pick (eqb (numberIn w) 11) Use
+    (pick (eqb (numberIn w) 7) (Writes Out)
+    (pick (eqb (numberIn w) 8) (Writes (OutC (firstIn w)))
+    (pick (eqb (numberIn w) 9) (Writes (OutV (firstIn w)))
+    (pick (eqb (numberIn w) 10) BeginSeq
+    (pick (eqb (numberIn w) 11) UseSeq
     (pick (eqb (numberIn w) 12) (Calls (callIn false w))
     (pick (eqb (numberIn w) 13) (Calls (callIn true w))
     (pick (eqb (numberIn w) 21) (computationIn (firstIn w))
@@ -63,9 +63,9 @@ abbrev pub spanMeant : (Span → Action) → ℕ → Action
 spanMeant f w = spanAction f (lengthOf (firstIn w)) (secondIn w) (thirdIn w)
 
 abbrev pub writeMeant : Write → Action
-writeMeant Part = out
-writeMeant (Character c) = outC c
-writeMeant (Value k) = outV k
+writeMeant Out = out
+writeMeant (OutC c) = outC c
+writeMeant (OutV k) = outV k
 
 abbrev pub callMeant : Call → Action
 callMeant c = pick (c .tail) (tailCall (c .function)) (call (c .function))
@@ -75,8 +75,8 @@ abbrev pub actionsMeant : Instruction → Words → List Action
 actionsMeant (Go w) ws = spanMeant go w ∷ unpackActions 0 ws
 actionsMeant (Select w) ws = spanMeant select w ∷ unpackActions 0 ws
 actionsMeant (Writes x) ws = writeMeant x ∷ unpackActions 0 ws
-actionsMeant Begin ws = beginSeq ∷ unpackActions 0 ws
-actionsMeant Use ws = useSeq ∷ unpackActions 0 ws
+actionsMeant BeginSeq ws = beginSeq ∷ unpackActions 0 ws
+actionsMeant UseSeq ws = useSeq ∷ unpackActions 0 ws
 actionsMeant (Calls x) ws = callMeant x ∷ unpackActions 0 ws
 actionsMeant (Emit n) ws = emissionOf n ws ∷ unpackActions n ws
 actionsMeant (Compute subtract) ws = compute (operation subtract) ∷ unpackActions 0 ws

@@ -22,9 +22,9 @@ ghost use Rattle.run_decoding.specs.Decoded.{callIn, computationIn, inst
 
 // What writes to out: the selected cells, a character, a stored value.
 pub enum Write {
-    Part,
-    Character(u8),
-    Value(usize),
+    Out,
+    OutC(u8),
+    OutV(usize),
 }
 
 // A call of a function by its number. A tail call takes its caller's frame, any other adds one.
@@ -45,8 +45,8 @@ pub enum Instruction {
     Go(u32),
     Select(u32),
     Write(Write),
-    Begin,
-    Use,
+    BeginSeq,
+    UseSeq,
     Call(Call),
     Emit(usize),
     Compute(bool),
@@ -83,11 +83,11 @@ pub fn decode(word: u32) -> Instruction
     match number {
         GO => Instruction::Go(word),
         SELECT => Instruction::Select(word),
-        OUT => Instruction::Write(Write::Part),
-        OUT_C => Instruction::Write(Write::Character((word / FIRST % OPERAND) as u8)),
-        OUT_V => Instruction::Write(Write::Value(first)),
-        BEGIN_SEQ => Instruction::Begin,
-        USE_SEQ => Instruction::Use,
+        OUT => Instruction::Write(Write::Out),
+        OUT_C => Instruction::Write(Write::OutC((word / FIRST % OPERAND) as u8)),
+        OUT_V => Instruction::Write(Write::OutV(first)),
+        BEGIN_SEQ => Instruction::BeginSeq,
+        USE_SEQ => Instruction::UseSeq,
         CALL => Instruction::Call(call_of(false, word)),
         TAIL_CALL => Instruction::Call(call_of(true, word)),
         EMISSION => Instruction::Emit(first),

@@ -17,6 +17,7 @@ use code_numbers::PREDICATE_PART;
 use code_numbers::REGISTERS;
 use code_numbers::SECOND;
 use code_numbers::THIRD;
+use run_cells::places::less;
 use run_class_runs::leading;
 use run_class_runs::trailing;
 use run_code_places::CodePlace;
@@ -49,12 +50,6 @@ fn least(a: usize, b: usize) -> usize
     ensures { λ r. ⌜ r ≡ min a b ⌝ }
 {
     if a < b { a } else { b }
-}
-
-fn less(a: usize, b: usize) -> usize
-    ensures { λ r. ⌜ r ≡ a - b ⌝ }
-{
-    if b < a { a - b } else { 0 }
 }
 
 // The places before a turn, or those from it on.

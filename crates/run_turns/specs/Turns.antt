@@ -1,4 +1,5 @@
--- A turn of a run: instructions that are tried where they come next, one that is done in any case, and what a turn simulates.
+-- A turn of a run: instructions that are tried where they come next, one that is done in any case, and what these
+-- simulate.
 use Prim.Native.Nat.{ℕ, suc, _+_, _≤_, _<_}
 use mathlib.Core.Bool.{Bool, true, false}
 use mathlib.Core.Path.{_≡_}
@@ -94,7 +95,8 @@ SimulatesTurn words allowance g m next n =
     (measure (length words) allowance (Onward g) m) g m next n
 
 -- its first part, the application that is to begin, if there is one: the measure may stay where actions come next
-pub record SimulatesEntry (words : Words) (allowance : ℕ) (g : Registers) (m : Memory) (next : Next) (n : Memory) : Type 0 where
+pub record SimulatesEntry (words : Words) (allowance : ℕ) (g : Registers) (m : Memory)
+    (next : Next) (n : Memory) : Type 0 where
   pub below : SimulatesBelow words allowance (outcomeFrom (roomOf m) allowance words (Onward g) m)
       (suc (measure (length words) allowance (Onward g) m)) g m next n
   pub again : (Idle next → ⊥) → measure (length words) allowance next n < measure (length words) allowance (Onward g) m
@@ -102,10 +104,12 @@ pub record SimulatesEntry (words : Words) (allowance : ℕ) (g : Registers) (m :
 -- nothing has changed, or the measure has fallen
 pub data UnchangedOrBelow (size allowance : ℕ) (g : Registers) (m : Memory) (h : Registers) (n : Memory) : Type 0 where
   still : h ≡ g → n ≡ m → UnchangedOrBelow size allowance g m h n
-  onwards : measure size allowance (Onward h) n < measure size allowance (Onward g) m → UnchangedOrBelow size allowance g m h n
+  onwards : measure size allowance (Onward h) n < measure size allowance (Onward g) m →
+      UnchangedOrBelow size allowance g m h n
 
 -- instructions that are tried, each where it comes next: the measure falls if one is done
-pub record SimulatesTry (words : Words) (allowance : ℕ) (g : Registers) (m : Memory) (h : Registers) (n : Memory) : Type 0 where
+pub record SimulatesTry (words : Words) (allowance : ℕ) (g : Registers) (m : Memory)
+    (h : Registers) (n : Memory) : Type 0 where
   pub simulates : Simulates words allowance (outcomeFrom (roomOf m) allowance words (Onward g) m) g m (Onward h) n
   pub idle : h .callee ≡ 0
   pub moved : UnchangedOrBelow (length words) allowance g m h n
@@ -115,7 +119,8 @@ abbrev pub useNumber : ℕ
 useNumber = 11
 
 -- UseSeq, which is done where it comes next, or else does not come next
-pub data SimulatesUse (words : Words) (allowance : ℕ) (g : Registers) (m : Memory) (next : Next) (n : Memory) : Type 0 where
+pub data SimulatesUse (words : Words) (allowance : ℕ) (g : Registers) (m : Memory)
+    (next : Next) (n : Memory) : Type 0 where
   other : (Numbered words (g .at .0) useNumber → ⊥) → next ≡ Onward g → n ≡ m → SimulatesUse words allowance g m next n
   used : SimulatesTurn words allowance g m next n → Idle next → SimulatesUse words allowance g m next n
 

@@ -4,8 +4,7 @@ ghost use mathlib.Core.Path.{_≡_};
 ghost use lib.ListN.{length};
 ghost use Rattle.meaning.specs.Choice.{Bytes};
 ghost use Rattle.byte_classes.specs.Tests.{Answers};
-ghost use Rattle.meaning.specs.Leaving.{maxFrames};
-ghost use Rattle.run_actions.specs.States.{HasFrame, Paired, memory, Held, CountsWithin};
+ghost use Rattle.run_actions.specs.States.{memory, SelectionWithin, FrameWithin, Held, Paired, CountsWithin};
 ghost use Rattle.run_applications.specs.Waiting.{countIn};
 use code_numbers::BEGIN_SEQ;
 use code_numbers::GO;
@@ -13,7 +12,8 @@ use code_numbers::SELECT;
 use code_numbers::USE_SEQ;
 ghost use Rattle.run_applications.specs.Simulation.{Invariant, registersIn};
 ghost use Rattle.run_turns.specs.Turns.{statusIn, nextOf, onward, keptOf, ActingInvariant, SomeActingInvariant};
-ghost use Rattle.run_turns.specs.Turns.{SimulatesEntry, SimulatesTry, SimulatesUse, SimulatesInstruction, SimulatesTurn};
+ghost use Rattle.run_turns.specs.Turns.{SimulatesEntry, SimulatesTry, SimulatesUse};
+ghost use Rattle.run_turns.specs.Turns.{SimulatesInstruction, SimulatesTurn};
 use run_actions::computing::compute;
 use run_actions::emitting::emit;
 use run_actions::frames::crowded;
@@ -49,10 +49,8 @@ fn enter(
 ) -> Next
     requires { ⌜ Answers (now bits) ⌝ }
     requires { ⌜ countIn (now code) < length (now code) ⌝ }
-    requires { ⌜ g .p .0 ≤ g .q .0 ⌝ }
-    requires { ⌜ g .q .0 ≤ length (now input) ⌝ }
-    requires { ⌜ g .frame < maxFrames ⌝ }
-    requires { ⌜ HasFrame (g .frame) (now frames) ⌝ }
+    requires { ⌜ SelectionWithin (g .p .0) (g .q .0) (now input) ⌝ }
+    requires { ⌜ FrameWithin (g .frame) (now frames) ⌝ }
     requires { ⌜ Paired (now frames) (now values) ⌝ }
     requires { ⌜ CountsWithin (g .steps) (now frames) ⌝ }
     ensures simulates { λ r. ⌜ ((output «record» : Bytes) →
@@ -69,7 +67,7 @@ fn enter(
 
 // The registers after an action that was tried, those before it where it can't be done.
 fn kept(next: Next, g: Registers) -> Registers
-    ensures { λ r. ⌜ r ≡ keptOf next g ⌝ }
+    ensures result { λ r. ⌜ r ≡ keptOf next g ⌝ }
 {
     match next {
         Next::Onward(h) => h,
@@ -81,10 +79,8 @@ fn kept(next: Next, g: Registers) -> Registers
 
 // Go, where it comes next.
 fn try_go(g: Registers, code: &[u32], input: &[u8], frames: &[usize]) -> Registers
-    requires { ⌜ g .p .0 ≤ g .q .0 ⌝ }
-    requires { ⌜ g .q .0 ≤ length (now input) ⌝ }
-    requires { ⌜ g .frame < maxFrames ⌝ }
-    requires { ⌜ HasFrame (g .frame) (now frames) ⌝ }
+    requires { ⌜ SelectionWithin (g .p .0) (g .q .0) (now input) ⌝ }
+    requires { ⌜ FrameWithin (g .frame) (now frames) ⌝ }
     requires { ⌜ Held (g .frame) (now frames) ⌝ }
     ensures simulates { λ h. ⌜ ((allowance : ℕ) (output «record» values : Bytes) →
         let m = memory (now (input .entry)) output «record» (now (frames .entry)) values in
@@ -99,10 +95,8 @@ fn try_go(g: Registers, code: &[u32], input: &[u8], frames: &[usize]) -> Registe
 
 // Select, where it comes next.
 fn try_select(g: Registers, code: &[u32], input: &[u8], frames: &[usize]) -> Registers
-    requires { ⌜ g .p .0 ≤ g .q .0 ⌝ }
-    requires { ⌜ g .q .0 ≤ length (now input) ⌝ }
-    requires { ⌜ g .frame < maxFrames ⌝ }
-    requires { ⌜ HasFrame (g .frame) (now frames) ⌝ }
+    requires { ⌜ SelectionWithin (g .p .0) (g .q .0) (now input) ⌝ }
+    requires { ⌜ FrameWithin (g .frame) (now frames) ⌝ }
     requires { ⌜ Held (g .frame) (now frames) ⌝ }
     ensures simulates { λ h. ⌜ ((allowance : ℕ) (output «record» values : Bytes) →
         let m = memory (now (input .entry)) output «record» (now (frames .entry)) values in
@@ -117,8 +111,7 @@ fn try_select(g: Registers, code: &[u32], input: &[u8], frames: &[usize]) -> Reg
 
 // BeginSeq, where it comes next.
 fn try_begin(g: Registers, code: &[u32], frames: &mut [usize]) -> Registers
-    requires { ⌜ g .frame < maxFrames ⌝ }
-    requires { ⌜ HasFrame (g .frame) (now frames) ⌝ }
+    requires { ⌜ FrameWithin (g .frame) (now frames) ⌝ }
     requires { ⌜ Held (g .frame) (now frames) ⌝ }
     ensures simulates { λ h. ⌜ ((allowance : ℕ) (input output «record» values : Bytes) →
         let m = memory input output «record» (now (frames .entry)) values in
@@ -145,7 +138,8 @@ fn try_writes(
 ) -> Registers
     requires { ⌜ SomeActingInvariant g (now input) (now output) (now frames) (now values) ⌝ }
     ensures simulates { λ h. ⌜ ((allowance : ℕ) («record» : Bytes) →
-        let m = memory (now (input .entry)) (now (output .entry)) «record» (now (frames .entry)) (now (values .entry)) in
+        let m = memory (now (input .entry)) (now (output .entry)) «record»
+        (now (frames .entry)) (now (values .entry)) in
         let n = memory (now (input .entry)) (now (output .exit)) «record» (now (frames .entry)) (now (values .entry)) in
         ActingInvariant allowance g m → SimulatesTry (now (code .entry)) allowance g m h n) ⌝ }
 {
@@ -177,11 +171,9 @@ fn try_use(
     output: &[u8],
     frames: &mut [usize],
 ) -> Next
-    requires { ⌜ g .p .0 ≤ g .q .0 ⌝ }
-    requires { ⌜ g .q .0 ≤ length (now input) ⌝ }
+    requires { ⌜ SelectionWithin (g .p .0) (g .q .0) (now input) ⌝ }
     requires { ⌜ g .r .0 ≤ length (now output) ⌝ }
-    requires { ⌜ g .frame < maxFrames ⌝ }
-    requires { ⌜ HasFrame (g .frame) (now frames) ⌝ }
+    requires { ⌜ FrameWithin (g .frame) (now frames) ⌝ }
     requires { ⌜ Held (g .frame) (now frames) ⌝ }
     ensures simulates { λ r. ⌜ ((allowance : ℕ) («record» values : Bytes) →
         let m = memory (now (input .entry)) (now (output .entry)) «record» (now (frames .entry)) values in
@@ -195,7 +187,7 @@ fn try_use(
     use_seq(h, input, output, frames)
 }
 
-// One instruction, whatever it is but UseSeq, which is left for the next turn, and a call where there is no room for a frame more.
+// One instruction, whatever it is, but UseSeq, and a call for whose frame there is no room: these are left for later.
 fn act(
     g: Registers,
     code: &[u32],
@@ -207,10 +199,13 @@ fn act(
     values: &[u8],
 ) -> Next
     requires { ⌜ countIn (now code) < length (now code) ⌝ }
-    requires { ⌜ ActingInvariant allowance g (memory (now input) (now output) (now «record») (now frames) (now values)) ⌝ }
-    ensures { λ r. ⌜ SimulatesInstruction (now (code .entry)) allowance g
-        (memory (now (input .entry)) (now (output .entry)) (now («record» .entry)) (now (frames .entry)) (now (values .entry))) r
-        (memory (now (input .entry)) (now (output .exit)) (now («record» .exit)) (now (frames .exit)) (now (values .entry))) ⌝ }
+    requires { ⌜ ActingInvariant allowance g
+        (memory (now input) (now output) (now «record») (now frames) (now values)) ⌝ }
+    ensures simulates { λ r. ⌜ SimulatesInstruction (now (code .entry)) allowance g
+        (memory (now (input .entry)) (now (output .entry)) (now («record» .entry))
+        (now (frames .entry)) (now (values .entry))) r
+        (memory (now (input .entry)) (now (output .exit)) (now («record» .exit))
+        (now (frames .exit)) (now (values .entry))) ⌝ }
 {
     let at = g.at.0;
     if code.len() <= at {
@@ -224,8 +219,8 @@ fn act(
         Instruction::Go(span) => go(h, span, input, frames),
         Instruction::Select(span) => select(h, span, input, frames),
         Instruction::Write(what) => write(h, what, input, output, frames, values),
-        Instruction::Begin => begin_seq(h, frames),
-        Instruction::Use => Next::Onward(g),
+        Instruction::BeginSeq => begin_seq(h, frames),
+        Instruction::UseSeq => Next::Onward(g),
         Instruction::Call(what) => {
             if crowded(frames, g.frame) {
                 Next::Deeper(g)
@@ -251,7 +246,8 @@ fn write_items(
 ) -> Registers
     requires { ⌜ SomeActingInvariant g (now input) (now output) (now frames) (now values) ⌝ }
     ensures simulates { λ h. ⌜ ((allowance : ℕ) («record» : Bytes) →
-        let m = memory (now (input .entry)) (now (output .entry)) «record» (now (frames .entry)) (now (values .entry)) in
+        let m = memory (now (input .entry)) (now (output .entry)) «record»
+        (now (frames .entry)) (now (values .entry)) in
         let n = memory (now (input .entry)) (now (output .exit)) «record» (now (frames .exit)) (now (values .entry)) in
         ActingInvariant allowance g m → SimulatesTry (now (code .entry)) allowance g m h n) ⌝ }
 {
@@ -262,8 +258,8 @@ fn write_items(
     try_go(written, code, input, frames)
 }
 
-// One turn of the run: an application that is to begin, and, unless another is then to begin, instructions in the order in which an
-// expression mostly has them, each where it comes next, so that few turns are taken; then one more.
+// One turn of the run: an application that is to begin, and, unless another is then to begin, instructions in the order
+// in which an expression mostly has them, each where it comes next, so that few turns are taken; then one more.
 fn advance(
     g: Registers,
     bits: &[u8; 256],
@@ -278,9 +274,11 @@ fn advance(
     requires { ⌜ Answers (now bits) ⌝ }
     requires { ⌜ countIn (now code) < length (now code) ⌝ }
     requires { ⌜ Invariant allowance g (memory (now input) (now output) (now «record») (now frames) (now values)) ⌝ }
-    ensures { λ r. ⌜ SimulatesTurn (now (code .entry)) allowance g
-        (memory (now (input .entry)) (now (output .entry)) (now («record» .entry)) (now (frames .entry)) (now (values .entry))) r
-        (memory (now (input .exit)) (now (output .exit)) (now («record» .exit)) (now (frames .exit)) (now (values .exit))) ⌝ }
+    ensures simulates { λ r. ⌜ SimulatesTurn (now (code .entry)) allowance g
+        (memory (now (input .entry)) (now (output .entry)) (now («record» .entry))
+        (now (frames .entry)) (now (values .entry))) r
+        (memory (now (input .exit)) (now (output .exit)) (now («record» .exit))
+        (now (frames .exit)) (now (values .exit))) ⌝ }
 {
     let entered = enter(g, bits, code, allowance, input, frames, values);
     let Next::Onward(begun) = entered else {
@@ -309,7 +307,7 @@ fn advance(
 
 // An answer's registers, how it says that the run goes on, and both put together.
 pub fn registers_of(next: Next) -> Registers
-    ensures { λ r. ⌜ r ≡ registersIn next ⌝ }
+    ensures result { λ r. ⌜ r ≡ registersIn next ⌝ }
 {
     match next {
         Next::Onward(g) => g,
@@ -320,7 +318,7 @@ pub fn registers_of(next: Next) -> Registers
 }
 
 pub fn status_of(next: Next) -> Status
-    ensures { λ r. ⌜ r ≡ statusIn next ⌝ }
+    ensures result { λ r. ⌜ r ≡ statusIn next ⌝ }
 {
     match next {
         Next::Onward(_) => Status::Onward,
@@ -331,7 +329,7 @@ pub fn status_of(next: Next) -> Status
 }
 
 pub fn next_of(status: Status, g: Registers) -> Next
-    ensures { λ r. ⌜ r ≡ nextOf status g ⌝ }
+    ensures result { λ r. ⌜ r ≡ nextOf status g ⌝ }
 {
     match status {
         Status::Onward => Next::Onward(g),
@@ -342,7 +340,7 @@ pub fn next_of(status: Status, g: Registers) -> Next
 }
 
 pub fn is_onward(status: Status) -> bool
-    ensures { λ r. ⌜ r ≡ onward status ⌝ }
+    ensures result { λ r. ⌜ r ≡ onward status ⌝ }
 {
     match status {
         Status::Onward => true,
@@ -366,11 +364,14 @@ pub fn step(
 ) -> Status
     requires { ⌜ Answers (now bits) ⌝ }
     requires { ⌜ countIn (now code) < length (now code) ⌝ }
-    requires { ⌜ Invariant allowance (now g) (memory (now input) (now output) (now «record») (now frames) (now values)) ⌝ }
-    ensures { λ r. ⌜ SimulatesTurn (now (code .entry)) allowance (now (g .entry))
-        (memory (now (input .entry)) (now (output .entry)) (now («record» .entry)) (now (frames .entry)) (now (values .entry)))
+    requires { ⌜ Invariant allowance (now g)
+        (memory (now input) (now output) (now «record») (now frames) (now values)) ⌝ }
+    ensures simulates { λ r. ⌜ SimulatesTurn (now (code .entry)) allowance (now (g .entry))
+        (memory (now (input .entry)) (now (output .entry)) (now («record» .entry))
+        (now (frames .entry)) (now (values .entry)))
         (nextOf r (now (g .exit)))
-        (memory (now (input .exit)) (now (output .exit)) (now («record» .exit)) (now (frames .exit)) (now (values .exit))) ⌝ }
+        (memory (now (input .exit)) (now (output .exit)) (now («record» .exit))
+        (now (frames .exit)) (now (values .exit))) ⌝ }
 {
     let next = advance(
         *g,

@@ -39,7 +39,8 @@ count-application-requires c κs =
     let at-if1 = c .before .before .before .before .before in
     let entry = at-if1 .before .before .before .before .before in
     let pre = entry .pre in
-    (pre .1 .1 .0, (omega (arith, pre .1 .1 .1 .1 .1 .1 .1 .0), λ i. omega (arith, pre .1 .1 .1 .1 .1 .1 .1 .1 .1 i, at-if1 .if1 .left, entry .fits .allowance)))
+    let lent = pre .1 .1 .1 .1 in
+    (pre .1 .1 .0, (omega (arith, lent .1 .0), λ i. omega (arith, lent .1 .1 .1 i, at-if1 .if1 .left, entry .fits .allowance)))
 
 start-sentence-requires : tie.Need-start-sentence-requires
 start-sentence-requires c κs =
@@ -48,7 +49,8 @@ start-sentence-requires c κs =
     let lent = entry at-choose .pre .1 .1 .1 .1 in
     let few = rw (at-place .place .given .1) at (at-choose .choose .ensures .few) in
     let sized = at-count at-choose .count-application .kept .0 in
-    (lent .0, (lent .1 .0, (lent .1 .1 .0, (rw sized (lent .1 .1 .1 .0), (rw sized (lent .1 .1 .1 .1 .0), few)))))
+    let frame = lent .1 .0 in
+    (lent .0, (record { framed = frame .framed; frameRoom = rw sized (frame .frameRoom) }, (rw sized (lent .1 .1 .0), few)))
 
 returns-2 : tie.Need-returns-2
 returns-2 c =

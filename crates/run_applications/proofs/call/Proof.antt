@@ -25,7 +25,7 @@ returns-2 : tie.Need-returns-2
 returns-2 c = λ input output «record» values. rw (c .before .before .before .if2 .taken) (tail-enters _ _ _ _ _)
 
 framed-call-requires : tie.Need-framed-call-requires
-framed-call-requires c κs = let pre = c .before .before .before .before .before .before .pre in (is (c .before .before), (pre .1 .0, (pre .1 .1 .0, pre .1 .1 .1)))
+framed-call-requires c κs = let pre = c .before .before .before .before .before .before .pre in (is (c .before .before), pre .1)
 
 returns-3 : tie.Need-returns-3
 returns-3 c = λ input output «record» values. rw (c .before .before .before .before .if2 .left) (c .before .before .framed-call .ensures input output «record» values)

@@ -23,7 +23,8 @@ begin-frame-requires c κs =
     let at-if2 = at-keep-caller .before .before in
     let entry = at-if2 .before .before .before .before .before in
     let few : suc (entry .args .g .frame) < 256 = omega (arith, at-if2 .if2 .left) in
-    (omega (arith, few), omega (arith, not-crowded (entry .args .g .frame) (entry .args .frames .now) (entry .pre .1 .1 .1) few, at-keep-caller .keep-caller .kept .0))
+    let there = not-crowded (entry .args .g .frame) (entry .args .frames .now) (entry .pre .1 .1) few in
+    record { framed = omega (arith, few); frameRoom = omega (arith, there, at-keep-caller .keep-caller .kept .0) }
 
 returns-3 : tie.Need-returns-3
 returns-3 c =
@@ -33,7 +34,7 @@ returns-3 c =
     let calling = callingFrom k (a .g .at .0) (a .g .q .0) (a .frames .now) in
     let sized : length calling ≡ length (a .frames .now) = calling-length (a .frames .now) k (a .g .at .0) (a .g .q .0) in
     let few : suc k < 256 = omega (arith, c .before .before .before .before .before .before .before .before .before .before .before .if2 .left) in
-    let there : HasFrame (suc k) calling = rw sized (not-crowded k (a .frames .now) (entry .pre .1 .1 .1) few) in
+    let there : HasFrame (suc k) calling = rw sized (not-crowded k (a .frames .now) (entry .pre .1 .1) few) in
     λ input output «record» values. rw (c .before .before .before .before .before .begin-frame .ensures, c .before .before .before .before .before .before .before .before .before .keep-caller .ensures, add-one k)
     (call-enters _ _ (a .number) (a .g) input output «record» (a .frames .now) values (entry .pre .0) (c .before .before .before .before .before .before .before .before .before .before .before .before .if1 .left) (omega (arith, c .before .before .before .before .before .before .before .before .before .before .before .if2 .left))
     (begun (suc k) 0 0 0 calling) (rw (begun-length calling (suc k) 0 0 0 there) there) (begun-length calling (suc k) 0 0 0 there ∙ sized)

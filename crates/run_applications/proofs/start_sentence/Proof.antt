@@ -22,7 +22,7 @@ entry c = c .before .before .before .before .before .before .before
 selected : (c : tie.After-store-values) → let a = entry c .args in length (c .before .before .part .result .now) ≡ a .g .q .0 - a .g .p .0
 selected c =
     let a = entry c .args in
-    ap length (c .before .before .part .ensures) ∙ part-long (a .input .now) (a .g .p .0) (a .g .q .0) (entry c .pre .1 .0)
+    ap length (c .before .before .part .ensures) ∙ part-long (a .input .now) (a .g .p .0) (a .g .q .0) (entry c .pre .0 .inside)
 
 -- the values of the stores are those of the field
 abbrev Kept : tie.After-store-values → Bytes → Option Bytes
@@ -35,12 +35,12 @@ stored-as e s = rw e at s
 store-values-requires : tie.Need-store-values-requires
 store-values-requires c κs =
     let p = c .before .before .before .before .before .before .pre in
-    omega (arith, p .1 .1 .1 .1 .0 _ (p .1 .1 .1 .0), p .1 .1 .1 .1 .1)
+    omega (arith, p .1 .1 .0 _ (p .1 .0 .frameRoom), p .1 .1 .1)
 
 returns : tie.Need-returns
 returns c =
     let at-store-values = c .before .before .before .before in
-    λ allowance output «record». starts-wrong _ _ _ _ _ _ _ _ _ _ _ _ (entry at-store-values .pre .1 .1 .1 .1 .1)
+    λ allowance output «record». starts-wrong _ _ _ _ _ _ _ _ _ _ _ _ (entry at-store-values .pre .1 .1 .1)
     (stored-as (ap (Kept at-store-values) (at-store-values .before .before .part .ensures)) (rw (c .enum-told .given .1) at (at-store-values .store-values .ensures)))
 
 returns-2 : tie.Need-returns-2
@@ -49,7 +49,7 @@ returns-2 c =
     let at-actions = at-begin-frame .before .before .before in
     let at-store-values = at-actions .before .before .before .before in
     λ allowance output «record». rw (at-begin-frame .begin-frame .ensures, selected at-store-values)
-    (starts-right _ _ _ _ _ _ _ _ _ _ _ _ (entry at-store-values .pre .1 .1 .1 .1 .1) (at-actions .actions .given .0 .0)
+    (starts-right _ _ _ _ _ _ _ _ _ _ _ _ (entry at-store-values .pre .1 .1 .1) (at-actions .actions .given .0 .0)
     (at-store-values .store-values .kept .1 .1 .1 .1 .1 .0)
     (stored-as (ap (Kept at-store-values) (at-store-values .before .before .part .ensures)) (rw (at-actions .actions .given .1) at (at-store-values .store-values .ensures))))
 

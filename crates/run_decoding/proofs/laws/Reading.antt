@@ -15,8 +15,8 @@ use Rattle.meaning.specs.Angles.{plus, minus}
 use Rattle.meaning.specs.Instructions.{Action, go, select, out, outC, outV, beginSeq, useSeq, call, tailCall, unknownAction}
 use Rattle.meaning.specs.Packing.{Words, numberIn, firstIn, secondIn, thirdIn, lengthOf, operationOf, spanAction, computeOf, emissionOf, unpackActions}
 use Rattle.run_decoding.specs.declared.Instruction.{Instruction}
-use Rattle.run_decoding.specs.declared.Write.the-variants.{Part, Character, Value}
-use Rattle.run_decoding.specs.declared.Instruction.the-variants.{Go, Select, Write as Writes, Begin, Use, Call as Calls, Emit, Compute, End, Unknown}
+use Rattle.run_decoding.specs.declared.Write.the-variants.{Out, OutC, OutV}
+use Rattle.run_decoding.specs.declared.Instruction.the-variants.{Go, Select, Write as Writes, BeginSeq, UseSeq, Call as Calls, Emit, Compute, End, Unknown}
 use Rattle.run_decoding.specs.Decoded.{callIn, computationIn, instructionIn, Numbered, Taken, actionsMeant}
 use Rattle.meaning.proofs.laws.Remaining.{at-place, past-end}
 
@@ -50,11 +50,11 @@ module _ (w : ℕ) (ws : Words) where
       (pick b₁₄ (Emit (firstIn w))
       (pick b₅ (Go w)
       (pick b₆ (Select w)
-      (pick b₇ (Writes Part)
-      (pick b₈ (Writes (Character (firstIn w)))
-      (pick b₉ (Writes (Value (firstIn w)))
-      (pick b₁₀ Begin
-      (pick b₁₁ Use
+      (pick b₇ (Writes Out)
+      (pick b₈ (Writes (OutC (firstIn w)))
+      (pick b₉ (Writes (OutV (firstIn w)))
+      (pick b₁₀ BeginSeq
+      (pick b₁₁ UseSeq
       (pick b₁₂ (Calls (callIn false w))
       (pick b₁₃ (Calls (callIn true w)) (pick b₂₁ (computationIn (firstIn w)) Unknown)))))))))))
       )
@@ -81,7 +81,7 @@ module _ (w : ℕ) (ws : Words) where
 
 -- only UseSeq's number gives UseSeq
 module _ (w : ℕ) where
-  computation-used : (zero? one? : Bool) {used? : Bool} → pick zero? (Compute false) (pick one? (Compute true) Unknown) ≡ Use → used? ≡ true
+  computation-used : (zero? one? : Bool) {used? : Bool} → pick zero? (Compute false) (pick one? (Compute true) Unknown) ≡ UseSeq → used? ≡ true
   computation-used true one? e = let z : _≡_ {A = ℕ} 0 1 = cc in absurd (omega arith)
   computation-used false true e = let z : _≡_ {A = ℕ} 0 1 = cc in absurd (omega arith)
   computation-used false false e = let z : _≡_ {A = ℕ} 0 1 = cc in absurd (omega arith)
@@ -91,14 +91,14 @@ module _ (w : ℕ) where
       (pick b₁₄ (Emit (firstIn w))
       (pick b₅ (Go w)
       (pick b₆ (Select w)
-      (pick b₇ (Writes Part)
-      (pick b₈ (Writes (Character (firstIn w)))
-      (pick b₉ (Writes (Value (firstIn w)))
-      (pick b₁₀ Begin
-      (pick b₁₁ Use
+      (pick b₇ (Writes Out)
+      (pick b₈ (Writes (OutC (firstIn w)))
+      (pick b₉ (Writes (OutV (firstIn w)))
+      (pick b₁₀ BeginSeq
+      (pick b₁₁ UseSeq
       (pick b₁₂ (Calls (callIn false w))
       (pick b₁₃ (Calls (callIn true w)) (pick b₂₁ (computationIn (firstIn w)) Unknown)))))))))))
-      ≡ Use → b₁₁ ≡ true
+      ≡ UseSeq → b₁₁ ≡ true
   used true b₁₄ b₅ b₆ b₇ b₈ b₉ b₁₀ b₁₁ b₁₂ b₁₃ b₂₁ e = let z : _≡_ {A = ℕ} 0 1 = cc in absurd (omega arith)
   used false true b₅ b₆ b₇ b₈ b₉ b₁₀ b₁₁ b₁₂ b₁₃ b₂₁ e = let z : _≡_ {A = ℕ} 0 1 = cc in absurd (omega arith)
   used false false true b₆ b₇ b₈ b₉ b₁₀ b₁₁ b₁₂ b₁₃ b₂₁ e = let z : _≡_ {A = ℕ} 0 1 = cc in absurd (omega arith)
@@ -113,7 +113,7 @@ module _ (w : ℕ) where
   used false false false false false false false false false false false true e = computation-used (eqb (firstIn w) 0) (eqb (firstIn w) 1) e
   used false false false false false false false false false false false false e = let z : _≡_ {A = ℕ} 0 1 = cc in absurd (omega arith)
 
-pub use-numbered : (words : Words) (at : ℕ) → at < length words → instructionIn (getD words at 0) ≡ Use → Numbered words at 11
+pub use-numbered : (words : Words) (at : ℕ) → at < length words → instructionIn (getD words at 0) ≡ UseSeq → Numbered words at 11
 use-numbered words at h e =
     let w = getD words at 0 in
     let n = numberIn w in

@@ -60,7 +60,7 @@ returns c =
 write-requires : tie.Need-write-requires
 write-requires c κs =
     let u = acting (c .before .before .before .before .before) .invariant in
-    (u .ready .room .selection .ordered, (u .ready .room .selection .inside, (u .ready .room .written .below, (u .ready .room .frame .framed, (u .ready .room .frame .frameRoom, (u .current, u .ready .room .values))))))
+    (u .ready .room .selection, (u .ready .room .written .below, (u .ready .room .frame, (u .current, u .ready .room .values))))
 
 returns-2 : tie.Need-returns-2
 returns-2 c = acts (c .before .before .before .before .before) _ (c .before .before .before .span .given .1) _ _ refl (omega arith) _ _ refl (c .go .ensures _ _ _)
@@ -93,7 +93,7 @@ call-requires c κs =
     let at-crowded = c .before .before in
     let at-decode = decoded at-crowded in
     let r = acting at-decode .invariant .ready in
-    (entry at-decode .pre .0, (r .room .frame .framed, (r .room .frame .frameRoom, sym (at-crowded .crowded .ensures) ∙ c .before .if2 .left)))
+    (entry at-decode .pre .0, (r .room .frame, sym (at-crowded .crowded .ensures) ∙ c .before .if2 .left))
 
 returns-7 : tie.Need-returns-7
 returns-7 c =

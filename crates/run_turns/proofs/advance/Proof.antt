@@ -113,7 +113,7 @@ enter-requires : tie.Need-enter-requires
 enter-requires c κs =
     let pre = c .before .before .before .before .before .before .before .before .before .pre in
     let r = pre .1 .1 .ready in
-    (pre .0, (pre .1 .0, (r .room .selection .ordered, (r .room .selection .inside, (r .room .frame .framed, (r .room .frame .frameRoom, (r .room .values, r .counts)))))))
+    (pre .0, (pre .1 .0, (r .room .selection, (r .room .frame, (r .room .values, r .counts)))))
 
 returns : tie.Need-returns
 returns c =
@@ -133,7 +133,7 @@ write-items-requires c κs =
 try-use-requires : tie.Need-try-use-requires
 try-use-requires c κs =
     let u = acting-on _ _ (written (c .before .before .before .before .before .before .before)) .invariant in
-    (u .ready .room .selection .ordered, (u .ready .room .selection .inside, (u .ready .room .written .below, (u .ready .room .frame .framed, (u .ready .room .frame .frameRoom, u .current)))))
+    (u .ready .room .selection, (u .ready .room .written .below, (u .ready .room .frame, u .current)))
 
 -- where UseSeq was tried, back to where the application had begun
 abbrev use-enter : tie.After-try-use → tie.After-enter
@@ -156,7 +156,7 @@ returns-3 c =
 try-select-requires : tie.Need-try-select-requires
 try-select-requires c κs =
     let u = acting-second (c .before .before .before) .invariant in
-    (u .ready .room .selection .ordered, (u .ready .room .selection .inside, (u .ready .room .frame .framed, (u .ready .room .frame .frameRoom, u .current))))
+    (u .ready .room .selection, (u .ready .room .frame, u .current))
 
 act-requires : tie.Need-act-requires
 act-requires c κs =

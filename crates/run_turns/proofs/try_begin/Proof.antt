@@ -1,7 +1,7 @@
 -- `try_begin` meets its contract.
 use borrow.Author.Needs.{needs}
 use mathlib.Core.Path.{refl}
-use Rattle.run_decoding.specs.declared.Instruction.the-variants.{Begin}
+use Rattle.run_decoding.specs.declared.Instruction.the-variants.{BeginSeq}
 use Rattle.run_decoding.proofs.laws.Reading.{found-means, found-number}
 use Rattle.run_actions.specs.declared.registers.Next.the-variants.{Onward}
 use Rattle.run_actions.specs.States.{memory}
@@ -21,8 +21,8 @@ returns-2 c =
     let taken = rw (c .before .before .before .before .before .before .before .before .before .next .given .1) at (c .before .before .before .before .before .before .before .before .before .before .before .find-word .ensures) in
     let opened = rw (c .before .before .before .if1 .taken) at (c .before .before .before .before .before .before .open-sequence .ensures) in
     λ allowance input output «record» values acting. rw (taken .after, opened .1)
-    (tries-action _ _ _ (Onward (stepped (a .g))) _ (taken .numbered .within) (found-means taken Begin (rw (found-number taken))) refl
-    (begin-kept (stepped (a .g)) (memory input output «record» (a .frames .now) values) (entry .pre .1 .0) (acting .invariant .ready .room .written .below) (opened .0)) acting)
+    (tries-action _ _ _ (Onward (stepped (a .g))) _ (taken .numbered .within) (found-means taken BeginSeq (rw (found-number taken))) refl
+    (begin-kept (stepped (a .g)) (memory input output «record» (a .frames .now) values) (entry .pre .0 .frameRoom) (acting .invariant .ready .room .written .below) (opened .0)) acting)
 
 returns-3 : tie.Need-returns-3
 returns-3 c =

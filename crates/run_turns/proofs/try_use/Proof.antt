@@ -1,7 +1,7 @@
 -- `try_use` meets its contract.
 use borrow.Author.Needs.{needs}
 use mathlib.Core.Path.{refl}
-use Rattle.run_decoding.specs.declared.Instruction.the-variants.{Use}
+use Rattle.run_decoding.specs.declared.Instruction.the-variants.{UseSeq}
 use Rattle.run_decoding.proofs.laws.Reading.{found-means, found-number}
 use Rattle.run_turns.specs.Turns.{other}
 use Rattle.run_turns.proofs.laws.Trying.{uses-action}
@@ -16,7 +16,7 @@ returns c =
 returns-2 : tie.Need-returns-2
 returns-2 c =
     let taken = rw (c .before .before .before .before .before .before .before .before .before .before .before .next .given .1) at (c .before .before .before .before .before .before .before .before .before .before .before .before .before .find-word .ensures) in
-    λ allowance «record» values. uses-action _ _ _ _ _ (taken .numbered .within) (found-means taken Use (rw (found-number taken)))
+    λ allowance «record» values. uses-action _ _ _ _ _ (taken .numbered .within) (found-means taken UseSeq (rw (found-number taken)))
     (rw (c .before .before .before .before .use-seq .kept .1 .0)) (rw (taken .after) at (c .before .before .before .before .use-seq .ensures «record» values))
 
 pub try-use-spec : {M : Type 1} → statement M

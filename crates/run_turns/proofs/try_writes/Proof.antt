@@ -95,7 +95,7 @@ returns-2 c = c .before .before .before .before .loop .inv .1
 write-requires : tie.Need-write-requires Inv-loop μ-loop
 write-requires c κs =
     let u = acting (c .before .before .before .before .before .before .before .before .before .before) .invariant in
-    (u .ready .room .selection .ordered, (u .ready .room .selection .inside, (u .ready .room .written .below, (u .ready .room .frame .framed, (u .ready .room .frame .frameRoom, (u .current, u .ready .room .values))))))
+    (u .ready .room .selection, (u .ready .room .written .below, (u .ready .room .frame, (u .current, u .ready .room .values))))
 
 returns-3 : tie.Need-returns-3 Inv-loop μ-loop
 returns-3 c allowance «record» a =

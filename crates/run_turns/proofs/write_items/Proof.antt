@@ -68,12 +68,12 @@ try-go-requires : tie.Need-try-go-requires
 try-go-requires c κs =
     let at-begin = c .before .before .before in
     let u = ready (entry at-begin) _ _ _ (begun at-begin) .acting .invariant in
-    (u .ready .room .selection .ordered, (u .ready .room .selection .inside, (u .ready .room .frame .framed, (u .ready .room .frame .frameRoom, u .current))))
+    (u .ready .room .selection, (u .ready .room .frame, u .current))
 
 try-select-requires : tie.Need-try-select-requires
 try-select-requires c κs =
     let u = ready (entry (before-go (c .before))) _ _ _ (gone (c .before)) .acting .invariant in
-    (u .ready .room .selection .ordered, (u .ready .room .selection .inside, (u .ready .room .frame .framed, (u .ready .room .frame .frameRoom, u .current))))
+    (u .ready .room .selection, (u .ready .room .frame, u .current))
 
 try-writes-requires : tie.Need-try-writes-requires
 try-writes-requires c κs =
@@ -84,7 +84,7 @@ try-go-requires-2 : tie.Need-try-go-requires-2
 try-go-requires-2 c κs =
     let at-writes = c .before .before .before in
     let u = ready (entry (start at-writes)) _ _ _ (written at-writes) .acting .invariant in
-    (u .ready .room .selection .ordered, (u .ready .room .selection .inside, (u .ready .room .frame .framed, (u .ready .room .frame .frameRoom, u .current))))
+    (u .ready .room .selection, (u .ready .room .frame, u .current))
 
 same-length-2 : tie.Need-same-length-2
 same-length-2 c = start (c .before .before .before .before) .try-begin .kept .1 .1 .0

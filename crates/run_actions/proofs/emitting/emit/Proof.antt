@@ -34,7 +34,7 @@ returns c = let a = c .before .before .before .before .before .args in
 selected : (c : tie.After-part) → let a = entry (c .before) .args in length (c .part .result .now) ≡ a .g .q .0 - a .g .p .0
 selected c =
     let a = entry (c .before) .args in
-    ap length (c .part .ensures) ∙ part-long (a .input .now) (a .g .p .0) (a .g .q .0) (entry (c .before) .pre .1 .1 .0)
+    ap length (c .part .ensures) ∙ part-long (a .input .now) (a .g .p .0) (a .g .q .0) (entry (c .before) .pre .1 .0 .inside)
 
 add-line : tie.Need-add-line
 add-line c = omega (arith, there (c .before), selected c)
@@ -47,8 +47,8 @@ returns-2 c =
     let else = c .before .before in
     let a = entry else .args in
     let p = entry else .pre in
-    λ output values frames. emission-full (a .g) (memory (a .input .now) output (a .«record» .now) frames values) (a .code .now) (a .size) (p .1 .0) (p .1 .1 .0)
-    (p .1 .1 .1) (is-named else) (rw (selected (c .before)) at (c .if2 .taken))
+    λ output values frames. emission-full (a .g) (memory (a .input .now) output (a .«record» .now) frames values) (a .code .now) (a .size) (p .1 .0 .ordered) (p .1 .0 .inside)
+    (p .1 .1) (is-named else) (rw (selected (c .before)) at (c .if2 .taken))
 
 write-line-requires : tie.Need-write-line-requires
 write-line-requires c κs =
@@ -68,7 +68,7 @@ returns-3 c =
     let a = entry else .args in
     let p = entry else .pre in
     λ output values frames. rw (c .before .before .place-after .ensures, at-write-line .write-line .ensures, selected at-part, at-part .part .ensures)
-    (emission-written (a .g) (memory (a .input .now) output (a .«record» .now) frames values) (a .code .now) (a .size) (p .1 .0) (p .1 .1 .0) (p .1 .1 .1)
+    (emission-written (a .g) (memory (a .input .now) output (a .«record» .now) frames values) (a .code .now) (a .size) (p .1 .0 .ordered) (p .1 .0 .inside) (p .1 .1)
     (is-named else) (rw (selected at-part) at (at-if2 .if2 .left)))
 
 pub emit-spec : {M : Type 1} → statement M

@@ -18,10 +18,10 @@ abbrev lent : tie.After-open-sequences → Bytes → Bytes → Memory
 lent c «record» values = memory (entry c .args .input .now) (entry c .args .output .now) «record» (entry c .args .frames .now) values
 
 bounded : (c : tie.After-open-sequences) («record» values : Bytes) →
-    Bounded (entry c .args .g) (lent c «record» values) (entry c .pre .1 .1 .1 .1 .0)
+    Bounded (entry c .args .g) (lent c «record» values) (entry c .pre .1 .1 .0 .frameRoom)
 bounded c «record» values =
     let p = entry c .pre in
-    record { p≤q = p .0; q≤in = p .1 .0; r≤out = p .1 .1 .0; few = p .1 .1 .1 .1 .1 .opened }
+    record { p≤q = p .0 .ordered; q≤in = p .0 .inside; r≤out = p .1 .0; few = p .1 .1 .1 .opened }
 
 abbrev counted : tie.After-earlier → tie.After-open-sequences
 counted c = c .before .before .before .before
@@ -48,7 +48,7 @@ returns c =
 sequence-start-requires : tie.Need-sequence-start-requires
 sequence-start-requires c κs =
     let p = c .before .before .before .before .before .before .before .pre in
-    omega (arith, p .1 .1 .1 .0, p .1 .1 .1 .1 .0, p .1 .1 .1 .1 .1 .opened, c .before .before .open-sequences .ensures, c .before .if1 .left)
+    (p .1 .1 .0, omega (arith, p .1 .1 .1 .opened, c .before .before .open-sequences .ensures, c .before .if1 .left))
 
 bytes-between-requires : tie.Need-bytes-between-requires
 bytes-between-requires c κs = omega (arith, c .before .earlier .ensures)

@@ -13,7 +13,7 @@ returns c =
     let entry = at-part .before .before .before in
     let a = entry .args in
     λ «record» values frames. at-write-text .write-text .ensures out (a .input .now) «record» values frames
-    (rw (at-part .part .ensures) (part-writes (a .g) (memory (a .input .now) (a .output .now) «record» frames values) (entry .pre .1 .0)))
+    (rw (at-part .part .ensures) (part-writes (a .g) (memory (a .input .now) (a .output .now) «record» frames values) (entry .pre .0 .inside)))
 
 pub write-part-spec : {M : Type 1} → statement M
 write-part-spec = tie.close (tie.spec (λ c κs. search needs) (λ c κs. search needs) (λ c. search needs) returns)

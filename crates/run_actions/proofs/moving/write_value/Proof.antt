@@ -14,7 +14,7 @@ value-there c =
     let at-count = c .before .before in
     let entry = at-count .before .before .before .before in
     let p = entry .pre in
-    omega (arith, p .1 .1 .1 .1 (entry .args .g .frame) (p .1 .1 .0), p .1 .1 .1 .0 .stored, at-count .stored-values .ensures, c .before .if1 .left)
+    omega (arith, p .1 .1 .1 (entry .args .g .frame) (p .1 .0 .frameRoom), p .1 .1 .0 .stored, at-count .stored-values .ensures, c .before .if1 .left)
 
 returns-2 : tie.Need-returns-2
 returns-2 c =
@@ -24,7 +24,7 @@ returns-2 c =
     let entry = at-count .before .before .before .before in
     let a = entry .args in
     let p = entry .pre in
-    λ input «record». value-written _ _ (a .index) _ _ (rw (at-count .stored-values .ensures) at (at-if1 .if1 .left)) (p .1 .1 .1 .0 .stored) (p .1 .1 .1 .1 _ (p .1 .1 .0))
+    λ input «record». value-written _ _ (a .index) _ _ (rw (at-count .stored-values .ensures) at (at-if1 .if1 .left)) (p .1 .1 .0 .stored) (p .1 .1 .1 _ (p .1 .0 .frameRoom))
     (at-write-byte .write-byte .ensures input «record» (a .values .now) (a .frames .now))
 
 pub write-value-spec : {M : Type 1} → statement M
