@@ -4,6 +4,8 @@ use mathlib.Core.Bool.{Bool}
 use mathlib.Core.List.{[], _∷_}
 use Rattle.meaning.specs.Angles.{operation}
 use Rattle.meaning.specs.Packing.{Words, codeWord, operationNumber}
+use Rattle.meaning.specs.Packing.{actionsEnd, computeNumber, goNumber, outNumber, selectNumber, tailCallNumber}
+use Rattle.meaning.specs.Packing.{useSeqNumber}
 use Rattle.code_patterns.specs.declared.pattern.Lengths.{Lengths}
 use Rattle.code_actions.specs.declared.spans.Stand.{Stand}
 use Rattle.code_actions.specs.declared.spans.Span.{Span}
@@ -15,21 +17,23 @@ spanWords number s = codeWord number (s .register) (s .add) (s .back)
 -- an e-variable's three words: Go to it, Select it, Out of it
 abbrev pub partWords : Lengths → Bool → Stand → Words
 partWords l first w =
-    spanWords 5 (gapBy (l .parts) l first w) ∷ spanWords 6 (pieceSpan (l .parts) l first) ∷ codeWord 7 0 0 0 ∷ []
+    spanWords goNumber (gapBy (l .parts) l first w) ∷ spanWords selectNumber (pieceSpan (l .parts) l first) ∷
+    codeWord outNumber 0 0 0 ∷ []
 
 abbrev pub restWord : Lengths → Stand → ℕ
-restWord l w = spanWords 5 (restBy (l .parts) l w)
+restWord l w = spanWords goNumber (restBy (l .parts) l w)
 
 -- UseSeq, and Select of nothing more
 abbrev pub readyWords : Words → Words
-readyWords more = codeWord 11 0 0 0 ∷ codeWord 6 0 0 0 ∷ more
+readyWords more = codeWord useSeqNumber 0 0 0 ∷ codeWord selectNumber 0 0 0 ∷ more
 
 -- a tail call whose last e-variable stays on in: Go to it, UseSeq below it, Select it, the call, and no actions more
 abbrev pub leftWords : Lengths → Bool → Stand → ℕ → Words
 leftWords l first w number =
-    spanWords 5 (gapBy (l .parts) l first w) ∷ codeWord 11 0 0 0 ∷ spanWords 6 (pieceSpan (l .parts) l first) ∷
-    (13 + 256 * number) ∷ 15 ∷ []
+    spanWords goNumber (gapBy (l .parts) l first w) ∷ codeWord useSeqNumber 0 0 0 ∷
+    spanWords selectNumber (pieceSpan (l .parts) l first) ∷
+    (tailCallNumber + 256 * number) ∷ actionsEnd ∷ []
 
 -- an angle call, by whether it subtracts
 abbrev pub computationWord : Bool → ℕ
-computationWord subtract = codeWord 21 (operationNumber (operation subtract)) 0 0
+computationWord subtract = codeWord computeNumber (operationNumber (operation subtract)) 0 0

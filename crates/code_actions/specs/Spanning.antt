@@ -3,6 +3,7 @@
 use Prim.Native.Nat.{ℕ, _+_, _≤_}
 use mathlib.Core.Bool.{Bool, true, false}
 use lib.Dec.{eqb}
+use Rattle.meaning.specs.Allowed.{maxLetters}
 use Rattle.meaning.specs.Instructions.{Span as MeantSpan}
 use Rattle.meaning.specs.Packing.{lengthNumber}
 use Rattle.meaning.specs.Translation.{Stand as MeantStand, atStart, afterFirst, afterSecond}
@@ -71,5 +72,5 @@ endsBy Two l false = eqb (l .third) 0
 -- a span's numbers fit a word's operands
 pub record SmallSpan (s : Span) : Type 0 where
   pub register : s .register ≤ 3
-  pub add : s .add ≤ 64
-  pub back : s .back ≤ 64
+  pub add : s .add ≤ maxLetters
+  pub back : s .back ≤ maxLetters

@@ -7,6 +7,7 @@ use code_patterns::pattern::Lengths;
 use tape_words::tape::Parts;
 ghost use mathlib.Core.Path.{_≡_};
 ghost use Prim.Native.Nat.{_+_, _≤_};
+ghost use Rattle.meaning.specs.Allowed.{maxLetters};
 ghost use Rattle.code_actions.specs.Spanning.{codeSpan, gapBy, pieceSpan, standAfter, restBy, endsBy};
 
 // Where p stands: at the field's start, or just after its first or second e-variable.
@@ -56,7 +57,7 @@ pub fn gap_of(lengths: Lengths, first: bool, stand: Stand) -> Span
 
 // The e-variable itself.
 pub fn piece_span(lengths: Lengths, first: bool) -> Span
-    requires { ⌜ lengths .first + lengths .second + lengths .third ≤ 64 ⌝ }
+    requires { ⌜ lengths .first + lengths .second + lengths .third ≤ maxLetters ⌝ }
     ensures { λ r. ⌜ r ≡ pieceSpan (lengths .parts) lengths first ⌝ }
 {
     let parts = lengths.parts;

@@ -25,7 +25,8 @@ ghost use mathlib.Core.Path.{_≡_};
 ghost use mathlib.Core.List.{[], _∷_};
 ghost use Prim.Native.Nat.{_+_, _*_, _≤_, _<_, _^_};
 ghost use lib.ListN.{length, take, drop};
-ghost use Rattle.meaning.specs.Packing.{codeWord};
+ghost use Rattle.meaning.specs.Allowed.{maxFunctions, maxLetters};
+ghost use Rattle.meaning.specs.Packing.{codeWord, actionsEnd, callNumber, emissionNumber, tailCallNumber};
 ghost use Rattle.code_words.specs.Writing.{Wrote};
 ghost use Rattle.code_patterns.specs.Testing.{total};
 ghost use Rattle.code_actions.specs.Spanning.{SmallSpan};
@@ -45,7 +46,7 @@ pub fn put_span(code: &mut [u32], at: usize, number: usize, span: Span) -> usize
 
 // Go to an e-variable, Select it, Out of it.
 pub fn put_part(lengths: Lengths, first: bool, stand: Stand, code: &mut [u32], at: usize) -> usize
-    requires { ⌜ (total lengths ≤ 64) × (at < 2 ^ 61) ⌝ }
+    requires { ⌜ (total lengths ≤ maxLetters) × (at < 2 ^ 61) ⌝ }
     ensures { λ r. ⌜ Wrote (now (code .entry)) at (partWords lengths first stand) (now (code .exit)) r ⌝ }
 {
     let gone = put_span(code, at, GO, gap_of(lengths, first, stand));
@@ -64,7 +65,7 @@ fn argument_ready(code: &mut [u32], at: usize) -> usize
 
 pub fn write_emission(tape: &[u32], from: usize, size: usize, code: &mut [u32], at: usize) -> usize
     requires { ⌜ (from + size ≤ length (now tape)) × (size < 256) × (at < 2 ^ 61) ⌝ }
-    ensures { λ r. ⌜ Wrote (now (code .entry)) at (readyWords (codeWord 14 size 0 0 ∷ take size (drop from (now (tape .entry))))) (now (code .exit)) r ⌝ }
+    ensures { λ r. ⌜ Wrote (now (code .entry)) at (readyWords (codeWord emissionNumber size 0 0 ∷ take size (drop from (now (tape .entry))))) (now (code .exit)) r ⌝ }
 {
     let ready = argument_ready(code, at);
     let named = put_operands(code, ready, EMISSION, size, 0, 0);
@@ -93,8 +94,8 @@ pub fn write_tail_call(
     code: &mut [u32],
     at: usize,
 ) -> usize
-    requires { ⌜ (total lengths ≤ 64) × (number ≤ 64) × (at < 2 ^ 61) ⌝ }
-    ensures { λ r. ⌜ Wrote (now (code .entry)) at (restWord lengths stand ∷ readyWords ((13 + 256 * number) ∷ 15 ∷ [])) (now (code .exit)) r ⌝ }
+    requires { ⌜ (total lengths ≤ maxLetters) × (number ≤ maxFunctions) × (at < 2 ^ 61) ⌝ }
+    ensures { λ r. ⌜ Wrote (now (code .entry)) at (restWord lengths stand ∷ readyWords ((tailCallNumber + 256 * number) ∷ actionsEnd ∷ [])) (now (code .exit)) r ⌝ }
 {
     let gone = put_span(code, at, GO, rest_of(lengths, stand));
     let ready = argument_ready(code, gone);
@@ -103,8 +104,8 @@ pub fn write_tail_call(
 }
 
 pub fn write_call(number: usize, code: &mut [u32], at: usize) -> usize
-    requires { ⌜ (number ≤ 64) × (at < 2 ^ 61) ⌝ }
-    ensures { λ r. ⌜ Wrote (now (code .entry)) at (readyWords ((12 + 256 * number) ∷ [])) (now (code .exit)) r ⌝ }
+    requires { ⌜ (number ≤ maxFunctions) × (at < 2 ^ 61) ⌝ }
+    ensures { λ r. ⌜ Wrote (now (code .entry)) at (readyWords ((callNumber + 256 * number) ∷ [])) (now (code .exit)) r ⌝ }
 {
     let ready = argument_ready(code, at);
     put(code, ready, CALL + FIRST * number)
@@ -119,7 +120,7 @@ pub fn write_left(
     code: &mut [u32],
     at: usize,
 ) -> usize
-    requires { ⌜ (total lengths ≤ 64) × (number ≤ 64) × (at < 2 ^ 61) ⌝ }
+    requires { ⌜ (total lengths ≤ maxLetters) × (number ≤ maxFunctions) × (at < 2 ^ 61) ⌝ }
     ensures { λ r. ⌜ Wrote (now (code .entry)) at (leftWords lengths first stand number) (now (code .exit)) r ⌝ }
 {
     let gone = put_span(code, at, GO, gap_of(lengths, first, stand));

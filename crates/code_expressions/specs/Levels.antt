@@ -4,13 +4,14 @@ use mathlib.Core.List.{List, [], _∷_}
 use lib.ListN.{take}
 use Rattle.meaning.specs.Choice.{Name}
 use Rattle.meaning.specs.Tree.{Expression, end, thenCharacter, thenSymbol, thenPart, thenCall}
+use Rattle.tape_layout.specs.Tape.{kindWidth, callKind}
 use Rattle.tape_words.specs.declared.tape.Item.{Item}
 use Rattle.tape_words.specs.declared.tape.Item.the-variants.{Byte, Symbol, Part, Call, Pass, Close, Unclosed, Stop}
 use Rattle.tape_words.specs.Words.{carried, itemOfWord}
 
--- a call's word counts its kind on from 9 by the place of its name
+-- a call's word counts its kind on from `callKind` by the place of its name
 abbrev pub placeIn : ℕ → ℕ
-placeIn w = w / 256 - 9
+placeIn w = w / kindWidth - callKind
 
 -- the rest of the innermost open call's argument (or of the expression), what comes after each open call, the innermost first, and the words after it all
 pub record Levels : Type 0 where

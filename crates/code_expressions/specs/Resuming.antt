@@ -8,10 +8,10 @@ use lib.ListN.{length, drop, getD}
 use Rattle.meaning.specs.Choice.{Name, pick, both, Named, sameBytes}
 use Rattle.meaning.specs.Tree.{Expression, Table}
 use Rattle.meaning.specs.Names.{callingOf, numberOf}
-use Rattle.meaning.specs.Allowed.{namesOf}
+use Rattle.meaning.specs.Allowed.{namesOf, maxItems, maxNesting}
 use Rattle.meaning.specs.Instructions.{Site, Action}
 use Rattle.meaning.specs.Translation.{Shape, Stand as MeantStand, Level, outermost, mannerOf, levelIn, calling, itemActions, passesRest, actionsOf}
-use Rattle.meaning.specs.Packing.{Words, codeWord, packActions}
+use Rattle.meaning.specs.Packing.{Words, codeWord, packActions, actionsEnd, callNumber, emissionNumber, tailCallNumber}
 use Rattle.tape_words.specs.declared.names.Calling.{Calling}
 use Rattle.tape_words.specs.declared.names.Calling.the-variants.{Emission, Angles, Function}
 use Rattle.tape_words.specs.declared.tape.Item.{Item}
@@ -78,10 +78,10 @@ callDone w next at more =
 
 -- what follows a call's argument
 abbrev pub callWords : Manner → Lengths → Stand → ℕ → Name → Words
-callWords Emits l w number n = readyWords (codeWord 14 (length n) 0 0 ∷ n)
+callWords Emits l w number n = readyWords (codeWord emissionNumber (length n) 0 0 ∷ n)
 callWords (Computes subtract) l w number n = readyWords (computationWord subtract ∷ [])
-callWords Replaces l w number n = restWord l w ∷ readyWords ((13 + 256 * number) ∷ 15 ∷ [])
-callWords Nests l w number n = readyWords ((12 + 256 * number) ∷ [])
+callWords Replaces l w number n = restWord l w ∷ readyWords ((tailCallNumber + 256 * number) ∷ actionsEnd ∷ [])
+callWords Nests l w number n = readyWords ((callNumber + 256 * number) ∷ [])
 
 abbrev pub isStop : Item → Bool
 isStop Byte = false
@@ -160,10 +160,10 @@ pub record Means (ws heads names : List ℕ) (m : Pattern) (t : Table) (s : Shap
   pub variable : headName ws (m .variable) ≡ firstPartOr (headName ws (m .variable)) s
 
 pub record InItems (ws calls : List ℕ) (w : Walk) : Type 0 where
-  pub room : length calls ≡ 16
+  pub room : length calls ≡ maxNesting
   pub opened : (k : ℕ) → k < w .depth → getD calls k 0 < length ws
-  pub depth : w .depth ≤ 16
-  pub items : w .items ≤ 128
+  pub depth : w .depth ≤ maxNesting
+  pub items : w .items ≤ maxItems
   pub next : w .next ≤ length ws + 1
 
 -- a call is open, and where the innermost one begins is known

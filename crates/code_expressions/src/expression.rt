@@ -34,8 +34,9 @@ ghost use mathlib.Core.Bool.{true, false};
 ghost use mathlib.Core.List.{[], _∷_};
 ghost use Prim.Native.Nat.{_+_, _-_, _≤_, _<_, _^_};
 ghost use lib.ListN.{length, drop, getD, set};
+ghost use Rattle.meaning.specs.Allowed.{maxFunctions, maxItems, maxLetters};
 ghost use Rattle.meaning.specs.Choice.{pick};
-ghost use Rattle.meaning.specs.Packing.{codeWord};
+ghost use Rattle.meaning.specs.Packing.{codeWord, actionsEnd, beginSeqNumber, outCNumber, outVNumber};
 ghost use Rattle.tape_words.specs.Words.{headName, headNames};
 ghost use Rattle.code_words.specs.Writing.{Wrote};
 ghost use Rattle.tape_words.specs.Finding.{numberAmong};
@@ -79,8 +80,8 @@ fn past_item(walk: Walk, size: usize, at: usize, depth: usize, stand: Stand) -> 
 }
 
 fn write_character(tape: &[u32], code: &mut [u32], walk: Walk) -> Walk
-    requires { ⌜ (getD (now tape) (walk .next) 0 < 256) × (walk .next < length (now tape)) × (walk .items < 128) × (walk .at < 2 ^ 61) ⌝ }
-    ensures { λ r. ⌜ Wrote (now (code .entry)) (walk .at) (codeWord 8 (getD (now (tape .entry)) (walk .next) 0) 0 0 ∷ []) (now (code .exit)) (r .at) ⌝ }
+    requires { ⌜ (getD (now tape) (walk .next) 0 < 256) × (walk .next < length (now tape)) × (walk .items < maxItems) × (walk .at < 2 ^ 61) ⌝ }
+    ensures { λ r. ⌜ Wrote (now (code .entry)) (walk .at) (codeWord outCNumber (getD (now (tape .entry)) (walk .next) 0) 0 0 ∷ []) (now (code .exit)) (r .at) ⌝ }
     ensures { λ r. ⌜ r ≡ itemDone walk 0 (r .at) (walk .depth) (walk .stand) ⌝ }
 {
     let at = put_operands(code, walk.at, OUT_C, word_at(tape, walk.next), 0, 0);
@@ -89,9 +90,9 @@ fn write_character(tape: &[u32], code: &mut [u32], walk: Walk) -> Walk
 }
 
 fn write_value(tape: &[u32], names: &[usize], code: &mut [u32], walk: Walk) -> Walk
-    requires { ⌜ (walk .next < length (now tape)) × (walk .items < 128) × (walk .at < 2 ^ 61) × (length (now names) ≤ 64) ⌝ }
+    requires { ⌜ (walk .next < length (now tape)) × (walk .items < maxItems) × (walk .at < 2 ^ 61) × (length (now names) ≤ maxLetters) ⌝ }
     ensures { λ r. ⌜ Wrote (now (code .entry)) (walk .at)
-        (codeWord 9 (numberAmong 0 (headNames (now (tape .entry)) (now (names .entry))) (headName (now (tape .entry)) (walk .next)) - 1) 0 0 ∷ []) (now (code .exit)) (r .at) ⌝ }
+        (codeWord outVNumber (numberAmong 0 (headNames (now (tape .entry)) (now (names .entry))) (headName (now (tape .entry)) (walk .next)) - 1) 0 0 ∷ []) (now (code .exit)) (r .at) ⌝ }
     ensures { λ r. ⌜ r ≡ itemDone walk (length (headName (now (tape .entry)) (walk .next))) (r .at) (walk .depth) (walk .stand) ⌝ }
 {
     let size = size_of(tape, walk.next);
@@ -112,7 +113,7 @@ fn is_first(tape: &[u32], m: Pattern, walk: Walk) -> bool
 
 // The e-variable goes to out.
 fn write_part(tape: &[u32], m: Pattern, code: &mut [u32], walk: Walk) -> Walk
-    requires { ⌜ (total (m .lengths) ≤ 64) × (walk .next < length (now tape)) × (walk .items < 128) × (walk .at < 2 ^ 61) ⌝ }
+    requires { ⌜ (total (m .lengths) ≤ maxLetters) × (walk .next < length (now tape)) × (walk .items < maxItems) × (walk .at < 2 ^ 61) ⌝ }
     ensures { λ r. ⌜ Wrote (now (code .entry)) (walk .at)
         (partWords (m .lengths) (isFirst (now (tape .entry)) m walk) (walk .stand)) (now (code .exit)) (r .at) ⌝ }
     ensures { λ r. ⌜ r ≡ itemDone walk (length (headName (now (tape .entry)) (walk .next))) (r .at) (walk .depth)
@@ -128,8 +129,8 @@ fn write_part(tape: &[u32], m: Pattern, code: &mut [u32], walk: Walk) -> Walk
 }
 
 fn open_call(tape: &[u32], calls: &mut [usize], code: &mut [u32], walk: Walk) -> Walk
-    requires { ⌜ (walk .depth < length (now calls)) × (walk .next < length (now tape)) × (walk .items < 128) × (walk .at < 2 ^ 61) ⌝ }
-    ensures { λ r. ⌜ Wrote (now (code .entry)) (walk .at) (codeWord 10 0 0 0 ∷ []) (now (code .exit)) (r .at) ⌝ }
+    requires { ⌜ (walk .depth < length (now calls)) × (walk .next < length (now tape)) × (walk .items < maxItems) × (walk .at < 2 ^ 61) ⌝ }
+    ensures { λ r. ⌜ Wrote (now (code .entry)) (walk .at) (codeWord beginSeqNumber 0 0 0 ∷ []) (now (code .exit)) (r .at) ⌝ }
     ensures { λ r. ⌜ r ≡ itemDone walk (length (headName (now (tape .entry)) (walk .next))) (r .at) (walk .depth + 1) (walk .stand) ⌝ }
     ensures { λ r. ⌜ now (calls .exit) ≡ set (now (calls .entry)) (walk .depth) (walk .next) ⌝ }
 {
@@ -230,8 +231,8 @@ fn past_call(walk: Walk, next: usize, at: usize, more: bool) -> Walk
 
 // Go passes the rest of the field, and the actions end.
 fn end_actions(lengths: Lengths, code: &mut [u32], walk: Walk) -> Walk
-    requires { ⌜ (total lengths ≤ 64) × (walk .at < 2 ^ 61) ⌝ }
-    ensures { λ r. ⌜ Wrote (now (code .entry)) (walk .at) (restWord lengths (walk .stand) ∷ 15 ∷ []) (now (code .exit)) (r .at) ⌝ }
+    requires { ⌜ (total lengths ≤ maxLetters) × (walk .at < 2 ^ 61) ⌝ }
+    ensures { λ r. ⌜ Wrote (now (code .entry)) (walk .at) (restWord lengths (walk .stand) ∷ actionsEnd ∷ []) (now (code .exit)) (r .at) ⌝ }
     ensures { λ r. ⌜ r ≡ callDone walk (walk .next) (r .at) false ⌝ }
 {
     let stand = walk.stand;
@@ -262,7 +263,7 @@ fn write_ending(
     code: &mut [u32],
     at: usize,
 ) -> usize
-    requires { ⌜ (head < length (now tape)) × (length (now heads) ≤ 64) × (total lengths ≤ 64) × (at < 2 ^ 61) ⌝ }
+    requires { ⌜ (head < length (now tape)) × (length (now heads) ≤ maxFunctions) × (total lengths ≤ maxLetters) × (at < 2 ^ 61) ⌝ }
     ensures { λ r. ⌜ Wrote (now (code .entry)) at (callWords manner lengths stand
         (numberAmong 0 (headNames (now (tape .entry)) (now (heads .entry))) (headName (now (tape .entry)) head)) (headName (now (tape .entry)) head)) (now (code .exit)) r ⌝ }
 {
@@ -287,7 +288,7 @@ fn close_call(
     walk: Walk,
 ) -> Walk
     requires { ⌜ Innermost (now tape) (now calls) walk ⌝ }
-    requires { ⌜ (length (now heads) ≤ 64) × (total lengths ≤ 64) × (walk .at < 2 ^ 61) ⌝ }
+    requires { ⌜ (length (now heads) ≤ maxFunctions) × (total lengths ≤ maxLetters) × (walk .at < 2 ^ 61) ⌝ }
     ensures { λ r. ⌜ Wrote (now (code .entry)) (walk .at) (endingWords (now (tape .entry)) (now (heads .entry)) lengths (now (calls .entry)) next walk)
         (now (code .exit)) (r .at) ⌝ }
     ensures { λ r. ⌜ r ≡ callDone walk next (r .at) (continues (mannerNow (now (tape .entry)) (now (calls .entry)) next walk)) ⌝ }
@@ -329,7 +330,7 @@ fn past_ending(tape: &[u32], calls: &[usize], walk: Walk) -> Walk
 
 // Past the e-variable where the walk stands, and past the call whose argument it ends.
 fn past_part(tape: &[u32], calls: &[usize], walk: Walk) -> Walk
-    requires { ⌜ InItems (now tape) (now calls) walk × (walk .next < length (now tape)) × (walk .items < 128) ⌝ }
+    requires { ⌜ InItems (now tape) (now calls) walk × (walk .next < length (now tape)) × (walk .items < maxItems) ⌝ }
     ensures { λ r. ⌜ r ≡ pastEnding (now (tape .entry)) (now (calls .entry)) (pastName (now (tape .entry)) walk) ⌝ }
 {
     let size = size_of(tape, walk.next);
@@ -343,7 +344,7 @@ fn past_part(tape: &[u32], calls: &[usize], walk: Walk) -> Walk
 
 // The e-variable where the walk stands stays on in: it ends a tail call's argument, and the pattern.
 fn part_stays(tape: &[u32], m: Pattern, calls: &[usize], walk: Walk) -> bool
-    requires { ⌜ InItems (now tape) (now calls) walk × (walk .next < length (now tape)) × (walk .items < 128) ⌝ }
+    requires { ⌜ InItems (now tape) (now calls) walk × (walk .next < length (now tape)) × (walk .items < maxItems) ⌝ }
     ensures { λ r. ⌜ r ≡ stays (now (tape .entry)) (now (calls .entry)) m walk ⌝ }
 {
     if past_part(tape, calls, walk).more {
@@ -377,9 +378,9 @@ fn leave_part(
     code: &mut [u32],
     walk: Walk,
 ) -> Walk
-    requires { ⌜ InItems (now tape) (now calls) walk × (walk .next < length (now tape)) × (walk .items < 128) ×
+    requires { ⌜ InItems (now tape) (now calls) walk × (walk .next < length (now tape)) × (walk .items < maxItems) ×
         Innermost (now tape) (now calls) walk ⌝ }
-    requires { ⌜ (length (now heads) ≤ 64) × (total (m .lengths) ≤ 64) × (walk .at < 2 ^ 61) ⌝ }
+    requires { ⌜ (length (now heads) ≤ maxFunctions) × (total (m .lengths) ≤ maxLetters) × (walk .at < 2 ^ 61) ⌝ }
     ensures { λ r. ⌜ Wrote (now (code .entry)) (walk .at)
         (leftWords (m .lengths) (isFirst (now (tape .entry)) m walk) (walk .stand)
         (numberAmong 0 (headNames (now (tape .entry)) (now (heads .entry)))
@@ -406,7 +407,7 @@ fn write_item(
     code: &mut [u32],
     walk: Walk,
 ) -> Walk
-    requires { ⌜ (length (now heads) ≤ 64) × (length (now names) ≤ 64) × (total (m .lengths) ≤ 64) × InItems (now tape) (now calls) walk × (walk .at < 2 ^ 61) ⌝ }
+    requires { ⌜ (length (now heads) ≤ maxFunctions) × (length (now names) ≤ maxLetters) × (total (m .lengths) ≤ maxLetters) × InItems (now tape) (now calls) walk × (walk .at < 2 ^ 61) ⌝ }
     ensures { λ r. ⌜ ItemsOn (now (tape .entry)) (now (heads .entry)) (now (names .entry)) m (now (calls .entry)) (now (code .entry)) walk
         (now (calls .exit)) (now (code .exit)) r ⌝ }
 {
@@ -438,7 +439,7 @@ pub fn write_expression(
     code: &mut [u32],
     at: usize,
 ) -> Walk
-    requires { ⌜ (length (now heads) ≤ 64) × (length (now names) ≤ 64) × (total (m .lengths) ≤ 64) × (start ≤ length (now tape) + 1) × (at < 2 ^ 60) ⌝ }
+    requires { ⌜ (length (now heads) ≤ maxFunctions) × (length (now names) ≤ maxLetters) × (total (m .lengths) ≤ maxLetters) × (start ≤ length (now tape) + 1) × (at < 2 ^ 60) ⌝ }
     ensures { λ r. ⌜ ItemsAll (now (tape .entry)) (now (heads .entry)) (now (names .entry)) m start (now (code .entry)) at (now (code .exit)) r ⌝ }
 {
     let mut calls = [0usize; MAX_NESTING];

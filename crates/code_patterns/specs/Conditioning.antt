@@ -4,6 +4,7 @@ use mathlib.Core.Path.{_≡_}
 use mathlib.Core.Bool.{Bool, true, false}
 use mathlib.Core.List.{List, [], _∷_, map}
 use lib.ListN.{length, drop}
+use Rattle.meaning.specs.Allowed.{maxConditions, maxLetters}
 use Rattle.meaning.specs.Choice.{Name, Named, lookup, sameBytes}
 use Rattle.meaning.specs.Classes.{Class}
 use Rattle.meaning.specs.Tree.{Subject, ofSymbol, ofPart, Condition}
@@ -39,7 +40,7 @@ pub record Kept (m : Pattern) (names sites : List ℕ) (symbols : ℕ) : Type 0 
   pub nameRoom : symbols ≤ length names
   pub siteRoom : symbols ≤ length sites
   pub good : AllSites sites
-  pub short : total (m .lengths) ≤ 64
+  pub short : total (m .lengths) ≤ maxLetters
 
 abbrev pub cellOf : ℕ → ℕ → Site
 cellOf register offset = record { register = register; offset = offset }
@@ -81,7 +82,7 @@ abbrev pub conditionsDone : Conditions → Conditions
 conditionsDone c = record { count = c .count; next = c .next; at = c .at; more = false }
 
 pub record InConditions (ws : List ℕ) (c : Conditions) : Type 0 where
-  pub count : c .count ≤ 8
+  pub count : c .count ≤ maxConditions
   pub next : c .next ≤ length ws
   pub at : c .at < 2 ^ 60 + c .count
 
@@ -100,4 +101,4 @@ pub record ConditionsAll (ws : List ℕ) (known : Located) (start : ℕ) (code :
   pub wrote : Wrote code at (conditionWords known (conditionsOnTape 0 0 (drop start ws))) code′ (r .at)
   pub rest : drop (r .next) ws ≡ conditionsOnTape 0 0 (drop start ws) .rest
   pub next : r .next ≤ length ws
-  pub grown : r .at ≤ at + 8
+  pub grown : r .at ≤ at + maxConditions

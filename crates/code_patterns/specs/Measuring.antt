@@ -4,6 +4,7 @@ use mathlib.Core.Path.{_≡_}
 use mathlib.Core.Bool.{Bool, true, false}
 use mathlib.Core.List.{List}
 use lib.ListN.{length, drop}
+use Rattle.meaning.specs.Allowed.{maxLetters}
 use Rattle.meaning.specs.Choice.{Name}
 use Rattle.meaning.specs.Translation.{Shape, fixed, open₁, open₂, shapeOf}
 use Rattle.tape_words.specs.declared.tape.Parts.{Parts}
@@ -115,7 +116,7 @@ measuring false ws m = record { lengths = m .lengths; variable = headName ws (m 
 -- at most 64 letters, and no further than the end of the tape
 pub record InPattern (ws : List ℕ) (m : Pattern) : Type 0 where
   pub letters : m .lengths .first + m .lengths .second + m .lengths .third ≡ m .letters
-  pub most : m .letters ≤ 64
+  pub most : m .letters ≤ maxLetters
   pub next : m .next ≤ length ws
 
 abbrev pub flag : Bool → ℕ

@@ -6,6 +6,7 @@ use lib.Dec.{eqb}
 use lib.ListN.{take}
 use Rattle.meaning.specs.Choice.{Name}
 use Rattle.meaning.specs.Tree.{character, symbol, Element, letter, part, Subject, ofSymbol, ofPart, Condition}
+use Rattle.tape_layout.specs.Tape.{classCount, conditionTruth, conditionPart, conditionSize}
 use Rattle.tape_words.specs.declared.tape.Parts.{Parts}
 use Rattle.tape_words.specs.declared.tape.Parts.the-variants.{Zero, One, Two}
 use Rattle.tape_words.specs.declared.tape.Piece.{Piece}
@@ -56,16 +57,16 @@ subjectOf false x = ofSymbol x
 abbrev pub conditionOf : ℕ → Name → Condition
 conditionOf n x =
     record {
-      predicate = classIn (n % 5);
-      subject = subjectOf (eqb (n / 10 % 2) 1) x;
-      expected = eqb (n / 5 % 2) 1;
+      predicate = classIn (n % classCount);
+      subject = subjectOf (eqb (n / conditionPart % 2) 1) x;
+      expected = eqb (n / conditionTruth % 2) 1;
     }
 
 abbrev pub conditionIn : ℕ → List ℕ → Condition
-conditionIn w ws = conditionOf (carried w) (take (carried w / 20) ws)
+conditionIn w ws = conditionOf (carried w) (take (carried w / conditionSize) ws)
 
 abbrev pub conditionBy : Bool → ℕ → ℕ → List ℕ → (ℕ → ℕ → Scan (List Condition)) → Scan (List Condition)
-conditionBy true count w ws next = prepended (conditionIn w ws) (next (count + 1) (carried w / 20))
+conditionBy true count w ws next = prepended (conditionIn w ws) (next (count + 1) (carried w / conditionSize))
 conditionBy false count w ws next = scanned [] (w ∷ ws)
 
 unfoldable pub conditionsOnTape : ℕ → ℕ → List ℕ → Scan (List Condition)

@@ -5,6 +5,7 @@ use mathlib.Core.Bool.{Bool, true, false}
 use mathlib.Core.List.{List, [], _∷_, map}
 use lib.Dec.{eqb}
 use lib.ListN.{length, take, drop, getD}
+use Rattle.meaning.specs.Allowed.{maxLetters}
 use Rattle.meaning.specs.Choice.{pick, Named}
 use Rattle.meaning.specs.Tree.{Element, letter, part}
 use Rattle.meaning.specs.Instructions.{Site as MeantSite, fromStart, fromEnd, fromPlace, store}
@@ -49,10 +50,14 @@ siteNumber s = siteRegister s + 256 * siteOffset s
 abbrev pub siteIn : ℕ → MeantSite
 siteIn n = pick (eqb (n % 256) 0) (fromStart (n / 256)) (pick (eqb (n % 256) 1) (fromEnd (n / 256)) (fromPlace (n / 256)))
 
+-- more than the number of every cell of a pattern
+abbrev pub siteBound : ℕ
+siteBound = 16896
+
 -- a number that is a cell's, with an offset of 64 at most
 pub record IsSite (n : ℕ) : Type 0 where
   pub same : siteNumber (siteIn n) ≡ n
-  pub small : n < 16896
+  pub small : n < siteBound
 
 abbrev pub AllSites : List ℕ → Type 0
 AllSites sites = (k : ℕ) → IsSite (getD sites k 0)
@@ -96,10 +101,10 @@ abbrev pub testWords : Scan Tested → Words
 testWords s = map testWord (s .value .tests)
 
 pub record InTests (ws names sites : List ℕ) (t : Tests) : Type 0 where
-  pub nameRoom : length names ≡ 64
-  pub siteRoom : length sites ≡ 64
+  pub nameRoom : length names ≡ maxLetters
+  pub siteRoom : length sites ≡ maxLetters
   pub good : AllSites sites
-  pub letters : t .letters ≤ 64
+  pub letters : t .letters ≤ maxLetters
   pub offset : t .offset ≤ t .letters
   pub symbols : t .symbols ≤ t .letters
   pub next : t .next ≤ length ws
@@ -158,7 +163,7 @@ pub record TestsAll (ws : List ℕ) (l : Lengths) (start : ℕ) (code : List ℕ
   pub known : held ws names sites (r .symbols) ≡ walk l Zero 0 (patternAt (drop start ws) .value) (startFrom []) .sites
   pub rest : drop (r .next) ws ≡ patternAt (drop start ws) .rest
   pub within : InTests ws names sites r
-  pub grown : r .at ≤ at + 64
+  pub grown : r .at ≤ at + maxLetters
 
 -- the length of all templates together
 abbrev pub total : Lengths → ℕ

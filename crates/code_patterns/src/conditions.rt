@@ -20,17 +20,19 @@ use tape_words::names::name_is;
 use tape_words::tape::of_kind;
 use tape_words::tape::reach;
 use tape_words::tape::word_at;
-use tape_words::wide::CLASSES;
+use tape_words::wide::CLASS_COUNT;
 use tape_words::wide::CONDITION_PART;
 use tape_words::wide::CONDITION_SIZE;
 use tape_words::wide::CONDITION_TRUTH;
 use tape_words::wide::CONDITION_WORD;
-use tape_words::wide::KIND;
+use tape_words::wide::KIND_WIDTH;
 ghost use mathlib.Core.Path.{_≡_};
 ghost use mathlib.Core.Bool.{true};
 ghost use Prim.Native.Nat.{_+_, _*_, _/_, _%_, _≤_, _<_, _^_};
 ghost use lib.ListN.{length, take, drop};
-ghost use Rattle.meaning.specs.Packing.{codeWord, testWord};
+ghost use Rattle.meaning.specs.Allowed.{maxLetters};
+ghost use Rattle.meaning.specs.Packing.{codeWord, testWord, predicatePartNumber};
+ghost use Rattle.code_patterns.specs.Testing.{siteBound};
 ghost use Rattle.code_patterns.specs.Scans.{conditionOf};
 ghost use Rattle.code_patterns.specs.Conditioning.{located, Kept, conditionTestBy, conditionAt, conditionsDone, InConditions, ConditionsOn, ConditionsAll};
 
@@ -53,23 +55,23 @@ fn is_condition(tape: &[u32], i: usize, count: usize) -> bool
 
 // The test of the class and truth value that a condition's word carries, on the cell that was found.
 fn symbol_word(site: usize, carried: usize) -> usize
-    requires { ⌜ (site < 16896) × (carried < 256) ⌝ }
+    requires { ⌜ (site < siteBound) × (carried < 256) ⌝ }
     ensures { λ r. ⌜ (r ≡ 3 + 256 * site + 1024 * (carried / 5 % 2) + 16777216 * (carried % 5)) × (r < 2 ^ 32) ⌝ }
 {
     let truth = carried / CONDITION_TRUTH % 2;
-    let class = carried % CLASSES;
+    let class = carried % CLASS_COUNT;
     PREDICATE + FIRST * site + TRUTH * truth + THIRD * class
 }
 
 // The same on the part between two cells.
 fn part_word(from: Site, to: Site, carried: usize) -> usize
-    requires { ⌜ (from .register ≤ 2) × (from .offset ≤ 64) × (to .register ≤ 2) × (to .offset ≤ 64) ⌝ }
+    requires { ⌜ (from .register ≤ 2) × (from .offset ≤ maxLetters) × (to .register ≤ 2) × (to .offset ≤ maxLetters) ⌝ }
     requires { ⌜ carried < 256 ⌝ }
-    ensures { λ r. ⌜ (r ≡ codeWord 20 (from .register + 4 * to .register + 16 * (carried / 5 % 2) + 32 * (carried % 5))
+    ensures { λ r. ⌜ (r ≡ codeWord predicatePartNumber (from .register + 4 * to .register + 16 * (carried / 5 % 2) + 32 * (carried % 5))
         (from .offset) (to .offset)) × (r < 2 ^ 32) ⌝ }
 {
     let truth = carried / CONDITION_TRUTH % 2;
-    let class = carried % CLASSES;
+    let class = carried % CLASS_COUNT;
     let operand = from.register + REGISTERS * to.register + PART_TRUTH * truth + PART_CLASS * class;
     PREDICATE_PART + OPERAND * (operand + OPERAND * (from.offset + OPERAND * to.offset))
 }
@@ -116,7 +118,7 @@ fn write_condition(
     ensures { λ r. ⌜ ConditionsOn (now (tape .entry)) (located (now (tape .entry)) m (now (names .entry))
         (now (sites .entry)) symbols) (now (code .entry)) c (now (code .exit)) r ⌝ }
 {
-    let carried = word_at(tape, c.next) % KIND;
+    let carried = word_at(tape, c.next) % KIND_WIDTH;
     let from = c.next + 1;
     let size = reach(tape, from, carried / CONDITION_SIZE);
     let word = condition_word(tape, m, names, sites, symbols, from, size, carried);

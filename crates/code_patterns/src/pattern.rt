@@ -7,6 +7,7 @@ ghost use mathlib.Core.Path.{_≡_};
 ghost use mathlib.Core.Bool.{true, false};
 ghost use Prim.Native.Nat.{_+_, _≤_, _<_, _^_};
 ghost use lib.ListN.{length};
+ghost use Rattle.meaning.specs.Allowed.{maxLetters};
 ghost use Rattle.code_patterns.specs.Scans.{oneMore};
 ghost use Rattle.code_patterns.specs.Measuring.{longerLengths, cutLengths, variablePlace, pastLetter, pastPart, pastAll, InPattern, Measures, MeasuresAll};
 
@@ -29,7 +30,7 @@ pub struct Pattern {
 
 // One letter more in the last template.
 fn longer(lengths: Lengths) -> Lengths
-    requires { ⌜ lengths .first + lengths .second + lengths .third < 64 ⌝ }
+    requires { ⌜ lengths .first + lengths .second + lengths .third < maxLetters ⌝ }
     ensures { λ r. ⌜ r ≡ longerLengths lengths ⌝ }
 {
     let parts = lengths.parts;
@@ -94,8 +95,8 @@ fn first_variable(parts: Parts, variable: usize, next: usize) -> usize
 }
 
 fn measure_letter(m: Pattern, size: usize) -> Pattern
-    requires { ⌜ m .lengths .first + m .lengths .second + m .lengths .third < 64 ⌝ }
-    requires { ⌜ (m .letters < 64) × (m .next + 1 + size < 2 ^ 62) ⌝ }
+    requires { ⌜ m .lengths .first + m .lengths .second + m .lengths .third < maxLetters ⌝ }
+    requires { ⌜ (m .letters < maxLetters) × (m .next + 1 + size < 2 ^ 62) ⌝ }
     ensures { λ r. ⌜ r ≡ pastLetter m size ⌝ }
 {
     let old = m.lengths;

@@ -6,10 +6,11 @@ use mathlib.Core.List.{List, [], _∷_, _++_, map}
 use lib.ListN.{length, take, drop}
 use Rattle.meaning.specs.Choice.{pick}
 use Rattle.meaning.specs.Tree.{Table}
-use Rattle.meaning.specs.Allowed.{namesOf, maxSentences}
+use Rattle.meaning.specs.Allowed.{namesOf, maxSentences, maxLetters}
 use Rattle.meaning.specs.Instructions.{Test, Store, Action}
 use Rattle.meaning.specs.Translation.{Shape, shapeOf, metricOf, Tested, testedShape, testsOf, storesOf, actionsOf, translatedSentences}
 use Rattle.meaning.specs.Packing.{Words, metricWord, countsWord, testWord, storeWord, bodyWords, endWord, packSentences}
+use Rattle.meaning.specs.Packing.{endsNumber, exactlyNumber, middleNumber}
 use Rattle.tape_words.specs.declared.tape.Parts.{Parts}
 use Rattle.tape_words.specs.declared.tape.Parts.the-variants.{Zero, One, Two}
 use Rattle.code_sentences.specs.declared.Body.{Body}
@@ -22,9 +23,9 @@ use Rattle.code_patterns.specs.Measuring.{flag}
 
 -- the number of a metric's word, by how many e-variables there are
 abbrev pub metricNumber : Parts → ℕ
-metricNumber Zero = 16
-metricNumber One = 17
-metricNumber Two = 18
+metricNumber Zero = exactlyNumber
+metricNumber One = endsNumber
+metricNumber Two = middleNumber
 
 -- OF THE SENTENCE THAT BEGINS WITH SOME WORDS
 
@@ -57,7 +58,7 @@ pub record MatchAll (ws : List ℕ) (start : ℕ) (code : List ℕ) (at : ℕ) (
   pub symbols : map (λ x. x .name) (testedAt (drop start ws) .sites) ≡ headNames ws (take (r .symbols) names)
   pub rest : drop (r .next) ws ≡ conditionsAt (drop start ws) .rest
   pub next : r .next ≤ length ws
-  pub few : (r .tests ≤ 72) × (r .symbols ≤ 64)
+  pub few : (r .tests ≤ 72) × (r .symbols ≤ maxLetters)
   pub grown : r .at ≤ at + 136
 
 -- its tests, stores and actions are written
@@ -67,7 +68,7 @@ pub record BodyAll (ws heads : List ℕ) (start : ℕ) (code : List ℕ) (at : �
   pub stores : r .symbols ≡ length (storesAt (drop start ws))
   pub rest : drop (r .next) ws ≡ levelsAt (drop start ws) .rest
   pub next : r .next ≤ length ws + 1
-  pub few : (r .tests ≤ 72) × (r .symbols ≤ 64)
+  pub few : (r .tests ≤ 72) × (r .symbols ≤ maxLetters)
   pub grown : r .at ≤ at + 34800
 
 -- all its words are written
@@ -102,7 +103,7 @@ sentencesLeft true t recoverer ws s =
 sentencesLeft false t recoverer ws s = endWord recoverer ∷ []
 
 pub record InSentences (ws : List ℕ) (s : Sentences) : Type 0 where
-  pub count : s .count + flag (s .more) ≤ 512
+  pub count : s .count + flag (s .more) ≤ maxSentences
   pub next : s .next + flag (s .more) ≤ length ws + 1
 
 -- a step keeps what the sentences come to, and goes on

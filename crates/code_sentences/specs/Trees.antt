@@ -7,6 +7,7 @@ use lib.ListN.{take, drop}
 use Rattle.meaning.specs.Choice.{pick}
 use Rattle.meaning.specs.Tree.{Condition, Sentence, Function, Table}
 use Rattle.meaning.specs.Allowed.{maxFunctions, maxSentences}
+use Rattle.tape_layout.specs.Tape.{nextWord, functionEndWord, functionWord, callWord}
 use Rattle.tape_words.specs.Words.{carried}
 use Rattle.code_patterns.specs.Scans.{Scan, patternAt, conditionsOnTape}
 use Rattle.code_expressions.specs.Levels.{Levels, levelsIn}
@@ -28,7 +29,7 @@ sentenceOnTape ws =
 
 -- the word between two sentences
 abbrev pub isNextWord : ℕ → Bool
-isNextWord w = pick (ltb w 1536) false (ltb w 1792)
+isNextWord w = pick (ltb w nextWord) false (ltb w functionEndWord)
 
 -- what follows a sentence, where the word after it says that another comes
 abbrev pub followedBy : List ℕ → (List ℕ → List Sentence) → List Sentence
@@ -42,7 +43,7 @@ sentencesOnTape (suc left) ws = sentenceOnTape ws ∷ followedBy (levelsAt ws .r
 
 -- a function's word
 abbrev pub isFunctionWord : ℕ → Bool
-isFunctionWord w = pick (ltb w 2048) false (ltb w 2304)
+isFunctionWord w = pick (ltb w functionWord) false (ltb w callWord)
 
 -- the words from each function's word on
 unfoldable pub functionsOnTape : List ℕ → List (List ℕ)

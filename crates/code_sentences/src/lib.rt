@@ -25,6 +25,7 @@ ghost use mathlib.Core.List.{[], _∷_};
 ghost use Prim.Native.Nat.{_+_, _≤_, _<_, _^_};
 ghost use lib.Dec.{leb};
 ghost use lib.ListN.{length, drop};
+ghost use Rattle.meaning.specs.Allowed.{maxFunctions, maxLetters, maxSentences};
 ghost use Rattle.meaning.specs.Packing.{codeWord};
 ghost use Rattle.code_words.specs.Writing.{Wrote};
 ghost use Rattle.code_patterns.specs.Measuring.{MeasuresAll};
@@ -58,7 +59,7 @@ fn metric_number(parts: Parts) -> usize
 }
 
 fn put_metric(lengths: Lengths, code: &mut [u32], at: usize) -> usize
-    requires { ⌜ (total lengths ≤ 64) × (at < 2 ^ 62) ⌝ }
+    requires { ⌜ (total lengths ≤ maxLetters) × (at < 2 ^ 62) ⌝ }
     ensures { λ r. ⌜ Wrote (now (code .entry)) at (codeWord (metricNumber (lengths .parts)) (lengths .first) (lengths .second) (lengths .third) ∷ []) (now (code .exit)) r ⌝ }
 {
     let parts = lengths.parts;
@@ -83,7 +84,7 @@ fn write_matching(
     code: &mut [u32],
     at: usize,
 ) -> Body
-    requires { ⌜ (length (now names) ≡ 64) × (length (now sites) ≡ 64) × AllSites (now sites) ⌝ }
+    requires { ⌜ (length (now names) ≡ maxLetters) × (length (now sites) ≡ maxLetters) × AllSites (now sites) ⌝ }
     requires { ⌜ MeasuresAll (now tape) start m × (start ≤ length (now tape)) × (at < 2 ^ 59) ⌝ }
     ensures { λ r. ⌜ MatchAll (now (tape .entry)) start (now (code .entry)) at (now (names .exit)) (now (code .exit)) r ⌝ }
 {
@@ -109,7 +110,7 @@ fn write_body(
     code: &mut [u32],
     at: usize,
 ) -> Body
-    requires { ⌜ MeasuresAll (now tape) start m × (length (now heads) ≤ 64) × (start ≤ length (now tape)) × (at < 2 ^ 59) ⌝ }
+    requires { ⌜ MeasuresAll (now tape) start m × (length (now heads) ≤ maxFunctions) × (start ≤ length (now tape)) × (at < 2 ^ 59) ⌝ }
     ensures { λ r. ⌜ BodyAll (now (tape .entry)) (now (heads .entry)) start (now (code .entry)) at (now (code .exit)) r ⌝ }
 {
     let mut names = room();
@@ -135,7 +136,7 @@ fn write_body(
 
 // A sentence. The word of its counts comes before its body, and is patched once the body is written.
 fn write_sentence(tape: &[u32], heads: &[usize], start: usize, code: &mut [u32], at: usize) -> Body
-    requires { ⌜ (length (now heads) ≤ 64) × (start ≤ length (now tape)) × (at < 2 ^ 58) ⌝ }
+    requires { ⌜ (length (now heads) ≤ maxFunctions) × (start ≤ length (now tape)) × (at < 2 ^ 58) ⌝ }
     ensures { λ r. ⌜ SentenceAll (now (tape .entry)) (now (heads .entry)) start (now (code .entry)) at (now (code .exit)) r ⌝ }
 {
     let m = measure(tape, start);
@@ -153,7 +154,7 @@ fn write_sentence(tape: &[u32], heads: &[usize], start: usize, code: &mut [u32],
 
 // Another sentence follows, if there were not as many as a table may have.
 fn follows(tape: &[u32], i: usize, count: usize) -> bool
-    ensures { λ r. ⌜ r ≡ followsAt (leb 512 count) (drop i (now (tape .entry))) ⌝ }
+    ensures { λ r. ⌜ r ≡ followsAt (leb maxSentences count) (drop i (now (tape .entry))) ⌝ }
 {
     if MAX_SENTENCES <= count {
         return false;
@@ -162,7 +163,7 @@ fn follows(tape: &[u32], i: usize, count: usize) -> bool
 }
 
 fn next_sentence(tape: &[u32], heads: &[usize], code: &mut [u32], s: Sentences) -> Sentences
-    requires { ⌜ (length (now heads) ≤ 64) × (s .next ≤ length (now tape)) × (s .count < 512) × (s .at < 2 ^ 58) ⌝ }
+    requires { ⌜ (length (now heads) ≤ maxFunctions) × (s .next ≤ length (now tape)) × (s .count < maxSentences) × (s .at < 2 ^ 58) ⌝ }
     ensures { λ r. ⌜ SentencesOn (now (tape .entry)) (now (heads .entry)) (now (code .entry)) s (now (code .exit)) r ⌝ }
 {
     let body = write_sentence(tape, heads, s.next, code, s.at);
@@ -192,7 +193,7 @@ pub fn write_function(
     recoverer: usize,
     code: &mut [u32],
 ) -> usize
-    requires { ⌜ (length (now heads) ≤ 64) × (start ≤ length (now tape)) × (recoverer < 2 ^ 24) ⌝ }
+    requires { ⌜ (length (now heads) ≤ maxFunctions) × (start ≤ length (now tape)) × (recoverer < 2 ^ 24) ⌝ }
     ensures { λ r. ⌜ FunctionAll (now (tape .entry)) (now (heads .entry)) start recoverer (now (code .entry))
         (now (code .exit)) r ⌝ }
 {

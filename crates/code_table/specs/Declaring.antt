@@ -31,13 +31,13 @@ headsLeft ws i heads count = wordsFrom ws (take count heads) ++ take (maxFunctio
 pub record HeadsOn (ws : List ℕ) (i : ℕ) (heads : List ℕ) (count : ℕ) (heads′ : List ℕ) (r : ℕ) : Type 0 where
   pub same : headsLeft ws (i + 1) heads′ r ≡ headsLeft ws i heads count
   pub inside : HeadsInside ws heads′ r
-  pub few : r ≤ 64
+  pub few : r ≤ maxFunctions
 
 -- all heads are found
 pub record HeadsAll (ws heads : List ℕ) (r : ℕ) : Type 0 where
   pub found : wordsFrom ws (take r heads) ≡ take maxFunctions (functionsOnTape ws)
   pub inside : HeadsInside ws heads r
-  pub few : r ≤ 64
+  pub few : r ≤ maxFunctions
 
 -- THE FUNCTIONS
 

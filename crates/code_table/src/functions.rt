@@ -12,6 +12,7 @@ use tape_words::wide::FUNCTION_WORD;
 ghost use mathlib.Core.Path.{_≡_};
 ghost use Prim.Native.Nat.{_+_, _≤_, _<_, _^_};
 ghost use lib.ListN.{length, take};
+ghost use Rattle.meaning.specs.Allowed.{maxFunctions};
 ghost use Rattle.code_sentences.specs.Trees.{isFunctionWord};
 ghost use Rattle.code_words.specs.Writing.{Wrote};
 ghost use Rattle.code_table.specs.Leaves.{codeOf};
@@ -25,7 +26,7 @@ fn is_function(word: usize) -> bool
 
 // The tape's word `i` is noted if it is a function's and there were not as many as a table may have.
 fn note_head(tape: &[u32], i: usize, heads: &mut [usize], count: usize) -> usize
-    requires { ⌜ (i < length (now tape)) × (length (now heads) ≡ 64) × (count ≤ 64) × HeadsInside (now tape) (now heads) count ⌝ }
+    requires { ⌜ (i < length (now tape)) × (length (now heads) ≡ maxFunctions) × (count ≤ maxFunctions) × HeadsInside (now tape) (now heads) count ⌝ }
     ensures { λ r. ⌜ HeadsOn (now (tape .entry)) i (now (heads .entry)) count (now (heads .exit)) r ⌝ }
 {
     if MAX_FUNCTIONS <= count {
@@ -40,7 +41,7 @@ fn note_head(tape: &[u32], i: usize, heads: &mut [usize], count: usize) -> usize
 
 // The places of the functions' words.
 pub fn find_heads(tape: &[u32], heads: &mut [usize]) -> usize
-    requires { ⌜ length (now heads) ≡ 64 ⌝ }
+    requires { ⌜ length (now heads) ≡ maxFunctions ⌝ }
     ensures { λ r. ⌜ HeadsAll (now (tape .entry)) (now (heads .exit)) r ⌝ }
 {
     let mut count = 0;
@@ -55,7 +56,7 @@ pub fn find_heads(tape: &[u32], heads: &mut [usize]) -> usize
 // The function of the k-th head, from the word `at` of the code on. `part` is the code from the function's entry in the table on: the entry is patched there,
 // and what comes from `at` on is lent on. Handed back: the place after the function.
 fn write_entry(tape: &[u32], heads: &[usize], k: usize, part: &mut [u32], at: usize) -> usize
-    requires { ⌜ (k < length (now heads)) × (length (now heads) ≤ 64) × HeadsInside (now tape) (now heads) (length (now heads)) × (k < at) × (at < 2 ^ 31) ⌝ }
+    requires { ⌜ (k < length (now heads)) × (length (now heads) ≤ maxFunctions) × HeadsInside (now tape) (now heads) (length (now heads)) × (k < at) × (at < 2 ^ 31) ⌝ }
     ensures { λ r. ⌜ EntryAll (now (tape .entry)) (now (heads .entry)) k (now (part .entry)) at (now (part .exit)) r ⌝ }
 {
     let head = heads[k];
@@ -71,7 +72,7 @@ fn write_entry(tape: &[u32], heads: &[usize], k: usize, part: &mut [u32], at: us
 
 // The number of functions, the table of their places, whose entries are patched one by one, and the functions.
 fn write_functions(tape: &[u32], heads: &[usize], code: &mut [u32]) -> usize
-    requires { ⌜ (length (now heads) ≤ 64) × HeadsInside (now tape) (now heads) (length (now heads)) ⌝ }
+    requires { ⌜ (length (now heads) ≤ maxFunctions) × HeadsInside (now tape) (now heads) (length (now heads)) ⌝ }
     ensures { λ r. ⌜ FunctionsAll (now (tape .entry)) (now (heads .entry)) (now (code .entry)) (now (code .exit)) r ⌝ }
 {
     let count = heads.len();

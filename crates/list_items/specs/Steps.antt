@@ -4,6 +4,7 @@ use mathlib.Core.List.{[], _∷_, _++_}
 use lib.Dec.{eqb}
 use Rattle.meaning.specs.Choice.{Bytes, pick}
 use Rattle.meaning.specs.Classes.{className, digit, upper, lower, alphabetic, blank}
+use Rattle.tape_layout.specs.Tape.{classCount, conditionTruth, conditionPart, conditionSize}
 use Rattle.list_strings.specs.declared.State.{State}
 use Rattle.list_strings.specs.declared.State.the-variants.{Condition}
 use Rattle.list_strings.specs.Steps.{Step, step, isQuoted, gap}
@@ -37,7 +38,8 @@ conditionOpening s class kind = ending s ++ (44 ∷ 32 ∷ 60 ∷ []) ++ classTe
 
 abbrev pub conditionStep : State → ℕ → Step
 conditionStep s carried =
-    step (conditionOpening s (carried % 5) (carried / 10 % 2)) (Condition (carried / 20) (truthText (carried / 5 % 2)))
+    step (conditionOpening s (carried % classCount) (carried / conditionPart % 2))
+    (Condition (carried / conditionSize) (truthText (carried / conditionTruth % 2)))
 
 -- a byte after the blank between items
 abbrev pub partedStep : State → ℕ → State → Step

@@ -6,7 +6,7 @@ use list_strings::Stepped;
 use list_strings::is_quoted;
 use list_strings::put_gap;
 use tape_words::wide::ALPHABETIC;
-use tape_words::wide::CLASSES;
+use tape_words::wide::CLASS_COUNT;
 use tape_words::wide::CONDITION_PART;
 use tape_words::wide::CONDITION_SIZE;
 use tape_words::wide::CONDITION_TRUTH;
@@ -110,7 +110,7 @@ pub fn list_condition(state: State, carried: usize, out: &mut [u8], at: usize) -
 {
     let ended = put_ending(state, out, at);
     let opened = put_all(out, ended, b", <");
-    let named = put_class(carried % CLASSES, out, opened);
+    let named = put_class(carried % CLASS_COUNT, out, opened);
     let next = put_letter(carried / CONDITION_PART % 2, out, named);
     let truth = truth_byte(carried / CONDITION_TRUTH % 2);
     Stepped {

@@ -6,6 +6,7 @@ use lib.Dec.{ltb, leb, eqb}
 use lib.ListN.{length}
 use Rattle.meaning.specs.Choice.{Bytes, pick}
 use Rattle.tape_layout.specs.Tape.{symbolKind, partKind, conditionKind, equalsKind, closeKind, nextKind, endKind, functionKind}
+use Rattle.tape_layout.specs.Tape.{kindWidth}
 use Rattle.list_strings.specs.declared.State.{State}
 use Rattle.list_strings.specs.declared.State.the-variants.{Start, Plain, InString, AfterCode, Name, Condition, Header}
 use Rattle.list_strings.specs.Steps.{Step, step, characterStep}
@@ -25,7 +26,7 @@ kindStep s kind carried =
     (partedStep s 60 (Name carried)))))))))
 
 abbrev pub itemStep : State → ℕ → Step
-itemStep s w = pick (ltb w 256) (characterStep s w) (kindStep s (w / 256) (w % 256))
+itemStep s w = pick (ltb w kindWidth) (characterStep s w) (kindStep s (w / kindWidth) (w % kindWidth))
 
 -- a byte of a name, and after the last one what follows the name
 abbrev pub copyStep : ℕ → ℕ → State → Bytes → State → Step
@@ -36,9 +37,9 @@ wordStep Start w = itemStep Start w
 wordStep Plain w = itemStep Plain w
 wordStep InString w = itemStep InString w
 wordStep AfterCode w = itemStep AfterCode w
-wordStep (Name n) w = copyStep n (w % 256) (Name (pred n)) [] Plain
-wordStep (Condition n b) w = copyStep n (w % 256) (Condition (pred n) b) (62 ∷ 58 ∷ 32 ∷ 39 ∷ b ∷ 39 ∷ []) Plain
-wordStep (Header n) w = copyStep n (w % 256) (Header (pred n)) (32 ∷ 123 ∷ 10 ∷ []) Start
+wordStep (Name n) w = copyStep n (w % kindWidth) (Name (pred n)) [] Plain
+wordStep (Condition n b) w = copyStep n (w % kindWidth) (Condition (pred n) b) (62 ∷ 58 ∷ 32 ∷ 39 ∷ b ∷ 39 ∷ []) Plain
+wordStep (Header n) w = copyStep n (w % kindWidth) (Header (pred n)) (32 ∷ 123 ∷ 10 ∷ []) Start
 
 -- the listing of the words from a state on
 unfoldable pub listFrom : State → List ℕ → Bytes

@@ -12,7 +12,7 @@ use tape_words::kinds::CONDITION_KIND;
 use tape_words::kinds::END_KIND;
 use tape_words::kinds::EQUALS_KIND;
 use tape_words::kinds::FUNCTION_KIND;
-use tape_words::kinds::KIND;
+use tape_words::kinds::KIND_WIDTH;
 use tape_words::kinds::NEXT_KIND;
 use tape_words::kinds::PART_KIND;
 use tape_words::kinds::SYMBOL_KIND;
@@ -50,12 +50,12 @@ pub fn list_item(state: State, word: u32, out: &mut [u8], at: usize) -> Stepped
     requires { ⌜ at + 20 < farthest ⌝ }
     ensures { λ r. ⌜ Wrote at (now (out .entry)) (itemStep state word) r (now (out .exit)) ⌝ }
 {
-    if word < KIND {
+    if word < KIND_WIDTH {
         let character = word as u8;
         return list_character(state, character, out, at);
     }
-    let carried = (word % KIND) as usize;
-    list_kind(state, word / KIND, carried, out, at)
+    let carried = (word % KIND_WIDTH) as usize;
+    list_kind(state, word / KIND_WIDTH, carried, out, at)
 }
 
 // A byte of a name, and after the last one what follows the name.
@@ -99,7 +99,7 @@ pub fn list_word(state: State, word: u32, out: &mut [u8], at: usize) -> Stepped
     requires { ⌜ at + 20 < farthest ⌝ }
     ensures { λ r. ⌜ Wrote at (now (out .entry)) (wordStep state word) r (now (out .exit)) ⌝ }
 {
-    let byte = (word % KIND) as u8;
+    let byte = (word % KIND_WIDTH) as u8;
     match state {
         State::Name(n) => {
             let left = one_less(n);

@@ -28,12 +28,27 @@ sameTruth false true = false
 sameTruth false false = true
 
 -- a class's number in the code, and its place in the class table
+abbrev pub digitNumber : ℕ
+digitNumber = 0
+
+abbrev pub upperNumber : ℕ
+upperNumber = 1
+
+abbrev pub lowerNumber : ℕ
+lowerNumber = 2
+
+abbrev pub alphabeticNumber : ℕ
+alphabeticNumber = 3
+
+abbrev pub blankNumber : ℕ
+blankNumber = 4
+
 abbrev pub classNumber : Class → ℕ
-classNumber digit = 0
-classNumber upper = 1
-classNumber lower = 2
-classNumber alphabetic = 3
-classNumber blank = 4
+classNumber digit = digitNumber
+classNumber upper = upperNumber
+classNumber lower = lowerNumber
+classNumber alphabetic = alphabeticNumber
+classNumber blank = blankNumber
 
 -- IsDigit, IsUpper, IsLower, IsLetter, IsBlank
 abbrev pub className : Class → Name

@@ -9,6 +9,7 @@ use lib.ListN.{length, take, drop}
 use Rattle.meaning.specs.Choice.{pick, both, every}
 use Rattle.meaning.specs.Angles.{Operation, plus, minus}
 use Rattle.meaning.specs.Classes.{Class, digit, upper, lower, alphabetic, blank, classNumber}
+use Rattle.meaning.specs.Classes.{digitNumber, upperNumber, lowerNumber, alphabeticNumber, blankNumber}
 use Rattle.meaning.specs.Allowed.{isByte}
 use Rattle.meaning.specs.Instructions.{Site, fromStart, fromEnd, fromPlace, Test, look, compare, predicate, predicatePart, unknownTest, Store, store, unknownStore, Length, null, whole, left, right, Span, Action, go, select, out, outC, outV, beginSeq, useSeq, call, tailCall, emission, compute, unknownAction, Metric, exactly, ends, middle, Sentences, noMore, sentence, unknownSentence, Code}
 
@@ -31,12 +32,111 @@ secondIn w = w / 65536 % 256
 abbrev pub thirdIn : ℕ → ℕ
 thirdIn w = w / 16777216 % 256
 
+-- NUMBERS, as docs/CODE.md has them and the crate code_numbers
+
+-- tests, stores, actions, and a sentence's first word
+abbrev pub lookNumber : ℕ
+lookNumber = 1
+
+abbrev pub compareNumber : ℕ
+compareNumber = 2
+
+abbrev pub predicateNumber : ℕ
+predicateNumber = 3
+
+abbrev pub storeNumber : ℕ
+storeNumber = 4
+
+abbrev pub goNumber : ℕ
+goNumber = 5
+
+abbrev pub selectNumber : ℕ
+selectNumber = 6
+
+abbrev pub outNumber : ℕ
+outNumber = 7
+
+abbrev pub outCNumber : ℕ
+outCNumber = 8
+
+abbrev pub outVNumber : ℕ
+outVNumber = 9
+
+abbrev pub beginSeqNumber : ℕ
+beginSeqNumber = 10
+
+abbrev pub useSeqNumber : ℕ
+useSeqNumber = 11
+
+abbrev pub callNumber : ℕ
+callNumber = 12
+
+abbrev pub tailCallNumber : ℕ
+tailCallNumber = 13
+
+abbrev pub emissionNumber : ℕ
+emissionNumber = 14
+
+abbrev pub exactlyNumber : ℕ
+exactlyNumber = 16
+
+abbrev pub endsNumber : ℕ
+endsNumber = 17
+
+abbrev pub middleNumber : ℕ
+middleNumber = 18
+
+abbrev pub predicatePartNumber : ℕ
+predicatePartNumber = 20
+
+abbrev pub computeNumber : ℕ
+computeNumber = 21
+
+-- registers; where one operand has two of them, one of the second counts `registers`
+abbrev pub fromStartNumber : ℕ
+fromStartNumber = 0
+
+abbrev pub fromEndNumber : ℕ
+fromEndNumber = 1
+
+abbrev pub fromPlaceNumber : ℕ
+fromPlaceNumber = 2
+
+abbrev pub registers : ℕ
+registers = 4
+
+-- in the first operand of a Predicate over a part, after its two registers: the truth value and the class
+abbrev pub partTruth : ℕ
+partTruth = 16
+
+abbrev pub partClass : ℕ
+partClass = 32
+
+-- lengths of the field, and operations on angles
+abbrev pub nullNumber : ℕ
+nullNumber = 0
+
+abbrev pub wholeNumber : ℕ
+wholeNumber = 1
+
+abbrev pub leftNumber : ℕ
+leftNumber = 2
+
+abbrev pub rightNumber : ℕ
+rightNumber = 3
+
+abbrev pub plusNumber : ℕ
+plusNumber = 0
+
+abbrev pub minusNumber : ℕ
+minusNumber = 1
+
 -- REGISTERS AND TRUTH VALUES
 
 abbrev pub siteRegister : Site → ℕ
-siteRegister (fromStart k) = 0
-siteRegister (fromEnd k) = 1
-siteRegister (fromPlace k) = 2
+siteRegister (fromStart k) = fromStartNumber
+siteRegister (fromEnd k) = fromEndNumber
+siteRegister (fromPlace k) = fromPlaceNumber
 
 abbrev pub siteOffset : Site → ℕ
 siteOffset (fromStart k) = k
@@ -45,48 +145,50 @@ siteOffset (fromPlace k) = k
 
 abbrev pub siteOf : ℕ → ℕ → Option Site
 siteOf register k =
-    pick (eqb register 0) (some (fromStart k)) (pick (eqb register 1) (some (fromEnd k)) (pick (eqb register 2) (some (fromPlace k)) none))
+    pick (eqb register fromStartNumber) (some (fromStart k)) (pick (eqb register fromEndNumber) (some (fromEnd k)) (pick (eqb register fromPlaceNumber) (some (fromPlace k)) none))
 
 abbrev pub lengthNumber : Length → ℕ
-lengthNumber null = 0
-lengthNumber whole = 1
-lengthNumber left = 2
-lengthNumber right = 3
+lengthNumber null = nullNumber
+lengthNumber whole = wholeNumber
+lengthNumber left = leftNumber
+lengthNumber right = rightNumber
 
 abbrev pub lengthOf : ℕ → Option Length
-lengthOf n = pick (eqb n 0) (some null) (pick (eqb n 1) (some whole) (pick (eqb n 2) (some left) (pick (eqb n 3) (some right) none)))
+lengthOf n = pick (eqb n nullNumber) (some null) (pick (eqb n wholeNumber) (some whole) (pick (eqb n leftNumber) (some left) (pick (eqb n rightNumber) (some right) none)))
 
 abbrev pub classOf : ℕ → Option Class
 classOf n =
-    pick (eqb n 0) (some digit)
-    (pick (eqb n 1) (some upper)
-    (pick (eqb n 2) (some lower)
-    (pick (eqb n 3) (some alphabetic)
-    (pick (eqb n 4) (some blank) none))))
+    pick (eqb n digitNumber) (some digit)
+    (pick (eqb n upperNumber) (some upper)
+    (pick (eqb n lowerNumber) (some lower)
+    (pick (eqb n alphabeticNumber) (some alphabetic)
+    (pick (eqb n blankNumber) (some blank) none))))
 
 abbrev pub truthBit : Bool → ℕ
 truthBit true = 1
 truthBit false = 0
 
 abbrev pub operationNumber : Operation → ℕ
-operationNumber plus = 0
-operationNumber minus = 1
+operationNumber plus = plusNumber
+operationNumber minus = minusNumber
 
 abbrev pub operationOf : ℕ → Option Operation
-operationOf n = pick (eqb n 0) (some plus) (pick (eqb n 1) (some minus) none)
+operationOf n = pick (eqb n plusNumber) (some plus) (pick (eqb n minusNumber) (some minus) none)
 
 -- TESTS AND STORES
 
 -- the first operand of a Predicate over a part: both registers, the truth value and the class, at most 154
 abbrev pub partOperand : Site → Site → Class → Bool → ℕ
 partOperand s r class expected =
-    siteRegister s + 4 * siteRegister r + 16 * truthBit expected + 32 * classNumber class
+    siteRegister s + registers * siteRegister r + partTruth * truthBit expected + partClass * classNumber class
 
 abbrev pub testWord : Test → ℕ
-testWord (look s c) = codeWord 1 (siteRegister s) (siteOffset s) c
-testWord (compare s r) = codeWord 2 (siteRegister s + 4 * siteRegister r) (siteOffset s) (siteOffset r)
-testWord (predicate s class expected) = codeWord 3 (siteRegister s + 4 * truthBit expected) (siteOffset s) (classNumber class)
-testWord (predicatePart s r class expected) = codeWord 20 (partOperand s r class expected) (siteOffset s) (siteOffset r)
+testWord (look s c) = codeWord lookNumber (siteRegister s) (siteOffset s) c
+testWord (compare s r) =
+    codeWord compareNumber (siteRegister s + registers * siteRegister r) (siteOffset s) (siteOffset r)
+testWord (predicate s class expected) = codeWord predicateNumber (siteRegister s + registers * truthBit expected) (siteOffset s) (classNumber class)
+testWord (predicatePart s r class expected) =
+    codeWord predicatePartNumber (partOperand s r class expected) (siteOffset s) (siteOffset r)
 testWord unknownTest = 0
 
 abbrev pub lookOf : Option Site → ℕ → Test
@@ -111,19 +213,20 @@ predicatePartFor (some s) (some r) (some class) expected = predicatePart s r cla
 
 abbrev pub predicatePartOf : ℕ → ℕ → ℕ → Test
 predicatePartOf first from to =
-    predicatePartFor (siteOf (first % 4) from) (siteOf (first / 4 % 4) to)
-    (classOf (first / 32)) (eqb (first / 16 % 2) 1)
+    predicatePartFor (siteOf (first % registers) from) (siteOf (first / registers % registers) to)
+    (classOf (first / partClass)) (eqb (first / partTruth % 2) 1)
 
 abbrev pub testOf : ℕ → Test
 testOf w =
-    pick (eqb (numberIn w) 1) (lookOf (siteOf (firstIn w) (secondIn w)) (thirdIn w))
-    (pick (eqb (numberIn w) 2) (compareOf (siteOf (firstIn w % 4) (secondIn w)) (siteOf (firstIn w / 4) (thirdIn w)))
-    (pick (eqb (numberIn w) 3) (predicateFor (siteOf (firstIn w % 4) (secondIn w)) (classOf (thirdIn w)) (eqb (firstIn w / 4) 1))
-    (pick (eqb (numberIn w) 20) (predicatePartOf (firstIn w) (secondIn w) (thirdIn w))
+    pick (eqb (numberIn w) lookNumber) (lookOf (siteOf (firstIn w) (secondIn w)) (thirdIn w))
+    (pick (eqb (numberIn w) compareNumber)
+    (compareOf (siteOf (firstIn w % registers) (secondIn w)) (siteOf (firstIn w / registers) (thirdIn w)))
+    (pick (eqb (numberIn w) predicateNumber) (predicateFor (siteOf (firstIn w % registers) (secondIn w)) (classOf (thirdIn w)) (eqb (firstIn w / registers) 1))
+    (pick (eqb (numberIn w) predicatePartNumber) (predicatePartOf (firstIn w) (secondIn w) (thirdIn w))
     unknownTest)))
 
 abbrev pub storeWord : Store → ℕ
-storeWord (store s) = codeWord 4 (siteRegister s) (siteOffset s) 0
+storeWord (store s) = codeWord storeNumber (siteRegister s) (siteOffset s) 0
 storeWord unknownStore = 0
 
 abbrev pub storeAt : Option Site → Store
@@ -131,7 +234,7 @@ storeAt none = unknownStore
 storeAt (some s) = store s
 
 abbrev pub storeOf : ℕ → Store
-storeOf w = pick (eqb (numberIn w) 4) (storeAt (siteOf (firstIn w) (secondIn w))) unknownStore
+storeOf w = pick (eqb (numberIn w) storeNumber) (storeAt (siteOf (firstIn w) (secondIn w))) unknownStore
 
 -- ACTIONS
 
@@ -140,17 +243,17 @@ spanWord number s = codeWord number (lengthNumber (s .register)) (s .add) (s .ba
 
 -- an action's words; a called function's number stands in all three operands
 abbrev pub actionWords : Action → Words
-actionWords (go s) = spanWord 5 s ∷ []
-actionWords (select s) = spanWord 6 s ∷ []
-actionWords out = codeWord 7 0 0 0 ∷ []
-actionWords (outC c) = codeWord 8 c 0 0 ∷ []
-actionWords (outV k) = codeWord 9 k 0 0 ∷ []
-actionWords beginSeq = codeWord 10 0 0 0 ∷ []
-actionWords useSeq = codeWord 11 0 0 0 ∷ []
-actionWords (call f) = (12 + 256 * f) ∷ []
-actionWords (tailCall f) = (13 + 256 * f) ∷ []
-actionWords (emission n) = codeWord 14 (length n) 0 0 ∷ n
-actionWords (compute op) = codeWord 21 (operationNumber op) 0 0 ∷ []
+actionWords (go s) = spanWord goNumber s ∷ []
+actionWords (select s) = spanWord selectNumber s ∷ []
+actionWords out = codeWord outNumber 0 0 0 ∷ []
+actionWords (outC c) = codeWord outCNumber c 0 0 ∷ []
+actionWords (outV k) = codeWord outVNumber k 0 0 ∷ []
+actionWords beginSeq = codeWord beginSeqNumber 0 0 0 ∷ []
+actionWords useSeq = codeWord useSeqNumber 0 0 0 ∷ []
+actionWords (call f) = (callNumber + 256 * f) ∷ []
+actionWords (tailCall f) = (tailCallNumber + 256 * f) ∷ []
+actionWords (emission n) = codeWord emissionNumber (length n) 0 0 ∷ n
+actionWords (compute op) = codeWord computeNumber (operationNumber op) 0 0 ∷ []
 actionWords unknownAction = 0 ∷ []
 
 abbrev pub actionsEnd : ℕ
@@ -171,16 +274,16 @@ computeOf (some op) = compute op
 -- the action of one word, where it is neither an emission nor the end
 abbrev pub actionOf : ℕ → Action
 actionOf w =
-    pick (eqb (numberIn w) 5) (spanAction go (lengthOf (firstIn w)) (secondIn w) (thirdIn w))
-    (pick (eqb (numberIn w) 6) (spanAction select (lengthOf (firstIn w)) (secondIn w) (thirdIn w))
-    (pick (eqb (numberIn w) 7) out
-    (pick (eqb (numberIn w) 8) (outC (firstIn w))
-    (pick (eqb (numberIn w) 9) (outV (firstIn w))
-    (pick (eqb (numberIn w) 10) beginSeq
-    (pick (eqb (numberIn w) 11) useSeq
-    (pick (eqb (numberIn w) 12) (call (w / 256))
-    (pick (eqb (numberIn w) 13) (tailCall (w / 256))
-    (pick (eqb (numberIn w) 21) (computeOf (operationOf (firstIn w)))
+    pick (eqb (numberIn w) goNumber) (spanAction go (lengthOf (firstIn w)) (secondIn w) (thirdIn w))
+    (pick (eqb (numberIn w) selectNumber) (spanAction select (lengthOf (firstIn w)) (secondIn w) (thirdIn w))
+    (pick (eqb (numberIn w) outNumber) out
+    (pick (eqb (numberIn w) outCNumber) (outC (firstIn w))
+    (pick (eqb (numberIn w) outVNumber) (outV (firstIn w))
+    (pick (eqb (numberIn w) beginSeqNumber) beginSeq
+    (pick (eqb (numberIn w) useSeqNumber) useSeq
+    (pick (eqb (numberIn w) callNumber) (call (w / 256))
+    (pick (eqb (numberIn w) tailCallNumber) (tailCall (w / 256))
+    (pick (eqb (numberIn w) computeNumber) (computeOf (operationOf (firstIn w)))
     unknownAction)))))))))
 
 -- an emission whose name's words are all there and are bytes
@@ -194,14 +297,14 @@ unpackActions (suc skip) (w ∷ ws) = unpackActions skip ws
 unpackActions zero (w ∷ ws) =
     let more = actionOf w ∷ unpackActions zero ws in
     let named = emissionOf (firstIn w) ws ∷ unpackActions (firstIn w) ws in
-    pick (eqb (numberIn w) actionsEnd) [] (pick (eqb (numberIn w) 14) named more)
+    pick (eqb (numberIn w) actionsEnd) [] (pick (eqb (numberIn w) emissionNumber) named more)
 
 -- SENTENCES
 
 abbrev pub metricWord : Metric → ℕ
-metricWord (exactly n) = codeWord 16 n 0 0
-metricWord (ends head tail) = codeWord 17 head tail 0
-metricWord (middle head med tail) = codeWord 18 head med tail
+metricWord (exactly n) = codeWord exactlyNumber n 0 0
+metricWord (ends head tail) = codeWord endsNumber head tail 0
+metricWord (middle head med tail) = codeWord middleNumber head med tail
 
 abbrev pub sentencesEnd : ℕ
 sentencesEnd = 19
@@ -228,9 +331,9 @@ packSentences unknownSentence = []
 
 abbrev pub metricIn : ℕ → Option Metric
 metricIn w =
-    pick (eqb (numberIn w) 16) (some (exactly (firstIn w)))
-    (pick (eqb (numberIn w) 17) (some (ends (firstIn w) (secondIn w)))
-    (pick (eqb (numberIn w) 18) (some (middle (firstIn w) (secondIn w) (thirdIn w)))
+    pick (eqb (numberIn w) exactlyNumber) (some (exactly (firstIn w)))
+    (pick (eqb (numberIn w) endsNumber) (some (ends (firstIn w) (secondIn w)))
+    (pick (eqb (numberIn w) middleNumber) (some (middle (firstIn w) (secondIn w) (thirdIn w)))
     none))
 
 abbrev pub testsIn : ℕ → ℕ

@@ -8,7 +8,7 @@ use tape_words::limits::MAX_FUNCTIONS;
 use tape_words::tape::name_size;
 use tape_words::tape::room;
 use tape_words::tape::word_at;
-use tape_words::wide::KIND;
+use tape_words::wide::KIND_WIDTH;
 ghost use Prim.Native.Nat.{suc, _+_, _*_, _≤_, _<_};
 ghost use lib.ListN.{length};
 ghost use Rattle.meaning.specs.Allowed.{maxName};
@@ -28,7 +28,7 @@ fn put_name(tape: &[u32], head: usize, out: &mut [u8], at: usize) -> usize
     let mut next = at;
     let mut i = 0;
     while i < size {
-        next = put(out, next, (word_at(tape, first + i) % KIND) as u8);
+        next = put(out, next, (word_at(tape, first + i) % KIND_WIDTH) as u8);
         i += 1;
     }
     next

@@ -8,6 +8,7 @@ use lib.ListN.{length, drop}
 use lib.Seq.{sets}
 use Rattle.meaning.specs.Choice.{Bytes}
 use Rattle.meaning.specs.Tokens as Tokens
+use Rattle.tape_layout.specs.Tape.{callWord}
 
 -- the tape with these words from a place on
 unfoldable pub written : List ℕ → ℕ → List ℕ → List ℕ
@@ -22,9 +23,9 @@ pub record Wrote (tape : List ℕ) (at : ℕ) (words : List ℕ) (at′ : ℕ) (
 abbrev pub stringFrom : Bytes → ℕ → Tokens.Quotation
 stringFrom text from = Tokens.quotation Tokens.plain [] from (drop from text)
 
--- no call's opening word, which is 2,304 or more
+-- no call's opening word, which is `callWord` or more
 abbrev pub isQuiet : ℕ → Bool
-isQuiet word = ltb word 2304
+isQuiet word = ltb word callWord
 
 -- a reader may begin at a place: the text is no longer than a table may be, and each word of the tape is charged to a
 -- byte

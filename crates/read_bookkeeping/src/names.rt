@@ -4,6 +4,9 @@ use crate::Answer;
 use crate::progress::fault_if;
 use crate::progress::is_accepted;
 use read_tokens::Span;
+use tape_words::limits::MAX_FUNCTIONS;
+use tape_words::limits::MAX_IDENTIFIER;
+use tape_words::limits::MAX_NAME;
 ghost use mathlib.Core.Path.{_≡_};
 ghost use Prim.Native.Nat.{_+_, _-_, _*_, _≤_, _<_};
 ghost use lib.ListN.{length};
@@ -15,8 +18,8 @@ ghost use Rattle.read_bookkeeping.specs.Answered.{numberOf};
 ghost use Rattle.read_bookkeeping.specs.Classed.{predicateMeant};
 ghost use Rattle.read_bookkeeping.specs.Tables.{Inside, tableNames, Entries, position, declaredFaultIn};
 
-// In bytes.
-pub const LONGEST_NAME: usize = 24;
+// More than the length of every name and identifier.
+const ENTRY: usize = 32;
 
 // The byte classes that conditions ask for.
 pub enum Class {
@@ -34,10 +37,10 @@ pub enum Predicate {
 }
 
 // A table of no functions yet.
-pub fn function_room() -> [usize; 64]
+pub fn function_room() -> [usize; MAX_FUNCTIONS]
     ensures { λ r. ⌜ length r ≡ 64 ⌝ }
 {
-    [0; 64]
+    [0; MAX_FUNCTIONS]
 }
 
 // A table of no variables yet: s-variables from entry 0, e-variables from entry 16.
@@ -52,7 +55,7 @@ pub fn entry(name: Span) -> usize
     requires { ⌜ (name .from ≤ name .past) × (name .past ≤ 32768) ⌝ }
     ensures { λ r. ⌜ r ≡ name .from * 32 + (name .past - name .from) ⌝ }
 {
-    name.from * 32 + (name.past - name.from)
+    name.from * ENTRY + (name.past - name.from)
 }
 
 // Whether text[x] and text[y] are the same bytes.
@@ -105,10 +108,10 @@ pub fn find(text: &[u8], table: &[usize], from: usize, to: usize, x: Span) -> us
     let mut i = from;
     while i < to {
         let name = table[i];
-        let place = name / 32;
+        let place = name / ENTRY;
         let y = Span {
             from: place,
-            past: place + name % 32,
+            past: place + name % ENTRY,
         };
         if same(text, x, y) {
             return i;
@@ -171,7 +174,7 @@ pub fn called_fault(text: &[u8], x: Span) -> Answer
     requires { ⌜ Inside (now text) x ⌝ }
     ensures { λ r. ⌜ numberOf r ≡ calledFault (part (now (text .entry)) x) ⌝ }
 {
-    if LONGEST_NAME < x.past - x.from {
+    if MAX_NAME < x.past - x.from {
         return Answer::OverLimit;
     }
     fault_if(is_predicate(text, x), Answer::WrongName)
@@ -204,7 +207,7 @@ pub fn later_fault(text: &[u8], table: &[usize], from: usize, to: usize, x: Span
         ≡ subjectFault (tableNames (now (text .entry)) (now (table .entry)) from to)
         (part (now (text .entry)) x) ⌝ }
 {
-    if 8 < x.past - x.from {
+    if MAX_IDENTIFIER < x.past - x.from {
         return Answer::OverLimit;
     }
     let known = find(text, table, from, to, x) < to;

@@ -1,7 +1,6 @@
 // The conditions' reader.
 use read_bookkeeping::Answer;
 use read_bookkeeping::names::Class;
-use read_bookkeeping::names::LONGEST_NAME;
 use read_bookkeeping::names::Predicate;
 use read_bookkeeping::names::class_named;
 use read_bookkeeping::names::later_fault;
@@ -19,6 +18,12 @@ use read_tokens::Placed;
 use read_tokens::Span;
 use read_tokens::Token;
 use read_tokens::lex;
+use tape_words::limits::MAX_CONDITIONS;
+use tape_words::limits::MAX_NAME;
+use tape_words::limits::MAX_SYMBOLS;
+use tape_words::wide::CONDITION_PART;
+use tape_words::wide::CONDITION_SIZE;
+use tape_words::wide::CONDITION_TRUTH;
 use tape_words::wide::CONDITION_WORD;
 ghost use mathlib.Core.Path.{_≡_};
 ghost use Prim.Native.Nat.{_≤_};
@@ -67,7 +72,7 @@ fn subject_fault(
         (part (now (text .entry)) x) ⌝ }
 {
     if is_part {
-        return later_fault(text, table, 16, 16 + parts, x);
+        return later_fault(text, table, MAX_SYMBOLS, MAX_SYMBOLS + parts, x);
     }
     later_fault(text, table, 0, symbols, x)
 }
@@ -76,7 +81,7 @@ fn subject_fault(
 fn kind_number(is_part: bool) -> usize
     ensures { λ r. ⌜ (r ≡ kindNumber «is_part») × (r ≤ 10) ⌝ }
 {
-    if is_part { 10 } else { 0 }
+    if is_part { CONDITION_PART } else { 0 }
 }
 
 // A class by its number on the tape.
@@ -96,7 +101,7 @@ fn class_number(class: Class) -> usize
 fn truth_number(truth: bool) -> usize
     ensures { λ r. ⌜ (r ≡ truthNumber truth) × (r ≤ 5) ⌝ }
 {
-    if truth { 5 } else { 0 }
+    if truth { CONDITION_TRUTH } else { 0 }
 }
 
 // A condition's closing string: the truth value that it says, if it says one.
@@ -165,7 +170,7 @@ fn condition_end(
     let kind = kind_number(is_part);
     let truth = truth_number(expected);
     let number = class_number(class);
-    let word = (CONDITION_WORD + (x.past - x.from) * 20 + kind + truth + number) as u32;
+    let word = (CONDITION_WORD + (x.past - x.from) * CONDITION_SIZE + kind + truth + number) as u32;
     let after = put_named(text, tape, words, word, x);
     Parsed::Done(Progress {
         at: t.past,
@@ -229,7 +234,7 @@ fn condition(
     let Token::Name(name) = token else {
         return Parsed::Stopped(refuse(t));
     };
-    if LONGEST_NAME < name.past - name.from {
+    if MAX_NAME < name.past - name.from {
         return Parsed::Stopped(Fault {
             answer: Answer::OverLimit,
             place: t.place,
@@ -263,7 +268,7 @@ pub fn conditions(
         at: from,
         words: words,
     };
-    let mut left: usize = 8;
+    let mut left: usize = MAX_CONDITIONS;
     loop {
         let t = lex(text, s.at, Mode::Inside);
         if !is_sign(t, b',') {

@@ -23,8 +23,12 @@ use read_tokens::Token;
 use read_tokens::lex;
 ghost use mathlib.Core.Path.{_≡_};
 use tape_words::kinds::CLOSE_WORD;
+use tape_words::limits::MAX_IDENTIFIER;
+use tape_words::limits::MAX_ITEMS;
+use tape_words::limits::MAX_NESTING;
+use tape_words::limits::MAX_SYMBOLS;
 use tape_words::wide::CALL_KIND;
-use tape_words::wide::KIND;
+use tape_words::wide::KIND_WIDTH;
 use tape_words::wide::PART_WORD;
 use tape_words::wide::SYMBOL_WORD;
 ghost use Prim.Native.Nat.{ℕ, _+_, _-_, _*_, _≤_, _<_};
@@ -85,7 +89,7 @@ fn join_string(
     ensures { λ r. ⌜ JoinsItem (now (text .entry)) (now (table .entry)) symbols parts s (now (tape .entry))
         (Reading.characters (charactersIn (quotationAt (now (text .entry)) place))) past (now (tape .exit)) r ⌝ }
 {
-    if 128 < s.items + count {
+    if MAX_ITEMS < s.items + count {
         return Joined::Wrong(Answer::OverLimit);
     }
     let words = put_characters(text, tape, s.words, place + 1);
@@ -135,7 +139,7 @@ fn join_symbol(
     ensures { λ r. ⌜ JoinsItem (now (text .entry)) (now (table .entry)) symbols parts s (now (tape .entry))
         (Reading.symbolItem (part (now (text .entry)) x)) (x .past) (now (tape .exit)) r ⌝ }
 {
-    if 128 <= s.items {
+    if MAX_ITEMS <= s.items {
         return Joined::Wrong(Answer::OverLimit);
     }
     let fault = later_fault(text, table, 0, symbols, x);
@@ -159,14 +163,14 @@ fn join_part(
     ensures { λ r. ⌜ JoinsItem (now (text .entry)) (now (table .entry)) symbols parts s (now (tape .entry))
         (Reading.partItem (part (now (text .entry)) x)) (x .past) (now (tape .exit)) r ⌝ }
 {
-    if 8 < x.past - x.from {
+    if MAX_IDENTIFIER < x.past - x.from {
         return Joined::Wrong(Answer::OverLimit);
     }
-    if 128 <= s.items {
+    if MAX_ITEMS <= s.items {
         return Joined::Wrong(Answer::OverLimit);
     }
-    let start = 16 + s.passed;
-    let end = 16 + parts;
+    let start = MAX_SYMBOLS + s.passed;
+    let end = MAX_SYMBOLS + parts;
     let found = find(text, table, start, end, x);
     if end <= found {
         return Joined::Wrong(Answer::WrongLaterVariable);
@@ -216,7 +220,7 @@ fn put_call(text: &[u8], tape: &mut [u32], words: usize, place: usize, name: Spa
         (((9 + place) * 256 + (name .past - name .from)) ∷ part (now (text .entry)) name) r (now (tape .exit))
         × T (every isQuiet (part (now (text .entry)) name)) ⌝ }
 {
-    let word = ((CALL_KIND + place) * KIND + (name.past - name.from)) as u32;
+    let word = ((CALL_KIND + place) * KIND_WIDTH + (name.past - name.from)) as u32;
     put_named(text, tape, words, word, name)
 }
 
@@ -253,7 +257,7 @@ fn open_call(
         (opening depth (s .items) (standing (Tokens.sign 60) place (s .at))
         (stream (now (text .entry)) Tokens.naming (s .at))) r ⌝ }
 {
-    if 16 <= depth || 128 <= s.items {
+    if MAX_NESTING <= depth || MAX_ITEMS <= s.items {
         return ParsedExpression::Stopped(fault_at(Answer::OverLimit, place));
     }
     let t = lex(text, s.at, Mode::Naming);

@@ -17,6 +17,8 @@ use read_tokens::Placed;
 use read_tokens::Span;
 use read_tokens::Token;
 use read_tokens::lex;
+use tape_words::limits::MAX_FUNCTIONS;
+use tape_words::limits::MAX_SENTENCES;
 use tape_words::wide::FUNCTION_WORD;
 ghost use mathlib.Core.Path.{_≡_};
 ghost use Prim.Native.Nat.{_≤_};
@@ -77,7 +79,7 @@ fn body(text: &[u8], tape: &mut [u32], name: Span, limit: usize, words: usize) -
 fn function(
     text: &[u8],
     tape: &mut [u32],
-    names: &mut [usize; 64],
+    names: &mut [usize; MAX_FUNCTIONS],
     functions: usize,
     limit: usize,
     t: Placed,
@@ -93,7 +95,7 @@ fn function(
     let Token::Name(name) = token else {
         return ParsedSentences::Stopped(refuse(t));
     };
-    if 64 <= functions {
+    if MAX_FUNCTIONS <= functions {
         return ParsedSentences::Stopped(fault_at(Answer::OverLimit, t.place));
     }
     let fault = declared_fault(text, names, functions, name);
@@ -127,7 +129,7 @@ pub fn first_stage() -> Stage
     Stage::Onward(Tally {
         words: 0,
         functions: 0,
-        left: 512,
+        left: MAX_SENTENCES,
     })
 }
 
@@ -155,7 +157,7 @@ pub fn declaration(
     text: &[u8],
     at: usize,
     tape: &mut [u32],
-    names: &mut [usize; 64],
+    names: &mut [usize; MAX_FUNCTIONS],
     stage: Stage,
 ) -> Reached
     requires { ⌜ Underway (now text) (now tape) (now names) at stage ⌝ }

@@ -13,6 +13,9 @@ use read_tokens::Placed;
 use read_tokens::Span;
 use read_tokens::Token;
 use read_tokens::lex;
+use tape_words::limits::MAX_IDENTIFIER;
+use tape_words::limits::MAX_LETTERS;
+use tape_words::limits::MAX_SYMBOLS;
 use tape_words::wide::PART_WORD;
 use tape_words::wide::SYMBOL_WORD;
 ghost use mathlib.Core.Path.{_≡_};
@@ -78,7 +81,7 @@ fn add_string(
         (Reading.characters (charactersIn (quotationAt (now (text .entry)) place))) past (now (table .entry))
         (now (tape .exit)) r ⌝ }
 {
-    if 64 < p.letters + count {
+    if MAX_LETTERS < p.letters + count {
         return Added::Wrong(Answer::OverLimit);
     }
     let words = put_characters(text, tape, p.words, place + 1);
@@ -101,18 +104,18 @@ fn symbol_fault(text: &[u8], table: &[usize], p: Counts, x: Span, known: usize) 
         (symbolNames (now (text .entry)) (now (table .entry)) (p .symbols))
         (partNames (now (text .entry)) (now (table .entry)) (p .parts)) (part (now (text .entry)) x) ⌝ }
 {
-    if 8 < x.past - x.from {
+    if MAX_IDENTIFIER < x.past - x.from {
         return Answer::OverLimit;
     }
-    if 64 <= p.letters {
+    if MAX_LETTERS <= p.letters {
         return Answer::OverLimit;
     }
-    if 16 <= known {
+    if MAX_SYMBOLS <= known {
         return Answer::OverLimit;
     }
-    let parts = 16 + p.parts;
+    let parts = MAX_SYMBOLS + p.parts;
     fault_if(
-        find(text, table, 16, parts, x) < parts,
+        find(text, table, MAX_SYMBOLS, parts, x) < parts,
         Answer::WrongPatternVariable,
     )
 }
@@ -162,14 +165,14 @@ fn part_fault(text: &[u8], table: &[usize], p: Counts, x: Span) -> Answer
     if 2 <= p.parts {
         return Answer::NotAllowedHere;
     }
-    if 8 < x.past - x.from {
+    if MAX_IDENTIFIER < x.past - x.from {
         return Answer::OverLimit;
     }
     if find(text, table, 0, p.symbols, x) < p.symbols {
         return Answer::WrongPatternVariable;
     }
-    let parts = 16 + p.parts;
-    if find(text, table, 16, parts, x) < parts {
+    let parts = MAX_SYMBOLS + p.parts;
+    if find(text, table, MAX_SYMBOLS, parts, x) < parts {
         return Answer::WrongPatternVariable;
     }
     fault_if(p.ending, Answer::WrongPatternVariable)
@@ -186,7 +189,7 @@ fn add_part(text: &[u8], tape: &mut [u32], table: &mut [usize; 18], p: Counts, x
         return Added::Wrong(fault);
     }
     let parts = p.parts;
-    let last = 16 + parts;
+    let last = MAX_SYMBOLS + parts;
     table[last] = entry(x);
     let words = put_name(text, tape, p.words, PART_WORD, x);
     Added::Taken(Counts {

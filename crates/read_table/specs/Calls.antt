@@ -10,7 +10,7 @@ use Rattle.meaning.specs.Choice.{Bytes, Name, either}
 use Rattle.meaning.specs.Tree.{Table}
 use Rattle.meaning.specs.Names.{isBuiltIn}
 use Rattle.meaning.specs.Allowed.{member, namesOf}
-use Rattle.tape_layout.specs.Tape.{callKind, tape}
+use Rattle.tape_layout.specs.Tape.{callKind, tape, kindWidth, callWord}
 use Rattle.read_tokens.specs.View.{part}
 use Rattle.read_tokens.specs.declared.Span.{Span}
 use Rattle.read_table.specs.declared.calls.Unknown.{Unknown}
@@ -24,17 +24,17 @@ abbrev pub unknownAs : Option ℕ → Unknown
 unknownAs none = Nowhere
 unknownAs (some place) = At place
 
--- a word that opens a call: its number of 256 counts on by the place of the name, and above that it carries the name's
+-- a word that opens a call: its kind counts on by the place of the name, and it carries the name's
 -- length
 abbrev pub calledPlace : ℕ → ℕ
-calledPlace word = word / 256 - callKind
+calledPlace word = word / kindWidth - callKind
 
 abbrev pub calledSpan : ℕ → Span
-calledSpan word = record { from = calledPlace word; past = calledPlace word + word % 256 }
+calledSpan word = record { from = calledPlace word; past = calledPlace word + word % kindWidth }
 
 -- the name that it calls, if it does, lies in the text
 abbrev pub CallWithin : Bytes → ℕ → Type 0
-CallWithin text word = 2304 ≤ word → calledSpan word .past ≤ length text
+CallWithin text word = callWord ≤ word → calledSpan word .past ≤ length text
 
 -- a word opens no call, or one of a name that is built in or declared
 abbrev pub wordKnown : Bytes → List Name → ℕ → Bool

@@ -2,9 +2,10 @@
 use read_bookkeeping::names::find;
 use read_bookkeeping::names::is_built_in;
 use read_tokens::Span;
+use tape_words::limits::MAX_FUNCTIONS;
 use tape_words::wide::CALL_KIND;
 use tape_words::wide::CALL_WORD;
-use tape_words::wide::KIND;
+use tape_words::wide::KIND_WIDTH;
 ghost use mathlib.Core.Path.{_≡_};
 ghost use Prim.Native.Nat.{_≤_};
 ghost use lib.ListN.{length, take};
@@ -29,8 +30,8 @@ fn is_known(text: &[u8], names: &[usize], functions: usize, word: usize) -> bool
     if word < CALL_WORD {
         return true;
     }
-    let place = word / KIND - CALL_KIND;
-    let past = place + word % KIND;
+    let place = word / KIND_WIDTH - CALL_KIND;
+    let past = place + word % KIND_WIDTH;
     let name = Span {
         from: place,
         past: past,
@@ -45,7 +46,7 @@ fn is_known(text: &[u8], names: &[usize], functions: usize, word: usize) -> bool
 pub fn unknown_call(
     text: &[u8],
     tape: &[u32],
-    names: &[usize; 64],
+    names: &[usize; MAX_FUNCTIONS],
     functions: usize,
     words: usize,
 ) -> Unknown
@@ -59,7 +60,7 @@ pub fn unknown_call(
     while i < words {
         let word = tape[i] as usize;
         if !is_known(text, names, functions, word) {
-            let place = word / KIND - CALL_KIND;
+            let place = word / KIND_WIDTH - CALL_KIND;
             return Unknown::At(place);
         }
         i += 1;

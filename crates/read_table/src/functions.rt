@@ -7,6 +7,7 @@ use read_functions::functions::is_onward;
 use read_functions::functions::outcome;
 use read_tokens::reader;
 use read_tokens::reader::Reader;
+use tape_words::limits::MAX_FUNCTIONS;
 ghost use mathlib.Core.Path.{_≡_};
 ghost use Prim.Native.Nat.{_≤_};
 ghost use lib.ListN.{length};
@@ -18,7 +19,7 @@ ghost use Rattle.read_table.specs.Through.{GoesOn};
 fn next_declaration<'s, 'a, 't, 'n>(
     reader: &'s mut Reader<'a>,
     tape: &'t mut [u32],
-    names: &'n mut [usize; 64],
+    names: &'n mut [usize; MAX_FUNCTIONS],
     stage: Stage,
 ) -> Stage
     requires { ⌜ Underway (now (now reader .text)) (now tape) (now names) (now reader .at) stage ⌝ }
@@ -31,7 +32,7 @@ fn next_declaration<'s, 'a, 't, 'n>(
 }
 
 // Reads the functions of a text and fills the table of their names.
-pub fn functions(text: &[u8], tape: &mut [u32], names: &mut [usize; 64]) -> ParsedTable
+pub fn functions(text: &[u8], tape: &mut [u32], names: &mut [usize; MAX_FUNCTIONS]) -> ParsedTable
     requires { ⌜ (length (now text) ≤ 32768) × (length (now names) ≡ 64) ⌝ }
     ensures { λ r. ⌜ AgreesBy tableOutcome (FunctionsRead (now (text .entry)) (now (tape .entry)) (now (tape .exit))
         (now (names .exit))) (functionsOf (now (text .entry))) r ⌝ }

@@ -9,9 +9,10 @@ use lib.ListN.{length, getD, take, drop, set}
 use Rattle.meaning.specs.Choice.{Bytes, both, pick}
 use Rattle.meaning.specs.Outcome.{maxCounted, Outcome, done, stop}
 use Rattle.meaning.specs.Instructions.{Action, Code}
-use Rattle.meaning.specs.Machine.{outCells, Ledger, Stacks, Local, movedOn, withOutput, noting, perform}
+use Rattle.meaning.specs.Machine.{outCells, Ledger, Stacks, Local, movedOn, withOutput, noting, perform, maxOpened}
 use Rattle.meaning.specs.Runs.{Room, lent}
 use Rattle.meaning.specs.Leaving.{maxFrames}
+use Rattle.meaning.specs.Packing.{nullNumber, wholeNumber, leftNumber, rightNumber, maxStored}
 use Rattle.run_actions.specs.declared.registers.Registers.{Registers}
 use Rattle.run_actions.specs.declared.registers.Next.{Next}
 use Rattle.run_actions.specs.declared.registers.Next.the-variants.{Onward, Done, Stopped, Deeper}
@@ -38,7 +39,7 @@ abbrev pub wordsFor : ℕ → ℕ
 wordsFor n = maxCounted + frameWords * n
 
 abbrev pub valuesFor : ℕ → ℕ
-valuesFor n = 16 * n
+valuesFor n = maxStored * n
 
 -- how many frames a run has room for at first
 abbrev pub firstFrames : ℕ
@@ -67,6 +68,31 @@ wordsIn frames = drop maxCounted frames
 abbrev pub frameWord : ℕ → ℕ → List ℕ → ℕ
 frameWord k i frames = getD (wordsIn frames) (frameWords * k + i) 0
 
+-- by their names; the lengths stand at their numbers
+abbrev pub nullSlot : ℕ
+nullSlot = nullNumber
+
+abbrev pub wholeSlot : ℕ
+wholeSlot = wholeNumber
+
+abbrev pub leftSlot : ℕ
+leftSlot = leftNumber
+
+abbrev pub rightSlot : ℕ
+rightSlot = rightNumber
+
+abbrev pub storedSlot : ℕ
+storedSlot = 4
+
+abbrev pub openedSlot : ℕ
+openedSlot = 5
+
+abbrev pub returnSlot : ℕ
+returnSlot = 6
+
+abbrev pub selectionSlot : ℕ
+selectionSlot = 7
+
 -- a word of a frame stored
 abbrev pub withWord : ℕ → ℕ → ℕ → List ℕ → List ℕ
 withWord k i v frames = set frames (maxCounted + (frameWords * k + i)) v
@@ -78,40 +104,41 @@ wordsBelow k frames = take (frameWords * k) (wordsIn frames)
 abbrev pub localAt : ℕ → List ℕ → Bytes → Local
 localAt k frames values =
     record {
-      field = frameWord k 1 frames;
-      place = frameWord k 2 frames;
-      values = take (frameWord k 4 frames) (drop (16 * k) (take (16 * k + 16) values));
-      opened = drop (24 * k + 24 - frameWord k 5 frames) (take (24 * k + 24) (wordsIn frames));
+      field = frameWord k wholeSlot frames;
+      place = frameWord k leftSlot frames;
+      values = take (frameWord k storedSlot frames) (drop (maxStored * k) (take (maxStored * k + maxStored) values));
+      opened = drop (frameWords * k + frameWords - frameWord k openedSlot frames)
+          (take (frameWords * k + frameWords) (wordsIn frames));
     }
 
 -- a frame's words agree with each other, and it keeps no more than it has room for
 pub record Held (k : ℕ) (frames : List ℕ) : Type 0 where
-  pub null : frameWord k 0 frames ≡ 0
-  pub right : frameWord k 3 frames ≡ frameWord k 1 frames - frameWord k 2 frames
-  pub stored : frameWord k 4 frames ≤ 16
-  pub opened : frameWord k 5 frames ≤ 16
+  pub null : frameWord k nullSlot frames ≡ 0
+  pub right : frameWord k rightSlot frames ≡ frameWord k wholeSlot frames - frameWord k leftSlot frames
+  pub stored : frameWord k storedSlot frames ≤ maxStored
+  pub opened : frameWord k openedSlot frames ≤ maxOpened
 
 -- a frame's words as its application begins: the lengths of the registers by their numbers, the number of values, and
 -- no sequence open
 abbrev pub begun : ℕ → ℕ → ℕ → ℕ → List ℕ → List ℕ
 begun frame field place stored frames =
-    withWord frame 5 0
-    (withWord frame 4 stored
-    (withWord frame 3 (field - place) (withWord frame 2 place (withWord frame 1 field (withWord frame 0 0 frames)))))
+    withWord frame openedSlot 0
+    (withWord frame storedSlot stored
+    (withWord frame rightSlot (field - place) (withWord frame leftSlot place (withWord frame wholeSlot field (withWord frame nullSlot 0 frames)))))
 
 -- the caller's frame keeps where its call returns to, and q
 abbrev pub callingFrom : ℕ → ℕ → ℕ → List ℕ → List ℕ
-callingFrom k at end frames = withWord k 7 end (withWord k 6 at frames)
+callingFrom k at end frames = withWord k selectionSlot end (withWord k returnSlot at frames)
 
 -- a sequence opened at a cell of out, if one more may be open
 abbrev pub openedAt : ℕ → ℕ → List ℕ → List ℕ
 openedAt k r frames =
-    let count = frameWord k 5 frames in
-    withWord k 5 (count + 1) (withWord k (23 - count) r frames)
+    let count = frameWord k openedSlot frames in
+    withWord k openedSlot (count + 1) (withWord k (23 - count) r frames)
 
 abbrev pub Opens : ℕ → ℕ → List ℕ → List ℕ → Bool → Type 0
-Opens k r before after true = (frameWord k 5 before < 16) × (after ≡ openedAt k r before)
-Opens k r before after false = (16 ≤ frameWord k 5 before) × (after ≡ before)
+Opens k r before after true = (frameWord k openedSlot before < maxOpened) × (after ≡ openedAt k r before)
+Opens k r before after false = (maxOpened ≤ frameWord k openedSlot before) × (after ≡ before)
 
 abbrev pub localOf : Registers → Memory → Local
 localOf g m = localAt (g .frame) (m .frames) (m .values)

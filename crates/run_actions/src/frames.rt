@@ -8,6 +8,7 @@ ghost use Rattle.meaning.specs.Leaving.{maxFrames};
 ghost use Rattle.run_actions.specs.States.{frameWords, firstFrames, wordsFor, valuesFor, FrameWithin};
 ghost use Rattle.run_actions.specs.States.{crowdedAt, withWord, frameWord};
 ghost use Rattle.run_actions.specs.States.{countsIn, countedIn, CountsWithin, begun, callingFrom};
+ghost use Rattle.run_actions.specs.States.{openedSlot, returnSlot, selectionSlot, storedSlot};
 use code_numbers::wide::LEFT;
 use code_numbers::wide::MAX_STORED;
 use code_numbers::wide::NULL;
@@ -142,21 +143,21 @@ pub fn length_numbered(frames: &[usize], frame: usize, number: usize) -> usize
 
 pub fn stored_values(frames: &[usize], frame: usize) -> usize
     requires { ⌜ FrameWithin frame (now frames) ⌝ }
-    ensures result { λ r. ⌜ r ≡ frameWord frame 4 (now (frames .entry)) ⌝ }
+    ensures result { λ r. ⌜ r ≡ frameWord frame storedSlot (now (frames .entry)) ⌝ }
 {
     word(frames, frame, STORED)
 }
 
 pub fn open_sequences(frames: &[usize], frame: usize) -> usize
     requires { ⌜ FrameWithin frame (now frames) ⌝ }
-    ensures result { λ r. ⌜ r ≡ frameWord frame 5 (now (frames .entry)) ⌝ }
+    ensures result { λ r. ⌜ r ≡ frameWord frame openedSlot (now (frames .entry)) ⌝ }
 {
     word(frames, frame, OPENED)
 }
 
 pub fn set_open_sequences(frames: &mut [usize], frame: usize, opened: usize)
     requires { ⌜ FrameWithin frame (now frames) ⌝ }
-    ensures leaves { λ _. ⌜ now (frames .exit) ≡ withWord frame 5 opened (now (frames .entry)) ⌝ }
+    ensures leaves { λ _. ⌜ now (frames .exit) ≡ withWord frame openedSlot opened (now (frames .entry)) ⌝ }
 {
     set_word(frames, frame, OPENED, opened);
 }
@@ -191,14 +192,14 @@ pub fn keep_caller(frames: &mut [usize], frame: usize, back: CodePlace, q: InCel
 
 pub fn return_place(frames: &[usize], frame: usize) -> CodePlace
     requires { ⌜ FrameWithin frame (now frames) ⌝ }
-    ensures result { λ r. ⌜ r .0 ≡ frameWord frame 6 (now (frames .entry)) ⌝ }
+    ensures result { λ r. ⌜ r .0 ≡ frameWord frame returnSlot (now (frames .entry)) ⌝ }
 {
     CodePlace(word(frames, frame, RETURN))
 }
 
 pub fn kept_selection(frames: &[usize], frame: usize) -> InCell
     requires { ⌜ FrameWithin frame (now frames) ⌝ }
-    ensures result { λ r. ⌜ r .0 ≡ frameWord frame 7 (now (frames .entry)) ⌝ }
+    ensures result { λ r. ⌜ r .0 ≡ frameWord frame selectionSlot (now (frames .entry)) ⌝ }
 {
     InCell(word(frames, frame, SELECTION))
 }

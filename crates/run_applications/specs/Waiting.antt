@@ -18,6 +18,7 @@ use Rattle.run_actions.specs.declared.registers.Next.the-variants.{Onward, Done
 use Rattle.run_actions.specs.Endings.{endingNumber}
 use Rattle.run_actions.specs.States.{Memory, frameWord, localAt, localOf, Held, stacksOf, Ledgers, ledgerOf}
 use Rattle.run_actions.specs.States.{Outcomes, Continuation}
+use Rattle.run_actions.specs.States.{returnSlot, selectionSlot}
 
 -- how many functions the table tells, and whether it is sound
 abbrev pub countIn : Words → ℕ
@@ -48,8 +49,8 @@ module _ (room : Room) (allowance : ℕ) (words : Words) where
       waiting k frames values
       (andThen o
       (λ s g.
-      let back = returned (room .inCells - frameWord k 7 frames) s in
-      continuationAt k (frameWord k 6 frames) (localAt k frames values) back g))
+      let back = returned (room .inCells - frameWord k selectionSlot frames) s in
+      continuationAt k (frameWord k returnSlot frames) (localAt k frames values) back g))
 
   -- the outcome of a run, from the outcome in its current frame
   abbrev pub returning : Registers → Memory → Outcomes → Outcomes
@@ -82,7 +83,7 @@ module _ (room : Room) (allowance : ℕ) (words : Words) where
 -- a frame that waits holds what it should, and its q is a cell of in or the end
 pub record Waits (cells k : ℕ) (frames : List ℕ) : Type 0 where
   pub held : Held k frames
-  pub kept : frameWord k 7 frames ≤ cells
+  pub kept : frameWord k selectionSlot frames ≤ cells
 
 -- the outcome of a run from an action of the machine on, which then goes on at a place of the code
 abbrev pub outcomeOfAction : Room → ℕ → Words → Action → ℕ → Registers → Memory → Outcomes
@@ -97,7 +98,7 @@ outcomeOfAction room allowance words action at g m =
 -- the words left in the frames that wait
 unfoldable pub measureWaiting : ℕ → ℕ → List ℕ → ℕ
 measureWaiting size zero frames = 0
-measureWaiting size (suc k) frames = size - frameWord k 6 frames + measureWaiting size k frames
+measureWaiting size (suc k) frames = size - frameWord k returnSlot frames + measureWaiting size k frames
 
 -- the measure without the words left in the current frame
 abbrev pub measureBelow : ℕ → ℕ → Registers → Memory → ℕ
@@ -117,10 +118,10 @@ abbrev pub backIn : ℕ → Registers → List ℕ → Registers
 backIn k g frames =
     record {
       p = g .p;
-      q = record { 0 = max (g .p .0) (frameWord k 7 frames) };
+      q = record { 0 = max (g .p .0) (frameWord k selectionSlot frames) };
       r = g .r;
       frame = k;
-      at = record { 0 = frameWord k 6 frames };
+      at = record { 0 = frameWord k returnSlot frames };
       steps = g .steps;
       emitted = g .emitted;
       callee = g .callee;

@@ -10,6 +10,9 @@ use Rattle.meaning.specs.Angles.{operation}
 use Rattle.meaning.specs.Allowed.{isByte}
 use Rattle.meaning.specs.Instructions.{Span, Action, go, select, out, outC, outV, beginSeq, useSeq, call, tailCall, compute, unknownAction}
 use Rattle.meaning.specs.Packing.{Words, numberIn, firstIn, secondIn, thirdIn, actionsEnd, lengthOf, spanAction, emissionOf, unpackActions}
+use Rattle.meaning.specs.Packing.{beginSeqNumber, callNumber, computeNumber, emissionNumber, goNumber, minusNumber}
+use Rattle.meaning.specs.Packing.{outCNumber, outNumber, outVNumber, plusNumber, selectNumber, tailCallNumber}
+use Rattle.meaning.specs.Packing.{useSeqNumber}
 use Rattle.run_code_places.specs.declared.CodePlace.{CodePlace}
 use Rattle.run_decoding.specs.declared.Found.{Found}
 use Rattle.run_decoding.specs.declared.Found.the-variants.{Word, Other}
@@ -23,22 +26,22 @@ abbrev pub callIn : Bool → ℕ → Call
 callIn tail w = record { tail = tail; function = w / 256 }
 
 abbrev pub computationIn : ℕ → Instruction
-computationIn n = pick (eqb n 0) (Compute false) (pick (eqb n 1) (Compute true) Unknown)
+computationIn n = pick (eqb n plusNumber) (Compute false) (pick (eqb n minusNumber) (Compute true) Unknown)
 
 abbrev pub instructionIn : ℕ → Instruction
 instructionIn w =
     pick (eqb (numberIn w) actionsEnd) End
-    (pick (eqb (numberIn w) 14) (Emit (firstIn w))
-    (pick (eqb (numberIn w) 5) (Go w)
-    (pick (eqb (numberIn w) 6) (Select w)
-    (pick (eqb (numberIn w) 7) (Writes Out)
-    (pick (eqb (numberIn w) 8) (Writes (OutC (firstIn w)))
-    (pick (eqb (numberIn w) 9) (Writes (OutV (firstIn w)))
-    (pick (eqb (numberIn w) 10) BeginSeq
-    (pick (eqb (numberIn w) 11) UseSeq
-    (pick (eqb (numberIn w) 12) (Calls (callIn false w))
-    (pick (eqb (numberIn w) 13) (Calls (callIn true w))
-    (pick (eqb (numberIn w) 21) (computationIn (firstIn w))
+    (pick (eqb (numberIn w) emissionNumber) (Emit (firstIn w))
+    (pick (eqb (numberIn w) goNumber) (Go w)
+    (pick (eqb (numberIn w) selectNumber) (Select w)
+    (pick (eqb (numberIn w) outNumber) (Writes Out)
+    (pick (eqb (numberIn w) outCNumber) (Writes (OutC (firstIn w)))
+    (pick (eqb (numberIn w) outVNumber) (Writes (OutV (firstIn w)))
+    (pick (eqb (numberIn w) beginSeqNumber) BeginSeq
+    (pick (eqb (numberIn w) useSeqNumber) UseSeq
+    (pick (eqb (numberIn w) callNumber) (Calls (callIn false w))
+    (pick (eqb (numberIn w) tailCallNumber) (Calls (callIn true w))
+    (pick (eqb (numberIn w) computeNumber) (computationIn (firstIn w))
     Unknown)))))))))))
 
 -- the word at a place has a number

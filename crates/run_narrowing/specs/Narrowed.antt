@@ -5,13 +5,15 @@ use mathlib.Core.Bool.{Bool}
 use lib.Dec.{eqb}
 use Rattle.meaning.specs.Choice.{either}
 use Rattle.meaning.specs.Matching.{Checked, passed, failed, wrong}
-use Rattle.meaning.specs.Packing.{firstIn}
+use Rattle.meaning.specs.Packing.{firstIn, fromPlaceNumber, registers}
 use Rattle.run_narrowing.specs.declared.Sifted.{Sifted}
 use Rattle.run_narrowing.specs.declared.Sifted.the-variants.{Unknown, Kept, Among}
 
 -- a test's word may ask for cells counted from the middle template's place: one of its two registers is 2
 abbrev pub asksPlace : ℕ → Bool
-asksPlace w = either (eqb (firstIn w % 4) 2) (eqb (firstIn w / 4 % 4) 2)
+asksPlace w =
+    either (eqb (firstIn w % registers) fromPlaceNumber)
+    (eqb (firstIn w / registers % registers) fromPlaceNumber)
 
 -- a test can't be wrong at any place of the range
 abbrev pub NeverWrong : (ℕ → Checked) → ℕ → ℕ → Type 0

@@ -4,7 +4,7 @@ ghost use mathlib.Core.Path.{_≡_};
 ghost use lib.ListN.{length, getD};
 ghost use Rattle.meaning.specs.Choice.{pick};
 ghost use Rattle.meaning.specs.Matching.{check as tested};
-ghost use Rattle.meaning.specs.Packing.{numberIn, firstIn, testOf};
+ghost use Rattle.meaning.specs.Packing.{numberIn, firstIn, testOf, fromPlaceNumber, predicatePartNumber, registers};
 ghost use Rattle.byte_classes.specs.Tests.{Answers};
 ghost use Rattle.run_narrowing.specs.Narrowed.{asksPlace, Sifts};
 use code_numbers::BLANK;
@@ -76,8 +76,8 @@ fn sift_first(bits: &[u8; 256], field: &[u8], word: u32, first: usize, places: u
     requires { ⌜ Answers (now bits) ⌝ }
     requires { ⌜ first + places ≤ length (now field) + 256 ⌝ }
     requires { ⌜ 0 < places ⌝ }
-    requires { ⌜ numberIn word ≡ 20 ⌝ }
-    requires { ⌜ firstIn word / 4 % 4 ≡ 2 ⌝ }
+    requires { ⌜ numberIn word ≡ predicatePartNumber ⌝ }
+    requires { ⌜ firstIn word / registers % registers ≡ fromPlaceNumber ⌝ }
     ensures { λ r. ⌜ Sifts r (tested (testOf word) (now (field .entry))) first places ⌝ }
 {
     let operand = word / FIRST % OPERAND;
@@ -119,8 +119,8 @@ fn sift_second(bits: &[u8; 256], field: &[u8], word: u32, first: usize, places: 
     requires { ⌜ Answers (now bits) ⌝ }
     requires { ⌜ first + places ≤ length (now field) + 256 ⌝ }
     requires { ⌜ 0 < places ⌝ }
-    requires { ⌜ numberIn word ≡ 20 ⌝ }
-    requires { ⌜ firstIn word % 4 ≡ 2 ⌝ }
+    requires { ⌜ numberIn word ≡ predicatePartNumber ⌝ }
+    requires { ⌜ firstIn word % registers ≡ fromPlaceNumber ⌝ }
     ensures { λ r. ⌜ Sifts r (tested (testOf word) (now (field .entry))) first places ⌝ }
 {
     let operand = word / FIRST % OPERAND;

@@ -6,7 +6,7 @@ use mathlib.Core.Path.{_≡_}
 use mathlib.Core.List.{List}
 use lib.ListN.{length}
 use Rattle.meaning.specs.Choice.{Bytes}
-use Rattle.meaning.specs.Packing.{Words}
+use Rattle.meaning.specs.Packing.{Words, useSeqNumber}
 use Rattle.run_decoding.specs.Decoded.{Numbered}
 use Rattle.run_actions.specs.declared.registers.Registers.{Registers}
 use Rattle.run_actions.specs.declared.registers.Next.{Next}
@@ -114,19 +114,15 @@ pub record SimulatesTry (words : Words) (allowance : ℕ) (g : Registers) (m : M
   pub idle : h .callee ≡ 0
   pub moved : UnchangedOrBelow (length words) allowance g m h n
 
--- UseSeq's number
-abbrev pub useNumber : ℕ
-useNumber = 11
-
 -- UseSeq, which is done where it comes next, or else does not come next
 pub data SimulatesUse (words : Words) (allowance : ℕ) (g : Registers) (m : Memory)
     (next : Next) (n : Memory) : Type 0 where
-  other : (Numbered words (g .at .0) useNumber → ⊥) → next ≡ Onward g → n ≡ m → SimulatesUse words allowance g m next n
+  other : (Numbered words (g .at .0) useSeqNumber → ⊥) → next ≡ Onward g → n ≡ m → SimulatesUse words allowance g m next n
   used : SimulatesTurn words allowance g m next n → Idle next → SimulatesUse words allowance g m next n
 
 -- one instruction, any but UseSeq; before UseSeq the measure must have fallen already
 abbrev pub SimulatesInstruction : Words → ℕ → Registers → Memory → Next → Memory → Type 0
 SimulatesInstruction words allowance g m next n =
     (bound : ℕ) → measure (length words) allowance (Onward g) m ≤ bound →
-    (Numbered words (g .at .0) useNumber → measure (length words) allowance (Onward g) m < bound) →
+    (Numbered words (g .at .0) useSeqNumber → measure (length words) allowance (Onward g) m < bound) →
     SimulatesBelow words allowance (outcomeFrom (roomOf m) allowance words (Onward g) m) bound g m next n

@@ -8,7 +8,7 @@ use lib.Dec.{eqb, leb, ltb}
 use lib.ListN.{length, drop, getD}
 use Rattle.meaning.specs.Choice.{pick, either}
 use Rattle.meaning.specs.Names.{isBuiltIn}
-use Rattle.tape_layout.specs.Tape.{tapeWord, conditionKind, closeKind, callKind}
+use Rattle.tape_layout.specs.Tape.{tapeWord, conditionKind, closeKind, callKind, kindWidth}
 use Rattle.tape_words.specs.Words.{carried, nameIn}
 use Rattle.tape_flatness.specs.declared.Place.{Place}
 use Rattle.tape_flatness.specs.declared.Place.the-variants.{At, Nowhere}
@@ -40,7 +40,7 @@ abbrev pub opensCall : ℕ → Bool
 opensCall w = leb (tapeWord callKind 0) w
 
 abbrev pub calledPlace : ℕ → ℕ
-calledPlace w = w / 256 - callKind
+calledPlace w = w / kindWidth - callKind
 
 abbrev pub closesCall : ℕ → Bool
 closesCall w = eqb w (tapeWord closeKind 0)

@@ -9,7 +9,7 @@ use tape_words::wide::CALL_KIND;
 use tape_words::wide::CALL_WORD;
 use tape_words::wide::CLOSE_WORD;
 use tape_words::wide::CONDITION_WORD;
-use tape_words::wide::KIND;
+use tape_words::wide::KIND_WIDTH;
 ghost use mathlib.Core.Path.{_≡_};
 ghost use mathlib.Core.Bool.{true};
 ghost use Prim.Native.Nat.{ℕ, _+_, _≤_, _<_};
@@ -89,7 +89,7 @@ fn declared_call(tape: &[u32], i: usize, size: usize) -> usize
     if is_built_in(tape, i + 1, size) {
         return 0;
     }
-    let place = less(word_at(tape, i) / KIND, CALL_KIND);
+    let place = less(word_at(tape, i) / KIND_WIDTH, CALL_KIND);
     place + 1
 }
 
@@ -98,7 +98,7 @@ fn name_end(tape: &[u32], i: usize) -> usize
     requires { ⌜ i < length (now tape) ⌝ }
     ensures { λ r. ⌜ r ≡ i + carried (getD (now (tape .entry)) i 0) ⌝ }
 {
-    i + word_at(tape, i) % KIND
+    i + word_at(tape, i) % KIND_WIDTH
 }
 
 // Eight words joined bit by bit: none of them is greater. No word ends the loop early, so that all are joined at once.
@@ -229,7 +229,7 @@ fn pass_call(tape: &[u32], i: usize, leftmost: usize) -> Passed
     let next = passed.next;
     let found = passed.leftmost;
     if item_follows(tape, next) {
-        let call = declared_call(tape, i, word_at(tape, i) % KIND);
+        let call = declared_call(tape, i, word_at(tape, i) % KIND_WIDTH);
         let leftmost = earlier(call, found);
         return Passed { next, leftmost };
     }
@@ -245,7 +245,7 @@ fn settled(tape: &[u32], from: usize, leftmost: usize) -> bool
         return false;
     }
     let first_call = CALL_WORD as u32;
-    let no_further_left = ((leftmost + CALL_KIND - 1) * KIND) as u32;
+    let no_further_left = ((leftmost + CALL_KIND - 1) * KIND_WIDTH) as u32;
     let mut any = false;
     let mut at = from;
     while at < tape.len() {

@@ -8,9 +8,12 @@ use Rattle.meaning.specs.Choice.{Name}
 use Rattle.meaning.specs.Classes.{classNumber}
 use Rattle.meaning.specs.Tree.{Letter, character, symbol, Element, letter, part, Subject, ofSymbol, ofPart, Condition, Expression, end, thenCharacter, thenSymbol, thenPart, thenCall, Sentence, Function, Table}
 
--- what a word is: its number of 256, and above that what it carries
+-- what a word is: its kind, and what it carries, which is below `kindWidth`
+abbrev pub kindWidth : ℕ
+kindWidth = 256
+
 abbrev pub tapeWord : ℕ → ℕ → ℕ
-tapeWord kind carried = kind * 256 + carried
+tapeWord kind carried = kind * kindWidth + carried
 
 -- an s-variable and an e-variable carry the length of their identifier, whose bytes come after
 abbrev pub symbolKind : ℕ
@@ -19,10 +22,23 @@ symbolKind = 1
 abbrev pub partKind : ℕ
 partKind = 2
 
--- a condition carries 20 for each byte of its variable's identifier, 10 if that is an e-variable, 5 if 'T' is expected,
--- and its class, at most 179; the identifier comes after
+-- a condition carries its class, a number below `classCount`; `conditionTruth` besides if 'T' is expected,
+-- `conditionPart` if its variable is an e-variable, and `conditionSize` for each byte of that variable's identifier: at
+-- most 179. The identifier comes after
 abbrev pub conditionKind : ℕ
 conditionKind = 3
+
+abbrev pub classCount : ℕ
+classCount = 5
+
+abbrev pub conditionTruth : ℕ
+conditionTruth = 5
+
+abbrev pub conditionPart : ℕ
+conditionPart = 10
+
+abbrev pub conditionSize : ℕ
+conditionSize = 20
 
 -- `=`, which parts the pattern and the conditions from the expression
 abbrev pub equalsKind : ℕ
@@ -48,6 +64,34 @@ functionKind = 8
 abbrev pub callKind : ℕ
 callKind = 9
 
+-- the first word of each kind
+abbrev pub symbolWord : ℕ
+symbolWord = 256
+
+abbrev pub partWord : ℕ
+partWord = 512
+
+abbrev pub conditionWord : ℕ
+conditionWord = 768
+
+abbrev pub equalsWord : ℕ
+equalsWord = 1024
+
+abbrev pub closeWord : ℕ
+closeWord = 1280
+
+abbrev pub nextWord : ℕ
+nextWord = 1536
+
+abbrev pub functionEndWord : ℕ
+functionEndWord = 1792
+
+abbrev pub functionWord : ℕ
+functionWord = 2048
+
+abbrev pub callWord : ℕ
+callWord = 2304
+
 abbrev pub named : ℕ → Name → List ℕ
 named kind n = tapeWord kind (length n) ∷ n
 
@@ -64,12 +108,12 @@ patternTape [] = []
 patternTape (x ∷ xs) = elementTape x ++ patternTape xs
 
 abbrev pub truthNumber : Bool → ℕ
-truthNumber true = 5
+truthNumber true = conditionTruth
 truthNumber false = 0
 
 abbrev pub subjectTape : ℕ → Subject → List ℕ
-subjectTape carried (ofSymbol x) = tapeWord conditionKind (length x * 20 + carried) ∷ x
-subjectTape carried (ofPart x) = tapeWord conditionKind (length x * 20 + 10 + carried) ∷ x
+subjectTape carried (ofSymbol x) = tapeWord conditionKind (length x * conditionSize + carried) ∷ x
+subjectTape carried (ofPart x) = tapeWord conditionKind (length x * conditionSize + conditionPart + carried) ∷ x
 
 abbrev pub conditionTape : Condition → List ℕ
 conditionTape c = subjectTape (truthNumber (c .expected) + classNumber (c .predicate)) (c .subject)

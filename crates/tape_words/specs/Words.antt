@@ -6,7 +6,9 @@ use lib.Dec.{leb, ltb, eqb}
 use lib.ListN.{take, drop}
 use Rattle.meaning.specs.Choice.{Name, pick}
 use Rattle.meaning.specs.Classes.{Class, digit, upper, lower, alphabetic, blank}
+use Rattle.meaning.specs.Classes.{digitNumber, upperNumber, lowerNumber, alphabeticNumber}
 use Rattle.meaning.specs.Allowed.{maxLetters, maxConditions, maxItems, maxNesting}
+use Rattle.tape_layout.specs.Tape.{kindWidth, symbolWord, partWord, conditionWord, equalsWord, closeWord, nextWord, callWord}
 use Rattle.tape_words.specs.declared.tape.Parts.{Parts}
 use Rattle.tape_words.specs.declared.tape.Parts.the-variants.{Zero, One, Two}
 use Rattle.tape_words.specs.declared.tape.Piece.{Piece}
@@ -14,9 +16,9 @@ use Rattle.tape_words.specs.declared.tape.Piece.the-variants.{Character,
 use Rattle.tape_words.specs.declared.tape.Item.{Item}
 use Rattle.tape_words.specs.declared.tape.Item.the-variants.{Byte, Symbol, Part, Call, Pass, Close, Unclosed, Stop}
 
--- what a word carries below its number of 256: the length of the name after it
+-- what a word carries besides its kind: the length of the name after it
 abbrev pub carried : ℕ → ℕ
-carried w = w % 256
+carried w = w % kindWidth
 
 -- the name after a word, as long as the tape goes
 abbrev pub nameIn : List ℕ → Name
@@ -38,10 +40,10 @@ partPiece Two = PatternEnd
 
 abbrev pub pieceOf : ℕ → ℕ → Parts → Piece
 pieceOf w letters parts =
-    pick (leb 768 w) PatternEnd
-    (pick (leb 512 w) (partPiece parts)
+    pick (leb conditionWord w) PatternEnd
+    (pick (leb partWord w) (partPiece parts)
     (pick (leb maxLetters letters) PatternEnd
-    (pick (leb 256 w) SVariable Character)))
+    (pick (leb symbolWord w) SVariable Character)))
 
 abbrev pub pieceAt : List ℕ → ℕ → Parts → Piece
 pieceAt [] letters parts = PatternEnd
@@ -50,16 +52,16 @@ pieceAt (w ∷ ws) letters parts = pieceOf w letters parts
 -- IN CONDITIONS: at most 8 are read
 
 abbrev pub isConditionWord : ℕ → ℕ → Bool
-isConditionWord count w = pick (leb maxConditions count) false (pick (ltb w 768) false (ltb w 1024))
+isConditionWord count w = pick (leb maxConditions count) false (pick (ltb w conditionWord) false (ltb w equalsWord))
 
 abbrev pub classIn : ℕ → Class
-classIn n = pick (eqb n 0) digit (pick (eqb n 1) upper (pick (eqb n 2) lower (pick (eqb n 3) alphabetic blank)))
+classIn n = pick (eqb n digitNumber) digit (pick (eqb n upperNumber) upper (pick (eqb n lowerNumber) lower (pick (eqb n alphabeticNumber) alphabetic blank)))
 
 -- IN AN EXPRESSION, with so many calls open and after so many items: at most 128 items are read; a call with 16 open round it is passed over, and what is no item
 -- ends the open calls and the expression
 
 abbrev pub endingOf : ℕ → ℕ → Item
-endingOf w depth = pick (eqb depth 0) Stop (pick (ltb w 1280) Unclosed (pick (ltb w 1536) Close Unclosed))
+endingOf w depth = pick (eqb depth 0) Stop (pick (ltb w closeWord) Unclosed (pick (ltb w nextWord) Close Unclosed))
 
 abbrev pub openingOf : ℕ → Item
 openingOf depth = pick (ltb depth maxNesting) Call Pass
@@ -67,10 +69,10 @@ openingOf depth = pick (ltb depth maxNesting) Call Pass
 abbrev pub itemOfWord : ℕ → ℕ → ℕ → Item
 itemOfWord w depth items =
     pick (leb maxItems items) (endingOf w depth)
-    (pick (ltb w 256) Byte
-    (pick (ltb w 512) Symbol
-    (pick (ltb w 768) Part
-    (pick (ltb w 2304) (endingOf w depth)
+    (pick (ltb w symbolWord) Byte
+    (pick (ltb w partWord) Symbol
+    (pick (ltb w conditionWord) Part
+    (pick (ltb w callWord) (endingOf w depth)
     (openingOf depth)))))
 
 abbrev pub itemAt : List ℕ → ℕ → ℕ → Item

@@ -1,6 +1,6 @@
-// The kinds of the tape's words, as they stand on it. A word is its kind times KIND, and what it carries, which is below
-// KIND; a character is its byte. `wide` has the same numbers as counts.
-pub const KIND: u32 = 256;
+// The kinds of the tape's words, as they stand on it. A word is its kind times KIND_WIDTH, and what it carries, which
+// is below that; a character is its byte. `wide` has the same numbers as counts.
+pub const KIND_WIDTH: u32 = 256;
 
 pub const SYMBOL_KIND: u32 = 1;
 
@@ -22,10 +22,10 @@ pub const FUNCTION_KIND: u32 = 8;
 pub const CALL_KIND: u32 = 9;
 
 // The words of the kinds that carry nothing.
-pub const EQUALS_WORD: u32 = EQUALS_KIND * KIND;
+pub const EQUALS_WORD: u32 = EQUALS_KIND * KIND_WIDTH;
 
-pub const CLOSE_WORD: u32 = CLOSE_KIND * KIND;
+pub const CLOSE_WORD: u32 = CLOSE_KIND * KIND_WIDTH;
 
-pub const NEXT_WORD: u32 = NEXT_KIND * KIND;
+pub const NEXT_WORD: u32 = NEXT_KIND * KIND_WIDTH;
 
-pub const END_WORD: u32 = END_KIND * KIND;
+pub const END_WORD: u32 = END_KIND * KIND_WIDTH;

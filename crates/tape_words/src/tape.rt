@@ -5,7 +5,7 @@ use crate::limits::MAX_NESTING;
 use crate::wide::CALL_WORD;
 use crate::wide::CLOSE_WORD;
 use crate::wide::CONDITION_WORD;
-use crate::wide::KIND;
+use crate::wide::KIND_WIDTH;
 use crate::wide::NEXT_WORD;
 use crate::wide::PART_WORD;
 use crate::wide::SYMBOL_WORD;
@@ -15,7 +15,9 @@ ghost use mathlib.Core.List.{_∷_};
 ghost use Prim.Native.Nat.{_+_, _-_, _<_, _^_, min};
 ghost use lib.Dec.{ltb};
 ghost use lib.ListN.{length, take, drop, getD, replicate};
+ghost use Rattle.meaning.specs.Allowed.{maxLetters};
 ghost use Rattle.meaning.specs.Choice.{pick};
+ghost use Rattle.tape_layout.specs.Tape.{kindWidth};
 ghost use Rattle.tape_words.specs.Words.{headName, partPiece, pieceOf, pieceAt, endingOf, openingOf, itemOfWord, itemAt};
 
 // How many e-variables a pattern has, or has had so far.
@@ -47,7 +49,7 @@ pub enum Item {
 
 // Room for as many numbers as a pattern may have letters, and a table functions.
 pub fn room() -> [usize; MAX_LETTERS]
-    ensures { λ r. ⌜ r ≡ replicate 64 0 ⌝ }
+    ensures { λ r. ⌜ r ≡ replicate maxLetters 0 ⌝ }
 {
     [0usize; MAX_LETTERS]
 }
@@ -95,12 +97,12 @@ fn word_on(tape: &[u32], i: usize) -> usize
 // It is one of the words of a kind, whose first is `low`.
 pub fn of_kind(word: usize, low: usize) -> bool
     requires { ⌜ low < 2 ^ 32 ⌝ }
-    ensures { λ r. ⌜ r ≡ pick (ltb word low) false (ltb word (low + 256)) ⌝ }
+    ensures { λ r. ⌜ r ≡ pick (ltb word low) false (ltb word (low + kindWidth)) ⌝ }
 {
     if word < low {
         return false;
     }
-    word < low + KIND
+    word < low + KIND_WIDTH
 }
 
 // How many of so many words from a place on the tape has.
@@ -115,7 +117,7 @@ pub fn name_size(tape: &[u32], head: usize) -> usize
     ensures { λ r. ⌜ r ≡ length (headName (now (tape .entry)) head) ⌝ }
 {
     if head < tape.len() {
-        reach(tape, head + 1, word_on(tape, head) % KIND)
+        reach(tape, head + 1, word_on(tape, head) % KIND_WIDTH)
     } else {
         0
     }

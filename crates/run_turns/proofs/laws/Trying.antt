@@ -7,7 +7,7 @@ use mathlib.Core.List.{_∷_}
 use lib.ListN.{length, drop}
 use Rattle.meaning.specs.Instructions.{Action}
 use Rattle.meaning.specs.Machine.{isDeclared}
-use Rattle.meaning.specs.Packing.{Words, unpackActions}
+use Rattle.meaning.specs.Packing.{Words, unpackActions, useSeqNumber}
 use Rattle.run_decoding.specs.Decoded.{Numbered}
 use Rattle.run_actions.specs.declared.registers.Registers.{Registers}
 use Rattle.run_actions.specs.declared.registers.Next.{Next}
@@ -15,7 +15,7 @@ use Rattle.run_actions.specs.declared.registers.Next.the-variants.{Onward, Done
 use Rattle.run_actions.specs.States.{Memory, crowdedAt, roomOf, ImplementsAction}
 use Rattle.run_applications.specs.Waiting.{functionsIn, outcomeFrom, measure}
 use Rattle.run_applications.specs.Simulation.{Invariant, registersIn, Simulates, SimulatesApplication}
-use Rattle.run_turns.specs.Turns.{Idle, stepped, keptOf, ActingInvariant, SimulatesTurn, SimulatesEntry, useNumber}
+use Rattle.run_turns.specs.Turns.{Idle, stepped, keptOf, ActingInvariant, SimulatesTurn, SimulatesEntry}
 use Rattle.run_turns.specs.Turns.{UnchangedOrBelow, still, onwards, SimulatesTry, SimulatesUse, other, used, SimulatesInstruction}
 use Rattle.run_applications.proofs.laws.Simulation.{simulates-start, simulates-on}
 use Rattle.run_turns.proofs.laws.Turning.{turn-implements}
@@ -87,7 +87,7 @@ module _ (words : Words) (allowance : ℕ) where
     pub does-step : {next : Next} {n : Memory} → SimulatesTurn words allowance g m next n → SimulatesInstruction words allowance g m next n
     does-step steps bound h more = record { simulates = steps .simulates; decreases = omega (arith, steps .decreases) }
 
-    pub does-use : ActingInvariant allowance g m → Numbered words (g .at .0) useNumber → SimulatesInstruction words allowance g m (Onward g) m
+    pub does-use : ActingInvariant allowance g m → Numbered words (g .at .0) useSeqNumber → SimulatesInstruction words allowance g m (Onward g) m
     does-use a numbered bound h more = record { simulates = simulates-start words allowance (Onward g) m (a .invariant); decreases = more numbered }
 
     -- a call left for where there is room for its frame
@@ -174,7 +174,7 @@ module _ (words : Words) (allowance : ℕ) where
       turn-done {g₃} {g₄} {m₃} {m₄} {n} {next} u selected does = by u
         where
           ends : Simulates words allowance (outcomeFrom (roomOf m) allowance words (Onward g) m) g m (Onward g₃) m₃ → Left g₄ m₄ ≤ Left g m →
-              (Numbered words (g₄ .at .0) useNumber → Left g₄ m₄ < Left g m) → SimulatesTurn words allowance g m next n
+              (Numbered words (g₄ .at .0) useSeqNumber → Left g₄ m₄ < Left g m) → SimulatesTurn words allowance g m next n
           ends lead few fewer =
               let d = does (Left g m) few fewer in
               record {
@@ -183,8 +183,8 @@ module _ (words : Words) (allowance : ℕ) where
               }
 
           -- what comes next was no UseSeq, so if it is one now, something was done
-          selected-use : (Numbered words (g₃ .at .0) useNumber → ⊥) → Left g₃ m₃ ≤ Left g m → UnchangedOrBelow (length words) allowance g₃ m₃ g₄ m₄ →
-              Numbered words (g₄ .at .0) useNumber → Left g₄ m₄ < Left g m
+          selected-use : (Numbered words (g₃ .at .0) useSeqNumber → ⊥) → Left g₃ m₃ ≤ Left g m → UnchangedOrBelow (length words) allowance g₃ m₃ g₄ m₄ →
+              Numbered words (g₄ .at .0) useSeqNumber → Left g₄ m₄ < Left g m
           selected-use none few (still e e′) numbered = absurd (none (rw e at numbered))
           selected-use none few (onwards l) numbered = omega arith
 
