@@ -19,7 +19,7 @@ use Rattle.meaning.specs.Entries.{answered, written, translated, runAnswer}
 use Rattle.meaning_agreeing.proofs.laws.Translated.{unpacked}
 use Rattle.meaning_agreeing.proofs.Demand3.{as-demanded}
 use Rattle.run_actions.specs.declared.registers.Ran.{Ran}
-use Rattle.run_actions.specs.Endings.{endingNumber}
+use Rattle.answers.specs.Numbers.{endingNumber}
 use Rattle.run_code.specs.Leaving.{Tells, Leaves}
 use Rattle.engine.specs.declared.Report.{Report}
 use Rattle.engine.specs.Told.{Runs, Profiles}

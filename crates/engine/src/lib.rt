@@ -3,10 +3,10 @@ pub mod flat;
 pub mod profile;
 
 use crate::profile::refal0_profile;
+use answers::ending_number;
 use engine_tables::list_table;
 use engine_tables::read_table;
 use engine_tables::translate_table;
-use run_actions::registers::ending_number;
 ghost use mathlib.Core.Path.{_≡_};
 ghost use lib.ListN.{length};
 ghost use Rattle.meaning.specs.Reading.{read};

@@ -1,5 +1,5 @@
 // A run with the applications of each function: 02's T-01.
-use run_actions::registers::ending_number;
+use answers::ending_number;
 ghost use Rattle.meaning.specs.Leaving.{leaving};
 ghost use Rattle.run_code.specs.Leaving.{cells};
 ghost use Rattle.engine.specs.Told.{Profiles};

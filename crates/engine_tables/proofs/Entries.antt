@@ -19,7 +19,7 @@ use Rattle.meaning.specs.Packing.{pack, placesFrom, packFunctions}
 use Rattle.meaning.specs.Leaving.{zeros, padded, over}
 use Rattle.meaning.specs.Entries.{answered, readAnswer, written, listed, translated}
 use Rattle.read_table.specs.declared.Reading.{Reading}
-use Rattle.read_bookkeeping.specs.Answered.{numberOf}
+use Rattle.answers.specs.Numbers.{numberOf}
 use Rattle.read_table.specs.Reads.{Reads}
 use Rattle.list_strings.specs.declared.State.the-variants.{Start}
 use Rattle.list_table.specs.declared.Listed.{Listed}

@@ -16,7 +16,7 @@ use Rattle.tape_flatness.specs.Scanned.{placed, scannedCalls, nestedCall}
 use Rattle.tape_flatness.proofs.Traced.{tape-traced}
 use Rattle.read_table.specs.declared.Reading.{Reading}
 use Rattle.read_table.specs.Reads.{treeTape, Reads}
-use Rattle.read_bookkeeping.specs.Answered.{numberOf}
+use Rattle.answers.specs.Numbers.{numberOf}
 use Rattle.engine_tables.proofs.Known.{AreBytes, Known, read-known}
 
 -- a place that is there, and one that isn't

@@ -20,7 +20,8 @@ use Rattle.meaning.proofs.laws.Choosing.{of-either}
 use Rattle.run_code.specs.Leaving.{cells}
 use Rattle.engine.specs.declared.Report.{Report}
 use Rattle.engine.specs.TableRuns.{TableRun, hasFunction, withoutCode, withCode, tableRun, Reports}
-use Rattle.program_printing.specs.Texts.{isRefusal, refusalText}
+use Rattle.answers.specs.Numbers.{isRefusal}
+use Rattle.program_printing.specs.Texts.{refusalText}
 use Rattle.program_profile.specs.Profiles.{namesRead}
 use Rattle.program.specs.Printed.{ranText, runText, lentCells, Shows}
 

@@ -7,7 +7,8 @@ use lib.ListN.{length, take}
 use Rattle.meaning.specs.Choice.{Bytes, Name, pick}
 use Rattle.meaning.specs.Reading.{read}
 use Rattle.meaning.specs.Leaving.{Cells, zeros}
-use Rattle.program_printing.specs.Texts.{isRefusal, refusalText, resultText, profileText}
+use Rattle.answers.specs.Numbers.{isRefusal}
+use Rattle.program_printing.specs.Texts.{refusalText, resultText, profileText}
 use Rattle.program_profile.specs.Profiles.{namesRead}
 use Rattle.run_code.specs.Leaving.{cells}
 use Rattle.engine.specs.declared.Report.{Report}

@@ -1,8 +1,8 @@
 // The program: a table and a text in, what the run of the table's code answers out.
+use answers::is_refusal;
 use engine::Report;
 use libc::STDIN_FILENO;
 use libc::STDOUT_FILENO;
-use program_printing::is_refusal;
 use program_printing::put_refusal;
 use program_printing::put_result;
 use program_profile::put_profile;

@@ -1,8 +1,7 @@
 -- Worked rows of what is printed.
 use mathlib.Core.Path.{_≡_, refl}
-use mathlib.Core.Bool.{true, false}
-use mathlib.Core.List.{[], _∷_, _++_, map}
-use Rattle.program_printing.specs.Texts.{numeralOf, numeral, isRefusal, refusalText, resultText, profileLines, profileText}
+use mathlib.Core.List.{[], _∷_, _++_}
+use Rattle.program_printing.specs.Texts.{numeralOf, numeral, refusalText, resultText, profileLines, profileText}
 
 pub numerals : (numeral 0 ≡ 48 ∷ []) × (numeral 10 ≡ 49 ∷ 48 ∷ []) × (numeral 100000 ≡ 49 ∷ 48 ∷ 48 ∷ 48 ∷ 48 ∷ 48 ∷ [])
 unfolding numeralOf
@@ -25,10 +24,6 @@ result-row = refl
 pub emissions-row : resultText 11 2 3 (69 ∷ 32 ∷ 10 ∷ []) [] ≡ 49 ∷ 49 ∷ 32 ∷ 50 ∷ 32 ∷ 51 ∷ 10 ∷ 69 ∷ 32 ∷ 10 ∷ 10 ∷ []
 unfolding numeralOf
 emissions-row = refl
-
--- 1 to 8 and 17 are answered without a run
-pub refusals : map isRefusal (0 ∷ 1 ∷ 8 ∷ 9 ∷ 16 ∷ 17 ∷ 18 ∷ []) ≡ false ∷ true ∷ true ∷ false ∷ false ∷ true ∷ false ∷ []
-refusals = refl
 
 -- functions in the order of the table, each with its own count; one that is never applied has 0
 pub profile-row : profileText ((70 ∷ []) ∷ (71 ∷ []) ∷ []) (2 ∷ 0 ∷ 0 ∷ []) 2 ≡

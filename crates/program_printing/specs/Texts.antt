@@ -1,12 +1,10 @@
 -- What is printed of a refusal, of a result and of the applications of each function: 01, the last paragraph of 'Runs to hold on to', and 02, T-01.
 use Prim.Native.Nat.{ℕ, zero, suc, _+_, _/_, _%_, _≤_}
 use mathlib.Core.Path.{_≡_}
-use mathlib.Core.Bool.{Bool}
 use mathlib.Core.List.{List, [], _∷_, _++_}
-use lib.Dec.{eqb, ltb}
+use lib.Dec.{ltb}
 use lib.ListN.{length}
-use Rattle.meaning.specs.Choice.{Bytes, Name, pick, both, either}
-use Rattle.meaning.specs.Answers.{noSuchStart, bufferTooShort}
+use Rattle.meaning.specs.Choice.{Bytes, Name, pick}
 use Rattle.meaning.specs.Leaving.{over}
 use Rattle.byte_writing.specs.Put.{Put}
 
@@ -34,10 +32,6 @@ numberThen n after = numeral n ++ after ∷ []
 -- its cells at most: a number of the code has up to 20 digits
 abbrev pub numberCells : ℕ
 numberCells = 21
-
--- 1 to 8 refuse a table, and 17 its code, where that is longer than what is lent for it
-abbrev pub isRefusal : ℕ → Bool
-isRefusal number = either (both (ltb 0 number) (ltb number noSuchStart)) (eqb number bufferTooShort)
 
 -- "For a refused table it prints number and place only"
 abbrev pub refusalText : ℕ → ℕ → Bytes

@@ -1,24 +1,10 @@
 // Writing what is printed into lent cells.
 use byte_writing::put;
 use byte_writing::put_all;
-ghost use mathlib.Core.Path.{_≡_};
 ghost use Prim.Native.Nat.{_+_, _*_, _<_};
 ghost use lib.ListN.{length};
 ghost use Rattle.byte_writing.specs.Put.{farthest};
-ghost use Rattle.program_printing.specs.Texts.{numberCells, isRefusal, numberThen, refusalText, resultText, PutAtMost};
-
-// 1 to 8 and 17 are answered before any run.
-pub fn is_refusal(number: u64) -> bool
-    ensures { λ r. ⌜ r ≡ isRefusal number ⌝ }
-{
-    if number == 0 {
-        return false;
-    }
-    if number < 9 {
-        return true;
-    }
-    number == 17
-}
+ghost use Rattle.program_printing.specs.Texts.{numberCells, numberThen, refusalText, resultText, PutAtMost};
 
 // A number in decimal and the byte after it.
 pub fn put_number(out: &mut [u8], at: usize, n: u64, after: u8) -> usize

@@ -16,7 +16,8 @@ use Rattle.read_tokens.specs.declared.Span.{Span}
 use Rattle.read_bookkeeping.specs.declared.progress.Fault.{Fault}
 use Rattle.read_bookkeeping.specs.declared.progress.Progress.{Progress}
 use Rattle.read_bookkeeping.specs.declared.progress.Parsed.the-variants.{Stopped, Done}
-use Rattle.read_bookkeeping.specs.Answered.{numberOf, Outcome, halted, reached, Comes, AgreesBy, Agrees}
+use Rattle.answers.specs.Numbers.{numberOf}
+use Rattle.read_bookkeeping.specs.Answered.{Outcome, halted, reached, Comes, AgreesBy, Agrees}
 use Rattle.read_bookkeeping.specs.Tables.{Inside}
 use Rattle.read_bookkeeping.specs.Written.{Wrote, isQuiet, Ready, Went}
 use Rattle.read_bookkeeping.proofs.Lengths.{part-length}

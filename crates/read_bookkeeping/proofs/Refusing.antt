@@ -15,7 +15,7 @@ use Rattle.read_tokens.specs.View.{Sound, Comes}
 use Rattle.read_tokens.specs.declared.Token.{Token}
 use Rattle.read_tokens.specs.declared.Placed.{Placed}
 use Rattle.read_tokens.proofs.Variants.{by-kind}
-use Rattle.read_bookkeeping.specs.declared.Answer.the-variants.{NotAllowedHere}
+use Rattle.answers.specs.declared.Answer.the-variants.{NotAllowedHere}
 use Rattle.read_bookkeeping.specs.Tokened.{wordIs, isWord, unlessWord}
 use Rattle.read_bookkeeping.specs.Items.{NoItem, WordRefused}
 

@@ -3,32 +3,13 @@ use Prim.Native.Nat.{ℕ}
 use mathlib.Core.Path.{_≡_, refl}
 use mathlib.Core.Bool.{false}
 use mathlib.Core.List.{List, [], _∷_}
-use lib.Dec.{eqb}
 use types.Run.{OneOf, miss}
 use denote.Enum.Declared.{tagOf}
 use Rattle.meaning.specs.Answers.{notAllowedHere}
 use Rattle.read_tokens.proofs.Token as token
 use Rattle.read_tokens.specs.declared.Token.{Token}
 use Rattle.read_tokens.proofs.Variants.{by-kind}
-use Rattle.read_bookkeeping.proofs.Answer as answer
-use Rattle.read_bookkeeping.specs.declared.Answer.{Answer}
-use Rattle.read_bookkeeping.specs.declared.Answer.the-variants.{Accepted, TableTooLong, MalformedToken, NotAllowedHere, OverLimit, WrongName, WrongPatternVariable, WrongLaterVariable, UndeclaredName}
-use Rattle.read_bookkeeping.specs.Answered.{numberOf}
 use Rattle.read_bookkeeping.specs.Tokened.{tokenFault, signIs, wordIs}
-
-abbrev allButFirst : List ℕ
-allButFirst = 1 ∷ 2 ∷ 3 ∷ 4 ∷ 5 ∷ 6 ∷ 7 ∷ 8 ∷ []
-
-pub not-accepted : (a : Answer) → OneOf allButFirst (tagOf answer.the-type a) → false ≡ eqb (numberOf a) 0
-not-accepted Accepted k = absurd (miss allButFirst 0 tt k)
-not-accepted TableTooLong k = refl
-not-accepted MalformedToken k = refl
-not-accepted NotAllowedHere k = refl
-not-accepted OverLimit k = refl
-not-accepted WrongName k = refl
-not-accepted WrongPatternVariable k = refl
-not-accepted WrongLaterVariable k = refl
-not-accepted UndeclaredName k = refl
 
 abbrev allButSign : List ℕ
 allButSign = 0 ∷ 1 ∷ 2 ∷ 3 ∷ 4 ∷ 6 ∷ 7 ∷ []

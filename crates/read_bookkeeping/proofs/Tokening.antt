@@ -24,7 +24,8 @@ use Rattle.read_bookkeeping.specs.declared.progress.Fault.{Fault}
 use Rattle.read_bookkeeping.specs.declared.progress.Progress.{Progress}
 use Rattle.read_bookkeeping.specs.declared.progress.Parsed.the-variants.{Stopped}
 use Rattle.read_bookkeeping.specs.Tables.{Inside}
-use Rattle.read_bookkeeping.specs.Answered.{numberOf, Outcome, halted, AgreesBy, Agrees}
+use Rattle.answers.specs.Numbers.{numberOf}
+use Rattle.read_bookkeeping.specs.Answered.{Outcome, halted, AgreesBy, Agrees}
 use Rattle.read_bookkeeping.specs.Written.{Ready, Went}
 use Rattle.read_bookkeeping.specs.Tokened.{tokenFault, signIs, Taken, Barred}
 use Rattle.read_bookkeeping.proofs.Going.{stops-by, went-on}

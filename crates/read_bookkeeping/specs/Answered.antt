@@ -1,31 +1,13 @@
--- The answers of the code as 01's numbers, and what a reader of the code comes to as what a definition's comes to.
-use Prim.Native.Nat.{ℕ}
+-- What a reader of the code comes to, as what a definition's comes to.
 use mathlib.Core.Path.{_≡_}
 use mathlib.Core.List.{List}
-use Rattle.meaning.specs.Answers as Answers
 use Rattle.meaning.specs.Tokens.{Placed}
 use Rattle.meaning.specs.Reading as Reading
-use Rattle.read_bookkeeping.specs.declared.Answer.{Answer}
-use Rattle.read_bookkeeping.specs.declared.Answer.the-variants.{Accepted, TableTooLong, MalformedToken}
-use Rattle.read_bookkeeping.specs.declared.Answer.the-variants.{NotAllowedHere, OverLimit, WrongName}
-use Rattle.read_bookkeeping.specs.declared.Answer.the-variants.{WrongPatternVariable}
-use Rattle.read_bookkeeping.specs.declared.Answer.the-variants.{WrongLaterVariable, UndeclaredName}
+use Rattle.answers.specs.Numbers.{numberOf}
 use Rattle.read_bookkeeping.specs.declared.progress.Fault.{Fault}
 use Rattle.read_bookkeeping.specs.declared.progress.Progress.{Progress}
 use Rattle.read_bookkeeping.specs.declared.progress.Parsed.{Parsed}
 use Rattle.read_bookkeeping.specs.declared.progress.Parsed.the-variants.{Stopped, Done}
-
--- 01 'Where each thing is checked'
-abbrev pub numberOf : Answer → ℕ
-numberOf Accepted = Answers.finished
-numberOf TableTooLong = Answers.tableTooLong
-numberOf MalformedToken = Answers.malformedToken
-numberOf NotAllowedHere = Answers.notAllowedHere
-numberOf OverLimit = Answers.overLimit
-numberOf WrongName = Answers.wrongName
-numberOf WrongPatternVariable = Answers.wrongPatternVariable
-numberOf WrongLaterVariable = Answers.wrongLaterVariable
-numberOf UndeclaredName = Answers.undeclaredName
 
 -- what a reader of the code comes to, whatever it counts: it is halted by a fault, or has reached this
 pub data Outcome (P : Type 0) : Type 0 where

@@ -11,7 +11,7 @@ use Rattle.read_tokens.specs.View.{IsClosed, charactersIn, quotationAt, tokenOf
 use Rattle.read_tokens.specs.declared.Span.{Span}
 use Rattle.read_tokens.specs.declared.Placed.{Placed}
 use Rattle.read_bookkeeping.specs.declared.progress.Fault.{Fault}
-use Rattle.read_bookkeeping.specs.Answered.{numberOf}
+use Rattle.answers.specs.Numbers.{numberOf}
 use Rattle.read_bookkeeping.specs.Tables.{tableNames, Entries}
 use Rattle.read_bookkeeping.specs.Tokened.{isWord}
 

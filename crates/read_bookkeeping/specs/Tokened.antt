@@ -16,7 +16,7 @@ use Rattle.read_tokens.specs.declared.Token.the-variants.{Name, Symbol, Part, W
 use Rattle.read_bookkeeping.specs.declared.progress.Fault.{Fault}
 use Rattle.read_bookkeeping.specs.declared.progress.Passed.{Passed}
 use Rattle.read_bookkeeping.specs.declared.progress.Passed.the-variants.{Past, Refused}
-use Rattle.read_bookkeeping.specs.Answered.{numberOf}
+use Rattle.answers.specs.Numbers.{numberOf}
 
 abbrev pub tokenFault : Token → ℕ
 tokenFault (Name name) = notAllowedHere

@@ -1,8 +1,8 @@
 // Names and identifiers: parts of the text, and tables of them. An entry of a table is 32 times the place of a name,
 // plus the name's length.
-use crate::Answer;
 use crate::progress::fault_if;
-use crate::progress::is_accepted;
+use answers::Answer;
+use answers::is_accepted;
 use read_tokens::Span;
 use tape_words::limits::MAX_FUNCTIONS;
 use tape_words::limits::MAX_IDENTIFIER;
@@ -14,7 +14,7 @@ ghost use Rattle.meaning.specs.Choice.{sameBytes, startsWith};
 ghost use Rattle.meaning.specs.Names.{isBuiltIn, predicateOf, isPredicate};
 ghost use Rattle.meaning.specs.Reading.{calledFault, subjectFault};
 ghost use Rattle.read_tokens.specs.View.{part};
-ghost use Rattle.read_bookkeeping.specs.Answered.{numberOf};
+ghost use Rattle.answers.specs.Numbers.{numberOf};
 ghost use Rattle.read_bookkeeping.specs.Classed.{predicateMeant};
 ghost use Rattle.read_bookkeeping.specs.Tables.{Inside, tableNames, Entries, position, declaredFaultIn};
 

@@ -1,16 +1,15 @@
 // How far a reader has come, and what a single token is good for.
-use crate::Answer;
+use answers::Answer;
 use read_tokens::Mode;
 use read_tokens::Placed;
 use read_tokens::Token;
 use read_tokens::lex;
 ghost use mathlib.Core.Path.{_≡_};
 ghost use Prim.Native.Nat.{_≤_};
-ghost use lib.Dec.{eqb};
 ghost use lib.ListN.{length};
 ghost use Rattle.meaning.specs.Choice.{pick};
 ghost use Rattle.read_tokens.specs.View.{modeOf};
-ghost use Rattle.read_bookkeeping.specs.Answered.{numberOf};
+ghost use Rattle.answers.specs.Numbers.{numberOf};
 ghost use Rattle.read_bookkeeping.specs.Tokened.{tokenFault, signIs, wordIs, Passes};
 
 pub struct Fault {
@@ -28,17 +27,6 @@ pub struct Progress {
 pub enum Parsed {
     Stopped(Fault),
     Done(Progress),
-}
-
-// Whether nothing is wrong.
-pub fn is_accepted(answer: Answer) -> bool
-    ensures { λ r. ⌜ r ≡ eqb (numberOf answer) 0 ⌝ }
-{
-    if let Answer::Accepted = answer {
-        true
-    } else {
-        false
-    }
 }
 
 // An answer where something is wrong, and else that nothing is.

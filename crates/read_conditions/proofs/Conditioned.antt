@@ -31,8 +31,8 @@ use Rattle.read_tokens.specs.declared.Token.{Token}
 use Rattle.read_tokens.specs.declared.Token.the-variants.{Quoted}
 use Rattle.read_tokens.proofs.Variants.{by-kind}
 use Rattle.read_tokens.specs.declared.Placed as Code
-use Rattle.read_bookkeeping.specs.declared.Answer.{Answer}
-use Rattle.read_bookkeeping.specs.declared.Answer.the-variants.{OverLimit, WrongName}
+use Rattle.answers.specs.declared.Answer.{Answer}
+use Rattle.answers.specs.declared.Answer.the-variants.{OverLimit, WrongName}
 use Rattle.read_bookkeeping.specs.declared.names.Class.{Class as CodeClass}
 use Rattle.read_bookkeeping.specs.declared.names.Predicate.{Predicate}
 use Rattle.read_bookkeeping.specs.declared.names.Predicate.the-variants.{Asks, NoPredicate}
@@ -42,7 +42,8 @@ use Rattle.read_bookkeeping.specs.declared.progress.Progress.{Progress}
 use Rattle.read_bookkeeping.specs.declared.progress.Parsed.{Parsed as CodeParsed}
 use Rattle.read_bookkeeping.specs.declared.progress.Parsed.the-variants.{Stopped, Done}
 use Rattle.read_bookkeeping.specs.Tables.{Inside}
-use Rattle.read_bookkeeping.specs.Answered.{numberOf, Agrees}
+use Rattle.answers.specs.Numbers.{numberOf}
+use Rattle.read_bookkeeping.specs.Answered.{Agrees}
 use Rattle.read_bookkeeping.specs.Written.{Wrote, isQuiet, Ready, Went}
 use Rattle.read_bookkeeping.specs.Tokened.{signIs, Taken, Barred}
 use Rattle.read_bookkeeping.specs.Items.{Variables, symbolNames, partNames}

@@ -1,5 +1,6 @@
 // The conditions' reader.
-use read_bookkeeping::Answer;
+use answers::Answer;
+use answers::is_accepted;
 use read_bookkeeping::names::Class;
 use read_bookkeeping::names::Predicate;
 use read_bookkeeping::names::class_named;
@@ -8,7 +9,6 @@ use read_bookkeeping::progress::Fault;
 use read_bookkeeping::progress::Parsed;
 use read_bookkeeping::progress::Passed;
 use read_bookkeeping::progress::Progress;
-use read_bookkeeping::progress::is_accepted;
 use read_bookkeeping::progress::is_sign;
 use read_bookkeeping::progress::pass;
 use read_bookkeeping::progress::refuse;
@@ -32,7 +32,8 @@ ghost use Rattle.tape_layout.specs.Tape.{truthNumber};
 ghost use Rattle.meaning.specs.Tokens.{inside};
 ghost use Rattle.meaning.specs.Reading as Reading;
 ghost use Rattle.read_tokens.specs.View.{part, stream};
-ghost use Rattle.read_bookkeeping.specs.Answered.{numberOf, Agrees};
+ghost use Rattle.answers.specs.Numbers.{numberOf};
+ghost use Rattle.read_bookkeeping.specs.Answered.{Agrees};
 ghost use Rattle.read_bookkeeping.specs.Classed.{classMeant};
 ghost use Rattle.read_bookkeeping.specs.Tables.{Inside};
 ghost use Rattle.read_bookkeeping.specs.Written.{Ready};

@@ -25,8 +25,8 @@ use Rattle.read_tokens.specs.declared.Span.{Span}
 use Rattle.read_tokens.specs.declared.Token.{Token}
 use Rattle.read_tokens.specs.declared.Token.the-variants.{Name as NameToken}
 use Rattle.read_tokens.specs.declared.Placed as Code
-use Rattle.read_bookkeeping.specs.declared.Answer.{Answer}
-use Rattle.read_bookkeeping.specs.declared.Answer.the-variants.{OverLimit}
+use Rattle.answers.specs.declared.Answer.{Answer}
+use Rattle.answers.specs.declared.Answer.the-variants.{OverLimit}
 use Rattle.read_bookkeeping.specs.declared.progress.Fault.{Fault}
 use Rattle.read_functions.specs.declared.sentences.SentencesEnd.{SentencesEnd}
 use Rattle.read_functions.specs.declared.sentences.ParsedSentences.{ParsedSentences}
@@ -34,7 +34,8 @@ use Rattle.read_functions.specs.declared.sentences.ParsedSentences.the-v
 use Rattle.read_functions.specs.declared.functions.ParsedTable.{ParsedTable}
 use Rattle.read_functions.specs.declared.functions.ParsedTable.the-variants.{Stopped as StoppedTable, Done as DoneTable}
 use Rattle.read_bookkeeping.specs.Tables.{Inside, nameIn, inText, tableNames, declaredFaultIn}
-use Rattle.read_bookkeeping.specs.Answered.{numberOf, AgreesBy}
+use Rattle.answers.specs.Numbers.{numberOf}
+use Rattle.read_bookkeeping.specs.Answered.{AgreesBy}
 use Rattle.read_bookkeeping.specs.Written.{Wrote, isQuiet, Ready, Went}
 use Rattle.read_bookkeeping.specs.Tokened.{signIs, Taken}
 use Rattle.read_functions.specs.declared.functions.Tally.{Tally}

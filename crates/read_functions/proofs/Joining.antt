@@ -18,13 +18,13 @@ use Rattle.read_tokens.specs.View as View
 use Rattle.read_tokens.specs.View.{charactersIn, quotationAt}
 use Rattle.read_tokens.specs.declared.Span.{Span}
 use Rattle.read_tokens.specs.declared.Placed.{Placed}
-use Rattle.read_bookkeeping.specs.declared.Answer.{Answer}
-use Rattle.read_bookkeeping.specs.declared.Answer.the-variants.{OverLimit, WrongLaterVariable}
+use Rattle.answers.specs.declared.Answer.{Answer}
+use Rattle.answers.specs.declared.Answer.the-variants.{OverLimit, WrongLaterVariable}
 use Rattle.read_functions.specs.declared.expressions.ExpressionCounts.{ExpressionCounts}
 use Rattle.read_functions.specs.declared.expressions.Joined.{Joined}
 use Rattle.read_functions.specs.declared.expressions.Joined.the-variants.{Taken, Wrong, Refused, Other}
 use Rattle.read_bookkeeping.specs.Tables.{tableNames, Entries, position}
-use Rattle.read_bookkeeping.specs.Answered.{numberOf}
+use Rattle.answers.specs.Numbers.{numberOf}
 use Rattle.read_bookkeeping.specs.Written.{Wrote, stringFrom, isQuiet, Went}
 use Rattle.read_bookkeeping.specs.Items.{symbolNames, Identifier, StringAt}
 use Rattle.read_functions.specs.Expressions.{progressAt, Going, itemTape, VariableTaken, ItemGives, JoinsItem, TokenGives, JoinsToken}

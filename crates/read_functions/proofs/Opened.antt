@@ -18,14 +18,15 @@ use Rattle.read_tokens.specs.View.{stream, Comes}
 use Rattle.read_tokens.specs.declared.Span.{Span}
 use Rattle.read_tokens.specs.declared.Token.the-variants.{Name as NameToken}
 use Rattle.read_tokens.specs.declared.Placed as Code
-use Rattle.read_bookkeeping.specs.declared.Answer.{Answer}
-use Rattle.read_bookkeeping.specs.declared.Answer.the-variants.{OverLimit}
+use Rattle.answers.specs.declared.Answer.{Answer}
+use Rattle.answers.specs.declared.Answer.the-variants.{OverLimit}
 use Rattle.read_bookkeeping.specs.declared.progress.Fault.{Fault}
 use Rattle.read_functions.specs.declared.expressions.ExpressionCounts.{ExpressionCounts}
 use Rattle.read_functions.specs.declared.expressions.ParsedExpression.{ParsedExpression}
 use Rattle.read_functions.specs.declared.expressions.ParsedExpression.the-variants.{Stopped, Done}
 use Rattle.read_bookkeeping.specs.Tables.{Inside}
-use Rattle.read_bookkeeping.specs.Answered.{numberOf, AgreesBy}
+use Rattle.answers.specs.Numbers.{numberOf}
+use Rattle.read_bookkeeping.specs.Answered.{AgreesBy}
 use Rattle.read_bookkeeping.specs.Written.{Wrote, isQuiet, Ready}
 use Rattle.read_functions.specs.Expressions.{expressionOutcome, CallStands, faultAt, CalledName, opening, OpeningRead}
 use Rattle.read_bookkeeping.proofs.Choosing.{both-false}

@@ -20,7 +20,7 @@ use Rattle.read_tokens.specs.View.{tokenOf, placedOf, stream, Comes}
 use Rattle.read_tokens.specs.declared.Token.{Token}
 use Rattle.read_tokens.specs.declared.Token.the-variants.{Sign}
 use Rattle.read_tokens.specs.declared.Placed as Code
-use Rattle.read_bookkeeping.specs.declared.Answer.the-variants.{OverLimit}
+use Rattle.answers.specs.declared.Answer.the-variants.{OverLimit}
 use Rattle.read_bookkeeping.specs.declared.progress.Fault.{Fault}
 use Rattle.read_bookkeeping.specs.declared.progress.Progress.{Progress}
 use Rattle.read_bookkeeping.specs.declared.progress.Parsed.{Parsed as CodeParsed}

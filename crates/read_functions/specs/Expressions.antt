@@ -15,7 +15,7 @@ use Rattle.meaning.specs.Reading.{parsed, Item, characters, symbolItem, partIte
 use Rattle.read_tokens.specs.View.{part, stream}
 use Rattle.read_tokens.specs.declared.Span.{Span}
 use Rattle.read_tokens.specs.declared.Placed.{Placed}
-use Rattle.read_bookkeeping.specs.declared.Answer.{Answer}
+use Rattle.answers.specs.declared.Answer.{Answer}
 use Rattle.read_functions.specs.declared.expressions.ExpressionCounts.{ExpressionCounts}
 use Rattle.read_functions.specs.declared.expressions.Joined.{Joined}
 use Rattle.read_functions.specs.declared.expressions.Joined.the-variants.{Taken as Takes, Wrong, Refused, Other}
@@ -26,7 +26,8 @@ use Rattle.read_bookkeeping.specs.declared.progress.Parsed.{Parsed}
 use Rattle.read_bookkeeping.specs.declared.progress.Parsed.the-variants.{Stopped as StoppedThere, Done as DoneThere}
 use Rattle.read_functions.specs.declared.expressions.ParsedExpression.{ParsedExpression}
 use Rattle.read_functions.specs.declared.expressions.ParsedExpression.the-variants.{Stopped, Done}
-use Rattle.read_bookkeeping.specs.Answered.{numberOf, Outcome, halted, reached}
+use Rattle.answers.specs.Numbers.{numberOf}
+use Rattle.read_bookkeeping.specs.Answered.{Outcome, halted, reached}
 use Rattle.read_bookkeeping.specs.Tokened.{Taken, Barred}
 use Rattle.read_bookkeeping.specs.Written.{Wrote, isQuiet, Ready, Went}
 use Rattle.read_bookkeeping.specs.Items.{Variables, symbolNames, itemAt, NoItem, WordRefused}

@@ -23,7 +23,8 @@ use Rattle.read_functions.specs.declared.sentences.ParsedSentences.{Pars
 use Rattle.read_functions.specs.declared.sentences.ParsedSentences.the-variants.{Stopped, Done}
 use Rattle.read_functions.specs.declared.sentences.Sequel.{Sequel}
 use Rattle.read_functions.specs.declared.sentences.Sequel.the-variants.{Ends, Another, Refused}
-use Rattle.read_bookkeeping.specs.Answered.{numberOf, Outcome, halted, reached}
+use Rattle.answers.specs.Numbers.{numberOf}
+use Rattle.read_bookkeeping.specs.Answered.{Outcome, halted, reached}
 use Rattle.read_bookkeeping.specs.Tokened.{unlessWord}
 use Rattle.read_bookkeeping.specs.Written.{isQuiet, Went}
 use Rattle.read_functions.specs.Expressions.{Stands}

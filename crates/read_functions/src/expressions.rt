@@ -1,6 +1,7 @@
 // The readers of an expression and of a call, which call each other.
 use crate::fault_at;
-use read_bookkeeping::Answer;
+use answers::Answer;
+use answers::is_accepted;
 use read_bookkeeping::names::called_fault;
 use read_bookkeeping::names::find;
 use read_bookkeeping::names::later_fault;
@@ -8,7 +9,6 @@ use read_bookkeeping::progress::Fault;
 use read_bookkeeping::progress::Parsed;
 use read_bookkeeping::progress::Passed;
 use read_bookkeeping::progress::Progress;
-use read_bookkeeping::progress::is_accepted;
 use read_bookkeeping::progress::is_sign;
 use read_bookkeeping::progress::is_word;
 use read_bookkeeping::progress::pass;

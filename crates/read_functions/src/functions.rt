@@ -2,12 +2,12 @@
 use crate::fault_at;
 use crate::sentences::ParsedSentences;
 use crate::sentences::sentences;
-use read_bookkeeping::Answer;
+use answers::Answer;
+use answers::is_accepted;
 use read_bookkeeping::names::declared_fault;
 use read_bookkeeping::names::entry;
 use read_bookkeeping::progress::Fault;
 use read_bookkeeping::progress::Passed;
-use read_bookkeeping::progress::is_accepted;
 use read_bookkeeping::progress::is_sign;
 use read_bookkeeping::progress::pass;
 use read_bookkeeping::progress::refuse;

@@ -3,7 +3,7 @@ pub mod expressions;
 pub mod functions;
 pub mod sentences;
 
-use read_bookkeeping::Answer;
+use answers::Answer;
 use read_bookkeeping::progress::Fault;
 ghost use mathlib.Core.Path.{_≡_};
 ghost use Rattle.read_functions.specs.Expressions.{faultAt};

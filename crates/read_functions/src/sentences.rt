@@ -3,7 +3,7 @@ use crate::expressions::ExpressionCounts;
 use crate::expressions::expression;
 use crate::expressions::without_counts;
 use crate::fault_at;
-use read_bookkeeping::Answer;
+use answers::Answer;
 use read_bookkeeping::names::variable_room;
 use read_bookkeeping::progress::Fault;
 use read_bookkeeping::progress::Parsed;

@@ -20,13 +20,13 @@ use Rattle.read_tokens.specs.View as View
 use Rattle.read_tokens.specs.View.{charactersIn, quotationAt}
 use Rattle.read_tokens.specs.declared.Span.{Span}
 use Rattle.read_tokens.specs.declared.Placed.{Placed}
-use Rattle.read_bookkeeping.specs.declared.Answer.{Answer}
-use Rattle.read_bookkeeping.specs.declared.Answer.the-variants.{OverLimit}
+use Rattle.answers.specs.declared.Answer.{Answer}
+use Rattle.answers.specs.declared.Answer.the-variants.{OverLimit}
 use Rattle.read_patterns.specs.declared.Counts.{Counts}
 use Rattle.read_patterns.specs.declared.Added.{Added}
 use Rattle.read_patterns.specs.declared.Added.the-variants.{Taken, Wrong, Refused, Other}
 use Rattle.read_bookkeeping.specs.Tables.{position}
-use Rattle.read_bookkeeping.specs.Answered.{numberOf}
+use Rattle.answers.specs.Numbers.{numberOf}
 use Rattle.read_bookkeeping.specs.Written.{Wrote, stringFrom, isQuiet, Went}
 use Rattle.read_bookkeeping.specs.Items.{Variables, symbolNames, partNames, Identifier, StringAt}
 use Rattle.read_patterns.specs.Patterns.{Held, Seen, patternSymbolFault, patternPartFault, ItemGives, AddsItem, TokenGives, AddsToken}

@@ -15,14 +15,15 @@ use Rattle.meaning.specs.Reading as Reading
 use Rattle.meaning.specs.Reading.{Item, isItem, elementsOf, endsInPart, faultUnless, patternFault}
 use Rattle.read_tokens.specs.View.{stream}
 use Rattle.read_tokens.specs.declared.Placed.{Placed}
-use Rattle.read_bookkeeping.specs.declared.Answer.{Answer}
+use Rattle.answers.specs.declared.Answer.{Answer}
 use Rattle.read_patterns.specs.declared.Counts.{Counts}
 use Rattle.read_patterns.specs.declared.ParsedPattern.{ParsedPattern}
 use Rattle.read_patterns.specs.declared.ParsedPattern.the-variants.{Stopped, Done}
 use Rattle.read_patterns.specs.declared.Added.{Added}
 use Rattle.read_patterns.specs.declared.Added.the-variants.{Taken, Wrong, Refused, Other}
 use Rattle.read_bookkeeping.specs.Items.{Variables, symbolNames, partNames, itemAt, WordRefused, NoItem}
-use Rattle.read_bookkeeping.specs.Answered.{numberOf, Outcome, halted, reached, AgreesBy}
+use Rattle.answers.specs.Numbers.{numberOf}
+use Rattle.read_bookkeeping.specs.Answered.{Outcome, halted, reached, AgreesBy}
 use Rattle.read_bookkeeping.specs.Tokened.{unlessWord}
 use Rattle.read_bookkeeping.specs.Written.{isQuiet, Ready, Went}
 

@@ -1,10 +1,10 @@
 // The pattern's reader.
-use read_bookkeeping::Answer;
+use answers::Answer;
+use answers::is_accepted;
 use read_bookkeeping::names::entry;
 use read_bookkeeping::names::find;
 use read_bookkeeping::progress::Fault;
 use read_bookkeeping::progress::fault_if;
-use read_bookkeeping::progress::is_accepted;
 use read_bookkeeping::progress::is_word;
 use read_bookkeeping::writing::put_characters;
 use read_bookkeeping::writing::put_name;
@@ -26,7 +26,7 @@ ghost use Rattle.meaning.specs.Choice.{pick, both};
 ghost use Rattle.meaning.specs.Tokens as Tokens;
 ghost use Rattle.meaning.specs.Reading as Reading;
 ghost use Rattle.read_tokens.specs.View.{charactersIn, quotationAt, part, Comes};
-ghost use Rattle.read_bookkeeping.specs.Answered.{numberOf};
+ghost use Rattle.answers.specs.Numbers.{numberOf};
 ghost use Rattle.read_bookkeeping.specs.Tables.{Inside, position};
 ghost use Rattle.read_bookkeeping.specs.Written.{Ready};
 ghost use Rattle.read_bookkeeping.specs.Items.{symbolNames, partNames, Identifier, StringAt};

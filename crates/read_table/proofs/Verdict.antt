@@ -13,8 +13,8 @@ use Rattle.meaning.specs.Tree.{Table}
 use Rattle.tape_layout.specs.Tape.{tape}
 use Rattle.meaning.specs.Reading.{unknownIn, accepted, refused, known, verdict, read}
 use Rattle.read_tokens.specs.View.{stream}
-use Rattle.read_bookkeeping.specs.declared.Answer.{Answer}
-use Rattle.read_bookkeeping.specs.declared.Answer.the-variants.{Accepted, TableTooLong, UndeclaredName}
+use Rattle.answers.specs.declared.Answer.{Answer}
+use Rattle.answers.specs.declared.Answer.the-variants.{Accepted, TableTooLong, UndeclaredName}
 use Rattle.read_table.specs.declared.Reading.{Reading}
 use Rattle.read_bookkeeping.specs.declared.progress.Fault.{Fault}
 use Rattle.read_functions.specs.declared.functions.Tally.{Tally}
@@ -22,7 +22,8 @@ use Rattle.read_functions.specs.declared.functions.ParsedTable.{ParsedTable}
 use Rattle.read_functions.specs.declared.functions.ParsedTable.the-variants.{Stopped, Done}
 use Rattle.read_table.specs.declared.calls.Unknown.{Unknown}
 use Rattle.read_table.specs.declared.calls.Unknown.the-variants.{At, Nowhere}
-use Rattle.read_bookkeeping.specs.Answered.{numberOf, AgreesBy}
+use Rattle.answers.specs.Numbers.{numberOf}
+use Rattle.read_bookkeeping.specs.Answered.{AgreesBy}
 use Rattle.read_bookkeeping.specs.Written.{written, Went}
 use Rattle.read_bookkeeping.specs.Tables.{tableNames, Entries}
 use Rattle.read_functions.specs.Sentences.{Each}

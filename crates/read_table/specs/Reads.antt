@@ -8,9 +8,9 @@ use Rattle.meaning.specs.Allowed.{maxTable}
 use Rattle.tape_layout.specs.Tape.{tape}
 use Rattle.meaning.specs.Reading.{Read, accepted, refused, read}
 use Rattle.meaning.specs.Entries.{answered, readAnswer}
-use Rattle.read_bookkeeping.specs.declared.Answer.{Answer}
+use Rattle.answers.specs.declared.Answer.{Answer}
 use Rattle.read_table.specs.declared.Reading.{Reading}
-use Rattle.read_bookkeeping.specs.Answered.{numberOf}
+use Rattle.answers.specs.Numbers.{numberOf}
 
 -- the words of an accepted table; a refused one has none
 abbrev pub treeTape : Read → List ℕ

@@ -2,15 +2,14 @@
 mod calls;
 mod functions;
 
+use answers::Answer;
 use calls::Unknown;
 use calls::unknown_call;
 use functions::functions;
-use read_bookkeeping::Answer;
 use read_bookkeeping::names::function_room;
 use read_functions::functions::ParsedTable;
 use tape_words::limits::MAX_TABLE;
 ghost use mathlib.Core.Path.{_≡_};
-ghost use Rattle.read_bookkeeping.specs.Answered.{numberOf};
 ghost use Rattle.read_table.specs.Reads.{LongEnough, Reads, refusedWith};
 
 // An answer and its place; of an accepted table how many functions it has, and how many words its tape.
@@ -19,23 +18,6 @@ pub struct Reading {
     pub place: usize,
     pub functions: usize,
     pub words: usize,
-}
-
-// 01's number of an answer.
-pub fn number(answer: Answer) -> u64
-    ensures { λ r. ⌜ r ≡ numberOf answer ⌝ }
-{
-    match answer {
-        Answer::Accepted => 0,
-        Answer::TableTooLong => 1,
-        Answer::MalformedToken => 2,
-        Answer::NotAllowedHere => 3,
-        Answer::OverLimit => 4,
-        Answer::WrongName => 5,
-        Answer::WrongPatternVariable => 6,
-        Answer::WrongLaterVariable => 7,
-        Answer::UndeclaredName => 8,
-    }
 }
 
 fn refusal(answer: Answer, place: usize) -> Reading

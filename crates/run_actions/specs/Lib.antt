@@ -1,4 +1,3 @@
 -- The definitions that this crate's contracts cite, in the order in which they build on each other.
-pub mod Endings
 pub mod States
 pub mod Spans

@@ -16,7 +16,7 @@ use Rattle.meaning.specs.Packing.{nullNumber, wholeNumber, leftNumber, rightNum
 use Rattle.run_actions.specs.declared.registers.Registers.{Registers}
 use Rattle.run_actions.specs.declared.registers.Next.{Next}
 use Rattle.run_actions.specs.declared.registers.Next.the-variants.{Onward, Done, Stopped, Deeper}
-use Rattle.run_actions.specs.Endings.{endingNumber}
+use Rattle.answers.specs.Numbers.{endingNumber}
 
 -- the stacks, the record, the frames' words and their stored values
 pub record Memory : Type 0 where

@@ -12,13 +12,13 @@ use Rattle.meaning.specs.Machine.{Stacks, returned, isDeclared, perform, proces
 use Rattle.meaning.specs.Runs.{Room, lent}
 use Rattle.meaning.specs.Packing.{Words, functionsAt, unpackActions}
 use Rattle.run_actions.specs.declared.registers.Registers.{Registers}
-use Rattle.run_actions.specs.declared.registers.Ending.the-variants.{NoSentenceFits}
+use Rattle.answers.specs.declared.Ending.the-variants.{NoSentenceFits}
 use Rattle.run_actions.specs.declared.registers.Next.{Next}
 use Rattle.run_actions.specs.declared.registers.Next.the-variants.{Onward, Done, Stopped, Deeper}
-use Rattle.run_actions.specs.Endings.{endingNumber}
 use Rattle.run_actions.specs.States.{Memory, frameWord, localAt, localOf, Held, stacksOf, Ledgers, ledgerOf}
 use Rattle.run_actions.specs.States.{Outcomes, Continuation}
 use Rattle.run_actions.specs.States.{returnSlot, selectionSlot}
+use Rattle.answers.specs.Numbers.{endingNumber}
 
 -- how many functions the table tells, and whether it is sound
 abbrev pub countIn : Words → ℕ

@@ -10,9 +10,9 @@ use Rattle.run_actions.specs.declared.registers.Ran.{Ran}
 use Rattle.run_actions.specs.declared.registers.Registers.{Registers}
 use Rattle.run_actions.specs.declared.registers.Next.{Next}
 use Rattle.run_actions.specs.declared.registers.Next.the-variants.{Onward, Done, Stopped, Deeper}
-use Rattle.run_actions.specs.declared.registers.Ending.{Ending}
-use Rattle.run_actions.specs.declared.registers.Ending.the-variants.{Finished}
-use Rattle.run_actions.specs.Endings.{endingNumber}
+use Rattle.answers.specs.declared.Ending.{Ending}
+use Rattle.answers.specs.declared.Ending.the-variants.{Finished}
+use Rattle.answers.specs.Numbers.{endingNumber}
 
 abbrev pub cells : Bytes → Bytes → Bytes → Cells
 cells stackIn stackOut «record» = record { stackIn = stackIn; stackOut = stackOut; «record» = «record» }

@@ -7,10 +7,10 @@ mod following;
 use crate::following::refused;
 use crate::following::run_lent;
 use crate::following::sound_table;
+use answers::Ending;
 use run_actions::frames::copy_counts;
 use run_actions::frames::first_values;
 use run_actions::frames::first_words;
-use run_actions::registers::Ending;
 use run_actions::registers::Ran;
 use run_applications::declared;
 

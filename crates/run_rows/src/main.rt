@@ -1,7 +1,7 @@
 // The rows of 01 on their packed code, and runs of words that are no code.
+use answers::ending_number;
 use libc::STDOUT_FILENO;
 use run_actions::registers::Ran;
-use run_actions::registers::ending_number;
 
 const TABLE_Z: [u32; 19] = [
     1,

@@ -5,7 +5,7 @@ use Rattle.read_conditions.proofs.condition_on.Tie as tie
 use mathlib.Core.Path.{sym, _∙_}
 use Rattle.meaning.specs.Tokens.{inside}
 use Rattle.read_tokens.proofs.Stream.{comes}
-use Rattle.read_bookkeeping.specs.Answered.{numberOf}
+use Rattle.answers.specs.Numbers.{numberOf}
 use Rattle.read_conditions.proofs.Conditioned.{OnToken, OnVariable, OnAsked, on-no-variable, on-variable, on-inside, on-wrong, on-before, on-reads}
 
 abbrev start : tie.After-lex → tie.Start

@@ -16,8 +16,8 @@ use Rattle.meaning.specs.Outcome.{stop}
 use Rattle.meaning.specs.Runs.{lent}
 use Rattle.meaning.specs.Packing.{firstIn, secondIn, thirdIn, lengthOf, spanAction}
 use Rattle.run_actions.specs.declared.registers.Registers.{Registers}
-use Rattle.run_actions.specs.declared.registers.Ending.{Ending}
-use Rattle.run_actions.specs.declared.registers.Ending.the-variants.{NoInstruction, OutFull}
+use Rattle.answers.specs.declared.Ending.{Ending}
+use Rattle.answers.specs.declared.Ending.the-variants.{NoInstruction, OutFull}
 use Rattle.run_actions.specs.declared.registers.Next.{Next}
 use Rattle.run_actions.specs.declared.registers.Next.the-variants.{Onward, Stopped}
 use Rattle.run_cells.specs.declared.places.InCell.{InCell}
@@ -26,7 +26,7 @@ use Rattle.run_actions.specs.declared.moving.Cells.the-variants.{Wrong}
 use Rattle.run_actions.specs.declared.moving.Reached.{Reached}
 use Rattle.run_actions.specs.declared.moving.Reached.the-variants.{At, Wrong as NotThere}
 use Rattle.run_decoding.specs.Decoded.{spanMeant}
-use Rattle.run_actions.specs.Endings.{endingNumber}
+use Rattle.answers.specs.Numbers.{endingNumber}
 use Rattle.run_actions.specs.Spans.{cellsOf, reachedBy}
 use Rattle.run_actions.specs.States.{Memory, memory, frameWord, localOf, stacksOf, Ledgers, ledgerOf, roomOf, movedTo, ActionInvariant, Outcomes, Continuation, Writes, Preserves, ImplementsAction, HasValues}
 use Rattle.run_sites.proofs.laws.Lists.{nth-in, nth-out}

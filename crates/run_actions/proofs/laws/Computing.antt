@@ -12,7 +12,7 @@ use Rattle.run_angles.specs.declared.Angled.{Angled}
 use Rattle.run_angles.specs.declared.Angled.the-variants.{Sum, NotAngles, OutOfRange}
 use Rattle.run_angles.specs.Post.{Left, leftWith, leaves}
 use Rattle.run_actions.specs.declared.registers.Registers.{Registers}
-use Rattle.run_actions.specs.declared.registers.Ending.the-variants.{ArgumentNotAngles, AngleOutOfRange}
+use Rattle.answers.specs.declared.Ending.the-variants.{ArgumentNotAngles, AngleOutOfRange}
 use Rattle.run_actions.specs.declared.registers.Next.the-variants.{Stopped}
 use Rattle.run_actions.specs.States.{Memory, Writes, ImplementsAction}
 use Rattle.run_actions.proofs.laws.Acting.{stops}

@@ -11,7 +11,7 @@ use Rattle.meaning.specs.Choice.{Bytes}
 use Rattle.meaning.specs.Outcome.{emittedLine}
 use Rattle.meaning.specs.Packing.{Words, emissionOf}
 use Rattle.run_actions.specs.declared.registers.Registers.{Registers}
-use Rattle.run_actions.specs.declared.registers.Ending.the-variants.{NoInstruction, RecordFull}
+use Rattle.answers.specs.declared.Ending.the-variants.{NoInstruction, RecordFull}
 use Rattle.run_actions.specs.declared.registers.Next.the-variants.{Onward, Stopped}
 use Rattle.run_decoding.specs.Decoded.{isName}
 use Rattle.run_actions.specs.States.{Memory, memory, ImplementsAction}

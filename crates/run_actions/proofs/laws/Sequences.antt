@@ -10,7 +10,7 @@ use Rattle.meaning.specs.Choice.{Bytes}
 use Rattle.meaning.specs.Instructions.{beginSeq, useSeq}
 use Rattle.meaning.specs.Machine.{withOpened}
 use Rattle.run_actions.specs.declared.registers.Registers.{Registers}
-use Rattle.run_actions.specs.declared.registers.Ending.the-variants.{NoInstruction, InFull}
+use Rattle.answers.specs.declared.Ending.the-variants.{NoInstruction, InFull}
 use Rattle.run_actions.specs.declared.registers.Next.the-variants.{Onward, Stopped}
 use Rattle.run_actions.specs.States.{Memory, memory, frameWord, localAt, openedAt, countsIn, movedTo, ImplementsAction, HasFrame, wordsIn, withWord}
 use Rattle.run_cells.specs.Moved.{moved, MovedSoFar}

@@ -17,12 +17,12 @@ use Rattle.meaning.specs.Matching.{storedValues}
 use Rattle.meaning.specs.Machine.{isDeclared, codeAt}
 use Rattle.meaning.specs.Packing.{Words, unpackSentences, unpackStores}
 use Rattle.run_actions.specs.declared.registers.Registers.{Registers}
-use Rattle.run_actions.specs.declared.registers.Ending.{Ending}
-use Rattle.run_actions.specs.declared.registers.Ending.the-variants.{NoInstruction}
+use Rattle.answers.specs.declared.Ending.{Ending}
+use Rattle.answers.specs.declared.Ending.the-variants.{NoInstruction}
 use Rattle.run_actions.specs.declared.registers.Next.the-variants.{Onward, Stopped}
 use Rattle.run_code_places.specs.declared.CodePlace.{CodePlace}
 use Rattle.run_applications.specs.declared.Stored.the-variants.{Before, Wrong}
-use Rattle.run_actions.specs.Endings.{endingNumber}
+use Rattle.answers.specs.Numbers.{endingNumber}
 use Rattle.run_actions.specs.States.{Memory, memory, frameWord, localAt, Held, countsIn, ledgerOf, roomOf, Outcomes, HasFrame, HasValues, wordsIn, wordsBelow, withWord, begun}
 use Rattle.run_actions.proofs.laws.Frames.{word-set, word-kept, waiting-kept, counts-kept}
 use Rattle.run_applications.specs.Storing.{Stores}

@@ -21,7 +21,7 @@ use Rattle.meaning.specs.Packing.{Words, unpackSentences, unpackStores, unpackA
 use Rattle.meaning.specs.Leaving.{maxFrames}
 use Rattle.run_decoding.proofs.laws.Reading.{actions-none}
 use Rattle.run_actions.specs.declared.registers.Registers.{Registers}
-use Rattle.run_actions.specs.declared.registers.Ending.the-variants.{AllowanceSpent, FramesFull, NoInstruction, NoSentenceFits}
+use Rattle.answers.specs.declared.Ending.the-variants.{AllowanceSpent, FramesFull, NoInstruction, NoSentenceFits}
 use Rattle.run_actions.specs.declared.registers.Next.{Next}
 use Rattle.run_actions.specs.declared.registers.Next.the-variants.{Onward, Stopped}
 use Rattle.run_actions.specs.States.{Memory, memory, frameWord, countsIn, countedIn, localAt, localOf, Held, stacksOf, ledgerOf, roomOf, Outcomes}

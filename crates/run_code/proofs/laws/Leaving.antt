@@ -18,10 +18,10 @@ use Rattle.meaning.specs.Packing.{Words}
 use Rattle.meaning.specs.Leaving.{Cells, zeros, refusedRun, afterRun, leaving}
 use Rattle.meaning.specs.Leaving.{roomOf as roomOfCells}
 use Rattle.run_actions.specs.declared.registers.Registers.{Registers}
-use Rattle.run_actions.specs.declared.registers.Ending.{Ending}
+use Rattle.answers.specs.declared.Ending.{Ending}
 use Rattle.run_actions.specs.declared.registers.Next.{Next}
 use Rattle.run_actions.specs.declared.registers.Next.the-variants.{Onward, Done, Stopped, Deeper}
-use Rattle.run_actions.specs.Endings.{endingNumber}
+use Rattle.answers.specs.Numbers.{endingNumber}
 use Rattle.run_actions.specs.States.{firstFrames, wordsFor, valuesFor, Memory, memory, Held, countsIn, stacksOf, roomOf, Outcomes}
 use Rattle.run_applications.specs.Waiting.{soundIn, functionsIn, waiting, outcomeFrom}
 use Rattle.run_applications.specs.Simulation.{Invariant, NextInvariant, registersIn, Simulates}

@@ -3,7 +3,7 @@ use native.Mathlib.Omega.{arith}
 use mathlib.Core.Path.{_≡_, refl, sym, _∙_}
 use mathlib.Core.Bool.{true}
 use borrow.Author.Tests.{not-true, not-false}
-use Rattle.run_actions.specs.declared.registers.Ending.the-variants.{NoSuchStart, TextTooLong, NoInstruction}
+use Rattle.answers.specs.declared.Ending.the-variants.{NoSuchStart, TextTooLong, NoInstruction}
 use Rattle.meaning.specs.Leaving.{Cells}
 use Rattle.meaning.specs.Machine.{isDeclared}
 use Rattle.run_applications.specs.Waiting.{soundIn, functionsIn}

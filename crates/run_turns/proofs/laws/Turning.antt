@@ -9,7 +9,7 @@ use mathlib.Core.Bool.{false}
 use Rattle.meaning.specs.Machine.{isDeclared, process}
 use Rattle.meaning.specs.Packing.{Words, unpackActions}
 use Rattle.run_actions.specs.declared.registers.Registers.{Registers}
-use Rattle.run_actions.specs.declared.registers.Ending.the-variants.{NoInstruction}
+use Rattle.answers.specs.declared.Ending.the-variants.{NoInstruction}
 use Rattle.run_actions.specs.declared.registers.Next.{Next}
 use Rattle.run_actions.specs.declared.registers.Next.the-variants.{Onward, Done, Stopped, Deeper}
 use Rattle.run_actions.specs.States.{Memory, roomOf, ActionInvariant, Preserves, ImplementsAction}

@@ -3,7 +3,7 @@ use borrow.Author.Needs.{needs}
 use Rattle.read_bookkeeping.proofs.names.declared_fault.Statement.{statement}
 use Rattle.read_bookkeeping.proofs.names.declared_fault.Tie as tie
 use mathlib.Core.Path.{refl, sym, _∙_}
-use Rattle.read_bookkeeping.specs.Answered.{numberOf}
+use Rattle.answers.specs.Numbers.{numberOf}
 use Rattle.read_bookkeeping.proofs.Finding.{among}
 use Rattle.read_bookkeeping.proofs.Naming.{Asked-called, declared-wrong, declared-is, declared-known}
 

@@ -1,8 +1,8 @@
--- `read_bookkeeping::progress::is_accepted` meets its contract.
+-- `answers::is_accepted` meets its contract.
 use borrow.Author.Needs.{needs}
-use Rattle.read_bookkeeping.proofs.progress.is_accepted.Statement.{statement}
-use Rattle.read_bookkeeping.proofs.progress.is_accepted.Tie as tie
-use Rattle.read_bookkeeping.proofs.Tags.{not-accepted}
+use Rattle.answers.proofs.is_accepted.Statement.{statement}
+use Rattle.answers.proofs.is_accepted.Tie as tie
+use Rattle.answers.proofs.Accepted.{not-accepted}
 
 returns : tie.Need-returns
 returns c = rw (c .enum-told .given .1)

@@ -1,0 +1,3 @@
+-- Laws of answers, and worked rows.
+pub mod Accepted
+pub mod Rows
