@@ -1,10 +1,11 @@
 -- What a run answers and leaves, in the terms of meaning's Leaving.
-use Prim.Native.Nat.{ℕ, _-_}
+use Prim.Native.Nat.{ℕ, _-_, _<_}
 use mathlib.Core.Path.{_≡_}
 use mathlib.Core.List.{List, _++_}
 use lib.ListN.{length, take}
 use Rattle.meaning.specs.Choice.{Bytes}
 use Rattle.meaning.specs.Outcome.{Result}
+use Rattle.meaning.specs.Matching.{Choice}
 use Rattle.meaning.specs.Leaving.{Cells, Leaving, zeros}
 use Rattle.run_actions.specs.declared.registers.Ran.{Ran}
 use Rattle.run_actions.specs.declared.registers.Registers.{Registers}
@@ -13,6 +14,9 @@ use Rattle.run_actions.specs.declared.registers.Next.the-variants.{Onward, Done
 use Rattle.answers.specs.declared.Ending.{Ending}
 use Rattle.answers.specs.declared.Ending.the-variants.{Finished}
 use Rattle.answers.specs.Numbers.{endingNumber}
+use Rattle.run_glancing.specs.declared.Seen.{Seen}
+use Rattle.run_glancing.specs.declared.Seen.the-variants.{Nothing, Dropped, Perhaps}
+use Rattle.run_glancing.specs.Glanced.{Glances}
 
 abbrev pub cells : Bytes → Bytes → Bytes → Cells
 cells stackIn stackOut «record» = record { stackIn = stackIn; stackOut = stackOut; «record» = «record» }
@@ -64,3 +68,14 @@ loadedWith count text start =
       emitted = 0;
       callee = start;
     }
+
+-- A RUN THAT ITS FIRST APPLICATION ENDS
+
+abbrev pub endedWith : Ending → ℕ → Ran
+endedWith ending function = record { ending = ending; function = function; steps = 1; text = 0; emissions = 0 }
+
+-- what is seen of the first application holds of its choice, and a step is allowed for it
+abbrev pub Foreseen : Seen → ℕ → Choice → Type 0
+Foreseen Nothing allowance choice = (0 < allowance) × Glances Nothing choice
+Foreseen Dropped allowance choice = (0 < allowance) × Glances Dropped choice
+Foreseen Perhaps allowance choice = Unit {0}

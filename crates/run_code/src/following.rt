@@ -202,7 +202,7 @@ fn follow_deeper(
     last
 }
 
-fn clear_from(cells: &mut [u8], start: usize)
+pub fn clear_from(cells: &mut [u8], start: usize)
     requires { ⌜ start ≤ length (now cells) ⌝ }
     ensures leaves { λ _. ⌜ now (cells .exit) ≡ clearedFrom start (now (cells .entry)) ⌝ }
 {

@@ -3,11 +3,12 @@ ghost use Rattle.meaning.specs.Leaving.{leaving};
 ghost use Rattle.run_code.specs.Leaving.{cells, Leaves};
 
 mod following;
+mod glancing;
 
 use crate::following::refused;
-use crate::following::run_lent;
 use crate::following::sound_table;
 use answers::Ending;
+use crate::glancing::run_foreseen;
 use run_actions::frames::copy_counts;
 use run_actions::frames::first_values;
 use run_actions::frames::first_words;
@@ -42,7 +43,7 @@ pub fn run(
     }
     let mut frames = first_words();
     let mut values = first_values();
-    let ran = run_lent(
+    let ran = run_foreseen(
         code,
         start,
         text,

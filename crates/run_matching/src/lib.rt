@@ -58,7 +58,7 @@ fn places_for(cells: usize, whole: usize) -> usize
 }
 
 // The places that a sentence's first word leaves for a field of a length.
-fn places_of(word: u32, whole: usize) -> Places
+pub fn places_of(word: u32, whole: usize) -> Places
     requires { ⌜ whole < 2 ^ 63 ⌝ }
     ensures { λ r. ⌜ r ≡ placesFor (metricIn word) whole ⌝ }
 {

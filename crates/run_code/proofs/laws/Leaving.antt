@@ -135,7 +135,7 @@ module _ (room : Room) (allowance : ℕ) (words : Words) (m : Memory) where
 -- THE START
 
 -- nothing is counted at first
-getD-zeros : (i : ℕ) → getD uncounted i 0 ≡ 0
+pub getD-zeros : (i : ℕ) → getD uncounted i 0 ≡ 0
 getD-zeros i = by (decLe maxCounted i)
   where
     by : Dec (maxCounted ≤ i) → getD uncounted i 0 ≡ 0

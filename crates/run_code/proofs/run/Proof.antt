@@ -56,8 +56,8 @@ returns-3 c =
     rw (c .refused3 .ensures, leaving-long _ _ _ (lent (at-if1 .before)) _ (sound at-if1) (starts at-if2) (c .before .if3 .taken))
     (refused-leaves TextTooLong (lent (at-if1 .before)))
 
-run-lent-requires : tie.Need-run-lent-requires
-run-lent-requires c κs =
+run-foreseen-requires : tie.Need-run-foreseen-requires
+run-foreseen-requires c κs =
     let at-values = c .before .before .before .before .before in
     let at-words = at-values .before in
     let at-if3 = at-words .before in
@@ -69,16 +69,16 @@ run-lent-requires c κs =
 
 copy-counts-requires : tie.Need-copy-counts-requires
 copy-counts-requires c κs =
-    let at-run-lent = c .before .before .before .before .before .before .before .before .before .before in
-    let at-words = at-run-lent .before .before .before .before .before .before .before in
-    (omega (arith, at-run-lent .run-lent .kept .1 .1 .1 .1 .1 .1 .0, at-words .first-words .ensures .0), refl)
+    let at-run-foreseen = c .before .before .before .before .before .before .before .before .before .before in
+    let at-words = at-run-foreseen .before .before .before .before .before .before .before in
+    (omega (arith, at-run-foreseen .run-foreseen .kept .1 .1 .1 .1 .1 .1 .0, at-words .first-words .ensures .0), refl)
 
 returns-4 : tie.Need-returns-4
 returns-4 c =
-    let at-run-lent = c .before .before .before .before .before .before .before .before .before .before .before in
-    let at-if3 = at-run-lent .before .before .before .before .before .before .before .before in
+    let at-run-foreseen = c .before .before .before .before .before .before .before .before .before .before .before in
+    let at-if3 = at-run-foreseen .before .before .before .before .before .before .before .before in
     let at-if1 = at-if3 .before .before .before in
-    rw (leaving-runs _ _ _ (lent (at-if1 .before)) _ (sound at-if1) (starts (at-if3 .before)) (at-if3 .if3 .left), c .copy-counts .ensures) (at-run-lent .run-lent .ensures)
+    rw (leaving-runs _ _ _ (lent (at-if1 .before)) _ (sound at-if1) (starts (at-if3 .before)) (at-if3 .if3 .left), c .copy-counts .ensures) (at-run-foreseen .run-foreseen .ensures)
 
 pub run-spec : {M : Type 1} → statement M
 run-spec =
@@ -96,7 +96,7 @@ run-spec =
     (λ c κs. search needs)
     (λ c. search needs)
     (λ c. search needs)
-    run-lent-requires
+    run-foreseen-requires
     (λ c. search needs)
     copy-counts-requires
     (λ c. search needs)

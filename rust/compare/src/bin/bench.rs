@@ -24,6 +24,22 @@ const SENTENCES: usize = 512;
 const STEPS: u32 = 100_000;
 const EXAMPLE_TABLE: &[u8] = include_bytes!("../../../../examples/sheet/table.rf");
 const EXAMPLE_SHEET: &[u8] = include_bytes!("../../../../examples/sheet/sheet.txt");
+/// That example as it was when its time was first set as a goal: without the ranges of its numbers.
+const EARLIER_EXAMPLE_TABLE: &[u8] = b"
+    Sheet { eLine '\\n' eRest = <Line eLine> <Sheet eRest>; eLine = <Line eLine> }
+    Line {
+      = ;
+      'CLINIC ' eName = ;
+      'WEARER ' eName = ;
+      'STOP ' eValue = <EmitStop <Degrees eValue>>;
+      'SWING ' eValue = <EmitSwing <Degrees eValue>>;
+      'LOCK ON' = <EmitLock '1'>;
+      'LOCK OFF' = <EmitLock '0'>
+    }
+    Degrees {
+      '0' sNext eRest = <Degrees sNext eRest>;
+      sFirst eRest, <IsDigit sFirst>: 'T', <IsDigit eRest>: 'T' = sFirst eRest
+    }";
 const SHEET_TABLE: &[u8] = b"F { 'STOP ' e1 '\\n' e2 = <F e2>; 'SWING ' e1 '\\n' e2 = <F e2>; e1 = e1 }";
 const WORDS_TABLE: &[u8] = include_bytes!("../../../../examples/words/table.rf");
 
@@ -163,6 +179,7 @@ fn short_runs() {
     let items = (96, "an item");
     running_each("96 stored bytes, characters and parts in one sentence", mixed.as_bytes(), b"xyz,ab", 1, items);
     running("the example sheet, `examples/sheet`", EXAMPLE_TABLE, EXAMPLE_SHEET, STEPS);
+    running("the example sheet without its ranges", EARLIER_EXAMPLE_TABLE, EXAMPLE_SHEET, STEPS);
 }
 
 /// Conditions on parts: one over the whole text, and one on each part at every place.

@@ -1,0 +1,3 @@
+-- Laws over plain values.
+pub mod Looks
+pub mod Sentences
