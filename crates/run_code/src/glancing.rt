@@ -6,14 +6,14 @@ ghost use Rattle.meaning.specs.Outcome.{maxCounted, uncounted};
 ghost use Rattle.meaning.specs.Matching.{chooseFrom};
 ghost use Rattle.meaning.specs.Runs.{runLent};
 ghost use Rattle.meaning.specs.Packing.{unpackSentences};
-ghost use Rattle.meaning.specs.Leaving.{roomOf as roomOfCells, left};
+ghost use Rattle.meaning.specs.Leaving.{roomOf as roomOfCells, afterRun};
 ghost use Rattle.run_actions.specs.States.{firstFrames, wordsFor, valuesFor, countsIn, countedIn, CountsWithin};
 ghost use Rattle.run_applications.specs.Waiting.{countIn, functionsIn};
 ghost use Rattle.run_code.specs.Leaving.{cells, Leaves, clearedFrom, endedWith, Foreseen};
 use crate::following::clear_from;
 use crate::following::run_lent;
+use answers::Ending;
 use run_actions::frames::count_application;
-use run_actions::registers::Ending;
 use run_actions::registers::Ran;
 use run_code_places::CodePlace;
 use run_code_places::wide;
@@ -26,7 +26,7 @@ const LONG_TEXT: usize = 1024;
 // What is seen of the start's application, where the text is long and a step is allowed.
 fn foresee(code: &[u32], start: usize, text: &[u8], allowance: u32) -> Seen
     requires { ⌜ start < length (now code) ⌝ }
-    ensures { λ r. ⌜ Foreseen r allowance (chooseFrom 0
+    ensures { λ r. ⌜ Foreseen r allowance (chooseFrom
         (unpackSentences 0 (drop (getD (now (code .entry)) start 0) (now (code .entry)))) (now (text .entry))) ⌝ }
 {
     if text.len() < LONG_TEXT {
@@ -85,7 +85,7 @@ pub fn run_foreseen(
     requires { ⌜ length (now frames) ≡ wordsFor firstFrames ⌝ }
     requires { ⌜ length (now values) ≡ valuesFor firstFrames ⌝ }
     requires { ⌜ countsIn (now frames) ≡ uncounted ⌝ }
-    ensures { λ r. ⌜ Leaves r (countsIn (now (frames .exit))) (cells (now (input .exit)) (now (output .exit)) (now («record» .exit))) (left (runLent (roomOfCells (cells (now (input .entry)) (now (output .entry)) (now («record» .entry)))) (functionsIn (now (code .entry))) start (now (text .entry)) allowance) (cells (now (input .entry)) (now (output .entry)) (now («record» .entry)))) ⌝ }
+    ensures { λ r. ⌜ Leaves r (countsIn (now (frames .exit))) (cells (now (input .exit)) (now (output .exit)) (now («record» .exit))) (afterRun (runLent (roomOfCells (cells (now (input .entry)) (now (output .entry)) (now («record» .entry)))) (functionsIn (now (code .entry))) start (now (text .entry)) allowance) (cells (now (input .entry)) (now (output .entry)) (now («record» .entry)))) ⌝ }
 {
     match foresee(code, start, text, allowance) {
         Seen::Nothing => end_at_once(Ending::NoSentenceFits, start, start, input, output, frames),

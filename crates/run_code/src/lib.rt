@@ -7,8 +7,8 @@ mod glancing;
 
 use crate::following::refused;
 use crate::following::sound_table;
-use answers::Ending;
 use crate::glancing::run_foreseen;
+use answers::Ending;
 use run_actions::frames::copy_counts;
 use run_actions::frames::first_values;
 use run_actions::frames::first_words;

@@ -33,8 +33,7 @@ pub record Drops (words : Words) (at : ℕ) : Type 0 where
 
 -- the sentence that is chosen stores nothing, passes over its field and ends
 pub record Drop (choice : Choice) : Type 0 where
-  pub number : ℕ
-  pub same : choice ≡ chosen number 0 [] (go (record { register = whole; add = 0; back = 0 }) ∷ [])
+  pub same : choice ≡ chosen 0 [] (go (record { register = whole; add = 0; back = 0 }) ∷ [])
 
 abbrev pub Glances : Seen → Choice → Type 0
 Glances Nothing choice = choice ≡ chosenNone 0

@@ -8,31 +8,40 @@ ghost use Rattle.meaning.specs.Matching.{Checked, failed, foundNone, asked, che
 ghost use Rattle.meaning.specs.Packing.{metricIn, testOf, unpackTests, unpackSentences};
 ghost use Rattle.run_matching.specs.Matched.{tried};
 ghost use Rattle.run_glancing.specs.Glanced.{Told, Where, Drops, Glances};
+use code_numbers::ACTIONS_END;
+use code_numbers::ENDS;
+use code_numbers::FIRST;
+use code_numbers::FROM_END;
+use code_numbers::GO;
+use code_numbers::LOOK;
+use code_numbers::LOOK_FROM_PLACE;
+use code_numbers::LOOK_FROM_START;
+use code_numbers::MAX_STORED;
+use code_numbers::OPERAND;
+use code_numbers::SECOND;
+use code_numbers::SENTENCES_END;
+use code_numbers::THIRD;
+use code_numbers::WHOLE;
 use run_code_places::CodePlace;
 use run_code_places::wide;
 use run_matching::Places;
 use run_matching::places_of;
 
-// A Look's number and register, in a word's lower half.
-const FROM_START: u32 = 1;
-
-const FROM_END: u32 = 257;
-
-const FROM_PLACE: u32 = 513;
-
-const MOST_STORED: u32 = 16;
+// A Look at a cell counted from q, without offset and byte.
+const LOOK_FROM_END: u32 = LOOK + FIRST * FROM_END;
 
 // The end of a function that none recovers.
-const UNRECOVERED_END: u32 = 19;
+const UNRECOVERED_END: u32 = SENTENCES_END;
 
 // The words of a sentence `e1 =`: its lengths, its counts, a Go over the field, and the end of its actions.
-const ANY_FIELD: u32 = 17;
+const ANY_FIELD: u32 = ENDS;
 
-const TWO_ACTIONS: u32 = 131072;
+const TWO_ACTIONS: u32 = SECOND * 2;
 
-const GO_WHOLE: u32 = 261;
+const GO_WHOLE: u32 = GO + FIRST * WHOLE;
 
-const ACTIONS_END: u32 = 15;
+// How many words a sentence has before its tests.
+const SENTENCE_HEAD: usize = 2;
 
 // No sentence fits, and no function recovers; the sentence that is chosen passes over its field and ends; or more would
 // have to be looked at.
@@ -67,19 +76,19 @@ fn compare_cell(field: &[u8], index: usize, byte: u8) -> Glimpse
 fn look(field: &[u8], word: u32, last: usize) -> Glimpse
     ensures { λ r. ⌜ ((place : ℕ) → place ≤ last → Told r (check (testOf word) (now (field .entry)) place)) ⌝ }
 {
-    let kind = word % 65536;
-    let offset = wide(word / 65536 % 256);
-    let byte = (word / 16777216 % 256) as u8;
-    if kind == FROM_START {
+    let kind = word % SECOND;
+    let offset = wide(word / SECOND % OPERAND);
+    let byte = (word / THIRD % OPERAND) as u8;
+    if kind == LOOK_FROM_START {
         return compare_cell(field, offset, byte);
     }
-    if kind == FROM_END {
+    if kind == LOOK_FROM_END {
         if offset <= field.len() {
             return compare_cell(field, field.len() - offset, byte);
         }
         return Glimpse::Unknown;
     }
-    if kind == FROM_PLACE {
+    if kind == LOOK_FROM_PLACE {
         if last < field.len() {
             if offset < field.len() - last {
                 return Glimpse::Right;
@@ -121,15 +130,15 @@ fn is_out(code: &[u32], at: CodePlace, word: u32, counts: u32, field: &[u8]) -> 
     let Places::From { first, count } = places_of(word, field.len()) else {
         return false;
     };
-    if MOST_STORED < counts / 256 % 256 {
+    if MAX_STORED < counts / FIRST % OPERAND {
         return false;
     }
     if count == 0 {
         return true;
     }
-    let tests = CodePlace(at.0 + 2);
+    let tests = CodePlace(at.0 + SENTENCE_HEAD);
     let last = first + (count - 1);
-    looks_fail(code, tests, wide(counts % 256), field, last)
+    looks_fail(code, tests, wide(counts % OPERAND), field, last)
 }
 
 // The sentence `e1 =` stands at a place: it fits every field, passes over it and ends.
@@ -159,7 +168,7 @@ fn drops(code: &[u32], at: CodePlace) -> bool
 // The sentences from a place on, as long as each is out.
 pub fn glance(code: &[u32], entry: CodePlace, field: &[u8]) -> Seen
     ensures { λ r. ⌜ Glances r
-        (chooseFrom 0 (unpackSentences 0 (drop (entry .0) (now (code .entry)))) (now (field .entry))) ⌝ }
+        (chooseFrom (unpackSentences 0 (drop (entry .0) (now (code .entry)))) (now (field .entry))) ⌝ }
 {
     let mut at = entry.0;
     while at < code.len() {
@@ -170,14 +179,14 @@ pub fn glance(code: &[u32], entry: CodePlace, field: &[u8]) -> Seen
         if drops(code, CodePlace(at)) {
             return Seen::Dropped;
         }
-        if code.len() - at < 2 {
+        if code.len() - at < SENTENCE_HEAD {
             return Seen::Perhaps;
         }
         let counts = code[at + 1];
         if !is_out(code, CodePlace(at), word, counts, field) {
             return Seen::Perhaps;
         }
-        at += 2 + wide(counts / 65536);
+        at += SENTENCE_HEAD + wide(counts / SECOND);
     }
     Seen::Perhaps
 }

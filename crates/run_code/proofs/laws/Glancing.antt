@@ -13,9 +13,9 @@ use Rattle.meaning.specs.Outcome.{uncounted, fresh, done}
 use Rattle.meaning.specs.Instructions.{whole, go}
 use Rattle.meaning.specs.Matching.{Choice, chosen, chosenNone, chooseFrom, storedValues}
 use Rattle.meaning.specs.Machine.{process, ranChoice}
-use Rattle.meaning.specs.Runs.{lent, loaded, from, runLent}
+use Rattle.meaning.specs.Runs.{lent, loaded, runUnder, runLent}
 use Rattle.meaning.specs.Packing.{Words, unpackSentences}
-use Rattle.meaning.specs.Leaving.{left}
+use Rattle.meaning.specs.Leaving.{afterRun}
 use Rattle.meaning.specs.Leaving.{roomOf as roomOfCells}
 use Rattle.run_actions.specs.declared.registers.Registers.{Registers}
 use Rattle.run_actions.specs.declared.registers.Ending.the-variants.{Finished, NoSentenceFits}
@@ -65,8 +65,8 @@ module _ (words : Words) (start : ℕ) (text input output «record» : Bytes) (f
 
   -- the run is what comes of the choice for the text, its step paid
   chosen-runs : (allowance : ℕ) (choice : Choice) → 0 < allowance →
-      chooseFrom 0 (unpackSentences 0 (drop (getD words start 0) words)) text ≡ choice →
-      from (lent (roomOf Memory-then)) (functionsIn words) start text allowance tt ≡
+      chooseFrom (unpackSentences 0 (drop (getD words start 0) words)) text ≡ choice →
+      runUnder (lent (roomOf Memory-then)) (functionsIn words) start text allowance tt ≡
       ranChoice (lent (roomOf Memory-then)) (functionsIn words) (entering (roomOf Memory-then) allowance words) 1 start choice (loaded text)
       (ledgerOf allowance (Ended (length input)) Memory-then)
   chosen-runs zero choice h e = absurd (omega arith)
@@ -82,31 +82,31 @@ module _ (words : Words) (start : ℕ) (text input output «record» : Bytes) (f
       )
 
   -- a sentence that passes over the text and ends
-  drop-runs : (number allowance : ℕ) →
+  drop-runs : (allowance : ℕ) →
       ranChoice (lent (roomOf Memory-then)) (functionsIn words) (entering (roomOf Memory-then) allowance words) 1 start
-      (chosen number 0 [] (go (record { register = whole; add = 0; back = 0 }) ∷ [])) (loaded text)
+      (chosen 0 [] (go (record { register = whole; add = 0; back = 0 }) ∷ [])) (loaded text)
       (ledgerOf allowance (Ended (length input)) Memory-then) ≡
       done (record { input = []; selected = 0; output = [] }) (ledgerOf allowance (Ended (length input)) Memory-then)
   unfolding process storedValues
-  drop-runs number allowance =
+  drop-runs allowance =
       let all : length text + 0 - 0 ≡ length text = omega arith in
       rw (all, le-leb (length text) (length text) (omega arith), drop-length text)
 
   module _ (allowance : ℕ) (allowed : 0 < allowance) where
     abbrev Chosen : Choice
-    Chosen = chooseFrom 0 (unpackSentences 0 (drop (getD words start 0) words)) text
+    Chosen = chooseFrom (unpackSentences 0 (drop (getD words start 0) words)) text
 
     pub ends-unfitted : Chosen ≡ chosenNone 0 →
         Leaves (endedWith NoSentenceFits start) (countsIn (countedIn start frames)) (cells (clearedFrom 0 input) (clearedFrom 0 output) «record»)
-        (left (runLent (roomOfCells (cells input output «record»)) (functionsIn words) start text allowance) (cells input output «record»))
+        (afterRun (runLent (roomOfCells (cells input output «record»)) (functionsIn words) start text allowance) (cells input output «record»))
     ends-unfitted e =
         leaves-end (roomOf Memory-then) allowance words Memory-then (Stopped (Ended (length input)) NoSentenceFits start) (cells input output «record») _
         (chosen-runs allowance (chosenNone 0) allowed e) tt (record { below = omega arith; logged = omega arith }) refl refl
 
     pub ends-dropped : Drop Chosen →
         Leaves (endedWith Finished 0) (countsIn (countedIn start frames)) (cells (clearedFrom 0 input) (clearedFrom 0 output) «record»)
-        (left (runLent (roomOfCells (cells input output «record»)) (functionsIn words) start text allowance) (cells input output «record»))
+        (afterRun (runLent (roomOfCells (cells input output «record»)) (functionsIn words) start text allowance) (cells input output «record»))
     ends-dropped d =
         leaves-end (roomOf Memory-then) allowance words Memory-then (Done (Ended (length input))) (cells input output «record») _
-        (chosen-runs allowance _ allowed (d .same) ∙ drop-runs (d .number) allowance ∙ rw (drop-length input, sub-self (length input)))
+        (chosen-runs allowance _ allowed (d .same) ∙ drop-runs allowance ∙ rw (drop-length input, sub-self (length input)))
         tt (record { below = omega arith; logged = omega arith }) refl refl

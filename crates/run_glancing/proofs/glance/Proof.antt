@@ -50,7 +50,7 @@ glance-spec =
     (tie.spec
     Inv-loop
     μ-loop
-    (λ c. record { number = 0; same = refl })
+    (λ c. record { same = refl })
     (λ c. search needs)
     (λ c. omega arith)
     returns

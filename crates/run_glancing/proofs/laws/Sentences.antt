@@ -52,15 +52,14 @@ passes-over words at d =
       d .ends,
     )
 
--- the choice from a place on, whatever number the first sentence there has, is the choice from the first place on
+-- the choice from a place on is the choice from the first place on
 pub record Comes (words : Words) (field : Bytes) (at₀ at : ℕ) : Type 0 where
-  pub number : ℕ
-  pub same : choosing words field number at ≡ choosing words field 0 at₀
+  pub same : choosing words field at ≡ choosing words field at₀
 
 module _ (words : Words) (field : Bytes) (at₀ at : ℕ) (c : Comes words field at₀ at) where
   -- the end of a function that none recovers
-  pub none-left : at < length words → getD words at 0 ≡ 19 → choosing words field 0 at₀ ≡ chosenNone 0
-  none-left h e = sym (c .same) ∙ choosing-end words field (c .number) at h (rw e) ∙ rw e
+  pub none-left : at < length words → getD words at 0 ≡ 19 → choosing words field at₀ ≡ chosenNone 0
+  none-left h e = sym (c .same) ∙ choosing-end words field at h (rw e) ∙ rw e
 
   -- a sentence that is out
   pub passed-over : 2 ≤ length words - at →
@@ -68,18 +67,17 @@ module _ (words : Words) (field : Bytes) (at₀ at : ℕ) (c : Comes words field
       Comes words field at₀ (at + (2 + bodyIn (getD words (at + 1) 0)))
   passed-over h out =
       let first = sentence-first (getD words at 0) _ _ field out in
-      record { number = c .number + 1; same = sym (rw out at (choosing-next words field (c .number) at h first)) ∙ c .same }
+      record { same = sym (rw out at (choosing-next words field at h first)) ∙ c .same }
 
   -- the sentence `e1 =`
-  pub dropped : Drops words at → Drop (choosing words field 0 at₀)
+  pub dropped : Drops words at → Drop (choosing words field at₀)
   unfolding unpackStores
   dropped d =
       let first : numberIn (getD words at 0) ≡ sentencesEnd → ⊥ = rw (d .lengths) (λ e. let n : _≡_ {A = ℕ} 17 19 = e in omega arith) in
       let start : at + 2 + 0 ≡ at + 2 = omega arith in
       record {
-        number = c .number;
         same =
             sym (c .same) ∙
             rw (d .lengths, d .counts, fits-any (drop (at + 2) words) field, start, start, passes-over words at d) at
-            (choosing-next words field (c .number) at (omega (arith, d .there)) first);
+            (choosing-next words field at (omega (arith, d .there)) first);
       }
