@@ -1,4 +1,5 @@
-// The engine's answers: what refuses a table text, how a run ends, 01's number of each, and which numbers refuse a table.
+// The engine's answers: what refuses a table text, how a run ends, 01's number of each, and which numbers refuse a
+// table.
 ghost use mathlib.Core.Path.{_≡_};
 ghost use lib.Dec.{eqb};
 ghost use Rattle.answers.specs.Numbers.{numberOf, endingNumber, isRefusal};

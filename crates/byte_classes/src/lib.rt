@@ -1,4 +1,5 @@
-// The byte classes: one constant table of 256 entries, a bit for each class, for conditions; and the tests of single bytes, for reading.
+// The byte classes: one constant table of 256 entries, a bit for each class, for conditions; and the tests of single
+// bytes, for reading.
 ghost use mathlib.Core.Path.{_≡_};
 ghost use Rattle.meaning.specs.Classes.{within, inClass, digit, alphabetic, isBlankByte};
 ghost use Rattle.meaning.specs.Allowed.{wordByte, nameByte};

@@ -34,7 +34,8 @@ pub fn put_all(out: &mut [u8], at: usize, text: &[u8]) -> usize
 // The last two of a byte's decimal digits.
 fn put_tens(number: u8, out: &mut [u8], at: usize) -> usize
     requires { ⌜ at + 1 < farthest ⌝ }
-    ensures { λ r. ⌜ Put at (now (out .entry)) ((48 + number / 10 % 10) ∷ (48 + number % 10) ∷ []) r (now (out .exit)) ⌝ }
+    ensures { λ r. ⌜ Put at (now (out .entry))
+        ((48 + number / 10 % 10) ∷ (48 + number % 10) ∷ []) r (now (out .exit)) ⌝ }
 {
     let next = put(out, at, 48 + number / 10 % 10);
     put(out, next, 48 + number % 10)

@@ -30,7 +30,8 @@ ghost use Rattle.meaning.specs.Packing.{codeWord, actionsEnd, callNumber, emiss
 ghost use Rattle.code_words.specs.Writing.{Wrote};
 ghost use Rattle.code_patterns.specs.Testing.{total};
 ghost use Rattle.code_actions.specs.Spanning.{SmallSpan};
-ghost use Rattle.code_actions.specs.ActionWords.{spanWords, partWords, restWord, readyWords, leftWords, computationWord};
+ghost use Rattle.code_actions.specs.ActionWords.{spanWords, partWords, restWord, readyWords, leftWords};
+ghost use Rattle.code_actions.specs.ActionWords.{computationWord};
 
 // The words of DmAdd and DmSub.
 const SUM: usize = COMPUTE + FIRST * PLUS;
@@ -65,7 +66,9 @@ fn argument_ready(code: &mut [u32], at: usize) -> usize
 
 pub fn write_emission(tape: &[u32], from: usize, size: usize, code: &mut [u32], at: usize) -> usize
     requires { ⌜ (from + size ≤ length (now tape)) × (size < 256) × (at < 2 ^ 61) ⌝ }
-    ensures { λ r. ⌜ Wrote (now (code .entry)) at (readyWords (codeWord emissionNumber size 0 0 ∷ take size (drop from (now (tape .entry))))) (now (code .exit)) r ⌝ }
+    ensures { λ r. ⌜ Wrote (now (code .entry)) at
+        (readyWords (codeWord emissionNumber size 0 0 ∷ take size (drop from (now (tape .entry))))) (now (code .exit)) r
+        ⌝ }
 {
     let ready = argument_ready(code, at);
     let named = put_operands(code, ready, EMISSION, size, 0, 0);
@@ -95,7 +98,9 @@ pub fn write_tail_call(
     at: usize,
 ) -> usize
     requires { ⌜ (total lengths ≤ maxLetters) × (number ≤ maxFunctions) × (at < 2 ^ 61) ⌝ }
-    ensures { λ r. ⌜ Wrote (now (code .entry)) at (restWord lengths stand ∷ readyWords ((tailCallNumber + 256 * number) ∷ actionsEnd ∷ [])) (now (code .exit)) r ⌝ }
+    ensures { λ r. ⌜ Wrote (now (code .entry)) at
+        (restWord lengths stand ∷ readyWords ((tailCallNumber + 256 * number) ∷ actionsEnd ∷ []))
+        (now (code .exit)) r ⌝ }
 {
     let gone = put_span(code, at, GO, rest_of(lengths, stand));
     let ready = argument_ready(code, gone);
@@ -105,7 +110,8 @@ pub fn write_tail_call(
 
 pub fn write_call(number: usize, code: &mut [u32], at: usize) -> usize
     requires { ⌜ (number ≤ maxFunctions) × (at < 2 ^ 61) ⌝ }
-    ensures { λ r. ⌜ Wrote (now (code .entry)) at (readyWords ((callNumber + 256 * number) ∷ [])) (now (code .exit)) r ⌝ }
+    ensures { λ r. ⌜ Wrote (now (code .entry)) at
+        (readyWords ((callNumber + 256 * number) ∷ [])) (now (code .exit)) r ⌝ }
 {
     let ready = argument_ready(code, at);
     put(code, ready, CALL + FIRST * number)

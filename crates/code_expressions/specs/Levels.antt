@@ -1,4 +1,5 @@
--- What an expression is read as from the words of a tape, whatever they are: within 01's limits, and with the calls that are open.
+-- What an expression is read as from the words of a tape, whatever they are: within 01's limits, and with the calls
+-- that are open.
 use Prim.Native.Nat.{ℕ, zero, suc, _+_, _-_, _/_}
 use mathlib.Core.List.{List, [], _∷_}
 use lib.ListN.{take}
@@ -13,7 +14,8 @@ use Rattle.tape_words.specs.Words.{carried, itemOfWord}
 abbrev pub placeIn : ℕ → ℕ
 placeIn w = w / kindWidth - callKind
 
--- the rest of the innermost open call's argument (or of the expression), what comes after each open call, the innermost first, and the words after it all
+-- the rest of the innermost open call's argument (or of the expression), what comes after each open call, the innermost
+-- first, and the words after it all
 pub record Levels : Type 0 where
   pub current : Expression
   pub outer : List Expression
@@ -46,7 +48,8 @@ abbrev pub itemBy : Item → ℕ → ℕ → ℕ → List ℕ → (ℕ → ℕ �
 itemBy Byte depth items w ws next = onCurrent (thenCharacter w) (next depth (items + 1) 0)
 itemBy Symbol depth items w ws next = onCurrent (thenSymbol (take (carried w) ws)) (next depth (items + 1) (carried w))
 itemBy Part depth items w ws next = onCurrent (thenPart (take (carried w) ws)) (next depth (items + 1) (carried w))
-itemBy Call depth items w ws next = levelOpened (placeIn w) (take (carried w) ws) (next (depth + 1) (items + 1) (carried w))
+itemBy Call depth items w ws next =
+    levelOpened (placeIn w) (take (carried w) ws) (next (depth + 1) (items + 1) (carried w))
 itemBy Pass depth items w ws next = next depth items 0
 itemBy Close depth items w ws next = levelClosed (next (depth - 1) items 0)
 itemBy Unclosed depth items w ws next = levelsEnded (w ∷ ws)
@@ -55,4 +58,5 @@ itemBy Stop depth items w ws next = levelsEnded (w ∷ ws)
 unfoldable pub levelsIn : ℕ → ℕ → ℕ → List ℕ → Levels
 levelsIn depth items skip [] = levelsEnded []
 levelsIn depth items (suc skip) (w ∷ ws) = levelsIn depth items skip ws
-levelsIn depth items zero (w ∷ ws) = itemBy (itemOfWord w depth items) depth items w ws (λ d n skip. levelsIn d n skip ws)
+levelsIn depth items zero (w ∷ ws) =
+    itemBy (itemOfWord w depth items) depth items w ws (λ d n skip. levelsIn d n skip ws)

@@ -1,4 +1,5 @@
--- A sentence's expression as actions, as they are written item by item: what is still to be written from where the writing stands.
+-- A sentence's expression as actions, as they are written item by item: what is still to be written from where the
+-- writing stands.
 use Prim.Native.Nat.{ℕ, zero, suc, _+_, _-_, _*_, _≤_, _<_}
 use mathlib.Core.Path.{_≡_}
 use mathlib.Core.Bool.{Bool, true, false, not}
@@ -10,7 +11,8 @@ use Rattle.meaning.specs.Tree.{Expression, Table}
 use Rattle.meaning.specs.Names.{callingOf, numberOf}
 use Rattle.meaning.specs.Allowed.{namesOf, maxItems, maxNesting}
 use Rattle.meaning.specs.Instructions.{Site, Action}
-use Rattle.meaning.specs.Translation.{Shape, Stand as MeantStand, Level, outermost, mannerOf, levelIn, calling, itemActions, passesRest, actionsOf}
+use Rattle.meaning.specs.Translation.{Shape, Stand as MeantStand, Level, outermost, mannerOf, levelIn, calling}
+use Rattle.meaning.specs.Translation.{itemActions, passesRest, actionsOf}
 use Rattle.meaning.specs.Packing.{Words, codeWord, packActions, actionsEnd, callNumber, emissionNumber, tailCallNumber}
 use Rattle.tape_words.specs.declared.names.Calling.{Calling}
 use Rattle.tape_words.specs.declared.names.Calling.the-variants.{Emission, Angles, Function}
@@ -37,8 +39,10 @@ unfoldable pub levelAt : Table → List Name → List Expression → Level
 levelAt t [] outer = outermost
 levelAt t (n ∷ ns) outer = levelIn (mannerOf (levelAt t ns (othersOf outer)) (firstOf outer) n) (numberOf t n)
 
--- the actions still to come: the rest of the innermost open call's argument, then that call, what comes after it, and so on outwards
-unfoldable pub resume : Table → Shape → List (Named Site) → List Name → Expression → List Expression → MeantStand → List Action
+-- the actions still to come: the rest of the innermost open call's argument, then that call, what comes after it, and
+-- so on outwards
+unfoldable pub resume : Table → Shape → List (Named Site) → List Name → Expression → List Expression → MeantStand
+    → List Action
 resume t s ss [] e outer w = itemActions t s ss outermost e w (passesRest s)
 resume t s ss (n ∷ ns) e outer w =
     itemActions t s ss (levelAt t (n ∷ ns) outer) e w
@@ -56,7 +60,8 @@ levelsNow ws w = levelsIn (w .depth) (w .items) 0 (drop (w .next) ws)
 
 abbrev pub remaining : Bool → Table → Shape → List (Named Site) → List ℕ → List ℕ → Walk → Words
 remaining true t s ss ws calls w =
-    packActions (resume t s ss (openNames ws calls (w .depth)) (levelsNow ws w .current) (levelsNow ws w .outer) (meantStand (w .stand)))
+    packActions (resume t s ss (openNames ws calls (w .depth)) (levelsNow ws w .current) (levelsNow ws w .outer)
+    (meantStand (w .stand)))
 remaining false t s ss ws calls w = []
 
 abbrev pub restNow : Bool → List ℕ → Walk → List ℕ
@@ -70,7 +75,8 @@ itemDone w size at depth stand =
     record { next = w .next + 1 + size; at = at; items = w .items + 1; depth = depth; stand = stand; more = true }
 
 abbrev pub wordDone : Walk → Walk
-wordDone w = record { next = w .next + 1; at = w .at; items = w .items; depth = w .depth; stand = w .stand; more = true }
+wordDone w =
+    record { next = w .next + 1; at = w .at; items = w .items; depth = w .depth; stand = w .stand; more = true }
 
 abbrev pub callDone : Walk → ℕ → ℕ → Bool → Walk
 callDone w next at more =
@@ -105,7 +111,8 @@ mannerBy Function last = pick last Replaces Nests
 -- how the innermost open call is done, where the tape goes on at `next`
 abbrev pub mannerNow : List ℕ → List ℕ → ℕ → Walk → Manner
 mannerNow ws calls next w =
-    mannerBy (callingIn (callingOf (headName ws (getD calls (w .depth - 1) 0)))) (lastCall (w .depth - 1) (drop next ws) (w .items))
+    mannerBy (callingIn (callingOf (headName ws (getD calls (w .depth - 1) 0))))
+    (lastCall (w .depth - 1) (drop next ws) (w .items))
 
 abbrev pub continues : Manner → Bool
 continues Emits = true
@@ -152,7 +159,8 @@ allDone w at = record { next = w .next; at = at; items = w .items; depth = w .de
 
 -- THEIR CONTRACT
 
--- the heads are those of a table's functions, the names those of a sentence's different s-variables, and the measure that of its pattern's shape
+-- the heads are those of a table's functions, the names those of a sentence's different s-variables, and the measure
+-- that of its pattern's shape
 pub record Means (ws heads names : List ℕ) (m : Pattern) (t : Table) (s : Shape) (ss : List (Named Site)) : Type 0 where
   pub functions : namesOf t ≡ headNames ws heads
   pub symbols : map (λ x. x .name) ss ≡ headNames ws names
@@ -177,16 +185,19 @@ abbrev pub toGo : List ℕ → Walk → ℕ
 toGo ws w = 2 * (length ws + 1 - w .next) + w .depth + flag (w .more)
 
 -- a step keeps what the actions come to, and goes on
-pub record ItemsOn (ws heads names : List ℕ) (m : Pattern) (calls code : List ℕ) (w : Walk) (calls′ code′ : List ℕ) (r : Walk) : Type 0 where
+pub record ItemsOn (ws heads names : List ℕ) (m : Pattern) (calls code : List ℕ) (w : Walk) (calls′ code′ : List ℕ)
+    (r : Walk) : Type 0 where
   pub same : (t : Table) (s : Shape) (ss : List (Named Site)) → Means ws heads names m t s ss
       → Same code (w .at) (remaining true t s ss ws calls w) code′ (r .at) (remaining (r .more) t s ss ws calls′ r)
   pub rest : restNow (r .more) ws r ≡ restNow true ws w
   pub within : InItems ws calls′ r
   pub ahead : toGo ws r < 2 * (length ws + 1 - w .next) + w .depth + 1
-  pub grown : r .at + 260 * r .depth + 270 * w .items ≤ w .at + 260 * w .depth + 270 * r .items + 2 * (1 - flag (r .more))
+  pub grown : r .at + 260 * r .depth + 270 * w .items
+      ≤ w .at + 260 * w .depth + 270 * r .items + 2 * (1 - flag (r .more))
 
 -- the whole expression is written
-pub record ItemsAll (ws heads names : List ℕ) (m : Pattern) (start : ℕ) (code : List ℕ) (at : ℕ) (code′ : List ℕ) (r : Walk) : Type 0 where
+pub record ItemsAll (ws heads names : List ℕ) (m : Pattern) (start : ℕ) (code : List ℕ) (at : ℕ) (code′ : List ℕ)
+    (r : Walk) : Type 0 where
   pub wrote : (t : Table) (s : Shape) (ss : List (Named Site)) → Means ws heads names m t s ss
       → Wrote code at (packActions (actionsOf t s ss (levelsIn 0 0 0 (drop start ws) .current))) code′ (r .at)
   pub rest : drop (r .next) ws ≡ levelsIn 0 0 0 (drop start ws) .rest

@@ -44,9 +44,13 @@ ghost use Rattle.code_patterns.specs.Testing.{total};
 ghost use Rattle.code_actions.specs.Spanning.{standAfter};
 ghost use Rattle.code_actions.specs.ActionWords.{partWords, restWord, leftWords};
 ghost use Rattle.code_expressions.specs.declared.expression.Manner.the-variants.{Replaces, Nests};
-ghost use Rattle.code_expressions.specs.Resuming.{itemDone, wordDone, callDone, callWords, isStop, lastCall, mannerBy, mannerNow, continues, endingWords, pastEnding, pastName, isFirst, stays, allDone, InItems, Innermost, ItemsOn, ItemsAll};
+ghost use Rattle.code_expressions.specs.Resuming.{itemDone, wordDone, callDone, callWords, isStop, lastCall};
+ghost use Rattle.code_expressions.specs.Resuming.{mannerBy, mannerNow, continues, endingWords, pastEnding};
+ghost use Rattle.code_expressions.specs.Resuming.{pastName, isFirst, stays, allDone, InItems, Innermost, ItemsOn};
+ghost use Rattle.code_expressions.specs.Resuming.{ItemsAll};
 
-// Where the writing of an expression stands: the tape's next word, the code's, the items so far, the open calls, and where p stands.
+// Where the writing of an expression stands: the tape's next word, the code's, the items so far, the open calls, and
+// where p stands.
 pub struct Walk {
     pub next: usize,
     pub at: usize,
@@ -56,7 +60,8 @@ pub struct Walk {
     pub more: bool,
 }
 
-// How a call is done: as an emission, as an angle call, by whether it subtracts, as a tail call, or in a frame of its own.
+// How a call is done: as an emission, as an angle call, by whether it subtracts, as a tail call, or in a frame of its
+// own.
 pub enum Manner {
     Emits,
     Computes(bool),
@@ -80,8 +85,10 @@ fn past_item(walk: Walk, size: usize, at: usize, depth: usize, stand: Stand) -> 
 }
 
 fn write_character(tape: &[u32], code: &mut [u32], walk: Walk) -> Walk
-    requires { ⌜ (getD (now tape) (walk .next) 0 < 256) × (walk .next < length (now tape)) × (walk .items < maxItems) × (walk .at < 2 ^ 61) ⌝ }
-    ensures { λ r. ⌜ Wrote (now (code .entry)) (walk .at) (codeWord outCNumber (getD (now (tape .entry)) (walk .next) 0) 0 0 ∷ []) (now (code .exit)) (r .at) ⌝ }
+    requires { ⌜ (getD (now tape) (walk .next) 0 < 256) × (walk .next < length (now tape)) × (walk .items < maxItems) ×
+        (walk .at < 2 ^ 61) ⌝ }
+    ensures { λ r. ⌜ Wrote (now (code .entry)) (walk .at)
+        (codeWord outCNumber (getD (now (tape .entry)) (walk .next) 0) 0 0 ∷ []) (now (code .exit)) (r .at) ⌝ }
     ensures { λ r. ⌜ r ≡ itemDone walk 0 (r .at) (walk .depth) (walk .stand) ⌝ }
 {
     let at = put_operands(code, walk.at, OUT_C, word_at(tape, walk.next), 0, 0);
@@ -90,10 +97,13 @@ fn write_character(tape: &[u32], code: &mut [u32], walk: Walk) -> Walk
 }
 
 fn write_value(tape: &[u32], names: &[usize], code: &mut [u32], walk: Walk) -> Walk
-    requires { ⌜ (walk .next < length (now tape)) × (walk .items < maxItems) × (walk .at < 2 ^ 61) × (length (now names) ≤ maxLetters) ⌝ }
+    requires { ⌜ (walk .next < length (now tape)) × (walk .items < maxItems) × (walk .at < 2 ^ 61) ×
+        (length (now names) ≤ maxLetters) ⌝ }
     ensures { λ r. ⌜ Wrote (now (code .entry)) (walk .at)
-        (codeWord outVNumber (numberAmong 0 (headNames (now (tape .entry)) (now (names .entry))) (headName (now (tape .entry)) (walk .next)) - 1) 0 0 ∷ []) (now (code .exit)) (r .at) ⌝ }
-    ensures { λ r. ⌜ r ≡ itemDone walk (length (headName (now (tape .entry)) (walk .next))) (r .at) (walk .depth) (walk .stand) ⌝ }
+        (codeWord outVNumber (numberAmong 0 (headNames (now (tape .entry)) (now (names .entry)))
+        (headName (now (tape .entry)) (walk .next)) - 1) 0 0 ∷ []) (now (code .exit)) (r .at) ⌝ }
+    ensures { λ r. ⌜ r ≡ itemDone walk (length (headName (now (tape .entry)) (walk .next))) (r .at) (walk .depth)
+        (walk .stand) ⌝ }
 {
     let size = size_of(tape, walk.next);
     let value = less(number_of(tape, names, walk.next, size), 1);
@@ -113,7 +123,8 @@ fn is_first(tape: &[u32], m: Pattern, walk: Walk) -> bool
 
 // The e-variable goes to out.
 fn write_part(tape: &[u32], m: Pattern, code: &mut [u32], walk: Walk) -> Walk
-    requires { ⌜ (total (m .lengths) ≤ maxLetters) × (walk .next < length (now tape)) × (walk .items < maxItems) × (walk .at < 2 ^ 61) ⌝ }
+    requires { ⌜ (total (m .lengths) ≤ maxLetters) × (walk .next < length (now tape)) × (walk .items < maxItems) ×
+        (walk .at < 2 ^ 61) ⌝ }
     ensures { λ r. ⌜ Wrote (now (code .entry)) (walk .at)
         (partWords (m .lengths) (isFirst (now (tape .entry)) m walk) (walk .stand)) (now (code .exit)) (r .at) ⌝ }
     ensures { λ r. ⌜ r ≡ itemDone walk (length (headName (now (tape .entry)) (walk .next))) (r .at) (walk .depth)
@@ -129,9 +140,12 @@ fn write_part(tape: &[u32], m: Pattern, code: &mut [u32], walk: Walk) -> Walk
 }
 
 fn open_call(tape: &[u32], calls: &mut [usize], code: &mut [u32], walk: Walk) -> Walk
-    requires { ⌜ (walk .depth < length (now calls)) × (walk .next < length (now tape)) × (walk .items < maxItems) × (walk .at < 2 ^ 61) ⌝ }
-    ensures { λ r. ⌜ Wrote (now (code .entry)) (walk .at) (codeWord beginSeqNumber 0 0 0 ∷ []) (now (code .exit)) (r .at) ⌝ }
-    ensures { λ r. ⌜ r ≡ itemDone walk (length (headName (now (tape .entry)) (walk .next))) (r .at) (walk .depth + 1) (walk .stand) ⌝ }
+    requires { ⌜ (walk .depth < length (now calls)) × (walk .next < length (now tape)) × (walk .items < maxItems) ×
+        (walk .at < 2 ^ 61) ⌝ }
+    ensures { λ r. ⌜ Wrote (now (code .entry)) (walk .at) (codeWord beginSeqNumber 0 0 0 ∷ []) (now (code .exit))
+        (r .at) ⌝ }
+    ensures { λ r. ⌜ r ≡ itemDone walk (length (headName (now (tape .entry)) (walk .next))) (r .at) (walk .depth + 1)
+        (walk .stand) ⌝ }
     ensures { λ r. ⌜ now (calls .exit) ≡ set (now (calls .entry)) (walk .depth) (walk .next) ⌝ }
 {
     let depth = walk.depth;
@@ -232,7 +246,8 @@ fn past_call(walk: Walk, next: usize, at: usize, more: bool) -> Walk
 // Go passes the rest of the field, and the actions end.
 fn end_actions(lengths: Lengths, code: &mut [u32], walk: Walk) -> Walk
     requires { ⌜ (total lengths ≤ maxLetters) × (walk .at < 2 ^ 61) ⌝ }
-    ensures { λ r. ⌜ Wrote (now (code .entry)) (walk .at) (restWord lengths (walk .stand) ∷ actionsEnd ∷ []) (now (code .exit)) (r .at) ⌝ }
+    ensures { λ r. ⌜ Wrote (now (code .entry)) (walk .at) (restWord lengths (walk .stand) ∷ actionsEnd ∷ [])
+        (now (code .exit)) (r .at) ⌝ }
     ensures { λ r. ⌜ r ≡ callDone walk (walk .next) (r .at) false ⌝ }
 {
     let stand = walk.stand;
@@ -263,9 +278,11 @@ fn write_ending(
     code: &mut [u32],
     at: usize,
 ) -> usize
-    requires { ⌜ (head < length (now tape)) × (length (now heads) ≤ maxFunctions) × (total lengths ≤ maxLetters) × (at < 2 ^ 61) ⌝ }
+    requires { ⌜ (head < length (now tape)) × (length (now heads) ≤ maxFunctions) × (total lengths ≤ maxLetters) ×
+        (at < 2 ^ 61) ⌝ }
     ensures { λ r. ⌜ Wrote (now (code .entry)) at (callWords manner lengths stand
-        (numberAmong 0 (headNames (now (tape .entry)) (now (heads .entry))) (headName (now (tape .entry)) head)) (headName (now (tape .entry)) head)) (now (code .exit)) r ⌝ }
+        (numberAmong 0 (headNames (now (tape .entry)) (now (heads .entry))) (headName (now (tape .entry)) head))
+        (headName (now (tape .entry)) head)) (now (code .exit)) r ⌝ }
 {
     let size = size_of(tape, head);
     let number = number_of(tape, heads, head, size);
@@ -289,9 +306,11 @@ fn close_call(
 ) -> Walk
     requires { ⌜ Innermost (now tape) (now calls) walk ⌝ }
     requires { ⌜ (length (now heads) ≤ maxFunctions) × (total lengths ≤ maxLetters) × (walk .at < 2 ^ 61) ⌝ }
-    ensures { λ r. ⌜ Wrote (now (code .entry)) (walk .at) (endingWords (now (tape .entry)) (now (heads .entry)) lengths (now (calls .entry)) next walk)
+    ensures { λ r. ⌜ Wrote (now (code .entry)) (walk .at)
+        (endingWords (now (tape .entry)) (now (heads .entry)) lengths (now (calls .entry)) next walk)
         (now (code .exit)) (r .at) ⌝ }
-    ensures { λ r. ⌜ r ≡ callDone walk next (r .at) (continues (mannerNow (now (tape .entry)) (now (calls .entry)) next walk)) ⌝ }
+    ensures { λ r. ⌜ r ≡ callDone walk next (r .at)
+        (continues (mannerNow (now (tape .entry)) (now (calls .entry)) next walk)) ⌝ }
 {
     let manner = manner_now(tape, calls, next, walk);
     let head = calls[walk.depth - 1];
@@ -385,7 +404,8 @@ fn leave_part(
         (leftWords (m .lengths) (isFirst (now (tape .entry)) m walk) (walk .stand)
         (numberAmong 0 (headNames (now (tape .entry)) (now (heads .entry)))
         (headName (now (tape .entry)) (getD (now (calls .entry)) (walk .depth - 1) 0)))) (now (code .exit)) (r .at) ⌝ }
-    ensures { λ r. ⌜ r ≡ allDone (pastEnding (now (tape .entry)) (now (calls .entry)) (pastName (now (tape .entry)) walk))
+    ensures { λ r. ⌜ r ≡ allDone (pastEnding (now (tape .entry)) (now (calls .entry))
+        (pastName (now (tape .entry)) walk))
         (r .at) ⌝ }
 {
     let past = past_part(tape, calls, walk);
@@ -407,8 +427,10 @@ fn write_item(
     code: &mut [u32],
     walk: Walk,
 ) -> Walk
-    requires { ⌜ (length (now heads) ≤ maxFunctions) × (length (now names) ≤ maxLetters) × (total (m .lengths) ≤ maxLetters) × InItems (now tape) (now calls) walk × (walk .at < 2 ^ 61) ⌝ }
-    ensures { λ r. ⌜ ItemsOn (now (tape .entry)) (now (heads .entry)) (now (names .entry)) m (now (calls .entry)) (now (code .entry)) walk
+    requires { ⌜ (length (now heads) ≤ maxFunctions) × (length (now names) ≤ maxLetters) ×
+        (total (m .lengths) ≤ maxLetters) × InItems (now tape) (now calls) walk × (walk .at < 2 ^ 61) ⌝ }
+    ensures { λ r. ⌜ ItemsOn (now (tape .entry)) (now (heads .entry)) (now (names .entry)) m (now (calls .entry))
+        (now (code .entry)) walk
         (now (calls .exit)) (now (code .exit)) r ⌝ }
 {
     let item = item_at(tape, walk.next, walk.depth, walk.items);
@@ -439,8 +461,10 @@ pub fn write_expression(
     code: &mut [u32],
     at: usize,
 ) -> Walk
-    requires { ⌜ (length (now heads) ≤ maxFunctions) × (length (now names) ≤ maxLetters) × (total (m .lengths) ≤ maxLetters) × (start ≤ length (now tape) + 1) × (at < 2 ^ 60) ⌝ }
-    ensures { λ r. ⌜ ItemsAll (now (tape .entry)) (now (heads .entry)) (now (names .entry)) m start (now (code .entry)) at (now (code .exit)) r ⌝ }
+    requires { ⌜ (length (now heads) ≤ maxFunctions) × (length (now names) ≤ maxLetters) ×
+        (total (m .lengths) ≤ maxLetters) × (start ≤ length (now tape) + 1) × (at < 2 ^ 60) ⌝ }
+    ensures { λ r. ⌜ ItemsAll (now (tape .entry)) (now (heads .entry)) (now (names .entry)) m start (now (code .entry))
+        at (now (code .exit)) r ⌝ }
 {
     let mut calls = [0usize; MAX_NESTING];
     let mut walk = Walk {

@@ -18,7 +18,8 @@ pub fn size_of(tape: &[u32], head: usize) -> usize
 // Counted from 1; 0 where none of `heads` has the name.
 pub fn number_of(tape: &[u32], heads: &[usize], head: usize, size: usize) -> usize
     requires { ⌜ Sized (now tape) head size ⌝ }
-    ensures { λ r. ⌜ (r ≡ numberAmong 0 (headNames (now (tape .entry)) (now (heads .entry))) (headName (now (tape .entry)) head)) × (r ≤ length (now (heads .entry))) ⌝ }
+    ensures { λ r. ⌜ (r ≡ numberAmong 0 (headNames (now (tape .entry)) (now (heads .entry)))
+        (headName (now (tape .entry)) head)) × (r ≤ length (now (heads .entry))) ⌝ }
 {
     find(tape, heads, heads.len(), head + 1, size)
 }

@@ -89,7 +89,8 @@ pub record InConditions (ws : List ℕ) (c : Conditions) : Type 0 where
 -- a step keeps what the conditions come to, and goes on
 pub record ConditionsOn (ws : List ℕ) (known : Located) (code : List ℕ) (c : Conditions) (code′ : List ℕ)
     (r : Conditions) : Type 0 where
-  pub same : Same code (c .at) (conditionWords known (coming true ws c)) code′ (r .at) (conditionWords known (coming (r .more) ws r))
+  pub same : Same code (c .at) (conditionWords known (coming true ws c)) code′ (r .at)
+      (conditionWords known (coming (r .more) ws r))
   pub rest : coming (r .more) ws r .rest ≡ coming true ws c .rest
   pub within : InConditions ws r
   pub ahead : length ws - r .next + flag (r .more) < length ws - c .next + 1

@@ -48,7 +48,9 @@ addThird Two n = n + 1
 
 -- one letter more in the last template
 abbrev pub longerLengths : Lengths → Lengths
-longerLengths l = lengths (l .parts) (addFirst (l .parts) (l .first)) (addSecond (l .parts) (l .second)) (addThird (l .parts) (l .third))
+longerLengths l =
+    lengths (l .parts) (addFirst (l .parts) (l .first)) (addSecond (l .parts) (l .second))
+    (addThird (l .parts) (l .third))
 
 -- the last template ends at an e-variable
 abbrev pub cutLengths : Lengths → Lengths
@@ -62,7 +64,13 @@ variablePlace Two known next = known
 
 abbrev pub pastLetter : Pattern → ℕ → Pattern
 pastLetter m size =
-    record { lengths = longerLengths (m .lengths); variable = m .variable; letters = m .letters + 1; next = m .next + 1 + size; more = true }
+    record {
+      lengths = longerLengths (m .lengths);
+      variable = m .variable;
+      letters = m .letters + 1;
+      next = m .next + 1 + size;
+      more = true;
+    }
 
 abbrev pub pastPart : Pattern → ℕ → Pattern
 pastPart m size =
@@ -79,7 +87,8 @@ pastAll m = record { lengths = m .lengths; variable = m .variable; letters = m .
 
 -- WHAT THEY COME TO
 
--- the lengths after the letters and e-variables of the rest of the pattern, which has two e-variables at most with those before
+-- the lengths after the letters and e-variables of the rest of the pattern, which has two e-variables at most with
+-- those before
 abbrev pub measuredBy : Parts → Lengths → Shape → Lengths
 measuredBy Zero l (fixed t) = lengths Zero (l .first + length t) (l .second) (l .third)
 measuredBy Zero l (open₁ h x t) = lengths One (l .first + length h) (l .second + length t) (l .third)
@@ -132,5 +141,6 @@ pub record Measures (ws : List ℕ) (m r : Pattern) : Type 0 where
 -- the whole pattern is measured
 pub record MeasuresAll (ws : List ℕ) (start : ℕ) (r : Pattern) : Type 0 where
   pub lengths : r .lengths ≡ lengthsOf (shapeOf (patternAt (drop start ws) .value))
-  pub variable : headName ws (r .variable) ≡ firstPartOr (headName ws start) (shapeOf (patternAt (drop start ws) .value))
+  pub variable : headName ws (r .variable)
+      ≡ firstPartOr (headName ws start) (shapeOf (patternAt (drop start ws) .value))
   pub within : InPattern ws r

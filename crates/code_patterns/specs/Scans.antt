@@ -34,15 +34,18 @@ oneMore Two = Two
 -- `next` reads on after so many letters and e-variables, so many words further on
 abbrev pub pieceBy : Piece → ℕ → Parts → ℕ → List ℕ → (ℕ → Parts → ℕ → Scan (List Element)) → Scan (List Element)
 pieceBy Character letters parts w ws next = prepended (letter (character w)) (next (letters + 1) parts 0)
-pieceBy SVariable letters parts w ws next = prepended (letter (symbol (take (carried w) ws))) (next (letters + 1) parts (carried w))
-pieceBy EVariable letters parts w ws next = prepended (part (take (carried w) ws)) (next letters (oneMore parts) (carried w))
+pieceBy SVariable letters parts w ws next =
+    prepended (letter (symbol (take (carried w) ws))) (next (letters + 1) parts (carried w))
+pieceBy EVariable letters parts w ws next =
+    prepended (part (take (carried w) ws)) (next letters (oneMore parts) (carried w))
 pieceBy PatternEnd letters parts w ws next = scanned [] (w ∷ ws)
 
 -- the pattern after so many letters and e-variables; `skip` words are passed over first
 unfoldable pub patternOnTape : ℕ → Parts → ℕ → List ℕ → Scan (List Element)
 patternOnTape letters parts skip [] = scanned [] []
 patternOnTape letters parts (suc skip) (w ∷ ws) = patternOnTape letters parts skip ws
-patternOnTape letters parts zero (w ∷ ws) = pieceBy (pieceOf w letters parts) letters parts w ws (λ l p skip. patternOnTape l p skip ws)
+patternOnTape letters parts zero (w ∷ ws) =
+    pieceBy (pieceOf w letters parts) letters parts w ws (λ l p skip. patternOnTape l p skip ws)
 
 abbrev pub patternAt : List ℕ → Scan (List Element)
 patternAt ws = patternOnTape 0 Zero 0 ws
@@ -72,4 +75,5 @@ conditionBy false count w ws next = scanned [] (w ∷ ws)
 unfoldable pub conditionsOnTape : ℕ → ℕ → List ℕ → Scan (List Condition)
 conditionsOnTape count skip [] = scanned [] []
 conditionsOnTape count (suc skip) (w ∷ ws) = conditionsOnTape count skip ws
-conditionsOnTape count zero (w ∷ ws) = conditionBy (isConditionWord count w) count w ws (λ n skip. conditionsOnTape n skip ws)
+conditionsOnTape count zero (w ∷ ws) =
+    conditionBy (isConditionWord count w) count w ws (λ n skip. conditionsOnTape n skip ws)

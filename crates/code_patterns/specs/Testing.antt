@@ -48,7 +48,8 @@ abbrev pub siteNumber : MeantSite → ℕ
 siteNumber s = siteRegister s + 256 * siteOffset s
 
 abbrev pub siteIn : ℕ → MeantSite
-siteIn n = pick (eqb (n % 256) 0) (fromStart (n / 256)) (pick (eqb (n % 256) 1) (fromEnd (n / 256)) (fromPlace (n / 256)))
+siteIn n =
+    pick (eqb (n % 256) 0) (fromStart (n / 256)) (pick (eqb (n % 256) 1) (fromEnd (n / 256)) (fromPlace (n / 256)))
 
 -- more than the number of every cell of a pattern
 abbrev pub siteBound : ℕ
@@ -111,8 +112,10 @@ pub record InTests (ws names sites : List ℕ) (t : Tests) : Type 0 where
   pub at : t .at < 2 ^ 60 + t .letters
 
 -- a step keeps what the tests come to, and goes on
-pub record TestsOn (ws : List ℕ) (l : Lengths) (names sites code : List ℕ) (t : Tests) (names′ sites′ code′ : List ℕ) (r : Tests) : Type 0 where
-  pub same : Same code (t .at) (testWords (testing true ws l names sites t)) code′ (r .at) (testWords (testing (r .more) ws l names′ sites′ r))
+pub record TestsOn (ws : List ℕ) (l : Lengths) (names sites code : List ℕ) (t : Tests) (names′ sites′ code′ : List ℕ)
+    (r : Tests) : Type 0 where
+  pub same : Same code (t .at) (testWords (testing true ws l names sites t)) code′ (r .at)
+      (testWords (testing (r .more) ws l names′ sites′ r))
   pub known : testing (r .more) ws l names′ sites′ r .value .sites ≡ testing true ws l names sites t .value .sites
   pub rest : testing (r .more) ws l names′ sites′ r .rest ≡ testing true ws l names sites t .rest
   pub within : InTests ws names′ sites′ r
@@ -158,8 +161,10 @@ testsDone t =
     }
 
 -- the whole pattern's tests are written, and its different s-variables are known
-pub record TestsAll (ws : List ℕ) (l : Lengths) (start : ℕ) (code : List ℕ) (at : ℕ) (names sites code′ : List ℕ) (r : Tests) : Type 0 where
-  pub wrote : Wrote code at (map testWord (walk l Zero 0 (patternAt (drop start ws) .value) (startFrom []) .tests)) code′ (r .at)
+pub record TestsAll (ws : List ℕ) (l : Lengths) (start : ℕ) (code : List ℕ) (at : ℕ) (names sites code′ : List ℕ)
+    (r : Tests) : Type 0 where
+  pub wrote : Wrote code at (map testWord (walk l Zero 0 (patternAt (drop start ws) .value) (startFrom []) .tests))
+      code′ (r .at)
   pub known : held ws names sites (r .symbols) ≡ walk l Zero 0 (patternAt (drop start ws) .value) (startFrom []) .sites
   pub rest : drop (r .next) ws ≡ patternAt (drop start ws) .rest
   pub within : InTests ws names sites r

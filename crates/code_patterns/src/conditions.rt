@@ -34,7 +34,8 @@ ghost use Rattle.meaning.specs.Allowed.{maxLetters};
 ghost use Rattle.meaning.specs.Packing.{codeWord, testWord, predicatePartNumber};
 ghost use Rattle.code_patterns.specs.Testing.{siteBound};
 ghost use Rattle.code_patterns.specs.Scans.{conditionOf};
-ghost use Rattle.code_patterns.specs.Conditioning.{located, Kept, conditionTestBy, conditionAt, conditionsDone, InConditions, ConditionsOn, ConditionsAll};
+ghost use Rattle.code_patterns.specs.Conditioning.{located, Kept, conditionTestBy, conditionAt, conditionsDone};
+ghost use Rattle.code_patterns.specs.Conditioning.{InConditions, ConditionsOn, ConditionsAll};
 
 // Where the writing of conditions stands: how many, the tape's next word, and the code's.
 pub struct Conditions {
@@ -67,7 +68,8 @@ fn symbol_word(site: usize, carried: usize) -> usize
 fn part_word(from: Site, to: Site, carried: usize) -> usize
     requires { ⌜ (from .register ≤ 2) × (from .offset ≤ maxLetters) × (to .register ≤ 2) × (to .offset ≤ maxLetters) ⌝ }
     requires { ⌜ carried < 256 ⌝ }
-    ensures { λ r. ⌜ (r ≡ codeWord predicatePartNumber (from .register + 4 * to .register + 16 * (carried / 5 % 2) + 32 * (carried % 5))
+    ensures { λ r. ⌜ (r ≡ codeWord predicatePartNumber
+        (from .register + 4 * to .register + 16 * (carried / 5 % 2) + 32 * (carried % 5))
         (from .offset) (to .offset)) × (r < 2 ^ 32) ⌝ }
 {
     let truth = carried / CONDITION_TRUTH % 2;

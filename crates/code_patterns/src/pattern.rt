@@ -9,7 +9,8 @@ ghost use Prim.Native.Nat.{_+_, _≤_, _<_, _^_};
 ghost use lib.ListN.{length};
 ghost use Rattle.meaning.specs.Allowed.{maxLetters};
 ghost use Rattle.code_patterns.specs.Scans.{oneMore};
-ghost use Rattle.code_patterns.specs.Measuring.{longerLengths, cutLengths, variablePlace, pastLetter, pastPart, pastAll, InPattern, Measures, MeasuresAll};
+ghost use Rattle.code_patterns.specs.Measuring.{longerLengths, cutLengths, variablePlace, pastLetter, pastPart};
+ghost use Rattle.code_patterns.specs.Measuring.{pastAll, InPattern, Measures, MeasuresAll};
 
 // How many e-variables there are, and the length of the template before, between and after them.
 pub struct Lengths {

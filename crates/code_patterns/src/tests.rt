@@ -29,11 +29,12 @@ ghost use Rattle.meaning.specs.Packing.{testWord, compareNumber};
 ghost use Rattle.tape_words.specs.declared.tape.Piece.the-variants.{SVariable};
 ghost use Rattle.tape_words.specs.Words.{pieceAt};
 ghost use Rattle.code_words.specs.Writing.{Wrote};
-ghost use Rattle.code_patterns.specs.Testing.{siteAt, foundSite, AllSites, InTests, TestsOn, letterDone, partDone, testsDone, TestsAll, total, storeOfSite};
+ghost use Rattle.code_patterns.specs.Testing.{siteAt, foundSite, AllSites, InTests, TestsOn, letterDone};
+ghost use Rattle.code_patterns.specs.Testing.{partDone, testsDone, TestsAll, total, storeOfSite};
 ghost use Rattle.code_patterns.specs.Testing.{siteBound};
 
-// Where the writing of tests stands: how many e-variables came before, the offset in this template, the letters and the different s-variables so far,
-// the tape's next word, and the code's.
+// Where the writing of tests stands: how many e-variables came before, the offset in this template, the letters and the
+// different s-variables so far, the tape's next word, and the code's.
 pub struct Tests {
     pub parts: Parts,
     pub offset: usize,
@@ -62,8 +63,10 @@ fn past_letter(t: Tests, symbols: usize, size: usize, at: usize) -> Tests
 }
 
 fn test_character(tape: &[u32], lengths: Lengths, code: &mut [u32], t: Tests) -> Tests
-    requires { ⌜ (total lengths ≤ maxLetters) × (t .offset ≤ maxLetters) × (t .letters ≤ maxLetters) × (t .next < length (now tape)) × (getD (now tape) (t .next) 0 < 256) × (t .at < 2 ^ 62) ⌝ }
-    ensures { λ r. ⌜ Wrote (now (code .entry)) (t .at) (testWord (look (siteAt lengths (t .parts) (t .offset)) (getD (now (tape .entry)) (t .next) 0)) ∷ [])
+    requires { ⌜ (total lengths ≤ maxLetters) × (t .offset ≤ maxLetters) × (t .letters ≤ maxLetters) ×
+        (t .next < length (now tape)) × (getD (now tape) (t .next) 0 < 256) × (t .at < 2 ^ 62) ⌝ }
+    ensures { λ r. ⌜ Wrote (now (code .entry)) (t .at)
+        (testWord (look (siteAt lengths (t .parts) (t .offset)) (getD (now (tape .entry)) (t .next) 0)) ∷ [])
         (now (code .exit)) (r .at) ⌝ }
     ensures { λ r. ⌜ r ≡ letterDone t (t .symbols) 0 (r .at) ⌝ }
 {
@@ -83,7 +86,8 @@ fn test_character(tape: &[u32], lengths: Lengths, code: &mut [u32], t: Tests) ->
 // An s-variable that the pattern did not name before.
 fn new_symbol(names: &mut [usize], sites: &mut [usize], site: Site, t: Tests, size: usize) -> Tests
     requires { ⌜ (t .symbols < length (now names)) × (t .symbols < length (now sites)) ⌝ }
-    requires { ⌜ (site .register ≤ 2) × (site .offset ≤ maxLetters) × (t .offset < 2 ^ 62) × (t .letters < 2 ^ 62) × (t .next + 1 + size < 2 ^ 62) ⌝ }
+    requires { ⌜ (site .register ≤ 2) × (site .offset ≤ maxLetters) × (t .offset < 2 ^ 62) × (t .letters < 2 ^ 62) ×
+        (t .next + 1 + size < 2 ^ 62) ⌝ }
     ensures { λ r. ⌜ r ≡ letterDone t (t .symbols + 1) size (t .at) ⌝ }
     ensures { λ r. ⌜ now (names .exit) ≡ set (now (names .entry)) (t .symbols) (t .next) ⌝ }
     ensures { λ r. ⌜ now (sites .exit) ≡ set (now (sites .entry)) (t .symbols) (site .register + 256 * site .offset) ⌝ }
@@ -103,9 +107,12 @@ fn equal_symbol(
     t: Tests,
     size: usize,
 ) -> Tests
-    requires { ⌜ (found ≤ length (now sites)) × (foundSite found (now sites) < siteBound) × (site .register ≤ 2) × (site .offset ≤ maxLetters) × (t .at < 2 ^ 62) ⌝ }
+    requires { ⌜ (found ≤ length (now sites)) × (foundSite found (now sites) < siteBound) × (site .register ≤ 2) ×
+        (site .offset ≤ maxLetters) × (t .at < 2 ^ 62) ⌝ }
     requires { ⌜ (t .offset < 2 ^ 62) × (t .letters < 2 ^ 62) × (t .next + 1 + size < 2 ^ 62) ⌝ }
-    ensures { λ r. ⌜ Wrote (now (code .entry)) (t .at) ((compareNumber + 256 * foundSite found (now (sites .entry)) + 1024 * site .register + 16777216 * site .offset) ∷ [])
+    ensures { λ r. ⌜ Wrote (now (code .entry)) (t .at)
+        ((compareNumber + 256 * foundSite found (now (sites .entry)) + 1024 * site .register + 16777216 * site .offset)
+        ∷ [])
         (now (code .exit)) (r .at) ⌝ }
     ensures { λ r. ⌜ r ≡ letterDone t (t .symbols) size (r .at) ⌝ }
 {
@@ -128,7 +135,8 @@ fn test_symbol(
 ) -> Tests
     requires { ⌜ InTests (now tape) (now names) (now sites) t × (total lengths ≤ maxLetters) ⌝ }
     requires { ⌜ pieceAt (drop (t .next) (now tape)) (t .letters) (t .parts) ≡ SVariable ⌝ }
-    ensures { λ r. ⌜ TestsOn (now (tape .entry)) lengths (now (names .entry)) (now (sites .entry)) (now (code .entry)) t (now (names .exit))
+    ensures { λ r. ⌜ TestsOn (now (tape .entry)) lengths (now (names .entry)) (now (sites .entry)) (now (code .entry)) t
+        (now (names .exit))
         (now (sites .exit)) (now (code .exit)) r ⌝ }
 {
     let parts = t.parts;
@@ -185,7 +193,8 @@ fn test_piece(
     t: Tests,
 ) -> Tests
     requires { ⌜ InTests (now tape) (now names) (now sites) t × (total lengths ≤ maxLetters) ⌝ }
-    ensures { λ r. ⌜ TestsOn (now (tape .entry)) lengths (now (names .entry)) (now (sites .entry)) (now (code .entry)) t (now (names .exit))
+    ensures { λ r. ⌜ TestsOn (now (tape .entry)) lengths (now (names .entry)) (now (sites .entry)) (now (code .entry)) t
+        (now (names .exit))
         (now (sites .exit)) (now (code .exit)) r ⌝ }
 {
     let parts = t.parts;
@@ -209,7 +218,8 @@ pub fn write_tests(
 ) -> Tests
     requires { ⌜ (length (now names) ≡ maxLetters) × (length (now sites) ≡ maxLetters) × AllSites (now sites) ⌝ }
     requires { ⌜ (total lengths ≤ maxLetters) × (start ≤ length (now tape)) × (at < 2 ^ 60) ⌝ }
-    ensures { λ r. ⌜ TestsAll (now (tape .entry)) lengths start (now (code .entry)) at (now (names .exit)) (now (sites .exit)) (now (code .exit)) r ⌝ }
+    ensures { λ r. ⌜ TestsAll (now (tape .entry)) lengths start (now (code .entry)) at (now (names .exit))
+        (now (sites .exit)) (now (code .exit)) r ⌝ }
 {
     let mut t = Tests {
         parts: Parts::Zero,
@@ -229,7 +239,8 @@ pub fn write_tests(
 // The stores of the different s-variables.
 pub fn write_stores(sites: &[usize], symbols: usize, code: &mut [u32], at: usize) -> usize
     requires { ⌜ (symbols ≤ length (now sites)) × AllSites (now sites) × (at + symbols < 2 ^ 62) ⌝ }
-    ensures { λ r. ⌜ Wrote (now (code .entry)) at (map storeOfSite (take symbols (now (sites .entry)))) (now (code .exit)) r ⌝ }
+    ensures { λ r. ⌜ Wrote (now (code .entry)) at (map storeOfSite (take symbols (now (sites .entry))))
+        (now (code .exit)) r ⌝ }
 {
     let mut place = at;
     let mut k = 0;

@@ -31,7 +31,8 @@ use Rattle.code_patterns.specs.Measuring.{lengthsOf, firstPartOr, MeasuresAll}
 use Rattle.code_patterns.specs.Testing.{AllSites, heldSites, held, storeOfSite, total, walk, startFrom, TestsAll}
 use Rattle.code_patterns.specs.Conditioning.{located, conditionWords, ConditionsAll}
 use Rattle.code_expressions.specs.Resuming.{Means, ItemsAll}
-use Rattle.code_sentences.specs.Sentencing.{metricNumber, shapeAt, testedAt, testsAt, storesAt, actionsAt, bodyAt, sentenceAt, MatchAll, BodyAll, SentenceAll, followsAt, sentenceDone, sentencesLeft, InSentences, SentencesOn, FunctionAll}
+use Rattle.code_sentences.specs.Sentencing.{metricNumber, shapeAt, testedAt, testsAt, storesAt, actionsAt, bodyAt, sentenceAt, MatchAll}
+use Rattle.code_sentences.specs.Sentencing.{BodyAll, SentenceAll, followsAt, sentenceDone, sentencesLeft, InSentences, SentencesOn, FunctionAll}
 use Rattle.meaning.proofs.laws.Remaining.{at-place}
 use Rattle.tape_words.proofs.laws.Names.{by-place}
 use Rattle.code_words.proofs.laws.Stores.{wrote-more, same-refl, same-trans, same-words, same-wrote, same-end}
@@ -45,7 +46,8 @@ metric-small Zero = omega arith
 metric-small One = omega arith
 metric-small Two = omega arith
 
-pub metric-fits : (l : Lengths) (number : ℕ) → number ≡ metricNumber (l .parts) → total l ≤ 64 → codeWord number (l .first) (l .second) (l .third) < 2 ^ 32
+pub metric-fits : (l : Lengths) (number : ℕ) → number ≡ metricNumber (l .parts) → total l ≤ 64 →
+    codeWord number (l .first) (l .second) (l .third) < 2 ^ 32
 metric-fits l number e h = omega (arith, metric-small (l .parts))
 
 -- TESTS, CONDITIONS AND STORES
@@ -83,8 +85,10 @@ pub matched : {ws names sites code code₁ code₂ code₃ : List ℕ} {m : Patt
 matched {ws} {names} {sites} {code} {code₂ = code₂} {m = m} {start} {at} {t = t} {c} measured tests conditions stores =
     let l₀ = drop start ws in
     let n = t .symbols in
-    let symbols : length (take n names) ≡ n = length-take-le n names (omega (arith, tests .within .symbols, tests .within .letters, tests .within .nameRoom)) in
-    let cells : length (take n sites) ≡ n = length-take-le n sites (omega (arith, tests .within .symbols, tests .within .letters, tests .within .siteRoom)) in
+    let symbols : length (take n names) ≡ n = length-take-le n names
+    (omega (arith, tests .within .symbols, tests .within .letters, tests .within .nameRoom)) in
+    let cells : length (take n sites) ≡ n = length-take-le n sites
+    (omega (arith, tests .within .symbols, tests .within .letters, tests .within .siteRoom)) in
     let walked : walk (m .lengths) Zero 0 (patternAt l₀ .value) (startFrom []) ≡ testedAt l₀ = rw (measured .lengths) (walk-all l₀) in
     let known : held ws names sites n ≡ testedAt l₀ .sites = tests .known ∙ ap (λ (d : Tested). d .sites) walked in
     let cs = conditionsAt l₀ .value in
@@ -106,7 +110,15 @@ matched {ws} {names} {sites} {code} {code₂ = code₂} {m = m} {start} {at} {t 
       rest = conditions .rest ∙ ap (λ (r : List ℕ). conditionsOnTape 0 0 r .rest) (tests .rest);
       next = conditions .next;
       few = (omega (arith, tests .grown, conditions .grown), omega (arith, tests .within .symbols, tests .within .letters));
-      grown = omega (arith, tests .grown, conditions .grown, stores .next, length-map (take n sites) storeOfSite, tests .within .symbols, tests .within .letters);
+      grown = omega (
+        arith,
+        tests .grown,
+        conditions .grown,
+        stores .next,
+        length-map (take n sites) storeOfSite,
+        tests .within .symbols,
+        tests .within .letters,
+      );
     }
 
 -- AND ACTIONS
@@ -156,10 +168,12 @@ body-ahead {ws} {heads} b = omega (arith, b .wrote (map named (headNames ws head
 
 -- THE WHOLE SENTENCE
 
-metric-word : (l : Lengths) (s : Shape) → l ≡ lengthsOf s → codeWord (metricNumber (l .parts)) (l .first) (l .second) (l .third) ≡ metricWord (metricOf s)
+metric-word : (l : Lengths) (s : Shape) → l ≡ lengthsOf s → codeWord (metricNumber (l .parts)) (l .first) (l .second) (l .third) ≡
+    metricWord (metricOf s)
 metric-word l s e = rw e (by-shape s)
   where
-    by-shape : (s : Shape) → codeWord (metricNumber (lengthsOf s .parts)) (lengthsOf s .first) (lengthsOf s .second) (lengthsOf s .third) ≡ metricWord (metricOf s)
+    by-shape : (s : Shape) → codeWord (metricNumber (lengthsOf s .parts)) (lengthsOf s .first) (lengthsOf s .second) (lengthsOf s .third) ≡
+        metricWord (metricOf s)
     by-shape (fixed t) = refl
     by-shape (open₁ h x t) = refl
     by-shape (open₂ h x m y t) = refl
@@ -205,7 +219,8 @@ module _ (t : Table) (recoverer : ℕ) (ws : List ℕ) where
   abbrev wordsBy : ℕ → ℕ → Bool → Words
   wordsBy i left more = pick more (packSentences (translatedSentences t recoverer (sentencesOnTape left (drop (i + 1) ws)))) (endWord recoverer ∷ [])
 
-  after-sentence : (i left : ℕ) (full more : Bool) → (full ≡ true → left ≡ 0) → followsAt full (drop i ws) ≡ more → wordsAfter i left ≡ wordsBy i left more
+  after-sentence : (i left : ℕ) (full more : Bool) → (full ≡ true → left ≡ 0) → followsAt full (drop i ws) ≡ more → wordsAfter i left ≡
+      wordsBy i left more
   unfolding packSentences translatedSentences sentencesOnTape
   after-sentence i left full more h e = by-place ws i here there
     where
@@ -238,7 +253,8 @@ module _ (t : Table) (recoverer : ℕ) (ws : List ℕ) where
       by-more false = refl
 
 pub sentence-on : (more : Bool) {ws heads code code′ : List ℕ} {s : Sentences} {b : Body} {found : Bool}
-    → s .count < 512 → SentenceAll ws heads (s .next) code (s .at) code′ b → found ≡ followsAt (leb 512 (s .count + 1)) (drop (b .next) ws) → found ≡ more
+    → s .count < 512 → SentenceAll ws heads (s .next) code (s .at) code′ b → found ≡ followsAt (leb 512 (s .count + 1)) (drop (b .next) ws) → found ≡
+    more
     → SentencesOn ws heads code s code′ (sentenceDone more s b)
 sentence-on more {ws} {code = code} {s = s} {b} h all is e =
     record {

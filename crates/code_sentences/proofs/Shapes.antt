@@ -8,7 +8,8 @@ use Rattle.meaning.specs.Choice.{Name, Named, pick, sameBytes}
 use Rattle.meaning.specs.Classes.{Class}
 use Rattle.meaning.specs.Tree.{Letter, Element, letter, part, Subject, ofSymbol, ofPart, Condition}
 use Rattle.meaning.specs.Instructions.{Site, fromStart, fromEnd, fromPlace}
-use Rattle.meaning.specs.Translation.{Shape, fixed, open₁, open₂, withLetter, cutAt, shapeOf, Tested, testedLetter, testedTemplate, untested, testedShape, Bounds, fromTo, boundsOf, partTest, subjectTest, conditionTest}
+use Rattle.meaning.specs.Translation.{Shape, fixed, open₁, open₂, withLetter, cutAt, shapeOf, Tested, testedLetter, testedTemplate, untested}
+use Rattle.meaning.specs.Translation.{testedShape, Bounds, fromTo, boundsOf, partTest, subjectTest, conditionTest}
 use Rattle.tape_words.specs.declared.tape.Parts.{Parts}
 use Rattle.tape_words.specs.declared.tape.Parts.the-variants.{Zero, One, Two}
 use Rattle.code_patterns.specs.declared.pattern.Lengths.{Lengths}
@@ -62,7 +63,8 @@ shape-whole (open₁ h x t) = refl
 shape-whole (open₂ h x m y t) = refl
 
 -- a pattern's tests and its different s-variables
-pub walk-all : (ws : List ℕ) → walk (lengthsOf (shapeOf (patternAt ws .value))) Zero 0 (patternAt ws .value) (startFrom []) ≡ testedShape (shapeOf (patternAt ws .value))
+pub walk-all : (ws : List ℕ) → walk (lengthsOf (shapeOf (patternAt ws .value))) Zero 0 (patternAt ws .value) (startFrom []) ≡
+    testedShape (shapeOf (patternAt ws .value))
 walk-all ws =
     walk-shape (lengthsOf (shapeOf (patternAt ws .value))) (patternAt ws .value) Zero 0 untested (pattern-at-most ws 0 Zero 0)
     ∙ shape-whole (shapeOf (patternAt ws .value))

@@ -8,7 +8,8 @@ use Rattle.meaning.specs.Choice.{pick}
 use Rattle.meaning.specs.Tree.{Table}
 use Rattle.meaning.specs.Allowed.{namesOf, maxSentences, maxLetters}
 use Rattle.meaning.specs.Instructions.{Test, Store, Action}
-use Rattle.meaning.specs.Translation.{Shape, shapeOf, metricOf, Tested, testedShape, testsOf, storesOf, actionsOf, translatedSentences}
+use Rattle.meaning.specs.Translation.{Shape, shapeOf, metricOf, Tested, testedShape, testsOf, storesOf, actionsOf}
+use Rattle.meaning.specs.Translation.{translatedSentences}
 use Rattle.meaning.specs.Packing.{Words, metricWord, countsWord, testWord, storeWord, bodyWords, endWord, packSentences}
 use Rattle.meaning.specs.Packing.{endsNumber, exactlyNumber, middleNumber}
 use Rattle.tape_words.specs.declared.tape.Parts.{Parts}
@@ -48,11 +49,14 @@ abbrev pub bodyAt : Table → List ℕ → Words
 bodyAt t l = bodyWords (testsAt l) (storesAt l) (actionsAt t l)
 
 abbrev pub sentenceAt : Table → List ℕ → Words
-sentenceAt t l = metricWord (metricOf (shapeAt l)) ∷ countsWord (length (testsAt l)) (length (storesAt l)) (length (bodyAt t l)) ∷ bodyAt t l
+sentenceAt t l =
+    metricWord (metricOf (shapeAt l)) ∷ countsWord (length (testsAt l)) (length (storesAt l)) (length (bodyAt t l)) ∷
+    bodyAt t l
 
 -- its tests and stores are written, and the names of its different s-variables are known
 pub record MatchAll (ws : List ℕ) (start : ℕ) (code : List ℕ) (at : ℕ) (names code′ : List ℕ) (r : Body) : Type 0 where
-  pub wrote : Wrote code at (map testWord (testsAt (drop start ws)) ++ map storeWord (storesAt (drop start ws))) code′ (r .at)
+  pub wrote : Wrote code at (map testWord (testsAt (drop start ws)) ++ map storeWord (storesAt (drop start ws))) code′
+      (r .at)
   pub tests : r .tests ≡ length (testsAt (drop start ws))
   pub stores : r .symbols ≡ length (storesAt (drop start ws))
   pub symbols : map (λ x. x .name) (testedAt (drop start ws) .sites) ≡ headNames ws (take (r .symbols) names)
@@ -72,7 +76,8 @@ pub record BodyAll (ws heads : List ℕ) (start : ℕ) (code : List ℕ) (at : �
   pub grown : r .at ≤ at + 34800
 
 -- all its words are written
-pub record SentenceAll (ws heads : List ℕ) (start : ℕ) (code : List ℕ) (at : ℕ) (code′ : List ℕ) (r : Body) : Type 0 where
+pub record SentenceAll (ws heads : List ℕ) (start : ℕ) (code : List ℕ) (at : ℕ) (code′ : List ℕ)
+    (r : Body) : Type 0 where
   pub wrote : (t : Table) → namesOf t ≡ headNames ws heads → Wrote code at (sentenceAt t (drop start ws)) code′ (r .at)
   pub rest : drop (r .next) ws ≡ levelsAt (drop start ws) .rest
   pub next : r .next ≤ length ws + 1

@@ -1,4 +1,5 @@
--- The tree that words of a tape are read as, whatever they are: it keeps within 01's limits, and the tape of an allowed table is read as that table.
+-- The tree that words of a tape are read as, whatever they are: it keeps within 01's limits, and the tape of an allowed
+-- table is read as that table.
 use Prim.Native.Nat.{ℕ, zero, suc}
 use mathlib.Core.Bool.{Bool, false}
 use mathlib.Core.List.{List, [], _∷_, map}
@@ -52,7 +53,8 @@ functionsOnTape (w ∷ ws) = let later = functionsOnTape ws in pick (isFunctionW
 
 abbrev pub functionOnTape : List ℕ → Function
 functionOnTape [] = record { name = []; sentences = [] }
-functionOnTape (w ∷ ws) = record { name = take (carried w) ws; sentences = sentencesOnTape maxSentences (drop (carried w) ws) }
+functionOnTape (w ∷ ws) =
+    record { name = take (carried w) ws; sentences = sentencesOnTape maxSentences (drop (carried w) ws) }
 
 abbrev pub treeOf : List ℕ → Table
 treeOf ws = map functionOnTape (take maxFunctions (functionsOnTape ws))

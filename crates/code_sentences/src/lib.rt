@@ -30,7 +30,8 @@ ghost use Rattle.meaning.specs.Packing.{codeWord};
 ghost use Rattle.code_words.specs.Writing.{Wrote};
 ghost use Rattle.code_patterns.specs.Measuring.{MeasuresAll};
 ghost use Rattle.code_patterns.specs.Testing.{total, AllSites};
-ghost use Rattle.code_sentences.specs.Sentencing.{metricNumber, followsAt, MatchAll, BodyAll, SentenceAll, SentencesOn, FunctionAll};
+ghost use Rattle.code_sentences.specs.Sentencing.{metricNumber, followsAt, MatchAll, BodyAll, SentenceAll};
+ghost use Rattle.code_sentences.specs.Sentencing.{SentencesOn, FunctionAll};
 
 // What was written of a sentence: how many tests, how many stores, the tape's next word, and the code's.
 pub struct Body {
@@ -60,7 +61,9 @@ fn metric_number(parts: Parts) -> usize
 
 fn put_metric(lengths: Lengths, code: &mut [u32], at: usize) -> usize
     requires { ⌜ (total lengths ≤ maxLetters) × (at < 2 ^ 62) ⌝ }
-    ensures { λ r. ⌜ Wrote (now (code .entry)) at (codeWord (metricNumber (lengths .parts)) (lengths .first) (lengths .second) (lengths .third) ∷ []) (now (code .exit)) r ⌝ }
+    ensures { λ r. ⌜ Wrote (now (code .entry)) at
+        (codeWord (metricNumber (lengths .parts)) (lengths .first) (lengths .second) (lengths .third) ∷ [])
+        (now (code .exit)) r ⌝ }
 {
     let parts = lengths.parts;
     let number = metric_number(parts);
@@ -86,7 +89,8 @@ fn write_matching(
 ) -> Body
     requires { ⌜ (length (now names) ≡ maxLetters) × (length (now sites) ≡ maxLetters) × AllSites (now sites) ⌝ }
     requires { ⌜ MeasuresAll (now tape) start m × (start ≤ length (now tape)) × (at < 2 ^ 59) ⌝ }
-    ensures { λ r. ⌜ MatchAll (now (tape .entry)) start (now (code .entry)) at (now (names .exit)) (now (code .exit)) r ⌝ }
+    ensures { λ r. ⌜ MatchAll (now (tape .entry)) start (now (code .entry)) at (now (names .exit)) (now (code .exit)) r
+        ⌝ }
 {
     let lengths = m.lengths;
     let t = write_tests(tape, lengths, names, sites, start, code, at);
@@ -110,8 +114,10 @@ fn write_body(
     code: &mut [u32],
     at: usize,
 ) -> Body
-    requires { ⌜ MeasuresAll (now tape) start m × (length (now heads) ≤ maxFunctions) × (start ≤ length (now tape)) × (at < 2 ^ 59) ⌝ }
-    ensures { λ r. ⌜ BodyAll (now (tape .entry)) (now (heads .entry)) start (now (code .entry)) at (now (code .exit)) r ⌝ }
+    requires { ⌜ MeasuresAll (now tape) start m × (length (now heads) ≤ maxFunctions) × (start ≤ length (now tape)) ×
+        (at < 2 ^ 59) ⌝ }
+    ensures { λ r. ⌜ BodyAll (now (tape .entry)) (now (heads .entry)) start (now (code .entry)) at (now (code .exit)) r
+        ⌝ }
 {
     let mut names = room();
     let mut sites = room();
@@ -137,7 +143,8 @@ fn write_body(
 // A sentence. The word of its counts comes before its body, and is patched once the body is written.
 fn write_sentence(tape: &[u32], heads: &[usize], start: usize, code: &mut [u32], at: usize) -> Body
     requires { ⌜ (length (now heads) ≤ maxFunctions) × (start ≤ length (now tape)) × (at < 2 ^ 58) ⌝ }
-    ensures { λ r. ⌜ SentenceAll (now (tape .entry)) (now (heads .entry)) start (now (code .entry)) at (now (code .exit)) r ⌝ }
+    ensures { λ r. ⌜ SentenceAll (now (tape .entry)) (now (heads .entry)) start (now (code .entry)) at
+        (now (code .exit)) r ⌝ }
 {
     let m = measure(tape, start);
     let lengths = m.lengths;
@@ -163,7 +170,8 @@ fn follows(tape: &[u32], i: usize, count: usize) -> bool
 }
 
 fn next_sentence(tape: &[u32], heads: &[usize], code: &mut [u32], s: Sentences) -> Sentences
-    requires { ⌜ (length (now heads) ≤ maxFunctions) × (s .next ≤ length (now tape)) × (s .count < maxSentences) × (s .at < 2 ^ 58) ⌝ }
+    requires { ⌜ (length (now heads) ≤ maxFunctions) × (s .next ≤ length (now tape)) × (s .count < maxSentences) ×
+        (s .at < 2 ^ 58) ⌝ }
     ensures { λ r. ⌜ SentencesOn (now (tape .entry)) (now (heads .entry)) (now (code .entry)) s (now (code .exit)) r ⌝ }
 {
     let body = write_sentence(tape, heads, s.next, code, s.at);

@@ -1,4 +1,5 @@
--- The functions of a tape: where they stand, and their words and the table of their places as they are written one after another.
+-- The functions of a tape: where they stand, and their words and the table of their places as they are written one
+-- after another.
 use Prim.Native.Nat.{ℕ, _+_, _-_, _≤_, _<_}
 use mathlib.Core.Path.{_≡_}
 use mathlib.Core.List.{List, _++_, map}
@@ -25,7 +26,8 @@ wordsFrom ws heads = map (λ p. drop p ws) heads
 
 -- the heads so far, and those still to come from the word `i` on
 abbrev pub headsLeft : List ℕ → ℕ → List ℕ → ℕ → List (List ℕ)
-headsLeft ws i heads count = wordsFrom ws (take count heads) ++ take (maxFunctions - count) (functionsOnTape (drop i ws))
+headsLeft ws i heads count =
+    wordsFrom ws (take count heads) ++ take (maxFunctions - count) (functionsOnTape (drop i ws))
 
 -- a step keeps what the heads come to
 pub record HeadsOn (ws : List ℕ) (i : ℕ) (heads : List ℕ) (count : ℕ) (heads′ : List ℕ) (r : ℕ) : Type 0 where
@@ -47,11 +49,13 @@ translatedAt t ws head = translatedFunction t (functionOnTape (drop head ws))
 abbrev pub translatedAll : Table → List ℕ → List ℕ → Code
 translatedAll t ws heads = map (translatedAt t ws) heads
 
--- in the code from the k-th entry of the table on: the entry is the function's place `at`, and there the function is written
+-- in the code from the k-th entry of the table on: the entry is the function's place `at`, and there the function is
+-- written
 pub record EntryAll (ws heads : List ℕ) (k : ℕ) (part : List ℕ) (at : ℕ) (part′ : List ℕ) (r : ℕ) : Type 0 where
   pub left : (t : Table) → namesOf t ≡ headNames ws heads
       → part′ ≡ sets (set part 0 at) (at - (k + 1)) (packSentences (translatedAt t ws (getD heads k 0)))
-  pub next : (t : Table) → namesOf t ≡ headNames ws heads → r ≡ at + length (packSentences (translatedAt t ws (getD heads k 0)))
+  pub next : (t : Table) → namesOf t ≡ headNames ws heads → r
+      ≡ at + length (packSentences (translatedAt t ws (getD heads k 0)))
   pub ahead : at ≤ r
   pub grown : r ≤ at + 17920001
 

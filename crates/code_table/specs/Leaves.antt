@@ -1,5 +1,5 @@
--- What translating hands back, and what it leaves in the lent code: 01 'Machine', "Words after the code are zero", and 'Where each thing is checked', "17: lent buffer
--- shorter than it".
+-- What translating hands back, and what it leaves in the lent code: 01 'Machine', "Words after the code are zero", and
+-- 'Where each thing is checked', "17: lent buffer shorter than it".
 use Prim.Native.Nat.{ℕ}
 use mathlib.Core.Path.{_≡_}
 use mathlib.Core.List.{List}

@@ -26,7 +26,8 @@ fn is_function(word: usize) -> bool
 
 // The tape's word `i` is noted if it is a function's and there were not as many as a table may have.
 fn note_head(tape: &[u32], i: usize, heads: &mut [usize], count: usize) -> usize
-    requires { ⌜ (i < length (now tape)) × (length (now heads) ≡ maxFunctions) × (count ≤ maxFunctions) × HeadsInside (now tape) (now heads) count ⌝ }
+    requires { ⌜ (i < length (now tape)) × (length (now heads) ≡ maxFunctions) × (count ≤ maxFunctions) ×
+        HeadsInside (now tape) (now heads) count ⌝ }
     ensures { λ r. ⌜ HeadsOn (now (tape .entry)) i (now (heads .entry)) count (now (heads .exit)) r ⌝ }
 {
     if MAX_FUNCTIONS <= count {
@@ -53,10 +54,12 @@ pub fn find_heads(tape: &[u32], heads: &mut [usize]) -> usize
     count
 }
 
-// The function of the k-th head, from the word `at` of the code on. `part` is the code from the function's entry in the table on: the entry is patched there,
-// and what comes from `at` on is lent on. Handed back: the place after the function.
+// The function of the k-th head, from the word `at` of the code on. `part` is the code from the function's entry in the
+// table on: the entry is patched there, and what comes from `at` on is lent on. Handed back: the place after the
+// function.
 fn write_entry(tape: &[u32], heads: &[usize], k: usize, part: &mut [u32], at: usize) -> usize
-    requires { ⌜ (k < length (now heads)) × (length (now heads) ≤ maxFunctions) × HeadsInside (now tape) (now heads) (length (now heads)) × (k < at) × (at < 2 ^ 31) ⌝ }
+    requires { ⌜ (k < length (now heads)) × (length (now heads) ≤ maxFunctions) ×
+        HeadsInside (now tape) (now heads) (length (now heads)) × (k < at) × (at < 2 ^ 31) ⌝ }
     ensures { λ r. ⌜ EntryAll (now (tape .entry)) (now (heads .entry)) k (now (part .entry)) at (now (part .exit)) r ⌝ }
 {
     let head = heads[k];

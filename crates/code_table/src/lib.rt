@@ -16,7 +16,8 @@ pub struct Translated {
 
 // The code of so many words of a tape. Words after it are zero, and where it doesn't fit all are.
 pub fn translate(tape: &[u32; MAX_TABLE], words: usize, code: &mut [u32]) -> Translated
-    ensures { λ r. ⌜ Leaves (codeOf (take words (now (tape .entry)))) (length (now (code .entry))) r (now (code .exit)) ⌝ }
+    ensures { λ r. ⌜ Leaves (codeOf (take words (now (tape .entry)))) (length (now (code .entry))) r (now (code .exit))
+        ⌝ }
 {
     clear_from(code, 0); // words after the code are zero
     let count = lesser(words, MAX_TABLE);

@@ -44,7 +44,8 @@ refusedR room start i code answer = runR room start i 5 code (result answer 0 0 
 abbrev pub rows : List Row
 rows =
     -- a result, with words after the code; the first room that is passed; the steps that are left over don't show
-    runR 22 1 3 5 (wordsR ++ 0 ∷ 0 ∷ []) (result 0 0 4 (4 ∷ []) (99 ∷ 98 ∷ 97 ∷ []) []) (cells (replicate 3 0) (99 ∷ 98 ∷ 97 ∷ 0 ∷ 0 ∷ []) (9 ∷ 9 ∷ [])) ∷
+    runR 22 1 3 5 (wordsR ++ 0 ∷ 0 ∷ []) (result 0 0 4 (4 ∷ []) (99 ∷ 98 ∷ 97 ∷ []) [])
+    (cells (replicate 3 0) (99 ∷ 98 ∷ 97 ∷ 0 ∷ 0 ∷ []) (9 ∷ 9 ∷ [])) ∷
     runR 20 1 3 2 wordsR (result 14 0 4 (4 ∷ []) [] []) (cells (replicate 3 0) (replicate 2 0) (9 ∷ 9 ∷ [])) ∷
     -- 17, and a buffer all zero; 9 and 10, with the code
     refusedR 19 1 3 (replicate 19 0) 17 ∷

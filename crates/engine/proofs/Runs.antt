@@ -33,11 +33,13 @@ ranWords ran = endingNumber (ran .ending) ∷ ran .function ∷ ran .steps ∷ r
 told-words : {ran : Ran} {result : Result} → Tells ran result → ranWords ran ≡ runAnswer result
 told-words t = rw (t .answer, t .function, t .steps, t .text, t .emissions)
 
-pub runs : {ran : Ran} {counts : List ℕ} {after : Cells} {should : Leaving} → Leaves ran counts after should → {number : ℕ} → number ≡ endingNumber (ran .ending)
+pub runs : {ran : Ran} {counts : List ℕ} {after : Cells} {should : Leaving} → Leaves ran counts after should → {number : ℕ} → number ≡
+    endingNumber (ran .ending)
     → Runs (number ∷ ran .function ∷ ran .steps ∷ ran .text ∷ ran .emissions ∷ []) after should
 runs l e = record { answer = rw e (told-words (l .tells)); cells = l .leaves }
 
-pub profiles : {ran : Ran} {counts : List ℕ} {after : Cells} {should : Leaving} → Leaves ran counts after should → {number : ℕ} → number ≡ endingNumber (ran .ending)
+pub profiles : {ran : Ran} {counts : List ℕ} {after : Cells} {should : Leaving} → Leaves ran counts after should → {number : ℕ} → number ≡
+    endingNumber (ran .ending)
     → Profiles (number ∷ ran .function ∷ ran .steps ∷ ran .text ∷ ran .emissions ∷ []) counts after should
 profiles l e = record { runs = runs l e; counted = l .counted }
 
@@ -86,10 +88,12 @@ module _ {number place count : ℕ} {code : Words} (room start : ℕ) (text : By
       unfitted (leb (length code) room) (length code) (padded code room) (withCode t room start text cells allowance) e ne
 
   -- a table with code: what running it answers is reported
-  module _ {ran : Ran} {counts : List ℕ} {after : Cells} (leaves : Leaves ran counts after (leaving code start text cells allowance)) {answer : ℕ} (told : answer ≡ endingNumber (ran .ending)) (zeroed : number ≡ 0) where
+  module _ {ran : Ran} {counts : List ℕ} {after : Cells} (leaves : Leaves ran counts after (leaving code start text cells allowance)) {answer : ℕ}
+      (told : answer ≡ endingNumber (ran .ending)) (zeroed : number ≡ 0) where
     fitted : (t : Table) → T (allowed t) → (b : Bool)
         → written (answered number place count) code ≡
-        pick b (written (answered finished 0 (length (pack (translate t)))) (padded (pack (translate t)) room)) (written (answered bufferTooShort 0 0) (zeros room))
+        pick b (written (answered finished 0 (length (pack (translate t)))) (padded (pack (translate t)) room))
+        (written (answered bufferTooShort 0 0) (zeros room))
         → Reports (ranReport answer ran) counts code after
         (pick b (withCode t room start text cells allowance) (withoutCode bufferTooShort 0 room cells))
     fitted t ok true e =

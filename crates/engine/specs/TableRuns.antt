@@ -1,4 +1,5 @@
--- What reading a table text, translating it and running its code comes to, for every text: demand 3 from table bytes to lent cells.
+-- What reading a table text, translating it and running its code comes to, for every text: demand 3 from table bytes to
+-- lent cells.
 use Prim.Native.Nat.{ℕ}
 use mathlib.Core.Path.{_≡_}
 use mathlib.Core.Bool.{Bool}
@@ -27,7 +28,8 @@ pub record TableRun : Type 0 where
 abbrev pub hasFunction : Table → ℕ → Bool
 hasFunction t start = both (ltb 0 start) (leb start (length t))
 
--- 9, then 10, and else demand 3: rewriting's outcome where the run without end keeps within what is lent, or the first room that it passes
+-- 9, then 10, and else demand 3: rewriting's outcome where the run without end keeps within what is lent, or the first
+-- room that it passes
 abbrev pub tableLeaving : Table → ℕ → Bytes → Cells → ℕ → Leaving
 tableLeaving t start text cells allowance =
     let ran = afterRun (demanded (roomOf cells) t start text allowance) cells in

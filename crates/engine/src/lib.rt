@@ -28,7 +28,8 @@ pub extern "C" fn refal0_read(table: &[u8], answer: &mut [u64; 3])
 // Number, place, length of the listing.
 #[no_mangle]
 pub extern "C" fn refal0_list(table: &[u8], listing: &mut [u8], answer: &mut [u64; 3])
-    ensures { λ _. ⌜ written (now (answer .exit)) (now (listing .exit)) ≡ listed (read (now (table .entry))) (now (listing .entry)) ⌝ }
+    ensures { λ _. ⌜ written (now (answer .exit)) (now (listing .exit)) ≡
+        listed (read (now (table .entry))) (now (listing .entry)) ⌝ }
 {
     let told = list_table(table, listing);
     *answer = [told.number, told.place as u64, told.count as u64];
@@ -37,7 +38,8 @@ pub extern "C" fn refal0_list(table: &[u8], listing: &mut [u8], answer: &mut [u6
 // Number, place, words of code.
 #[no_mangle]
 pub extern "C" fn refal0_translate(table: &[u8], code: &mut [u32], answer: &mut [u64; 3])
-    ensures { λ _. ⌜ written (now (answer .exit)) (now (code .exit)) ≡ translated (read (now (table .entry))) (length (now (code .entry))) ⌝ }
+    ensures { λ _. ⌜ written (now (answer .exit)) (now (code .exit)) ≡
+        translated (read (now (table .entry))) (length (now (code .entry))) ⌝ }
 {
     let told = translate_table(table, code);
     *answer = [told.number, told.place as u64, told.count as u64];
@@ -60,8 +62,10 @@ pub extern "C" fn refal0_run(
     allowance: u32,
     answer: &mut [u64; 5],
 )
-    ensures { λ _. ⌜ Runs (now (answer .exit)) (cells (now («stack_in» .exit)) (now («stack_out» .exit)) (now («record» .exit)))
-        (leaving (now (code .entry)) start (now (text .entry)) (cells (now («stack_in» .entry)) (now («stack_out» .entry)) (now («record» .entry))) allowance) ⌝ }
+    ensures { λ _. ⌜ Runs (now (answer .exit))
+        (cells (now («stack_in» .exit)) (now («stack_out» .exit)) (now («record» .exit)))
+        (leaving (now (code .entry)) start (now (text .entry))
+        (cells (now («stack_in» .entry)) (now («stack_out» .entry)) (now («record» .entry))) allowance) ⌝ }
 {
     let mut counts = count_room();
     refal0_profile(
@@ -77,8 +81,8 @@ pub extern "C" fn refal0_run(
     );
 }
 
-// What is answered, the place of a refused table's fault, and what a run reports: the function that fits nothing, the steps, and the
-// lengths of the text on out and of the emissions.
+// What is answered, the place of a refused table's fault, and what a run reports: the function that fits nothing, the
+// steps, and the lengths of the text on out and of the emissions.
 pub struct Report {
     pub answer: u64,
     pub place: usize,
@@ -100,7 +104,8 @@ pub fn translate_and_run(
     allowance: u32,
     counts: &mut [u64; 64],
 ) -> Report
-    ensures { λ r. ⌜ Reports r (now (counts .exit)) (now (code .exit)) (cells (now («stack_in» .exit)) (now («stack_out» .exit)) (now («record» .exit)))
+    ensures { λ r. ⌜ Reports r (now (counts .exit)) (now (code .exit))
+        (cells (now («stack_in» .exit)) (now («stack_out» .exit)) (now («record» .exit)))
         (tableRun (read (now (table .entry))) (length (now (code .entry))) start (now (text .entry))
         (cells (now («stack_in» .entry)) (now («stack_out» .entry)) (now («record» .entry))) allowance) ⌝ }
 {

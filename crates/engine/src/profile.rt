@@ -17,8 +17,10 @@ pub extern "C" fn refal0_profile(
     answer: &mut [u64; 5],
     counts: &mut [u64; 64],
 )
-    ensures { λ _. ⌜ Profiles (now (answer .exit)) (now (counts .exit)) (cells (now («stack_in» .exit)) (now («stack_out» .exit)) (now («record» .exit)))
-        (leaving (now (code .entry)) start (now (text .entry)) (cells (now («stack_in» .entry)) (now («stack_out» .entry)) (now («record» .entry))) allowance) ⌝ }
+    ensures { λ _. ⌜ Profiles (now (answer .exit)) (now (counts .exit))
+        (cells (now («stack_in» .exit)) (now («stack_out» .exit)) (now («record» .exit)))
+        (leaving (now (code .entry)) start (now (text .entry))
+        (cells (now («stack_in» .entry)) (now («stack_out» .entry)) (now («record» .entry))) allowance) ⌝ }
 {
     let ran = run_code::run(
         code,

@@ -87,7 +87,8 @@ module _ {text : Bytes} {r : Reading} {words : List ℕ} (reads : Reads text r w
       let (t, is, known) = accepted-read (read text) (read-known text bytes) answers z in
       let leaves = rw (rw is at (reads .tape), tape-listed t known) at l in
       rw is
-      (buffered (leb (length (listing t)) (length lent)) (length (listing t)) (over (listing t) lent) lent (leaves .fits) (leaves .size) (leaves .cells))
+      (buffered (leb (length (listing t)) (length lent)) (length (listing t)) (over (listing t) lent) lent (leaves .fits) (leaves .size)
+      (leaves .cells))
 
   pub accepted-translated : AreBytes text → number ≡ 0 → {room : ℕ} {after : List ℕ} {l : Translated}
       → Translates (codeOf (take (r .words) words)) room l after → written (bufferAnswer (l .fits) (l .words)) after ≡ translated (read text) room

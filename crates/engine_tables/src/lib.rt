@@ -97,7 +97,8 @@ pub fn flat_table(table: &[u8]) -> Told
 
 // After a refusal, and where the buffer is too short, the buffer is unchanged.
 pub fn list_table(table: &[u8], buffer: &mut [u8]) -> Told
-    ensures { λ r. ⌜ written (toldWords r) (now (buffer .exit)) ≡ listed (read (now (table .entry))) (now (buffer .entry)) ⌝ }
+    ensures { λ r. ⌜ written (toldWords r) (now (buffer .exit)) ≡
+        listed (read (now (table .entry))) (now (buffer .entry)) ⌝ }
 {
     let mut tape = tape_room();
     let reading = read_table::read(table, &mut tape);
@@ -112,7 +113,8 @@ pub fn list_table(table: &[u8], buffer: &mut [u8]) -> Told
 
 // A refused table has an empty tape, whose code is a single 0: so its code buffer is left all zero.
 pub fn translate_table(table: &[u8], code: &mut [u32]) -> Told
-    ensures { λ r. ⌜ written (toldWords r) (now (code .exit)) ≡ translated (read (now (table .entry))) (length (now (code .entry))) ⌝ }
+    ensures { λ r. ⌜ written (toldWords r) (now (code .exit)) ≡
+        translated (read (now (table .entry))) (length (now (code .entry))) ⌝ }
 {
     let mut tape = tape_room();
     let reading = read_table::read(table, &mut tape);

@@ -18,7 +18,8 @@ ghost use Prim.Native.Nat.{_+_, _<_};
 ghost use lib.ListN.{length};
 ghost use Rattle.byte_writing.specs.Put.{Put, farthest};
 ghost use Rattle.list_strings.specs.Steps.{Wrote};
-ghost use Rattle.list_items.specs.Steps.{ending, separator, classText, letterText, truthText, conditionStep, partedStep, endedStep};
+ghost use Rattle.list_items.specs.Steps.{ending, separator, classText, letterText, truthText, conditionStep};
+ghost use Rattle.list_items.specs.Steps.{partedStep, endedStep};
 
 // The closing quote, where a string is open.
 fn put_ending(state: State, out: &mut [u8], at: usize) -> usize

@@ -1,8 +1,9 @@
-// Lists stored tapes and prints what is handed back: the listing's length, or 17, and the whole buffer as it is left. What must come out, `stdout`, is
-// worked out by hand from the paper. A tape's words are written as the definition of the tape lays them down: a character is its byte; 0x10n and
-// 0x20n begin an s-variable and an e-variable of n bytes; 0x300 and 20 for each byte, 10 for an e-variable, 5 for 'T'
-// and the class begin a condition; 0x400 is `=`, 0x500 `>`, 0x600 the end of a sentence and 0x700 of a function; 0x80n
-// begins a function, and 0x90n and more a call, with the place of its name above that.
+// Lists stored tapes and prints what is handed back: the listing's length, or 17, and the whole buffer as it is left.
+// What must come out, `stdout`, is worked out by hand from the paper. A tape's words are written as the definition of
+// the tape lays them down: a character is its byte; 0x10n and 0x20n begin an s-variable and an e-variable of n bytes;
+// 0x300 and 20 for each byte, 10 for an e-variable, 5 for 'T' and the class begin a condition; 0x400 is `=`, 0x500 `>`,
+// 0x600 the end of a sentence and 0x700 of a function; 0x80n begins a function, and 0x90n and more a call, with the
+// place of its name above that.
 mod codes;
 mod items;
 mod room;

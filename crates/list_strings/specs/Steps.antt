@@ -7,7 +7,8 @@ use Rattle.meaning.specs.Choice.{Bytes, pick}
 use Rattle.meaning.specs.Listing.{Quoted, unquoted, inString, afterCode, characterText, isCoded}
 use Rattle.byte_writing.specs.Put.{Put}
 use Rattle.list_strings.specs.declared.State.{State}
-use Rattle.list_strings.specs.declared.State.the-variants.{Start, Plain, InString, AfterCode, Name, Condition, Header}
+use Rattle.list_strings.specs.declared.State.the-variants.{Start, Plain, InString, AfterCode, Name, Condition}
+use Rattle.list_strings.specs.declared.State.the-variants.{Header}
 use Rattle.list_strings.specs.declared.Stepped.{Stepped}
 
 -- the bytes that a word adds, and how the listing stands after it

@@ -8,8 +8,9 @@ ghost use Rattle.meaning.specs.Listing.{isAfterCode, isCoded, isEscaped, charac
 ghost use Rattle.byte_writing.specs.Put.{Put, farthest};
 ghost use Rattle.list_strings.specs.Steps.{quotedIn, isQuoted, isStart, gap, quoting, characterStep, Wrote};
 
-// How the listing stands between two words of the tape: at the beginning of a line; after an item; inside a string; in one right after a
-// code; or with so many bytes of a name to copy: a variable's or a call's, a condition's variable with its truth byte, a function's.
+// How the listing stands between two words of the tape: at the beginning of a line; after an item; inside a string; in
+// one right after a code; or with so many bytes of a name to copy: a variable's or a call's, a condition's variable
+// with its truth byte, a function's.
 pub enum State {
     Start,
     Plain,

@@ -10,11 +10,17 @@ use lib.Dec.{T, ltb, leb, eqb, ltb→lt}
 use lib.ListN.{length, length-append}
 use Rattle.meaning.specs.Choice.{Bytes, Name, pick, both, every}
 use Rattle.meaning.specs.Classes.{Class, classNumber, className}
-use Rattle.meaning.specs.Tree.{character, symbol, Element, letter, part, Subject, ofSymbol, ofPart, Condition, Expression, end, thenCharacter, thenSymbol, thenPart, thenCall, Sentence, Function, Table}
-use Rattle.meaning.specs.Allowed.{maxIdentifier, isByte, spelledName, spelledIdentifier, spelledElement, allowedSentence, someSentence, allowedFunction, allowed}
-use Rattle.tape_layout.specs.Tape.{tapeWord, symbolKind, partKind, conditionKind, equalsKind, closeKind, nextKind, endKind, functionKind, callKind, named, patternTape, truthNumber, subjectTape, conditionTape, conditionsTape, expressionTape, sentenceTape, sentencesTape, functionTape, tape}
+use Rattle.meaning.specs.Tree.{character, symbol, Element, letter, part, Subject, ofSymbol, ofPart, Condition, Expression, end, thenCharacter}
+use Rattle.meaning.specs.Tree.{thenSymbol, thenPart, thenCall, Sentence, Function, Table}
+use Rattle.meaning.specs.Allowed.{maxIdentifier, isByte, spelledName, spelledIdentifier, spelledElement, allowedSentence, someSentence}
+use Rattle.meaning.specs.Allowed.{allowedFunction, allowed}
+use Rattle.tape_layout.specs.Tape.{tapeWord, symbolKind, partKind, conditionKind, equalsKind, closeKind, nextKind, endKind, functionKind, callKind}
+use Rattle.tape_layout.specs.Tape.{named, patternTape, truthNumber, subjectTape, conditionTape, conditionsTape, expressionTape, sentenceTape}
+use Rattle.tape_layout.specs.Tape.{sentencesTape, functionTape, tape}
 use Rattle.meaning.specs.Grammar.{truthByte}
-use Rattle.meaning.specs.Listing.{Quoted, unquoted, inString, afterCode, closeQuote, isCoded, afterCharacter, quotedCharacter, patternText, subjectText, conditionText, conditionsText, expressionText, withoutBlank, sentenceText, sentencesText, functionText, listing}
+use Rattle.meaning.specs.Listing.{Quoted, unquoted, inString, afterCode, closeQuote, isCoded, afterCharacter, quotedCharacter, patternText}
+use Rattle.meaning.specs.Listing.{subjectText, conditionText, conditionsText, expressionText, withoutBlank, sentenceText, sentencesText, functionText}
+use Rattle.meaning.specs.Listing.{listing}
 use Rattle.meaning.proofs.laws.Passing.{both-left, both-right, every-head, every-tail}
 use Rattle.meaning.proofs.laws.Spelling.{identifier-short}
 use Rattle.meaning.proofs.laws.Words.{by-class, class-below}
@@ -66,7 +72,8 @@ word-follows : (w : ℕ) (ws : List ℕ) (bytes : State → Bytes) (t : State) (
 word-follows w ws bytes t after is go = record { at = λ q. list-word (standing q) w ws (item-word q w ∙ is (standing q)) ∙ go q }
 
 -- bytes right after an item
-ended-follows : (w : ℕ) (bytes : Bytes) (t : State) → ((s : State) → itemStep s w ≡ endedStep s bytes t) → (ws : List ℕ) → Follows (w ∷ ws) (bytes ++ listFrom t ws)
+ended-follows : (w : ℕ) (bytes : Bytes) (t : State) → ((s : State) → itemStep s w ≡ endedStep s bytes t) → (ws : List ℕ) →
+    Follows (w ∷ ws) (bytes ++ listFrom t ws)
 ended-follows w bytes t is ws =
     word-follows w ws (λ s. ending s ++ bytes) t _ is
     (by-quoted (λ q. (ending (standing q) ++ bytes) ++ listFrom t ws ≡ closeQuote q ++ (bytes ++ listFrom t ws)) refl refl refl)
@@ -95,7 +102,8 @@ end-follows = ended-follows (tapeWord endKind 0) (59 ∷ 10 ∷ 125 ∷ 10 ∷ [
 abbrev Copies : (ℕ → State) → Bytes → State → Type 0
 Copies more tail after = (n w : ℕ) → wordStep (more n) w ≡ copyStep n (w % 256) (more (pred n)) tail after
 
-copied : (more : ℕ → State) (tail : Bytes) (after : State) → Copies more tail after → (x : Name) → 0 < length x → T (every isByte x) → (rest : List ℕ) →
+copied : (more : ℕ → State) (tail : Bytes) (after : State) → Copies more tail after → (x : Name) → 0 < length x → T (every isByte x) →
+    (rest : List ℕ) →
     listFrom (more (length x)) (x ++ rest) ≡ x ++ (tail ++ listFrom after rest)
 copied more tail after is [] h t rest = absurd (not-suc-le-zero h)
 copied more tail after is (b ∷ []) h t rest =
@@ -106,14 +114,16 @@ copied more tail after is (b ∷ c ∷ x) h t rest =
     let more-left : leb (length (b ∷ c ∷ x)) 1 ≡ false = lt-leb (length (b ∷ c ∷ x)) 1 (omega arith) in
     let one-less : pred (length (b ∷ c ∷ x)) ≡ length (c ∷ x) = omega arith in
     list-word (more (length (b ∷ c ∷ x))) b (c ∷ (x ++ rest)) (is (length (b ∷ c ∷ x)) b)
-    ∙ rw (more-left, byte, one-less) (ap (λ (l : Bytes). b ∷ l) (copied more tail after is (c ∷ x) (omega arith) (every-tail isByte b (c ∷ x) t) rest))
+    ∙ rw (more-left, byte, one-less) (ap (λ (l : Bytes). b ∷ l)
+    (copied more tail after is (c ∷ x) (omega arith) (every-tail isByte b (c ∷ x) t) rest))
 
 -- a kind of word that begins a variable or a call by a byte
 record Begins (kind b : ℕ) : Type 0 where
   some : 0 < kind
   is : (s : State) (n : ℕ) → kindStep s kind n ≡ partedStep s b (NameLeft n)
 
-named-item : {kind b : ℕ} → Begins kind b → {x : Name} → Short x → (s : State) → itemStep s (tapeWord kind (length x)) ≡ partedStep s b (NameLeft (length x))
+named-item : {kind b : ℕ} → Begins kind b → {x : Name} → Short x → (s : State) → itemStep s (tapeWord kind (length x)) ≡
+    partedStep s b (NameLeft (length x))
 named-item {kind} k {x} d s = kind-item s kind (length x) (k .some) (omega (arith, d .short)) ∙ k .is s (length x)
 
 named-follows : {kind b : ℕ} → Begins kind b → {x : Name} → Short x → (ws : List ℕ) → Follows (named kind x ++ ws) (32 ∷ b ∷ (x ++ listFrom Plain ws))
@@ -194,7 +204,8 @@ expression-listed (thenPart x e) t {rest} {after} f q =
 expression-listed (thenCall place n a e) t {rest} {after} f q =
     let inner = both-right (spelledName n) (both (legible a) (legible e)) t in
     item-then (expressionTape a ++ tapeWord closeKind 0 ∷ expressionTape e) rest (expressionText unquoted a ++ 62 ∷ expressionText unquoted e) after
-    (named (callKind + place) n) (32 ∷ 60 ∷ n) (named-follows (call-begins place) (short-name n (both-left (spelledName n) (both (legible a) (legible e)) t)))
+    (named (callKind + place) n) (32 ∷ 60 ∷ n) (named-follows (call-begins place)
+    (short-name n (both-left (spelledName n) (both (legible a) (legible e)) t)))
     (rw (append-assoc (expressionTape a) (tapeWord closeKind 0 ∷ expressionTape e) rest)
     (expression-listed a (both-left (legible a) (legible e) inner) (close-follows (expressionTape e ++ rest)) unquoted
     ∙ rw (expression-listed e (both-right (legible a) (legible e) inner) f unquoted) (simp append-assoc))) q
@@ -306,7 +317,8 @@ sentence-listed {s} d {rest} f =
       append-assoc (conditionsTape (s .conditions)) tail rest,
       ← (expression-listed (s .expression) (d .expression) f unquoted),
     )
-    (pattern-listed (s .pattern) (d .pattern) (conditions-follow (s .conditions) (d .conditions) (equals-follows (expressionTape (s .expression) ++ rest))) unquoted)
+    (pattern-listed (s .pattern) (d .pattern) (conditions-follow (s .conditions) (d .conditions)
+    (equals-follows (expressionTape (s .expression) ++ rest))) unquoted)
 
 -- no blank stands before a line's first item
 abbrev Leads : ℕ → Type 0
@@ -373,11 +385,14 @@ sentences-listed s (r ∷ rs) t rest =
 
 -- FUNCTIONS AND THE TABLE
 
-function-listed : (f : Function) → T (allowedFunction f) → (rest : List ℕ) → listFrom Start (functionTape f ++ rest) ≡ functionText f ++ listFrom Start rest
-function-listed f t rest = go (f .name) (f .sentences) (short-name (f .name) (search (both-left, both-right))) (search (both-left, both-right)) (search (both-left, both-right))
+function-listed : (f : Function) → T (allowedFunction f) → (rest : List ℕ) → listFrom Start (functionTape f ++ rest) ≡
+    functionText f ++ listFrom Start rest
+function-listed f t rest = go (f .name) (f .sentences) (short-name (f .name) (search (both-left, both-right))) (search (both-left, both-right))
+    (search (both-left, both-right))
   where
     go : (n : Name) (ss : List Sentence) → Short n → T (someSentence ss) → T (every allowedSentence ss) →
-        listFrom Start ((named functionKind n ++ sentencesTape ss) ++ rest) ≡ (n ++ 32 ∷ 123 ∷ 10 ∷ (sentencesText ss ++ 125 ∷ 10 ∷ [])) ++ listFrom Start rest
+        listFrom Start ((named functionKind n ++ sentencesTape ss) ++ rest) ≡
+        (n ++ 32 ∷ 123 ∷ 10 ∷ (sentencesText ss ++ 125 ∷ 10 ∷ [])) ++ listFrom Start rest
     go n [] d u v = absurd u
     go n (s ∷ ss) d u v =
         list-word Start (tapeWord functionKind (length n)) _ (kind-item Start functionKind (length n) (omega arith) (omega (arith, d .short)))

@@ -8,7 +8,8 @@ use lib.Dec.{T}
 use lib.ListN.{length}
 use Rattle.meaning.specs.Choice.{Name, every}
 use Rattle.meaning.specs.Tree.{Subject, ofSymbol, ofPart, Condition, Sentence}
-use Rattle.meaning.specs.Allowed.{maxName, isByte, spelledName, spelledIdentifier, spelledElement, ofPattern, symbolsOf, partsOf, allowedExpression, allowedSentence}
+use Rattle.meaning.specs.Allowed.{maxName, isByte, spelledName, spelledIdentifier, spelledElement, ofPattern, symbolsOf, partsOf, allowedExpression}
+use Rattle.meaning.specs.Allowed.{allowedSentence}
 use Rattle.meaning.proofs.laws.Passing.{both-left, both-right, every-weaken, passed}
 use Rattle.meaning.proofs.laws.Spelling.{name-bytes, name-short, identifier-bytes, identifier-short}
 use Rattle.meaning.proofs.laws.Choosing.{true-passed}

@@ -75,6 +75,7 @@ lists-word {words = words} {i = i} {s = s} l h w =
       rest = λ p. l .rest (rw (drop-cons words i 0 h) (put-then (w .put) (rw (add-one i, w .state) at p)));
     }
 
-pub lists-all : {out₀ words out : List ℕ} {i at : ℕ} {s : State} → Lists out₀ words out i at s → length words ≤ i → Put 0 out₀ (listFrom Start words) at out
+pub lists-all : {out₀ words out : List ℕ} {i at : ℕ} {s : State} → Lists out₀ words out i at s → length words ≤ i →
+    Put 0 out₀ (listFrom Start words) at out
 unfolding listFrom
 lists-all {words = words} l h = l .rest (rw (drop-of-length-le words h) put-none)

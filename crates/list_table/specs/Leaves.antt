@@ -1,5 +1,5 @@
--- What listing hands back, and what it leaves in the lent buffer: 01 'Where each thing is checked', "17: lent buffer shorter than it; after this .. a listing buffer is
--- unchanged", and 'Machine', "bytes after a listing are unchanged".
+-- What listing hands back, and what it leaves in the lent buffer: 01 'Where each thing is checked', "17: lent buffer
+-- shorter than it; after this .. a listing buffer is unchanged", and 'Machine', "bytes after a listing are unchanged".
 use mathlib.Core.Path.{_≡_}
 use mathlib.Core.Bool.{Bool}
 use lib.Dec.{leb}

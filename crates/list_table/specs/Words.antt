@@ -1,11 +1,12 @@
--- The listing word by word: what each word of a tape adds to the listing, and how the listing stands after it. Listing the tape of a tree so gives meaning's listing of the
--- tree (proofs/Lists).
+-- The listing word by word: what each word of a tape adds to the listing, and how the listing stands after it. Listing
+-- the tape of a tree so gives meaning's listing of the tree (proofs/Lists).
 use Prim.Native.Nat.{ℕ, pred, _/_, _%_, _≤_}
 use mathlib.Core.List.{List, [], _∷_, _++_}
 use lib.Dec.{ltb, leb, eqb}
 use lib.ListN.{length}
 use Rattle.meaning.specs.Choice.{Bytes, pick}
-use Rattle.tape_layout.specs.Tape.{symbolKind, partKind, conditionKind, equalsKind, closeKind, nextKind, endKind, functionKind}
+use Rattle.tape_layout.specs.Tape.{symbolKind, partKind, conditionKind, equalsKind, closeKind, nextKind, endKind}
+use Rattle.tape_layout.specs.Tape.{functionKind}
 use Rattle.tape_layout.specs.Tape.{kindWidth}
 use Rattle.list_strings.specs.declared.State.{State}
 use Rattle.list_strings.specs.declared.State.the-variants.{Start, Plain, InString, AfterCode, Name, Condition, Header}

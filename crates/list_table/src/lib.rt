@@ -1,4 +1,5 @@
-// From the tape to the listing text. The listing is written word by word of the tape; its length is found first, by writing into no cells.
+// From the tape to the listing text. The listing is written word by word of the tape; its length is found first, by
+// writing into no cells.
 mod words;
 
 use tape_words::limits::MAX_TABLE;

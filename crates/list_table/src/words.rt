@@ -69,7 +69,8 @@ pub fn list_copied(
     at: usize,
 ) -> Stepped
     requires { ⌜ at + length (now tail) + 1 < farthest ⌝ }
-    ensures { λ r. ⌜ Wrote at (now (out .entry)) (copyStep left byte more (now (tail .entry)) after) r (now (out .exit)) ⌝ }
+    ensures { λ r. ⌜ Wrote at (now (out .entry)) (copyStep left byte more (now (tail .entry)) after) r (now (out .exit))
+        ⌝ }
 {
     let next = put(out, at, byte);
     if left <= 1 {

@@ -7,11 +7,14 @@ use lib.Dec.{leb, ltb, eqb}
 use lib.ListN.{length}
 use Rattle.meaning.specs.Choice.{Name, pick, both, either, isSome, every, sameBytes}
 use Rattle.meaning.specs.Classes.{inClass, digit, alphabetic}
-use Rattle.meaning.specs.Tree.{character, symbol, Element, letter, part, Subject, ofSymbol, ofPart, Condition, Expression, end, thenCharacter, thenSymbol, thenPart, thenCall, Sentence, Function, Table}
+use Rattle.meaning.specs.Tree.{character, symbol, Element, letter, part, Subject, ofSymbol, ofPart, Condition}
+use Rattle.meaning.specs.Tree.{Expression, end, thenCharacter, thenSymbol, thenPart, thenCall, Sentence, Function}
+use Rattle.meaning.specs.Tree.{Table}
 use Rattle.meaning.specs.Names.{isPredicate, isReserved, isKnown}
 
--- "table 32,768 bytes; 64 functions; 512 sentences in all; name 24 bytes; identifier after s or e 8; pattern 64 characters and s-variables, of
--- which 16 different; 8 conditions; expression 128 items (character, variable, call), those inside calls included", "at most 16 calls one inside another"
+-- "table 32,768 bytes; 64 functions; 512 sentences in all; name 24 bytes; identifier after s or e 8; pattern 64
+-- characters and s-variables, of which 16 different; 8 conditions; expression 128 items (character, variable, call),
+-- those inside calls included", "at most 16 calls one inside another"
 abbrev pub maxTable : ℕ
 maxTable = 32768
 
@@ -159,7 +162,8 @@ spelledItems symbols (thenPart x e) = spelledItems symbols e
 spelledItems symbols (thenCall place n a e) =
     both (both (spelledName n) (not (isPredicate n))) (both (spelledItems symbols a) (spelledItems symbols e))
 
--- the e-variables that may still come after this one: "each e-variable of the pattern stands at most once in the expression, in the pattern's order"
+-- the e-variables that may still come after this one: "each e-variable of the pattern stands at most once in the
+-- expression, in the pattern's order"
 unfoldable pub comingAfter : Name → List Name → Option (List Name)
 comingAfter x [] = none
 comingAfter x (y ∷ ys) = let later = comingAfter x ys in pick (sameBytes x y) (some ys) later
@@ -168,7 +172,8 @@ abbrev pub whereSome : {A B : Type 0} → Option A → (A → Option B) → Opti
 whereSome none k = none
 whereSome (some a) k = k a
 
--- the e-variables that may still come after an expression, or none where one is repeated, out of order or not the pattern's
+-- the e-variables that may still come after an expression, or none where one is repeated, out of order or not the
+-- pattern's
 unfoldable pub comingAfterAll : Expression → List Name → Option (List Name)
 comingAfterAll end coming = some coming
 comingAfterAll (thenCharacter c e) coming = comingAfterAll e coming

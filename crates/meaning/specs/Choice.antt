@@ -1,5 +1,5 @@
--- Choosing between values by a test, and finding a value by its name: the small functions that every other definition is written with.
--- Each test stands as the argument of a function by cases, so that a proof can split on it.
+-- Choosing between values by a test, and finding a value by its name: the small functions that every other definition
+-- is written with. Each test stands as the argument of a function by cases, so that a proof can split on it.
 use Prim.Native.Nat.{ℕ, zero, suc}
 use mathlib.Core.Bool.{Bool, true, false}
 use mathlib.Core.List.{List, [], _∷_}

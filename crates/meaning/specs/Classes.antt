@@ -1,6 +1,6 @@
--- The five byte classes that conditions ask about: 01 'Table text', "Predicates: IsDigit (48 to 57), IsUpper (65 to 90),
--- IsLower (97 to 122), IsLetter (the two before), IsBlank (32, 9)"; 02, T-02, "IsBlank now holds for 10 and 13 besides
--- 32 and 9". In 000 section 2.2 they are the host program's.
+-- The five byte classes that conditions ask about: 01 'Table text', "Predicates: IsDigit (48 to 57), IsUpper (65 to
+-- 90), IsLower (97 to 122), IsLetter (the two before), IsBlank (32, 9)"; 02, T-02, "IsBlank now holds for 10 and 13
+-- besides 32 and 9". In 000 section 2.2 they are the host program's.
 use Prim.Native.Nat.{ℕ}
 use mathlib.Core.Bool.{Bool, true, false}
 use mathlib.Core.List.{List, [], _∷_}

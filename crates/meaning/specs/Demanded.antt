@@ -1,6 +1,8 @@
--- What demand 3 asks of reading a table, translating it and running its code: "the outcome of rewriting the table by Refal-0's own rules and the outcome of running its code are
--- equal exactly when the code's run, followed on stacks without end, keeps within the lent cells, the record and 256 frames until it ends. Otherwise the code answers which of
--- in, out, record and frames that run passed first, gives no text, and has the steps and emissions that run had made before passing it".
+-- What demand 3 asks of reading a table, translating it and running its code: "the outcome of rewriting the table by
+-- Refal-0's own rules and the outcome of running its code are equal exactly when the code's run, followed on stacks
+-- without end, keeps within the lent cells, the record and 256 frames until it ends. Otherwise the code answers which
+-- of in, out, record and frames that run passed first, gives no text, and has the steps and emissions that run had made
+-- before passing it".
 use Prim.Native.Nat.{ℕ}
 use mathlib.Core.List.{[]}
 use mathlib.Core.Option.{Option, none, some}

@@ -3,10 +3,14 @@
 use Prim.Native.Nat.{ℕ}
 use mathlib.Core.List.{List, [], _∷_, map}
 use Rattle.meaning.specs.Choice.{Named}
-use Rattle.meaning.specs.Tree.{Expression, end, thenCharacter, thenSymbol, thenPart, thenCall, Sentence, Function, Table}
+use Rattle.meaning.specs.Tree.{Expression, end, thenCharacter, thenSymbol, thenPart, thenCall, Sentence, Function}
+use Rattle.meaning.specs.Tree.{Table}
 use Rattle.meaning.specs.Names.{numberOf, recovererOf}
-use Rattle.meaning.specs.Instructions.{Site, Action, go, select, out, outC, outV, beginSeq, Sentences, noMore, sentence, Code}
-use Rattle.meaning.specs.Translation.{Shape, shapeOf, metricOf, testedShape, testsOf, storesOf, valueNumber, Stand, atStart, passage, Level, outermost, inArgument, mannerOf, calling, passesRest}
+use Rattle.meaning.specs.Instructions.{Site, Action, go, select, out, outC, outV, beginSeq, Sentences, noMore}
+use Rattle.meaning.specs.Instructions.{sentence, Code}
+use Rattle.meaning.specs.Translation.{Shape, shapeOf, metricOf, testedShape, testsOf, storesOf, valueNumber}
+use Rattle.meaning.specs.Translation.{Stand, atStart, passage, Level, outermost, inArgument, mannerOf, calling}
+use Rattle.meaning.specs.Translation.{passesRest}
 
 module _ (table : Table) (shape : Shape) (sites : List (Named Site)) where
   unfoldable pub earlierItems : Level → Expression → Stand → (Stand → List Action) → List Action

@@ -1,5 +1,6 @@
--- What each entry point hands back and leaves in what it was lent: demand 1, and 01 'Where each thing is checked'. Answers are words in the order in which the entry point
--- writes them; words that a refusal leaves without meaning are 0.
+-- What each entry point hands back and leaves in what it was lent: demand 1, and 01 'Where each thing is checked'.
+-- Answers are words in the order in which the entry point writes them; words that a refusal leaves without meaning are
+-- 0.
 use Prim.Native.Nat.{ℕ}
 use mathlib.Core.List.{List, [], _∷_}
 use mathlib.Core.Option.{Option, none, some}
@@ -41,7 +42,8 @@ pub record Written : Type 0 where
 abbrev pub written : List ℕ → List ℕ → Written
 written answer buffer = record { answer = answer; buffer = buffer }
 
--- "A refused table leaves the code buffer all zero", "Words after the code are zero"; a code buffer that is too short is all zero too
+-- "A refused table leaves the code buffer all zero", "Words after the code are zero"; a code buffer that is too short
+-- is all zero too
 abbrev pub translatedWords : Words → ℕ → Written
 translatedWords words room =
     pick (leb (length words) room)

@@ -1,5 +1,6 @@
--- What fitting means, apart from how it is found: 01 'Rewriting', "One fits if the text is its pattern with bytes for s-variables and parts, perhaps empty, for
--- e-variables, and all conditions hold". That `match` finds what fits, and finds nothing only where nothing fits, is proved in proofs/laws/Fits.
+-- What fitting means, apart from how it is found: 01 'Rewriting', "One fits if the text is its pattern with bytes for
+-- s-variables and parts, perhaps empty, for e-variables, and all conditions hold". That `match` finds what fits, and
+-- finds nothing only where nothing fits, is proved in proofs/laws/Fits.
 use Prim.Native.Nat.{ℕ}
 use mathlib.Core.Path.{_≡_}
 use mathlib.Core.Bool.{true}
@@ -13,7 +14,8 @@ abbrev pub oneByte : Option ℕ → Option Bytes
 oneByte none = none
 oneByte (some b) = some (b ∷ [])
 
--- what an element stands for; none where its variable is not bound. "Equal s-variables take equal bytes", since a name is bound once
+-- what an element stands for; none where its variable is not bound. "Equal s-variables take equal bytes", since a name
+-- is bound once
 abbrev pub standsFor : Bindings → Element → Option Bytes
 standsFor bound (letter (character c)) = some (c ∷ [])
 standsFor bound (letter (symbol x)) = oneByte (lookup x (bound .symbols))

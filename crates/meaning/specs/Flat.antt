@@ -7,7 +7,8 @@ use mathlib.Core.List.{List, [], _∷_, _++_}
 use mathlib.Core.Option.{Option, none, some}
 use Rattle.meaning.specs.Choice.{isSome}
 use Rattle.meaning.specs.Tree.{Expression, end, thenCharacter, thenSymbol, thenPart, thenCall, Sentence, Table}
-use Rattle.meaning.specs.Translation.{Manner, emits, computes, replaces, nests, Level, outermost, inArgument, mannerOf}
+use Rattle.meaning.specs.Translation.{Manner, emits, computes, replaces, nests, Level, outermost, inArgument}
+use Rattle.meaning.specs.Translation.{mannerOf}
 
 -- a call's place, where it is done in a frame of its own, and those of others
 abbrev pub nestedAt : Manner → ℕ → List ℕ → List ℕ

@@ -9,17 +9,20 @@ use mathlib.Core.List.{List, [], _∷_, _++_, map}
 use mathlib.Core.Option.{some}
 use Rattle.meaning.specs.Choice.{Bytes, Name}
 use Rattle.meaning.specs.Classes.{Class}
-use Rattle.meaning.specs.Tree.{character, symbol, Element, letter, part, Subject, ofSymbol, ofPart, Condition, Expression, end, thenCharacter, thenSymbol, thenPart, thenCall, Sentence, Function, Table}
+use Rattle.meaning.specs.Tree.{character, symbol, Element, letter, part, Subject, ofSymbol, ofPart, Condition}
+use Rattle.meaning.specs.Tree.{Expression, end, thenCharacter, thenSymbol, thenPart, thenCall, Sentence, Function}
+use Rattle.meaning.specs.Tree.{Table}
 use Rattle.meaning.specs.Names.{predicateOf}
-use Rattle.meaning.specs.Tokens.{Token, functionName, word, quoted, sign, textEnd, Placed, Item, characters, symbolItem, partItem, noItem}
+use Rattle.meaning.specs.Tokens.{Token, functionName, word, quoted, sign, textEnd, Placed, Item, characters}
+use Rattle.meaning.specs.Tokens.{symbolItem, partItem, noItem}
 
 abbrev pub standing : Token → ℕ → ℕ → Placed
 standing token place past = record { token = token; place = place; past = past }
 
 -- TERMINALS
 
--- "s-Переменная = "s" Идентификатор", "е-Переменная = "e" Идентификатор", "Идентификатор = (латинСимвол | цифра) {латинСимвол | цифра}": a word of
--- at least two bytes; that the others are letters and digits is the tokens' rule
+-- "s-Переменная = "s" Идентификатор", "е-Переменная = "e" Идентификатор", "Идентификатор = (латинСимвол | цифра)
+-- {латинСимвол | цифра}": a word of at least two bytes; that the others are letters and digits is the tokens' rule
 abbrev pub symbolWord : ℕ → Bytes → Token
 symbolWord b x = word (115 ∷ b ∷ x)
 
@@ -87,7 +90,8 @@ pub data IsSubject : Token → Subject → Type 0 where
   symbolSubject : {b : ℕ} {x : Bytes} → IsSubject (symbolWord b x) (ofSymbol (b ∷ x))
   partSubject : {b : ℕ} {x : Bytes} → IsSubject (partWord b x) (ofPart (b ∷ x))
 
--- "Условие = "<" ИмяФункции (s-Переменная | е-Переменная) ">" ":" ("T" | "F")", where 01 has: "`<Predicate sX>: 'T'` or `'F'`"
+-- "Условие = "<" ИмяФункции (s-Переменная | е-Переменная) ">" ":" ("T" | "F")", where 01 has: "`<Predicate sX>: 'T'` or
+-- `'F'`"
 pub data IsCondition : List Placed → Condition → List Placed → Type 0 where
   isCondition : {n : Name} {class : Class} {t : Token} {v : Subject} {truth : Bool} {rest : List Placed}
       → {at₁ past₁ at₂ past₂ at₃ past₃ at₄ past₄ at₅ past₅ at₆ : ℕ}
@@ -119,8 +123,8 @@ unfoldable pub thenCharacters : Bytes → Expression → Expression
 thenCharacters [] e = e
 thenCharacters (c ∷ text) e = thenCharacter c (thenCharacters text e)
 
--- "Выражение = {Строка | s-Переменная | е-Переменная | ВызовФункции}" and "ВызовФункции = "<" ИмяФункции Выражение ">"": a call has the place of
--- its name
+-- "Выражение = {Строка | s-Переменная | е-Переменная | ВызовФункции}" and "ВызовФункции = "<" ИмяФункции Выражение
+-- ">"": a call has the place of its name
 pub data IsExpression : List Placed → Expression → List Placed → Type 0 where
   noItems : {ts : List Placed} → IsExpression ts end ts
   stringThen : {ts rest : List Placed} {place past : ℕ} {text : Bytes} {e : Expression}
@@ -141,7 +145,8 @@ pub data IsExpression : List Placed → Expression → List Placed → Type 0 wh
 
 -- "Предложение = Образец {"," Условие} "=" Выражение"
 pub data IsSentence : List Placed → Sentence → List Placed → Type 0 where
-  isSentence : {ts ts₁ ts₂ rest : List Placed} {place past : ℕ} {p : List Element} {cs : List Condition} {e : Expression}
+  isSentence : {ts ts₁ ts₂ rest : List Placed} {place past : ℕ} {p : List Element} {cs : List Condition}
+      {e : Expression}
       → IsPattern ts p ts₁
       → IsConditions ts₁ cs (standing (sign 61) place past ∷ ts₂)
       → IsExpression ts₂ e rest

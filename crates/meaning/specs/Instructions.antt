@@ -8,7 +8,8 @@ use Rattle.meaning.specs.Choice.{Name}
 use Rattle.meaning.specs.Angles.{Operation}
 use Rattle.meaning.specs.Classes.{Class}
 
--- the cell that a test or a store looks at: counted on from p, back from q (from 1 up), or on from the middle template's place i
+-- the cell that a test or a store looks at: counted on from p, back from q (from 1 up), or on from the middle
+-- template's place i
 pub data Site : Type 0 where
   fromStart fromEnd fromPlace : ℕ → Site
 

@@ -42,7 +42,8 @@ over bytes old = bytes ++ drop (length bytes) old
 abbrev pub refusedRun : ℕ → Cells → Leaving
 refusedRun answer cells = record { result = told answer 0 [] (fresh 0); cells = cells }
 
--- "After every run in is zero, and out is the result with zeros after it, or all zero if the answer isn't 0. Record bytes past the emissions are unchanged"
+-- "After every run in is zero, and out is the result with zeros after it, or all zero if the answer isn't 0. Record
+-- bytes past the emissions are unchanged"
 abbrev pub afterRun : Result → Cells → Leaving
 afterRun r cells =
     record {

@@ -1,4 +1,5 @@
--- The listing of a tree: 01 'Table text', "Listing: `G {`, a line for each sentence ended by `;`, then `}`. Each line ends with byte 10."
+-- The listing of a tree: 01 'Table text', "Listing: `G {`, a line for each sentence ended by `;`, then `}`. Each line
+-- ends with byte 10."
 use Prim.Native.Nat.{ℕ}
 use mathlib.Core.Bool.{Bool, true, false, not}
 use mathlib.Core.List.{List, [], _∷_, _++_}
@@ -6,7 +7,9 @@ use lib.Dec.{eqb}
 use Rattle.meaning.specs.Choice.{Bytes, Name, pick, both, either}
 pub use Rattle.meaning.specs.Numerals.{decimal}
 use Rattle.meaning.specs.Classes.{className, inClass, digit, within}
-use Rattle.meaning.specs.Tree.{character, symbol, Element, letter, part, Subject, ofSymbol, ofPart, Condition, Expression, end, thenCharacter, thenSymbol, thenPart, thenCall, Sentence, Function, Table}
+use Rattle.meaning.specs.Tree.{character, symbol, Element, letter, part, Subject, ofSymbol, ofPart, Condition}
+use Rattle.meaning.specs.Tree.{Expression, end, thenCharacter, thenSymbol, thenPart, thenCall, Sentence, Function}
+use Rattle.meaning.specs.Tree.{Table}
 use Rattle.meaning.specs.Grammar.{truthByte}
 
 -- CHARACTERS
@@ -35,7 +38,8 @@ closeQuote afterCode = 39 ∷ []
 abbrev pub isEscaped : ℕ → Bool
 isEscaped c = either (eqb c 39) (either (eqb c 34) (eqb c 92))
 
--- "Bytes 32 to 126 stand bare but for the three escaped ones; 9 and 10 use \t, \n; others use shortest codes, and a digit right after a code is a code too."
+-- "Bytes 32 to 126 stand bare but for the three escaped ones; 9 and 10 use \t, \n; others use shortest codes, and a
+-- digit right after a code is a code too."
 abbrev pub isCoded : Quoted → ℕ → Bool
 isCoded state c =
     both (not (either (eqb c 9) (eqb c 10)))

@@ -1,6 +1,8 @@
--- The string machine: 000 section 3 and 01 'Machine', big-step as in 000, where a function is a procedure. Stack in is the list of cells from p to its right end, stack out
--- the list [0, r); q is held as the number of selected cells, q - p. What an instruction needs of the stacks, the record and the frames is noted before it is done, and the
--- watch decides what a need means: so the run without end, the run on lent cells and what the run without end passes first are one definition (Runs).
+-- The string machine: 000 section 3 and 01 'Machine', big-step as in 000, where a function is a procedure. Stack in is
+-- the list of cells from p to its right end, stack out the list [0, r); q is held as the number of selected cells, q -
+-- p. What an instruction needs of the stacks, the record and the frames is noted before it is done, and the watch
+-- decides what a need means: so the run without end, the run on lent cells and what the run without end passes first
+-- are one definition (Runs).
 use Prim.Native.Nat.{ℕ, zero, suc, _+_, _-_}
 use mathlib.Core.Bool.{Bool, true, false}
 use mathlib.Core.List.{List, [], _∷_, _++_}
@@ -11,10 +13,13 @@ use Rattle.meaning.specs.Choice.{Bytes, both, nth, numbered}
 use Rattle.meaning.specs.Angles.{angled}
 use Rattle.meaning.specs.Answers.{noSentenceFits, allowanceSpent, noInstruction}
 use Rattle.meaning.specs.Outcome.{Tally, pay, emitted, emittedLine, Outcome, done, stop, andThen, computed}
-use Rattle.meaning.specs.Instructions.{Length, null, whole, left, right, Span, Action, go, select, out, outC, outV, beginSeq, useSeq, call, tailCall, emission, compute, unknownAction, Sentences, noMore, Code}
+use Rattle.meaning.specs.Instructions.{Length, null, whole, left, right, Span, Action, go, select, out, outC}
+use Rattle.meaning.specs.Instructions.{outV, beginSeq, useSeq, call, tailCall, emission, compute, unknownAction}
+use Rattle.meaning.specs.Instructions.{Sentences, noMore, Code}
 use Rattle.meaning.specs.Matching.{Choice, chosen, chosenNone, chosenWrong, chooseFrom, storedValues}
 
--- what an instruction needs to be there after it: cells of in from p to the right end, cells of out, bytes of the record, frames
+-- what an instruction needs to be there after it: cells of in from p to the right end, cells of out, bytes of the
+-- record, frames
 pub data Need : Type 0 where
   inCells outCells recordBytes frames : ℕ → Need
 
@@ -145,7 +150,8 @@ module _ (W : Watch) where
   writing b s g k = noting (outCells (suc (length (s .output)))) g (k (withOutput (s .output ++ b ∷ []) s))
 
   -- One instruction, in a frame of a number. `enter` applies a function in a frame; `next` is what comes after.
-  abbrev pub perform : Code → (ℕ → ℕ → Stacks → Ledger (W .Mark) → Ran) → Next → ℕ → Action → Local → Stacks → Ledger (W .Mark) → Ran
+  abbrev pub perform : Code → (ℕ → ℕ → Stacks → Ledger (W .Mark) → Ran) → Next → ℕ → Action → Local → Stacks
+      → Ledger (W .Mark) → Ran
   perform code enter next frame (go a) l s g =
       let n = spanOf a l in
       let ran = next l (movedOn n s) g in
@@ -164,7 +170,8 @@ module _ (W : Watch) where
       whereThere (ltb (length (l .opened)) maxOpened) g ran
   perform code enter next frame useSeq l s g =
       whereOpened (l .opened) g
-      (λ r rs. noting (inCells (length (drop r (s .output)) + length (s .input))) g (next (withOpened rs l) (sequenceMoved r s)))
+      (λ r rs. noting (inCells (length (drop r (s .output)) + length (s .input))) g
+      (next (withOpened rs l) (sequenceMoved r s)))
   perform code enter next frame (call f) l s g =
       let ran = noting (frames (suc frame)) g
       (λ g₁. andThen (enter (suc frame) f s g₁) (λ s₁ g₂. next l (returned (afterField s) s₁) g₂)) in
@@ -187,13 +194,16 @@ module _ (W : Watch) where
   process code enter frame (a ∷ more) l s g = perform code enter (process code enter frame more) frame a l s g
 
   -- the sentence's actions on the stacks, with the values stored; q is set to p first
-  abbrev pub started : Code → (ℕ → ℕ → Stacks → Ledger (W .Mark) → Ran) → ℕ → List Action → ℕ → Option Bytes → Stacks → Ledger (W .Mark) → Ran
+  abbrev pub started : Code → (ℕ → ℕ → Stacks → Ledger (W .Mark) → Ran) → ℕ → List Action → ℕ → Option Bytes → Stacks
+      → Ledger (W .Mark) → Ran
   started code enter frame actions at none s g = wrongWords g
   started code enter frame actions at (some values) s g =
-      process code enter frame actions (record { field = s .selected; place = at; values = values; opened = [] }) (withSelected 0 s) g
+      process code enter frame actions (record { field = s .selected; place = at; values = values; opened = [] })
+      (withSelected 0 s) g
 
   -- where no sentence fits: 02, T-04, RecoverX on the same field "takes X's frame", and "11 remains for the rest"
-  abbrev pub ranChoice : Code → (ℕ → ℕ → Stacks → Ledger (W .Mark) → Ran) → ℕ → ℕ → Choice → Stacks → Ledger (W .Mark) → Ran
+  abbrev pub ranChoice : Code → (ℕ → ℕ → Stacks → Ledger (W .Mark) → Ran) → ℕ → ℕ → Choice → Stacks → Ledger (W .Mark)
+      → Ran
   ranChoice code enter frame f (chosen at stores actions) s g =
       started code enter frame actions at (storedValues stores (take (s .selected) (s .input)) at) s g
   ranChoice code enter frame f (chosenNone zero) s g = stop noSentenceFits f g
@@ -203,7 +213,8 @@ module _ (W : Watch) where
   ranChoice code enter frame f chosenWrong s g = wrongWords g
 
   -- an application that can be paid is a step, and its field is what is selected
-  abbrev pub ranPaid : Code → (ℕ → ℕ → Stacks → Ledger (W .Mark) → Ran) → ℕ → ℕ → Stacks → Ledger (W .Mark) → Option Tally → Ran
+  abbrev pub ranPaid : Code → (ℕ → ℕ → Stacks → Ledger (W .Mark) → Ran) → ℕ → ℕ → Stacks → Ledger (W .Mark)
+      → Option Tally → Ran
   ranPaid code enter frame f s g none = stop allowanceSpent 0 g
   ranPaid code enter frame f s g (some paid) =
       ranChoice code enter frame f (chooseFrom (codeAt code f) (take (s .selected) (s .input))) s (withTally paid g)

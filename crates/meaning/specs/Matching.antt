@@ -1,5 +1,6 @@
--- How the machine chooses a sentence for a field: 000 section 3.1, 01 'Machine': "With two e-variables the tests begin at the middle template's leftmost place, and a failed
--- test leads to its next place to the right. Where none is left, or with fewer e-variables, a failed test leads to the next sentence, and after the last sentence to 11".
+-- How the machine chooses a sentence for a field: 000 section 3.1, 01 'Machine': "With two e-variables the tests begin
+-- at the middle template's leftmost place, and a failed test leads to its next place to the right. Where none is left,
+-- or with fewer e-variables, a failed test leads to the next sentence, and after the last sentence to 11".
 use Prim.Native.Nat.{ℕ, zero, suc, _+_, _-_}
 use mathlib.Core.Bool.{Bool, true, false}
 use mathlib.Core.List.{List, [], _∷_}
@@ -8,9 +9,12 @@ use lib.Dec.{leb, eqb}
 use lib.ListN.{length, take, drop}
 use Rattle.meaning.specs.Choice.{Bytes, pick, both, guard, every, nth}
 use Rattle.meaning.specs.Classes.{inClass, sameTruth}
-use Rattle.meaning.specs.Instructions.{Site, fromStart, fromEnd, fromPlace, Test, look, compare, predicate, predicatePart, unknownTest, Store, store, unknownStore, Action, Metric, exactly, ends, middle, Sentences, noMore, sentence, unknownSentence}
+use Rattle.meaning.specs.Instructions.{Site, fromStart, fromEnd, fromPlace, Test, look, compare, predicate}
+use Rattle.meaning.specs.Instructions.{predicatePart, unknownTest, Store, store, unknownStore, Action, Metric}
+use Rattle.meaning.specs.Instructions.{exactly, ends, middle, Sentences, noMore, sentence, unknownSentence}
 
--- the byte at a site of a field, the place of the middle template being counted from p; none where the field has no such cell
+-- the byte at a site of a field, the place of the middle template being counted from p; none where the field has no
+-- such cell
 abbrev pub cellAt : Site → Bytes → ℕ → Option ℕ
 cellAt (fromStart k) field place = nth k field
 cellAt (fromEnd k) field place = guard (leb k (length field)) (nth (length field - k) field)
@@ -47,8 +51,10 @@ asked f (some b) = f b
 
 abbrev pub check : Test → Bytes → ℕ → Checked
 check (look s c) field place = asked (λ b. checked (eqb c b)) (cellAt s field place)
-check (compare s r) field place = asked (λ b. asked (λ a. checked (eqb b a)) (cellAt r field place)) (cellAt s field place)
-check (predicate s class expected) field place = asked (λ b. checked (sameTruth expected (inClass class b))) (cellAt s field place)
+check (compare s r) field place =
+    asked (λ b. asked (λ a. checked (eqb b a)) (cellAt r field place)) (cellAt s field place)
+check (predicate s class expected) field place =
+    asked (λ b. checked (sameTruth expected (inClass class b))) (cellAt s field place)
 check (predicatePart s r class expected) field place =
     asked (λ piece. checked (sameTruth expected (every (inClass class) piece))) (cellsBetween s r field place)
 check unknownTest field place = wrong
@@ -78,7 +84,8 @@ unfoldable pub search : (ℕ → Checked) → ℕ → ℕ → Found
 search test zero place = foundNone
 search test (suc n) place = let later = search test n (suc place) in settled (test place) place later
 
--- how many places there are to try, for a field of a length, and the first of them. 000's prose has i < q - tail - med, its program i <= q - tail - med; 01: "at most holds"
+-- how many places there are to try, for a field of a length, and the first of them. 000's prose has i < q - tail - med,
+-- its program i <= q - tail - med; 01: "at most holds"
 abbrev pub placesOf : Metric → ℕ → ℕ
 placesOf (exactly n) whole = pick (eqb whole n) 1 0
 placesOf (ends head tail) whole = pick (leb (head + tail) whole) 1 0

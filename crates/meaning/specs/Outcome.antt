@@ -1,6 +1,6 @@
--- What both sides of demand 3 count and come to: steps and emissions so far, and an outcome. 01 'Rewriting': "Each application of a declared
--- function is one step"; "Emission adds name, byte 32, argument, byte 10 to the record". Demand 3: "Outcome means answer, text, emissions, steps
--- and failing function".
+-- What both sides of demand 3 count and come to: steps and emissions so far, and an outcome. 01 'Rewriting': "Each
+-- application of a declared function is one step"; "Emission adds name, byte 32, argument, byte 10 to the record".
+-- Demand 3: "Outcome means answer, text, emissions, steps and failing function".
 use Prim.Native.Nat.{ℕ, zero, suc}
 use mathlib.Core.List.{List, [], _∷_, _++_}
 use lib.ListN.{getD, set, replicate}

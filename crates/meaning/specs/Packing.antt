@@ -1,5 +1,6 @@
--- Instructions as 32-bit words, and any words as instructions: docs/CODE.md. A word is four bytes: the instruction's number and three operands. Every instruction is one word,
--- but for an emission, whose name stands in the words after it, a byte to a word.
+-- Instructions as 32-bit words, and any words as instructions: docs/CODE.md. A word is four bytes: the instruction's
+-- number and three operands. Every instruction is one word, but for an emission, whose name stands in the words after
+-- it, a byte to a word.
 use Prim.Native.Nat.{ℕ, zero, suc, _+_, _*_, _/_, _%_}
 use mathlib.Core.Bool.{Bool, true, false}
 use mathlib.Core.List.{List, [], _∷_, _++_, map}
@@ -11,7 +12,11 @@ use Rattle.meaning.specs.Angles.{Operation, plus, minus}
 use Rattle.meaning.specs.Classes.{Class, digit, upper, lower, alphabetic, blank, classNumber}
 use Rattle.meaning.specs.Classes.{digitNumber, upperNumber, lowerNumber, alphabeticNumber, blankNumber}
 use Rattle.meaning.specs.Allowed.{isByte}
-use Rattle.meaning.specs.Instructions.{Site, fromStart, fromEnd, fromPlace, Test, look, compare, predicate, predicatePart, unknownTest, Store, store, unknownStore, Length, null, whole, left, right, Span, Action, go, select, out, outC, outV, beginSeq, useSeq, call, tailCall, emission, compute, unknownAction, Metric, exactly, ends, middle, Sentences, noMore, sentence, unknownSentence, Code}
+use Rattle.meaning.specs.Instructions.{Site, fromStart, fromEnd, fromPlace, Test, look, compare, predicate}
+use Rattle.meaning.specs.Instructions.{predicatePart, unknownTest, Store, store, unknownStore, Length, null}
+use Rattle.meaning.specs.Instructions.{whole, left, right, Span, Action, go, select, out, outC, outV, beginSeq}
+use Rattle.meaning.specs.Instructions.{useSeq, call, tailCall, emission, compute, unknownAction, Metric, exactly}
+use Rattle.meaning.specs.Instructions.{ends, middle, Sentences, noMore, sentence, unknownSentence, Code}
 
 abbrev pub Words : Type 0
 Words = List ℕ
@@ -145,7 +150,9 @@ siteOffset (fromPlace k) = k
 
 abbrev pub siteOf : ℕ → ℕ → Option Site
 siteOf register k =
-    pick (eqb register fromStartNumber) (some (fromStart k)) (pick (eqb register fromEndNumber) (some (fromEnd k)) (pick (eqb register fromPlaceNumber) (some (fromPlace k)) none))
+    pick (eqb register fromStartNumber) (some (fromStart k))
+    (pick (eqb register fromEndNumber) (some (fromEnd k))
+    (pick (eqb register fromPlaceNumber) (some (fromPlace k)) none))
 
 abbrev pub lengthNumber : Length → ℕ
 lengthNumber null = nullNumber
@@ -154,7 +161,11 @@ lengthNumber left = leftNumber
 lengthNumber right = rightNumber
 
 abbrev pub lengthOf : ℕ → Option Length
-lengthOf n = pick (eqb n nullNumber) (some null) (pick (eqb n wholeNumber) (some whole) (pick (eqb n leftNumber) (some left) (pick (eqb n rightNumber) (some right) none)))
+lengthOf n =
+    pick (eqb n nullNumber) (some null)
+    (pick (eqb n wholeNumber) (some whole)
+    (pick (eqb n leftNumber) (some left)
+    (pick (eqb n rightNumber) (some right) none)))
 
 abbrev pub classOf : ℕ → Option Class
 classOf n =
@@ -186,7 +197,8 @@ abbrev pub testWord : Test → ℕ
 testWord (look s c) = codeWord lookNumber (siteRegister s) (siteOffset s) c
 testWord (compare s r) =
     codeWord compareNumber (siteRegister s + registers * siteRegister r) (siteOffset s) (siteOffset r)
-testWord (predicate s class expected) = codeWord predicateNumber (siteRegister s + registers * truthBit expected) (siteOffset s) (classNumber class)
+testWord (predicate s class expected) =
+    codeWord predicateNumber (siteRegister s + registers * truthBit expected) (siteOffset s) (classNumber class)
 testWord (predicatePart s r class expected) =
     codeWord predicatePartNumber (partOperand s r class expected) (siteOffset s) (siteOffset r)
 testWord unknownTest = 0
@@ -221,7 +233,8 @@ testOf w =
     pick (eqb (numberIn w) lookNumber) (lookOf (siteOf (firstIn w) (secondIn w)) (thirdIn w))
     (pick (eqb (numberIn w) compareNumber)
     (compareOf (siteOf (firstIn w % registers) (secondIn w)) (siteOf (firstIn w / registers) (thirdIn w)))
-    (pick (eqb (numberIn w) predicateNumber) (predicateFor (siteOf (firstIn w % registers) (secondIn w)) (classOf (thirdIn w)) (eqb (firstIn w / registers) 1))
+    (pick (eqb (numberIn w) predicateNumber)
+    (predicateFor (siteOf (firstIn w % registers) (secondIn w)) (classOf (thirdIn w)) (eqb (firstIn w / registers) 1))
     (pick (eqb (numberIn w) predicatePartNumber) (predicatePartOf (firstIn w) (secondIn w) (thirdIn w))
     unknownTest)))
 
@@ -290,7 +303,8 @@ actionOf w =
 abbrev pub emissionOf : ℕ → Words → Action
 emissionOf n ws = pick (both (leb n (length ws)) (every isByte (take n ws))) (emission (take n ws)) unknownAction
 
--- the actions from a place of the code up to their end; `skip` words are passed over first. Words that run out are no instruction
+-- the actions from a place of the code up to their end; `skip` words are passed over first. Words that run out are no
+-- instruction
 unfoldable pub unpackActions : ℕ → Words → List Action
 unpackActions skip [] = unknownAction ∷ []
 unpackActions (suc skip) (w ∷ ws) = unpackActions skip ws
@@ -367,7 +381,8 @@ bodyOf metric v ws more =
 
 abbrev pub sentenceOf : Option Metric → ℕ → Words → Sentences → Sentences
 sentenceOf none v ws more = unknownSentence
-sentenceOf (some metric) v ws more = let body = bodyOf metric v ws more in pick (leb (storesIn v) maxStored) body unknownSentence
+sentenceOf (some metric) v ws more =
+    let body = bodyOf metric v ws more in pick (leb (storesIn v) maxStored) body unknownSentence
 
 abbrev pub headed : ℕ → Words → Sentences → Sentences
 headed w [] more = unknownSentence
@@ -402,7 +417,8 @@ pack code = length code ∷ placesFrom (suc (length code)) code ++ packFunctions
 abbrev pub functionsAt : Words → Words → Code
 functionsAt ws places = map (λ at. unpackSentences 0 (drop at ws)) places
 
--- "The function table is sound when the code has its count word, an entry for each function, and each entry names a place inside the code"
+-- "The function table is sound when the code has its count word, an entry for each function, and each entry names a
+-- place inside the code"
 abbrev pub soundTable : Words → Words → ℕ → Bool
 soundTable ws rest count = both (leb count (length rest)) (every (λ at. ltb at (length ws)) (take count rest))
 

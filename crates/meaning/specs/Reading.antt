@@ -1,5 +1,6 @@
--- Reading a table text: its tree, or number and place of its fault. Reading stops at the first token at which a fault is known, and "for 2 to 7 the
--- leftmost token decides, then the lowest number": the tests at a token stand in the order of their numbers.
+-- Reading a table text: its tree, or number and place of its fault. Reading stops at the first token at which a fault
+-- is known, and "for 2 to 7 the leftmost token decides, then the lowest number": the tests at a token stand in the
+-- order of their numbers.
 use Prim.Native.Nat.{ℕ, zero, suc, _+_, _-_}
 use mathlib.Core.Bool.{Bool, true, false, not}
 use mathlib.Core.List.{List, [], _∷_, _++_}
@@ -8,12 +9,17 @@ use lib.Dec.{leb, ltb, eqb}
 use lib.ListN.{length}
 use Rattle.meaning.specs.Choice.{Bytes, Name, pick, both, orElse, isSome, sameBytes}
 use Rattle.meaning.specs.Classes.{Class}
-use Rattle.meaning.specs.Tree.{Element, letter, part, Subject, ofSymbol, ofPart, Condition, Expression, end, thenCharacter, thenSymbol, thenPart, thenCall, Sentence, Function, Table}
+use Rattle.meaning.specs.Tree.{Element, letter, part, Subject, ofSymbol, ofPart, Condition, Expression, end}
+use Rattle.meaning.specs.Tree.{thenCharacter, thenSymbol, thenPart, thenCall, Sentence, Function, Table}
 use Rattle.meaning.specs.Names.{isPredicate, isReserved, predicateOf, isKnown}
-use Rattle.meaning.specs.Answers.{tableTooLong, malformedToken, notAllowedHere, overLimit, wrongName, wrongPatternVariable, wrongLaterVariable, undeclaredName}
-use Rattle.meaning.specs.Allowed.{maxTable, maxFunctions, maxSentences, maxName, maxIdentifier, maxLetters, maxSymbols, maxConditions, maxItems, maxNesting, member, added, symbolsOf, partsOf, lettersIn, comingAfter, namesOf}
+use Rattle.meaning.specs.Answers.{tableTooLong, malformedToken, notAllowedHere, overLimit, wrongName}
+use Rattle.meaning.specs.Answers.{wrongPatternVariable, wrongLaterVariable, undeclaredName}
+use Rattle.meaning.specs.Allowed.{maxTable, maxFunctions, maxSentences, maxName, maxIdentifier, maxLetters}
+use Rattle.meaning.specs.Allowed.{maxSymbols, maxConditions, maxItems, maxNesting, member, added, symbolsOf}
+use Rattle.meaning.specs.Allowed.{partsOf, lettersIn, comingAfter, namesOf}
 use Rattle.meaning.specs.Tokens.{Token, functionName, word, quoted, sign, textEnd, malformed, Placed, tokens}
-pub use Rattle.meaning.specs.Tokens.{isSign, isTextEnd, nameOf, Item, characters, symbolItem, partItem, noItem, variableOf, itemOf, isItem, begins}
+pub use Rattle.meaning.specs.Tokens.{isSign, isTextEnd, nameOf, Item, characters, symbolItem, partItem, noItem}
+pub use Rattle.meaning.specs.Tokens.{variableOf, itemOf, isItem, begins}
 use Rattle.meaning.specs.Grammar.{thenCharacters}
 pub use Rattle.meaning.specs.Grammar.{elementsOf}
 
@@ -88,8 +94,8 @@ endsInPart (letter l ∷ es) = endsInPart es
 endsInPart (part x ∷ []) = true
 endsInPart (part x ∷ e ∷ es) = endsInPart (e ∷ es)
 
--- "identifier after s or e 8; pattern 64 characters and s-variables, of which 16 different", "a third is refused with 3", "s and e share an identifier,
--- e twice, nothing between two e"
+-- "identifier after s or e 8; pattern 64 characters and s-variables, of which 16 different", "a third is refused with
+-- 3", "s and e share an identifier, e twice, nothing between two e"
 abbrev pub patternFault : List Element → Item → ℕ
 patternFault before (characters text) = faultUnless (leb (lettersIn before + length text) maxLetters) overLimit 0
 patternFault before (symbolItem x) =
@@ -102,7 +108,8 @@ patternFault before (symbolItem x) =
 patternFault before (partItem x) =
     faultUnless (ltb (length (partsOf before)) 2) notAllowedHere
     (faultUnless (leb (length x) maxIdentifier) overLimit
-    (faultUnless (both (not (member x (symbolsOf before ++ partsOf before))) (not (endsInPart before))) wrongPatternVariable 0))
+    (faultUnless (both (not (member x (symbolsOf before ++ partsOf before))) (not (endsInPart before)))
+    wrongPatternVariable 0))
 patternFault before noItem = 0
 
 -- a pattern, with its elements before these tokens
@@ -127,8 +134,10 @@ subjectFault names x =
 
 abbrev pub subjectOn : {A : Type 0} → Item → List Name → List Name → Placed → (Subject → Parsed A) → Parsed A
 subjectOn (characters text) symbols parts t next = refuse t
-subjectOn (symbolItem x) symbols parts t next = let later = next (ofSymbol x) in whereFaultless (subjectFault symbols x) t later
-subjectOn (partItem x) symbols parts t next = let later = next (ofPart x) in whereFaultless (subjectFault parts x) t later
+subjectOn (symbolItem x) symbols parts t next =
+    let later = next (ofSymbol x) in whereFaultless (subjectFault symbols x) t later
+subjectOn (partItem x) symbols parts t next =
+    let later = next (ofPart x) in whereFaultless (subjectFault parts x) t later
 subjectOn noItem symbols parts t next = refuse t
 
 abbrev pub passSubject
@@ -173,7 +182,8 @@ abbrev pub atComma : List Placed → (Placed → List Placed → Parsed (List Co
 atComma [] next = cutShort
 atComma (t ∷ ts) next = let later = next t ts in pick (isSign 44 (t .token)) later (parsed [] (t ∷ ts))
 
--- conditions, of which so many may still come; "a condition over its limit is refused at its first token (a condition's is `,`)"
+-- conditions, of which so many may still come; "a condition over its limit is refused at its first token (a condition's
+-- is `,`)"
 unfoldable pub parseConditions : ℕ → List Name → List Name → List Placed → Parsed (List Condition)
 parseConditions zero symbols parts ts = atComma ts λ comma rest. stopped overLimit (comma .place)
 parseConditions (suc left) symbols parts ts =
@@ -254,7 +264,8 @@ abbrev pub withFirst : (Expression → Expression) → Parsed Items → Parsed I
 withFirst first (stopped number place) = stopped number place
 withFirst first (parsed i rest) = parsed (record { expression = first (i .expression); progress = i .progress }) rest
 
--- A call from its `<` on. It takes the reader of its argument, which is fed how many calls stand round it, the progress and the tokens.
+-- A call from its `<` on. It takes the reader of its argument, which is fed how many calls stand round it, the progress
+-- and the tokens.
 abbrev pub parseCall : (ℕ → Progress → List Placed → Parsed Items) → ℕ → Progress → Placed → List Placed → Parsed Called
 parseCall argument depth so t ts =
     let later : Parsed Called =
@@ -278,11 +289,13 @@ parseExpressionFrom next symbols depth so t ts =
     pick (isItem item) (whereFaultless (itemFault symbols so item) t afterItem)
     (pick (isSign 60 (t .token)) afterCall (parsed (record { expression = end; progress = so }) (t ∷ ts)))
 
--- An expression that so many calls stand round. Each step eats a token, so a bound of the number of tokens is never reached (proved in proofs/reading).
+-- An expression that so many calls stand round. Each step eats a token, so a bound of the number of tokens is never
+-- reached (proved in proofs/reading).
 unfoldable pub parseExpression : ℕ → List Name → ℕ → Progress → List Placed → Parsed Items
 parseExpression zero symbols depth so ts = cutShort
 parseExpression (suc bound) symbols depth so [] = cutShort
-parseExpression (suc bound) symbols depth so (t ∷ ts) = parseExpressionFrom (parseExpression bound symbols) symbols depth so t ts
+parseExpression (suc bound) symbols depth so (t ∷ ts) =
+    parseExpressionFrom (parseExpression bound symbols) symbols depth so t ts
 
 -- SENTENCES AND FUNCTIONS
 
@@ -314,8 +327,8 @@ afterSentence more s (t ∷ ts) =
     let another = afterSemicolon more s ts in
     pick (isSign 125 (t .token)) (parsed (s ∷ []) ts) (whether (isSign 59 (t .token)) t another)
 
--- The sentences of a function from its `{` to its `}`, of which so many may still come: "sentences parted by `;`, perhaps one more `;`, `}`"; "a sentence ...
--- over its limit is refused at its first token".
+-- The sentences of a function from its `{` to its `}`, of which so many may still come: "sentences parted by `;`,
+-- perhaps one more `;`, `}`"; "a sentence ... over its limit is refused at its first token".
 unfoldable pub parseSentences : ℕ → List Placed → Parsed (List Sentence)
 parseSentences zero ts = atSentence ts λ t. stopped overLimit (t .place)
 parseSentences (suc left) ts =
@@ -330,7 +343,8 @@ passSpare (t ∷ ts) = pick (isSign 59 (t .token)) ts (t ∷ ts)
 
 -- "declared twice, reserved" are refused with 5
 abbrev pub declaredFault : Table → Name → ℕ
-declaredFault before n = lengthFault n (faultUnless (both (not (isReserved n)) (not (member n (namesOf before)))) wrongName 0)
+declaredFault before n =
+    lengthFault n (faultUnless (both (not (isReserved n)) (not (member n (namesOf before)))) wrongName 0)
 
 -- a function from its name to its `}`, with a fault of its name
 abbrev pub parseFunction : (Name → ℕ) → ℕ → List Placed → Parsed Function

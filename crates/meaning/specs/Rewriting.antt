@@ -1,4 +1,5 @@
--- Rewriting by Refal-0's own rules: 01 'Rewriting', 000 section 2.2. It "is fed tree, start, text and allowance, and knows no cell or frame".
+-- Rewriting by Refal-0's own rules: 01 'Rewriting', 000 section 2.2. It "is fed tree, start, text and allowance, and
+-- knows no cell or frame".
 use Prim.Native.Nat.{ℕ, zero, suc}
 use mathlib.Core.Bool.{Bool, true, false}
 use mathlib.Core.List.{List, [], _∷_, _++_}
@@ -7,11 +8,14 @@ use lib.Dec.{eqb}
 use lib.ListN.{length}
 use Rattle.meaning.specs.Choice.{Bytes, Name, pick, both, guard, orElse, every, Named, lookup, numbered}
 use Rattle.meaning.specs.Classes.{Class, inClass, sameTruth}
-use Rattle.meaning.specs.Tree.{character, symbol, Element, letter, part, Subject, ofSymbol, ofPart, Condition, Expression, end, thenCharacter, thenSymbol, thenPart, thenCall, Sentence, Function, Table}
+use Rattle.meaning.specs.Tree.{character, symbol, Element, letter, part, Subject, ofSymbol, ofPart, Condition}
+use Rattle.meaning.specs.Tree.{Expression, end, thenCharacter, thenSymbol, thenPart, thenCall, Sentence, Function}
+use Rattle.meaning.specs.Tree.{Table}
 use Rattle.meaning.specs.Angles.{angled}
 use Rattle.meaning.specs.Names.{Calling, asEmission, asAngles, asFunction, callingOf, numberOf, recovererOf}
 use Rattle.meaning.specs.Answers.{noSentenceFits, allowanceSpent}
-use Rattle.meaning.specs.Outcome.{Tally, maxCounted, emittedLine, Outcome, done, stop, andThen, computed, Result, resultOf}
+use Rattle.meaning.specs.Outcome.{Tally, maxCounted, emittedLine, Outcome, done, stop, andThen, computed, Result}
+use Rattle.meaning.specs.Outcome.{resultOf}
 
 -- what rewriting may still do, and has done so far: steps left of the allowance, its history, which is the numbers of
 -- the functions applied, the latest first, and the record. "Each application of a declared function is one step", so
@@ -100,15 +104,16 @@ abbrev pub withSymbols : Bindings → List (Named ℕ) → Bindings
 withSymbols bound known = record { symbols = known; parts = bound .parts }
 
 abbrev pub withPart : Bindings → Name → Bytes → Bindings
-withPart bound x piece = record { symbols = bound .symbols; parts = bound .parts ++ record { name = x; value = piece } ∷ [] }
+withPart bound x piece =
+    record { symbols = bound .symbols; parts = bound .parts ++ record { name = x; value = piece } ∷ [] }
 
 abbrev pub matchRest : (Bindings → Option Bindings) → Bindings → Option (List (Named ℕ)) → Option Bindings
 matchRest k bound none = none
 matchRest k bound (some known) = k (withSymbols bound known)
 
--- "One fits if the text is its pattern with bytes for s-variables and parts, perhaps empty, for e-variables, and all conditions hold".
--- Parts are tried shortest first and conditions are asked of the whole match, so the middle template "takes the leftmost place at which all
--- characters, equalities and conditions hold".
+-- "One fits if the text is its pattern with bytes for s-variables and parts, perhaps empty, for e-variables, and all
+-- conditions hold". Parts are tried shortest first and conditions are asked of the whole match, so the middle template
+-- "takes the leftmost place at which all characters, equalities and conditions hold".
 unfoldable pub match : List Element → List Condition → Bytes → Bindings → Option Bindings
 match [] conditions [] bound = guard (hold conditions bound) (some bound)
 match [] conditions (b ∷ text) bound = none
@@ -152,7 +157,8 @@ before text o = andThen o (λ rest t. done (text ++ rest) t)
 abbrev pub Applying : Type 0 → Type 0
 Applying A = A → Bytes → Course → Outcome Bytes Course
 
--- "its result is the expression with these put in and each call's text in the call's place ... Calls are done left to right, inner before outer"
+-- "its result is the expression with these put in and each call's text in the call's place ... Calls are done left to
+-- right, inner before outer"
 unfoldable pub evaluate : Applying Name → Bindings → Expression → Course → Outcome Bytes Course
 evaluate call bound end t = done [] t
 evaluate call bound (thenCharacter c e) t = before (c ∷ []) (evaluate call bound e t)
@@ -206,8 +212,8 @@ applied table apply number text t none = stop allowanceSpent 0 t
 applied table apply number text t (some paid) =
     rewritten table apply number text (choose (functionAt table number) text) paid
 
--- One application. The depth bounds how deep applications nest: each one takes a step, so a depth of the steps left is never reached before they are
--- spent, and the depth never shows (proved in proofs/laws/Depth).
+-- One application. The depth bounds how deep applications nest: each one takes a step, so a depth of the steps left is
+-- never reached before they are spent, and the depth never shows (proved in proofs/laws/Depth).
 unfoldable pub apply : ℕ → Table → ℕ → Bytes → Course → Outcome Bytes Course
 apply zero table number text t = stop allowanceSpent 0 t
 apply (suc depth) table number text t = applied table (apply depth table) number text t (takeStep number t)

@@ -1,4 +1,5 @@
--- The three runs of demand 3, each the machine under another watch: without end, on lent cells, and the run without end watched for what it passes first. 01 'Machine'.
+-- The three runs of demand 3, each the machine under another watch: without end, on lent cells, and the run without end
+-- watched for what it passes first. 01 'Machine'.
 use Prim.Native.Nat.{ℕ}
 use mathlib.Core.Bool.{Bool, true, false}
 use mathlib.Core.List.{[]}
@@ -9,7 +10,8 @@ use Rattle.meaning.specs.Choice.{Bytes, pick}
 use Rattle.meaning.specs.Answers.{inFull, outFull, framesFull, recordFull}
 use Rattle.meaning.specs.Outcome.{Tally, fresh, Outcome, done, stop, Result, resultOf}
 use Rattle.meaning.specs.Instructions.{Code}
-use Rattle.meaning.specs.Machine.{Need, inCells, outCells, recordBytes, frames, onward, halt, Watch, Ledger, Stacks, Ran, enter}
+use Rattle.meaning.specs.Machine.{Need, inCells, outCells, recordBytes, frames, onward, halt, Watch, Ledger}
+use Rattle.meaning.specs.Machine.{Stacks, Ran, enter}
 
 -- what is lent
 pub record Room : Type 0 where
@@ -58,7 +60,8 @@ loaded text = record { input = text; selected = length text; output = [] }
 
 -- the start is an application in frame 1
 abbrev pub runUnder : (W : Watch) → Code → ℕ → Bytes → ℕ → W .Mark → Ran W
-runUnder W code start text allowance mark = enter W allowance code 1 start (loaded text) (record { tally = fresh allowance; mark = mark })
+runUnder W code start text allowance mark =
+    enter W allowance code 1 start (loaded text) (record { tally = fresh allowance; mark = mark })
 
 abbrev pub textOf : {Mark : Type 0} → Outcome Stacks (Ledger Mark) → Outcome Bytes Tally
 textOf (done s g) = done (s .output) (g .tally)

@@ -1,5 +1,6 @@
--- The tokens of a table text: 01 'Table text', 000 section 2.1 with its notes. "The reader goes through the lent table text from left to right."
--- Every scanner goes on from the remaining bytes, carries the place in the text and eats one byte at each step.
+-- The tokens of a table text: 01 'Table text', 000 section 2.1 with its notes. "The reader goes through the lent table
+-- text from left to right." Every scanner goes on from the remaining bytes, carries the place in the text and eats one
+-- byte at each step.
 use Prim.Native.Nat.{ℕ, zero, suc, _+_, _*_, _-_}
 use mathlib.Core.Bool.{Bool, true, false}
 use mathlib.Core.List.{List, [], _∷_, _++_}
@@ -10,8 +11,8 @@ use Rattle.meaning.specs.Choice.{Bytes, Name, pick, both, either}
 use Rattle.meaning.specs.Classes.{inClass, digit, alphabetic, isBlankByte}
 use Rattle.meaning.specs.Allowed.{wordByte, nameByte}
 
--- How a word is read: outside sentences and directly after `<` by the rule of function names; inside a sentence "a word there is a letter and the
--- letters and digits after it".
+-- How a word is read: outside sentences and directly after `<` by the rule of function names; inside a sentence "a word
+-- there is a letter and the letters and digits after it".
 pub data Mode : Type 0 where
   outside inside naming : Mode
 
@@ -51,7 +52,8 @@ pub data Token : Type 0 where
   -- a byte that stands for itself: { } ; , = < > : and every byte that no rule allows
   sign : ℕ → Token
   textEnd : Token
-  -- "comment or string without an end, escape not listed or over 255, bare double quote in a string, `<` with no letter right after it"
+  -- "comment or string without an end, escape not listed or over 255, bare double quote in a string, `<` with no letter
+  -- right after it"
   malformed : Token
 
 -- A token with "the offset, from 0, of its token's first byte" and the offset of the byte after its last.
@@ -76,7 +78,8 @@ abbrev pub ahead : (ℕ → Bool) → Bytes → Bool
 ahead test [] = false
 ahead test (b ∷ rest) = test b
 
--- between tokens, or in the comment whose `/` stands at a place: its `*` comes next, inside it, inside it right after a `*`
+-- between tokens, or in the comment whose `/` stands at a place: its `*` comes next, inside it, inside it right after a
+-- `*`
 pub data Gap : Type 0 where
   between : Gap
   opening commented starred : ℕ → Gap
@@ -90,7 +93,8 @@ gapAfter (opening slash) at b rest = some (commented slash)
 gapAfter (commented slash) at b rest = some (pick (eqb b 42) (starred slash) (commented slash))
 gapAfter (starred slash) at b rest = some (pick (eqb b 47) between (pick (eqb b 42) (starred slash) (commented slash)))
 
--- a token begins at a place, with the bytes from there; or the comment that begins at a place has no end in the text, which ends at another
+-- a token begins at a place, with the bytes from there; or the comment that begins at a place has no end in the text,
+-- which ends at another
 pub data Skipped : Type 0 where
   found : ℕ → Bytes → Skipped
   unclosed : ℕ → ℕ → Skipped
@@ -142,7 +146,8 @@ pub data Quoting : Type 0 where
   plain escaped : Quoting
   coded : ℕ → Quoting
 
--- what a byte does inside a string: it goes on with these characters so far, it ends with them, or the byte may not stand there
+-- what a byte does inside a string: it goes on with these characters so far, it ends with them, or the byte may not
+-- stand there
 pub data Turn : Type 0 where
   goesOn : Quoting → Bytes → Turn
   closes : Bytes → Turn
@@ -178,8 +183,8 @@ turn escaped characters b = escapedTurn characters b
 turn (coded code) characters b =
     pick (inClass digit b) (codeTurn (code * 10 + digitValue b) characters) (plainTurn (characters ++ code ∷ []) b)
 
--- a string's characters, the place after its closing quote and the bytes from there; or, where it isn't well formed, the place after what shows it
--- and the bytes from there
+-- a string's characters, the place after its closing quote and the bytes from there; or, where it isn't well formed,
+-- the place after what shows it and the bytes from there
 pub data Quotation : Type 0 where
   closed : Bytes → ℕ → Bytes → Quotation
   broken : ℕ → Bytes → Quotation
@@ -253,7 +258,8 @@ tokensPast next mode l =
     let later = next (modeAfter mode (l .first .token)) (l .first .past) (l .rest) in
     l .first ∷ pick (isLastToken (l .first .token)) [] later
 
--- Every token but the last eats a byte, so a bound above the number of bytes is never reached (proved in proofs/roundtrip/Remaining).
+-- Every token but the last eats a byte, so a bound above the number of bytes is never reached (proved in
+-- proofs/roundtrip/Remaining).
 unfoldable pub tokensFrom : ℕ → Mode → ℕ → Bytes → List Placed
 tokensFrom zero mode at bytes = []
 tokensFrom (suc bound) mode at bytes = tokensPast (tokensFrom bound) mode (lex mode at bytes)
@@ -296,7 +302,8 @@ pub data Item : Type 0 where
   symbolItem partItem : Name → Item
   noItem : Item
 
--- "Variable: `s` or `e`, then at least one letter or digit ... Inside a sentence a word that is no variable is refused with 3"
+-- "Variable: `s` or `e`, then at least one letter or digit ... Inside a sentence a word that is no variable is refused
+-- with 3"
 abbrev pub variableOf : Bytes → Item
 variableOf [] = noItem
 variableOf (b ∷ []) = noItem

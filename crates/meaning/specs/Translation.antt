@@ -1,17 +1,25 @@
--- From the tree to instructions: 01 'Machine', "A sentence becomes: its tests (Look, Compare with the first equal s-variable, Predicate, by pattern then condition order);
--- Store of each different s-variable; then the expression item by item: OutC, OutV, or Go to an e-variable and Out of it. A call is BeginSeq, argument, UseSeq, Select,
--- Call. At the end Go passes the rest of the field. If the last item outermost is a declared call, that Go comes before UseSeq and the call takes the caller's frame".
+-- From the tree to instructions: 01 'Machine', "A sentence becomes: its tests (Look, Compare with the first equal
+-- s-variable, Predicate, by pattern then condition order); Store of each different s-variable; then the expression item
+-- by item: OutC, OutV, or Go to an e-variable and Out of it. A call is BeginSeq, argument, UseSeq, Select, Call. At the
+-- end Go passes the rest of the field. If the last item outermost is a declared call, that Go comes before UseSeq and
+-- the call takes the caller's frame".
 use Prim.Native.Nat.{ℕ, suc, _+_, _-_}
 use mathlib.Core.Bool.{Bool, true, false}
 use mathlib.Core.List.{List, [], _∷_, _++_, map}
 use mathlib.Core.Option.{Option, none, some}
 use lib.ListN.{length}
 use Rattle.meaning.specs.Choice.{Name, pick, both, guard, Named, lookup, sameBytes}
-use Rattle.meaning.specs.Tree.{Letter, character, symbol, Element, letter, part, Subject, ofSymbol, ofPart, Condition, Expression, end, thenCharacter, thenSymbol, thenPart, thenCall, Sentence, Function, Table}
+use Rattle.meaning.specs.Tree.{Letter, character, symbol, Element, letter, part, Subject, ofSymbol, ofPart}
+use Rattle.meaning.specs.Tree.{Condition, Expression, end, thenCharacter, thenSymbol, thenPart, thenCall}
+use Rattle.meaning.specs.Tree.{Sentence, Function, Table}
 use Rattle.meaning.specs.Angles.{Operation}
 use Rattle.meaning.specs.Classes.{Class}
 use Rattle.meaning.specs.Names.{Calling, asEmission, asAngles, asFunction, callingOf, numberOf, recovererOf}
-use Rattle.meaning.specs.Instructions.{Site, fromStart, fromEnd, fromPlace, Test, look, compare, predicate, predicatePart, Store, store, Length, null, whole, left, right, Span, Action, go, select, out, outC, outV, beginSeq, useSeq, call, tailCall, emission, compute, Metric, exactly, ends, middle, Sentences, noMore, sentence, Code}
+use Rattle.meaning.specs.Instructions.{Site, fromStart, fromEnd, fromPlace, Test, look, compare, predicate}
+use Rattle.meaning.specs.Instructions.{predicatePart, Store, store, Length, null, whole, left, right, Span}
+use Rattle.meaning.specs.Instructions.{Action, go, select, out, outC, outV, beginSeq, useSeq, call, tailCall}
+use Rattle.meaning.specs.Instructions.{emission, compute, Metric, exactly, ends, middle, Sentences, noMore}
+use Rattle.meaning.specs.Instructions.{sentence, Code}
 
 -- THE TEMPLATES
 

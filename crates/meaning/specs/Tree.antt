@@ -1,6 +1,7 @@
--- The tree of a table: 000 section 2.1 with 01's 'Table text'. A pattern is a sequence of characters, s-variables and e-variables; 000's
--- grammar of templates round at most two e-variables is in Grammar and Allowed, and the translation finds the templates for itself.
--- An expression carries its own tail, since a call holds an expression and an expression holds calls.
+-- The tree of a table: 000 section 2.1 with 01's 'Table text'. A pattern is a sequence of characters, s-variables and
+-- e-variables; 000's grammar of templates round at most two e-variables is in Grammar and Allowed, and the translation
+-- finds the templates for itself. An expression carries its own tail, since a call holds an expression and an
+-- expression holds calls.
 use Prim.Native.Nat.{ℕ}
 use mathlib.Core.Bool.{Bool}
 use mathlib.Core.List.{List, map}
@@ -27,7 +28,8 @@ pub record Condition : Type 0 where
   pub subject : Subject
   pub expected : Bool
 
--- the items of an expression in order; a call has the place of its name in the table text, the name, its argument, and what comes after it
+-- the items of an expression in order; a call has the place of its name in the table text, the name, its argument, and
+-- what comes after it
 pub data Expression : Type 0 where
   end : Expression
   thenCharacter : ℕ → Expression → Expression

@@ -1,5 +1,6 @@
--- Demand 2 on reading: "A table is accepted exactly when the published Refal-0 grammar, with 01's limits and name rules, allows it, conditions as 01 has
--- them, and what is read is the tree the grammar gives"; "Demand 2 takes conditions as here" (T-03). Which texts are refused, and how, stands in the crate `meaning_refusing`.
+-- Demand 2 on reading: "A table is accepted exactly when the published Refal-0 grammar, with 01's limits and name rules, allows it, conditions as 01
+-- has them, and what is read is the tree the grammar gives"; "Demand 2 takes conditions as here" (T-03). Which texts are refused, and how, stands in
+-- the crate `meaning_refusing`.
 use Prim.Native.Nat.{_≤_}
 use mathlib.Core.Path.{_≡_, refl}
 use mathlib.Core.Logic.{_↔_}
@@ -15,7 +16,8 @@ use Rattle.meaning.specs.Reading.{read, accepted}
 use Rattle.meaning_accepting.proofs.reading.Accepted.{accepted-allows, allows-accepted}
 use Rattle.meaning_accepting.proofs.OneTree.{same-program}
 
--- A text of bytes is read as a tree exactly when it is at most 32,768 bytes long, its tokens derive that tree by the grammar, and the tree is allowed.
+-- A text of bytes is read as a tree exactly when it is at most 32,768 bytes long, its tokens derive that tree by the grammar, and the tree is
+-- allowed.
 pub accepted-exactly : (text : Bytes) → every isByte text ≡ true → (t : Table)
     → (read text ≡ accepted t) ↔ ((length text ≤ maxTable) × IsProgram (tokens text) t × (allowed t ≡ true))
 accepted-exactly text s t = (

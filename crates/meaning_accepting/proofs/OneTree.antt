@@ -1,5 +1,5 @@
--- The grammar gives one tree: tokens that derive two trees derive the same one, whatever the limits and rules say of it. At each point the first token that is left tells which
--- of the grammar's rules comes next, so two derivations of the same tokens go by the same rules.
+-- The grammar gives one tree: tokens that derive two trees derive the same one, whatever the limits and rules say of it. At each point the first
+-- token that is left tells which of the grammar's rules comes next, so two derivations of the same tokens go by the same rules.
 use Prim.Native.Nat.{ℕ}
 use mathlib.Core.Path.{_≡_, refl, sym, ap, _∙_}
 use mathlib.Core.Bool.{Bool, true, false}
@@ -8,7 +8,9 @@ use native.Mathlib.Omega.{arith}
 use lib.Dec.{eqb}
 use Rattle.meaning.specs.Tree.{Element, Subject, Condition, Expression, Sentence, Function, Table}
 use Rattle.meaning.specs.Tokens.{Token, functionName, word, quoted, sign, textEnd, malformed, Placed}
-use Rattle.meaning.specs.Grammar.{standing, truthByte, IsSubject, symbolSubject, partSubject, IsCondition, isCondition, IsConditions, noConditions, conditionThen, IsSentence, isSentence, IsSentences, lastSentence, lastSentenceParted, sentenceThen, IsFunction, isFunction, IsProgram, noFunctions, functionThen, functionPartedThen}
+use Rattle.meaning.specs.Grammar.{standing, truthByte, IsSubject, symbolSubject, partSubject, IsCondition, isCondition, IsConditions, noConditions}
+use Rattle.meaning.specs.Grammar.{conditionThen, IsSentence, isSentence, IsSentences, lastSentence, lastSentenceParted, sentenceThen, IsFunction}
+use Rattle.meaning.specs.Grammar.{isFunction, IsProgram, noFunctions, functionThen, functionPartedThen}
 use Rattle.meaning.specs.Reading.{itemOf, isItem, isSign, isTextEnd}
 use Rattle.meaning_accepting.proofs.reading.Basics.{impossible}
 use Rattle.meaning_accepting.proofs.reading.Patterns.{IsItems, noMore, itemThen, pattern-items}
@@ -65,7 +67,8 @@ same-expressions (oneItemThen {ts = ts} i d) (oneItemThen {ts = us} j f) e h k =
 same-expressions (oneItemThen i d) (calledThen b f) e h k = apart anItem (sym e) refl i
 same-expressions (calledThen a d) nothingMore e h k = apart (isSign 60) (sym (k .shape) ∙ sym e) (k .none-call) refl
 same-expressions (calledThen a d) (oneItemThen j f) e h k = apart anItem e refl j
-same-expressions (calledThen {ts = ts} {ts₁ = ts₁} {at₃ = at₃} {past₃ = past₃} a d) (calledThen {ts = us} {ts₁ = us₁} {at₃ = bt₃} {past₃ = qast₃} b f) e h k =
+same-expressions (calledThen {ts = ts} {ts₁ = ts₁} {at₃ = at₃} {past₃ = past₃} a d) (calledThen {ts = us} {ts₁ = us₁} {at₃ = bt₃} {past₃ = qast₃} b f)
+    e h k =
     let name = firsts (firsts e .tail) in
     let r = same-expressions a b (name .tail) (ends-with 62 at₃ past₃ ts₁ refl) (ends-with 62 bt₃ qast₃ us₁ refl) in
     let after : ts₁ ≡ us₁ = cc (r .after) in

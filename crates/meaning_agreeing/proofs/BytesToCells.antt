@@ -1,5 +1,5 @@
--- Demands 2 and 3 from table bytes to lent cells: what translating a table text and then running the code leaves, against rewriting the tree that the grammar gives. The
--- contracts of the entry points say that the code leaves what `translated` and `leaving` say; this says what those two come to.
+-- Demands 2 and 3 from table bytes to lent cells: what translating a table text and then running the code leaves, against rewriting the tree that the
+-- grammar gives. The contracts of the entry points say that the code leaves what `translated` and `leaving` say; this says what those two come to.
 use Prim.Native.Nat.{ℕ, _-_, _≤_}
 use mathlib.Core.Path.{_≡_, refl, ap}
 use lib.Dec.{T}
@@ -41,7 +41,8 @@ module _ {table : Bytes} {t : Table} (a : Allows table t) (room : ℕ) (fits : l
       rw (code-left .1) (never-fifteen-left t flat start text allowance rules (zeros (room - length (pack (translate t)))) cells)
 
   -- running that buffer leaves what rewriting comes to, or stops at the first room that is passed
-  pub run-left : (start : ℕ) (text : Bytes) (cells : Cells) (allowance : ℕ) → T (isDeclared (translate t) start) → length text ≤ length (cells .stackIn) →
+  pub run-left : (start : ℕ) (text : Bytes) (cells : Cells) (allowance : ℕ) → T (isDeclared (translate t) start) →
+      length text ≤ length (cells .stackIn) →
       leaving (translated (read table) room .buffer) start text cells allowance ≡ afterRun (demanded (roomOf cells) t start text allowance) cells
   run-left start text cells allowance declared inside =
       rw (code-left .1, on-words t rules start text allowance (zeros (room - length (pack (translate t)))) cells declared inside)

@@ -1,5 +1,6 @@
--- Demand 3 over the definitions, for every allowed table, start, text, step allowance and whatever is lent. The proofs behind it: `agreement` (rewriting and the run
--- without end), `laws/Room` (the run without end and the run on lent cells, for any code), `laws/Translated` (packed words unpacked).
+-- Demand 3 over the definitions, for every allowed table, start, text, step allowance and whatever is lent. The proofs behind it: `agreement`
+-- (rewriting and the run without end), `laws/Room` (the run without end and the run on lent cells, for any code), `laws/Translated` (packed words
+-- unpacked).
 use Prim.Native.Nat.{ℕ, _≤_}
 use mathlib.Core.Path.{_≡_, refl, sym, _∙_}
 use mathlib.Core.Logic.{_↔_}

@@ -16,7 +16,9 @@ use Rattle.meaning.specs.Names.{numberOf, recovererOf}
 use Rattle.meaning.specs.Allowed.{allowed}
 use Rattle.meaning.specs.Instructions.{Site, Action}
 use Rattle.meaning.specs.Runs.{Room, runLent}
-use Rattle.meaning.specs.Translation.{Shape, shapeOf, testedShape, Stand, atStart, Passage, passage, Manner, emits, replaces, nests, Level, outermost, inArgument, inTail, mannerOf, levelIn, leftFor, whereLeft, calling, itemActions, passesRest, actionsOf, translatedSentences, translatedFunction, translate, computes}
+use Rattle.meaning.specs.Translation.{Shape, shapeOf, testedShape, Stand, atStart, Passage, passage, Manner, emits, replaces, nests, Level, outermost}
+use Rattle.meaning.specs.Translation.{inArgument, inTail, mannerOf, levelIn, leftFor, whereLeft, calling, itemActions, passesRest, actionsOf}
+use Rattle.meaning.specs.Translation.{translatedSentences, translatedFunction, translate, computes}
 use Rattle.meaning.specs.Packing.{Words, pack}
 use Rattle.meaning.specs.Leaving.{Cells, roomOf, leaving}
 use Rattle.meaning.specs.Reading.{accepted}

@@ -39,7 +39,8 @@ rows =
     row tableZ (replicate 300 48) most 1 (result 0 0 301 (301 ∷ []) [] []) ∷ []
 
 -- rewriting would try every cut of the long texts
-pub frames-run : map (λ (r : Row). runLent (framed (r .frames)) (translate (r .table)) 1 (r .text) (r .allowance)) rows ≡ map (λ (r : Row). r .ran) rows
+pub frames-run : map (λ (r : Row). runLent (framed (r .frames)) (translate (r .table)) 1 (r .text) (r .allowance)) rows ≡
+    map (λ (r : Row). r .ran) rows
 unfolding computing
 frames-run = refl
 

@@ -7,10 +7,12 @@ use mathlib.Core.Option.{Option, none, some}
 use native.Mathlib.Omega.{arith}
 use Rattle.meaning.specs.Choice.{Name, pick, both, either, every}
 use Rattle.meaning.specs.Tree.{Element}
-use Rattle.meaning.specs.Tokens.{Token, Placed, comma, equals, lessThan, greaterThan, isSign, nameOf, Item, characters, symbolItem, partItem, noItem, itemOf, begins}
+use Rattle.meaning.specs.Tokens.{Token, Placed, comma, equals, lessThan, greaterThan, isSign, nameOf, Item, characters, symbolItem, partItem, noItem}
+use Rattle.meaning.specs.Tokens.{itemOf, begins}
 use Rattle.meaning.specs.Grammar.{elementsOf}
 use Rattle.meaning_accepting.proofs.reading.Lists.{every-append}
-use Rattle.meaning_refusing.specs.Looking.{beforeFirst, pastFirst, afterLast, count, toList, namesFrom, called, declared, leads, begunFrom, begun, elementsIn, parting, sentenceIn}
+use Rattle.meaning_refusing.specs.Looking.{beforeFirst, pastFirst, afterLast, count, toList, namesFrom, called, declared, leads, begunFrom}
+use Rattle.meaning_refusing.specs.Looking.{begun, elementsIn, parting, sentenceIn}
 use Rattle.meaning_refusing.specs.Faults.{isMalformed, shortToken}
 use Rattle.meaning_refusing.proofs.Stages.{Stage, start, run, run-append, step}
 use Rattle.meaning_refusing.proofs.Sums.{SentenceSum, Sum, noSentence, addName, addItem, grow, next, atFirst, tallyFrom, tally}

@@ -11,13 +11,20 @@ use Rattle.meaning.specs.Choice.{Bytes, Name, pick, isSome, sameBytes}
 use Rattle.meaning.specs.Classes.{Class, digit, className}
 use Rattle.meaning.specs.Tree.{Element, Subject, Condition, Expression, Sentence, Table}
 use Rattle.meaning.specs.Names.{predicateOf, classNamed}
-use Rattle.meaning.specs.Tokens.{leftBrace, rightBrace, semicolon, comma, colon, equals, lessThan, greaterThan, Token, functionName, quoted, sign, textEnd, Placed}
-use Rattle.meaning.specs.Grammar.{standing, partWord, truthString, IsLetters, stringLetters, variableLetter, IsTemplate, lettersAlone, lettersThen, IsTemplateOrNone, noTemplate, someTemplate, IsPattern, noPart, onePart, twoParts, IsSubject, symbolSubject, partSubject, isCondition, IsConditions, noConditions, conditionThen, IsExpression, noItems, stringThen, symbolThen, partThen, callThen, isSentence, IsSentences, lastSentence, lastSentenceParted, sentenceThen, isFunction, IsProgram, noFunctions, functionThen, functionPartedThen}
+use Rattle.meaning.specs.Tokens.{leftBrace, rightBrace, semicolon, comma, colon, equals, lessThan, greaterThan, Token, functionName, quoted, sign}
+use Rattle.meaning.specs.Tokens.{textEnd, Placed}
+use Rattle.meaning.specs.Grammar.{standing, partWord, truthString, IsLetters, stringLetters, variableLetter, IsTemplate, lettersAlone, lettersThen}
+use Rattle.meaning.specs.Grammar.{IsTemplateOrNone, noTemplate, someTemplate, IsPattern, noPart, onePart, twoParts, IsSubject, symbolSubject}
+use Rattle.meaning.specs.Grammar.{partSubject, isCondition, IsConditions, noConditions, conditionThen, IsExpression, noItems, stringThen, symbolThen}
+use Rattle.meaning.specs.Grammar.{partThen, callThen, isSentence, IsSentences, lastSentence, lastSentenceParted, sentenceThen, isFunction, IsProgram}
+use Rattle.meaning.specs.Grammar.{noFunctions, functionThen, functionPartedThen}
 use Rattle.meaning.specs.Reading.{isSign, isTextEnd, nameOf, itemOf, truthOf}
 use Rattle.meaning_accepting.proofs.reading.Basics.{sign-of, name-of, standing-as, TokenView, aString, aSymbol, aPart, another, view}
 use Rattle.meaning_accepting.proofs.reading.Conditions.{truth-of}
 use Rattle.meaning_refusing.specs.Faults.{Like, nothing, same, otherName, emptyString, Viable}
-use Rattle.meaning_refusing.proofs.Stages.{end-of, Stage, start, afterFunction, named, opened, afterSemicolon, inPattern, afterCondition, atBracket, atPredicate, atVariable, atClose, atColon, atTruth, inExpression, atCalled, finished, failed, outsideStep, conditionStep, patternStep, subjectStep, endStep, step, run}
+use Rattle.meaning_refusing.proofs.Stages.{end-of, Stage, start, afterFunction, named, opened, afterSemicolon, inPattern, afterCondition}
+use Rattle.meaning_refusing.proofs.Stages.{atBracket, atPredicate, atVariable, atClose, atColon, atTruth, inExpression, atCalled, finished}
+use Rattle.meaning_refusing.proofs.Stages.{failed, outsideStep, conditionStep, patternStep, subjectStep, endStep, step, run}
 
 -- WHAT MAY FOLLOW
 

@@ -13,11 +13,13 @@ use Rattle.meaning.specs.Tokens.{Placed}
 use Rattle.meaning.specs.Reading.{faultUnless}
 use Rattle.meaning.proofs.laws.Choosing.{not-both, is-false, no-cons}
 use Rattle.meaning_accepting.proofs.reading.Lists.{both-assoc}
-use Rattle.meaning_refusing.specs.Faults.{Viable, wellFormed, Quota, withinLimits, rightNames, rightPattern, rightLater, Fault, notFormed, notViable, notWithin, notNamed, notPattern, notLater}
+use Rattle.meaning_refusing.specs.Faults.{Viable, wellFormed, Quota, withinLimits, rightNames, rightPattern, rightLater, Fault, notFormed}
+use Rattle.meaning_refusing.specs.Faults.{notViable, notWithin, notNamed, notPattern, notLater}
 use Rattle.meaning_refusing.proofs.Stages.{start, going, going-failed, run, viable-runs}
 use Rattle.meaning_refusing.proofs.Computed.{orElseFault, viable, faultsOf}
 use Rattle.meaning_refusing.proofs.Completing.{runs-viable}
-use Rattle.meaning_refusing.proofs.Sums.{tally, number, tableLimits, patternLimits, itemLimits, declaredRight, predicatesRight, callsRight, patternRight, symbolsRight, partsKnown, middleRight, partsRight}
+use Rattle.meaning_refusing.proofs.Sums.{tally, number, tableLimits, patternLimits, itemLimits, declaredRight, predicatesRight, callsRight}
+use Rattle.meaning_refusing.proofs.Sums.{patternRight, symbolsRight, partsKnown, middleRight, partsRight}
 use Rattle.meaning_refusing.proofs.Agreeing.{sumOf, tally-sum}
 
 -- LISTS OF NUMBERS

@@ -14,17 +14,24 @@ use Rattle.meaning.specs.Names.{predicateOf, isPredicate}
 use Rattle.meaning.specs.Answers.{overLimit, wrongName, wrongLaterVariable}
 use Rattle.meaning.specs.Tree.{Element, letter, symbol, part, Subject, ofSymbol, ofPart, Condition}
 use Rattle.meaning.specs.Allowed.{maxName, maxConditions, maxIdentifier, symbolsOf, partsOf, member}
-use Rattle.meaning.specs.Tokens.{Token, functionName, quoted, Placed, comma, colon, equals, lessThan, greaterThan, isSign, isLastToken, nameOf, Item, characters, symbolItem, partItem, noItem, itemOf, isItem}
+use Rattle.meaning.specs.Tokens.{Token, functionName, quoted, Placed, comma, colon, equals, lessThan, greaterThan, isSign, isLastToken, nameOf, Item}
+use Rattle.meaning.specs.Tokens.{characters, symbolItem, partItem, noItem, itemOf, isItem}
 use Rattle.meaning.specs.Grammar.{standing, symbolWord, partWord, charactersOf, truthByte}
-use Rattle.meaning.specs.Reading.{Parsed, stopped, parsed, whereFaultless, faultOf, faultUnless, nameOn, lengthFault, withClass, subjectFault, passSubject, truthOf, truthOn, passTruth, parseCondition, parseConditions}
-use Rattle.meaning_accepting.proofs.reading.Basics.{impossible, both-left, both-right, TokenView, aString, aSymbol, aPart, another, view, sign-of, name-of}
-use Rattle.meaning_accepting.proofs.reading.Conditions.{truth-of, afterTruth, afterColon, afterClose, afterVariable, afterPredicate, afterOpen, afterCondition as goingOn, afterConditions as joining, afterComma as inCondition}
+use Rattle.meaning.specs.Reading.{Parsed, stopped, parsed, whereFaultless, faultOf, faultUnless, nameOn, lengthFault, withClass, subjectFault}
+use Rattle.meaning.specs.Reading.{passSubject, truthOf, truthOn, passTruth, parseCondition, parseConditions}
+use Rattle.meaning_accepting.proofs.reading.Basics.{impossible, both-left, both-right, TokenView, aString, aSymbol, aPart, another, view, sign-of}
+use Rattle.meaning_accepting.proofs.reading.Basics.{name-of}
+use Rattle.meaning_accepting.proofs.reading.Conditions.{truth-of, afterTruth, afterColon, afterClose, afterVariable, afterPredicate, afterOpen}
+use Rattle.meaning_accepting.proofs.reading.Conditions.{afterCondition as goingOn, afterConditions as joining, afterComma as inCondition}
 use Rattle.meaning_accepting.proofs.reading.Lists.{every-append, member-every}
-use Rattle.meaning_accepting.proofs.reading.PatternItems.{characters-same-symbols, characters-same-parts, symbol-adds, symbol-same-parts, part-same-symbols, part-adds}
+use Rattle.meaning_accepting.proofs.reading.PatternItems.{characters-same-symbols, characters-same-parts, symbol-adds, symbol-same-parts}
+use Rattle.meaning_accepting.proofs.reading.PatternItems.{part-same-symbols, part-adds}
 use Rattle.meaning_refusing.specs.Faults.{Quota}
-use Rattle.meaning_refusing.proofs.Stages.{Stage, inPattern, afterCondition, atBracket, atPredicate, atVariable, atClose, atColon, atTruth, inExpression, failed, step, going}
+use Rattle.meaning_refusing.proofs.Stages.{Stage, inPattern, afterCondition, atBracket, atPredicate, atVariable, atClose, atColon, atTruth}
+use Rattle.meaning_refusing.proofs.Stages.{inExpression, failed, step, going}
 use Rattle.meaning_refusing.proofs.Sums.{SentenceSum, Sum, next, tally, number, predicatesRight, symbolsRight, partsKnown, middleRight}
-use Rattle.meaning_refusing.proofs.Told.{Open, At, Told, told-follow, told-done, told-cut, told-stop, told-pass, told-check, told-refuse, told-sign, refused-number, sign-inner, fine}
+use Rattle.meaning_refusing.proofs.Told.{Open, At, Told, told-follow, told-done, told-cut, told-stop, told-pass, told-check, told-refuse}
+use Rattle.meaning_refusing.proofs.Told.{told-sign, refused-number, sign-inner, fine}
 use Rattle.meaning_refusing.proofs.InPattern.{both-unit, Around, Patterned, patternAt, no-limits, no-calls, no-symbols, no-parts, NoItemNext}
 
 -- THE TESTS WITH A TOKEN MORE
@@ -317,7 +324,8 @@ module _ (names : List Name) (begun : ℕ) (p : List Element) where
 
           by-class : (n : Name) → t .token ≡ functionName n → (l : Bool) → leb (length n) maxName ≡ l → (o : Option Class) → predicateOf n ≡ o
               → Told quota (ConditionLeft (c .commas)) b (t ∷ ts)
-              (whereFaultless (faultUnless l overLimit 0) t (withClass o (t .place) (λ class. passSubject (symbolsOf p) (partsOf p) ts (afterVariable class))))
+              (whereFaultless (faultUnless l overLimit 0) t (withClass o (t .place)
+              (λ class. passSubject (symbolsOf p) (partsOf p) ts (afterVariable class))))
           by-class n e false l o q = told-stop quota (ConditionLeft (c .commas)) m b t ts here _ (name-number n e ∙ rw l)
           by-class n e true l none q = told-stop quota (ConditionLeft (c .commas)) m b t ts here _ (name-number n e ∙ rw (l, q))
           by-class n e true l (some class) q =

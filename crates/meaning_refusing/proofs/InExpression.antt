@@ -15,17 +15,21 @@ use Rattle.meaning.specs.Tree.{Element, letter, symbol, part, Expression, end, 
 use Rattle.meaning.specs.Allowed.{maxName, maxItems, maxNesting, maxIdentifier, symbolsOf, partsOf, member, comingAfter, whereSome}
 use Rattle.meaning.specs.Tokens.{Token, functionName, sign, Placed, lessThan, greaterThan, isSign, itemOf, isItem}
 use Rattle.meaning.specs.Grammar.{standing, charactersOf}
-use Rattle.meaning.specs.Reading.{Parsed, stopped, parsed, follow, whereFaultless, whether, faultUnless, passName, Progress, Items, Called, comingOr, pastItem, pastCall, itemFault, callFault, calledFault, thenItem, withFirst, parseCall, parseExpression}
-use Rattle.meaning_accepting.proofs.reading.Basics.{impossible, passed, both-left, both-right, both-true, TokenView, aString, aSymbol, aPart, another, view, sign-of, standing-as}
+use Rattle.meaning.specs.Reading.{Parsed, stopped, parsed, follow, whereFaultless, whether, faultUnless, passName, Progress, Items, Called, comingOr}
+use Rattle.meaning.specs.Reading.{pastItem, pastCall, itemFault, callFault, calledFault, thenItem, withFirst, parseCall, parseExpression}
+use Rattle.meaning_accepting.proofs.reading.Basics.{impossible, passed, both-left, both-right, both-true, TokenView, aString, aSymbol, aPart, another}
+use Rattle.meaning_accepting.proofs.reading.Basics.{view, sign-of, standing-as}
 use Rattle.meaning_accepting.proofs.reading.Lists.{agree, every-append, both-comm}
 use Rattle.meaning_accepting.proofs.reading.PatternItems.{characters-same-parts, symbol-same-parts, part-adds}
 use Rattle.meaning_accepting.proofs.reading.Expressions.{argued, closing, closed}
 use Rattle.meaning_refusing.specs.Faults.{Quota, comingAfterEach}
 use Rattle.meaning_refusing.proofs.Stages.{Stage, inExpression, atCalled, going}
 use Rattle.meaning_refusing.proofs.Sums.{Sum, next, number, itemLimits, callsRight, symbolsRight, partsRight}
-use Rattle.meaning_refusing.proofs.Told.{At, Told, told-follow, told-done, told-cut, told-pass, told-check, told-refuse, told-name, sign-inner, item-inner, trace-length, Fine, fine}
+use Rattle.meaning_refusing.proofs.Told.{At, Told, told-follow, told-done, told-cut, told-pass, told-check, told-refuse, told-name, sign-inner}
+use Rattle.meaning_refusing.proofs.Told.{item-inner, trace-length, Fine, fine}
 use Rattle.meaning_refusing.proofs.InPattern.{both-unit, Around, Patterned}
-use Rattle.meaning_refusing.proofs.InConditions.{Middle, MiddleFits, Right, rightSentence, sentenceAt, rightAt, symbol-known, string-known, symbols-part}
+use Rattle.meaning_refusing.proofs.InConditions.{Middle, MiddleFits, Right, rightSentence, sentenceAt, rightAt, symbol-known, string-known}
+use Rattle.meaning_refusing.proofs.InConditions.{symbols-part}
 
 -- THE TESTS WITH A TOKEN MORE
 
@@ -142,7 +146,8 @@ abbrev pub NoMore : List Placed → Type 0
 NoMore [] = Unit {0}
 NoMore (t ∷ ts) = (isItem (itemOf (t .token)) ≡ false) × (isSign lessThan (t .token) ≡ false)
 
-follow-check : {A B : Type 0} (n : ℕ) (t : Placed) (x : Parsed A) (k : A → List Placed → Parsed B) → follow (whereFaultless n t x) k ≡ whereFaultless n t (follow x k)
+follow-check : {A B : Type 0} (n : ℕ) (t : Placed) (x : Parsed A) (k : A → List Placed → Parsed B) → follow (whereFaultless n t x) k ≡
+    whereFaultless n t (follow x k)
 follow-check zero t x k = refl
 follow-check (suc n) t x k = refl
 
@@ -317,7 +322,8 @@ module _ (names : List Name) (begun : ℕ) (p : List Element) (any : Bool) (c : 
         → (b ts : List Placed) → length ts ≤ bound → At (here (atCalled depth) true r) b ts
         → Told quota (CallLeft depth) b ts (passName calledFault ts (argued (parseExpression bound (symbolsOf p)) depth so))
     inside-told bound tells depth so r f tied b ts l at =
-        told-name quota (CallLeft depth) (here (atCalled depth) true r) refl b calledFault ts (argued (parseExpression bound (symbolsOf p)) depth so) at
+        told-name quota (CallLeft depth) (here (atCalled depth) true r) refl b calledFault ts (argued (parseExpression bound (symbolsOf p)) depth so)
+        at
         (λ t e. rw e) (called-number depth r f)
         (λ n place past b₁ us shorter z at₁.
         let g = fine quota (next (here (atCalled depth) true r) (standing (functionName n) place past)) (called-number depth r f n place past ∙ z) in
@@ -330,7 +336,8 @@ module _ (names : List Name) (begun : ℕ) (p : List Element) (any : Bool) (c : 
         (λ given b₂ vs s l₁. close-told depth place n given (l₁ .so) (l₁ .fits) (l₁ .tied) b₂ vs (l₁ .at) (l₁ .ended)))
 
     abbrev outside : ℕ → ℕ → Called → List Placed → Parsed Items
-    outside bound depth v rest = withFirst (thenCall (v .place) (v .name) (v .argument)) (parseExpression bound (symbolsOf p) depth (v .progress) rest)
+    outside bound depth v rest = withFirst (thenCall (v .place) (v .name) (v .argument))
+        (parseExpression bound (symbolsOf p) depth (v .progress) rest)
 
     expression-step : (bound : ℕ) → TellsAt bound → (depth : ℕ) (so : Progress) (r : Right) → RightFits p r → Tied p r depth so
         → (b : List Placed) (t : Placed) (ts : List Placed) → length ts ≤ bound → At (here (inExpression depth) false r) b (t ∷ ts)

@@ -15,10 +15,13 @@ use Rattle.meaning.specs.Reading.{Parsed, parsed, whereFaultless, patternFault,
 use Rattle.meaning_accepting.proofs.reading.Basics.{impossible, both-left, both-right, TokenView, aString, aSymbol, aPart, another, view}
 use Rattle.meaning_accepting.proofs.reading.Lists.{agree}
 use Rattle.meaning_accepting.proofs.reading.PatternFacts.{parted-letter, parted-part, parted-characters}
-use Rattle.meaning_accepting.proofs.reading.PatternItems.{characters-same-parts, characters-same-symbols, characters-more-letters, symbol-same-parts, symbol-adds, symbol-more-letters, part-same-symbols, part-same-letters, part-different, part-length, added-different, added-before}
+use Rattle.meaning_accepting.proofs.reading.PatternItems.{characters-same-parts, characters-same-symbols, characters-more-letters, symbol-same-parts}
+use Rattle.meaning_accepting.proofs.reading.PatternItems.{symbol-adds, symbol-more-letters, part-same-symbols, part-same-letters, part-different}
+use Rattle.meaning_accepting.proofs.reading.PatternItems.{part-length, added-different, added-before}
 use Rattle.meaning_refusing.specs.Faults.{Quota, comingAfterEach}
 use Rattle.meaning_refusing.proofs.Stages.{inPattern, failed, going}
-use Rattle.meaning_refusing.proofs.Sums.{SentenceSum, Sum, next, number, tableLimits, patternLimits, itemLimits, declaredRight, predicatesRight, callsRight, patternRight, symbolsRight, partsKnown, middleRight, partsRight}
+use Rattle.meaning_refusing.proofs.Sums.{SentenceSum, Sum, next, number, tableLimits, patternLimits, itemLimits, declaredRight}
+use Rattle.meaning_refusing.proofs.Sums.{predicatesRight, callsRight, patternRight, symbolsRight, partsKnown, middleRight, partsRight}
 use Rattle.meaning_refusing.proofs.Told.{Told, told-check, told-done, told-cut, item-inner, At, Fine, fine}
 
 pub both-unit : (b : Bool) → both b true ≡ b

@@ -13,7 +13,8 @@ use Rattle.meaning.specs.Tree.{Element, Condition, Sentence}
 use Rattle.meaning.specs.Allowed.{maxConditions, symbolsOf, symbolsFrom, partsOf, lettersIn, parted, distinct}
 use Rattle.meaning.specs.Tokens.{Token, sign, Placed, rightBrace, semicolon, comma, equals, isSign, begins}
 use Rattle.meaning.specs.Grammar.{standing}
-use Rattle.meaning.specs.Reading.{stopped, parsed, follow, whether, faultOf, faultUnless, Items, parsePattern, parseConditions, parseExpression, parseSentence, afterSemicolon, afterSentence, parseSentences}
+use Rattle.meaning.specs.Reading.{stopped, parsed, follow, whether, faultOf, faultUnless, Items, parsePattern, parseConditions, parseExpression}
+use Rattle.meaning.specs.Reading.{parseSentence, afterSemicolon, afterSentence, parseSentences}
 use Rattle.meaning.proofs.laws.Choosing.{is-false}
 use Rattle.meaning_accepting.proofs.reading.Basics.{impossible, both-left, both-true, TokenView, aString, aSymbol, aPart, another, view, sign-of}
 use Rattle.meaning_accepting.proofs.reading.Sentences.{start as progress, afterExpression, afterEquals, afterConditions, afterPattern}
@@ -21,8 +22,10 @@ use Rattle.meaning_accepting.proofs.reading.Functions.{joined}
 use Rattle.meaning_refusing.specs.Faults.{isMalformed, Quota, comingAfterEach}
 use Rattle.meaning_refusing.proofs.Stages.{Stage, afterFunction, opened, afterSemicolon as pastSemicolon, inExpression, failed, step, going}
 use Rattle.meaning_refusing.proofs.Sums.{Sum, next, noSentence, tally, number, tableLimits, patternLimits, declaredRight, patternRight}
-use Rattle.meaning_refusing.proofs.Told.{Open, At, Told, told-follow, told-done, told-cut, told-stop, told-pass, told-fault, told-refuse, refused-number, sign-inner}
-use Rattle.meaning_refusing.proofs.InPattern.{both-unit, Around, Patterned, patternAt, no-limits, no-predicates, no-calls, no-middle, no-symbols, no-parts, PatternLeft, pattern-told}
+use Rattle.meaning_refusing.proofs.Told.{Open, At, Told, told-follow, told-done, told-cut, told-stop, told-pass, told-fault, told-refuse}
+use Rattle.meaning_refusing.proofs.Told.{refused-number, sign-inner}
+use Rattle.meaning_refusing.proofs.InPattern.{both-unit, Around, Patterned, patternAt, no-limits, no-predicates, no-calls, no-middle}
+use Rattle.meaning_refusing.proofs.InPattern.{no-symbols, no-parts, PatternLeft, pattern-told}
 use Rattle.meaning_refusing.proofs.InConditions.{Middle, noMiddle, noRight, rightAt, waiting-pattern, ConditionsLeft, conditions-told}
 use Rattle.meaning_refusing.proofs.InExpression.{Tied, RightFits, ExpressionLeft, quiet, expression-told}
 
@@ -257,7 +260,8 @@ module _ (quota : Quota) where
               → Told quota reads b (t ∷ ts) (pick q (parsed (s ∷ []) ts) (whether r t (afterSemicolon (parseSentences left) s ts)))
           by-sign true q r o = brace-told b t ts q (w .on-brace q)
           by-sign false q true o =
-              told-pass quota reads (tableAt pastSemicolon true names (suc begun)) b t ts (w .on-semicolon o) (afterSemicolon (parseSentences left) s ts)
+              told-pass quota reads (tableAt pastSemicolon true names (suc begun)) b t ts (w .on-semicolon o)
+              (afterSemicolon (parseSentences left) s ts)
               (sign-inner semicolon (t .token) o) (table-fine pastSemicolon true names (suc begun) refl a)
               (λ at. semicolon-told (b ++ t ∷ []) ts at)
           by-sign false q false o = told-fault quota reads (tally (b ++ t ∷ [])) b t ts refl (w .on-other q o)
@@ -278,7 +282,8 @@ module _ (quota : Quota) where
   sentences-told (suc left) names begun a l b (t ∷ ts) at = by-begin (sentences-told left) (begins (t .token)) refl
     where
       by-begin : TellsSentences left → (q : Bool) → begins (t .token) ≡ q
-          → Told quota (SentencesLeft names begun (suc left)) b (t ∷ ts) (whether q t (follow (parseSentence (t ∷ ts)) (afterSentence (parseSentences left))))
+          → Told quota (SentencesLeft names begun (suc left)) b (t ∷ ts)
+          (whether q t (follow (parseSentence (t ∷ ts)) (afterSentence (parseSentences left))))
       by-begin tells true q =
           let more = around-more names begun a (omega arith) in
           told-follow quota (SentencesLeft names begun (suc left)) (SentenceLeft names (suc begun) more) b (t ∷ ts)

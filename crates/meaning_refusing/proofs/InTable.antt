@@ -14,7 +14,8 @@ use Rattle.meaning.specs.Answers.{overLimit, wrongName}
 use Rattle.meaning.specs.Tree.{Function, Table}
 use Rattle.meaning.specs.Allowed.{maxName, distinct, member, namesOf}
 use Rattle.meaning.specs.Tokens.{Placed, isLastToken, leftBrace, semicolon, isSign, isTextEnd, nameOf}
-use Rattle.meaning.specs.Reading.{Parsed, parsed, cutShort, follow, whereFaultless, faultOf, nameOn, parseSentences, passSpare, declaredFault, parseFunction, parseFunctions}
+use Rattle.meaning.specs.Reading.{Parsed, parsed, cutShort, follow, whereFaultless, faultOf, nameOn, parseSentences, passSpare, declaredFault}
+use Rattle.meaning.specs.Reading.{parseFunction, parseFunctions}
 use Rattle.meaning_accepting.proofs.reading.Basics.{impossible, passed, both-left, both-right, both-true, sign-of, name-of}
 use Rattle.meaning_accepting.proofs.reading.Lists.{every-append, distinct-after, both-comm}
 use Rattle.meaning_accepting.proofs.reading.Tables.{declared, afterBrace, afterName, afterFunction as goingOn, names-append}
@@ -23,9 +24,11 @@ use Rattle.meaning_accepting.proofs.reading.Sound.{isNil}
 use Rattle.meaning_refusing.specs.Faults.{Quota}
 use Rattle.meaning_refusing.proofs.Stages.{end-of, start, afterFunction, named, opened, finished}
 use Rattle.meaning_refusing.proofs.Sums.{Sum, noSentence, tallyFrom, tally, number, tableLimits, declaredRight}
-use Rattle.meaning_refusing.proofs.Told.{lastIs, Open, At, at-tally, Trace, stay, go, Told, told-follow, told-done, told-cut, told-stop, told-pass, told-fault, told-sign, refused-number, sign-inner, name-inner}
+use Rattle.meaning_refusing.proofs.Told.{lastIs, Open, At, at-tally, Trace, stay, go, Told, told-follow, told-done, told-cut, told-stop}
+use Rattle.meaning_refusing.proofs.Told.{told-pass, told-fault, told-sign, refused-number, sign-inner, name-inner}
 use Rattle.meaning_refusing.proofs.InPattern.{both-unit, Around}
-use Rattle.meaning_refusing.proofs.InSentences.{lt-leb, both-false, tableAt, table-number, table-fine, over-limit, SentencesLeft, sentences-told}
+use Rattle.meaning_refusing.proofs.InSentences.{lt-leb, both-false, tableAt, table-number, table-fine, over-limit, SentencesLeft}
+use Rattle.meaning_refusing.proofs.InSentences.{sentences-told}
 
 -- NOTHING COMES AFTER THE LAST TOKEN
 
@@ -158,7 +161,8 @@ module _ (quota : Quota) where
         (λ t e. rw e)
         (λ place past. table-fine quota opened true (names ++ n ∷ []) begun refl more)
         (λ place past b₁ us at₁.
-        told-follow quota (FunctionLeft names begun left) (SentencesLeft quota (names ++ n ∷ []) begun left) b₁ us (parseSentences left us) (declared n)
+        told-follow quota (FunctionLeft names begun left) (SentencesLeft quota (names ++ n ∷ []) begun left) b₁ us (parseSentences left us)
+        (declared n)
         (sentences-told quota left (names ++ n ∷ []) begun more l b₁ us at₁)
         (λ ss b₂ vs r l₁.
         told-done quota (FunctionLeft names begun left) {b = b₂} {ts = vs} (record { name = n; sentences = ss })
@@ -223,10 +227,12 @@ module _ (quota : Quota) where
   spare-told left tells sentencesLeft before begun a l m b [] here c = tells sentencesLeft before begun a l m b [] here tt
   spare-told left tells sentencesLeft before begun a l m b (t ∷ ts) here c = by-sign (isSign semicolon (t .token)) refl
     where
-      by-sign : (q : Bool) → isSign semicolon (t .token) ≡ q → Told quota Whole b (t ∷ ts) (parseFunctions left sentencesLeft before (pick q ts (t ∷ ts)))
+      by-sign : (q : Bool) → isSign semicolon (t .token) ≡ q →
+          Told quota Whole b (t ∷ ts) (parseFunctions left sentencesLeft before (pick q ts (t ∷ ts)))
       by-sign true q =
           told-pass quota Whole (tableAt start true (namesOf before) begun) b t ts (here ∙ rw (sign-of semicolon (t .token) q))
-          (parseFunctions left sentencesLeft before ts) (sign-inner semicolon (t .token) q) (table-fine quota start true (namesOf before) begun refl a)
+          (parseFunctions left sentencesLeft before ts) (sign-inner semicolon (t .token) q)
+          (table-fine quota start true (namesOf before) begun refl a)
           (λ at.
           tells sentencesLeft before begun a l m (b ++ t ∷ []) ts (outside-start (namesOf before) begun true a (b ++ t ∷ []) ts at)
           (closed-tail t ts c))
@@ -236,7 +242,8 @@ module _ (quota : Quota) where
   unfolding parseFunctions names
   functions-told zero sentencesLeft before begun a l m b [] w c = told-cut quota Whole w
   functions-told zero sentencesLeft before begun a l m b (t ∷ ts) w c =
-      end-told before begun b t ts (follow (parseFunction (λ n. overLimit) sentencesLeft (t ∷ ts)) (λ f rest. cutShort)) w c (isTextEnd (t .token)) refl
+      end-told before begun b t ts (follow (parseFunction (λ n. overLimit) sentencesLeft (t ∷ ts)) (λ f rest. cutShort)) w c (isTextEnd (t .token))
+      refl
       (λ e. by-name e (nameOf (t .token)) refl)
     where
       by-name : isTextEnd (t .token) ≡ false → (o : Option Name) → nameOf (t .token) ≡ o
@@ -252,7 +259,8 @@ module _ (quota : Quota) where
       (follow (parseFunction (declaredFault before) sentencesLeft (t ∷ ts)) (goingOn (parseFunctions left) sentencesLeft before)) w c
       (isTextEnd (t .token)) refl
       (λ e.
-      told-follow quota Whole (FunctionLeft (namesOf before) begun sentencesLeft) b (t ∷ ts) (parseFunction (declaredFault before) sentencesLeft (t ∷ ts))
+      told-follow quota Whole (FunctionLeft (namesOf before) begun sentencesLeft) b (t ∷ ts)
+      (parseFunction (declaredFault before) sentencesLeft (t ∷ ts))
       (goingOn (parseFunctions left) sentencesLeft before)
       (function-told before begun sentencesLeft a m (rw (names-length before) (omega arith)) b t ts w e)
       (λ f b₁ us passes r.

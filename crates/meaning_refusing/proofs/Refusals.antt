@@ -13,7 +13,8 @@ use Rattle.meaning.specs.Tokens.{outside, Placed, tokens, isTextEnd}
 use Rattle.meaning.specs.Reading.{read, readFunctions, verdict, refused}
 use Rattle.meaning_accepting.proofs.reading.Local.{agree-take, tokens-local}
 use Rattle.meaning_accepting.proofs.reading.TextEnd.{text-end}
-use Rattle.meaning_refusing.specs.Faults.{Viable, Quota, quotaAfter, Fault, notFormed, notViable, notWithin, notNamed, notPattern, notLater, FirstFault, RefusedWithin, Refused, tooLong, atToken, afterReading}
+use Rattle.meaning_refusing.specs.Faults.{Viable, Quota, quotaAfter, Fault, notFormed, notViable, notWithin, notNamed, notPattern, notLater}
+use Rattle.meaning_refusing.specs.Faults.{FirstFault, RefusedWithin, Refused, tooLong, atToken, afterReading}
 use Rattle.meaning_refusing.proofs.Computed.{faultsOf}
 use Rattle.meaning_refusing.proofs.Deciding.{Among, decided, viable-unless}
 use Rattle.meaning_refusing.proofs.Exactly.{refused-so}

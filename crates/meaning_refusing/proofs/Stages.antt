@@ -8,8 +8,13 @@ use borrow.Author.Tests.{eq-eqb, eqb-true}
 use lib.Dec.{ltb, eqb}
 use Rattle.meaning.specs.Choice.{Name, pick, isSome, either, sameBytes}
 use Rattle.meaning.specs.Tree.{Element, Subject, Condition, Expression, Sentence, Function, Table}
-use Rattle.meaning.specs.Tokens.{leftBrace, rightBrace, semicolon, comma, colon, equals, lessThan, greaterThan, Token, functionName, word, quoted, sign, textEnd, malformed, Placed}
-use Rattle.meaning.specs.Grammar.{standing, IsLetters, stringLetters, variableLetter, IsTemplate, lettersAlone, lettersThen, IsTemplateOrNone, noTemplate, someTemplate, IsPattern, noPart, onePart, twoParts, IsSubject, symbolSubject, partSubject, IsCondition, isCondition, IsConditions, noConditions, conditionThen, IsExpression, noItems, stringThen, symbolThen, partThen, callThen, IsSentence, isSentence, IsSentences, lastSentence, lastSentenceParted, sentenceThen, IsFunction, isFunction, IsProgram, noFunctions, functionThen, functionPartedThen}
+use Rattle.meaning.specs.Tokens.{leftBrace, rightBrace, semicolon, comma, colon, equals, lessThan, greaterThan, Token, functionName, word, quoted}
+use Rattle.meaning.specs.Tokens.{sign, textEnd, malformed, Placed}
+use Rattle.meaning.specs.Grammar.{standing, IsLetters, stringLetters, variableLetter, IsTemplate, lettersAlone, lettersThen, IsTemplateOrNone}
+use Rattle.meaning.specs.Grammar.{noTemplate, someTemplate, IsPattern, noPart, onePart, twoParts, IsSubject, symbolSubject, partSubject, IsCondition}
+use Rattle.meaning.specs.Grammar.{isCondition, IsConditions, noConditions, conditionThen, IsExpression, noItems, stringThen, symbolThen, partThen}
+use Rattle.meaning.specs.Grammar.{callThen, IsSentence, isSentence, IsSentences, lastSentence, lastSentenceParted, sentenceThen, IsFunction}
+use Rattle.meaning.specs.Grammar.{isFunction, IsProgram, noFunctions, functionThen, functionPartedThen}
 use Rattle.meaning.specs.Reading.{isSign, isTextEnd, nameOf, Item, characters, symbolItem, partItem, noItem, itemOf, isItem, truthOf, begins}
 use Rattle.meaning_accepting.proofs.reading.Basics.{impossible, sign-of}
 use Rattle.meaning_accepting.proofs.reading.Sentences.{Begins, sentence-begins}

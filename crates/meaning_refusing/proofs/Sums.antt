@@ -11,8 +11,10 @@ use Rattle.meaning.specs.Choice.{Name, pick, both, either, isSome, every}
 use Rattle.meaning.specs.Tree.{Element}
 use Rattle.meaning.specs.Names.{isPredicate, isReserved}
 use Rattle.meaning.specs.Answers.{malformedToken, notAllowedHere, overLimit, wrongName, wrongPatternVariable, wrongLaterVariable}
-use Rattle.meaning.specs.Allowed.{maxLetters, maxSymbols, maxConditions, maxItems, maxNesting, symbolsOf, partsOf, lettersIn, parted, distinct, member}
-use Rattle.meaning.specs.Tokens.{Token, Placed, comma, equals, lessThan, greaterThan, isSign, nameOf, Item, characters, symbolItem, partItem, noItem, itemOf, begins}
+use Rattle.meaning.specs.Allowed.{maxLetters, maxSymbols, maxConditions, maxItems, maxNesting, symbolsOf, partsOf, lettersIn, parted, distinct}
+use Rattle.meaning.specs.Allowed.{member}
+use Rattle.meaning.specs.Tokens.{Token, Placed, comma, equals, lessThan, greaterThan, isSign, nameOf, Item, characters, symbolItem, partItem, noItem}
+use Rattle.meaning.specs.Tokens.{itemOf, begins}
 use Rattle.meaning.specs.Grammar.{elementsOf}
 use Rattle.meaning.specs.Reading.{faultUnless}
 use Rattle.meaning_refusing.specs.Looking.{leads, parting}

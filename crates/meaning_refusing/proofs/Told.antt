@@ -12,11 +12,13 @@ use Rattle.meaning.specs.Answers.{malformedToken, notAllowedHere}
 use Rattle.meaning.specs.Tokens.{Token, functionName, word, quoted, sign, textEnd, malformed, Placed, isLastToken, isSign, nameOf, itemOf, isItem}
 use Rattle.meaning.specs.Allowed.{maxConditions}
 use Rattle.meaning.specs.Grammar.{standing}
-use Rattle.meaning.specs.Reading.{Parsed, stopped, parsed, cutShort, follow, faultOf, refuse, whether, whereFaultless, faultUnless, pass, passName, nameOn}
+use Rattle.meaning.specs.Reading.{Parsed, stopped, parsed, cutShort, follow, faultOf, refuse, whether, whereFaultless, faultUnless, pass, passName}
+use Rattle.meaning.specs.Reading.{nameOn}
 use Rattle.meaning_accepting.proofs.reading.Basics.{impossible, both-left, both-right, passed, sign-of, name-of, standing-as}
 use Rattle.meaning_refusing.specs.Faults.{isMalformed, Quota}
 use Rattle.meaning_refusing.proofs.Stages.{failed, step, going}
-use Rattle.meaning_refusing.proofs.Sums.{Sum, next, tally, atFirst, tally-more, number, tableLimits, patternLimits, itemLimits, declaredRight, predicatesRight, callsRight, patternRight, middleRight, symbolsRight, partsRight}
+use Rattle.meaning_refusing.proofs.Sums.{Sum, next, tally, atFirst, tally-more, number, tableLimits, patternLimits, itemLimits, declaredRight}
+use Rattle.meaning_refusing.proofs.Sums.{predicatesRight, callsRight, patternRight, middleRight, symbolsRight, partsRight}
 
 -- TOKENS AFTER WHICH OTHERS COME
 

@@ -10,9 +10,14 @@ use lib.Dec.{ltb}
 use Rattle.meaning.specs.Choice.{Bytes, Name, pick, both, either, every, orElse, isSome, sameBytes}
 use Rattle.meaning.specs.Names.{isPredicate, isBuiltIn, isReserved, numberFrom, isKnown}
 use Rattle.meaning.specs.Tree.{Element, Subject, Condition, Expression, end, thenCharacter, thenSymbol, thenPart, thenCall, Sentence, Function, Table}
-use Rattle.meaning.specs.Allowed.{isByte, member, namesOf, allowedFunction, allowedSentence, allowedPattern, allowedConditions, spelledItems, spelledName, someSentence, symbolsOf, partsOf}
+use Rattle.meaning.specs.Allowed.{isByte, member, namesOf, allowedFunction, allowedSentence, allowedPattern, allowedConditions, spelledItems}
+use Rattle.meaning.specs.Allowed.{spelledName, someSentence, symbolsOf, partsOf}
 use Rattle.meaning.specs.Tokens.{Token, functionName, quoted, Placed, lessThan, isSign, nameOf}
-use Rattle.meaning.specs.Grammar.{standing, symbolWord, partWord, thenCharacters, IsLetters, stringLetters, variableLetter, IsTemplate, lettersAlone, lettersThen, IsTemplateOrNone, noTemplate, someTemplate, IsPattern, noPart, onePart, twoParts, IsSubject, symbolSubject, partSubject, IsCondition, isCondition, IsConditions, noConditions, conditionThen, IsExpression, noItems, stringThen, symbolThen, partThen, callThen, IsSentence, isSentence, IsSentences, lastSentence, lastSentenceParted, sentenceThen, IsFunction, isFunction, IsProgram, noFunctions, functionThen, functionPartedThen}
+use Rattle.meaning.specs.Grammar.{standing, symbolWord, partWord, thenCharacters, IsLetters, stringLetters, variableLetter, IsTemplate, lettersAlone}
+use Rattle.meaning.specs.Grammar.{lettersThen, IsTemplateOrNone, noTemplate, someTemplate, IsPattern, noPart, onePart, twoParts, IsSubject}
+use Rattle.meaning.specs.Grammar.{symbolSubject, partSubject, IsCondition, isCondition, IsConditions, noConditions, conditionThen, IsExpression}
+use Rattle.meaning.specs.Grammar.{noItems, stringThen, symbolThen, partThen, callThen, IsSentence, isSentence, IsSentences, lastSentence}
+use Rattle.meaning.specs.Grammar.{lastSentenceParted, sentenceThen, IsFunction, isFunction, IsProgram, noFunctions, functionThen, functionPartedThen}
 use Rattle.meaning.specs.Reading.{unknownCall, unknownInSentences, unknownIn}
 use Rattle.meaning_accepting.proofs.reading.Basics.{both-left, both-right}
 use Rattle.meaning_refusing.specs.Looking.{namesFrom, declared}

@@ -11,11 +11,17 @@ use lib.ListN.{length}
 use Rattle.meaning.specs.Choice.{Bytes, Name, pick, both, either, isSome, every}
 use Rattle.meaning.specs.Tree.{Table}
 use Rattle.meaning.specs.Names.{isPredicate, isBuiltIn, isReserved}
-use Rattle.meaning.specs.Answers.{tableTooLong, malformedToken, notAllowedHere, overLimit, wrongName, wrongPatternVariable, wrongLaterVariable, undeclaredName}
-use Rattle.meaning.specs.Allowed.{maxTable, maxFunctions, maxSentences, maxName, maxIdentifier, maxLetters, maxSymbols, maxConditions, maxItems, maxNesting, symbolsOf, partsOf, lettersIn, parted, distinct, member, comingAfter, whereSome}
-use Rattle.meaning.specs.Tokens.{Token, functionName, word, quoted, sign, textEnd, malformed, Placed, tokens, comma, lessThan, greaterThan, isSign, nameOf, Item, characters, symbolItem, partItem, noItem, itemOf}
+use Rattle.meaning.specs.Answers.{tableTooLong, malformedToken, notAllowedHere, overLimit, wrongName}
+use Rattle.meaning.specs.Answers.{wrongPatternVariable, wrongLaterVariable, undeclaredName}
+use Rattle.meaning.specs.Allowed.{maxTable, maxFunctions, maxSentences, maxName, maxIdentifier, maxLetters, maxSymbols}
+use Rattle.meaning.specs.Allowed.{maxConditions, maxItems, maxNesting, symbolsOf, partsOf, lettersIn, parted, distinct}
+use Rattle.meaning.specs.Allowed.{member, comingAfter, whereSome}
+use Rattle.meaning.specs.Tokens.{Token, functionName, word, quoted, sign, textEnd, malformed, Placed, tokens, comma}
+use Rattle.meaning.specs.Tokens.{lessThan, greaterThan, isSign, nameOf, Item, characters, symbolItem, partItem, noItem}
+use Rattle.meaning.specs.Tokens.{itemOf}
 use Rattle.meaning.specs.Grammar.{standing, IsProgram}
-use Rattle.meaning_refusing.specs.Looking.{count, declared, called, begun, elementsIn, leftSide, rightSide, patternIn, conditionsIn}
+use Rattle.meaning_refusing.specs.Looking.{count, declared, called, begun, elementsIn, leftSide, rightSide}
+use Rattle.meaning_refusing.specs.Looking.{patternIn, conditionsIn}
 
 -- 2: "comment or string without an end, escape not listed or over 255, bare double quote in a string, `<` with no
 -- letter right after it"

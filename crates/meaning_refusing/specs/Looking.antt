@@ -6,7 +6,8 @@ use mathlib.Core.List.{List, [], _∷_, _++_}
 use mathlib.Core.Option.{Option, none, some}
 use Rattle.meaning.specs.Choice.{Name, pick, both, either}
 use Rattle.meaning.specs.Tree.{Element}
-use Rattle.meaning.specs.Tokens.{Token, Placed, leftBrace, rightBrace, semicolon, comma, equals, lessThan, isSign, nameOf, itemOf, begins}
+use Rattle.meaning.specs.Tokens.{Token, Placed, leftBrace, rightBrace, semicolon, comma, equals, lessThan, isSign}
+use Rattle.meaning.specs.Tokens.{nameOf, itemOf, begins}
 use Rattle.meaning.specs.Grammar.{elementsOf}
 
 -- those before the first that passes, after the first, and after the last, with those since it so far; how many pass

@@ -40,7 +40,8 @@ kept-left r lent =
 table-kept : (x : Read) (room start : ℕ) (text : Bytes) (lent : Cells) (allowance : ℕ) → Kept (tableRun x room start text lent allowance .leaving)
 table-kept (refused number place) room start text lent allowance = kept-unrun number lent
 table-kept (accepted t) room start text lent allowance =
-    of-either (λ (run : TableRun). Kept (run .leaving)) (leb (length (pack (translate t))) room) (withCode t room start text lent allowance) (withoutCode bufferTooShort 0 room lent)
+    of-either (λ (run : TableRun). Kept (run .leaving)) (leb (length (pack (translate t))) room) (withCode t room start text lent allowance)
+    (withoutCode bufferTooShort 0 room lent)
     (of-either Kept (hasFunction t start) _ _
     (of-either Kept (leb (length text) (length (lent .stackIn))) _ _
     (kept-left (demanded (roomOf lent) t start text allowance) lent)
@@ -51,7 +52,8 @@ table-kept (accepted t) room start text lent allowance =
 front-within : (front whole : Bytes) → take (length front) whole ≡ front → length front ≤ length whole
 front-within front whole e = omega (arith, length-take (length front) whole, ap length e)
 
-module _ {r : Report} {counts : List ℕ} {words : Words} {after : Cells} {run : TableRun} (reports : Reports r counts words after run) (kept : Kept (run .leaving)) (names : List Name) where
+module _ {r : Report} {counts : List ℕ} {words : Words} {after : Cells} {run : TableRun} (reports : Reports r counts words after run)
+    (kept : Kept (run .leaving)) (names : List Name) where
   «record» : after .«record» ≡ run .leaving .cells .«record»
   «record» = ap (λ c. c .«record») (reports .cells)
 
@@ -77,7 +79,8 @@ module _ {r : Report} {counts : List ℕ} {words : Words} {after : Cells} {run :
   refusal-shown e = rw (← answer, e, ← (reports .place))
 
   result-shown : isRefusal (r .answer) ≡ false
-      → runText names run ≡ ranText names (r .answer) (r .function) (r .steps) counts (take (r .emissions) (after .«record»)) (take (r .text) (after .stackOut))
+      → runText names run ≡ ranText names (r .answer) (r .function) (r .steps) counts (take (r .emissions) (after .«record»))
+      (take (r .text) (after .stackOut))
   result-shown e =
       let told = reports .answer in
       let function : r .function ≡ run .leaving .result .function = cc in
@@ -85,7 +88,8 @@ module _ {r : Report} {counts : List ℕ} {words : Words} {after : Cells} {run :
       rw (← answer, e, ← function, ← steps, ← (reports .counted), emissions, «record», kept .emissions, text, out, kept .text)
 
 pub shows : {table text : Bytes} {r : Report} {counts : List ℕ} {words : Words} {out «record» stackIn : Bytes}
-    → Reports r counts words (cells stackIn out «record») (tableRun (read table) 16384 1 text lentCells 100000) → Shows table text r out «record» counts
+    → Reports r counts words (cells stackIn out «record») (tableRun (read table) 16384 1 text lentCells 100000) →
+    Shows table text r out «record» counts
 shows {table} {text} reports =
     let names = namesRead (read table) in
     let kept = table-kept (read table) 16384 1 text lentCells 100000 in

@@ -22,7 +22,8 @@ ranText names answer function steps counts emissions text =
 abbrev pub runText : List Name → TableRun → Bytes
 runText names run =
     let result = run .leaving .result in
-    let ran = ranText names (result .answer) (result .function) (result .steps) (result .counts) (result .emissions) (result .text) in
+    let ran = ranText names (result .answer) (result .function) (result .steps) (result .counts) (result .emissions)
+    (result .text) in
     pick (isRefusal (result .answer)) (refusalText (result .answer) (run .place)) ran
 
 -- "32,768 bytes each for in, out and record"
@@ -36,11 +37,13 @@ lentCells = cells lentBytes lentBytes lentBytes
 abbrev pub printed : Bytes → Bytes → Bytes
 printed table text = runText (namesRead (read table)) (tableRun (read table) 16384 1 text lentCells 100000)
 
--- what is printed is told by a report, with the emissions at the front of the record, the result at the front of out, and the counts
+-- what is printed is told by a report, with the emissions at the front of the record, the result at the front of out,
+-- and the counts
 pub record Shows (table text : Bytes) (r : Report) (out «record» : Bytes) (counts : List ℕ) : Type 0 where
   pub emissions : r .emissions ≤ length «record»
   pub result : r .text ≤ length out
   pub refusal : isRefusal (r .answer) ≡ true → printed table text ≡ refusalText (r .answer) (r .place)
   pub run : isRefusal (r .answer) ≡ false
       → printed table text ≡
-      ranText (namesRead (read table)) (r .answer) (r .function) (r .steps) counts (take (r .emissions) «record») (take (r .text) out)
+      ranText (namesRead (read table)) (r .answer) (r .function) (r .steps) counts (take (r .emissions) «record»)
+      (take (r .text) out)

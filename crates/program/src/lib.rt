@@ -43,8 +43,8 @@ fn count_room() -> [u64; 64] {
     [0u64; 64]
 }
 
-// Runs a table's code on what the program lends; the emissions and the result are left in the record and in out, and the applications of
-// each function in the counts.
+// Runs a table's code on what the program lends; the emissions and the result are left in the record and in out, and
+// the applications of each function in the counts.
 fn run_table(
     table: &[u8],
     text: &[u8],
@@ -54,7 +54,8 @@ fn run_table(
 ) -> Report
     requires { ⌜ now «stack_out» ≡ lentBytes ⌝ }
     requires { ⌜ now «record» ≡ lentBytes ⌝ }
-    ensures { λ r. ⌜ Shows (now (table .entry)) (now (text .entry)) r (now («stack_out» .exit)) (now («record» .exit)) (now (counts .exit)) ⌝ }
+    ensures { λ r. ⌜ Shows (now (table .entry)) (now (text .entry)) r (now («stack_out» .exit)) (now («record» .exit))
+        (now (counts .exit)) ⌝ }
 {
     let mut code = code_room();
     let mut stack_in = cell_room();
@@ -73,7 +74,8 @@ fn run_table(
 
 // What is printed for a table text and a text.
 pub fn respond(table: &[u8], text: &[u8], out: &mut [u8; 70000]) -> usize
-    ensures { λ r. ⌜ Prints (printed (now (table .entry)) (now (text .entry))) (now (out .entry)) r (now (out .exit)) ⌝ }
+    ensures { λ r. ⌜ Prints (printed (now (table .entry)) (now (text .entry)))
+        (now (out .entry)) r (now (out .exit)) ⌝ }
 {
     let mut stack_out = cell_room();
     let mut record = cell_room();

@@ -16,7 +16,8 @@ use Rattle.program_printing.specs.Texts.{numberCells, numberThen, Prints
 use Rattle.program_printing.proofs.Numerals.{fewest-numeral, fewest-short}
 
 -- the digits of a number, and the byte after them
-pub counted-put : {n after at count next last : ℕ} (text : Bytes) {old mid new : Bytes} → count ≡ length (take count text) → Fits w64 n → Fewest 10 1 n count
+pub counted-put : {n after at count next last : ℕ} (text : Bytes) {old mid new : Bytes} → count ≡ length (take count text) → Fits w64 n →
+    Fewest 10 1 n count
     → take count text ≡ digits 10 count n → Put at old (take count text) next mid → Put next mid (after ∷ []) last new
     → PutAtMost numberCells at old (numberThen n after) last new
 counted-put {n} {count = count} text size fits fewest are p q =
@@ -35,7 +36,8 @@ pub at-most-then : {m n at : ℕ} {old xs : Bytes} {next : ℕ} {mid ys : Bytes}
 at-most-then p q = record { put = put-then (p .put) (q .put); near = omega (arith, p .near, q .near) }
 
 -- a bound by another sum
-pub sum-near : {m n at : ℕ} {old bytes : Bytes} {next : ℕ} {new : Bytes} → PutAtMost m at old bytes next new → m ≤ n → PutAtMost n at old bytes next new
+pub sum-near : {m n at : ℕ} {old bytes : Bytes} {next : ℕ} {new : Bytes} → PutAtMost m at old bytes next new → m ≤ n →
+    PutAtMost n at old bytes next new
 sum-near p h = record { put = p .put; near = omega (arith, p .near) }
 
 -- what is written from the first cell on, and fits, is printed

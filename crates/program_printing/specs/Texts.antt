@@ -1,4 +1,5 @@
--- What is printed of a refusal, of a result and of the applications of each function: 01, the last paragraph of 'Runs to hold on to', and 02, T-01.
+-- What is printed of a refusal, of a result and of the applications of each function: 01, the last paragraph of 'Runs
+-- to hold on to', and 02, T-01.
 use Prim.Native.Nat.{ℕ, zero, suc, _+_, _/_, _%_, _≤_}
 use mathlib.Core.Path.{_≡_}
 use mathlib.Core.List.{List, [], _∷_, _++_}
@@ -40,9 +41,11 @@ refusalText number place = numberThen number space ++ numberThen place lineEnd
 -- "prints answer, function, steps; the record; the result and a line end"
 abbrev pub resultText : ℕ → ℕ → ℕ → Bytes → Bytes → Bytes
 resultText answer function steps emissions text =
-    numberThen answer space ++ (numberThen function space ++ (numberThen steps lineEnd ++ (emissions ++ (text ++ lineEnd ∷ []))))
+    numberThen answer space
+    ++ (numberThen function space ++ (numberThen steps lineEnd ++ (emissions ++ (text ++ lineEnd ∷ []))))
 
--- 02, T-01: "After the result the program prints a line for each function in declaration order, with number, name and applications"
+-- 02, T-01: "After the result the program prints a line for each function in declaration order, with number, name and
+-- applications"
 abbrev pub profileLine : ℕ → Name → ℕ → Bytes
 profileLine number name applications = numberThen number space ++ (name ++ (space ∷ numberThen applications lineEnd))
 

@@ -35,7 +35,8 @@ pub fn put_result(
     text: &[u8],
 ) -> usize
     requires { ⌜ 3 * numberCells + length (now emissions) + length (now text) + 1 < farthest ⌝ }
-    ensures { λ r. ⌜ PutAtMost (3 * numberCells + length (now (emissions .entry)) + length (now (text .entry)) + 1) 0 (now (out .entry))
+    ensures { λ r. ⌜ PutAtMost (3 * numberCells + length (now (emissions .entry)) + length (now (text .entry)) + 1) 0
+        (now (out .entry))
         (resultText answer function steps (now (emissions .entry)) (now (text .entry))) r (now (out .exit)) ⌝ }
 {
     let first = put_number(out, 0, answer, b' ');

@@ -57,7 +57,8 @@ unfolding every
 all-spelled [] ok = tt
 all-spelled (f ∷ fs) ok =
     both-pass (spelledName (f .name)) (every spelledName (namesOf fs))
-    (both-left (spelledName (f .name)) _ (both-left (both (spelledName (f .name)) (not (isReserved (f .name)))) _ (every-head allowedFunction f fs ok)))
+    (both-left (spelledName (f .name)) _ (both-left (both (spelledName (f .name)) (not (isReserved (f .name)))) _
+    (every-head allowedFunction f fs ok)))
     (all-spelled fs (every-tail allowedFunction f fs ok))
 
 names-spelled : (x : Read) → Known x → T (every spelledName (namesRead x))
@@ -79,13 +80,16 @@ byte-at [] i t = refl
 byte-at (b ∷ n) zero t = omega (arith, ltb→lt b 256 (every-head isByte b n t))
 byte-at (b ∷ n) (suc i) t = byte-at n i (every-tail isByte b n t)
 
-pub name-byte : (ws : List ℕ) (head i : ℕ) → Spelled ws head → i < length (headName ws head) → getD ws (head + 1 + i) 0 % 256 ≡ getD (headName ws head) i 0
+pub name-byte : (ws : List ℕ) (head i : ℕ) → Spelled ws head → i < length (headName ws head) → getD ws (head + 1 + i) 0 % 256 ≡
+    getD (headName ws head) i 0
 name-byte ws head i s h =
     let there : getD (headName ws head) i 0 ≡ getD ws (head + 1 + i) 0 =
-    ap (λ (n : Name). getD n i 0) (name-part ws head) ∙ getD-take (length (headName ws head)) (drop (head + 1) ws) i 0 h ∙ getD-drop (head + 1) ws i 0 in
+    ap (λ (n : Name). getD n i 0) (name-part ws head) ∙ getD-take (length (headName ws head)) (drop (head + 1) ws) i 0 h ∙
+    getD-drop (head + 1) ws i 0 in
     rw (← there) (byte-at (headName ws head) i (s .bytes))
 
-heads-spelled : (ws heads : List ℕ) (x : Read) → Known x → headNames ws heads ≡ namesRead x → HeadsInside ws heads (length heads) → AllSpelled ws heads
+heads-spelled : (ws heads : List ℕ) (x : Read) → Known x → headNames ws heads ≡ namesRead x → HeadsInside ws heads (length heads) →
+    AllSpelled ws heads
 heads-spelled ws heads x known e inside k h =
     let spelled = name-at ws heads k h (rw e (names-spelled x known)) in
     record {

@@ -9,7 +9,8 @@ use Rattle.meaning.specs.Reading.{Read, accepted, refused}
 use Rattle.tape_words.specs.Words.{headName}
 use Rattle.program_printing.specs.Texts.{numberCells, totalWord}
 
--- the cells at most of a function's line: its number, its name and a blank, its applications; and of all lines with the total
+-- the cells at most of a function's line: its number, its name and a blank, its applications; and of all lines with the
+-- total
 abbrev pub lineCells : ℕ
 lineCells = numberCells + (maxName + 1) + numberCells
 
@@ -21,7 +22,8 @@ abbrev pub namesRead : Read → List Name
 namesRead (accepted t) = namesOf t
 namesRead (refused number place) = []
 
--- the word at a place of the tape has a name after it that is a table's: it is made of bytes, and is no longer than a name may be
+-- the word at a place of the tape has a name after it that is a table's: it is made of bytes, and is no longer than a
+-- name may be
 pub record Spelled (tape : List ℕ) (head : ℕ) : Type 0 where
   pub inside : head < length tape
   pub bytes : T (every isByte (headName tape head))

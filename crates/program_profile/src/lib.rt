@@ -44,7 +44,8 @@ fn put_line(
     at: usize,
 ) -> usize
     requires { ⌜ Spelled (now tape) head × (at + lineCells < farthest) ⌝ }
-    ensures { λ r. ⌜ PutAtMost lineCells at (now (out .entry)) (profileLine number (headName (now (tape .entry)) head) applications) r (now (out .exit)) ⌝ }
+    ensures { λ r. ⌜ PutAtMost lineCells at (now (out .entry))
+        (profileLine number (headName (now (tape .entry)) head) applications) r (now (out .exit)) ⌝ }
 {
     let name = put_number(out, at, number as u64, b' ');
     let after = put_name(tape, head, out, name);
@@ -54,9 +55,11 @@ fn put_line(
 
 // A line for each function, in the order of the table. `heads` are the places of their words.
 fn put_lines(tape: &[u32], heads: &[usize], counts: &[u64], out: &mut [u8], at: usize) -> usize
-    requires { ⌜ AllSpelled (now tape) (now heads) × (length (now heads) ≤ length (now counts)) × (at + lineCells * length (now heads) < farthest) ⌝ }
+    requires { ⌜ AllSpelled (now tape) (now heads) × (length (now heads) ≤ length (now counts)) ×
+        (at + lineCells * length (now heads) < farthest) ⌝ }
     ensures { λ r. ⌜ PutAtMost (lineCells * length (now (heads .entry))) at (now (out .entry))
-        (profileLines 0 (headNames (now (tape .entry)) (now (heads .entry))) (now (counts .entry))) r (now (out .exit)) ⌝ }
+        (profileLines 0 (headNames (now (tape .entry)) (now (heads .entry))) (now (counts .entry)))
+        r (now (out .exit)) ⌝ }
 {
     let mut next = at;
     let mut k = 0;
@@ -76,7 +79,8 @@ pub fn put_profile(
     at: usize,
 ) -> usize
     requires { ⌜ at + profileCells < farthest ⌝ }
-    ensures { λ r. ⌜ PutAtMost profileCells at (now (out .entry)) (profileText (namesRead (read (now (table .entry)))) (now (counts .entry)) steps) r (now (out .exit)) ⌝ }
+    ensures { λ r. ⌜ PutAtMost profileCells at (now (out .entry))
+        (profileText (namesRead (read (now (table .entry)))) (now (counts .entry)) steps) r (now (out .exit)) ⌝ }
 {
     let mut tape = tape_room();
     let reading = read_table::read(table, &mut tape);

@@ -21,19 +21,23 @@ each-owns (T ∷ Ts) a vss = ‵ (T .own (a .0) (vss .0)) ∷ each-owns Ts (a .1
 module _ {M : Type 1} (𝓤 : URA M) (H : Heap 𝓤) (A : Atoms 𝓤) where
   tokens-out : (n : ℕ) (κs : Lfts n) (qs : Shares n) → ent 𝓤 (toks 𝓤 A n κs qs) (⋆ 𝓤 H A (tokens n κs qs))
   tokens-out zero κs qs = id⊢ 𝓤 (emp 𝓤)
-  tokens-out (suc n) κs qs = via 𝓤 _ (monoR 𝓤 (A .lft (κs .0) (qs .0)) (tokens-out n (κs .1) (qs .1))) (push 𝓤 H A (‵ (flft (κs .0) (qs .0))) (tokens n (κs .1) (qs .1)))
+  tokens-out (suc n) κs qs = via 𝓤 _ (monoR 𝓤 (A .lft (κs .0) (qs .0)) (tokens-out n (κs .1) (qs .1)))
+      (push 𝓤 H A (‵ (flft (κs .0) (qs .0))) (tokens n (κs .1) (qs .1)))
 
   tokens-in : (n : ℕ) (κs : Lfts n) (qs : Shares n) → ent 𝓤 (⋆ 𝓤 H A (tokens n κs qs)) (toks 𝓤 A n κs qs)
   tokens-in zero κs qs = id⊢ 𝓤 (emp 𝓤)
-  tokens-in (suc n) κs qs = via 𝓤 _ (pop 𝓤 H A (‵ (flft (κs .0) (qs .0))) (tokens n (κs .1) (qs .1))) (monoR 𝓤 (A .lft (κs .0) (qs .0)) (tokens-in n (κs .1) (qs .1)))
+  tokens-in (suc n) κs qs = via 𝓤 _ (pop 𝓤 H A (‵ (flft (κs .0) (qs .0))) (tokens n (κs .1) (qs .1)))
+      (monoR 𝓤 (A .lft (κs .0) (qs .0)) (tokens-in n (κs .1) (qs .1)))
 
   owned-out : (Ts : List RattleType) (a : Denots Ts) (vss : Valss Ts) → ent 𝓤 (sem 𝓤 H A (owns Ts a vss)) (⋆ 𝓤 H A (each-owns Ts a vss))
   owned-out [] a vss = id⊢ 𝓤 (emp 𝓤)
-  owned-out (T ∷ Ts) a vss = via 𝓤 _ (monoR 𝓤 (sem 𝓤 H A (T .own (a .0) (vss .0))) (owned-out Ts (a .1) (vss .1))) (push 𝓤 H A (‵ (T .own (a .0) (vss .0))) (each-owns Ts (a .1) (vss .1)))
+  owned-out (T ∷ Ts) a vss = via 𝓤 _ (monoR 𝓤 (sem 𝓤 H A (T .own (a .0) (vss .0))) (owned-out Ts (a .1) (vss .1)))
+      (push 𝓤 H A (‵ (T .own (a .0) (vss .0))) (each-owns Ts (a .1) (vss .1)))
 
   owned-in : (Ts : List RattleType) (a : Denots Ts) (vss : Valss Ts) → ent 𝓤 (⋆ 𝓤 H A (each-owns Ts a vss)) (sem 𝓤 H A (owns Ts a vss))
   owned-in [] a vss = id⊢ 𝓤 (emp 𝓤)
-  owned-in (T ∷ Ts) a vss = via 𝓤 _ (pop 𝓤 H A (‵ (T .own (a .0) (vss .0))) (each-owns Ts (a .1) (vss .1))) (monoR 𝓤 (sem 𝓤 H A (T .own (a .0) (vss .0))) (owned-in Ts (a .1) (vss .1)))
+  owned-in (T ∷ Ts) a vss = via 𝓤 _ (pop 𝓤 H A (‵ (T .own (a .0) (vss .0))) (each-owns Ts (a .1) (vss .1)))
+      (monoR 𝓤 (sem 𝓤 H A (T .own (a .0) (vss .0))) (owned-in Ts (a .1) (vss .1)))
 
 module _ {M : Type 1} {𝓤 : URA M} {H : Heap 𝓤} {A : Atoms 𝓤} {K : Type 0} {W : Given 𝓤 H A} {Γ : List (Item 𝓤)} {G : Goal 𝓤 H} (t : K) where
   pub tokens-apart : (n : ℕ) (κs : Lfts n) (qs : Shares n) → Step K W (tokens n κs qs ++ Γ) G (raw (toks 𝓤 A n κs qs) ∷ Γ) G

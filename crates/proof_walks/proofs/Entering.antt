@@ -41,7 +41,8 @@ module _ {M : Type 1} (𝓤 : URA M) (H : Heap 𝓤) (𝓜 : Model 𝓤 H) (𝓖
       → (c : Clauses 𝓤 T) (k : Name) (e : Fn) → Closed 𝓤 H C Λ k e
       → (sp : (κs : Lfts (T .signature .lifetimes)) → Spells (typesAt (T .signature .params) κs))
       → ((κs : Lfts (T .signature .lifetimes)) → Tellss (typesAt (T .signature .params) κs) (Ises (typesAt (T .signature .params) κs)) (sp κs))
-      → ((κs : Lfts (T .signature .lifetimes)) (qs : Shares (T .signature .lifetimes)) (bounds : AllOutlive (T .signature .lifetimes) (T .signature .outlives) κs)
+      → ((κs : Lfts (T .signature .lifetimes)) (qs : Shares (T .signature .lifetimes))
+      (bounds : AllOutlive (T .signature .lifetimes) (T .signature .outlives) κs)
       (a : Args (T .signature) κs) (g : c κs a .ghost)
       → Are (typesAt (T .signature .params) κs) (Ises (typesAt (T .signature .params) κs)) a (valss (typesAt (T .signature .params) κs) (sp κs) a)
       → ent 𝓤 (sep 𝓤 (onEntry 𝓤 H (𝓖 .A) (T .signature) κs qs a (valss (typesAt (T .signature .params) κs) (sp κs) a)) (c κs a .requires g))
@@ -55,10 +56,12 @@ module _ {M : Type 1} (𝓤 : URA M) (H : Heap 𝓤) (𝓜 : Model 𝓤 H) (𝓖
       (walked 𝓤 H (𝓖 .A) T hs c (WpFn 𝓤 H C Λ e) sp tl w))
 
 -- the one fact that a function requires, and the three
-pub required-one : {M : Type 1} (𝓤 : URA M) (H : Heap 𝓤) (A : Atoms 𝓤) → Given 𝓤 H A → (φ : Type 0) (P : SProp 𝓤) {Q : SProp 𝓤} → (φ → ent 𝓤 P Q) → ent 𝓤 (sep 𝓤 P (fact 𝓤 φ)) Q
+pub required-one : {M : Type 1} (𝓤 : URA M) (H : Heap 𝓤) (A : Atoms 𝓤) → Given 𝓤 H A → (φ : Type 0) (P : SProp 𝓤) {Q : SProp 𝓤} → (φ → ent 𝓤 P Q) →
+    ent 𝓤 (sep 𝓤 P (fact 𝓤 φ)) Q
 required-one 𝓤 H A W φ P k = qed W (raw P ∷ raw (fact 𝓤 φ) ∷ []) ∵ move ! (1 ∷ []) $ heard ! φ (λ x. by ! (k x))
 
-pub required : {M : Type 1} (𝓤 : URA M) (H : Heap 𝓤) (A : Atoms 𝓤) → Given 𝓤 H A → (φ ψ χ : Type 0) (P : SProp 𝓤) {Q : SProp 𝓤} → (φ → ψ → χ → ent 𝓤 P Q)
+pub required : {M : Type 1} (𝓤 : URA M) (H : Heap 𝓤) (A : Atoms 𝓤) → Given 𝓤 H A → (φ ψ χ : Type 0) (P : SProp 𝓤) {Q : SProp 𝓤} →
+    (φ → ψ → χ → ent 𝓤 P Q)
     → ent 𝓤 (sep 𝓤 P (sep 𝓤 (fact 𝓤 φ) (sep 𝓤 (fact 𝓤 ψ) (fact 𝓤 χ)))) Q
 required 𝓤 H A W φ ψ χ P k = qed W (raw P ∷ (raw (fact 𝓤 φ) ⊛ raw (fact 𝓤 ψ) ⊛ raw (fact 𝓤 χ)) ∷ []) ∵ move ! (1 ∷ []) $ split ! $
     heard ! φ (λ x. split ! $ heard ! ψ (λ y. heard ! χ (λ z. by ! (k x y z))))

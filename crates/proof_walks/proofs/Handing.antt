@@ -27,11 +27,13 @@ abbrev pub after-first : {n : ℕ} → List (Slot n) → List (Slot n)
 after-first [] = []
 after-first (s ∷ ss) = ss
 
-pub all-fit : {n : ℕ} (κs : Lfts n) (ss : List (Slot n)) (ks : Kepts ss) (a : Denots (typesAt ss κs)) (ws : Fins κs ss ks a) → fitsOf κs ss ks (all-handed ss ks) a ws
+pub all-fit : {n : ℕ} (κs : Lfts n) (ss : List (Slot n)) (ks : Kepts ss) (a : Denots (typesAt ss κs)) (ws : Fins κs ss ks a) →
+    fitsOf κs ss ks (all-handed ss ks) a ws
 all-fit κs [] ks a ws = tt
 all-fit κs (s ∷ ss) ks a ws = (tt, all-fit κs ss (ks .1) (a .1) (ws .1))
 
-pub all-go : {M : Type 1} (𝓤 : URA M) (H : Heap 𝓤) (A : Atoms 𝓤) (W : Given 𝓤 H A) (n : ℕ) (ss : List (Slot n)) (ks : Kepts ss) → AllGo 𝓤 H A W n ss ks (all-handed ss ks)
+pub all-go : {M : Type 1} (𝓤 : URA M) (H : Heap 𝓤) (A : Atoms 𝓤) (W : Given 𝓤 H A) (n : ℕ) (ss : List (Slot n)) (ks : Kepts ss) →
+    AllGo 𝓤 H A W n ss ks (all-handed ss ks)
 all-go 𝓤 H A W n [] ks = tt
 all-go 𝓤 H A W n (s ∷ ss) ks = ((λ κs x f vs fits. W .laws .⇛-intro _), all-go 𝓤 H A W n ss (ks .1))
 
@@ -40,5 +42,6 @@ module _ {M : Type 1} (𝓤 : URA M) (H : Heap 𝓤) (A : Atoms 𝓤) (W : Given
   pub none-passed : ent 𝓤 (emp 𝓤) (sep 𝓤 (sep 𝓤 (emp 𝓤) (sem 𝓤 H A (owns [] tt tt))) (emp 𝓤))
   none-passed = qed W [] ∵ nothing ! $ nothing ! $ join ! $ nothing ! $ move ! (1 ∷ 0 ∷ []) $ join ! $ done !
 
-  pub one-passed : (T : RattleType) (x : T .Denot) (vs : List Val) → ent 𝓤 (sem 𝓤 H A (T .own x vs)) (sep 𝓤 (sep 𝓤 (emp 𝓤) (sem 𝓤 H A (owns (T ∷ []) (x, tt) (vs, tt)))) (emp 𝓤))
+  pub one-passed : (T : RattleType) (x : T .Denot) (vs : List Val) →
+      ent 𝓤 (sem 𝓤 H A (T .own x vs)) (sep 𝓤 (sep 𝓤 (emp 𝓤) (sem 𝓤 H A (owns (T ∷ []) (x, tt) (vs, tt)))) (emp 𝓤))
   one-passed T x vs = qed W (‵ (T .own x vs) ∷ []) ∵ nothing ! $ move ! (1 ∷ 0 ∷ []) $ fjoin ! $ nothing ! $ join ! $ frame ! $ done !

@@ -34,7 +34,8 @@ laid (l ∷ ls) [] = ‵ (froom (l .0) (l .1) 0) ∷ ‵ (fdies (l .0) (l .1)) �
 laid (l ∷ ls) (c ∷ cs) = cell (l .0) (l .1) c ∷ ‵ (fdies (l .0) (l .1)) ∷ laid ls cs
 
 -- they are laid out in order, so that local i stands at 2 · i: after the context Δ of those before
-abbrev pub Laying : {M : Type 1} {𝓤 : URA M} {H : Heap 𝓤} {A : Atoms 𝓤} (K : Type 0) (W : Given 𝓤 H A) → List (Item 𝓤) → List Local → List (Item 𝓤) → (Env 𝓤 H → Goal 𝓤 H) → Type 1
+abbrev pub Laying : {M : Type 1} {𝓤 : URA M} {H : Heap 𝓤} {A : Atoms 𝓤} (K : Type 0) (W : Given 𝓤 H A) → List (Item 𝓤) → List Local → List (Item 𝓤) →
+    (Env 𝓤 H → Goal 𝓤 H) → Type 1
 Laying K W Γ [] Δ f = Seq K W (Δ ++ Γ) (f [])
 Laying K W Γ (local τ h ∷ ls) Δ f = (b : ℕ) → Laying K W Γ ls (Δ ++ ‵ (froom τ b 0) ∷ ‵ (fdies τ b) ∷ []) (λ E. f ((τ, b) ∷ E))
 
@@ -49,9 +50,11 @@ laid-after : {M : Type 1} {𝓤 : URA M} {H : Heap 𝓤} {A : Atoms 𝓤} {K : T
     (Γ : List (Item 𝓤)) (ls : List Local) (Δ : List (Item 𝓤)) (f : Env 𝓤 H → Goal 𝓤 H) → Laying K W Γ ls Δ f → Seq K W (Δ ++ Γ) (allocs ls f)
 laid-after t Γ [] Δ f k = alloc0 t $ k
 laid-after {𝓤 = 𝓤} {W = W} t Γ (local τ h ∷ ls) Δ f k =
-    alloc1 t (λ b. by t (via 𝓤 _ (behind W (‵ (froom τ b 0)) (‵ (fdies τ b)) Δ Γ) (laid-after t Γ ls (Δ ++ ‵ (froom τ b 0) ∷ ‵ (fdies τ b) ∷ []) (λ E. f ((τ, b) ∷ E)) (k b) .prf)))
+    alloc1 t (λ b. by t (via 𝓤 _ (behind W (‵ (froom τ b 0)) (‵ (fdies τ b)) Δ Γ)
+    (laid-after t Γ ls (Δ ++ ‵ (froom τ b 0) ∷ ‵ (fdies τ b) ∷ []) (λ E. f ((τ, b) ∷ E)) (k b) .prf)))
 
-pub lays-out : {M : Type 1} {𝓤 : URA M} {H : Heap 𝓤} {A : Atoms 𝓤} {K : Type 0} {W : Given 𝓤 H A} {Γ : List (Item 𝓤)} {ls : List Local} {f : Env 𝓤 H → Goal 𝓤 H} →
+pub lays-out : {M : Type 1} {𝓤 : URA M} {H : Heap 𝓤} {A : Atoms 𝓤} {K : Type 0} {W : Given 𝓤 H A} {Γ : List (Item 𝓤)} {ls : List Local}
+    {f : Env 𝓤 H → Goal 𝓤 H} →
     K → Laying K W Γ ls [] f → Seq K W Γ (allocs ls f)
 lays-out {Γ = Γ} {ls = ls} {f = f} t k = laid-after t Γ ls [] f k
 
@@ -70,9 +73,11 @@ counting n (suc k) = n ∷ counting (suc n) k
 
 -- a local is an operand as it stands
 module _ {M : Type 1} {𝓤 : URA M} {H : Heap 𝓤} {A : Atoms 𝓤} {K : Type 0} {W : Given 𝓤 H A} {Γ : List (Item 𝓤)} {E : Env 𝓤 H} where
-  pub copies : K → (n : ℕ) {i : ℕ} {q : Share} {v : Val} → nth 𝓤 H A n Γ ≡ ‵ (fat q (spotOf 𝓤 H E i .0) (spotOf 𝓤 H E i .1) 0 v) → Opd K W Γ E (copy (place i [])) v
+  pub copies : K → (n : ℕ) {i : ℕ} {q : Share} {v : Val} → nth 𝓤 H A n Γ ≡ ‵ (fat q (spotOf 𝓤 H E i .0) (spotOf 𝓤 H E i .1) 0 v) →
+      Opd K W Γ E (copy (place i [])) v
   copies t n e = load t (from t (stop t)) (look t n e)
 
-  pub and-copies : K → (n : ℕ) {i : ℕ} {q : Share} {v : Val} {xs : List Operand} {vs : List Val} → nth 𝓤 H A n Γ ≡ ‵ (fat q (spotOf 𝓤 H E i .0) (spotOf 𝓤 H E i .1) 0 v) → Opds K W Γ E xs vs
+  pub and-copies : K → (n : ℕ) {i : ℕ} {q : Share} {v : Val} {xs : List Operand} {vs : List Val} → nth 𝓤 H A n Γ ≡
+      ‵ (fat q (spotOf 𝓤 H E i .0) (spotOf 𝓤 H E i .1) 0 v) → Opds K W Γ E xs vs
       → Opds K W Γ E (copy (place i []) ∷ xs) (v ∷ vs)
   and-copies t n e os = and-then t (copies t n e) os

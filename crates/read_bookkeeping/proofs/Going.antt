@@ -26,7 +26,8 @@ use Rattle.read_bookkeeping.proofs.Words.{written-none, written-one, wr
 -- STOPPING
 
 -- a fault that is none of no faults stops
-pub check-wrong : {A : Type 0} (number : ℕ) (t : Placed) (later : Parsed A) → eqb number 0 ≡ false → whereFaultless number t later ≡ stopped number (t .place)
+pub check-wrong : {A : Type 0} (number : ℕ) (t : Placed) (later : Parsed A) → eqb number 0 ≡ false → whereFaultless number t later ≡
+    stopped number (t .place)
 check-wrong zero t later e = absurd (true≢false e)
 check-wrong (suc number) t later e = refl
 
@@ -46,7 +47,8 @@ module _ {A P R : Type 0} {outcome : R → Outcome P} {Reads : A → List Placed
   stops-by h e = record { comes = rw (h, e) (refl, refl) }
 
   -- the definition reads
-  pub reads-by : {p : Parsed A} {r : R} {s : P} → outcome r ≡ reached s → (value : A) (rest : List Placed) → p ≡ parsed value rest → Reads value rest s
+  pub reads-by : {p : Parsed A} {r : R} {s : P} → outcome r ≡ reached s → (value : A) (rest : List Placed) → p ≡ parsed value rest →
+      Reads value rest s
       → AgreesBy outcome Reads p r
   reads-by h value rest e how = record { comes = rw (h, e) how }
 
@@ -76,7 +78,8 @@ module _ {A : Type 0} {Reads : A → List Placed → Progress → Type 0} where
   reads value rest e r = reads-by refl value rest e r
 
 -- what stops a reader stops what begins with it
-pub stops-too : {A B P Q R S : Type 0} {outcome : R → Outcome P} {ended : S → Outcome Q} {Reads : A → List Placed → P → Type 0} {Makes : B → List Placed → Q → Type 0}
+pub stops-too : {A B P Q R S : Type 0} {outcome : R → Outcome P} {ended : S → Outcome Q} {Reads : A → List Placed → P → Type 0}
+    {Makes : B → List Placed → Q → Type 0}
     {p : Parsed A} {q : Parsed B} {r : R} {s : S} {fault : Fault} → AgreesBy outcome Reads p r → outcome r ≡ halted fault → ended s ≡ halted fault
     → (p ≡ stopped (numberOf (fault .answer)) (fault .place) → q ≡ stopped (numberOf (fault .answer)) (fault .place))
     → AgreesBy ended Makes q s
@@ -106,7 +109,8 @@ follow-alone (stopped number place) = refl
 follow-alone (parsed value rest) = refl
 
 -- what the definition makes of what it has read, the code has read
-pub makes : {A B P R : Type 0} {outcome : R → Outcome P} {Reads : A → List Placed → P → Type 0} {Makes : B → List Placed → P → Type 0} {p : Parsed B} {r : R}
+pub makes : {A B P R : Type 0} {outcome : R → Outcome P} {Reads : A → List Placed → P → Type 0} {Makes : B → List Placed → P → Type 0} {p : Parsed B}
+    {r : R}
     (make : A → B) (q : Parsed A)
     → ((value : A) (rest : List Placed) (s : P) → Reads value rest s → Makes (make value) rest s)
     → p ≡ follow q (λ value rest. parsed (make value) rest)
@@ -137,7 +141,8 @@ went-none text at words tape r =
     record { onward = omega arith; inside = r .inside; charged = r .charged; counted = omega arith; wrote = sym (written-none tape words) }
 
 -- the tape stays as long as it was
-pub went-length : {text : Bytes} {at words : ℕ} {tape : List ℕ} {at′ words′ : ℕ} {tape′ added : List ℕ} → Went text at words tape at′ words′ tape′ added
+pub went-length : {text : Bytes} {at words : ℕ} {tape : List ℕ} {at′ words′ : ℕ} {tape′ added : List ℕ} →
+    Went text at words tape at′ words′ tape′ added
     → length tape′ ≡ length tape
 went-length w = wrote-length (record { reached = w .counted; same = w .wrote })
 

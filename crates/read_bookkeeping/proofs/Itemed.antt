@@ -50,5 +50,6 @@ module _ {text : Bytes} {at words : ℕ} {x : Span} (r : Ready text at words) (i
   variable-went kind e w =
       name-went kind (identifier-inside i) (omega (arith, i .after, i .some)) (i .inside) (omega (arith, r .charged, i .after, i .some)) e w
 
-  pub variable-quiet : (kind : ℕ) → kind * 256 + (x .past - x .from) < 2304 → T (every isQuiet (View.part text x)) → T (every isQuiet (named kind (View.part text x)))
+  pub variable-quiet : (kind : ℕ) → kind * 256 + (x .past - x .from) < 2304 → T (every isQuiet (View.part text x)) →
+      T (every isQuiet (named kind (View.part text x)))
   variable-quiet kind s q = name-quiet kind (identifier-inside i) s q

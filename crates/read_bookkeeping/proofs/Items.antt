@@ -107,7 +107,8 @@ module _ (text : Bytes) (place past : ℕ) where
 
   item-goes-on : (k : Token) → GoesOn k
   item-goes-on =
-      by-kind GoesOn (λ n e. absurd (false≢true e)) (λ x e. (tt, refl)) (λ x e. (tt, refl)) (λ e. (tt, refl)) (λ n e. (tt, refl)) (λ b e. absurd (false≢true e))
+      by-kind GoesOn (λ n e. absurd (false≢true e)) (λ x e. (tt, refl)) (λ x e. (tt, refl)) (λ e. (tt, refl)) (λ n e. (tt, refl))
+      (λ b e. absurd (false≢true e))
       (λ e. absurd (false≢true e)) (λ e. absurd (false≢true e))
 
 pub record Item-then (text : Bytes) (at : ℕ) (t : Placed) : Type 0 where

@@ -39,16 +39,17 @@ pub asked-all : {name : Name} → Asked name [] → none ≡ predicateOf name
 unfolding classNamed
 asked-all a = sym (a .same)
 
-module _ {name : Name} {class : Class} {left : List Class} (a : Asked name (class ∷ left)) {is : Bool} (s : is ≡ sameBytes name (className class)) where
-  asked : predicateOf name ≡ pick is (some class) (classNamed left name)
-  unfolding classNamed
-  asked = a .same ∙ rw s
+module _ {name : Name} {class : Class} {left : List Class} (a : Asked name (class ∷ left)) {is : Bool} (s : is ≡ sameBytes name (className class))
+  where
+    asked : predicateOf name ≡ pick is (some class) (classNamed left name)
+    unfolding classNamed
+    asked = a .same ∙ rw s
 
-  pub asked-is : is ≡ true → some class ≡ predicateOf name
-  asked-is e = sym (rw e at asked)
+    pub asked-is : is ≡ true → some class ≡ predicateOf name
+    asked-is e = sym (rw e at asked)
 
-  pub asked-not : is ≡ false → Asked name left
-  asked-not e = record { same = rw e at asked }
+    pub asked-not : is ≡ false → Asked name left
+    asked-not e = record { same = rw e at asked }
 
 -- what a name was found to be
 module _ (name : Name) {p : Predicate} (e : predicateMeant p ≡ predicateOf name) where
@@ -110,7 +111,8 @@ pub record Asked-called (text : Bytes) (x : Span) (number : ℕ) (is : Bool) : T
   pub accepted : is ≡ eqb number 0
 
 -- a declared name, by what is wrong with it where it is called
-module _ {text : Bytes} {x : Span} {number : ℕ} {is : Bool} (a : Asked-called text x number is) {table : List ℕ} {functions : ℕ} (k : Entries text table 0 functions) where
+module _ {text : Bytes} {x : Span} {number : ℕ} {is : Bool} (a : Asked-called text x number is) {table : List ℕ} {functions : ℕ}
+    (k : Entries text table 0 functions) where
   abbrev n : Name
   n = part text x
 
@@ -138,5 +140,6 @@ module _ {text : Bytes} {x : Span} {number : ℕ} {is : Bool} (a : Asked-called 
       right true true z = absurd (omega arith)
       right false predicate z = absurd (omega arith)
 
-  pub declared-known : not is ≡ false → isBuiltIn n ≡ false → {known : Bool} → member n names ≡ known → pick known wrongName 0 ≡ declaredFaultIn names n
+  pub declared-known : not is ≡ false → isBuiltIn n ≡ false → {known : Bool} → member n names ≡ known → pick known wrongName 0 ≡
+      declaredFaultIn names n
   declared-known w f {known} g = fault-if known wrongName ∙ declared-is w f g

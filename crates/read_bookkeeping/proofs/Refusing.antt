@@ -1,4 +1,5 @@
--- "Inside a sentence a word that is no variable is refused with 3": such a word among the tokens, and what reading comes to where it is refused at once.
+-- "Inside a sentence a word that is no variable is refused with 3": such a word among the tokens, and what reading comes to where it is refused at
+-- once.
 use Prim.Native.Nat.{ℕ}
 use mathlib.Core.Path.{_≡_, refl, ap}
 use mathlib.Core.Bool.{Bool, true, false, true≢false, false≢true}
@@ -52,7 +53,8 @@ module _ (text : Bytes) (place past : ℕ) where
 
   refused-if : (k : Token) → RefusedIf k
   refused-if =
-      by-kind RefusedIf (λ n s w o p. absurd (false≢true w)) (λ x s w o p. absurd (miss allButSymbol 1 tt o)) (λ x s w o p. absurd (miss allButPart 2 tt p))
+      by-kind RefusedIf (λ n s w o p. absurd (false≢true w)) (λ x s w o p. absurd (miss allButSymbol 1 tt o))
+      (λ x s w o p. absurd (miss allButPart 2 tt p))
       (λ s w o p. record { other = ap isItem s; word = refl; number = refl; place = refl }) (λ n s w o p. absurd (false≢true w))
       (λ b s w o p. absurd (false≢true w)) (λ s w o p. absurd (false≢true w)) (λ s w o p. absurd (false≢true w))
 
@@ -60,7 +62,8 @@ module _ {text : Bytes} {mode : Tokens.Mode} {at : ℕ} {t : Placed} (c : Comes 
   pub no-item : OneOf allButString (tagOf token.the-type (t .token)) → wordIs (t .token) ≡ false → NoItem text t
   no-item = no-item-if text (t .place) (t .past) (t .token)
 
-  pub no-variable : wordIs (t .token) ≡ true → OneOf allButSymbol (tagOf token.the-type (t .token)) → OneOf allButPart (tagOf token.the-type (t .token))
+  pub no-variable : wordIs (t .token) ≡ true → OneOf allButSymbol (tagOf token.the-type (t .token)) →
+      OneOf allButPart (tagOf token.the-type (t .token))
       → WordRefused text t (record { answer = NotAllowedHere; place = t .place })
   no-variable = refused-if text (t .place) (t .past) (t .token) (c .sound)
 

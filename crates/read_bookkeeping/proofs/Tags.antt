@@ -16,7 +16,8 @@ allButSign = 0 ∷ 1 ∷ 2 ∷ 3 ∷ 4 ∷ 6 ∷ 7 ∷ []
 
 pub no-sign : (byte : ℕ) (t : Token) → OneOf allButSign (tagOf token.the-type t) → false ≡ signIs byte t
 no-sign byte =
-    by-kind (λ t. OneOf allButSign (tagOf token.the-type t) → false ≡ signIs byte t) (λ n k. refl) (λ x k. refl) (λ x k. refl) (λ k. refl) (λ n k. refl)
+    by-kind (λ t. OneOf allButSign (tagOf token.the-type t) → false ≡ signIs byte t) (λ n k. refl) (λ x k. refl) (λ x k. refl) (λ k. refl)
+    (λ n k. refl)
     (λ b k. absurd (miss allButSign 5 tt k)) (λ k. refl) (λ k. refl)
 
 abbrev allButMalformed : List ℕ
@@ -24,7 +25,8 @@ allButMalformed = 0 ∷ 1 ∷ 2 ∷ 3 ∷ 4 ∷ 5 ∷ 6 ∷ []
 
 pub well-formed : (t : Token) → OneOf allButMalformed (tagOf token.the-type t) → notAllowedHere ≡ tokenFault t
 well-formed =
-    by-kind (λ t. OneOf allButMalformed (tagOf token.the-type t) → notAllowedHere ≡ tokenFault t) (λ n k. refl) (λ x k. refl) (λ x k. refl) (λ k. refl) (λ n k. refl)
+    by-kind (λ t. OneOf allButMalformed (tagOf token.the-type t) → notAllowedHere ≡ tokenFault t) (λ n k. refl) (λ x k. refl) (λ x k. refl)
+    (λ k. refl) (λ n k. refl)
     (λ b k. refl) (λ k. refl) (λ k. absurd (miss allButMalformed 7 tt k))
 
 abbrev allButWords : List ℕ

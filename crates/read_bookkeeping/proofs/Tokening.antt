@@ -43,11 +43,13 @@ NoName t = OneOf allButName (tagOf token.the-type t)
 module _ (text : Bytes) (place past : ℕ) where
   pub fault-same : (t : Token) → tokenFault t ≡ Reading.faultOf (tokenOf text t place past)
   fault-same =
-      by-kind (λ t. tokenFault t ≡ Reading.faultOf (tokenOf text t place past)) (λ n. refl) (λ x. refl) (λ x. refl) refl (λ n. refl) (λ b. refl) refl refl
+      by-kind (λ t. tokenFault t ≡ Reading.faultOf (tokenOf text t place past)) (λ n. refl) (λ x. refl) (λ x. refl) refl (λ n. refl) (λ b. refl) refl
+      refl
 
   pub sign-same : (byte : ℕ) (t : Token) → signIs byte t ≡ Reading.isSign byte (tokenOf text t place past)
   sign-same byte =
-      by-kind (λ t. signIs byte t ≡ Reading.isSign byte (tokenOf text t place past)) (λ n. refl) (λ x. refl) (λ x. refl) refl (λ n. refl) (λ b. refl) refl refl
+      by-kind (λ t. signIs byte t ≡ Reading.isSign byte (tokenOf text t place past)) (λ n. refl) (λ x. refl) (λ x. refl) refl (λ n. refl) (λ b. refl)
+      refl refl
 
 pub sign-shown : (text : Bytes) (t : Placed) (byte : ℕ) {is : Bool} → signIs byte (t .token) ≡ is
     → Reading.isSign byte (tokenOf text (t .token) (t .place) (t .past)) ≡ is
@@ -90,7 +92,8 @@ module _ (text : Bytes) (mode : Tokens.Mode) (at : ℕ) where
       }
 
 -- a token that was asked whether it is a byte, and is
-pub is-taken : {text : Bytes} {mode : Tokens.Mode} {byte at : ℕ} {t : Placed} {is : Bool} → Comes text mode at t → is ≡ signIs byte (t .token) → is ≡ true
+pub is-taken : {text : Bytes} {mode : Tokens.Mode} {byte at : ℕ} {t : Placed} {is : Bool} → Comes text mode at t → is ≡ signIs byte (t .token) → is ≡
+    true
     → Taken text mode byte at (t .past)
 is-taken {text} {mode} {byte} {at} {t} c s e = takes text mode at byte t c (sym s ∙ e)
 
@@ -106,7 +109,8 @@ module _ {A : Type 0} {text : Bytes} {mode : Tokens.Mode} {byte at : ℕ} (next 
   passes-not b = rw (b .unrolled, b .other, b .number, b .place)
 
   -- a byte that isn't there stops a reader that begins with it
-  pub barred-stops-by : {P R : Type 0} {outcome : R → Outcome P} {Reads : A → List Tokens.Placed → P → Type 0} {r : R} {fault : Fault} → outcome r ≡ halted fault
+  pub barred-stops-by : {P R : Type 0} {outcome : R → Outcome P} {Reads : A → List Tokens.Placed → P → Type 0} {r : R} {fault : Fault} → outcome r ≡
+      halted fault
       → Barred text mode byte at fault
       → AgreesBy outcome Reads (Reading.pass byte (stream text mode at) next) r
   barred-stops-by h b = stops-by h (passes-not b)
@@ -152,7 +156,8 @@ module _ {text : Bytes} {mode : Tokens.Mode} {at : ℕ} {t : Placed} (c : Comes 
 
 -- a token is refused
 module _ {text : Bytes} {mode : Tokens.Mode} {at : ℕ} {t : Placed} {fault : Fault} {A : Type 0} {p : Reading.Parsed A} where
-  pub refused-by : {P R : Type 0} {outcome : R → Outcome P} {Reads : A → List Tokens.Placed → P → Type 0} {r : R} → outcome r ≡ halted fault → Comes text mode at t
+  pub refused-by : {P R : Type 0} {outcome : R → Outcome P} {Reads : A → List Tokens.Placed → P → Type 0} {r : R} → outcome r ≡ halted fault →
+      Comes text mode at t
       → p ≡ Reading.refuse (placedOf text t)
       → FaultOf t fault
       → AgreesBy outcome Reads p r
@@ -171,7 +176,8 @@ module _ {text : Bytes} {mode : Tokens.Mode} {at words : ℕ} {t : Placed} (r : 
   pub ready-past : Ready text (t .past) words
   ready-past = record { inside = c .inside; charged = omega (arith, r .charged, c .onward, c .forward); short = r .short }
 
-pub ready-taken : {text : Bytes} {mode : Tokens.Mode} {byte at past words : ℕ} → Ready text at words → Taken text mode byte at past → Ready text past words
+pub ready-taken : {text : Bytes} {mode : Tokens.Mode} {byte at past words : ℕ} → Ready text at words → Taken text mode byte at past →
+    Ready text past words
 ready-taken r t = record { inside = t .inside; charged = omega (arith, r .charged, t .onward); short = r .short }
 
 -- what was read ends before the first token that was not

@@ -79,7 +79,8 @@ copy-starts text start first x p h =
     }
 
 module _ (text : Bytes) (start : List ℕ) (first from past : ℕ) (tape : List ℕ) (to i : ℕ) (n : Copied text start first from past tape to i) where
-  pub copy-goes : (next : List ℕ) → i < past → getD text i 0 < 256 → next ≡ set tape to (getD text i 0) → Copied text start first from past next (to + 1) (i + 1)
+  pub copy-goes : (next : List ℕ) → i < past → getD text i 0 < 256 → next ≡ set tape to (getD text i 0) →
+      Copied text start first from past next (to + 1) (i + 1)
   copy-goes next h b e =
       let w : to ≡ first + length (slice from i text) =
       n .reached ∙ rw (length-slice from i text (omega (arith, n .inside)))
@@ -96,7 +97,8 @@ module _ (text : Bytes) (start : List ℕ) (first from past : ℕ) (tape : List 
             (written-snoc (slice from i text) start first (getD text i 0));
         quiet =
             rw (add-one, slice-suc text from i (n .onward) (omega (arith, n .inside)))
-            (every-append isQuiet (slice from i text) (getD text i 0 ∷ []) (n .quiet) (every-one isQuiet (getD text i 0) (lt→ltb (getD text i 0) 2304 (omega arith))));
+            (every-append isQuiet (slice from i text) (getD text i 0 ∷ []) (n .quiet)
+            (every-one isQuiet (getD text i 0) (lt→ltb (getD text i 0) 2304 (omega arith))));
       }
 
   pub copy-ends : past ≤ i → Wrote start first (slice from past text) to tape × T (every isQuiet (slice from past text))
@@ -142,7 +144,8 @@ spelling-starts text start at from r =
       short = r .short;
     }
 
-pub spelled-length : {text : Bytes} {start : List ℕ} {at from : ℕ} {tape : List ℕ} {to i : ℕ} → Spelled-to text start at from tape to i → length tape ≡ length start
+pub spelled-length : {text : Bytes} {start : List ℕ} {at from : ℕ} {tape : List ℕ} {to i : ℕ} → Spelled-to text start at from tape to i →
+    length tape ≡ length start
 spelled-length s = wrote-length (record { reached = s .reached; same = s .same })
 
 -- what the string comes to, or how its characters go on, after each

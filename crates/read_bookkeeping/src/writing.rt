@@ -24,7 +24,8 @@ pub fn put(tape: &mut [u32], at: usize, word: u32)
 // A word, and the bytes of a part of the text after it.
 pub fn put_named(text: &[u8], tape: &mut [u32], at: usize, word: u32, x: Span) -> usize
     requires { ⌜ Inside (now text) x × (at + 1 + (x .past - x .from) ≤ 32768) ⌝ }
-    ensures { λ r. ⌜ Wrote (now (tape .entry)) at (word ∷ part (now (text .entry)) x) r (now (tape .exit)) × T (every isQuiet (part (now (text .entry)) x)) ⌝ }
+    ensures { λ r. ⌜ Wrote (now (tape .entry)) at (word ∷ part (now (text .entry)) x) r (now (tape .exit)) ×
+        T (every isQuiet (part (now (text .entry)) x)) ⌝ }
 {
     put(tape, at, word);
     let past = x.past;
@@ -42,7 +43,8 @@ pub fn put_named(text: &[u8], tape: &mut [u32], at: usize, word: u32, x: Span) -
 // A word of a kind and a name's length, and the name's bytes after it.
 pub fn put_name(text: &[u8], tape: &mut [u32], at: usize, kind: usize, x: Span) -> usize
     requires { ⌜ Inside (now text) x × (at + 1 + (x .past - x .from) ≤ 32768) × (kind ≤ 2048) ⌝ }
-    ensures { λ r. ⌜ Wrote (now (tape .entry)) at ((kind + (x .past - x .from)) ∷ part (now (text .entry)) x) r (now (tape .exit))
+    ensures { λ r. ⌜ Wrote (now (tape .entry)) at ((kind + (x .past - x .from)) ∷ part (now (text .entry)) x) r
+        (now (tape .exit))
         × T (every isQuiet (part (now (text .entry)) x)) ⌝ }
 {
     let word = (kind + (x.past - x.from)) as u32;
@@ -52,7 +54,8 @@ pub fn put_name(text: &[u8], tape: &mut [u32], at: usize, kind: usize, x: Span) 
 // The characters of a string that is well formed, from the place after its opening quote.
 pub fn put_characters(text: &[u8], tape: &mut [u32], at: usize, from: usize) -> usize
     requires { ⌜ Ready (now text) from at × IsClosed (stringFrom (now text) from) ⌝ }
-    ensures { λ r. ⌜ Wrote (now (tape .entry)) at (charactersIn (stringFrom (now (text .entry)) from)) r (now (tape .exit))
+    ensures { λ r. ⌜ Wrote (now (tape .entry)) at (charactersIn (stringFrom (now (text .entry)) from)) r
+        (now (tape .exit))
         × T (every isQuiet (charactersIn (stringFrom (now (text .entry)) from))) ⌝ }
 {
     let mut to = at;

@@ -84,12 +84,20 @@ module _ (text : Bytes) (first from value at : ℕ) where
       }
 
   pub code-breaks : CodingAt true → 256 ≤ more → Stands text (coded first) from from (Broken (at + 1))
-  code-breaks c s = record { same = λ characters. c .coding .same characters ∙ taking text (coded value) at (c .inside) (code-turn c (le-ltb _ _ s)) characters; passes = tt }
+  code-breaks c s = record {
+    same = λ characters. c .coding .same characters ∙
+        taking text (coded value) at (c .inside) (code-turn c (le-ltb _ _ s)) characters;
+    passes = tt;
+  }
 
   pub code-stops : CodingAt false → Stands text (coded first) from from (Given value at)
   unfolding quotation
   code-stops c =
-      record { same = λ characters. c .coding .same characters ∙ rw (here text at (c .inside), c .class); passes = (c .coding .onward, c .coding .inside) }
+      record {
+        same = λ characters. c .coding .same characters ∙ rw (here text at (c .inside), c .class);
+        passes =
+            (c .coding .onward, c .coding .inside);
+      }
 
 -- WHAT STANDS THERE
 
@@ -98,7 +106,8 @@ module _ (text : Bytes) (state : Quoting) (at low : ℕ) (h : (at < length text)
   passes-byte : (low ≤ at + 1) × (at + 1 ≤ length text)
   passes-byte = omega arith
 
-  pub stands-given : (v : ℕ) → Turns state (getD text at 0) (λ characters. goesOn plain (characters ++ v ∷ [])) → Stands text state at low (Given v (at + 1))
+  pub stands-given : (v : ℕ) → Turns state (getD text at 0) (λ characters. goesOn plain (characters ++ v ∷ [])) →
+      Stands text state at low (Given v (at + 1))
   stands-given v e = record { same = taking text state at (h .0) e; passes = passes-byte }
 
   pub stands-nothing : Turns state (getD text at 0) (goesOn plain) → Stands text state at low (Nothing (at + 1))
@@ -110,8 +119,13 @@ module _ (text : Bytes) (state : Quoting) (at low : ℕ) (h : (at < length text)
   pub stands-broken : Turns state (getD text at 0) (λ characters. breaks) → Stands text state at low (Broken (at + 1))
   stands-broken e = record { same = taking text state at (h .0) e; passes = tt }
 
-  pub stands-later : (next : Quoting) (r : Character) → Turns state (getD text at 0) (goesOn next) → Stands text next (at + 1) (at + 1) r → Stands text state at low r
-  stands-later next r e s = record { same = λ characters. taking text state at (h .0) e characters ∙ s .same characters; passes = further r (s .passes) }
+  pub stands-later : (next : Quoting) (r : Character) → Turns state (getD text at 0) (goesOn next) → Stands text next (at + 1) (at + 1) r →
+      Stands text state at low r
+  stands-later next r e s = record {
+    same = λ characters. taking text state at (h .0) e characters ∙ s .same characters;
+    passes =
+        further r (s .passes);
+  }
     where
       further : (c : Character) → Passes text (at + 1) c → Passes text low c
       further (Given b past) p = (omega arith, p .1)

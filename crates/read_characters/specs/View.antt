@@ -24,5 +24,6 @@ Passes text low (Broken past) = Unit {0}
 
 -- what stands at a place of a string in a state, whatever its characters so far, up to another place at least
 pub record Stands (text : Bytes) (state : Tokens.Quoting) (at low : ℕ) (character : Character) : Type 0 where
-  pub same : (characters : Bytes) → Tokens.quotation state characters at (drop at text) ≡ continued text character characters
+  pub same : (characters : Bytes) → Tokens.quotation state characters at (drop at text)
+      ≡ continued text character characters
   pub passes : Passes text low character

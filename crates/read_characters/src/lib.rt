@@ -5,7 +5,8 @@ ghost use lib.ListN.{length};
 ghost use Rattle.meaning.specs.Tokens as Tokens;
 ghost use Rattle.read_characters.specs.View.{Stands};
 
-// What stands at a place of a string: a character, a line end that gives nothing, the closing quote, or what may not stand there; with the place after it.
+// What stands at a place of a string: a character, a line end that gives nothing, the closing quote, or what may not
+// stand there; with the place after it.
 pub enum Character {
     Given(u8, usize),
     Nothing(usize),

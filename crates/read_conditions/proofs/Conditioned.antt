@@ -56,10 +56,12 @@ use Rattle.read_conditions.specs.Conditions.{closingAs, truthIn, truthBe
 use Rattle.meaning_accepting.proofs.reading.Basics.{no-value}
 use Rattle.read_bookkeeping.proofs.Choosing.{both-true, no-fault-here, a-fault-here}
 use Rattle.read_bookkeeping.proofs.Lengths.{too-long, short-enough, within}
-use Rattle.read_bookkeeping.proofs.Going.{check-wrong, stops, reads, has-read, stops-too, follow-alone, makes, behind, behind-more, went-none, ready-after, went-from, went-then}
+use Rattle.read_bookkeeping.proofs.Going.{check-wrong, stops, reads, has-read, stops-too, follow-alone, makes, behind, behind-more, went-none}
+use Rattle.read_bookkeeping.proofs.Going.{ready-after, went-from, went-then}
 use Rattle.read_bookkeeping.proofs.Items.{variableToken, variableItem, identifier-inside, variable-at, variable-here, item-then}
 use Rattle.read_bookkeeping.proofs.Tabling.{every-append}
-use Rattle.read_bookkeeping.proofs.Tokening.{FaultOf, NoName, NameFirst, sign-shown, takes, passes-on, passes-not, barred-stops, names-not, refused, ready-past, ready-taken, went-before}
+use Rattle.read_bookkeeping.proofs.Tokening.{FaultOf, NoName, NameFirst, sign-shown, takes, passes-on, passes-not, barred-stops, names-not, refused}
+use Rattle.read_bookkeeping.proofs.Tokening.{ready-past, ready-taken, went-before}
 
 -- A CONDITION'S VARIABLE
 
@@ -108,7 +110,8 @@ allButQuoted = 0 ∷ 1 ∷ 2 ∷ 3 ∷ 5 ∷ 6 ∷ 7 ∷ []
 no-string : (text : Bytes) (k : Token) (place past : ℕ) (three : Bool) → OneOf allButQuoted (tagOf token.the-type k)
     → Reading.truthOf (tokenOf text k place past) three ≡ none
 no-string text k place past three =
-    by-kind (λ t. OneOf allButQuoted (tagOf token.the-type t) → Reading.truthOf (tokenOf text t place past) three ≡ none) (λ n o. refl) (λ x o. refl) (λ x o. refl)
+    by-kind (λ t. OneOf allButQuoted (tagOf token.the-type t) → Reading.truthOf (tokenOf text t place past) three ≡ none) (λ n o. refl) (λ x o. refl)
+    (λ x o. refl)
     (λ o. refl) (λ n o. absurd (miss allButQuoted 4 tt o)) (λ b o. refl) (λ o. refl) (λ o. refl) k
 
 -- what a token says that says nothing, and that says a truth value
@@ -163,11 +166,13 @@ withTruth c v truth rest = parsed (record { predicate = c; subject = v; expected
 abbrev GoesOn : Bytes → ℕ → ℕ → Bool → Bool → Token → Type 0
 GoesOn text place past is truth k =
     Reading.truthOf (tokenOf text k place past) is ≡ some truth
-    → pick (Tokens.isLastToken (tokenOf text k place past)) [] (stream text (Tokens.modeAfter Tokens.inside (tokenOf text k place past)) past) ≡ stream text Tokens.inside past
+    → pick (Tokens.isLastToken (tokenOf text k place past)) [] (stream text (Tokens.modeAfter Tokens.inside (tokenOf text k place past)) past) ≡
+    stream text Tokens.inside past
 
 goes-on : (text : Bytes) (place past : ℕ) (is truth : Bool) (k : Token) → GoesOn text place past is truth k
 goes-on text place past is truth =
-    by-kind (GoesOn text place past is truth) (λ n e. no-value e) (λ x e. no-value e) (λ x e. no-value e) (λ e. no-value e) (λ n e. refl) (λ b e. no-value e)
+    by-kind (GoesOn text place past is truth) (λ n e. no-value e) (λ x e. no-value e) (λ x e. no-value e) (λ e. no-value e) (λ n e. refl)
+    (λ b e. no-value e)
     (λ e. no-value e) (λ e. no-value e)
 
 -- the variable lies in the text, and the tape has room for it
@@ -192,7 +197,8 @@ module _ (isPart : Bool) {text : Bytes} {from words : ℕ} {x : Span} where
       → EndAgrees text from words tape tape′ isPart x c (Stopped fault)
   end-no-close b c k = barred-stops _ k
 
-  pub end-no-colon : Before text words from x → (c : Class) {tape tape′ : List ℕ} {close : ℕ} {fault : Fault} → Taken text Tokens.inside 62 from close → Barred text Tokens.inside 58 close fault
+  pub end-no-colon : Before text words from x → (c : Class) {tape tape′ : List ℕ} {close : ℕ} {fault : Fault} →
+      Taken text Tokens.inside 62 from close → Barred text Tokens.inside 58 close fault
       → EndAgrees text from words tape tape′ isPart x c (Stopped fault)
   end-no-colon b c t k = stops (passes-on _ t ∙ passes-not _ k)
 
@@ -384,7 +390,8 @@ module _ {text table : List ℕ} {symbols parts from words : ℕ} where
             → ConditionAgrees text table symbols parts from words tape tape′ (Stopped (record { answer = WrongName; place = t .place }))
         class-not d e = stops (at-class ∙ rw (← d, e))
 
-        pub class-reads : {tape tape′ : List ℕ} {r : CodeParsed} {p : Predicate} {class : CodeClass} → predicateMeant p ≡ predicateOf (View.part text n) → p ≡ Asks class
+        pub class-reads : {tape tape′ : List ℕ} {r : CodeParsed} {p : Predicate} {class : CodeClass} → predicateMeant p ≡
+            predicateOf (View.part text n) → p ≡ Asks class
             → OnAgrees text table symbols parts (t .past) words tape tape′ (classMeant class) r
             → ConditionAgrees text table symbols parts from words tape tape′ r
         class-reads d e a₁ =
@@ -407,7 +414,8 @@ module _ (symbols parts : List Name) where
 
   conditions-next : (more left : ℕ) (t : Tokens.Placed) (ts : List Tokens.Placed) → more ≡ suc left → Reading.isSign 44 (t .token) ≡ true
       → Reading.parseConditions more symbols parts (t ∷ ts)
-      ≡ follow (Reading.parseCondition symbols parts ts) (λ c ts₁. follow (Reading.parseConditions left symbols parts ts₁) (λ cs rest. parsed (c ∷ cs) rest))
+      ≡ follow (Reading.parseCondition symbols parts ts) (λ c ts₁. follow (Reading.parseConditions left symbols parts ts₁)
+      (λ cs rest. parsed (c ∷ cs) rest))
   unfolding Reading.parseConditions
   conditions-next more left t ts n e = rw (n, e)
 
@@ -514,7 +522,8 @@ module _ {text start : List ℕ} {symbols parts : List Name} {from words : ℕ} 
               before = k .before ++ d ∷ [];
               same =
                   at-condition
-                  ∙ rw (q, h .tokens) (behind-more (k .before) d (Reading.parseConditions (left - 1) symbols parts (stream text Tokens.inside (s .at))));
+                  ∙ rw (q, h .tokens) (behind-more (k .before) d (Reading.parseConditions (left - 1) symbols parts
+                  (stream text Tokens.inside (s .at))));
               went = rw (tape-more (k .before) d) (went-then (k .went) (went-from (omega (arith, a .first .onward, a .first .forward)) (h .went)));
               quiet =
                   rw (tape-more (k .before) d)

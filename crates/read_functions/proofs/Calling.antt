@@ -21,7 +21,8 @@ use Rattle.read_bookkeeping.specs.Answered.{AgreesBy}
 use Rattle.read_bookkeeping.specs.Written.{Ready, Went}
 use Rattle.read_bookkeeping.specs.Tokened.{unlessWord, Taken, Barred}
 use Rattle.read_bookkeeping.specs.Items.{symbolNames}
-use Rattle.read_functions.specs.Expressions.{expressionOutcome, progressAt, Going, ExpressionRead, CalledName, opening, OpeningRead, CallRead, CloseGives, Closes}
+use Rattle.read_functions.specs.Expressions.{expressionOutcome, progressAt, Going, ExpressionRead, CalledName, opening, OpeningRead, CallRead}
+use Rattle.read_functions.specs.Expressions.{CloseGives, Closes}
 use Rattle.read_bookkeeping.proofs.Going.{stops-by, reads-by, ReadAt, has-read, went-then, word-went, ready-after, stops-too}
 use Rattle.read_bookkeeping.proofs.Tokening.{passes-on, passes-not}
 use Rattle.read_bookkeeping.proofs.Refusing.{word-at-once}
@@ -36,12 +37,14 @@ check-follow : {A B : Type 0} (number : ℕ) (t : Tokens.Placed) (p : Parsed A) 
 check-follow zero t p next = refl
 check-follow (suc number) t p next = refl
 
-name-follow : {A B : Type 0} (fault : Name → ℕ) (ts : List Tokens.Placed) (first : ℕ → Name → List Tokens.Placed → Parsed A) (next : A → List Tokens.Placed → Parsed B)
+name-follow : {A B : Type 0} (fault : Name → ℕ) (ts : List Tokens.Placed) (first : ℕ → Name → List Tokens.Placed → Parsed A)
+    (next : A → List Tokens.Placed → Parsed B)
     → passName fault ts (λ place n rest. follow (first place n rest) next) ≡ follow (passName fault ts first) next
 name-follow fault [] first next = refl
 name-follow {A} {B} fault (t ∷ ts) first next = chosen (Reading.nameOf (t .token))
   where
-    chosen : (o : Option Name) → nameOn o fault t (λ n. follow (first (t .place) n ts) next) ≡ follow (nameOn o fault t (λ n. first (t .place) n ts)) next
+    chosen : (o : Option Name) → nameOn o fault t (λ n. follow (first (t .place) n ts) next) ≡
+        follow (nameOn o fault t (λ n. first (t .place) n ts)) next
     chosen none = refl
     chosen (some n) = check-follow (fault n) t (first (t .place) n ts) next
 
@@ -51,11 +54,13 @@ afterArgument n given ts =
     Reading.pass 62 ts λ rest.
     parsed (record { place = n .place; name = n .name; argument = given .expression; progress = given .progress }) rest
 
-abbrev afterName : (ℕ → Reading.Progress → List Tokens.Placed → Parsed Reading.Items) → ℕ → Reading.Progress → CalledName → List Tokens.Placed → Parsed Reading.Called
+abbrev afterName : (ℕ → Reading.Progress → List Tokens.Placed → Parsed Reading.Items) → ℕ → Reading.Progress → CalledName → List Tokens.Placed →
+    Parsed Reading.Called
 afterName argument deeper so n ts =
     follow (argument deeper (Reading.pastCall so) ts) (afterArgument n)
 
-call-is : (argument : ℕ → Reading.Progress → List Tokens.Placed → Parsed Reading.Items) (depth : ℕ) (so : Reading.Progress) (t : Tokens.Placed) (ts : List Tokens.Placed)
+call-is : (argument : ℕ → Reading.Progress → List Tokens.Placed → Parsed Reading.Items) (depth : ℕ) (so : Reading.Progress) (t : Tokens.Placed)
+    (ts : List Tokens.Placed)
     → Reading.parseCall argument depth so t ts ≡ follow (opening depth (so .items) t ts) (afterName argument (suc depth) so)
 call-is argument depth so t ts =
     rw (name-follow Reading.calledFault ts (λ place n rest. parsed (record { place = place; name = n }) rest) (afterName argument (suc depth) so))
@@ -67,7 +72,8 @@ call-is argument depth so t ts =
 -- what the definition reads of a call after its `<`
 abbrev pub callAt : Bytes → List ℕ → ℕ → ℕ → ℕ → ℕ → ExpressionCounts → ℕ → Parsed Reading.Called
 callAt text table symbols parts bound depth s place =
-    Reading.parseCall (Reading.parseExpression bound (symbolNames text table symbols)) depth (progressAt text table parts s) (standing (Tokens.sign 60) place (s .at))
+    Reading.parseCall (Reading.parseExpression bound (symbolNames text table symbols)) depth (progressAt text table parts s)
+    (standing (Tokens.sign 60) place (s .at))
     (stream text Tokens.naming (s .at))
 
 abbrev pub CallAgrees : Bytes → List ℕ → ℕ → ℕ → ℕ → ℕ → ExpressionCounts → ℕ → List ℕ → List ℕ → ParsedExpression → Type 0
@@ -81,7 +87,8 @@ expressionAt text table symbols parts bound depth start =
 
 abbrev pub ExpressionAgrees : Bytes → List ℕ → ℕ → ℕ → ℕ → ℕ → ExpressionCounts → List ℕ → List ℕ → ParsedExpression → Type 0
 ExpressionAgrees text table symbols parts bound depth start tape tape′ r =
-    AgreesBy expressionOutcome (ExpressionRead text table symbols parts start tape tape′) (unlessWord (expressionAt text table symbols parts bound depth start)) r
+    AgreesBy expressionOutcome (ExpressionRead text table symbols parts start tape tape′)
+    (unlessWord (expressionAt text table symbols parts bound depth start)) r
 
 -- with every bound that is large enough
 abbrev pub ExpressionsAgree : Bytes → List ℕ → ℕ → ℕ → ℕ → ExpressionCounts → List ℕ → List ℕ → ParsedExpression → Type 0
@@ -90,9 +97,11 @@ ExpressionsAgree text table symbols parts depth start tape tape′ r =
 
 module _ (text table : List ℕ) (symbols parts bound depth : ℕ) (s : ExpressionCounts) (place : ℕ) where
   at-opening : callAt text table symbols parts bound depth s place
-      ≡ follow (openingAt text depth s place) (afterName (Reading.parseExpression bound (symbolNames text table symbols)) (suc depth) (progressAt text table parts s))
+      ≡ follow (openingAt text depth s place) (afterName (Reading.parseExpression bound (symbolNames text table symbols)) (suc depth)
+      (progressAt text table parts s))
   at-opening =
-      call-is (Reading.parseExpression bound (symbolNames text table symbols)) depth (progressAt text table parts s) (standing (Tokens.sign 60) place (s .at))
+      call-is (Reading.parseExpression bound (symbolNames text table symbols)) depth (progressAt text table parts s)
+      (standing (Tokens.sign 60) place (s .at))
       (stream text Tokens.naming (s .at))
 
   pub call-unopened : {tape tape′ : List ℕ} {r : ParsedExpression} {fault : Fault} → OpeningAgrees text depth s place tape tape′ r → r ≡ Stopped fault
@@ -103,7 +112,8 @@ module _ (text table : List ℕ) (symbols parts bound depth : ℕ) (s : Expressi
 pub record Opened (text : Bytes) (depth : ℕ) (s : ExpressionCounts) (place : ℕ) (tape tape₁ : List ℕ) (start : ExpressionCounts) : Type 0 where
   pub read : ReadAt (OpeningRead text depth s tape tape₁) (openingAt text depth s place) start
 
-module _ {text : Bytes} {depth : ℕ} {s : ExpressionCounts} {place : ℕ} {tape tape₁ : List ℕ} {start : ExpressionCounts} (o : Opened text depth s place tape tape₁ start) where
+module _ {text : Bytes} {depth : ℕ} {s : ExpressionCounts} {place : ℕ} {tape tape₁ : List ℕ} {start : ExpressionCounts}
+    (o : Opened text depth s place tape tape₁ start) where
   argument-shorter : length (stream text Tokens.inside (start .at)) ≤ length (stream text Tokens.naming (s .at))
   argument-shorter = rw (o .read .how .tokens) at (o .read .how .shorter)
 
@@ -135,7 +145,8 @@ module _ {text : Bytes} {depth : ℕ} {s : ExpressionCounts} {place : ℕ} {tape
 
     -- the argument is read
     module _ {tape₂ tape₃ : List ℕ} {argument : ExpressionCounts}
-        (h : ReadAt (ExpressionRead text table symbols parts start tape₁ tape₂) (unlessWord (expressionAt text table symbols parts bound (depth + 1) start)) argument) where
+        (h : ReadAt (ExpressionRead text table symbols parts start tape₁ tape₂)
+        (unlessWord (expressionAt text table symbols parts bound (depth + 1) start)) argument) where
       close-barred : {fault : Fault} → Barred text Tokens.inside 62 (argument .at) fault
           → CallAgrees text table symbols parts bound depth s place tape tape₃ (Stopped fault)
       close-barred x = stops-by refl (at-argument ∙ rw (h .same, h .how .tokens) (passes-not _ x))
@@ -163,14 +174,17 @@ module _ {text : Bytes} {depth : ℕ} {s : ExpressionCounts} {place : ℕ} {tape
           })
 
       -- what comes of the `>`
-      close-with : (r : ParsedExpression) → CloseGives text argument tape₂ tape₃ r → CallAgrees text table symbols parts bound depth s place tape tape₃ r
+      close-with : (r : ParsedExpression) → CloseGives text argument tape₂ tape₃ r →
+          CallAgrees text table symbols parts bound depth s place tape tape₃ r
       close-with (Stopped fault) x = close-barred x
       close-with (Done next) x = rw (x .1) (close-done (x .0) (x .2))
 
-  module _ {table : List ℕ} {symbols parts : ℕ} {tape₂ : List ℕ} {r : ParsedExpression} (a : ExpressionsAgree text table symbols parts (depth + 1) start tape₁ tape₂ r)
+  module _ {table : List ℕ} {symbols parts : ℕ} {tape₂ : List ℕ} {r : ParsedExpression}
+      (a : ExpressionsAgree text table symbols parts (depth + 1) start tape₁ tape₂ r)
       (bound : ℕ) (h : length (stream text Tokens.naming (s .at)) ≤ bound) where
     pub argument-stops : {fault : Fault} → r ≡ Stopped fault → CallAgrees text table symbols parts bound depth s place tape tape₂ (Stopped fault)
-    argument-stops e = stops-too (a bound (omega (arith, argument-shorter))) (ap expressionOutcome e) refl (λ q. at-argument table symbols parts bound ∙ rw q)
+    argument-stops e = stops-too (a bound (omega (arith, argument-shorter))) (ap expressionOutcome e) refl
+        (λ q. at-argument table symbols parts bound ∙ rw q)
 
     pub call-closes : {tape₃ : List ℕ} {argument : ExpressionCounts} {q : ParsedExpression} → r ≡ Done argument → Closes text argument tape₂ tape₃ q
         → CallAgrees text table symbols parts bound depth s place tape tape₃ q

@@ -27,7 +27,8 @@ use Rattle.answers.specs.Numbers.{numberOf}
 use Rattle.read_bookkeeping.specs.Written.{isQuiet, Went}
 use Rattle.read_bookkeeping.specs.Tokened.{signIs}
 use Rattle.read_bookkeeping.specs.Items.{symbolNames, itemAt}
-use Rattle.read_functions.specs.Expressions.{expressionOutcome, progressAt, Going, CallStands, Stands, itemTape, TakenIn, TokenGives, JoinsToken, faultAt, callTape, CallRead}
+use Rattle.read_functions.specs.Expressions.{expressionOutcome, progressAt, Going, CallStands, Stands, itemTape, TakenIn, TokenGives}
+use Rattle.read_functions.specs.Expressions.{JoinsToken, faultAt, callTape, CallRead}
 use Rattle.read_bookkeeping.proofs.Items.{item-then}
 use Rattle.read_bookkeeping.proofs.Going.{check-wrong, stops-by, reads-by, ReadAt, has-read, went-none, went-from, went-then, stops-too}
 use Rattle.read_bookkeeping.proofs.Tokening.{sign-shown, sign-first, takes, ready-place, ready-past, went-before}
@@ -90,7 +91,8 @@ first-first : (f g : Expression → Expression) (p : Parsed Reading.Items) → w
 first-first f g (stopped number place) = refl
 first-first f g (parsed i rest) = refl
 
-expression-step : (more left : ℕ) (names : List Name) (depth : ℕ) (so : Reading.Progress) (t : Tokens.Placed) (ts : List Tokens.Placed) → more ≡ suc left
+expression-step : (more left : ℕ) (names : List Name) (depth : ℕ) (so : Reading.Progress) (t : Tokens.Placed) (ts : List Tokens.Placed) → more ≡
+    suc left
     → Reading.parseExpression more names depth so (t ∷ ts) ≡ Reading.parseExpressionFrom (Reading.parseExpression left names) names depth so t ts
 unfolding Reading.parseExpression
 expression-step more left names depth so t ts n = rw n
@@ -98,11 +100,13 @@ expression-step more left names depth so t ts n = rw n
 -- THE LOOP
 
 -- with a bound: the expression from the start is that from here with these items and calls first
-pub record Behind (text table : List ℕ) (symbols parts depth : ℕ) (start : ExpressionCounts) (tape₀ tape : List ℕ) (s : ExpressionCounts) (bound : ℕ) : Type 0 where
+pub record Behind (text table : List ℕ) (symbols parts depth : ℕ) (start : ExpressionCounts) (tape₀ tape : List ℕ) (s : ExpressionCounts)
+    (bound : ℕ) : Type 0 where
   pub first : Expression → Expression
   pub left : ℕ
   pub words : List ℕ
-  pub same : Reading.parseExpression bound (symbolNames text table symbols) depth (progressAt text table parts start) (stream text Tokens.inside (start .at))
+  pub same : Reading.parseExpression bound (symbolNames text table symbols) depth (progressAt text table parts start)
+      (stream text Tokens.inside (start .at))
       ≡ withFirst first
       (Reading.parseExpression left (symbolNames text table symbols) depth (progressAt text table parts s) (stream text Tokens.inside (s .at)))
   pub enough : length (stream text Tokens.inside (s .at)) ≤ left
@@ -111,12 +115,14 @@ pub record Behind (text table : List ℕ) (symbols parts depth : ℕ) (start : E
   pub stand : (e : Expression) → Stands text e → Stands text (first e)
   pub went : Went text (start .at) (start .words) tape₀ (s .at) (s .words) tape words
 
-pub record Expressed (text table : List ℕ) (symbols parts depth : ℕ) (start : ExpressionCounts) (tape₀ tape : List ℕ) (s : ExpressionCounts) : Type 0 where
-  pub going : Going text table symbols parts s
-  pub onward : start .at ≤ s .at
-  pub behind : (bound : ℕ) → length (stream text Tokens.inside (start .at)) ≤ bound → Behind text table symbols parts depth start tape₀ tape s bound
+pub record Expressed (text table : List ℕ) (symbols parts depth : ℕ) (start : ExpressionCounts) (tape₀ tape : List ℕ) (s : ExpressionCounts) : Type 0
+  where
+    pub going : Going text table symbols parts s
+    pub onward : start .at ≤ s .at
+    pub behind : (bound : ℕ) → length (stream text Tokens.inside (start .at)) ≤ bound → Behind text table symbols parts depth start tape₀ tape s bound
 
-pub expression-starts : (text table : List ℕ) (symbols parts depth : ℕ) (start : ExpressionCounts) (tape : List ℕ) → Going text table symbols parts start
+pub expression-starts : (text table : List ℕ) (symbols parts depth : ℕ) (start : ExpressionCounts) (tape : List ℕ) →
+    Going text table symbols parts start
     → Expressed text table symbols parts depth start tape tape start
 expression-starts text table symbols parts depth start tape g =
     record {
@@ -138,7 +144,8 @@ expression-starts text table symbols parts depth start tape g =
     }
 
 -- the definition's step at the first token
-module _ {text table : List ℕ} {symbols parts depth : ℕ} {start : ExpressionCounts} {tape₀ tape : List ℕ} {s : ExpressionCounts} {bound : ℕ} {t : Tokens.Placed} {ts : List Tokens.Placed}
+module _ {text table : List ℕ} {symbols parts depth : ℕ} {start : ExpressionCounts} {tape₀ tape : List ℕ} {s : ExpressionCounts} {bound : ℕ}
+    {t : Tokens.Placed} {ts : List Tokens.Placed}
     (b : Behind text table symbols parts depth start tape₀ tape s bound)
     (u : stream text Tokens.inside (s .at) ≡ t ∷ ts) where
   step-enough : suc (length ts) ≤ b .left
@@ -149,10 +156,15 @@ module _ {text table : List ℕ} {symbols parts depth : ℕ} {start : Expression
 
   at-step : expressionAt text table symbols parts bound depth start
       ≡ withFirst (b .first)
-      (Reading.parseExpressionFrom (Reading.parseExpression (b .left - 1) (symbolNames text table symbols)) (symbolNames text table symbols) depth (progressAt text table parts s) t ts)
+      (Reading.parseExpressionFrom (Reading.parseExpression (b .left - 1) (symbolNames text table symbols)) (symbolNames text table symbols) depth
+      (progressAt text table parts s) t ts)
   at-step =
       b .same
-      ∙ rw (u, expression-step (b .left) (b .left - 1) (symbolNames text table symbols) depth (progressAt text table parts s) t ts (omega (arith, step-enough)))
+      ∙ rw (
+        u,
+        expression-step (b .left) (b .left - 1) (symbolNames text table symbols) depth (progressAt text table parts s) t ts
+            (omega (arith, step-enough)),
+      )
 
   -- one item or call more
   behind-more : {next : ExpressionCounts} {tape′ : List ℕ} (f : Expression → Expression) (added : List ℕ)
@@ -177,13 +189,15 @@ module _ {text table : List ℕ} {symbols parts depth : ℕ} {start : Expression
       }
 
 -- a token was joined to the expression, or is no item
-pub record AtToken (text table : List ℕ) (symbols parts depth : ℕ) (start : ExpressionCounts) (tape₀ : List ℕ) (s : ExpressionCounts) (t : Code.Placed) (tape′ : List ℕ) (r : Joined) : Type 0 where
+pub record AtToken (text table : List ℕ) (symbols parts depth : ℕ) (start : ExpressionCounts) (tape₀ : List ℕ) (s : ExpressionCounts)
+    (t : Code.Placed) (tape′ : List ℕ) (r : Joined) : Type 0 where
   pub tape : List ℕ
   pub so : Expressed text table symbols parts depth start tape₀ tape s
   pub comes : Comes text Tokens.inside (s .at) t
   pub joins : JoinsToken text table symbols parts s tape t tape′ r
 
-module _ {text table : List ℕ} {symbols parts depth : ℕ} {start : ExpressionCounts} {tape₀ : List ℕ} {s : ExpressionCounts} {t : Code.Placed} {tape′ : List ℕ} {r : Joined}
+module _ {text table : List ℕ} {symbols parts depth : ℕ} {start : ExpressionCounts} {tape₀ : List ℕ} {s : ExpressionCounts} {t : Code.Placed}
+    {tape′ : List ℕ} {r : Joined}
     (q : AtToken text table symbols parts depth start tape₀ s t tape′ r) where
   given : {r′ : Joined} → r ≡ r′ → TokenGives text table symbols parts s (q .tape) t tape′ r′
   given e = rw e at (q .joins .gives)
@@ -195,13 +209,15 @@ module _ {text table : List ℕ} {symbols parts depth : ℕ} {start : Expression
       let g = given e in
       (omega (arith, g .0 .at, item-then (q .comes) (g .1) .moves), g .0 .going .ready .inside)
 
-  item-behind : {next : ExpressionCounts} (bound : ℕ) → TakenIn text table symbols parts s (q .tape) (itemAt text t) (t .past) tape′ next → isItem (itemAt text t) ≡ true
+  item-behind : {next : ExpressionCounts} (bound : ℕ) → TakenIn text table symbols parts s (q .tape) (itemAt text t) (t .past) tape′ next →
+      isItem (itemAt text t) ≡ true
       → Behind text table symbols parts depth start tape₀ (q .tape) s bound
       → Behind text table symbols parts depth start tape₀ tape′ next bound
   item-behind bound g y b =
       let i = item-then (q .comes) y in
       let item = itemAt text t in
-      behind-more b (i .unrolled) (thenItem item) (itemTape item) (at-step b (i .unrolled) ∙ rw (y, g .fault, g .progress, g .at)) (rw (g .at) (omega arith))
+      behind-more b (i .unrolled) (thenItem item) (itemTape item) (at-step b (i .unrolled) ∙ rw (y, g .fault, g .progress, g .at))
+      (rw (g .at) (omega arith))
       (tape-item item) (λ e h. stands-item text item e (g .quiet) h) (g .went)
 
   pub item-taken : {next : ExpressionCounts} → r ≡ Taken next → Expressed text table symbols parts depth start tape₀ tape′ next
@@ -257,12 +273,14 @@ module _ {text table : List ℕ} {symbols parts depth : ℕ} {start : Expression
 -- A CALL
 
 -- the token is the `<` of a call
-pub record AtCall {text table : List ℕ} {symbols parts depth : ℕ} {start : ExpressionCounts} {tape₀ : List ℕ} {s : ExpressionCounts} {t : Code.Placed} {tape′ : List ℕ} {r : Joined}
+pub record AtCall {text table : List ℕ} {symbols parts depth : ℕ} {start : ExpressionCounts} {tape₀ : List ℕ} {s : ExpressionCounts} {t : Code.Placed}
+    {tape′ : List ℕ} {r : Joined}
     (k : AtToken text table symbols parts depth start tape₀ s t tape′ r) : Type 0 where
   pub other : r ≡ Other
   pub angle : signIs 60 (t .token) ≡ true
 
-module _ {text table : List ℕ} {symbols parts depth : ℕ} {start : ExpressionCounts} {tape₀ : List ℕ} {s : ExpressionCounts} {t : Code.Placed} {tape′ : List ℕ} {r : Joined}
+module _ {text table : List ℕ} {symbols parts depth : ℕ} {start : ExpressionCounts} {tape₀ : List ℕ} {s : ExpressionCounts} {t : Code.Placed}
+    {tape′ : List ℕ} {r : Joined}
     {k : AtToken text table symbols parts depth start tape₀ s t tape′ r} (q : AtCall k) where
   abbrev opened : ExpressionCounts
   opened = record { at = t .past; words = s .words; items = s .items; passed = s .passed }
@@ -290,10 +308,12 @@ module _ {text table : List ℕ} {symbols parts depth : ℕ} {start : Expression
       → expressionAt text table symbols parts bound depth start
       ≡ withFirst (b .first)
       (follow (calledAt (b .left - 1)) λ d rest.
-      withFirst (thenCall (d .place) (d .name) (d .argument)) (Reading.parseExpression (b .left - 1) (symbolNames text table symbols) depth (d .progress) rest))
+      withFirst (thenCall (d .place) (d .name) (d .argument))
+      (Reading.parseExpression (b .left - 1) (symbolNames text table symbols) depth (d .progress) rest))
   at-call b = at-step b unrolled
 
-  left-enough : {bound : ℕ} (b : Behind text table symbols parts depth start tape₀ (k .tape) s bound) → length (stream text Tokens.naming (t .past)) ≤ b .left - 1
+  left-enough : {bound : ℕ} (b : Behind text table symbols parts depth start tape₀ (k .tape) s bound) →
+      length (stream text Tokens.naming (t .past)) ≤ b .left - 1
   left-enough b = omega (arith, step-enough b unrolled)
 
   call-behind : {tape″ : List ℕ} {next : ExpressionCounts} {bound : ℕ} (b : Behind text table symbols parts depth start tape₀ (k .tape) s bound)
@@ -303,14 +323,16 @@ module _ {text table : List ℕ} {symbols parts depth : ℕ} {start : Expression
       let d = read .value in
       let h = read .how in
       let c = k .comes in
-      behind-more b unrolled (thenCall (d .place) (d .name) (d .argument)) (callTape d) (at-call b ∙ rw (read .same, h .progress, h .tokens)) (rw (h .tokens) at (h .shorter))
+      behind-more b unrolled (thenCall (d .place) (d .name) (d .argument)) (callTape d) (at-call b ∙ rw (read .same, h .progress, h .tokens))
+      (rw (h .tokens) at (h .shorter))
       (tape-call (d .place) (d .name) (d .argument))
       (λ e g. stands-call text (d .argument) e (h .named) (h .stands) g)
       (went-from (omega (arith, c .onward, c .forward)) (rw (given k (q .other) .1) at (h .went)))
 
   -- what the call's reader came to, with every bound that is large enough
   module _ {tape″ : List ℕ} {p : ParsedExpression}
-      (a : (left : ℕ) → length (stream text Tokens.naming (t .past)) ≤ left → CallAgrees text table symbols parts left depth opened (t .place) tape′ tape″ p) where
+      (a : (left : ℕ) → length (stream text Tokens.naming (t .past)) ≤ left →
+      CallAgrees text table symbols parts left depth opened (t .place) tape′ tape″ p) where
     pub call-stopped : {fault : Fault} {bound : ℕ} → p ≡ Stopped fault → length (stream text Tokens.inside (start .at)) ≤ bound
         → ExpressionAgrees text table symbols parts bound depth start tape₀ tape″ (Stopped fault)
     call-stopped {bound = bound} e h =
@@ -318,7 +340,8 @@ module _ {text table : List ℕ} {symbols parts depth : ℕ} {start : Expression
         stops-too (a (b .left - 1) (left-enough b)) (ap expressionOutcome e) refl (λ g. stopped-before (at-call b ∙ rw g))
 
     module _ {next : ExpressionCounts} (e : p ≡ Done next) where
-      called : (left : ℕ) → length (stream text Tokens.naming (t .past)) ≤ left → ReadAt (CallRead text table symbols parts opened tape′ tape″) (calledAt left) next
+      called : (left : ℕ) → length (stream text Tokens.naming (t .past)) ≤ left →
+          ReadAt (CallRead text table symbols parts opened tape′ tape″) (calledAt left) next
       called left h = has-read _ next refl (rw e at (a left h))
 
       shown : ReadAt (CallRead text table symbols parts opened tape′ tape″) (calledAt (length (stream text Tokens.naming (t .past)))) next

@@ -43,10 +43,12 @@ use Rattle.read_functions.specs.declared.functions.Stage.{Stage}
 use Rattle.read_functions.specs.declared.functions.Stage.the-variants.{Onward, Over}
 use Rattle.read_functions.specs.Expressions.{faultAt}
 use Rattle.read_functions.specs.Sentences.{SentencesRead, sentencesOutcome}
-use Rattle.read_functions.specs.Functions.{FunctionStands, fromBrace, declared, Declarable, BodyRead, Opening, nameFault, DeclaredRead, SpareTo, isEnd, functionsOf, FunctionsRead, Functioned, StageIs, Underway, firstStage, tableOutcome, Declares}
+use Rattle.read_functions.specs.Functions.{FunctionStands, fromBrace, declared, Declarable, BodyRead, Opening, nameFault, DeclaredRead, SpareTo}
+use Rattle.read_functions.specs.Functions.{isEnd, functionsOf, FunctionsRead, Functioned, StageIs, Underway, firstStage, tableOutcome, Declares}
 use Rattle.read_bookkeeping.proofs.Lengths.{within}
 use Rattle.read_bookkeeping.proofs.Tabling.{Grown, grown, entry-name, entry-inside, none-yet, no-names}
-use Rattle.read_bookkeeping.proofs.Going.{check-wrong, stops-by, reads-by, ReadAt, has-read, pass-follow, follow-alone, makes, went-none, went-from, went-on, went-then, ready-after, name-went, stops-too, name-quiet}
+use Rattle.read_bookkeeping.proofs.Going.{check-wrong, stops-by, reads-by, ReadAt, has-read, pass-follow, follow-alone, makes, went-none, went-from}
+use Rattle.read_bookkeeping.proofs.Going.{went-on, went-then, ready-after, name-went, stops-too, name-quiet}
 use Rattle.read_bookkeeping.proofs.Tokening.{NameFirst, sign-shown, passes-on, name-first, names-not, refused-by, ready-place, FaultOf, NoName}
 use Rattle.read_functions.proofs.Sentencing.{each-none, each-more}
 use Rattle.read_tokens.proofs.Variants.{by-kind}
@@ -55,7 +57,8 @@ use Rattle.read_tokens.proofs.Variants.{by-kind}
 
 abbrev BodyAgrees : Bytes → ℕ → ℕ → Span → List ℕ → List ℕ → ParsedSentences → Type 0
 BodyAgrees text limit words n tape tape′ r =
-    AgreesBy sentencesOutcome (BodyRead text limit (n .from) words (View.part text n) tape tape′) (fromBrace limit (stream text Tokens.outside (n .past))) r
+    AgreesBy sentencesOutcome (BodyRead text limit (n .from) words (View.part text n) tape tape′)
+    (fromBrace limit (stream text Tokens.outside (n .past))) r
 
 -- the `{` was passed after a name
 pub record AfterBrace (text : Bytes) (words : ℕ) (n : Span) (at : ℕ) : Type 0 where
@@ -127,58 +130,62 @@ module _ {text names : List ℕ} {functions words : ℕ} {t : Code.Placed} {n : 
         stops-by refl (rw (named-here .unrolled, lt-ltb functions 64 (m .few), ← f) (check-wrong (numberOf answer) _ _ w))
 
 -- its name has no fault
-pub record Named {text names : List ℕ} {functions words : ℕ} {t : Code.Placed} {n : Span} (name : NameComes text names functions words t n) : Type 0 where
-  pub sound : declaredFaultIn (tableNames text names 0 functions) (View.part text n) ≡ 0
+pub record Named {text names : List ℕ} {functions words : ℕ} {t : Code.Placed} {n : Span} (name : NameComes text names functions words t n) : Type 0
+  where
+    pub sound : declaredFaultIn (tableNames text names 0 functions) (View.part text n) ≡ 0
 
-module _ {text names : List ℕ} {functions words : ℕ} {t : Code.Placed} {n : Span} {name : NameComes text names functions words t n} (m : Named name) where
-  abbrev here : NameFirst text Tokens.outside (t .place) t n
-  here = named-here name
+module _ {text names : List ℕ} {functions words : ℕ} {t : Code.Placed} {n : Span} {name : NameComes text names functions words t n} (m : Named name)
+  where
+    abbrev here : NameFirst text Tokens.outside (t .place) t n
+    here = named-here name
 
-  pub declarable : Declarable text words n
-  declarable =
-      record {
-        after = omega (arith, name .opening .ready .charged, here .from);
-        inside = here .inside;
-        brief = within text n (here .inside) 24 3 _ (m .sound);
-        short = name .opening .ready .short;
-      }
+    pub declarable : Declarable text words n
+    declarable =
+        record {
+          after = omega (arith, name .opening .ready .charged, here .from);
+          inside = here .inside;
+          brief = within text n (here .inside) 24 3 _ (m .sound);
+          short = name .opening .ready .short;
+        }
 
-  pub function-reads : {tape tape′ names′ : List ℕ} {entry limit : ℕ} {r : ParsedSentences}
-      → entry ≡ n .from * 32 + (n .past - n .from)
-      → names′ ≡ set names functions entry
-      → BodyAgrees text limit words n tape tape′ r
-      → FunctionAgrees text names functions limit words t tape tape′ names′ r
-  function-reads {names′ = names′} {entry = entry} {limit} x w a =
-      let brief : n .past - n .from < 32 = omega (arith, declarable .brief) in
-      let inside : T (inText text entry) = rw x (entry-inside text n (here .inside) brief) in
-      let spelled : nameIn text entry ≡ View.part text n = rw x (entry-name text n (here .inside) brief) in
-      let o = name .opening in
-      let g : Grown text names names′ 0 functions (View.part text n) =
-      rw (w, ← spelled) (grown text names 0 functions (o .entries) entry (rw (o .long) (name .few)) inside)
-      in
-      makes (declared (View.part text n)) _
-      (λ ss rest s h. record {
-        read =
-            record {
-              tokens = h .tokens;
-              went = went-from (omega (arith, here .from)) (h .went);
-              left = h .left;
-              stands = h .stands;
-            };
-        entries = g .entries;
-        names = g .names;
-        long = rw w (length-set names functions entry ∙ o .long);
-      })
-      (rw (here .unrolled, lt-ltb functions 64 (name .few), m .sound, ← here .past)
-      (pass-follow 123 (stream text Tokens.outside (n .past)) (λ ts. Reading.parseSentences limit ts) (λ ss rest. parsed (declared (View.part text n) ss) rest)))
-      a
+    pub function-reads : {tape tape′ names′ : List ℕ} {entry limit : ℕ} {r : ParsedSentences}
+        → entry ≡ n .from * 32 + (n .past - n .from)
+        → names′ ≡ set names functions entry
+        → BodyAgrees text limit words n tape tape′ r
+        → FunctionAgrees text names functions limit words t tape tape′ names′ r
+    function-reads {names′ = names′} {entry = entry} {limit} x w a =
+        let brief : n .past - n .from < 32 = omega (arith, declarable .brief) in
+        let inside : T (inText text entry) = rw x (entry-inside text n (here .inside) brief) in
+        let spelled : nameIn text entry ≡ View.part text n = rw x (entry-name text n (here .inside) brief) in
+        let o = name .opening in
+        let g : Grown text names names′ 0 functions (View.part text n) =
+        rw (w, ← spelled) (grown text names 0 functions (o .entries) entry (rw (o .long) (name .few)) inside)
+        in
+        makes (declared (View.part text n)) _
+        (λ ss rest s h. record {
+          read =
+              record {
+                tokens = h .tokens;
+                went = went-from (omega (arith, here .from)) (h .went);
+                left = h .left;
+                stands = h .stands;
+              };
+          entries = g .entries;
+          names = g .names;
+          long = rw w (length-set names functions entry ∙ o .long);
+        })
+        (rw (here .unrolled, lt-ltb functions 64 (name .few), m .sound, ← here .past)
+        (pass-follow 123 (stream text Tokens.outside (n .past)) (λ ts. Reading.parseSentences limit ts)
+        (λ ss rest. parsed (declared (View.part text n) ss) rest)))
+        a
 
 -- A SPARE `;`
 
 pub spare-passed : {text : Bytes} {at past : ℕ} → Taken text Tokens.outside 59 at past → SpareTo text at past
 spare-passed k = record { tokens = rw (k .unrolled); onward = omega (arith, k .onward); inside = k .inside }
 
-pub spare-none : {text : Bytes} {at : ℕ} {t : Code.Placed} → Comes text Tokens.outside at t → signIs 59 (t .token) ≡ false → SpareTo text at (t .place)
+pub spare-none : {text : Bytes} {at : ℕ} {t : Code.Placed} → Comes text Tokens.outside at t → signIs 59 (t .token) ≡ false →
+    SpareTo text at (t .place)
 spare-none {text} {t = t} c e =
     record { tokens = c .again ∙ rw (c .unrolled, sign-shown text t 59 e); onward = c .onward; inside = omega (arith, c .forward, c .inside) }
 
@@ -189,7 +196,8 @@ allButEnd = 0 ∷ 1 ∷ 2 ∷ 3 ∷ 4 ∷ 5 ∷ 7 ∷ []
 
 pub no-end : (t : Token) → OneOf allButEnd (tagOf token.the-type t) → false ≡ isEnd t
 no-end =
-    by-kind (λ t. OneOf allButEnd (tagOf token.the-type t) → false ≡ isEnd t) (λ n o. refl) (λ x o. refl) (λ x o. refl) (λ o. refl) (λ n o. refl) (λ b o. refl)
+    by-kind (λ t. OneOf allButEnd (tagOf token.the-type t) → false ≡ isEnd t) (λ n o. refl) (λ x o. refl) (λ x o. refl) (λ o. refl) (λ n o. refl)
+    (λ b o. refl)
     (λ o. absurd (miss allButEnd 6 tt o)) (λ o. refl)
 
 end-same : (text : Bytes) (place past : ℕ) (t : Token) → Reading.isTextEnd (tokenOf text t place past) ≡ isEnd t
@@ -215,7 +223,8 @@ module _ (limit : ℕ) (before : Table) (t : Tokens.Placed) (ts : List Tokens.Pl
   fault-is : (count : ℕ) {room : Bool} → ltb count 64 ≡ room
       → Reading.parseFunction (λ n. pick room (declaredFaultIn (namesOf before) n) overLimit) limit (t ∷ ts)
       ≡ Reading.parseFunction (nameFault count (namesOf before)) limit (t ∷ ts)
-  fault-is count e = ap (λ (room : Bool). Reading.parseFunction (λ n. pick room (declaredFaultIn (namesOf before) n) overLimit) limit (t ∷ ts)) (sym e)
+  fault-is count e = ap (λ (room : Bool). Reading.parseFunction (λ n. pick room (declaredFaultIn (namesOf before) n) overLimit) limit (t ∷ ts))
+      (sym e)
 
   -- what stops a function stops the functions
   functions-stop : (room count : ℕ) {number place : ℕ} → count + room ≡ 64 → Reading.isTextEnd (t .token) ≡ false
@@ -279,10 +288,12 @@ module _ {text start tape names : List ℕ} {at words count left : ℕ} {t : Cod
   few : count ≤ 64
   few = omega (arith, k .entries .inside, k .long)
 
-  functions-done : isEnd (t .token) ≡ true → FunctionsAgree text start tape names (DoneTable (record { words = words; functions = count; left = left }))
+  functions-done : isEnd (t .token) ≡ true → FunctionsAgree text start tape names
+      (DoneTable (record { words = words; functions = count; left = left }))
   functions-done e =
       reads-by refl (k .before) following
-      (k .same ∙ rw (c .unrolled) (functions-end left (k .before) (placedOf text t) following (64 - count) (end-same text (t .place) (t .past) (t .token) ∙ e)))
+      (k .same ∙ rw (c .unrolled) (functions-end left (k .before) (placedOf text t) following (64 - count)
+      (end-same text (t .place) (t .past) (t .token) ∙ e)))
       (record { at = at; went = k .went; entries = k .entries; names = k .names; count = k .counted; stand = k .stand })
 
   -- the function that comes next, by the names before it
@@ -295,11 +306,13 @@ module _ {text start tape names : List ℕ} {at words count left : ℕ} {t : Cod
       ∙ ap (λ (known : List Name). Reading.parseFunction (nameFault count known) left (stream text Tokens.outside (t .place))) (k .names)
 
 -- another function comes after those
-pub record Another {text start tape names : List ℕ} {at words count left : ℕ} (others : Functioned text start tape names at words count left) (t : Code.Placed) : Type 0 where
+pub record Another {text start tape names : List ℕ} {at words count left : ℕ} (others : Functioned text start tape names at words count left)
+    (t : Code.Placed) : Type 0 where
   pub comes : Comes text Tokens.outside at t
   pub is : isEnd (t .token) ≡ false
 
-module _ {text start tape names : List ℕ} {at words count left : ℕ} {k : Functioned text start tape names at words count left} {t : Code.Placed} (n : Another k t) where
+module _ {text start tape names : List ℕ} {at words count left : ℕ} {k : Functioned text start tape names at words count left} {t : Code.Placed}
+    (n : Another k t) where
   opening : Opening text names count words t
   opening =
       record {
@@ -312,7 +325,8 @@ module _ {text start tape names : List ℕ} {at words count left : ℕ} {k : Fun
   not-end : Reading.isTextEnd (tokenOf text (t .token) (t .place) (t .past)) ≡ false
   not-end = end-same text (t .place) (t .past) (t .token) ∙ n .is
 
-  function-stops : {tape′ names′ : List ℕ} {fault : Fault} {r : ParsedSentences} → FunctionAgrees text names count left words t tape tape′ names′ r → r ≡ Stopped fault
+  function-stops : {tape′ names′ : List ℕ} {fault : Fault} {r : ParsedSentences} → FunctionAgrees text names count left words t tape tape′ names′ r →
+      r ≡ Stopped fault
       → FunctionsAgree text start tape′ names′ (StoppedTable fault)
   function-stops a q =
       let c = n .comes in
@@ -334,7 +348,8 @@ pub record OneMore (text start tape₁ names₁ : List ℕ) (count : ℕ) (p : S
   pub next : Another others token
   pub read : ReadAt (DeclaredRead text left (token .place) words count tape tape₁ names names₁) (nextFunction others (next .comes)) p
 
-one-more : {text start tape names tape₁ names₁ : List ℕ} {at words count left : ℕ} {k : Functioned text start tape names at words count left} {t : Code.Placed}
+one-more : {text start tape names tape₁ names₁ : List ℕ} {at words count left : ℕ} {k : Functioned text start tape names at words count left}
+    {t : Code.Placed}
     {p : SentencesEnd} {r : ParsedSentences} → Another k t
     → FunctionAgrees text names count left words t tape tape₁ names₁ r
     → r ≡ Done p
@@ -358,12 +373,15 @@ module _ {text start tape₁ names₁ : List ℕ} {count : ℕ} {p : SentencesEn
   room-before = omega (arith, o .read .how .entries .inside, o .read .how .long)
 
   at-next : functionsOf text
-      ≡ Reading.parseFunctions (64 - (count + 1)) (p .left) (o .others .before ++ o .read .value ∷ []) (Reading.passSpare (stream text Tokens.outside (p .at)))
+      ≡ Reading.parseFunctions (64 - (count + 1)) (p .left) (o .others .before ++ o .read .value ∷ [])
+      (Reading.passSpare (stream text Tokens.outside (p .at)))
   at-next =
       let c = o .next .comes in
       let t = placedOf text (o .token) in
-      let q : Reading.parseFunction (Reading.declaredFault (o .others .before)) (o .left) (t ∷ following (o .others) c) ≡ parsed (o .read .value) (o .read .rest) =
-      fault-is (o .left) (o .others .before) t (following (o .others) c) count (lt-ltb count 64 room-before) ∙ (rw (c .unrolled) at (next-is (o .others) c ∙ o .read .same))
+      let q : Reading.parseFunction (Reading.declaredFault (o .others .before)) (o .left) (t ∷ following (o .others) c) ≡
+      parsed (o .read .value) (o .read .rest) =
+      fault-is (o .left) (o .others .before) t (following (o .others) c) count (lt-ltb count 64 room-before) ∙
+      (rw (c .unrolled) at (next-is (o .others) c ∙ o .read .same))
       in
       let n : 64 - count ≡ suc (64 - (count + 1)) = omega (arith, room-before) in
       let l : o .left - length (o .read .value .sentences) ≡ p .left = omega (arith, o .read .how .read .left) in
@@ -391,10 +409,12 @@ module _ {text start tape₁ names₁ : List ℕ} {count : ℕ} {p : SentencesEn
 -- STAGES
 
 -- what is over stays so
-pub stage-over : {text tape names : List ℕ} {at : ℕ} {stage : Stage} {p : ParsedTable} → stage ≡ Over p → Declares text tape names at stage tape names at stage
+pub stage-over : {text tape names : List ℕ} {at : ℕ} {stage : Stage} {p : ParsedTable} → stage ≡ Over p →
+    Declares text tape names at stage tape names at stage
 stage-over e = record { keeps = λ start s. s; falls = λ o. absurd (false≢true (rw e at o)) }
 
-pub place-inside : {text tape names : List ℕ} {at : ℕ} {stage : Stage} {n : Tally} → Underway text tape names at stage → stage ≡ Onward n → at ≤ length text
+pub place-inside : {text tape names : List ℕ} {at : ℕ} {stage : Stage} {n : Tally} → Underway text tape names at stage → stage ≡ Onward n →
+    at ≤ length text
 place-inside u e = (rw e at (u .is)) .went .inside
 
 -- more may come, and a token does
@@ -430,21 +450,23 @@ module _ {text tape names : List ℕ} {at : ℕ} {stage : Stage} {n : Tally} {t 
     pub stage-opening : Opening text names (n .functions) (n .words) t
     stage-opening = opening (another so-far)
 
-    module _ {tape′ names′ : List ℕ} {r : ParsedSentences} (a : FunctionAgrees text names (n .functions) (n .left) (n .words) t tape tape′ names′ r) where
-      pub stage-stops : {fault : Fault} → r ≡ Stopped fault → Changed tape′ names′ at (Over (StoppedTable fault))
-      stage-stops q = ends-with (λ start f. function-stops (another f) a q)
+    module _ {tape′ names′ : List ℕ} {r : ParsedSentences} (a : FunctionAgrees text names (n .functions) (n .left) (n .words) t tape tape′ names′ r)
+      where
+        pub stage-stops : {fault : Fault} → r ≡ Stopped fault → Changed tape′ names′ at (Over (StoppedTable fault))
+        stage-stops q = ends-with (λ start f. function-stops (another f) a q)
 
-      module _ {p : SentencesEnd} (q : r ≡ Done p) where
-        more : {start : List ℕ} → Functioned text start tape names at (n .words) (n .functions) (n .left) → OneMore text start tape′ names′ (n .functions) p
-        more f = one-more (another f) a q
+        module _ {p : SentencesEnd} (q : r ≡ Done p) where
+          more : {start : List ℕ} → Functioned text start tape names at (n .words) (n .functions) (n .left) →
+              OneMore text start tape′ names′ (n .functions) p
+          more f = one-more (another f) a q
 
-        pub stage-inside : p .at ≤ length text
-        stage-inside = more so-far .read .how .read .went .inside
+          pub stage-inside : p .at ≤ length text
+          stage-inside = more so-far .read .how .read .went .inside
 
-        pub stage-few : n .functions < 64
-        stage-few = room-before (more so-far)
+          pub stage-few : n .functions < 64
+          stage-few = room-before (more so-far)
 
-        pub stage-goes : {at′ : ℕ} → SpareTo text (p .at) at′
-            → Changed tape′ names′ at′ (Onward (record { words = p .words; functions = n .functions + 1; left = p .left }))
-        stage-goes s =
-            record { keeps = λ start f. function-goes (more (functioned f)) s; falls = λ o. rw (k .onward) (omega (arith, stage-few)) }
+          pub stage-goes : {at′ : ℕ} → SpareTo text (p .at) at′
+              → Changed tape′ names′ at′ (Onward (record { words = p .words; functions = n .functions + 1; left = p .left }))
+          stage-goes s =
+              record { keeps = λ start f. function-goes (more (functioned f)) s; falls = λ o. rw (k .onward) (omega (arith, stage-few)) }

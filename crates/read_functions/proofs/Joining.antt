@@ -37,7 +37,8 @@ use Rattle.read_bookkeeping.proofs.Items.{identifier-inside}
 use Rattle.read_functions.proofs.Onward.{going-after}
 
 -- an item with a fault
-wrongs : {text : Bytes} {table : List ℕ} {symbols parts : ℕ} {s : ExpressionCounts} {tape : List ℕ} {item : Item} {past : ℕ} {tape′ : List ℕ} {answer : Answer}
+wrongs : {text : Bytes} {table : List ℕ} {symbols parts : ℕ} {s : ExpressionCounts} {tape : List ℕ} {item : Item} {past : ℕ} {tape′ : List ℕ}
+    {answer : Answer}
     → eqb (numberOf answer) 0 ≡ false
     → Reading.itemFault (symbolNames text table symbols) (progressAt text table parts s) item ≡ numberOf answer
     → JoinsItem text table symbols parts s tape item past tape′ (Wrong answer)
@@ -54,8 +55,10 @@ module _ {text : Bytes} {table : List ℕ} {symbols parts : ℕ} {s : Expression
   string-many w = wrongs refl (rw (p .1 .counted, lt-leb (s .items + count) 128 w))
 
   pub string-joined : s .items + count ≤ 128 → {tape tape′ : List ℕ} {words : ℕ}
-      → Wrote tape (s .words) (charactersIn (stringFrom text (place + 1))) words tape′ × T (every isQuiet (charactersIn (stringFrom text (place + 1))))
-      → JoinsItem text table symbols parts s tape string past tape′ (Taken (record { at = past; words = words; items = s .items + count; passed = s .passed }))
+      → Wrote tape (s .words) (charactersIn (stringFrom text (place + 1))) words tape′ ×
+      T (every isQuiet (charactersIn (stringFrom text (place + 1))))
+      → JoinsItem text table symbols parts s tape string past tape′
+      (Taken (record { at = past; words = words; items = s .items + count; passed = s .passed }))
   string-joined few w =
       let g = p .0 in
       let o = string-went (g .ready) (p .1) (w .0) in
@@ -87,12 +90,14 @@ module _ {text : Bytes} {table : List ℕ} {symbols parts : ℕ} {s : Expression
   many {is = false} e m = rw e
 
   pub variable-many : {item : Item}
-      → (both short (leb (s .items + 1) 128) ≡ false → Reading.itemFault (symbolNames text table symbols) (progressAt text table parts s) item ≡ overLimit)
+      → (both short (leb (s .items + 1) 128) ≡ false → Reading.itemFault (symbolNames text table symbols) (progressAt text table parts s) item ≡
+      overLimit)
       → 128 ≤ s .items
       → {tape tape′ : List ℕ} → JoinsItem text table symbols parts s tape item (x .past) tape′ (Wrong OverLimit)
   variable-many limited m = wrongs refl (limited (many refl m))
 
-  pub part-long : 8 < x .past - x .from → {tape tape′ : List ℕ} → JoinsItem text table symbols parts s tape (partItem name) (x .past) tape′ (Wrong OverLimit)
+  pub part-long : 8 < x .past - x .from → {tape tape′ : List ℕ} →
+      JoinsItem text table symbols parts s tape (partItem name) (x .past) tape′ (Wrong OverLimit)
   part-long l = wrongs refl (rw (too-long text x (identifier-inside (p .1)) 8 l))
 
   few-items : s .items < 128 → leb (s .items + 1) 128 ≡ true
@@ -111,14 +116,17 @@ module _ {text : Bytes} {table : List ℕ} {symbols parts : ℕ} {s : Expression
   symbol-bad m e w = wrongs w (symbol-like m refl ∙ sym e)
 
   -- a variable that has no fault, as an item of a kind
-  variable-joined : s .items < 128 → x .past - x .from ≤ 8 → (item : Item) (kind : ℕ) → itemTape item ≡ named kind name → kind ≤ 2 → {passed : ℕ} → passed ≤ parts
+  variable-joined : s .items < 128 → x .past - x .from ≤ 8 → (item : Item) (kind : ℕ) → itemTape item ≡ named kind name → kind ≤ 2 → {passed : ℕ} →
+      passed ≤ parts
       → Reading.itemFault (symbolNames text table symbols) (progressAt text table parts s) item ≡ 0
-      → Reading.pastItem item (progressAt text table parts s) ≡ record { items = s .items + 1; coming = tableNames text table (16 + passed) (16 + parts) }
+      → Reading.pastItem item (progressAt text table parts s) ≡
+      record { items = s .items + 1; coming = tableNames text table (16 + passed) (16 + parts) }
       → {tape tape′ : List ℕ} {next : ExpressionCounts} → VariableTaken text s x (kind * 256) passed tape tape′ next
       → JoinsItem text table symbols parts s tape item (x .past) tape′ (Taken next)
   variable-joined m brief item kind q low h f e {tape} {tape′} {next} v =
       let g = p .0 in
-      let o : Went text (s .at) (s .words) tape (x .past) (next .words) tape′ (itemTape item) = rw q (variable-went (g .ready) (p .1) kind refl (v .wrote)) in
+      let o : Went text (s .at) (s .words) tape (x .past) (next .words) tape′ (itemTape item) =
+      rw q (variable-went (g .ready) (p .1) kind refl (v .wrote)) in
       record {
         gives =
             rw (v .same)
@@ -136,7 +144,8 @@ module _ {text : Bytes} {table : List ℕ} {symbols parts : ℕ} {s : Expression
       → VariableTaken text s x 256 (s .passed) tape tape′ next
       → JoinsItem text table symbols parts s tape (symbolItem name) (x .past) tape′ (Taken next)
   symbol-joined m f v =
-      variable-joined m (within text x (identifier-inside (p .1)) 8 3 _ f) (symbolItem name) 1 refl (omega arith) (p .0 .passed) (symbol-like m refl ∙ f) refl v
+      variable-joined m (within text x (identifier-inside (p .1)) 8 3 _ f) (symbolItem name) 1 refl (omega arith) (p .0 .passed)
+      (symbol-like m refl ∙ f) refl v
 
   -- the entries of e-variables that may still come
   pub coming-entries : Entries text table (16 + s .passed) (16 + parts)
@@ -149,49 +158,53 @@ pub record Sought (text : Bytes) (table : List ℕ) (symbols parts : ℕ) (s : E
   pub brief : x .past - x .from ≤ 8
   pub found : r ≡ 16 + s .passed + position (View.part text x) (progressAt text table parts s .coming)
 
-module _ {text : Bytes} {table : List ℕ} {symbols parts : ℕ} {s : ExpressionCounts} {x : Span} {r : ℕ} (q : Sought text table symbols parts s x r) where
-  abbrev sought : Name
-  sought = View.part text x
+module _ {text : Bytes} {table : List ℕ} {symbols parts : ℕ} {s : ExpressionCounts} {x : Span} {r : ℕ} (q : Sought text table symbols parts s x r)
+  where
+    abbrev sought : Name
+    sought = View.part text x
 
-  abbrev those : List Name
-  those = progressAt text table parts s .coming
+    abbrev those : List Name
+    those = progressAt text table parts s .coming
 
-  passed : s .passed ≤ parts
-  passed = q .here .0 .passed
+    passed : s .passed ≤ parts
+    passed = q .here .0 .passed
 
-  after-it : comingAfter sought those ≡ pick (ltb (position sought those) (parts - s .passed)) (some (drop (suc (position sought those)) those)) none
-  after-it =
-      let count : length those ≡ parts - s .passed =
-      table-length text table (16 + s .passed) (16 + parts) (coming-entries (q .here)) ∙ omega (arith, passed)
-      in
-      position-coming sought those ∙ rw count
+    after-it : comingAfter sought those ≡
+        pick (ltb (position sought those) (parts - s .passed)) (some (drop (suc (position sought those)) those)) none
+    after-it =
+        let count : length those ≡ parts - s .passed =
+        table-length text table (16 + s .passed) (16 + parts) (coming-entries (q .here)) ∙ omega (arith, passed)
+        in
+        position-coming sought those ∙ rw count
 
-  known : r < 16 + parts → comingAfter sought those ≡ some (drop (suc (position sought those)) those)
-  known h = after-it ∙ rw (lt-ltb (position sought those) (parts - s .passed) (omega (arith, passed, q .found)))
+    known : r < 16 + parts → comingAfter sought those ≡ some (drop (suc (position sought those)) those)
+    known h = after-it ∙ rw (lt-ltb (position sought those) (parts - s .passed) (omega (arith, passed, q .found)))
 
-  unknown : 16 + parts ≤ r → comingAfter sought those ≡ none
-  unknown h = after-it ∙ rw (le-ltb (position sought those) (parts - s .passed) (omega (arith, passed, q .found)))
+    unknown : 16 + parts ≤ r → comingAfter sought those ≡ none
+    unknown h = after-it ∙ rw (le-ltb (position sought those) (parts - s .passed) (omega (arith, passed, q .found)))
 
-  fault-is : {is : Bool} → isSome (comingAfter sought those) ≡ is
-      → Reading.itemFault (symbolNames text table symbols) (progressAt text table parts s) (partItem sought) ≡ faultUnless is wrongLaterVariable 0
-  fault-is e = rw (short-enough text x (identifier-inside (q .here .1)) 8 (q .brief), few-items (q .here) (q .few), e)
+    fault-is : {is : Bool} → isSome (comingAfter sought those) ≡ is
+        → Reading.itemFault (symbolNames text table symbols) (progressAt text table parts s) (partItem sought) ≡ faultUnless is wrongLaterVariable 0
+    fault-is e = rw (short-enough text x (identifier-inside (q .here .1)) 8 (q .brief), few-items (q .here) (q .few), e)
 
-  pub part-unknown : 16 + parts ≤ r → {tape tape′ : List ℕ} → JoinsItem text table symbols parts s tape (partItem sought) (x .past) tape′ (Wrong WrongLaterVariable)
-  part-unknown h = wrongs refl (fault-is {is = false} (rw (unknown h)))
+    pub part-unknown : 16 + parts ≤ r → {tape tape′ : List ℕ} →
+        JoinsItem text table symbols parts s tape (partItem sought) (x .past) tape′ (Wrong WrongLaterVariable)
+    part-unknown h = wrongs refl (fault-is {is = false} (rw (unknown h)))
 
-  pub part-joined : r < 16 + parts → {tape tape′ : List ℕ} {next : ExpressionCounts} → VariableTaken text s x 512 (r - 15) tape tape′ next
-      → JoinsItem text table symbols parts s tape (partItem sought) (x .past) tape′ (Taken next)
-  part-joined h v =
-      let n : 16 + (r - 15) ≡ 16 + s .passed + suc (position sought those) = omega (arith, q .found) in
-      variable-joined (q .here) (q .few) (q .brief) (partItem sought) 2 refl (omega arith) (omega arith)
-      (fault-is {is = true} (rw (known h)))
-      (rw (known h, n, names-later text table (16 + s .passed) (16 + parts) (suc (position sought those))))
-      v
+    pub part-joined : r < 16 + parts → {tape tape′ : List ℕ} {next : ExpressionCounts} → VariableTaken text s x 512 (r - 15) tape tape′ next
+        → JoinsItem text table symbols parts s tape (partItem sought) (x .past) tape′ (Taken next)
+    part-joined h v =
+        let n : 16 + (r - 15) ≡ 16 + s .passed + suc (position sought those) = omega (arith, q .found) in
+        variable-joined (q .here) (q .few) (q .brief) (partItem sought) 2 refl (omega arith) (omega arith)
+        (fault-is {is = true} (rw (known h)))
+        (rw (known h, n, names-later text table (16 + s .passed) (16 + parts) (suc (position sought those))))
+        v
 
 -- TOKENS
 
 -- what comes of the item comes of the token
-pub joins : {text : Bytes} {table : List ℕ} {symbols parts : ℕ} {s : ExpressionCounts} {tape : List ℕ} {t : Placed} {item : Item} {past : ℕ} {tape′ : List ℕ} {r : Joined}
+pub joins : {text : Bytes} {table : List ℕ} {symbols parts : ℕ} {s : ExpressionCounts} {tape : List ℕ} {t : Placed} {item : Item} {past : ℕ}
+    {tape′ : List ℕ} {r : Joined}
     → ItemHere text t item past → JoinsItem text table symbols parts s tape item past tape′ r
     → JoinsToken text table symbols parts s tape t tape′ r
 joins {text} {table} {symbols} {parts} {s} {tape} {t} {item} {past} {tape′} {r} h a = record { gives = gives r (a .gives) }

@@ -9,7 +9,8 @@ use Rattle.read_bookkeeping.proofs.Going.{ready-after}
 
 module _ {text : Bytes} {table : List ℕ} {symbols parts : ℕ} {s : ExpressionCounts} (g : Going text table symbols parts s) where
   -- with no item more
-  pub going-on : {at words : ℕ} → Ready text at words → Going text table symbols parts (record { at = at; words = words; items = s .items; passed = s .passed })
+  pub going-on : {at words : ℕ} → Ready text at words →
+      Going text table symbols parts (record { at = at; words = words; items = s .items; passed = s .passed })
   going-on r = record { variables = g .variables; passed = g .passed; few = g .few; ready = r }
 
   -- after what was read

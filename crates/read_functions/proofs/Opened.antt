@@ -49,7 +49,8 @@ module _ (depth items : ℕ) where
   pub too-many : 128 ≤ items → both (ltb depth 16) (leb (items + 1) 128) ≡ false
   too-many h = rw (lt-leb (items + 1) 128 (omega arith)) (sym (both-false (ltb depth 16) refl))
 
-pub call-limited : (text : Bytes) (depth : ℕ) (s : ExpressionCounts) (place : ℕ) {tape tape′ : List ℕ} → both (ltb depth 16) (leb (s .items + 1) 128) ≡ false
+pub call-limited : (text : Bytes) (depth : ℕ) (s : ExpressionCounts) (place : ℕ) {tape tape′ : List ℕ} →
+    both (ltb depth 16) (leb (s .items + 1) 128) ≡ false
     → OpeningAgrees text depth s place tape tape′ (Stopped (faultAt OverLimit place))
 call-limited text depth s place e = stops-by refl (rw e)
 
@@ -72,23 +73,28 @@ module _ {text : Bytes} {depth : ℕ} {s : ExpressionCounts} {place : ℕ} {t : 
   call-nameless n f = refused-by refl (k .comes) (at-name ∙ names-not (k .comes) _ _ n) f
 
 -- the token is a name
-pub record CallName {text : Bytes} {depth : ℕ} {s : ExpressionCounts} {place : ℕ} {t : Code.Placed} (call : CallComes text depth s place t) (n : Span) : Type 0 where
+pub record CallName {text : Bytes} {depth : ℕ} {s : ExpressionCounts} {place : ℕ} {t : Code.Placed} (call : CallComes text depth s place t)
+    (n : Span) : Type 0 where
   pub is : t .token ≡ NameToken n
 
-module _ {text : Bytes} {depth : ℕ} {s : ExpressionCounts} {place : ℕ} {t : Code.Placed} {call : CallComes text depth s place t} {n : Span} (m : CallName call n) where
+module _ {text : Bytes} {depth : ℕ} {s : ExpressionCounts} {place : ℕ} {t : Code.Placed} {call : CallComes text depth s place t} {n : Span}
+    (m : CallName call n) where
   pub named-here : NameFirst text Tokens.naming (s .at) t n
   named-here = name-first (call .comes) (m .is)
 
-  pub call-misnamed : {tape tape′ : List ℕ} {answer : Answer} → numberOf answer ≡ Reading.calledFault (View.part text n) → eqb (numberOf answer) 0 ≡ false
+  pub call-misnamed : {tape tape′ : List ℕ} {answer : Answer} → numberOf answer ≡ Reading.calledFault (View.part text n) → eqb (numberOf answer) 0 ≡
+      false
       → OpeningAgrees text depth s place tape tape′ (Stopped (faultAt answer (t .place)))
   call-misnamed {answer = answer} f w =
       stops-by refl (at-name call ∙ rw (named-here .unrolled, ← f) (check-wrong (numberOf answer) _ _ w))
 
 -- it has no fault
-pub record CallNamed {text : Bytes} {depth : ℕ} {s : ExpressionCounts} {place : ℕ} {t : Code.Placed} {call : CallComes text depth s place t} {n : Span} (name : CallName call n) : Type 0 where
+pub record CallNamed {text : Bytes} {depth : ℕ} {s : ExpressionCounts} {place : ℕ} {t : Code.Placed} {call : CallComes text depth s place t}
+    {n : Span} (name : CallName call n) : Type 0 where
   pub sound : Reading.calledFault (View.part text n) ≡ 0
 
-module _ {text : Bytes} {depth : ℕ} {s : ExpressionCounts} {place : ℕ} {t : Code.Placed} {call : CallComes text depth s place t} {n : Span} {name : CallName call n}
+module _ {text : Bytes} {depth : ℕ} {s : ExpressionCounts} {place : ℕ} {t : Code.Placed} {call : CallComes text depth s place t} {n : Span}
+    {name : CallName call n}
     (m : CallNamed name) where
   abbrev here : NameFirst text Tokens.naming (s .at) t n
   here = named-here name
@@ -123,7 +129,8 @@ module _ {text : Bytes} {depth : ℕ} {s : ExpressionCounts} {place : ℕ} {t : 
       → OpeningAgrees text depth s place tape tape′ (Done (record { at = t .past; words = words; items = s .items + 1; passed = s .passed }))
   call-opens w =
       let k = call .comes in
-      reads-by refl (record { place = t .place; name = View.part text n }) (stream text Tokens.inside (t .past)) (at-name call ∙ rw (here .unrolled, m .sound))
+      reads-by refl (record { place = t .place; name = View.part text n }) (stream text Tokens.inside (t .past))
+      (at-name call ∙ rw (here .unrolled, m .sound))
       (record {
         tokens = refl;
         shorter = rw (here .unrolled) (omega arith);

@@ -41,7 +41,8 @@ use Rattle.read_conditions.specs.Conditions.{ConditionsRead}
 use Rattle.read_functions.specs.Expressions.{Going, faultAt, withoutCounts}
 use Rattle.read_functions.specs.Sentences.{fromEquals, EqualsRead, SentenceRead, beginsSentence, sentenceOf, firstSentence, FirstRead, Follows}
 use Rattle.read_bookkeeping.proofs.Items.{variable-of, variable-at}
-use Rattle.read_bookkeeping.proofs.Going.{stops, reads, ReadAt, has-read, follow-same, pass-follow, follow-alone, makes, went-from, went-then, word-went, ready-after, stops-too}
+use Rattle.read_bookkeeping.proofs.Going.{stops, reads, ReadAt, has-read, follow-same, pass-follow, follow-alone, makes, went-from, went-then}
+use Rattle.read_bookkeeping.proofs.Going.{word-went, ready-after, stops-too}
 use Rattle.read_bookkeeping.proofs.Tokening.{fault-same, sign-shown, passes-on, refused, FaultOf}
 use Rattle.read_bookkeeping.proofs.Refusing.{word-at-once, word-after, word-after-pass, word-after-made}
 use Rattle.read_functions.proofs.Calling.{ExpressionAgrees}
@@ -58,7 +59,8 @@ noBeginning = 0 ∷ 3 ∷ 6 ∷ 7 ∷ []
 pub begins-other : (t : Token) → OneOf noBeginning (tagOf token.the-type t) → false ≡ beginsSentence t
 begins-other =
     by-kind (λ t. OneOf noBeginning (tagOf token.the-type t) → false ≡ beginsSentence t) (λ n o. refl) (λ x o. absurd (miss noBeginning 1 tt o))
-    (λ x o. absurd (miss noBeginning 2 tt o)) (λ o. refl) (λ n o. absurd (miss noBeginning 4 tt o)) (λ b o. absurd (miss noBeginning 5 tt o)) (λ o. refl) (λ o. refl)
+    (λ x o. absurd (miss noBeginning 2 tt o)) (λ o. refl) (λ n o. absurd (miss noBeginning 4 tt o)) (λ b o. absurd (miss noBeginning 5 tt o))
+    (λ o. refl) (λ o. refl)
 
 pub begins-same : {text : Bytes} {mode : Tokens.Mode} {at : ℕ} {t : Code.Placed} → Comes text mode at t
     → Reading.begins (tokenOf text (t .token) (t .place) (t .past)) ≡ beginsSentence (t .token)
@@ -73,12 +75,19 @@ module _ {text : Bytes} {from : ℕ} where
   pub ends-at-once : {past : ℕ} → Taken text Tokens.inside 125 from past → Follows text from (Ends past)
   ends-at-once k = record { gives = (λ more s. rw (k .unrolled), k .onward, k .inside) }
 
-  pub follows-nothing : {t : Code.Placed} {fault : Fault} → Comes text Tokens.inside from t → signIs 125 (t .token) ≡ false → signIs 59 (t .token) ≡ false
+  pub follows-nothing : {t : Code.Placed} {fault : Fault} → Comes text Tokens.inside from t → signIs 125 (t .token) ≡ false → signIs 59 (t .token) ≡
+      false
       → FaultOf t fault
       → Follows text from (Refused fault)
   follows-nothing {t} c e d f =
       record {
-        gives = λ more s. rw (c .unrolled, sign-shown text t 125 e, sign-shown text t 59 d, f .0 ∙ fault-same text (t .place) (t .past) (t .token), f .1);
+        gives = λ more s. rw (
+          c .unrolled,
+          sign-shown text t 125 e,
+          sign-shown text t 59 d,
+          f .0 ∙ fault-same text (t .place) (t .past) (t .token),
+          f .1,
+        );
       }
 
   module _ {next : ℕ} (k : Taken text Tokens.inside 59 from next) where
@@ -102,7 +111,8 @@ expressionStart at words = record { at = at; words = words + 1; items = 0; passe
 
 abbrev EqualsAgrees : Bytes → List ℕ → ℕ → ℕ → ℕ → ℕ → List ℕ → List ℕ → CodeParsed → Type 0
 EqualsAgrees text table symbols parts from words tape tape′ r =
-    Agrees (EqualsRead text from words tape tape′) (fromEquals (symbolNames text table symbols) (partNames text table parts) (stream text Tokens.inside from)) r
+    Agrees (EqualsRead text from words tape tape′) (fromEquals (symbolNames text table symbols) (partNames text table parts)
+    (stream text Tokens.inside from)) r
 
 -- the `=` was passed
 pub record AfterEquals (text : Bytes) (from words at : ℕ) : Type 0 where
@@ -186,7 +196,8 @@ pub record AfterPattern (text : Bytes) (from words : ℕ) (tape table tape₁ : 
   pub read : ReadAt (PatternRead text from words tape table tape₁) (unlessWord (Reading.parsePattern [] (stream text Tokens.inside from))) p
 
 -- the conditions were read after it
-pub record AfterConditions {text : Bytes} {from words : ℕ} {tape table tape₁ : List ℕ} {p : Counts} (pattern : AfterPattern text from words tape table tape₁ p) (tape₂ : List ℕ) (c : Progress) : Type 0 where
+pub record AfterConditions {text : Bytes} {from words : ℕ} {tape table tape₁ : List ℕ} {p : Counts}
+    (pattern : AfterPattern text from words tape table tape₁ p) (tape₂ : List ℕ) (c : Progress) : Type 0 where
   pub read : ReadAt (ConditionsRead text (p .at) (p .words) tape₁ tape₂) (conditionsAt text table p) c
 
 module _ {text : Bytes} {from words : ℕ} {tape table tape₁ : List ℕ} {r : ParsedPattern}
@@ -219,7 +230,8 @@ module _ {text : Bytes} {from words : ℕ} {tape table tape₁ : List ℕ} {p : 
     pub conditions-done : {c : Progress} → r ≡ Done c → AfterConditions k tape₂ c
     conditions-done e = record { read = has-read _ _ refl (rw e at a) }
 
-module _ {text : Bytes} {from words : ℕ} {tape table tape₁ : List ℕ} {p : Counts} {k : AfterPattern text from words tape table tape₁ p} {tape₂ : List ℕ} {c : Progress}
+module _ {text : Bytes} {from words : ℕ} {tape table tape₁ : List ℕ} {p : Counts} {k : AfterPattern text from words tape table tape₁ p}
+    {tape₂ : List ℕ} {c : Progress}
     (l : AfterConditions k tape₂ c) where
   pub conditions-ready : Ready text (c .at) (c .words)
   conditions-ready = ready-after (k .ready .short) (l .read .how .went)
@@ -239,7 +251,8 @@ module _ {text : Bytes} {from words : ℕ} {tape table tape₁ : List ℕ} {p : 
 
 -- THE NEXT SENTENCE
 
-sentence-of : (left : ℕ) (t : Tokens.Placed) (ts : List Tokens.Placed) → (left ≡ 0 → ⊥) → sentenceOf left t ts ≡ unlessWord (Reading.parseSentence (t ∷ ts))
+sentence-of : (left : ℕ) (t : Tokens.Placed) (ts : List Tokens.Placed) → (left ≡ 0 → ⊥) → sentenceOf left t ts ≡
+    unlessWord (Reading.parseSentence (t ∷ ts))
 sentence-of zero t ts h = absurd (h refl)
 sentence-of (suc left) t ts h = refl
 

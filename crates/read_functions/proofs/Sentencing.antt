@@ -24,7 +24,8 @@ use Rattle.read_bookkeeping.specs.Answered.{parsedOutcome, AgreesBy, Agrees}
 use Rattle.read_bookkeeping.specs.Written.{Ready, Went}
 use Rattle.read_functions.specs.Sentences.{Each, SentenceStands, sentenceOf, firstSentence, FirstRead, Follows, SentencesRead, sentencesOutcome}
 use Rattle.read_bookkeeping.proofs.Refusing.{word-at-once}
-use Rattle.read_bookkeeping.proofs.Going.{stops-by, reads-by, ReadAt, has-read, follow-alone, behind, behind-more, went-none, went-then, word-went, ready-after, stops-too}
+use Rattle.read_bookkeeping.proofs.Going.{stops-by, reads-by, ReadAt, has-read, follow-alone, behind, behind-more, went-none, went-then, word-went}
+use Rattle.read_bookkeeping.proofs.Going.{ready-after, stops-too}
 
 -- it holds of none, of these and those, and of one more
 pub each-none : {A : Type 0} (holds : A → Type 0) → Each holds []
@@ -58,7 +59,8 @@ sentences-are (suc left) (t ∷ ts) =
     let e : suc left - 1 ≡ left = omega arith in
     let after = afterSentence (Reading.parseSentences left) in
     rw e
-    (ap (λ (p : Parsed (List Sentence)). whether (Reading.begins (t .token)) t p) (word-at-once (Reading.parseSentence (t ∷ ts)) after (λ s w place past rest. refl))
+    (ap (λ (p : Parsed (List Sentence)). whether (Reading.begins (t .token)) t p)
+    (word-at-once (Reading.parseSentence (t ∷ ts)) after (λ s w place past rest. refl))
     ∙ whether-follow (Reading.begins (t .token)) t (sentenceOf (suc left) t ts) after)
 
 -- THE TAPE
@@ -99,7 +101,8 @@ parted-none = refl
 -- the sentences from the start are those from here with these before them
 pub record Sentenced (text start : List ℕ) (limit from words : ℕ) (tape : List ℕ) (at to left : ℕ) : Type 0 where
   pub before : List Sentence
-  pub same : Reading.parseSentences limit (stream text Tokens.inside from) ≡ follow (Reading.parseSentences left (stream text Tokens.inside at)) (behind before)
+  pub same : Reading.parseSentences limit (stream text Tokens.inside from) ≡
+      follow (Reading.parseSentences left (stream text Tokens.inside at)) (behind before)
   pub went : Went text from words start at to tape (partedTape before)
   pub counted : left + length before ≡ limit
   pub stand : Each (SentenceStands text) before
@@ -109,7 +112,8 @@ abbrev SentencesAgree : Bytes → ℕ → ℕ → ℕ → List ℕ → List ℕ 
 SentencesAgree text limit from words start tape r =
     AgreesBy sentencesOutcome (SentencesRead text limit from words start tape) (Reading.parseSentences limit (stream text Tokens.inside from)) r
 
-pub sentences-start : (text start : List ℕ) (limit from words : ℕ) → Ready text from words → Sentenced text start limit from words start from words limit
+pub sentences-start : (text start : List ℕ) (limit from words : ℕ) → Ready text from words →
+    Sentenced text start limit from words start from words limit
 sentences-start text start limit from words r =
     record {
       before = [];
@@ -120,21 +124,22 @@ sentences-start text start limit from words r =
       short = r .short;
     }
 
-module _ {text start : List ℕ} {limit from words : ℕ} {tape : List ℕ} {at to left : ℕ} (k : Sentenced text start limit from words tape at to left) where
-  pub next-ready : Ready text at to
-  next-ready = ready-after (k .short) (k .went)
+module _ {text start : List ℕ} {limit from words : ℕ} {tape : List ℕ} {at to left : ℕ} (k : Sentenced text start limit from words tape at to left)
+  where
+    pub next-ready : Ready text at to
+    next-ready = ready-after (k .short) (k .went)
 
-  at-sentence : Reading.parseSentences limit (stream text Tokens.inside from)
-      ≡ follow
-      (follow (firstSentence left (stream text Tokens.inside at)) (λ s rest. afterSentence (Reading.parseSentences (left - 1)) s rest))
-      (behind (k .before))
-  at-sentence = k .same ∙ rw (sentences-are left (stream text Tokens.inside at))
+    at-sentence : Reading.parseSentences limit (stream text Tokens.inside from)
+        ≡ follow
+        (follow (firstSentence left (stream text Tokens.inside at)) (λ s rest. afterSentence (Reading.parseSentences (left - 1)) s rest))
+        (behind (k .before))
+    at-sentence = k .same ∙ rw (sentences-are left (stream text Tokens.inside at))
 
-  pub sentence-stops : {tape′ : List ℕ} {r : CodeParsed} {fault : Fault}
-      → Agrees (FirstRead text left at to tape tape′) (firstSentence left (stream text Tokens.inside at)) r
-      → r ≡ StoppedOne fault
-      → SentencesAgree text limit from words start tape′ (Stopped fault)
-  sentence-stops a e = stops-too a (ap parsedOutcome e) refl (λ h. at-sentence ∙ rw h)
+    pub sentence-stops : {tape′ : List ℕ} {r : CodeParsed} {fault : Fault}
+        → Agrees (FirstRead text left at to tape tape′) (firstSentence left (stream text Tokens.inside at)) r
+        → r ≡ StoppedOne fault
+        → SentencesAgree text limit from words start tape′ (Stopped fault)
+    sentence-stops a e = stops-too a (ap parsedOutcome e) refl (λ h. at-sentence ∙ rw h)
 
 -- a sentence was read after those
 pub record OneMore (text start : List ℕ) (limit from words left : ℕ) (tape₁ : List ℕ) (s : Progress) : Type 0 where
@@ -151,43 +156,46 @@ pub one-more : {text start : List ℕ} {limit from words : ℕ} {tape : List ℕ
     → OneMore text start limit from words left tape₁ s
 one-more k e a = record { tape = _; at = _; to = _; others = k; read = has-read _ _ refl (rw e at a) }
 
-module _ {text start : List ℕ} {limit from words left : ℕ} {tape₁ : List ℕ} {s : Progress} (o : OneMore text start limit from words left tape₁ s) where
-  abbrev before : List Sentence
-  before = o .others .before
+module _ {text start : List ℕ} {limit from words left : ℕ} {tape₁ : List ℕ} {s : Progress} (o : OneMore text start limit from words left tape₁ s)
+  where
+    abbrev before : List Sentence
+    before = o .others .before
 
-  abbrev last : Sentence
-  last = o .read .value
+    abbrev last : Sentence
+    last = o .read .value
 
-  abbrev read-so : FirstRead text left (o .at) (o .to) (o .tape) tape₁ last (o .read .rest) s
-  read-so = o .read .how
+    abbrev read-so : FirstRead text left (o .at) (o .to) (o .tape) tape₁ last (o .read .rest) s
+    read-so = o .read .how
 
-  at-sequel : Reading.parseSentences limit (stream text Tokens.inside from)
-      ≡ follow (afterSentence (Reading.parseSentences (left - 1)) (o .read .value) (stream text Tokens.inside (s .at))) (behind (o .others .before))
-  at-sequel = at-sentence (o .others) ∙ rw (o .read .same, read-so .read .tokens)
+    at-sequel : Reading.parseSentences limit (stream text Tokens.inside from)
+        ≡ follow (afterSentence (Reading.parseSentences (left - 1)) (o .read .value) (stream text Tokens.inside (s .at))) (behind (o .others .before))
+    at-sequel = at-sentence (o .others) ∙ rw (o .read .same, read-so .read .tokens)
 
-  -- it was one of those that might come, and the tape is within the text
-  pub some-left : 0 < left
-  some-left = read-so .some
+    -- it was one of those that might come, and the tape is within the text
+    pub some-left : 0 < left
+    some-left = read-so .some
 
-  pub sequel-ready : Ready text (s .at) (s .words)
-  sequel-ready = ready-after (o .others .short) (read-so .read .went)
+    pub sequel-ready : Ready text (s .at) (s .words)
+    sequel-ready = ready-after (o .others .short) (read-so .read .went)
 
-  -- with the word after the sentence
-  sentence-went : (word : ℕ) {tape′ : List ℕ} {further : ℕ} → s .at < further → further ≤ length text → tape′ ≡ set tape₁ (s .words) word
-      → Went text from words start further (s .words + 1) tape′ (partedTape before ++ (sentenceTape last ++ word ∷ []))
-  sentence-went word h i w = went-then (o .others .went) (went-then (read-so .read .went) (word-went sequel-ready h i w))
+    -- with the word after the sentence
+    sentence-went : (word : ℕ) {tape′ : List ℕ} {further : ℕ} → s .at < further → further ≤ length text → tape′ ≡ set tape₁ (s .words) word
+        → Went text from words start further (s .words + 1) tape′ (partedTape before ++ (sentenceTape last ++ word ∷ []))
+    sentence-went word h i w = went-then (o .others .went) (went-then (read-so .read .went) (word-went sequel-ready h i w))
 
-  counted-more : left - 1 + length (before ++ last ∷ []) ≡ limit
-  counted-more = rw (length-append before (last ∷ [])) (omega (arith, o .others .counted, some-left))
+    counted-more : left - 1 + length (before ++ last ∷ []) ≡ limit
+    counted-more = rw (length-append before (last ∷ [])) (omega (arith, o .others .counted, some-left))
 
-  stand-more : Each (SentenceStands text) (before ++ last ∷ [])
-  stand-more = each-more (SentenceStands text) before last (o .others .stand) (read-so .read .stands)
+    stand-more : Each (SentenceStands text) (before ++ last ∷ [])
+    stand-more = each-more (SentenceStands text) before last (o .others .stand) (read-so .read .stands)
 
 -- what comes after it is known
-pub record Sequelled {text start : List ℕ} {limit from words left : ℕ} {tape₁ : List ℕ} {s : Progress} (one : OneMore text start limit from words left tape₁ s) (q : Sequel) : Type 0 where
+pub record Sequelled {text start : List ℕ} {limit from words left : ℕ} {tape₁ : List ℕ} {s : Progress}
+    (one : OneMore text start limit from words left tape₁ s) (q : Sequel) : Type 0 where
   pub follows : Follows text (s .at) q
 
-module _ {text start : List ℕ} {limit from words left : ℕ} {tape₁ : List ℕ} {s : Progress} {one : OneMore text start limit from words left tape₁ s} {q : Sequel} (w : Sequelled one q) where
+module _ {text start : List ℕ} {limit from words left : ℕ} {tape₁ : List ℕ} {s : Progress} {one : OneMore text start limit from words left tape₁ s}
+    {q : Sequel} (w : Sequelled one q) where
   followed : {q′ : Sequel} → q ≡ q′ → Follows text (s .at) q′
   followed e = rw e at (w .follows)
 

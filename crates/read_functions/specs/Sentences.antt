@@ -43,7 +43,8 @@ pub record SentenceStands (text : Bytes) (s : Sentence) : Type 0 where
 -- `sentence` from its `=` on
 abbrev pub fromEquals : List Name → List Name → List Tokens.Placed → Parsed Reading.Items
 fromEquals symbols parts ts =
-    pass 61 ts λ ts₁. unlessWord (Reading.parseExpression (length ts₁) symbols 0 (record { items = 0; coming = parts }) ts₁)
+    pass 61 ts λ ts₁.
+    unlessWord (Reading.parseExpression (length ts₁) symbols 0 (record { items = 0; coming = parts }) ts₁)
 
 -- `=` and an expression were read
 pub record EqualsRead (text : Bytes) (at words : ℕ) (tape tape′ : List ℕ) (i : Reading.Items)

@@ -88,8 +88,8 @@ fn function(
     requires { ⌜ Opening (now text) (now names) functions words t ⌝ }
     ensures { λ r. ⌜ AgreesBy sentencesOutcome (DeclaredRead (now (text .entry)) limit (t .place) words functions
         (now (tape .entry)) (now (tape .exit)) (now (names .entry)) (now (names .exit)))
-        (Reading.parseFunction (nameFault functions (tableNames (now (text .entry)) (now (names .entry)) 0 functions)) limit
-        (stream (now (text .entry)) Tokens.outside (t .place))) r ⌝ }
+        (Reading.parseFunction (nameFault functions (tableNames (now (text .entry)) (now (names .entry)) 0 functions))
+        limit (stream (now (text .entry)) Tokens.outside (t .place))) r ⌝ }
 {
     let token = t.token;
     let Token::Name(name) = token else {

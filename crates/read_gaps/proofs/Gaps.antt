@@ -88,7 +88,8 @@ plain-starts text from = record { same = λ slash. refl; onward = omega arith }
 
 -- BETWEEN TOKENS
 
-comment-opens : (slash at : ℕ) (rest : Bytes) → ahead (eqb 42) rest ≡ true → skip (opening slash) at rest ≡ skip (commented slash) (suc at) (drop 1 rest)
+comment-opens : (slash at : ℕ) (rest : Bytes) → ahead (eqb 42) rest ≡ true → skip (opening slash) at rest ≡
+    skip (commented slash) (suc at) (drop 1 rest)
 unfolding skip
 comment-opens slash at [] e = absurd (false≢true e)
 comment-opens slash at (b ∷ rest) e = refl

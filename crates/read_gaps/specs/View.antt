@@ -15,7 +15,8 @@ skippedOf text (Unclosed slash past) = Tokens.unclosed slash past
 
 -- inside a comment nothing changes from a place to another
 pub record Plain (text : Bytes) (from past : ℕ) : Type 0 where
-  pub same : (slash : ℕ) → Tokens.skip (Tokens.commented slash) from (drop from text) ≡ Tokens.skip (Tokens.commented slash) past (drop past text)
+  pub same : (slash : ℕ) → Tokens.skip (Tokens.commented slash) from (drop from text)
+      ≡ Tokens.skip (Tokens.commented slash) past (drop past text)
   pub onward : from ≤ past
 
 -- what comes after the comment whose `/` stands at a place

@@ -83,7 +83,8 @@ fn comment_past(text: &[u8], from: usize) -> Comment
 
 // Passes blanks and comments.
 pub fn skip(text: &[u8], from: usize) -> Skipped
-    ensures { λ r. ⌜ skippedOf (now (text .entry)) r ≡ Tokens.skip Tokens.between from (drop from (now (text .entry))) ⌝ }
+    ensures { λ r. ⌜ skippedOf (now (text .entry)) r ≡
+        Tokens.skip Tokens.between from (drop from (now (text .entry))) ⌝ }
 {
     let mut at = from;
     while at < text.len() {

@@ -15,7 +15,8 @@ use Rattle.meaning.specs.Allowed.{added, member, symbolsFrom, partsOf, lettersI
 use Rattle.tape_layout.specs.Tape.{named, patternTape}
 use Rattle.meaning.specs.Reading.{Item, characters, symbolItem, partItem, elementsOf, endsInPart, faultUnless, patternFault}
 use Rattle.meaning_accepting.proofs.reading.Basics.{both-left, both-right}
-use Rattle.meaning_accepting.proofs.reading.PatternFacts.{parts-append, letters-append, symbols-append, characters-parts, characters-letters, characters-symbols}
+use Rattle.meaning_accepting.proofs.reading.PatternFacts.{parts-append, letters-append, symbols-append, characters-parts, characters-letters}
+use Rattle.meaning_accepting.proofs.reading.PatternFacts.{characters-symbols}
 use Rattle.read_tokens.specs.View as View
 use Rattle.read_tokens.specs.View.{charactersIn, quotationAt}
 use Rattle.read_tokens.specs.declared.Span.{Span}
@@ -109,7 +110,8 @@ module _ {text : Bytes} {table : List ℕ} {p : Counts} {place past count : ℕ}
   string-wrong w = item-wrong {is = false} (string-faulted (lt-leb (p .letters + count) 64 w)) refl refl refl
 
   pub string-taken : p .letters + count ≤ 64 → (tape tape′ : List ℕ) (words : ℕ) (ending : Bool)
-      → Wrote tape (p .words) (charactersIn (stringFrom text (place + 1))) words tape′ × T (every isQuiet (charactersIn (stringFrom text (place + 1))))
+      → Wrote tape (p .words) (charactersIn (stringFrom text (place + 1))) words tape′ ×
+      T (every isQuiet (charactersIn (stringFrom text (place + 1))))
       → ending ≡ both (p .ending) (eqb count 0)
       → AddsItem text table p tape (characters string) past table tape′
       (Taken (record { at = past; words = words; letters = p .letters + count; symbols = p .symbols; parts = p .parts; ending = ending }))
@@ -186,7 +188,8 @@ module _ {text : Bytes} {table : List ℕ} {p : Counts} {x : Span} (h : Held tex
     remembered s n false e =
         let w : known ≡ p .symbols = omega (arith, known-low, ltb-false known (p .symbols) e) in
         let v = h .variables in
-        let g = grown text table 0 (p .symbols) (v .symbolEntries) entry (omega (arith, v .long)) (entry-inside text x (identifier-inside i) (omega arith)) in
+        let g = grown text table 0 (p .symbols) (v .symbolEntries) entry (omega (arith, v .long))
+        (entry-inside text x (identifier-inside i) (omega arith)) in
         let r = kept-above text table 16 (16 + p .parts) (v .partEntries) (p .symbols) entry (omega arith) in
         rw w
         (record {

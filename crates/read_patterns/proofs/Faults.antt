@@ -49,7 +49,8 @@ pub symbol-fault-is : (letters : ℕ) (symbols parts : List Name) (x : Name) {sh
     → leb (letters + 1) 64 ≡ few
     → leb (length (added x symbols)) maxSymbols ≡ room
     → member x parts ≡ shared
-    → faultUnless (both short (both few room)) overLimit (faultUnless (not shared) wrongPatternVariable 0) ≡ patternSymbolFault letters symbols parts x
+    → faultUnless (both short (both few room)) overLimit (faultUnless (not shared) wrongPatternVariable 0) ≡
+    patternSymbolFault letters symbols parts x
 symbol-fault-is letters symbols parts x p q r s = rw (p, q, r, s)
 
 pub part-fault-is : (symbols parts : List Name) (ending : Bool) (x : Name) {room short symbol shared ends : Bool}

@@ -64,7 +64,8 @@ pattern-starts text start table at words r l =
     }
 
 -- what the pattern comes to, or how it goes on, after a token
-module _ {text start : List ℕ} {at words : ℕ} {tape table : List ℕ} {p : Counts} (k : Patterned text start at words tape table p) {t : Code.Placed} (c : Comes text inside (p .at) t)
+module _ {text start : List ℕ} {at words : ℕ} {tape table : List ℕ} {p : Counts} (k : Patterned text start at words tape table p) {t : Code.Placed}
+    (c : Comes text inside (p .at) t)
     (table′ tape′ : List ℕ) where
   abbrev Agree : ParsedPattern → Type 0
   Agree r = PatternAgrees text at words start table′ tape′ r
@@ -73,7 +74,8 @@ module _ {text start : List ℕ} {at words : ℕ} {tape table : List ℕ} {p : C
   PatternOn (Taken next) = (p .at < next .at) × Patterned text start at words tape′ table′ next
   PatternOn (Wrong answer) = Agree (Stopped (record { answer = answer; place = t .place }))
   PatternOn (Refused fault) = Agree (Stopped fault)
-  PatternOn Other = Agree (Done (record { at = t .place; words = p .words; letters = p .letters; symbols = p .symbols; parts = p .parts; ending = p .ending }))
+  PatternOn Other = Agree
+      (Done (record { at = t .place; words = p .words; letters = p .letters; symbols = p .symbols; parts = p .parts; ending = p .ending }))
 
   pub pattern-on : (r : Added) → TokenGives text table p tape t table′ tape′ r → PatternOn r
   unfolding parsePattern

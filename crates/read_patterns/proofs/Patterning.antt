@@ -42,13 +42,15 @@ module _ {text : Bytes} {table : List ℕ} {p : Counts} {x : Span} {known : ℕ}
   abbrev Symbol : ℕ → Type 0
   Symbol number = number ≡ patternSymbolFault (p .letters) (symbolNames text table (p .symbols)) (partNames text table (p .parts)) (part text x)
 
-  symbol-tests : {short few room shared : Bool} → leb (length (part text x)) maxIdentifier ≡ short → leb (p .letters + 1) 64 ≡ few → ltb known 16 ≡ room
+  symbol-tests : {short few room shared : Bool} → leb (length (part text x)) maxIdentifier ≡ short → leb (p .letters + 1) 64 ≡ few → ltb known 16 ≡
+      room
       → member (part text x) (partNames text table (p .parts)) ≡ shared
       → Symbol (faultUnless (both short (both few room)) overLimit (faultUnless (not shared) wrongPatternVariable 0))
   symbol-tests s f r m =
       let v = pre .0 .variables in
       let room = added-room (part text x) (symbolNames text table (p .symbols)) 16 (rw (symbol-count v) (v .fewSymbols)) in
-      symbol-fault-is (p .letters) (symbolNames text table (p .symbols)) (partNames text table (p .parts)) (part text x) s f (room ∙ rw (← (pre .2)) r) m
+      symbol-fault-is (p .letters) (symbolNames text table (p .symbols)) (partNames text table (p .parts)) (part text x) s f
+      (room ∙ rw (← (pre .2)) r) m
 
   pub symbol-long : 8 < x .past - x .from → Symbol overLimit
   symbol-long l = symbol-tests (too-long text x (identifier-inside (pre .1)) 8 l) refl refl refl
@@ -67,7 +69,8 @@ module _ {text : Bytes} {table : List ℕ} {p : Counts} {x : Span} {known : ℕ}
       pub symbol-new : 16 ≤ known → Symbol overLimit
       symbol-new n = symbol-tests short few (le-ltb known 16 n) refl
 
-      pub symbol-is : known < 16 → {is : Bool} (r : ℕ) → PartAt text table p x r → ltb r (16 + p .parts) ≡ is → Symbol (pick is wrongPatternVariable 0)
+      pub symbol-is : known < 16 → {is : Bool} (r : ℕ) → PartAt text table p x r → ltb r (16 + p .parts) ≡ is →
+          Symbol (pick is wrongPatternVariable 0)
       symbol-is n {is} r f e =
           fault-if is wrongPatternVariable
           ∙ symbol-tests short few (lt-ltb known 16 n) (among text table 16 (16 + p .parts) (pre .0 .variables .partEntries) (part text x) r f e)
@@ -81,9 +84,11 @@ module _ {text : Bytes} {table : List ℕ} {p : Counts} {x : Span} (pre : Held t
       → member (part text x) (symbolNames text table (p .symbols)) ≡ symbol
       → member (part text x) (partNames text table (p .parts)) ≡ shared
       → p .ending ≡ ends
-      → Part (faultUnless room notAllowedHere (faultUnless short overLimit (faultUnless (both (not (either symbol shared)) (not ends)) wrongPatternVariable 0)))
+      → Part (faultUnless room notAllowedHere (faultUnless short overLimit
+      (faultUnless (both (not (either symbol shared)) (not ends)) wrongPatternVariable 0)))
   part-tests r s m n e =
-      part-fault-is (symbolNames text table (p .symbols)) (partNames text table (p .parts)) (p .ending) (part text x) (ap (λ (k : ℕ). ltb k 2) (part-count (pre .0 .variables)) ∙ r) s m n e
+      part-fault-is (symbolNames text table (p .symbols)) (partNames text table (p .parts)) (p .ending) (part text x)
+      (ap (λ (k : ℕ). ltb k 2) (part-count (pre .0 .variables)) ∙ r) s m n e
 
   pub part-third : 2 ≤ p .parts → Part notAllowedHere
   part-third m = part-tests (le-ltb (p .parts) 2 m) refl refl refl refl

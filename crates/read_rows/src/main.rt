@@ -1,6 +1,7 @@
 // Reads each line of standard input as a table text, and prints the number and place that it is answered with.
-// In a line `^` is byte 10, `%` byte 13 and `#` byte 9; `[` marks a place, each `+` doubles what stands from there on, and `!` takes the last
-// byte away: `=[ab++!` is `=abababa`. What must come out, `stdout`, is worked out by hand from the paper.
+// In a line `^` is byte 10, `%` byte 13 and `#` byte 9; `[` marks a place, each `+` doubles what stands from there on,
+// and `!` takes the last byte away: `=[ab++!` is `=abababa`. What must come out, `stdout`, is worked out by hand from
+// the paper.
 
 // The text of a line so far, by its length, and the place that is marked in it.
 struct Line {

@@ -14,7 +14,8 @@ use Rattle.meaning.specs.Choice.{Bytes, Name, pick, either, orElse, every, same
 use Rattle.meaning.specs.Tree.{Expression, end, thenCharacter, thenSymbol, thenPart, thenCall, Sentence, Function, Table}
 use Rattle.meaning.specs.Names.{isBuiltIn, numberFrom, isKnown}
 use Rattle.meaning.specs.Allowed.{member, namesOf}
-use Rattle.tape_layout.specs.Tape.{tapeWord, symbolKind, partKind, equalsKind, closeKind, nextKind, endKind, functionKind, callKind, named, patternTape, conditionsTape, expressionTape, sentenceTape, sentencesTape, functionTape, tape}
+use Rattle.tape_layout.specs.Tape.{tapeWord, symbolKind, partKind, equalsKind, closeKind, nextKind, endKind, functionKind, callKind, named}
+use Rattle.tape_layout.specs.Tape.{patternTape, conditionsTape, expressionTape, sentenceTape, sentencesTape, functionTape, tape}
 use Rattle.meaning.specs.Reading.{unknownCall, unknownInSentences, unknownIn}
 use Rattle.meaning.proofs.laws.Passing.{every-head, every-tail}
 use Rattle.meaning_accepting.proofs.reading.Lists.{either-left-false}

@@ -83,9 +83,11 @@ pub record TableRead (text tape′ names : List ℕ) (p : Tally) : Type 0 where
   pub room : length text ≤ length tape′
   pub read : ReadAt (FunctionsRead text start tape′ names) (functionsOf text) p
 
-module _ {text start tape′ names : List ℕ} {q : ParsedTable} (h : length text ≤ 32768) (a : AgreesBy tableOutcome (FunctionsRead text start tape′ names) (functionsOf text) q) where
+module _ {text start tape′ names : List ℕ} {q : ParsedTable} (h : length text ≤ 32768)
+    (a : AgreesBy tableOutcome (FunctionsRead text start tape′ names) (functionsOf text) q) where
   pub functions-stop : {fault : Fault} {r : Reading} → q ≡ Stopped fault → r ≡ refusedWith (fault .answer) (fault .place) → Reads text r tape′
-  functions-stop {fault} f e = refuses text (fault .answer) (fault .place) _ _ e (read-short text h ∙ ap verdict (has-stopped _ fault refl (rw f at a)))
+  functions-stop {fault} f e = refuses text (fault .answer) (fault .place) _ _ e
+      (read-short text h ∙ ap verdict (has-stopped _ fault refl (rw f at a)))
 
   pub functions-done : {p : Tally} → q ≡ Done p → length text ≤ length tape′ → TableRead text tape′ names p
   functions-done e room = record { start = start; short = h; room = room; read = has-read _ _ refl (rw e at a) }
@@ -108,7 +110,8 @@ module _ {text tape′ names : List ℕ} {p : Tally} (k : TableRead text tape′
 
   -- THE CALLS
 
-  module _ {found : Unknown} (search : (t : Table) → Holds text (take (p .words) tape′) (tableNames text names 0 (p .functions)) t → found ≡ unknownAs (unknownIn t t)) where
+  module _ {found : Unknown} (search : (t : Table) → Holds text (take (p .words) tape′) (tableNames text names 0 (p .functions)) t → found ≡
+      unknownAs (unknownIn t t)) where
     judged : {o : Option ℕ} → unknownIn table table ≡ o → read text ≡ known o table
     judged e = read-short text (k .short) ∙ ap verdict (k .read .same) ∙ ap (λ o. known o table) e
 

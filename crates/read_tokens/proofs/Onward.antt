@@ -12,7 +12,9 @@ use lib.Seq.{drop-drop}
 use Rattle.meaning.specs.Choice.{Bytes, pick, both}
 use Rattle.meaning.specs.Classes.{inClass, alphabetic, isBlankByte}
 use Rattle.meaning.specs.Allowed.{wordByte, nameByte}
-use Rattle.meaning.specs.Tokens.{Mode, outside, inside, naming, Token, sign, textEnd, Lexed, lexed, Gap, between, opening, commented, starred, Skipped, found, unclosed, ahead, skip, skipOn, Run, run, Turn, goesOn, closes, breaks, Quoting, plain, Quotation, closed, broken, turn, quotation, quoteOn, wordAt, quotedAt, bracketAt, tokenAt, tokenPast, lex, isLastToken}
+use Rattle.meaning.specs.Tokens.{Mode, outside, inside, naming, Token, sign, textEnd, Lexed, lexed, Gap, between, opening, commented, starred}
+use Rattle.meaning.specs.Tokens.{Skipped, found, unclosed, ahead, skip, skipOn, Run, run, Turn, goesOn, closes, breaks, Quoting, plain, Quotation}
+use Rattle.meaning.specs.Tokens.{closed, broken, turn, quotation, quoteOn, wordAt, quotedAt, bracketAt, tokenAt, tokenPast, lex, isLastToken}
 
 -- PLACES
 
@@ -154,10 +156,12 @@ module _ (text : Bytes) where
     in-gap (commented slash) r = in-comment slash r (eqb b 42) refl
     in-gap (starred slash) r = after-star slash r (eqb b 47) (eqb b 42) refl refl
 
-  unclosed-at : (start slash at : ℕ) (gap : Gap) → Comment start slash at gap [] → at ≤ length text → skip gap at [] ≡ unclosed slash at → UnclosedAt start slash at
+  unclosed-at : (start slash at : ℕ) (gap : Gap) → Comment start slash at gap [] → at ≤ length text → skip gap at [] ≡ unclosed slash at →
+      UnclosedAt start slash at
   unclosed-at start slash at gap c h s = record { same = c .same ∙ s; after = c .after; before = c .before; inside = h }
 
-  skips-end : (start at : ℕ) → [] ≡ drop at text → start ≤ at → at ≤ length text → (gap : Gap) → Reached start gap at [] → Skips start (skip gap at [])
+  skips-end : (start at : ℕ) → [] ≡ drop at text → start ≤ at → at ≤ length text → (gap : Gap) → Reached start gap at [] →
+      Skips start (skip gap at [])
   unfolding skip
   skips-end start at e h k between r = record { same = rw (← e); left = e; after = h; inside = k }
   skips-end start at e h k (opening slash) r = unclosed-at start slash at (opening slash) r k refl
@@ -185,7 +189,8 @@ module _ (text : Bytes) where
   moving at past token rest s = record { place = refl; forward = omega (arith, s .onward); inside = s .inside; moves = λ m. s }
 
   -- a token after which none comes
-  last : (at past : ℕ) (token : Token) (rest : Bytes) → (T (not (isLastToken token)) → ⊥) → Ends text at past rest → TokenEnds at (lexed token at past rest)
+  last : (at past : ℕ) (token : Token) (rest : Bytes) → (T (not (isLastToken token)) → ⊥) → Ends text at past rest →
+      TokenEnds at (lexed token at past rest)
   last at past token rest t s = record { place = refl; forward = s .onward; inside = s .inside; moves = λ m. absurd (t m) }
 
   module _ (at b : ℕ) (rest : Bytes) (e : b ∷ rest ≡ drop at text) where
@@ -245,4 +250,5 @@ module _ (text : Bytes) where
 
   pub lex-ends : (mode : Mode) (start : ℕ) → start ≤ length text → LexEnds mode start (lex mode start (drop start text))
   unfolding lex
-  lex-ends mode start h = past-ends mode start (skip between start (drop start text)) (skips (drop start text) start start refl (omega arith) h between tt)
+  lex-ends mode start h = past-ends mode start (skip between start (drop start text))
+      (skips (drop start text) start start refl (omega arith) h between tt)

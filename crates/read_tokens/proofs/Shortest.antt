@@ -9,7 +9,8 @@ use lib.Dec.{eqb, ltb}
 use lib.ListN.{length, getD, drop}
 use Rattle.meaning.specs.Choice.{Bytes, pick, either}
 use Rattle.meaning.specs.Classes.{inClass, digit}
-use Rattle.meaning.specs.Tokens.{Quoting, plain, escaped, coded, Turn, goesOn, closes, breaks, digitValue, turn, Quotation, closed, broken, quoteOn, quotation}
+use Rattle.meaning.specs.Tokens.{Quoting, plain, escaped, coded, Turn, goesOn, closes, breaks, digitValue, turn, Quotation, closed, broken, quoteOn}
+use Rattle.meaning.specs.Tokens.{quotation}
 use Rattle.meaning.proofs.laws.Choosing.{of-either}
 use Rattle.read_tokens.specs.View.{charactersIn, quotationAt}
 use Rattle.meaning.proofs.laws.Places.{here}
@@ -74,7 +75,8 @@ plain-closes characters c {all} e = go (eqb c 39) e
 
 -- THREE BYTES
 
-one-character : (at b c : ℕ) (bytes : Bytes) {all rest : Bytes} → quotation plain [] at (b ∷ c ∷ bytes) ≡ closed all (suc (suc at)) rest → all ≡ b ∷ []
+one-character : (at b c : ℕ) (bytes : Bytes) {all rest : Bytes} → quotation plain [] at (b ∷ c ∷ bytes) ≡ closed all (suc (suc at)) rest → all ≡
+    b ∷ []
 unfolding quotation
 one-character at b c bytes {all} {rest} e = go (eqb b 39) (eqb b 34) (eqb b 92) e
   where

@@ -36,7 +36,8 @@ module _ (text : Bytes) (at past : ℕ) where
       (Tokens.nameToken at (Tokens.run nameByte [] at (drop at text)) .first)
   shows-name r = record { same = rw (r .same); sound = (refl, refl) }
 
-  pub shows-word : (token : Token) → RunsTo text wordByte at past → (tokenOf text token at past ≡ Tokens.word (slice at past text)) × Sound text token at past
+  pub shows-word : (token : Token) → RunsTo text wordByte at past → (tokenOf text token at past ≡ Tokens.word (slice at past text)) ×
+      Sound text token at past
       → Shows text (record { token = token; place = at; past = past }) (Tokens.wordToken at (Tokens.run wordByte [] at (drop at text)) .first)
   shows-word token r w = record { same = rw (r .same, w .0); sound = w .1 }
 
@@ -88,6 +89,7 @@ module _ (text : Bytes) (mode : Tokens.Mode) (at : ℕ) where
 
 -- the first token from a place on, by what is passed before it
 module _ (text : Bytes) (mode : Tokens.Mode) (from : ℕ) where
-  pub lex-past : {s : Tokens.Skipped} → Tokens.skip Tokens.between from (drop from text) ≡ s → Tokens.lex mode from (drop from text) ≡ Tokens.tokenPast mode s
+  pub lex-past : {s : Tokens.Skipped} → Tokens.skip Tokens.between from (drop from text) ≡ s → Tokens.lex mode from (drop from text) ≡
+      Tokens.tokenPast mode s
   unfolding Tokens.lex
   lex-past e = rw e

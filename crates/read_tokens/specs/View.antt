@@ -31,7 +31,8 @@ runByte naming b = pick naming (nameByte b) (wordByte b)
 
 -- the bytes from a place to another are those that pass, as long as they go
 pub record RunsTo (text : Bytes) (fits : ℕ → Bool) (from past : ℕ) : Type 0 where
-  pub same : Tokens.run fits [] from (drop from text) ≡ record { taken = slice from past text; past = past; rest = drop past text }
+  pub same : Tokens.run fits [] from (drop from text)
+      ≡ record { taken = slice from past text; past = past; rest = drop past text }
   pub onward : from ≤ past
   pub inside : from ≤ length text → past ≤ length text
 
@@ -76,12 +77,14 @@ abbrev pub placedOf : Bytes → Placed → Tokens.Placed
 placedOf text t =
     record { token = tokenOf text (t .token) (t .place) (t .past); place = t .place; past = t .past }
 
--- what else holds of a token: where its name or identifier stands, that a word is no variable, and how many characters a string has, each of which
--- takes a byte of its own beside the quotes
+-- what else holds of a token: where its name or identifier stands, that a word is no variable, and how many characters
+-- a string has, each of which takes a byte of its own beside the quotes
 abbrev pub Sound : Bytes → Token → ℕ → ℕ → Type 0
 Sound text (Name name) place past = (name .from ≡ place) × (name .past ≡ past)
-Sound text (Symbol identifier) place past = (identifier .from ≡ place + 1) × (identifier .past ≡ past) × (place + 1 < past)
-Sound text (Part identifier) place past = (identifier .from ≡ place + 1) × (identifier .past ≡ past) × (place + 1 < past)
+Sound text (Symbol identifier) place past =
+    (identifier .from ≡ place + 1) × (identifier .past ≡ past) × (place + 1 < past)
+Sound text (Part identifier) place past =
+    (identifier .from ≡ place + 1) × (identifier .past ≡ past) × (place + 1 < past)
 Sound text Word place past = variableOf (slice place past text) ≡ noItem
 Sound text (Quoted count) place past =
     (quotationAt text place ≡ Tokens.closed (charactersIn (quotationAt text place)) past (drop past text))
@@ -100,8 +103,8 @@ pub record Shows (text : Bytes) (t : Placed) (shown : Tokens.Placed) : Type 0 wh
 unfoldable pub stream : Bytes → Tokens.Mode → ℕ → List Tokens.Placed
 stream text mode at = Tokens.tokensFrom (suc (length text)) mode at (drop at text)
 
--- a token of the code comes first from a place on: what comes after it, that it is read again at its place, and that it passes a byte unless it is
--- the last
+-- a token of the code comes first from a place on: what comes after it, that it is read again at its place, and that it
+-- passes a byte unless it is the last
 pub record Comes (text : Bytes) (mode : Tokens.Mode) (at : ℕ) (t : Placed) : Type 0 where
   pub unrolled : stream text mode at
       ≡ placedOf text t

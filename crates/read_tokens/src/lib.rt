@@ -18,7 +18,8 @@ ghost use Rattle.meaning.specs.Tokens as Tokens;
 ghost use Rattle.meaning.specs.Allowed.{wordByte, nameByte};
 ghost use Rattle.read_tokens.specs.View.{modeOf, runByte, RunsTo, LetterAt, quotationAt, tokenOf, Sound, Shows};
 
-// How a word is read: outside sentences and directly after `<` by the rule of function names, inside a sentence by that of variables.
+// How a word is read: outside sentences and directly after `<` by the rule of function names, inside a sentence by that
+// of variables.
 pub enum Mode {
     Outside,
     Inside,
@@ -93,7 +94,8 @@ fn run_end(text: &[u8], from: usize, naming: bool) -> usize
 // A variable is `s` or `e` and an identifier of at least one byte.
 fn word_token(text: &[u8], at: usize, past: usize) -> Token
     requires { ⌜ (at < past) × (past ≤ length (now text)) ⌝ }
-    ensures { λ r. ⌜ (tokenOf (now (text .entry)) r at past ≡ Tokens.word (slice at past (now (text .entry)))) × Sound (now (text .entry)) r at past ⌝ }
+    ensures { λ r. ⌜ (tokenOf (now (text .entry)) r at past ≡ Tokens.word (slice at past (now (text .entry)))) ×
+        Sound (now (text .entry)) r at past ⌝ }
 {
     let byte = text[at];
     let identifier = Span {
@@ -113,7 +115,8 @@ fn word_token(text: &[u8], at: usize, past: usize) -> Token
 }
 
 fn name_at(text: &[u8], at: usize) -> Placed
-    ensures { λ r. ⌜ Shows (now (text .entry)) r (Tokens.nameToken at (Tokens.run nameByte [] at (drop at (now (text .entry)))) .first) ⌝ }
+    ensures { λ r. ⌜ Shows (now (text .entry)) r
+        (Tokens.nameToken at (Tokens.run nameByte [] at (drop at (now (text .entry)))) .first) ⌝ }
 {
     let past = run_end(text, at, true);
     Placed {
@@ -128,7 +131,8 @@ fn name_at(text: &[u8], at: usize) -> Placed
 
 fn variable_at(text: &[u8], at: usize) -> Placed
     requires { ⌜ LetterAt (now text) at ⌝ }
-    ensures { λ r. ⌜ Shows (now (text .entry)) r (Tokens.wordToken at (Tokens.run wordByte [] at (drop at (now (text .entry)))) .first) ⌝ }
+    ensures { λ r. ⌜ Shows (now (text .entry)) r
+        (Tokens.wordToken at (Tokens.run wordByte [] at (drop at (now (text .entry)))) .first) ⌝ }
 {
     let past = run_end(text, at, false);
     Placed {
@@ -140,7 +144,8 @@ fn variable_at(text: &[u8], at: usize) -> Placed
 
 fn word_at(text: &[u8], at: usize, mode: Mode) -> Placed
     requires { ⌜ LetterAt (now text) at ⌝ }
-    ensures { λ r. ⌜ Shows (now (text .entry)) r (Tokens.wordAt (modeOf mode) at (drop at (now (text .entry))) .first) ⌝ }
+    ensures { λ r. ⌜ Shows (now (text .entry)) r
+        (Tokens.wordAt (modeOf mode) at (drop at (now (text .entry))) .first) ⌝ }
 {
     match mode {
         Mode::Outside => name_at(text, at),
@@ -152,7 +157,8 @@ fn word_at(text: &[u8], at: usize, mode: Mode) -> Placed
 // A string from its opening quote on; all its faults stand there.
 fn quoted_at(text: &[u8], place: usize) -> Placed
     requires { ⌜ place < length (now text) ⌝ }
-    ensures { λ r. ⌜ Shows (now (text .entry)) r (Tokens.quotedAt place (quotationAt (now (text .entry)) place) .first) ⌝ }
+    ensures { λ r. ⌜ Shows (now (text .entry)) r (Tokens.quotedAt place (quotationAt (now (text .entry)) place) .first)
+        ⌝ }
 {
     let mut at = place + 1;
     let mut count = 0;
@@ -206,7 +212,8 @@ fn bracket_at(text: &[u8], at: usize) -> Placed
 
 // The token that begins at a place.
 fn token_at(text: &[u8], at: usize, mode: Mode) -> Placed
-    ensures { λ r. ⌜ Shows (now (text .entry)) r (Tokens.tokenAt (modeOf mode) at (drop at (now (text .entry))) .first) ⌝ }
+    ensures { λ r. ⌜ Shows (now (text .entry)) r (Tokens.tokenAt (modeOf mode) at (drop at (now (text .entry))) .first)
+        ⌝ }
 {
     if text.len() <= at {
         return Placed {
@@ -232,7 +239,8 @@ fn token_at(text: &[u8], at: usize, mode: Mode) -> Placed
 
 // The first token from a place on.
 pub fn lex(text: &[u8], from: usize, mode: Mode) -> Placed
-    ensures { λ r. ⌜ Shows (now (text .entry)) r (Tokens.lex (modeOf mode) from (drop from (now (text .entry))) .first) ⌝ }
+    ensures { λ r. ⌜ Shows (now (text .entry)) r (Tokens.lex (modeOf mode) from (drop from (now (text .entry))) .first)
+        ⌝ }
 {
     match skip(text, from) {
         Skipped::Found(at) => token_at(text, at, mode),

@@ -1,5 +1,6 @@
 -- The registers and the lent cells as the specification's state: stack in from p on, the selected cells, stack out up
--- to r, what was counted, and what a frame keeps; and what it means that a function implements an action of the machine.
+-- to r, what was counted, and what a frame keeps; and what it means that a function implements an action of the
+-- machine.
 use Prim.Native.Nat.{ℕ, suc, pred, _+_, _*_, _-_, _≤_, _<_}
 use mathlib.Core.Path.{_≡_}
 use mathlib.Core.List.{List, _++_}
@@ -124,7 +125,10 @@ abbrev pub begun : ℕ → ℕ → ℕ → ℕ → List ℕ → List ℕ
 begun frame field place stored frames =
     withWord frame openedSlot 0
     (withWord frame storedSlot stored
-    (withWord frame rightSlot (field - place) (withWord frame leftSlot place (withWord frame wholeSlot field (withWord frame nullSlot 0 frames)))))
+    (withWord frame rightSlot (field - place)
+    (withWord frame leftSlot place
+    (withWord frame wholeSlot field
+    (withWord frame nullSlot 0 frames)))))
 
 -- the caller's frame keeps where its call returns to, and q
 abbrev pub callingFrom : ℕ → ℕ → ℕ → List ℕ → List ℕ

@@ -7,7 +7,8 @@ use mathlib.Core.Option.{Option, none, some}
 use lib.IntN.{ℤ, _+ℤ_}
 use lib.ListN.{length, take, drop}
 use Rattle.meaning.specs.Choice.{Bytes}
-use Rattle.meaning.specs.Angles.{Operation, cutBefore, cutAfter, signed, angleIn, Angled as Meant, sum, notAngles, outOfRange, worked, maxMinutes}
+use Rattle.meaning.specs.Angles.{Operation, cutBefore, cutAfter, signed, angleIn, Angled as Meant, sum, notAngles}
+use Rattle.meaning.specs.Angles.{outOfRange, worked, maxMinutes}
 use Rattle.meaning.specs.Leaving.{over}
 use Rattle.run_angles.specs.declared.Number.{Number}
 use Rattle.run_angles.specs.declared.Number.the-variants.{Of, Nothing}

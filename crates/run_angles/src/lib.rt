@@ -6,7 +6,8 @@ ghost use Prim.Native.Nat.{_+_, _<_, _≤_};
 ghost use Rattle.meaning.specs.Angles.{operation, numeralIn, sizeIn, signed, angleText, angled, maxMinutes};
 ghost use Rattle.meaning.specs.Numerals.{decimal, twoDigits};
 ghost use Rattle.byte_writing.specs.Put.{Put, farthest};
-ghost use Rattle.run_angles.specs.Post.{Cut, numberRead, AngleFound, valueOf, sizeOf, Total, Worked, signText, leftWith, leaves};
+ghost use Rattle.run_angles.specs.Post.{Cut, numberRead, AngleFound, valueOf, sizeOf, Total, Worked, signText};
+ghost use Rattle.run_angles.specs.Post.{leftWith, leaves};
 
 // What a call comes to: so many bytes of the result, or one of two faults.
 pub enum Angled {
@@ -221,7 +222,8 @@ fn worked(subtract: bool, first: Angle, second: Angle) -> Value
 
 // DmAdd, or DmSub where `subtract` is set: the result's bytes come first in what is lent, and the others stay.
 pub fn compute_angles(subtract: bool, argument: &[u8], result: &mut [u8; 7]) -> Angled
-    ensures { λ r. ⌜ leftWith r (now (result .exit)) ≡ leaves (angled (operation subtract) (now (argument .entry))) (now (result .entry)) ⌝ }
+    ensures { λ r. ⌜ leftWith r (now (result .exit)) ≡
+        leaves (angled (operation subtract) (now (argument .entry))) (now (result .entry)) ⌝ }
 {
     let blank = place_of(argument, b' ');
     if blank == argument.len() {

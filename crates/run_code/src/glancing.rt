@@ -85,7 +85,11 @@ pub fn run_foreseen(
     requires { ⌜ length (now frames) ≡ wordsFor firstFrames ⌝ }
     requires { ⌜ length (now values) ≡ valuesFor firstFrames ⌝ }
     requires { ⌜ countsIn (now frames) ≡ uncounted ⌝ }
-    ensures { λ r. ⌜ Leaves r (countsIn (now (frames .exit))) (cells (now (input .exit)) (now (output .exit)) (now («record» .exit))) (afterRun (runLent (roomOfCells (cells (now (input .entry)) (now (output .entry)) (now («record» .entry)))) (functionsIn (now (code .entry))) start (now (text .entry)) allowance) (cells (now (input .entry)) (now (output .entry)) (now («record» .entry)))) ⌝ }
+    ensures { λ r. ⌜ Leaves r (countsIn (now (frames .exit)))
+        (cells (now (input .exit)) (now (output .exit)) (now («record» .exit)))
+        (afterRun (runLent (roomOfCells (cells (now (input .entry)) (now (output .entry)) (now («record» .entry))))
+        (functionsIn (now (code .entry))) start (now (text .entry)) allowance)
+        (cells (now (input .entry)) (now (output .entry)) (now («record» .entry)))) ⌝ }
 {
     match foresee(code, start, text, allowance) {
         Seen::Nothing => end_at_once(Ending::NoSentenceFits, start, start, input, output, frames),

@@ -1,4 +1,5 @@
--- What a code word says, as a decoded instruction: the words of meaning's Packing read into the enums of decoding, and what these mean.
+-- What a code word says, as a decoded instruction: the words of meaning's Packing read into the enums of decoding, and
+-- what these mean.
 use Prim.Native.Nat.{ℕ, _+_, _/_, _<_}
 use mathlib.Core.Path.{_≡_}
 use mathlib.Core.List.{List, [], _∷_}
@@ -8,8 +9,10 @@ use lib.ListN.{length, getD, take}
 use Rattle.meaning.specs.Choice.{pick, both, every}
 use Rattle.meaning.specs.Angles.{operation}
 use Rattle.meaning.specs.Allowed.{isByte}
-use Rattle.meaning.specs.Instructions.{Span, Action, go, select, out, outC, outV, beginSeq, useSeq, call, tailCall, compute, unknownAction}
-use Rattle.meaning.specs.Packing.{Words, numberIn, firstIn, secondIn, thirdIn, actionsEnd, lengthOf, spanAction, emissionOf, unpackActions}
+use Rattle.meaning.specs.Instructions.{Span, Action, go, select, out, outC, outV, beginSeq, useSeq, call, tailCall}
+use Rattle.meaning.specs.Instructions.{compute, unknownAction}
+use Rattle.meaning.specs.Packing.{Words, numberIn, firstIn, secondIn, thirdIn, actionsEnd, lengthOf, spanAction}
+use Rattle.meaning.specs.Packing.{emissionOf, unpackActions}
 use Rattle.meaning.specs.Packing.{beginSeqNumber, callNumber, computeNumber, emissionNumber, goNumber, minusNumber}
 use Rattle.meaning.specs.Packing.{outCNumber, outNumber, outVNumber, plusNumber, selectNumber, tailCallNumber}
 use Rattle.meaning.specs.Packing.{useSeqNumber}
@@ -20,7 +23,8 @@ use Rattle.run_decoding.specs.declared.Call.{Call}
 use Rattle.run_decoding.specs.declared.Write.{Write}
 use Rattle.run_decoding.specs.declared.Write.the-variants.{Out, OutC, OutV}
 use Rattle.run_decoding.specs.declared.Instruction.{Instruction}
-use Rattle.run_decoding.specs.declared.Instruction.the-variants.{Go, Select, Write as Writes, BeginSeq, UseSeq, Call as Calls, Emit, Compute, End, Unknown}
+use Rattle.run_decoding.specs.declared.Instruction.the-variants.{Go, Select, Write as Writes, BeginSeq, UseSeq}
+use Rattle.run_decoding.specs.declared.Instruction.the-variants.{Call as Calls, Emit, Compute, End, Unknown}
 
 abbrev pub callIn : Bool → ℕ → Call
 callIn tail w = record { tail = tail; function = w / 256 }

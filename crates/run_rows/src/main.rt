@@ -327,8 +327,8 @@ fn print(n: u64) {
     io::write_all(STDOUT_FILENO, b" ");
 }
 
-// Answer, function, steps; the applications of the first two functions; how many cells of in, of out after the text and of the record
-// after the emissions hold another byte than they should; the emissions; the text.
+// Answer, function, steps; the applications of the first two functions; how many cells of in, of out after the text and
+// of the record after the emissions hold another byte than they should; the emissions; the text.
 fn show(ran: Ran, counts: &[u64; 64], input: &[u8], output: &[u8], record: &[u8], left: u8) {
     let ending = ran.ending;
     let text = ran.text;

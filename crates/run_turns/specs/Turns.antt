@@ -117,7 +117,8 @@ pub record SimulatesTry (words : Words) (allowance : ℕ) (g : Registers) (m : M
 -- UseSeq, which is done where it comes next, or else does not come next
 pub data SimulatesUse (words : Words) (allowance : ℕ) (g : Registers) (m : Memory)
     (next : Next) (n : Memory) : Type 0 where
-  other : (Numbered words (g .at .0) useSeqNumber → ⊥) → next ≡ Onward g → n ≡ m → SimulatesUse words allowance g m next n
+  other : (Numbered words (g .at .0) useSeqNumber → ⊥) → next ≡ Onward g → n ≡ m
+      → SimulatesUse words allowance g m next n
   used : SimulatesTurn words allowance g m next n → Idle next → SimulatesUse words allowance g m next n
 
 -- one instruction, any but UseSeq; before UseSeq the measure must have fallen already

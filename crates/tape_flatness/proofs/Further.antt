@@ -12,7 +12,8 @@ use borrow.Author.Tests.{leb-true, ltb-false}
 use Rattle.meaning.specs.Choice.{pick}
 use Rattle.meaning.specs.Names.{isBuiltIn}
 use Rattle.tape_words.specs.Words.{nameIn}
-use Rattle.tape_flatness.specs.Scanned.{earlier, onlyIf, opensCall, closesCall, calledPlace, itemFollows, declaredCall, calledSize, CallScan, outOfCalls, inCall, leftmostBy, callOpened, callClosed, passedWord, scannedCalls, NoneFurtherLeft}
+use Rattle.tape_flatness.specs.Scanned.{earlier, onlyIf, opensCall, closesCall, calledPlace, itemFollows, declaredCall, calledSize, CallScan}
+use Rattle.tape_flatness.specs.Scanned.{outOfCalls, inCall, leftmostBy, callOpened, callClosed, passedWord, scannedCalls, NoneFurtherLeft}
 
 -- one more word
 module _ (call w : ℕ) (q : leb 2304 w && ltb w ((call + 9 - 1) * 256) ≡ false) where

@@ -16,7 +16,8 @@ use Rattle.meaning.proofs.laws.Remaining.{at-place}
 use Rattle.tape_words.specs.Words.{carried, nameIn, headName}
 use Rattle.tape_words.proofs.laws.Lists.{part-length}
 use Rattle.tape_words.proofs.laws.Names.{by-place, name-here, name-part}
-use Rattle.tape_flatness.specs.Scanned.{earlier, onlyIf, opensCall, closesCall, itemFollows, declaredCall, calledSize, CallScan, outOfCalls, inCall, leftmostBy, callOpened, callClosed, passedWord, scannedCalls, ArgumentPassed}
+use Rattle.tape_flatness.specs.Scanned.{earlier, onlyIf, opensCall, closesCall, itemFollows, declaredCall, calledSize, CallScan, outOfCalls}
+use Rattle.tape_flatness.specs.Scanned.{inCall, leftmostBy, callOpened, callClosed, passedWord, scannedCalls, ArgumentPassed}
 
 -- NAMES
 
@@ -70,7 +71,8 @@ module _ (ws : List ℕ) (i : ℕ) (h : i < length ws) {w : ℕ} (e : w ≡ getD
       let past : i + 1 + carried w ≡ end + 1 = omega (arith, e, f) in
       rw (word-passed s, o, name-passed (carried w) (drop (i + 1) ws) (callOpened (declaredCall (drop i ws)) s), far, past)
 
-  pub closes-here : w ≡ 1280 → (s : CallScan) → scannedCalls 0 (drop i ws) s ≡ scannedCalls 0 (drop (i + 1) ws) (callClosed (itemFollows (drop (i + 1) ws)) s)
+  pub closes-here : w ≡ 1280 → (s : CallScan) → scannedCalls 0 (drop i ws) s ≡
+      scannedCalls 0 (drop (i + 1) ws) (callClosed (itemFollows (drop (i + 1) ws)) s)
   closes-here k s =
       let opens : opensCall w ≡ false = lt-leb 2304 w (omega arith) in
       word-passed s ∙ rw (opens, eq-eqb w 1280 k)
@@ -99,7 +101,8 @@ module _ (ws : List ℕ) (i : ℕ) (h : i < length ws) {w : ℕ} (e : w ≡ getD
       outer-stays found = word-passed (outOfCalls found) ∙ rw (← f, o) (by (closesCall w))
         where
           by : (closes : Bool)
-              → scannedCalls 0 (drop (i + 1) ws) (pick closes (outOfCalls found) (outOfCalls found)) ≡ scannedCalls 0 (drop (i + 1) ws) (outOfCalls found)
+              → scannedCalls 0 (drop (i + 1) ws) (pick closes (outOfCalls found) (outOfCalls found)) ≡
+              scannedCalls 0 (drop (i + 1) ws) (outOfCalls found)
           by true = refl
           by false = refl
 
@@ -158,7 +161,8 @@ unfolding scannedCalls
 quiet-word w rest s q = by (opensCall w) (closesCall w) q
   where
     by : (opens closes : Bool) → T (both (not opens) (not closes))
-        → scannedCalls (pick opens (carried w) 0) rest (pick opens (callOpened (declaredCall (w ∷ rest)) s) (pick closes (callClosed (itemFollows rest) s) s))
+        → scannedCalls (pick opens (carried w) 0) rest (pick opens (callOpened (declaredCall (w ∷ rest)) s)
+        (pick closes (callClosed (itemFollows rest) s) s))
         ≡ scannedCalls 0 rest s
     by false false q = refl
     by false true q = absurd q

@@ -9,7 +9,8 @@ use lib.ListN.{length}
 use Rattle.meaning.specs.Choice.{Name, every}
 use Rattle.meaning.specs.Classes.{classNumber}
 use Rattle.meaning.specs.Tree.{character, symbol, Element, letter, part, Subject, ofSymbol, ofPart, Condition, Sentence}
-use Rattle.meaning.specs.Allowed.{isByte, maxIdentifier, spelledName, spelledIdentifier, spelledElement, symbolsOf, partsOf, member, ofPattern, allOfPattern, allowedPattern, allowedConditions, allowedExpression, allowedSentence}
+use Rattle.meaning.specs.Allowed.{isByte, maxIdentifier, spelledName, spelledIdentifier, spelledElement, symbolsOf, partsOf, member, ofPattern}
+use Rattle.meaning.specs.Allowed.{allOfPattern, allowedPattern, allowedConditions, allowedExpression, allowedSentence}
 use Rattle.tape_layout.specs.Tape.{tapeWord, symbolKind, partKind, truthNumber, subjectTape, patternTape, conditionsTape}
 use Rattle.meaning.proofs.laws.Choosing.{passed-true, true-passed}
 use Rattle.meaning.proofs.laws.Passing.{both-left, both-right, both-pass, every-weaken}

@@ -12,14 +12,17 @@ use Rattle.meaning.specs.Choice.{Name, both, every}
 use Rattle.meaning.specs.Names.{Calling as Called, asEmission, asAngles, asFunction, callingOf, builtIn, isBuiltIn, isReserved}
 use Rattle.meaning.specs.Tree.{Expression, end, thenCharacter, thenSymbol, thenPart, thenCall, Sentence, Function, Table}
 use Rattle.meaning.specs.Allowed.{isByte, spelledName, spelledIdentifier, someSentence, allowedSentence, allowedFunction, allowed}
-use Rattle.tape_layout.specs.Tape.{tapeWord, named, symbolKind, partKind, equalsKind, closeKind, nextKind, endKind, functionKind, callKind, patternTape, conditionsTape, expressionTape, sentenceTape, sentencesTape, tape}
+use Rattle.tape_layout.specs.Tape.{tapeWord, named, symbolKind, partKind, equalsKind, closeKind, nextKind, endKind, functionKind, callKind}
+use Rattle.tape_layout.specs.Tape.{patternTape, conditionsTape, expressionTape, sentenceTape, sentencesTape, tape}
 use Rattle.meaning.specs.Translation.{Manner, emits, computes, replaces, nests, Level, outermost, inArgument, inTailPosition, mannerAs, mannerOf}
 use Rattle.meaning.specs.Flat.{nestedAt, nestedCalls, nestedSentences, nestedIn, leftmost}
 use Rattle.meaning.proofs.laws.Passing.{both-left, both-right, both-pass, every-head, every-tail}
 use Rattle.meaning.proofs.laws.Spelling.{name-short, identifier-short, identifier-bytes}
 use Rattle.meaning_accepting.proofs.roundtrip.Legible.{legible}
-use Rattle.tape_flatness.specs.Scanned.{placed, placeOf, earlier, onlyIf, isItemWord, itemFollows, CallScan, outOfCalls, inCall, callOpened, callClosed, scannedCalls, nestedCall}
-use Rattle.tape_flatness.proofs.Places.{earlier-nothing, earlier-either-way, earlier-assoc, told-placed, foundIn, found-first, found-append, found-then}
+use Rattle.tape_flatness.specs.Scanned.{placed, placeOf, earlier, onlyIf, isItemWord, itemFollows, CallScan, outOfCalls, inCall, callOpened}
+use Rattle.tape_flatness.specs.Scanned.{callClosed, scannedCalls, nestedCall}
+use Rattle.tape_flatness.proofs.Places.{earlier-nothing, earlier-either-way, earlier-assoc, told-placed, foundIn, found-first, found-append}
+use Rattle.tape_flatness.proofs.Places.{found-then}
 use Rattle.tape_flatness.proofs.Passing.{word-then, name-then, quiet, quiet-low, quiet-word, quiet-then}
 use Rattle.tape_flatness.proofs.Spelled.{byte-quiet, bytes-quiet, name-quiet, allowed-plain}
 

@@ -16,7 +16,8 @@ ghost use Prim.Native.Nat.{ℕ, _+_, _≤_, _<_};
 ghost use lib.ListN.{length, drop, getD};
 ghost use Rattle.tape_words.specs.Words.{carried, headName};
 ghost use Rattle.tape_flatness.specs.Scanned.{earlier, placeOf, opensCall, itemFollows, declaredCall};
-ghost use Rattle.tape_flatness.specs.Scanned.{outOfCalls, scannedCalls, Below, ArgumentPassed, NoneFurtherLeft, nestedCall};
+ghost use Rattle.tape_flatness.specs.Scanned.{outOfCalls, scannedCalls, Below, ArgumentPassed, NoneFurtherLeft};
+ghost use Rattle.tape_flatness.specs.Scanned.{nestedCall};
 
 // So many words are looked at together, and so many of an argument one by one before that.
 const GROUP: usize = 8;

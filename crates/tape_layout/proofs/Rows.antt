@@ -3,7 +3,8 @@ use mathlib.Core.Path.{_≡_, refl}
 use mathlib.Core.Bool.{Bool, true, false}
 use mathlib.Core.List.{[], _∷_}
 use Rattle.meaning.specs.Classes.{Class, digit, upper, blank}
-use Rattle.meaning.specs.Tree.{character, symbol, letter, part, Subject, ofSymbol, ofPart, Condition, end, thenCharacter, thenSymbol, thenPart, thenCall, Table}
+use Rattle.meaning.specs.Tree.{character, symbol, letter, part, Subject, ofSymbol, ofPart, Condition, end, thenCharacter, thenSymbol, thenPart}
+use Rattle.meaning.specs.Tree.{thenCall, Table}
 use Rattle.tape_layout.specs.Tape.{patternTape, conditionsTape, expressionTape, sentencesTape, tape}
 use Rattle.meaning.proofs.rows.Tables.{x1, plain, function}
 

@@ -1,12 +1,15 @@
--- The tape: the tree as a flat list of words, as reading writes it and as listing and translating read it. Every word stands for at least one byte of
--- the table text, so 32,768 words hold every tape. A character is its byte; every other word is 256 or more.
+-- The tape: the tree as a flat list of words, as reading writes it and as listing and translating read it. Every word
+-- stands for at least one byte of the table text, so 32,768 words hold every tape. A character is its byte; every other
+-- word is 256 or more.
 use Prim.Native.Nat.{ℕ, _+_, _*_}
 use mathlib.Core.Bool.{Bool, true, false}
 use mathlib.Core.List.{List, [], _∷_, _++_}
 use lib.ListN.{length}
 use Rattle.meaning.specs.Choice.{Name}
 use Rattle.meaning.specs.Classes.{classNumber}
-use Rattle.meaning.specs.Tree.{Letter, character, symbol, Element, letter, part, Subject, ofSymbol, ofPart, Condition, Expression, end, thenCharacter, thenSymbol, thenPart, thenCall, Sentence, Function, Table}
+use Rattle.meaning.specs.Tree.{Letter, character, symbol, Element, letter, part, Subject, ofSymbol, ofPart, Condition}
+use Rattle.meaning.specs.Tree.{Expression, end, thenCharacter, thenSymbol, thenPart, thenCall, Sentence, Function}
+use Rattle.meaning.specs.Tree.{Table}
 
 -- what a word is: its kind, and what it carries, which is below `kindWidth`
 abbrev pub kindWidth : ℕ
@@ -132,7 +135,8 @@ expressionTape (thenCall place n a e) =
 
 abbrev pub sentenceTape : Sentence → List ℕ
 sentenceTape s =
-    patternTape (s .pattern) ++ (conditionsTape (s .conditions) ++ tapeWord equalsKind 0 ∷ expressionTape (s .expression))
+    patternTape (s .pattern)
+    ++ (conditionsTape (s .conditions) ++ tapeWord equalsKind 0 ∷ expressionTape (s .expression))
 
 -- sentences are parted, and the last is followed by the function's end
 unfoldable pub sentencesTape : List Sentence → List ℕ

@@ -8,13 +8,15 @@ use Rattle.meaning.specs.Choice.{Name, pick}
 use Rattle.meaning.specs.Classes.{Class, digit, upper, lower, alphabetic, blank}
 use Rattle.meaning.specs.Classes.{digitNumber, upperNumber, lowerNumber, alphabeticNumber}
 use Rattle.meaning.specs.Allowed.{maxLetters, maxConditions, maxItems, maxNesting}
-use Rattle.tape_layout.specs.Tape.{kindWidth, symbolWord, partWord, conditionWord, equalsWord, closeWord, nextWord, callWord}
+use Rattle.tape_layout.specs.Tape.{kindWidth, symbolWord, partWord, conditionWord, equalsWord, closeWord, nextWord}
+use Rattle.tape_layout.specs.Tape.{callWord}
 use Rattle.tape_words.specs.declared.tape.Parts.{Parts}
 use Rattle.tape_words.specs.declared.tape.Parts.the-variants.{Zero, One, Two}
 use Rattle.tape_words.specs.declared.tape.Piece.{Piece}
 use Rattle.tape_words.specs.declared.tape.Piece.the-variants.{Character, SVariable, EVariable, PatternEnd}
 use Rattle.tape_words.specs.declared.tape.Item.{Item}
-use Rattle.tape_words.specs.declared.tape.Item.the-variants.{Byte, Symbol, Part, Call, Pass, Close, Unclosed, Stop}
+use Rattle.tape_words.specs.declared.tape.Item.the-variants.{Byte, Symbol, Part, Call, Pass, Close, Unclosed}
+use Rattle.tape_words.specs.declared.tape.Item.the-variants.{Stop}
 
 -- what a word carries besides its kind: the length of the name after it
 abbrev pub carried : ℕ → ℕ
@@ -55,10 +57,14 @@ abbrev pub isConditionWord : ℕ → ℕ → Bool
 isConditionWord count w = pick (leb maxConditions count) false (pick (ltb w conditionWord) false (ltb w equalsWord))
 
 abbrev pub classIn : ℕ → Class
-classIn n = pick (eqb n digitNumber) digit (pick (eqb n upperNumber) upper (pick (eqb n lowerNumber) lower (pick (eqb n alphabeticNumber) alphabetic blank)))
+classIn n =
+    pick (eqb n digitNumber) digit
+    (pick (eqb n upperNumber) upper
+    (pick (eqb n lowerNumber) lower
+    (pick (eqb n alphabeticNumber) alphabetic blank)))
 
--- IN AN EXPRESSION, with so many calls open and after so many items: at most 128 items are read; a call with 16 open round it is passed over, and what is no item
--- ends the open calls and the expression
+-- IN AN EXPRESSION, with so many calls open and after so many items: at most 128 items are read; a call with 16 open
+-- round it is passed over, and what is no item ends the open calls and the expression
 
 abbrev pub endingOf : ℕ → ℕ → Item
 endingOf w depth = pick (eqb depth 0) Stop (pick (ltb w closeWord) Unclosed (pick (ltb w nextWord) Close Unclosed))

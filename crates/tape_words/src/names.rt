@@ -1,4 +1,5 @@
-// Names on the tape: comparing two, finding one in a list, telling how a call is done, and finding who recovers a function.
+// Names on the tape: comparing two, finding one in a list, telling how a call is done, and finding who recovers a
+// function.
 use crate::tape::name_size;
 use crate::tape::word_at;
 use crate::tape::word_inside;

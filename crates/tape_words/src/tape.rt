@@ -18,7 +18,8 @@ ghost use lib.ListN.{length, take, drop, getD, replicate};
 ghost use Rattle.meaning.specs.Allowed.{maxLetters};
 ghost use Rattle.meaning.specs.Choice.{pick};
 ghost use Rattle.tape_layout.specs.Tape.{kindWidth};
-ghost use Rattle.tape_words.specs.Words.{headName, partPiece, pieceOf, pieceAt, endingOf, openingOf, itemOfWord, itemAt};
+ghost use Rattle.tape_words.specs.Words.{headName, partPiece, pieceOf, pieceAt, endingOf, openingOf, itemOfWord};
+ghost use Rattle.tape_words.specs.Words.{itemAt};
 
 // How many e-variables a pattern has, or has had so far.
 pub enum Parts {
@@ -35,7 +36,8 @@ pub enum Piece {
     PatternEnd,
 }
 
-// What a word is where an expression may go on. `Pass`: a call with 16 open round it, which no table has. `Unclosed`: no item, with a call open.
+// What a word is where an expression may go on. `Pass`: a call with 16 open round it, which no table has. `Unclosed`:
+// no item, with a call open.
 pub enum Item {
     Byte,
     Symbol,

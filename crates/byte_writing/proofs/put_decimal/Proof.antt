@@ -18,7 +18,8 @@ returns-2 c =
     let at-if1 = at-if2 .before in
     let entry = at-if1 .before .before in
     let n = entry .args .number in
-    let tens : n / 10 % 10 ≡ n / 10 = omega (arith, at-if2 .if2 .taken) in rw (le-ltb _ _ (at-if1 .if1 .left), lt-ltb _ _ (at-if2 .if2 .taken), ← tens)
+    let tens : n / 10 % 10 ≡ n / 10 = omega (arith, at-if2 .if2 .taken) in
+    rw (le-ltb _ _ (at-if1 .if1 .left), lt-ltb _ _ (at-if2 .if2 .taken), ← tens)
     (at-put-tens .put-tens .ensures)
 
 returns-3 : tie.Need-returns-3

@@ -12,7 +12,8 @@ use Rattle.meaning.specs.Choice.{Name, pick, both, guard}
 use Rattle.meaning.specs.Tree.{Expression, end, Table}
 use Rattle.meaning.specs.Angles.{plus, minus, operation}
 use Rattle.meaning.specs.Names.{Calling as Called, asEmission, asAngles, asFunction, callingOf, numberOf}
-use Rattle.meaning.specs.Translation.{Shape, Manner as MeantManner, emits, computes, replaces, nests, Level, outermost, inArgument, inTail, isEnd, mannerAs, mannerOf, levelIn, endsPattern, leftFor}
+use Rattle.meaning.specs.Translation.{Shape, Manner as MeantManner, emits, computes, replaces, nests, Level, outermost, inArgument, inTail, isEnd}
+use Rattle.meaning.specs.Translation.{mannerAs, mannerOf, levelIn, endsPattern, leftFor}
 use Rattle.tape_words.specs.Finding.{callingIn}
 use Rattle.tape_words.specs.declared.names.Calling.{Calling}
 use Rattle.tape_words.specs.declared.names.Calling.the-variants.{Emission, Angles, Function}
@@ -23,7 +24,8 @@ use Rattle.code_expressions.specs.declared.expression.Walk.{Walk}
 use Rattle.code_expressions.specs.declared.expression.Manner.{Manner}
 use Rattle.code_expressions.specs.declared.expression.Manner.the-variants.{Emits, Computes, Replaces, Nests}
 use Rattle.code_expressions.specs.Levels.{Levels, levelsEnded, firstOf, othersOf, itemBy, levelsIn}
-use Rattle.code_expressions.specs.Resuming.{levelAt, openNames, levelsNow, restNow, callDone, isStop, lastCall, mannerBy, mannerNow, continues, endingBy}
+use Rattle.code_expressions.specs.Resuming.{levelAt, openNames, levelsNow, restNow, callDone, isStop, lastCall, mannerBy, mannerNow, continues}
+use Rattle.code_expressions.specs.Resuming.{endingBy}
 use Rattle.code_expressions.proofs.laws.Items.{stops, Told, told, levels-at, levels-stop, stops-below, last-item}
 use Rattle.code_expressions.proofs.laws.Resumed.{open-less, open-last, outermost-moves, nested-moves}
 
@@ -89,7 +91,8 @@ module _ (ws calls : List ℕ) (w : Walk) where
       record {
         deep = told ws (w .next) (w .depth) (w .items) Unclosed e;
         forward = omega arith;
-        now = levels-stop ws (w .next) (w .depth) (w .items) (ap stops e) ∙ ap (λ (r : List ℕ). levelsEnded r) (sym (ap (λ (l : Levels). l .rest) below));
+        now = levels-stop ws (w .next) (w .depth) (w .items) (ap stops e) ∙
+            ap (λ (r : List ℕ). levelsEnded r) (sym (ap (λ (l : Levels). l .rest) below));
         first = sym (ap (λ (l : Levels). l .current) below);
         others = sym (ap (λ (l : Levels). l .outer) below);
       }

@@ -12,7 +12,8 @@ use Rattle.meaning.specs.Choice.{Name, pick, both, guard, Named, sameBytes}
 use Rattle.meaning.specs.Tree.{Expression, thenCharacter, thenSymbol, thenPart, Table}
 use Rattle.meaning.specs.Names.{numberOf}
 use Rattle.meaning.specs.Instructions.{Site, Action, go, select, out}
-use Rattle.meaning.specs.Translation.{Shape, Manner as MeantManner, Passage, passage, restOf, valueNumber, endsPattern, leftFor, whereLeft, calling, actionsOf}
+use Rattle.meaning.specs.Translation.{Shape, Manner as MeantManner, Passage, passage, restOf, valueNumber, endsPattern, leftFor, whereLeft, calling}
+use Rattle.meaning.specs.Translation.{actionsOf}
 use Rattle.meaning.specs.Packing.{Words, codeWord, spanWord, packActions}
 use Rattle.tape_words.specs.declared.tape.Item.{Item}
 use Rattle.tape_words.specs.declared.tape.Item.the-variants.{Byte, Symbol, Part, Call, Pass, Close, Unclosed, Stop}
@@ -29,14 +30,18 @@ use Rattle.tape_words.specs.Finding.{numberAmong}
 use Rattle.code_patterns.specs.Measuring.{flag, firstPartOr}
 use Rattle.code_actions.specs.ActionWords.{spanWords, partWords, restWord, leftWords}
 use Rattle.code_actions.specs.Spanning.{meantStand, gapBy, pieceSpan, standAfter, endsBy}
-use Rattle.code_expressions.specs.Resuming.{levelAt, resume, openNames, levelsNow, remaining, restNow, itemDone, wordDone, callDone, callWords, mannerNow, continues, endingWords, pastEnding, pastName, isFirst, stays, allDone, Means, InItems, Innermost, ItemsOn, ItemsAll}
+use Rattle.code_expressions.specs.Resuming.{levelAt, resume, openNames, levelsNow, remaining, restNow, itemDone, wordDone, callDone, callWords}
+use Rattle.code_expressions.specs.Resuming.{mannerNow, continues, endingWords, pastEnding, pastName, isFirst, stays, allDone, Means, InItems}
+use Rattle.code_expressions.specs.Resuming.{Innermost, ItemsOn, ItemsAll}
 use Rattle.tape_words.proofs.laws.Names.{name-here, name-fits-here, name-short}
 use Rattle.code_expressions.proofs.laws.Naming.{value-among, number-among}
 use Rattle.code_words.proofs.laws.Stores.{same-refl, same-trans, same-words, same-wrote, same-end}
 use Rattle.code_actions.proofs.Spanned.{rest-span, passage-spans, ends-same}
 use Rattle.code_expressions.proofs.laws.Items.{stops, Reads, Told, told, levels-at, levels-past, levels-stop}
-use Rattle.code_expressions.proofs.laws.Resumed.{resume-character, resume-symbol, resume-part, resume-call, resume-end, resume-last, open-more, open-less}
-use Rattle.code_expressions.proofs.laws.Endings.{meant, called, Ends, closed-ends, unclosed-ends, manner-same, rest-same, left-same, Passed, passed}
+use Rattle.code_expressions.proofs.laws.Resumed.{resume-character, resume-symbol, resume-part, resume-call, resume-end, resume-last, open-more}
+use Rattle.code_expressions.proofs.laws.Resumed.{open-less}
+use Rattle.code_expressions.proofs.laws.Endings.{meant, called, Ends, closed-ends, unclosed-ends, manner-same, rest-same, left-same, Passed}
+use Rattle.code_expressions.proofs.laws.Endings.{passed}
 
 -- the innermost open call is known
 pub innermost : {ws calls : List ℕ} {w : Walk} → InItems ws calls w → 0 < w .depth → Innermost ws calls w
@@ -86,7 +91,8 @@ module _ (ws heads names : List ℕ) (m : Pattern) (calls : List ℕ) (w : Walk)
   after n = levelsIn (w .depth) (w .items + 1) 0 (drop (w .next + 1 + n) ws)
 
   -- an item of so many words after its first is written, and leads to those levels
-  item-on : {code code′ words calls′ : List ℕ} {r : Walk} {depth : ℕ} {stand : Stand} (n : ℕ) → Reads ws (w .next) (w .items) → w .next + 1 + n ≤ length ws
+  item-on : {code code′ words calls′ : List ℕ} {r : Walk} {depth : ℕ} {stand : Stand} (n : ℕ) → Reads ws (w .next) (w .items) →
+      w .next + 1 + n ≤ length ws
       → levelsNow ws w .rest ≡ levelsNow ws (itemDone w n (r .at) depth stand) .rest
       → ((t : Table) (s : Shape) (ss : List (Named Site)) → Means ws heads names m t s ss
       → remaining true t s ss ws calls w ≡ words ++ remaining true t s ss ws calls′ (itemDone w n (r .at) depth stand))
@@ -112,7 +118,8 @@ module _ (ws heads names : List ℕ) (m : Pattern) (calls : List ℕ) (w : Walk)
       → Wrote code (w .at) words code′ (r .at) → r ≡ itemDone w n (r .at) (w .depth) stand → length words ≤ 270
       → ItemsOn ws heads names m calls code w calls code′ r
   plain-on item n read fits now same wrote done few =
-      item-on n read fits (ap (λ (l : Levels). l .rest) now) (λ t s ss means. rw now (same t s ss means)) wrote done (within .room) (within .opened) (within .depth) (omega arith) (omega arith)
+      item-on n read fits (ap (λ (l : Levels). l .rest) now) (λ t s ss means. rw now (same t s ss means)) wrote done (within .room) (within .opened)
+      (within .depth) (omega arith) (omega arith)
 
   -- a variable, whichever it is
   variable-now : (variable : Name → Expression → Expression) → Reads ws (w .next) (w .items)
@@ -132,7 +139,8 @@ module _ (ws heads names : List ℕ) (m : Pattern) (calls : List ℕ) (w : Walk)
       let now : levelsNow ws w ≡ onCurrent (thenCharacter (getD ws (w .next) 0)) (after 0) = reads Byte (read .inside) e ∙ rw z in
       plain-on (thenCharacter (getD ws (w .next) 0)) 0 read (omega (arith, read .inside)) now
       (λ t s ss means.
-      ap packActions (resume-character t s ss (openNames ws calls (w .depth)) (getD ws (w .next) 0) (after 0 .current) (after 0 .outer) (meantStand (w .stand))))
+      ap packActions (resume-character t s ss (openNames ws calls (w .depth)) (getD ws (w .next) 0) (after 0 .current) (after 0 .outer)
+      (meantStand (w .stand))))
       wrote done (omega arith)
 
   pub value-on : {code code′ : List ℕ} {r : Walk} → it ≡ Symbol
@@ -147,7 +155,8 @@ module _ (ws heads names : List ℕ) (m : Pattern) (calls : List ℕ) (w : Walk)
       let value : valueNumber ss name ≡ numberAmong 0 (headNames ws names) name - 1 =
       value-among 0 ss name ∙ ap (λ (l : List Name). numberAmong 0 l name - 1) (means .symbols) in
       ap packActions (resume-symbol t s ss (openNames ws calls (w .depth)) name (after size .current) (after size .outer) (meantStand (w .stand)))
-      ∙ ap (λ (v : ℕ). codeWord 9 v 0 0 ∷ packActions (resume t s ss (openNames ws calls (w .depth)) (after size .current) (after size .outer) (meantStand (w .stand)))) value)
+      ∙ ap (λ (v : ℕ). codeWord 9 v 0 0 ∷ packActions (resume t s ss (openNames ws calls (w .depth)) (after size .current) (after size .outer)
+      (meantStand (w .stand)))) value)
       wrote done (omega arith)
 
   -- the number of the innermost open call's function
@@ -257,7 +266,8 @@ module _ (ws heads names : List ℕ) (m : Pattern) (calls : List ℕ) (w : Walk)
       rw more (item-on size read (name-fits-here ws (w .next) (read .inside)) (ap (λ (l : Levels). l .rest) now)
       (λ t s ss means.
       rw (now, open-more ws calls (w .depth) (w .next) (omega (arith, within .room)))
-      (ap packActions (resume-call t s ss (openNames ws calls (w .depth)) (placeIn (getD ws (w .next) 0)) name (later .current) (later .outer) (meantStand (w .stand)))))
+      (ap packActions (resume-call t s ss (openNames ws calls (w .depth)) (placeIn (getD ws (w .next) 0)) name (later .current) (later .outer)
+      (meantStand (w .stand)))))
       wrote done (length-set calls (w .depth) (w .next) ∙ within .room) (still deep (read .inside)) (omega arith) (omega arith) (omega arith))
     where
       still : w .depth < 16 → w .next < length ws → (k : ℕ) → k < w .depth + 1 → getD (set calls (w .depth) (w .next)) k 0 < length ws

@@ -115,7 +115,8 @@ module _ (ws : List ℕ) (i depth items : ℕ) where
       on-tape : i < length ws → Told (itemAt (drop i ws) depth items)
       on-tape h =
           rw (at-place ws i h)
-          (word-told (leb 128 items) (ltb word 256) (ltb word 512) (ltb word 768) (ltb word 2304) (eqb depth 0) (ltb word 1280) (ltb word 1536) (ltb depth 16)
+          (word-told (leb 128 items) (ltb word 256) (ltb word 512) (ltb word 768) (ltb word 2304) (eqb depth 0) (ltb word 1280) (ltb word 1536)
+          (ltb depth 16)
           refl refl refl refl h)
 
       by-test : (z : Bool) → eqb depth 0 ≡ z → Told (pick z Stop Unclosed)
@@ -145,12 +146,14 @@ pub levels-past : (depth items : ℕ) (ws : List ℕ) (i : ℕ) → i < length w
 levels-past depth items ws i h =
     levels-skip depth items (carried (getD ws i 0)) (drop (i + 1) ws) ∙ ap (levelsIn depth items 0) (name-skip ws i h)
 
-pub levels-stop : (ws : List ℕ) (i depth items : ℕ) → stops (itemAt (drop i ws) depth items) ≡ true → levelsIn depth items 0 (drop i ws) ≡ levelsEnded (drop i ws)
+pub levels-stop : (ws : List ℕ) (i depth items : ℕ) → stops (itemAt (drop i ws) depth items) ≡ true → levelsIn depth items 0 (drop i ws) ≡
+    levelsEnded (drop i ws)
 unfolding levelsIn
 levels-stop ws i depth items e =
     by-place ws i (λ h. at-word h (itemAt (drop i ws) depth items) refl e) (λ h. rw (drop-of-length-le ws h))
   where
-    at-word : i < length ws → (it : Item) → itemAt (drop i ws) depth items ≡ it → stops it ≡ true → levelsIn depth items 0 (drop i ws) ≡ levelsEnded (drop i ws)
+    at-word : i < length ws → (it : Item) → itemAt (drop i ws) depth items ≡ it → stops it ≡ true → levelsIn depth items 0 (drop i ws) ≡
+        levelsEnded (drop i ws)
     at-word h Byte f s = cc
     at-word h Symbol f s = cc
     at-word h Part f s = cc
@@ -169,7 +172,8 @@ stops-below ws i depth items e =
     let deep : eqb depth 0 ≡ false = ne-eqb depth 0 (λ z. omega (arith, told ws i depth items Unclosed e)) in
     let now : stops (itemOfWord w depth items) ≡ true = rw (at-place ws i h) at (ap stops e) in
     rw (at-place ws i h)
-    (below-tests (leb 128 items) (ltb w 256) (ltb w 512) (ltb w 768) (ltb w 2304) (eqb (depth - 1) 0) (ltb w 1280) (ltb w 1536) (ltb depth 16) (ltb (depth - 1) 16)
+    (below-tests (leb 128 items) (ltb w 256) (ltb w 512) (ltb w 768) (ltb w 2304) (eqb (depth - 1) 0) (ltb w 1280) (ltb w 1536) (ltb depth 16)
+    (ltb (depth - 1) 16)
     (rw deep at now)))
     (λ h. outside ws i (depth - 1) items h)
 

@@ -29,7 +29,8 @@ sized {ws} {p} h e =
 
 -- among all heads, the name after a word
 pub found-among : {ws : List ℕ} (heads : List ℕ) {p size r : ℕ} → Sized ws p size
-    → r ≡ numberAmong 0 (headNames ws (take (length heads) heads)) (take size (drop (p + 1) ws)) → r ≡ numberAmong 0 (headNames ws heads) (headName ws p)
+    → r ≡ numberAmong 0 (headNames ws (take (length heads) heads)) (take size (drop (p + 1) ws)) → r ≡
+    numberAmong 0 (headNames ws heads) (headName ws p)
 found-among {ws} heads s e =
     e ∙ ap₂ (λ (l : List ℕ) (x : Name). numberAmong 0 (headNames ws l) x) (take-length heads) (s .words)
 

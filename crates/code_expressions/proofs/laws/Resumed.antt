@@ -13,7 +13,8 @@ use Rattle.meaning.specs.Choice.{Name, pick, Named}
 use Rattle.meaning.specs.Tree.{Expression, end, thenCharacter, thenSymbol, thenPart, thenCall, Table}
 use Rattle.meaning.specs.Names.{Calling, asEmission, asAngles, asFunction, callingOf, numberOf}
 use Rattle.meaning.specs.Instructions.{Site, go, select, out, outC, outV, beginSeq}
-use Rattle.meaning.specs.Translation.{Shape, Stand, passage, restOf, valueNumber, Manner, emits, computes, replaces, nests, mannerAs, isEnd, inTailPosition, mannerOf, levelIn, leftFor, whereLeft, calling, itemActions}
+use Rattle.meaning.specs.Translation.{Shape, Stand, passage, restOf, valueNumber, Manner, emits, computes, replaces, nests, mannerAs, isEnd}
+use Rattle.meaning.specs.Translation.{inTailPosition, mannerOf, levelIn, leftFor, whereLeft, calling, itemActions}
 use Rattle.tape_words.specs.Words.{headName}
 use Rattle.code_expressions.specs.Levels.{firstOf, othersOf}
 use Rattle.code_expressions.specs.Resuming.{levelAt, resume, openNames}
@@ -58,7 +59,8 @@ module _ (t : Table) (s : Shape) (ss : List (Named Site)) where
 
 -- THE OPEN CALLS
 
-pub open-more : (ws calls : List ℕ) (depth p : ℕ) → depth < length calls → openNames ws (set calls depth p) (depth + 1) ≡ headName ws p ∷ openNames ws calls depth
+pub open-more : (ws calls : List ℕ) (depth p : ℕ) → depth < length calls → openNames ws (set calls depth p) (depth + 1) ≡
+    headName ws p ∷ openNames ws calls depth
 unfolding openNames
 open-more ws calls depth p h = rw (add-one, getD-set-same calls depth p 0 h) (ap (λ (l : List Name). headName ws p ∷ l) (kept depth (omega arith)))
   where

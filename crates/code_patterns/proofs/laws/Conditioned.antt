@@ -26,7 +26,8 @@ use Rattle.code_patterns.specs.Scans.{Scan, scanned, prepended, conditio
 use Rattle.code_words.specs.Writing.{Wrote, Same}
 use Rattle.tape_words.specs.Finding.{numberAmong}
 use Rattle.code_patterns.specs.Testing.{siteNumbers, siteNumber, IsSite, storeOfSite, foundSite, held, total}
-use Rattle.code_patterns.specs.Conditioning.{Located, located, Kept, boundsBy, conditionTestBy, conditionAt, coming, conditionWords, conditionDone, conditionsDone, InConditions, ConditionsOn, ConditionsAll}
+use Rattle.code_patterns.specs.Conditioning.{Located, located, Kept, boundsBy, conditionTestBy, conditionAt, coming, conditionWords}
+use Rattle.code_patterns.specs.Conditioning.{conditionDone, conditionsDone, InConditions, ConditionsOn, ConditionsAll}
 use Rattle.meaning.proofs.laws.Remaining.{at-place}
 use Rattle.tape_words.proofs.laws.Lists.{drop-again, reached, take-again}
 use Rattle.tape_words.proofs.laws.Names.{by-place}
@@ -42,7 +43,8 @@ conditions-at ws i count b h e =
     let f : isConditionWord count (getD ws i 0) ≡ b = rw (at-place ws i h) at e in
     rw (at-place ws i h, f)
 
-pub conditions-end : (ws : List ℕ) (i count : ℕ) → conditionAt count (drop i ws) ≡ false → conditionsOnTape count 0 (drop i ws) ≡ scanned [] (drop i ws)
+pub conditions-end : (ws : List ℕ) (i count : ℕ) → conditionAt count (drop i ws) ≡ false → conditionsOnTape count 0 (drop i ws) ≡
+    scanned [] (drop i ws)
 unfolding conditionsOnTape
 conditions-end ws i count e =
     by-place ws i (λ h. conditions-at ws i count false h e ∙ rw (at-place ws i h)) (λ h. rw (drop-of-length-le ws h))
@@ -209,7 +211,8 @@ pub record ConditionsSoFar (ws : List ℕ) (known : Located) (start at : ℕ) (c
   pub grown : c .at ≤ at + c .count
 
 pub conditions-go-on : {ws : List ℕ} {known : Located} {start at : ℕ} {code₀ code code′ : List ℕ} {c r : Conditions}
-    → ConditionsSoFar ws known start at code₀ code c → c .more ≡ true → ConditionsOn ws known code c code′ r → ConditionsSoFar ws known start at code₀ code′ r
+    → ConditionsSoFar ws known start at code₀ code c → c .more ≡ true → ConditionsOn ws known code c code′ r →
+    ConditionsSoFar ws known start at code₀ code′ r
 conditions-go-on s e o =
     record {
       same = same-trans (rw e at (s .same)) (o .same);

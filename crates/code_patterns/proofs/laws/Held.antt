@@ -104,7 +104,8 @@ lookup-from ws k [] ss x h = refl
 lookup-from ws k (p ∷ ps) [] x h = absurd (omega arith)
 lookup-from ws k (p ∷ ps) (s ∷ ss) x h = by-test (lookup-from ws (k + 1) ps ss x (omega arith)) (sameBytes x (headName ws p))
   where
-    by-test : lookup x (heldSites ws ps ss) ≡ foundFrom (k + 1) (numberAmong (k + 1) (headNames ws ps) x) ss → (t : Bool) → pick t (some (siteIn s)) (lookup x (heldSites ws ps ss))
+    by-test : lookup x (heldSites ws ps ss) ≡ foundFrom (k + 1) (numberAmong (k + 1) (headNames ws ps) x) ss → (t : Bool) →
+        pick t (some (siteIn s)) (lookup x (heldSites ws ps ss))
         ≡ foundFrom k (pick t (k + 1) (numberAmong (k + 1) (headNames ws ps) x)) (s ∷ ss)
     by-test e true =
         let z : k + 1 - (k + 1) ≡ 0 = omega arith in

@@ -16,7 +16,9 @@ use Rattle.tape_words.specs.declared.tape.Piece.the-variants.{Character, SVaria
 use Rattle.code_patterns.specs.declared.pattern.Pattern.{Pattern}
 use Rattle.tape_words.specs.Words.{headName, pieceAt}
 use Rattle.code_patterns.specs.Scans.{Scan, scanned, prepended, oneMore, pieceBy, patternOnTape, patternAt}
-use Rattle.code_patterns.specs.Measuring.{lengths, lengthsOf, addFirst, addSecond, addThird, longerLengths, cutLengths, variablePlace, pastLetter, pastPart, pastAll, measuredBy, variableBy, Measured, measuring, InPattern, flag, Measures, MeasuresAll}
+use Rattle.code_patterns.specs.Measuring.{lengths, lengthsOf, addFirst, addSecond, addThird, longerLengths, cutLengths, variablePlace}
+use Rattle.code_patterns.specs.Measuring.{pastLetter, pastPart, pastAll, measuredBy, variableBy, Measured, measuring, InPattern, flag, Measures}
+use Rattle.code_patterns.specs.Measuring.{MeasuresAll}
 use Rattle.tape_words.proofs.laws.Names.{name-here}
 use Rattle.code_patterns.proofs.laws.Scanning.{pattern-at, pattern-end, pattern-past, Fits, pattern-fits, NotBoth, Told, told}
 
@@ -127,7 +129,8 @@ module _ (ws : List ℕ) (m : Pattern) where
     tells p e = told ws (m .next) (m .letters) (m .lengths .parts) p (sym is ∙ e)
 
     reads : (p : Piece) → m .next < length ws → piece ≡ p
-        → here ≡ pieceBy p (m .letters) (m .lengths .parts) (getD ws (m .next) 0) (drop (m .next + 1) ws) (λ l q skip. patternOnTape l q skip (drop (m .next + 1) ws))
+        → here ≡ pieceBy p (m .letters) (m .lengths .parts) (getD ws (m .next) 0) (drop (m .next + 1) ws)
+        (λ l q skip. patternOnTape l q skip (drop (m .next + 1) ws))
     reads p inside e = pattern-at ws (m .next) (m .letters) (m .lengths .parts) p inside (sym is ∙ e)
 
     sum-longer : (p : Parts) (a b c n : ℕ) → a + b + c ≡ n → addFirst p a + addSecond p b + addThird p c ≡ n + 1
@@ -155,7 +158,8 @@ module _ (ws : List ℕ) (m : Pattern) where
         let z : m .next + 1 + 0 ≡ m .next + 1 = omega arith in
         letter-measures 0 room (omega arith) (letter-same (character (getD ws (m .next) 0)) 0 (reads Character inside e ∙ rw z)) done
 
-    pub variable-measures : {r : Pattern} {size : ℕ} → piece ≡ SVariable → size ≡ length (headName ws (m .next)) → r ≡ pastLetter m size → Measures ws m r
+    pub variable-measures : {r : Pattern} {size : ℕ} → piece ≡ SVariable → size ≡ length (headName ws (m .next)) → r ≡ pastLetter m size →
+        Measures ws m r
     variable-measures e long done =
         let (named, room) = tells SVariable e in
         letter-measures (length (headName ws (m .next))) room (named .fits)
@@ -194,7 +198,8 @@ pub measured-all : (ws : List ℕ) (start : ℕ) (r : Pattern) → r .more ≡ f
     → measuring (r .more) ws r
     ≡ measuring true ws (record { lengths = lengths Zero 0 0 0; variable = start; letters = 0; next = start; more = true }) → MeasuresAll ws start r
 measured-all ws start r h within e =
-    let f : measuring false ws r ≡ measuring true ws (record { lengths = lengths Zero 0 0 0; variable = start; letters = 0; next = start; more = true }) = rw h at e in
+    let f : measuring false ws r ≡
+    measuring true ws (record { lengths = lengths Zero 0 0 0; variable = start; letters = 0; next = start; more = true }) = rw h at e in
     record {
       lengths = ap (λ (m : Measured). m .lengths) f ∙ whole-lengths (shapeOf (patternAt (drop start ws) .value));
       variable = ap (λ (m : Measured). m .variable) f;

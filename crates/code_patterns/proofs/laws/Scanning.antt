@@ -50,7 +50,8 @@ module _ (ws : List ℕ) (i letters : ℕ) where
   part-told One h = (named h, tt)
   part-told Two h = tt
 
-  word-told : (a b c d : Bool) (parts : Parts) → leb maxLetters letters ≡ c → leb 256 (getD ws i 0) ≡ d → i < length ws → Told parts (pieceTests a b c d parts)
+  word-told : (a b c d : Bool) (parts : Parts) → leb maxLetters letters ≡ c → leb 256 (getD ws i 0) ≡ d → i < length ws →
+      Told parts (pieceTests a b c d parts)
   word-told true b c d parts room byte h = tt
   word-told false true c d parts room byte h = part-told parts h
   word-told false false true d parts room byte h = tt
@@ -68,7 +69,8 @@ module _ (ws : List ℕ) (i letters : ℕ) where
 -- READING
 
 pub pattern-at : (ws : List ℕ) (i letters : ℕ) (parts : Parts) (p : Piece) → i < length ws → pieceAt (drop i ws) letters parts ≡ p
-    → patternOnTape letters parts 0 (drop i ws) ≡ pieceBy p letters parts (getD ws i 0) (drop (i + 1) ws) (λ l q skip. patternOnTape l q skip (drop (i + 1) ws))
+    → patternOnTape letters parts 0 (drop i ws) ≡ pieceBy p letters parts (getD ws i 0) (drop (i + 1) ws)
+    (λ l q skip. patternOnTape l q skip (drop (i + 1) ws))
 unfolding patternOnTape
 pattern-at ws i letters parts p h e =
     let f : pieceOf (getD ws i 0) letters parts ≡ p = rw (at-place ws i h) at e in
@@ -81,7 +83,8 @@ unfolding patternOnTape
 pattern-end ws i letters parts e =
     by-place ws i (λ h. pattern-at ws i letters parts PatternEnd h e ∙ rw (at-place ws i h)) (λ h. rw (drop-of-length-le ws h))
 
-pub pattern-skip : (letters : ℕ) (parts : Parts) (skip : ℕ) (ws : List ℕ) → patternOnTape letters parts skip ws ≡ patternOnTape letters parts 0 (drop skip ws)
+pub pattern-skip : (letters : ℕ) (parts : Parts) (skip : ℕ) (ws : List ℕ) → patternOnTape letters parts skip ws ≡
+    patternOnTape letters parts 0 (drop skip ws)
 unfolding patternOnTape
 pattern-skip letters parts zero ws = refl
 pattern-skip letters parts (suc skip) [] = refl
@@ -133,7 +136,8 @@ at-most-later Zero x es h = h
 at-most-later One x es h = h
 at-most-later Two x es h = absurd h
 
-at-most-part : (parts : Parts) (w letters : ℕ) (x : Name) (es : List Element) → pieceOf w letters parts ≡ EVariable → AtMost (oneMore parts) es → AtMost parts (part x ∷ es)
+at-most-part : (parts : Parts) (w letters : ℕ) (x : Name) (es : List Element) → pieceOf w letters parts ≡ EVariable → AtMost (oneMore parts) es →
+    AtMost parts (part x ∷ es)
 unfolding AtMost
 at-most-part Zero w letters x es e h = h
 at-most-part One w letters x es e h = h
@@ -148,7 +152,8 @@ unfolding AtMost
 at-most-by Character letters parts w ws e h = h (letters + 1) parts 0
 at-most-by SVariable letters parts w ws e h = h (letters + 1) parts (carried w)
 at-most-by EVariable letters parts w ws e h =
-    at-most-part parts w letters (take (carried w) ws) (patternOnTape letters (oneMore parts) (carried w) ws .value) e (h letters (oneMore parts) (carried w))
+    at-most-part parts w letters (take (carried w) ws) (patternOnTape letters (oneMore parts) (carried w) ws .value) e
+    (h letters (oneMore parts) (carried w))
 at-most-by PatternEnd letters parts w ws e h = tt
 
 pub pattern-at-most : (ws : List ℕ) (letters : ℕ) (parts : Parts) (skip : ℕ) → AtMost parts (patternOnTape letters parts skip ws .value)
@@ -157,7 +162,8 @@ pattern-at-most [] letters parts skip = tt
 pattern-at-most (w ∷ ws) letters parts zero = at-most-by (pieceOf w letters parts) letters parts w ws refl (pattern-at-most ws)
 pattern-at-most (w ∷ ws) letters parts (suc skip) = pattern-at-most ws letters parts skip
 
-cut-fits : (parts : Parts) (x : Name) (es : List Element) → AtMost parts (part x ∷ es) → Fits (oneMore parts) (shapeOf es) → Fits parts (cutAt x (shapeOf es))
+cut-fits : (parts : Parts) (x : Name) (es : List Element) → AtMost parts (part x ∷ es) → Fits (oneMore parts) (shapeOf es) →
+    Fits parts (cutAt x (shapeOf es))
 unfolding AtMost
 cut-fits Zero x es h f = tt
 cut-fits One x es h f = by-shape (shapeOf es) f

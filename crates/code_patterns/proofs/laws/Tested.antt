@@ -23,7 +23,8 @@ use Rattle.code_patterns.specs.Scans.{Scan, scanned, prepended, oneMore,
 use Rattle.code_words.specs.Writing.{Wrote, Same}
 use Rattle.tape_words.specs.Finding.{numberAmong}
 use Rattle.code_patterns.specs.Measuring.{flag}
-use Rattle.code_patterns.specs.Testing.{siteNumbers, siteAt, siteNumber, siteIn, AllSites, foundSite, held, walk, startFrom, testing, testWords, InTests, TestsOn, letterDone, partDone, testsDone, TestsAll, total}
+use Rattle.code_patterns.specs.Testing.{siteNumbers, siteAt, siteNumber, siteIn, AllSites, foundSite, held, walk, startFrom, testing, testWords}
+use Rattle.code_patterns.specs.Testing.{InTests, TestsOn, letterDone, partDone, testsDone, TestsAll, total}
 use Rattle.tape_words.proofs.laws.Names.{name-here, name-part}
 use Rattle.code_words.proofs.laws.Stores.{same-refl, same-trans, same-words, same-wrote, same-end}
 use Rattle.code_patterns.proofs.laws.Scanning.{Told, told, pattern-at, pattern-end, pattern-past}
@@ -39,7 +40,8 @@ tested ts ss = record { tests = ts; sites = ss }
 
 module _ (l : Lengths) where
   abbrev Prefixes : List Element → Type 0
-  Prefixes es = (k : Parts) (o : ℕ) (ts : List Test) (ss : List (Named Site)) → walk l k o es (tested ts ss) ≡ prefixed ts (walk l k o es (startFrom ss))
+  Prefixes es = (k : Parts) (o : ℕ) (ts : List Test) (ss : List (Named Site)) → walk l k o es (tested ts ss) ≡
+      prefixed ts (walk l k o es (startFrom ss))
 
   -- a test at the end of those so far
   prefix-one : (es : List Element) → Prefixes es → (k : Parts) (o : ℕ) (t : Test) (ts : List Test) (ss : List (Named Site))
@@ -48,7 +50,8 @@ module _ (l : Lengths) where
       h k o (ts ++ t ∷ []) ss ∙ sym (ap (prefixed ts) (h k o (t ∷ []) ss)
       ∙ ap (λ (r : List Test). tested r (walk l k o es (startFrom ss) .sites)) (sym (append-assoc ts (t ∷ []) (walk l k o es (startFrom ss) .tests))))
 
-  prefix-symbol : (es : List Element) → Prefixes es → (k : Parts) (o : ℕ) (known : Option Site) (x : Name) (s : Site) (ts : List Test) (ss : List (Named Site))
+  prefix-symbol : (es : List Element) → Prefixes es → (k : Parts) (o : ℕ) (known : Option Site) (x : Name) (s : Site) (ts : List Test)
+      (ss : List (Named Site))
       → walk l k o es (testedSymbol known x s (tested ts ss)) ≡ prefixed ts (walk l k o es (testedSymbol known x s (startFrom ss)))
   prefix-symbol es h k o none x s ts ss = h k o ts (ss ++ record { name = x; value = s } ∷ [])
   prefix-symbol es h k o (some first) x s ts ss = prefix-one es h k o (compare first s) ts ss
@@ -97,12 +100,14 @@ module _ (ws : List ℕ) (l : Lengths) (names sites : List ℕ) (t : Tests) (wit
   tells p e = told ws (t .next) (t .letters) (t .parts) p (sym is ∙ e)
 
   reads : (p : Piece) → t .next < length ws → piece ≡ p
-      → here ≡ pieceBy p (t .letters) (t .parts) (getD ws (t .next) 0) (drop (t .next + 1) ws) (λ l q skip. patternOnTape l q skip (drop (t .next + 1) ws))
+      → here ≡ pieceBy p (t .letters) (t .parts) (getD ws (t .next) 0) (drop (t .next + 1) ws)
+      (λ l q skip. patternOnTape l q skip (drop (t .next + 1) ws))
   reads p inside e = pattern-at ws (t .next) (t .letters) (t .parts) p inside (sym is ∙ e)
 
   -- BOUNDS AFTER A STEP
 
-  letter-within : {names′ sites′ : List ℕ} {symbols at : ℕ} (n : ℕ) → t .letters < 64 → t .next + 1 + n ≤ length ws → length names′ ≡ 64 → length sites′ ≡ 64
+  letter-within : {names′ sites′ : List ℕ} {symbols at : ℕ} (n : ℕ) → t .letters < 64 → t .next + 1 + n ≤ length ws → length names′ ≡ 64 →
+      length sites′ ≡ 64
       → AllSites sites′ → symbols ≤ t .symbols + 1 → at ≤ t .at + 1 → InTests ws names′ sites′ (letterDone t symbols n at)
   letter-within n room fits hn hs good h g =
       record {
@@ -141,7 +146,8 @@ module _ (ws : List ℕ) (l : Lengths) (names sites : List ℕ) (t : Tests) (wit
   test-on {code} n x e now wrote done room fits =
       rw done record {
         same =
-            same-wrote _ (same-words (same-refl code (t .at) _) (ap testWords now ∙ ap (λ (w : ℕ). w ∷ map testWord (walked n known .tests)) e)) wrote;
+            same-wrote _ (same-words (same-refl code (t .at) _) (ap testWords now ∙ ap (λ (w : ℕ). w ∷ map testWord (walked n known .tests)) e))
+            wrote;
         known = sym (ap (λ (s : Scan Tested). s .value .sites) now);
         rest = sym (ap (λ (s : Scan Tested). s .rest) now);
         within = letter-within n room fits (within .nameRoom) (within .siteRoom) (within .good) (omega arith) (omega (arith, wrote .next));
@@ -156,7 +162,8 @@ module _ (ws : List ℕ) (l : Lengths) (names sites : List ℕ) (t : Tests) (wit
   unwritten-on {names′} {sites′} {code} r e later inside ahead more =
       record {
         same =
-            subst (λ (a : ℕ). Same code (t .at) (testWords (testing true ws l names sites t)) code a (testWords (testing (r .more) ws l names′ sites′ r))) (sym e)
+            subst (λ (a : ℕ). Same code (t .at) (testWords (testing true ws l names sites t)) code a
+            (testWords (testing (r .more) ws l names′ sites′ r))) (sym e)
             (same-words (same-refl code (t .at) _) (ap testWords later));
         known = sym (ap (λ (s : Scan Tested). s .value .sites) later);
         rest = sym (ap (λ (s : Scan Tested). s .rest) later);
@@ -190,7 +197,8 @@ module _ (ws : List ℕ) (l : Lengths) (names sites : List ℕ) (t : Tests) (wit
   -- after it, by what is known of it
   abbrev afterSymbol : Option Site → Scan Tested
   afterSymbol o =
-      scanned (walk l (t .parts) (t .offset + 1) (afterLetter size .value) (testedSymbol o (headName ws (t .next)) site (startFrom known))) (afterLetter size .rest)
+      scanned (walk l (t .parts) (t .offset + 1) (afterLetter size .value) (testedSymbol o (headName ws (t .next)) site (startFrom known)))
+      (afterLetter size .rest)
 
   symbol-now : (o : Option Site) → piece ≡ SVariable → lookup (headName ws (t .next)) known ≡ o → testing true ws l names sites t ≡ afterSymbol o
   unfolding walk
@@ -212,21 +220,26 @@ module _ (ws : List ℕ) (l : Lengths) (names sites : List ℕ) (t : Tests) (wit
       let first = siteIn (foundSite found sites) in
       let (named, room) = tells SVariable e in
       let known-now : lookup (headName ws (t .next)) known ≡ some first =
-      lookup-some ws names sites (t .symbols) (headName ws (t .next)) (omega (arith, symbols-fit, within .nameRoom)) (omega (arith, symbols-fit, within .siteRoom)) h g in
+      lookup-some ws names sites (t .symbols) (headName ws (t .next)) (omega (arith, symbols-fit, within .nameRoom))
+      (omega (arith, symbols-fit, within .siteRoom)) h g in
       test-on size (compare first site) (compare-word (foundSite found sites) site (found-good sites (within .good) found .same))
       (symbol-now (some first) e known-now
-      ∙ ap (λ (d : Tested). scanned d (afterLetter size .rest)) (walk-prefix l (afterLetter size .value) (t .parts) (t .offset + 1) (compare first site ∷ []) known))
+      ∙ ap (λ (d : Tested). scanned d (afterLetter size .rest))
+      (walk-prefix l (afterLetter size .value) (t .parts) (t .offset + 1) (compare first site ∷ []) known))
       wrote done room (named .fits)
 
   new-on : {code : List ℕ} → piece ≡ SVariable → total l ≤ 64 → found ≡ 0
-      → TestsOn ws l names sites code t (set names (t .symbols) (t .next)) (set sites (t .symbols) (siteNumber site)) code (letterDone t (t .symbols + 1) size (t .at))
+      → TestsOn ws l names sites code t (set names (t .symbols) (t .next)) (set sites (t .symbols) (siteNumber site)) code
+      (letterDone t (t .symbols + 1) size (t .at))
   new-on e small h =
       let x = headName ws (t .next) in
       let (named, room) = tells SVariable e in
       let known-now : lookup x known ≡ none =
       lookup-none ws names sites (t .symbols) x (omega (arith, symbols-fit, within .nameRoom)) (omega (arith, symbols-fit, within .siteRoom)) h in
-      let more : held ws (set names (t .symbols) (t .next)) (set sites (t .symbols) (siteNumber site)) (t .symbols + 1) ≡ known ++ record { name = x; value = site } ∷ [] =
-      held-more ws names sites (t .symbols) (t .next) (siteNumber site) (omega (arith, within .symbols, within .nameRoom)) (omega (arith, within .symbols, within .siteRoom))
+      let more : held ws (set names (t .symbols) (t .next)) (set sites (t .symbols) (siteNumber site)) (t .symbols + 1) ≡
+      known ++ record { name = x; value = site } ∷ [] =
+      held-more ws names sites (t .symbols) (t .next) (siteNumber site) (omega (arith, within .symbols, within .nameRoom))
+      (omega (arith, within .symbols, within .siteRoom))
       ∙ ap (λ (s : Site). known ++ record { name = x; value = s } ∷ []) (site-back site) in
       let now : testing true ws l names sites t ≡ scanned (walked size (known ++ record { name = x; value = site } ∷ [])) (afterLetter size .rest) =
       symbol-now none e known-now in
@@ -238,7 +251,8 @@ module _ (ws : List ℕ) (l : Lengths) (names sites : List ℕ) (t : Tests) (wit
 
   -- AN E-VARIABLE, AND THE END
 
-  pub part-on : {code : List ℕ} {r : Tests} {n : ℕ} → piece ≡ EVariable → n ≡ size → r ≡ partDone t n → TestsOn ws l names sites code t names sites code r
+  pub part-on : {code : List ℕ} {r : Tests} {n : ℕ} → piece ≡ EVariable → n ≡ size → r ≡ partDone t n →
+      TestsOn ws l names sites code t names sites code r
   unfolding walk
   part-on e long done =
       let (named, one) = tells EVariable e in
@@ -246,7 +260,8 @@ module _ (ws : List ℕ) (l : Lengths) (names sites : List ℕ) (t : Tests) (wit
       reads EVariable (named .inside) e
       ∙ rw (pattern-past (t .letters) (oneMore (t .parts)) ws (t .next) (named .inside), ← (name-here ws (t .next) (named .inside))) in
       rw (done, long)
-      (unwritten-on (partDone t size) refl (rw now) (kept-within (partDone t size) refl refl refl (omega arith) (named .fits)) (omega (arith, named .fits)) (omega arith))
+      (unwritten-on (partDone t size) refl (rw now) (kept-within (partDone t size) refl refl refl (omega arith) (named .fits))
+      (omega (arith, named .fits)) (omega arith))
 
   pub end-on : {code : List ℕ} {r : Tests} → piece ≡ PatternEnd → r ≡ testsDone t → TestsOn ws l names sites code t names sites code r
   unfolding walk
@@ -277,13 +292,15 @@ module _ {ws : List ℕ} {l : Lengths} {names sites : List ℕ} {t : Tests} {cel
       → Wrote code (t .at) ((2 + 256 * foundSite k sites + 1024 * cell .register + 16777216 * cell .offset) ∷ []) code′ (r .at)
       → r ≡ letterDone t (t .symbols) n (r .at) → TestsOn ws l names sites code t names sites code′ r
   equal-symbol-on h most wrote done =
-      equal-on ws l names sites t (s .within) refl (s .is) (λ z. h (number ∙ z)) (omega (arith, number)) (rw (number, s .sited) at wrote) (rw (s .long) at done)
+      equal-on ws l names sites t (s .within) refl (s .is) (λ z. h (number ∙ z)) (omega (arith, number)) (rw (number, s .sited) at wrote)
+      (rw (s .long) at done)
 
 -- ALL OF THEM
 
 -- what is written so far and what is still to be written are the whole pattern's tests
 pub record TestsSoFar (ws : List ℕ) (l : Lengths) (start at : ℕ) (code₀ names sites code : List ℕ) (t : Tests) : Type 0 where
-  pub same : Same code₀ at (map testWord (walk l Zero 0 (patternAt (drop start ws) .value) (startFrom []) .tests)) code (t .at) (testWords (testing (t .more) ws l names sites t))
+  pub same : Same code₀ at (map testWord (walk l Zero 0 (patternAt (drop start ws) .value) (startFrom []) .tests)) code (t .at)
+      (testWords (testing (t .more) ws l names sites t))
   pub known : testing (t .more) ws l names sites t .value .sites ≡ walk l Zero 0 (patternAt (drop start ws) .value) (startFrom []) .sites
   pub rest : testing (t .more) ws l names sites t .rest ≡ patternAt (drop start ws) .rest
   pub within : InTests ws names sites t

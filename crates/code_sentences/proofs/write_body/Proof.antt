@@ -29,8 +29,13 @@ write-expression-requires c κs =
     let at-write-matching = c .before .before .before .before .before .before .before in
     let entry = at-write-matching .before .before .before .before .before .before .before .before .before in
     let pre = entry .pre in
-    let m = at-write-matching .write-matching in
-    (pre .1, omega (arith, length-take (m .result .symbols) (m .last .1 .1 .0), m .ensures .few .1), omega (arith, pre .0 .within .letters, pre .0 .within .most), omega (arith, m .ensures .next), omega (arith, m .ensures .grown, pre .3))
+    let m = at-write-matching .write-matching in (
+      pre .1,
+      omega (arith, length-take (m .result .symbols) (m .last .1 .1 .0), m .ensures .few .1),
+      omega (arith, pre .0 .within .letters, pre .0 .within .most),
+      omega (arith, m .ensures .next),
+      omega (arith, m .ensures .grown, pre .3),
+    )
 
 returns : tie.Need-returns
 returns c =

@@ -37,8 +37,10 @@ loop-again : tie.Need-loop-again Inv-loop μ-loop
 loop-again c =
     let at-next-sentence = c .before .before in
     let at-loop-test = at-next-sentence .before .before in
-    let at-loop = at-loop-test .before in
-    (sentences-go-on (at-loop .loop .inv .0) (at-loop-test .loop-test .taken) (at-next-sentence .next-sentence .ensures), at-next-sentence .next-sentence .kept .1 .1 .0 ∙ at-loop .loop .inv .1)
+    let at-loop = at-loop-test .before in (
+      sentences-go-on (at-loop .loop .inv .0) (at-loop-test .loop-test .taken) (at-next-sentence .next-sentence .ensures),
+      at-next-sentence .next-sentence .kept .1 .1 .0 ∙ at-loop .loop .inv .1,
+    )
 
 mul-put : tie.Need-mul-put Inv-loop μ-loop
 mul-put c = omega (arith, c .before .before .before .before .before .before .pre .2)

@@ -53,7 +53,8 @@ returns c =
     let at-write-conditions = at-write-stores .before .before .before .before .before in
     let at-write-tests : tie.After-write-tests = search in
     let entry = at-write-tests .before .before .before .before .before .before .before .before .before in
-    matched (entry .pre .1 .0) (at-write-tests .write-tests .ensures) (at-write-conditions .write-conditions .ensures) (at-write-stores .write-stores .ensures)
+    matched (entry .pre .1 .0) (at-write-tests .write-tests .ensures) (at-write-conditions .write-conditions .ensures)
+    (at-write-stores .write-stores .ensures)
 
 pub write-matching-spec : {M : Type 1} → statement M
 write-matching-spec =

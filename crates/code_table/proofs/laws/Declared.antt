@@ -20,7 +20,8 @@ use Rattle.tape_words.specs.Finding.{recovererAmong}
 use Rattle.code_sentences.specs.Trees.{isFunctionWord, functionsOnTape, functionOnTape, sentencesOnTape, treeOf}
 use Rattle.code_words.specs.Writing.{Wrote}
 use Rattle.code_sentences.specs.Sentencing.{FunctionAll}
-use Rattle.code_table.specs.Declaring.{HeadsInside, wordsFrom, headsLeft, HeadsOn, HeadsAll, translatedAt, translatedAll, EntryAll, FunctionsAll}
+use Rattle.code_table.specs.Declaring.{HeadsInside, wordsFrom, headsLeft, HeadsOn, HeadsAll, translatedAt, translatedAll, EntryAll}
+use Rattle.code_table.specs.Declaring.{FunctionsAll}
 use Rattle.code_table.specs.Leaves.{codeOf}
 use Rattle.meaning.proofs.laws.Remaining.{at-place}
 use Rattle.tape_words.proofs.laws.Names.{name-part, name-skip}
@@ -89,7 +90,8 @@ unfolding functionsOnTape
 heads-all {ws} {heads} {count} {i} s h =
     let none : take (64 - count) (functionsOnTape (drop i ws)) ≡ [] = rw (drop-of-length-le ws h) (take-nil (64 - count)) in
     record {
-      found = sym (append-nil (wordsFrom ws (take count heads))) ∙ ap (λ (r : List (List ℕ)). wordsFrom ws (take count heads) ++ r) (sym none) ∙ s .same;
+      found = sym (append-nil (wordsFrom ws (take count heads))) ∙ ap (λ (r : List (List ℕ)). wordsFrom ws (take count heads) ++ r) (sym none) ∙
+          s .same;
       inside = s .inside;
       few = s .few;
     }
@@ -99,7 +101,8 @@ heads-all {ws} {heads} {count} {i} s h =
 -- its sentences begin after its name
 function-sentences : (ws : List ℕ) (head : ℕ) → head < length ws
     → functionOnTape (drop head ws) .sentences ≡ sentencesOnTape maxSentences (drop (head + 1 + length (headName ws head)) ws)
-function-sentences ws head h = ap (λ (l : List ℕ). functionOnTape l .sentences) (at-place ws head h) ∙ ap (sentencesOnTape maxSentences) (name-skip ws head h)
+function-sentences ws head h = ap (λ (l : List ℕ). functionOnTape l .sentences) (at-place ws head h) ∙
+    ap (sentencesOnTape maxSentences) (name-skip ws head h)
 
 function-name : (l : List ℕ) → functionOnTape l .name ≡ nameIn l
 function-name [] = refl
@@ -108,7 +111,8 @@ function-name (w ∷ ws) = refl
 -- the function that recovers it is found among the heads by the words of its name
 function-recoverer : (t : Table) (ws heads : List ℕ) (head : ℕ) {named recoverer : ℕ}
     → namesOf t ≡ headNames ws heads → named ≡ length (headName ws head)
-    → recoverer ≡ recovererAmong (headNames ws heads) (take named (drop (head + 1) ws)) → recoverer ≡ recovererOf t (functionOnTape (drop head ws) .name)
+    → recoverer ≡ recovererAmong (headNames ws heads) (take named (drop (head + 1) ws)) → recoverer ≡
+    recovererOf t (functionOnTape (drop head ws) .name)
 function-recoverer t ws heads head names e found =
     let name : take (length (headName ws head)) (drop (head + 1) ws) ≡ functionOnTape (drop head ws) .name =
     sym (name-part ws head) ∙ sym (function-name (drop head ws)) in
@@ -155,7 +159,8 @@ tableLeft t ws hs k code at = sets (sets code (k + 1) (placesFrom at (translated
 -- an entry and its function
 entry-first : (t : Table) (ws : List ℕ) (h : ℕ) (hs : List ℕ) (k : ℕ) (code : List ℕ) (at : ℕ) → k + 1 + suc (length hs) ≤ at
     → tableLeft t ws (h ∷ hs) k code at
-    ≡ tableLeft t ws hs (k + 1) (sets (set code (k + 1) at) at (packSentences (translatedAt t ws h))) (at + length (packSentences (translatedAt t ws h)))
+    ≡ tableLeft t ws hs (k + 1) (sets (set code (k + 1) at) at (packSentences (translatedAt t ws h)))
+    (at + length (packSentences (translatedAt t ws h)))
 unfolding placesFrom packFunctions
 entry-first t ws h hs k code at room =
     let words = packSentences (translatedAt t ws h) in
@@ -181,7 +186,8 @@ functions-none ws heads code at e h =
     record { left = λ t g. refl; next = λ t g. refl; size = refl; few = omega arith; after = omega arith; grown = omega arith }
 
 pub functions-go-on : {ws heads code₀ code part : List ℕ} {at₀ at k from r : ℕ}
-    → FunctionsSoFar ws heads code₀ at₀ code at k → k < length heads → from ≡ min (k + 1) (length code) → EntryAll ws heads k (lentFrom code from) at part r
+    → FunctionsSoFar ws heads code₀ at₀ code at k → k < length heads → from ≡ min (k + 1) (length code) →
+    EntryAll ws heads k (lentFrom code from) at part r
     → length (backFrom code from part) ≡ length code → FunctionsSoFar ws heads code₀ at₀ (backFrom code from part) r (k + 1)
 unfolding packFunctions
 functions-go-on {ws} {heads} {code₀} {code} {part} {at₀} {at} {k} {from} {r} s h e entry same =
@@ -213,10 +219,12 @@ functions-go-on {ws} {heads} {code₀} {code} {part} {at₀} {at} {k} {from} {r}
     now t g =
         let y : k + 1 + 0 ≡ k + 1 = omega arith in
         let z : k + 1 + (at - (k + 1)) ≡ at = omega (arith, s .after) in
-        sets-lent code (k + 1) from 0 (at - (k + 1)) (at ∷ []) (packSentences (translatedAt t ws (getD heads k 0))) part e (entry .left t g) ∙ rw (y, z)
+        sets-lent code (k + 1) from 0 (at - (k + 1)) (at ∷ []) (packSentences (translatedAt t ws (getD heads k 0))) part e (entry .left t g) ∙
+        rw (y, z)
 
 pub functions-all : {ws heads code code₀ code′ : List ℕ} {next at k : ℕ}
-    → Wrote code 0 (length heads ∷ []) code₀ next → FunctionsSoFar ws heads code₀ (next + length heads) code′ at k → length heads ≤ k → FunctionsAll ws heads code code′ at
+    → Wrote code 0 (length heads ∷ []) code₀ next → FunctionsSoFar ws heads code₀ (next + length heads) code′ at k → length heads ≤ k →
+    FunctionsAll ws heads code code′ at
 unfolding packFunctions placesFrom
 functions-all {ws} {heads} {code} {code₀} {code′} {next} {at} {k} count s h =
     record {
@@ -227,7 +235,8 @@ functions-all {ws} {heads} {code} {code₀} {code′} {next} {at} {k} count s h 
           let start : next + length heads ≡ suc (length fs) = omega (arith, count .next) in
           let places = placesFrom (suc (length fs)) fs in
           let past : 1 + length places ≡ suc (length fs) = omega (arith, places-length (suc (length fs)) fs) in
-          let same : code′ ≡ tableLeft t ws heads 0 code₀ (next + length heads) = ap (λ (hs : List ℕ). tableLeft t ws hs k code′ at) (sym none) ∙ s .left t g in
+          let same : code′ ≡ tableLeft t ws heads 0 code₀ (next + length heads) = ap (λ (hs : List ℕ). tableLeft t ws hs k code′ at) (sym none) ∙
+          s .left t g in
           record {
             left =
                 same ∙ rw (start, count .left, ← many)
@@ -247,10 +256,12 @@ functions-found : (t : Table) (ws hs : List ℕ) → translatedAll t ws hs ≡ m
 functions-found t ws [] = refl
 functions-found t ws (h ∷ hs) = ap (λ (r : Code). translatedAt t ws h ∷ r) (functions-found t ws hs)
 
-pub table-written : {ws heads code code′ : List ℕ} {count r : ℕ} → HeadsAll ws heads count → FunctionsAll ws (take count heads) code code′ r → Wrote code 0 (codeOf ws) code′ r
+pub table-written : {ws heads code code′ : List ℕ} {count r : ℕ} → HeadsAll ws heads count → FunctionsAll ws (take count heads) code code′ r →
+    Wrote code 0 (codeOf ws) code′ r
 table-written {ws} {heads} {count = count} found all =
     let hs = take count heads in
-    let names : namesOf (treeOf ws) ≡ headNames ws hs = ap (λ (r : List (List ℕ)). namesOf (map functionOnTape r)) (sym (found .found)) ∙ names-found ws hs in
+    let names : namesOf (treeOf ws) ≡ headNames ws hs = ap (λ (r : List (List ℕ)). namesOf (map functionOnTape r)) (sym (found .found)) ∙
+    names-found ws hs in
     let functions : translatedAll (treeOf ws) ws hs ≡ translate (treeOf ws) =
     functions-found (treeOf ws) ws hs ∙ ap (λ (r : List (List ℕ)). map (translatedFunction (treeOf ws)) (map functionOnTape r)) (found .found) in
     rw functions at (all .wrote (treeOf ws) names)

@@ -49,7 +49,8 @@ module _ {words code₁ code₂ : List ℕ} {r : ℕ} (lent : List ℕ) (cleared
             ∙ rw (zero-add, empty) (ap (λ (l : List ℕ). words ++ l) (drop-zeros (length words) (length lent))));
       }
 
-  pub leaves-nothing : {code₃ : List ℕ} → length code₂ < r → code₃ ≡ clearedFrom 0 code₂ → Leaves words (length lent) (record { fits = false; words = 0 }) code₃
+  pub leaves-nothing : {code₃ : List ℕ} → length code₂ < r → code₃ ≡ clearedFrom 0 code₂ →
+      Leaves words (length lent) (record { fits = false; words = 0 }) code₃
   leaves-nothing h e =
       let short : leb (length words) (length lent) ≡ false = lt-leb (length words) (length lent) (omega (arith, same-room, wrote .next)) in
       record { fits = sym short; count = rw short; cells = rw short (e ∙ cleared-whole code₂ ∙ rw same-room) }

@@ -18,8 +18,10 @@ use Rattle.meaning.specs.Allowed.{maxFunctions, maxSentences, maxLetters, maxIt
 use Rattle.meaning.specs.Allowed.{allowedPattern, ofPattern, allOfPattern, allowedConditions, allowedSentence, allowedFunction, namesOf, allowed}
 use Rattle.meaning.specs.Allowed.{isByte, spelledName, spelledIdentifier, spelledElement, lettersIn, partsOf, itemsIn, nesting, someSentence}
 use Rattle.meaning.specs.Allowed.{sentencesIn as sentencesOf}
-use Rattle.tape_layout.specs.Tape.{tapeWord, named, symbolKind, partKind, conditionKind, equalsKind, closeKind, nextKind, endKind, functionKind, callKind}
-use Rattle.tape_layout.specs.Tape.{truthNumber, subjectTape, patternTape, conditionsTape, expressionTape, sentenceTape, sentencesTape, functionTape, tape}
+use Rattle.tape_layout.specs.Tape.{tapeWord, named, symbolKind, partKind, conditionKind, equalsKind, closeKind, nextKind, endKind, functionKind}
+use Rattle.tape_layout.specs.Tape.{callKind}
+use Rattle.tape_layout.specs.Tape.{truthNumber, subjectTape, patternTape, conditionsTape, expressionTape, sentenceTape, sentencesTape, functionTape}
+use Rattle.tape_layout.specs.Tape.{tape}
 use Rattle.meaning.specs.Packing.{truthBit}
 use Rattle.tape_words.specs.declared.tape.Parts.{Parts}
 use Rattle.tape_words.specs.declared.tape.Parts.the-variants.{Zero, One, Two}
@@ -27,7 +29,8 @@ use Rattle.tape_words.specs.declared.tape.Piece.the-variants.{EVariable}
 use Rattle.tape_words.specs.declared.tape.Item.the-variants.{Byte, Symbol, Part, Call, Close, Stop}
 use Rattle.tape_words.specs.Words.{carried, pieceOf, classIn, openingOf, itemOfWord}
 use Rattle.code_expressions.specs.Levels.{placeIn, Levels, levelsEnded, onCurrent, levelOpened, itemBy, levelsIn}
-use Rattle.code_sentences.specs.Trees.{isFunctionWord, conditionsAt, levelsAt, sentenceOnTape, sentencesOnTape, functionsOnTape, functionOnTape, treeOf}
+use Rattle.code_sentences.specs.Trees.{isFunctionWord, conditionsAt, levelsAt, sentenceOnTape, sentencesOnTape, functionsOnTape, functionOnTape}
+use Rattle.code_sentences.specs.Trees.{treeOf}
 use Rattle.code_patterns.specs.Scans.{scanned, prepended, oneMore, patternOnTape, subjectOf, conditionBy, conditionsOnTape, patternAt}
 use Rattle.code_patterns.proofs.laws.Scanning.{pattern-skip}
 use Rattle.code_patterns.proofs.laws.Conditioned.{conditions-skip}
@@ -127,7 +130,8 @@ close-item depth items = go (leb 128 items)
 -- a call's argument is closed, and what comes after the call is read on
 call-closed : (place : ℕ) (n : Name) (a e : Expression) (depth items : ℕ) (ws : List ℕ) (l : Levels) → levelsIn depth items 0 ws
     ≡ onCurrent (followed e) l →
-    levelOpened place n (onCurrent (followed a) (levelsIn (depth + 1) items 0 (tapeWord closeKind 0 ∷ ws))) ≡ onCurrent (followed (thenCall place n a e)) l
+    levelOpened place n (onCurrent (followed a) (levelsIn (depth + 1) items 0 (tapeWord closeKind 0 ∷ ws))) ≡
+    onCurrent (followed (thenCall place n a e)) l
 unfolding levelsIn followed
 call-closed place n a e depth items ws l ih =
     let back : depth + 1 - 1 ≡ depth = omega arith in
@@ -229,7 +233,8 @@ pattern-back (letter (symbol x) ∷ p) letters parts ws s h k ends =
     let ih = pattern-back p (letters + 1) parts ws (both-right (spelledIdentifier x) (every spelledElement p) s) (omega arith) k ends in
     let w = tapeWord symbolKind (length x) in
     rw (lt-leb 768 w (omega arith), lt-leb 512 w (omega arith), lt-leb 64 letters (omega arith), le-leb 256 w (omega arith))
-    (named-back (λ y. prepended (letter (symbol y))) (patternOnTape (letters + 1) parts) (pattern-skip (letters + 1) parts) symbolKind x (patternTape p) ws
+    (named-back (λ y. prepended (letter (symbol y))) (patternOnTape (letters + 1) parts) (pattern-skip (letters + 1) parts) symbolKind x
+    (patternTape p) ws
     (omega arith) ih)
 pattern-back (part x ∷ p) letters parts ws s h k ends =
     let short = identifier-short x (both-left (spelledIdentifier x) (every spelledElement p) s) in
@@ -565,7 +570,8 @@ is-function : (n : ℕ) → n < 256 → isFunctionWord (tapeWord functionKind n)
 is-function n h = rw (le-ltb (tapeWord functionKind n) 2048 (omega arith), lt-ltb (tapeWord functionKind n) 2304 (omega arith))
 
 -- a tape's functions, one after another
-functions-here : (f : Function) (ws : List ℕ) → RetraceableFunction f → functionsOnTape (functionTape f ++ ws) ≡ (functionTape f ++ ws) ∷ functionsOnTape ws
+functions-here : (f : Function) (ws : List ℕ) → RetraceableFunction f → functionsOnTape (functionTape f ++ ws) ≡
+    (functionTape f ++ ws) ∷ functionsOnTape ws
 unfolding functionsOnTape
 functions-here f ws r =
     let quietly = every-append quiet (f .name) (sentencesTape (f .sentences)) (name-quiet (f .name) (r .spelled))

@@ -17,8 +17,13 @@ loop-holds : tie.Need-loop-holds Inv-loop μ-loop
 loop-holds c = (omega arith, omega arith, refl, cleared-none (c .args .code .now) (c .args .start))
 
 loop-again : tie.Need-loop-again Inv-loop μ-loop
-loop-again c = let v = c .before .loop .inv in
-    (omega arith, omega arith, simp length-set (v .2), rw (v .3) (cleared-one (c .before .before .args .code .now) (c .before .before .args .start) (c .before .loop .i) (omega arith) (omega arith)))
+loop-again c = let v = c .before .loop .inv in (
+  omega arith,
+  omega arith,
+  simp length-set (v .2),
+  rw (v .3)
+      (cleared-one (c .before .before .args .code .now) (c .before .before .args .start) (c .before .loop .i) (omega arith) (omega arith)),
+)
 
 same-length : tie.Need-same-length Inv-loop μ-loop
 same-length c = c .before .loop .inv .2

@@ -3,7 +3,8 @@ use Prim.Native.Nat.{ℕ, _+_, _-_, _≤_, _<_}
 use native.Mathlib.Omega.{arith}
 use mathlib.Core.Path.{_≡_, sym, ap, _∙_}
 use mathlib.Core.List.{List, [], _∷_, _++_, append-assoc, append-nil}
-use lib.ListN.{length, take, drop, getD, set, replicate, length-append, length-replicate, take-append-drop, drop-of-length-le, replicate-append-replicate}
+use lib.ListN.{length, take, drop, getD, set, replicate, length-append, length-replicate, take-append-drop, drop-of-length-le}
+use lib.ListN.{replicate-append-replicate}
 use lib.Seq.{length-take-le, set-at}
 use Rattle.code_words.specs.Writing.{clearedFrom}
 use Rattle.meaning.proofs.laws.Remaining.{at-place}
@@ -24,7 +25,8 @@ cleared-one l start i h k =
     let size : length front ≡ i =
     length-append (take start l) (replicate (i - start) 0)
     ∙ omega (arith, length-take-le start l (omega arith), length-replicate {A = ℕ} (i - start) 0) in
-    ap (λ (r : List ℕ). set r i 0) (sym (append-assoc (take start l) (replicate (i - start) 0) (drop i l)) ∙ ap (λ (r : List ℕ). front ++ r) (at-place l i k))
+    ap (λ (r : List ℕ). set r i 0) (sym (append-assoc (take start l) (replicate (i - start) 0) (drop i l)) ∙
+    ap (λ (r : List ℕ). front ++ r) (at-place l i k))
     ∙ set-at front (getD l i 0) (drop (i + 1) l) 0 i size
     ∙ append-assoc (take start l) (replicate (i - start) 0) (0 ∷ drop (i + 1) l)
     ∙ ap (λ (r : List ℕ). take start l ++ r)

@@ -13,7 +13,8 @@ same-length c = ⊎-elim (λ w. ap length (w .1) ∙ simp length-set) (λ w. ap 
 
 returns : tie.Need-returns
 returns c = record {
-  left = ⊎-elim (λ w. w .1) (λ w. w .1 ∙ sym (set-out (c .before .args .code .now) (c .before .args .at) (c .before .args .value) (w .0 .left))) (c .if1 .came);
+  left = ⊎-elim (λ w. w .1) (λ w. w .1 ∙ sym (set-out (c .before .args .code .now) (c .before .args .at) (c .before .args .value) (w .0 .left)))
+      (c .if1 .came);
   next = omega arith;
 }
 

@@ -12,7 +12,8 @@ use Rattle.code_words.proofs.put_name.Statement.{statement}
 use Rattle.code_words.proofs.put_name.Tie as tie
 
 abbrev Inv-loop : tie.InvT-loop
-Inv-loop tape from size code₀ at place₀ i₀ code place i = (i ≤ size) × (place ≡ at + i) × Same code₀ at (take size (drop from tape)) code place (partFrom tape from size i)
+Inv-loop tape from size code₀ at place₀ i₀ code place i = (i ≤ size) × (place ≡ at + i) ×
+    Same code₀ at (take size (drop from tape)) code place (partFrom tape from size i)
 
 abbrev μ-loop : tie.MeasureT-loop
 μ-loop tape from size code₀ at place₀ i₀ code place i = size - i
@@ -28,8 +29,13 @@ loop-again c =
     let at-loop-test = at-word-at .before .before in
     let at-loop = at-loop-test .before in
     let entry = at-loop .before .before .before in
-    let a = entry .args in
-    (omega (arith, at-put .put .ensures .next), omega (arith, at-put .put .ensures .next), same-wrote _ (same-words (at-loop .loop .inv .2) (part-cons (a .tape .now) (a .from) (a .size) (at-loop .loop .i) (at-loop-test .loop-test .taken) (entry .pre .0) ∙ ap (λ v. v ∷ partFrom (a .tape .now) (a .from) (a .size) (at-loop .loop .i + 1)) (sym (at-word-at .word-at .ensures .0)))) (at-put .put .ensures))
+    let a = entry .args in (
+      omega (arith, at-put .put .ensures .next),
+      omega (arith, at-put .put .ensures .next),
+      same-wrote _ (same-words (at-loop .loop .inv .2) (part-cons (a .tape .now) (a .from) (a .size) (at-loop .loop .i)
+          (at-loop-test .loop-test .taken) (entry .pre .0) ∙ ap (λ v. v ∷ partFrom (a .tape .now) (a .from) (a .size) (at-loop .loop .i + 1))
+          (sym (at-word-at .word-at .ensures .0)))) (at-put .put .ensures),
+    )
 
 same-length : tie.Need-same-length Inv-loop μ-loop
 same-length c = same-size (c .before .loop .inv .2)

@@ -20,7 +20,8 @@ returns-2 c =
     let at-number = at-if1 .before in
     let at-read = at-number .before .before in
     let at-shared-slice-known = at-read .before .before .before .before in
-    rw (c .tell-of-buffer .ensures) (accepted-listed (at-read .read .ensures) (at-number .number .ensures) (at-shared-slice-known .shared-slice-known .given)
+    rw (c .tell-of-buffer .ensures) (accepted-listed (at-read .read .ensures) (at-number .number .ensures)
+    (at-shared-slice-known .shared-slice-known .given)
     (at-if1 .if1 .left) (at-list .list .ensures))
 
 pub list-table-spec : {M : Type 1} → statement M

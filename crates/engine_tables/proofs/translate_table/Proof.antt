@@ -13,7 +13,8 @@ returns c =
     let at-translate = c .before .before .before .before in
     let at-number = at-translate .before .before .before in
     let at-read = at-number .before .before in
-    rw (c .tell .ensures) (refused-translated (at-read .read .ensures) (at-number .number .ensures) (c .before .if1 .taken) (at-translate .translate .ensures))
+    rw (c .tell .ensures) (refused-translated (at-read .read .ensures) (at-number .number .ensures) (c .before .if1 .taken)
+    (at-translate .translate .ensures))
 
 returns-2 : tie.Need-returns-2
 returns-2 c =
@@ -21,7 +22,8 @@ returns-2 c =
     let at-number = at-translate .before .before .before in
     let at-read = at-number .before .before in
     let at-shared-slice-known = at-read .before .before .before .before in
-    rw (c .tell-of-buffer .ensures) (accepted-translated (at-read .read .ensures) (at-number .number .ensures) (at-shared-slice-known .shared-slice-known .given)
+    rw (c .tell-of-buffer .ensures) (accepted-translated (at-read .read .ensures) (at-number .number .ensures)
+    (at-shared-slice-known .shared-slice-known .given)
     (c .before .if1 .left) (at-translate .translate .ensures))
 
 pub translate-table-spec : {M : Type 1} → statement M

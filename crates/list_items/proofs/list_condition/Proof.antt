@@ -11,7 +11,8 @@ put-all-requires : tie.Need-put-all-requires
 put-all-requires c κs = omega (arith, ending-size (c .before .before .before .before .before .before .before .args .state))
 
 put-class-requires : tie.Need-put-class-requires
-put-class-requires c κs = omega (arith, ending-size (c .before .before .before .before .before .before .before .before .before .before .before .args .state))
+put-class-requires c κs =
+    omega (arith, ending-size (c .before .before .before .before .before .before .before .before .before .before .before .args .state))
 
 put-letter-requires : tie.Need-put-letter-requires
 put-letter-requires c κs =

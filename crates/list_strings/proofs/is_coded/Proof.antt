@@ -36,7 +36,11 @@ returns-3 c = rw (other-here (c .before), lt-leb _ _ (c .if3 .taken))
 
 returns-4 : tie.Need-returns-4
 returns-4 c =
-    rw (other-here (c .before .before), le-leb _ _ (c .before .if3 .left), lt-leb (c .before .before .before .before .args .character) 126 (omega arith))
+    rw (
+      other-here (c .before .before),
+      le-leb _ _ (c .before .if3 .left),
+      lt-leb (c .before .before .before .before .args .character) 126 (omega arith),
+    )
 
 returns-5 : tie.Need-returns-5
 returns-5 c =

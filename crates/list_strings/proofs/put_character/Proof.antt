@@ -18,7 +18,8 @@ uncoded-here c = sym (c .before .is-coded .ensures) ∙ c .if1 .left
 
 bare-here : (c : tie.Else2)
     → let a = c .before .before .before .before .before .args in
-    characterText (quotedIn (a .state)) (a .character) ≡ pick (eqb (a .character) 9) (92 ∷ 116 ∷ []) (pick (eqb (a .character) 10) (92 ∷ 110 ∷ []) (a .character ∷ []))
+    characterText (quotedIn (a .state)) (a .character) ≡ pick (eqb (a .character) 9) (92 ∷ 116 ∷ [])
+    (pick (eqb (a .character) 10) (92 ∷ 110 ∷ []) (a .character ∷ []))
 bare-here c = rw (uncoded-here (c .before .before), ← (c .before .is-escaped .ensures), c .if2 .left)
 
 returns : tie.Need-returns
@@ -36,10 +37,12 @@ returns-2 c =
     rw (uncoded-here (at-is-escaped .before), ← (at-is-escaped .is-escaped .ensures), at-if2 .if2 .taken) (at-put-escape .put-escape .ensures)
 
 returns-3 : tie.Need-returns-3
-returns-3 c = rw (bare-here (c .before .before .before .before .before), c .before .before .before .before .if3 .taken) (c .before .before .put-escape2 .ensures)
+returns-3 c = rw (bare-here (c .before .before .before .before .before), c .before .before .before .before .if3 .taken)
+    (c .before .before .put-escape2 .ensures)
 
 returns-4 : tie.Need-returns-4
-returns-4 c = rw (bare-here (c .before .before .before .before .before .before), c .before .before .before .before .if4 .taken) (c .before .before .put-escape3 .ensures)
+returns-4 c = rw (bare-here (c .before .before .before .before .before .before), c .before .before .before .before .if4 .taken)
+    (c .before .before .put-escape3 .ensures)
 
 returns-5 : tie.Need-returns-5
 returns-5 c =

@@ -7,7 +7,8 @@ use Rattle.list_table.proofs.list.Statement.{statement}
 use Rattle.list_table.proofs.list.Tie as tie
 
 -- words past the end of the tape don't count
-words-here : (c : tie.After-list-length-arg) → let a = c .before .before .before .args in take (c .before .counted .result) (a .tape .now) ≡ take (a .words) (a .tape .now)
+words-here : (c : tie.After-list-length-arg) → let a = c .before .before .before .args in take (c .before .counted .result) (a .tape .now) ≡
+    take (a .words) (a .tape .now)
 words-here c = take-counted _ _ (c .list-length-arg .given .0) (c .before .counted .ensures)
 
 returns : tie.Need-returns

@@ -14,7 +14,8 @@ use borrow.Author.Tests.{leb-true, le-leb, lt-leb, leb-false, eqb-true, eqb-fals
 use Rattle.meaning.specs.Choice.{Bytes, pick, both, either, every, startsWith}
 use Rattle.meaning.specs.Classes.{inClass, digit, within}
 use Rattle.meaning.specs.Numerals.{decimal, twoDigits, numeralFrom}
-use Rattle.meaning.specs.Angles.{Operation, cutBefore, cutAfter, numeralIn, minutesOf, sizeIn, signed, withSign, angleIn, sizeText, angleText, Angled, sum, notAngles, outOfRange, worked, maxMinutes, inRange, angledOf, angled}
+use Rattle.meaning.specs.Angles.{Operation, cutBefore, cutAfter, numeralIn, minutesOf, sizeIn, signed, withSign, angleIn, sizeText, angleText}
+use Rattle.meaning.specs.Angles.{Angled, sum, notAngles, outOfRange, worked, maxMinutes, inRange, angledOf, angled}
 use Rattle.meaning.proofs.laws.Choosing.{not-both, some-none, both-parts, guard-some}
 
 -- WHAT AN ANGLE IS

@@ -132,12 +132,14 @@ pub where-last : {A : Type 0} (o : Option A) → whereSome o (λ a. some a) ≡ 
 where-last none = refl
 where-last (some a) = refl
 
-pub where-again : {A B C : Type 0} (o : Option A) (f : A → Option B) (g : B → Option C) → whereSome (whereSome o f) g ≡ whereSome o (λ a. whereSome (f a) g)
+pub where-again : {A B C : Type 0} (o : Option A) (f : A → Option B) (g : B → Option C) → whereSome (whereSome o f) g ≡
+    whereSome o (λ a. whereSome (f a) g)
 where-again none f g = refl
 where-again (some a) f g = refl
 
 -- what gives nothing from nothing may come after the choice or inside it
-pub where-strict : {A B C : Type 0} (F : Option B → Option C) (o : Option A) (f : A → Option B) → F none ≡ none → whereSome o (λ a. F (f a)) ≡ F (whereSome o f)
+pub where-strict : {A B C : Type 0} (F : Option B → Option C) (o : Option A) (f : A → Option B) → F none ≡ none → whereSome o (λ a. F (f a)) ≡
+    F (whereSome o f)
 where-strict F none f e = sym e
 where-strict F (some a) f e = refl
 

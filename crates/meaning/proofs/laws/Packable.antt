@@ -5,7 +5,9 @@ use lib.Dec.{T}
 use lib.ListN.{length}
 use Rattle.meaning.specs.Choice.{every}
 use Rattle.meaning.specs.Allowed.{isByte}
-use Rattle.meaning.specs.Instructions.{Site, Test, look, compare, predicate, predicatePart, unknownTest, Store, store, unknownStore, Span, Action, go, select, out, outC, outV, beginSeq, useSeq, call, tailCall, emission, compute, unknownAction, Metric, exactly, ends, middle, Sentences, noMore, sentence, Code}
+use Rattle.meaning.specs.Instructions.{Site, Test, look, compare, predicate, predicatePart, unknownTest, Store, store, unknownStore, Span}
+use Rattle.meaning.specs.Instructions.{Action, go, select, out, outC, outV, beginSeq, useSeq, call, tailCall, emission, compute, unknownAction}
+use Rattle.meaning.specs.Instructions.{Metric, exactly, ends, middle, Sentences, noMore, sentence, Code}
 use Rattle.meaning.specs.Packing.{siteOffset, bodyWords, maxStored}
 
 -- every element has the property

@@ -12,16 +12,26 @@ use borrow.Author.Tests.{le-leb, lt-ltb}
 use Rattle.meaning.specs.Choice.{every}
 use Rattle.meaning.specs.Classes.{classNumber}
 use Rattle.meaning.specs.Allowed.{isByte}
-use Rattle.meaning.specs.Instructions.{Test, look, compare, predicate, predicatePart, unknownTest, Store, store, unknownStore, Span, Action, go, select, out, outC, outV, beginSeq, useSeq, call, tailCall, emission, compute, unknownAction, Metric, exactly, ends, middle, Sentences, noMore, sentence, Code}
-use Rattle.meaning.specs.Packing.{Words, codeWord, numberIn, firstIn, secondIn, thirdIn, siteRegister, siteOffset, lengthNumber, lengthOf, spanAction, truthBit, operationNumber, partOperand, testWord, testOf, storeWord, storeOf, actionWords, actionOf, actionsEnd, packActions, emissionOf, unpackActions, metricWord, metricIn, sentencesEnd, endWord, bodyWords, countsWord, packSentences, testsIn, storesIn, bodyIn, unpackTests, unpackStores, maxStored, bodyOf, unpackSentences, packFunctions, placesFrom, pack, functionsAt, soundTable, unpack}
+use Rattle.meaning.specs.Instructions.{Test, look, compare, predicate, predicatePart, unknownTest, Store, store, unknownStore, Span, Action, go}
+use Rattle.meaning.specs.Instructions.{select, out, outC, outV, beginSeq, useSeq, call, tailCall, emission, compute, unknownAction, Metric}
+use Rattle.meaning.specs.Instructions.{exactly, ends, middle, Sentences, noMore, sentence, Code}
+use Rattle.meaning.specs.Packing.{Words, codeWord, numberIn, firstIn, secondIn, thirdIn, siteRegister, siteOffset, lengthNumber, lengthOf}
+use Rattle.meaning.specs.Packing.{spanAction, truthBit, operationNumber, partOperand, testWord, testOf, storeWord, storeOf, actionWords}
+use Rattle.meaning.specs.Packing.{actionOf, actionsEnd, packActions, emissionOf, unpackActions, metricWord, metricIn, sentencesEnd, endWord}
+use Rattle.meaning.specs.Packing.{bodyWords, countsWord, packSentences, testsIn, storesIn, bodyIn, unpackTests, unpackStores, maxStored, bodyOf}
+use Rattle.meaning.specs.Packing.{unpackSentences, packFunctions, placesFrom, pack, functionsAt, soundTable, unpack}
 use Rattle.meaning.proofs.laws.Passing.{passed}
-use Rattle.meaning.proofs.laws.Words.{word-holds, register-below, class-below, truth-below, operation-back, operation-below, length-below, look-held, compare-held, predicate-held, predicate-part-held, store-held, length-back, called-number, called-function}
-use Rattle.meaning.proofs.laws.Packable.{All, nil, cons, FitsTest, FitsStore, FitsSpan, FitsAction, FitsMetric, FitsSentence, FitsSentences, eachNone, eachMore, Packable}
+use Rattle.meaning.proofs.laws.Words.{word-holds, register-below, class-below, truth-below, operation-back, operation-below, length-below}
+use Rattle.meaning.proofs.laws.Words.{look-held, compare-held, predicate-held, predicate-part-held, store-held, length-back, called-number}
+use Rattle.meaning.proofs.laws.Words.{called-function}
+use Rattle.meaning.proofs.laws.Packable.{All, nil, cons, FitsTest, FitsStore, FitsSpan, FitsAction, FitsMetric, FitsSentence, FitsSentences}
+use Rattle.meaning.proofs.laws.Packable.{eachNone, eachMore, Packable}
 
 -- TESTS AND STORES
 
 test-back : (t : Test) → FitsTest t → testOf (testWord t) ≡ t
-test-back (look s c) f = look-held _ s c (word-holds 1 (siteRegister s) (siteOffset s) c (omega arith) (omega (arith, register-below s)) (f .0) (f .1))
+test-back (look s c) f =
+    look-held _ s c (word-holds 1 (siteRegister s) (siteOffset s) c (omega arith) (omega (arith, register-below s)) (f .0) (f .1))
 test-back (compare s r) f = compare-held _ s r
     (word-holds 2 (siteRegister s + 4 * siteRegister r) (siteOffset s) (siteOffset r) (omega arith)
     (omega (arith, register-below s, register-below r)) (f .0) (f .1))
@@ -34,7 +44,8 @@ test-back (predicatePart s r k e) f =
 test-back unknownTest f = absurd f
 
 store-back : (t : Store) → FitsStore t → storeOf (storeWord t) ≡ t
-store-back (store s) f = store-held _ s (word-holds 4 (siteRegister s) (siteOffset s) 0 (omega arith) (omega (arith, register-below s)) f (omega arith))
+store-back (store s) f =
+    store-held _ s (word-holds 4 (siteRegister s) (siteOffset s) 0 (omega arith) (omega (arith, register-below s)) f (omega arith))
 store-back unknownStore f = absurd f
 
 -- so many words, each unpacked by itself
@@ -84,7 +95,12 @@ unfolding unpackActions
 name-skipped = skipped unpackActions (λ n w ws. refl)
 
 emission-back : (n ws : Words) → T (every isByte n) → emissionOf (length n) (n ++ ws) ≡ emission n
-emission-back n ws h = rw (take-at n ws (length n) refl, passed (every isByte n) h, length-append, le-leb (length n) (length n + length ws) (omega arith))
+emission-back n ws h = rw (
+  take-at n ws (length n) refl,
+  passed (every isByte n) h,
+  length-append,
+  le-leb (length n) (length n + length ws) (omega arith),
+)
 
 emission-first : (w : ℕ) (n ws : Words) → numberIn w ≡ 14 → firstIn w ≡ length n → T (every isByte n) →
     unpackActions 0 (w ∷ n ++ ws) ≡ emission n ∷ unpackActions 0 ws
@@ -151,7 +167,8 @@ body-skipped : (b ws : Words) → unpackSentences (length b) (b ++ ws) ≡ unpac
 unfolding unpackSentences
 body-skipped = skipped unpackSentences (λ n w ws. refl)
 
-module _ (limit : ℕ) (metric : Metric) (tests : List Test) (stores : List Store) (actions : List Action) (f : FitsSentence limit metric tests stores actions) where
+module _ (limit : ℕ) (metric : Metric) (tests : List Test) (stores : List Store) (actions : List Action)
+    (f : FitsSentence limit metric tests stores actions) where
   stores-reached : (ws : Words) → drop (length tests) (bodyWords tests stores actions ++ ws) ≡ map storeWord stores ++ (packActions actions ++ ws)
   stores-reached ws = rw append-assoc
       (rw append-assoc (drop-at (map testWord tests) (map storeWord stores ++ (packActions actions ++ ws)) (length tests)
@@ -164,7 +181,8 @@ module _ (limit : ℕ) (metric : Metric) (tests : List Test) (stores : List Stor
   tests-first : (ws : Words) → unpackTests (length tests) (bodyWords tests stores actions ++ ws) ≡ tests
   unfolding unpackTests
   tests-first ws = rw append-assoc
-      (each-back FitsTest testWord unpackTests (λ ws. refl) (λ n t ws f. rw (test-back t f)) (f .eachTest) ((map storeWord stores ++ packActions actions) ++ ws))
+      (each-back FitsTest testWord unpackTests (λ ws. refl) (λ n t ws f. rw (test-back t f)) (f .eachTest)
+      ((map storeWord stores ++ packActions actions) ++ ws))
 
   stores-first : (rest : Words) → unpackStores (length stores) (map storeWord stores ++ rest) ≡ stores
   unfolding unpackStores

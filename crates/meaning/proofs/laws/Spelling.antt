@@ -43,7 +43,8 @@ pub identifier-bytes : (x : Name) → T (spelledIdentifier x) → T (every isByt
 unfolding every
 identifier-bytes [] t = tt
 identifier-bytes (b ∷ x) t =
-    every-weaken wordByte isByte (λ c u. lt→ltb c 256 (word-low c u)) (b ∷ x) (both-left (every wordByte (b ∷ x)) (leb (length (b ∷ x)) maxIdentifier) t)
+    every-weaken wordByte isByte (λ c u. lt→ltb c 256 (word-low c u)) (b ∷ x)
+    (both-left (every wordByte (b ∷ x)) (leb (length (b ∷ x)) maxIdentifier) t)
 
 pub identifier-short : (x : Name) → T (spelledIdentifier x) → length x ≤ maxIdentifier
 identifier-short [] t = omega arith

@@ -7,8 +7,10 @@ use native.Mathlib.Omega.{arith}
 use lib.Dec.{eqb}
 use Rattle.meaning.specs.Angles.{Operation, plus, minus}
 use Rattle.meaning.specs.Classes.{Class, digit, upper, lower, alphabetic, blank, classNumber}
-use Rattle.meaning.specs.Instructions.{Site, fromStart, fromEnd, fromPlace, look, compare, predicate, predicatePart, store, Length, null, whole, left, right}
-use Rattle.meaning.specs.Packing.{codeWord, numberIn, firstIn, secondIn, thirdIn, siteRegister, siteOffset, siteOf, lengthNumber, lengthOf, classOf, truthBit, operationNumber, operationOf, partOperand, testOf, storeOf}
+use Rattle.meaning.specs.Instructions.{Site, fromStart, fromEnd, fromPlace, look, compare, predicate, predicatePart, store, Length, null, whole}
+use Rattle.meaning.specs.Instructions.{left, right}
+use Rattle.meaning.specs.Packing.{codeWord, numberIn, firstIn, secondIn, thirdIn, siteRegister, siteOffset, siteOf, lengthNumber, lengthOf}
+use Rattle.meaning.specs.Packing.{classOf, truthBit, operationNumber, operationOf, partOperand, testOf, storeOf}
 
 -- THE FOUR BYTES
 
@@ -107,7 +109,8 @@ module _ (w : ℕ) (s : Site) where
   pub compare-held : (r : Site) → Holds w 2 (siteRegister s + 4 * siteRegister r) (siteOffset s) (siteOffset r) → testOf w ≡ compare s r
   compare-held r h = rw (h .number, h .first, h .second, h .third, low-part s, high-part s, site-back s, site-back r)
 
-  pub predicate-held : (k : Class) (e : Bool) → Holds w 3 (siteRegister s + 4 * truthBit e) (siteOffset s) (classNumber k) → testOf w ≡ predicate s k e
+  pub predicate-held : (k : Class) (e : Bool) → Holds w 3 (siteRegister s + 4 * truthBit e) (siteOffset s) (classNumber k) → testOf w ≡
+      predicate s k e
   predicate-held k e h =
       rw (h .number, h .first, h .second, h .third, low-part s, high-part s, site-back s, class-back k, truth-back e)
 

@@ -6,7 +6,8 @@ use mathlib.Core.List.{List, [], _∷_}
 use lib.ListN.{take}
 use Rattle.meaning.specs.Choice.{Bytes}
 use Rattle.meaning.specs.Classes.{Class, digit, blank}
-use Rattle.meaning.specs.Tree.{character, symbol, Element, letter, part, ofSymbol, Expression, end, thenCharacter, thenSymbol, thenPart, thenCall, Sentence, Table}
+use Rattle.meaning.specs.Tree.{character, symbol, Element, letter, part, ofSymbol, Expression, end, thenCharacter, thenSymbol, thenPart}
+use Rattle.meaning.specs.Tree.{thenCall, Sentence, Table}
 use Rattle.meaning.specs.Outcome.{Result}
 use Rattle.meaning.specs.Runs.{Room}
 use Rattle.meaning.proofs.rows.Tables.{x1, x2, all1, plain, function, tableZ, tableR, tableP, tableM}

@@ -60,5 +60,6 @@ unfolding patternText conditionsText expressionText sentencesText listing
 tables-listed = refl
 
 -- answer, function, steps, length of the text, length of the emissions
-runs-answered : map runAnswer (result 0 0 4 (4 ∷ []) abc lines ∷ result 11 2 5 (2 ∷ 3 ∷ []) [] [] ∷ []) ≡ (0 ∷ 0 ∷ 4 ∷ 3 ∷ 24 ∷ []) ∷ (11 ∷ 2 ∷ 5 ∷ 0 ∷ 0 ∷ []) ∷ []
+runs-answered : map runAnswer (result 0 0 4 (4 ∷ []) abc lines ∷ result 11 2 5 (2 ∷ 3 ∷ []) [] [] ∷ []) ≡
+    (0 ∷ 0 ∷ 4 ∷ 3 ∷ 24 ∷ []) ∷ (11 ∷ 2 ∷ 5 ∷ 0 ∷ 0 ∷ []) ∷ []
 runs-answered = refl

@@ -1,4 +1,5 @@
--- What runs leave in what they were lent: after a result, after each kind of early stop but for the frames (`meaning_limits` has that), and after each refusal before the run.
+-- What runs leave in what they were lent: after a result, after each kind of early stop but for the frames (`meaning_limits` has that), and after
+-- each refusal before the run.
 use Prim.Native.Nat.{ℕ}
 use mathlib.Core.Path.{_≡_, refl}
 use mathlib.Core.List.{List, [], _∷_, _++_, map}

@@ -5,7 +5,8 @@ use mathlib.Core.Bool.{Bool, true, false}
 use mathlib.Core.List.{List, [], _∷_}
 use Rattle.meaning.specs.Choice.{Bytes, Name, every, sameBytes}
 use Rattle.meaning.specs.Classes.{digit, blank}
-use Rattle.meaning.specs.Tree.{character, symbol, Element, letter, part, ofSymbol, Expression, end, thenCharacter, thenSymbol, thenPart, thenCall}
+use Rattle.meaning.specs.Tree.{character, symbol, Element, letter, part, ofSymbol, Expression, end, thenCharacter, thenSymbol, thenPart}
+use Rattle.meaning.specs.Tree.{thenCall}
 use Rattle.meaning.specs.Grammar.{thenCharacters}
 use Rattle.meaning.specs.Listing.{unquoted, decimal, patternText, conditionsText, expressionText, sentenceText, sentencesText, listing}
 use Rattle.meaning.proofs.rows.Read.{bytes}

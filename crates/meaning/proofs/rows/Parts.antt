@@ -7,7 +7,8 @@ use mathlib.Core.List.{List, [], _∷_, map}
 use lib.ListN.{take}
 use Rattle.meaning.specs.Choice.{every}
 use Rattle.meaning.specs.Classes.{Class, digit, upper, lower}
-use Rattle.meaning.specs.Tree.{character, symbol, Element, letter, part, Subject, ofSymbol, ofPart, Condition, Expression, end, thenCharacter, thenSymbol, thenPart, Sentence, Table}
+use Rattle.meaning.specs.Tree.{character, symbol, Element, letter, part, Subject, ofSymbol, ofPart, Condition, Expression, end, thenCharacter}
+use Rattle.meaning.specs.Tree.{thenSymbol, thenPart, Sentence, Table}
 use Rattle.meaning.specs.Allowed.{allowed}
 use Rattle.meaning.specs.Reading.{accepted, read}
 use Rattle.meaning.specs.Listing.{patternText, conditionsText, expressionText, sentencesText, listing}

@@ -1,4 +1,5 @@
--- Worked rows of reading and listing: the 'Read' rows of 01, its listing, and the open points of 01 as they are settled, each border with its neighbour.
+-- Worked rows of reading and listing: the 'Read' rows of 01, its listing, and the open points of 01 as they are settled, each border with its
+-- neighbour.
 use Prim.Native.Nat.{ℕ, zero, suc}
 use Prim.Native.Char.{code}
 use Prim.Native.String.{String}
@@ -13,7 +14,8 @@ use Rattle.meaning.specs.Names.{classNamed, numberFrom}
 use Rattle.meaning.specs.Allowed.{member, symbolsFrom, partsOf, lettersIn, comingAfter}
 use Rattle.meaning.specs.Tokens.{skip, run, quotation, lex, tokensFrom}
 use Rattle.meaning.specs.Grammar.{thenCharacters}
-use Rattle.meaning.specs.Reading.{Read, accepted, refused, read, endsInPart, parsePattern, parseCondition, parseConditions, parseExpression, parseSentence, parseSentences, parseFunctions, unknownCall, unknownInSentences, unknownIn}
+use Rattle.meaning.specs.Reading.{Read, accepted, refused, read, endsInPart, parsePattern, parseCondition, parseConditions, parseExpression}
+use Rattle.meaning.specs.Reading.{parseSentence, parseSentences, parseFunctions, unknownCall, unknownInSentences, unknownIn}
 use Rattle.meaning.specs.Listing.{patternText, conditionsText, expressionText, sentencesText, listing}
 
 -- THE TEXTS
@@ -45,7 +47,9 @@ answered (accepted t) number place = both (eqb 0 number) (eqb 0 place)
 answered (refused n k) number place = both (eqb n number) (eqb k place)
 
 unfoldable pub hold : List Row → Bool
-unfolding every sameBytes startsWith classNamed numberFrom member symbolsFrom partsOf lettersIn comingAfter skip run quotation lex tokensFrom thenCharacters endsInPart parsePattern parseCondition parseConditions parseExpression parseSentence parseSentences parseFunctions unknownCall unknownInSentences unknownIn
+unfolding every sameBytes startsWith classNamed numberFrom member symbolsFrom partsOf lettersIn comingAfter skip run quotation lex tokensFrom
+    thenCharacters endsInPart parsePattern parseCondition parseConditions parseExpression parseSentence parseSentences parseFunctions unknownCall
+    unknownInSentences unknownIn
 hold rows = every (λ r. answered (read (r .text)) (r .number) (r .place)) rows
 
 -- 01 'Runs to hold on to', the row 'Read', and the functions of the other rows

@@ -4,7 +4,8 @@ use mathlib.Core.Bool.{true}
 use mathlib.Core.List.{List, [], _∷_}
 use Rattle.meaning.specs.Choice.{Name}
 use Rattle.meaning.specs.Classes.{digit}
-use Rattle.meaning.specs.Tree.{ofSymbol, character, symbol, Element, letter, part, Expression, end, thenCharacter, thenSymbol, thenPart, thenCall, Sentence, Function, Table}
+use Rattle.meaning.specs.Tree.{ofSymbol, character, symbol, Element, letter, part, Expression, end, thenCharacter, thenSymbol, thenPart}
+use Rattle.meaning.specs.Tree.{thenCall, Sentence, Function, Table}
 
 abbrev pub x1 : Name
 x1 = 49 ∷ []

@@ -6,7 +6,9 @@ use mathlib.Core.List.{List, [], _∷_, _++_, map}
 use lib.ListN.{length, replicate}
 use Rattle.meaning.specs.Choice.{Bytes}
 use Rattle.meaning.specs.Classes.{digit, lower}
-use Rattle.meaning.specs.Instructions.{fromStart, fromEnd, fromPlace, Test, look, predicatePart, Store, store, null, whole, left, right, Span, Action, go, select, out, outC, outV, beginSeq, useSeq, call, tailCall, emission, Metric, exactly, ends, Sentences, noMore, sentence}
+use Rattle.meaning.specs.Instructions.{fromStart, fromEnd, fromPlace, Test, look, predicatePart, Store, store, null, whole, left, right, Span}
+use Rattle.meaning.specs.Instructions.{Action, go, select, out, outC, outV, beginSeq, useSeq, call, tailCall, emission, Metric, exactly, ends}
+use Rattle.meaning.specs.Instructions.{Sentences, noMore, sentence}
 use Rattle.meaning.specs.Packing.{Words, codeWord, countsWord, endWord, pack}
 use Rattle.meaning.specs.Leaving.{Cells, Leaving, leaving}
 use Rattle.meaning.proofs.rows.Starred.{result}
@@ -209,7 +211,8 @@ doingRows =
     gives (99 ∷ 100 ∷ []) (outC 99 ∷ beginSeq ∷ outC 100 ∷ useSeq ∷ out ∷ []) ∷
     gives (99 ∷ 100 ∷ []) (beginSeq ∷ outC 99 ∷ beginSeq ∷ outC 100 ∷ useSeq ∷ out ∷ useSeq ∷ out ∷ []) ∷
     -- an emission moves p to q
-    endedEmitting (97 ∷ 98 ∷ []) 1 (65 ∷ 32 ∷ 97 ∷ 10 ∷ []) (98 ∷ []) (doing (select (cellsOn 1) ∷ emission (65 ∷ []) ∷ select (cellsOn 1) ∷ out ∷ [])) ∷
+    endedEmitting (97 ∷ 98 ∷ []) 1 (65 ∷ 32 ∷ 97 ∷ 10 ∷ []) (98 ∷ [])
+    (doing (select (cellsOn 1) ∷ emission (65 ∷ []) ∷ select (cellsOn 1) ∷ out ∷ [])) ∷
     -- nothing comes after a tail call
     bothGive [] (tailCall 2 ∷ outC 120 ∷ []) [] ∷
     -- a sequence is open in the application that opened it alone
@@ -233,7 +236,8 @@ dr = record { register = right; add = 0; back = 0 }
 
 abbrev placelessRows : Metric → List Row
 placelessRows metric =
-    ended (97 ∷ 98 ∷ []) 1 (98 ∷ []) (placeless metric (look (fromPlace 0) 97 ∷ look (fromPlace 1) 98 ∷ []) (store (fromPlace 1) ∷ []) (outV 0 ∷ [])) ∷
+    ended (97 ∷ 98 ∷ []) 1 (98 ∷ []) (placeless metric (look (fromPlace 0) 97 ∷ look (fromPlace 1) 98 ∷ []) (store (fromPlace 1) ∷ []) (outV 0 ∷ []))
+    ∷
     ended (97 ∷ 98 ∷ []) 1 []
     (placeless metric (predicatePart (fromPlace 0) (fromEnd 0) lower true ∷ predicatePart (fromStart 0) (fromPlace 0) digit true ∷ []) [] []) ∷
     stoppedWith 18 (97 ∷ 98 ∷ []) 1 [] (placeless metric (look (fromPlace 2) 97 ∷ []) [] []) ∷

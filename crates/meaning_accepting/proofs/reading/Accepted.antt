@@ -14,7 +14,8 @@ use Rattle.meaning.specs.Names.{isKnown}
 use Rattle.meaning.specs.Allowed.{isByte, allowed, allowedFunction, callsKnown, namesOf, distinct, sentencesIn, maxTable, maxFunctions, maxSentences}
 use Rattle.meaning.specs.Tokens.{outside, Placed, tokens}
 use Rattle.meaning.specs.Grammar.{IsProgram}
-use Rattle.meaning.specs.Reading.{Parsed, stopped, parsed, parseFunctions, unknownCall, unknownInSentences, unknownIn, known, verdict, accepted, refused, read}
+use Rattle.meaning.specs.Reading.{Parsed, stopped, parsed, parseFunctions, unknownCall, unknownInSentences, unknownIn, known, verdict, accepted}
+use Rattle.meaning.specs.Reading.{refused, read}
 use Rattle.meaning_accepting.proofs.reading.Basics.{both-left, both-right, both-true, impossible}
 use Rattle.meaning_accepting.proofs.reading.TokensSound.{tokens-sound}
 use Rattle.meaning_accepting.proofs.reading.Tables.{functions-sound, functions-complete}
@@ -67,7 +68,8 @@ unfolding unknownIn unknownInSentences
 functions-known t =
     all-known (λ f. sentencesKnown t (f .sentences)) (λ f. unknownInSentences t (f .sentences)) (unknownIn t)
     (λ f.
-    all-known (λ s. callsKnown t (s .expression)) (λ s. unknownCall t (s .expression)) (unknownInSentences t) (λ s. calls-known t (s .expression)) refl
+    all-known (λ s. callsKnown t (s .expression)) (λ s. unknownCall t (s .expression)) (unknownInSentences t) (λ s. calls-known t (s .expression))
+    refl
     (λ s ss. refl) (f .sentences))
     refl (λ f fs. refl)
 
@@ -97,7 +99,8 @@ verdict-accepted (parsed t rest) u e =
 allowed-parts : (t : Table) → every allowedFunction t ≡ true → distinct (namesOf t) ≡ true → length t ≤ maxFunctions → sentencesIn t ≤ maxSentences
     → unknownIn t t ≡ none → allowed t ≡ true
 allowed-parts t a d l s n =
-    both-true a (both-true d (both-true (le-leb (length t) maxFunctions l) (both-true (le-leb (sentencesIn t) maxSentences s) (functions-known t t ∙ ap isNone n))))
+    both-true a (both-true d (both-true (le-leb (length t) maxFunctions l)
+    (both-true (le-leb (sentencesIn t) maxSentences s) (functions-known t t ∙ ap isNone n))))
 
 -- the tree that reading finds is derived and allowed
 functions-allow : (text : Bytes) (t : Table) (rest : List Placed) → every isByte text ≡ true → length text ≤ maxTable

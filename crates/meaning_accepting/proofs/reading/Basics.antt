@@ -9,7 +9,8 @@ use borrow.Author.Tests.{eqb-true}
 use lib.Dec.{eqb}
 use Rattle.meaning.specs.Choice.{Bytes, Name, both}
 use Rattle.meaning.specs.Tokens.{Token, functionName, word, quoted, sign, textEnd, malformed, Placed}
-use Rattle.meaning.specs.Reading.{Parsed, stopped, parsed, follow, whereFaultless, whether, faultUnless, isSign, nameOf, pass, passName, nameOn, noItem, itemOf}
+use Rattle.meaning.specs.Reading.{Parsed, stopped, parsed, follow, whereFaultless, whether, faultUnless, isSign, nameOf, pass, passName, nameOn}
+use Rattle.meaning.specs.Reading.{noItem, itemOf}
 use Rattle.meaning.specs.Grammar.{standing, symbolWord, partWord}
 use Rattle.meaning.proofs.laws.Choosing.{both-parts}
 
@@ -121,7 +122,8 @@ pass-parsed c (t ∷ ts) next e =
     let (there, after) = whether-parsed (isSign c (t .token)) t (next ts) e in
     record { place = t .place; past = t .past; tail = ts; shape = ap (λ z. z ∷ ts) (standing-as t (sign-of c (t .token) there)); after = after }
 
-pub record NamePassed (A : Type 0) (fault : Name → ℕ) (ts : List Placed) (next : ℕ → Name → List Placed → Parsed A) (v : A) (rest : List Placed) : Type 0 where
+pub record NamePassed (A : Type 0) (fault : Name → ℕ) (ts : List Placed) (next : ℕ → Name → List Placed → Parsed A) (v : A) (rest : List Placed) :
+    Type 0 where
   pub name : Name
   pub place : ℕ
   pub past : ℕ
@@ -130,7 +132,8 @@ pub record NamePassed (A : Type 0) (fault : Name → ℕ) (ts : List Placed) (ne
   pub faultless : fault name ≡ 0
   pub after : next place name tail ≡ parsed v rest
 
-name-step : {A : Type 0} (fault : Name → ℕ) (o : Option Name) (t : Placed) (ts : List Placed) (next : ℕ → Name → List Placed → Parsed A) {v : A} {rest : List Placed}
+name-step : {A : Type 0} (fault : Name → ℕ) (o : Option Name) (t : Placed) (ts : List Placed) (next : ℕ → Name → List Placed → Parsed A) {v : A}
+    {rest : List Placed}
     → nameOf (t .token) ≡ o
     → nameOn o fault t (λ n. next (t .place) n ts) ≡ parsed v rest
     → NamePassed A fault (t ∷ ts) next v rest

@@ -14,9 +14,13 @@ use Rattle.meaning.specs.Tree.{Subject, ofSymbol, ofPart, Condition}
 use Rattle.meaning.specs.Names.{predicateOf, classNamed}
 use Rattle.meaning.specs.Allowed.{member, ofPattern, allOfPattern, spelledIdentifier, maxIdentifier, maxName}
 use Rattle.meaning.specs.Tokens.{Token, functionName, word, quoted, sign, textEnd, malformed, Placed}
-use Rattle.meaning.specs.Grammar.{standing, truthByte, truthString, IsSubject, symbolSubject, partSubject, IsCondition, isCondition, IsConditions, noConditions, conditionThen}
-use Rattle.meaning.specs.Reading.{Parsed, stopped, parsed, follow, whereFaultless, isSign, passSubject, subjectFault, passTruth, truthOn, truthOf, truthIn, withClass, parseCondition, atComma, parseConditions, pass, passName, lengthFault}
-use Rattle.meaning_accepting.proofs.reading.Basics.{both-left, both-right, both-true, impossible, no-value, never-both, check-parsed, passed, Followed, follow-parsed, Passed, pass-parsed, NamePassed, name-parsed, TokenView, aString, aSymbol, aPart, another, view, sign-of, standing-as}
+use Rattle.meaning.specs.Grammar.{standing, truthByte, truthString, IsSubject, symbolSubject, partSubject, IsCondition, isCondition, IsConditions}
+use Rattle.meaning.specs.Grammar.{noConditions, conditionThen}
+use Rattle.meaning.specs.Reading.{Parsed, stopped, parsed, follow, whereFaultless, isSign, passSubject, subjectFault, passTruth, truthOn, truthOf}
+use Rattle.meaning.specs.Reading.{truthIn, withClass, parseCondition, atComma, parseConditions, pass, passName, lengthFault}
+use Rattle.meaning_accepting.proofs.reading.Basics.{both-left, both-right, both-true, impossible, no-value, never-both, check-parsed, passed}
+use Rattle.meaning_accepting.proofs.reading.Basics.{Followed, follow-parsed, Passed, pass-parsed, NamePassed, name-parsed, TokenView, aString}
+use Rattle.meaning_accepting.proofs.reading.Basics.{aSymbol, aPart, another, view, sign-of, standing-as}
 use Rattle.meaning.proofs.laws.Choosing.{same-bytes}
 use Rattle.meaning.proofs.laws.Words.{by-class}
 use Rattle.meaning_accepting.proofs.reading.Lists.{member-every}
@@ -220,7 +224,8 @@ module _ (symbols parts : List Name) {c : Condition} {rest : List Placed} where
         sound = sound-six _ _ _ _ _ _ rest (rw shape at s);
       }
 
-  condition-sound : (ts : List Placed) → soundTokens ts ≡ true → parseCondition symbols parts ts ≡ parsed c rest → ConditionRead symbols parts ts c rest
+  condition-sound : (ts : List Placed) → soundTokens ts ≡ true → parseCondition symbols parts ts ≡ parsed c rest →
+      ConditionRead symbols parts ts c rest
   unfolding parseCondition
   condition-sound ts s e =
       let p₁ = pass-parsed 60 ts (afterOpen symbols parts) e in
@@ -278,7 +283,8 @@ data AtComma (ts : List Placed) (next : Placed → List Placed → Parsed (List 
   with : (place past : ℕ) (tail : List Placed) → ts ≡ standing (sign 44) place past ∷ tail
       → next (standing (sign 44) place past) tail ≡ parsed cs rest → AtComma ts next cs rest
 
-comma-step : (b : Bool) (t : Placed) (ts : List Placed) (next : Placed → List Placed → Parsed (List Condition)) {cs : List Condition} {rest : List Placed}
+comma-step : (b : Bool) (t : Placed) (ts : List Placed) (next : Placed → List Placed → Parsed (List Condition)) {cs : List Condition}
+    {rest : List Placed}
     → isSign 44 (t .token) ≡ b
     → pick b (next t ts) (parsed [] (t ∷ ts)) ≡ parsed cs rest
     → AtComma (t ∷ ts) next cs rest

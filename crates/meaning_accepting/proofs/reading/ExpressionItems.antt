@@ -11,9 +11,11 @@ use lib.Dec.{leb}
 use lib.ListN.{length}
 use Rattle.meaning.specs.Choice.{Bytes, Name, pick, both, every, isSome, sameBytes}
 use Rattle.meaning.specs.Tree.{Expression}
-use Rattle.meaning.specs.Allowed.{isByte, member, itemsIn, nesting, spelledItems, comingAfter, comingAfterAll, whereSome, spelledIdentifier, maxItems, maxNesting, maxIdentifier}
+use Rattle.meaning.specs.Allowed.{isByte, member, itemsIn, nesting, spelledItems, comingAfter, comingAfterAll, whereSome, spelledIdentifier, maxItems}
+use Rattle.meaning.specs.Allowed.{maxNesting, maxIdentifier}
 use Rattle.meaning.specs.Grammar.{thenCharacters}
-use Rattle.meaning.specs.Reading.{Item, characters, symbolItem, partItem, noItem, isItem, Progress, itemCount, comingPast, comingOr, pastItem, itemFault, faultUnless, thenItem}
+use Rattle.meaning.specs.Reading.{Item, characters, symbolItem, partItem, noItem, isItem, Progress, itemCount, comingPast, comingOr, pastItem}
+use Rattle.meaning.specs.Reading.{itemFault, faultUnless, thenItem}
 use Rattle.meaning_accepting.proofs.reading.Basics.{both-left, both-right, both-true, impossible, no-value, passed}
 use Rattle.meaning.proofs.laws.Choosing.{both-some, same-bytes}
 use Rattle.meaning_accepting.proofs.reading.Lists.{both-assoc, member-every}

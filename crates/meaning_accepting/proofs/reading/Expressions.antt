@@ -13,8 +13,11 @@ use Rattle.meaning.specs.Names.{isPredicate}
 use Rattle.meaning.specs.Allowed.{itemsIn, nesting, spelledItems, spelledName, comingAfterAll, maxItems, maxNesting, maxName}
 use Rattle.meaning.specs.Tokens.{Token, functionName, sign, Placed}
 use Rattle.meaning.specs.Grammar.{standing, IsExpression, noItems, stringThen, symbolThen, partThen, callThen}
-use Rattle.meaning.specs.Reading.{Parsed, stopped, parsed, follow, whereFaultless, pass, passName, itemOf, isItem, isSign, Progress, Items, Called, pastItem, pastCall, itemFault, callFault, calledFault, thenItem, withFirst, parseCall, parseExpression}
-use Rattle.meaning_accepting.proofs.reading.Basics.{both-left, both-right, both-true, impossible, never-both, check-parsed, passed, Followed, follow-parsed, Passed, pass-parsed, NamePassed, name-parsed, TokenView, aString, aSymbol, aPart, another, view, sign-of, standing-as}
+use Rattle.meaning.specs.Reading.{Parsed, stopped, parsed, follow, whereFaultless, pass, passName, itemOf, isItem, isSign, Progress, Items, Called}
+use Rattle.meaning.specs.Reading.{pastItem, pastCall, itemFault, callFault, calledFault, thenItem, withFirst, parseCall, parseExpression}
+use Rattle.meaning_accepting.proofs.reading.Basics.{both-left, both-right, both-true, impossible, never-both, check-parsed, passed, Followed}
+use Rattle.meaning_accepting.proofs.reading.Basics.{follow-parsed, Passed, pass-parsed, NamePassed, name-parsed, TokenView, aString, aSymbol}
+use Rattle.meaning_accepting.proofs.reading.Basics.{aPart, another, view, sign-of, standing-as}
 use Rattle.meaning_accepting.proofs.reading.Sound.{soundTokens, sound-first, sound-rest, item-sound, name-spelled}
 use Rattle.meaning_accepting.proofs.reading.ExpressionItems.{Leads, item-fits, item-leads}
 
@@ -26,7 +29,8 @@ pub record ExpressionRead (symbols : List Name) (depth : ℕ) (so : Progress) (t
   pub sound : soundTokens rest ≡ true
 
 pub record CallRead (symbols : List Name) (depth : ℕ) (so : Progress) (ts : List Placed) (c : Called) (rest : List Placed) : Type 0 where
-  pub derived : (e : Expression) (more : List Placed) → IsExpression rest e more → IsExpression ts (thenCall (c .place) (c .name) (c .argument) e) more
+  pub derived : (e : Expression) (more : List Placed) → IsExpression rest e more →
+      IsExpression ts (thenCall (c .place) (c .name) (c .argument) e) more
   pub leads : Leads symbols (suc depth) (pastCall so) (c .argument) (c .progress)
   pub spelled : both (spelledName (c .name)) (not (isPredicate (c .name))) ≡ true
   pub sound : soundTokens rest ≡ true
@@ -39,7 +43,8 @@ first-parsed first (parsed j ts) {i} {rest} e =
     (j, ap (λ z. parsed j z) left, cc)
 
 item-derived : {token : Token} (place past : ℕ) → TokenView token → isItem (itemOf token) ≡ true
-    → {ts rest : List Placed} {e : Expression} → IsExpression ts e rest → IsExpression (standing token place past ∷ ts) (thenItem (itemOf token) e) rest
+    → {ts rest : List Placed} {e : Expression} → IsExpression ts e rest →
+    IsExpression (standing token place past ∷ ts) (thenItem (itemOf token) e) rest
 item-derived place past (aString text) i d = stringThen d
 item-derived place past (aSymbol b x) i d = symbolThen d
 item-derived place past (aPart b x) i d = partThen d
@@ -93,7 +98,8 @@ module _ (next : Reader) (symbols : List Name) (later : Sound next symbols) (dep
         let left : r .tail ≡ rest = cc in
         let made : record { place = p .place; name = p .name; argument = q .value .expression; progress = q .value .progress } ≡ c = cc in
         let (short, unreserved) = passed (leb (length (p .name)) maxName) 4 _ (omega arith) (p .faultless) in
-        let shape : q .between ≡ standing (sign 62) (r .place) (r .past) ∷ rest = r .shape ∙ ap (λ z. standing (sign 62) (r .place) (r .past) ∷ z) left in
+        let shape : q .between ≡ standing (sign 62) (r .place) (r .past) ∷ rest = r .shape ∙
+        ap (λ z. standing (sign 62) (r .place) (r .past) ∷ z) left in
         record {
           derived = λ e more d. rw (p .shape, standing-as t o, ← made) (callThen (rw shape at (a .derived)) d);
           leads = rw (← made) (a .leads);
@@ -169,7 +175,8 @@ module _ (next : Reader) (symbols : List Name) (later : Sound next symbols) (dep
     expression-step : (t : Placed) (ts : List Placed) (a b : Bool) → isItem (itemOf (t .token)) ≡ a → isSign 60 (t .token) ≡ b
         → so .items ≤ maxItems → depth ≤ maxNesting → soundTokens (t ∷ ts) ≡ true
         → pick a
-        (whereFaultless (itemFault symbols so (itemOf (t .token))) t (withFirst (thenItem (itemOf (t .token))) (next depth (pastItem (itemOf (t .token)) so) ts)))
+        (whereFaultless (itemFault symbols so (itemOf (t .token))) t
+        (withFirst (thenItem (itemOf (t .token))) (next depth (pastItem (itemOf (t .token)) so) ts)))
         (pick b (follow (parseCall next depth so t ts) outside) (parsed (record { expression = end; progress = so }) (t ∷ ts)))
         ≡ parsed i rest
         → ExpressionRead symbols depth so (t ∷ ts) i rest

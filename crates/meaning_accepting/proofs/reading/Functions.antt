@@ -12,8 +12,10 @@ use Rattle.meaning.specs.Tree.{Sentence}
 use Rattle.meaning.specs.Allowed.{allowedSentence}
 use Rattle.meaning.specs.Tokens.{Token, functionName, word, quoted, sign, textEnd, malformed, Placed}
 use Rattle.meaning.specs.Grammar.{standing, IsSentence, IsSentences, lastSentence, lastSentenceParted, sentenceThen}
-use Rattle.meaning.specs.Reading.{Parsed, stopped, parsed, follow, whether, isSign, begins, parseSentence, atSentence, afterSemicolon, afterSentence, parseSentences}
-use Rattle.meaning_accepting.proofs.reading.Basics.{both-left, both-right, both-true, impossible, never-both, whether-parsed, Followed, follow-parsed, sign-of, standing-as}
+use Rattle.meaning.specs.Reading.{Parsed, stopped, parsed, follow, whether, isSign, begins, parseSentence, atSentence, afterSemicolon, afterSentence}
+use Rattle.meaning.specs.Reading.{parseSentences}
+use Rattle.meaning_accepting.proofs.reading.Basics.{both-left, both-right, both-true, impossible, never-both, whether-parsed, Followed}
+use Rattle.meaning_accepting.proofs.reading.Basics.{follow-parsed, sign-of, standing-as}
 use Rattle.meaning_accepting.proofs.reading.Sound.{soundTokens, sound-rest}
 use Rattle.meaning_accepting.proofs.reading.ExpressionsComplete.{ends-with}
 use Rattle.meaning_accepting.proofs.reading.Sentences.{SentenceRead, sentence-sound, sentence-complete, Begins, sentence-begins}
@@ -67,7 +69,8 @@ module _ (left : ℕ) (more : More)
           sound = rw rest-same at (r .sound);
         }
 
-    semicolon-step : (semicolon t : Placed) (us : List Placed) (b : Bool) → isSign 125 (t .token) ≡ b → semicolon .token ≡ sign 59 → allowedSentence s ≡ true
+    semicolon-step : (semicolon t : Placed) (us : List Placed) (b : Bool) → isSign 125 (t .token) ≡ b → semicolon .token ≡ sign 59 →
+        allowedSentence s ≡ true
         → soundTokens (t ∷ us) ≡ true → IsSentence ts s (semicolon ∷ t ∷ us)
         → pick b (parsed (s ∷ []) us) (follow (more (t ∷ us)) (joined s)) ≡ parsed ss rest
         → SentencesRead (suc left) ts ss rest
@@ -146,7 +149,8 @@ more-sentences more s b = rw (b .shape, begins-open (b .first .token) (b .beginn
 
 -- the first sentence is read
 first-read : (left : ℕ) {c place past : ℕ} {ts rest : List Placed} {s : Sentence} → IsSentence ts s (standing (sign c) place past ∷ rest)
-    → eqb c 60 ≡ false → allowedSentence s ≡ true → parseSentences (suc left) ts ≡ afterSentence (parseSentences left) s (standing (sign c) place past ∷ rest)
+    → eqb c 60 ≡ false → allowedSentence s ≡ true → parseSentences (suc left) ts ≡
+    afterSentence (parseSentences left) s (standing (sign c) place past ∷ rest)
 unfolding parseSentences
 first-read left {c} {place} {past} {ts} {rest} d e a =
     rw (

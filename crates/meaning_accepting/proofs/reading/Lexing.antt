@@ -10,7 +10,10 @@ use lib.ListN.{length}
 use Rattle.meaning.specs.Choice.{Bytes, pick}
 use Rattle.meaning.specs.Classes.{inClass, alphabetic}
 use Rattle.meaning.specs.Allowed.{wordByte, nameByte}
-use Rattle.meaning.specs.Tokens.{Mode, outside, inside, naming, Token, functionName, word, malformed, Placed, Lexed, lexed, ahead, Gap, between, opening, commented, starred, gapAfter, Skipped, found, skippedEnd, skipOn, skip, Run, run, wordAt, Quoting, plain, Turn, goesOn, closes, breaks, turn, Quotation, quoteOn, quotation, quotedAt, bracketAt, tokenAt, tokenPast, lex, modeAfter, isLastToken, tokensFrom}
+use Rattle.meaning.specs.Tokens.{Mode, outside, inside, naming, Token, functionName, word, malformed, Placed, Lexed, lexed, ahead, Gap, between}
+use Rattle.meaning.specs.Tokens.{opening, commented, starred, gapAfter, Skipped, found, skippedEnd, skipOn, skip, Run, run, wordAt, Quoting, plain}
+use Rattle.meaning.specs.Tokens.{Turn, goesOn, closes, breaks, turn, Quotation, quoteOn, quotation, quotedAt, bracketAt, tokenAt, tokenPast, lex}
+use Rattle.meaning.specs.Tokens.{modeAfter, isLastToken, tokensFrom}
 use Rattle.meaning.proofs.laws.Choosing.{of-either}
 use Rattle.meaning_accepting.proofs.reading.Basics.{impossible}
 use Rattle.meaning_accepting.proofs.reading.Sound.{isNil}
@@ -36,7 +39,8 @@ module _ (fits : ℕ → Bool) (token : Bytes → Token) (place : ℕ) where
   run-within taken at (b ∷ rest) = go (fits b) (run-within (taken ++ b ∷ []) (suc at) rest)
     where
       go : (c : Bool) → Within (suc at) (length rest) (taken-token (run fits (taken ++ b ∷ []) (suc at) rest))
-          → Within at (length (b ∷ rest)) (taken-token (pick c (run fits (taken ++ b ∷ []) (suc at) rest) (record { taken = taken; past = at; rest = b ∷ rest })))
+          → Within at (length (b ∷ rest))
+          (taken-token (pick c (run fits (taken ++ b ∷ []) (suc at) rest) (record { taken = taken; past = at; rest = b ∷ rest })))
       go true w = weaker (taken-token (run fits (taken ++ b ∷ []) (suc at) rest)) w
       go false w = record { forward = omega arith; shorter = omega arith }
 
@@ -57,7 +61,8 @@ quote-on-within place at size (goesOn state text) next rest l w = w state text
 quote-on-within place at size (closes text) next rest l w = record { forward = omega arith; shorter = l }
 quote-on-within place at size breaks next rest l w = record { forward = omega arith; shorter = l }
 
-pub quotation-within : (place : ℕ) (state : Quoting) (text : Bytes) (at : ℕ) (bytes : Bytes) → Within at (length bytes) (quotedAt place (quotation state text at bytes))
+pub quotation-within : (place : ℕ) (state : Quoting) (text : Bytes) (at : ℕ) (bytes : Bytes) →
+    Within at (length bytes) (quotedAt place (quotation state text at bytes))
 unfolding quotation
 quotation-within place state text at [] = record { forward = omega arith; shorter = omega arith }
 quotation-within place state text at (b ∷ rest) =
@@ -80,8 +85,10 @@ letter-or-within mode at b rest false other p w = w
 pub token-within : (mode : Mode) (at b : ℕ) (rest : Bytes) → Within (suc at) (length rest) (tokenAt mode at (b ∷ rest))
 token-within mode at b rest =
     letter-or-within mode at b rest (inClass alphabetic b) _ refl
-    (of-either (Within (suc at) (length rest)) (eqb b 39) (quotedAt at (quotation plain [] (suc at) rest)) _ (quotation-within at plain [] (suc at) rest)
-    (of-either (Within (suc at) (length rest)) (eqb b 60) (bracketAt at rest (ahead (inClass alphabetic) rest)) _ (bracket-within at rest (ahead (inClass alphabetic) rest))
+    (of-either (Within (suc at) (length rest)) (eqb b 39) (quotedAt at (quotation plain [] (suc at) rest)) _
+    (quotation-within at plain [] (suc at) rest)
+    (of-either (Within (suc at) (length rest)) (eqb b 60) (bracketAt at rest (ahead (inClass alphabetic) rest)) _
+    (bracket-within at rest (ahead (inClass alphabetic) rest))
     (record { forward = omega arith; shorter = omega arith })))
 
 -- after blanks and comments: the place goes forward, and a token that isn't the last eats a byte
@@ -151,7 +158,8 @@ tokens-ended (suc bound) mode at bytes l =
     ended-cases (x .first) (isLastToken (x .first .token)) (tokensFrom bound (modeAfter mode (x .first .token)) (x .first .past) (x .rest)) refl
     (λ e. tokens-ended bound (modeAfter mode (x .first .token)) (x .first .past) (x .rest) (omega (arith, lex-eats mode at bytes .eaten e)))
 
-later-same : (b : Bool) (t : Placed) (x y : List Placed) → isLastToken (t .token) ≡ b → (isLastToken (t .token) ≡ false → x ≡ y) → t ∷ pick b [] x ≡ t ∷ pick b [] y
+later-same : (b : Bool) (t : Placed) (x y : List Placed) → isLastToken (t .token) ≡ b → (isLastToken (t .token) ≡ false → x ≡ y) → t ∷ pick b [] x ≡
+    t ∷ pick b [] y
 later-same true t x y p e = refl
 later-same false t x y p e = ap (λ z. t ∷ z) (e p)
 

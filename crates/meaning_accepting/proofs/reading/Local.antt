@@ -10,7 +10,10 @@ use lib.ListN.{length, take}
 use Rattle.meaning.specs.Choice.{Bytes, pick}
 use Rattle.meaning.specs.Classes.{inClass, alphabetic}
 use Rattle.meaning.specs.Allowed.{wordByte, nameByte}
-use Rattle.meaning.specs.Tokens.{Mode, outside, inside, naming, Token, functionName, word, Placed, Lexed, lexed, ahead, Gap, between, opening, commented, starred, gapAfter, Skipped, found, skipOn, skip, Run, run, wordAt, Quoting, plain, Turn, goesOn, closes, breaks, turn, Quotation, quoteOn, quotation, quotedAt, bracketAt, tokenAt, tokenPast, lex, modeAfter, isLastToken, tokensFrom}
+use Rattle.meaning.specs.Tokens.{Mode, outside, inside, naming, Token, functionName, word, Placed, Lexed, lexed, ahead, Gap, between, opening}
+use Rattle.meaning.specs.Tokens.{commented, starred, gapAfter, Skipped, found, skipOn, skip, Run, run, wordAt, Quoting, plain, Turn, goesOn, closes}
+use Rattle.meaning.specs.Tokens.{breaks, turn, Quotation, quoteOn, quotation, quotedAt, bracketAt, tokenAt, tokenPast, lex, modeAfter, isLastToken}
+use Rattle.meaning.specs.Tokens.{tokensFrom}
 use Rattle.meaning.proofs.laws.Choosing.{no-cons}
 use Rattle.meaning_accepting.proofs.reading.Lexing.{run-within, quotation-within, token-within, skip-eats, skip-beyond, lex-eats}
 
@@ -58,7 +61,8 @@ module _ (fits : ℕ → Bool) (token : Bytes → Token) (place until : ℕ) whe
   run-step : (taken : Bytes) (at b : ℕ) {xs ys : Bytes} (c : Bool) (r s : Run) → AgreeTo until (suc at) xs ys
       → made (pick c r (record { taken = taken; past = at; rest = b ∷ xs })) .first .past < until
       → (made r .first .past < until → SameLexed until (made r) (made s))
-      → SameLexed until (made (pick c r (record { taken = taken; past = at; rest = b ∷ xs }))) (made (pick c s (record { taken = taken; past = at; rest = b ∷ ys })))
+      → SameLexed until (made (pick c r (record { taken = taken; past = at; rest = b ∷ xs })))
+      (made (pick c s (record { taken = taken; past = at; rest = b ∷ ys })))
   run-step taken at b true r s d l go = go l
   run-step taken at b false r s d l go = record { first = refl; rest = same d }
 
@@ -100,7 +104,8 @@ unfolding quotation
 quotation-local place until state text at (reached {xs = xs} p) l = absurd (omega (arith, quotation-within place state text at xs .forward))
 quotation-local place until state text at together l = same-lexed until (quotedAt place (quotation state text at []))
 quotation-local place until state text at (same {b = b} {xs = xs} {ys = ys} d) l =
-    quote-on-local place until (suc at) (turn state text b) (λ next longer. quotation next longer (suc at) xs) (λ next longer. quotation next longer (suc at) ys) d l
+    quote-on-local place until (suc at) (turn state text b) (λ next longer. quotation next longer (suc at) xs)
+    (λ next longer. quotation next longer (suc at) ys) d l
     (λ next longer m. quotation-local place until next longer (suc at) d m)
 
 -- TOKENS
@@ -188,7 +193,8 @@ pub tokens-later : (b : ℕ) (mode : Mode) (at : ℕ) (xs : Bytes) {u : Placed} 
 unfolding tokensFrom
 tokens-later b mode at xs used t others e =
     let x = lex mode at xs in
-    let rest : pick (isLastToken (x .first .token)) [] (tokensFrom b (modeAfter mode (x .first .token)) (x .first .past) (x .rest)) ≡ used ++ t ∷ others = cc in
+    let rest : pick (isLastToken (x .first .token)) [] (tokensFrom b (modeAfter mode (x .first .token)) (x .first .past) (x .rest)) ≡
+    used ++ t ∷ others = cc in
     later-token (isLastToken (x .first .token)) (tokensFrom b (modeAfter mode (x .first .token)) (x .first .past) (x .rest)) used t others rest
 
 -- tokens end no earlier than the place that lexing begins at
@@ -222,7 +228,8 @@ tokens-local (suc b) (suc c) mode at xs ys [] t others e d l =
     let one : x .first ≡ t = cc in
     let s = lex-local mode (suc (t .past)) at xs ys d (rw one (omega arith)) in (
       pick (isLastToken (y .first .token)) [] (tokensFrom c (modeAfter mode (y .first .token)) (y .first .past) (y .rest)),
-      ap (λ z. z ∷ pick (isLastToken (y .first .token)) [] (tokensFrom c (modeAfter mode (y .first .token)) (y .first .past) (y .rest))) (sym (s .first) ∙ one),
+      ap (λ z. z ∷ pick (isLastToken (y .first .token)) [] (tokensFrom c (modeAfter mode (y .first .token)) (y .first .past) (y .rest)))
+          (sym (s .first) ∙ one),
     )
 tokens-local (suc b) (suc c) mode at xs ys (u ∷ used) t others e d l =
     let x = lex mode at xs in

@@ -9,7 +9,8 @@ use lib.Dec.{leb}
 use lib.ListN.{length}
 use Rattle.meaning.specs.Choice.{Bytes, Name, both, every}
 use Rattle.meaning.specs.Tree.{Letter, character, symbol, Element, letter, part}
-use Rattle.meaning.specs.Allowed.{isByte, spelledElement, symbolsOf, symbolsFrom, partsOf, lettersIn, parted, distinct, added, allowedPattern, maxLetters, maxSymbols}
+use Rattle.meaning.specs.Allowed.{isByte, spelledElement, symbolsOf, symbolsFrom, partsOf, lettersIn, parted, distinct, added, allowedPattern}
+use Rattle.meaning.specs.Allowed.{maxLetters, maxSymbols}
 use Rattle.meaning.specs.Grammar.{charactersOf}
 use Rattle.meaning.specs.Reading.{endsInPart}
 use Rattle.meaning_accepting.proofs.reading.Basics.{both-left, both-right, both-true}

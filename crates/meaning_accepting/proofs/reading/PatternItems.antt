@@ -10,14 +10,17 @@ use lib.Dec.{leb, ltb}
 use lib.ListN.{length, length-append}
 use Rattle.meaning.specs.Choice.{Bytes, Name, pick, both, every}
 use Rattle.meaning.specs.Tree.{character, symbol, Element, letter, part}
-use Rattle.meaning.specs.Allowed.{isByte, spelledElement, spelledIdentifier, symbolsOf, symbolsFrom, partsOf, lettersIn, parted, distinct, member, added, maxLetters, maxSymbols, maxIdentifier}
+use Rattle.meaning.specs.Allowed.{isByte, spelledElement, spelledIdentifier, symbolsOf, symbolsFrom, partsOf, lettersIn, parted, distinct, member}
+use Rattle.meaning.specs.Allowed.{added, maxLetters, maxSymbols, maxIdentifier}
 use Rattle.meaning.specs.Grammar.{charactersOf}
 use Rattle.meaning.specs.Reading.{Item, characters, symbolItem, partItem, noItem, elementsOf, patternFault, endsInPart}
 use Rattle.meaning.proofs.laws.Choosing.{both-parts}
 use Rattle.meaning_accepting.proofs.reading.Basics.{both-left, both-right, both-true, passed}
 use Rattle.meaning_accepting.proofs.reading.Lists.{every-append, both-comm, distinct-after, distinct-between, distinct-apart}
 use Rattle.meaning_accepting.proofs.reading.Sound.{soundItem, identifier-spelled, spelled-identifier-short}
-use Rattle.meaning_accepting.proofs.reading.PatternFacts.{PatternFacts, parts-append, letters-append, symbols-append, parted-letter, parted-part, characters-parts, characters-letters, characters-symbols, characters-spelled, parted-characters}
+use Rattle.meaning_accepting.proofs.reading.PatternFacts.{PatternFacts, parts-append, letters-append, symbols-append, parted-letter}
+use Rattle.meaning_accepting.proofs.reading.PatternFacts.{parted-part, characters-parts, characters-letters, characters-symbols}
+use Rattle.meaning_accepting.proofs.reading.PatternFacts.{characters-spelled, parted-characters}
 
 spelled-one : (a : List Element) (e : Element) → every spelledElement (a ++ e ∷ []) ≡ both (every spelledElement a) (spelledElement e)
 unfolding every

@@ -9,7 +9,8 @@ use Rattle.meaning.specs.Choice.{Bytes, Name, pick}
 use Rattle.meaning.specs.Tree.{Element, letter, part}
 use Rattle.meaning.specs.Allowed.{partsOf, parted}
 use Rattle.meaning.specs.Tokens.{Token, Placed}
-use Rattle.meaning.specs.Grammar.{standing, symbolWord, partWord, charactersOf, IsLetters, stringLetters, variableLetter, IsTemplate, lettersAlone, lettersThen, IsTemplateOrNone, noTemplate, someTemplate, IsPattern, noPart, onePart, twoParts}
+use Rattle.meaning.specs.Grammar.{standing, symbolWord, partWord, charactersOf, IsLetters, stringLetters, variableLetter, IsTemplate, lettersAlone}
+use Rattle.meaning.specs.Grammar.{lettersThen, IsTemplateOrNone, noTemplate, someTemplate, IsPattern, noPart, onePart, twoParts}
 use Rattle.meaning.specs.Reading.{parsed, whereFaultless, Item, noItem, itemOf, isItem, elementsOf, patternFault, parsePattern}
 use Rattle.meaning.proofs.laws.Choosing.{no-cons}
 use Rattle.meaning_accepting.proofs.reading.Basics.{impossible, never-both, check-parsed, TokenView, aString, aSymbol, aPart, another, view}
@@ -39,7 +40,8 @@ module _ (before : List Element) (t : Placed) (ts : List Placed) {p : List Eleme
       → (PatternFacts (before ++ elementsOf (itemOf (t .token))) → soundTokens ts ≡ true
       → parsePattern (before ++ elementsOf (itemOf (t .token))) ts ≡ parsed p rest
       → PatternRead (before ++ elementsOf (itemOf (t .token))) ts p rest)
-      → pick b (whereFaultless (patternFault before (itemOf (t .token))) t (parsePattern (before ++ elementsOf (itemOf (t .token))) ts)) (parsed before (t ∷ ts))
+      → pick b (whereFaultless (patternFault before (itemOf (t .token))) t (parsePattern (before ++ elementsOf (itemOf (t .token))) ts))
+      (parsed before (t ∷ ts))
       ≡ parsed p rest
       → PatternRead before (t ∷ ts) p rest
   pattern-step true i f s later e =
@@ -94,7 +96,8 @@ items-append {q = q} (itemThen {t = t} {q = p} i a) b =
 one-item : (t : Placed) {ts : List Placed} → isItem (itemOf (t .token)) ≡ true → IsItems (t ∷ ts) (elementsOf (itemOf (t .token))) ts
 one-item t {ts} i = subst (λ z. IsItems (t ∷ ts) z ts) (append-nil (elementsOf (itemOf (t .token)))) (itemThen i noMore)
 
-letters-items : {token : Token} {p : List Element} (place past : ℕ) {ts : List Placed} → IsLetters token p → IsItems (standing token place past ∷ ts) p ts
+letters-items : {token : Token} {p : List Element} (place past : ℕ) {ts : List Placed} → IsLetters token p →
+    IsItems (standing token place past ∷ ts) p ts
 letters-items place past (stringLetters {text = text}) = one-item (standing _ place past) refl
 letters-items place past (variableLetter {b = b} {x = x}) = one-item (standing (symbolWord b x) place past) refl
 
@@ -239,7 +242,8 @@ two-parts {x = x} {y = y} a c d =
     sym (parted-past (c .first) (part (c .byte ∷ c .bytes) ∷ (d .first ++ part (d .byte ∷ d .bytes) ∷ d .last)) (c .letters))
     ∙ (ap parted (sym whole) ∙ a)
     in
-    rw whole (twoParts (c .before) (middle (c .byte ∷ c .bytes) (d .byte ∷ d .bytes) (d .last) (d .before) apart) (items-template (d .after) (d .later)))
+    rw whole (twoParts (c .before) (middle (c .byte ∷ c .bytes) (d .byte ∷ d .bytes) (d .last) (d .before) apart)
+    (items-template (d .after) (d .later)))
 
 from-cut : {ts rest : List Placed} {q : List Element} {x : Name} (xs : List Name) → length (x ∷ xs) ≤ 2 → parted q ≡ true
     → Cut ts q rest x xs → IsPattern ts q rest

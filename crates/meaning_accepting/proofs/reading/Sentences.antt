@@ -9,16 +9,20 @@ use lib.Dec.{leb}
 use lib.ListN.{length}
 use Rattle.meaning.specs.Choice.{Name, pick, every, isSome}
 use Rattle.meaning.specs.Tree.{character, symbol, Element, letter, part, Condition, Expression, Sentence}
-use Rattle.meaning.specs.Allowed.{spelledElement, spelledIdentifier, member, added, symbolsOf, symbolsFrom, partsOf, lettersIn, parted, distinct, itemsIn, nesting, spelledItems, comingAfterAll, maxItems, maxNesting, maxConditions, allowedPattern, allOfPattern, allowedConditions, allowedExpression, allowedSentence}
+use Rattle.meaning.specs.Allowed.{spelledElement, spelledIdentifier, member, added, symbolsOf, symbolsFrom, partsOf, lettersIn, parted, distinct}
+use Rattle.meaning.specs.Allowed.{itemsIn, nesting, spelledItems, comingAfterAll, maxItems, maxNesting, maxConditions, allowedPattern, allOfPattern}
+use Rattle.meaning.specs.Allowed.{allowedConditions, allowedExpression, allowedSentence}
 use Rattle.meaning.specs.Tokens.{sign, Placed}
 use Rattle.meaning.specs.Grammar.{standing, IsPattern, IsConditions, noConditions, conditionThen, IsSentence, isSentence}
-use Rattle.meaning.specs.Reading.{Parsed, parsed, follow, pass, itemOf, isItem, begins, Progress, Items, parsePattern, parseConditions, parseExpression, parseSentence}
+use Rattle.meaning.specs.Reading.{Parsed, parsed, follow, pass, itemOf, isItem, begins, Progress, Items, parsePattern, parseConditions}
+use Rattle.meaning.specs.Reading.{parseExpression, parseSentence}
 use Rattle.meaning.proofs.laws.Choosing.{given-some}
 use Rattle.meaning_accepting.proofs.reading.Basics.{both-left, both-right, both-true, Followed, follow-parsed, Passed, pass-parsed}
 use Rattle.meaning_accepting.proofs.reading.Lists.{every-append}
 use Rattle.meaning_accepting.proofs.reading.Sound.{soundTokens, sound-rest}
 use Rattle.meaning_accepting.proofs.reading.PatternFacts.{PatternFacts, pattern-facts, facts-pattern}
-use Rattle.meaning_accepting.proofs.reading.Patterns.{IsItems, noMore, itemThen, PatternRead, pattern-sound, pattern-complete, pattern-items, items-pattern}
+use Rattle.meaning_accepting.proofs.reading.Patterns.{IsItems, noMore, itemThen, PatternRead, pattern-sound, pattern-complete, pattern-items}
+use Rattle.meaning_accepting.proofs.reading.Patterns.{items-pattern}
 use Rattle.meaning_accepting.proofs.reading.Conditions.{ConditionsRead, conditions-sound, conditions-complete}
 use Rattle.meaning_accepting.proofs.reading.ExpressionItems.{Leads}
 use Rattle.meaning_accepting.proofs.reading.Expressions.{ExpressionRead, expression-sound}
@@ -41,7 +45,8 @@ pub symbols-spelled : (known : List Name) (p : List Element) → every spelledId
     → every spelledIdentifier (symbolsFrom known p) ≡ true
 unfolding every symbolsFrom
 symbols-spelled known [] k s = k
-symbols-spelled known (letter (character c) ∷ p) k s = symbols-spelled known p k (both-right (spelledElement (letter (character c))) (every spelledElement p) s)
+symbols-spelled known (letter (character c) ∷ p) k s =
+    symbols-spelled known p k (both-right (spelledElement (letter (character c))) (every spelledElement p) s)
 symbols-spelled known (letter (symbol x) ∷ p) k s =
     symbols-spelled (added x known) p
     (added-spelled (member x known) x known (both-left (spelledIdentifier x) (every spelledElement p) s) k)
@@ -61,7 +66,8 @@ parts-spelled (part x ∷ p) s =
 abbrev pub start : List Name → Progress
 start parts = record { items = 0; coming = parts }
 
-leads-allowed : (symbols parts : List Name) (e : Expression) (then : Progress) → Leads symbols 0 (start parts) e then → allowedExpression symbols parts e ≡ true
+leads-allowed : (symbols parts : List Name) (e : Expression) (then : Progress) → Leads symbols 0 (start parts) e then →
+    allowedExpression symbols parts e ≡ true
 leads-allowed symbols parts e then l =
     let items = l .items in
     let room = l .room in
@@ -133,7 +139,8 @@ module _ {ts : List Placed} {s : Sentence} {rest : List Placed} where
       }
 
 -- what the sentence's reader reads is an allowed sentence of the grammar
-pub sentence-sound : (ts : List Placed) {s : Sentence} {rest : List Placed} → soundTokens ts ≡ true → parseSentence ts ≡ parsed s rest → SentenceRead ts s rest
+pub sentence-sound : (ts : List Placed) {s : Sentence} {rest : List Placed} → soundTokens ts ≡ true → parseSentence ts ≡ parsed s rest →
+    SentenceRead ts s rest
 unfolding parseSentence
 sentence-sound ts t read =
     let p = follow-parsed (parsePattern [] ts) afterPattern read in
@@ -165,7 +172,8 @@ conditions-first : {ts rest : List Placed} {cs : List Condition} → IsCondition
 conditions-first noConditions h = h
 conditions-first (conditionThen {ts = ts} {place = place} {past = past} d ds) h = sign-first 44 place past ts refl
 
-pub sentence-complete : {ts rest : List Placed} {s : Sentence} → IsSentence ts s rest → Ends rest → allowedSentence s ≡ true → parseSentence ts ≡ parsed s rest
+pub sentence-complete : {ts rest : List Placed} {s : Sentence} → IsSentence ts s rest → Ends rest → allowedSentence s ≡ true → parseSentence ts ≡
+    parsed s rest
 unfolding parseSentence every
 sentence-complete (isSentence {ts = ts} {ts₂ = ts₂} {place = place} {past = past} {p = p} {cs = cs} {e = e} d₁ d₂ d₃) h a =
     let f = pattern-facts p (both-left (allowedPattern p) _ a) in

@@ -11,11 +11,15 @@ use Rattle.meaning.specs.Tree.{Sentence, Function, Table}
 use Rattle.meaning.specs.Names.{isReserved}
 use Rattle.meaning.specs.Allowed.{allowedSentence, allowedFunction, someSentence, sentencesIn, namesOf, distinct, member, spelledName, maxName}
 use Rattle.meaning.specs.Tokens.{Token, functionName, word, quoted, sign, textEnd, malformed, Placed}
-use Rattle.meaning.specs.Grammar.{standing, IsSentences, lastSentence, lastSentenceParted, sentenceThen, IsFunction, isFunction, IsProgram, noFunctions, functionThen, functionPartedThen}
-use Rattle.meaning.specs.Reading.{Parsed, stopped, parsed, follow, pass, isSign, isTextEnd, parseSentences, passSpare, declaredFault, parseFunction, atFunction, parseFunctions}
-use Rattle.meaning_accepting.proofs.reading.Basics.{both-left, both-right, both-true, impossible, never-both, passed, Followed, follow-parsed, Passed, pass-parsed, NamePassed, name-parsed, sign-of, standing-as}
+use Rattle.meaning.specs.Grammar.{standing, IsSentences, lastSentence, lastSentenceParted, sentenceThen, IsFunction, isFunction, IsProgram}
+use Rattle.meaning.specs.Grammar.{noFunctions, functionThen, functionPartedThen}
+use Rattle.meaning.specs.Reading.{Parsed, stopped, parsed, follow, pass, isSign, isTextEnd, parseSentences, passSpare, declaredFault, parseFunction}
+use Rattle.meaning.specs.Reading.{atFunction, parseFunctions}
+use Rattle.meaning_accepting.proofs.reading.Basics.{both-left, both-right, both-true, impossible, never-both, passed, Followed, follow-parsed}
+use Rattle.meaning_accepting.proofs.reading.Basics.{Passed, pass-parsed, NamePassed, name-parsed, sign-of, standing-as}
 use Rattle.meaning_accepting.proofs.reading.Lists.{distinct-after, distinct-first}
-use Rattle.meaning_accepting.proofs.reading.Sound.{soundTokens, sound-first, sound-rest, sound-end, nameSpelling, name-spelled, spelled-name-short}
+use Rattle.meaning_accepting.proofs.reading.Sound.{soundTokens, sound-first, sound-rest, sound-end, nameSpelling, name-spelled}
+use Rattle.meaning_accepting.proofs.reading.Sound.{spelled-name-short}
 use Rattle.meaning_accepting.proofs.reading.Functions.{SentencesRead, sentences-sound, sentences-complete}
 
 -- ONE FUNCTION
@@ -179,7 +183,8 @@ abbrev pub afterFunction : Rest → ℕ → Table → Function → List Placed �
 afterFunction next sentencesLeft before f rest = next (sentencesLeft - length (f .sentences)) (before ++ f ∷ []) (passSpare rest)
 
 module _ (left sentencesLeft : ℕ) (before : Table) {ts : List Placed} {table : Table} {rest : List Placed} (next : Rest) where
-  one-more : (p : Followed Function Table (parseFunction (declaredFault before) sentencesLeft ts) (afterFunction next sentencesLeft before) table rest)
+  one-more : (p : Followed Function Table (parseFunction (declaredFault before) sentencesLeft ts) (afterFunction next sentencesLeft before) table
+      rest)
       → FunctionRead (declaredFault before) sentencesLeft ts (p .value) (p .between)
       → FunctionsRead left (sentencesLeft - length (p .value .sentences)) (before ++ p .value ∷ []) (passSpare (p .between)) table
       → FunctionsRead (suc left) sentencesLeft before ts table
@@ -201,7 +206,8 @@ module _ (left sentencesLeft : ℕ) (before : Table) {ts : List Placed} {table :
         short = omega arith;
       }
 
-functions-step : (left sentencesLeft : ℕ) (before : Table) (t : Placed) (ts : List Placed) {table : Table} {rest : List Placed} (b : Bool) (later : Parsed Table)
+functions-step : (left sentencesLeft : ℕ) (before : Table) (t : Placed) (ts : List Placed) {table : Table} {rest : List Placed} (b : Bool)
+    (later : Parsed Table)
     → isTextEnd (t .token) ≡ b → soundTokens (t ∷ ts) ≡ true → distinct (namesOf before) ≡ true
     → (later ≡ parsed table rest → FunctionsRead left sentencesLeft before (t ∷ ts) table)
     → pick b (parsed before ts) later ≡ parsed table rest
@@ -225,7 +231,8 @@ functions-sound (suc left) sentencesLeft before (t ∷ ts) table rest k d e =
     functions-step (suc left) sentencesLeft before t ts (isTextEnd (t .token))
     (follow (parseFunction (declaredFault before) sentencesLeft (t ∷ ts)) (afterFunction (parseFunctions left) sentencesLeft before)) refl k d
     (λ g.
-    let p = follow-parsed (parseFunction (declaredFault before) sentencesLeft (t ∷ ts)) (afterFunction (parseFunctions left) sentencesLeft before) g in
+    let p = follow-parsed (parseFunction (declaredFault before) sentencesLeft (t ∷ ts)) (afterFunction (parseFunctions left) sentencesLeft before)
+    g in
     let r = function-sound (declaredFault before) sentencesLeft (t ∷ ts) k (p .before) in
     one-more left sentencesLeft before (parseFunctions left) p r
     (functions-sound left (sentencesLeft - length (p .value .sentences)) (before ++ p .value ∷ []) (passSpare (p .between)) table rest
@@ -240,7 +247,8 @@ program-first noFunctions = refl
 program-first (functionThen (isFunction d) e) = refl
 program-first (functionPartedThen (isFunction d) e) = refl
 
-at-function : {ts rest : List Placed} {f : Function} → IsFunction ts f rest → (before : Table) (later : Parsed Table) → atFunction before ts later ≡ later
+at-function : {ts rest : List Placed} {f : Function} → IsFunction ts f rest → (before : Table) (later : Parsed Table) → atFunction before ts later ≡
+    later
 at-function (isFunction d) before later = refl
 
 -- what a function and those after it need
@@ -276,7 +284,8 @@ led left sentencesLeft before f fs a d l s =
 
 -- the first function is read
 first-read : (left : ℕ) {sentencesLeft : ℕ} {before : Table} {ts rest : List Placed} {f : Function} {fs : Table} → IsFunction ts f rest
-    → Led left sentencesLeft before f fs → parseFunctions (suc left) sentencesLeft before ts ≡ afterFunction (parseFunctions left) sentencesLeft before f rest
+    → Led left sentencesLeft before f fs → parseFunctions (suc left) sentencesLeft before ts ≡
+    afterFunction (parseFunctions left) sentencesLeft before f rest
 unfolding parseFunctions
 first-read left {sentencesLeft} {before} d o =
     rw (

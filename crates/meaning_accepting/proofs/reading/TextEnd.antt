@@ -10,7 +10,10 @@ use lib.ListN.{length}
 use Rattle.meaning.specs.Choice.{Bytes, pick}
 use Rattle.meaning.specs.Classes.{inClass, alphabetic}
 use Rattle.meaning.specs.Allowed.{wordByte, nameByte}
-use Rattle.meaning.specs.Tokens.{Mode, outside, inside, naming, quoted, sign, malformed, Placed, Lexed, lexed, ahead, Gap, between, opening, commented, starred, gapAfter, Skipped, found, skippedEnd, skipOn, skip, run, wordAt, Quoting, plain, Turn, goesOn, closes, breaks, turn, Quotation, quoteOn, quotation, quotedAt, bracketAt, tokenAt, tokenPast, lex, modeAfter, tokensFrom, tokens}
+use Rattle.meaning.specs.Tokens.{Mode, outside, inside, naming, quoted, sign, malformed, Placed, Lexed, lexed, ahead, Gap, between, opening}
+use Rattle.meaning.specs.Tokens.{commented, starred, gapAfter, Skipped, found, skippedEnd, skipOn, skip, run, wordAt, Quoting, plain, Turn, goesOn}
+use Rattle.meaning.specs.Tokens.{closes, breaks, turn, Quotation, quoteOn, quotation, quotedAt, bracketAt, tokenAt, tokenPast, lex, modeAfter}
+use Rattle.meaning.specs.Tokens.{tokensFrom, tokens}
 use Rattle.meaning.specs.Reading.{isTextEnd}
 use Rattle.meaning.proofs.laws.Choosing.{of-either}
 use Rattle.meaning_accepting.proofs.reading.Basics.{impossible}
@@ -27,7 +30,8 @@ inner total l k n = record { kept = k; last-place = λ e. impossible (sym n ∙ 
 
 -- WORDS
 
-run-kept : (fits : ℕ → Bool) (taken : Bytes) (at : ℕ) (bytes : Bytes) → run fits taken at bytes .past + length (run fits taken at bytes .rest) ≡ at + length bytes
+run-kept : (fits : ℕ → Bool) (taken : Bytes) (at : ℕ) (bytes : Bytes) → run fits taken at bytes .past + length (run fits taken at bytes .rest) ≡
+    at + length bytes
 unfolding run
 run-kept fits taken at [] = refl
 run-kept fits taken at (b ∷ rest) = go (fits b) (run-kept fits (taken ++ b ∷ []) (suc at) rest)
@@ -72,7 +76,8 @@ token-whole mode at [] = record { kept = refl; last-place = λ e. omega arith }
 token-whole mode at (b ∷ rest) =
     let total = at + length (b ∷ rest) in
     of-either (Whole total) (inClass alphabetic b) (wordAt mode at (b ∷ rest)) _ (word-whole mode at (b ∷ rest))
-    (of-either (Whole total) (eqb b 39) (quotedAt at (quotation plain [] (suc at) rest)) _ (quotation-whole at plain [] (suc at) rest total (omega arith))
+    (of-either (Whole total) (eqb b 39) (quotedAt at (quotation plain [] (suc at) rest)) _
+    (quotation-whole at plain [] (suc at) rest total (omega arith))
     (of-either (Whole total) (eqb b 60) (bracketAt at rest (ahead (inClass alphabetic) rest)) _
     (bracket-whole at total rest (ahead (inClass alphabetic) rest) (omega arith))
     (inner total (lexed (sign b) at (suc at) rest) (omega arith) refl)))
@@ -89,7 +94,8 @@ skip-on-whole : (mode : Mode) (total : ℕ) (o : Option Gap) (next : Gap → Ski
 skip-on-whole mode total none next stays s w = s
 skip-on-whole mode total (some gap) next stays s w = w gap
 
-skip-whole : (mode : Mode) (gap : Gap) (at : ℕ) (bytes : Bytes) (total : ℕ) → at + length bytes ≡ total → Whole total (tokenPast mode (skip gap at bytes))
+skip-whole : (mode : Mode) (gap : Gap) (at : ℕ) (bytes : Bytes) (total : ℕ) → at + length bytes ≡ total →
+    Whole total (tokenPast mode (skip gap at bytes))
 unfolding skip
 skip-whole mode gap at [] total k = subst (λ z. Whole z (tokenPast mode (skippedEnd gap at))) k (skipped-whole mode gap at)
 skip-whole mode gap at (b ∷ rest) total k =
@@ -117,9 +123,11 @@ end-among (suc b) mode at bytes total k [] t others e p =
 end-among (suc b) mode at bytes total k (u ∷ used) t others e p =
     let x = lex mode at bytes in
     let later = tokens-later b mode at bytes used t others e .1 in
-    end-among b (modeAfter mode (x .first .token)) (x .first .past) (x .rest) total (omega (arith, lex-whole mode at bytes .kept)) used t others later p
+    end-among b (modeAfter mode (x .first .token)) (x .first .past) (x .rest) total (omega (arith, lex-whole mode at bytes .kept)) used t others later
+    p
 
 -- 01: "end of text: its length"
-pub text-end : (text : Bytes) (before : List Placed) (t : Placed) (after : List Placed) → tokens text ≡ before ++ t ∷ after → isTextEnd (t .token) ≡ true
+pub text-end : (text : Bytes) (before : List Placed) (t : Placed) (after : List Placed) → tokens text ≡ before ++ t ∷ after → isTextEnd (t .token) ≡
+    true
     → t .place ≡ length text
 text-end text before t after e p = end-among (suc (length text)) outside 0 text (length text) (omega arith) before t after e p

@@ -8,7 +8,11 @@ use lib.Dec.{ltb, eqb}
 use Rattle.meaning.specs.Choice.{Bytes, pick, both, either, every}
 use Rattle.meaning.specs.Classes.{inClass, digit, alphabetic}
 use Rattle.meaning.specs.Allowed.{isByte, wordByte, nameByte}
-use Rattle.meaning.specs.Tokens.{Mode, outside, inside, naming, Token, functionName, word, quoted, sign, textEnd, malformed, Placed, Lexed, ahead, Gap, between, opening, commented, starred, gapAfter, Skipped, found, unclosed, skippedEnd, skipOn, skip, Run, run, nameToken, wordToken, wordAt, Quoting, plain, escaped, coded, Turn, goesOn, closes, breaks, plainTurn, codeTurn, escapedTurn, digitValue, turn, Quotation, closed, broken, quoteOn, quotation, quotedAt, bracketAt, tokenAt, tokenPast, lex, modeAfter, isLastToken, tokensFrom}
+use Rattle.meaning.specs.Tokens.{Mode, outside, inside, naming, Token, functionName, word, quoted, sign, textEnd, malformed, Placed, Lexed, ahead}
+use Rattle.meaning.specs.Tokens.{Gap, between, opening, commented, starred, gapAfter, Skipped, found, unclosed, skippedEnd, skipOn, skip, Run, run}
+use Rattle.meaning.specs.Tokens.{nameToken, wordToken, wordAt, Quoting, plain, escaped, coded, Turn, goesOn, closes, breaks, plainTurn, codeTurn}
+use Rattle.meaning.specs.Tokens.{escapedTurn, digitValue, turn, Quotation, closed, broken, quoteOn, quotation, quotedAt, bracketAt, tokenAt}
+use Rattle.meaning.specs.Tokens.{tokenPast, lex, modeAfter, isLastToken, tokensFrom}
 use Rattle.meaning.proofs.laws.Choosing.{of-either}
 use Rattle.meaning_accepting.proofs.reading.Basics.{both-left, both-right, both-true}
 use Rattle.meaning_accepting.proofs.reading.Lists.{every-append}
@@ -57,7 +61,8 @@ record RunTakes (fits : ℕ → Bool) (taken : Bytes) (r : Run) : Type 0 where
   rest-sound : every isByte (r .rest) ≡ true
 
 module _ (fits : ℕ → Bool) where
-  run-stops : (taken : Bytes) (at : ℕ) (bytes : Bytes) → every isByte bytes ≡ true → RunTakes fits taken (record { taken = taken; past = at; rest = bytes })
+  run-stops : (taken : Bytes) (at : ℕ) (bytes : Bytes) → every isByte bytes ≡ true →
+      RunTakes fits taken (record { taken = taken; past = at; rest = bytes })
   unfolding every
   run-stops taken at bytes s = record { more = []; whole = sym (append-nil taken); fitting = refl; rest-sound = s }
 
@@ -145,9 +150,11 @@ escaped-turn-sound text b s i =
     (pick-sound soundTurn (eqb b 110) (goesOn plain (text ++ 10 ∷ [])) _ (every-after isByte text 10 s refl)
     (pick-sound soundTurn (eqb b 116) (goesOn plain (text ++ 9 ∷ [])) _ (every-after isByte text 9 s refl)
     (pick-sound soundTurn (eqb b 10) (goesOn plain text) _ s
-    (pick-sound soundTurn (inClass digit b) (codeTurn (digitValue b) text) breaks (code-turn-sound (ltb (digitValue b) 256) (digitValue b) text refl s) refl))))
+    (pick-sound soundTurn (inClass digit b) (codeTurn (digitValue b) text) breaks
+    (code-turn-sound (ltb (digitValue b) 256) (digitValue b) text refl s) refl))))
 
-turn-sound : (state : Quoting) (text : Bytes) (b : ℕ) → soundQuoting state ≡ true → every isByte text ≡ true → isByte b ≡ true → soundTurn (turn state text b) ≡ true
+turn-sound : (state : Quoting) (text : Bytes) (b : ℕ) → soundQuoting state ≡ true → every isByte text ≡ true → isByte b ≡ true →
+    soundTurn (turn state text b) ≡ true
 turn-sound plain text b q s i = plain-turn-sound text b s i
 turn-sound escaped text b q s i = escaped-turn-sound text b s i
 turn-sound (coded code) text b q s i =
@@ -167,7 +174,8 @@ quote-on-sound (goesOn state text) next past rest t s go =
 quote-on-sound (closes text) next past rest t s go = both-true t s
 quote-on-sound breaks next past rest t s go = s
 
-quotation-sound : (state : Quoting) (text : Bytes) (at : ℕ) (bytes : Bytes) → soundQuoting state ≡ true → every isByte text ≡ true → every isByte bytes ≡ true
+quotation-sound : (state : Quoting) (text : Bytes) (at : ℕ) (bytes : Bytes) → soundQuoting state ≡ true → every isByte text ≡ true →
+    every isByte bytes ≡ true
     → soundQuotation (quotation state text at bytes) ≡ true
 unfolding quotation every
 quotation-sound state text at [] q t s = refl
@@ -220,7 +228,8 @@ nothing-after (sign b) later = refl
 nothing-after textEnd later = refl
 nothing-after malformed later = refl
 
-pub tokens-sound : (bound : ℕ) (mode : Mode) (at : ℕ) (bytes : Bytes) → every isByte bytes ≡ true → soundTokens (tokensFrom bound mode at bytes) ≡ true
+pub tokens-sound : (bound : ℕ) (mode : Mode) (at : ℕ) (bytes : Bytes) → every isByte bytes ≡ true → soundTokens (tokensFrom bound mode at bytes) ≡
+    true
 unfolding tokensFrom soundTokens
 tokens-sound zero mode at bytes s = refl
 tokens-sound (suc bound) mode at bytes s =

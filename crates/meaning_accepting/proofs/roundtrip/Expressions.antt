@@ -159,12 +159,14 @@ lists-both (thenCharacter c e) spelled =
     record { whole = string-lists c e (both-left (isByte c) _ spelled) (both-right (isByte c) _ spelled) (l .later); later = l .later }
 lists-both (thenSymbol x e) spelled =
     let l : Lists (thenSymbol x e) =
-    variable-lists 115 thenSymbol refl (λ y t u p. ap (thenSymbol y) p) (λ place past b y ts rest t d. symbolThen d) x e spelled (λ s. lists-both e s .whole)
+    variable-lists 115 thenSymbol refl (λ y t u p. ap (thenSymbol y) p) (λ place past b y ts rest t d. symbolThen d) x e spelled
+    (λ s. lists-both e s .whole)
     in
     record { whole = l; later = l }
 lists-both (thenPart x e) spelled =
     let l : Lists (thenPart x e) =
-    variable-lists 101 thenPart refl (λ y t u p. ap (thenPart y) p) (λ place past b y ts rest t d. partThen d) x e spelled (λ s. lists-both e s .whole)
+    variable-lists 101 thenPart refl (λ y t u p. ap (thenPart y) p) (λ place past b y ts rest t d. partThen d) x e spelled
+    (λ s. lists-both e s .whole)
     in
     record { whole = l; later = l }
 lists-both (thenCall place n a e) spelled =

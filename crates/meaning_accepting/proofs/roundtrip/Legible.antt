@@ -46,7 +46,8 @@ spelled-legible symbols known (thenCall place n a e) coming spelled items order 
     let named = both-left (spelledName n) (not (isPredicate n)) (both-left (both (spelledName n) (not (isPredicate n))) _ items) in
     let others = both-right (both (spelledName n) (not (isPredicate n))) (both (spelledItems symbols a) (spelledItems symbols e)) items in
     let inner = spelled-legible symbols known a coming spelled (both-left (spelledItems symbols a) (spelledItems symbols e) others) (w .first) in
-    let outer = spelled-legible symbols known e (w .middle) (inner .later) (both-right (spelledItems symbols a) (spelledItems symbols e) others) (w .second) in
+    let outer = spelled-legible symbols known e (w .middle) (inner .later) (both-right (spelledItems symbols a) (spelledItems symbols e) others)
+    (w .second) in
     record { whole = both-true named (both-true (inner .whole) (outer .whole)); later = outer .later }
 
 pub allowed-legible : (symbols parts : List Name) (e : Expression) → every spelledIdentifier symbols ≡ true → every spelledIdentifier parts ≡ true →

@@ -5,12 +5,17 @@ use mathlib.Core.Bool.{Bool, not}
 use mathlib.Core.List.{List, [], _∷_, _++_, map}
 use lib.ListN.{length-map}
 use Rattle.meaning.specs.Choice.{Name, Named, pick, both, every, sameBytes}
-use Rattle.meaning.specs.Tree.{Expression, end, thenCharacter, thenSymbol, thenPart, thenCall, Sentence, Function, Table, unplaced, unplacedSentence, unplacedFunction, unplacedTable}
+use Rattle.meaning.specs.Tree.{Expression, end, thenCharacter, thenSymbol, thenPart, thenCall, Sentence, Function, Table, unplaced, unplacedSentence}
+use Rattle.meaning.specs.Tree.{unplacedFunction, unplacedTable}
 use Rattle.meaning.specs.Names.{isPredicate, numberFrom, numberOf, recoverPrefix, recovererOf}
-use Rattle.meaning.specs.Allowed.{isByte, member, spelledName, symbolsOf, partsOf, itemsIn, nesting, spelledItems, comingAfter, whereSome, comingAfterAll, allowedSentence, someSentence, allowedFunction, sentencesIn, callsKnown, namesOf, allowed}
-use Rattle.meaning.specs.Listing.{Quoted, unquoted, closeQuote, quotedCharacter, afterCharacter, symbolText, partText, expressionText, sentencesText, listing}
+use Rattle.meaning.specs.Allowed.{isByte, member, spelledName, symbolsOf, partsOf, itemsIn, nesting, spelledItems, comingAfter, whereSome}
+use Rattle.meaning.specs.Allowed.{comingAfterAll, allowedSentence, someSentence, allowedFunction, sentencesIn, callsKnown, namesOf, allowed}
+use Rattle.meaning.specs.Listing.{Quoted, unquoted, closeQuote, quotedCharacter, afterCharacter, symbolText, partText, expressionText, sentencesText}
+use Rattle.meaning.specs.Listing.{listing}
 use Rattle.meaning.specs.Instructions.{Site, Action, go, select, out}
-use Rattle.meaning.specs.Translation.{Shape, Stand, Level, outermost, inArgument, inTail, isEnd, inTailPosition, mannerOf, levelIn, leftFor, whereLeft, calling, itemActions, atStart, passage, passesRest, shapeOf, testedShape, translatedSentences, translatedFunction, translate}
+use Rattle.meaning.specs.Translation.{Shape, Stand, Level, outermost, inArgument, inTail, isEnd, inTailPosition, mannerOf, levelIn, leftFor}
+use Rattle.meaning.specs.Translation.{whereLeft, calling, itemActions, atStart, passage, passesRest, shapeOf, testedShape, translatedSentences}
+use Rattle.meaning.specs.Translation.{translatedFunction, translate}
 
 -- THE LISTING
 
@@ -74,7 +79,8 @@ sentence-unplaced s =
     rw (spelled-unplaced (symbolsOf p) e, coming-unplaced e (partsOf p), items-unplaced e, nesting-unplaced e)
 
 -- a test of every element, where the elements are changed in a way that the test doesn't see
-every-unplaced : {A : Type 0} (change : A → A) (f g : A → Bool) → ((x : A) → f (change x) ≡ g x) → (xs : List A) → every f (map change xs) ≡ every g xs
+every-unplaced : {A : Type 0} (change : A → A) (f g : A → Bool) → ((x : A) → f (change x) ≡ g x) → (xs : List A) → every f (map change xs) ≡
+    every g xs
 unfolding every
 every-unplaced change f g same [] = refl
 every-unplaced change f g same (x ∷ xs) = ap₂ both (same x) (every-unplaced change f g same xs)
@@ -185,5 +191,6 @@ translate-unplaced t = functions-translated t
 -- TREES THAT ARE EQUAL BUT FOR PLACES
 
 -- what doesn't look at places gives the same for both
-pub same-unplaced : {A : Type 0} (f : Table → A) → ((t : Table) → f (unplacedTable t) ≡ f t) → (t u : Table) → unplacedTable t ≡ unplacedTable u → f t ≡ f u
+pub same-unplaced : {A : Type 0} (f : Table → A) → ((t : Table) → f (unplacedTable t) ≡ f t) → (t u : Table) → unplacedTable t ≡ unplacedTable u →
+    f t ≡ f u
 same-unplaced f blind t u e = sym (blind t) ∙ (ap f e ∙ blind u)

@@ -12,9 +12,11 @@ use Rattle.meaning.specs.Choice.{Bytes, Name, every, sameBytes}
 use Rattle.meaning.specs.Classes.{Class, className, inClass, alphabetic}
 use Rattle.meaning.specs.Tree.{Subject, ofSymbol, ofPart, Condition, Sentence, unplacedSentence}
 use Rattle.meaning.specs.Names.{classNamed, predicateOf}
-use Rattle.meaning.specs.Allowed.{wordByte, spelledName, spelledIdentifier, ofPattern, allOfPattern, symbolsOf, partsOf, maxConditions, allowedPattern, allowedConditions, allowedSentence}
+use Rattle.meaning.specs.Allowed.{wordByte, spelledName, spelledIdentifier, ofPattern, allOfPattern, symbolsOf, partsOf, maxConditions}
+use Rattle.meaning.specs.Allowed.{allowedPattern, allowedConditions, allowedSentence}
 use Rattle.meaning.specs.Tokens.{inside, naming, word, quoted, sign, lexed, quotation, skip, lex}
-use Rattle.meaning.specs.Grammar.{truthByte, truthString, IsSubject, symbolSubject, partSubject, isCondition, IsConditions, noConditions, conditionThen, IsSentence, isSentence}
+use Rattle.meaning.specs.Grammar.{truthByte, truthString, IsSubject, symbolSubject, partSubject, isCondition, IsConditions, noConditions}
+use Rattle.meaning.specs.Grammar.{conditionThen, IsSentence, isSentence}
 use Rattle.meaning.specs.Listing.{unquoted, patternText, subjectText, conditionsText, expressionText, withoutBlank, sentenceText}
 use Rattle.meaning_accepting.proofs.reading.Basics.{both-left, both-right, impossible}
 use Rattle.meaning_accepting.proofs.reading.Lists.{member-every}
@@ -22,7 +24,8 @@ use Rattle.meaning_accepting.proofs.reading.PatternFacts.{pattern-facts
 use Rattle.meaning_accepting.proofs.reading.Sentences.{symbols-spelled, parts-spelled}
 use Rattle.meaning_accepting.proofs.roundtrip.Remaining.{remaining, remaining-token}
 use Rattle.meaning.proofs.laws.Words.{by-class}
-use Rattle.meaning_accepting.proofs.roundtrip.Words.{Begins, Parted, blank-passed, after-blank, sign-begins, call-begins, name-begins, variable-begins}
+use Rattle.meaning_accepting.proofs.roundtrip.Words.{Begins, Parted, blank-passed, after-blank, sign-begins, call-begins, name-begins}
+use Rattle.meaning_accepting.proofs.roundtrip.Words.{variable-begins}
 use Rattle.meaning_accepting.proofs.roundtrip.Legible.{allowed-legible}
 use Rattle.meaning_accepting.proofs.roundtrip.Patterns.{PatternListed, pattern-listed}
 use Rattle.meaning_accepting.proofs.roundtrip.Expressions.{ExpressionListed, expression-listed}
@@ -45,9 +48,11 @@ truth-lexed at truth rest =
     let end : suc (suc (suc (suc at))) ≡ suc at + 3 = omega arith in
     rw (← end)
     (blank-passed inside at 32 (39 ∷ truthByte truth ∷ 39 ∷ rest) refl
-    ∙ remaining-token inside (suc at) (39 ∷ truthByte truth ∷ 39 ∷ rest) (quoted (truthByte truth ∷ [])) (suc at) (suc (suc (suc (suc at)))) rest (lexes truth) refl)
+    ∙ remaining-token inside (suc at) (39 ∷ truthByte truth ∷ 39 ∷ rest) (quoted (truthByte truth ∷ [])) (suc at) (suc (suc (suc (suc at)))) rest
+    (lexes truth) refl)
   where
-    lexes : (truth : Bool) → lex inside (suc at) (39 ∷ truthByte truth ∷ 39 ∷ rest) ≡ lexed (quoted (truthByte truth ∷ [])) (suc at) (suc (suc (suc (suc at)))) rest
+    lexes : (truth : Bool) → lex inside (suc at) (39 ∷ truthByte truth ∷ 39 ∷ rest) ≡
+        lexed (quoted (truthByte truth ∷ [])) (suc at) (suc (suc (suc (suc at)))) rest
     lexes true = refl
     lexes false = refl
 
@@ -182,7 +187,11 @@ module _ (s : Sentence) (more : Bytes) (at : ℕ) where
         tree = record { pattern = s .pattern; conditions = s .conditions; expression = last .tree };
         same = ap (λ e. record { pattern = s .pattern; conditions = s .conditions; expression = e }) (last .same);
         derived =
-            rw (line .same, line-regroup (patternText unquoted (s .pattern)) (conditionsText (s .conditions)) (expressionText unquoted (s .expression)) more)
+            rw (
+              line .same,
+              line-regroup (patternText unquoted (s .pattern)) (conditionsText (s .conditions))
+                  (expressionText unquoted (s .expression)) more,
+            )
             (isSentence (first .derived) (rw (equals .tokens) at (conditions .derived)) (last .derived));
       }
 

@@ -10,7 +10,8 @@ use Rattle.meaning.specs.Choice.{Bytes, pick, both, either, every}
 use Rattle.meaning.specs.Classes.{inClass, digit}
 use Rattle.meaning.specs.Allowed.{isByte}
 use Rattle.meaning.specs.Tokens.{inside, quoted, Quoting, plain, escaped, coded, goesOn, plainTurn, turn, closed, quotation, quotedAt, skip, lex}
-use Rattle.meaning.specs.Listing.{Quoted, unquoted, inString, afterCode, isAfterCode, closeQuote, decimal, isEscaped, isCoded, characterText, afterCharacter, quotedCharacter}
+use Rattle.meaning.specs.Listing.{Quoted, unquoted, inString, afterCode, isAfterCode, closeQuote, decimal, isEscaped, isCoded, characterText}
+use Rattle.meaning.specs.Listing.{afterCharacter, quotedCharacter}
 use Rattle.meaning_accepting.proofs.reading.Basics.{both-left, both-right, impossible}
 use Rattle.meaning_accepting.proofs.reading.Lists.{either-left-false, either-right-false}
 use Rattle.meaning_accepting.proofs.roundtrip.Remaining.{remaining-token}
@@ -62,7 +63,8 @@ goes-to : {state : Quoting} {characters bytes rest : Bytes} {at code c : ℕ} �
     Goes state characters at bytes (coded code) characters rest → Goes state characters at bytes (coded c) characters rest
 goes-to e g = rw (← e) g
 
-decimal-goes : (c : ℕ) (characters : Bytes) (at : ℕ) (rest : Bytes) → c < 256 → Goes escaped characters at (decimal c ++ rest) (coded c) characters rest
+decimal-goes : (c : ℕ) (characters : Bytes) (at : ℕ) (rest : Bytes) → c < 256 →
+    Goes escaped characters at (decimal c ++ rest) (coded c) characters rest
 decimal-goes c characters at rest byte = go (ltb c 10) (ltb c 100) refl refl
   where
     go : (one two : Bool) → ltb c 10 ≡ one → ltb c 100 ≡ two →
@@ -114,7 +116,8 @@ either-true true = refl
 either-true false = refl
 
 -- a bare byte is no digit right after a code
-bare-digit : (state : Quoted) (c : ℕ) → isCoded state c ≡ false → eqb c 9 ≡ false → eqb c 10 ≡ false → both (isAfterCode state) (inClass digit c) ≡ false
+bare-digit : (state : Quoted) (c : ℕ) → isCoded state c ≡ false → eqb c 9 ≡ false → eqb c 10 ≡ false → both (isAfterCode state) (inClass digit c) ≡
+    false
 bare-digit state c k t n = go (both (isAfterCode state) (inClass digit c)) refl
   where
     go : (d : Bool) → both (isAfterCode state) (inClass digit c) ≡ d → both (isAfterCode state) (inClass digit c) ≡ false
@@ -124,7 +127,11 @@ bare-digit state c k t n = go (both (isAfterCode state) (inClass digit c)) refl
 bare-turn : (c : ℕ) (meant : Bytes) → isEscaped c ≡ false → plainTurn meant c ≡ goesOn plain (meant ++ c ∷ [])
 bare-turn c meant e =
     let e₁ = either-right-false (eqb c 39) (either (eqb c 34) (eqb c 92)) e in
-    rw (either-left-false (eqb c 39) (either (eqb c 34) (eqb c 92)) e, either-left-false (eqb c 34) (eqb c 92) e₁, either-right-false (eqb c 34) (eqb c 92) e₁)
+    rw (
+      either-left-false (eqb c 39) (either (eqb c 34) (eqb c 92)) e,
+      either-left-false (eqb c 34) (eqb c 92) e₁,
+      either-right-false (eqb c 34) (eqb c 92) e₁,
+    )
 
 module _ {state : Quoted} {quoting : Quoting} {characters meant : Bytes} (m : Matches state quoting characters meant) (c at : ℕ) (rest : Bytes) where
   -- a backslash, and then an escape that goes on plainly with the character
@@ -191,7 +198,8 @@ inside-text c text rest matchesPlain = append-assoc (characterText inString c) (
 inside-text c text rest matchesCode = append-assoc (characterText afterCode c) (joined (afterCharacter afterCode c) text) rest
 
 joined-read : {state : Quoted} {quoting : Quoting} {characters meant : Bytes} → Matches state quoting characters meant →
-    (text : Bytes) → every isByte text ≡ true → (at : ℕ) (rest : Bytes) → Closes quoting characters at (joined state text ++ rest) (meant ++ text) rest
+    (text : Bytes) → every isByte text ≡ true → (at : ℕ) (rest : Bytes) →
+    Closes quoting characters at (joined state text ++ rest) (meant ++ text) rest
 unfolding joined every
 joined-read {meant = meant} m [] bytes at rest = rw (append-nil meant) (closing-read m at rest)
 joined-read {state} {meant = meant} m (c ∷ text) bytes at rest =

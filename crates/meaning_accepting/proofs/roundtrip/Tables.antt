@@ -24,7 +24,8 @@ record SentencesListed (at : ℕ) (ss : List Sentence) (rest : Bytes) : Type 0 w
   same : map unplacedSentence trees ≡ map unplacedSentence ss
   derived : IsSentences (remaining inside at (10 ∷ (sentencesText ss ++ 125 ∷ rest))) trees (remaining outside past rest)
 
-sentences-listed : (s : Sentence) (ss : List Sentence) → every allowedSentence (s ∷ ss) ≡ true → (rest : Bytes) (at : ℕ) → SentencesListed at (s ∷ ss) rest
+sentences-listed : (s : Sentence) (ss : List Sentence) → every allowedSentence (s ∷ ss) ≡ true → (rest : Bytes) (at : ℕ) →
+    SentencesListed at (s ∷ ss) rest
 unfolding every sentencesText
 sentences-listed s [] allows rest at =
     let one = sentence-listed s (125 ∷ rest) at (both-left (allowedSentence s) _ allows) in
@@ -62,7 +63,8 @@ function-regroup : (n ss rest : Bytes) → (n ++ 32 ∷ 123 ∷ 10 ∷ (ss ++ 12
 function-regroup n ss rest =
     append-assoc n (32 ∷ 123 ∷ 10 ∷ (ss ++ 125 ∷ 10 ∷ [])) rest ∙ ap (λ z. n ++ 32 ∷ 123 ∷ 10 ∷ z) (append-assoc ss (125 ∷ 10 ∷ []) rest)
 
-function-lists : (n : Name) (ss : List Sentence) → spelledName n ≡ true → someSentence ss ≡ true → every allowedSentence ss ≡ true → (rest : Bytes) (at : ℕ) →
+function-lists : (n : Name) (ss : List Sentence) → spelledName n ≡ true → someSentence ss ≡ true → every allowedSentence ss ≡ true →
+    (rest : Bytes) (at : ℕ) →
     FunctionListed at (record { name = n; sentences = ss }) rest
 function-lists n [] spelled there allows rest at = impossible there
 function-lists n (s ∷ ss) spelled there allows rest at =

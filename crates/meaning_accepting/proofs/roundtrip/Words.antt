@@ -10,7 +10,8 @@ use lib.ListN.{length}
 use Rattle.meaning.specs.Choice.{Bytes, Name, both, either, every}
 use Rattle.meaning.specs.Classes.{inClass, alphabetic, isBlankByte}
 use Rattle.meaning.specs.Allowed.{wordByte, nameByte, spelledName}
-use Rattle.meaning.specs.Tokens.{Mode, inside, naming, Token, functionName, word, sign, ahead, run, nameToken, wordToken, wordAt, skip, lex, modeAfter, afterName}
+use Rattle.meaning.specs.Tokens.{Mode, inside, naming, Token, functionName, word, sign, ahead, run, nameToken, wordToken, wordAt, skip, lex}
+use Rattle.meaning.specs.Tokens.{modeAfter, afterName}
 use Rattle.meaning.specs.Grammar.{standing}
 use Rattle.meaning_accepting.proofs.reading.Basics.{both-left, both-right, impossible}
 use Rattle.meaning_accepting.proofs.roundtrip.Remaining.{remaining, remaining-token, remaining-past}
@@ -54,7 +55,8 @@ sign-begins mode at b rest alone =
     }
 
 -- `<` with a name right after it
-pub call-begins : (mode : Mode) (at : ℕ) (n : Name) (rest : Bytes) → spelledName n ≡ true → Begins mode at (60 ∷ (n ++ rest)) (sign 60) naming (n ++ rest)
+pub call-begins : (mode : Mode) (at : ℕ) (n : Name) (rest : Bytes) → spelledName n ≡ true →
+    Begins mode at (60 ∷ (n ++ rest)) (sign 60) naming (n ++ rest)
 unfolding lex skip
 call-begins mode at [] rest spelled = impossible spelled
 call-begins mode at (b ∷ n) rest spelled =

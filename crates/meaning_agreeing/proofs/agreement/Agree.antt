@@ -1,5 +1,6 @@
--- DEMAND 3 WITHOUT END: on stacks without end the machine, fed an allowed table's translation, comes to the outcome of rewriting the table: the same answer, text, emissions,
--- steps and failing function, for every start, text and allowance. The start need not even be declared: both sides look a number up alike.
+-- DEMAND 3 WITHOUT END: on stacks without end the machine, fed an allowed table's translation, comes to the outcome of rewriting the table: the same
+-- answer, text, emissions, steps and failing function, for every start, text and allowance. The start need not even be declared: both sides look a
+-- number up alike.
 use Prim.Native.Nat.{ℕ, zero, suc}
 use native.Mathlib.Omega.{arith}
 use mathlib.Core.Path.{_≡_, refl, sym, _∙_, ap}
@@ -13,7 +14,8 @@ use Rattle.meaning.specs.Choice.{Bytes, numbered}
 use Rattle.meaning.specs.Tree.{Function, Table}
 use Rattle.meaning.specs.Answers.{allowanceSpent}
 use Rattle.meaning.specs.Outcome.{pay, maxCounted, Outcome, done, stop, resultOf}
-use Rattle.meaning.specs.Rewriting.{Course, unbegun, takeStep, applicationsFrom, tallyOf, tallied, Fit, recovererFor, recovererAt, unfitted, rewritten, applied, apply, historyOf, rewrite}
+use Rattle.meaning.specs.Rewriting.{Course, unbegun, takeStep, applicationsFrom, tallyOf, tallied, Fit, recovererFor, recovererAt, unfitted}
+use Rattle.meaning.specs.Rewriting.{rewritten, applied, apply, historyOf, rewrite}
 use Rattle.meaning.specs.Allowed.{allowed}
 use Rattle.meaning.specs.Matching.{Choice, chosenNone}
 use Rattle.meaning.specs.Machine.{isDeclared, ranChoice, ranPaid, enter}
@@ -60,42 +62,49 @@ module _ (table : Table) (ok : T (allowed table)) where
       carried below o (rewritten table (apply depth table) f field fit t)
   chosen-run depth frame f field below o t callee nowhere = unfitted-run depth frame f (recovererAt table f) field below o t callee refl
   chosen-run depth frame f field below o t callee (here {at} {s} {bound} a fits) =
-      rw (take-append-seam field below) (sentence-run table (enter endless depth (translate table)) (apply depth table) callee s field at bound a fits frame below o t)
+      rw (take-append-seam field below) (sentence-run table (enter endless depth (translate table)) (apply depth table) callee s field at bound a fits
+      frame below o t)
 
   -- by induction on the depth: one application, in any frame, whatever lies below its field on in and before its result on out
   pub application : (depth frame f : ℕ) (field below o : Bytes) (t : Course) →
-      enter endless depth (translate table) frame f (stacks (field ++ below) (length field) o) (ledger t) ≡ carried below o (apply depth table f field t)
+      enter endless depth (translate table) frame f (stacks (field ++ below) (length field) o) (ledger t) ≡
+      carried below o (apply depth table f field t)
   unfolding enter apply
   application zero frame f field below o t = refl
-  application (suc depth) frame f field below o t = rw (paid-alike f t) (paid (takeStep f t) (record { same = application depth; spent = spent depth }))
+  application (suc depth) frame f field below o t = rw (paid-alike f t)
+      (paid (takeStep f t) (record { same = application depth; spent = spent depth }))
     where
       paid : (p : Option Course) → Callee (enter endless depth (translate table)) (apply depth table) →
-          ranPaid endless (translate table) (enter endless depth (translate table)) frame f (stacks (field ++ below) (length field) o) (ledger t) (toldOf p) ≡
+          ranPaid endless (translate table) (enter endless depth (translate table)) frame f (stacks (field ++ below) (length field) o) (ledger t)
+          (toldOf p) ≡
           carried below o (applied table (apply depth table) f field t p)
       paid none callee = refl
       paid (some t₁) callee =
           rw (take-append-seam field below, code-at table f)
           (chosen-run depth frame f field below o t₁ callee (chosen-alike table field (recovererAt table f) (facts table ok f)))
 
-  -- The run from the start. `carried` says all of it: where rewriting is done, the machine is done, in holds nothing and out exactly the text; where rewriting stops, the
-  -- machine stops with the same answer and function; and either way steps and emissions are the same.
+  -- The run from the start. `carried` says all of it: where rewriting is done, the machine is done, in holds nothing and out exactly the text; where
+  -- rewriting stops, the machine stops with the same answer and function; and either way steps and emissions are the same.
   pub agree : (start : ℕ) (text : Bytes) (allowance : ℕ) →
       runUnder endless (translate table) start text allowance tt ≡ carried [] [] (apply allowance table start text (unbegun allowance))
   agree start text allowance = rw none-applied at (rw append-nil at (application allowance 1 start text [] [] (unbegun allowance)))
 
-  pub agree-done : (start : ℕ) (text : Bytes) (allowance : ℕ) (result : Bytes) (t : Course) → apply allowance table start text (unbegun allowance) ≡ done result t →
+  pub agree-done : (start : ℕ) (text : Bytes) (allowance : ℕ) (result : Bytes) (t : Course) → apply allowance table start text (unbegun allowance) ≡
+      done result t →
       runUnder endless (translate table) start text allowance tt ≡ done (stacks [] 0 result) (ledger t)
   agree-done start text allowance result t e = agree start text allowance ∙ ap (carried [] []) e
 
   -- the outcome as 01 tells it
-  pub agree-result : (start : ℕ) (text : Bytes) (allowance : ℕ) → runEndless (translate table) start text allowance ≡ rewrite table start text allowance
+  pub agree-result : (start : ℕ) (text : Bytes) (allowance : ℕ) → runEndless (translate table) start text allowance ≡
+      rewrite table start text allowance
   agree-result start text allowance = rw (agree start text allowance) (told (apply allowance table start text (unbegun allowance)))
     where
       told : (r : Outcome Bytes Course) → resultOf (textOf (carried [] [] r)) ≡ resultOf (tallied r)
       told (done text t) = refl
       told (stop answer function t) = refl
 
-  -- "Each application of a declared function is one step": the run's step number is the number of applications that rewriting made, and a function's count the number of its own
+  -- "Each application of a declared function is one step": the run's step number is the number of applications that rewriting made, and a function's
+  -- count the number of its own
   pub agree-steps : (start : ℕ) (text : Bytes) (allowance : ℕ) →
       let history = historyOf (apply allowance table start text (unbegun allowance)) in
       (runEndless (translate table) start text allowance .steps ≡ length history) ×

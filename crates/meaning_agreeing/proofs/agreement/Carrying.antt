@@ -13,8 +13,10 @@ use Rattle.meaning.specs.Choice.{Bytes, nth}
 use Rattle.meaning.specs.Angles.{Operation, Angled, sum, notAngles, outOfRange, angled}
 use Rattle.meaning.specs.Outcome.{pay, Outcome, done, stop, andThen, computed}
 use Rattle.meaning.specs.Rewriting.{Course, emitting, tallyOf, before}
-use Rattle.meaning.specs.Instructions.{Length, null, whole, left, right, Span, Action, go, select, out, outC, outV, beginSeq, useSeq, call, tailCall, emission, compute, Code}
-use Rattle.meaning.specs.Machine.{Ledger, Stacks, Local, Ran, registerOf, spanOf, isDeclared, afterField, returned, withOpened, maxOpened, wherePayable, process}
+use Rattle.meaning.specs.Instructions.{Length, null, whole, left, right, Span, Action, go, select, out, outC, outV, beginSeq, useSeq, call, tailCall}
+use Rattle.meaning.specs.Instructions.{emission, compute, Code}
+use Rattle.meaning.specs.Machine.{Ledger, Stacks, Local, Ran, registerOf, spanOf, isDeclared, afterField, returned, withOpened, maxOpened}
+use Rattle.meaning.specs.Machine.{wherePayable, process}
 use Rattle.meaning.specs.Runs.{endless}
 
 abbrev pub Endless : Type 0
@@ -36,17 +38,20 @@ into (stop answer function t) k = stop answer function (ledger t)
 abbrev pub carried : Bytes → Bytes → Outcome Bytes Course → Endless
 carried below o r = into r (λ text t. done (stacks below 0 (o ++ text)) (ledger t))
 
-pub into-andThen : (r : Outcome Bytes Course) (k : Bytes → Course → Outcome Bytes Course) (j : Bytes → Course → Endless) → into (andThen r k) j ≡ into r (λ text t. into (k text t) j)
+pub into-andThen : (r : Outcome Bytes Course) (k : Bytes → Course → Outcome Bytes Course) (j : Bytes → Course → Endless) → into (andThen r k) j ≡
+    into r (λ text t. into (k text t) j)
 into-andThen (done text t) k j = refl
 into-andThen (stop answer function t) k j = refl
 
 -- what is written before an outcome's text
-pub into-written : (x o : Bytes) (r : Outcome Bytes Course) (j : Bytes → Course → Endless) → into r (λ text t. j (o ++ x ++ text) t) ≡ into (before x r) (λ text t. j (o ++ text) t)
+pub into-written : (x o : Bytes) (r : Outcome Bytes Course) (j : Bytes → Course → Endless) → into r (λ text t. j (o ++ x ++ text) t) ≡
+    into (before x r) (λ text t. j (o ++ text) t)
 into-written x o (done text t) j = rw append-assoc
 into-written x o (stop answer function t) j = refl
 
 -- what comes after counts only by what it gives
-pub into-same : (r : Outcome Bytes Course) (j k : Bytes → Course → Endless) → ((text : Bytes) (t : Course) → j text t ≡ k text t) → into r j ≡ into r k
+pub into-same : (r : Outcome Bytes Course) (j k : Bytes → Course → Endless) → ((text : Bytes) (t : Course) → j text t ≡ k text t) → into r j ≡
+    into r k
 into-same (done text t) j k h = h text t
 into-same (stop answer function t) j k h = refl
 

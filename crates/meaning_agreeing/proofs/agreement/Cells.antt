@@ -44,7 +44,8 @@ module _ (field front bytes back : Bytes) (place : ℕ) (lies : field ≡ front 
   -- a site that counts back from q, where nothing comes after the bytes
   behind : (n k : ℕ) → length back ≡ 0 → k < length bytes → n + k ≡ length bytes → cellAt (fromEnd n) field place ≡ nth k bytes
   behind n k none h e =
-      let long : length field ≡ length front + length bytes + length back = rw (lies, length-append front (bytes ++ back), length-append bytes back) (omega arith) in
+      let long : length field ≡ length front + length bytes + length back =
+      rw (lies, length-append front (bytes ++ back), length-append bytes back) (omega arith) in
       rw (le-leb n (length field) (omega arith)) (there k (length field - n) h (omega arith))
 
   pub end-shows : (n : ℕ) → length bytes ≡ n → length back ≡ 0 → Shows field place (beforeEnd n) bytes

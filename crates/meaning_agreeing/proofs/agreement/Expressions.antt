@@ -18,9 +18,15 @@ use Rattle.meaning.specs.Allowed.{nesting}
 use Rattle.meaning.specs.Instructions.{Site, Action, go, select, out, useSeq, call, tailCall, emission, compute, Code}
 use Rattle.meaning.specs.Machine.{Stacks, Local, spanOf, isDeclared, afterField, returned, withOpened, maxOpened, wherePayable, process}
 use Rattle.meaning.specs.Runs.{endless}
-use Rattle.meaning.specs.Translation.{Shape, fixed, open₁, open₂, Stand, atStart, passageFirst, passageSecond, passage, restOf, nowhere, replaces, nests, Level, outermost, inArgument, inTail, isEnd, inTailPosition, mannerAs, mannerOf, levelIn, isNone, endsPattern, leftFor, whereLeft, valueNumber, argumentReady, calling, itemActions, passesRest, translatedFunction, translate}
+use Rattle.meaning.specs.Translation.{Shape, fixed, open₁, open₂, Stand, atStart, passageFirst, passageSecond, passage, restOf, nowhere, replaces}
+use Rattle.meaning.specs.Translation.{nests, Level, outermost, inArgument, inTail, isEnd, inTailPosition, mannerAs, mannerOf, levelIn, isNone}
+use Rattle.meaning.specs.Translation.{endsPattern, leftFor, whereLeft, valueNumber, argumentReady, calling, itemActions, passesRest}
+use Rattle.meaning.specs.Translation.{translatedFunction, translate}
 use Rattle.meaning_agreeing.proofs.laws.Translated.{number-low}
-use Rattle.meaning_agreeing.proofs.agreement.Carrying.{Endless, ledger, stacks, into, carried, returned-law, carried-andThen, into-andThen, into-written, into-same, Applying, doing, span-opened, go-law, select-law, out-law, character-law, value-law, begin-law, use-law, emission-law, compute-law, call-law, tail-law}
+use Rattle.meaning_agreeing.proofs.agreement.Carrying.{Endless, ledger, stacks, into, carried, returned-law, carried-andThen, into-andThen}
+use Rattle.meaning_agreeing.proofs.agreement.Carrying.{into-written, into-same, Applying, doing, span-opened, go-law, select-law, out-law}
+use Rattle.meaning_agreeing.proofs.agreement.Carrying.{character-law, value-law, begin-law, use-law, emission-law, compute-law, call-law}
+use Rattle.meaning_agreeing.proofs.agreement.Carrying.{tail-law}
 use Rattle.meaning_agreeing.proofs.agreement.Standing.{Move, Standing}
 use Rattle.meaning_agreeing.proofs.agreement.Sound.{Sound, theEnd, aCharacter, aSymbol, aPart, aCall}
 use Rattle.meaning.proofs.laws.Choosing.{true-passed}
@@ -106,14 +112,16 @@ module _ (table : Table) (shape : Shape) (sites : List (Named Site)) (bound : Bi
   -- an e-variable's part goes to out, and p stands after it
   part-law : (x : Name) (w : Stand) (coming : List Name) (more : List Action) (opened : List ℕ) (o : Bytes) (t : Course)
       (m : Move shape l (standing .remaining) w (passage shape x w) (lookup x (bound .parts)) coming) →
-      from opened (go (passage shape x w .gap) ∷ select (passage shape x w .piece) ∷ out ∷ more) w o t ≡ from opened more (passage shape x w .after) (o ++ m .piece) t
+      from opened (go (passage shape x w .gap) ∷ select (passage shape x w .piece) ∷ out ∷ more) w o t ≡
+      from opened more (passage shape x w .after) (o ++ m .piece) t
   part-law x w coming more opened o t m =
       rw (
         m .whole,
         append-assoc (m .gap) (m .piece ++ standing .remaining (passage shape x w .after)) below,
         append-assoc (m .piece) (standing .remaining (passage shape x w .after)) below,
       )
-      (go-law code enter frame _ l₁ t (passage shape x w .gap) (m .gap) (m .piece ++ onward) o 0 (span-opened (passage shape x w .gap) l opened ∙ m .gapSize) ∙
+      (go-law code enter frame _ l₁ t (passage shape x w .gap) (m .gap) (m .piece ++ onward) o 0
+      (span-opened (passage shape x w .gap) l opened ∙ m .gapSize) ∙
       select-law code enter frame _ l₁ t (passage shape x w .piece) (m .piece) onward o 0 (rw span-opened (omega (arith, m .pieceSize))) ∙
       out-law code enter frame more l₁ t (m .piece) onward o)
     where
@@ -130,7 +138,8 @@ module _ (table : Table) (shape : Shape) (sites : List (Named Site)) (bound : Bi
   finish-law : (w : Stand) (opened : List ℕ) (o : Bytes) (t : Course) → from opened (passesRest shape w) w o t ≡ done (stacks below 0 o) (ledger t)
   unfolding process
   finish-law w opened o t =
-      go-law (translate table) enter frame [] (withOpened opened l) t (restOf shape w) (standing .remaining w) below o 0 (span-opened (restOf shape w) l opened ∙ standing .toEnd w)
+      go-law (translate table) enter frame [] (withOpened opened l) t (restOf shape w) (standing .remaining w) below o 0
+      (span-opened (restOf shape w) l opened ∙ standing .toEnd w)
 
   -- an argument written after o is selected just below p
   ready-law : (more : List Action) (opened : List ℕ) (i o argument : Bytes) (t : Course) →
@@ -152,10 +161,12 @@ module _ (table : Table) (shape : Shape) (sites : List (Named Site)) (bound : Bi
       ready-law (tailCall number ∷ []) opened below o argument t ∙
       tail-law (translate table) enter frame [] (withOpened opened l) t number (stacks (argument ++ below) (length argument) o) d ∙
       callee .same frame number argument below o t ∙
-      into-same (apply number argument t) _ (λ given t₁. from opened more w (o ++ given) t₁) (λ given t₁. rw (e tt) (sym (finish-law w opened (o ++ given) t₁)))
+      into-same (apply number argument t) _ (λ given t₁. from opened more w (o ++ given) t₁)
+      (λ given t₁. rw (e tt) (sym (finish-law w opened (o ++ given) t₁)))
   declared-call false number n w more opened o argument t d e =
       ready-law (call number ∷ more) opened (standing .remaining w ++ below) o argument t ∙
-      call-law (translate table) enter frame more (withOpened opened l) t number (stacks (argument ++ (standing .remaining w ++ below)) (length argument) o) d ∙
+      call-law (translate table) enter frame more (withOpened opened l) t number
+      (stacks (argument ++ (standing .remaining w ++ below)) (length argument) o) d ∙
       paid (pay number (tallyOf t)) refl
     where
       paid : (p : Option Tally) → pay number (tallyOf t) ≡ p →
@@ -301,8 +312,9 @@ module _ (table : Table) (shape : Shape) (sites : List (Named Site)) (bound : Bi
   ended (aPart m sound) h t j = absurd h
   ended (aCall known soundA sound) h t j = absurd h
 
-  -- THE LEMMA: the items of an expression, then what follows them, come to the evaluation of the expression and then the same. What out held before and what lies below the
-  -- field stay as they are; a call's argument opens one sequence more, so nesting and open sequences together stay within what the machine allows.
+  -- THE LEMMA: the items of an expression, then what follows them, come to the evaluation of the expression and then the same. What out held before
+  -- and what lies below the field stay as they are; a call's argument opens one sequence more, so nesting and open sequences together stay within
+  -- what the machine allows.
   pub expressed : {e : Expression} {w w₁ : Stand} (sound : Sound table shape sites bound l standing e w w₁)
       (b : Level) (k : Stand → List Action) (opened : List ℕ) (o : Bytes) (t : Course) → Ending (translate table) shape b k opened o →
       nesting e + length opened ≤ maxOpened →
@@ -311,7 +323,8 @@ module _ (table : Table) (shape : Shape) (sites : List (Named Site)) (bound : Bi
   unfolding itemActions evaluate nesting
   expressed theEnd b k opened o t ending h = rw append-nil
   expressed {w} {w₁} (aCharacter {c} {e} sound) b k opened o t ending h =
-      character-law (translate table) enter frame (itemActions table shape sites b e w k) (withOpened opened l) t c 0 (standing .remaining w ++ below) o ∙
+      character-law (translate table) enter frame (itemActions table shape sites b e w k) (withOpened opened l) t c 0 (standing .remaining w ++ below)
+      o ∙
       expressed sound b k opened (o ++ c ∷ []) t (ending-on (translate table) shape b k opened o ending _) h ∙
       into-written (c ∷ []) o (evaluate (callNamed table apply) bound e t) (λ text t₁. from opened (k w₁) w₁ text t₁)
   expressed {w} {w₁} (aSymbol {x} {e} v sound) b k opened o t ending h =
@@ -331,18 +344,21 @@ module _ (table : Table) (shape : Shape) (sites : List (Named Site)) (bound : Bi
           (λ text t₁. from opened (k w₁) w₁ (o ++ text) t₁)
       written = rw (m .taken) (into-written (m .piece) o (evaluate (callNamed table apply) bound e t) (λ text t₁. from opened (k w₁) w₁ text t₁))
   expressed {w} {w₁ = w₂} (aCall {place} {n} {a} {e} {w₁} known soundA sound) b k opened o t ending h =
-      begin-law (translate table) enter frame (itemActions table shape sites (levelIn (mannerOf b e n) (numberOf table n)) a w more) (withOpened opened l) t
+      begin-law (translate table) enter frame (itemActions table shape sites (levelIn (mannerOf b e n) (numberOf table n)) a w more)
+      (withOpened opened l) t
       (standing .remaining w ++ below) o 0 (omega arith) ∙
       expressed soundA (levelIn (mannerOf b e n) (numberOf table n)) more (length o ∷ opened) o t
       (argument-ends (callingOf n) (inTailPosition b e) n (λ w₁. itemActions table shape sites b e w₁ k) opened o known) (omega arith) ∙
       into-same (evaluate (callNamed table apply) bound a t) (λ text t₁. from (length o ∷ opened) (more w₁) w₁ (o ++ text) t₁)
       (λ text t₁. into (called text t₁) (λ text t₂. j (o ++ text) t₂)) (λ text t₁.
-      any-call (callingOf n) (inTailPosition b e) n w₁ (itemActions table shape sites b e w₁ k) opened o text t₁ known (last-ends b e w₁ k opened o ending) ∙
+      any-call (callingOf n) (inTailPosition b e) n w₁ (itemActions table shape sites b e w₁ k) opened o text t₁ known
+      (last-ends b e w₁ k opened o ending) ∙
       into-same (callNamed table apply n text t₁) (λ given t₂. from opened (itemActions table shape sites b e w₁ k) w₁ (o ++ given) t₂)
       (λ given t₂. into (before given (evaluate (callNamed table apply) bound e t₂)) (λ text t₃. j (o ++ text) t₃)) (λ given t₂.
       expressed sound b k opened (o ++ given) t₂ (ending-on (translate table) shape b k opened o ending _) (omega arith) ∙
       into-written given o (evaluate (callNamed table apply) bound e t₂) j) ∙
-      sym (into-andThen (callNamed table apply n text t₁) (λ given t₂. before given (evaluate (callNamed table apply) bound e t₂)) (λ text t₃. j (o ++ text) t₃))) ∙
+      sym (into-andThen (callNamed table apply n text t₁) (λ given t₂. before given (evaluate (callNamed table apply) bound e t₂))
+      (λ text t₃. j (o ++ text) t₃))) ∙
       sym (into-andThen (evaluate (callNamed table apply) bound a t) called (λ text t₃. j (o ++ text) t₃))
     where
       more : Stand → List Action
@@ -355,7 +371,8 @@ module _ (table : Table) (shape : Shape) (sites : List (Named Site)) (bound : Bi
       called text t₁ = andThen (callNamed table apply n text t₁) (λ given t₂. before given (evaluate (callNamed table apply) bound e t₂))
 
   -- a sentence's whole expression, from the field's start to its end
-  pub evaluated : {e : Expression} {w : Stand} → Sound table shape sites bound l standing e atStart w → nesting e ≤ maxOpened → (o : Bytes) (t : Course) →
+  pub evaluated : {e : Expression} {w : Stand} → Sound table shape sites bound l standing e atStart w → nesting e ≤ maxOpened →
+      (o : Bytes) (t : Course) →
       from [] (itemActions table shape sites outermost e atStart (passesRest shape)) atStart o t ≡
       carried below o (evaluate (callNamed table apply) bound e t)
   evaluated {e} {w} sound h o t =

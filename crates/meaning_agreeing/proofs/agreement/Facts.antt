@@ -9,9 +9,11 @@ use lib.ListN.{length}
 use Rattle.meaning.specs.Choice.{Name, Named, isSome, every, sameBytes, lookup, nth}
 use Rattle.meaning.specs.Tree.{Letter, character, symbol, Element, part, Sentence, Function, Table}
 use Rattle.meaning.specs.Rewriting.{sentencesOf, functionAt}
-use Rattle.meaning.specs.Allowed.{maxNesting, member, added, symbolsFrom, symbolsOf, partsOf, allOfPattern, distinct, nesting, spelledItems, comingAfterAll, allowedSentence, allowedFunction, callsKnown, allowed}
+use Rattle.meaning.specs.Allowed.{maxNesting, member, added, symbolsFrom, symbolsOf, partsOf, allOfPattern, distinct, nesting, spelledItems}
+use Rattle.meaning.specs.Allowed.{comingAfterAll, allowedSentence, allowedFunction, callsKnown, allowed}
 use Rattle.meaning.specs.Instructions.{Site, fromStart, fromPlace}
-use Rattle.meaning.specs.Translation.{Shape, fixed, open₁, open₂, shapeOf, Tested, testedSymbol, testedLetter, testedTemplate, beforeEnd, untested, testedShape, atStart}
+use Rattle.meaning.specs.Translation.{Shape, fixed, open₁, open₂, shapeOf, Tested, testedSymbol, testedLetter, testedTemplate, beforeEnd, untested}
+use Rattle.meaning.specs.Translation.{testedShape, atStart}
 use Rattle.meaning.proofs.laws.Choosing.{given-some, same-bytes, namesIn, names-append, member-bound, distinct-second}
 use Rattle.meaning.proofs.laws.Choosing.{both-left, both-right, both-pair, passed-true, true-passed, every-nth}
 use Rattle.meaning_agreeing.proofs.agreement.Standing.{comingAt}
@@ -38,7 +40,8 @@ pub data Allowables (table : Table) : List Sentence → Type 0 where
   noSentence : Allowables table []
   sentences : {s : Sentence} {ss : List Sentence} → Allowable table s → Allowables table ss → Allowables table (s ∷ ss)
 
-names-symbol : (x : Name) (s : Site) (d : Tested) (o : Option Site) → lookup x (d .sites) ≡ o → added x (namesIn (d .sites)) ≡ namesIn (testedSymbol o x s d .sites)
+names-symbol : (x : Name) (s : Site) (d : Tested) (o : Option Site) → lookup x (d .sites) ≡ o → added x (namesIn (d .sites)) ≡
+    namesIn (testedSymbol o x s d .sites)
 names-symbol x s d none e = rw (member-bound x (d .sites), e, names-append)
 names-symbol x s d (some r) e = rw (member-bound x (d .sites), e)
 
@@ -56,7 +59,8 @@ names-shape : (shape : Shape) → symbolsOf (elementsOf shape) ≡ namesIn (test
 unfolding symbolsFrom
 names-shape (fixed t) = names-template fromStart 0 t untested []
 names-shape (open₁ h x t) =
-    names-template fromStart 0 h untested (part x ∷ templated t []) ∙ names-template (beforeEnd (length t)) 0 t (testedTemplate fromStart 0 h untested) []
+    names-template fromStart 0 h untested (part x ∷ templated t []) ∙
+    names-template (beforeEnd (length t)) 0 t (testedTemplate fromStart 0 h untested) []
 names-shape (open₂ h x m y t) =
     names-template fromStart 0 h untested (part x ∷ templated m (part y ∷ templated t [])) ∙
     names-template fromPlace 0 m (testedTemplate fromStart 0 h untested) (part y ∷ templated t []) ∙
@@ -95,7 +99,8 @@ allowable table s a calls =
       calls = calls;
     }
 
-allowables : (table : Table) (ss : List Sentence) → T (every allowedSentence ss) → T (every (λ s. callsKnown table (s .expression)) ss) → Allowables table ss
+allowables : (table : Table) (ss : List Sentence) → T (every allowedSentence ss) → T (every (λ s. callsKnown table (s .expression)) ss) →
+    Allowables table ss
 unfolding every
 allowables table [] a calls = noSentence
 allowables table (s ∷ ss) a calls =

@@ -1,4 +1,5 @@
--- A sentence's tests fit a field exactly where its pattern and conditions do, at the same place and with the same bindings: for no, one and two e-variables.
+-- A sentence's tests fit a field exactly where its pattern and conditions do, at the same place and with the same bindings: for no, one and two
+-- e-variables.
 use Prim.Native.Nat.{ℕ, suc, _+_, _-_, _≤_, _<_}
 use native.Mathlib.Decide.{decLe}
 use native.Mathlib.Omega.{arith}
@@ -16,12 +17,15 @@ use Rattle.meaning.specs.Rewriting.{Bindings, unbound, hold, shortest, withSymb
 use Rattle.meaning.specs.Allowed.{whereSome, allOfPattern}
 use Rattle.meaning.specs.Instructions.{Site, fromStart, fromPlace}
 use Rattle.meaning.specs.Matching.{Checked, wherePassed, checkAll, search, placesOf, firstPlace, findPlace, storedValues}
-use Rattle.meaning.specs.Translation.{Shape, fixed, open₁, open₂, metricOf, Tested, testedTemplate, beforeEnd, untested, testedShape, conditionTest, testsOf, atStart}
+use Rattle.meaning.specs.Translation.{Shape, fixed, open₁, open₂, metricOf, Tested, testedTemplate, beforeEnd, untested, testedShape, conditionTest}
+use Rattle.meaning.specs.Translation.{testsOf, atStart}
 use Rattle.meaning.proofs.laws.Choosing.{namesIn}
 use Rattle.meaning.proofs.laws.Choosing.{true-passed, where-same, where-none, where-strict}
 use Rattle.meaning_agreeing.proofs.agreement.Standing.{comingAt, Standing}
-use Rattle.meaning_agreeing.proofs.agreement.Templates.{templateMatch, Known, nothing, Tried, fails, passes, next, checkAll-append, template-tested, conditions-tested}
-use Rattle.meaning_agreeing.proofs.agreement.Patterns.{templated, elementsOf, letters-templated, letters-part, match-short, match-exact, match-template, shortest-none, shortest-one}
+use Rattle.meaning_agreeing.proofs.agreement.Templates.{templateMatch, Known, nothing, Tried, fails, passes, next, checkAll-append}
+use Rattle.meaning_agreeing.proofs.agreement.Templates.{template-tested, conditions-tested}
+use Rattle.meaning_agreeing.proofs.agreement.Patterns.{templated, elementsOf, letters-templated, letters-part, match-short, match-exact}
+use Rattle.meaning_agreeing.proofs.agreement.Patterns.{match-template, shortest-none, shortest-one}
 use Rattle.meaning_agreeing.proofs.agreement.Places.{Trial, unfit, fit, Agreeing, neither, only, search-shortest}
 use Rattle.meaning_agreeing.proofs.agreement.Layout.{bindings, taking, locals, Laid, laid-fixed, laid-open₁, laid-open₂}
 use Rattle.meaning_agreeing.proofs.agreement.Cells.{start-shows, middle-shows, end-shows}
@@ -77,7 +81,8 @@ match-last ls cs bytes bound size = rw append-nil at (match-template ls [] cs by
     held (some known) = asked known (hold cs (withSymbols bound known))
 
 -- a template, an e-variable's part, and the template at the end of the text
-match-part : (ls : List Letter) (x : Name) (t : List Letter) (cs : List Condition) (bytes p ts : Bytes) (bound : Bindings) → length bytes ≡ length ls → length ts ≡ length t →
+match-part : (ls : List Letter) (x : Name) (t : List Letter) (cs : List Condition) (bytes p ts : Bytes) (bound : Bindings) → length bytes ≡
+    length ls → length ts ≡ length t →
     match (templated ls (part x ∷ templated t [])) cs (bytes ++ (p ++ ts)) bound ≡
     whereSome (whereSome (whereSome (templateMatch ls bytes (bound .symbols)) (templateMatch t ts)) (holding cs (bound .parts ++ taking x p ∷ [])))
     (boundTo (bound .parts ++ taking x p ∷ []))
@@ -111,7 +116,8 @@ all-tested field at cs shape parts d laid m tried =
     (next field at tried (λ known k. conditions-tested field at shape (d .sites) (comingAt shape atStart) parts (laid .between) cs m known k))
 
 -- one place, its parts being laid there
-trial : {shape : Shape} {sites : List (Named Site)} {field : Bytes} {at : ℕ} {parts : List (Named Bytes)} {c : Checked} {o : Option (List (Named ℕ))} → Laid shape field at parts →
+trial : {shape : Shape} {sites : List (Named Site)} {field : Bytes} {at : ℕ} {parts : List (Named Bytes)} {c : Checked}
+    {o : Option (List (Named ℕ))} → Laid shape field at parts →
     Tried field at sites c o → Trial (Fitting shape sites field) at c (whereSome o (boundTo parts))
 trial laid fails = unfit
 trial laid (passes k) = fit (fitting k laid)
@@ -225,7 +231,8 @@ module _ (cs : List Condition) where
 
     -- the head template, then the middle template with what follows it, at one place
     tried₂ : Bytes → Bytes → Bytes → Option Bindings
-    tried₂ hs p rest = whereSome (templateMatch h hs []) (λ known. match (templated m (part y ∷ templated t [])) cs rest (withPart (bindings known []) x p))
+    tried₂ hs p rest = whereSome (templateMatch h hs []) (λ known. match (templated m (part y ∷ templated t [])) cs rest
+        (withPart (bindings known []) x p))
 
     -- one place: the field is the templates' bytes round the parts
     place-open₂ : (hs p ms r ts : Bytes) → length hs ≡ length h → length ms ≡ length m → length ts ≡ length t →
@@ -247,7 +254,8 @@ module _ (cs : List Condition) where
         (end-shows field (hs ++ (p ++ (ms ++ r))) ts [] at (simp (append-assoc, append-nil)) (length t) sizeTail refl)
         (template-tested field at fromPlace 0 m ms (testedTemplate fromStart 0 h untested) sizeMiddle
         (middle-shows field (hs ++ p) ms (r ++ ts) at (simp append-assoc) (rw length-append))
-        (template-tested field at fromStart 0 h hs untested sizeHead (start-shows field [] hs (p ++ (ms ++ (r ++ ts))) at refl refl) (passes nothing))))))
+        (template-tested field at fromStart 0 h hs untested sizeHead (start-shows field [] hs (p ++ (ms ++ (r ++ ts))) at refl refl)
+        (passes nothing))))))
       where
         field : Bytes
         field = hs ++ (p ++ (ms ++ (r ++ ts)))
@@ -261,11 +269,14 @@ module _ (cs : List Condition) where
     -- the head template comes off before the search, or stands inside it
     match-open₂ : (hs rest : Bytes) → length hs ≡ length h → match (elementsOf shape₂) cs (hs ++ rest) unbound ≡ shortest (tried₂ hs) [] rest
     unfolding match tried₂
-    match-open₂ hs rest size = match-template h (part x ∷ templated m (part y ∷ templated t [])) cs hs rest unbound size ∙ inside (templateMatch h hs [])
+    match-open₂ hs rest size = match-template h (part x ∷ templated m (part y ∷ templated t [])) cs hs rest unbound size ∙
+        inside (templateMatch h hs [])
       where
         inside : (o : Option (List (Named ℕ))) →
-            whereSome o (λ known. shortest (λ p rest. match (templated m (part y ∷ templated t [])) cs rest (withPart (bindings known []) x p)) [] rest) ≡
-            shortest (λ p rest. whereSome o (λ known. match (templated m (part y ∷ templated t [])) cs rest (withPart (bindings known []) x p))) [] rest
+            whereSome o (λ known. shortest (λ p rest. match (templated m (part y ∷ templated t [])) cs rest (withPart (bindings known []) x p)) []
+            rest) ≡
+            shortest (λ p rest. whereSome o (λ known. match (templated m (part y ∷ templated t [])) cs rest (withPart (bindings known []) x p))) []
+            rest
         inside none = sym (shortest-none (λ p rest. none) (suc (length rest)) [] rest (omega arith) (λ p rest less. refl))
         inside (some known) = refl
 
@@ -276,11 +287,13 @@ module _ (cs : List Condition) where
         let count : placesOf (metricOf shape₂) (length (hs ++ rest)) ≡ suc (length rest) - (length m + length t) = rw length-append (omega arith) in
         let start : length hs + 0 ≡ firstPlace (metricOf shape₂) = omega arith in
         rw (count, match-open₂ hs rest size)
-        (rw start at (search-shortest (Fitting shape₂ (testedShape shape₂ .sites) (hs ++ rest)) (tests₂ (hs ++ rest)) (tried₂ hs) (length hs) (length m + length t)
+        (rw start at (search-shortest (Fitting shape₂ (testedShape shape₂ .sites) (hs ++ rest)) (tests₂ (hs ++ rest)) (tried₂ hs) (length hs)
+        (length m + length t)
         rest each short [] rest refl))
       where
         each : (p back : Bytes) → p ++ back ≡ rest → length m + length t ≤ length back →
-            Trial (Fitting shape₂ (testedShape shape₂ .sites) (hs ++ rest)) (length hs + length p) (tests₂ (hs ++ rest) (length hs + length p)) (tried₂ hs p back)
+            Trial (Fitting shape₂ (testedShape shape₂ .sites) (hs ++ rest)) (length hs + length p) (tests₂ (hs ++ rest) (length hs + length p))
+            (tried₂ hs p back)
         each p back e enough =
             let a = setApart (length m) (length t) back enough in
             rw (← e, a .whole) (place-open₂ hs p (a .first) (a .middle) (a .last) size (a .firstSize) (a .lastSize))
@@ -294,7 +307,8 @@ module _ (cs : List Condition) where
     agrees-open₂ field = sized (decLe (length h) (length field))
       where
         sized : Dec (length h ≤ length field) → Agrees shape₂ field
-        sized (yes enough) = rw (take-append-drop (length h) field) at (searched (take (length h) field) (drop (length h) field) (length-take-le (length h) field enough))
+        sized (yes enough) = rw (take-append-drop (length h) field) at
+            (searched (take (length h) field) (drop (length h) field) (length-take-le (length h) field enough))
         sized (no few) =
             let nowhere : placesOf (metricOf shape₂) (length field) ≡ 0 = omega arith in
             rw (nowhere, match-short (elementsOf shape₂) cs field unbound (rw letters-templated (omega arith))) neither

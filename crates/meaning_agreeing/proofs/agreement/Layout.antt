@@ -13,7 +13,8 @@ use Rattle.meaning.specs.Rewriting.{Bindings}
 use Rattle.meaning.specs.Allowed.{member, comingAfter}
 use Rattle.meaning.specs.Instructions.{fromStart, fromEnd, fromPlace}
 use Rattle.meaning.specs.Machine.{Local, spanOf}
-use Rattle.meaning.specs.Translation.{Shape, fixed, open₁, open₂, Stand, atStart, afterFirst, afterSecond, passageOne, passageFirst, gapToSecond, passageSecond, passage, restOf, fromTo, boundsOf}
+use Rattle.meaning.specs.Translation.{Shape, fixed, open₁, open₂, Stand, atStart, afterFirst, afterSecond, passageOne, passageFirst, gapToSecond}
+use Rattle.meaning.specs.Translation.{passageSecond, passage, restOf, fromTo, boundsOf}
 use Rattle.meaning_agreeing.proofs.agreement.Standing.{comingAt, Move}
 use Rattle.meaning_agreeing.proofs.agreement.Cells.{Between, between-shows, end-before}
 
@@ -132,21 +133,33 @@ module _ (h : List Letter) (x : Name) (m : List Letter) (y : Name) (t : List Let
       toEnd values afterFirst = rw (size₂, length-append ms (r ++ ts), length-append r ts) (omega arith)
       toEnd values afterSecond = omega arith
 
-      second : (values : Bytes) (w : Stand) (gap : Bytes) (later : List Name) → remaining₂ w ≡ gap ++ (r ++ ts) → spanOf (gapToSecond m w) (l values) ≡ length gap → [] ≡ later →
+      second : (values : Bytes) (w : Stand) (gap : Bytes) (later : List Name) → remaining₂ w ≡ gap ++ (r ++ ts) →
+          spanOf (gapToSecond m w) (l values) ≡ length gap → [] ≡ later →
           Move (open₂ h x m y t) (l values) remaining₂ w (passageSecond m t w) (some r) later
       second values w gap later whole size coming =
           record { gap = gap; piece = r; whole = whole; gapSize = size; pieceSize = rw size₂ (omega arith); taken = refl; coming = coming }
 
       first : (values : Bytes) (q₁ q₂ : Bool) (later : List Name) → pick q₁ (some (y ∷ [])) (pick q₂ (some []) none) ≡ some later →
-          Move (open₂ h x m y t) (l values) remaining₂ atStart (pick q₁ (passageFirst h) (passageSecond m t atStart)) (pick q₁ (some p) (pick q₂ (some r) none)) later
+          Move (open₂ h x m y t) (l values) remaining₂ atStart (pick q₁ (passageFirst h) (passageSecond m t atStart))
+          (pick q₁ (some p) (pick q₂ (some r) none)) later
       first values true q₂ later e =
-          record { gap = hs; piece = p; whole = refl; gapSize = omega arith; pieceSize = omega arith; taken = refl; coming = Option·some-injective _ later e }
+          record {
+            gap = hs;
+            piece = p;
+            whole = refl;
+            gapSize = omega arith;
+            pieceSize = omega arith;
+            taken = refl;
+            coming =
+                Option·some-injective _ later e;
+          }
       first values false true later e =
           second values atStart (hs ++ (p ++ ms)) later (simp append-assoc) (simp length-append (omega arith)) (Option·some-injective [] later e)
       first values false false later e = absurd (Option·none-ne-some later e)
 
       after : (values : Bytes) (q₁ q₂ : Bool) (later : List Name) → (q₁ ≡ true → q₂ ≡ true → ⊥) → pick q₂ (some []) none ≡ some later →
-          Move (open₂ h x m y t) (l values) remaining₂ afterFirst (pick q₁ (passageFirst h) (passageSecond m t afterFirst)) (pick q₁ (some p) (pick q₂ (some r) none)) later
+          Move (open₂ h x m y t) (l values) remaining₂ afterFirst (pick q₁ (passageFirst h) (passageSecond m t afterFirst))
+          (pick q₁ (some p) (pick q₂ (some r) none)) later
       after values true true later other e = absurd (other refl refl)
       after values true false later other e = absurd (Option·none-ne-some later e)
       after values false true later other e = second values afterFirst ms later refl (omega arith) (Option·some-injective [] later e)

@@ -1,5 +1,5 @@
--- The matcher on a pattern that is seen as templates round its e-variables: a template's letters come off one by one, a remainder of fixed length leaves one cut for the last
--- e-variable, and a text that is too short never fits.
+-- The matcher on a pattern that is seen as templates round its e-variables: a template's letters come off one by one, a remainder of fixed length
+-- leaves one cut for the last e-variable, and a text that is too short never fits.
 use Prim.Native.Nat.{ℕ, suc, _+_, _≤_, _<_}
 use native.Mathlib.Omega.{arith}
 use mathlib.Core.Path.{_≡_, refl, sym, _∙_}
@@ -82,7 +82,8 @@ match-letter : (l : Letter) (es : List Element) (cs : List Condition) (b : ℕ) 
 unfolding match
 match-letter (character c) es cs b text bound = guarded (eqb c b)
   where
-    guarded : (q : Bool) → guard q (match es cs text bound) ≡ whereSome (guard q (some (bound .symbols))) (λ known. match es cs text (withSymbols bound known))
+    guarded : (q : Bool) → guard q (match es cs text bound) ≡
+        whereSome (guard q (some (bound .symbols))) (λ known. match es cs text (withSymbols bound known))
     guarded true = refl
     guarded false = refl
 match-letter (symbol x) es cs b text bound = taken (takeSymbol x b (bound .symbols))
@@ -97,9 +98,11 @@ match-nothing (character c) es cs bound = refl
 match-nothing (symbol x) es cs bound = refl
 
 -- a letter helps nothing where the rest never fits
-match-none : (l : Letter) (es : List Element) (cs : List Condition) (b : ℕ) (text : Bytes) (bound : Bindings) → ((bound : Bindings) → match es cs text bound ≡ none) →
+match-none : (l : Letter) (es : List Element) (cs : List Condition) (b : ℕ) (text : Bytes) (bound : Bindings) →
+    ((bound : Bindings) → match es cs text bound ≡ none) →
     match (letter l ∷ es) cs (b ∷ text) bound ≡ none
-match-none l es cs b text bound h = match-letter l es cs b text bound ∙ where-none (letterMatch l b (bound .symbols)) _ (λ known. h (withSymbols bound known))
+match-none l es cs b text bound h = match-letter l es cs b text bound ∙
+    where-none (letterMatch l b (bound .symbols)) _ (λ known. h (withSymbols bound known))
 
 -- WHAT NEVER FITS
 
@@ -111,15 +114,18 @@ shortest-none k n taken [] few h = h taken [] few
 shortest-none k n taken (b ∷ rest) few h = rw (h taken (b ∷ rest) few, shortest-none k n (taken ++ b ∷ []) rest (omega arith) h)
 
 -- a text shorter than the letters of the pattern
-pub match-short : (es : List Element) (cs : List Condition) (text : Bytes) (bound : Bindings) → length text < lettersIn es → match es cs text bound ≡ none
+pub match-short : (es : List Element) (cs : List Condition) (text : Bytes) (bound : Bindings) → length text < lettersIn es → match es cs text bound ≡
+    none
 unfolding match lettersIn
 match-short [] cs text bound few = absurd (omega arith)
 match-short (letter l ∷ es) cs [] bound few = match-nothing l es cs bound
 match-short (letter l ∷ es) cs (b ∷ text) bound few = match-none l es cs b text bound (λ bound. match-short es cs text bound (omega arith))
-match-short (part x ∷ es) cs text bound few = shortest-none _ (lettersIn es) [] text few (λ piece rest less. match-short es cs rest (withPart bound x piece) less)
+match-short (part x ∷ es) cs text bound few = shortest-none _ (lettersIn es) [] text few
+    (λ piece rest less. match-short es cs rest (withPart bound x piece) less)
 
 -- a template alone takes as many bytes as it has letters
-pub match-exact : (ls : List Letter) (cs : List Condition) (text : Bytes) (bound : Bindings) → length text ≢ length ls → match (templated ls []) cs text bound ≡ none
+pub match-exact : (ls : List Letter) (cs : List Condition) (text : Bytes) (bound : Bindings) → length text ≢ length ls →
+    match (templated ls []) cs text bound ≡ none
 unfolding match templated
 match-exact [] cs [] bound other = absurd (other refl)
 match-exact [] cs (b ∷ text) bound other = refl
@@ -133,7 +139,8 @@ either-none none = refl
 either-none (some a) = refl
 
 -- a remainder of fixed length leaves one cut
-pub shortest-one : {A : Type 0} (k : Bytes → Bytes → Option A) (taken piece last : Bytes) → ((taken rest : Bytes) → length rest ≢ length last → k taken rest ≡ none) →
+pub shortest-one : {A : Type 0} (k : Bytes → Bytes → Option A) (taken piece last : Bytes) →
+    ((taken rest : Bytes) → length rest ≢ length last → k taken rest ≡ none) →
     shortest k taken (piece ++ last) ≡ k (taken ++ piece) last
 unfolding shortest
 shortest-one k taken [] [] h = rw append-nil
@@ -145,7 +152,8 @@ shortest-one k taken (b ∷ piece) last h =
 
 -- a template's letters come off
 pub match-template : (ls : List Letter) (es : List Element) (cs : List Condition) (bytes more : Bytes) (bound : Bindings) → length bytes ≡ length ls →
-    match (templated ls es) cs (bytes ++ more) bound ≡ whereSome (templateMatch ls bytes (bound .symbols)) (λ known. match es cs more (withSymbols bound known))
+    match (templated ls es) cs (bytes ++ more) bound ≡ whereSome (templateMatch ls bytes (bound .symbols))
+    (λ known. match es cs more (withSymbols bound known))
 unfolding templated templateMatch
 match-template [] es cs [] more bound size = refl
 match-template [] es cs (b ∷ bytes) more bound size = absurd (omega arith)

@@ -1,4 +1,5 @@
--- The machine's search over the middle template's places against rewriting's search over the first e-variable's part: both take the leftmost place that fits.
+-- The machine's search over the middle template's places against rewriting's search over the first e-variable's part: both take the leftmost place
+-- that fits.
 use Prim.Native.Nat.{ℕ, suc, _+_, _-_, _≤_, _<_}
 use native.Mathlib.Decide.{decLe}
 use native.Mathlib.Omega.{arith}
@@ -24,7 +25,8 @@ module _ (Fits : ℕ → Bindings → Type 0) where
     alike : {at : ℕ} {bound : Bindings} → Fits at bound → Agreeing (foundAt at) (some bound)
 
   -- the first place that fits counts
-  settle : {at : ℕ} {c : Checked} {f : Found} {here later : Option Bindings} → Trial at c here → Agreeing f later → Agreeing (settled c at f) (orElse here later)
+  settle : {at : ℕ} {c : Checked} {f : Found} {here later : Option Bindings} → Trial at c here → Agreeing f later →
+      Agreeing (settled c at f) (orElse here later)
   settle unfit a = a
   settle (fit h) a = alike h
 
@@ -34,10 +36,12 @@ module _ (Fits : ℕ → Bindings → Type 0) where
   only test at {o} t = rw (either-none o) at (settle t neither)
 
   module _ (test : ℕ → Checked) (k : Bytes → Bytes → Option Bindings) (start needed : ℕ) (whole : Bytes)
-      (each : (taken rest : Bytes) → taken ++ rest ≡ whole → needed ≤ length rest → Trial (start + length taken) (test (start + length taken)) (k taken rest))
+      (each : (taken rest : Bytes) → taken ++ rest ≡ whole → needed ≤ length rest →
+      Trial (start + length taken) (test (start + length taken)) (k taken rest))
       (short : (taken rest : Bytes) → length rest < needed → k taken rest ≡ none) where
     -- at most as many places are left as there are ways to leave enough for the templates after this one
-    here-or-later : (taken rest : Bytes) (later : Option Bindings) → taken ++ rest ≡ whole → Agreeing (search test (length rest - needed) (suc (start + length taken))) later →
+    here-or-later : (taken rest : Bytes) (later : Option Bindings) → taken ++ rest ≡ whole →
+        Agreeing (search test (length rest - needed) (suc (start + length taken))) later →
         Agreeing (search test (suc (length rest) - needed) (start + length taken)) (orElse (k taken rest) later)
     unfolding search
     here-or-later taken rest later e a = at (decLe needed (length rest))
@@ -51,11 +55,13 @@ module _ (Fits : ℕ → Bindings → Type 0) where
             let none-after : length rest - needed ≡ 0 = omega arith in
             rw (none-left, short taken rest (omega arith)) (rw none-after at a)
 
-    pub search-shortest : (taken rest : Bytes) → taken ++ rest ≡ whole → Agreeing (search test (suc (length rest) - needed) (start + length taken)) (shortest k taken rest)
+    pub search-shortest : (taken rest : Bytes) → taken ++ rest ≡ whole →
+        Agreeing (search test (suc (length rest) - needed) (start + length taken)) (shortest k taken rest)
     unfolding shortest search
     search-shortest taken [] e =
         let nowhere : 0 - needed ≡ 0 = omega arith in
         rw (either-none (k taken [])) at (here-or-later taken [] none e (rw nowhere neither))
     search-shortest taken (b ∷ rest) e =
         let further : start + length (taken ++ b ∷ []) ≡ suc (start + length taken) = rw length-append (omega arith) in
-        here-or-later taken (b ∷ rest) (shortest k (taken ++ b ∷ []) rest) e (rw further at (search-shortest (taken ++ b ∷ []) rest (rw append-assoc e)))
+        here-or-later taken (b ∷ rest) (shortest k (taken ++ b ∷ []) rest) e
+        (rw further at (search-shortest (taken ++ b ∷ []) rest (rw append-assoc e)))

@@ -61,15 +61,18 @@ code-at table (suc i) = there table i
 
 -- a chosen sentence's instructions
 pub sentence-run : (table : Table) (enter : Applying) (apply : ℕ → Bytes → Course → Outcome Bytes Course) → Callee enter apply →
-    (s : Sentence) (field : Bytes) (at : ℕ) (bound : Bindings) → Allowable table s → Fitting (shapeOf (s .pattern)) (sitesOf (s .pattern)) field at bound →
+    (s : Sentence) (field : Bytes) (at : ℕ) (bound : Bindings) → Allowable table s →
+    Fitting (shapeOf (s .pattern)) (sitesOf (s .pattern)) field at bound →
     (frame : ℕ) (below o : Bytes) (t : Course) →
     started endless (translate table) enter frame (actionsOf table (shapeOf (s .pattern)) (sitesOf (s .pattern)) (s .expression)) at
     (storedValues (storesOf (testedShape (shapeOf (s .pattern)))) field at) (stacks (field ++ below) (length field) o) (ledger t) ≡
     carried below o (evaluate (callNamed table apply) bound (s .expression) t)
 sentence-run table enter apply callee s field at bound a f frame below o t =
-    let r = sounds table (shapeOf (s .pattern)) (sitesOf (s .pattern)) bound (locals (length field) at (f .values)) (f .standing) (s .expression) atStart (a .later)
+    let r = sounds table (shapeOf (s .pattern)) (sitesOf (s .pattern)) bound (locals (length field) at (f .values)) (f .standing) (s .expression)
+    atStart (a .later)
     (a .spelled) (a .coming) (a .calls) in
     rw (f .stored)
     (rw (f .whole) at
-    (evaluated table (shapeOf (s .pattern)) (sitesOf (s .pattern)) bound (locals (length field) at (f .values)) (f .standing) below frame enter apply callee
+    (evaluated table (shapeOf (s .pattern)) (sitesOf (s .pattern)) bound (locals (length field) at (f .values)) (f .standing) below frame enter apply
+    callee
     (r .sound) (a .nested) o t))

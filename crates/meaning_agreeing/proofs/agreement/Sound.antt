@@ -1,5 +1,5 @@
--- What an allowed expression is to its sentence: every s-variable has its value, every e-variable may still come, every called name means something. It is read off the tests of
--- Allowed once, so that the proof about the instructions asks no test any more.
+-- What an allowed expression is to its sentence: every s-variable has its value, every e-variable may still come, every called name means something.
+-- It is read off the tests of Allowed once, so that the proof about the instructions asks no test any more.
 use Prim.Native.Nat.{ℕ}
 use mathlib.Core.Path.{_≡_}
 use mathlib.Core.Bool.{not}
@@ -36,7 +36,8 @@ module _ (table : Table) (shape : Shape) (sites : List (Named Site)) (bound : Bi
     pub sound : Sound e w after
     pub coming : comingAt shape after ≡ later
 
-  pub sounds : (e : Expression) (w : Stand) (later : List Name) → T (spelledItems (namesIn sites) e) → comingAfterAll e (comingAt shape w) ≡ some later →
+  pub sounds : (e : Expression) (w : Stand) (later : List Name) → T (spelledItems (namesIn sites) e) → comingAfterAll e (comingAt shape w) ≡
+      some later →
       T (callsKnown table e) → Sounds e w later
   unfolding spelledItems comingAfterAll callsKnown
   sounds end w later spelled coming calls = record { after = w; sound = theEnd; coming = Option·some-injective _ _ coming }
@@ -54,7 +55,8 @@ module _ (table : Table) (shape : Shape) (sites : List (Named Site)) (bound : Bi
       record { after = r .after; sound = aPart m (r .sound); coming = r .coming }
   sounds (thenCall place n a e) w later spelled coming calls =
       let known = both-pair (isKnown table n) (both (callsKnown table a) (callsKnown table e)) calls in
-      let named = both-right (both (spelledName n) (not (isPredicate n))) (both (spelledItems (namesIn sites) a) (spelledItems (namesIn sites) e)) spelled in
+      let named = both-right (both (spelledName n) (not (isPredicate n))) (both (spelledItems (namesIn sites) a) (spelledItems (namesIn sites) e))
+      spelled in
       let p = both-pair (spelledItems (namesIn sites) a) (spelledItems (namesIn sites) e) named in
       let k = both-pair (callsKnown table a) (callsKnown table e) (known .1) in
       let c = both-some (comingAfterAll a (comingAt shape w)) (comingAfterAll e) coming in

@@ -1,5 +1,5 @@
--- What a match hands to the expression: where p can stand in the field, how the spans lead from there to an e-variable and to the end, and the stored values.
--- The proofs about expressions know of a match only what stands here.
+-- What a match hands to the expression: where p can stand in the field, how the spans lead from there to an e-variable and to the end, and the stored
+-- values. The proofs about expressions know of a match only what stands here.
 use Prim.Native.Nat.{ℕ}
 use mathlib.Core.Path.{_≡_}
 use mathlib.Core.List.{List, [], _∷_, _++_}
@@ -25,14 +25,15 @@ comingAt (open₂ h x m y t) afterFirst = y ∷ []
 comingAt (open₂ h x m y t) afterSecond = []
 
 -- the way from where p stands over an e-variable that may still come and the part that it has taken, `later` being those that may come after it
-pub record Move (shape : Shape) (l : Local) (remaining : Stand → Bytes) (w : Stand) (way : Passage) (part : Option Bytes) (later : List Name) : Type 0 where
-  pub gap : Bytes
-  pub piece : Bytes
-  pub whole : remaining w ≡ gap ++ (piece ++ remaining (way .after))
-  pub gapSize : spanOf (way .gap) l ≡ length gap
-  pub pieceSize : spanOf (way .piece) l ≡ length piece
-  pub taken : part ≡ some piece
-  pub coming : comingAt shape (way .after) ≡ later
+pub record Move (shape : Shape) (l : Local) (remaining : Stand → Bytes) (w : Stand) (way : Passage) (part : Option Bytes) (later : List Name) : Type 0
+  where
+    pub gap : Bytes
+    pub piece : Bytes
+    pub whole : remaining w ≡ gap ++ (piece ++ remaining (way .after))
+    pub gapSize : spanOf (way .gap) l ≡ length gap
+    pub pieceSize : spanOf (way .piece) l ≡ length piece
+    pub taken : part ≡ some piece
+    pub coming : comingAt shape (way .after) ≡ later
 
 -- an s-variable's byte is the stored value of its number
 pub record Valued (sites : List (Named Site)) (bound : Bindings) (l : Local) (x : Name) : Type 0 where

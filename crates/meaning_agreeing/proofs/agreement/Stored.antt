@@ -30,23 +30,27 @@ pub record Numbered (from count : ℕ) (values : Bytes) (b : ℕ) : Type 0 where
   pub there : nth number values ≡ some b
 
 module _ (field : Bytes) (place : ℕ) where
-  pub stored-known : {sites : List (Named Site)} {known : List (Named ℕ)} → Known field place sites known → storedValues (storesAt sites) field place ≡ some (valuesOf known)
+  pub stored-known : {sites : List (Named Site)} {known : List (Named ℕ)} → Known field place sites known →
+      storedValues (storesAt sites) field place ≡ some (valuesOf known)
   unfolding storedValues
   stored-known nothing = refl
   stored-known (knows e k) = rw (e, stored-known k)
 
-  numbered : {sites : List (Named Site)} {known : List (Named ℕ)} → Known field place sites known → (from : ℕ) (x : Name) (b : ℕ) → lookup x known ≡ some b →
+  numbered : {sites : List (Named Site)} {known : List (Named ℕ)} → Known field place sites known → (from : ℕ) (x : Name) (b : ℕ) → lookup x known ≡
+      some b →
       Numbered from (valueFrom from x sites) (valuesOf known) b
   unfolding lookup valueFrom nth
   numbered nothing from x b e = absurd (Option·none-ne-some b e)
   numbered (knows {x = y} {s} {b = c} {sites} {known} cell k) from x b e = here (sameBytes x y) e (λ f. numbered k (suc from) x b f)
     where
-      here : (q : Bool) → pick q (some c) (lookup x known) ≡ some b → (lookup x known ≡ some b → Numbered (suc from) (valueFrom (suc from) x sites) (valuesOf known) b) →
+      here : (q : Bool) → pick q (some c) (lookup x known) ≡ some b →
+          (lookup x known ≡ some b → Numbered (suc from) (valueFrom (suc from) x sites) (valuesOf known) b) →
           Numbered from (pick q from (valueFrom (suc from) x sites)) (c ∷ valuesOf known) b
       here true f later = record { number = 0; counted = omega arith; there = f }
       here false f later = let r = later f in record { number = suc (r .number); counted = omega arith; there = r .there }
 
-  pub valued : {sites : List (Named Site)} {known : List (Named ℕ)} → Known field place sites known → (size : ℕ) (parts : List (Named Bytes)) (x : Name) →
+  pub valued : {sites : List (Named Site)} {known : List (Named ℕ)} → Known field place sites known →
+      (size : ℕ) (parts : List (Named Bytes)) (x : Name) →
       T (member x (namesIn sites)) →
       Valued sites (bindings known parts) (locals size place (valuesOf known)) x
   valued k size parts x m =

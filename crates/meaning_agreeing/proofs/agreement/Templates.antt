@@ -1,5 +1,5 @@
--- A template's tests against matching its letters. 01 'What of shared facts?': "Tests relative to p, q and the middle place rest on one lemma over the place". That lemma is
--- `template-tested`: it asks only that the sites show the template's bytes one after the other.
+-- A template's tests against matching its letters. 01 'What of shared facts?': "Tests relative to p, q and the middle place rest on one lemma over
+-- the place". That lemma is `template-tested`: it asks only that the sites show the template's bytes one after the other.
 use Prim.Native.Nat.{ℕ, suc, _+_, _<_}
 use native.Mathlib.Nat.{add-zero, add-suc, suc-add}
 use native.Mathlib.Omega.{arith}
@@ -68,7 +68,8 @@ module _ (field : Bytes) (place : ℕ) where
       here false later = later
 
   -- one variable more, at the end
-  known-more : {sites : List (Named Site)} {known : List (Named ℕ)} (x : Name) (s : Site) (b : ℕ) → cellAt s field place ≡ some b → Known sites known →
+  known-more : {sites : List (Named Site)} {known : List (Named ℕ)} (x : Name) (s : Site) (b : ℕ) → cellAt s field place ≡ some b →
+      Known sites known →
       Known (sites ++ record { name = x; value = s } ∷ []) (known ++ record { name = x; value = b } ∷ [])
   known-more x s b e nothing = knows e nothing
   known-more x s b e (knows d k) = knows d (known-more x s b e k)
@@ -112,13 +113,15 @@ module _ (field : Bytes) (place : ℕ) where
   looked-some (found {b} e) = record { byte = b; there = refl; cell = e }
 
   -- "Compare with the first equal s-variable" against "Equal s-variables take equal bytes"
-  compared : {sites : List (Named Site)} {known : List (Named ℕ)} {first : Site} (x : Name) (s : Site) (b : ℕ) → cellAt s field place ≡ some b → Known sites known →
+  compared : {sites : List (Named Site)} {known : List (Named ℕ)} {first : Site} (x : Name) (s : Site) (b : ℕ) → cellAt s field place ≡ some b →
+      Known sites known →
       Found first (lookup x known) →
       Tried sites (check (compare first s) field place) (takeSymbol x b known)
   compared x s b cell k f = rw (f .there, f .cell, cell) (truth (eqb (f .byte) b) k)
 
   -- an s-variable's first letter is no test and a new site; each later one is a test and no new site
-  symbol-tested : (x : Name) (s : Site) (b : ℕ) (d : Tested) {o : Option (List (Named ℕ))} (first : Option Site) → lookup x (d .sites) ≡ first → cellAt s field place ≡ some b →
+  symbol-tested : (x : Name) (s : Site) (b : ℕ) (d : Tested) {o : Option (List (Named ℕ))} (first : Option Site) → lookup x (d .sites) ≡ first →
+      cellAt s field place ≡ some b →
       TriedAll d o →
       TriedAll (testedSymbol first x s d) (whereSome o (takeSymbol x b))
   symbol-tested x s b d none e cell tried =
@@ -135,7 +138,8 @@ module _ (field : Bytes) (place : ℕ) where
   letter-tested (symbol x) s b d cell tried = symbol-tested x s b d (lookup x (d .sites)) refl cell tried
 
   -- THE LEMMA OVER THE PLACE
-  pub template-tested : (at : ℕ → Site) (from : ℕ) (ls : List Letter) (bytes : Bytes) (d : Tested) {o : Option (List (Named ℕ))} → length bytes ≡ length ls →
+  pub template-tested : (at : ℕ → Site) (from : ℕ) (ls : List Letter) (bytes : Bytes) (d : Tested) {o : Option (List (Named ℕ))} → length bytes ≡
+      length ls →
       ((k : ℕ) → k < length bytes → cellAt (at (from + k)) field place ≡ nth k bytes) →
       TriedAll d o →
       TriedAll (testedTemplate at from ls d) (whereSome o (templateMatch ls bytes))
@@ -154,7 +158,8 @@ module _ (field : Bytes) (place : ℕ) where
     pub standing : lookup x sites ≡ some site
     pub found : Found site (lookup x known)
 
-  pub shown : {sites : List (Named Site)} {known : List (Named ℕ)} → Known sites known → (x : Name) → T (member x (namesIn sites)) → Shown sites known x
+  pub shown : {sites : List (Named Site)} {known : List (Named ℕ)} → Known sites known → (x : Name) → T (member x (namesIn sites)) →
+      Shown sites known x
   shown {sites} {known} k x m = sited (lookup x sites) refl (rw (← (member-bound x sites)) m)
     where
       sited : (o : Option Site) → lookup x sites ≡ o → T (isSome o) → Shown sites known x

@@ -11,7 +11,8 @@ use Rattle.meaning.specs.Tree.{Expression, end, thenCharacter, thenSymbol, then
 use Rattle.meaning.specs.Angles.{Angled, sum, notAngles, outOfRange, angled}
 use Rattle.meaning.specs.Names.{numberOf, Calling, asEmission, asAngles, asFunction, callingOf, builtIn, isKnown}
 use Rattle.meaning.specs.Outcome.{Outcome, done, stop, andThen, resultOf, computed}
-use Rattle.meaning.specs.Rewriting.{Course, unbegun, tookFrom, tallied, Bindings, Fit, symbolBytes, partBytes, before, evaluate, callNamed, recovererFor, recovererAt, unfitted, rewritten, applied, apply, rewrite, calledAs}
+use Rattle.meaning.specs.Rewriting.{Course, unbegun, tookFrom, tallied, Bindings, Fit, symbolBytes, partBytes, before, evaluate, callNamed}
+use Rattle.meaning.specs.Rewriting.{recovererFor, recovererAt, unfitted, rewritten, applied, apply, rewrite, calledAs}
 use Rattle.meaning.specs.Allowed.{allowed, callsKnown, maxFunctions}
 use Rattle.meaning.specs.Matching.{Choice}
 use Rattle.meaning.proofs.laws.Packable.{All, nil, cons}
@@ -86,7 +87,8 @@ module _ (table : Table) (ok : T (allowed table)) where
     rewritten-counted f text t (here {s} {bound} a fits) c =
         evaluate-counted (callNamed table apply₁) bound (λ n text t. called-counted (callingOf n) n text t) (s .expression) t (a .calls) c
 
-    applied-counted : (left f : ℕ) (text : Bytes) (t : Course) → HasCount f → Counted t → StaysCounted (applied table apply₁ f text t (tookFrom left f t))
+    applied-counted : (left f : ℕ) (text : Bytes) (t : Course) → HasCount f → Counted t →
+        StaysCounted (applied table apply₁ f text t (tookFrom left f t))
     applied-counted zero f text t h c = c
     applied-counted (suc n) f text t h c = rewritten-counted f text _ (chosen-alike table text (recovererAt table f) (facts table ok f)) (cons h c)
 

@@ -9,7 +9,8 @@ use Rattle.meaning.specs.Tree.{Expression, end, thenCharacter, thenSymbol, then
 use Rattle.meaning.specs.Angles.{Angled, sum, notAngles, outOfRange, angled}
 use Rattle.meaning.specs.Names.{Calling, asEmission, asAngles, asFunction, callingOf, numberOf}
 use Rattle.meaning.specs.Outcome.{Outcome, done, stop, andThen, computed, resultOf}
-use Rattle.meaning.specs.Rewriting.{Course, unbegun, takeStep, tallied, Bindings, Fit, symbolBytes, partBytes, before, evaluate, functionAt, choose, calledAs, callNamed, recovererAt, unfitted as unfittedAt, rewritten, applied, apply, rewrite}
+use Rattle.meaning.specs.Rewriting.{Course, unbegun, takeStep, tallied, Bindings, Fit, symbolBytes, partBytes, before, evaluate, functionAt, choose}
+use Rattle.meaning.specs.Rewriting.{calledAs, callNamed, recovererAt, unfitted as unfittedAt, rewritten, applied, apply, rewrite}
 
 -- an answer with its function number
 pub data Ends (answer function : ℕ) : Type 0 where
@@ -35,7 +36,8 @@ Plain = StopsSo Ends
 before-plain : (text : Bytes) (o : Outcome Bytes Course) → Plain o → Plain (before text o)
 before-plain text o p = then-stops Ends o (λ rest t. done (text ++ rest) t) p (λ v t. tt)
 
-module _ (call : Name → Bytes → Course → Outcome Bytes Course) (plain : (n : Name) (text : Bytes) (t : Course) → Plain (call n text t)) (bound : Bindings) where
+module _ (call : Name → Bytes → Course → Outcome Bytes Course) (plain : (n : Name) (text : Bytes) (t : Course) → Plain (call n text t))
+    (bound : Bindings) where
   evaluate-plain : (e : Expression) (t : Course) → Plain (evaluate call bound e t)
   unfolding evaluate
   evaluate-plain end t = tt
@@ -43,7 +45,8 @@ module _ (call : Name → Bytes → Course → Outcome Bytes Course) (plain : (n
   evaluate-plain (thenSymbol x e) t = before-plain (symbolBytes (lookup x (bound .symbols))) (evaluate call bound e t) (evaluate-plain e t)
   evaluate-plain (thenPart x e) t = before-plain (partBytes (lookup x (bound .parts))) (evaluate call bound e t) (evaluate-plain e t)
   evaluate-plain (thenCall place n a e) t =
-      then-stops Ends (evaluate call bound a t) (λ text t₁. andThen (call n text t₁) (λ given t₂. before given (evaluate call bound e t₂))) (evaluate-plain a t)
+      then-stops Ends (evaluate call bound a t) (λ text t₁. andThen (call n text t₁) (λ given t₂. before given (evaluate call bound e t₂)))
+      (evaluate-plain a t)
       (λ text t₁. then-stops Ends (call n text t₁) (λ given t₂. before given (evaluate call bound e t₂)) (plain n text t₁)
       (λ given t₂. before-plain given (evaluate call bound e t₂) (evaluate-plain e t₂)))
 
@@ -57,7 +60,8 @@ as-plain asEmission n text t o p = tt
 as-plain (asAngles op) n text t o p = computed-plain (angled op text) t
 as-plain asFunction n text t o p = p
 
-module _ (table : Table) (apply₁ : ℕ → Bytes → Course → Outcome Bytes Course) (plain : (number : ℕ) (text : Bytes) (t : Course) → Plain (apply₁ number text t)) where
+module _ (table : Table) (apply₁ : ℕ → Bytes → Course → Outcome Bytes Course)
+    (plain : (number : ℕ) (text : Bytes) (t : Course) → Plain (apply₁ number text t)) where
   unfitted-plain : (r number : ℕ) (text : Bytes) (t : Course) → Plain (unfittedAt apply₁ r number text t)
   unfitted-plain zero number text t = unfitted refl
   unfitted-plain (suc r) number text t = plain (suc r) text t

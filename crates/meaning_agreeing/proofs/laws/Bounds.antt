@@ -6,7 +6,8 @@ use Prim.Native.Nat.{ℕ, suc, _+_, _*_, _≤_}
 use native.Mathlib.Omega.{arith}
 use lib.ListN.{length, length-append, length-map}
 use Rattle.meaning.specs.Choice.{Name}
-use Rattle.meaning.specs.Instructions.{Test, Store, Action, go, select, out, outC, outV, beginSeq, useSeq, call, tailCall, emission, compute, unknownAction, Sentences, noMore, sentence, unknownSentence, Code}
+use Rattle.meaning.specs.Instructions.{Test, Store, Action, go, select, out, outC, outV, beginSeq, useSeq, call, tailCall, emission, compute}
+use Rattle.meaning.specs.Instructions.{unknownAction, Sentences, noMore, sentence, unknownSentence, Code}
 use Rattle.meaning.specs.Packing.{actionWords, packActions, bodyWords, packSentences, packFunctions, placesFrom, pack}
 use Rattle.meaning.proofs.laws.Packing.{places-length}
 
@@ -99,7 +100,12 @@ functions-length (f ∷ fs) =
 
 pub pack-length : (code : Code) → length (pack code) ≡ 1 + functionsLength code
 pack-length code =
-    omega (arith, length-append (placesFrom (suc (length code)) code) (packFunctions code), places-length (suc (length code)) code, functions-length code)
+    omega (
+      arith,
+      length-append (placesFrom (suc (length code)) code) (packFunctions code),
+      places-length (suc (length code)) code,
+      functions-length code,
+    )
 
 -- 01'S BOUND, for any code; that an emission's name has at most 24 bytes is in Translated
 

@@ -1,5 +1,5 @@
--- Depth never shows: any depth of at least the steps left gives the same, of the machine and of rewriting; and steps and steps left come to the same sum
--- before and after.
+-- Depth never shows: any depth of at least the steps left gives the same, of the machine and of rewriting; and steps and steps left come to the same
+-- sum before and after.
 use Prim.Native.Nat.{ℕ, zero, suc, _+_, _≤_}
 use native.Mathlib.Omega.{arith}
 use mathlib.Core.Path.{_≡_, refl, sym}
@@ -11,7 +11,8 @@ use Rattle.meaning.specs.Outcome.{Tally, fresh, counted, pay, emitted, Outcome,
 use Rattle.meaning.specs.Tree.{Expression, end, thenCharacter, thenSymbol, thenPart, thenCall, Table}
 use Rattle.meaning.specs.Angles.{Angled, sum, notAngles, outOfRange, angled}
 use Rattle.meaning.specs.Names.{numberOf, Calling, asEmission, asAngles, asFunction, callingOf}
-use Rattle.meaning.specs.Rewriting.{Course, unbegun, takeStep, tallyOf, Bindings, symbolBytes, partBytes, before, evaluate, Fit, choose, functionAt, callNamed, recovererAt, unfitted, rewritten, applied, apply, calledAs}
+use Rattle.meaning.specs.Rewriting.{Course, unbegun, takeStep, tallyOf, Bindings, symbolBytes, partBytes, before, evaluate, Fit, choose, functionAt}
+use Rattle.meaning.specs.Rewriting.{callNamed, recovererAt, unfitted, rewritten, applied, apply, calledAs}
 use Rattle.meaning.specs.Instructions.{Code}
 use Rattle.meaning.specs.Machine.{Noted, onward, halt, Watch, Ledger, Stacks, withTally, afterNote, wherePayable, ranPaid, enter}
 use Rattle.meaning.specs.Runs.{loaded, runUnder}
@@ -92,12 +93,14 @@ module _ (W : Watch) where
   Alike depth depth′ k k′ = (g : Ledger (W .Mark)) → Enough depth depth′ (g .tally .stepsLeft) → Same tallied (g .tally) (k g) (k′ g)
 
   module _ (depth depth′ : ℕ) where
-    noted : (g : Ledger (W .Mark)) (o : Noted (W .Mark)) (k k′ : Computation W) → Alike depth depth′ k k′ → Enough depth depth′ (g .tally .stepsLeft) →
+    noted : (g : Ledger (W .Mark)) (o : Noted (W .Mark)) (k k′ : Computation W) → Alike depth depth′ k k′ →
+        Enough depth depth′ (g .tally .stepsLeft) →
         Same tallied (g .tally) (afterNote W o g k) (afterNote W o g k′)
     noted g (onward m) k k′ alike h = alike (record { tally = g .tally; mark = m }) h
     noted g (halt answer) k k′ alike h = unmoved
 
-    afforded : (g : Ledger (W .Mark)) (o : Option Tally) (k k′ : Computation W) → Alike depth depth′ k k′ → Enough depth depth′ (g .tally .stepsLeft) →
+    afforded : (g : Ledger (W .Mark)) (o : Option Tally) (k k′ : Computation W) → Alike depth depth′ k k′ →
+        Enough depth depth′ (g .tally .stepsLeft) →
         Same tallied (g .tally) (wherePayable W o g (k g)) (wherePayable W o g (k′ g))
     afforded g none k k′ alike h = unmoved
     afforded g (some t) k k′ alike h = alike g h
@@ -144,7 +147,8 @@ module _ (W : Watch) where
       h
 
   -- Any depth of at least the steps left is the same depth.
-  pub enter-depth : (depth depth′ : ℕ) (code : Code) (frame f : ℕ) (s : Stacks) (g : Ledger (W .Mark)) → g .tally .stepsLeft ≤ depth → g .tally .stepsLeft ≤ depth′ →
+  pub enter-depth : (depth depth′ : ℕ) (code : Code) (frame f : ℕ) (s : Stacks) (g : Ledger (W .Mark)) → g .tally .stepsLeft ≤ depth →
+      g .tally .stepsLeft ≤ depth′ →
       enter W depth code frame f s g ≡ enter W depth′ code frame f s g
   enter-depth depth depth′ code frame f s g h h′ = alike-enter depth depth′ code frame f s g (deep h h′) .same
 
@@ -153,7 +157,8 @@ module _ (W : Watch) where
       Spent (g .tally) (countedOf (enter W depth code frame f s g) .tally)
   enter-spent depth code frame f s g = alike-enter depth depth code frame f s g (level refl) .spent
 
-  -- An application is its one step over applications at any depth that is great enough: with one depth on both sides, an equation that `enter` solves.
+  -- An application is its one step over applications at any depth that is great enough: with one depth on both sides, an equation that `enter`
+  -- solves.
   pub enter-step : (depth depth′ : ℕ) (code : Code) (frame f : ℕ) (s : Stacks) (g : Ledger (W .Mark)) →
       g .tally .stepsLeft ≤ depth → g .tally .stepsLeft ≤ suc depth′ →
       enter W depth code frame f s g ≡ ranPaid W code (enter W depth′ code) frame f s g (pay f (g .tally))
@@ -171,13 +176,17 @@ module _ (W : Watch) where
 
 -- two ways to call by name, or to apply by number, are alike where the depths come to the same
 abbrev AlikeCalls : {A : Type 0} → ℕ → ℕ → (A → Bytes → Course → Outcome Bytes Course) → (A → Bytes → Course → Outcome Bytes Course) → Type 0
-AlikeCalls {A} depth depth′ call call′ = (n : A) (text : Bytes) (t : Course) → Enough depth depth′ (t .stepsLeft) → Same tallyOf (tallyOf t) (call n text t) (call′ n text t)
+AlikeCalls {A} depth depth′ call call′ = (n : A) (text : Bytes) (t : Course) → Enough depth depth′ (t .stepsLeft) →
+    Same tallyOf (tallyOf t) (call n text t) (call′ n text t)
 
-same-before : (text : Bytes) (t : Course) (o o′ : Outcome Bytes Course) → Same tallyOf (tallyOf t) o o′ → Same tallyOf (tallyOf t) (before text o) (before text o′)
+same-before : (text : Bytes) (t : Course) (o o′ : Outcome Bytes Course) → Same tallyOf (tallyOf t) o o′ →
+    Same tallyOf (tallyOf t) (before text o) (before text o′)
 same-before text t o o′ p = same-then tallyOf (tallyOf t) o o′ _ _ p (λ rest t₁ h. unmoved)
 
-module _ (depth depth′ : ℕ) (call call′ : Name → Bytes → Course → Outcome Bytes Course) (alike : AlikeCalls depth depth′ call call′) (bound : Bindings) where
-  evaluate-alike : (e : Expression) (t : Course) → Enough depth depth′ (t .stepsLeft) → Same tallyOf (tallyOf t) (evaluate call bound e t) (evaluate call′ bound e t)
+module _ (depth depth′ : ℕ) (call call′ : Name → Bytes → Course → Outcome Bytes Course) (alike : AlikeCalls depth depth′ call call′)
+    (bound : Bindings) where
+  evaluate-alike : (e : Expression) (t : Course) → Enough depth depth′ (t .stepsLeft) →
+      Same tallyOf (tallyOf t) (evaluate call bound e t) (evaluate call′ bound e t)
   unfolding evaluate
   evaluate-alike end t h = unmoved
   evaluate-alike (thenCharacter c e) t h = same-before (c ∷ []) t _ _ (evaluate-alike e t h)
@@ -188,40 +197,42 @@ module _ (depth depth′ : ℕ) (call call′ : Name → Bytes → Course → Ou
       (λ text t₁ p₁. same-then tallyOf (tallyOf t₁) _ _ _ _ (alike n text t₁ (enough-fewer p₁ h))
       (λ given t₂ p₂. same-before given t₂ _ _ (evaluate-alike e t₂ (enough-fewer p₂ (enough-fewer p₁ h)))))
 
-module _ (depth depth′ : ℕ) (table : Table) (apply apply′ : ℕ → Bytes → Course → Outcome Bytes Course) (alike : AlikeCalls depth depth′ apply apply′) where
-  as-alike : (c : Calling) (n : Name) (text : Bytes) (t : Course) (o o′ : Outcome Bytes Course) → Same tallyOf (tallyOf t) o o′ →
-      Same tallyOf (tallyOf t) (calledAs c n text t o) (calledAs c n text t o′)
-  as-alike asEmission n text t o o′ p = record { same = refl; spent = omega arith }
-  as-alike (asAngles op) n text t o o′ p = computed-alike (angled op text)
-    where
-      computed-alike : (a : Angled) → Same tallyOf (tallyOf t) (computed a t) (computed a t)
-      computed-alike (sum given) = unmoved
-      computed-alike notAngles = unmoved
-      computed-alike outOfRange = unmoved
-  as-alike asFunction n text t o o′ p = p
+module _ (depth depth′ : ℕ) (table : Table) (apply apply′ : ℕ → Bytes → Course → Outcome Bytes Course) (alike : AlikeCalls depth depth′ apply apply′)
+  where
+    as-alike : (c : Calling) (n : Name) (text : Bytes) (t : Course) (o o′ : Outcome Bytes Course) → Same tallyOf (tallyOf t) o o′ →
+        Same tallyOf (tallyOf t) (calledAs c n text t o) (calledAs c n text t o′)
+    as-alike asEmission n text t o o′ p = record { same = refl; spent = omega arith }
+    as-alike (asAngles op) n text t o o′ p = computed-alike (angled op text)
+      where
+        computed-alike : (a : Angled) → Same tallyOf (tallyOf t) (computed a t) (computed a t)
+        computed-alike (sum given) = unmoved
+        computed-alike notAngles = unmoved
+        computed-alike outOfRange = unmoved
+    as-alike asFunction n text t o o′ p = p
 
-  called-alike : AlikeCalls depth depth′ (callNamed table apply) (callNamed table apply′)
-  called-alike n text t h = as-alike (callingOf n) n text t _ _ (alike (numberOf table n) text t h)
+    called-alike : AlikeCalls depth depth′ (callNamed table apply) (callNamed table apply′)
+    called-alike n text t h = as-alike (callingOf n) n text t _ _ (alike (numberOf table n) text t h)
 
-  unfitted-alike : (r number : ℕ) (text : Bytes) (t : Course) → Enough depth depth′ (t .stepsLeft) →
-      Same tallyOf (tallyOf t) (unfitted apply r number text t) (unfitted apply′ r number text t)
-  unfitted-alike zero number text t h = unmoved
-  unfitted-alike (suc r) number text t h = alike (suc r) text t h
+    unfitted-alike : (r number : ℕ) (text : Bytes) (t : Course) → Enough depth depth′ (t .stepsLeft) →
+        Same tallyOf (tallyOf t) (unfitted apply r number text t) (unfitted apply′ r number text t)
+    unfitted-alike zero number text t h = unmoved
+    unfitted-alike (suc r) number text t h = alike (suc r) text t h
 
-  rewritten-alike : (number : ℕ) (text : Bytes) (fit : Option Fit) (t : Course) → Enough depth depth′ (t .stepsLeft) →
-      Same tallyOf (tallyOf t) (rewritten table apply number text fit t) (rewritten table apply′ number text fit t)
-  rewritten-alike number text none t h = unfitted-alike (recovererAt table number) number text t h
-  rewritten-alike number text (some f) t h =
-      evaluate-alike depth depth′ (callNamed table apply) (callNamed table apply′) called-alike (f .bindings) (f .fitting .expression) t h
+    rewritten-alike : (number : ℕ) (text : Bytes) (fit : Option Fit) (t : Course) → Enough depth depth′ (t .stepsLeft) →
+        Same tallyOf (tallyOf t) (rewritten table apply number text fit t) (rewritten table apply′ number text fit t)
+    rewritten-alike number text none t h = unfitted-alike (recovererAt table number) number text t h
+    rewritten-alike number text (some f) t h =
+        evaluate-alike depth depth′ (callNamed table apply) (callNamed table apply′) called-alike (f .bindings) (f .fitting .expression) t h
 
-  applied-alike : (number : ℕ) (text : Bytes) (left : ℕ) (history : List ℕ) (emissions : Bytes) → Enough (suc depth) (suc depth′) left →
-      let t : Course = record { stepsLeft = left; history = history; emissions = emissions } in
-      Same tallyOf (tallyOf t) (applied table apply number text t (takeStep number t)) (applied table apply′ number text t (takeStep number t))
-  applied-alike number text zero history emissions h = unmoved
-  applied-alike number text (suc n) history emissions h =
-      same-later (omega arith)
-      (rewritten-alike number text (choose (functionAt table number) text) (record { stepsLeft = n; history = number ∷ history; emissions = emissions })
-      (enough-paid h))
+    applied-alike : (number : ℕ) (text : Bytes) (left : ℕ) (history : List ℕ) (emissions : Bytes) → Enough (suc depth) (suc depth′) left →
+        let t : Course = record { stepsLeft = left; history = history; emissions = emissions } in
+        Same tallyOf (tallyOf t) (applied table apply number text t (takeStep number t)) (applied table apply′ number text t (takeStep number t))
+    applied-alike number text zero history emissions h = unmoved
+    applied-alike number text (suc n) history emissions h =
+        same-later (omega arith)
+        (rewritten-alike number text (choose (functionAt table number) text)
+        (record { stepsLeft = n; history = number ∷ history; emissions = emissions })
+        (enough-paid h))
 
 step-none : (number : ℕ) (t : Course) → t .stepsLeft ≤ 0 → takeStep number t ≡ none
 step-none number t h = let e : t .stepsLeft ≡ 0 = omega arith in rw e
@@ -241,7 +252,8 @@ pub apply-depth : (depth depth′ : ℕ) (table : Table) (number : ℕ) (text : 
 apply-depth depth depth′ table number text t h h′ = apply-alike depth depth′ table number text t (deep h h′) .same
 
 -- At any depth an application never wins steps back, and steps and steps left keep their sum.
-pub apply-spent : (depth : ℕ) (table : Table) (number : ℕ) (text : Bytes) (t : Course) → Spent (tallyOf t) (tallyOf (countedOf (apply depth table number text t)))
+pub apply-spent : (depth : ℕ) (table : Table) (number : ℕ) (text : Bytes) (t : Course) →
+    Spent (tallyOf t) (tallyOf (countedOf (apply depth table number text t)))
 apply-spent depth table number text t = apply-alike depth depth table number text t (level refl) .spent
 
 pub rewriting-spent : (table : Table) (start : ℕ) (text : Bytes) (allowance : ℕ) →

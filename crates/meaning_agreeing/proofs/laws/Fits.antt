@@ -1,4 +1,5 @@
--- The matcher against what fitting means: what it finds fits; where it finds nothing, nothing fits; and of all that fit, what it finds has the shortest first part.
+-- The matcher against what fitting means: what it finds fits; where it finds nothing, nothing fits; and of all that fit, what it finds has the
+-- shortest first part.
 use Prim.Native.Nat.{ℕ, suc, _≤_}
 use native.Mathlib.Omega.{arith}
 use mathlib.Core.Path.{_≡_, refl, ap, _∙_}
@@ -11,10 +12,13 @@ use lib.ListN.{length}
 use Rattle.meaning.specs.Choice.{Bytes, Name, pick, orElse, isSome, every, Named, sameBytes, lookup}
 use Rattle.meaning.specs.Classes.{Class, inClass}
 use Rattle.meaning.specs.Tree.{Letter, character, symbol, Element, letter, part, Subject, ofSymbol, ofPart, Condition}
-use Rattle.meaning.specs.Rewriting.{Bindings, unbound, agreed, takeSymbol, askedOf, holdsFor, hold, shortest, withSymbols, withPart, matchRest, match, partBytes}
+use Rattle.meaning.specs.Rewriting.{Bindings, unbound, agreed, takeSymbol, askedOf, holdsFor, hold, shortest, withSymbols, withPart, matchRest, match}
+use Rattle.meaning.specs.Rewriting.{partBytes}
 use Rattle.meaning.specs.Fits.{oneByte, standsFor, joined, filled, Fits}
-use Rattle.meaning.specs.Allowed.{member, added, symbolsFrom, symbolsOf, partsOf, parted, distinct, spelledElement, allowedPattern, ofPattern, allOfPattern, allowedConditions}
-use Rattle.meaning.proofs.laws.Choosing.{Given, no-cons, not-both, is-false, either-second, some-none, both-parts, guard-some, same-itself, same-bytes, lookup-append, lookup-one, namesIn, names-append, member-bound, distinct-second}
+use Rattle.meaning.specs.Allowed.{member, added, symbolsFrom, symbolsOf, partsOf, parted, distinct, spelledElement, allowedPattern, ofPattern}
+use Rattle.meaning.specs.Allowed.{allOfPattern, allowedConditions}
+use Rattle.meaning.proofs.laws.Choosing.{Given, no-cons, not-both, is-false, either-second, some-none, both-parts, guard-some, same-itself}
+use Rattle.meaning.proofs.laws.Choosing.{same-bytes, lookup-append, lookup-one, namesIn, names-append, member-bound, distinct-second}
 use Rattle.meaning_agreeing.proofs.laws.Cuts.{Cut, shortest-cut, shortest-given}
 
 pub tail-equal : {A : Type 0} {x y : A} {xs ys : List A} → _≡_ {A = List A} (x ∷ xs) (y ∷ ys) → xs ≡ ys
@@ -131,7 +135,8 @@ part-fits x p cs text bound later f =
       parts = λ y v g. f .found .parts y v (extends-append (bound .parts) _ y v g);
     })
 
-sound : (p : List Element) (cs : List Condition) (text : Bytes) (bound later : Bindings) → distinct (partsOf p) ≡ true → Fresh (partsOf p) (bound .parts) →
+sound : (p : List Element) (cs : List Condition) (text : Bytes) (bound later : Bindings) → distinct (partsOf p) ≡ true →
+    Fresh (partsOf p) (bound .parts) →
     match p cs text bound ≡ some later → Found p cs text bound later
 unfolding match partsOf distinct filled member
 sound [] cs [] bound later d fresh h =
@@ -236,7 +241,8 @@ hold-kept (c ∷ cs) bound fit m k h =
 record Best (p : List Element) (cs : List Condition) (text : Bytes) (bound fit : Bindings) : Type 0 where
   value : Bindings
   is : match p cs text bound ≡ some value
-  least : (x : Name) (more : List Name) → partsOf p ≡ x ∷ more → length (partBytes (lookup x (value .parts))) ≤ length (partBytes (lookup x (fit .parts)))
+  least : (x : Name) (more : List Name) → partsOf p ≡ x ∷ more →
+      length (partBytes (lookup x (value .parts))) ≤ length (partBytes (lookup x (fit .parts)))
 
 -- conditions on what is bound so far or comes in the pattern
 abbrev OnPattern : Bindings → List Element → List Condition → Type 0
@@ -290,7 +296,8 @@ best-nothing cs text bound fit on k f =
       least = λ x more h. no-cons h;
     })
 
-best-character : (c : ℕ) (p : List Element) (cs : List Condition) (text : Bytes) (bound fit : Bindings) → Fits (letter (character c) ∷ p) cs text fit →
+best-character : (c : ℕ) (p : List Element) (cs : List Condition) (text : Bytes) (bound fit : Bindings) →
+    Fits (letter (character c) ∷ p) cs text fit →
     ((rest : Bytes) → Fits p cs rest fit → Best p cs rest bound fit) → Best (letter (character c) ∷ p) cs text bound fit
 unfolding match filled
 best-character c p cs text bound fit f after =
@@ -336,7 +343,8 @@ best-piece x p cs text bound fit d fresh on k f after =
     (record { symbols = k .symbols; parts = takes-new x (s .piece) (bound .parts) (fit .parts) (s .isFirst) (k .parts) })
     (record { fills = s .isLater; holds = f .holds })))
 
-best : (p : List Element) (cs : List Condition) (text : Bytes) (bound fit : Bindings) → distinct (partsOf p) ≡ true → Fresh (partsOf p) (bound .parts) →
+best : (p : List Element) (cs : List Condition) (text : Bytes) (bound fit : Bindings) → distinct (partsOf p) ≡ true →
+    Fresh (partsOf p) (bound .parts) →
     OnPattern bound p cs → Kept bound fit → Fits p cs text fit → Best p cs text bound fit
 unfolding partsOf symbolsFrom
 best [] cs text bound fit d fresh on k f = best-nothing cs text bound fit on k f
@@ -360,9 +368,10 @@ pub match-none : (p : List Element) (cs : List Condition) (text : Bytes) (fit : 
     allOfPattern (symbolsOf p) (partsOf p) cs ≡ true → match p cs text unbound ≡ none → Fits p cs text fit → ⊥
 match-none p cs text fit d on h f = some-none (from-nothing p cs text fit d on f .is) h
 
--- Of all that fits, what is found has the shortest first part: "With two e-variables the middle template takes the leftmost place at which all characters,
--- equalities and conditions hold".
-pub match-shortest : (p : List Element) (cs : List Condition) (text : Bytes) (later fit : Bindings) (x : Name) (more : List Name) → distinct (partsOf p) ≡ true →
+-- Of all that fits, what is found has the shortest first part: "With two e-variables the middle template takes the leftmost place at which all
+-- characters, equalities and conditions hold".
+pub match-shortest : (p : List Element) (cs : List Condition) (text : Bytes) (later fit : Bindings) (x : Name) (more : List Name) →
+    distinct (partsOf p) ≡ true →
     allOfPattern (symbolsOf p) (partsOf p) cs ≡ true → partsOf p ≡ x ∷ more → match p cs text unbound ≡ some later → Fits p cs text fit →
     length (partBytes (lookup x (later .parts))) ≤ length (partBytes (lookup x (fit .parts)))
 match-shortest p cs text later fit x more d on e h f =

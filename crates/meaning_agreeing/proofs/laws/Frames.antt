@@ -10,11 +10,13 @@ use Rattle.meaning.specs.Choice.{Bytes, pick}
 use Rattle.meaning.specs.Answers.{framesFull}
 use Rattle.meaning.specs.Outcome.{Tally, fresh, pay, emitted, Outcome, done, stop, andThen, resultOf}
 use Rattle.meaning.specs.Instructions.{Code}
-use Rattle.meaning.specs.Machine.{Need, inCells, outCells, recordBytes, frames, onward, halt, Ledger, Stacks, Ran, withTally, afterNote, wherePayable, ranChoice, ranPaid}
+use Rattle.meaning.specs.Machine.{Need, inCells, outCells, recordBytes, frames, onward, halt, Ledger, Stacks, Ran, withTally, afterNote, wherePayable}
+use Rattle.meaning.specs.Machine.{ranChoice, ranPaid}
 use Rattle.meaning.specs.Runs.{Room, passes, answerTo, lent, loaded, runUnder, textOf, runLent}
 use Rattle.meaning_agreeing.proofs.laws.Answers.{StopsSo, then-stops}
 use Rattle.meaning_agreeing.proofs.laws.Framing.{isFrames, codeCalls, choice-calls}
-use Rattle.meaning_agreeing.proofs.laws.Related.{Own, unfitting, spent, unreadable, Computation, Closed, Enters, choiceFor, Nested, applies, misformed, past}
+use Rattle.meaning_agreeing.proofs.laws.Related.{Own, unfitting, spent, unreadable, Computation, Closed, Enters, choiceFor, Nested, applies}
+use Rattle.meaning_agreeing.proofs.laws.Related.{misformed, past}
 
 -- the same room with so many frames
 abbrev pub withFrames : ℕ → Room → Room

@@ -4,7 +4,8 @@ use mathlib.Core.Bool.{Bool, true, false}
 use mathlib.Core.List.{List, [], _∷_}
 use lib.Dec.{T}
 use Rattle.meaning.specs.Choice.{Bytes, either, nth}
-use Rattle.meaning.specs.Instructions.{Action, go, select, out, outC, outV, beginSeq, useSeq, call, tailCall, emission, unknownAction, Sentences, noMore, sentence, unknownSentence, Code, compute}
+use Rattle.meaning.specs.Instructions.{Action, go, select, out, outC, outV, beginSeq, useSeq, call, tailCall, emission, unknownAction, Sentences}
+use Rattle.meaning.specs.Instructions.{noMore, sentence, unknownSentence, Code, compute}
 use Rattle.meaning.specs.Matching.{Found, foundAt, foundNone, foundWrong, Choice, chosen, chosenNone, chosenWrong, choiceOf, findPlace, chooseFrom}
 use Rattle.meaning.specs.Machine.{Need, inCells, outCells, recordBytes, frames, functionOf, codeAt}
 

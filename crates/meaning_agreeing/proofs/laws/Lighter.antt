@@ -18,11 +18,18 @@ use Rattle.meaning.specs.Names.{numberOf, recovererOf}
 use Rattle.meaning.specs.Allowed.{allowed}
 use Rattle.meaning.specs.Answers.{noInstruction}
 use Rattle.meaning.specs.Outcome.{Tally, fresh, pay, emitted, emittedLine, done, stop, andThen, Result, resultOf, computed}
-use Rattle.meaning.specs.Instructions.{Site, Span, Action, go, select, out, outC, outV, beginSeq, useSeq, call, tailCall, emission, unknownAction, Metric, Test, Store, Sentences, noMore, sentence, Code, compute}
-use Rattle.meaning.specs.Matching.{Found, foundAt, foundNone, foundWrong, findPlace, choiceOf, Choice, chosen, chosenNone, chosenWrong, chooseFrom, storedValues}
-use Rattle.meaning.specs.Machine.{Need, inCells, outCells, recordBytes, frames, onward, Watch, Ledger, Stacks, Local, Ran, Next, withTally, noting, whereThere, whereStored, whereOpened, wherePayable, maxOpened, spanOf, isDeclared, movedOn, withSelected, withOutput, withOpened, sequenceMoved, afterField, returned, writing, perform, process, started, ranChoice, ranPaid, enter, functionOf, codeAt}
+use Rattle.meaning.specs.Instructions.{Site, Span, Action, go, select, out, outC, outV, beginSeq, useSeq, call, tailCall, emission, unknownAction}
+use Rattle.meaning.specs.Instructions.{Metric, Test, Store, Sentences, noMore, sentence, Code, compute}
+use Rattle.meaning.specs.Matching.{Found, foundAt, foundNone, foundWrong, findPlace, choiceOf, Choice, chosen, chosenNone, chosenWrong, chooseFrom}
+use Rattle.meaning.specs.Matching.{storedValues}
+use Rattle.meaning.specs.Machine.{Need, inCells, outCells, recordBytes, frames, onward, Watch, Ledger, Stacks, Local, Ran, Next, withTally, noting}
+use Rattle.meaning.specs.Machine.{whereThere, whereStored, whereOpened, wherePayable, maxOpened, spanOf, isDeclared, movedOn, withSelected}
+use Rattle.meaning.specs.Machine.{withOutput, withOpened, sequenceMoved, afterField, returned, writing, perform, process, started, ranChoice, ranPaid}
+use Rattle.meaning.specs.Machine.{enter, functionOf, codeAt}
 use Rattle.meaning.specs.Runs.{Room, passes, Passed, firstPassed, endless, watching, loaded, runUnder, textOf, markOf, passedFirst}
-use Rattle.meaning.specs.Translation.{Shape, shapeOf, testedShape, Stand, atStart, passage, restOf, nowhere, Manner, emits, replaces, nests, Level, outermost, inArgument, inTail, isEnd, mannerOf, levelIn, endsPattern, leftFor, whereLeft, argumentReady, calling, itemActions, translatedSentences, translatedFunction, translate, computes}
+use Rattle.meaning.specs.Translation.{Shape, shapeOf, testedShape, Stand, atStart, passage, restOf, nowhere, Manner, emits, replaces, nests, Level}
+use Rattle.meaning.specs.Translation.{outermost, inArgument, inTail, isEnd, mannerOf, levelIn, endsPattern, leftFor, whereLeft, argumentReady}
+use Rattle.meaning.specs.Translation.{calling, itemActions, translatedSentences, translatedFunction, translate, computes}
 use Rattle.meaning.specs.Earlier.{earlierItems, earlierSentences, earlierFunction, earlierTranslation}
 use Rattle.meaning_agreeing.proofs.laws.Known.{rewrite-known}
 use Rattle.meaning_agreeing.proofs.laws.Room.{readFor, seenEndless, watched-endless}
@@ -362,7 +369,8 @@ module _ (table : Table) (shape : Shape) (sites : List (Named Site)) where
   alike-part within x w e a = same _ (same _ (same out a))
   alike-part {k} (tail f follows) x w e {ys} a = by (endsPattern shape x) e refl a
     where
-      by : (q : Bool) (e : Expression) → endsPattern shape x ≡ q → Alike (earlierItems table shape sites inArgument e (passage shape x w .after) k) ys →
+      by : (q : Bool) (e : Expression) → endsPattern shape x ≡ q →
+          Alike (earlierItems table shape sites inArgument e (passage shape x w .after) k) ys →
           Alike (go (passage shape x w .gap) ∷ select (passage shape x w .piece) ∷ out ∷
           earlierItems table shape sites inArgument e (passage shape x w .after) k)
           (whereLeft (guard (both (isEnd e) q) (some f)) (passage shape x w)
@@ -456,7 +464,8 @@ module _ (room : Room) where
     unmarked bothWrong k h = absurd (k refl)
 
     -- what a run of the earlier code keeps within, a run of the new code keeps within
-    pub no-more-cells : passedFirst room (earlierTranslation table) start text allowance ≡ none → passedFirst room (translate table) start text allowance ≡ none
+    pub no-more-cells : passedFirst room (earlierTranslation table) start text allowance ≡ none →
+        passedFirst room (translate table) start text allowance ≡ none
     no-more-cells =
         unmarked
         (applies (Option Passed) notes Unpassed (λ need t m₀ m. first-alike (passes room need) need t m₀ m)

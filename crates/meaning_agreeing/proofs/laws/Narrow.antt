@@ -7,12 +7,16 @@ use lib.ListN.{length, length-append}
 use Rattle.meaning.specs.Choice.{Name, every}
 use Rattle.meaning.specs.Tree.{Table}
 use Rattle.meaning.specs.Allowed.{isByte, allowed}
-use Rattle.meaning.specs.Instructions.{Test, look, compare, predicate, predicatePart, unknownTest, Store, store, unknownStore, Span, Action, go, select, out, outC, outV, beginSeq, useSeq, call, tailCall, emission, compute, unknownAction, Metric, exactly, ends, middle, Sentences, Code}
+use Rattle.meaning.specs.Instructions.{Test, look, compare, predicate, predicatePart, unknownTest, Store, store, unknownStore, Span, Action, go}
+use Rattle.meaning.specs.Instructions.{select, out, outC, outV, beginSeq, useSeq, call, tailCall, emission, compute, unknownAction, Metric, exactly}
+use Rattle.meaning.specs.Instructions.{ends, middle, Sentences, Code}
 use Rattle.meaning.specs.Translation.{translate}
-use Rattle.meaning.specs.Packing.{codeWord, operationNumber, testWord, storeWord, spanWord, actionWords, packActions, maxStored, metricWord, countsWord, packSentences, packFunctions, placesFrom, pack}
+use Rattle.meaning.specs.Packing.{codeWord, operationNumber, testWord, storeWord, spanWord, actionWords, packActions, maxStored, metricWord}
+use Rattle.meaning.specs.Packing.{countsWord, packSentences, packFunctions, placesFrom, pack}
 use Rattle.meaning.proofs.laws.Passing.{every-head, every-tail}
 use Rattle.meaning.proofs.laws.Words.{register-below, class-below, truth-below, operation-below, length-below}
-use Rattle.meaning.proofs.laws.Packable.{All, nil, cons, FitsTest, FitsStore, FitsSpan, FitsAction, FitsMetric, FitsSentences, eachNone, eachMore, Packable, all-append, all-map}
+use Rattle.meaning.proofs.laws.Packable.{All, nil, cons, FitsTest, FitsStore, FitsSpan, FitsAction, FitsMetric, FitsSentences, eachNone, eachMore}
+use Rattle.meaning.proofs.laws.Packable.{Packable, all-append, all-map}
 use Rattle.meaning_agreeing.proofs.laws.Bounds.{functions-length, pack-length}
 use Rattle.meaning_agreeing.proofs.laws.Translated.{numberLimit, translated-packable, translated-short}
 
@@ -89,7 +93,8 @@ module _ (limit : ℕ) (low : limit ≤ 2 ^ 24) where
       cons (metric-narrow metric (f .lengths))
       (cons (counts-narrow _ _ _ (f .fewTests) (f .fewStores) (f .fewWords))
       (all-append
-      (all-append (all-map testWord test-narrow (f .eachTest)) (all-append (all-map storeWord store-narrow (f .eachStore)) (actions-narrow (f .eachAction))))
+      (all-append (all-map testWord test-narrow (f .eachTest))
+      (all-append (all-map storeWord store-narrow (f .eachStore)) (actions-narrow (f .eachAction))))
       (sentences-narrow fs)))
 
   functions-narrow : {code : Code} → Packable limit code → All Narrow (packFunctions code)

@@ -45,7 +45,8 @@ letter-length : (l : Letter) (a : Bindings) (piece : Bytes) → standsFor a (let
 letter-length (character c) a piece h = let e : c ∷ [] ≡ piece = cc in rw (← e)
 letter-length (symbol x) a piece h = rw (one-byte (lookup x (a .symbols)) piece h .alone)
 
-letter-alike : (l : Letter) (p : List Element) (a b : Bindings) (text : Bytes) → filled a (letter l ∷ p) ≡ some text → filled b (letter l ∷ p) ≡ some text →
+letter-alike : (l : Letter) (p : List Element) (a b : Bindings) (text : Bytes) → filled a (letter l ∷ p) ≡ some text → filled b (letter l ∷ p) ≡
+    some text →
     ((rest : Bytes) → filled a p ≡ some rest → filled b p ≡ some rest → Alike a b p) → Alike a b (letter l ∷ p)
 letter-alike l p a b text f g later =
     alike-step (letter l) p a b text f g
@@ -74,7 +75,8 @@ last-length p a b text first second few s u =
     )
 
 -- with one e-variable at most, its length is what the others leave
-alike-last : (p : List Element) (a b : Bindings) (text : Bytes) → length (partsOf p) ≤ 1 → filled a p ≡ some text → filled b p ≡ some text → Alike a b p
+alike-last : (p : List Element) (a b : Bindings) (text : Bytes) → length (partsOf p) ≤ 1 → filled a p ≡ some text → filled b p ≡ some text →
+    Alike a b p
 unfolding partsOf
 alike-last [] a b text few f g = refl
 alike-last (letter l ∷ p) a b text few f g = letter-alike l p a b text f g (λ rest. alike-last p a b rest few)
@@ -85,7 +87,8 @@ alike-last (part x ∷ p) a b text few f g =
 
 -- with a second one, where the first parts are of one length
 alike-first : (p : List Element) (a b : Bindings) (text : Bytes) (x : Name) (more : List Name) → partsOf p ≡ x ∷ more → length more ≤ 1 →
-    length (partBytes (lookup x (a .parts))) ≡ length (partBytes (lookup x (b .parts))) → filled a p ≡ some text → filled b p ≡ some text → Alike a b p
+    length (partBytes (lookup x (a .parts))) ≡ length (partBytes (lookup x (b .parts))) → filled a p ≡ some text → filled b p ≡ some text →
+    Alike a b p
 unfolding partsOf
 alike-first [] a b text x more e few same f g = refl
 alike-first (letter l ∷ p) a b text x more e few same f g =
@@ -98,7 +101,8 @@ alike-first (part y ∷ p) a b text x more e few same f g =
     (λ rest. alike-last p a b rest rest-few)
 
 -- What is found is the only fit with its first part's length; with one e-variable or none, the only fit.
-pub match-only : (p : List Element) (cs : List Condition) (text : Bytes) (later fit : Bindings) → distinct (partsOf p) ≡ true → length (partsOf p) ≤ 2 →
+pub match-only : (p : List Element) (cs : List Condition) (text : Bytes) (later fit : Bindings) → distinct (partsOf p) ≡ true →
+    length (partsOf p) ≤ 2 →
     match p cs text unbound ≡ some later → Fits p cs text fit →
     ((x y : Name) → partsOf p ≡ x ∷ y ∷ [] → length (partBytes (lookup x (fit .parts))) ≡ length (partBytes (lookup x (later .parts)))) →
     map (standsFor fit) p ≡ map (standsFor later) p

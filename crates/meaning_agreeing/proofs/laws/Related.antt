@@ -14,7 +14,10 @@ use Rattle.meaning.specs.Answers.{noSentenceFits, allowanceSpent, noInstruction
 use Rattle.meaning.specs.Outcome.{Tally, pay, emitted, emittedLine, done, stop, andThen, computed}
 use Rattle.meaning.specs.Instructions.{Action, go, select, out, outC, outV, beginSeq, useSeq, call, tailCall, emission, compute, unknownAction, Code}
 use Rattle.meaning.specs.Matching.{Choice, chosen, chosenNone, chosenWrong, chooseFrom, storedValues}
-use Rattle.meaning.specs.Machine.{Need, inCells, outCells, recordBytes, frames, Watch, Ledger, Stacks, Local, Ran, Next, withTally, noting, whereThere, whereStored, whereOpened, wherePayable, maxOpened, spanOf, isDeclared, movedOn, withSelected, withOutput, withOpened, sequenceMoved, afterField, returned, writing, perform, process, started, ranChoice, ranPaid, enter, codeAt}
+use Rattle.meaning.specs.Machine.{Need, inCells, outCells, recordBytes, frames, Watch, Ledger, Stacks, Local, Ran, Next, withTally, noting}
+use Rattle.meaning.specs.Machine.{whereThere, whereStored, whereOpened, wherePayable, maxOpened, spanOf, isDeclared, movedOn, withSelected}
+use Rattle.meaning.specs.Machine.{withOutput, withOpened, sequenceMoved, afterField, returned, writing, perform, process, started, ranChoice, ranPaid}
+use Rattle.meaning.specs.Machine.{enter, codeAt}
 use Rattle.meaning_agreeing.proofs.laws.Framing.{isFrames, isCall, anyCall, choiceCalls, either-left, either-right}
 
 -- the answers that a run gives whatever is lent: 11, 12, 18, 20 and 21
@@ -112,12 +115,14 @@ module _ (W U : Watch) (Nesting : Type 0) (R : Relation W U) (closed : Closed W 
         (λ r rs g. noting W (inCells (length (drop r (s .output)) + length (s .input))) g (next (withOpened rs l) (sequenceMoved r s)))
         (λ r rs g. noting U (inCells (length (drop r (s .output)) + length (s .input))) g (next′ (withOpened rs l) (sequenceMoved r s)))
         (λ at rs.
-        closed .notes (λ t. inCells (length (drop at (s .output)) + length (s .input))) (λ t h. absurd h) _ _ (r (withOpened rs l) (sequenceMoved at s)))
+        closed .notes (λ t. inCells (length (drop at (s .output)) + length (s .input))) (λ t h. absurd h) _ _
+        (r (withOpened rs l) (sequenceMoved at s)))
     performs next next′ frame r (call f) calls l s =
         there (isDeclared code f) _ _
         (closed .affords f _ _
         (closed .notes (λ t. frames (suc frame)) (λ t h. calls tt) _ _
-        (closed .chains (e (suc frame) f s) (e′ (suc frame) f s) (λ s₁ g. next l (returned (afterField s) s₁) g) (λ s₁ g. next′ l (returned (afterField s) s₁) g)
+        (closed .chains (e (suc frame) f s) (e′ (suc frame) f s) (λ s₁ g. next l (returned (afterField s) s₁) g)
+        (λ s₁ g. next′ l (returned (afterField s) s₁) g)
         (entering (suc frame) f s)
         (λ s₁. r l (returned (afterField s) s₁)))))
     performs next next′ frame r (tailCall f) calls l s = there (isDeclared code f) _ _ (entering frame f s)

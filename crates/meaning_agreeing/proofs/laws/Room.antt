@@ -1,5 +1,5 @@
--- The run on lent cells beside the run without end, for any code: they come to the same exactly when the run without end passes nothing that is lent, and
--- otherwise the run on lent cells stops at what is passed first. One induction over how a mark is read gives both halves.
+-- The run on lent cells beside the run without end, for any code: they come to the same exactly when the run without end passes nothing that is lent,
+-- and otherwise the run on lent cells stops at what is passed first. One induction over how a mark is read gives both halves.
 use Prim.Native.Nat.{ℕ, _≤_}
 use native.Mathlib.Omega.{arith}
 use mathlib.Core.Path.{_≡_, refl, sym, ap, _∙_}
@@ -10,10 +10,13 @@ use Rattle.meaning.specs.Choice.{Bytes, pick}
 use Rattle.meaning.specs.Answers.{inFull, recordFull}
 use Rattle.meaning.specs.Outcome.{Tally, fresh, pay, emitted, Outcome, done, stop, andThen, told, resultOf}
 use Rattle.meaning.specs.Instructions.{Code}
-use Rattle.meaning.specs.Machine.{Need, inCells, outCells, recordBytes, frames, onward, halt, Watch, Ledger, Stacks, Ran, withTally, afterNote, noting, wherePayable, ranChoice, ranPaid, enter}
-use Rattle.meaning.specs.Runs.{Room, passes, answerTo, endless, lent, Passed, firstPassed, watching, loaded, runUnder, textOf, markOf, runEndless, runLent, passedFirst}
+use Rattle.meaning.specs.Machine.{Need, inCells, outCells, recordBytes, frames, onward, halt, Watch, Ledger, Stacks, Ran, withTally, afterNote}
+use Rattle.meaning.specs.Machine.{noting, wherePayable, ranChoice, ranPaid, enter}
+use Rattle.meaning.specs.Runs.{Room, passes, answerTo, endless, lent, Passed, firstPassed, watching, loaded, runUnder, textOf, markOf, runEndless}
+use Rattle.meaning.specs.Runs.{runLent, passedFirst}
 use Rattle.meaning_agreeing.proofs.laws.Answers.{StopsSo, then-stops}
-use Rattle.meaning_agreeing.proofs.laws.Related.{Own, unfitting, spent, unreadable, misformed, past, Computation, Closed, Enters, choiceFor, Paying, applies}
+use Rattle.meaning_agreeing.proofs.laws.Related.{Own, unfitting, spent, unreadable, misformed, past, Computation, Closed, Enters, choiceFor}
+use Rattle.meaning_agreeing.proofs.laws.Related.{Paying, applies}
 
 -- a watch that lets every need pass
 abbrev pub passing : (A : Type 0) → (Need → Tally → A → A) → Watch
@@ -51,7 +54,8 @@ module _ (U : Watch) where
   resumed-then (ended answer g) t first k = refl
 
 module _ (A : Type 0) (step : Need → Tally → A → A) (U : Watch) (sees : A → Seen (U .Mark))
-    (law : (need : Need) (t : Tally) (m : A) (k : Computation U) → resumed U (sees (step need t m)) t k ≡ resumed U (sees m) t (λ g. noting U need g k)) where
+    (law : (need : Need) (t : Tally) (m : A) (k : Computation U) → resumed U (sees (step need t m)) t k ≡
+    resumed U (sees m) t (λ g. noting U need g k)) where
   abbrev W : Watch
   W = passing A step
 
@@ -242,7 +246,8 @@ module _ (room : Room) where
         let answer : answerTo (p .need) ≡ runEndless code start text allowance .answer = ap (λ r. r .answer) (sym (lent-passed p h) ∙ same) in
         endless-never code start text allowance (rw answer at (answer-for-room (p .need)))
 
-    pub lent-exactly : runLent room code start text allowance ≡ runEndless code start text allowance → passedFirst room code start text allowance ≡ none
+    pub lent-exactly : runLent room code start text allowance ≡ runEndless code start text allowance → passedFirst room code start text allowance ≡
+        none
     lent-exactly same = go (passedFirst room code start text allowance) refl
       where
         go : (o : Option Passed) → passedFirst room code start text allowance ≡ o → o ≡ none

@@ -11,7 +11,8 @@ use Rattle.meaning.specs.Choice.{Name, Named, pick, lookup, sameBytes, every, i
 use Rattle.meaning.specs.Tree.{Letter, character, symbol, Element, letter, part}
 use Rattle.meaning.specs.Allowed.{member, added, symbolsFrom, symbolsOf, lettersIn, spelledElement, maxLetters}
 use Rattle.meaning.specs.Instructions.{Site, fromStart, fromPlace, look, compare}
-use Rattle.meaning.specs.Translation.{Shape, fixed, open₁, open₂, withLetter, cutAt, shapeOf, Tested, testedSymbol, testedLetter, testedTemplate, beforeEnd, untested, testedShape}
+use Rattle.meaning.specs.Translation.{Shape, fixed, open₁, open₂, withLetter, cutAt, shapeOf, Tested, testedSymbol, testedLetter, testedTemplate}
+use Rattle.meaning.specs.Translation.{beforeEnd, untested, testedShape}
 use Rattle.meaning.proofs.laws.Choosing.{namesIn, member-bound}
 use Rattle.meaning.proofs.laws.Passing.{every-head, every-tail}
 use Rattle.meaning.proofs.laws.Packable.{All, nil, cons, FitsSite, FitsTest, all-append}
@@ -62,7 +63,8 @@ fits-letter (symbol x) t = tt
 pub letters-fit : (es : List Element) → T (every spelledElement es) → All FitsLetter (lettersOf es)
 unfolding lettersOf
 letters-fit [] t = nil
-letters-fit (letter l ∷ es) t = cons (fits-letter l (every-head spelledElement (letter l) es t)) (letters-fit es (every-tail spelledElement (letter l) es t))
+letters-fit (letter l ∷ es) t = cons (fits-letter l (every-head spelledElement (letter l) es t))
+    (letters-fit es (every-tail spelledElement (letter l) es t))
 letters-fit (part x ∷ es) t = letters-fit es (every-tail spelledElement (part x) es t)
 
 -- THE SYMBOLS
@@ -92,7 +94,8 @@ named-by : (o : Option Site) (known : Bool) (x : Name) (s : Site) (d : Tested) �
 named-by none known x s d h = rw (← h) (map-append (λ (y : Named Site). y .name) (d .sites) (record { name = x; value = s } ∷ []))
 named-by (some first) known x s d h = rw (← h)
 
-template-names : (at : ℕ → Site) (from : ℕ) (ls : List Letter) (d : Tested) → namesIn (testedTemplate at from ls d .sites) ≡ symbolsIn (namesIn (d .sites)) ls
+template-names : (at : ℕ → Site) (from : ℕ) (ls : List Letter) (d : Tested) → namesIn (testedTemplate at from ls d .sites) ≡
+    symbolsIn (namesIn (d .sites)) ls
 unfolding testedTemplate symbolsIn
 template-names at from [] d = refl
 template-names at from (character c ∷ ls) d = template-names at (suc from) ls (testedLetter (character c) (at from) d)

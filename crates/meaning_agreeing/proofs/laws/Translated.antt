@@ -9,20 +9,30 @@ use lib.Dec.{T, leb→le, ltb→lt}
 use lib.ListN.{length, length-append, length-map}
 use Rattle.meaning.specs.Choice.{Name, Named, guard, both, every, sameBytes, lookup}
 use Rattle.meaning.specs.Angles.{Operation}
-use Rattle.meaning.specs.Tree.{Letter, Subject, ofSymbol, ofPart, Condition, Expression, end, thenCharacter, thenSymbol, thenPart, thenCall, Sentence, Function, Table}
+use Rattle.meaning.specs.Tree.{Letter, Subject, ofSymbol, ofPart, Condition, Expression, end, thenCharacter, thenSymbol, thenPart, thenCall, Sentence}
+use Rattle.meaning.specs.Tree.{Function, Table}
 use Rattle.meaning.specs.Classes.{Class}
 use Rattle.meaning.specs.Names.{numberFrom, numberOf, recoverPrefix, isRecovering, recovererOf}
-use Rattle.meaning.specs.Allowed.{isByte, member, spelledName, spelledElement, lettersIn, symbolsOf, maxLetters, maxSymbols, maxConditions, maxItems, maxName, itemsIn, spelledItems, allowedSentence, allowedFunction, allowed, sentencesIn, maxFunctions, maxSentences}
-use Rattle.meaning.specs.Instructions.{Site, Test, Store, store, Span, Action, go, select, out, outC, outV, beginSeq, useSeq, call, tailCall, emission, Metric, Code, compute}
-use Rattle.meaning.specs.Translation.{Shape, fixed, open₁, open₂, shapeOf, metricOf, Tested, testedShape, siteOr, Bounds, boundsOf, subjectTest, conditionTest, testsOf, storesOf, valueFrom, valueNumber, Stand, atStart, afterFirst, afterSecond, nowhere, Passage, passageFirst, gapToSecond, passageSecond, passage, restOf, Manner, emits, replaces, nests, Level, outermost, inArgument, inTail, isEnd, mannerOf, levelIn, endsPattern, leftFor, whereLeft, argumentReady, calling, itemActions, passesRest, actionsOf, translatedSentences, translatedFunction, translate, computes}
+use Rattle.meaning.specs.Allowed.{isByte, member, spelledName, spelledElement, lettersIn, symbolsOf, maxLetters, maxSymbols, maxConditions, maxItems}
+use Rattle.meaning.specs.Allowed.{maxName, itemsIn, spelledItems, allowedSentence, allowedFunction, allowed, sentencesIn, maxFunctions, maxSentences}
+use Rattle.meaning.specs.Instructions.{Site, Test, Store, store, Span, Action, go, select, out, outC, outV, beginSeq, useSeq, call, tailCall}
+use Rattle.meaning.specs.Instructions.{emission, Metric, Code, compute}
+use Rattle.meaning.specs.Translation.{Shape, fixed, open₁, open₂, shapeOf, metricOf, Tested, testedShape, siteOr, Bounds, boundsOf, subjectTest}
+use Rattle.meaning.specs.Translation.{conditionTest, testsOf, storesOf, valueFrom, valueNumber, Stand, atStart, afterFirst, afterSecond, nowhere}
+use Rattle.meaning.specs.Translation.{Passage, passageFirst, gapToSecond, passageSecond, passage, restOf, Manner, emits, replaces, nests, Level}
+use Rattle.meaning.specs.Translation.{outermost, inArgument, inTail, isEnd, mannerOf, levelIn, endsPattern, leftFor, whereLeft, argumentReady}
+use Rattle.meaning.specs.Translation.{calling, itemActions, passesRest, actionsOf, translatedSentences, translatedFunction, translate, computes}
 use Rattle.meaning.specs.Packing.{Words, pack, unpack}
 use Rattle.meaning.proofs.laws.Choosing.{of-either}
 use Rattle.meaning.proofs.laws.Passing.{both-left, both-right, every-head, every-tail}
 use Rattle.meaning.proofs.laws.Spelling.{name-bytes, name-short}
-use Rattle.meaning.proofs.laws.Packable.{All, nil, cons, FitsSite, FitsTest, FitsSpan, FitsAction, FitsMetric, FitsSentence, EachSentence, eachNone, eachMore, EachAction, Packable, all-append, all-map}
+use Rattle.meaning.proofs.laws.Packable.{All, nil, cons, FitsSite, FitsTest, FitsSpan, FitsAction, FitsMetric, FitsSentence, EachSentence, eachNone}
+use Rattle.meaning.proofs.laws.Packable.{eachMore, EachAction, Packable, all-append, all-map}
 use Rattle.meaning.proofs.laws.Packing.{unpack-pack}
-use Rattle.meaning_agreeing.proofs.laws.Bounds.{nameOf, actionsLength, sentenceLength, body-length, sentencesLength, end-length, functionsLength, pack-length}
-use Rattle.meaning_agreeing.proofs.laws.Templates.{shapeLetters, shape-letters, letters-length, letters-fit, site-count, FitsTested, FitsFound, lookup-fits, shape-fits, shape-weight}
+use Rattle.meaning_agreeing.proofs.laws.Bounds.{nameOf, actionsLength, sentenceLength, body-length, sentencesLength, end-length}
+use Rattle.meaning_agreeing.proofs.laws.Bounds.{functionsLength, pack-length}
+use Rattle.meaning_agreeing.proofs.laws.Templates.{shapeLetters, shape-letters, letters-length, letters-fit, site-count, FitsTested, FitsFound}
+use Rattle.meaning_agreeing.proofs.laws.Templates.{lookup-fits, shape-fits, shape-weight}
 
 -- what an allowed sentence's translation leans on
 pub record Sized (s : Sentence) : Type 0 where
@@ -92,13 +102,15 @@ metric-fits (open₂ h y m z t) low = omega (arith, length-append h (m ++ t), le
 value-low : (from : ℕ) (x : Name) (sites : List (Named Site)) → valueFrom from x sites ≤ from + length sites
 unfolding valueFrom
 value-low from x [] = omega arith
-value-low from x (s ∷ ss) = of-either (λ n. n ≤ from + length (s ∷ ss)) (sameBytes x (s .name)) from (valueFrom (suc from) x ss) (omega arith) (omega (arith, value-low (suc from) x ss))
+value-low from x (s ∷ ss) = of-either (λ n. n ≤ from + length (s ∷ ss)) (sameBytes x (s .name)) from (valueFrom (suc from) x ss) (omega arith)
+    (omega (arith, value-low (suc from) x ss))
 
 -- a name's number is no greater than the number of functions
 pub number-low : (count : ℕ) (table : Table) (n : Name) → numberFrom count table n ≤ count + length table
 unfolding numberFrom
 number-low count [] n = omega arith
-number-low count (f ∷ fs) n = of-either (λ k. k ≤ count + length (f ∷ fs)) (sameBytes n (f .name)) (suc count) (numberFrom (suc count) fs n) (omega arith) (omega (arith, number-low (suc count) fs n))
+number-low count (f ∷ fs) n = of-either (λ k. k ≤ count + length (f ∷ fs)) (sameBytes n (f .name)) (suc count) (numberFrom (suc count) fs n)
+    (omega arith) (omega (arith, number-low (suc count) fs n))
 
 pub recoverer-low : (table : Table) (n : Name) → recovererOf table n ≤ length table
 recoverer-low table n =
@@ -112,7 +124,8 @@ record SpelledCall (symbols : List Name) (n : Name) (a e : Expression) : Type 0 
   argument : T (spelledItems symbols a)
   after : T (spelledItems symbols e)
 
-spelled-call : (symbols : List Name) (place : ℕ) (n : Name) (a e : Expression) → T (spelledItems symbols (thenCall place n a e)) → SpelledCall symbols n a e
+spelled-call : (symbols : List Name) (place : ℕ) (n : Name) (a e : Expression) → T (spelledItems symbols (thenCall place n a e)) →
+    SpelledCall symbols n a e
 unfolding spelledItems
 spelled-call symbols place n a e t =
     record { name = search (both-left, both-right); argument = search (both-left, both-right); after = search (both-left, both-right) }
@@ -136,7 +149,8 @@ module _ (table : Table) (P : Action → Type 0) (kinds : Kinds table P) (shape 
   ready : {more : List Action} → All P more → All P (argumentReady more)
   ready a = cons (kinds .uses) (cons (kinds .selects nowhere nowhere-fits) a)
 
-  calling-all : (m : Manner) (n : Name) (w : Stand) (more : List Action) → T (spelledName n) → All P more → All P (calling shape m (numberOf table n) n w more)
+  calling-all : (m : Manner) (n : Name) (w : Stand) (more : List Action) → T (spelledName n) → All P more →
+      All P (calling shape m (numberOf table n) n w more)
   calling-all emits n w more t a = ready (cons (kinds .emissions n t) a)
   calling-all (computes op) n w more t a = ready (cons (kinds .computations op) a)
   calling-all replaces n w more t a = cons (kinds .goes (restOf shape w) (rest-fits shape w short)) (ready (cons (kinds .tailCalls n) nil))
@@ -249,12 +263,14 @@ module _ (table : Table) (shape : Shape) (sites : List (Named Site)) where
       omega (
         arith,
         left-length level x e (passage shape x w)
-            (go (passage shape x w .gap) ∷ select (passage shape x w .piece) ∷ out ∷ itemActions table shape sites level e (passage shape x w .after) rest)
+            (go (passage shape x w .gap) ∷ select (passage shape x w .piece) ∷ out ∷ itemActions table shape sites level e (passage shape x w .after)
+            rest)
             (maxItemWords * itemsIn e + bound) (omega (arith, items-length symbols bound level e (passage shape x w .after) rest t h)),
       )
   items-length symbols bound level (thenCall place n a e) w rest t h =
       let spelt = spelled-call symbols place n a e t in
-      let after : Stand → List Action = λ w₁. calling shape (mannerOf level e n) (numberOf table n) n w₁ (itemActions table shape sites level e w₁ rest) in
+      let after : Stand → List Action = λ w₁. calling shape (mannerOf level e n) (numberOf table n) n w₁
+      (itemActions table shape sites level e w₁ rest) in
       omega (
         arith,
         items-length symbols (27 + (maxItemWords * itemsIn e + bound)) (levelIn (mannerOf level e n) (numberOf table n)) a w after (spelt .argument)
@@ -266,7 +282,8 @@ module _ (table : Table) (shape : Shape) (sites : List (Named Site)) where
             )),
       )
 
-  actions-short : (symbols : List Name) (e : Expression) → T (spelledItems symbols e) → actionsLength (actionsOf table shape sites e) ≤ maxItemWords * itemsIn e + 1
+  actions-short : (symbols : List Name) (e : Expression) → T (spelledItems symbols e) →
+      actionsLength (actionsOf table shape sites e) ≤ maxItemWords * itemsIn e + 1
   unfolding actionsLength
   actions-short symbols e t = items-length symbols 1 outermost e atStart (passesRest shape) t (λ w. omega arith)
 
@@ -397,7 +414,8 @@ module _ (table : Table) where
       cons (sentences-each table R P each (recovererOf table (f .name)) (recoverers (f .name)) (f .sentences) (allowed-sentences f fs t))
       (functions-each R P each recoverers fs (every-tail allowedFunction f fs t))
 
-  functions-short : (fs : List Function) → T (every allowedFunction fs) → functionsLength (functions fs) ≤ 2 * length fs + maxSentenceWords * sentencesIn fs
+  functions-short : (fs : List Function) → T (every allowedFunction fs) →
+      functionsLength (functions fs) ≤ 2 * length fs + maxSentenceWords * sentencesIn fs
   unfolding functionsLength sentencesIn
   functions-short [] t = omega arith
   functions-short (f ∷ fs) t =

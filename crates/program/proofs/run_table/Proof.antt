@@ -10,7 +10,8 @@ returns c =
     let at-cell-room = at-translate-and-run .before .before .before .before .before .before in
     let at-code-room = at-cell-room .before in
     let entry = at-code-room .before .before .before .before .before in
-    shows (rw (at-code-room .code-room .ensures, at-cell-room .cell-room .ensures, entry .pre .0, entry .pre .1) at (at-translate-and-run .translate-and-run .ensures))
+    shows (rw (at-code-room .code-room .ensures, at-cell-room .cell-room .ensures, entry .pre .0, entry .pre .1) at
+    (at-translate-and-run .translate-and-run .ensures))
 
 pub run-table-spec : {M : Type 1} → statement M
 run-table-spec =

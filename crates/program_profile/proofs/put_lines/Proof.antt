@@ -25,8 +25,10 @@ put-line-requires : tie.Need-put-line-requires Inv-loop μ-loop
 put-line-requires c κs =
     let at-loop-test = c .before .before .before in
     let at-loop = at-loop-test .before in
-    let entry = at-loop .before .before .before .before .before in
-    (entry .pre .0 _ (omega (arith, at-loop-test .loop-test .taken)), omega (arith, at-loop-test .loop-test .taken, at-loop .loop .inv .near, entry .pre .2))
+    let entry = at-loop .before .before .before .before .before in (
+      entry .pre .0 _ (omega (arith, at-loop-test .loop-test .taken)),
+      omega (arith, at-loop-test .loop-test .taken, at-loop .loop .inv .near, entry .pre .2),
+    )
 
 loop-again : tie.Need-loop-again Inv-loop μ-loop
 loop-again c =

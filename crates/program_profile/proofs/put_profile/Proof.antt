@@ -18,7 +18,8 @@ found c =
     let at-room = c .before .before in
     let at-read = at-room .before .before .before in
     let at-table = at-read .before .before .before .before in
-    heads-read _ (at-table .shared-slice-known .given) (at-read .read .ensures) (c .find-heads .ensures) (c .find-heads .kept .1 .0 ∙ ap length (at-room .room .ensures))
+    heads-read _ (at-table .shared-slice-known .given) (at-read .read .ensures) (c .find-heads .ensures)
+    (c .find-heads .kept .1 .0 ∙ ap length (at-room .room .ensures))
 
 read-requires : tie.Need-read-requires
 read-requires c κs = long-tape (search needs)
@@ -38,12 +39,22 @@ find-heads-requires c κs = ap length (c .before .room .ensures)
 array-share-prefix-heads : tie.Need-array-share-prefix-heads
 array-share-prefix-heads c =
     let at-find-heads = c .before in
-    omega (arith, at-find-heads .find-heads .ensures .few, at-find-heads .find-heads .kept .1 .0, ap length (at-find-heads .before .before .room .ensures))
+    omega (
+      arith,
+      at-find-heads .find-heads .ensures .few,
+      at-find-heads .find-heads .kept .1 .0,
+      ap length (at-find-heads .before .before .room .ensures),
+    )
 
 slice-aggregate-put-lines : tie.Need-slice-aggregate-put-lines
 slice-aggregate-put-lines c =
     let at-find-heads = c .before .before in
-    sym (length-take-le _ _ (omega (arith, at-find-heads .find-heads .ensures .few, at-find-heads .find-heads .kept .1 .0, ap length (at-find-heads .before .before .room .ensures))))
+    sym (length-take-le _ _ (omega (
+      arith,
+      at-find-heads .find-heads .ensures .few,
+      at-find-heads .find-heads .kept .1 .0,
+      ap length (at-find-heads .before .before .room .ensures),
+    )))
 
 put-lines-requires : tie.Need-put-lines-requires
 put-lines-requires c κs =
@@ -57,7 +68,12 @@ put-all-requires : tie.Need-put-all-requires
 put-all-requires c κs =
     let at-put-lines = c .before .before .before .before in
     let at-find-heads = at-put-lines .before .before .before .before .before in
-    omega (arith, at-find-heads .before .before .before .before .before .before .before .before .before .before .pre, at-put-lines .put-lines .ensures .near, found at-find-heads .few)
+    omega (
+      arith,
+      at-find-heads .before .before .before .before .before .before .before .before .before .before .pre,
+      at-put-lines .put-lines .ensures .near,
+      found at-find-heads .few,
+    )
 
 put-number-requires : tie.Need-put-number-requires
 put-number-requires c κs =

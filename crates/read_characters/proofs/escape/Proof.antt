@@ -6,7 +6,8 @@ use mathlib.Core.Path.{_≡_, sym, _∙_}
 use mathlib.Core.Bool.{Bool}
 use native.Mathlib.Omega.{arith}
 use lib.ListN.{getD}
-use Rattle.read_characters.proofs.Strings.{Digit, stands-given, stands-nothing, stands-broken, stands-later, stands-end, escape-same, Unlisted, unlisted-digit, escape-digit, escape-other}
+use Rattle.read_characters.proofs.Strings.{Digit, stands-given, stands-nothing, stands-broken, stands-later, stands-end, escape-same, Unlisted}
+use Rattle.read_characters.proofs.Strings.{unlisted-digit, escape-digit, escape-other}
 
 returns : tie.Need-returns
 returns c = stands-end _ _ _ _ (c .if1 .taken)

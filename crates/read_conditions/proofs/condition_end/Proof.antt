@@ -47,7 +47,8 @@ started c = start (c .before .before .before .before .before .before .before)
 closing : (c : tie.After-truth-in) → let at-at2 = c .before .before .before in
     let at-at = at-at2 .before .before .before .before in
     let a = start at-at .args in
-    ClosingAt (a .text .now) (a .from) (a .words) (a .x) (at-at .at .given .0 .0) (at-at2 .at2 .given .0 .0) (c .before .lex .result) (c .truth-in .result)
+    ClosingAt (a .text .now) (a .from) (a .words) (a .x) (at-at .at .given .0 .0) (at-at2 .at2 .given .0 .0) (c .before .lex .result)
+    (c .truth-in .result)
 closing c =
     let at-at2 = c .before .before .before in
     let at-at = at-at2 .before .before .before .before in

@@ -6,7 +6,8 @@ use mathlib.Core.Path.{sym, _∙_}
 use Rattle.meaning.specs.Tokens.{inside}
 use Rattle.read_tokens.proofs.Stream.{comes}
 use Rattle.answers.specs.Numbers.{numberOf}
-use Rattle.read_conditions.proofs.Conditioned.{OnToken, OnVariable, OnAsked, on-no-variable, on-variable, on-inside, on-wrong, on-before, on-reads}
+use Rattle.read_conditions.proofs.Conditioned.{OnToken, OnVariable, OnAsked, on-no-variable, on-variable, on-inside, on-wrong, on-before}
+use Rattle.read_conditions.proofs.Conditioned.{on-reads}
 
 abbrev start : tie.After-lex → tie.Start
 start c = c .before .before .before .before
@@ -42,7 +43,8 @@ condition-end-requires c κs =
     (b .0, b .1)
 
 returns-3 : tie.Need-returns-3
-returns-3 c = on-reads (asked (c .before .before .before .before .before)) (c .before .before .before .before .if1 .left) _ (c .before .before .condition-end .ensures)
+returns-3 c = on-reads (asked (c .before .before .before .before .before)) (c .before .before .before .before .if1 .left) _
+    (c .before .before .condition-end .ensures)
 
 pub condition-on-spec : {M : Type 1} → statement M
 condition-on-spec =

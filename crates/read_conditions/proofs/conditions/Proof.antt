@@ -12,7 +12,8 @@ use Rattle.read_tokens.proofs.Stream.{comes}
 use Rattle.read_bookkeeping.specs.declared.progress.Parsed.{Parsed}
 use Rattle.read_bookkeeping.specs.Items.{symbolNames, partNames}
 use Rattle.read_bookkeeping.proofs.Going.{went-length}
-use Rattle.read_conditions.proofs.Conditioned.{Conditioned, LookedAt, condition-ready, conditions-start, conditions-done, conditions-many, ConditionsOn, conditions-on}
+use Rattle.read_conditions.proofs.Conditioned.{Conditioned, LookedAt, condition-ready, conditions-start, conditions-done, conditions-many}
+use Rattle.read_conditions.proofs.Conditioned.{ConditionsOn, conditions-on}
 
 abbrev Inv-loop : tie.InvT-loop
 Inv-loop text tape₀ table symbols parts from words s₀ left₀ tape s left =
@@ -33,7 +34,8 @@ Look c comma =
     (c .before .lex .result) comma
 
 -- the tape is as long as it was
-long : (c : tie.After-is-sign Inv-loop μ-loop) → length (c .before .before .loop .tape) ≡ length (c .before .before .before .before .before .before .args .tape .now)
+long : (c : tie.After-is-sign Inv-loop μ-loop) → length (c .before .before .loop .tape) ≡
+    length (c .before .before .before .before .before .before .args .tape .now)
 long c = went-length (c .before .before .loop .inv .went)
 
 looked : (c : tie.After-is-sign Inv-loop μ-loop) {comma : Bool} → c .is-sign .result ≡ comma → Look c comma
@@ -60,7 +62,10 @@ returns-2 : tie.Need-returns-2 Inv-loop μ-loop
 returns-2 c = conditions-many (at-comma (c .before)) (c .if2 .taken)
 
 condition-requires : tie.Need-condition-requires Inv-loop μ-loop
-condition-requires c κs = (condition-ready (at-comma (c .before .before)), c .before .before .before .before .before .before .before .before .before .pre .1)
+condition-requires c κs = (
+  condition-ready (at-comma (c .before .before)),
+  c .before .before .before .before .before .before .before .before .before .pre .1,
+)
 
 -- after a condition, whether it was read or not
 turned : (c : tie.After-condition Inv-loop μ-loop) {r : Parsed} → c .condition .result ≡ r

@@ -22,7 +22,8 @@ returns-3 c =
     let at-if1 = c .before .before .before in
     let at-enum-told = at-if1 .before .before in
     let entry = at-enum-told .before .before .before in
-    truth-three (entry .args .text .now) (entry .args .t) _ (at-enum-told .enum-told .given .1) (entry .pre) (at-if1 .if1 .left) (c .truth-between .ensures)
+    truth-three (entry .args .text .now) (entry .args .t) _ (at-enum-told .enum-told .given .1) (entry .pre) (at-if1 .if1 .left)
+    (c .truth-between .ensures)
 
 pub truth-in-spec : {M : Type 1} → statement M
 truth-in-spec =

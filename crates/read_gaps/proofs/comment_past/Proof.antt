@@ -43,7 +43,8 @@ loop-again-2 : tie.Need-loop-again-2 Inv-loop μ-loop
 loop-again-2 c =
     let at-loop-test = c .before .before .before in
     let at-loop = at-loop-test .before in
-    plain-joins _ _ _ _ (plain-goes _ _ _ (at-loop-test .loop-test .taken) (ne-eqb _ 42 (c .before .if1 .left)) (at-loop .loop .inv)) (c .plain-past .ensures)
+    plain-joins _ _ _ _ (plain-goes _ _ _ (at-loop-test .loop-test .taken) (ne-eqb _ 42 (c .before .if1 .left)) (at-loop .loop .inv))
+    (c .plain-past .ensures)
 
 returns-2 : tie.Need-returns-2 Inv-loop μ-loop
 returns-2 c = endless _ _ _ (c .loop-test .left) (c .before .loop .inv)

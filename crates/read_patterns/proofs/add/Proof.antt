@@ -10,28 +10,44 @@ use Rattle.read_bookkeeping.proofs.Refusing.{no-item, no-variable}
 use Rattle.read_patterns.proofs.Adding.{adds}
 
 add-string-requires : tie.Need-add-string-requires
-add-string-requires c κs = asks-string (c .before .before .before .before .before .before .before .before .pre) (c .before .before .before .before .token .given .1)
+add-string-requires c κs = asks-string (c .before .before .before .before .before .before .before .before .pre)
+    (c .before .before .before .before .token .given .1)
 
 returns : tie.Need-returns
-returns c = adds (string-here (c .before .before .before .before .before .before .before .before .before .before .before .pre .1) (c .before .before .before .before .before .before .before .token .given .1)) (c .before .before .add-string .ensures)
+returns c = adds (string-here (c .before .before .before .before .before .before .before .before .before .before .before .pre .1)
+    (c .before .before .before .before .before .before .before .token .given .1)) (c .before .before .add-string .ensures)
 
 returns-2 : tie.Need-returns-2
-returns-2 c = record { gives = (no-item (c .before .before .before .before .before .pre .1) (c .before .before .match .keys2) (sym (c .before .is-word .ensures) ∙ not-true _ (c .if1 .taken)), refl, refl) }
+returns-2 c = record {
+  gives = (
+    no-item (c .before .before .before .before .before .pre .1) (c .before .before .match .keys2)
+        (sym (c .before .is-word .ensures) ∙ not-true _ (c .if1 .taken)),
+    refl,
+    refl,
+  );
+}
 
 add-symbol-requires : tie.Need-add-symbol-requires
-add-symbol-requires c κs = asks-variable (c .before .before .before .before .before .before .before .before .before .before .pre) false _ (c .before .before .before .token2 .given .1)
+add-symbol-requires c κs = asks-variable (c .before .before .before .before .before .before .before .before .before .before .pre) false _
+    (c .before .before .before .token2 .given .1)
 
 returns-3 : tie.Need-returns-3
-returns-3 c = adds (variable-here (c .before .before .before .before .before .before .before .before .before .before .before .before .before .pre .1) false _ (c .before .before .before .before .before .before .token2 .given .1)) (c .before .before .add-symbol .ensures)
+returns-3 c = adds (variable-here (c .before .before .before .before .before .before .before .before .before .before .before .before .before .pre .1)
+    false _ (c .before .before .before .before .before .before .token2 .given .1)) (c .before .before .add-symbol .ensures)
 
 returns-4 : tie.Need-returns-4
-returns-4 c = record { gives = no-variable (c .before .before .before .before .before .before .before .pre .1) (sym (c .before .before .before .is-word .ensures) ∙ not-false _ (c .before .before .if1 .left)) (c .before .match2 .keys2) (c .match3 .keys2) }
+returns-4 c = record {
+  gives = no-variable (c .before .before .before .before .before .before .before .pre .1)
+      (sym (c .before .before .before .is-word .ensures) ∙ not-false _ (c .before .before .if1 .left)) (c .before .match2 .keys2) (c .match3 .keys2);
+}
 
 add-part-requires : tie.Need-add-part-requires
-add-part-requires c κs = asks-variable (c .before .before .before .before .before .before .before .before .before .before .before .pre) true _ (c .before .before .before .token3 .given .1)
+add-part-requires c κs = asks-variable (c .before .before .before .before .before .before .before .before .before .before .before .pre) true _
+    (c .before .before .before .token3 .given .1)
 
 returns-5 : tie.Need-returns-5
-returns-5 c = adds (variable-here (c .before .before .before .before .before .before .before .before .before .before .before .before .before .before .pre .1) true _ (c .before .before .before .before .before .before .token3 .given .1)) (c .before .before .add-part .ensures)
+returns-5 c = adds (variable-here (c .before .before .before .before .before .before .before .before .before .before .before .before .before .before
+    .pre .1) true _ (c .before .before .before .before .before .before .token3 .given .1)) (c .before .before .add-part .ensures)
 
 pub add-spec : {M : Type 1} → statement M
 add-spec =

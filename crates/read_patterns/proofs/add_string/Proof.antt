@@ -15,7 +15,8 @@ returns-2 : tie.Need-returns-2
 returns-2 c =
     let at-put-characters = c .before .before .before .before in
     let at-if1 = at-put-characters .before .before in
-    string-taken (at-if1 .before .before .before .before .before .pre) (at-if1 .if1 .left) _ _ _ _ (at-put-characters .put-characters .ensures) (c .before .still-ending .ensures)
+    string-taken (at-if1 .before .before .before .before .before .pre) (at-if1 .if1 .left) _ _ _ _ (at-put-characters .put-characters .ensures)
+    (c .before .still-ending .ensures)
 
 pub add-string-spec : {M : Type 1} → statement M
 add-string-spec =

@@ -8,7 +8,10 @@ use Rattle.read_bookkeeping.proofs.Items.{identifier-inside}
 use Rattle.read_patterns.proofs.Adding.{item-wrong, known-low, known-place, symbol-faulted, symbol-taken}
 
 find-requires : tie.Need-find-requires
-find-requires c κs = (identifier-inside (c .before .before .before .before .pre .1), c .before .before .before .before .pre .0 .variables .symbolEntries)
+find-requires c κs = (
+  identifier-inside (c .before .before .before .before .pre .1),
+  c .before .before .before .before .pre .0 .variables .symbolEntries,
+)
 
 symbol-fault-requires : tie.Need-symbol-fault-requires
 symbol-fault-requires c κs =
@@ -35,7 +38,8 @@ returns-2 c =
     let at-find = at-symbol-fault .before .before .before in
     let p = at-find .before .before .before .before .before .pre in
     symbol-taken (p .0) (p .1) _ (at-find .find .ensures)
-    (no-fault-here (at-symbol-fault .symbol-fault .ensures) (at-if1 .before .is-accepted .ensures) (at-if1 .if1 .left)) (c .before .before .before .put-name .ensures)
+    (no-fault-here (at-symbol-fault .symbol-fault .ensures) (at-if1 .before .is-accepted .ensures) (at-if1 .if1 .left))
+    (c .before .before .before .put-name .ensures)
     (rw (at-entry .entry .ensures) at (at-remember .remember .ensures))
 
 pub add-symbol-spec : {M : Type 1} → statement M

@@ -13,8 +13,15 @@ returns c = part-third (c .before .before .before .before .pre) (c .if1 .taken)
 returns-2 : tie.Need-returns-2
 returns-2 c = part-long (c .before .before .before .before .before .before .pre) (omega arith) (c .if2 .taken)
 
-found : (c : tie.After-find) → let a = c .before .before .before .before .before .before .before .args in PartFound (a .text .now) (a .table .now) (a .p) (a .x) (c .find .result)
-found c = record { pre = c .before .before .before .before .before .before .before .pre; few = omega arith; short = omega arith; place = c .find .ensures }
+found : (c : tie.After-find) → let a = c .before .before .before .before .before .before .before .args in
+    PartFound (a .text .now) (a .table .now) (a .p) (a .x) (c .find .result)
+found c = record {
+  pre = c .before .before .before .before .before .before .before .pre;
+  few = omega arith;
+  short = omega arith;
+  place =
+      c .find .ensures;
+}
 
 returns-3 : tie.Need-returns-3
 returns-3 c = part-is (found (c .before .before)) (lt-ltb _ _ (c .if3 .taken)) refl refl refl

@@ -11,7 +11,8 @@ table-here : (c : tie.After-names2)
     → let at-table = c .before .before .before in
     let at-functions = at-table .before .before .before .before in
     let left = at-functions .functions .last .1 in
-    TableRead (at-functions .before .before .before .before .before .before .before .args .text .now) (left .0) (left .1 .0) (at-table .table .given .0 .0)
+    TableRead (at-functions .before .before .before .before .before .before .before .args .text .now) (left .0) (left .1 .0)
+    (at-table .table .given .0 .0)
 table-here c =
     let at-table = c .before .before .before in
     let at-functions = at-table .before .before .before .before in
@@ -26,7 +27,8 @@ returns-2 : tie.Need-returns-2
 returns-2 c =
     let at-fault = c .before .before in
     let at-functions = at-fault .before .before .before .before in
-    functions-stop (at-functions .before .before .before .before .if1 .left) (at-functions .functions .ensures) (at-fault .fault .given .1) (c .refusal2 .ensures)
+    functions-stop (at-functions .before .before .before .before .if1 .left) (at-functions .functions .ensures) (at-fault .fault .given .1)
+    (c .refusal2 .ensures)
 
 unknown-call-requires : tie.Need-unknown-call-requires
 unknown-call-requires c κs = searchable (table-here c)

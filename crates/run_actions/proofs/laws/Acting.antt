@@ -28,7 +28,8 @@ use Rattle.run_actions.specs.declared.moving.Reached.the-variants.{At, W
 use Rattle.run_decoding.specs.Decoded.{spanMeant}
 use Rattle.answers.specs.Numbers.{endingNumber}
 use Rattle.run_actions.specs.Spans.{cellsOf, reachedBy}
-use Rattle.run_actions.specs.States.{Memory, memory, frameWord, localOf, stacksOf, Ledgers, ledgerOf, roomOf, movedTo, ActionInvariant, Outcomes, Continuation, Writes, Preserves, ImplementsAction, HasValues}
+use Rattle.run_actions.specs.States.{Memory, memory, frameWord, localOf, stacksOf, Ledgers, ledgerOf, roomOf, movedTo, ActionInvariant}
+use Rattle.run_actions.specs.States.{Outcomes, Continuation, Writes, Preserves, ImplementsAction, HasValues}
 use Rattle.run_sites.proofs.laws.Lists.{nth-in, nth-out}
 use Rattle.run_actions.proofs.laws.Spanning.{counted, not-counted, led, not-led}
 
@@ -40,7 +41,8 @@ part-long l p q h = length-take-le (q - p) (drop p l) (rw length-drop (omega ari
 stored-value : (frame k n : ℕ) (values : Bytes) → k < n → n ≤ 16 → HasValues frame values →
     nth k (take n (drop (16 * frame) (take (16 * frame + 16) values))) ≡ some (getD values (16 * frame + k) 0)
 stored-value frame k n values h few there =
-    let within : k < length (take n (drop (16 * frame) (take (16 * frame + 16) values))) = simp (length-take, length-drop, length-take-le (16 * frame + 16) values (omega (arith, there))) (omega arith) in
+    let within : k < length (take n (drop (16 * frame) (take (16 * frame + 16) values))) =
+    simp (length-take, length-drop, length-take-le (16 * frame + 16) values (omega (arith, there))) (omega arith) in
     let low : 16 * frame + k < 16 * frame + 16 = omega arith in
     rw (
       nth-in _ k within,
@@ -94,10 +96,12 @@ module _ (g : Registers) (m : Memory) where
     abbrev Spanned : Option Register → ℕ → Cells
     Spanned o from = cellsOf o add back (localOf g m) (length (m .input) - from)
 
-    go-none : (o : Option Register) → Wrong ≡ Spanned o (g .p .0) → ImplementsAction (spanAction go o add back) (g .at .0) g m (Stopped g NoInstruction 0) m
+    go-none : (o : Option Register) → Wrong ≡ Spanned o (g .p .0) →
+        ImplementsAction (spanAction go o add back) (g .at .0) g m (Stopped g NoInstruction 0) m
     go-none none e = stops _ _ NoInstruction (λ allowance code enter k. refl)
     go-none (some r) e =
-        stops _ _ NoInstruction (λ allowance code enter k. rw (length-drop (g .p .0) (m .input), lt-leb _ (length (m .input) - g .p .0) (not-counted _ _ e)))
+        stops _ _ NoInstruction (λ allowance code enter k. rw
+        (length-drop (g .p .0) (m .input), lt-leb _ (length (m .input) - g .p .0) (not-counted _ _ e)))
 
     go-moved : (o : Option Register) (to : InCell) → At to ≡ reachedBy (Spanned o (g .p .0)) (g .p .0) →
         ImplementsAction (spanAction go o add back) (g .at .0) g m (Onward (movedTo g (to .0) (to .0) (g .r .0))) m
@@ -115,10 +119,12 @@ module _ (g : Registers) (m : Memory) where
                 ← (l .sum),
                 sub-self (to .0),
               );
-          preserves = preserved _ _ _ (m .input) (m .output) (λ f. omega arith) (λ f. omega (arith, t .enough, l .sum)) (λ f. f .room .written .below);
+          preserves = preserved _ _ _ (m .input) (m .output) (λ f. omega arith) (λ f. omega (arith, t .enough, l .sum))
+              (λ f. f .room .written .below);
         }
 
-    select-none : (o : Option Register) → Wrong ≡ Spanned o (g .q .0) → ImplementsAction (spanAction select o add back) (g .at .0) g m (Stopped g NoInstruction 0) m
+    select-none : (o : Option Register) → Wrong ≡ Spanned o (g .q .0) →
+        ImplementsAction (spanAction select o add back) (g .at .0) g m (Stopped g NoInstruction 0) m
     select-none none e = stops _ _ NoInstruction (λ allowance code enter k. refl)
     select-none (some r) e =
         let n = registerOf r (localOf g m) + add - back in
@@ -134,7 +140,8 @@ module _ (g : Registers) (m : Memory) where
         let moved : g .q .0 - g .p .0 + l .on ≡ to .0 - g .p .0 = omega (arith, l .sum) in
         record {
           same = λ allowance code enter k. rw (t .known, t .amount, length-drop (g .p .0) (m .input), le-leb _ _ there, moved);
-          preserves = preserved _ _ _ (m .input) (m .output) (λ f. omega (arith, l .sum)) (λ f. omega (arith, t .enough, l .sum)) (λ f. f .room .written .below);
+          preserves = preserved _ _ _ (m .input) (m .output) (λ f. omega (arith, l .sum)) (λ f. omega (arith, t .enough, l .sum))
+              (λ f. f .room .written .below);
         }
 
   module _ (p≤q : g .p .0 ≤ g .q .0) (q≤in : g .q .0 ≤ length (m .input)) (w : ℕ) where
@@ -178,7 +185,8 @@ module _ (g : Registers) (m : Memory) where
                 add-one (g .r .0),
                 take-suc-set (m .output) (g .r .0) b h,
               );
-          preserves = preserved _ _ _ (m .input) _ (λ f. f .room .selection .ordered) (λ f. f .room .selection .inside) (λ f. rw length-set (omega arith));
+          preserves = preserved _ _ _ (m .input) _ (λ f. f .room .selection .ordered) (λ f. f .room .selection .inside)
+              (λ f. rw length-set (omega arith));
         }
 
     -- a text, whatever action writes it
@@ -218,11 +226,13 @@ module _ (g : Registers) (m : Memory) where
   pub value-none : (k : ℕ) → frameWord (g .frame) 4 (m .frames) ≤ k → ImplementsAction (outV k) (g .at .0) g m (Stopped g NoInstruction 0) m
   value-none k h = stops _ _ NoInstruction (λ allowance code enter next. rw (nth-out (localOf g m .values) k (rw length-take (omega arith))))
 
-  pub value-written : (k : ℕ) (next : Next) (n : Memory) → k < frameWord (g .frame) 4 (m .frames) → frameWord (g .frame) 4 (m .frames) ≤ 16 → HasValues (g .frame) (m .values) →
+  pub value-written : (k : ℕ) (next : Next) (n : Memory) → k < frameWord (g .frame) 4 (m .frames) → frameWord (g .frame) 4 (m .frames) ≤ 16 →
+      HasValues (g .frame) (m .values) →
       ImplementsAction (outC (getD (m .values) (16 * g .frame + k) 0)) (g .at .0) g m next n →
       ImplementsAction (outV k) (g .at .0) g m next n
   value-written k next n h few there a =
       record {
-        same = λ allowance code enter k′. rw (stored-value (g .frame) k (frameWord (g .frame) 4 (m .frames)) (m .values) h few there) (a .same allowance code enter k′);
+        same = λ allowance code enter k′. rw (stored-value (g .frame) k (frameWord (g .frame) 4 (m .frames)) (m .values) h few there)
+            (a .same allowance code enter k′);
         preserves = a .preserves;
       }

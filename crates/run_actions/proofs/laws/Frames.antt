@@ -9,7 +9,8 @@ use mathlib.Core.Bool.{Bool, true, false}
 use mathlib.Core.List.{List, [], _∷_}
 use lib.Dec.{ltb}
 use lib.ListN.{length, take, drop, getD, set, length-drop, length-take, length-set, drop-of-length-le}
-use lib.Seq.{getD-set-same, getD-set-other, getD-take, drop-cons, take-set-le, take-set-lt, drop-set-lt, drop-set-add, set-out, take-suc, take-suc-set, set-split, drop-at, length-take-le, take-all, take-length, drop-length}
+use lib.Seq.{getD-set-same, getD-set-other, getD-take, drop-cons, take-set-le, take-set-lt, drop-set-lt, drop-set-add, set-out, take-suc}
+use lib.Seq.{take-suc-set, set-split, drop-at, length-take-le, take-all, take-length, drop-length}
 use borrow.Author.Tests.{ltb-true, ltb-false}
 use Rattle.meaning.specs.Choice.{pick}
 use Rattle.meaning.specs.Outcome.{maxCounted, counted}
@@ -70,15 +71,22 @@ module _ (frames : List ℕ) (k : ℕ) (there : HasFrame k frames) where
 
   pub opened-none : openedOf 0 ≡ []
   opened-none =
-      drop-of-length-le (take (24 * k + 24) (wordsIn frames)) {i = 24 * k + 24 - 0} (rw (length-take-le (24 * k + 24) (wordsIn frames) words-there) (omega arith))
+      drop-of-length-le (take (24 * k + 24) (wordsIn frames)) {i = 24 * k + 24 - 0}
+      (rw (length-take-le (24 * k + 24) (wordsIn frames) words-there) (omega arith))
 
   pub opened-next : (n : ℕ) → 0 < n → n ≤ 24 → openedOf n ≡ frameWord k (24 - n) frames ∷ openedOf (n - 1)
   opened-next n h h′ =
       let here : 24 * k + 24 - n ≡ 24 * k + (24 - n) = omega arith in
       let next : 24 * k + 24 - (n - 1) ≡ suc (24 * k + (24 - n)) = omega arith in
       let low : 24 * k + (24 - n) < 24 * k + 24 = omega arith in
-      let within : 24 * k + (24 - n) < length (take (24 * k + 24) (wordsIn frames)) = rw (length-take-le (24 * k + 24) (wordsIn frames) words-there) (omega arith) in
-      rw (here, next, drop-cons (take (24 * k + 24) (wordsIn frames)) (24 * k + (24 - n)) 0 within, getD-take (24 * k + 24) (wordsIn frames) (24 * k + (24 - n)) 0 low)
+      let within : 24 * k + (24 - n) < length (take (24 * k + 24) (wordsIn frames)) =
+      rw (length-take-le (24 * k + 24) (wordsIn frames) words-there) (omega arith) in
+      rw (
+        here,
+        next,
+        drop-cons (take (24 * k + 24) (wordsIn frames)) (24 * k + (24 - n)) 0 within,
+        getD-take (24 * k + 24) (wordsIn frames) (24 * k + (24 - n)) 0 low,
+      )
 
 pub word-kept : (frames : List ℕ) (k i j v : ℕ) → (i ≡ j → ⊥) → frameWord k j (withWord k i v frames) ≡ frameWord k j frames
 word-kept frames k i j v ne = rw (words-stored frames k i v) (getD-set-other (wordsIn frames) (24 * k + i) (24 * k + j) v 0 (λ e. ne (omega arith)))
@@ -88,7 +96,8 @@ pub held-past : (frames : List ℕ) (k i v : ℕ) → 5 < i → Held k frames �
 held-past frames k i v h held =
     record {
       null = rw (word-kept frames k i 0 v (omega arith)) (held .null);
-      right = rw (word-kept frames k i 1 v (omega arith), word-kept frames k i 2 v (omega arith), word-kept frames k i 3 v (omega arith)) (held .right);
+      right = rw (word-kept frames k i 1 v (omega arith), word-kept frames k i 2 v (omega arith), word-kept frames k i 3 v (omega arith))
+          (held .right);
       stored = rw (word-kept frames k i 4 v (omega arith)) (held .stored);
       opened = rw (word-kept frames k i 5 v (omega arith)) (held .opened);
     }
@@ -98,7 +107,8 @@ pub held-count : (frames : List ℕ) (k n : ℕ) → HasFrame k frames → n ≤
 held-count frames k n there h held =
     record {
       null = rw (word-kept frames k 5 0 n (omega arith)) (held .null);
-      right = rw (word-kept frames k 5 1 n (omega arith), word-kept frames k 5 2 n (omega arith), word-kept frames k 5 3 n (omega arith)) (held .right);
+      right = rw (word-kept frames k 5 1 n (omega arith), word-kept frames k 5 2 n (omega arith), word-kept frames k 5 3 n (omega arith))
+          (held .right);
       stored = rw (word-kept frames k 5 4 n (omega arith)) (held .stored);
       opened = rw (word-set frames k there 5 n (omega arith)) h;
     }
@@ -162,5 +172,6 @@ pub word-copied : (from to : List ℕ) (i v : ℕ) → i < length to → i < len
 word-copied from to i v h h′ e so-far = rw (add-one i, take-suc-set to i v h, so-far, e) (sym (take-suc from i 0 h′))
 
 -- all counts are
-pub counts-whole : (frames counts : List ℕ) (i : ℕ) → length counts ≡ maxCounted → i ≡ maxCounted → take i counts ≡ take i frames → counts ≡ countsIn frames
+pub counts-whole : (frames counts : List ℕ) (i : ℕ) → length counts ≡ maxCounted → i ≡ maxCounted → take i counts ≡ take i frames → counts ≡
+    countsIn frames
 counts-whole frames counts i sized e so-far = sym (take-all i counts (omega arith)) ∙ so-far ∙ rw e

@@ -23,7 +23,8 @@ further : (a b : Bytes) (i n : ℕ) → drop i a ≡ drop i b → drop (i + n) a
 further a b i n e = sym (drop-drop n i a) ∙ rw e (drop-drop n i b)
 
 module _ (g : Registers) (m : Memory) (words : Words) (n : ℕ) where
-  pub emission-wrong : isName n (drop (g .at .0) words) ≡ false → ImplementsAction (emissionOf n (drop (g .at .0) words)) (g .at .0 + n) g m (Stopped g NoInstruction 0) m
+  pub emission-wrong : isName n (drop (g .at .0) words) ≡ false →
+      ImplementsAction (emissionOf n (drop (g .at .0) words)) (g .at .0 + n) g m (Stopped g NoInstruction 0) m
   emission-wrong e = stops g m _ _ NoInstruction (λ allowance code enter k. rw e)
 
   module _ (p≤q : g .p .0 ≤ g .q .0) (q≤in : g .q .0 ≤ length (m .input)) (logged : g .emitted ≤ length (m .«record»))
@@ -43,7 +44,8 @@ module _ (g : Registers) (m : Memory) (words : Words) (n : ℕ) where
           part-long (m .input) (g .p .0) (g .q .0) q≤in,
         )
 
-    pub emission-full : length (m .«record») - g .emitted < size → ImplementsAction (emissionOf n (drop (g .at .0) words)) (g .at .0 + n) g m (Stopped g RecordFull 0) m
+    pub emission-full : length (m .«record») - g .emitted < size →
+        ImplementsAction (emissionOf n (drop (g .at .0) words)) (g .at .0 + n) g m (Stopped g RecordFull 0) m
     emission-full h =
         let full : length (m .«record») < g .emitted + size = omega arith in
         stops g m _ _ RecordFull (λ allowance code enter k.

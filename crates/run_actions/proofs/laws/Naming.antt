@@ -104,7 +104,8 @@ placed-after d at s t h =
 -- one byte after what was placed
 placed-byte : (d : Bytes) (at v : ℕ) (s : Bytes) → at + length s < length d → set (placed d at s) (at + length s) v ≡ placed d at (s ++ v ∷ [])
 placed-byte d at v s h =
-    set-placed (placed d at s) (at + length s) v (rw (length-paste d at s (length s) (omega arith) (omega arith)) h) ∙ placed-after d at s (v ∷ []) (omega arith)
+    set-placed (placed d at s) (at + length s) v (rw (length-paste d at s (length s) (omega arith) (omega arith)) h) ∙
+    placed-after d at s (v ∷ []) (omega arith)
 
 pub length-line : (name argument : Bytes) → length (emittedLine name argument) ≡ length name + length argument + 2
 length-line name argument = rw (length-append name (32 ∷ (argument ++ 10 ∷ [])), length-append argument (10 ∷ [])) (omega arith)
@@ -123,14 +124,22 @@ module _ (d name argument : Bytes) (at : ℕ) (h : at + (length name + length ar
   ended =
       let e : at + length name + 1 + length argument ≡ at + length ((name ++ 32 ∷ []) ++ argument) =
       rw (length-append (name ++ 32 ∷ []) argument, length-append name (32 ∷ [])) (omega arith) in
-      rw e (placed-byte d at 10 ((name ++ 32 ∷ []) ++ argument) (rw (length-append (name ++ 32 ∷ []) argument, length-append name (32 ∷ [])) (omega arith)))
+      rw e (placed-byte d at 10 ((name ++ 32 ∷ []) ++ argument)
+      (rw (length-append (name ++ 32 ∷ []) argument, length-append name (32 ∷ [])) (omega arith)))
 
   -- name, byte 32, argument, byte 10, each after the other
   pub line-placed :
       set (placed (set (placed d at name) (at + length name) 32) (at + length name + 1) argument) (at + length name + 1 + length argument) 10 ≡
       paste d at (emittedLine name argument) (length name + length argument + 2)
   line-placed =
-      rw (gapped, argued, ended, append-assoc (name ++ 32 ∷ []) argument (10 ∷ []), append-assoc name (32 ∷ []) (argument ++ 10 ∷ []), length-line name argument)
+      rw (
+        gapped,
+        argued,
+        ended,
+        append-assoc (name ++ 32 ∷ []) argument (10 ∷ []),
+        append-assoc name (32 ∷ []) (argument ++ 10 ∷ []),
+        length-line name argument,
+      )
 
 pub line-written : (d name argument : Bytes) (at n : ℕ) → length name ≡ n → at + (n + length argument + 2) ≤ length d →
     set (paste (set (paste d at name n) (at + n) 32) (at + n + 1) argument (length argument)) (at + n + 1 + length argument) 10 ≡

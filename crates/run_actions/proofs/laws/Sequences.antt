@@ -12,10 +12,13 @@ use Rattle.meaning.specs.Machine.{withOpened}
 use Rattle.run_actions.specs.declared.registers.Registers.{Registers}
 use Rattle.answers.specs.declared.Ending.the-variants.{NoInstruction, InFull}
 use Rattle.run_actions.specs.declared.registers.Next.the-variants.{Onward, Stopped}
-use Rattle.run_actions.specs.States.{Memory, memory, frameWord, localAt, openedAt, countsIn, movedTo, ImplementsAction, HasFrame, wordsIn, withWord}
+use Rattle.run_actions.specs.States.{Memory, memory, frameWord, localAt, openedAt, countsIn, movedTo, ImplementsAction, HasFrame, wordsIn}
+use Rattle.run_actions.specs.States.{withWord}
 use Rattle.run_cells.specs.Moved.{moved, MovedSoFar}
 use Rattle.run_cells.proofs.laws.Moving.{byte-by-byte}
-use Rattle.run_actions.proofs.laws.Frames.{drop-min, take-min, drop-set-here, words-stored, stored-length, stored-there, words-there, word-set, word-kept, openedOf, opened-count, opened-none, opened-next, held-past, held-count, waiting-kept, counts-kept}
+use Rattle.run_actions.proofs.laws.Frames.{drop-min, take-min, drop-set-here, words-stored, stored-length, stored-there, words-there, word-set}
+use Rattle.run_actions.proofs.laws.Frames.{word-kept, openedOf, opened-count, opened-none, opened-next, held-past, held-count, waiting-kept}
+use Rattle.run_actions.proofs.laws.Frames.{counts-kept}
 use Rattle.run_actions.proofs.laws.Acting.{stops}
 
 module _ (frames : List ℕ) (values : Bytes) (k : ℕ) (there : HasFrame k frames) where
@@ -41,8 +44,15 @@ module _ (frames : List ℕ) (values : Bytes) (k : ℕ) (there : HasFrame k fram
       let here : 24 * k + 24 - (n + 1) ≡ 24 * k + (23 - n) = omega arith in
       let next : suc (24 * k + (23 - n)) ≡ 24 * k + 24 - n = omega arith in
       let low : 24 * k + (23 - n) < 24 * k + 24 = omega arith in
-      let within : 24 * k + (23 - n) < length (take (24 * k + 24) (wordsIn frames)) = rw (length-take-le (24 * k + 24) (wordsIn frames) (words-there frames k there)) (omega arith) in
-      rw (here, words-stored frames k (23 - n) r, take-set-lt (24 * k + 24) (wordsIn frames) (24 * k + (23 - n)) r low, drop-set-here (take (24 * k + 24) (wordsIn frames)) (24 * k + (23 - n)) r within, next)
+      let within : 24 * k + (23 - n) < length (take (24 * k + 24) (wordsIn frames)) =
+      rw (length-take-le (24 * k + 24) (wordsIn frames) (words-there frames k there)) (omega arith) in
+      rw (
+        here,
+        words-stored frames k (23 - n) r,
+        take-set-lt (24 * k + 24) (wordsIn frames) (24 * k + (23 - n)) r low,
+        drop-set-here (take (24 * k + 24) (wordsIn frames)) (24 * k + (23 - n)) r within,
+        next,
+      )
 
   -- a sequence opened at a cell of out
   local-opened : (n r : ℕ) → n < 16 → (there′ : HasFrame k (withWord k (23 - n) r frames)) →
@@ -78,7 +88,8 @@ module _ (g : Registers) (m : Memory) (there : HasFrame (g .frame) (m .frames)) 
       stops g m _ _ NoInstruction (λ allowance code enter k. rw (opened-count (m .frames) (g .frame) there count (omega arith), le-ltb count 16 h))
 
   pub begin-kept : g .r .0 ≤ length (m .output) → count < 16 →
-      ImplementsAction beginSeq (g .at .0) g m (Onward g) (memory (m .input) (m .output) (m .«record») (openedAt (g .frame) (g .r .0) (m .frames)) (m .values))
+      ImplementsAction beginSeq (g .at .0) g m (Onward g) (memory (m .input) (m .output) (m .«record») (openedAt (g .frame) (g .r .0) (m .frames))
+      (m .values))
   begin-kept r≤out h =
       let frames₁ = withWord (g .frame) (23 - count) (g .r .0) (m .frames) in
       let there₁ : HasFrame (g .frame) frames₁ = stored-there (m .frames) (g .frame) (23 - count) (g .r .0) there in
@@ -100,9 +111,11 @@ module _ (g : Registers) (m : Memory) (there : HasFrame (g .frame) (m .frames)) 
               selection = f .room .selection;
               written = f .room .written;
               frame = record { framed = f .room .frame .framed; frameRoom = stored-there frames₁ (g .frame) 5 (count + 1) there₁ };
-              values = rw (stored-length frames₁ (g .frame) 5 (count + 1), stored-length (m .frames) (g .frame) (23 - count) (g .r .0)) (f .room .values);
+              values = rw (stored-length frames₁ (g .frame) 5 (count + 1), stored-length (m .frames) (g .frame) (23 - count) (g .r .0))
+                  (f .room .values);
             };
-            held = held-count frames₁ (g .frame) (count + 1) there₁ (omega arith) (held-past (m .frames) (g .frame) (23 - count) (g .r .0) (omega arith) (f .held));
+            held = held-count frames₁ (g .frame) (count + 1) there₁ (omega arith)
+                (held-past (m .frames) (g .frame) (23 - count) (g .r .0) (omega arith) (f .held));
           };
           frame = refl;
           place = refl;

@@ -25,7 +25,13 @@ entry c = at-count c .before .before .before .before .before .before .before .be
 may : (c : tie.After-choose) → Payable (entry c .args .code .now) (entry c .args .allowance) (entry c .args .number) (entry c .args .g)
 may c =
     let pre = entry c .pre in
-    record { counted = pre .1 .0; positive = pre .1 .1 .0; within = pre .1 .1 .1 .0; left = at-count c .before .before .before .before .before .before .if1 .left }
+    record {
+      counted = pre .1 .0;
+      positive = pre .1 .1 .0;
+      within = pre .1 .1 .1 .0;
+      left =
+          at-count c .before .before .before .before .before .before .if1 .left;
+    }
 
 meant : (c : tie.After-choose) (r : Choice) → c .choose .result ≡ r → choiceMeant (entry c .args .code .now) r ≡
     Chosen (entry c .args .code .now) (entry c .args .number) (entry c .args .g) (entry c .args .input .now)
@@ -58,7 +64,8 @@ returns-2 c =
     let at-place = at-start-sentence .before .before .before .before in
     let at-choose = at-place .before .before in
     let v = at-place .place .given .0 in
-    λ output «record». apply-starts _ _ _ _ _ (may at-choose) (v .0) (v .1 .0 .0) (v .1 .1 .0) _ _ (at-count at-choose .count-application .ensures) (meant at-choose _ (at-place .place .given .1))
+    λ output «record». apply-starts _ _ _ _ _ (may at-choose) (v .0) (v .1 .0 .0) (v .1 .1 .0) _ _ (at-count at-choose .count-application .ensures)
+    (meant at-choose _ (at-place .place .given .1))
     (at-start-sentence .start-sentence .ensures _ output «record»)
 
 returns-3 : tie.Need-returns-3

@@ -28,7 +28,8 @@ framed-call-requires : tie.Need-framed-call-requires
 framed-call-requires c κs = let pre = c .before .before .before .before .before .before .pre in (is (c .before .before), pre .1)
 
 returns-3 : tie.Need-returns-3
-returns-3 c = λ input output «record» values. rw (c .before .before .before .before .if2 .left) (c .before .before .framed-call .ensures input output «record» values)
+returns-3 c = λ input output «record» values. rw (c .before .before .before .before .if2 .left)
+    (c .before .before .framed-call .ensures input output «record» values)
 
 pub call-spec : {M : Type 1} → statement M
 call-spec =

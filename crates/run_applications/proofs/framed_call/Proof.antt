@@ -12,10 +12,12 @@ use Rattle.run_applications.proofs.framed_call.Statement.{statement}
 use Rattle.run_applications.proofs.framed_call.Tie as tie
 
 returns : tie.Need-returns
-returns c = λ input output «record» values. call-spent _ _ (c .before .before .before .before .args .number) _ _ (c .before .before .before .before .pre .0) (c .if1 .taken)
+returns c = λ input output «record» values. call-spent _ _ (c .before .before .before .before .args .number) _ _
+    (c .before .before .before .before .pre .0) (c .if1 .taken)
 
 returns-2 : tie.Need-returns-2
-returns-2 c = λ input output «record» values. call-full _ _ (c .before .before .before .before .before .args .number) _ _ (c .before .before .before .before .before .pre .0) (c .before .if1 .left) (omega (arith, c .if2 .taken))
+returns-2 c = λ input output «record» values. call-full _ _ (c .before .before .before .before .before .args .number) _ _
+    (c .before .before .before .before .before .pre .0) (c .before .if1 .left) (omega (arith, c .if2 .taken))
 
 begin-frame-requires : tie.Need-begin-frame-requires
 begin-frame-requires c κs =
@@ -35,10 +37,17 @@ returns-3 c =
     let sized : length calling ≡ length (a .frames .now) = calling-length (a .frames .now) k (a .g .at .0) (a .g .q .0) in
     let few : suc k < 256 = omega (arith, c .before .before .before .before .before .before .before .before .before .before .before .if2 .left) in
     let there : HasFrame (suc k) calling = rw sized (not-crowded k (a .frames .now) (entry .pre .1 .1) few) in
-    λ input output «record» values. rw (c .before .before .before .before .before .begin-frame .ensures, c .before .before .before .before .before .before .before .before .before .keep-caller .ensures, add-one k)
-    (call-enters _ _ (a .number) (a .g) input output «record» (a .frames .now) values (entry .pre .0) (c .before .before .before .before .before .before .before .before .before .before .before .before .if1 .left) (omega (arith, c .before .before .before .before .before .before .before .before .before .before .before .if2 .left))
+    λ input output «record» values. rw (
+      c .before .before .before .before .before .begin-frame .ensures,
+      c .before .before .before .before .before .before .before .before .before .keep-caller .ensures,
+      add-one k,
+    )
+    (call-enters _ _ (a .number) (a .g) input output «record» (a .frames .now) values (entry .pre .0)
+    (c .before .before .before .before .before .before .before .before .before .before .before .before .if1 .left)
+    (omega (arith, c .before .before .before .before .before .before .before .before .before .before .before .if2 .left))
     (begun (suc k) 0 0 0 calling) (rw (begun-length calling (suc k) 0 0 0 there) there) (begun-length calling (suc k) 0 0 0 there ∙ sized)
-    (begun-counts calling (suc k) 0 0 0 there ∙ calling-counts (a .frames .now) k (a .g .at .0) (a .g .q .0)) (begun-below calling (suc k) 0 0 0 there)
+    (begun-counts calling (suc k) 0 0 0 there ∙ calling-counts (a .frames .now) k (a .g .at .0) (a .g .q .0))
+    (begun-below calling (suc k) 0 0 0 there)
     (begun-held calling (suc k) 0 0 0 there (omega arith)))
 
 pub framed-call-spec : {M : Type 1} → statement M

@@ -23,7 +23,8 @@ use Rattle.run_actions.specs.declared.registers.Next.the-variants.{Onward, Stop
 use Rattle.run_code_places.specs.declared.CodePlace.{CodePlace}
 use Rattle.run_applications.specs.declared.Stored.the-variants.{Before, Wrong}
 use Rattle.answers.specs.Numbers.{endingNumber}
-use Rattle.run_actions.specs.States.{Memory, memory, frameWord, localAt, Held, countsIn, ledgerOf, roomOf, Outcomes, HasFrame, HasValues, wordsIn, wordsBelow, withWord, begun}
+use Rattle.run_actions.specs.States.{Memory, memory, frameWord, localAt, Held, countsIn, ledgerOf, roomOf, Outcomes, HasFrame, HasValues, wordsIn}
+use Rattle.run_actions.specs.States.{wordsBelow, withWord, begun}
 use Rattle.run_actions.proofs.laws.Frames.{word-set, word-kept, waiting-kept, counts-kept}
 use Rattle.run_applications.specs.Storing.{Stores}
 use Rattle.run_applications.specs.Waiting.{countIn, functionsIn, returning}
@@ -51,7 +52,8 @@ module _ (words : Words) (counted : countIn words < length words) where
   nth-map f (x ∷ l) (suc i) h = nth-map f l i (omega arith)
 
   -- a function's sentences stand where its entry says
-  pub code-at : (number : ℕ) → 0 < number → number ≤ countIn words → codeAt (functionsIn words) number ≡ unpackSentences 0 (drop (getD words number 0) words)
+  pub code-at : (number : ℕ) → 0 < number → number ≤ countIn words → codeAt (functionsIn words) number ≡
+      unpackSentences 0 (drop (getD words number 0) words)
   code-at zero h l = absurd (omega arith)
   code-at (suc n) h l =
       let one : 1 + n ≡ suc n = omega arith in
@@ -169,7 +171,8 @@ module _ (frames : List ℕ) (k field place stored : ℕ) (there : HasFrame k fr
       (ap (λ rest. record { field = field; place = place; values = take stored (drop (16 * k) values); opened = rest })
       (past-end (take (24 * k + 24) (wordsIn Begun)) (24 * k + 24 - 0) (rw (length-take (24 * k + 24) (wordsIn Begun)) (omega arith))))
 
-module _ (words : Words) (allowance place stores stored : ℕ) (g : Registers) (input output «record» : Bytes) (frames : List ℕ) (values values′ : Bytes)
+module _ (words : Words) (allowance place stores stored : ℕ) (g : Registers) (input output «record» : Bytes) (frames : List ℕ)
+    (values values′ : Bytes)
     (few : stored ≤ 16) where
   abbrev Before-start : Memory
   Before-start = memory input output «record» frames values
@@ -189,7 +192,8 @@ module _ (words : Words) (allowance place stores stored : ℕ) (g : Registers) (
   startedAt actions =
       record { p = g .p; q = g .p; r = g .r; frame = g .frame; at = actions; steps = g .steps; emitted = g .emitted; callee = 0 }
 
-  pub starts-right : (actions : CodePlace) → length values′ ≡ length values → Stores (16 * g .frame) stored (stores + stored) Kept values values′ (Before actions) →
+  pub starts-right : (actions : CodePlace) → length values′ ≡ length values →
+      Stores (16 * g .frame) stored (stores + stored) Kept values values′ (Before actions) →
       SimulatesSentence words allowance place stores stored g Before-start (Onward (startedAt actions))
       (memory input output «record» (begun (g .frame) (g .q .0 - g .p .0) place stored frames) values′)
   starts-right actions sized s r =

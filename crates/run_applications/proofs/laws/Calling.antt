@@ -28,7 +28,8 @@ use Rattle.run_actions.specs.States.{Memory, memory, frameWord, countsIn, count
 use Rattle.run_actions.specs.States.{HasFrame, crowdedAt, wordsFor, wordsIn, wordsBelow, withWord, callingFrom}
 use Rattle.run_actions.proofs.laws.Frames.{words-stored, stored-length, stored-there, word-set, word-kept, held-past, waiting-kept, counts-kept}
 use Rattle.run_actions.proofs.laws.Frames.{counts-counted, counted-words, counted-length, counted-within}
-use Rattle.run_applications.specs.Waiting.{countIn, functionsIn, entering, continuationAt, waiting, returning, outcomeOfApplication, outcomeOfActions, Waits, outcomeOfAction, measureWaiting}
+use Rattle.run_applications.specs.Waiting.{countIn, functionsIn, entering, continuationAt, waiting, returning, outcomeOfApplication}
+use Rattle.run_applications.specs.Waiting.{outcomeOfActions, Waits, outcomeOfAction, measureWaiting}
 use Rattle.run_applications.specs.Waiting.{measureBelow, calledIn, recoveredBy}
 use Rattle.run_applications.specs.Simulation.{Ready, Invariant, SimulatesBelow, SimulatesAction, SimulatesApplication, SimulatesSentence}
 use Rattle.run_applications.proofs.laws.Waiting.{measure-same, held-same, waits-same, waiting-same, entering-paid}
@@ -76,7 +77,8 @@ module _ (words : Words) (allowance number : ℕ) (g : Registers) (m : Memory) w
               same = ap (waiting (roomOf m) allowance words (g .frame) (m .frames) (m .values))
                   (called-there (isDeclared (functionsIn words) number));
               invariant = record {
-                ready = called-ready (g .frame) (length words) (m .frames) (r .room .frame .framed) (r .room .frame .frameRoom) refl refl (r .waits) r;
+                ready = called-ready (g .frame) (length words) (m .frames) (r .room .frame .framed) (r .room .frame .frameRoom) refl refl (r .waits)
+                    r;
                 current = u .current;
               };
               room = refl;
@@ -186,7 +188,8 @@ module _ (words : Words) (allowance number : ℕ) (g : Registers) (m : Memory) w
 
     -- what the choice leads to, its step paid, is what the application leads to
     apply-simulates : (choice : Choice) → choice ≡ Chosen words number g (m .input) → (next : Next) (n : Memory) →
-        (Invariant allowance (paidOf g) (countedFor number m) → ChoiceSimulates words allowance number choice (paidOf g) (countedFor number m) next n) →
+        (Invariant allowance (paidOf g) (countedFor number m) →
+        ChoiceSimulates words allowance number choice (paidOf g) (countedFor number m) next n) →
         SimulatesApplication words allowance number g m next n
     apply-simulates choice e next n simulates u =
         let d = simulates (invariant-paid u) in
@@ -220,7 +223,8 @@ module _ (words : Words) (allowance number : ℕ) (g : Registers) (m : Memory) w
     -- where no sentence fits, the run ends, or the function that recovers is called
     pub apply-recovers : (recoverer : ℕ) → chosenNone recoverer ≡ Chosen words number g (m .input) →
         SimulatesApplication words allowance number g m (recoveredBy (length words) number recoverer (paidOf g)) (countedFor number m)
-    apply-recovers recoverer e = apply-simulates (chosenNone recoverer) e _ _ (recovers words allowance number recoverer (paidOf g) (countedFor number m))
+    apply-recovers recoverer e = apply-simulates (chosenNone recoverer) e _ _
+        (recovers words allowance number recoverer (paidOf g) (countedFor number m))
 
     -- words that are no sentence end the run
     pub apply-wrong : chosenWrong ≡ Chosen words number g (m .input)
@@ -317,7 +321,8 @@ module _ (words : Words) (allowance number : ℕ) (g : Registers) (m : Memory) w
   undeclared tail e u = stopping words allowance g m m (u .ready) _ _ NoInstruction 0 g (omega arith) (stops tail) refl refl refl refl refl
     where
       stops : (tail : Bool) →
-          perform (lent (roomOf m)) (functionsIn words) (entering (roomOf m) allowance words) (continuationAt (roomOf m) allowance words (g .frame) (g .at .0))
+          perform (lent (roomOf m)) (functionsIn words) (entering (roomOf m) allowance words)
+          (continuationAt (roomOf m) allowance words (g .frame) (g .at .0))
           (suc (g .frame))
           (pick tail (tailCall number) (call number)) (localOf g m) (stacksOf g m) (ledgerOf allowance g m) ≡
           stop noInstruction 0 (ledgerOf allowance g m)
@@ -358,12 +363,14 @@ module _ (words : Words) (allowance number : ℕ) (g : Registers) (input output 
             record {
               same =
                   opens declared (one-left h) (le-ltb 256 (suc (suc k)) (omega arith)) (length-drop (g .p .0) input) selected ∙
-                  above-waiting frames k (g .at .0) (g .q .0) (r .room .frame .frameRoom) above same room allowance words values (u .current) application ∙
+                  above-waiting frames k (g .at .0) (g .q .0) (r .room .frame .frameRoom) above same room allowance words values (u .current)
+                  application ∙
                   rw (declared, counted) (ap (waiting room allowance words (suc k) above values) entered);
               invariant =
                   record {
                     ready = called-ready words allowance number g Caller (suc k) (length words) above (omega arith) there sized counted
-                        (above-waits frames k (g .at .0) (g .q .0) (r .room .frame .frameRoom) above same (length input) (r .room .selection .inside) (r .waits) (u .current)) r;
+                        (above-waits frames k (g .at .0) (g .q .0) (r .room .frame .frameRoom) above same (length input) (r .room .selection .inside)
+                        (r .waits) (u .current)) r;
                     current = empty;
                   };
               room = refl;
@@ -378,6 +385,7 @@ module _ (words : Words) (allowance number : ℕ) (g : Registers) (input output 
           outcomeOfAction (roomOf Caller) allowance words (call number) (g .at .0) g Caller ≡
           waiting (roomOf Caller) allowance words (g .frame) frames values
           (andThen (entering (roomOf Caller) allowance words (suc (suc (g .frame))) number (stacksOf g Caller) (ledgerOf allowance g Caller))
-          (λ s l. continuationAt (roomOf Caller) allowance words (g .frame) (g .at .0) (localAt (g .frame) frames values) (returned (length input - g .q .0) s)
+          (λ s l. continuationAt (roomOf Caller) allowance words (g .frame) (g .at .0) (localAt (g .frame) frames values)
+          (returned (length input - g .q .0) s)
           l))
       opens e e′ e″ long selected = rw (e, e′, e″, long, selected)

@@ -14,7 +14,8 @@ simulates-start words allowance next m invariant = record { same = refl; invaria
 
 module _ (words : Words) (allowance : ℕ) (tocome : Outcomes) (g : Registers) (m n l : Memory) (mid next : Next) where
   pub simulates-on : Simulates words allowance tocome g m mid n →
-      Simulates words allowance (outcomeFrom (roomOf n) allowance words mid n) (registersIn mid) n next l → Simulates words allowance tocome g m next l
+      Simulates words allowance (outcomeFrom (roomOf n) allowance words mid n) (registersIn mid) n next l →
+      Simulates words allowance tocome g m next l
   simulates-on p q =
       record {
         same = p .same ∙ rw (p .room) at (q .same);

@@ -14,7 +14,8 @@ use Rattle.meaning_agreeing.proofs.laws.Depth.{enter-step}
 use Rattle.run_actions.specs.declared.registers.Registers.{Registers}
 use Rattle.run_actions.specs.declared.registers.Next.the-variants.{Onward}
 use Rattle.run_actions.specs.States.{Memory, wordsIn, wordsBelow, frameWord, localAt, Held, stacksOf, Ledgers, ledgerOf, roomOf, Outcomes}
-use Rattle.run_applications.specs.Waiting.{functionsIn, entering, waiting, outcomeFrom, Waits, measureWaiting, backIn, leftFrom, leftBy, calledIn, recoveredBy}
+use Rattle.run_applications.specs.Waiting.{functionsIn, entering, waiting, outcomeFrom, Waits, measureWaiting, backIn, leftFrom, leftBy}
+use Rattle.run_applications.specs.Waiting.{calledIn, recoveredBy}
 
 -- A FRAME DEPENDS ON ITS OWN WORDS AND VALUES ALONE
 

@@ -41,7 +41,8 @@ returns : tie.Need-returns
 returns c =
     let at-store-values = c .before .before .before .before in
     λ allowance output «record». starts-wrong _ _ _ _ _ _ _ _ _ _ _ _ (entry at-store-values .pre .1 .1 .1)
-    (stored-as (ap (Kept at-store-values) (at-store-values .before .before .part .ensures)) (rw (c .enum-told .given .1) at (at-store-values .store-values .ensures)))
+    (stored-as (ap (Kept at-store-values) (at-store-values .before .before .part .ensures))
+    (rw (c .enum-told .given .1) at (at-store-values .store-values .ensures)))
 
 returns-2 : tie.Need-returns-2
 returns-2 c =
@@ -51,7 +52,8 @@ returns-2 c =
     λ allowance output «record». rw (at-begin-frame .begin-frame .ensures, selected at-store-values)
     (starts-right _ _ _ _ _ _ _ _ _ _ _ _ (entry at-store-values .pre .1 .1 .1) (at-actions .actions .given .0 .0)
     (at-store-values .store-values .kept .1 .1 .1 .1 .1 .0)
-    (stored-as (ap (Kept at-store-values) (at-store-values .before .before .part .ensures)) (rw (at-actions .actions .given .1) at (at-store-values .store-values .ensures))))
+    (stored-as (ap (Kept at-store-values) (at-store-values .before .before .part .ensures))
+    (rw (at-actions .actions .given .1) at (at-store-values .store-values .ensures))))
 
 pub start-sentence-spec : {M : Type 1} → statement M
 start-sentence-spec =

@@ -36,7 +36,8 @@ same-length-2 c = c .before .before .before .before .before .before .loop .inv .
 returns-2 : tie.Need-returns-2 Inv-loop μ-loop
 returns-2 c =
     let at-stored-cell = c .before .before in
-    storing-wrong _ _ _ _ _ _ _ _ _ _ (turn at-stored-cell .loop .inv) (there at-stored-cell .before .loop-test .taken) (there at-stored-cell .if1 .left)
+    storing-wrong _ _ _ _ _ _ _ _ _ _ (turn at-stored-cell .loop .inv) (there at-stored-cell .before .loop-test .taken)
+    (there at-stored-cell .if1 .left)
     (sym (at-stored-cell .stored-cell .ensures) ∙ ap cellMeant (c .enum-told .given .1))
 
 loop-again : tie.Need-loop-again Inv-loop μ-loop

@@ -100,7 +100,8 @@ module _ (words : Words) (start : ℕ) (text input output «record» : Bytes) (f
         Leaves (endedWith NoSentenceFits start) (countsIn (countedIn start frames)) (cells (clearedFrom 0 input) (clearedFrom 0 output) «record»)
         (afterRun (runLent (roomOfCells (cells input output «record»)) (functionsIn words) start text allowance) (cells input output «record»))
     ends-unfitted e =
-        leaves-end (roomOf Memory-then) allowance words Memory-then (Stopped (Ended (length input)) NoSentenceFits start) (cells input output «record») _
+        leaves-end (roomOf Memory-then) allowance words Memory-then (Stopped (Ended (length input)) NoSentenceFits start)
+        (cells input output «record») _
         (chosen-runs allowance (chosenNone 0) allowed e) tt (record { below = omega arith; logged = omega arith }) refl refl
 
     pub ends-dropped : Drop Chosen →

@@ -39,7 +39,8 @@ pub has-ended : (allowance : ℕ) (last : Next) (n : Memory) → length (n .fram
 has-ended allowance (Onward g) n sized over invariant = absurd over
 has-ended allowance (Done g) n sized over invariant = tt
 has-ended allowance (Stopped g ending function) n sized over invariant = tt
-has-ended allowance (Deeper g) n sized over invariant = not-all (g .frame) (ltb (suc (g .frame)) maxFrames) (n .frames) sized refl (invariant .crowded)
+has-ended allowance (Deeper g) n sized over invariant =
+    not-all (g .frame) (ltb (suc (g .frame)) maxFrames) (n .frames) sized refl (invariant .crowded)
 
 -- nor does one that goes on nowhere else
 pub ended-tagged : (last : Next) → (tagOf next-declared.the-type last ≡ 0) ⊎
@@ -53,7 +54,8 @@ ended-tagged (Deeper g) (inr (inl e)) over = absurd (subst (λ (k : ℕ). T (eqb
 ended-tagged (Deeper g) (inr (inr e)) over = absurd (subst (λ (k : ℕ). T (eqb 3 k)) e tt)
 
 -- where a run goes on deeper, it is under way, and what follows from there follows from its start
-pub crowded-invariant : {allowance : ℕ} {last : Next} {g : Registers} {n : Memory} → last ≡ Deeper g → NextInvariant allowance last n → Invariant allowance g n
+pub crowded-invariant : {allowance : ℕ} {last : Next} {g : Registers} {n : Memory} → last ≡ Deeper g → NextInvariant allowance last n →
+    Invariant allowance g n
 crowded-invariant e invariant = (rw e at invariant) .invariant
 
 pub deeper-on : {words : Words} {allowance : ℕ} {first mid last : Next} {m n l : Memory} {g : Registers} → mid ≡ Deeper g
@@ -131,7 +133,8 @@ module _ (few rest : List ℕ) (values all : Bytes) (begins : take (length value
           current = held-same few (few ++ rest) (suc (g .frame)) current-there (g .frame) (omega arith) (u .current);
         }
 
-    grown-outcome : outcomeFrom (roomOf (memory input output «record» few values)) allowance words (Onward g) (memory input output «record» few values) ≡
+    grown-outcome : outcomeFrom (roomOf (memory input output «record» few values)) allowance words (Onward g)
+        (memory input output «record» few values) ≡
         outcomeFrom (roomOf (memory input output «record» few values)) allowance words (Onward g) (memory input output «record» (few ++ rest) all)
     grown-outcome =
         rw (
@@ -145,8 +148,10 @@ module _ (few rest : List ℕ) (values all : Bytes) (begins : take (length value
     -- followed to its end there, and the counts brought back
     grown-follows : (last : Next) (input′ output′ «record′» : Bytes) (frames few′ : List ℕ) (values′ : Bytes) → length frames ≡ wordsFor maxFrames →
         countsIn few′ ≡ countsIn frames →
-        SimulatesUntil IsOver words allowance (Onward g) (memory input output «record» (few ++ rest) all) last (memory input′ output′ «record′» frames values′) →
-        SimulatesUntil HasEnded words allowance (Onward g) (memory input output «record» few values) last (memory input′ output′ «record′» few′ values)
+        SimulatesUntil IsOver words allowance (Onward g) (memory input output «record» (few ++ rest) all) last
+        (memory input′ output′ «record′» frames values′) →
+        SimulatesUntil HasEnded words allowance (Onward g) (memory input output «record» few values) last
+        (memory input′ output′ «record′» few′ values)
     grown-follows last input′ output′ «record′» frames few′ values′ whole counts follows =
         let l = follows .simulates in
         let ended = has-ended allowance last (memory input′ output′ «record′» frames values′) whole (follows .ended) (l .invariant) in
@@ -156,7 +161,8 @@ module _ (few rest : List ℕ) (values all : Bytes) (begins : take (length value
                 same = grown-outcome ∙ l .same ∙
                     outcome-ended words allowance (memory input output «record» few values) input′ output′ «record′» frames few′ values values′ counts
                     last ended;
-                invariant = invariant-ended words allowance (memory input output «record» few values) input′ output′ «record′» frames few′ values values′ counts
+                invariant = invariant-ended words allowance (memory input output «record» few values) input′ output′ «record′» frames few′ values
+                    values′ counts
                     last ended (l .invariant);
                 room = l .room;
                 beyond = l .beyond;
@@ -192,9 +198,11 @@ module _ {few many : List ℕ} {values stored : Bytes} (grown : Grown few many v
       (grown-invariant few (grown .rest) values stored (grown .begins) input output «record» words allowance g u (rw (grown .begun) at (grown .sized))
       (grown .wide))
 
-  pub deeper-follows : (last : Next) (input′ output′ «record′» : Bytes) (frames few′ : List ℕ) (values′ : Bytes) → length frames ≡ wordsFor maxFrames →
+  pub deeper-follows : (last : Next) (input′ output′ «record′» : Bytes) (frames few′ : List ℕ) (values′ : Bytes) → length frames ≡
+      wordsFor maxFrames →
       countsIn few′ ≡ countsIn frames →
-      SimulatesUntil IsOver words allowance (Onward g) (memory input output «record» many stored) last (memory input′ output′ «record′» frames values′) →
+      SimulatesUntil IsOver words allowance (Onward g) (memory input output «record» many stored) last
+      (memory input′ output′ «record′» frames values′) →
       SimulatesUntil HasEnded words allowance (Onward g) (memory input output «record» few values) last (memory input′ output′ «record′» few′ values)
   deeper-follows last input′ output′ «record′» frames few′ values′ whole counts follows =
       grown-follows few (grown .rest) values stored (grown .begins) input output «record» words allowance g u (rw (grown .begun) at (grown .sized))

@@ -7,7 +7,8 @@ use native.Mathlib.Omega.{arith}
 use mathlib.Core.Path.{_≡_, refl, sym, ap, _∙_}
 use mathlib.Core.Bool.{true, false}
 use mathlib.Core.List.{List, [], _∷_, _++_, append-assoc, append-nil}
-use lib.ListN.{length, getD, take, drop, set, length-append, length-replicate, getD-replicate, List·getD-eq-default, replicate-append-replicate, take-append-drop}
+use lib.ListN.{length, getD, take, drop, set, length-append, length-replicate, getD-replicate, List·getD-eq-default, replicate-append-replicate}
+use lib.ListN.{take-append-drop}
 use lib.Seq.{drop-cons, append-snoc, set-at, drop-at, length-take-le, take-length, drop-length, paste}
 use borrow.Author.Tests.{le-leb, lt-leb}
 use Rattle.meaning.specs.Choice.{Bytes}
@@ -46,7 +47,8 @@ module _ (bytes : Bytes) (start : ℕ) (within : start ≤ length bytes) where
   cleared-one i h l =
       let front = take start bytes ++ zeros (i - start) in
       let sized : length front ≡ i =
-      rw (length-append (take start bytes) (zeros (i - start)), length-take-le start bytes within, length-replicate {A = ℕ} (i - start) 0) (omega arith) in
+      rw (length-append (take start bytes) (zeros (i - start)), length-take-le start bytes within, length-replicate {A = ℕ} (i - start) 0)
+      (omega arith) in
       let more : i + 1 - start ≡ i - start + 1 = omega arith in
       rw (
         drop-cons bytes i 0 l,
@@ -65,14 +67,16 @@ module _ (bytes : Bytes) (start : ℕ) (within : start ≤ length bytes) where
 
 -- THE END
 
-pub reported-within : (allowance : ℕ) (last : Next) (m : Memory) → HasEnded last → NextInvariant allowance last m → reportedOf last .text ≤ length (m .output)
+pub reported-within : (allowance : ℕ) (last : Next) (m : Memory) → HasEnded last → NextInvariant allowance last m →
+    reportedOf last .text ≤ length (m .output)
 reported-within allowance (Onward g) m o k = absurd o
 reported-within allowance (Deeper g) m o k = absurd o
 reported-within allowance (Done g) m o k = k .below
 reported-within allowance (Stopped g ending function) m o k = omega arith
 
 module _ (room : Room) (allowance : ℕ) (words : Words) (m : Memory) where
-  tells-end : (last : Next) → HasEnded last → NextInvariant allowance last m → Tells (reportedOf last) (resultOf (textOf (outcomeFrom room allowance words last m)))
+  tells-end : (last : Next) → HasEnded last → NextInvariant allowance last m →
+      Tells (reportedOf last) (resultOf (textOf (outcomeFrom room allowance words last m)))
   tells-end (Onward g) o k = absurd o
   tells-end (Deeper g) o k = absurd o
   tells-end (Done g) o k =
@@ -125,9 +129,11 @@ module _ (room : Room) (allowance : ℕ) (words : Words) (m : Memory) where
         ap (λ r. r .outCells) e,
       )
 
-  pub leaves-end : (last : Next) (before : Cells) (o : Outcomes) → o ≡ outcomeFrom room allowance words last m → HasEnded last → NextInvariant allowance last m →
+  pub leaves-end : (last : Next) (before : Cells) (o : Outcomes) → o ≡ outcomeFrom room allowance words last m → HasEnded last →
+      NextInvariant allowance last m →
       roomOf m ≡ roomOfCells before → drop (registersIn last .emitted) (m .«record») ≡ drop (registersIn last .emitted) (before .«record») →
-      Leaves (reportedOf last) (countsIn (m .frames)) (cells (clearedFrom 0 (m .input)) (clearedFrom (reportedOf last .text) (m .output)) (m .«record»))
+      Leaves (reportedOf last) (countsIn (m .frames)) (cells (clearedFrom 0 (m .input)) (clearedFrom (reportedOf last .text) (m .output))
+      (m .«record»))
       (afterRun (resultOf (textOf o)) before)
   leaves-end last before o e over k room beyond =
       rw e (record { tells = tells-end last over k; counted = counts-end last over; leaves = cells-end last before over k room beyond })
@@ -206,11 +212,13 @@ module _ (text input input′ : Bytes) (l : Loaded text input input′) where
 
     -- and leaves what it should when it has been followed to its end
     pub ending : (last : Next) (m : Memory) → Simulates words allowance Whole Beginning Start last m → HasEnded last →
-        Leaves (reportedOf last) (countsIn (m .frames)) (cells (clearedFrom 0 (m .input)) (clearedFrom (reportedOf last .text) (m .output)) (m .«record»))
+        Leaves (reportedOf last) (countsIn (m .frames)) (cells (clearedFrom 0 (m .input)) (clearedFrom (reportedOf last .text) (m .output))
+        (m .«record»))
         (afterRun (runLent (roomOfCells (cells input output «record»)) (functionsIn words) start text allowance) (cells input output «record»))
     ending last m simulates over =
         rw (l .sized) at
-        (leaves-end (roomOf Start) allowance words m last (cells input output «record») Whole (simulates .same) over (simulates .invariant) (simulates .room ∙ rw (l .sized))
+        (leaves-end (roomOf Start) allowance words m last (cells input output «record») Whole (simulates .same) over (simulates .invariant)
+        (simulates .room ∙ rw (l .sized))
         (simulates .beyond «record» refl))
 
 -- BEFORE A RUN

@@ -26,7 +26,8 @@ lent c = cells (entry c .args .input .now) (entry c .args .output .now) (entry c
 sound : (c : tie.Else1) → soundIn (entry (c .before) .args .code .now) ≡ true
 sound c = sym (c .before .sound-table .ensures) ∙ not-false _ (c .if1 .left)
 
-starts : (c : tie.Else2) → isDeclared (functionsIn (entry (c .before .before .before) .args .code .now)) (entry (c .before .before .before) .args .start) ≡ true
+starts : (c : tie.Else2) → isDeclared (functionsIn (entry (c .before .before .before) .args .code .now))
+    (entry (c .before .before .before) .args .start) ≡ true
 starts c = sym (c .before .declared .ensures) ∙ not-false _ (c .if2 .left)
 
 returns : tie.Need-returns
@@ -64,8 +65,16 @@ run-foreseen-requires c κs =
     let at-if1 = at-if3 .before .before .before in
     let a = entry (at-if1 .before) .args in
     let counted = sound-counted (a .code .now) (sound at-if1) in
-    let d = is-declared (a .code .now) counted (a .start) (starts (at-if3 .before)) in
-    (counted, (d .0, (d .1, (at-if3 .if3 .left, (at-words .first-words .ensures .0, (at-values .first-values .ensures, at-words .first-words .ensures .1))))))
+    let d = is-declared (a .code .now) counted (a .start) (starts (at-if3 .before)) in (
+      counted,
+      (
+        d .0,
+        (
+          d .1,
+          (at-if3 .if3 .left, (at-words .first-words .ensures .0, (at-values .first-values .ensures, at-words .first-words .ensures .1))),
+        ),
+      ),
+    )
 
 copy-counts-requires : tie.Need-copy-counts-requires
 copy-counts-requires c κs =
@@ -78,7 +87,8 @@ returns-4 c =
     let at-run-foreseen = c .before .before .before .before .before .before .before .before .before .before .before in
     let at-if3 = at-run-foreseen .before .before .before .before .before .before .before .before in
     let at-if1 = at-if3 .before .before .before in
-    rw (leaving-runs _ _ _ (lent (at-if1 .before)) _ (sound at-if1) (starts (at-if3 .before)) (at-if3 .if3 .left), c .copy-counts .ensures) (at-run-foreseen .run-foreseen .ensures)
+    rw (leaving-runs _ _ _ (lent (at-if1 .before)) _ (sound at-if1) (starts (at-if3 .before)) (at-if3 .if3 .left), c .copy-counts .ensures)
+    (at-run-foreseen .run-foreseen .ensures)
 
 pub run-spec : {M : Type 1} → statement M
 run-spec =

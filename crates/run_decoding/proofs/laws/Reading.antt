@@ -13,10 +13,12 @@ use Rattle.run_code_places.specs.declared.CodePlace.{CodePlace}
 use Rattle.meaning.specs.Choice.{pick}
 use Rattle.meaning.specs.Angles.{plus, minus}
 use Rattle.meaning.specs.Instructions.{Action, go, select, out, outC, outV, beginSeq, useSeq, call, tailCall, unknownAction}
-use Rattle.meaning.specs.Packing.{Words, numberIn, firstIn, secondIn, thirdIn, lengthOf, operationOf, spanAction, computeOf, emissionOf, unpackActions}
+use Rattle.meaning.specs.Packing.{Words, numberIn, firstIn, secondIn, thirdIn, lengthOf, operationOf, spanAction, computeOf, emissionOf}
+use Rattle.meaning.specs.Packing.{unpackActions}
 use Rattle.run_decoding.specs.declared.Instruction.{Instruction}
 use Rattle.run_decoding.specs.declared.Write.the-variants.{Out, OutC, OutV}
-use Rattle.run_decoding.specs.declared.Instruction.the-variants.{Go, Select, Write as Writes, BeginSeq, UseSeq, Call as Calls, Emit, Compute, End, Unknown}
+use Rattle.run_decoding.specs.declared.Instruction.the-variants.{Go, Select, Write as Writes, BeginSeq, UseSeq, Call as Calls, Emit, Compute}
+use Rattle.run_decoding.specs.declared.Instruction.the-variants.{End, Unknown}
 use Rattle.run_decoding.specs.Decoded.{callIn, computationIn, instructionIn, Numbered, Taken, actionsMeant}
 use Rattle.meaning.proofs.laws.Remaining.{at-place, past-end}
 

@@ -14,7 +14,8 @@ returns : tie.Need-returns
 returns c = rw (c .if1 .taken)
 
 returns-2 : tie.Need-returns-2
-returns-2 c = let a = c .before .before .before .before .args in rw (too-long (length (a .string .now)) (length (a .text .now)) (a .places) (a .first) (c .if2 .taken))
+returns-2 c = let a = c .before .before .before .before .args in
+    rw (too-long (length (a .string .now)) (length (a .text .now)) (a .places) (a .first) (c .if2 .taken))
 
 returns-3 : tie.Need-returns-3
 returns-3 c =

@@ -24,7 +24,8 @@ pub record Marked (string marks : List ℕ) (unit at : ℕ) : Type 0 where
 half-power : (n : ℕ) → 2 ^ suc n / 2 ≡ 2 ^ n
 half-power n = let power : 2 ^ suc n ≡ 2 ^ n * 2 = pow-suc 2 n in rw power (omega arith)
 
-pub marked-first : (string marks : List ℕ) (unit : ℕ) → 1 ≤ length string → marks ≡ replicate 256 0 → unit ≡ 2 ^ (length string - 1) → Marked string marks unit 0
+pub marked-first : (string marks : List ℕ) (unit : ℕ) → 1 ≤ length string → marks ≡ replicate 256 0 → unit ≡ 2 ^ (length string - 1) →
+    Marked string marks unit 0
 unfolding occurrenceBits backwards
 marked-first string marks unit h e e′ =
     let whole : length string - 0 ≡ suc (length string - 1) = omega arith in
@@ -42,7 +43,8 @@ one-bit-more m p b =
     by-bit true = rw (one-mul p)
     by-bit false = rw (zero-mul p)
 
-next-byte : (string : Bytes) (at c : ℕ) → occurrenceBits (backwards string (at + 1)) c ≡ occurrenceBits (backwards string at) c * 2 + bit (eqb (getD string at 0) c)
+next-byte : (string : Bytes) (at c : ℕ) → occurrenceBits (backwards string (at + 1)) c ≡
+    occurrenceBits (backwards string at) c * 2 + bit (eqb (getD string at 0) c)
 unfolding occurrenceBits backwards
 next-byte string at c = rw (add-one at)
 
@@ -57,7 +59,8 @@ module _ (string marks : List ℕ) (unit at : ℕ) (m : Marked string marks unit
   grown : (c : ℕ) → c < 256 → getD marks c 0 + pick (eqb byte c) (2 ^ left) 0 ≡ occurrenceBits (backwards string (at + 1)) c * 2 ^ left
   grown c below =
       let more : length string - at ≡ suc left = omega arith in
-      rw (m .each c below, more, pow-suc 2 left, next-byte string at c) (sym (one-bit-more (occurrenceBits (backwards string at) c) (2 ^ left) (eqb byte c)))
+      rw (m .each c below, more, pow-suc 2 left, next-byte string at c)
+      (sym (one-bit-more (occurrenceBits (backwards string at) c) (2 ^ left) (eqb byte c)))
 
   unit-here : unit ≡ 2 ^ left
   unit-here = let more : length string - at ≡ suc left = omega arith in m .unit-is ∙ rw more (half-power left)

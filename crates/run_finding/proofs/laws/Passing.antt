@@ -55,7 +55,8 @@ module _ (string text : Bytes) (first : ℕ) where
     unfolding backwards
     shorter-bits = rw size (shorter (backwards string k) (getD string k 0) (backwards (drop first text) read))
 
-    byte-more : bitAnd (stateOf (backwards string k) (backwards (drop first text) read) + 2 ^ k) (occurrenceBits (backwards string (length string)) (getD text (first + read) 0)) ≡
+    byte-more : bitAnd (stateOf (backwards string k) (backwards (drop first text) read) + 2 ^ k)
+        (occurrenceBits (backwards string (length string)) (getD text (first + read) 0)) ≡
         after (read + 1)
     unfolding backwards
     byte-more =
@@ -65,7 +66,8 @@ module _ (string text : Bytes) (first : ℕ) where
         (rw (backwards-length string k) at (one-more xs x (getD text (first + read) 0) (backwards (drop first text) read)))
 
     module _ (state top : ℕ) (e : state ≡ after read) (e′ : top ≡ 2 ^ k) where
-      pub next-bits : (marked : ℕ) → marked ≡ occurrenceBits (backwards string (length string)) (getD text (first + read) 0) → bitAnd (state / 2 + top) marked ≡ after (read + 1)
+      pub next-bits : (marked : ℕ) → marked ≡ occurrenceBits (backwards string (length string)) (getD text (first + read) 0) →
+          bitAnd (state / 2 + top) marked ≡ after (read + 1)
       next-bits marked e″ = rw (e, e′, e″, shorter-bits) byte-more
 
       pub bits-fit : length string ≤ 64 → state / 2 + top < 2 ^ 64
@@ -90,16 +92,19 @@ module _ (string text : Bytes) (first : ℕ) where
       (starts-short (backwards string (length string)) (backwards (drop first text) read) e)
 
   -- the place that a byte decides
-  decided : (q : ℕ) → first + q + length string ≤ length text → (b : Bool) → ended (q + length string) ≡ b → checked (startsWith string (drop (first + q) text)) ≡ checked b
+  decided : (q : ℕ) → first + q + length string ≤ length text → (b : Bool) → ended (q + length string) ≡ b →
+      checked (startsWith string (drop (first + q) text)) ≡ checked b
   decided q h b e =
       let room : q + length string ≤ length (drop first text) = rw (length-drop first text) (omega arith) in
       rw (← (drop-drop q first text), ← (stands string (drop first text) q room), e)
 
   decides-on : (places q left from : ℕ) → q < places → first + q + length string ≤ length text → ended (q + length string) ≡ false →
-      left ≡ places - q - 1 → from ≡ first + q + 1 → leftmostOccurrence string text (places - q) (first + q) ≡ leftmostOccurrence string text left from
+      left ≡ places - q - 1 → from ≡ first + q + 1 → leftmostOccurrence string text (places - q) (first + q) ≡
+      leftmostOccurrence string text left from
   decides-on places q left from h h′ e e′ e″ = rw (e′, e″) (place-fails test (places - q) (first + q) (omega arith) (decided q h′ false e))
 
-  same-range : (places left from left′ from′ : ℕ) → left ≡ left′ → from ≡ from′ → leftmostOccurrence string text left from ≡ leftmostOccurrence string text left′ from′
+  same-range : (places left from left′ from′ : ℕ) → left ≡ left′ → from ≡ from′ → leftmostOccurrence string text left from ≡
+      leftmostOccurrence string text left′ from′
   same-range places left from left′ from′ e e′ = rw (e, e′)
 
   -- the search over the places that so many bytes leave undecided
@@ -115,9 +120,12 @@ module _ (string text : Bytes) (first : ℕ) where
     goes-on e = by-order (leb (length string) (read + 1)) refl
       where
         by-order : (b : Bool) → leb (length string) (read + 1) ≡ b → undecided places read ≡ undecided places (read + 1)
-        by-order true h = decides-on places (read + 1 - length string) _ _ (omega (arith, leb-true (length string) (read + 1) h)) (omega (arith, leb-true (length string) (read + 1) h))
-            (rw (again (leb-true (length string) (read + 1) h)) e) (omega (arith, leb-true (length string) (read + 1) h)) (omega (arith, leb-true (length string) (read + 1) h))
-        by-order false h = same-range places _ _ _ _ (omega (arith, leb-false (length string) (read + 1) h)) (omega (arith, leb-false (length string) (read + 1) h))
+        by-order true h = decides-on places (read + 1 - length string) _ _ (omega (arith, leb-true (length string) (read + 1) h))
+            (omega (arith, leb-true (length string) (read + 1) h))
+            (rw (again (leb-true (length string) (read + 1) h)) e) (omega (arith, leb-true (length string) (read + 1) h))
+            (omega (arith, leb-true (length string) (read + 1) h))
+        by-order false h = same-range places _ _ _ _ (omega (arith, leb-false (length string) (read + 1) h))
+            (omega (arith, leb-false (length string) (read + 1) h))
 
     -- it ends there
     pub ends-here : ended (read + 1) ≡ true → undecided places read ≡ foundAt (first + (read + 1) - length string)

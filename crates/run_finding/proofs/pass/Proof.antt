@@ -1,4 +1,5 @@
--- `pass` meets its contract. The loop's invariant: the bits are those of the bytes read, and the places that these leave undecided are all that is left to search.
+-- `pass` meets its contract. The loop's invariant: the bits are those of the bytes read, and the places that these leave undecided are all that is
+-- left to search.
 use native.Mathlib.Omega.{arith}
 use Prim.Native.Nat.{ℕ, suc, _+_, _-_, _/_, _<_}
 use mathlib.Core.Path.{_≡_, sym, ap, _∙_}
@@ -7,7 +8,8 @@ use lib.Bits.{bitAnd}
 use lib.ListN.{length, getD, drop}
 use Rattle.meaning.specs.Choice.{Bytes, startsWith}
 use Rattle.run_finding.specs.Occurrences.{leftmostOccurrence, occurrenceOf, backwards}
-use Rattle.run_finding.proofs.laws.Passing.{after, undecided, none-read, next-bits, bits-fit, goes-on, ends-here, ended-size, all-decided, none-decided, odd-ended, even-on}
+use Rattle.run_finding.proofs.laws.Passing.{after, undecided, none-read, next-bits, bits-fit, goes-on, ends-here, ended-size, all-decided}
+use Rattle.run_finding.proofs.laws.Passing.{none-decided, odd-ended, even-on}
 use Rattle.run_finding.proofs.pass.Statement.{statement}
 use Rattle.run_finding.proofs.pass.Tie as tie
 
@@ -61,8 +63,10 @@ bits c =
 
 loop-holds : tie.Need-loop-holds Inv-loop μ-loop
 loop-holds c =
-    let a = c .before .before .before .args in
-    (sym (none-read (a .string .now) (a .text .now) (a .first)), none-decided (a .string .now) (a .text .now) (a .first) (a .places) (c .before .before .before .pre .1 .0))
+    let a = c .before .before .before .args in (
+      sym (none-read (a .string .now) (a .text .now) (a .first)),
+      none-decided (a .string .now) (a .text .now) (a .first) (a .places) (c .before .before .before .pre .1 .0),
+    )
 
 add-byte : tie.Need-add-byte Inv-loop μ-loop
 add-byte c = let h = c .before .before .before .before .before .pre .1 .1 .1 .0 in omega arith
@@ -84,12 +88,16 @@ ended : (c : tie.Then1 Inv-loop μ-loop) → let at = c .before .before in
 ended c = let at = c .before .before in odd-ended (string at) (text at) (first at) _ (read at + 1) (sized at) (rw (bits at) at (c .if1 .taken))
 
 sub-t23 : tie.Need-sub-t23 Inv-loop μ-loop
-sub-t23 c = let at = c .before .before in omega (arith, ended-size (string at) (text at) (first at) (entered at .args .places) (read at) (inside at) (within at) (ended c))
+sub-t23 c = let at = c .before .before in omega (
+  arith,
+  ended-size (string at) (text at) (first at) (entered at .args .places) (read at) (inside at) (within at) (ended c),
+)
 
 returns : tie.Need-returns Inv-loop μ-loop
 returns c =
     let at = c .before .before in
-    ap occurrenceOf (sym (ends-here (string at) (text at) (first at) (entered at .args .places) (read at) (inside at) (within at) (ended c)) ∙ turn at .loop .inv .1)
+    ap occurrenceOf (sym (ends-here (string at) (text at) (first at) (entered at .args .places) (read at) (inside at) (within at) (ended c)) ∙
+    turn at .loop .inv .1)
 
 loop-again : tie.Need-loop-again Inv-loop μ-loop
 loop-again c =
@@ -100,7 +108,8 @@ loop-again c =
 returns-2 : tie.Need-returns-2 Inv-loop μ-loop
 returns-2 c =
     let a = c .before .before .before .before .before .args in
-    let none = all-decided (a .string .now) (a .text .now) (a .first) (a .places) _ (c .before .before .before .before .before .pre .1 .0) (c .loop-test .left) in
+    let none = all-decided (a .string .now) (a .text .now) (a .first) (a .places) _ (c .before .before .before .before .before .pre .1 .0)
+    (c .loop-test .left) in
     ap occurrenceOf (sym none ∙ c .before .loop .inv .1)
 
 pub pass-spec : {M : Type 1} → statement M

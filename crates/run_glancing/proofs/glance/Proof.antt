@@ -42,7 +42,8 @@ loop-again c =
     let at-is-out = c .before .before in
     let at-if3 = at-is-out .before .before in
     rw (c .wide .ensures)
-    (passed-over _ _ _ _ (turn (at-if3 .before .before) .loop .inv) (at-if3 .if3 .left) (rw (not-false (at-is-out .is-out .result) (c .before .if4 .left)) at (at-is-out .is-out .ensures)))
+    (passed-over _ _ _ _ (turn (at-if3 .before .before) .loop .inv) (at-if3 .if3 .left)
+    (rw (not-false (at-is-out .is-out .result) (c .before .if4 .left)) at (at-is-out .is-out .ensures)))
 
 pub glance-spec : {M : Type 1} → statement M
 glance-spec =

@@ -51,7 +51,8 @@ returns-4 : tie.Need-returns-4
 returns-4 c =
     let at-wide = c .before in
     let at-if2 = at-wide .before .before in
-    out-at-each (c .looks-fail .result) _ _ _ _ (omega (arith, at-if2 .if2 .left)) (tries (at-if2 .before)) (rw (at-wide .wide .ensures) at (c .looks-fail .ensures))
+    out-at-each (c .looks-fail .result) _ _ _ _ (omega (arith, at-if2 .if2 .left)) (tries (at-if2 .before))
+    (rw (at-wide .wide .ensures) at (c .looks-fail .ensures))
 
 pub is-out-spec : {M : Type 1} → statement M
 is-out-spec =

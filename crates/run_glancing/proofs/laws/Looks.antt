@@ -44,7 +44,8 @@ module _ (field : Bytes) (w place : ℕ) where
   compared false e = let z : _≡_ {A = ℕ} 0 1 = cc in omega arith
 
   pub look-place : w % 65536 ≡ 513 → place + secondIn w < length field → check (testOf w) field place ≡ wrong → ⊥
-  look-place h inside = rw (look-from w 2 h, nth-in field (place + secondIn w) inside) (compared (eqb (thirdIn w) (getD field (place + secondIn w) 0)))
+  look-place h inside = rw (look-from w 2 h, nth-in field (place + secondIn w) inside)
+      (compared (eqb (thirdIn w) (getD field (place + secondIn w) 0)))
 
 -- THE TESTS
 

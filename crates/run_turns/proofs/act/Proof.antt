@@ -31,7 +31,8 @@ abbrev words : tie.After-decode → Words
 words c = entry c .args .code .now
 
 abbrev lent : tie.After-decode → Memory
-lent c = memory (entry c .args .input .now) (entry c .args .output .now) (entry c .args .«record» .now) (entry c .args .frames .now) (entry c .args .values .now)
+lent c = memory (entry c .args .input .now) (entry c .args .output .now) (entry c .args .«record» .now) (entry c .args .frames .now)
+    (entry c .args .values .now)
 
 acting : (c : tie.After-decode) → ActingInvariant (entry c .args .allowance) (g c) (lent c)
 acting c = entry c .pre .1
@@ -39,7 +40,8 @@ acting c = entry c .pre .1
 within : (c : tie.After-decode) → g c .at .0 < length (words c)
 within c = c .before .before .before .before .before .if1 .left
 
-read : (c : tie.After-decode) (i : Instruction) → c .decode .result ≡ i → unpackActions 0 (drop (g c .at .0) (words c)) ≡ actionsMeant i (drop (g c .at .0 + 1) (words c))
+read : (c : tie.After-decode) (i : Instruction) → c .decode .result ≡ i → unpackActions 0 (drop (g c .at .0) (words c)) ≡
+    actionsMeant i (drop (g c .at .0 + 1) (words c))
 read c i e = actions-at (words c) (g c .at .0) i (rw e at (c .decode .ensures)) (within c)
 
 -- an instruction that is one action, and leads on to a place
@@ -55,7 +57,8 @@ returns : tie.Need-returns
 returns c =
     let entry = c .before .before .before .before .before .before .before in
     let a = entry .args in
-    does-step _ _ (turn-unknown _ _ _ _ (entry .pre .1 .idle) [] (entry .pre .1 .invariant) (actions-none (a .code .now) (a .g .at .0) (c .if1 .taken)) (a .g) refl refl refl)
+    does-step _ _ (turn-unknown _ _ _ _ (entry .pre .1 .idle) [] (entry .pre .1 .invariant)
+    (actions-none (a .code .now) (a .g .at .0) (c .if1 .taken)) (a .g) refl refl refl)
 
 write-requires : tie.Need-write-requires
 write-requires c κs =
@@ -63,18 +66,23 @@ write-requires c κs =
     (u .ready .room .selection, (u .ready .room .written .below, (u .ready .room .frame, (u .current, u .ready .room .values))))
 
 returns-2 : tie.Need-returns-2
-returns-2 c = acts (c .before .before .before .before .before) _ (c .before .before .before .span .given .1) _ _ refl (omega arith) _ _ refl (c .go .ensures _ _ _)
+returns-2 c = acts (c .before .before .before .before .before) _ (c .before .before .before .span .given .1) _ _ refl (omega arith) _ _ refl
+    (c .go .ensures _ _ _)
 
 returns-3 : tie.Need-returns-3
-returns-3 c = acts (c .before .before .before .before .before) _ (c .before .before .before .span2 .given .1) _ _ refl (omega arith) _ _ refl (c .select .ensures _ _ _)
+returns-3 c = acts (c .before .before .before .before .before) _ (c .before .before .before .span2 .given .1) _ _ refl (omega arith) _ _ refl
+    (c .select .ensures _ _ _)
 
 returns-4 : tie.Need-returns-4
-returns-4 c = acts (c .before .before .before .before .before .before .before .before) _ (c .before .before .before .before .before .before .what .given .1) _ _ refl (omega arith) _ _ (rw (c .before .before .write .kept .1 .1 .1 .0)) (c .before .before .write .ensures _)
+returns-4 c = acts (c .before .before .before .before .before .before .before .before) _
+    (c .before .before .before .before .before .before .what .given .1) _ _ refl (omega arith) _ _ (rw (c .before .before .write .kept .1 .1 .1 .0))
+    (c .before .before .write .ensures _)
 
 returns-5 : tie.Need-returns-5
 returns-5 c =
     let at-decode = (c .before .before .before .before .before .before) in
-    acts at-decode _ (c .before .before .before .before .enum-told .given .1) _ _ refl (omega arith) _ _ refl (c .before .before .begin-seq .ensures _ _ _ _ (acting at-decode .invariant .ready .room .written .below))
+    acts at-decode _ (c .before .before .before .before .enum-told .given .1) _ _ refl (omega arith) _ _ refl
+    (c .before .before .begin-seq .ensures _ _ _ _ (acting at-decode .invariant .ready .room .written .below))
 
 returns-6 : tie.Need-returns-6
 returns-6 c =
@@ -105,31 +113,36 @@ returns-8 c =
     let at-crowded = c .before .before .before .before .before in
     let at-decode = decoded at-crowded in
     does-step _ _
-    (turn-simulates _ _ _ _ (acting at-decode .idle) _ (g at-decode .at .0 + 1) _ _ (within at-decode) (acting at-decode .invariant) (read at-decode _ (at-what at-crowded .what2 .given .1))
+    (turn-simulates _ _ _ _ (acting at-decode .idle) _ (g at-decode .at .0 + 1) _ _ (within at-decode) (acting at-decode .invariant)
+    (read at-decode _ (at-what at-crowded .what2 .given .1))
     (c .before .before .call .ensures _ _ _ _))
 
 returns-9 : tie.Need-returns-9
 returns-9 c =
     let at-decode = (c .before .before .before .before .before .before .before) in
     let named = actions-named (words at-decode) (g at-decode .at .0 + 1) (c .before .before .before .before .before .length .given .0 .0) in
-    acts at-decode _ (c .before .before .before .before .before .length .given .1) _ _ (rw named) (omega arith) _ _ (rw (c .before .before .emit .kept .1 .1 .1 .1 .0)) (c .before .before .emit .ensures _ _ _)
+    acts at-decode _ (c .before .before .before .before .before .length .given .1) _ _ (rw named) (omega arith) _ _
+    (rw (c .before .before .emit .kept .1 .1 .1 .1 .0)) (c .before .before .emit .ensures _ _ _)
 
 returns-10 : tie.Need-returns-10
 returns-10 c =
     let at-decode = (c .before .before .before .before .before .before .before) in
-    acts at-decode _ (c .before .before .before .before .before .subtract .given .1) _ _ refl (omega arith) _ _ (rw (c .before .before .compute .kept .1 .1 .1 .0)) (c .before .before .compute .ensures _ _ _)
+    acts at-decode _ (c .before .before .before .before .before .subtract .given .1) _ _ refl (omega arith) _ _
+    (rw (c .before .before .compute .kept .1 .1 .1 .0)) (c .before .before .compute .ensures _ _ _)
 
 returns-11 : tie.Need-returns-11
 returns-11 c =
     let at-decode = (c .before .before .before .before) in
     rw (c .leave .ensures)
-    (does-step _ _ (turn-leaves _ _ _ _ (acting at-decode .idle) (within at-decode) (acting at-decode .invariant) (read at-decode _ (c .before .before .enum-told3 .given .1))))
+    (does-step _ _ (turn-leaves _ _ _ _ (acting at-decode .idle) (within at-decode) (acting at-decode .invariant)
+    (read at-decode _ (c .before .before .enum-told3 .given .1))))
 
 returns-12 : tie.Need-returns-12
 returns-12 c =
     let at-decode = (c .before .before) in
     does-step _ _
-    (turn-unknown _ _ _ _ (acting at-decode .idle) _ (acting at-decode .invariant) (read at-decode _ (c .enum-told4 .given .1)) (stepped (g at-decode)) refl refl refl)
+    (turn-unknown _ _ _ _ (acting at-decode .idle) _ (acting at-decode .invariant) (read at-decode _ (c .enum-told4 .given .1))
+    (stepped (g at-decode)) refl refl refl)
 
 pub act-spec : {M : Type 1} → statement M
 act-spec =

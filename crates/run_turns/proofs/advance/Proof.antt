@@ -51,7 +51,8 @@ begun-first c =
 abbrev goes-on : tie.Else1 → tie.After-entered
 goes-on c = c .before .before .before
 
-acting-first : (c : tie.Else1) → ActingInvariant (entry (before-first (goes-on c)) .args .allowance) (first (goes-on c)) (entered (before-first (goes-on c)))
+acting-first : (c : tie.Else1) → ActingInvariant (entry (before-first (goes-on c)) .args .allowance) (first (goes-on c))
+    (entered (before-first (goes-on c)))
 acting-first c = record { invariant = begun-first (goes-on c) .below .simulates .invariant; idle = c .if1 .left }
 
 -- WHERE ITEMS ARE WRITTEN, WHERE USESEQ WAS TRIED, AND WHERE SELECT WAS
@@ -71,7 +72,8 @@ written-in c =
     memory (m .input) (c .write-items .last .1 .1 .1 .0) (m .«record») (c .write-items .last .1 .1 .1 .1 .0) (m .values)
 
 written : (c : tie.After-write-items) →
-    SimulatesTry (words (start c)) (start c .args .allowance) (first (before-items c)) (entered (before-first (before-items c))) (c .write-items .result) (written-in c)
+    SimulatesTry (words (start c)) (start c .args .allowance) (first (before-items c)) (entered (before-first (before-items c)))
+    (c .write-items .result) (written-in c)
 written c = c .write-items .ensures _ _ (acting-first (acting-before c))
 
 abbrev before-use : tie.After-try-use → tie.After-write-items
@@ -85,7 +87,8 @@ used-in c =
 -- what UseSeq, or another instruction in its place, was told to lead to
 abbrev UsedTo : tie.After-try-use → Next → Type 0
 UsedTo c next =
-    SimulatesUse (words (start (before-use c))) (start (before-use c) .args .allowance) (before-use c .write-items .result) (written-in (before-use c)) next (used-in c)
+    SimulatesUse (words (start (before-use c))) (start (before-use c) .args .allowance) (before-use c .write-items .result)
+    (written-in (before-use c)) next (used-in c)
 
 used : (c : tie.After-try-use) → UsedTo c (c .try-use .result)
 used c = c .try-use .ensures _ _ _ (acting-on _ _ (written (before-use c)))
@@ -106,7 +109,8 @@ abbrev before-select : tie.After-try-select → tie.After-used
 before-select c = c .before .before .before .before
 
 selected : (c : tie.After-try-select) → let at-use = before-second (before-select c) in
-    SimulatesTry (words (start (before-use at-use))) (start (before-use at-use) .args .allowance) (second (before-select c)) (used-in at-use) (c .try-select .result) (used-in at-use)
+    SimulatesTry (words (start (before-use at-use))) (start (before-use at-use) .args .allowance) (second (before-select c)) (used-in at-use)
+    (c .try-select .result) (used-in at-use)
 selected c = c .try-select .ensures _ _ _ _ (acting-second (before-select c))
 
 enter-requires : tie.Need-enter-requires
@@ -118,7 +122,8 @@ enter-requires c κs =
 returns : tie.Need-returns
 returns c =
     let at-enter = (c .before .before .before .before .before) in
-    turn-begun _ _ (over-left _ (entry at-enter .args .allowance) (at-enter .enter .result) (entered at-enter) (over-tagged (at-enter .enter .result) (c .match .keys2))) (begun at-enter)
+    turn-begun _ _ (over-left _ (entry at-enter .args .allowance) (at-enter .enter .result) (entered at-enter)
+    (over-tagged (at-enter .enter .result) (c .match .keys2))) (begun at-enter)
 
 returns-2 : tie.Need-returns-2
 returns-2 c = turn-again _ _ (c .if1 .taken) (begun-first (c .before .before .before))
@@ -151,7 +156,8 @@ returns-3 : tie.Need-returns-3
 returns-3 c =
     let at-use = (c .before .before .before .before .before) in
     turn-used _ _ (begun-first (before-items (before-use at-use))) (written (before-use at-use))
-    (over-left _ (start (before-use at-use) .args .allowance) (at-use .try-use .result) (used-in at-use) (over-tagged (at-use .try-use .result) (c .match2 .keys2))) (used at-use)
+    (over-left _ (start (before-use at-use) .args .allowance) (at-use .try-use .result) (used-in at-use)
+    (over-tagged (at-use .try-use .result) (c .match2 .keys2))) (used at-use)
 
 try-select-requires : tie.Need-try-select-requires
 try-select-requires c κs =
@@ -179,7 +185,8 @@ same-length-12 c =
 same-length-14 : tie.Need-same-length-14
 same-length-14 c =
     let at-act = c .before .before .before .before .before .before in
-    at-act .act .kept .1 .1 .1 .1 .1 .1 .0 ∙ before-act at-act .try-use .kept .1 .1 .1 .1 .0 ∙ before-use (before-act at-act) .write-items .kept .1 .1 .1 .1 .0 ∙
+    at-act .act .kept .1 .1 .1 .1 .1 .1 .0 ∙ before-act at-act .try-use .kept .1 .1 .1 .1 .0 ∙
+    before-use (before-act at-act) .write-items .kept .1 .1 .1 .1 .0 ∙
     use-enter (before-act at-act) .enter .kept .1 .1 .1 .1 .1 .0
 
 same-length-15 : tie.Need-same-length-15
@@ -189,7 +196,8 @@ returns-4 : tie.Need-returns-4
 returns-4 c =
     let at-select = (c .before .before .before .before .before .before .before .before .before .before .before .before) in
     let at-items = before-use (before-second (before-select at-select)) in
-    turn-done _ _ (begun-first (before-items at-items)) (written at-items) (used-second (before-select at-select)) (selected at-select) (c .before .before .before .before .before .before .act .ensures)
+    turn-done _ _ (begun-first (before-items at-items)) (written at-items) (used-second (before-select at-select)) (selected at-select)
+    (c .before .before .before .before .before .before .act .ensures)
 
 pub advance-spec : {M : Type 1} → statement M
 advance-spec =

@@ -39,7 +39,8 @@ is-over (status.Stopped ending function) g e = tt
 is-over status.Deeper g e = tt
 
 -- an answer's tag says that the run doesn't go on here
-pub over-tagged : (r : Next) → (tagOf next-declared.the-type r ≡ 1) ⊎ ((tagOf next-declared.the-type r ≡ 2) ⊎ (tagOf next-declared.the-type r ≡ 3)) → IsOver r
+pub over-tagged : (r : Next) → (tagOf next-declared.the-type r ≡ 1) ⊎ ((tagOf next-declared.the-type r ≡ 2) ⊎ (tagOf next-declared.the-type r ≡ 3)) →
+    IsOver r
 over-tagged (Onward g) (inl e) = absurd (subst (λ (k : ℕ). T (eqb 0 k)) e tt)
 over-tagged (Onward g) (inr (inl e)) = absurd (subst (λ (k : ℕ). T (eqb 0 k)) e tt)
 over-tagged (Onward g) (inr (inr e)) = absurd (subst (λ (k : ℕ). T (eqb 0 k)) e tt)

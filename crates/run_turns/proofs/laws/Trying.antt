@@ -35,9 +35,11 @@ module _ (words : Words) (allowance : ℕ) where
     -- an action done, or left where it stops
     pub tries-action : (action : Action) (next : Next) (n : Memory) → g .at .0 < length words →
         unpackActions 0 (drop (g .at .0) words) ≡ action ∷ unpackActions 0 (drop (g .at .0 + 1) words) → roomOf n ≡ roomOf m →
-        ImplementsAction action (g .at .0 + 1) (stepped g) m next n → ActingInvariant allowance g m → SimulatesTry words allowance g m (keptOf next g) n
+        ImplementsAction action (g .at .0 + 1) (stepped g) m next n → ActingInvariant allowance g m →
+        SimulatesTry words allowance g m (keptOf next g) n
     tries-action action (Onward h) n within means room acts a =
-        let steps = turn-implements words allowance g m (a .idle) action (g .at .0 + 1) (Onward h) n within (a .invariant) means room (omega arith) acts in
+        let steps = turn-implements words allowance g m (a .idle) action (g .at .0 + 1) (Onward h) n within (a .invariant) means room (omega arith)
+        acts in
         record { simulates = steps .simulates; idle = acts .preserves .callee ∙ a .idle; moved = onwards (steps .decreases) }
     tries-action action (Done h) n within means room acts a = absurd (acts .preserves)
     tries-action action (Stopped h ending function) n within means room acts a = tries-nothing n (acts .preserves .1) a
@@ -50,14 +52,16 @@ module _ (words : Words) (allowance : ℕ) where
     no-more (still e e′) = rw (e, e′) (omega arith)
     no-more (onwards l) = omega arith
 
-    moved-on : {h k : Registers} {n l : Memory} → UnchangedOrBelow (length words) allowance g m h n → UnchangedOrBelow (length words) allowance h n k l → UnchangedOrBelow (length words) allowance g m k l
+    moved-on : {h k : Registers} {n l : Memory} → UnchangedOrBelow (length words) allowance g m h n →
+        UnchangedOrBelow (length words) allowance h n k l → UnchangedOrBelow (length words) allowance g m k l
     moved-on (still e e′) (still f f′) = still (f ∙ e) (f′ ∙ e′)
     moved-on (still e e′) (onwards l) = onwards (rw (e, e′) at l)
     moved-on (onwards l) (still f f′) = onwards (rw (f, f′) l)
     moved-on (onwards l) (onwards l′) = onwards (omega arith)
 
     -- one after the other
-    pub tries-then : {h k : Registers} {n l : Memory} → SimulatesTry words allowance g m h n → SimulatesTry words allowance h n k l → SimulatesTry words allowance g m k l
+    pub tries-then : {h k : Registers} {n l : Memory} → SimulatesTry words allowance g m h n → SimulatesTry words allowance h n k l →
+        SimulatesTry words allowance g m k l
     tries-then t t′ =
         record {
           simulates = simulates-on words allowance _ g m _ _ _ _ (t .simulates) (t′ .simulates);
@@ -70,7 +74,8 @@ module _ (words : Words) (allowance : ℕ) where
         unpackActions 0 (drop (g .at .0) words) ≡ action ∷ unpackActions 0 (drop (g .at .0 + 1) words) → roomOf n ≡ roomOf m →
         ImplementsAction action (g .at .0 + 1) (stepped g) m next n → ActingInvariant allowance g m → SimulatesUse words allowance g m next n
     uses-action action next n within means room acts a =
-        used (turn-implements words allowance g m (a .idle) action (g .at .0 + 1) next n within (a .invariant) means room (omega arith) acts) (idles next acts)
+        used (turn-implements words allowance g m (a .idle) action (g .at .0 + 1) next n within (a .invariant) means room (omega arith) acts)
+        (idles next acts)
       where
         idles : (next : Next) → ImplementsAction action (g .at .0 + 1) (stepped g) m next n → Idle next
         idles (Onward h) acts = acts .preserves .callee ∙ a .idle
@@ -78,7 +83,8 @@ module _ (words : Words) (allowance : ℕ) where
         idles (Stopped h ending function) acts = tt
         idles (Deeper h) acts = tt
 
-    pub acting-used : {h : Registers} {n : Memory} → ActingInvariant allowance g m → SimulatesUse words allowance g m (Onward h) n → ActingInvariant allowance h n
+    pub acting-used : {h : Registers} {n : Memory} → ActingInvariant allowance g m → SimulatesUse words allowance g m (Onward h) n →
+        ActingInvariant allowance h n
     acting-used {h = h} a (other none e e′) = let same : h ≡ g = ap registersIn e in rw (same, e′) a
     acting-used a (used steps idle) = record { invariant = steps .simulates .invariant; idle = idle }
 
@@ -134,7 +140,13 @@ module _ (words : Words) (allowance : ℕ) where
         record {
           below =
               record {
-                simulates = record { same = rw declared (d .simulates .same); invariant = d .simulates .invariant; room = d .simulates .room; beyond = d .simulates .beyond };
+                simulates = record {
+                  same = rw declared (d .simulates .same);
+                  invariant = d .simulates .invariant;
+                  room = d .simulates .room;
+                  beyond =
+                      d .simulates .beyond;
+                };
                 decreases = omega (arith, d .decreases);
               };
           again = λ more. omega (arith, d .decreases);
@@ -163,13 +175,19 @@ module _ (words : Words) (allowance : ℕ) where
       less = omega (arith, begun .below .decreases, no-more (written .moved))
 
       -- UseSeq ends the run
-      pub turn-used : {next : Next} {n : Memory} → measure (length words) allowance next n ≡ 0 → SimulatesUse words allowance g₂ m₂ next n → SimulatesTurn words allowance g m next n
+      pub turn-used : {next : Next} {n : Memory} → measure (length words) allowance next n ≡ 0 → SimulatesUse words allowance g₂ m₂ next n →
+          SimulatesTurn words allowance g m next n
       turn-used over (other none e e′) = let z : measure (length words) allowance (Onward g₂) m₂ ≡ 0 = rw (e, e′) at over in absurd (omega arith)
       turn-used {next} {n} over (used steps idle) =
-          record { simulates = simulates-on words allowance _ g m m₂ n (Onward g₂) next through (steps .simulates); decreases = rw over (omega arith) }
+          record {
+            simulates = simulates-on words allowance _ g m m₂ n (Onward g₂) next through (steps .simulates);
+            decreases =
+                rw over (omega arith);
+          }
 
       -- or one instruction more is done
-      pub turn-done : {g₃ g₄ : Registers} {m₃ m₄ n : Memory} {next : Next} → SimulatesUse words allowance g₂ m₂ (Onward g₃) m₃ → SimulatesTry words allowance g₃ m₃ g₄ m₄ →
+      pub turn-done : {g₃ g₄ : Registers} {m₃ m₄ n : Memory} {next : Next} → SimulatesUse words allowance g₂ m₂ (Onward g₃) m₃ →
+          SimulatesTry words allowance g₃ m₃ g₄ m₄ →
           SimulatesInstruction words allowance g₄ m₄ next n → SimulatesTurn words allowance g m next n
       turn-done {g₃} {g₄} {m₃} {m₄} {n} {next} u selected does = by u
         where
@@ -178,12 +196,14 @@ module _ (words : Words) (allowance : ℕ) where
           ends lead few fewer =
               let d = does (Left g m) few fewer in
               record {
-                simulates = simulates-on words allowance _ g m m₄ n (Onward g₄) next (simulates-on words allowance _ g m m₃ m₄ (Onward g₃) (Onward g₄) lead (selected .simulates)) (d .simulates);
+                simulates = simulates-on words allowance _ g m m₄ n (Onward g₄) next
+                    (simulates-on words allowance _ g m m₃ m₄ (Onward g₃) (Onward g₄) lead (selected .simulates)) (d .simulates);
                 decreases = d .decreases;
               }
 
           -- what comes next was no UseSeq, so if it is one now, something was done
-          selected-use : (Numbered words (g₃ .at .0) useSeqNumber → ⊥) → Left g₃ m₃ ≤ Left g m → UnchangedOrBelow (length words) allowance g₃ m₃ g₄ m₄ →
+          selected-use : (Numbered words (g₃ .at .0) useSeqNumber → ⊥) → Left g₃ m₃ ≤ Left g m →
+              UnchangedOrBelow (length words) allowance g₃ m₃ g₄ m₄ →
               Numbered words (g₄ .at .0) useSeqNumber → Left g₄ m₄ < Left g m
           selected-use none few (still e e′) numbered = absurd (none (rw e at numbered))
           selected-use none few (onwards l) numbered = omega arith
@@ -195,4 +215,5 @@ module _ (words : Words) (allowance : ℕ) where
               ends (rw (same, e′) through) (omega (arith, few, no-more (selected .moved))) (selected-use (rw same none) few (selected .moved))
           by (used steps idle) =
               let fewer : Left g₄ m₄ < Left g m = omega (arith, steps .decreases, less, no-more (selected .moved)) in
-              ends (simulates-on words allowance _ g m m₂ m₃ (Onward g₂) (Onward g₃) through (steps .simulates)) (omega (arith, fewer)) (λ numbered. fewer)
+              ends (simulates-on words allowance _ g m m₂ m₃ (Onward g₂) (Onward g₃) through (steps .simulates)) (omega (arith, fewer))
+              (λ numbered. fewer)

@@ -59,9 +59,11 @@ module _ (words : Words) (allowance : ℕ) (action : Action) (at : ℕ) (g : Reg
         simulates =
             record {
               same =
-                  ap (returning (roomOf m) allowance words g m) (a .same allowance (functionsIn words) enters (continuationAt (roomOf m) allowance words (g .frame) at)) ∙
+                  ap (returning (roomOf m) allowance words g m) (a .same allowance (functionsIn words) enters
+                  (continuationAt (roomOf m) allowance words (g .frame) at)) ∙
                   rw (s .callee, idle, s .frame, s .place)
-                  (waiting-same (roomOf m) allowance words (m .frames) (n .frames) (m .values) (n .values) (g .frame) (sym (s .waiting)) (rw (s .values)) _);
+                  (waiting-same (roomOf m) allowance words (m .frames) (n .frames) (m .values) (n .values) (g .frame) (sym (s .waiting))
+                  (rw (s .values)) _);
               invariant = invariant-preserved allowance at g m h n room s u;
               room = room;
               beyond = s .beyond;
@@ -104,7 +106,13 @@ module _ (words : Words) (allowance : ℕ) (g : Registers) (m : Memory) (idle : 
   turn-simulates action at next n h u e does =
       let d = does (invariant-stepped u) in
       record {
-        simulates = record { same = rw (idle, e) (d .simulates .same); invariant = d .simulates .invariant; room = d .simulates .room; beyond = d .simulates .beyond };
+        simulates = record {
+          same = rw (idle, e) (d .simulates .same);
+          invariant = d .simulates .invariant;
+          room = d .simulates .room;
+          beyond =
+              d .simulates .beyond;
+        };
         decreases = omega (arith, d .decreases);
       }
 
@@ -161,7 +169,8 @@ module _ (words : Words) (allowance : ℕ) (g : Registers) (m : Memory) (idle : 
     left-emitted zero = refl
     left-emitted (suc k) = refl
 
-    measure-left : (k : ℕ) → k ≡ g .frame → measure (length words) allowance (leftFrom k (stepped g) (m .frames)) m < measure (length words) allowance (Onward g) m
+    measure-left : (k : ℕ) → k ≡ g .frame → measure (length words) allowance (leftFrom k (stepped g) (m .frames)) m < measure (length words) allowance
+        (Onward g) m
     unfolding measureWaiting
     measure-left zero e = omega arith
     measure-left (suc k) e = rw (← e) (omega arith)

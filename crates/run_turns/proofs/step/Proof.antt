@@ -1,6 +1,7 @@
--- `run_turns::step` meets its contract: a walk of its MIR, by hand. The registers' borrow is opened, `advance` is called with what lies there, the new registers are stored, and the borrow is closed at them.
--- All else is handed on to `advance` as it was passed. All that the proof knows of `advance`, `registers_of` and `status_of` is that each meets its contract.
--- Positions in the context: local i stands at 2 · i, after what is put in front. Assumes nothing.
+-- `run_turns::step` meets its contract: a walk of its MIR, by hand. The registers' borrow is opened, `advance` is called with what lies there, the
+-- new registers are stored, and the borrow is closed at them. All else is handed on to `advance` as it was passed. All that the proof knows of
+-- `advance`, `registers_of` and `status_of` is that each meets its contract. Positions in the context: local i stands at 2 · i, after what is put in
+-- front. Assumes nothing.
 use mathlib.Core.Path.{_≡_, refl, sym, subst}
 use Prim.Native.Nat.{ℕ}
 use mathlib.Core.List.{List, [], _∷_}
@@ -18,7 +19,8 @@ use ghost.Atoms.{Atoms}
 use contract.Lifetimes.{Lfts, Shares, AllOutlive, toks}
 use contract.Monad.{Fun, fact}
 use contract.Running.{givenOf}
-use types.Kit.{Given, ‵, raw, some, _⊛_, ⋆, _$_, _∵_, !, qed, by, move, drop, use1, split, join, fsplit, fsplit3, fjoin, fjoin3, feqI, suffices, frame, done}
+use types.Kit.{Given, ‵, raw, some, _⊛_, ⋆, _$_, _∵_, !, qed, by, move, drop, use1, split, join, fsplit, fsplit3, fjoin, fjoin3, feqI, suffices}
+use types.Kit.{frame, done}
 use types.Run.{look, look-raw, store, store-raw, init, stop, hop, from, load, of-opd, no-more, assigns, land, returns, enter, params1, pass1, pass0}
 use types.SemTy.{Body}
 use sound.WpLaws.{FmC}
@@ -92,7 +94,8 @@ module _ {M : Type 1} (𝓤 : URA M) (H : Heap 𝓤) (A : Atoms 𝓤) (at-mem : 
   Advance = tripleOf 𝓤 H A advance.signature (advance.spec 𝓤 H A at-mem run)
 
 module _ {M : Type 1} (𝓤 : URA M) (H : Heap 𝓤) (A : Atoms 𝓤) (W : Given 𝓤 H A) (at-mem : Memory → SProp 𝓤) (run : Routine → Fun 𝓤)
-    (κs : Lfts 8) (qs : Shares 8) (bounds : AllOutlive 8 (step.signature .outlives) κs) (lent : RefT Registers) (bits words : RefT (List ℕ)) (allowance : ℕ) (input output «record» frames values : RefT (List ℕ)) where
+    (κs : Lfts 8) (qs : Shares 8) (bounds : AllOutlive 8 (step.signature .outlives) κs) (lent : RefT Registers) (bits words : RefT (List ℕ))
+    (allowance : ℕ) (input output «record» frames values : RefT (List ℕ)) where
   abbrev a : Args step.signature κs
   a = (lent, (bits, (words, (allowance, (input, (output, («record», (frames, (values, tt)))))))))
 
@@ -110,7 +113,19 @@ module _ {M : Type 1} (𝓤 : URA M) (H : Heap 𝓤) (A : Atoms 𝓤) (W : Given
 
   -- the parameters' machine values
   abbrev vss : Vals step.signature κs
-  vss = (ptr-vals lent, (ptr-vals bits, (slice-vals words, (uint-vals w32 allowance, (slice-vals input, (slice-vals output, (slice-vals «record», (slice-vals frames, (slice-vals values, tt)))))))))
+  vss = (
+    ptr-vals lent,
+    (
+      ptr-vals bits,
+      (
+        slice-vals words,
+        (
+          uint-vals w32 allowance,
+          (slice-vals input, (slice-vals output, (slice-vals «record», (slice-vals frames, (slice-vals values, tt))))),
+        ),
+      ),
+    ),
+  )
 
   abbrev Required : SProp 𝓤
   Required = step.clauses 𝓤 H A at-mem run κs a .requires tt
@@ -134,14 +149,16 @@ module _ {M : Type 1} (𝓤 : URA M) (H : Heap 𝓤) (A : Atoms 𝓤) (W : Given
   before = memory (now input) (now output) (now «record») (now frames) (now values)
 
   abbrev Told : Next → Lasts advance.ended (κs .1) (g, a .1) → Type 0
-  Told r ws = SimulatesTurn (now words) allowance g before r (memory (ws .1 .1 .1 .1 .0) (ws .1 .1 .1 .1 .1 .0) (ws .1 .1 .1 .1 .1 .1 .0) (ws .1 .1 .1 .1 .1 .1 .1 .0)
+  Told r ws = SimulatesTurn (now words) allowance g before r
+      (memory (ws .1 .1 .1 .1 .0) (ws .1 .1 .1 .1 .1 .0) (ws .1 .1 .1 .1 .1 .1 .0) (ws .1 .1 .1 .1 .1 .1 .1 .0)
       (ws .1 .1 .1 .1 .1 .1 .1 .1 .0))
 
   exits : (ws : Lasts advance.ended (κs .1) (g, a .1)) (g′ : Registers) (x : Status) (v : Val) → Told (nextOf x g′) ws
       → ent 𝓤 (⋆ 𝓤 H A (‵ (S.the-row .own x (v ∷ [])) ∷ ‵ (fobs γ (R.the-row .coded .code g′)) ∷ ‵ (fbor (κs .0) (Body (mem R.the-row) b o γ)) ∷
       ‵ (flft (κs .0) (qs .0)) ∷ raw Tokens ∷ ‵ (lasts advance.ended (κs .1) (g, a .1) ws) ∷ [])) (Post v)
   exits ws g′ x v told =
-      qed W (‵ (S.the-row .own x (v ∷ [])) ∷ ‵ (fobs γ (R.the-row .coded .code g′)) ∷ ‵ (fbor (κs .0) (Body (mem R.the-row) b o γ)) ∷ ‵ (flft (κs .0) (qs .0)) ∷
+      qed W (‵ (S.the-row .own x (v ∷ [])) ∷ ‵ (fobs γ (R.the-row .coded .code g′)) ∷ ‵ (fbor (κs .0) (Body (mem R.the-row) b o γ)) ∷ ‵
+      (flft (κs .0) (qs .0)) ∷
       raw Tokens ∷ ‵ (lasts advance.ended (κs .1) (g, a .1) ws) ∷ []) ∵
       suffices ! _ (ends-at 𝓤 H A step.ended stayed (step.clauses 𝓤 H A at-mem run) W ((κs, qs, bounds, a, vss), tt) v x (g′, ws .1)
       (tt, all-fit κs (after-first (step.signature .params)) (step.ended .kept .1) (a .1) (ws .1))) $ says ! told $
@@ -149,8 +166,11 @@ module _ {M : Type 1} (𝓤 : URA M) (H : Heap 𝓤) (A : Atoms 𝓤) (W : Given
       -- [the reference; the result; the last lists]
       move ! (2 ∷ []) $ fsplit ! $ drop ! $ move ! (1 ∷ 0 ∷ []) $ fjoin ! $ done !
 
-  module _ (are : Are (typesAt (step.signature .params) κs) (Ises (typesAt (step.signature .params) κs)) a vss) (C : Calls 𝓤 H) (Λ : Loops 𝓤 H) (fm : FmC 𝓤 H (W .laws) C)
-      (known-advance : Triple 𝓤 (C #run-turns·advance) (Advance 𝓤 H A at-mem run)) (known-registers : Triple 𝓤 (C #run-turns·registers-of) (RegistersOf 𝓤 H A at-mem run)) (known-status : Triple 𝓤 (C #run-turns·status-of) (StatusOf 𝓤 H A at-mem run)) where
+  module _ (are : Are (typesAt (step.signature .params) κs) (Ises (typesAt (step.signature .params) κs)) a vss) (C : Calls 𝓤 H) (Λ : Loops 𝓤 H)
+      (fm : FmC 𝓤 H (W .laws) C)
+      (known-advance : Triple 𝓤 (C #run-turns·advance) (Advance 𝓤 H A at-mem run))
+      (known-registers : Triple 𝓤 (C #run-turns·registers-of) (RegistersOf 𝓤 H A at-mem run))
+      (known-status : Triple 𝓤 (C #run-turns·status-of) (StatusOf 𝓤 H A at-mem run)) where
     walk : ent 𝓤 (sep 𝓤 (onEntry 𝓤 H A step.signature κs qs a vss) Required)
         (WpFn 𝓤 H C Λ code.function (vptr b o ∷ vptr (ptr bits .0) (ptr bits .1) ∷ sliceVal (ptr words) (length (now words)) ∷ vint w32 allowance ∷
         sliceVal (ptr input) (length (now input)) ∷ sliceVal (ptr output) (length (now output)) ∷ sliceVal (ptr «record») (length (now «record»)) ∷
@@ -180,12 +200,17 @@ module _ {M : Type 1} (𝓤 : URA M) (H : Heap 𝓤) (A : Atoms 𝓤) (W : Given
         lends-again ! 24 44 46 refl refl refl refl refl refl tt tt (are .1 .1 .1 .1 .1 .1 .1 .0 .0 .1 .0) $
         lends-again ! 26 48 50 refl refl refl refl refl refl tt tt (are .1 .1 .1 .1 .1 .1 .1 .1 .0 .0 .1 .0) $
         -- `advance` is called with the registers, and with all else as it was passed
-        move ! (1 ∷ 5 ∷ []) $ fjoin ! $ move ! (5 ∷ 0 ∷ []) $ join ! $ move ! (0 ∷ 5 ∷ []) $ join ! $ use1 W (raw (Advance 𝓤 H A at-mem run .pre to-advance)) (id⊢ 𝓤 _) $
+        move ! (1 ∷ 5 ∷ []) $ fjoin ! $ move ! (5 ∷ 0 ∷ []) $ join ! $ move ! (0 ∷ 5 ∷ []) $ join ! $ use1 W
+        (raw (Advance 𝓤 H A at-mem run .pre to-advance)) (id⊢ 𝓤 _) $
         calls-at ! fm (Advance 𝓤 H A at-mem run) known-advance to-advance
-        (and-copies ! 27 refl (and-copies ! 9 refl (and-copies ! 11 refl (and-copies ! 13 refl (and-copies ! 31 refl (and-copies ! 35 refl (and-copies ! 39 refl (and-copies ! 43 refl (and-copies ! 47 refl (no-more !)))))))))) (λ u.
-        answers-lasts ! tt N.the-row Tokens (Lasts advance.ended (κs .1) (g, a .1)) (lasts advance.ended (κs .1) (g, a .1)) (λ r ws. fact 𝓤 (Told r ws)) u (λ r ws is-next.
+        (and-copies ! 27 refl
+        (and-copies ! 9 refl (and-copies ! 11 refl (and-copies ! 13 refl
+        (and-copies ! 31 refl (and-copies ! 35 refl (and-copies ! 39 refl (and-copies ! 43 refl (and-copies ! 47 refl (no-more !)))))))))) (λ u.
+        answers-lasts ! tt N.the-row Tokens (Lasts advance.ended (κs .1) (g, a .1)) (lasts advance.ended (κs .1) (g, a .1))
+        (λ r ws. fact 𝓤 (Told r ws)) u (λ r ws is-next.
         -- [what the answer owns; the others' tokens; the last lists; what is said; the registers' cell; the open borrow; obs; auth; the locals]
-        move ! (3 ∷ []) $ heard ! (Told r ws) (λ told. land ! (from ! (stop !)) (init ! 27 refl (EL.lawful N.the-type N′.the-laws 𝓤 H A W tt .typed r _ is-next .0)) $
+        move ! (3 ∷ []) $ heard ! (Told r ws) (λ told. land ! (from ! (stop !))
+        (init ! 27 refl (EL.lawful N.the-type N′.the-laws 𝓤 H A W tt .typed r _ is-next .0)) $
         -- the new registers are stored, and the borrow is closed at them
         use1 W (raw (RegistersOf 𝓤 H A at-mem run .pre (to-parts 𝓤 H A at-mem run r u))) (goes-parts 𝓤 H A at-mem run W r u) $
         calls-at ! fm (RegistersOf 𝓤 H A at-mem run) known-registers (to-parts 𝓤 H A at-mem run r u) (and-copies ! 27 refl (no-more !)) (λ u′.
@@ -201,9 +226,12 @@ module _ {M : Type 1} (𝓤 : URA M) (H : Heap 𝓤) (A : Atoms 𝓤) (W : Given
         answers ! tt S.the-row _ (λ x. x ≡ statusIn r) (status-said 𝓤 H A at-mem run r) v (λ x how is-status.
         land ! (from ! (stop !)) (init ! 6 refl (EL.lawful S.the-type S′.the-laws 𝓤 H A W tt .typed x _ is-status .0)) $ returns ! (look ! 6 refl) $
         move ! (counting 6 44) $
-        frees-laid ! (placed (code.function .locals) (l₀ ∷ l₁ ∷ l₂ ∷ l₃ ∷ l₄ ∷ l₅ ∷ l₆ ∷ l₇ ∷ l₈ ∷ l₉ ∷ l₁₀ ∷ l₁₁ ∷ l₁₂ ∷ l₁₃ ∷ l₁₄ ∷ l₁₅ ∷ l₁₆ ∷ l₁₇ ∷ l₁₈ ∷ l₁₉ ∷
-        l₂₀ ∷ l₂₁ ∷ [])) (holds v ∷ pointer lent ∷ pointer bits ∷ slice words ∷ holds (vint w32 allowance) ∷ slice input ∷ slice output ∷ slice «record» ∷ slice frames ∷
-        slice values ∷ holds u ∷ holds u′ ∷ pointer input ∷ slice input ∷ pointer output ∷ slice output ∷ pointer «record» ∷ slice «record» ∷ pointer frames ∷ slice frames ∷
+        frees-laid ! (placed (code.function .locals) (l₀ ∷ l₁ ∷ l₂ ∷ l₃ ∷ l₄ ∷ l₅ ∷ l₆ ∷ l₇ ∷ l₈ ∷ l₉ ∷ l₁₀ ∷ l₁₁ ∷ l₁₂ ∷ l₁₃ ∷ l₁₄ ∷ l₁₅ ∷ l₁₆ ∷ l₁₇
+        ∷ l₁₈ ∷ l₁₉ ∷
+        l₂₀ ∷ l₂₁ ∷ [])) (holds v ∷ pointer lent ∷ pointer bits ∷ slice words ∷ holds (vint w32 allowance) ∷ slice input ∷ slice output ∷ slice
+        «record» ∷ slice frames ∷
+        slice values ∷ holds u ∷ holds u′ ∷ pointer input ∷ slice input ∷ pointer output ∷ slice output ∷ pointer «record» ∷ slice «record» ∷ pointer
+        frames ∷ slice frames ∷
         pointer values ∷ slice values ∷ []) $
         by ! (exits ws g′ x v (subst (λ (n : Next). Told n ws) (sym (rejoined r x g′ new how)) told))))))))))))
 
@@ -215,10 +243,35 @@ step-spec 𝓤 H 𝓜 𝓖 𝓡 =
     (goes-ref 𝓤 H (𝓖 .A) W 8 0 tt (plain (λ _. R.the-row)), all-go 𝓤 H (𝓖 .A) W 8 (after-first (step.signature .params)) (step.ended .kept .1))
     (step.clauses 𝓤 H (𝓖 .A) (𝓜 .mem) (𝓡 .run)) #run-turns·step code.function (code.unfolded 𝓤 H 𝓜 𝓡)
     (λ κs. (ptr-vals, (ptr-vals, (slice-vals, (uint-vals w32, (slice-vals, (slice-vals, (slice-vals, (slice-vals, (slice-vals, tt))))))))))
-    (λ κs. (mut-tells (named 0) (κs .0) R.the-row, (shr-tells (named 1) (κs .1 .0) (Array u8 256), (shr-slice-tells (named 2) (κs .1 .1 .0) u32, (uint-tells w32, (mut-slice-tells (named 3) (κs .1 .1 .1 .0) u8, (mut-slice-tells (named 4) (κs .1 .1 .1 .1 .0) u8, (mut-slice-tells (named 5) (κs .1 .1 .1 .1 .1 .0) u8, (mut-slice-tells (named 6) (κs .1 .1 .1 .1 .1 .1 .0) usize, (mut-slice-tells (named 7) (κs .1 .1 .1 .1 .1 .1 .1 .0) u8, tt))))))))))
-    (λ κs qs bounds a _ are. walk 𝓤 H (𝓖 .A) W (𝓜 .mem) (𝓡 .run) κs qs bounds (a .0) (a .1 .0) (a .1 .1 .0) (a .1 .1 .1 .0) (a .1 .1 .1 .1 .0) (a .1 .1 .1 .1 .1 .0)
+    (λ κs. (
+      mut-tells (named 0) (κs .0) R.the-row,
+      (
+        shr-tells (named 1) (κs .1 .0) (Array u8 256),
+        (
+          shr-slice-tells (named 2) (κs .1 .1 .0) u32,
+          (
+            uint-tells w32,
+            (
+              mut-slice-tells (named 3) (κs .1 .1 .1 .0) u8,
+              (
+                mut-slice-tells (named 4) (κs .1 .1 .1 .1 .0) u8,
+                (
+                  mut-slice-tells (named 5) (κs .1 .1 .1 .1 .1 .0) u8,
+                  (mut-slice-tells (named 6) (κs .1 .1 .1 .1 .1 .1 .0) usize, (mut-slice-tells (named 7) (κs .1 .1 .1 .1 .1 .1 .1 .0) u8, tt)),
+                ),
+              ),
+            ),
+          ),
+        ),
+      ),
+    ))
+    (λ κs qs bounds a _ are. walk 𝓤 H (𝓖 .A) W (𝓜 .mem) (𝓡 .run) κs qs bounds (a .0) (a .1 .0) (a .1 .1 .0) (a .1 .1 .1 .0) (a .1 .1 .1 .1 .0)
+    (a .1 .1 .1 .1 .1 .0)
     (a .1 .1 .1 .1 .1 .1 .0) (a .1 .1 .1 .1 .1 .1 .1 .0) (a .1 .1 .1 .1 .1 .1 .1 .1 .0) are _ _ (calls-framed 𝓤 H 𝓜 𝓖 𝓡 code.env)
-    (cited 𝓤 H (Advance 𝓤 H (𝓖 .A) (𝓜 .mem) (𝓡 .run)) 𝓜 𝓡 code.env #run-turns·advance advance-def.routine code.calls-run-turns·advance (advance-thm.met 𝓤 H 𝓜 𝓖 𝓡))
-    (cited 𝓤 H (RegistersOf 𝓤 H (𝓖 .A) (𝓜 .mem) (𝓡 .run)) 𝓜 𝓡 code.env #run-turns·registers-of registers-of-def.routine code.calls-run-turns·registers-of
+    (cited 𝓤 H (Advance 𝓤 H (𝓖 .A) (𝓜 .mem) (𝓡 .run)) 𝓜 𝓡 code.env #run-turns·advance advance-def.routine code.calls-run-turns·advance
+    (advance-thm.met 𝓤 H 𝓜 𝓖 𝓡))
+    (cited 𝓤 H (RegistersOf 𝓤 H (𝓖 .A) (𝓜 .mem) (𝓡 .run)) 𝓜 𝓡 code.env #run-turns·registers-of registers-of-def.routine
+    code.calls-run-turns·registers-of
     (registers-of-thm.met 𝓤 H 𝓜 𝓖 𝓡))
-    (cited 𝓤 H (StatusOf 𝓤 H (𝓖 .A) (𝓜 .mem) (𝓡 .run)) 𝓜 𝓡 code.env #run-turns·status-of status-of-def.routine code.calls-run-turns·status-of (status-of-thm.met 𝓤 H 𝓜 𝓖 𝓡)))
+    (cited 𝓤 H (StatusOf 𝓤 H (𝓖 .A) (𝓜 .mem) (𝓡 .run)) 𝓜 𝓡 code.env #run-turns·status-of status-of-def.routine code.calls-run-turns·status-of
+    (status-of-thm.met 𝓤 H 𝓜 𝓖 𝓡)))

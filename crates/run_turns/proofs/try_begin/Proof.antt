@@ -18,11 +18,13 @@ returns-2 : tie.Need-returns-2
 returns-2 c =
     let entry = c .before .before .before .before .before .before .before .before .before .before .before .before .before .before in
     let a = entry .args in
-    let taken = rw (c .before .before .before .before .before .before .before .before .before .next .given .1) at (c .before .before .before .before .before .before .before .before .before .before .before .find-word .ensures) in
+    let taken = rw (c .before .before .before .before .before .before .before .before .before .next .given .1) at
+    (c .before .before .before .before .before .before .before .before .before .before .before .find-word .ensures) in
     let opened = rw (c .before .before .before .if1 .taken) at (c .before .before .before .before .before .before .open-sequence .ensures) in
     λ allowance input output «record» values acting. rw (taken .after, opened .1)
     (tries-action _ _ _ (Onward (stepped (a .g))) _ (taken .numbered .within) (found-means taken BeginSeq (rw (found-number taken))) refl
-    (begin-kept (stepped (a .g)) (memory input output «record» (a .frames .now) values) (entry .pre .0 .frameRoom) (acting .invariant .ready .room .written .below) (opened .0)) acting)
+    (begin-kept (stepped (a .g)) (memory input output «record» (a .frames .now) values) (entry .pre .0 .frameRoom)
+    (acting .invariant .ready .room .written .below) (opened .0)) acting)
 
 returns-3 : tie.Need-returns-3
 returns-3 c =

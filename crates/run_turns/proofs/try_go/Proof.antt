@@ -12,9 +12,11 @@ returns c = λ allowance output «record» values. tries-nothing _ _ _ refl
 
 returns-2 : tie.Need-returns-2
 returns-2 c =
-    let taken = rw (c .before .before .before .before .before .before .word .given .1) at (c .before .before .before .before .before .before .before .before .find-word .ensures) in
+    let taken = rw (c .before .before .before .before .before .before .word .given .1) at
+    (c .before .before .before .before .before .before .before .before .find-word .ensures) in
     λ allowance output «record» values. rw (c .kept .ensures)
-    (tries-action _ _ _ _ _ (taken .numbered .within) (found-means taken (Go (c .before .before .before .before .before .before .word .given .0 .0)) (rw (found-number taken))) refl (rw (taken .after) at (c .before .go .ensures output «record» values)))
+    (tries-action _ _ _ _ _ (taken .numbered .within) (found-means taken (Go (c .before .before .before .before .before .before .word .given .0 .0))
+    (rw (found-number taken))) refl (rw (taken .after) at (c .before .go .ensures output «record» values)))
 
 pub try-go-spec : {M : Type 1} → statement M
 try-go-spec =

@@ -12,9 +12,12 @@ returns c = λ allowance output «record» values. tries-nothing _ _ _ refl
 
 returns-2 : tie.Need-returns-2
 returns-2 c =
-    let taken = rw (c .before .before .before .before .before .before .word .given .1) at (c .before .before .before .before .before .before .before .before .find-word .ensures) in
+    let taken = rw (c .before .before .before .before .before .before .word .given .1) at
+    (c .before .before .before .before .before .before .before .before .find-word .ensures) in
     λ allowance output «record» values. rw (c .kept .ensures)
-    (tries-action _ _ _ _ _ (taken .numbered .within) (found-means taken (Select (c .before .before .before .before .before .before .word .given .0 .0)) (rw (found-number taken))) refl (rw (taken .after) at (c .before .select .ensures output «record» values)))
+    (tries-action _ _ _ _ _ (taken .numbered .within) (found-means taken
+    (Select (c .before .before .before .before .before .before .word .given .0 .0)) (rw (found-number taken))) refl
+    (rw (taken .after) at (c .before .select .ensures output «record» values)))
 
 pub try-select-spec : {M : Type 1} → statement M
 try-select-spec =

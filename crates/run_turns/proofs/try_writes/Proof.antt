@@ -46,7 +46,8 @@ TriesTo c h output =
     (allowance : ℕ) («record» : Bytes) → let m = lent c (a .output .now) «record» in
     ActingInvariant allowance (a .g) m → SimulatesTry (a .code .now) allowance (a .g) m h (lent c output «record»)
 
-acting : (c : tie.At-loop Inv-loop μ-loop) → let o = entry c .pre in ActingInvariant (o .allowance) (c .loop .h) (lent c (c .loop .output) (o .«record»))
+acting : (c : tie.At-loop Inv-loop μ-loop) → let o = entry c .pre in
+    ActingInvariant (o .allowance) (c .loop .h) (lent c (c .loop .output) (o .«record»))
 acting c =
     let o = entry c .pre in
     acting-on _ _ (c .loop .inv .1 (o .allowance) (o .«record») (o .acting))
@@ -64,7 +65,8 @@ after c = c .write .last .1 .1 .1 .0
 acts : (c : tie.After-write Inv-loop μ-loop) (next : Next) → c .write .result ≡ next → («record» : Bytes) →
     let l = at-loop c in
     let h = l .loop .h in
-    ImplementsAction (writeMeant (at-what c .what .given .0 .0)) (h .at .0 + 1) (stepped h) (lent l (l .loop .output) «record») next (lent l (after c) «record»)
+    ImplementsAction (writeMeant (at-what c .what .given .0 .0)) (h .at .0 + 1) (stepped h) (lent l (l .loop .output) «record») next
+    (lent l (after c) «record»)
 acts c next e «record» = rw e at (c .write .ensures «record»)
 
 -- what was decoded, as the actions from its place on

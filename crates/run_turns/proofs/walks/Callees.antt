@@ -1,4 +1,5 @@
--- The functions that the proofs by hand of `step` and `follow` cite: their contracts, what each is passed and answers; and how registers in a local are lent and come back.
+-- The functions that the proofs by hand of `step` and `follow` cite: their contracts, what each is passed and answers; and how registers in a local
+-- are lent and come back.
 use mathlib.Core.Path.{_≡_}
 use Prim.Native.Nat.{ℕ}
 use mathlib.Core.Bool.{Bool}
@@ -72,16 +73,20 @@ module _ {M : Type 1} (𝓤 : URA M) (H : Heap 𝓤) (A : Atoms 𝓤) (at-mem : 
   NextOf = tripleOf 𝓤 H A next-of.signature (next-of.spec 𝓤 H A at-mem run)
 
   -- of the `ensured` of those without a `&mut`, the clause alone
-  pub registers-said : (r : Next) (g : Registers) → ent 𝓤 (ensured 𝓤 H A registers-of.ended (registers-of.clauses 𝓤 H A at-mem run) tt (r, tt) tt g) (fact 𝓤 (g ≡ registersIn r))
+  pub registers-said : (r : Next) (g : Registers) → ent 𝓤 (ensured 𝓤 H A registers-of.ended (registers-of.clauses 𝓤 H A at-mem run) tt (r, tt) tt g)
+      (fact 𝓤 (g ≡ registersIn r))
   registers-said r g = clause 𝓤 H A (lasts registers-of.ended tt (r, tt)) (g ≡ registersIn r)
 
-  pub status-said : (r : Next) (x : Status) → ent 𝓤 (ensured 𝓤 H A status-of.ended (status-of.clauses 𝓤 H A at-mem run) tt (r, tt) tt x) (fact 𝓤 (x ≡ statusIn r))
+  pub status-said : (r : Next) (x : Status) → ent 𝓤 (ensured 𝓤 H A status-of.ended (status-of.clauses 𝓤 H A at-mem run) tt (r, tt) tt x)
+      (fact 𝓤 (x ≡ statusIn r))
   status-said r x = clause 𝓤 H A (lasts status-of.ended tt (r, tt)) (x ≡ statusIn r)
 
-  pub onward-said : (x : Status) (y : Bool) → ent 𝓤 (ensured 𝓤 H A is-onward.ended (is-onward.clauses 𝓤 H A at-mem run) tt (x, tt) tt y) (fact 𝓤 (y ≡ onward x))
+  pub onward-said : (x : Status) (y : Bool) → ent 𝓤 (ensured 𝓤 H A is-onward.ended (is-onward.clauses 𝓤 H A at-mem run) tt (x, tt) tt y)
+      (fact 𝓤 (y ≡ onward x))
   onward-said x y = clause 𝓤 H A (lasts is-onward.ended tt (x, tt)) (y ≡ onward x)
 
-  pub next-said : (x : Status) (g : Registers) (r : Next) → ent 𝓤 (ensured 𝓤 H A next-of.ended (next-of.clauses 𝓤 H A at-mem run) tt (x, (g, tt)) tt r) (fact 𝓤 (r ≡ nextOf x g))
+  pub next-said : (x : Status) (g : Registers) (r : Next) →
+      ent 𝓤 (ensured 𝓤 H A next-of.ended (next-of.clauses 𝓤 H A at-mem run) tt (x, (g, tt)) tt r) (fact 𝓤 (r ≡ nextOf x g))
   next-said x g r = clause 𝓤 H A (lasts next-of.ended tt (x, (g, tt))) (r ≡ nextOf x g)
 
   -- what the plain functions are passed
@@ -101,12 +106,15 @@ module _ {M : Type 1} (𝓤 : URA M) (H : Heap 𝓤) (A : Atoms 𝓤) (at-mem : 
     pub asks-onward : (x : Status) (v : Val) → ent 𝓤 (sem 𝓤 H A (S.the-row .own x (v ∷ []))) (IsOnward .pre (to-onward x v))
     asks-onward x v = one-passed 𝓤 H A W S.the-row x (v ∷ [])
 
-    pub goes-next : (x : Status) (g : Registers) (v : Val) → ent 𝓤 (sem 𝓤 H A (owns (S.the-row ∷ R.the-row ∷ []) (x, (g, tt)) (v ∷ [], (registers-vals g, tt))))
+    pub goes-next : (x : Status) (g : Registers) (v : Val) →
+        ent 𝓤 (sem 𝓤 H A (owns (S.the-row ∷ R.the-row ∷ []) (x, (g, tt)) (v ∷ [], (registers-vals g, tt))))
         (NextOf .pre (to-next x g v))
-    goes-next x g v = qed W (‵ (owns (S.the-row ∷ R.the-row ∷ []) (x, (g, tt)) (v ∷ [], (registers-vals g, tt))) ∷ []) ∵ nothing ! $ join ! $ nothing ! $
+    goes-next x g v = qed W (‵ (owns (S.the-row ∷ R.the-row ∷ []) (x, (g, tt)) (v ∷ [], (registers-vals g, tt))) ∷ []) ∵ nothing ! $ join ! $ nothing
+        ! $
         move ! (1 ∷ 0 ∷ []) $ join ! $ done !
 
-module _ {M : Type 1} {𝓤 : URA M} {H : Heap 𝓤} {A : Atoms 𝓤} {K : Type 0} {W : Given 𝓤 H A} {Γ : List (Item 𝓤)} {G : Goal 𝓤 H} (t : K) (z : Soaks G) (g : Registers) where
+module _ {M : Type 1} {𝓤 : URA M} {H : Heap 𝓤} {A : Atoms 𝓤} {K : Type 0} {W : Given 𝓤 H A} {Γ : List (Item 𝓤)} {G : Goal 𝓤 H} (t : K) (z : Soaks G)
+    (g : Registers) where
   -- they are lent by `&mut`, for a lifetime that is made, and come back at their last values when it ends
   pub lends-registers : Is R.the-row g (registers-vals g) → (b : ℕ)
       → ((ν : ℕ) (δ : GName) → Seq K W (‵ (MutRef erased (ν ∷ []) R.the-row .own (record { ptr = (b, 0); name = δ; now = g }) (vptr b 0 ∷ [])) ∷
@@ -120,9 +128,11 @@ module _ {M : Type 1} {𝓤 : URA M} {H : Heap 𝓤} {A : Atoms 𝓤} {K : Type 
       ‵ (flent (ν ∷ []) (Body (mem R.the-row) b 0 δ)))))
       (lends-ref 𝓤 H A W R.the-row erased (ν ∷ []) g b 0) $ await t z $ pick t (λ δ. split t $ k ν δ))
 
-  pub registers-come-back : (b : ℕ) {ν : ℕ} {δ : GName} → (Is R.the-row g (registers-vals g) → Seq K W (‵ (fat fullShare R′.mir b 0 (registers-val g)) ∷ Γ) G)
+  pub registers-come-back : (b : ℕ) {ν : ℕ} {δ : GName} →
+      (Is R.the-row g (registers-vals g) → Seq K W (‵ (fat fullShare R′.mir b 0 (registers-val g)) ∷ Γ) G)
       → Seq K W (‵ (flft (ν ∷ []) fullShare) ∷ ‵ (flent (ν ∷ []) (Body (mem R.the-row) b 0 δ)) ∷ ‵ (fres δ (R.the-row .coded .code g)) ∷ Γ) G
   registers-come-back b {ν} {δ} k =
       lft-end t z $ use3 W (later (‵ (mem R.the-row .lies g b 0))) (ref-back 𝓤 H A W R.the-row (ν ∷ []) δ g b 0) $ await t z $
-      use1 W (‵ (fat fullShare R′.mir b 0 (registers-val g)) ⊛ ‵ (R.the-row .own g (registers-vals g))) (local-lifted 𝓤 H A W R.the-type R′.the-laws g b) $ split t $
+      use1 W (‵ (fat fullShare R′.mir b 0 (registers-val g)) ⊛ ‵ (R.the-row .own g (registers-vals g)))
+      (local-lifted 𝓤 H A W R.the-type R′.the-laws g b) $ split t $
       move t (1 ∷ []) $ peeks t R.the-row (Is R.the-row) (shows 𝓤 H A R.the-row) g (registers-vals g) (λ is. drop t $ k is)

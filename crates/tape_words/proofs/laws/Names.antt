@@ -208,7 +208,8 @@ module _ (ws heads : List ℕ) (count : ℕ) (n : Name) (fits : count ≤ length
   search-step k h = rw (front-cons heads count k h fits)
 
   -- by whether the name is here, and what the search comes to so far
-  pub found-here : {r : ℕ} {is : Bool} (k : ℕ) → searchFrom k ≡ r → k < count → is ≡ sameBytes n (headName ws (getD heads k 0)) → is ≡ true → k + 1 ≡ r
+  pub found-here : {r : ℕ} {is : Bool} (k : ℕ) → searchFrom k ≡ r → k < count → is ≡ sameBytes n (headName ws (getD heads k 0)) → is ≡ true → k + 1 ≡
+      r
   found-here k kept h e f = sym (search-step k h ∙ rw (← e, f)) ∙ kept
 
   pub not-here : {r : ℕ} {is : Bool} (k : ℕ) → searchFrom k ≡ r → k < count → is ≡ sameBytes n (headName ws (getD heads k 0)) → is ≡ false

@@ -19,7 +19,8 @@ returns c =
     let at-argument-ready = at-put .before .before .before .before in
     let at-put-span = at-argument-ready .before .before .before .before in
     let at-rest-of = at-put-span .before in
-    rw (← (at-rest-of .rest-of .ensures)) (wrote-more (wrote-more (wrote-more (at-put-span .put-span .ensures) (at-argument-ready .argument-ready .ensures))
+    rw (← (at-rest-of .rest-of .ensures))
+    (wrote-more (wrote-more (wrote-more (at-put-span .put-span .ensures) (at-argument-ready .argument-ready .ensures))
     (at-put .put .ensures)) (at-put2 .put2 .ensures))
 
 pub write-tail-call-spec : {M : Type 1} → statement M

@@ -9,7 +9,8 @@ use Rattle.code_expressions.proofs.expression.write_expression.Statemen
 use Rattle.code_expressions.proofs.expression.write_expression.Tie as tie
 
 abbrev Inv-loop : tie.InvT-loop
-Inv-loop tape heads names m start code₀ at calls₀ walk₀ code calls walk = ItemsSoFar tape heads names m start at code₀ calls code walk × (length code ≡ length code₀)
+Inv-loop tape heads names m start code₀ at calls₀ walk₀ code calls walk = ItemsSoFar tape heads names m start at code₀ calls code walk ×
+    (length code ≡ length code₀)
 
 abbrev μ-loop : tie.MeasureT-loop
 μ-loop tape heads names m start code₀ at calls₀ walk₀ code calls walk = toGo tape walk
@@ -39,8 +40,13 @@ slice-aggregate-write-item c = sym (c .before .before .loop .inv .0 .within .roo
 write-item-requires : tie.Need-write-item-requires Inv-loop μ-loop
 write-item-requires c κs =
     let at-loop = c .before .before .before in
-    let entry = at-loop .before .before .before .before .before in
-    (entry .pre .0, entry .pre .1, entry .pre .2, at-loop .loop .inv .0 .within, omega (arith, at-loop .loop .inv .0 .grown, at-loop .loop .inv .0 .within .items, entry .pre .4))
+    let entry = at-loop .before .before .before .before .before in (
+      entry .pre .0,
+      entry .pre .1,
+      entry .pre .2,
+      at-loop .loop .inv .0 .within,
+      omega (arith, at-loop .loop .inv .0 .grown, at-loop .loop .inv .0 .within .items, entry .pre .4),
+    )
 
 loop-less : tie.Need-loop-less Inv-loop μ-loop
 loop-less c =
@@ -52,8 +58,10 @@ loop-again : tie.Need-loop-again Inv-loop μ-loop
 loop-again c =
     let at-write-item = c .before .before .before in
     let at-loop-test = at-write-item .before .before .before in
-    let at-loop = at-loop-test .before in
-    (items-go-on (at-loop .loop .inv .0) (at-loop-test .loop-test .taken) (at-write-item .write-item .ensures), at-write-item .write-item .kept .1 .1 .1 .1 .1 .0 ∙ at-loop .loop .inv .1)
+    let at-loop = at-loop-test .before in (
+      items-go-on (at-loop .loop .inv .0) (at-loop-test .loop-test .taken) (at-write-item .write-item .ensures),
+      at-write-item .write-item .kept .1 .1 .1 .1 .1 .0 ∙ at-loop .loop .inv .1,
+    )
 
 same-length : tie.Need-same-length Inv-loop μ-loop
 same-length c = c .before .loop .inv .1

@@ -7,7 +7,8 @@ use Rattle.tape_words.specs.declared.tape.Item.the-variants.{Byte, Symbol, Part
 use Rattle.code_expressions.specs.declared.expression.Walk.{Walk}
 use Rattle.code_expressions.specs.Resuming.{Innermost}
 use Rattle.code_expressions.proofs.laws.Items.{Told, told}
-use Rattle.code_expressions.proofs.laws.Itemised.{innermost, left-passed, character-on, value-on, part-on, left-on, open-on, pass-on, closed-on, unclosed-on, end-on}
+use Rattle.code_expressions.proofs.laws.Itemised.{innermost, left-passed, character-on, value-on, part-on, left-on, open-on, pass-on}
+use Rattle.code_expressions.proofs.laws.Itemised.{closed-on, unclosed-on, end-on}
 use borrow.Author.Needs.{needs}
 use Rattle.code_expressions.proofs.expression.write_item.Statement.{statement}
 use Rattle.code_expressions.proofs.expression.write_item.Tie as tie

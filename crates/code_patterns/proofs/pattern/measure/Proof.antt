@@ -25,12 +25,17 @@ loop-less : tie.Need-loop-less Inv-loop μ-loop
 loop-less c = search falls
 
 loop-again : tie.Need-loop-again Inv-loop μ-loop
-loop-again c = (c .measure-piece .ensures .within, c .measure-piece .ensures .same ∙ (rw (c .before .loop-test .taken) at (c .before .before .loop .inv .1)))
+loop-again c = (
+  c .measure-piece .ensures .within,
+  c .measure-piece .ensures .same ∙
+      (rw (c .before .loop-test .taken) at (c .before .before .loop .inv .1)),
+)
 
 returns : tie.Need-returns Inv-loop μ-loop
 returns c =
     let entry = c .before .before .before in
-    measured-all (entry .args .tape .now) (entry .args .start) (c .before .loop .m) (c .loop-test .left) (c .before .loop .inv .0) (c .before .loop .inv .1)
+    measured-all (entry .args .tape .now) (entry .args .start) (c .before .loop .m) (c .loop-test .left) (c .before .loop .inv .0)
+    (c .before .loop .inv .1)
 
 pub measure-spec : {M : Type 1} → statement M
 measure-spec =

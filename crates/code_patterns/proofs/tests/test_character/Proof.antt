@@ -11,7 +11,13 @@ put-operands-requires c κs =
     let at-site-of = c .before .before in
     let entry = at-site-of .before .before .before in
     let small = site-small (entry .args .lengths) (entry .args .t .parts) (entry .args .t .offset) (entry .pre .0) (entry .pre .1) in
-    omega (arith, ap (λ s. s .register) (at-site-of .site-of .ensures), ap (λ s. s .offset) (at-site-of .site-of .ensures), c .word-at .ensures, entry .pre)
+    omega (
+      arith,
+      ap (λ s. s .register) (at-site-of .site-of .ensures),
+      ap (λ s. s .offset) (at-site-of .site-of .ensures),
+      c .word-at .ensures,
+      entry .pre,
+    )
 
 returns : tie.Need-returns
 returns c =

@@ -17,15 +17,19 @@ bounds : (c : tie.After-name-size) → let a = c .before .before .before .before
 bounds c =
     let entry = c .before .before .before .before .before .before in
     let (named, room) = told _ _ _ _ SVariable (entry .pre .1) in
-    rw (c .before .site-of .ensures, c .name-size .ensures) (room, named .fits, site-near (entry .args .lengths) (entry .pre .0 .0) (entry .pre .0 .1))
+    rw (c .before .site-of .ensures, c .name-size .ensures)
+    (room, named .fits, site-near (entry .args .lengths) (entry .pre .0 .0) (entry .pre .0 .1))
 
-found-here : (c : tie.After-find) → foundSite (c .find .result) (c .before .before .before .before .before .before .before .before .before .args .sites .now) < 16896
+found-here : (c : tie.After-find) → foundSite (c .find .result)
+    (c .before .before .before .before .before .before .before .before .before .args .sites .now) < 16896
 found-here c =
     let entry = c .before .before .before .before .before .before .before .before .before in
     found-good (entry .args .sites .now) (entry .pre .0 .0 .good) (c .find .result) .small
 
-looked : (c : tie.After-find) → let at-name-size = c .before .before .before in let a = at-name-size .before .before .before .before .before .before .args in
-    Looked (a .tape .now) (a .lengths) (a .names .now) (a .sites .now) (a .t) (at-name-size .before .site-of .result) (at-name-size .name-size .result) (c .find .result)
+looked : (c : tie.After-find) → let at-name-size = c .before .before .before in
+    let a = at-name-size .before .before .before .before .before .before .args in
+    Looked (a .tape .now) (a .lengths) (a .names .now) (a .sites .now) (a .t) (at-name-size .before .site-of .result)
+    (at-name-size .name-size .result) (c .find .result)
 looked c =
     let at-name-size = c .before .before .before in
     let entry = at-name-size .before .before .before .before .before .before in

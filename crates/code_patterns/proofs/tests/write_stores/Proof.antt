@@ -20,9 +20,15 @@ abbrev μ-loop : tie.MeasureT-loop
 μ-loop sites symbols code₀ at place₀ k₀ code place k = symbols - k
 
 loop-holds : tie.Need-loop-holds Inv-loop μ-loop
-loop-holds c = (omega arith, omega arith, same-words (same-refl _ _ _) (ap (map storeOfSite) (sym (front-whole (c .before .before .args .sites .now) (c .before .before .args .symbols)))))
+loop-holds c = (
+  omega arith,
+  omega arith,
+  same-words (same-refl _ _ _)
+      (ap (map storeOfSite) (sym (front-whole (c .before .before .args .sites .now) (c .before .before .args .symbols)))),
+)
 
-small : (c : tie.After-shared-slice-known2 Inv-loop μ-loop) → IsSite (getD (c .before .before .before .before .before .before .args .sites .now) (c .before .before .before .loop .k) 0)
+small : (c : tie.After-shared-slice-known2 Inv-loop μ-loop) →
+    IsSite (getD (c .before .before .before .before .before .before .args .sites .now) (c .before .before .before .loop .k) 0)
 small c = c .before .before .before .before .before .before .pre .1 (c .before .before .before .loop .k)
 
 mul-put-2 : tie.Need-mul-put-2 Inv-loop μ-loop
@@ -39,8 +45,14 @@ loop-again c =
     let at-put = c .before .before in
     let at-loop-test = at-put .before .before .before in
     let at-loop = at-loop-test .before in
-    let entry = at-loop .before .before .before in
-    (omega arith, omega (arith, at-put .put .ensures .next), same-wrote _ (same-words (at-loop .loop .inv .2) (ap (map storeOfSite) (front-cons (entry .args .sites .now) (entry .args .symbols) (at-loop .loop .k) (at-loop-test .loop-test .taken) (entry .pre .0)) ∙ ap (λ w. w ∷ map storeOfSite (frontFrom (entry .args .sites .now) (entry .args .symbols) (at-loop .loop .k + 1))) (store-word _ (entry .pre .1 (at-loop .loop .k))))) (at-put .put .ensures))
+    let entry = at-loop .before .before .before in (
+      omega arith,
+      omega (arith, at-put .put .ensures .next),
+      same-wrote _ (same-words (at-loop .loop .inv .2) (ap (map storeOfSite)
+          (front-cons (entry .args .sites .now) (entry .args .symbols) (at-loop .loop .k) (at-loop-test .loop-test .taken) (entry .pre .0)) ∙
+          ap (λ w. w ∷ map storeOfSite (frontFrom (entry .args .sites .now) (entry .args .symbols) (at-loop .loop .k + 1)))
+          (store-word _ (entry .pre .1 (at-loop .loop .k))))) (at-put .put .ensures),
+    )
 
 same-length : tie.Need-same-length Inv-loop μ-loop
 same-length c = same-size (c .before .loop .inv .2)
@@ -48,7 +60,8 @@ same-length c = same-size (c .before .loop .inv .2)
 returns : tie.Need-returns Inv-loop μ-loop
 returns c =
     let entry = c .before .before .before .before in
-    same-end (same-words (c .before .loop .inv .2) (ap (map storeOfSite) (front-none (entry .args .sites .now) (entry .args .symbols) (c .before .loop .k) (c .loop-test .left))))
+    same-end (same-words (c .before .loop .inv .2) (ap (map storeOfSite)
+    (front-none (entry .args .sites .now) (entry .args .symbols) (c .before .loop .k) (c .loop-test .left))))
 
 pub write-stores-spec : {M : Type 1} → statement M
 write-stores-spec =

@@ -21,7 +21,24 @@ loop-holds : tie.Need-loop-holds Inv-loop μ-loop
 unfolding heldSites
 loop-holds c =
     let entry = c .before .before .before .before in
-    record { same = same-refl _ _ _; known = refl; rest = refl; within = record { nameRoom = entry .pre .0 .0; siteRoom = entry .pre .0 .1; good = entry .pre .0 .2; letters = omega arith; offset = omega arith; symbols = omega arith; next = entry .pre .1 .1; at = omega arith }; grown = omega arith }
+    record {
+      same = same-refl _ _ _;
+      known = refl;
+      rest = refl;
+      within =
+          record {
+            nameRoom = entry .pre .0 .0;
+            siteRoom = entry .pre .0 .1;
+            good = entry .pre .0 .2;
+            letters = omega arith;
+            offset =
+                omega arith;
+            symbols = omega arith;
+            next = entry .pre .1 .1;
+            at = omega arith;
+          };
+      grown = omega arith;
+    }
 
 test-piece-requires : tie.Need-test-piece-requires Inv-loop μ-loop
 test-piece-requires c κs =

@@ -47,7 +47,8 @@ loop-again c =
     let at-lesser = at-write-entry .before .before in
     let at-loop-test = at-lesser .before in
     let at-loop = at-loop-test .before in
-    functions-go-on (at-loop .loop .inv) (at-loop-test .loop-test .taken) (at-lesser .lesser .ensures) (at-write-entry .write-entry .ensures) (c .before .code2 .given .1)
+    functions-go-on (at-loop .loop .inv) (at-loop-test .loop-test .taken) (at-lesser .lesser .ensures) (at-write-entry .write-entry .ensures)
+    (c .before .code2 .given .1)
 
 same-length : tie.Need-same-length Inv-loop μ-loop
 same-length c = c .before .loop .inv .size ∙ c .before .before .before .before .put .kept .0

@@ -17,8 +17,11 @@ slice-aggregate-write-functions c = let f = c .before .before .find-heads in
 
 write-functions-requires : tie.Need-write-functions-requires
 write-functions-requires c κs = let f = c .before .before .before .find-heads in
-    let few = length-take (f .result) (f .last .1 .0) in
-    (omega (arith, few, f .ensures .few), λ k h. rw (getD-take (f .result) (f .last .1 .0) k 0 (omega (arith, few))) (f .ensures .inside k (omega (arith, few))))
+    let few = length-take (f .result) (f .last .1 .0) in (
+      omega (arith, few, f .ensures .few),
+      λ k h. rw (getD-take (f .result) (f .last .1 .0) k 0 (omega (arith, few)))
+          (f .ensures .inside k (omega (arith, few))),
+    )
 
 returns : tie.Need-returns
 returns c = search table-written

@@ -5,13 +5,22 @@ use Rattle.list_table.proofs.words.list_word.Statement.{statement}
 use Rattle.list_table.proofs.words.list_word.Tie as tie
 
 returns : tie.Need-returns
-returns c = rw (c .before .before .before .before .before .before .before .state .given .1, ← (c .before .before .before .before .before .one-less .ensures)) (c .before .before .list-copied .ensures)
+returns c = rw (
+  c .before .before .before .before .before .before .before .state .given .1,
+  ← (c .before .before .before .before .before .one-less .ensures),
+) (c .before .before .list-copied .ensures)
 
 returns-2 : tie.Need-returns-2
-returns-2 c = rw (c .before .before .before .before .before .before .before .state2 .given .1, ← (c .before .before .before .before .before .one-less2 .ensures)) (c .before .before .list-copied2 .ensures)
+returns-2 c = rw (
+  c .before .before .before .before .before .before .before .state2 .given .1,
+  ← (c .before .before .before .before .before .one-less2 .ensures),
+) (c .before .before .list-copied2 .ensures)
 
 returns-3 : tie.Need-returns-3
-returns-3 c = rw (c .before .before .before .before .before .before .before .state3 .given .1, ← (c .before .before .before .before .before .one-less3 .ensures)) (c .before .before .list-copied3 .ensures)
+returns-3 c = rw (
+  c .before .before .before .before .before .before .before .state3 .given .1,
+  ← (c .before .before .before .before .before .one-less3 .ensures),
+) (c .before .before .list-copied3 .ensures)
 
 returns-4 : tie.Need-returns-4
 returns-4 c =

@@ -19,7 +19,8 @@ no-upper c = asked-not (no-digit (c .before .before .before)) (c .before .spells
 no-lower : (c : tie.Else3) → Left (c .before .before .before .before .before .before .before .before .before .before) (alphabetic ∷ blank ∷ [])
 no-lower c = asked-not (no-upper (c .before .before .before)) (c .before .spells3 .ensures) (c .if3 .left)
 
-no-letter : (c : tie.Else4) → Left (c .before .before .before .before .before .before .before .before .before .before .before .before .before) (blank ∷ [])
+no-letter : (c : tie.Else4) → Left (c .before .before .before .before .before .before .before .before .before .before .before .before .before)
+    (blank ∷ [])
 no-letter c = asked-not (no-lower (c .before .before .before)) (c .before .spells4 .ensures) (c .if4 .left)
 
 returns : tie.Need-returns

@@ -16,7 +16,8 @@ returns-3 : tie.Need-returns-3
 returns-3 c =
     let at-if2 = c .before .before in
     let at-if1 = at-if2 .before .before .before in
-    minus-built-in _ (at-if1 .before .begins-with .ensures) (at-if1 .if1 .left) (at-if2 .before .spells .ensures) (at-if2 .if2 .left) _ (c .spells2 .ensures)
+    minus-built-in _ (at-if1 .before .begins-with .ensures) (at-if1 .if1 .left) (at-if2 .before .spells .ensures) (at-if2 .if2 .left) _
+    (c .spells2 .ensures)
 
 pub is-built-in-spec : {M : Type 1} → statement M
 is-built-in-spec =

@@ -9,4 +9,5 @@ returns-4 c = no-word (c .before .args .t .token) (c .match .keys4)
 
 pub is-word-spec : {M : Type 1} → statement M
 is-word-spec =
-    tie.close (tie.spec (λ c. search needs) (λ c. search needs) (λ c. search needs) (λ c. search needs) (λ c. search needs) (λ c. search needs) returns-4)
+    tie.close (tie.spec (λ c. search needs) (λ c. search needs) (λ c. search needs) (λ c. search needs) (λ c. search needs) (λ c. search needs)
+    returns-4)

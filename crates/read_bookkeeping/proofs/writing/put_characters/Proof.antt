@@ -23,7 +23,8 @@ loop-holds c = spelling-starts _ _ _ _ (c .before .before .pre .0)
 turned : (c : tie.After-next-character Inv-loop μ-loop) {r : Character} → c .next-character .result ≡ r → SpelledOn (c .before .loop .inv) r
 turned c {r} e = spelled-on (c .before .loop .inv) r (rw e at (c .next-character .ensures))
 
-given : (c : tie.After-known-told Inv-loop μ-loop) → let v = c .before .byte .given .0 in SpelledOn (c .before .before .before .before .loop .inv) (Given (v .0) (v .1 .0))
+given : (c : tie.After-known-told Inv-loop μ-loop) → let v = c .before .byte .given .0 in
+    SpelledOn (c .before .before .before .before .loop .inv) (Given (v .0) (v .1 .0))
 given c = turned (c .before .before .before) (c .before .byte .given .1)
 
 add-to : tie.Need-add-to Inv-loop μ-loop

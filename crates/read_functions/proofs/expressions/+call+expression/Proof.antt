@@ -1,5 +1,5 @@
--- The expression's reader and the call's reader, which call each other, meet their contracts. The measure of both is the text that remains and the nesting
--- that is left: a call's reader begins after its `<`, an argument's after the name and one call deeper.
+-- The expression's reader and the call's reader, which call each other, meet their contracts. The measure of both is the text that remains and the
+-- nesting that is left: a call's reader begins after its `<`, an argument's after the name and one call deeper.
 use borrow.Fn.Kind.{PK}
 use borrow.Fn.Kinds.{In}
 use borrow.Fn.PlainCycle.{Measures, is, falls, and}
@@ -32,7 +32,8 @@ use Rattle.read_functions.specs.declared.expressions.ExpressionCounts.{E
 use Rattle.read_tokens.proofs.Stream.{comes}
 use Rattle.read_bookkeeping.proofs.Going.{has-read, went-length}
 use Rattle.read_functions.proofs.Calling.{Opened, call-unopened, argument-ready, argument-going, argument-stops, call-closes}
-use Rattle.read_functions.proofs.Expressed.{Expressed, expression-starts, AtToken, item-moves, item-taken, item-wrong, word-refused, expression-ends, AtCall, call-onward, call-ready, call-stopped, call-moves, call-read}
+use Rattle.read_functions.proofs.Expressed.{Expressed, expression-starts, AtToken, item-moves, item-taken, item-wrong, word-refused}
+use Rattle.read_functions.proofs.Expressed.{expression-ends, AtCall, call-onward, call-ready, call-stopped, call-moves, call-read}
 
 abbrev remaining : Bytes → ExpressionCounts → ℕ → ℕ
 remaining text s depth = (length text - s .at) + (16 - depth)
@@ -170,7 +171,8 @@ module _ (t : ℕ) where
   expression-same-length-3 c = omega (arith, long (c .before .before .before .before .before .before .before .before))
 
   expression-same-length-4 : expression-lts.Need-same-length-4 (expression-claims t) (expression-at t) expression.Post Inv-loop μ-loop
-  expression-same-length-4 c = omega (arith, long (c .before .before .before .before .before .before .before .before .before .before .before .before .before .before .before))
+  expression-same-length-4 c =
+      omega (arith, long (c .before .before .before .before .before .before .before .before .before .before .before .before .before .before .before))
 
   expression-loop-holds : expression-lts.Need-loop-holds (expression-claims t) (expression-at t) expression.Post Inv-loop μ-loop
   expression-loop-holds c = expression-starts _ _ _ _ _ _ _ (c .before .before .before .pre .1)
@@ -186,7 +188,8 @@ module _ (t : ℕ) where
 
   expression-returns : expression-lts.Need-returns (expression-claims t) (expression-at t) expression.Post Inv-loop μ-loop
   expression-returns c =
-      λ bound h. rw (c .fault-at .ensures) (item-wrong (joined-here (c .before .before .before .before .before .before)) (c .before .before .answer .given .1) h)
+      λ bound h. rw (c .fault-at .ensures) (item-wrong (joined-here (c .before .before .before .before .before .before))
+      (c .before .before .answer .given .1) h)
 
   expression-returns-2 : expression-lts.Need-returns-2 (expression-claims t) (expression-at t) expression.Post Inv-loop μ-loop
   expression-returns-2 c = λ bound h. word-refused (joined-here (c .before .before .before .before .before)) (c .before .fault .given .1) h

@@ -13,25 +13,39 @@ join-string-requires : tie.Need-join-string-requires
 join-string-requires c κs = asks-string (c .before .before .before .before .before .before .before .pre) (c .before .before .token .given .1)
 
 returns : tie.Need-returns
-returns c = joins (string-here (c .before .before .before .before .before .before .before .before .before .before .pre .1) (c .before .before .before .before .before .token .given .1)) (c .before .before .join-string .ensures)
+returns c = joins (string-here (c .before .before .before .before .before .before .before .before .before .before .pre .1)
+    (c .before .before .before .before .before .token .given .1)) (c .before .before .join-string .ensures)
 
 returns-2 : tie.Need-returns-2
-returns-2 c = record { gives = (no-item (c .before .before .before .before .before .before .pre .1) (c .before .before .match .keys2) (sym (c .before .is-word .ensures) ∙ not-true _ (c .if1 .taken)), refl) }
+returns-2 c = record {
+  gives = (
+    no-item (c .before .before .before .before .before .before .pre .1) (c .before .before .match .keys2)
+        (sym (c .before .is-word .ensures) ∙ not-true _ (c .if1 .taken)),
+    refl,
+  );
+}
 
 join-symbol-requires : tie.Need-join-symbol-requires
-join-symbol-requires c κs = asks-variable (c .before .before .before .before .before .before .before .before .before .before .pre) false _ (c .before .before .token2 .given .1)
+join-symbol-requires c κs = asks-variable (c .before .before .before .before .before .before .before .before .before .before .pre) false _
+    (c .before .before .token2 .given .1)
 
 returns-3 : tie.Need-returns-3
-returns-3 c = joins (variable-here (c .before .before .before .before .before .before .before .before .before .before .before .before .before .pre .1) false _ (c .before .before .before .before .before .token2 .given .1)) (c .before .before .join-symbol .ensures)
+returns-3 c = joins (variable-here (c .before .before .before .before .before .before .before .before .before .before .before .before .before .pre .1)
+    false _ (c .before .before .before .before .before .token2 .given .1)) (c .before .before .join-symbol .ensures)
 
 returns-4 : tie.Need-returns-4
-returns-4 c = record { gives = no-variable (c .before .before .before .before .before .before .before .before .pre .1) (sym (c .before .before .before .is-word .ensures) ∙ not-false _ (c .before .before .if1 .left)) (c .before .match2 .keys2) (c .match3 .keys2) }
+returns-4 c = record {
+  gives = no-variable (c .before .before .before .before .before .before .before .before .pre .1)
+      (sym (c .before .before .before .is-word .ensures) ∙ not-false _ (c .before .before .if1 .left)) (c .before .match2 .keys2) (c .match3 .keys2);
+}
 
 join-part-requires : tie.Need-join-part-requires
-join-part-requires c κs = asks-variable (c .before .before .before .before .before .before .before .before .before .before .before .pre) true _ (c .before .before .token3 .given .1)
+join-part-requires c κs = asks-variable (c .before .before .before .before .before .before .before .before .before .before .before .pre) true _
+    (c .before .before .token3 .given .1)
 
 returns-5 : tie.Need-returns-5
-returns-5 c = joins (variable-here (c .before .before .before .before .before .before .before .before .before .before .before .before .before .before .pre .1) true _ (c .before .before .before .before .before .token3 .given .1)) (c .before .before .join-part .ensures)
+returns-5 c = joins (variable-here (c .before .before .before .before .before .before .before .before .before .before .before .before .before .before
+    .pre .1) true _ (c .before .before .before .before .before .token3 .given .1)) (c .before .before .join-part .ensures)
 
 pub join-spec : {M : Type 1} → statement M
 join-spec =

@@ -12,7 +12,13 @@ sought-here : (c : tie.After-find)
 sought-here c =
     let at-if2 = c .before .before in
     let at-if1 = at-if2 .before .before in
-    record { here = at-if1 .before .before .before .before .before .pre; few = at-if2 .if2 .left; brief = at-if1 .if1 .left; found = c .find .ensures }
+    record {
+      here = at-if1 .before .before .before .before .before .pre;
+      few = at-if2 .if2 .left;
+      brief = at-if1 .if1 .left;
+      found =
+          c .find .ensures;
+    }
 
 returns : tie.Need-returns
 returns c = part-long (c .before .before .before .before .before .pre) (c .if1 .taken)

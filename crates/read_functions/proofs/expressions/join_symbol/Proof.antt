@@ -14,7 +14,8 @@ returns-2 c =
     let at-later-fault = c .before .before in
     let at-if1 = at-later-fault .before in
     let f = at-later-fault .later-fault .ensures in
-    symbol-bad (at-if1 .before .before .before .before .before .pre) (at-if1 .if1 .left) f (a-fault-here f (c .before .is-accepted .ensures) (c .if2 .taken))
+    symbol-bad (at-if1 .before .before .before .before .before .pre) (at-if1 .if1 .left) f
+    (a-fault-here f (c .before .is-accepted .ensures) (c .if2 .taken))
 
 take-variable-requires : tie.Need-take-variable-requires
 take-variable-requires c κs =
@@ -29,7 +30,8 @@ returns-3 c =
     let at-later-fault = at-is-accepted .before in
     let at-if1 = at-later-fault .before in
     symbol-joined (at-if1 .before .before .before .before .before .pre) (at-if1 .if1 .left)
-    (no-fault-here (at-later-fault .later-fault .ensures) (at-is-accepted .is-accepted .ensures) (at-if2 .if2 .left)) (c .before .before .take-variable .ensures)
+    (no-fault-here (at-later-fault .later-fault .ensures) (at-is-accepted .is-accepted .ensures) (at-if2 .if2 .left))
+    (c .before .before .take-variable .ensures)
 
 pub join-symbol-spec : {M : Type 1} → statement M
 join-symbol-spec =

@@ -8,7 +8,8 @@ use borrow.Author.Tests.{leb-true, leb-false}
 use Rattle.meaning.specs.Tokens as Tokens
 use Rattle.read_tokens.proofs.Stream.{comes}
 use Rattle.read_bookkeeping.proofs.Choosing.{no-fault-here, a-fault-here}
-use Rattle.read_functions.proofs.Opened.{CallComes, CallName, CallNamed, too-deep, too-many, call-limited, call-nameless, named-here, call-misnamed, name-room, call-opens}
+use Rattle.read_functions.proofs.Opened.{CallComes, CallName, CallNamed, too-deep, too-many, call-limited, call-nameless, named-here}
+use Rattle.read_functions.proofs.Opened.{call-misnamed, name-room, call-opens}
 
 call-here : (c : tie.After-lex)
     → let a = c .before .before .before .before .before .before .args in
@@ -35,7 +36,8 @@ returns c =
     let a = c .before .before .before .before .args in
     rw (c .fault-at .ensures)
     (call-limited (a .text .now) (a .depth) (a .s) (a .place)
-    (⊎-elim (λ w. too-deep (a .depth) (a .s .items) (w .taken)) (λ w. too-many (a .depth) (a .s .items) (leb-true 128 _ (w .2 .taken))) (c .before .if1 .came)))
+    (⊎-elim (λ w. too-deep (a .depth) (a .s .items) (w .taken)) (λ w. too-many (a .depth) (a .s .items) (leb-true 128 _ (w .2 .taken)))
+    (c .before .if1 .came)))
 
 returns-2 : tie.Need-returns-2
 returns-2 c = call-nameless (call-here (c .before .before)) (c .before .match .keys2) (c .refuse .ensures)

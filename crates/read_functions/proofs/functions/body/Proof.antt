@@ -7,7 +7,8 @@ use native.Mathlib.Omega.{arith}
 use Rattle.read_functions.proofs.Functioned.{AfterBrace, name-room, body-ready, body-reads}
 use Rattle.read_bookkeeping.proofs.Tokening.{barred-stops-by}
 
-brace-here : (c : tie.After-at) → let a = c .before .before .before .before .before .args in AfterBrace (a .text .now) (a .words) (a .name) (c .at .given .0 .0)
+brace-here : (c : tie.After-at) → let a = c .before .before .before .before .before .args in
+    AfterBrace (a .text .now) (a .words) (a .name) (c .at .given .0 .0)
 brace-here c =
     let at-pass = c .before .before in
     record { name = at-pass .before .before .before .pre; taken = rw (c .at .given .1) at (at-pass .pass .ensures) }
@@ -31,12 +32,14 @@ put-named-requires : tie.Need-put-named-requires
 put-named-requires c κs = name-room (brace-here (c .before .before .before))
 
 sentences-requires : tie.Need-sentences-requires
-sentences-requires c κs = body-ready (brace-here (c .before .before .before .before .before .before .before)) refl (c .before .before .before .put-named .ensures)
+sentences-requires c κs = body-ready (brace-here (c .before .before .before .before .before .before .before)) refl
+    (c .before .before .before .put-named .ensures)
 
 returns-2 : tie.Need-returns-2
 returns-2 c =
     let at-put-named = c .before .before .before .before .before .before in
-    body-reads (brace-here (at-put-named .before .before .before .before)) refl (at-put-named .put-named .ensures) (c .before .before .sentences .ensures)
+    body-reads (brace-here (at-put-named .before .before .before .before)) refl (at-put-named .put-named .ensures)
+    (c .before .before .sentences .ensures)
 
 pub body-spec : {M : Type 1} → statement M
 body-spec =

@@ -8,7 +8,8 @@ use borrow.Author.Needs.{needs}
 use Rattle.meaning.specs.Tokens.{outside}
 use Rattle.read_tokens.proofs.Stream.{comes}
 use Rattle.read_functions.specs.Functions.{isEnd}
-use Rattle.read_functions.proofs.Functioned.{StageAt, place-inside, stage-over, stage-ends, stage-opening, stage-stops, stage-inside, stage-few, stage-goes}
+use Rattle.read_functions.proofs.Functioned.{StageAt, place-inside, stage-over, stage-ends, stage-opening, stage-stops, stage-inside}
+use Rattle.read_functions.proofs.Functioned.{stage-few, stage-goes}
 
 -- a token comes where more may
 token-here : (c : tie.After-lex)
@@ -48,7 +49,8 @@ add-functions : tie.Need-add-functions
 add-functions c =
     let at-function = c .before .before .before .before .before .before .before in
     let at-if1 = at-function .before .before .before in
-    let few = stage-few (token-here (at-if1 .before .before)) (more-here at-if1) (at-function .function .ensures) (c .before .before .before .f .given .1) in
+    let few = stage-few (token-here (at-if1 .before .before)) (more-here at-if1) (at-function .function .ensures)
+    (c .before .before .before .f .given .1) in
     omega arith
 
 returns-3 : tie.Need-returns-3
@@ -61,7 +63,8 @@ returns-4 : tie.Need-returns-4
 returns-4 c =
     let at-function = c .before .before .before .before .before .before .before in
     let at-if1 = at-function .before .before .before in
-    stage-goes (token-here (at-if1 .before .before)) (more-here at-if1) (at-function .function .ensures) (c .before .before .before .f .given .1) (c .before .pass-spare .ensures)
+    stage-goes (token-here (at-if1 .before .before)) (more-here at-if1) (at-function .function .ensures) (c .before .before .before .f .given .1)
+    (c .before .pass-spare .ensures)
 
 pub declaration-spec : {M : Type 1} → statement M
 declaration-spec =

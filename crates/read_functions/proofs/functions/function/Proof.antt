@@ -5,7 +5,8 @@ use Rattle.read_functions.proofs.functions.function.Tie as tie
 use mathlib.Core.Path.{refl}
 use native.Mathlib.Omega.{arith}
 use Rattle.read_bookkeeping.proofs.Choosing.{no-fault-here, a-fault-here}
-use Rattle.read_functions.proofs.Functioned.{NameComes, Named, function-nameless, named-here, function-many, function-misnamed, declarable, function-reads}
+use Rattle.read_functions.proofs.Functioned.{NameComes, Named, function-nameless, named-here, function-many, function-misnamed, declarable}
+use Rattle.read_functions.proofs.Functioned.{function-reads}
 
 abbrev start : tie.After-token → tie.Start
 start c = c .before .before .before .before

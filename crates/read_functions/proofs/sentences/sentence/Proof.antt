@@ -2,7 +2,8 @@
 use Rattle.read_functions.proofs.sentences.sentence.Statement.{statement}
 use Rattle.read_functions.proofs.sentences.sentence.Tie as tie
 use borrow.Author.Needs.{needs}
-use Rattle.read_functions.proofs.Sentenced.{AfterPattern, AfterConditions, pattern-stops, pattern-done, pattern-ready, pattern-variables, conditions-stop, conditions-done, conditions-ready, sentence-reads}
+use Rattle.read_functions.proofs.Sentenced.{AfterPattern, AfterConditions, pattern-stops, pattern-done, pattern-ready, pattern-variables}
+use Rattle.read_functions.proofs.Sentenced.{conditions-stop, conditions-done, conditions-ready, sentence-reads}
 use mathlib.Core.Path.{sym}
 
 pattern-here : (c : tie.After-p)
@@ -17,7 +18,8 @@ pattern-here c =
 conditions-here : (c : tie.After-c)
     → let at-conditions = c .before .before .before .before in
     AfterConditions (pattern-here (at-conditions .before .before .before .before)) (at-conditions .conditions .last .1 .0) (c .c .given .0 .0)
-conditions-here c = conditions-done (pattern-here (c .before .before .before .before .before .before .before .before)) (c .before .before .before .before .conditions .ensures) (c .c .given .1)
+conditions-here c = conditions-done (pattern-here (c .before .before .before .before .before .before .before .before))
+    (c .before .before .before .before .conditions .ensures) (c .c .given .1)
 
 pattern-requires : tie.Need-pattern-requires
 pattern-requires c κs = (c .before .before .before .before .before .pre, c .before .before .variable-room .ensures)
@@ -39,7 +41,8 @@ returns-2 c =
     conditions-stop (pattern-here (at-conditions .before .before .before .before)) (at-conditions .conditions .ensures) (c .before .fault2 .given .1)
 
 slice-aggregate-sentence-end : tie.Need-slice-aggregate-sentence-end
-slice-aggregate-sentence-end c = sym (pattern-variables (pattern-here (c .before .before .before .before .before .before .before .before .before .before .before)) .long)
+slice-aggregate-sentence-end c =
+    sym (pattern-variables (pattern-here (c .before .before .before .before .before .before .before .before .before .before .before)) .long)
 
 sentence-end-requires : tie.Need-sentence-end-requires
 sentence-end-requires c κs =

@@ -6,7 +6,8 @@ use native.Mathlib.Omega.{arith}
 use Rattle.read_functions.proofs.Sentenced.{AfterEquals, equals-room, equals-going, equals-reads}
 use Rattle.read_bookkeeping.proofs.Tokening.{barred-stops}
 
-equals-here : (c : tie.After-at) → let a = c .before .before .before .before .before .before .args in AfterEquals (a .text .now) (a .from) (a .words) (c .at .given .0 .0)
+equals-here : (c : tie.After-at) → let a = c .before .before .before .before .before .before .args in
+    AfterEquals (a .text .now) (a .from) (a .words) (c .at .given .0 .0)
 equals-here c =
     let at-pass = c .before .before in
     record { ready = at-pass .before .before .before .before .pre .1; taken = rw (c .at .given .1) at (at-pass .pass .ensures) }
@@ -25,7 +26,8 @@ returns c = barred-stops _ (rw (c .before .fault .given .1) at (c .before .befor
 returns-2 : tie.Need-returns-2
 returns-2 c =
     let at-put = c .before .before .before .before .before .before .before in
-    equals-reads (equals-here (at-put .before .before .before)) (at-put .put .ensures) (c .before .before .before .expression .ensures) (c .without-counts .ensures)
+    equals-reads (equals-here (at-put .before .before .before)) (at-put .put .ensures) (c .before .before .before .expression .ensures)
+    (c .without-counts .ensures)
 
 pub sentence-end-spec : {M : Type 1} → statement M
 sentence-end-spec =

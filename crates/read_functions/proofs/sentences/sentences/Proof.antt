@@ -6,7 +6,8 @@ use native.Mathlib.Omega.{arith}
 use lib.ListN.{length}
 use borrow.Author.Needs.{needs}
 use Rattle.read_bookkeeping.proofs.Going.{went-length}
-use Rattle.read_functions.proofs.Sentencing.{Sentenced, sentences-start, next-ready, sentence-stops, OneMore, one-more, Sequelled, some-left, sequel-ready, sequel-refused, sequel-ends, sequel-goes}
+use Rattle.read_functions.proofs.Sentencing.{Sentenced, sentences-start, next-ready, sentence-stops, OneMore, one-more, Sequelled, some-left}
+use Rattle.read_functions.proofs.Sentencing.{sequel-ready, sequel-refused, sequel-ends, sequel-goes}
 
 abbrev Inv-loop : tie.InvT-loop
 Inv-loop text tape₀ limit from words at₀ to₀ left₀ tape at to left = Sentenced text tape₀ limit from words tape at to left
@@ -19,7 +20,8 @@ read-here : (c : tie.After-s Inv-loop μ-loop)
     → let at-next-sentence = c .before .before .before .before in
     let at-loop = at-next-sentence .before .before in
     let a = at-loop .before .before .before .args in
-    OneMore (a .text .now) (a .tape .now) (a .limit) (a .from) (a .words) (at-loop .loop .left) (at-next-sentence .next-sentence .last .1 .0) (c .s .given .0 .0)
+    OneMore (a .text .now) (a .tape .now) (a .limit) (a .from) (a .words) (at-loop .loop .left) (at-next-sentence .next-sentence .last .1 .0)
+    (c .s .given .0 .0)
 read-here c =
     let at-next-sentence = c .before .before .before .before in
     one-more (at-next-sentence .before .before .loop .inv) (c .s .given .1) (at-next-sentence .next-sentence .ensures)
@@ -41,7 +43,8 @@ same-length : tie.Need-same-length Inv-loop μ-loop
 same-length c = omega (arith, long (c .before .before .before .before .before .before .before))
 
 same-length-2 : tie.Need-same-length-2 Inv-loop μ-loop
-same-length-2 c = omega (arith, long (c .before .before .before .before .before .before .before .before .before .before .before .before .before .before .before .before))
+same-length-2 c = omega
+    (arith, long (c .before .before .before .before .before .before .before .before .before .before .before .before .before .before .before .before))
 
 same-length-3 : tie.Need-same-length-3 Inv-loop μ-loop
 same-length-3 c = omega (arith, long (c .before .before .before .before .before .before .before .before .before .before .before .before))
@@ -61,13 +64,15 @@ after-sentence-requires : tie.Need-after-sentence-requires Inv-loop μ-loop
 after-sentence-requires c κs = sequel-ready (read-here (c .before .before)) .inside
 
 returns-2 : tie.Need-returns-2 Inv-loop μ-loop
-returns-2 c = sequel-ends (sequel-here (c .before .before .before .before .before .before .before)) (c .before .before .before .before .before .past .given .1) (c .before .before .put .ensures)
+returns-2 c = sequel-ends (sequel-here (c .before .before .before .before .before .before .before))
+    (c .before .before .before .before .before .past .given .1) (c .before .before .put .ensures)
 
 loop-less : tie.Need-loop-less Inv-loop μ-loop
 loop-less c = let r = some-left (read-here (c .before .before .before .before .before .before .before .before .before .before)) in omega arith
 
 loop-again : tie.Need-loop-again Inv-loop μ-loop
-loop-again c = sequel-goes (sequel-here (c .before .before .before .before .before .before .before)) (c .before .before .before .before .before .place .given .1) (c .before .before .put2 .ensures)
+loop-again c = sequel-goes (sequel-here (c .before .before .before .before .before .before .before))
+    (c .before .before .before .before .before .place .given .1) (c .before .before .put2 .ensures)
 
 returns-3 : tie.Need-returns-3 Inv-loop μ-loop
 returns-3 c = sequel-refused (sequel-here (c .before .before .before)) (c .before .fault2 .given .1)

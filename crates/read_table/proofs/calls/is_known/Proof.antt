@@ -28,7 +28,8 @@ returns-3 c =
     let at-is-built-in = c .before .before in
     let at-if1 = at-is-built-in .before in
     let entry = at-if1 .before .before .before in
-    calls-function _ _ _ (at-if1 .if1 .left) (at-is-built-in .is-built-in .ensures) (c .before .if2 .left) (among _ _ _ _ (entry .pre .1) _ _ (c .find .ensures) refl)
+    calls-function _ _ _ (at-if1 .if1 .left) (at-is-built-in .is-built-in .ensures) (c .before .if2 .left)
+    (among _ _ _ _ (entry .pre .1) _ _ (c .find .ensures) refl)
 
 pub is-known-spec : {M : Type 1} → statement M
 is-known-spec =

@@ -7,7 +7,8 @@ use borrow.Author.Tests.{not-true, not-false}
 use lib.ListN.{getD}
 use Rattle.read_bookkeeping.specs.Tables.{tableNames}
 use Rattle.read_table.specs.Calls.{unknownAs, wordKnown}
-use Rattle.read_table.proofs.Called.{Searching, search-starts, search-goes, search-finds, search-ends, searched-within, unknown-opens, table-found}
+use Rattle.read_table.proofs.Called.{Searching, search-starts, search-goes, search-finds, search-ends, searched-within, unknown-opens}
+use Rattle.read_table.proofs.Called.{table-found}
 use Rattle.read_table.proofs.calls.unknown_call.Statement.{statement}
 use Rattle.read_table.proofs.calls.unknown_call.Tie as tie
 

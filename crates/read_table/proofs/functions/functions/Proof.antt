@@ -126,10 +126,12 @@ module _ {M : Type 1} (𝓤 : URA M) (H : Heap 𝓤) (A : Atoms 𝓤) (at-mem : 
   first-said : (x : Stage) → ent 𝓤 (ensured 𝓤 H A first-stage.ended (first-stage.clauses 𝓤 H A at-mem run) tt tt tt x) (fact 𝓤 (x ≡ firstStage))
   first-said x = clause 𝓤 H A (lasts first-stage.ended tt tt) (x ≡ firstStage)
 
-  onward-said : (x : Stage) (y : Bool) → ent 𝓤 (ensured 𝓤 H A is-onward.ended (is-onward.clauses 𝓤 H A at-mem run) tt (x, tt) tt y) (fact 𝓤 (y ≡ onward x))
+  onward-said : (x : Stage) (y : Bool) → ent 𝓤 (ensured 𝓤 H A is-onward.ended (is-onward.clauses 𝓤 H A at-mem run) tt (x, tt) tt y)
+      (fact 𝓤 (y ≡ onward x))
   onward-said x y = clause 𝓤 H A (lasts is-onward.ended tt (x, tt)) (y ≡ onward x)
 
-  outcome-said : (x : Stage) (r : ParsedTable) → ent 𝓤 (ensured 𝓤 H A outcome.ended (outcome.clauses 𝓤 H A at-mem run) tt (x, tt) tt r) (fact 𝓤 (r ≡ outcomeOf x))
+  outcome-said : (x : Stage) (r : ParsedTable) → ent 𝓤 (ensured 𝓤 H A outcome.ended (outcome.clauses 𝓤 H A at-mem run) tt (x, tt) tt r)
+      (fact 𝓤 (r ≡ outcomeOf x))
   outcome-said x r = clause 𝓤 H A (lasts outcome.ended tt (x, tt)) (r ≡ outcomeOf x)
 
 module _ {M : Type 1} (𝓤 : URA M) (H : Heap 𝓤) (A : Atoms 𝓤) (W : Given 𝓤 H A) (at-mem : Memory → SProp 𝓤) (run : Routine → Fun 𝓤)
@@ -174,14 +176,17 @@ module _ {M : Type 1} (𝓤 : URA M) (H : Heap 𝓤) (A : Atoms 𝓤) (W : Given
       ‵ (Ours Entries (κs .1 .1 .0) (qs .1 .1 .0) names (t .names)) ∷ ‵ (flft (κs .0) (qs .0)) ∷ ‵ (flft (κs .1 .0) (qs .1 .0)) ∷
       ‵ (flft (κs .1 .1 .0) (qs .1 .1 .0)) ∷ []
 
-  exits : (t : State) (r : ParsedTable) (u : Val) → AgreesBy tableOutcome (FunctionsRead (now text) (now tape) (t .tape) (t .names)) (functionsOf (now text)) r
+  exits : (t : State) (r : ParsedTable) (u : Val) → AgreesBy tableOutcome (FunctionsRead (now text) (now tape) (t .tape) (t .names))
+      (functionsOf (now text)) r
       → ent 𝓤 (⋆ 𝓤 H A (‵ (P.the-row .own r (u ∷ [])) ∷ Kept t)) (Post u)
   exits t r u said =
       qed W (‵ (P.the-row .own r (u ∷ [])) ∷ Kept t) ∵
-      suffices ! _ (ends-at 𝓤 H A functions.ended stayed (functions.clauses 𝓤 H A at-mem run) W ((κs, qs, bounds, a, vss), tt) u r (tt, (t .tape, (t .names, tt)))
+      suffices ! _ (ends-at 𝓤 H A functions.ended stayed (functions.clauses 𝓤 H A at-mem run) W ((κs, qs, bounds, a, vss), tt) u r
+      (tt, (t .tape, (t .names, tt)))
       (tt, (t .long, (tt, tt)))) $ says ! said $
       move ! (4 ∷ 5 ∷ 6 ∷ []) $ tokens-joined ! 3 κs qs $ frame ! $ move ! (1 ∷ []) $ drop ! $
-      nothing ! $ move ! (3 ∷ 0 ∷ []) $ fjoin ! $ move ! (2 ∷ 0 ∷ []) $ as-passed ! u32 (κs .1 .0) (qs .1 .0) tape (t .tape) (t .long) $ fjoin ! $ nothing ! $ fjoin ! $ done !
+      nothing ! $ move ! (3 ∷ 0 ∷ []) $ fjoin ! $ move ! (2 ∷ 0 ∷ []) $ as-passed ! u32 (κs .1 .0) (qs .1 .0) tape (t .tape) (t .long) $ fjoin ! $
+      nothing ! $ fjoin ! $ done !
 
   -- what the callees are passed before the loop
   abbrev text-token : SProp 𝓤
@@ -190,8 +195,10 @@ module _ {M : Type 1} (𝓤 : URA M) (H : Heap 𝓤) (A : Atoms 𝓤) (W : Given
   abbrev to-new : New 𝓤 H A at-mem run .Ghost
   to-new = (((κs .0, tt), (qs .0, tt), tt, (text, tt), (slice-vals text, tt)), tt)
 
-  goes-new : ent 𝓤 (sep 𝓤 (A .lft (κs .0) (qs .0)) (sem 𝓤 H A (ShrSlice erased (κs .0) u8 .own text (slice-vals text)))) (New 𝓤 H A at-mem run .pre to-new)
-  goes-new = qed W (‵ (flft (κs .0) (qs .0)) ∷ ‵ (ShrSlice erased (κs .0) u8 .own text (slice-vals text)) ∷ []) ∵ nothing ! $ move ! (1 ∷ 0 ∷ []) $ join ! $
+  goes-new : ent 𝓤 (sep 𝓤 (A .lft (κs .0) (qs .0)) (sem 𝓤 H A (ShrSlice erased (κs .0) u8 .own text (slice-vals text))))
+      (New 𝓤 H A at-mem run .pre to-new)
+  goes-new = qed W (‵ (flft (κs .0) (qs .0)) ∷ ‵ (ShrSlice erased (κs .0) u8 .own text (slice-vals text)) ∷ []) ∵ nothing ! $ move ! (1 ∷ 0 ∷ []) $
+      join ! $
       nothing ! $ move ! (2 ∷ 0 ∷ []) $ fjoin ! $ move ! (1 ∷ 0 ∷ []) $ join ! $ nothing ! $ move ! (1 ∷ 0 ∷ []) $ done !
 
   new-said : (r : Reader) → ent 𝓤 (ensured 𝓤 H A new.ended (new.clauses 𝓤 H A at-mem run) (κs .0, tt) (text, tt) tt r) (fact 𝓤 (r ≡ readerAt text 0))
@@ -208,8 +215,10 @@ module _ {M : Type 1} (𝓤 : URA M) (H : Heap 𝓤) (A : Atoms 𝓤) (W : Given
   to-outcome x v = ((tt, tt, tt, (x, tt), (v ∷ [], tt)), tt)
 
   module _ (are : Are (typesAt (functions.signature .params) κs) (Ises (typesAt (functions.signature .params) κs)) a vss)
-      (𝓣 : Tables 𝓤 H) (fm : FmC 𝓤 H (W .laws) (𝓣 .C)) (known-onward : Triple 𝓤 (𝓣 .C #read-functions·functions·is-onward) (IsOnward 𝓤 H A at-mem run))
-      (known-next : Triple 𝓤 (𝓣 .C #read-table·functions·next-declaration) (Next 𝓤 H A at-mem run)) (known-outcome : Triple 𝓤 (𝓣 .C #read-functions·functions·outcome) (Outcome 𝓤 H A at-mem run)) where
+      (𝓣 : Tables 𝓤 H) (fm : FmC 𝓤 H (W .laws) (𝓣 .C)) (known-onward : Triple 𝓤 (𝓣 .C #read-functions·functions·is-onward)
+      (IsOnward 𝓤 H A at-mem run))
+      (known-next : Triple 𝓤 (𝓣 .C #read-table·functions·next-declaration) (Next 𝓤 H A at-mem run))
+      (known-outcome : Triple 𝓤 (𝓣 .C #read-functions·functions·outcome) (Outcome 𝓤 H A at-mem run)) where
     fits-tape : (t : State) → Room u32 (length (t .tape))
     fits-tape t = subst (Room u32) (sym (t .long)) (are .1 .0 .0 .1)
 
@@ -219,7 +228,8 @@ module _ {M : Type 1} (𝓤 : URA M) (H : Heap 𝓤) (A : Atoms 𝓤) (W : Given
 
       -- what the locals hold from the first parameter to the stage, and the context in a state
       abbrev passed : State → List Content
-      passed t = holds (sliceVal (ptr text) (length (now text))) ∷ holds (sliceVal (ptr tape) (length (t .tape))) ∷ pointer names ∷ holds (reader-val (t .reader)) ∷ holds (t .value) ∷ []
+      passed t = holds (sliceVal (ptr text) (length (now text))) ∷ holds (sliceVal (ptr tape) (length (t .tape))) ∷ pointer names ∷ holds
+          (reader-val (t .reader)) ∷ holds (t .value) ∷ []
 
       abbrev At : State → List (Item 𝓤)
       At t = laid En (vacant ∷ passed t) ++ Kept t
@@ -236,19 +246,32 @@ module _ {M : Type 1} (𝓤 : URA M) (H : Heap 𝓤) (A : Atoms 𝓤) (W : Given
       shares = (PosShare·right (qs .0), (PosShare·left (qs .0), (fullShare, (fullShare, tt))))
 
       abbrev args : State → (ν ν₁ ν₂ : ℕ) (δ δ₁ δ₂ : GName) → Args next.signature (lifetimes ν ν₁ ν₂)
-      args t ν ν₁ ν₂ δ δ₁ δ₂ = (record { ptr = (l₄, 0); name = δ; now = t .reader }, (lent-at tape δ₁ (t .tape), (lent-at names δ₂ (t .names), (t .stage, tt))))
+      args t ν ν₁ ν₂ δ δ₁ δ₂ = (
+        record { ptr = (l₄, 0); name = δ; now = t .reader },
+        (lent-at tape δ₁ (t .tape), (lent-at names δ₂ (t .names), (t .stage, tt))),
+      )
 
       abbrev to-next : State → (ν ν₁ ν₂ : ℕ) (δ δ₁ δ₂ : GName) → Next 𝓤 H A at-mem run .Ghost
-      to-next t ν ν₁ ν₂ δ δ₁ δ₂ =
-          ((lifetimes ν ν₁ ν₂, shares, (meet-⊑-right (ν ∷ []) (κs .0), tt), args t ν ν₁ ν₂ δ δ₁ δ₂, (vptr l₄ 0 ∷ [], (sliceVal (ptr tape) (length (t .tape)) ∷ [], (ptr-vals names, (t .value ∷ [], tt))))), tt)
+      to-next t ν ν₁ ν₂ δ δ₁ δ₂ = (
+        (
+          lifetimes ν ν₁ ν₂,
+          shares,
+          (meet-⊑-right (ν ∷ []) (κs .0), tt),
+          args t ν ν₁ ν₂ δ δ₁ δ₂,
+          (vptr l₄ 0 ∷ [], (sliceVal (ptr tape) (length (t .tape)) ∷ [], (ptr-vals names, (t .value ∷ [], tt)))),
+        ),
+        tt,
+      )
 
       abbrev Lent : State → (ν ν₁ ν₂ : ℕ) (δ δ₁ δ₂ : GName) → List (Item 𝓤)
-      Lent t ν ν₁ ν₂ δ δ₁ δ₂ = ‵ (flft (ν ∷ κs .0) (PosShare·right (qs .0))) ∷ ‵ (flft (κs .0) (PosShare·left (qs .0))) ∷ ‵ (flft (ν₁ ∷ []) fullShare) ∷ ‵ (flft (ν₂ ∷ []) fullShare) ∷
+      Lent t ν ν₁ ν₂ δ δ₁ δ₂ = ‵ (flft (ν ∷ κs .0) (PosShare·right (qs .0))) ∷ ‵ (flft (κs .0) (PosShare·left (qs .0))) ∷ ‵ (flft (ν₁ ∷ []) fullShare)
+          ∷ ‵ (flft (ν₂ ∷ []) fullShare) ∷
           ‵ (MutRef erased (ν ∷ κs .0) Reads .own (record { ptr = (l₄, 0); name = δ; now = t .reader }) (vptr l₄ 0 ∷ [])) ∷
           ‵ (Theirs u32 (κs .1 .0) (qs .1 .0) tape ν₁ δ₁ (t .tape)) ∷
           ‵ (MutRef erased (ν₂ ∷ []) Entries .own (lent-at names δ₂ (t .names)) (ptr-vals names)) ∷ []
 
-      goes-next : (t : State) (ν ν₁ ν₂ : ℕ) (δ δ₁ δ₂ : GName) → ent 𝓤 (⋆ 𝓤 H A (Lent t ν ν₁ ν₂ δ δ₁ δ₂)) (Next 𝓤 H A at-mem run .pre (to-next t ν ν₁ ν₂ δ δ₁ δ₂))
+      goes-next : (t : State) (ν ν₁ ν₂ : ℕ) (δ δ₁ δ₂ : GName) →
+          ent 𝓤 (⋆ 𝓤 H A (Lent t ν ν₁ ν₂ δ δ₁ δ₂)) (Next 𝓤 H A at-mem run .pre (to-next t ν ν₁ ν₂ δ δ₁ δ₂))
       goes-next t ν ν₁ ν₂ δ δ₁ δ₂ =
           qed W (Lent t ν ν₁ ν₂ δ δ₁ δ₂) ∵
           owned ! S.the-row (Is S.the-row) (EL.makes S.the-type S′.the-plain 𝓤 H A) (t .stage) (t .value ∷ []) (t .typed) $ move ! (counting 1 7) $
@@ -265,7 +288,8 @@ module _ {M : Type 1} (𝓤 : URA M) (H : Heap 𝓤) (A : Atoms 𝓤) (W : Given
       -- `is_onward` is asked
       asked : (t : State) (y : Bool) → onward (t .stage) ≡ y → {rest : Code} {q : After 𝓤 H} →
           Seq (Go {0}) W (laid En (vacant ∷ (passed t ++ vacant ∷ holds (vbool y) ∷ [])) ++ Kept t) (runs (𝓣 .C) (𝓣 .Λ) En rest q)
-          → Seq (Go {0}) W (At t) (runs (𝓣 .C) (𝓣 .Λ) En (seq (call #read-functions·functions·is-onward (copy (place 5 []) ∷ []) (place 7 [])) rest) q)
+          → Seq (Go {0}) W (At t) (runs (𝓣 .C) (𝓣 .Λ) En (seq (call #read-functions·functions·is-onward (copy (place 5 []) ∷ []) (place 7 [])) rest)
+          q)
       asked t y said k =
           owned ! S.the-row (Is S.the-row) (EL.makes S.the-type S′.the-plain 𝓤 H A) (t .stage) (t .value ∷ []) (t .typed) $
           use1 W (raw (IsOnward 𝓤 H A at-mem run .pre (to-onward (t .stage) (t .value)))) (one-passed 𝓤 H A W S.the-row (t .stage) (t .value ∷ [])) $
@@ -329,7 +353,8 @@ module _ {M : Type 1} (𝓤 : URA M) (H : Heap 𝓤) (A : Atoms 𝓤) (W : Given
     walk : (length (now text) ≤ 32768) × (length (now names) ≡ 64) → Triple 𝓤 (𝓣 .C #read-tokens·reader·new) (New 𝓤 H A at-mem run)
         → Triple 𝓤 (𝓣 .C #read-functions·functions·first-stage) (FirstStage 𝓤 H A at-mem run)
         → ent 𝓤 (onEntry 𝓤 H A functions.signature κs qs a vss)
-        (WpFn 𝓤 H (𝓣 .C) (𝓣 .Λ) code.function (sliceVal (ptr text) (length (now text)) ∷ sliceVal (ptr tape) (length (now tape)) ∷ vptr (ptr names .0) (ptr names .1) ∷ []) Post)
+        (WpFn 𝓤 H (𝓣 .C) (𝓣 .Λ) code.function (sliceVal (ptr text) (length (now text)) ∷ sliceVal (ptr tape) (length (now tape)) ∷ vptr (ptr names .0)
+        (ptr names .1) ∷ []) Post)
     walk req known-new known-first =
         qed W (raw (toks 𝓤 A 3 κs qs) ∷ ‵ Owned ∷ []) ∵ enter ! (𝓣 .C) (𝓣 .Λ) code.function _ _ $
         lays-out ! (λ l₀ l₁ l₂ l₃ l₄ l₅ l₆ l₇ l₈ l₉ l₁₀ l₁₁. params1 ! $
@@ -343,7 +368,8 @@ module _ {M : Type 1} (𝓤 : URA M) (H : Heap 𝓤) (A : Atoms 𝓤) (W : Given
         land ! (from ! (stop !)) (init ! 18 refl (LL.lawful D L 𝓤 H A W .typed r _ is .0)) $
         rewrite ! 18 (λ (w : Val). ‵ (fat fullShare (T′.mir erased) l₆ 0 w)) (ap only (LL.tells D L r _ is)) refl $
         rewrite ! 0 (λ (ws : List Val). ‵ (Reads .own r ws)) (LL.tells D L r _ is) refl $
-        assigns ! (of-opd ! (copies ! 18 refl)) (from ! (stop !)) (init ! 14 refl (LL.lawful D L 𝓤 H A W .typed r _ (LL.owes D L r (LL.owed D L r _ is)) .0)) $ forget ! 18 refl $
+        assigns ! (of-opd ! (copies ! 18 refl)) (from ! (stop !))
+        (init ! 14 refl (LL.lawful D L 𝓤 H A W .typed r _ (LL.owes D L r (LL.owed D L r _ is)) .0)) $ forget ! 18 refl $
         move ! (1 ∷ []) $ tokens-apart ! 1 (κs .0, tt) (qs .0, tt) $
         -- the first stage
         use0 W (raw (FirstStage 𝓤 H A at-mem run .pre to-first)) (none-passed 𝓤 H A W) $
@@ -363,15 +389,25 @@ functions-spec 𝓤 H 𝓜 𝓖 𝓡 =
     ((λ κs x f vs fits. W .laws .⇛-intro _), (goes-slice 𝓤 H (𝓖 .A) W 3 1 tt words, (goes-ref 𝓤 H (𝓖 .A) W 3 2 tt entries, tt)))
     (functions.clauses 𝓤 H (𝓖 .A) (𝓜 .mem) (𝓡 .run)) #read-table·functions·functions code.function (code.unfolded 𝓤 H 𝓜 𝓡)
     (λ κs. (slice-vals, (slice-vals, (ptr-vals, tt))))
-    (λ κs. (shr-slice-tells (named 0) (κs .0) u8, (mut-slice-tells (named 1) (κs .1 .0) u32, (mut-tells (named 2) (κs .1 .1 .0) (Array usize 64), tt))))
+    (λ κs. (
+      shr-slice-tells (named 0) (κs .0) u8,
+      (
+        mut-slice-tells (named 1) (κs .1 .0) u32,
+        (mut-tells (named 2) (κs .1 .1 .0) (Array usize 64), tt),
+      ),
+    ))
     (λ κs qs bounds a _ are. required-one 𝓤 H (𝓖 .A) W _ _ (λ req. walk 𝓤 H (𝓖 .A) W (𝓜 .mem) (𝓡 .run) κs qs bounds (a .0) (a .1 .0) (a .1 .1 .0) are
     (tablesOf 𝓤 H 𝓜 (tables 𝓤 H 𝓜 𝓡 code.env)) (calls-framed 𝓤 H 𝓜 𝓖 𝓡 code.env)
-    (cited 𝓤 H (IsOnward 𝓤 H (𝓖 .A) (𝓜 .mem) (𝓡 .run)) 𝓜 𝓡 code.env #read-functions·functions·is-onward is-onward-def.routine code.calls-read-functions·functions·is-onward
+    (cited 𝓤 H (IsOnward 𝓤 H (𝓖 .A) (𝓜 .mem) (𝓡 .run)) 𝓜 𝓡 code.env #read-functions·functions·is-onward is-onward-def.routine
+    code.calls-read-functions·functions·is-onward
     (is-onward-thm.met 𝓤 H 𝓜 𝓖 𝓡))
-    (cited 𝓤 H (Next 𝓤 H (𝓖 .A) (𝓜 .mem) (𝓡 .run)) 𝓜 𝓡 code.env #read-table·functions·next-declaration next-def.routine code.calls-read-table·functions·next-declaration
+    (cited 𝓤 H (Next 𝓤 H (𝓖 .A) (𝓜 .mem) (𝓡 .run)) 𝓜 𝓡 code.env #read-table·functions·next-declaration next-def.routine
+    code.calls-read-table·functions·next-declaration
     (next-thm.met 𝓤 H 𝓜 𝓖 𝓡))
-    (cited 𝓤 H (Outcome 𝓤 H (𝓖 .A) (𝓜 .mem) (𝓡 .run)) 𝓜 𝓡 code.env #read-functions·functions·outcome outcome-def.routine code.calls-read-functions·functions·outcome
+    (cited 𝓤 H (Outcome 𝓤 H (𝓖 .A) (𝓜 .mem) (𝓡 .run)) 𝓜 𝓡 code.env #read-functions·functions·outcome outcome-def.routine
+    code.calls-read-functions·functions·outcome
     (outcome-thm.met 𝓤 H 𝓜 𝓖 𝓡)) req
-    (cited 𝓤 H (New 𝓤 H (𝓖 .A) (𝓜 .mem) (𝓡 .run)) 𝓜 𝓡 code.env #read-tokens·reader·new new-def.routine code.calls-read-tokens·reader·new (new-thm.met 𝓤 H 𝓜 𝓖 𝓡))
+    (cited 𝓤 H (New 𝓤 H (𝓖 .A) (𝓜 .mem) (𝓡 .run)) 𝓜 𝓡 code.env #read-tokens·reader·new new-def.routine code.calls-read-tokens·reader·new
+    (new-thm.met 𝓤 H 𝓜 𝓖 𝓡))
     (cited 𝓤 H (FirstStage 𝓤 H (𝓖 .A) (𝓜 .mem) (𝓡 .run)) 𝓜 𝓡 code.env #read-functions·functions·first-stage first-stage-def.routine
     code.calls-read-functions·functions·first-stage (first-stage-thm.met 𝓤 H 𝓜 𝓖 𝓡))))

@@ -93,7 +93,8 @@ abbrev Declaration : {M : Type 1} (𝓤 : URA M) (H : Heap 𝓤) (A : Atoms 𝓤
 Declaration 𝓤 H A at-mem run = tripleOf 𝓤 H A declaration.signature (declaration.spec 𝓤 H A at-mem run)
 
 module _ {M : Type 1} (𝓤 : URA M) (H : Heap 𝓤) (A : Atoms 𝓤) (W : Given 𝓤 H A) (at-mem : Memory → SProp 𝓤) (run : Routine → Fun 𝓤)
-    (κs : Lfts 4) (qs : Shares 4) (bounds : AllOutlive 4 (next.signature .outlives) κs) (lent : RefT Reader) (tape names : RefT (List ℕ)) (stage : Stage) where
+    (κs : Lfts 4) (qs : Shares 4) (bounds : AllOutlive 4 (next.signature .outlives) κs) (lent : RefT Reader) (tape names : RefT (List ℕ))
+    (stage : Stage) where
   abbrev a : Args next.signature κs
   a = (lent, (tape, (names, (stage, tt))))
 
@@ -173,7 +174,8 @@ module _ {M : Type 1} (𝓤 : URA M) (H : Heap 𝓤) (A : Atoms 𝓤) (W : Given
 
   -- what the text's borrow owns is kept, and the place's facts are made anew
   goes-on : (n : ℕ) → n < 2 ^ 64 → ent 𝓤 (sem 𝓤 H A Own) (sem 𝓤 H A (R .own (gone n) (T′.lowered (gone n) ∷ [])))
-  goes-on n fits = qed W (‵ Own ∷ []) ∵ owned ! usize (Is usize) (uint-makes 𝓤 H A W w64) n _ (refl, fits) $ move ! (1 ∷ 0 ∷ []) $ by ! (own-put 𝓤 H A W D L 1 vd n (T′.lowered h))
+  goes-on n fits = qed W (‵ Own ∷ []) ∵ owned ! usize (Is usize) (uint-makes 𝓤 H A W w64) n _ (refl, fits) $ move ! (1 ∷ 0 ∷ []) $ by !
+      (own-put 𝓤 H A W D L 1 vd n (T′.lowered h))
 
   -- what is left at the end: the closed borrow, the lifetimes and the last lists
   abbrev Left : Reached → Lasts declaration.ended (κs .1) passed → List (Item 𝓤)
@@ -193,10 +195,12 @@ module _ {M : Type 1} (𝓤 : URA M) (H : Heap 𝓤) (A : Atoms 𝓤) (W : Given
       move ! (1 ∷ []) $ fsplit ! $ drop ! $ fsplit ! $ drop ! $ move ! (1 ∷ 0 ∷ []) $ fjoin ! $
       owned ! S.the-row (Is S.the-row) (EL.makes S.the-type S′.the-plain 𝓤 H A) (r .stage) _ is $ move ! (1 ∷ 0 ∷ []) $ done !
 
-  module _ (are : Are (typesAt (next.signature .params) κs) (Ises (typesAt (next.signature .params) κs)) a vss) (C : Calls 𝓤 H) (Λ : Loops 𝓤 H) (fm : FmC 𝓤 H (W .laws) C)
+  module _ (are : Are (typesAt (next.signature .params) κs) (Ises (typesAt (next.signature .params) κs)) a vss) (C : Calls 𝓤 H) (Λ : Loops 𝓤 H)
+      (fm : FmC 𝓤 H (W .laws) C)
       (known : Triple 𝓤 (C #read-functions·functions·declaration) (Declaration 𝓤 H A at-mem run)) where
     walk : ent 𝓤 (sep 𝓤 (onEntry 𝓤 H A next.signature κs qs a vss) Required)
-        (WpFn 𝓤 H C Λ code.function (vptr b o ∷ sliceVal (ptr tape) (length (now tape)) ∷ vptr (ptr names .0) (ptr names .1) ∷ stage-val stage ∷ []) Post)
+        (WpFn 𝓤 H C Λ code.function (vptr b o ∷ sliceVal (ptr tape) (length (now tape)) ∷ vptr (ptr names .0) (ptr names .1) ∷ stage-val stage ∷ [])
+        Post)
     walk =
         qed W (((‵ (flft (κs .0) (qs .0)) ⊛ raw Tokens) ⊛ ‵ Owned) ∷ raw Required ∷ []) ∵ enter ! C Λ code.function _ _ $
         lays-out ! (λ l₀ l₁ l₂ l₃ l₄ l₅ l₆ l₇ l₈ l₉ l₁₀. params1 ! $
@@ -217,30 +221,37 @@ module _ {M : Type 1} (𝓤 : URA M) (H : Heap 𝓤) (A : Atoms 𝓤) (W : Given
         -- `declaration` is called on the text and the place, and with all else as it was passed
         move ! (1 ∷ []) $ use1 W (‵ Own ⊛ ‵ Own) (LL.copy D (T′.the-copy α) 𝓤 H A W .twice h (T′.lowered h ∷ [])) $ split ! $
         use1 W (given (T′.lowered h ∷ [] ≡ T′.lowered h ∷ []) (‵ (all-own (D .parts) L vd))) (own-open 𝓤 H A W D L vd (T′.lowered h)) $ learn ! (λ _.
-        use1 W (‵ (ownAt (D .parts) L 0 (h .text)) ⊛ ‵ (rest (D .parts) L 0 vd)) (own-out 𝓤 H A W (D .parts) L 0 vd) $ split ! $ move ! (1 ∷ []) $ drop ! $
+        use1 W (‵ (ownAt (D .parts) L 0 (h .text)) ⊛ ‵ (rest (D .parts) L 0 vd)) (own-out 𝓤 H A W (D .parts) L 0 vd) $ split ! $ move ! (1 ∷ []) $
+        drop ! $
         -- [what the text's borrow owns; what the reader owns; its cell; the open borrow; obs; auth; what the others own; their tokens; what is
         -- required; the locals]
-        move ! (6 ∷ []) $ owned ! usize (Is usize) (uint-makes 𝓤 H A W w64) (h .at) _ (refl, LL.owed D L h _ was .1 .0 .1) $ fjoin ! $ move ! (1 ∷ 0 ∷ []) $ fjoin ! $
+        move ! (6 ∷ []) $ owned ! usize (Is usize) (uint-makes 𝓤 H A W w64) (h .at) _ (refl, LL.owed D L h _ was .1 .0 .1) $ fjoin ! $ move !
+        (1 ∷ 0 ∷ []) $ fjoin ! $
         move ! (6 ∷ 0 ∷ []) $ join ! $ move ! (0 ∷ 6 ∷ []) $ join ! $ use1 W (raw (Declaration 𝓤 H A at-mem run .pre to-declaration)) (id⊢ 𝓤 _) $
         calls-at ! fm (Declaration 𝓤 H A at-mem run) known to-declaration
         (and-copies ! 18 refl (and-copies ! 20 refl (and-copies ! 24 refl (and-copies ! 26 refl (and-copies ! 14 refl (no-more !)))))) (λ u.
-        answers-lasts ! tt P.the-row Tokens (Lasts declaration.ended (κs .1) passed) (lasts declaration.ended (κs .1) passed) (λ r ws. fact 𝓤 (Told r ws)) u (λ r ws is.
+        answers-lasts ! tt P.the-row Tokens (Lasts declaration.ended (κs .1) passed) (lasts declaration.ended (κs .1) passed)
+        (λ r ws. fact 𝓤 (Told r ws)) u (λ r ws is.
         move ! (3 ∷ []) $ heard ! (Told r ws) (λ told.
         -- [what the answer owns; the others' tokens; the last lists; what the reader owns; its cell; the open borrow; obs; auth; the locals]
         land ! (from ! (stop !)) (init ! 18 refl (LL.lawful P.the-type P′.the-laws 𝓤 H A W .typed r _ is .0)) $
         rewrite ! 18 (λ (w : Val). ‵ (fat fullShare P′.mir l₅ 0 w)) (ap only (LL.tells P.the-type P′.the-laws r _ is)) refl $
         -- the place that was reached is stored, and the borrow is closed
-        assigns ! (of-opd ! (load ! (from ! (fld ! refl (stop !))) (look-in ! 18 (sub ! 1 refl (whole !))))) (from ! (hop ! (look ! 10 refl) (fld ! refl (stop !))))
+        assigns ! (of-opd ! (load ! (from ! (fld ! refl (stop !))) (look-in ! 18 (sub ! 1 refl (whole !)))))
+        (from ! (hop ! (look ! 10 refl) (fld ! refl (stop !))))
         (store-in ! 4 (sub ! 1 refl (whole !)) (tt, record { fits = LL.owed P.the-type P′.the-laws r _ is .1 .0 .1 })) $
         assigns ! (of-opd ! (load ! (from ! (fld ! refl (stop !))) (look-in ! 18 (sub ! 0 refl (whole !))))) (from ! (stop !))
         (init ! 8 refl (EL.lawful S.the-type S′.the-laws 𝓤 H A W tt .typed (r .stage) _ (LL.owed P.the-type P′.the-laws r _ is .0) .0)) $
-        drop ! $ move ! (2 ∷ []) $ use1 W (‵ (R .own (gone (r .at)) (T′.lowered (gone (r .at)) ∷ []))) (goes-on (r .at) (LL.owed P.the-type P′.the-laws r _ is .1 .0 .1)) $
+        drop ! $ move ! (2 ∷ []) $ use1 W (‵ (R .own (gone (r .at)) (T′.lowered (gone (r .at)) ∷ [])))
+        (goes-on (r .at) (LL.owed P.the-type P′.the-laws r _ is .1 .0 .1)) $
         move ! (3 ∷ []) $ use1 W (‵ (cellAt fullShare (R .mir) (T′.lowered (gone (r .at)) ∷ []) b o))
         (W .laws .at-raw fullShare (T′.mir erased) b o (T′.lowered (gone (r .at)))) $
         move ! (0 ∷ 1 ∷ 4 ∷ 5 ∷ 6 ∷ []) $ closes ! tt R (gone (r .at)) (T′.lowered (gone (r .at)) ∷ []) b o $
         returns ! (look ! 5 refl) $ move ! (counting 5 22) $
-        frees-laid ! (placed (code.function .locals) (l₀ ∷ l₁ ∷ l₂ ∷ l₃ ∷ l₄ ∷ l₅ ∷ l₆ ∷ l₇ ∷ l₈ ∷ l₉ ∷ l₁₀ ∷ [])) (holds (stage-val (r .stage)) ∷ pointer lent ∷
-        slice tape ∷ pointer names ∷ holds (stage-val stage) ∷ holds (LL.val P.the-type P′.the-laws r) ∷ holds v ∷ holds (vint w64 (h .at)) ∷ pointer tape ∷ slice tape ∷
+        frees-laid ! (placed (code.function .locals) (l₀ ∷ l₁ ∷ l₂ ∷ l₃ ∷ l₄ ∷ l₅ ∷ l₆ ∷ l₇ ∷ l₈ ∷ l₉ ∷ l₁₀ ∷ []))
+        (holds (stage-val (r .stage)) ∷ pointer lent ∷
+        slice tape ∷ pointer names ∷ holds (stage-val stage) ∷ holds (LL.val P.the-type P′.the-laws r) ∷ holds v ∷ holds (vint w64 (h .at)) ∷ pointer
+        tape ∷ slice tape ∷
         pointer names ∷ []) $
         by ! (exits r ws (LL.owed P.the-type P′.the-laws r _ is .0) told))))))))
 
@@ -259,6 +270,7 @@ next-declaration-spec 𝓤 H 𝓜 𝓖 𝓡 =
         (mut-tells (named 3) (κs .1 .1 .1 .0) (Array usize 64), (EL.tells S.the-type S′.the-laws, tt)),
       ),
     ))
-    (λ κs qs bounds a g are. walk 𝓤 H (𝓖 .A) W (𝓜 .mem) (𝓡 .run) κs qs bounds (a .0) (a .1 .0) (a .1 .1 .0) (a .1 .1 .1 .0) are _ _ (calls-framed 𝓤 H 𝓜 𝓖 𝓡 code.env)
+    (λ κs qs bounds a g are. walk 𝓤 H (𝓖 .A) W (𝓜 .mem) (𝓡 .run) κs qs bounds (a .0) (a .1 .0) (a .1 .1 .0) (a .1 .1 .1 .0) are _ _
+    (calls-framed 𝓤 H 𝓜 𝓖 𝓡 code.env)
     (cited 𝓤 H (Declaration 𝓤 H (𝓖 .A) (𝓜 .mem) (𝓡 .run)) 𝓜 𝓡 code.env #read-functions·functions·declaration declaration-def.routine
     code.calls-read-functions·functions·declaration (declaration-thm.met 𝓤 H 𝓜 𝓖 𝓡)))

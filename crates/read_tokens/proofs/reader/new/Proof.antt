@@ -1,5 +1,5 @@
--- `reader::new` meets its contract: a walk of its MIR, by hand. The reader is made of the text passed and 0; what the text's borrow owns goes into it.
--- Assumes nothing.
+-- `reader::new` meets its contract: a walk of its MIR, by hand. The reader is made of the text passed and 0; what the text's borrow owns goes into
+-- it. Assumes nothing.
 use mathlib.Core.Path.{refl}
 use Prim.Native.Nat.{ℕ}
 use mathlib.Core.List.{List, [], _∷_}
@@ -50,7 +50,8 @@ passed = shrSliceOf (0 ∷ []) tt (plain (λ _. u8))
 abbrev stayed : Stays (new.ended .signature .params) (new.ended .kept)
 stayed = (stay-dropped passed yes, tt)
 
-module _ {M : Type 1} (𝓤 : URA M) (H : Heap 𝓤) (A : Atoms 𝓤) (W : Given 𝓤 H A) (mem : Memory → SProp 𝓤) (run : Routine → Fun 𝓤) (κ : Lft) (q : Share) (s : RefT (List ℕ)) where
+module _ {M : Type 1} (𝓤 : URA M) (H : Heap 𝓤) (A : Atoms 𝓤) (W : Given 𝓤 H A) (mem : Memory → SProp 𝓤) (run : Routine → Fun 𝓤) (κ : Lft) (q : Share)
+    (s : RefT (List ℕ)) where
   abbrev α : NamedLft
   α = namedLft 1 0 tt (κ, tt)
 
@@ -70,25 +71,30 @@ module _ {M : Type 1} (𝓤 : URA M) (H : Heap 𝓤) (A : Atoms 𝓤) (W : Given
   exits : ent 𝓤 (onEntry 𝓤 H A new.signature (κ, tt) (q, tt) (s, tt) at) (Post (T′.lowered made))
   exits =
       qed W ((‵ (flft κ q) ⊛ ‵ ftrue) ∷ ‵ (owns (ShrSlice (named 0) κ u8 ∷ []) (s, tt) at) ∷ []) ∵
-      suffices ! _ (ends-at 𝓤 H A new.ended stayed (new.clauses 𝓤 H A mem run) W (((κ, tt), (q, tt), tt, (s, tt), at), tt) (T′.lowered made) made (tt, tt) (tt, tt)) $ says ! refl $
-      frame ! $ fsplit ! $ nothing ! $ owned ! usize (Is usize) (uint-makes 𝓤 H A W w64) 0 _ (refl, lit< tt) $ fjoin ! $ move ! (1 ∷ 0 ∷ []) $ fjoin ! $
+      suffices ! _ (ends-at 𝓤 H A new.ended stayed (new.clauses 𝓤 H A mem run) W (((κ, tt), (q, tt), tt, (s, tt), at), tt) (T′.lowered made) made
+      (tt, tt) (tt, tt)) $ says ! refl $
+      frame ! $ fsplit ! $ nothing ! $ owned ! usize (Is usize) (uint-makes 𝓤 H A W w64) 0 _ (refl, lit< tt) $ fjoin ! $ move ! (1 ∷ 0 ∷ []) $ fjoin !
+      $
       use1 W (‵ (T.the-row α .own made (T′.lowered made ∷ []))) (own-shut 𝓤 H A W (T.the-type α) (T′.the-laws α) (s, (0, tt))) $
       -- [what the reader owns; true]
       move ! (1 ∷ []) $ nothing ! $ fjoin ! $ done !
 
   module _ (C : Calls 𝓤 H) (Λ : Loops 𝓤 H) where
-    walk : Is (ShrSlice (named 0) κ u8) s (v ∷ []) → ent 𝓤 (onEntry 𝓤 H A new.signature (κ, tt) (q, tt) (s, tt) at) (WpFn 𝓤 H C Λ code.function (v ∷ []) Post)
+    walk : Is (ShrSlice (named 0) κ u8) s (v ∷ []) → ent 𝓤 (onEntry 𝓤 H A new.signature (κ, tt) (q, tt) (s, tt) at)
+        (WpFn 𝓤 H C Λ code.function (v ∷ []) Post)
     walk p =
         qed W (raw (onEntry 𝓤 H A new.signature (κ, tt) (q, tt) (s, tt) at) ∷ []) ∵ enter ! C Λ code.function (v ∷ []) _ $
         lays-out ! (λ l₀ l₁. params1 ! $ takes-slice ! 2 refl tt (p .0 .1 .0) $ pass0 ! $
         assigns ! (agg ! (and-copies ! 2 refl (and-then ! (lit ! tt) (no-more !)))) (from ! (stop !))
         (init ! 0 refl (tt, (shr-slice-lawful 𝓤 H A W (named 0) κ u8 .typed s (v ∷ []) p .0 .1, (record { fits = lit< tt }, tt)))) $
-        returns ! (look ! 0 refl) $ frees-laid ! (placed (code.function .locals) (l₀ ∷ l₁ ∷ [])) (holds (T′.lowered made) ∷ holds v ∷ []) $ by ! exits)
+        returns ! (look ! 0 refl) $ frees-laid ! (placed (code.function .locals) (l₀ ∷ l₁ ∷ [])) (holds (T′.lowered made) ∷ holds v ∷ []) $ by !
+        exits)
 
 pub new-spec : {M : Type 1} → stated.statement M
 unfolding code.routine
 new-spec 𝓤 H 𝓜 𝓖 𝓡 =
     let W = givenOf 𝓤 H 𝓜 𝓖 in
-    walk-enters 𝓤 H 𝓜 𝓖 𝓡 code.env new.ended stayed (goes-dropped 𝓤 H (𝓖 .A) W 1 passed yes (λ κs x f. refl), tt) (new.clauses 𝓤 H (𝓖 .A) (𝓜 .mem) (𝓡 .run))
+    walk-enters 𝓤 H 𝓜 𝓖 𝓡 code.env new.ended stayed (goes-dropped 𝓤 H (𝓖 .A) W 1 passed yes (λ κs x f. refl), tt)
+    (new.clauses 𝓤 H (𝓖 .A) (𝓜 .mem) (𝓡 .run))
     #read-tokens·reader·new code.function (code.unfolded 𝓤 H 𝓜 𝓡) (λ κs. (slice-vals, tt)) (λ κs. (shr-slice-tells (named 0) (κs .0) u8, tt))
     (λ κs qs bounds a g are. via 𝓤 _ (fst∗ 𝓤 _ (emp 𝓤)) (walk 𝓤 H (𝓖 .A) W (𝓜 .mem) (𝓡 .run) (κs .0) (qs .0) (a .0) _ _ (are .0)))

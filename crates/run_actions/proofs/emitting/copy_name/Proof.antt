@@ -10,7 +10,8 @@ use Rattle.run_actions.proofs.emitting.copy_name.Statement.{statement}
 use Rattle.run_actions.proofs.emitting.copy_name.Tie as tie
 
 abbrev Inv-loop : tie.InvT-loop
-Inv-loop «record₀» code size at to i₀ «record» i = («record» ≡ paste «record₀» to (take size (drop at code)) i) × (i ≤ size) × (length «record» ≡ length «record₀») × Spelled code at size
+Inv-loop «record₀» code size at to i₀ «record» i = («record» ≡ paste «record₀» to (take size (drop at code)) i) × (i ≤ size) ×
+    (length «record» ≡ length «record₀») × Spelled code at size
 
 abbrev μ-loop : tie.MeasureT-loop
 μ-loop «record₀» code size at to i₀ «record» i = size - i
@@ -38,8 +39,14 @@ loop-again c =
     let entry = at-loop .before in
     let a = entry .args in
     let s = at-loop .loop .inv .3 in
-    let long = spelled-long (a .code .now) (a .name .0) (a .size) s in
-    (rw (spelled-byte (a .code .now) (a .name .0) (a .size) (at-loop .loop .i) s (c .before .loop-test .taken)) (pasted-one (at-loop .loop .«record») (a .«record» .now) (take (a .size) (drop (a .name .0) (a .code .now))) (a .to .0) (at-loop .loop .i) (at-loop .loop .inv .0) (rw long (entry .pre .1)) (rw long (c .before .loop-test .taken))), omega arith, rw length-set (at-loop .loop .inv .2), s)
+    let long = spelled-long (a .code .now) (a .name .0) (a .size) s in (
+      rw (spelled-byte (a .code .now) (a .name .0) (a .size) (at-loop .loop .i) s (c .before .loop-test .taken))
+          (pasted-one (at-loop .loop .«record») (a .«record» .now) (take (a .size) (drop (a .name .0) (a .code .now))) (a .to .0) (at-loop .loop .i)
+          (at-loop .loop .inv .0) (rw long (entry .pre .1)) (rw long (c .before .loop-test .taken))),
+      omega arith,
+      rw length-set (at-loop .loop .inv .2),
+      s,
+    )
 
 same-length : tie.Need-same-length Inv-loop μ-loop
 same-length c = c .before .loop .inv .2
@@ -48,5 +55,6 @@ returns : tie.Need-returns Inv-loop μ-loop
 returns c = let e : c .before .loop .i ≡ c .before .before .args .size = omega arith in rw e at (c .before .loop .inv .0)
 
 pub copy-name-spec : {M : Type 1} → statement M
-copy-name-spec = tie.close (tie.spec Inv-loop μ-loop loop-holds add-record mul-record shared-slice-read-record (λ c. omega arith) (λ c. omega arith) (λ c. omega arith)
+copy-name-spec = tie.close (tie.spec Inv-loop μ-loop loop-holds add-record mul-record shared-slice-read-record (λ c. omega arith) (λ c. omega arith)
+    (λ c. omega arith)
     (λ c. omega arith) (λ c. omega arith) loop-again same-length returns)

@@ -47,7 +47,8 @@ returns-2 c =
     let else = c .before .before in
     let a = entry else .args in
     let p = entry else .pre in
-    λ output values frames. emission-full (a .g) (memory (a .input .now) output (a .«record» .now) frames values) (a .code .now) (a .size) (p .1 .0 .ordered) (p .1 .0 .inside)
+    λ output values frames. emission-full (a .g) (memory (a .input .now) output (a .«record» .now) frames values) (a .code .now) (a .size)
+    (p .1 .0 .ordered) (p .1 .0 .inside)
     (p .1 .1) (is-named else) (rw (selected (c .before)) at (c .if2 .taken))
 
 write-line-requires : tie.Need-write-line-requires
@@ -68,7 +69,8 @@ returns-3 c =
     let a = entry else .args in
     let p = entry else .pre in
     λ output values frames. rw (c .before .before .place-after .ensures, at-write-line .write-line .ensures, selected at-part, at-part .part .ensures)
-    (emission-written (a .g) (memory (a .input .now) output (a .«record» .now) frames values) (a .code .now) (a .size) (p .1 .0 .ordered) (p .1 .0 .inside) (p .1 .1)
+    (emission-written (a .g) (memory (a .input .now) output (a .«record» .now) frames values) (a .code .now) (a .size) (p .1 .0 .ordered)
+    (p .1 .0 .inside) (p .1 .1)
     (is-named else) (rw (selected at-part) at (at-if2 .if2 .left)))
 
 pub emit-spec : {M : Type 1} → statement M

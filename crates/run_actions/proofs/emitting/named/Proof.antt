@@ -26,19 +26,24 @@ returns-2 c =
     let at-loop = c .before .before .before in
     let entry = at-loop .before .before in
     let a = entry .args in
-    sym (naming-wide (a .code .now) (a .name .0) (at-loop .loop .i) (a .size - at-loop .loop .i) (omega arith) (omega arith) (c .if2 .taken)) ∙ at-loop .loop .inv .0
+    sym (naming-wide (a .code .now) (a .name .0) (at-loop .loop .i) (a .size - at-loop .loop .i) (omega arith) (omega arith) (c .if2 .taken)) ∙
+    at-loop .loop .inv .0
 
 loop-again : tie.Need-loop-again Inv-loop μ-loop
 loop-again c =
     let at-loop-test = c .before .before in
     let at-loop = at-loop-test .before in
     let entry = at-loop .before .before in
-    let a = entry .args in
-    (sym (naming-next (a .code .now) (a .name .0) (at-loop .loop .i) (a .size) (at-loop-test .loop-test .taken) (omega arith) (c .if2 .left)) ∙ at-loop .loop .inv .0, omega arith)
+    let a = entry .args in (
+      sym (naming-next (a .code .now) (a .name .0) (at-loop .loop .i) (a .size) (at-loop-test .loop-test .taken) (omega arith) (c .if2 .left)) ∙
+          at-loop .loop .inv .0,
+      omega arith,
+    )
 
 returns-3 : tie.Need-returns-3 Inv-loop μ-loop
 returns-3 c = let a = c .before .before .before .args in
     sym (naming-none (a .code .now) (a .name .0) (c .before .loop .i) (a .size - c .before .loop .i) (omega arith)) ∙ c .before .loop .inv .0
 
 pub named-spec : {M : Type 1} → statement M
-named-spec = tie.close (tie.spec Inv-loop μ-loop (λ c. omega arith) returns loop-holds (λ c. omega arith) (λ c. search needs) (λ c. omega arith) returns-2 (λ c. omega arith) (λ c. omega arith) loop-again returns-3)
+named-spec = tie.close (tie.spec Inv-loop μ-loop (λ c. omega arith) returns loop-holds (λ c. omega arith) (λ c. search needs) (λ c. omega arith)
+    returns-2 (λ c. omega arith) (λ c. omega arith) loop-again returns-3)

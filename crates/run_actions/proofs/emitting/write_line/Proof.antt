@@ -39,4 +39,5 @@ returns c =
     (line-written (a .«record» .now) (take (a .size) (drop (a .name .0) (a .code .now))) (a .argument .now) (a .to .0) (a .size) long (p .1))
 
 pub write-line-spec : {M : Type 1} → statement M
-write-line-spec = tie.close (tie.spec (λ c κs. search needs) (λ c. search needs) (λ c. search needs) (λ c. search needs) copy-to-record-requires (λ c. search needs) (λ c. search needs) slice-write-record-2 same-length returns)
+write-line-spec = tie.close (tie.spec (λ c κs. search needs) (λ c. search needs) (λ c. search needs) (λ c. search needs) copy-to-record-requires
+    (λ c. search needs) (λ c. search needs) slice-write-record-2 same-length returns)

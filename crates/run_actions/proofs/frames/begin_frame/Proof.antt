@@ -5,7 +5,17 @@ use Rattle.run_actions.proofs.frames.begin_frame.Tie as tie
 
 returns : tie.Need-returns
 returns c =
-    rw (c .before .before .set-word6 .ensures, c .before .before .before .before .before .before .set-word5 .ensures, c .before .before .before .before .before .before .before .before .before .before .set-word4 .ensures, c .before .before .before .before .before .before .before .before .before .before .before .less .ensures, c .before .before .before .before .before .before .before .before .before .before .before .before .before .before .before .set-word3 .ensures, c .before .before .before .before .before .before .before .before .before .before .before .before .before .before .before .before .before .before .before .set-word2 .ensures, c .before .before .before .before .before .before .before .before .before .before .before .before .before .before .before .before .before .before .before .before .before .before .before .set-word .ensures)
+    rw (
+      c .before .before .set-word6 .ensures,
+      c .before .before .before .before .before .before .set-word5 .ensures,
+      c .before .before .before .before .before .before .before .before .before .before .set-word4 .ensures,
+      c .before .before .before .before .before .before .before .before .before .before .before .less .ensures,
+      c .before .before .before .before .before .before .before .before .before .before .before .before .before .before .before .set-word3 .ensures,
+      c .before .before .before .before .before .before .before .before .before .before .before .before .before .before .before .before .before
+          .before .before .set-word2 .ensures,
+      c .before .before .before .before .before .before .before .before .before .before .before .before .before
+          .before .before .before .before .before .before .before .before .before .before .set-word .ensures,
+    )
 
 pub begin-frame-spec : {M : Type 1} → statement M
 begin-frame-spec =

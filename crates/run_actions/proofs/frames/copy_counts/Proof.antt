@@ -26,7 +26,8 @@ loop-again c =
     let entry = c .before .before .before in (
       omega arith,
       length-set (c .before .before .loop .counts) _ _ ∙ so-far .1,
-      word-copied (entry .args .frames .now) (c .before .before .loop .counts) (c .before .before .loop .i) _ (omega (arith, so-far .1, entry .pre .1))
+      word-copied (entry .args .frames .now) (c .before .before .loop .counts) (c .before .before .loop .i) _
+          (omega (arith, so-far .1, entry .pre .1))
           (omega (arith, entry .pre .0)) refl (so-far .2),
     )
 
@@ -37,7 +38,8 @@ returns : tie.Need-returns Inv-loop μ-loop
 returns c =
     let so-far = c .before .loop .inv in
     let entry = c .before .before in
-    counts-whole (entry .args .frames .now) (c .before .loop .counts) (c .before .loop .i) (so-far .1 ∙ entry .pre .1) (omega (arith, so-far .0, c .loop-test .left)) (so-far .2)
+    counts-whole (entry .args .frames .now) (c .before .loop .counts) (c .before .loop .i) (so-far .1 ∙ entry .pre .1)
+    (omega (arith, so-far .0, c .loop-test .left)) (so-far .2)
 
 pub copy-counts-spec : {M : Type 1} → statement M
 copy-counts-spec =

@@ -24,7 +24,8 @@ loop-again c =
     let here = c .before .loop-test .taken in (
       omega arith,
       length-set (c .before .before .loop .to) _ _ ∙ so-far .1,
-      word-copied (entry .args .from .now) (c .before .before .loop .to) (c .before .before .loop .i) _ (omega (arith, here, so-far .1, entry .pre .1)) (omega (arith, here, entry .pre .0))
+      word-copied (entry .args .from .now) (c .before .before .loop .to) (c .before .before .loop .i) _
+          (omega (arith, here, so-far .1, entry .pre .1)) (omega (arith, here, entry .pre .0))
           refl (so-far .2),
       drop-set-lt (entry .args .count) (c .before .before .loop .to) (c .before .before .loop .i) _ here ∙ so-far .3,
     )

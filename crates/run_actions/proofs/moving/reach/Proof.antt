@@ -11,15 +11,30 @@ use Rattle.run_actions.proofs.moving.reach.Tie as tie
 cell-after-requires : tie.Need-cell-after-requires
 cell-after-requires c κs =
     let a = c .before .before .before .before .before .before .before .args in
-    let count = counted (secondIn (a .span)) (thirdIn (a .span)) (localAt (a .frame) (a .frames .now) []) (c .before .before .before .before .cells-from .result) (lengthOf (firstIn (a .span))) _
+    let count = counted (secondIn (a .span)) (thirdIn (a .span)) (localAt (a .frame) (a .frames .now) [])
+    (c .before .before .before .before .cells-from .result) (lengthOf (firstIn (a .span))) _
     (rw (c .before .n .given .1) at (c .before .before .before .span-cells .ensures [])) in
-    omega (arith, count .enough, c .before .before .before .before .cells-from .ensures, c .before .before .before .before .before .before .before .pre)
+    omega (
+      arith,
+      count .enough,
+      c .before .before .before .before .cells-from .ensures,
+      c .before .before .before .before .before .before .before .pre,
+    )
 
 returns : tie.Need-returns
-returns c = λ values. rw (c .cell-after .ensures, ← (c .before .before .before .before .before .cells-from .ensures), ← (c .before .before .before .before .span-cells .ensures values), c .before .before .n .given .1)
+returns c = λ values. rw (
+  c .cell-after .ensures,
+  ← (c .before .before .before .before .before .cells-from .ensures),
+  ← (c .before .before .before .before .span-cells .ensures values),
+  c .before .before .n .given .1,
+)
 
 returns-2 : tie.Need-returns-2
-returns-2 c = λ values. rw (← (c .before .before .before .cells-from .ensures), ← (c .before .before .span-cells .ensures values), c .enum-told .given .1)
+returns-2 c = λ values. rw (
+  ← (c .before .before .before .cells-from .ensures),
+  ← (c .before .before .span-cells .ensures values),
+  c .enum-told .given .1,
+)
 
 pub reach-spec : {M : Type 1} → statement M
 reach-spec =

@@ -43,7 +43,8 @@ first-cell c = ap (λ cell. record { 0 = cell }) (first c)
 
 returns : tie.Need-returns
 returns c =
-    λ «record» values. use-none _ (lent (c .before) «record» values) _ (bounded (c .before) «record» values) (rw (c .before .open-sequences .ensures) at (c .if1 .taken))
+    λ «record» values. use-none _ (lent (c .before) «record» values) _ (bounded (c .before) «record» values)
+    (rw (c .before .open-sequences .ensures) at (c .if1 .taken))
 
 sequence-start-requires : tie.Need-sequence-start-requires
 sequence-start-requires c κs =
@@ -89,5 +90,6 @@ returns-3 c =
 
 pub use-seq-spec : {M : Type 1} → statement M
 use-seq-spec =
-    tie.close (tie.spec (λ c κs. search needs) (λ c. search needs) returns sequence-start-requires (λ c κs. search needs) (λ c κs. search needs) bytes-between-requires
+    tie.close (tie.spec (λ c κs. search needs) (λ c. search needs) returns sequence-start-requires (λ c κs. search needs) (λ c κs. search needs)
+    bytes-between-requires
     (λ c. search needs) returns-2 (λ c. search needs) (λ c κs. search needs) move-down-requires (λ c. search needs) (λ c. search needs) returns-3)

@@ -13,7 +13,8 @@ returns-2 : tie.Need-returns-2
 returns-2 c = let a = c .before .before .args in not-within (a .cells + a .add - a .back) (a .there) (omega arith)
 
 returns-3 : tie.Need-returns-3
-returns-3 c = let a = c .before .before .before .args in fits-within (a .cells + a .add - a .back) _ (a .there) (omega (arith, c .less .ensures)) (omega (arith, c .less .ensures))
+returns-3 c = let a = c .before .before .before .args in
+    fits-within (a .cells + a .add - a .back) _ (a .there) (omega (arith, c .less .ensures)) (omega (arith, c .less .ensures))
 
 pub within-spec : {M : Type 1} → statement M
 within-spec =

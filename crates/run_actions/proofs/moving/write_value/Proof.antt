@@ -24,8 +24,10 @@ returns-2 c =
     let entry = at-count .before .before .before .before in
     let a = entry .args in
     let p = entry .pre in
-    λ input «record». value-written _ _ (a .index) _ _ (rw (at-count .stored-values .ensures) at (at-if1 .if1 .left)) (p .1 .1 .0 .stored) (p .1 .1 .1 _ (p .1 .0 .frameRoom))
+    λ input «record». value-written _ _ (a .index) _ _ (rw (at-count .stored-values .ensures) at (at-if1 .if1 .left)) (p .1 .1 .0 .stored)
+    (p .1 .1 .1 _ (p .1 .0 .frameRoom))
     (at-write-byte .write-byte .ensures input «record» (a .values .now) (a .frames .now))
 
 pub write-value-spec : {M : Type 1} → statement M
-write-value-spec = tie.close (tie.spec (λ c κs. search needs) returns (λ c. search needs) (λ c. search needs) value-there (λ c κs. search needs) (λ c. search needs) returns-2)
+write-value-spec = tie.close (tie.spec (λ c κs. search needs) returns (λ c. search needs) (λ c. search needs) value-there (λ c κs. search needs)
+    (λ c. search needs) returns-2)

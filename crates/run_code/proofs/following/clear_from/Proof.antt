@@ -21,8 +21,13 @@ loop-less : tie.Need-loop-less Inv-loop μ-loop
 loop-less c = omega (arith, c .before .loop .inv .3)
 
 loop-again : tie.Need-loop-again Inv-loop μ-loop
-loop-again c = let a = c .before .before .args in let v = c .before .loop .inv in
-    (omega (arith, v .0), omega (arith, v .3, c .loop-test .taken), rw (v .2) (cleared-one (a .cells .now) (a .start) (c .before .before .pre) (c .before .loop .i) (v .0) (omega (arith, v .3, c .loop-test .taken))), rw length-set (v .3))
+loop-again c = let a = c .before .before .args in let v = c .before .loop .inv in (
+  omega (arith, v .0),
+  omega (arith, v .3, c .loop-test .taken),
+  rw (v .2) (cleared-one (a .cells .now) (a .start) (c .before .before .pre) (c .before .loop .i) (v .0)
+      (omega (arith, v .3, c .loop-test .taken))),
+  rw length-set (v .3),
+)
 
 same-length : tie.Need-same-length Inv-loop μ-loop
 same-length c = c .before .loop .inv .3

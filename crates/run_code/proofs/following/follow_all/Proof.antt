@@ -16,19 +16,32 @@ entry c = c .before .before .before .before .before .before .before .before .bef
 returns : tie.Need-returns
 returns c =
     let at-follow = c .before .before .before .before .before .before .before .before .before .before .before in
-    record { simulates = at-follow .follow .ensures .simulates; ended = ended-tagged (at-follow .follow .result) (c .match .keys2) (at-follow .follow .ensures .ended) }
+    record {
+      simulates = at-follow .follow .ensures .simulates;
+      ended =
+          ended-tagged (at-follow .follow .result) (c .match .keys2) (at-follow .follow .ensures .ended);
+    }
 
 follow-deeper-requires : tie.Need-follow-deeper-requires
 follow-deeper-requires c κs =
     let at-last = c .before .before .before .before .before .before in
     let at-follow = followed at-last in
-    let p = entry at-follow .pre in
-    (p .0, (p .1 .0, (crowded-invariant (at-last .last .given .1) (at-follow .follow .ensures .simulates .invariant), (at-follow .follow .kept .1 .1 .1 .1 .1 .1 .1 .0 ∙ p .1 .1 .1 .0, at-follow .follow .kept .1 .1 .1 .1 .1 .1 .1 .1 .0 ∙ p .1 .1 .1 .1))))
+    let p = entry at-follow .pre in (
+      p .0,
+      (
+        p .1 .0,
+        (
+          crowded-invariant (at-last .last .given .1) (at-follow .follow .ensures .simulates .invariant),
+          (at-follow .follow .kept .1 .1 .1 .1 .1 .1 .1 .0 ∙ p .1 .1 .1 .0, at-follow .follow .kept .1 .1 .1 .1 .1 .1 .1 .1 .0 ∙ p .1 .1 .1 .1),
+        ),
+      ),
+    )
 
 same-length-6 : tie.Need-same-length-6
 same-length-6 c =
     let at-deeper = c .before .before .before .before .before .before .before .before in
-    at-deeper .follow-deeper .kept .1 .1 .1 .1 .0 ∙ followed (at-deeper .before .before .before .before .before .before .before) .follow .kept .1 .1 .1 .1 .0
+    at-deeper .follow-deeper .kept .1 .1 .1 .1 .0 ∙ followed (at-deeper .before .before .before .before .before .before .before) .follow .kept .1 .1
+    .1 .1 .0
 
 returns-2 : tie.Need-returns-2
 returns-2 c =

@@ -38,7 +38,8 @@ grown c =
     record {
       rest = drop (length few) (blank .all-words .result);
       begun = at-words c .copy-words .ensures ∙ rw (take-length few);
-      begins = pasted-begins (none .all-values .result) (entry c .args .values .now) (stored c) (omega (arith, none .all-values .ensures, entry c .pre .1 .1 .1 .1)) (at-values c .copy-over .ensures);
+      begins = pasted-begins (none .all-values .result) (entry c .args .values .now) (stored c)
+          (omega (arith, none .all-values .ensures, entry c .pre .1 .1 .1 .1)) (at-values c .copy-over .ensures);
       sized = at-words c .copy-words .kept .1 .1 .0 ∙ blank .all-words .ensures;
       wide = at-values c .copy-over .kept .0 ∙ none .all-values .ensures;
     }
@@ -46,8 +47,14 @@ grown c =
 follow-requires : tie.Need-follow-requires
 follow-requires c κs =
     let p = entry c .pre in
-    let a = entry c .args in
-    (p .0, (p .1 .0, deeper-invariant (grown c) (a .input .now) (a .output .now) (a .«record» .now) (a .code .now) (a .allowance) (a .g) (p .1 .1 .0)))
+    let a = entry c .args in (
+      p .0,
+      (
+        p .1 .0,
+        deeper-invariant (grown c) (a .input .now) (a .output .now) (a .«record» .now) (a .code .now) (a .allowance) (a .g)
+            (p .1 .1 .0),
+      ),
+    )
 
 whole : (c : tie.After-follow) → length (c .follow .last .1 .1 .1 .1 .1 .1 .1 .0) ≡ wordsFor maxFrames
 whole c = c .follow .kept .1 .1 .1 .1 .1 .1 .1 .0 ∙ grown (c .before) .sized
@@ -64,7 +71,8 @@ returns c =
     let start = entry (at-follow .before) in
     let a = start .args in
     let left = at-follow .follow .last .1 .1 .1 .1 in
-    deeper-follows (grown (at-follow .before)) (a .input .now) (a .output .now) (a .«record» .now) (a .code .now) (a .allowance) (a .g) (start .pre .1 .1 .0)
+    deeper-follows (grown (at-follow .before)) (a .input .now) (a .output .now) (a .«record» .now) (a .code .now) (a .allowance) (a .g)
+    (start .pre .1 .1 .0)
     (at-follow .follow .result) (left .0) (left .1 .0) (left .1 .1 .0) (left .1 .1 .1 .0) _ (left .1 .1 .1 .1 .0) (whole at-follow)
     (counts-back (a .frames .now) _ (left .1 .1 .1 .0) (at-copy .copy-words2 .ensures) (omega (arith, whole at-follow))) (at-follow .follow .ensures)
 

@@ -88,21 +88,36 @@ follow-requires c κs =
 
 clear-from-requires-2 : tie.Need-clear-from-requires-2
 clear-from-requires-2 c κs =
-    let at-follow = (c .before .before .before .before .before .before .before .before .before .before .before .before .before .before .before .before) in
-    rw (c .before .before .before .before .before .reported .ensures) (reported-within (c .before .before .before .before .before .before .before .before .before .before .before .before .before .before .before .before .before .before .before .before .before .before .before .before .before .before .before .before .before .before .before .before .before .before .before .before .before .before .before .before .args .allowance) (at-follow .follow-all .result) (left at-follow) (at-follow .follow-all .ensures .ended) (at-follow .follow-all .ensures .simulates .invariant))
+    let at-follow = (c .before .before .before .before .before .before .before .before .before .before .before .before .before .before .before
+    .before) in
+    rw (c .before .before .before .before .before .reported .ensures)
+    (reported-within (c .before .before .before .before .before .before .before .before .before .before .before .before .before .before .before
+    .before .before .before .before .before .before .before .before .before .before .before .before .before .before .before .before .before
+    .before .before .before .before .before .before .before .before .args .allowance) (at-follow .follow-all .result) (left at-follow)
+    (at-follow .follow-all .ensures .ended) (at-follow .follow-all .ensures .simulates .invariant))
 
 same-length : tie.Need-same-length
-same-length c = c .before .before .before .before .before .before .clear-from .kept .0 ∙ c .before .before .before .before .before .before .before .before .before .before .before .before .before .before .before .before .before .before .before .follow-all .kept .1 .1 .1 .1 .0 ∙ c .before .before .before .before .before .before .before .before .before .before .before .before .before .before .before .before .before .before .before .before .before .before .before .before .before .before .before .before .before .before .before .before .before .copy-to-in .kept .0
+same-length c = c .before .before .before .before .before .before .clear-from .kept .0 ∙
+    c .before .before .before .before .before .before .before .before .before .before .before .before .before .before .before .before .before .before
+    .before .follow-all .kept .1 .1 .1 .1 .0 ∙ c .before .before .before .before .before .before .before .before .before .before .before .before
+    .before .before .before .before .before .before .before .before .before .before .before .before .before .before .before .before .before .before
+    .before .before .before .copy-to-in .kept .0
 
 returns : tie.Need-returns
 returns c =
-    let at-follow = (c .before .before .before .before .before .before .before .before .before .before .before .before .before .before .before .before .before .before .before) in
+    let at-follow = (c .before .before .before .before .before .before .before .before .before .before .before .before .before .before .before .before
+    .before .before .before) in
     let at-begin = beginning at-follow in
     let at-copy = loading at-begin in
     let followed = rw (at-copy .before .before .loaded .ensures) at (at-follow .follow-all .ensures) in
-    rw (c .before .before .before .before .before .before .clear-from .ensures, c .before .before .clear-from2 .ensures, c .before .before .before .before .before .before .before .before .reported .ensures)
+    rw (
+      c .before .before .before .before .before .before .clear-from .ensures,
+      c .before .before .clear-from2 .ensures,
+      c .before .before .before .before .before .before .before .before .reported .ensures,
+    )
     (ending _ _ _ (on-in at-copy) _ _ _ _ _ _ _ _ (left at-follow)
-    (simulates-on _ _ _ _ _ _ _ _ _ (starting _ _ _ (on-in at-copy) _ _ _ _ _ _ _ (invariant at-begin) (none at-begin) (declared at-copy)) (followed .simulates))
+    (simulates-on _ _ _ _ _ _ _ _ _ (starting _ _ _ (on-in at-copy) _ _ _ _ _ _ _ (invariant at-begin) (none at-begin) (declared at-copy))
+    (followed .simulates))
     (followed .ended))
 
 pub run-lent-spec : {M : Type 1} → statement M

@@ -30,7 +30,12 @@ returns-2 : tie.Need-returns-2 Inv-loop μ-loop
 returns-2 c = sound-short (c .before .before .before .before .before .args .code .now) (omega (arith, c .if2 .taken, c .before .wide .ensures))
 
 loop-holds : tie.Need-loop-holds Inv-loop μ-loop
-loop-holds c = (c .before .wide .ensures, omega (arith, c .if2 .left, c .before .before .before .if1 .left, c .before .wide .ensures), omega arith, refl)
+loop-holds c = (
+  c .before .wide .ensures,
+  omega (arith, c .if2 .left, c .before .before .before .if1 .left, c .before .wide .ensures),
+  omega arith,
+  refl,
+)
 
 add-wide : tie.Need-add-wide Inv-loop μ-loop
 add-wide c = omega (arith, c .before .loop .inv .1, within c)

@@ -1,4 +1,5 @@
--- A state of the loop of `functions`: the reader, the stage, and the lent lists, with what holds of them. The laws of how the loop goes from one to the next.
+-- A state of the loop of `functions`: the reader, the stage, and the lent lists, with what holds of them. The laws of how the loop goes from one to
+-- the next.
 use mathlib.Core.Path.{_≡_, refl, sym, ap, subst, _∙_}
 use Prim.Native.Nat.{ℕ, _≤_, _<_}
 use mathlib.Core.Bool.{true, false, true≢false}
@@ -58,7 +59,8 @@ module _ {text : RefT (List ℕ)} {start : List ℕ} where
   Told t x ws = GoesOn (t .reader) (t .tape) (t .names) (t .stage) (ws .0) (ws .1 .0) (ws .1 .1 .0) x
 
   -- the first state
-  abbrev pub at-start : (names : List ℕ) → (length (now text) ≤ 32768) × (length names ≡ 64) → (r : Reader) → r ≡ readerAt text 0 → (x : Stage) (v : Val) → x ≡ firstStage
+  abbrev pub at-start : (names : List ℕ) → (length (now text) ≤ 32768) × (length names ≡ 64) → (r : Reader) → r ≡ readerAt text 0 →
+      (x : Stage) (v : Val) → x ≡ firstStage
       → Is S.the-row x (v ∷ []) → Turn text start
   at-start names req r made x v how is =
       record {
@@ -81,7 +83,8 @@ module _ {text : RefT (List ℕ)} {start : List ℕ} where
   may-go t = record { start = start; is = stands-there t }
 
   -- the next state
-  abbrev pub next-turn : (t : Turn text start) (x : Stage) (w : Val) (ws : Changed) → Told t x ws → length (ws .1 .0) ≡ length (t .tape) → Is S.the-row x (w ∷ [])
+  abbrev pub next-turn : (t : Turn text start) (x : Stage) (w : Val) (ws : Changed) → Told t x ws → length (ws .1 .0) ≡ length (t .tape) →
+      Is S.the-row x (w ∷ [])
       → Turn text start
   next-turn t x w ws told e is =
       record {
@@ -93,7 +96,8 @@ module _ {text : RefT (List ℕ)} {start : List ℕ} where
         typed = is;
         same = told .same ∙ t .same;
         long = e ∙ t .long;
-        stands = subst (λ (s : RefT (List ℕ)). StageIs (now s) start (ws .1 .0) (ws .1 .1 .0) (ws .0 .at) x) (t .same) (told .declares .keeps start (stands-there t));
+        stands = subst (λ (s : RefT (List ℕ)). StageIs (now s) start (ws .1 .0) (ws .1 .1 .0) (ws .0 .at) x) (t .same)
+            (told .declares .keeps start (stands-there t));
       }
 
   -- the last state

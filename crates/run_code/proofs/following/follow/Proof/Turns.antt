@@ -1,4 +1,5 @@
--- A state of the loop of `follow`: the registers, how the run goes on, and the lent lists, with what holds of them. The laws of how the loop goes from one to the next.
+-- A state of the loop of `follow`: the registers, how the run goes on, and the lent lists, with what holds of them. The laws of how the loop goes
+-- from one to the next.
 use mathlib.Core.Path.{_≡_, refl, sym, subst, _∙_}
 use Prim.Native.Nat.{ℕ, _<_}
 use mathlib.Core.Bool.{true, false}
@@ -47,7 +48,8 @@ pub record Turn (words : Words) (allowance : ℕ) (first : Next) (m : Memory) : 
   pub same-record : length «record» ≡ length (m .«record»)
   pub same-frames : length frames ≡ length (m .frames)
   pub same-values : length values ≡ length (m .values)
-  pub simulates : Simulates words allowance (outcomeFrom (roomOf m) allowance words first m) (registersIn first) m (nextOf how g) (memory input output «record» frames values)
+  pub simulates : Simulates words allowance (outcomeFrom (roomOf m) allowance words first m) (registersIn first) m (nextOf how g)
+      (memory input output «record» frames values)
 
 module _ {words : Words} {allowance : ℕ} {first : Next} {m : Memory} where
   abbrev pub memory-in : Turn words allowance first m → Memory
@@ -69,7 +71,8 @@ module _ {words : Words} {allowance : ℕ} {first : Next} {m : Memory} where
       SimulatesTurn words allowance (t .g) (memory-in t) (nextOf x (ws .0)) (changed ws)
 
   -- the first state, and an instruction may come next as long as the run goes on
-  abbrev pub at-start : NextInvariant allowance first m → (g : Registers) (u : Val) → g ≡ registersIn first → Is R.the-row g (u ∷ []) → (x : Status) (v : Val) → x ≡
+  abbrev pub at-start : NextInvariant allowance first m → (g : Registers) (u : Val) → g ≡ registersIn first → Is R.the-row g (u ∷ []) →
+      (x : Status) (v : Val) → x ≡
       statusIn first → Is S.the-row x (v ∷ []) → Turn words allowance first m
   at-start invariant g u new is x v how is-x =
       record {
@@ -88,7 +91,8 @@ module _ {words : Words} {allowance : ℕ} {first : Next} {m : Memory} where
         same-record = refl;
         same-frames = refl;
         same-values = refl;
-        simulates = subst (λ (r : Next). Simulates words allowance (outcomeFrom (roomOf m) allowance words first m) (registersIn first) m r m) (sym (rejoined first x g new how))
+        simulates = subst (λ (r : Next). Simulates words allowance (outcomeFrom (roomOf m) allowance words first m) (registersIn first) m r m)
+            (sym (rejoined first x g new how))
             (simulates-start words allowance first m invariant);
       }
 
@@ -96,8 +100,10 @@ module _ {words : Words} {allowance : ℕ} {first : Next} {m : Memory} where
   may-step t said = subst (λ (r : Next). NextInvariant allowance r (memory-in t)) (goes-onward (t .how) (t .g) said) (t .simulates .invariant)
 
   -- the next state
-  abbrev pub next-turn : (t : Turn words allowance first m) (x : Status) (w : Val) (ws : Changed) → Told t x ws → length (ws .1 .1 .1 .1 .0) ≡ length (t .input) →
-      length (ws .1 .1 .1 .1 .1 .0) ≡ length (t .output) → length (ws .1 .1 .1 .1 .1 .1 .0) ≡ length (t .«record») → length (ws .1 .1 .1 .1 .1 .1 .1 .0) ≡
+  abbrev pub next-turn : (t : Turn words allowance first m) (x : Status) (w : Val) (ws : Changed) → Told t x ws → length (ws .1 .1 .1 .1 .0) ≡
+      length (t .input) →
+      length (ws .1 .1 .1 .1 .1 .0) ≡ length (t .output) → length (ws .1 .1 .1 .1 .1 .1 .0) ≡ length (t .«record») →
+      length (ws .1 .1 .1 .1 .1 .1 .1 .0) ≡
       length (t .frames) → length (ws .1 .1 .1 .1 .1 .1 .1 .1 .0) ≡ length (t .values)
       → Is R.the-row (ws .0) (registers-vals (ws .0)) → Is S.the-row x (w ∷ []) → onward (t .how) ≡ true → Turn words allowance first m
   next-turn t x w ws told e₁ e₂ e₃ e₄ e₅ kept′ is-x said =
@@ -118,16 +124,20 @@ module _ {words : Words} {allowance : ℕ} {first : Next} {m : Memory} where
         same-frames = e₄ ∙ t .same-frames;
         same-values = e₅ ∙ t .same-values;
         simulates =
-            simulates-on words allowance (outcomeFrom (roomOf m) allowance words first m) (registersIn first) m (memory-in t) (changed ws) (Onward (t .g)) (nextOf x (ws .0))
+            simulates-on words allowance (outcomeFrom (roomOf m) allowance words first m) (registersIn first) m (memory-in t) (changed ws)
+            (Onward (t .g)) (nextOf x (ws .0))
             (subst (λ (r : Next). Simulates words allowance (outcomeFrom (roomOf m) allowance words first m) (registersIn first) m r (memory-in t))
             (goes-onward (t .how) (t .g) said) (t .simulates)) (told .simulates);
       }
 
   pub decreases : (t : Turn words allowance first m) (x : Status) (ws : Changed) → Told t x ws → onward (t .how) ≡ true →
       measure (length words) allowance (nextOf x (ws .0)) (changed ws) < left t
-  decreases t x ws told said = subst (λ (r : Next). measure (length words) allowance (nextOf x (ws .0)) (changed ws) < measure (length words) allowance r
+  decreases t x ws told said =
+      subst (λ (r : Next). measure (length words) allowance (nextOf x (ws .0)) (changed ws) < measure (length words) allowance r
       (memory-in t)) (sym (goes-onward (t .how) (t .g) said)) (told .decreases)
 
   -- the last state
-  pub followed : (t : Turn words allowance first m) (r : Next) → onward (t .how) ≡ false → r ≡ nextOf (t .how) (t .g) → SimulatesUntil IsOver words allowance first m r (memory-in t)
-  followed t r said last = subst (λ (z : Next). SimulatesUntil IsOver words allowance first m z (memory-in t)) (sym last) (record { simulates = t .simulates; ended = is-over (t .how) (t .g) said })
+  pub followed : (t : Turn words allowance first m) (r : Next) → onward (t .how) ≡ false → r ≡ nextOf (t .how) (t .g) →
+      SimulatesUntil IsOver words allowance first m r (memory-in t)
+  followed t r said last = subst (λ (z : Next). SimulatesUntil IsOver words allowance first m z (memory-in t)) (sym last)
+      (record { simulates = t .simulates; ended = is-over (t .how) (t .g) said })

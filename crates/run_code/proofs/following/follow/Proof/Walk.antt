@@ -1,4 +1,5 @@
--- The walk of `follow`: through its parameters, each turn of the loop, and the end. Positions in the context: local i stands at 2 · i, after what is put in front.
+-- The walk of `follow`: through its parameters, each turn of the loop, and the end. Positions in the context: local i stands at 2 · i, after what is
+-- put in front.
 use mathlib.Core.Path.{_≡_, refl, sym, ap, subst, _∙_}
 use Prim.Native.Nat.{ℕ, _<_}
 use mathlib.Core.Bool.{Bool, true, false}
@@ -16,8 +17,10 @@ use prog.Wp.{Heap, Out, Env, Wp, WpFn, Tables, afterBlock, afterSeq, afterTurn, 
 use ghost.Atoms.{Atoms}
 use contract.Lifetimes.{Lfts, Shares, AllOutlive, toks}
 use contract.Monad.{Fun, fact, factI}
-use types.Kit.{Given, Item, Post as After, Go, Seq, runs, anyQ, atRet, ‵, raw, _⊛_, ⋆, _$_, _∵_, !, qed, by, move, drop, use0, use1, group, split, join, rewrite, fsplit, fjoin, suffices, frame, done}
-use types.Run.{look, store, init, forget, stop, from, addr, of-opd, no-more, assigns, first as first-part, blocks, loops, again, stays, leaves-loop, exec, land, land-last, returns, enter, params1, pass1, pass0, Below}
+use types.Kit.{Given, Item, Post as After, Go, Seq, runs, anyQ, atRet, ‵, raw, _⊛_, ⋆, _$_, _∵_, !, qed, by, move, drop, use0, use1, group, split}
+use types.Kit.{join, rewrite, fsplit, fjoin, suffices, frame, done}
+use types.Run.{look, store, init, forget, stop, from, addr, of-opd, no-more, assigns, first as first-part, blocks, loops, again, stays, leaves-loop}
+use types.Run.{exec, land, land-last, returns, enter, params1, pass1, pass0, Below}
 use sound.WpLaws.{FmC}
 use denote.RattleType.{owns}
 use denote.Laws.{Is, Ises, Are}
@@ -61,20 +64,57 @@ use Rattle.run_turns.proofs.next_of.Symbol.{name as #run-turns·next-of}
 use Rattle.run_code.proofs.following.follow as follow
 use Rattle.run_code.proofs.following.follow.Code as code
 use Rattle.run_code.proofs.following.follow.Code.Mir as body
-use Rattle.run_code.proofs.following.follow.Proof.Turns.{Turn, Changed, Told, Less, less-founded, memory-in, at-start, may-step, next-turn, decreases, followed}
-use Rattle.run_turns.proofs.walks.Callees.{registers-val, registers-vals, spelled-out, RegistersOf, StatusOf, IsOnward, Step, NextOf, registers-said, status-said, onward-said, next-said, to-parts, to-onward, to-next, goes-parts, asks-onward, goes-next, lends-registers, registers-come-back}
+use Rattle.run_code.proofs.following.follow.Proof.Turns.{Turn, Changed, Told, Less, less-founded, memory-in, at-start, may-step, next-turn}
+use Rattle.run_code.proofs.following.follow.Proof.Turns.{decreases, followed}
+use Rattle.run_turns.proofs.walks.Callees.{registers-val, registers-vals, spelled-out, RegistersOf, StatusOf, IsOnward, Step, NextOf, registers-said}
+use Rattle.run_turns.proofs.walks.Callees.{status-said, onward-said, next-said, to-parts, to-onward, to-next, goes-parts, asks-onward, goes-next}
+use Rattle.run_turns.proofs.walks.Callees.{lends-registers, registers-come-back}
 
 abbrev pub stayed : Stays (follow.ended .signature .params) (follow.ended .kept)
-stayed = (stay-dropped _ _, (stay-dropped _ _, (stay-dropped _ _, (stay-dropped _ _, (stay-slice (2 ∷ []) tt (plain (λ _. u8)), (stay-slice (3 ∷ []) tt (plain (λ _. u8)), (stay-slice (4 ∷ []) tt (plain (λ _. u8)), (stay-slice (5 ∷ []) tt (plain (λ _. usize)), (stay-slice (6 ∷ []) tt (plain (λ _. u8)), tt)))))))))
+stayed = (
+  stay-dropped _ _,
+  (
+    stay-dropped _ _,
+    (
+      stay-dropped _ _,
+      (
+        stay-dropped _ _,
+        (
+          stay-slice (2 ∷ []) tt (plain (λ _. u8)),
+          (
+            stay-slice (3 ∷ []) tt (plain (λ _. u8)),
+            (stay-slice (4 ∷ []) tt (plain (λ _. u8)), (stay-slice (5 ∷ []) tt (plain (λ _. usize)), (stay-slice (6 ∷ []) tt (plain (λ _. u8)), tt))),
+          ),
+        ),
+      ),
+    ),
+  ),
+)
 
-module _ {M : Type 1} (𝓤 : URA M) (H : Heap 𝓤) (A : Atoms 𝓤) (W : Given 𝓤 H A) (at-mem : Memory → SProp 𝓤) (run : Routine → Fun 𝓤) (κs : Lfts 7) (qs : Shares 7) (bounds : AllOutlive 7 (follow.signature .outlives) κs)
+module _ {M : Type 1} (𝓤 : URA M) (H : Heap 𝓤) (A : Atoms 𝓤) (W : Given 𝓤 H A) (at-mem : Memory → SProp 𝓤) (run : Routine → Fun 𝓤) (κs : Lfts 7)
+    (qs : Shares 7) (bounds : AllOutlive 7 (follow.signature .outlives) κs)
     (first : Next) (bits words : RefT (List ℕ)) (allowance : ℕ) (input output «record» frames values : RefT (List ℕ)) where
   abbrev a : Args follow.signature κs
   a = (first, (bits, (words, (allowance, (input, (output, («record», (frames, (values, tt)))))))))
 
   -- the parameters' machine values
   abbrev vss : Vals follow.signature κs
-  vss = (EL.vals N.the-type N′.the-laws first, (ptr-vals bits, (slice-vals words, (uint-vals w32 allowance, (slice-vals input, (slice-vals output, (slice-vals «record», (slice-vals frames, (slice-vals values, tt)))))))))
+  vss = (
+    EL.vals N.the-type N′.the-laws first,
+    (
+      ptr-vals bits,
+      (
+        slice-vals words,
+        (
+          uint-vals w32 allowance,
+          (
+            slice-vals input,
+            (slice-vals output, (slice-vals «record», (slice-vals frames, (slice-vals values, tt)))),
+          ),
+        ),
+      ),
+    ),
+  )
 
   abbrev Post : Val → SProp 𝓤
   Post = walkOf 𝓤 H A follow.ended stayed (follow.clauses 𝓤 H A at-mem run) .post ((κs, qs, bounds, a, vss), tt)
@@ -94,12 +134,15 @@ module _ {M : Type 1} (𝓤 : URA M) (H : Heap 𝓤) (A : Atoms 𝓤) (W : Given
   -- what the loop keeps beside the locals
   abbrev Kept : State → List (Item 𝓤)
   Kept t = ‵ (Mine u8 (κs .1 .1 .0) (qs .1 .1 .0) input (t .input)) ∷ ‵ (Mine u8 (κs .1 .1 .1 .0) (qs .1 .1 .1 .0) output (t .output)) ∷
-      ‵ (Mine u8 (κs .1 .1 .1 .1 .0) (qs .1 .1 .1 .1 .0) «record» (t .«record»)) ∷ ‵ (Mine usize (κs .1 .1 .1 .1 .1 .0) (qs .1 .1 .1 .1 .1 .0) frames (t .frames)) ∷
+      ‵ (Mine u8 (κs .1 .1 .1 .1 .0) (qs .1 .1 .1 .1 .0) «record» (t .«record»)) ∷ ‵
+      (Mine usize (κs .1 .1 .1 .1 .1 .0) (qs .1 .1 .1 .1 .1 .0) frames (t .frames)) ∷
       ‵ (Mine u8 (κs .1 .1 .1 .1 .1 .1 .0) (qs .1 .1 .1 .1 .1 .1 .0) values (t .values)) ∷ ‵ (flft (κs .1 .1 .0) (qs .1 .1 .0)) ∷
-      ‵ (flft (κs .1 .1 .1 .0) (qs .1 .1 .1 .0)) ∷ ‵ (flft (κs .1 .1 .1 .1 .0) (qs .1 .1 .1 .1 .0)) ∷ ‵ (flft (κs .1 .1 .1 .1 .1 .0) (qs .1 .1 .1 .1 .1 .0)) ∷
+      ‵ (flft (κs .1 .1 .1 .0) (qs .1 .1 .1 .0)) ∷ ‵ (flft (κs .1 .1 .1 .1 .0) (qs .1 .1 .1 .1 .0)) ∷ ‵
+      (flft (κs .1 .1 .1 .1 .1 .0) (qs .1 .1 .1 .1 .1 .0)) ∷
       ‵ (flft (κs .1 .1 .1 .1 .1 .1 .0) (qs .1 .1 .1 .1 .1 .1 .0)) ∷ ‵ (flft (κs .0) (qs .0)) ∷ ‵ (flft (κs .1 .0) (qs .1 .0)) ∷ ‵ Bits ∷ ‵ Words ∷ []
 
-  exits : (t : State) (r : Next) (u : Val) → SimulatesUntil IsOver (now words) allowance first (memory (now input) (now output) (now «record») (now frames) (now values)) r
+  exits : (t : State) (r : Next) (u : Val) → SimulatesUntil IsOver (now words) allowance first
+      (memory (now input) (now output) (now «record») (now frames) (now values)) r
       (memory-in t) → ent 𝓤 (⋆ 𝓤 H A (‵ (N.the-row .own r (u ∷ [])) ∷ Kept t)) (Post u)
   exits t r u said =
       qed W (‵ (N.the-row .own r (u ∷ [])) ∷ Kept t) ∵
@@ -114,8 +157,11 @@ module _ {M : Type 1} (𝓤 : URA M) (H : Heap 𝓤) (A : Atoms 𝓤) (W : Given
       move ! (2 ∷ 0 ∷ []) $ as-passed ! u8 (κs .1 .1 .0) (qs .1 .1 .0) input (t .input) (t .same-input) $ fjoin ! $
       nothing ! $ fjoin ! $ nothing ! $ fjoin ! $ nothing ! $ fjoin ! $ nothing ! $ fjoin ! $ done !
 
-  module _ (are : Are (typesAt (follow.signature .params) κs) (Ises (typesAt (follow.signature .params) κs)) a vss) (req₁ : Answers (now bits)) (req₂ : countIn (now words) < length (now words))
-      (𝓣 : Tables 𝓤 H) (fm : FmC 𝓤 H (W .laws) (𝓣 .C)) (known-onward : Triple 𝓤 (𝓣 .C #run-turns·is-onward) (IsOnward 𝓤 H A at-mem run)) (known-step : Triple 𝓤 (𝓣 .C #run-turns·step) (Step 𝓤 H A at-mem run)) (known-next : Triple 𝓤 (𝓣 .C #run-turns·next-of) (NextOf 𝓤 H A at-mem run)) where
+  module _ (are : Are (typesAt (follow.signature .params) κs) (Ises (typesAt (follow.signature .params) κs)) a vss) (req₁ : Answers (now bits))
+      (req₂ : countIn (now words) < length (now words))
+      (𝓣 : Tables 𝓤 H) (fm : FmC 𝓤 H (W .laws) (𝓣 .C)) (known-onward : Triple 𝓤 (𝓣 .C #run-turns·is-onward) (IsOnward 𝓤 H A at-mem run))
+      (known-step : Triple 𝓤 (𝓣 .C #run-turns·step) (Step 𝓤 H A at-mem run))
+      (known-next : Triple 𝓤 (𝓣 .C #run-turns·next-of) (NextOf 𝓤 H A at-mem run)) where
     fits-input : (t : State) → Room u8 (length (t .input))
     fits-input t = subst (Room u8) (sym (t .same-input)) (are .1 .1 .1 .1 .0 .0 .1)
 
@@ -133,12 +179,14 @@ module _ {M : Type 1} (𝓤 : URA M) (H : Heap 𝓤) (A : Atoms 𝓤) (W : Given
 
     module _ (l₀ l₁ l₂ l₃ l₄ l₅ l₆ l₇ l₈ l₉ l₁₀ l₁₁ l₁₂ l₁₃ l₁₄ l₁₅ l₁₆ l₁₇ l₁₈ l₁₉ l₂₀ l₂₁ l₂₂ l₂₃ l₂₄ : ℕ) where
       abbrev En : Env 𝓤 H
-      En = placed (code.function .locals) (l₀ ∷ l₁ ∷ l₂ ∷ l₃ ∷ l₄ ∷ l₅ ∷ l₆ ∷ l₇ ∷ l₈ ∷ l₉ ∷ l₁₀ ∷ l₁₁ ∷ l₁₂ ∷ l₁₃ ∷ l₁₄ ∷ l₁₅ ∷ l₁₆ ∷ l₁₇ ∷ l₁₈ ∷ l₁₉ ∷ l₂₀ ∷
+      En = placed (code.function .locals) (l₀ ∷ l₁ ∷ l₂ ∷ l₃ ∷ l₄ ∷ l₅ ∷ l₆ ∷ l₇ ∷ l₈ ∷ l₉ ∷ l₁₀ ∷ l₁₁ ∷ l₁₂ ∷ l₁₃ ∷ l₁₄ ∷ l₁₅ ∷ l₁₆ ∷ l₁₇ ∷ l₁₈ ∷ l₁₉
+          ∷ l₂₀ ∷
           l₂₁ ∷ l₂₂ ∷ l₂₃ ∷ l₂₄ ∷ [])
 
       -- what the locals hold from the first parameter to the status, and the context in a state
       abbrev passed : State → List Content
-      passed t = holds (EL.val N.the-type N′.the-laws first) ∷ holds (vptr (ptr bits .0) (ptr bits .1)) ∷ holds (sliceVal (ptr words) (length (now words))) ∷
+      passed t = holds (EL.val N.the-type N′.the-laws first) ∷ holds (vptr (ptr bits .0) (ptr bits .1)) ∷ holds
+          (sliceVal (ptr words) (length (now words))) ∷
           holds (vint w32 allowance) ∷ holds (sliceVal (ptr input) (length (t .input))) ∷ holds (sliceVal (ptr output) (length (t .output))) ∷
           holds (sliceVal (ptr «record») (length (t .«record»))) ∷ holds (sliceVal (ptr frames) (length (t .frames))) ∷
           holds (sliceVal (ptr values) (length (t .values))) ∷ holds (registers-val (t .g)) ∷ holds (t .value) ∷ []
@@ -158,16 +206,69 @@ module _ {M : Type 1} (𝓤 : URA M) (H : Heap 𝓤) (A : Atoms 𝓤) (W : Given
       step-shares = (fullShare, (qs .0, (qs .1 .0, (fullShare, (fullShare, (fullShare, (fullShare, (fullShare, tt))))))))
 
       abbrev step-args : State → (ν ν₁ ν₂ ν₃ ν₄ ν₅ : ℕ) (δ δ₁ δ₂ δ₃ δ₄ δ₅ : GName) → Args step.signature (step-lifetimes ν ν₁ ν₂ ν₃ ν₄ ν₅)
-      step-args t ν ν₁ ν₂ ν₃ ν₄ ν₅ δ δ₁ δ₂ δ₃ δ₄ δ₅ = (record { ptr = (l₁₀, 0); name = δ; now = t .g }, (bits, (words, (allowance, (lent-at input δ₁ (t .input), (lent-at output δ₂ (t .output), (lent-at «record» δ₃ (t .«record»), (lent-at frames δ₄ (t .frames), (lent-at values δ₅ (t .values), tt)))))))))
+      step-args t ν ν₁ ν₂ ν₃ ν₄ ν₅ δ δ₁ δ₂ δ₃ δ₄ δ₅ = (
+        record { ptr = (l₁₀, 0); name = δ; now = t .g },
+        (
+          bits,
+          (
+            words,
+            (
+              allowance,
+              (
+                lent-at input δ₁ (t .input),
+                (
+                  lent-at output δ₂ (t .output),
+                  (
+                    lent-at «record» δ₃ (t .«record»),
+                    (lent-at frames δ₄ (t .frames), (lent-at values δ₅ (t .values), tt)),
+                  ),
+                ),
+              ),
+            ),
+          ),
+        ),
+      )
 
       abbrev to-step : State → (ν ν₁ ν₂ ν₃ ν₄ ν₅ : ℕ) (δ δ₁ δ₂ δ₃ δ₄ δ₅ : GName) → Step 𝓤 H A at-mem run .Ghost
-      to-step t ν ν₁ ν₂ ν₃ ν₄ ν₅ δ δ₁ δ₂ δ₃ δ₄ δ₅ = ((step-lifetimes ν ν₁ ν₂ ν₃ ν₄ ν₅, step-shares, tt, step-args t ν ν₁ ν₂ ν₃ ν₄ ν₅ δ δ₁ δ₂ δ₃ δ₄ δ₅, (vptr l₁₀ 0 ∷ [], (ptr-vals bits, (slice-vals words, (uint-vals w32 allowance, (sliceVal (ptr input) (length (t .input)) ∷ [], (sliceVal (ptr output) (length (t .output)) ∷ [], (sliceVal (ptr «record») (length (t .«record»)) ∷ [], (sliceVal (ptr frames) (length (t .frames)) ∷ [], (sliceVal (ptr values) (length (t .values)) ∷ [], tt)))))))))), tt)
+      to-step t ν ν₁ ν₂ ν₃ ν₄ ν₅ δ δ₁ δ₂ δ₃ δ₄ δ₅ = (
+        (
+          step-lifetimes ν ν₁ ν₂ ν₃ ν₄ ν₅,
+          step-shares,
+          tt,
+          step-args t ν ν₁ ν₂ ν₃ ν₄ ν₅ δ δ₁ δ₂ δ₃ δ₄ δ₅,
+          (
+            vptr l₁₀ 0 ∷ [],
+            (
+              ptr-vals bits,
+              (
+                slice-vals words,
+                (
+                  uint-vals w32 allowance,
+                  (
+                    sliceVal (ptr input) (length (t .input)) ∷ [],
+                    (
+                      sliceVal (ptr output) (length (t .output)) ∷ [],
+                      (
+                        sliceVal (ptr «record») (length (t .«record»)) ∷ [],
+                        (sliceVal (ptr frames) (length (t .frames)) ∷ [], (sliceVal (ptr values) (length (t .values)) ∷ [], tt)),
+                      ),
+                    ),
+                  ),
+                ),
+              ),
+            ),
+          ),
+        ),
+        tt,
+      )
 
       abbrev Lent : State → (ν ν₁ ν₂ ν₃ ν₄ ν₅ : ℕ) (δ δ₁ δ₂ δ₃ δ₄ δ₅ : GName) → List (Item 𝓤)
       Lent t ν ν₁ ν₂ ν₃ ν₄ ν₅ δ δ₁ δ₂ δ₃ δ₄ δ₅ = ‵ (flft (ν ∷ []) fullShare) ∷ ‵ (flft (κs .0) (qs .0)) ∷ ‵ (flft (κs .1 .0) (qs .1 .0)) ∷
-          ‵ (flft (ν₁ ∷ []) fullShare) ∷ ‵ (flft (ν₂ ∷ []) fullShare) ∷ ‵ (flft (ν₃ ∷ []) fullShare) ∷ ‵ (flft (ν₄ ∷ []) fullShare) ∷ ‵ (flft (ν₅ ∷ []) fullShare) ∷
+          ‵ (flft (ν₁ ∷ []) fullShare) ∷ ‵ (flft (ν₂ ∷ []) fullShare) ∷ ‵ (flft (ν₃ ∷ []) fullShare) ∷ ‵ (flft (ν₄ ∷ []) fullShare) ∷ ‵
+          (flft (ν₅ ∷ []) fullShare) ∷
           ‵ (MutRef erased (ν ∷ []) R.the-row .own (record { ptr = (l₁₀, 0); name = δ; now = t .g }) (vptr l₁₀ 0 ∷ [])) ∷ ‵ Bits ∷ ‵ Words ∷
-          ‵ (Theirs u8 (κs .1 .1 .0) (qs .1 .1 .0) input ν₁ δ₁ (t .input)) ∷ ‵ (Theirs u8 (κs .1 .1 .1 .0) (qs .1 .1 .1 .0) output ν₂ δ₂ (t .output)) ∷
+          ‵ (Theirs u8 (κs .1 .1 .0) (qs .1 .1 .0) input ν₁ δ₁ (t .input)) ∷ ‵ (Theirs u8 (κs .1 .1 .1 .0) (qs .1 .1 .1 .0) output ν₂ δ₂ (t .output))
+          ∷
           ‵ (Theirs u8 (κs .1 .1 .1 .1 .0) (qs .1 .1 .1 .1 .0) «record» ν₃ δ₃ (t .«record»)) ∷
           ‵ (Theirs usize (κs .1 .1 .1 .1 .1 .0) (qs .1 .1 .1 .1 .1 .0) frames ν₄ δ₄ (t .frames)) ∷
           ‵ (Theirs u8 (κs .1 .1 .1 .1 .1 .1 .0) (qs .1 .1 .1 .1 .1 .1 .0) values ν₅ δ₅ (t .values)) ∷ []
@@ -180,7 +281,8 @@ module _ {M : Type 1} (𝓤 : URA M) (H : Heap 𝓤) (A : Atoms 𝓤) (W : Given
           tokens-joined ! 8 (step-lifetimes ν ν₁ ν₂ ν₃ ν₄ ν₅) step-shares $ move ! (counting 1 9) $
           owned-joined ! (typesAt (step.signature .params) (step-lifetimes ν ν₁ ν₂ ν₃ ν₄ ν₅)) (step-args t ν ν₁ ν₂ ν₃ ν₄ ν₅ δ δ₁ δ₂ δ₃ δ₄ δ₅)
           (to-step t ν ν₁ ν₂ ν₃ ν₄ ν₅ δ δ₁ δ₂ δ₃ δ₄ δ₅ .0 .4) $ move ! (1 ∷ 0 ∷ []) $ join ! $ frame ! $
-          use0 W (raw (fact 𝓤 (Invariant allowance (t .g) (memory-in t)))) (factI 𝓤 (Invariant allowance (t .g) (memory-in t)) (emp 𝓤) (may-step t said)) $
+          use0 W (raw (fact 𝓤 (Invariant allowance (t .g) (memory-in t))))
+          (factI 𝓤 (Invariant allowance (t .g) (memory-in t)) (emp 𝓤) (may-step t said)) $
           use0 W (raw (fact 𝓤 (countIn (now words) < length (now words)))) (factI 𝓤 (countIn (now words) < length (now words)) (emp 𝓤) req₂) $
           use0 W (raw (fact 𝓤 (Answers (now bits)))) (factI 𝓤 (Answers (now bits)) (emp 𝓤) req₁) $ done !
 
@@ -194,7 +296,8 @@ module _ {M : Type 1} (𝓤 : URA M) (H : Heap 𝓤) (A : Atoms 𝓤) (W : Given
           → Seq (Go {0}) W (At t) (runs (𝓣 .C) (𝓣 .Λ) En (seq (call #run-turns·is-onward (copy (place 11 []) ∷ []) (place 13 [])) rest) q)
       asked t y said k =
           owned ! S.the-row (Is S.the-row) (EL.makes S.the-type S′.the-plain 𝓤 H A) (t .how) (t .value ∷ []) (t .typed) $
-          use1 W (raw (IsOnward 𝓤 H A at-mem run .pre (to-onward 𝓤 H A at-mem run (t .how) (t .value)))) (asks-onward 𝓤 H A at-mem run W (t .how) (t .value)) $
+          use1 W (raw (IsOnward 𝓤 H A at-mem run .pre (to-onward 𝓤 H A at-mem run (t .how) (t .value))))
+          (asks-onward 𝓤 H A at-mem run W (t .how) (t .value)) $
           calls-at ! fm (IsOnward 𝓤 H A at-mem run) known-onward (to-onward 𝓤 H A at-mem run (t .how) (t .value))
           (and-copies ! 23 refl (no-more !)) (λ w.
           answers ! tt Boolean _ (λ z. z ≡ onward (t .how)) (onward-said 𝓤 H A at-mem run (t .how)) w
@@ -223,24 +326,37 @@ module _ {M : Type 1} (𝓤 : URA M) (H : Heap 𝓤) (A : Atoms 𝓤) (W : Given
           move ! (69 ∷ []) $ use1 W (‵ Bits ⊛ ‵ Bits) (shr-copy 𝓤 H A W erased (κs .0) (Array u8 256) .twice bits (ptr-vals bits)) $ split ! $
           move ! (71 ∷ []) $ use1 W (‵ Words ⊛ ‵ Words) (shr-slice-copy 𝓤 H A W erased (κs .1 .0) u32 .twice words (slice-vals words)) $ split ! $
           move ! (21 ∷ 71 ∷ 72 ∷ 18 ∷ 15 ∷ 12 ∷ 9 ∷ 6 ∷ 19 ∷ 3 ∷ 1 ∷ 16 ∷ 13 ∷ 10 ∷ 7 ∷ 4 ∷ []) $
-          group ! 16 $ use1 W (raw (Step 𝓤 H A at-mem run .pre (to-step t ν ν₁ ν₂ ν₃ ν₄ ν₅ δ δ₁ δ₂ δ₃ δ₄ δ₅))) (goes-step t ν ν₁ ν₂ ν₃ ν₄ ν₅ δ δ₁ δ₂ δ₃ δ₄ δ₅ said) $
+          group ! 16 $ use1 W (raw (Step 𝓤 H A at-mem run .pre (to-step t ν ν₁ ν₂ ν₃ ν₄ ν₅ δ δ₁ δ₂ δ₃ δ₄ δ₅)))
+          (goes-step t ν ν₁ ν₂ ν₃ ν₄ ν₅ δ δ₁ δ₂ δ₃ δ₄ δ₅ said) $
           calls-at-last ! fm (Step 𝓤 H A at-mem run) known-step (to-step t ν ν₁ ν₂ ν₃ ν₄ ν₅ δ δ₁ δ₂ δ₃ δ₄ δ₅)
-          (and-copies ! 36 refl (and-copies ! 13 refl (and-copies ! 15 refl (and-copies ! 17 refl (and-copies ! 40 refl (and-copies ! 44 refl (and-copies ! 48 refl (and-copies ! 52 refl (and-copies ! 56 refl (no-more !)))))))))) (λ w.
+          (and-copies ! 36 refl
+          (and-copies ! 13 refl
+          (and-copies ! 15 refl
+          (and-copies ! 17 refl
+          (and-copies ! 40 refl (and-copies ! 44 refl (and-copies ! 48 refl (and-copies ! 52 refl (and-copies ! 56 refl (no-more !)))))))))) (λ w.
           answers-lasts ! tt S.the-row _ Changed (lasts step.ended (step-lifetimes ν ν₁ ν₂ ν₃ ν₄ ν₅) (step-args t ν ν₁ ν₂ ν₃ ν₄ ν₅ δ δ₁ δ₂ δ₃ δ₄ δ₅))
           (λ x ws. fact 𝓤 (Told t x ws)) w (λ x ws is-x. drop ! $ move ! (2 ∷ []) $ heard ! (Told t x ws) (λ told.
           tokens-apart ! 8 (step-lifetimes ν ν₁ ν₂ ν₃ ν₄ ν₅) step-shares $
           -- the last values are taken apart
           move ! (8 ∷ []) $ fsplit ! $ move ! (1 ∷ []) $ fsplit ! $ drop ! $ fsplit ! $ drop ! $ fsplit ! $ drop ! $
-          last-list ! (λ e₁. last-list ! (λ e₂. last-list ! (λ e₃. last-list ! (λ e₄. last-list ! (λ e₅. drop ! $ move ! (13 ∷ 12 ∷ 11 ∷ 10 ∷ 9 ∷ 8 ∷ 7 ∷ 6 ∷ []) $
+          last-list ! (λ e₁. last-list !
+          (λ e₂. last-list ! (λ e₃. last-list ! (λ e₄. last-list ! (λ e₅. drop ! $ move ! (13 ∷ 12 ∷ 11 ∷ 10 ∷ 9 ∷ 8 ∷ 7 ∷ 6 ∷ []) $
           -- the lifetimes end, and the registers and the slices come back
           move ! (7 ∷ 21 ∷ 13 ∷ []) $ registers-come-back ! tt (ws .0) l₁₀ (λ kept′.
-          move ! (5 ∷ 19 ∷ 12 ∷ []) $ slice-comes-back-at ! tt u8 (κs .1 .1 .0) (qs .1 .1 .0) input 29 (t .input) (ws .1 .1 .1 .1 .0) (fits-input t) e₁ refl $
-          move ! (6 ∷ 18 ∷ 12 ∷ []) $ slice-comes-back-at ! tt u8 (κs .1 .1 .1 .0) (qs .1 .1 .1 .0) output 30 (t .output) (ws .1 .1 .1 .1 .1 .0) (fits-output t) e₂ refl $
-          move ! (7 ∷ 17 ∷ 12 ∷ []) $ slice-comes-back-at ! tt u8 (κs .1 .1 .1 .1 .0) (qs .1 .1 .1 .1 .0) «record» 31 (t .«record») (ws .1 .1 .1 .1 .1 .1 .0) (fits-record t) e₃ refl $
-          move ! (8 ∷ 16 ∷ 12 ∷ []) $ slice-comes-back-at ! tt usize (κs .1 .1 .1 .1 .1 .0) (qs .1 .1 .1 .1 .1 .0) frames 32 (t .frames) (ws .1 .1 .1 .1 .1 .1 .1 .0) (fits-frames t) e₄ refl $
-          move ! (9 ∷ 15 ∷ 12 ∷ []) $ slice-comes-back-at ! tt u8 (κs .1 .1 .1 .1 .1 .1 .0) (qs .1 .1 .1 .1 .1 .1 .0) values 33 (t .values) (ws .1 .1 .1 .1 .1 .1 .1 .1 .0) (fits-values t) e₅ refl $
-          land-last ! (from ! (stop !)) (store ! 36 refl (EL.lawful S.the-type S′.the-laws 𝓤 H A W tt .typed x _ is-x .0)) $ forget ! 40 refl $ forget ! 42 refl $
-          forget ! 44 refl $ forget ! 46 refl $ forget ! 48 refl $ forget ! 50 refl $ forget ! 52 refl $ forget ! 54 refl $ forget ! 56 refl $ forget ! 58 refl $
+          move ! (5 ∷ 19 ∷ 12 ∷ []) $ slice-comes-back-at ! tt u8 (κs .1 .1 .0) (qs .1 .1 .0) input 29 (t .input) (ws .1 .1 .1 .1 .0) (fits-input t)
+          e₁ refl $
+          move ! (6 ∷ 18 ∷ 12 ∷ []) $ slice-comes-back-at ! tt u8 (κs .1 .1 .1 .0) (qs .1 .1 .1 .0) output 30 (t .output) (ws .1 .1 .1 .1 .1 .0)
+          (fits-output t) e₂ refl $
+          move ! (7 ∷ 17 ∷ 12 ∷ []) $ slice-comes-back-at ! tt u8 (κs .1 .1 .1 .1 .0) (qs .1 .1 .1 .1 .0) «record» 31 (t .«record»)
+          (ws .1 .1 .1 .1 .1 .1 .0) (fits-record t) e₃ refl $
+          move ! (8 ∷ 16 ∷ 12 ∷ []) $ slice-comes-back-at ! tt usize (κs .1 .1 .1 .1 .1 .0) (qs .1 .1 .1 .1 .1 .0) frames 32 (t .frames)
+          (ws .1 .1 .1 .1 .1 .1 .1 .0) (fits-frames t) e₄ refl $
+          move ! (9 ∷ 15 ∷ 12 ∷ []) $ slice-comes-back-at ! tt u8 (κs .1 .1 .1 .1 .1 .1 .0) (qs .1 .1 .1 .1 .1 .1 .0) values 33 (t .values)
+          (ws .1 .1 .1 .1 .1 .1 .1 .1 .0) (fits-values t) e₅ refl $
+          land-last ! (from ! (stop !)) (store ! 36 refl (EL.lawful S.the-type S′.the-laws 𝓤 H A W tt .typed x _ is-x .0)) $ forget ! 40 refl $ forget
+          ! 42 refl $
+          forget ! 44 refl $ forget ! 46 refl $ forget ! 48 refl $ forget ! 50 refl $ forget ! 52 refl $ forget ! 54 refl $ forget ! 56 refl $ forget
+          ! 58 refl $
           forget ! 60 refl $ forget ! 62 refl $
           move ! (counting 15 20 ++ 10 ∷ counting 35 29 ++ 8 ∷ 6 ∷ 4 ∷ 2 ∷ 0 ∷ 9 ∷ 7 ∷ 5 ∷ 3 ∷ 1 ∷ 12 ∷ 11 ∷ 14 ∷ []) $
           again ! Less At t (next-turn t x w ws told e₁ e₂ e₃ e₄ e₅ kept′ is-x said) (decreases t x ws told said)))))))))))))))))
@@ -254,13 +370,15 @@ module _ {M : Type 1} (𝓤 : URA M) (H : Heap 𝓤) (A : Atoms 𝓤) (W : Given
           (init ! 24 refl (LL.lawful R.the-type R′.the-laws 𝓤 H A W .typed (t .g) _ (t .kept) .0)) $
           nothing ! $ owned ! R.the-row (Is R.the-row) (LL.makes R.the-type R′.the-plain 𝓤 H A) (t .g) (registers-vals (t .g)) (t .kept) $ fjoin ! $
           owned ! S.the-row (Is S.the-row) (EL.makes S.the-type S′.the-plain 𝓤 H A) (t .how) (t .value ∷ []) (t .typed) $ fjoin ! $
-          use1 W (raw (NextOf 𝓤 H A at-mem run .pre (to-next 𝓤 H A at-mem run (t .how) (t .g) (t .value)))) (goes-next 𝓤 H A at-mem run W (t .how) (t .g) (t .value)) $
+          use1 W (raw (NextOf 𝓤 H A at-mem run .pre (to-next 𝓤 H A at-mem run (t .how) (t .g) (t .value))))
+          (goes-next 𝓤 H A at-mem run W (t .how) (t .g) (t .value)) $
           calls-at ! fm (NextOf 𝓤 H A at-mem run) known-next (to-next 𝓤 H A at-mem run (t .how) (t .g) (t .value))
           (and-copies ! 23 refl (and-copies ! 25 refl (no-more !))) (λ u.
           answers ! tt N.the-row _ (λ r. r ≡ nextOf (t .how) (t .g)) (next-said 𝓤 H A at-mem run (t .how) (t .g)) u (λ r last is-next.
           land ! (from ! (stop !)) (init ! 1 refl (EL.lawful N.the-type N′.the-laws 𝓤 H A W tt .typed r _ is-next .0)) $ returns ! (look ! 1 refl) $
           move ! (counting 1 50) $
-          frees-laid ! En (holds u ∷ (passed t ++ holds (registers-val (t .g)) ∷ holds (vbool false) ∷ [])) $ by ! (exits t r u (followed t r said last)))))
+          frees-laid ! En (holds u ∷ (passed t ++ holds (registers-val (t .g)) ∷ holds (vbool false) ∷ [])) $ by !
+          (exits t r u (followed t r said last)))))
 
       either : (t : State) (y : Bool) → onward (t .how) ≡ y → Goes t
       either t true said = goes-on t said
@@ -286,7 +404,8 @@ module _ {M : Type 1} (𝓤 : URA M) (H : Heap 𝓤) (A : Atoms 𝓤) (W : Given
         takes-slice ! 14 refl tt (are .1 .1 .1 .1 .1 .1 .0 .0 .1 .0) $
         takes-slice ! 16 refl tt (are .1 .1 .1 .1 .1 .1 .1 .0 .0 .1 .0) $
         takes-slice ! 18 refl tt (are .1 .1 .1 .1 .1 .1 .1 .1 .0 .0 .1 .0) $
-        pass0 ! $ move ! (50 ∷ []) $ tokens-apart ! 7 κs qs $ move ! (57 ∷ []) $ owned-apart ! (typesAt (follow.signature .params) κs) a vss $ move ! (3 ∷ []) $ drop ! $
+        pass0 ! $ move ! (50 ∷ []) $ tokens-apart ! 7 κs qs $ move ! (57 ∷ []) $ owned-apart ! (typesAt (follow.signature .params) κs) a vss $ move !
+        (3 ∷ []) $ drop ! $
         -- the registers and the status of the first answer
         use1 W (raw (RegistersOf 𝓤 H A at-mem run .pre (to-parts 𝓤 H A at-mem run first (EL.val N.the-type N′.the-laws first))))
         (goes-parts 𝓤 H A at-mem run W first (EL.val N.the-type N′.the-laws first)) $
@@ -306,5 +425,6 @@ module _ {M : Type 1} (𝓤 : URA M) (H : Heap 𝓤) (A : Atoms 𝓤) (W : Given
         land ! (from ! (stop !)) (init ! 36 refl (EL.lawful S.the-type S′.the-laws 𝓤 H A W tt .typed x _ is-x .0)) $
         move ! (counting 14 50 ++ counting 2 5 ++ counting 9 5 ++ 7 ∷ 8 ∷ 0 ∷ []) $
         -- the loop
-        first-part ! $ blocks ! $ loops ! 𝓣 Less less-founded (At l₀ l₁ l₂ l₃ l₄ l₅ l₆ l₇ l₈ l₉ l₁₀ l₁₁ l₁₂ l₁₃ l₁₄ l₁₅ l₁₆ l₁₇ l₁₈ l₁₉ l₂₀ l₂₁ l₂₂ l₂₃ l₂₄)
+        first-part ! $ blocks ! $ loops ! 𝓣 Less less-founded
+        (At l₀ l₁ l₂ l₃ l₄ l₅ l₆ l₇ l₈ l₉ l₁₀ l₁₁ l₁₂ l₁₃ l₁₄ l₁₅ l₁₆ l₁₇ l₁₈ l₁₉ l₂₀ l₂₁ l₂₂ l₂₃ l₂₄)
         (turns l₀ l₁ l₂ l₃ l₄ l₅ l₆ l₇ l₈ l₉ l₁₀ l₁₁ l₁₂ l₁₃ l₁₄ l₁₅ l₁₆ l₁₇ l₁₈ l₁₉ l₂₀ l₂₁ l₂₂ l₂₃ l₂₄) (at-start req₃ g u new is x v how is-x))))))
