@@ -293,7 +293,8 @@ fn call(
     ensures { λ r. ⌜ ((bound : ℕ) → length (stream (now (text .entry)) Tokens.naming (s .at)) ≤ bound
         → AgreesBy expressionOutcome
         (CallRead (now (text .entry)) (now (table .entry)) symbols parts s (now (tape .entry)) (now (tape .exit)))
-        (Reading.parseCall (Reading.parseExpression bound (symbolNames (now (text .entry)) (now (table .entry)) symbols))
+        (Reading.parseCall
+        (Reading.parseExpression bound (symbolNames (now (text .entry)) (now (table .entry)) symbols))
         depth (progressAt (now (text .entry)) (now (table .entry)) parts s) (standing (Tokens.sign 60) place (s .at))
         (stream (now (text .entry)) Tokens.naming (s .at))) r) ⌝ }
 {
