@@ -18,7 +18,7 @@ use Rattle.meaning.specs.Packing.{Words, unpackSentences}
 use Rattle.meaning.specs.Leaving.{afterRun}
 use Rattle.meaning.specs.Leaving.{roomOf as roomOfCells}
 use Rattle.run_actions.specs.declared.registers.Registers.{Registers}
-use Rattle.run_actions.specs.declared.registers.Ending.the-variants.{Finished, NoSentenceFits}
+use Rattle.answers.specs.declared.Ending.the-variants.{Finished, NoSentenceFits}
 use Rattle.run_actions.specs.declared.registers.Next.the-variants.{Done, Stopped}
 use Rattle.run_actions.specs.States.{Memory, memory, countsIn, countedIn, ledgerOf, roomOf, Outcomes}
 use Rattle.run_actions.proofs.laws.Frames.{counts-counted}
