@@ -81,15 +81,7 @@ pub const PART_TRUTH: u32 = REGISTERS * REGISTERS;
 
 pub const PART_CLASS: u32 = 2 * PART_TRUTH;
 
-// Classes.
-pub const DIGIT: u32 = 0;
-
-pub const UPPER: u32 = 1;
-
-pub const LOWER: u32 = 2;
-
-pub const ALPHABETIC: u32 = 3;
-
+// The last of the classes, which are counted from 0. `tape_words::wide` names those that a condition's word carries.
 pub const BLANK: u32 = 4;
 
 // Lengths of the field.

@@ -3,8 +3,6 @@ pub const OPERAND: usize = crate::OPERAND as usize;
 
 pub const FIRST: usize = crate::FIRST as usize;
 
-pub const SECOND: usize = crate::SECOND as usize;
-
 pub const THIRD: usize = crate::THIRD as usize;
 
 pub const LOOK: usize = crate::LOOK as usize;
@@ -65,16 +63,6 @@ pub const PART_TRUTH: usize = crate::PART_TRUTH as usize;
 
 pub const PART_CLASS: usize = crate::PART_CLASS as usize;
 
-pub const DIGIT: usize = crate::DIGIT as usize;
-
-pub const UPPER: usize = crate::UPPER as usize;
-
-pub const LOWER: usize = crate::LOWER as usize;
-
-pub const ALPHABETIC: usize = crate::ALPHABETIC as usize;
-
-pub const BLANK: usize = crate::BLANK as usize;
-
 pub const NULL: usize = crate::NULL as usize;
 
 pub const WHOLE: usize = crate::WHOLE as usize;
@@ -88,3 +76,6 @@ pub const PLUS: usize = crate::PLUS as usize;
 pub const MINUS: usize = crate::MINUS as usize;
 
 pub const MAX_STORED: usize = crate::MAX_STORED as usize;
+
+// How many words a sentence has before its tests.
+pub const SENTENCE_HEAD: usize = 2;

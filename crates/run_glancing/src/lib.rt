@@ -22,6 +22,7 @@ use code_numbers::SECOND;
 use code_numbers::SENTENCES_END;
 use code_numbers::THIRD;
 use code_numbers::WHOLE;
+use code_numbers::wide::SENTENCE_HEAD;
 use run_code_places::CodePlace;
 use run_code_places::wide;
 use run_matching::Places;
@@ -39,9 +40,6 @@ const ANY_FIELD: u32 = ENDS;
 const TWO_ACTIONS: u32 = SECOND * 2;
 
 const GO_WHOLE: u32 = GO + FIRST * WHOLE;
-
-// How many words a sentence has before its tests.
-const SENTENCE_HEAD: usize = 2;
 
 // No sentence fits, and no function recovers; the sentence that is chosen passes over its field and ends; or more would
 // have to be looked at.

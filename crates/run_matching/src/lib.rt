@@ -17,13 +17,11 @@ use code_numbers::OPERAND;
 use code_numbers::SECOND;
 use code_numbers::SENTENCES_END;
 use code_numbers::THIRD;
+use code_numbers::wide::SENTENCE_HEAD;
 use run_code_places::CodePlace;
 use run_code_places::wide;
 use run_placing::find_place;
 use run_searching::Found;
-
-// How many words a sentence has before its tests.
-const SENTENCE_HEAD: usize = 2;
 
 // The place of the sentence's middle template, the place of its stores and how many there are; its actions follow them.
 // Nothing names the function that recovers, 0 for none.
