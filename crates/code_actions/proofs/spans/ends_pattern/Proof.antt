@@ -3,12 +3,6 @@ use borrow.Author.Needs.{needs}
 use Rattle.code_actions.proofs.spans.ends_pattern.Statement.{statement}
 use Rattle.code_actions.proofs.spans.ends_pattern.Tie as tie
 
-returns-3 : tie.Need-returns-3
-returns-3 c = cc
-
-returns-4 : tie.Need-returns-4
-returns-4 c = cc
-
 pub ends-pattern-spec : {M : Type 1} → statement M
 ends-pattern-spec =
     tie.close
@@ -18,5 +12,5 @@ ends-pattern-spec =
     (λ c. search needs)
     (λ c. search needs)
     (λ c. search needs)
-    returns-3
-    returns-4)
+    (λ c. cc)
+    (λ c. cc))

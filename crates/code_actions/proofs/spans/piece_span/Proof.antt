@@ -3,18 +3,6 @@ use borrow.Author.Needs.{needs}
 use Rattle.code_actions.proofs.spans.piece_span.Statement.{statement}
 use Rattle.code_actions.proofs.spans.piece_span.Tie as tie
 
-returns : tie.Need-returns
-returns c = cc
-
-returns-2 : tie.Need-returns-2
-returns-2 c = cc
-
-returns-3 : tie.Need-returns-3
-returns-3 c = cc
-
-returns-4 : tie.Need-returns-4
-returns-4 c = cc
-
 pub piece-span-spec : {M : Type 1} → statement M
 piece-span-spec =
     tie.close
@@ -26,9 +14,9 @@ piece-span-spec =
     (λ c κs. search needs)
     (λ c. search needs)
     (λ c κs. search needs)
-    returns
+    (λ c. cc)
     (λ c. search needs)
     (λ c κs. search needs)
-    returns-2
-    returns-3
-    returns-4)
+    (λ c. cc)
+    (λ c. cc)
+    (λ c. cc))

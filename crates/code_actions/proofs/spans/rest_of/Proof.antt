@@ -3,27 +3,6 @@ use borrow.Author.Needs.{needs}
 use Rattle.code_actions.proofs.spans.rest_of.Statement.{statement}
 use Rattle.code_actions.proofs.spans.rest_of.Tie as tie
 
-returns : tie.Need-returns
-returns c = cc
-
-returns-2 : tie.Need-returns-2
-returns-2 c = cc
-
-returns-3 : tie.Need-returns-3
-returns-3 c = cc
-
-returns-4 : tie.Need-returns-4
-returns-4 c = cc
-
-returns-5 : tie.Need-returns-5
-returns-5 c = cc
-
-returns-6 : tie.Need-returns-6
-returns-6 c = cc
-
-returns-7 : tie.Need-returns-7
-returns-7 c = cc
-
 pub rest-of-spec : {M : Type 1} → statement M
 rest-of-spec =
     tie.close
@@ -44,10 +23,10 @@ rest-of-spec =
     (λ c κs. search needs)
     (λ c. search needs)
     (λ c κs. search needs)
-    returns
-    returns-2
-    returns-3
-    returns-4
-    returns-5
-    returns-6
-    returns-7)
+    (λ c. cc)
+    (λ c. cc)
+    (λ c. cc)
+    (λ c. cc)
+    (λ c. cc)
+    (λ c. cc)
+    (λ c. cc))
