@@ -8,6 +8,10 @@ use borrow.Author.Needs.{needs}
 use Rattle.code_sentences.proofs.write_body.Statement.{statement}
 use Rattle.code_sentences.proofs.write_body.Tie as tie
 
+-- where the function began, from where the matching is written
+abbrev entry-of : (c : tie.After-write-matching) → tie.Start
+entry-of c = search
+
 write-matching-requires : tie.Need-write-matching-requires
 write-matching-requires c κs =
     let at-room2 = c .before .before .before in
@@ -27,7 +31,7 @@ slice-aggregate-write-expression c =
 write-expression-requires : tie.Need-write-expression-requires
 write-expression-requires c κs =
     let at-write-matching = c .before .before .before .before .before .before .before in
-    let entry = at-write-matching .before .before .before .before .before .before .before .before .before in
+    let entry = entry-of at-write-matching in
     let pre = entry .pre in
     let m = at-write-matching .write-matching in (
       pre .1,
@@ -40,8 +44,8 @@ write-expression-requires c κs =
 returns : tie.Need-returns
 returns c =
     let at-write-expression = c .before .before in
-    let at-write-matching = at-write-expression .before .before .before .before .before .before .before .before in
-    let entry = at-write-matching .before .before .before .before .before .before .before .before .before in
+    let at-write-matching : tie.After-write-matching = search in
+    let entry = entry-of at-write-matching in
     bodied (entry .pre .0) (at-write-matching .write-matching .ensures) (at-write-expression .write-expression .ensures)
 
 pub write-body-spec : {M : Type 1} → statement M

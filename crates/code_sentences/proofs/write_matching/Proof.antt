@@ -7,6 +7,10 @@ use borrow.Author.Needs.{needs}
 use Rattle.code_sentences.proofs.write_matching.Statement.{statement}
 use Rattle.code_sentences.proofs.write_matching.Tie as tie
 
+-- where the function began, from where the tests are written
+abbrev entry-of : (c : tie.After-write-tests) → tie.Start
+entry-of c = search
+
 -- the templates' lengths that were measured
 short : (c : tie.Start) → total (c .args .m .lengths) ≤ 64
 short c = let w = c .pre .1 .0 .within in omega (arith, w .letters, w .most)
@@ -19,7 +23,7 @@ write-tests-requires c κs =
 write-conditions-requires : tie.Need-write-conditions-requires
 write-conditions-requires c κs =
     let at-write-tests : tie.After-write-tests = search in
-    let entry : tie.Start = search in
+    let entry = entry-of at-write-tests in
     let t = at-write-tests .write-tests .ensures in
     let w = t .within in (
       record {
@@ -35,7 +39,7 @@ write-stores-requires : tie.Need-write-stores-requires
 write-stores-requires c κs =
     let at-write-conditions = c .before .before .before .before in
     let at-write-tests : tie.After-write-tests = search in
-    let entry : tie.Start = search in
+    let entry = entry-of at-write-tests in
     let t = at-write-tests .write-tests .ensures in
     let w = t .within in
     let written = at-write-conditions .write-conditions .ensures .grown in
@@ -52,7 +56,7 @@ returns c =
     let at-write-stores = c .before .before .before in
     let at-write-conditions = at-write-stores .before .before .before .before .before in
     let at-write-tests : tie.After-write-tests = search in
-    let entry = at-write-tests .before .before .before .before .before .before .before .before .before in
+    let entry = entry-of at-write-tests in
     matched (entry .pre .1 .0) (at-write-tests .write-tests .ensures) (at-write-conditions .write-conditions .ensures)
     (at-write-stores .write-stores .ensures)
 

@@ -8,16 +8,19 @@ use Rattle.list_items.proofs.list_condition.Statement.{statement}
 use Rattle.list_items.proofs.list_condition.Tie as tie
 
 put-all-requires : tie.Need-put-all-requires
-put-all-requires c κs = omega (arith, ending-size (c .before .before .before .before .before .before .before .args .state))
+put-all-requires c κs =
+    let entry : tie.Start = search in
+    omega (arith, ending-size (entry .args .state))
 
 put-class-requires : tie.Need-put-class-requires
 put-class-requires c κs =
-    omega (arith, ending-size (c .before .before .before .before .before .before .before .before .before .before .before .args .state))
+    let entry : tie.Start = search in
+    omega (arith, ending-size (entry .args .state))
 
 put-letter-requires : tie.Need-put-letter-requires
 put-letter-requires c κs =
-    let a = c .before .before .before .before .before .before .before .before .before .before .before .before .before .before .before .args in
-    omega (arith, ending-size (a .state), class-size (a .carried % 5))
+    let entry : tie.Start = search in
+    omega (arith, ending-size (entry .args .state), class-size (entry .args .carried % 5))
 
 returns : tie.Need-returns
 returns c =

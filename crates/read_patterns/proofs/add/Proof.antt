@@ -10,12 +10,14 @@ use Rattle.read_bookkeeping.proofs.Refusing.{no-item, no-variable}
 use Rattle.read_patterns.proofs.Adding.{adds}
 
 add-string-requires : tie.Need-add-string-requires
-add-string-requires c κs = asks-string (c .before .before .before .before .before .before .before .before .pre)
-    (c .before .before .before .before .token .given .1)
+add-string-requires c κs =
+    let entry : tie.Start = search in
+    asks-string (entry .pre) (search)
 
 returns : tie.Need-returns
-returns c = adds (string-here (c .before .before .before .before .before .before .before .before .before .before .before .pre .1)
-    (c .before .before .before .before .before .before .before .token .given .1)) (c .before .before .add-string .ensures)
+returns c =
+    let entry : tie.Start = search in
+    adds (string-here (entry .pre .1) (c .before .before .before .before .before .before .before .token .given .1)) (search)
 
 returns-2 : tie.Need-returns-2
 returns-2 c = record {
@@ -28,12 +30,14 @@ returns-2 c = record {
 }
 
 add-symbol-requires : tie.Need-add-symbol-requires
-add-symbol-requires c κs = asks-variable (c .before .before .before .before .before .before .before .before .before .before .pre) false _
-    (c .before .before .before .token2 .given .1)
+add-symbol-requires c κs =
+    let entry : tie.Start = search in
+    asks-variable (entry .pre) false _ (search)
 
 returns-3 : tie.Need-returns-3
-returns-3 c = adds (variable-here (c .before .before .before .before .before .before .before .before .before .before .before .before .before .pre .1)
-    false _ (c .before .before .before .before .before .before .token2 .given .1)) (c .before .before .add-symbol .ensures)
+returns-3 c =
+    let entry : tie.Start = search in
+    adds (variable-here (entry .pre .1) false _ (c .before .before .before .before .before .before .token2 .given .1)) (search)
 
 returns-4 : tie.Need-returns-4
 returns-4 c = record {
@@ -42,12 +46,14 @@ returns-4 c = record {
 }
 
 add-part-requires : tie.Need-add-part-requires
-add-part-requires c κs = asks-variable (c .before .before .before .before .before .before .before .before .before .before .before .pre) true _
-    (c .before .before .before .token3 .given .1)
+add-part-requires c κs =
+    let entry : tie.Start = search in
+    asks-variable (entry .pre) true _ (search)
 
 returns-5 : tie.Need-returns-5
-returns-5 c = adds (variable-here (c .before .before .before .before .before .before .before .before .before .before .before .before .before .before
-    .pre .1) true _ (c .before .before .before .before .before .before .token3 .given .1)) (c .before .before .add-part .ensures)
+returns-5 c =
+    let entry : tie.Start = search in
+    adds (variable-here (entry .pre .1) true _ (c .before .before .before .before .before .before .token3 .given .1)) (search)
 
 pub add-spec : {M : Type 1} → statement M
 add-spec =

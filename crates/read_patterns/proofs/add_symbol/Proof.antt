@@ -20,8 +20,9 @@ symbol-fault-requires c κs =
 
 returns : tie.Need-returns
 returns c =
-    let p = c .before .before .before .before .before .before .before .before .before .before .pre in
-    item-wrong (symbol-faulted (p .0) (p .1)) (c .before .before .symbol-fault .ensures) (c .before .is-accepted .ensures) (c .if1 .taken)
+    let entry : tie.Start = search in
+    item-wrong (symbol-faulted (entry .pre .0) (entry .pre .1))
+    (c .before .before .symbol-fault .ensures) (c .before .is-accepted .ensures) (c .if1 .taken)
 
 remember-requires : tie.Need-remember-requires
 remember-requires c κs =

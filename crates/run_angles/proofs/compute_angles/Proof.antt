@@ -38,17 +38,14 @@ returns-3 c =
 
 returns-4 : tie.Need-returns-4
 returns-4 c =
-    let seven : length (c .before .before .before .before .before .before .before .before .before .before .before .before
-    .before .before .args .result .now) ≡ 7 =
-    search needs
-    in
+    let entry : tie.Start = search in
+    let seven : length (entry .args .result .now) ≡ 7 = search needs in
     let at-if2 = c .before .before in
     let at-value = at-if2 .before .before in
     let at-worked = at-value .before .before in
     let at-angle-in2 = at-worked .before in
     let at-angle-in = at-angle-in2 .before .before in
     let at-place-of = at-angle-in .before .before .before in
-    let entry = at-place-of .before .before in
     given (operation (entry .args .subtract)) (at-place-of .place-of .ensures) (entry .args .result .now)
     (at-angle-in .angle-in .ensures) (at-angle-in2 .angle-in2 .ensures) (at-worked .worked .ensures)
     (at-value .value .given .1) seven (at-if2 .if2 .left) (c .put-angle .ensures)

@@ -34,11 +34,13 @@ put-requires c κs = omega (arith, c .before .before .before .before .before .be
 
 add-lesser : tie.Need-add-lesser
 add-lesser c =
-    let entry = c .before .before .before .before .before .before .before .before .before .before in
+    let entry : tie.Start = search in
     omega (arith, entry .pre .0, entry .pre .1)
 
 sub-lesser : tie.Need-sub-lesser
-sub-lesser c = omega (arith, c .before .before .before .before .before .before .before .before .before .before .pre .3)
+sub-lesser c =
+    let entry : tie.Start = search in
+    omega (arith, entry .pre .3)
 
 sub-write-function : tie.Need-sub-write-function
 sub-write-function c = omega (arith, c .lesser .ensures)
@@ -48,14 +50,14 @@ part-write-function-start c = omega (arith, c .lesser .ensures)
 
 write-function-requires : tie.Need-write-function-requires
 write-function-requires c κs =
-    let at-find-recoverer = c .before .before .before .before .before .before in
-    let entry = at-find-recoverer .before .before .before .before .before .before in
-    (entry .pre .1, omega (arith, name-fits (at-find-recoverer .before)), omega (arith, at-find-recoverer .find-recoverer .ensures, entry .pre))
+    let at-find-recoverer : tie.After-find-recoverer = search in
+    let entry : tie.Start = search in
+    (entry .pre .1, omega (arith, name-fits (search)), omega (arith, at-find-recoverer .find-recoverer .ensures, entry .pre))
 
 add-result : tie.Need-add-result
 add-result c =
     let at-write-function = c .before .before in
-    let entry = at-write-function .before .before .before .before .before .before .before .before .before .before .before .before .before in
+    let entry : tie.Start = search in
     omega (arith, at-write-function .write-function .ensures .grown, entry .pre .4)
 
 returns : tie.Need-returns

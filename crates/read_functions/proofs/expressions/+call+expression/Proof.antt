@@ -95,8 +95,7 @@ module _ (t : ℕ) where
 
   call-returns : call-lts.Need-returns (call-claims t) (call-at t) call.Post
   call-returns c =
-      let a = c .before .before .before .before .before .before .before .before .before .before .args in
-      λ bound h. call-unopened (a .text .now) (a .table .now) (a .symbols) (a .parts) bound (a .depth) (a .s) (a .place)
+      λ bound h. call-unopened _ _ _ _ bound _ _ _
       (c .before .before .before .before .before .open-call .ensures) (c .before .fault .given .1)
 
   call-add-expression : call-lts.Need-add-expression (call-claims t) (call-at t) call.Post
@@ -105,9 +104,7 @@ module _ (t : ℕ) where
   call-expression-requires : call-lts.Need-expression-requires (call-claims t) (call-at t) call.Post
   call-expression-requires c κs =
       let o = opened-here (c .before .before) in
-      let pre = c .before .before .before .before .before .before .before .before .before .before .before .pre in
-      let m = pre .0 in
-      (omega (arith, o .read .how .shallow, o .read .how .went .onward, o .read .how .went .inside), argument-going o (pre .1 .0))
+      (omega (arith, o .read .how .shallow, o .read .how .went .onward, o .read .how .went .inside), argument-going o (search))
 
   call-close-call-requires : call-lts.Need-close-call-requires (call-claims t) (call-at t) call.Post
   call-close-call-requires c κs =
@@ -162,17 +159,16 @@ module _ (t : ℕ) where
   long c = went-length (c .before .loop .inv .behind _ (le-refl _) .went)
 
   expression-same-length : expression-lts.Need-same-length (expression-claims t) (expression-at t) expression.Post Inv-loop μ-loop
-  expression-same-length c = omega (arith, long (c .before .before .before .before .before .before .before .before))
+  expression-same-length c = omega (arith, long (search))
 
   expression-same-length-2 : expression-lts.Need-same-length-2 (expression-claims t) (expression-at t) expression.Post Inv-loop μ-loop
-  expression-same-length-2 c = omega (arith, long (c .before .before .before .before .before .before .before))
+  expression-same-length-2 c = omega (arith, long (search))
 
   expression-same-length-3 : expression-lts.Need-same-length-3 (expression-claims t) (expression-at t) expression.Post Inv-loop μ-loop
-  expression-same-length-3 c = omega (arith, long (c .before .before .before .before .before .before .before .before))
+  expression-same-length-3 c = omega (arith, long (search))
 
   expression-same-length-4 : expression-lts.Need-same-length-4 (expression-claims t) (expression-at t) expression.Post Inv-loop μ-loop
-  expression-same-length-4 c =
-      omega (arith, long (c .before .before .before .before .before .before .before .before .before .before .before .before .before .before .before))
+  expression-same-length-4 c = omega (arith, long (search))
 
   expression-loop-holds : expression-lts.Need-loop-holds (expression-claims t) (expression-at t) expression.Post Inv-loop μ-loop
   expression-loop-holds c = expression-starts _ _ _ _ _ _ _ (c .before .before .before .pre .1)
@@ -204,7 +200,6 @@ module _ (t : ℕ) where
   expression-call-requires : expression-lts.Need-call-requires (expression-claims t) (expression-at t) expression.Post Inv-loop μ-loop
   expression-call-requires c κs =
       let q = call-here (c .before) in
-      let m = c .before .before .before .before .before .before .before .before .before .before .before .before .before .before .pre .0 in
       (omega (arith, call-onward q), call-ready q)
 
   expression-returns-4 : expression-lts.Need-returns-4 (expression-claims t) (expression-at t) expression.Post Inv-loop μ-loop

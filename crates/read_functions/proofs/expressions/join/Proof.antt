@@ -10,11 +10,14 @@ use Rattle.read_bookkeeping.proofs.Refusing.{no-item, no-variable}
 use Rattle.read_functions.proofs.Joining.{joins}
 
 join-string-requires : tie.Need-join-string-requires
-join-string-requires c κs = asks-string (c .before .before .before .before .before .before .before .pre) (c .before .before .token .given .1)
+join-string-requires c κs =
+    let entry : tie.Start = search in
+    asks-string (entry .pre) (search)
 
 returns : tie.Need-returns
-returns c = joins (string-here (c .before .before .before .before .before .before .before .before .before .before .pre .1)
-    (c .before .before .before .before .before .token .given .1)) (c .before .before .join-string .ensures)
+returns c =
+    let entry : tie.Start = search in
+    joins (string-here (entry .pre .1) (c .before .before .before .before .before .token .given .1)) (search)
 
 returns-2 : tie.Need-returns-2
 returns-2 c = record {
@@ -26,12 +29,14 @@ returns-2 c = record {
 }
 
 join-symbol-requires : tie.Need-join-symbol-requires
-join-symbol-requires c κs = asks-variable (c .before .before .before .before .before .before .before .before .before .before .pre) false _
-    (c .before .before .token2 .given .1)
+join-symbol-requires c κs =
+    let entry : tie.Start = search in
+    asks-variable (entry .pre) false _ (search)
 
 returns-3 : tie.Need-returns-3
-returns-3 c = joins (variable-here (c .before .before .before .before .before .before .before .before .before .before .before .before .before .pre .1)
-    false _ (c .before .before .before .before .before .token2 .given .1)) (c .before .before .join-symbol .ensures)
+returns-3 c =
+    let entry : tie.Start = search in
+    joins (variable-here (entry .pre .1) false _ (c .before .before .before .before .before .token2 .given .1)) (search)
 
 returns-4 : tie.Need-returns-4
 returns-4 c = record {
@@ -40,12 +45,14 @@ returns-4 c = record {
 }
 
 join-part-requires : tie.Need-join-part-requires
-join-part-requires c κs = asks-variable (c .before .before .before .before .before .before .before .before .before .before .before .pre) true _
-    (c .before .before .token3 .given .1)
+join-part-requires c κs =
+    let entry : tie.Start = search in
+    asks-variable (entry .pre) true _ (search)
 
 returns-5 : tie.Need-returns-5
-returns-5 c = joins (variable-here (c .before .before .before .before .before .before .before .before .before .before .before .before .before .before
-    .pre .1) true _ (c .before .before .before .before .before .token3 .given .1)) (c .before .before .join-part .ensures)
+returns-5 c =
+    let entry : tie.Start = search in
+    joins (variable-here (entry .pre .1) true _ (c .before .before .before .before .before .token3 .given .1)) (search)
 
 pub join-spec : {M : Type 1} → statement M
 join-spec =

@@ -7,7 +7,8 @@ use Rattle.read_bookkeeping.proofs.Items.{identifier-inside}
 use Rattle.read_functions.proofs.Joining.{Sought, variable-many, part-long, coming-entries, part-unknown, part-joined}
 
 sought-here : (c : tie.After-find)
-    → let a = c .before .before .before .before .before .before .before .before .before .args in
+    → let at-if1 = c .before .before .before .before in
+    let a = at-if1 .before .before .before .before .before .args in
     Sought (a .text .now) (a .table .now) (a .symbols) (a .parts) (a .s) (a .x) (c .find .result)
 sought-here c =
     let at-if2 = c .before .before in

@@ -57,7 +57,7 @@ put-call-requires : tie.Need-put-call-requires
 put-call-requires c κs = name-room (sound-here (c .before))
 
 add-t22 : tie.Need-add-t22
-add-t22 c = let few = call-here (c .before .before .before .before .before .before .before .before .before .before .before) .few in omega arith
+add-t22 c = let few = call-here (search) .few in omega arith
 
 returns-4 : tie.Need-returns-4
 returns-4 c = call-opens (sound-here (c .before .before .before .before .before)) (c .before .before .before .put-call .ensures)

@@ -41,13 +41,11 @@ returns-2 c =
     conditions-stop (pattern-here (at-conditions .before .before .before .before)) (at-conditions .conditions .ensures) (c .before .fault2 .given .1)
 
 slice-aggregate-sentence-end : tie.Need-slice-aggregate-sentence-end
-slice-aggregate-sentence-end c =
-    sym (pattern-variables (pattern-here (c .before .before .before .before .before .before .before .before .before .before .before)) .long)
+slice-aggregate-sentence-end c = sym (pattern-variables (pattern-here (search)) .long)
 
 sentence-end-requires : tie.Need-sentence-end-requires
 sentence-end-requires c κs =
-    let at-c = c .before .before .before in
-    (pattern-variables (pattern-here (at-c .before .before .before .before .before .before .before .before)), conditions-ready (conditions-here at-c))
+    (pattern-variables (pattern-here (search)), conditions-ready (conditions-here (search)))
 
 returns-3 : tie.Need-returns-3
 returns-3 c = sentence-reads (conditions-here (c .before .before .before .before .before .before)) (c .before .before .sentence-end .ensures)

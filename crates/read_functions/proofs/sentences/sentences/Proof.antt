@@ -40,14 +40,13 @@ long : (c : tie.At-loop Inv-loop μ-loop) → length (c .loop .tape) ≡ length 
 long c = went-length (c .loop .inv .went)
 
 same-length : tie.Need-same-length Inv-loop μ-loop
-same-length c = omega (arith, long (c .before .before .before .before .before .before .before))
+same-length c = omega (arith, long (search))
 
 same-length-2 : tie.Need-same-length-2 Inv-loop μ-loop
-same-length-2 c = omega
-    (arith, long (c .before .before .before .before .before .before .before .before .before .before .before .before .before .before .before .before))
+same-length-2 c = omega (arith, long (search))
 
 same-length-3 : tie.Need-same-length-3 Inv-loop μ-loop
-same-length-3 c = omega (arith, long (c .before .before .before .before .before .before .before .before .before .before .before .before))
+same-length-3 c = omega (arith, long (search))
 
 returns : tie.Need-returns Inv-loop μ-loop
 returns c =
@@ -64,14 +63,14 @@ after-sentence-requires : tie.Need-after-sentence-requires Inv-loop μ-loop
 after-sentence-requires c κs = sequel-ready (read-here (c .before .before)) .inside
 
 returns-2 : tie.Need-returns-2 Inv-loop μ-loop
-returns-2 c = sequel-ends (sequel-here (c .before .before .before .before .before .before .before))
+returns-2 c = sequel-ends (sequel-here (search))
     (c .before .before .before .before .before .past .given .1) (c .before .before .put .ensures)
 
 loop-less : tie.Need-loop-less Inv-loop μ-loop
-loop-less c = let r = some-left (read-here (c .before .before .before .before .before .before .before .before .before .before)) in omega arith
+loop-less c = let r = some-left (read-here (search)) in omega arith
 
 loop-again : tie.Need-loop-again Inv-loop μ-loop
-loop-again c = sequel-goes (sequel-here (c .before .before .before .before .before .before .before))
+loop-again c = sequel-goes (sequel-here (search))
     (c .before .before .before .before .before .place .given .1) (c .before .before .put2 .ensures)
 
 returns-3 : tie.Need-returns-3 Inv-loop μ-loop
