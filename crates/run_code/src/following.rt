@@ -160,7 +160,9 @@ fn follow_all(
     )
 }
 
-// The run goes on in a room for all frames, which begins as the one that was lent; the counts come back.
+// The run goes on in a room for all frames, which begins as the one that was lent; the counts come back. No run needs
+// more than all, so the function never calls itself; but since it might, the compiler puts its room into no other
+// function, and only a run that goes so deep has it on its stack.
 fn follow_deeper(
     g: Registers,
     bits: &[u8; 256],
@@ -187,7 +189,7 @@ fn follow_deeper(
     copy_words(frames, frames.len(), &mut words);
     let mut stored = all_values();
     copy_over(&mut stored, 0, values);
-    let last = follow(
+    let next = follow(
         Next::Onward(g),
         bits,
         code,
@@ -197,6 +199,21 @@ fn follow_deeper(
         record,
         &mut words,
         &mut stored,
+    );
+    let Next::Deeper(h) = next else {
+        copy_words(&words, COUNTED, frames);
+        return next;
+    };
+    let last = follow_deeper(
+        h,
+        bits,
+        code,
+        allowance,
+        input,
+        output,
+        record,
+        &mut words,
+        &stored,
     );
     copy_words(&words, COUNTED, frames);
     last

@@ -42,6 +42,11 @@ has-ended allowance (Stopped g ending function) n sized over invariant = tt
 has-ended allowance (Deeper g) n sized over invariant =
     not-all (g .frame) (ltb (suc (g .frame)) maxFrames) (n .frames) sized refl (invariant .crowded)
 
+-- and so none goes on deeper where all frames are there
+pub never-deeper : (allowance : ℕ) {last : Next} {g : Registers} (n : Memory) → last ≡ Deeper g → length (n .frames) ≡ wordsFor maxFrames →
+    NextInvariant allowance last n → ⊥
+never-deeper allowance {last} {g} n e sized invariant = has-ended allowance (Deeper g) n sized tt (rw e at invariant)
+
 -- nor does one that goes on nowhere else
 pub ended-tagged : (last : Next) → (tagOf next-declared.the-type last ≡ 0) ⊎
     ((tagOf next-declared.the-type last ≡ 1) ⊎ (tagOf next-declared.the-type last ≡ 2)) →
