@@ -18,6 +18,8 @@ use run_narrowing::Sifted;
 use run_narrowing::sift;
 use run_searching::Found;
 use run_searching::find_among;
+use run_searching::looks_once;
+use run_searching::scan;
 use run_searching::search;
 
 // Room for the tests that are kept: a pattern has at most 64 characters and s-variables, and 8 conditions.
@@ -176,7 +178,7 @@ fn pass_heads(code: &[u32], tests: CodePlace, count: usize, field: &[u8]) -> Hea
     }
 }
 
-// The same search, with the sentence's head first.
+// The same search, with the sentence's head first. A single Look from the middle template's place is scanned for.
 pub fn find_place(
     bits: &[u8; 256],
     code: &[u32],
@@ -194,6 +196,10 @@ pub fn find_place(
 {
     if places == 0 {
         return Found::Nowhere;
+    }
+    if looks_once(code, tests, count) {
+        let at = tests.0;
+        return scan(field, code[at], first, places);
     }
     let Heads::Passed { at: rest, left } = pass_heads(code, tests, count, field) else {
         return Found::Nowhere;

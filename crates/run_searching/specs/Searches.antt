@@ -1,12 +1,14 @@
 -- What a search finds, in the terms of meaning's Matching, and the tests that look for a string.
-use Prim.Native.Nat.{ℕ, suc, _≤_}
+use Prim.Native.Nat.{ℕ, suc, _≤_, _<_, _%_}
 use mathlib.Core.Path.{_≡_}
+use mathlib.Core.Bool.{Bool, true, false}
 use mathlib.Core.List.{List, [], _∷_}
-use lib.ListN.{take}
+use lib.ListN.{length, take, getD}
 use Rattle.meaning.specs.Choice.{Bytes}
 use Rattle.meaning.specs.Instructions.{fromPlace, Test, look}
 use Rattle.meaning.specs.Matching.{foundAt, foundNone, foundWrong}
 use Rattle.meaning.specs.Matching.{Found as Finding}
+use Rattle.meaning.specs.Packing.{Words}
 use Rattle.run_finding.specs.declared.Occurrence.{Occurrence}
 use Rattle.run_finding.specs.declared.Occurrence.the-variants.{At as Standing, Nowhere as NotThere, Unsuited}
 use Rattle.run_searching.specs.declared.Found.{Found}
@@ -18,6 +20,18 @@ abbrev pub foundMeant : Found → Finding
 foundMeant (At at) = foundAt at
 foundMeant Nowhere = foundNone
 foundMeant Wrong = foundWrong
+
+-- ONE LOOK
+
+-- the only test is a Look from the middle template's place
+pub record OneLook (words : Words) (at count : ℕ) : Type 0 where
+  pub one : count ≡ 1
+  pub there : at < length words
+  pub look : getD words at 0 % 65536 ≡ 513
+
+abbrev pub LooksOnce : Bool → Words → ℕ → ℕ → Type 0
+LooksOnce true words at count = OneLook words at count
+LooksOnce false words at count = Unit {0}
 
 -- A STRING
 

@@ -8,7 +8,7 @@ ghost use Rattle.meaning.specs.Matching.{checkAll};
 ghost use Rattle.meaning.specs.Matching.{check as tested, search as searched};
 ghost use Rattle.meaning.specs.Packing.{secondIn, thirdIn, unpackTests};
 ghost use Rattle.byte_classes.specs.Tests.{Answers};
-ghost use Rattle.run_searching.specs.Searches.{foundMeant, Spells, Occurs};
+ghost use Rattle.run_searching.specs.Searches.{foundMeant, LooksOnce, Spells, Occurs};
 use code_numbers::LOOK_FROM_PLACE;
 use code_numbers::OPERAND;
 use code_numbers::SECOND;
@@ -68,8 +68,26 @@ pub fn search(
     Found::Nowhere
 }
 
+// Whether a Look from the middle template's place is the only test, the commonest that a middle template has.
+pub fn looks_once(code: &[u32], tests: CodePlace, count: usize) -> bool
+    ensures { λ r. ⌜ LooksOnce r (now (code .entry)) (tests .0) count ⌝ }
+{
+    let at = tests.0;
+    if count != 1 {
+        return false;
+    }
+    if code.len() <= at {
+        return false;
+    }
+    let word = code[at];
+    if word % SECOND != LOOK_FROM_PLACE {
+        return false;
+    }
+    true
+}
+
 // The leftmost of so many places so far before a byte: a Look from the middle template's place is the only test.
-fn scan(field: &[u8], word: u32, first: usize, places: usize) -> Found
+pub fn scan(field: &[u8], word: u32, first: usize, places: usize) -> Found
     requires { ⌜ first + places ≤ length (now field) + 256 ⌝ }
     ensures { λ r. ⌜ foundMeant r ≡
         searched (tested (looking (fromPlace (secondIn word)) (thirdIn word)) (now (field .entry))) places first ⌝ }
@@ -173,14 +191,9 @@ pub fn find_among(
         searched (checkAll (unpackTests count (drop (tests .0) (now (code .entry)))) (now (field .entry)))
         places first ⌝ }
 {
-    let at = tests.0;
-    if count == 1 {
-        if at < code.len() {
-            let word = code[at];
-            if word % SECOND == LOOK_FROM_PLACE {
-                return scan(field, word, first, places);
-            }
-        }
+    if looks_once(code, tests, count) {
+        let at = tests.0;
+        return scan(field, code[at], first, places);
     }
     match find_string(code, tests, count, field, first, places) {
         Occurrence::At(place) => Found::At(place),

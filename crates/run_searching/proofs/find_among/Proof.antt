@@ -1,20 +1,21 @@
 -- `find_among` meets its contract.
 use borrow.Author.Needs.{needs}
-use Rattle.run_checking.proofs.laws.Cells.{look-from}
-use Rattle.run_searching.proofs.laws.Places.{search-agree}
-use Rattle.run_checking.proofs.laws.Testing.{one-test}
+use native.Mathlib.Omega.{arith}
+use Rattle.run_searching.specs.Searches.{OneLook}
+use Rattle.run_searching.proofs.laws.Scanning.{scanned}
 use Rattle.run_searching.proofs.find_among.Statement.{statement}
 use Rattle.run_searching.proofs.find_among.Tie as tie
 
+once : (c : tie.Then1) → let a = c .before .before .before .before .args in OneLook (a .code .now) (a .tests .0) (a .count)
+once c = rw (c .if1 .taken) at (c .before .looks-once .ensures)
+
+mul-scan : tie.Need-mul-scan
+mul-scan c = omega (arith, once c .there)
+
 returns : tie.Need-returns
 returns c =
-    let a = c .before .before .before .before .before .before .before .args in
-    let one = one-test (a .field .now) (a .code .now) (a .tests .0) (c .before .before .before .if2 .taken) in
-    rw (
-      c .before .before .before .before .if1 .taken,
-      search-agree _ _ (a .places) (a .first) (λ p h h′. one p),
-      look-from _ 2 (c .before .if3 .taken),
-    ) (c .scan .ensures)
+    let a = c .before .before .before .before .before .before .args in
+    scanned (a .field .now) (a .code .now) (a .tests .0) (a .count) (a .places) (a .first) _ (once (c .before .before)) (c .scan .ensures)
 
 returns-2 : tie.Need-returns-2
 returns-2 c = rw (c .before .place .given .1) at (c .before .before .before .find-string .ensures)
@@ -26,8 +27,9 @@ pub find-among-spec : {M : Type 1} → statement M
 find-among-spec =
     tie.close
     (tie.spec
-    (λ c. search needs)
-    (λ c. search needs)
+    (λ c κs. search needs)
+    mul-scan
+    (λ c. search (needs, once (c .before) .there))
     (λ c κs. search needs)
     returns
     (λ c κs. search needs)
