@@ -8,7 +8,7 @@ use Rattle.meaning.specs.Choice.{Bytes}
 use Rattle.meaning.specs.Instructions.{fromPlace, Test, look}
 use Rattle.meaning.specs.Matching.{foundAt, foundNone, foundWrong}
 use Rattle.meaning.specs.Matching.{Found as Finding}
-use Rattle.meaning.specs.Packing.{Words}
+use Rattle.meaning.specs.Packing.{Words, codeWord, lookNumber, fromPlaceNumber}
 use Rattle.run_finding.specs.declared.Occurrence.{Occurrence}
 use Rattle.run_finding.specs.declared.Occurrence.the-variants.{At as Standing, Nowhere as NotThere, Unsuited}
 use Rattle.run_searching.specs.declared.Found.{Found}
@@ -23,11 +23,11 @@ foundMeant Wrong = foundWrong
 
 -- ONE LOOK
 
--- the only test is a Look from the middle template's place
+-- the only test is a Look from the middle template's place, by the number and the first operand of its word
 pub record OneLook (words : Words) (at count : ℕ) : Type 0 where
   pub one : count ≡ 1
   pub there : at < length words
-  pub look : getD words at 0 % 65536 ≡ 513
+  pub look : getD words at 0 % codeWord 0 0 1 0 ≡ codeWord lookNumber fromPlaceNumber 0 0
 
 abbrev pub LooksOnce : Bool → Words → ℕ → ℕ → Type 0
 LooksOnce true words at count = OneLook words at count
