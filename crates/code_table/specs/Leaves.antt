@@ -16,7 +16,7 @@ use Rattle.code_sentences.specs.Trees.{treeOf}
 abbrev pub codeOf : List ℕ → List ℕ
 codeOf ws = pack (translate (treeOf ws))
 
-pub record Leaves (words : List ℕ) (room : ℕ) (r : Translated) (after : List ℕ) : Type 0 where
+pub record LeavesCode (words : List ℕ) (room : ℕ) (r : Translated) (after : List ℕ) : Type 0 where
   pub fits : r .fits ≡ leb (length words) room
   pub count : r .words ≡ pick (leb (length words) room) (length words) 0
   pub cells : after ≡ pick (leb (length words) room) (padded words room) (zeros room)

@@ -6,7 +6,7 @@ use functions::write_table;
 use tape_words::limits::MAX_TABLE;
 use tape_words::tape::lesser;
 ghost use lib.ListN.{length, take};
-ghost use Rattle.code_table.specs.Leaves.{codeOf, Leaves};
+ghost use Rattle.code_table.specs.Leaves.{codeOf, LeavesCode};
 
 // Whether the lent code holds all the words (if not, the answer is 17), and how many they are.
 pub struct Translated {
@@ -16,8 +16,8 @@ pub struct Translated {
 
 // The code of so many words of a tape. Words after it are zero, and where it doesn't fit all are.
 pub fn translate(tape: &[u32; MAX_TABLE], words: usize, code: &mut [u32]) -> Translated
-    ensures { λ r. ⌜ Leaves (codeOf (take words (now (tape .entry)))) (length (now (code .entry))) r (now (code .exit))
-        ⌝ }
+    ensures { λ r. ⌜ LeavesCode (codeOf (take words (now (tape .entry)))) (length (now (code .entry))) r
+        (now (code .exit)) ⌝ }
 {
     clear_from(code, 0); // words after the code are zero
     let count = lesser(words, MAX_TABLE);

@@ -24,10 +24,10 @@ use Rattle.read_table.specs.Reads.{Reads}
 use Rattle.list_strings.specs.declared.State.the-variants.{Start}
 use Rattle.list_table.specs.declared.Listed.{Listed}
 use Rattle.list_table.specs.Words.{listFrom}
-use Rattle.list_table.specs.Leaves.{Leaves as Lists}
+use Rattle.list_table.specs.Leaves.{LeavesListing}
 use Rattle.list_table.proofs.Lists.{tape-listed}
 use Rattle.code_table.specs.declared.Translated.{Translated}
-use Rattle.code_table.specs.Leaves.{codeOf, Leaves as Translates}
+use Rattle.code_table.specs.Leaves.{codeOf, LeavesCode}
 use Rattle.code_table.proofs.Translates.{tape-translated}
 use Rattle.engine_tables.specs.Told.{bufferAnswer}
 use Rattle.engine_tables.proofs.Known.{AreBytes, Known, read-known}
@@ -72,7 +72,7 @@ module _ {text : Bytes} {r : Reading} {words : List ℕ} (reads : Reads text r w
 
   -- its tape is empty, so that all zeros are left
   pub refused-translated : (number ≡ 0 → ⊥) → {room : ℕ} {after : List ℕ} {l : Translated}
-      → Translates (codeOf (take (r .words) words)) room l after → written (answered number (r .place) 0) after ≡ translated (read text) room
+      → LeavesCode (codeOf (take (r .words) words)) room l after → written (answered number (r .place) 0) after ≡ translated (read text) room
   refused-translated ne {room = room} l =
       let is = refused-read (read text) answers ne in
       let empty = rw is at (reads .tape) in
@@ -82,7 +82,8 @@ module _ {text : Bytes} {r : Reading} {words : List ℕ} (reads : Reads text r w
   -- AN ACCEPTED TABLE
 
   pub accepted-listed : AreBytes text → number ≡ 0 → {lent after : Bytes} {l : Listed}
-      → Lists (listFrom Start (take (r .words) words)) lent l after → written (bufferAnswer (l .fits) (l .length)) after ≡ listed (read text) lent
+      → LeavesListing (listFrom Start (take (r .words) words)) lent l after
+      → written (bufferAnswer (l .fits) (l .length)) after ≡ listed (read text) lent
   accepted-listed bytes z {lent = lent} l =
       let (t, is, known) = accepted-read (read text) (read-known text bytes) answers z in
       let leaves = rw (rw is at (reads .tape), tape-listed t known) at l in
@@ -91,7 +92,7 @@ module _ {text : Bytes} {r : Reading} {words : List ℕ} (reads : Reads text r w
       (leaves .cells))
 
   pub accepted-translated : AreBytes text → number ≡ 0 → {room : ℕ} {after : List ℕ} {l : Translated}
-      → Translates (codeOf (take (r .words) words)) room l after → written (bufferAnswer (l .fits) (l .words)) after ≡ translated (read text) room
+      → LeavesCode (codeOf (take (r .words) words)) room l after → written (bufferAnswer (l .fits) (l .words)) after ≡ translated (read text) room
   accepted-translated bytes z {room = room} l =
       let (t, is, known) = accepted-read (read text) (read-known text bytes) answers z in
       let code = pack (translate t) in

@@ -17,7 +17,7 @@ ghost use mathlib.Core.Path.{_≡_};
 ghost use Prim.Native.Nat.{_+_, _<_};
 ghost use lib.ListN.{length};
 ghost use Rattle.byte_writing.specs.Put.{Put, farthest};
-ghost use Rattle.list_strings.specs.Steps.{Wrote};
+ghost use Rattle.list_strings.specs.Steps.{WroteStep};
 ghost use Rattle.list_items.specs.Steps.{ending, separator, classText, letterText, truthText, conditionStep};
 ghost use Rattle.list_items.specs.Steps.{partedStep, endedStep};
 
@@ -44,7 +44,7 @@ fn put_parting(state: State, out: &mut [u8], at: usize) -> usize
 // A byte after the blank between items.
 pub fn list_parted(state: State, byte: u8, after: State, out: &mut [u8], at: usize) -> Stepped
     requires { ⌜ at + 2 < farthest ⌝ }
-    ensures { λ r. ⌜ Wrote at (now (out .entry)) (partedStep state byte after) r (now (out .exit)) ⌝ }
+    ensures { λ r. ⌜ WroteStep at (now (out .entry)) (partedStep state byte after) r (now (out .exit)) ⌝ }
 {
     let parted = put_parting(state, out, at);
     let next = put(out, parted, byte);
@@ -57,7 +57,7 @@ pub fn list_parted(state: State, byte: u8, after: State, out: &mut [u8], at: usi
 // Bytes right after an item.
 pub fn list_ended(state: State, text: &[u8], after: State, out: &mut [u8], at: usize) -> Stepped
     requires { ⌜ at + length (now text) + 1 < farthest ⌝ }
-    ensures { λ r. ⌜ Wrote at (now (out .entry)) (endedStep state (now (text .entry)) after) r (now (out .exit)) ⌝ }
+    ensures { λ r. ⌜ WroteStep at (now (out .entry)) (endedStep state (now (text .entry)) after) r (now (out .exit)) ⌝ }
 {
     let ended = put_ending(state, out, at);
     let next = put_all(out, ended, text);
@@ -107,7 +107,7 @@ fn put_letter(bit: usize, out: &mut [u8], at: usize) -> usize
 // A condition up to its variable's identifier.
 pub fn list_condition(state: State, carried: usize, out: &mut [u8], at: usize) -> Stepped
     requires { ⌜ at + 20 < farthest ⌝ }
-    ensures { λ r. ⌜ Wrote at (now (out .entry)) (conditionStep state carried) r (now (out .exit)) ⌝ }
+    ensures { λ r. ⌜ WroteStep at (now (out .entry)) (conditionStep state carried) r (now (out .exit)) ⌝ }
 {
     let ended = put_ending(state, out, at);
     let opened = put_all(out, ended, b", <");

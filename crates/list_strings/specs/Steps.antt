@@ -59,6 +59,6 @@ abbrev pub characterStep : State → ℕ → Step
 characterStep s c = step (quoting s ++ characterText (quotedIn s) c) (pick (isCoded (quotedIn s) c) AfterCode InString)
 
 -- what a step leaves, given the place, the buffer before and after, and what is handed back
-pub record Wrote (at : ℕ) (old : List ℕ) (s : Step) (r : Stepped) (new : List ℕ) : Type 0 where
+pub record WroteStep (at : ℕ) (old : List ℕ) (s : Step) (r : Stepped) (new : List ℕ) : Type 0 where
   pub state : r .state ≡ s .state
   pub put : Put at old (s .bytes) (r .at) new

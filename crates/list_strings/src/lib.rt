@@ -6,7 +6,7 @@ ghost use mathlib.Core.Path.{_≡_};
 ghost use Prim.Native.Nat.{_+_, _<_};
 ghost use Rattle.meaning.specs.Listing.{isAfterCode, isCoded, isEscaped, characterText};
 ghost use Rattle.byte_writing.specs.Put.{Put, farthest};
-ghost use Rattle.list_strings.specs.Steps.{quotedIn, isQuoted, isStart, gap, quoting, characterStep, Wrote};
+ghost use Rattle.list_strings.specs.Steps.{quotedIn, isQuoted, isStart, gap, quoting, characterStep, WroteStep};
 
 // How the listing stands between two words of the tape: at the beginning of a line; after an item; inside a string; in
 // one right after a code; or with so many bytes of a name to copy: a variable's or a call's, a condition's variable
@@ -154,7 +154,7 @@ fn put_character(state: State, character: u8, out: &mut [u8], at: usize) -> usiz
 // A character, in a string of its own or joined to the one before it.
 pub fn list_character(state: State, character: u8, out: &mut [u8], at: usize) -> Stepped
     requires { ⌜ at + 5 < farthest ⌝ }
-    ensures { λ r. ⌜ Wrote at (now (out .entry)) (characterStep state character) r (now (out .exit)) ⌝ }
+    ensures { λ r. ⌜ WroteStep at (now (out .entry)) (characterStep state character) r (now (out .exit)) ⌝ }
 {
     let opened = put_quoting(state, out, at);
     let next = put_character(state, character, out, opened);

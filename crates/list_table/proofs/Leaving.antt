@@ -11,10 +11,10 @@ use lib.Seq.{sets-eq}
 use Rattle.meaning.specs.Choice.{Bytes}
 use Rattle.byte_writing.specs.Put.{Put}
 use Rattle.list_table.specs.Words.{mostWords}
-use Rattle.list_table.specs.Leaves.{holds, Leaves}
+use Rattle.list_table.specs.Leaves.{holds, LeavesListing}
 
 pub leaves-listing : {listing lent after : Bytes} {size next : ℕ} → size ≡ length listing → size ≤ length lent → Put 0 lent listing next after →
-    Leaves listing lent (record { fits = true; length = size }) after
+    LeavesListing listing lent (record { fits = true; length = size }) after
 leaves-listing {listing} {lent} e h p =
     let fits : holds listing lent ≡ true = le-leb (length listing) (length lent) (omega arith) in
     record {
@@ -24,7 +24,7 @@ leaves-listing {listing} {lent} e h p =
     }
 
 pub leaves-nothing : {listing lent : Bytes} {size : ℕ} → size ≡ length listing → length lent < size →
-    Leaves listing lent (record { fits = false; length = 0 }) lent
+    LeavesListing listing lent (record { fits = false; length = 0 }) lent
 leaves-nothing {listing} {lent} e h =
     let short : holds listing lent ≡ false = lt-leb (length listing) (length lent) (omega arith) in
     record { fits = sym short; size = rw short; cells = rw short }

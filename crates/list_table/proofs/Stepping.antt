@@ -14,7 +14,7 @@ use Rattle.list_strings.specs.declared.State.{State}
 use Rattle.list_strings.specs.declared.State.the-variants.{Start, Plain, InString, AfterCode, Name, Condition, Header}
 use Rattle.list_strings.specs.declared.Stepped.{Stepped}
 use Rattle.byte_writing.specs.Put.{Put}
-use Rattle.list_strings.specs.Steps.{Wrote}
+use Rattle.list_strings.specs.Steps.{WroteStep}
 use Rattle.list_items.specs.Steps.{partedStep}
 use Rattle.list_table.specs.Words.{kindStep, itemStep, wordStep, listFrom}
 use Rattle.byte_writing.proofs.Writing.{put-none, put-then, put-length}
@@ -66,7 +66,7 @@ pub lists-none : {out₀ words : List ℕ} → Lists out₀ words out₀ 0 0 Sta
 lists-none = record { low = omega arith; same = refl; rest = λ p. p }
 
 pub lists-word : {out₀ words out : List ℕ} {i at : ℕ} {s : State} {r : Stepped} {out₁ : List ℕ} → Lists out₀ words out i at s → i < length words →
-    Wrote at out (wordStep s (getD words i 0)) r out₁ → Lists out₀ words out₁ (i + 1) (r .at) (r .state)
+    WroteStep at out (wordStep s (getD words i 0)) r out₁ → Lists out₀ words out₁ (i + 1) (r .at) (r .state)
 unfolding listFrom
 lists-word {words = words} {i = i} {s = s} l h w =
     record {

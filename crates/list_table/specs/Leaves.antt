@@ -12,7 +12,7 @@ use Rattle.list_table.specs.declared.Listed.{Listed}
 abbrev pub holds : Bytes → Bytes → Bool
 holds listing lent = leb (length listing) (length lent)
 
-pub record Leaves (listing lent : Bytes) (r : Listed) (after : Bytes) : Type 0 where
+pub record LeavesListing (listing lent : Bytes) (r : Listed) (after : Bytes) : Type 0 where
   pub fits : r .fits ≡ holds listing lent
   pub size : r .length ≡ pick (holds listing lent) (length listing) 0
   pub cells : after ≡ pick (holds listing lent) (over listing lent) lent

@@ -9,7 +9,7 @@ ghost use mathlib.Core.Path.{_≡_};
 ghost use Prim.Native.Nat.{min};
 ghost use lib.ListN.{take};
 ghost use Rattle.list_table.specs.Words.{mostWords, listFrom};
-ghost use Rattle.list_table.specs.Leaves.{Leaves};
+ghost use Rattle.list_table.specs.Leaves.{LeavesListing};
 ghost use Rattle.list_strings.specs.declared.State.the-variants.{Start};
 
 // Whether the lent buffer holds the listing (if not, the answer is 17), and then its length.
@@ -30,7 +30,8 @@ fn counted(words: usize) -> usize
 
 // The listing of so many words of a tape. No byte is written before it is known that all have a cell.
 pub fn list(tape: &[u32; MAX_TABLE], words: usize, out: &mut [u8]) -> Listed
-    ensures { λ r. ⌜ Leaves (listFrom Start (take words (now (tape .entry)))) (now (out .entry)) r (now (out .exit)) ⌝ }
+    ensures { λ r. ⌜ LeavesListing (listFrom Start (take words (now (tape .entry)))) (now (out .entry)) r
+        (now (out .exit)) ⌝ }
 {
     let count = counted(words);
     let length = list_length(tape, count);

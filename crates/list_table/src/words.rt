@@ -20,14 +20,14 @@ ghost use mathlib.Core.Path.{_≡_};
 ghost use Prim.Native.Nat.{pred, _+_, _<_};
 ghost use lib.ListN.{length, take};
 ghost use Rattle.byte_writing.specs.Put.{Put, farthest};
-ghost use Rattle.list_strings.specs.Steps.{Wrote};
+ghost use Rattle.list_strings.specs.Steps.{WroteStep};
 ghost use Rattle.list_strings.specs.declared.State.the-variants.{Start};
 ghost use Rattle.list_table.specs.Words.{kindStep, itemStep, copyStep, wordStep, listFrom, Listable};
 
 // A word of a kind.
 pub fn list_kind(state: State, kind: u32, carried: usize, out: &mut [u8], at: usize) -> Stepped
     requires { ⌜ at + 20 < farthest ⌝ }
-    ensures { λ r. ⌜ Wrote at (now (out .entry)) (kindStep state kind carried) r (now (out .exit)) ⌝ }
+    ensures { λ r. ⌜ WroteStep at (now (out .entry)) (kindStep state kind carried) r (now (out .exit)) ⌝ }
 {
     match kind {
         SYMBOL_KIND => list_parted(state, b's', State::Name(carried), out, at),
@@ -48,7 +48,7 @@ pub fn list_kind(state: State, kind: u32, carried: usize, out: &mut [u8], at: us
 // A word that is no byte of a name: a character, or a word of a kind.
 pub fn list_item(state: State, word: u32, out: &mut [u8], at: usize) -> Stepped
     requires { ⌜ at + 20 < farthest ⌝ }
-    ensures { λ r. ⌜ Wrote at (now (out .entry)) (itemStep state word) r (now (out .exit)) ⌝ }
+    ensures { λ r. ⌜ WroteStep at (now (out .entry)) (itemStep state word) r (now (out .exit)) ⌝ }
 {
     if word < KIND_WIDTH {
         let character = word as u8;
@@ -69,8 +69,8 @@ pub fn list_copied(
     at: usize,
 ) -> Stepped
     requires { ⌜ at + length (now tail) + 1 < farthest ⌝ }
-    ensures { λ r. ⌜ Wrote at (now (out .entry)) (copyStep left byte more (now (tail .entry)) after) r (now (out .exit))
-        ⌝ }
+    ensures { λ r. ⌜ WroteStep at (now (out .entry)) (copyStep left byte more (now (tail .entry)) after) r
+        (now (out .exit)) ⌝ }
 {
     let next = put(out, at, byte);
     if left <= 1 {
@@ -98,7 +98,7 @@ pub fn one_less(n: usize) -> usize
 // One word: an item, or a byte of a name that is being copied.
 pub fn list_word(state: State, word: u32, out: &mut [u8], at: usize) -> Stepped
     requires { ⌜ at + 20 < farthest ⌝ }
-    ensures { λ r. ⌜ Wrote at (now (out .entry)) (wordStep state word) r (now (out .exit)) ⌝ }
+    ensures { λ r. ⌜ WroteStep at (now (out .entry)) (wordStep state word) r (now (out .exit)) ⌝ }
 {
     let byte = (word % KIND_WIDTH) as u8;
     match state {

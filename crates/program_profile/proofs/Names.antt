@@ -22,7 +22,7 @@ use Rattle.code_table.proofs.laws.Retraced.{tape-retraced}
 use Rattle.read_table.specs.declared.Reading.{Reading}
 use Rattle.read_table.specs.Reads.{treeTape, Reads}
 use Rattle.engine_tables.proofs.Known.{AreBytes, Known, read-known}
-use Rattle.program_profile.specs.Profiles.{namesRead, Spelled, AllSpelled}
+use Rattle.program_profile.specs.Profiles.{namesRead, NameSpelled, AllSpelled}
 
 -- NAMES
 
@@ -80,7 +80,7 @@ byte-at [] i t = refl
 byte-at (b ∷ n) zero t = omega (arith, ltb→lt b 256 (every-head isByte b n t))
 byte-at (b ∷ n) (suc i) t = byte-at n i (every-tail isByte b n t)
 
-pub name-byte : (ws : List ℕ) (head i : ℕ) → Spelled ws head → i < length (headName ws head) → getD ws (head + 1 + i) 0 % 256 ≡
+pub name-byte : (ws : List ℕ) (head i : ℕ) → NameSpelled ws head → i < length (headName ws head) → getD ws (head + 1 + i) 0 % 256 ≡
     getD (headName ws head) i 0
 name-byte ws head i s h =
     let there : getD (headName ws head) i 0 ≡ getD ws (head + 1 + i) 0 =

@@ -24,10 +24,10 @@ namesRead (refused number place) = []
 
 -- the word at a place of the tape has a name after it that is a table's: it is made of bytes, and is no longer than a
 -- name may be
-pub record Spelled (tape : List ℕ) (head : ℕ) : Type 0 where
+pub record NameSpelled (tape : List ℕ) (head : ℕ) : Type 0 where
   pub inside : head < length tape
   pub bytes : T (every isByte (headName tape head))
   pub short : length (headName tape head) ≤ maxName
 
 abbrev pub AllSpelled : List ℕ → List ℕ → Type 0
-AllSpelled tape heads = (k : ℕ) → k < length heads → Spelled tape (getD heads k 0)
+AllSpelled tape heads = (k : ℕ) → k < length heads → NameSpelled tape (getD heads k 0)

@@ -16,11 +16,11 @@ ghost use Rattle.meaning.specs.Reading.{read};
 ghost use Rattle.tape_words.specs.Words.{headName, headNames};
 ghost use Rattle.byte_writing.specs.Put.{Put, farthest};
 ghost use Rattle.program_printing.specs.Texts.{profileLine, profileLines, profileText, PutAtMost};
-ghost use Rattle.program_profile.specs.Profiles.{lineCells, profileCells, Spelled, AllSpelled, namesRead};
+ghost use Rattle.program_profile.specs.Profiles.{lineCells, profileCells, NameSpelled, AllSpelled, namesRead};
 
 // The name of the function whose word is `head`.
 fn put_name(tape: &[u32], head: usize, out: &mut [u8], at: usize) -> usize
-    requires { ⌜ Spelled (now tape) head × (at + maxName < farthest) ⌝ }
+    requires { ⌜ NameSpelled (now tape) head × (at + maxName < farthest) ⌝ }
     ensures { λ r. ⌜ Put at (now (out .entry)) (headName (now (tape .entry)) head) r (now (out .exit)) ⌝ }
 {
     let size = name_size(tape, head);
@@ -43,7 +43,7 @@ fn put_line(
     out: &mut [u8],
     at: usize,
 ) -> usize
-    requires { ⌜ Spelled (now tape) head × (at + lineCells < farthest) ⌝ }
+    requires { ⌜ NameSpelled (now tape) head × (at + lineCells < farthest) ⌝ }
     ensures { λ r. ⌜ PutAtMost lineCells at (now (out .entry))
         (profileLine number (headName (now (tape .entry)) head) applications) r (now (out .exit)) ⌝ }
 {

@@ -1,4 +1,5 @@
--- The characters of the code as those of the definitions: what stands at a place of a string.
+-- What stands at a place of a string, as the scanner hands it back, and how the string goes on after it by the
+-- definitions of meaning.
 use Prim.Native.Nat.{ℕ, _≤_}
 use mathlib.Core.Path.{_≡_}
 use mathlib.Core.List.{[], _∷_, _++_}

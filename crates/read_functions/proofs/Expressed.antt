@@ -27,7 +27,7 @@ use Rattle.answers.specs.Numbers.{numberOf}
 use Rattle.read_bookkeeping.specs.Written.{isQuiet, Went}
 use Rattle.read_bookkeeping.specs.Tokened.{signIs}
 use Rattle.read_bookkeeping.specs.Items.{symbolNames, itemAt}
-use Rattle.read_functions.specs.Expressions.{expressionOutcome, progressAt, Going, CallStands, Stands, itemTape, TakenIn, TokenGives}
+use Rattle.read_functions.specs.Expressions.{expressionOutcome, progressAt, Going, CallStands, Stands, itemTape, TakenInExpression, TokenJoined}
 use Rattle.read_functions.specs.Expressions.{JoinsToken, faultAt, callTape, CallRead}
 use Rattle.read_bookkeeping.proofs.Items.{item-then}
 use Rattle.read_bookkeeping.proofs.Going.{check-wrong, stops-by, reads-by, ReadAt, has-read, went-none, went-from, went-then, stops-too}
@@ -199,7 +199,7 @@ pub record AtToken (text table : List ℕ) (symbols parts depth : ℕ) (start : 
 module _ {text table : List ℕ} {symbols parts depth : ℕ} {start : ExpressionCounts} {tape₀ : List ℕ} {s : ExpressionCounts} {t : Code.Placed}
     {tape′ : List ℕ} {r : Joined}
     (q : AtToken text table symbols parts depth start tape₀ s t tape′ r) where
-  given : {r′ : Joined} → r ≡ r′ → TokenGives text table symbols parts s (q .tape) t tape′ r′
+  given : {r′ : Joined} → r ≡ r′ → TokenJoined text table symbols parts s (q .tape) t tape′ r′
   given e = rw e at (q .joins .gives)
 
   -- AN ITEM
@@ -209,7 +209,7 @@ module _ {text table : List ℕ} {symbols parts depth : ℕ} {start : Expression
       let g = given e in
       (omega (arith, g .0 .at, item-then (q .comes) (g .1) .moves), g .0 .going .ready .inside)
 
-  item-behind : {next : ExpressionCounts} (bound : ℕ) → TakenIn text table symbols parts s (q .tape) (itemAt text t) (t .past) tape′ next →
+  item-behind : {next : ExpressionCounts} (bound : ℕ) → TakenInExpression text table symbols parts s (q .tape) (itemAt text t) (t .past) tape′ next →
       isItem (itemAt text t) ≡ true
       → Behind text table symbols parts depth start tape₀ (q .tape) s bound
       → Behind text table symbols parts depth start tape₀ tape′ next bound

@@ -27,7 +27,7 @@ use Rattle.read_bookkeeping.specs.Tables.{tableNames, Entries, position}
 use Rattle.answers.specs.Numbers.{numberOf}
 use Rattle.read_bookkeeping.specs.Written.{Wrote, stringFrom, isQuiet, Went}
 use Rattle.read_bookkeeping.specs.Items.{symbolNames, Identifier, StringAt}
-use Rattle.read_functions.specs.Expressions.{progressAt, Going, itemTape, VariableTaken, ItemGives, JoinsItem, TokenGives, JoinsToken}
+use Rattle.read_functions.specs.Expressions.{progressAt, Going, itemTape, VariableTaken, ItemJoined, JoinsItem, TokenJoined, JoinsToken}
 use Rattle.read_bookkeeping.proofs.Finding.{position-coming, table-length}
 use Rattle.read_bookkeeping.proofs.Tabling.{entries-later, names-later}
 use Rattle.read_bookkeeping.proofs.Lengths.{too-long, short-enough, within}
@@ -209,7 +209,7 @@ pub joins : {text : Bytes} {table : List ℕ} {symbols parts : ℕ} {s : Express
     → JoinsToken text table symbols parts s tape t tape′ r
 joins {text} {table} {symbols} {parts} {s} {tape} {t} {item} {past} {tape′} {r} h a = record { gives = gives r (a .gives) }
   where
-    gives : (r′ : Joined) → ItemGives text table symbols parts s tape item past tape′ r′ → TokenGives text table symbols parts s tape t tape′ r′
+    gives : (r′ : Joined) → ItemJoined text table symbols parts s tape item past tape′ r′ → TokenJoined text table symbols parts s tape t tape′ r′
     gives (Taken next) g = (rw (h .is, ← h .ends) g, rw (h .is) (h .some))
     gives (Wrong answer) g = (rw (h .is) g, rw (h .is) (h .some))
     gives (Refused fault) g = absurd g

@@ -39,7 +39,8 @@ use Rattle.read_bookkeeping.specs.Items.{Variables, symbolNames, partNames}
 use Rattle.read_patterns.specs.Patterns.{PatternRead, patternOutcome, PatternAgrees}
 use Rattle.read_conditions.specs.Conditions.{ConditionsRead}
 use Rattle.read_functions.specs.Expressions.{Going, faultAt, withoutCounts}
-use Rattle.read_functions.specs.Sentences.{fromEquals, EqualsRead, SentenceRead, beginsSentence, sentenceOf, firstSentence, FirstRead, Follows}
+use Rattle.read_functions.specs.Sentences.{fromEquals, EqualsRead, SentenceRead, beginsSentence, sentenceWithinLimit, firstSentence}
+use Rattle.read_functions.specs.Sentences.{FirstRead, Follows}
 use Rattle.read_bookkeeping.proofs.Items.{variable-of, variable-at}
 use Rattle.read_bookkeeping.proofs.Going.{stops, reads, ReadAt, has-read, follow-same, pass-follow, follow-alone, makes, went-from, went-then}
 use Rattle.read_bookkeeping.proofs.Going.{word-went, ready-after, stops-too}
@@ -251,7 +252,7 @@ module _ {text : Bytes} {from words : ℕ} {tape table tape₁ : List ℕ} {p : 
 
 -- THE NEXT SENTENCE
 
-sentence-of : (left : ℕ) (t : Tokens.Placed) (ts : List Tokens.Placed) → (left ≡ 0 → ⊥) → sentenceOf left t ts ≡
+sentence-of : (left : ℕ) (t : Tokens.Placed) (ts : List Tokens.Placed) → (left ≡ 0 → ⊥) → sentenceWithinLimit left t ts ≡
     unlessWord (Reading.parseSentence (t ∷ ts))
 sentence-of zero t ts h = absurd (h refl)
 sentence-of (suc left) t ts h = refl

@@ -22,7 +22,8 @@ use Rattle.read_functions.specs.declared.sentences.Sequel.{Sequel}
 use Rattle.read_functions.specs.declared.sentences.Sequel.the-variants.{Ends, Another, Refused}
 use Rattle.read_bookkeeping.specs.Answered.{parsedOutcome, AgreesBy, Agrees}
 use Rattle.read_bookkeeping.specs.Written.{Ready, Went}
-use Rattle.read_functions.specs.Sentences.{Each, SentenceStands, sentenceOf, firstSentence, FirstRead, Follows, SentencesRead, sentencesOutcome}
+use Rattle.read_functions.specs.Sentences.{Each, SentenceStands, sentenceWithinLimit, firstSentence, FirstRead, Follows}
+use Rattle.read_functions.specs.Sentences.{SentencesRead, sentencesOutcome}
 use Rattle.read_bookkeeping.proofs.Refusing.{word-at-once}
 use Rattle.read_bookkeeping.proofs.Going.{stops-by, reads-by, ReadAt, has-read, follow-alone, behind, behind-more, went-none, went-then, word-went}
 use Rattle.read_bookkeeping.proofs.Going.{ready-after, stops-too}
@@ -53,7 +54,7 @@ sentences-are : (left : ℕ) (ts : List Tokens.Placed)
     → Reading.parseSentences left ts ≡ follow (firstSentence left ts) (λ s rest. afterSentence (Reading.parseSentences (left - 1)) s rest)
 unfolding Reading.parseSentences
 sentences-are zero [] = refl
-sentences-are zero (t ∷ ts) = whether-follow (Reading.begins (t .token)) t (sentenceOf zero t ts) _
+sentences-are zero (t ∷ ts) = whether-follow (Reading.begins (t .token)) t (sentenceWithinLimit zero t ts) _
 sentences-are (suc left) [] = refl
 sentences-are (suc left) (t ∷ ts) =
     let e : suc left - 1 ≡ left = omega arith in
@@ -61,7 +62,7 @@ sentences-are (suc left) (t ∷ ts) =
     rw e
     (ap (λ (p : Parsed (List Sentence)). whether (Reading.begins (t .token)) t p)
     (word-at-once (Reading.parseSentence (t ∷ ts)) after (λ s w place past rest. refl))
-    ∙ whether-follow (Reading.begins (t .token)) t (sentenceOf (suc left) t ts) after)
+    ∙ whether-follow (Reading.begins (t .token)) t (sentenceWithinLimit (suc left) t ts) after)
 
 -- THE TAPE
 

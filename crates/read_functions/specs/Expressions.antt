@@ -1,4 +1,5 @@
--- Expressions and calls while they are read.
+-- Expressions and calls while they are read: what the code counts of them, what a token adds, and that the readers
+-- agree with meaning's Reading.
 use Prim.Native.Nat.{ℕ, _+_, _-_, _≤_, _<_}
 use mathlib.Core.Path.{_≡_}
 use mathlib.Core.Bool.{true, false}
@@ -78,7 +79,7 @@ pub record VariableTaken (text : Bytes) (s : ExpressionCounts) (x : Span) (base 
   pub same : next ≡ record { at = x .past; words = next .words; items = s .items + 1; passed = passed }
 
 -- an item is taken into an expression
-pub record TakenIn (text : Bytes) (table : List ℕ) (symbols parts : ℕ) (s : ExpressionCounts) (tape : List ℕ)
+pub record TakenInExpression (text : Bytes) (table : List ℕ) (symbols parts : ℕ) (s : ExpressionCounts) (tape : List ℕ)
     (item : Item) (past : ℕ) (tape′ : List ℕ) (next : ExpressionCounts) : Type 0 where
   pub going : Going text table symbols parts next
   pub at : next .at ≡ past
@@ -88,36 +89,37 @@ pub record TakenIn (text : Bytes) (table : List ℕ) (symbols parts : ℕ) (s : 
   pub progress : Reading.pastItem item (progressAt text table parts s) ≡ progressAt text table parts next
 
 -- an item has a fault in an expression
-pub record WrongIn (text : Bytes) (table : List ℕ) (symbols parts : ℕ) (s : ExpressionCounts) (item : Item)
+pub record WrongInExpression (text : Bytes) (table : List ℕ) (symbols parts : ℕ) (s : ExpressionCounts) (item : Item)
     (answer : Answer) : Type 0 where
   pub wrong : eqb (numberOf answer) 0 ≡ false
   pub fault : Reading.itemFault (symbolNames text table symbols) (progressAt text table parts s) item ≡ numberOf answer
 
-abbrev pub ItemGives : Bytes → List ℕ → ℕ → ℕ → ExpressionCounts → List ℕ → Item → ℕ → List ℕ → Joined → Type 0
-ItemGives text table symbols parts s tape item past tape′ (Takes next) =
-    TakenIn text table symbols parts s tape item past tape′ next
-ItemGives text table symbols parts s tape item past tape′ (Wrong answer) =
-    WrongIn text table symbols parts s item answer
-ItemGives text table symbols parts s tape item past tape′ (Refused fault) = ⊥
-ItemGives text table symbols parts s tape item past tape′ Other = ⊥
+abbrev pub ItemJoined : Bytes → List ℕ → ℕ → ℕ → ExpressionCounts → List ℕ → Item → ℕ → List ℕ → Joined → Type 0
+ItemJoined text table symbols parts s tape item past tape′ (Takes next) =
+    TakenInExpression text table symbols parts s tape item past tape′ next
+ItemJoined text table symbols parts s tape item past tape′ (Wrong answer) =
+    WrongInExpression text table symbols parts s item answer
+ItemJoined text table symbols parts s tape item past tape′ (Refused fault) = ⊥
+ItemJoined text table symbols parts s tape item past tape′ Other = ⊥
 
 -- what comes of an item
 pub record JoinsItem (text : Bytes) (table : List ℕ) (symbols parts : ℕ) (s : ExpressionCounts) (tape : List ℕ)
     (item : Item) (past : ℕ) (tape′ : List ℕ) (r : Joined) : Type 0 where
-  pub gives : ItemGives text table symbols parts s tape item past tape′ r
+  pub gives : ItemJoined text table symbols parts s tape item past tape′ r
 
-abbrev pub TokenGives : Bytes → List ℕ → ℕ → ℕ → ExpressionCounts → List ℕ → Placed → List ℕ → Joined → Type 0
-TokenGives text table symbols parts s tape t tape′ (Takes next) =
-    TakenIn text table symbols parts s tape (itemAt text t) (t .past) tape′ next × (isItem (itemAt text t) ≡ true)
-TokenGives text table symbols parts s tape t tape′ (Wrong answer) =
-    WrongIn text table symbols parts s (itemAt text t) answer × (isItem (itemAt text t) ≡ true)
-TokenGives text table symbols parts s tape t tape′ (Refused fault) = WordRefused text t fault
-TokenGives text table symbols parts s tape t tape′ Other = NoItem text t × (tape′ ≡ tape)
+abbrev pub TokenJoined : Bytes → List ℕ → ℕ → ℕ → ExpressionCounts → List ℕ → Placed → List ℕ → Joined → Type 0
+TokenJoined text table symbols parts s tape t tape′ (Takes next) =
+    TakenInExpression text table symbols parts s tape (itemAt text t) (t .past) tape′ next
+    × (isItem (itemAt text t) ≡ true)
+TokenJoined text table symbols parts s tape t tape′ (Wrong answer) =
+    WrongInExpression text table symbols parts s (itemAt text t) answer × (isItem (itemAt text t) ≡ true)
+TokenJoined text table symbols parts s tape t tape′ (Refused fault) = WordRefused text t fault
+TokenJoined text table symbols parts s tape t tape′ Other = NoItem text t × (tape′ ≡ tape)
 
 -- what comes of a token
 pub record JoinsToken (text : Bytes) (table : List ℕ) (symbols parts : ℕ) (s : ExpressionCounts) (tape : List ℕ)
     (t : Placed) (tape′ : List ℕ) (r : Joined) : Type 0 where
-  pub gives : TokenGives text table symbols parts s tape t tape′ r
+  pub gives : TokenJoined text table symbols parts s tape t tape′ r
 
 -- EXPRESSIONS AND CALLS
 

@@ -1,4 +1,4 @@
--- Sentences while they are read.
+-- Sentences while they are read: what was read up to a place, and that the readers agree with meaning's Reading.
 use Prim.Native.Nat.{ℕ, zero, suc, _+_, _≤_, _<_}
 use mathlib.Core.Path.{_≡_}
 use mathlib.Core.Bool.{Bool, true, false}
@@ -40,7 +40,7 @@ pub record SentenceStands (text : Bytes) (s : Sentence) : Type 0 where
   pub conditions : T (every isQuiet (conditionsTape (s .conditions)))
   pub expression : Stands text (s .expression)
 
--- `sentence` from its `=` on
+-- `parseSentence` from its `=` on
 abbrev pub fromEquals : List Name → List Name → List Tokens.Placed → Parsed Reading.Items
 fromEquals symbols parts ts =
     pass 61 ts λ ts₁.
@@ -72,14 +72,14 @@ beginsSentence End = false
 beginsSentence Malformed = false
 
 -- a sentence, if one may still come
-abbrev pub sentenceOf : ℕ → Tokens.Placed → List Tokens.Placed → Parsed Sentence
-sentenceOf zero t ts = stopped overLimit (t .place)
-sentenceOf (suc left) t ts = unlessWord (Reading.parseSentence (t ∷ ts))
+abbrev pub sentenceWithinLimit : ℕ → Tokens.Placed → List Tokens.Placed → Parsed Sentence
+sentenceWithinLimit zero t ts = stopped overLimit (t .place)
+sentenceWithinLimit (suc left) t ts = unlessWord (Reading.parseSentence (t ∷ ts))
 
--- `sentences` up to what comes after the first
+-- `parseSentences` up to what comes after the first sentence
 abbrev pub firstSentence : ℕ → List Tokens.Placed → Parsed Sentence
 firstSentence left [] = cutShort
-firstSentence left (t ∷ ts) = let later = sentenceOf left t ts in whether (Reading.begins (t .token)) t later
+firstSentence left (t ∷ ts) = let later = sentenceWithinLimit left t ts in whether (Reading.begins (t .token)) t later
 
 -- the first of so many sentences was read
 pub record FirstRead (text : Bytes) (left at words : ℕ) (tape tape′ : List ℕ) (s : Sentence) (rest : List Tokens.Placed)

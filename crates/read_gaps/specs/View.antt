@@ -1,4 +1,4 @@
--- The gaps of the code as those of the definitions: what a scanner hands back, seen in the text.
+-- Blanks and comments between tokens: what the scanner hands back, by the definitions of meaning.
 use Prim.Native.Nat.{ℕ, _≤_}
 use mathlib.Core.Path.{_≡_}
 use lib.ListN.{drop}

@@ -30,7 +30,7 @@ use Rattle.read_bookkeeping.specs.Tables.{position}
 use Rattle.answers.specs.Numbers.{numberOf}
 use Rattle.read_bookkeeping.specs.Written.{Wrote, stringFrom, isQuiet, Went}
 use Rattle.read_bookkeeping.specs.Items.{Variables, symbolNames, partNames, Identifier, StringAt}
-use Rattle.read_patterns.specs.Patterns.{Held, Seen, patternSymbolFault, patternPartFault, ItemGives, AddsItem, TokenGives, AddsToken}
+use Rattle.read_patterns.specs.Patterns.{PatternGoing, Seen, patternSymbolFault, patternPartFault, ItemAdded, AddsItem, TokenAdded, AddsToken}
 use Rattle.read_bookkeeping.proofs.Finding.{position-member}
 use Rattle.read_bookkeeping.proofs.Choosing.{no-fault}
 use Rattle.read_patterns.proofs.Faults.{position-low, added-room}
@@ -66,7 +66,7 @@ module _ {text : Bytes} {table : List ℕ} {p : Counts} {tape : List ℕ} {item 
   item-wrong {is = is} f e q n = record { gives = record { wrong = sym q ∙ not-true is n; fault = λ before s. f before s ∙ sym e } }
 
   -- an item without one, the words of whose elements are written
-  item-taken : {next : Counts} {words : List ℕ} → Held text table p → patternTape (elementsOf item) ≡ words → Faulted text table p item 0
+  item-taken : {next : Counts} {words : List ℕ} → PatternGoing text table p → patternTape (elementsOf item) ≡ words → Faulted text table p item 0
       → Counting text table p (elementsOf item) table′ next
       → Went text (p .at) (p .words) tape (next .at) (next .words) tape′ words
       → T (every isQuiet words)
@@ -75,7 +75,7 @@ module _ {text : Bytes} {table : List ℕ} {p : Counts} {tape : List ℕ} {item 
       record {
         gives =
             record {
-              held =
+              going =
                   record {
                     variables = k .variables;
                     fewLetters = k .few;
@@ -98,7 +98,8 @@ module _ {text : Bytes} {table : List ℕ} {p : Counts} {tape : List ℕ} {item 
 
 -- STRINGS
 
-module _ {text : Bytes} {table : List ℕ} {p : Counts} {place past count : ℕ} (pre : Held text table p × StringAt text (p .at) place past count) where
+module _ {text : Bytes} {table : List ℕ} {p : Counts} {place past count : ℕ}
+    (pre : PatternGoing text table p × StringAt text (p .at) place past count) where
   abbrev string : Bytes
   string = charactersIn (quotationAt text place)
 
@@ -136,7 +137,7 @@ record Remembered (text : Bytes) (table : List ℕ) (p : Counts) (name : Name) (
   symbols : added name (symbolNames text table (p .symbols)) ≡ symbolNames text table′ symbols′
   parts : partNames text table (p .parts) ≡ partNames text table′ (p .parts)
 
-module _ {text : Bytes} {table : List ℕ} {p : Counts} {x : Span} (h : Held text table p) (i : Identifier text (p .at) x) where
+module _ {text : Bytes} {table : List ℕ} {p : Counts} {x : Span} (h : PatternGoing text table p) (i : Identifier text (p .at) x) where
   abbrev name : Name
   name = View.part text x
 
@@ -308,7 +309,7 @@ pub adds : {text : Bytes} {table : List ℕ} {p : Counts} {tape : List ℕ} {t :
     → AddsToken text table p tape t table′ tape′ r
 adds {text} {table} {p} {tape} {t} {item} {past} {table′} {tape′} {r} h a = record { gives = gives r (a .gives) }
   where
-    gives : (r′ : Added) → ItemGives text table p tape item past table′ tape′ r′ → TokenGives text table p tape t table′ tape′ r′
+    gives : (r′ : Added) → ItemAdded text table p tape item past table′ tape′ r′ → TokenAdded text table p tape t table′ tape′ r′
     gives (Taken next) g = (rw (h .is, ← h .ends) g, rw (h .is) (h .some))
     gives (Wrong answer) g = (rw (h .is) g, rw (h .is) (h .some))
     gives (Refused fault) g = absurd g

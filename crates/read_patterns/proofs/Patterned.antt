@@ -21,7 +21,7 @@ use Rattle.read_patterns.specs.declared.Added.{Added}
 use Rattle.read_patterns.specs.declared.Added.the-variants.{Taken, Wrong, Refused, Other}
 use Rattle.read_bookkeeping.specs.Written.{isQuiet, Ready, Went}
 use Rattle.read_bookkeeping.specs.Items.{itemAt}
-use Rattle.read_patterns.specs.Patterns.{Held, Seen, TokenGives, PatternAgrees}
+use Rattle.read_patterns.specs.Patterns.{PatternGoing, Seen, TokenAdded, PatternAgrees}
 use Rattle.read_bookkeeping.proofs.Tabling.{none-yet, no-names, every-append}
 use Rattle.read_patterns.proofs.Elements.{tape-append}
 use Rattle.read_bookkeeping.proofs.Items.{item-then}
@@ -33,7 +33,7 @@ use Rattle.read_bookkeeping.proofs.Refusing.{stopped-before}
 pub record Patterned (text start : List ℕ) (at words : ℕ) (tape table : List ℕ) (p : Counts) : Type 0 where
   pub before : List Element
   pub same : parsePattern [] (stream text inside at) ≡ parsePattern before (stream text inside (p .at))
-  pub held : Held text table p
+  pub going : PatternGoing text table p
   pub seen : Seen text table p before
   pub went : Went text at words start (p .at) (p .words) tape (patternTape before)
   pub quiet : T (every isQuiet (patternTape before))
@@ -45,7 +45,7 @@ pattern-starts text start table at words r l =
     record {
       before = [];
       same = refl;
-      held =
+      going =
           record {
             variables =
                 record {
@@ -77,7 +77,7 @@ module _ {text start : List ℕ} {at words : ℕ} {tape table : List ℕ} {p : C
   PatternOn Other = Agree
       (Done (record { at = t .place; words = p .words; letters = p .letters; symbols = p .symbols; parts = p .parts; ending = p .ending }))
 
-  pub pattern-on : (r : Added) → TokenGives text table p tape t table′ tape′ r → PatternOn r
+  pub pattern-on : (r : Added) → TokenAdded text table p tape t table′ tape′ r → PatternOn r
   unfolding parsePattern
   pattern-on (Taken next) g =
       let i = item-then c (g .1) in (
@@ -85,7 +85,7 @@ module _ {text start : List ℕ} {at words : ℕ} {tape table : List ℕ} {p : C
         record {
           before = k .before ++ elementsOf (itemAt text t);
           same = k .same ∙ rw (i .unrolled, g .1, g .0 .fault (k .before) (k .seen), g .0 .at);
-          held = g .0 .held;
+          going = g .0 .going;
           seen = g .0 .seen (k .before) (k .seen);
           went = rw (tape-append (k .before) (elementsOf (itemAt text t))) (went-then (k .went) (g .0 .went));
           quiet =
@@ -103,7 +103,7 @@ module _ {text start : List ℕ} {at words : ℕ} {tape table : List ℕ} {p : C
         tokens = sym (c .again);
         went = rw (g .2) (went-before (k .went) c);
         quiet = k .quiet;
-        variables = rw (g .1) (k .held .variables);
+        variables = rw (g .1) (k .going .variables);
         symbols = rw (g .1) (k .seen .symbols);
         parts = rw (g .1) (k .seen .parts);
       })

@@ -16,7 +16,7 @@ use Rattle.read_tokens.specs.declared.Span.{Span}
 use Rattle.read_bookkeeping.specs.Tables.{position}
 use Rattle.read_patterns.specs.declared.Counts.{Counts}
 use Rattle.read_bookkeeping.specs.Items.{Variables, symbolNames, partNames, Identifier}
-use Rattle.read_patterns.specs.Patterns.{Held, patternSymbolFault, patternPartFault}
+use Rattle.read_patterns.specs.Patterns.{PatternGoing, patternSymbolFault, patternPartFault}
 use Rattle.read_bookkeeping.proofs.Finding.{table-length, among}
 use Rattle.read_bookkeeping.proofs.Choosing.{fault-if}
 use Rattle.read_bookkeeping.proofs.Items.{identifier-inside}
@@ -38,7 +38,7 @@ PartAt text table p x r = r ≡ 16 + position (part text x) (partNames text tabl
 
 -- an s-variable, which is known at an entry
 module _ {text : Bytes} {table : List ℕ} {p : Counts} {x : Span} {known : ℕ}
-    (pre : Held text table p × Identifier text (p .at) x × (known ≡ position (part text x) (symbolNames text table (p .symbols)))) where
+    (pre : PatternGoing text table p × Identifier text (p .at) x × (known ≡ position (part text x) (symbolNames text table (p .symbols)))) where
   abbrev Symbol : ℕ → Type 0
   Symbol number = number ≡ patternSymbolFault (p .letters) (symbolNames text table (p .symbols)) (partNames text table (p .parts)) (part text x)
 
@@ -76,7 +76,7 @@ module _ {text : Bytes} {table : List ℕ} {p : Counts} {x : Span} {known : ℕ}
           ∙ symbol-tests short few (lt-ltb known 16 n) (among text table 16 (16 + p .parts) (pre .0 .variables .partEntries) (part text x) r f e)
 
 -- an e-variable
-module _ {text : Bytes} {table : List ℕ} {p : Counts} {x : Span} (pre : Held text table p × Identifier text (p .at) x) where
+module _ {text : Bytes} {table : List ℕ} {p : Counts} {x : Span} (pre : PatternGoing text table p × Identifier text (p .at) x) where
   abbrev Part : ℕ → Type 0
   Part number = number ≡ patternPartFault (symbolNames text table (p .symbols)) (partNames text table (p .parts)) (p .ending) (part text x)
 
@@ -98,7 +98,7 @@ module _ {text : Bytes} {table : List ℕ} {p : Counts} {x : Span} (pre : Held t
 
 -- one that is short enough and not the third, at its place among the s-variables
 pub record PartFound (text : Bytes) (table : List ℕ) (p : Counts) (x : Span) (r : ℕ) : Type 0 where
-  pub pre : Held text table p × Identifier text (p .at) x
+  pub pre : PatternGoing text table p × Identifier text (p .at) x
   pub few : p .parts < 2
   pub short : x .past - x .from ≤ 8
   pub place : r ≡ 0 + position (part text x) (symbolNames text table (p .symbols))

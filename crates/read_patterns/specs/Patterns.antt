@@ -28,7 +28,7 @@ use Rattle.read_bookkeeping.specs.Tokened.{unlessWord}
 use Rattle.read_bookkeeping.specs.Written.{isQuiet, Ready, Went}
 
 -- what may come next is safe
-pub record Held (text : Bytes) (table : List ℕ) (p : Counts) : Type 0 where
+pub record PatternGoing (text : Bytes) (table : List ℕ) (p : Counts) : Type 0 where
   pub variables : Variables text table (p .symbols) (p .parts)
   pub fewLetters : p .letters ≤ 64
   pub ready : Ready text (p .at) (p .words)
@@ -57,9 +57,9 @@ patternPartFault symbols parts ending x =
     (faultUnless (both (not (member x (symbols ++ parts))) (not ending)) wrongPatternVariable 0))
 
 -- an item is taken into a pattern
-pub record TakenIn (text : Bytes) (table : List ℕ) (p : Counts) (tape : List ℕ) (item : Item) (past : ℕ)
+pub record TakenInPattern (text : Bytes) (table : List ℕ) (p : Counts) (tape : List ℕ) (item : Item) (past : ℕ)
     (table′ tape′ : List ℕ) (next : Counts) : Type 0 where
-  pub held : Held text table′ next
+  pub going : PatternGoing text table′ next
   pub at : next .at ≡ past
   pub went : Went text (p .at) (p .words) tape (next .at) (next .words) tape′ (patternTape (elementsOf item))
   pub quiet : T (every isQuiet (patternTape (elementsOf item)))
@@ -67,33 +67,34 @@ pub record TakenIn (text : Bytes) (table : List ℕ) (p : Counts) (tape : List �
   pub seen : (before : List Element) → Seen text table p before → Seen text table′ next (before ++ elementsOf item)
 
 -- an item has a fault in a pattern
-pub record WrongIn (text : Bytes) (table : List ℕ) (p : Counts) (item : Item) (answer : Answer) : Type 0 where
+pub record WrongInPattern (text : Bytes) (table : List ℕ) (p : Counts) (item : Item) (answer : Answer) : Type 0 where
   pub wrong : eqb (numberOf answer) 0 ≡ false
   pub fault : (before : List Element) → Seen text table p before → patternFault before item ≡ numberOf answer
 
 -- what comes of an item
-abbrev pub ItemGives : Bytes → List ℕ → Counts → List ℕ → Item → ℕ → List ℕ → List ℕ → Added → Type 0
-ItemGives text table p tape item past table′ tape′ (Taken next) = TakenIn text table p tape item past table′ tape′ next
-ItemGives text table p tape item past table′ tape′ (Wrong answer) = WrongIn text table p item answer
-ItemGives text table p tape item past table′ tape′ (Refused fault) = ⊥
-ItemGives text table p tape item past table′ tape′ Other = ⊥
+abbrev pub ItemAdded : Bytes → List ℕ → Counts → List ℕ → Item → ℕ → List ℕ → List ℕ → Added → Type 0
+ItemAdded text table p tape item past table′ tape′ (Taken next) =
+    TakenInPattern text table p tape item past table′ tape′ next
+ItemAdded text table p tape item past table′ tape′ (Wrong answer) = WrongInPattern text table p item answer
+ItemAdded text table p tape item past table′ tape′ (Refused fault) = ⊥
+ItemAdded text table p tape item past table′ tape′ Other = ⊥
 
 pub record AddsItem (text : Bytes) (table : List ℕ) (p : Counts) (tape : List ℕ) (item : Item) (past : ℕ)
     (table′ tape′ : List ℕ) (r : Added) : Type 0 where
-  pub gives : ItemGives text table p tape item past table′ tape′ r
+  pub gives : ItemAdded text table p tape item past table′ tape′ r
 
 -- what comes of a token
-abbrev pub TokenGives : Bytes → List ℕ → Counts → List ℕ → Placed → List ℕ → List ℕ → Added → Type 0
-TokenGives text table p tape t table′ tape′ (Taken next) =
-    TakenIn text table p tape (itemAt text t) (t .past) table′ tape′ next × (isItem (itemAt text t) ≡ true)
-TokenGives text table p tape t table′ tape′ (Wrong answer) =
-    WrongIn text table p (itemAt text t) answer × (isItem (itemAt text t) ≡ true)
-TokenGives text table p tape t table′ tape′ (Refused fault) = WordRefused text t fault
-TokenGives text table p tape t table′ tape′ Other = NoItem text t × (table′ ≡ table) × (tape′ ≡ tape)
+abbrev pub TokenAdded : Bytes → List ℕ → Counts → List ℕ → Placed → List ℕ → List ℕ → Added → Type 0
+TokenAdded text table p tape t table′ tape′ (Taken next) =
+    TakenInPattern text table p tape (itemAt text t) (t .past) table′ tape′ next × (isItem (itemAt text t) ≡ true)
+TokenAdded text table p tape t table′ tape′ (Wrong answer) =
+    WrongInPattern text table p (itemAt text t) answer × (isItem (itemAt text t) ≡ true)
+TokenAdded text table p tape t table′ tape′ (Refused fault) = WordRefused text t fault
+TokenAdded text table p tape t table′ tape′ Other = NoItem text t × (table′ ≡ table) × (tape′ ≡ tape)
 
 pub record AddsToken (text : Bytes) (table : List ℕ) (p : Counts) (tape : List ℕ) (t : Placed) (table′ tape′ : List ℕ)
     (r : Added) : Type 0 where
-  pub gives : TokenGives text table p tape t table′ tape′ r
+  pub gives : TokenAdded text table p tape t table′ tape′ r
 
 -- a pattern was read
 pub record PatternRead (text : Bytes) (at words : ℕ) (tape table′ tape′ : List ℕ) (p : List Element)

@@ -30,8 +30,8 @@ ghost use Rattle.answers.specs.Numbers.{numberOf};
 ghost use Rattle.read_bookkeeping.specs.Tables.{Inside, position};
 ghost use Rattle.read_bookkeeping.specs.Written.{Ready};
 ghost use Rattle.read_bookkeeping.specs.Items.{symbolNames, partNames, Identifier, StringAt};
-ghost use Rattle.read_patterns.specs.Patterns.{Held, patternSymbolFault, patternPartFault, AddsItem, AddsToken};
-ghost use Rattle.read_patterns.specs.Patterns.{PatternAgrees};
+ghost use Rattle.read_patterns.specs.Patterns.{PatternGoing, patternSymbolFault, patternPartFault, AddsItem};
+ghost use Rattle.read_patterns.specs.Patterns.{AddsToken, PatternAgrees};
 
 // A pattern so far: the place in the text and the words on the tape, its letters, its different s-variables, its
 // e-variables, and whether it ends in one.
@@ -76,7 +76,7 @@ fn add_string(
     past: usize,
     count: usize,
 ) -> Added
-    requires { ⌜ Held (now text) (now table) p × StringAt (now text) (p .at) place past count ⌝ }
+    requires { ⌜ PatternGoing (now text) (now table) p × StringAt (now text) (p .at) place past count ⌝ }
     ensures { λ r. ⌜ AddsItem (now (text .entry)) (now (table .entry)) p (now (tape .entry))
         (Reading.characters (charactersIn (quotationAt (now (text .entry)) place))) past (now (table .entry))
         (now (tape .exit)) r ⌝ }
@@ -98,7 +98,7 @@ fn add_string(
 
 // What is wrong with an s-variable of a pattern, which is found at an entry of the table.
 fn symbol_fault(text: &[u8], table: &[usize], p: Counts, x: Span, known: usize) -> Answer
-    requires { ⌜ Held (now text) (now table) p × Identifier (now text) (p .at) x
+    requires { ⌜ PatternGoing (now text) (now table) p × Identifier (now text) (p .at) x
         × (known ≡ position (part (now text) x) (symbolNames (now text) (now table) (p .symbols))) ⌝ }
     ensures { λ r. ⌜ numberOf r ≡ patternSymbolFault (p .letters)
         (symbolNames (now (text .entry)) (now (table .entry)) (p .symbols))
@@ -135,7 +135,7 @@ fn remember(table: &mut [usize; 18], known: usize, symbols: usize, name: usize) 
 
 // An s-variable added to a pattern, and to the table if it is new there.
 fn add_symbol(text: &[u8], tape: &mut [u32], table: &mut [usize; 18], p: Counts, x: Span) -> Added
-    requires { ⌜ Held (now text) (now table) p × Identifier (now text) (p .at) x ⌝ }
+    requires { ⌜ PatternGoing (now text) (now table) p × Identifier (now text) (p .at) x ⌝ }
     ensures { λ r. ⌜ AddsItem (now (text .entry)) (now (table .entry)) p (now (tape .entry))
         (Reading.symbolItem (part (now (text .entry)) x)) (x .past) (now (table .exit)) (now (tape .exit)) r ⌝ }
 {
@@ -158,7 +158,7 @@ fn add_symbol(text: &[u8], tape: &mut [u32], table: &mut [usize; 18], p: Counts,
 
 // What is wrong with an e-variable of a pattern.
 fn part_fault(text: &[u8], table: &[usize], p: Counts, x: Span) -> Answer
-    requires { ⌜ Held (now text) (now table) p × Identifier (now text) (p .at) x ⌝ }
+    requires { ⌜ PatternGoing (now text) (now table) p × Identifier (now text) (p .at) x ⌝ }
     ensures { λ r. ⌜ numberOf r ≡ patternPartFault (symbolNames (now (text .entry)) (now (table .entry)) (p .symbols))
         (partNames (now (text .entry)) (now (table .entry)) (p .parts)) (p .ending) (part (now (text .entry)) x) ⌝ }
 {
@@ -180,7 +180,7 @@ fn part_fault(text: &[u8], table: &[usize], p: Counts, x: Span) -> Answer
 
 // An e-variable added to a pattern and to the table.
 fn add_part(text: &[u8], tape: &mut [u32], table: &mut [usize; 18], p: Counts, x: Span) -> Added
-    requires { ⌜ Held (now text) (now table) p × Identifier (now text) (p .at) x ⌝ }
+    requires { ⌜ PatternGoing (now text) (now table) p × Identifier (now text) (p .at) x ⌝ }
     ensures { λ r. ⌜ AddsItem (now (text .entry)) (now (table .entry)) p (now (tape .entry))
         (Reading.partItem (part (now (text .entry)) x)) (x .past) (now (table .exit)) (now (tape .exit)) r ⌝ }
 {
@@ -204,7 +204,7 @@ fn add_part(text: &[u8], tape: &mut [u32], table: &mut [usize; 18], p: Counts, x
 
 // A token added to a pattern, by the item that it is.
 fn add(text: &[u8], tape: &mut [u32], table: &mut [usize; 18], p: Counts, t: Placed) -> Added
-    requires { ⌜ Held (now text) (now table) p × Comes (now text) Tokens.inside (p .at) t ⌝ }
+    requires { ⌜ PatternGoing (now text) (now table) p × Comes (now text) Tokens.inside (p .at) t ⌝ }
     ensures { λ r. ⌜ AddsToken (now (text .entry)) (now (table .entry)) p (now (tape .entry)) t (now (table .exit))
         (now (tape .exit)) r ⌝ }
 {

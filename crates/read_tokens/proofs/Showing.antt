@@ -12,7 +12,7 @@ use Rattle.meaning.specs.Choice.{Bytes, pick}
 use Rattle.meaning.specs.Classes.{inClass, alphabetic}
 use Rattle.meaning.specs.Allowed.{wordByte, nameByte}
 use Rattle.meaning.specs.Tokens as Tokens
-use Rattle.read_tokens.specs.View.{RunsTo, LetterAt, quotationAt, tokenOf, Sound, Shows}
+use Rattle.read_tokens.specs.View.{RunsTo, LetterAt, quotationAt, tokenOf, Sound, ShowsToken}
 use Rattle.read_tokens.specs.declared.Token.{Token}
 use Rattle.read_tokens.specs.declared.Token.the-variants.{Name, Sign, Malformed}
 use Rattle.meaning.proofs.laws.Places.{here, nothing}
@@ -32,13 +32,13 @@ run-onward fits (b ∷ rest) taken at = pass (fits b) (run-onward fits rest (tak
 
 module _ (text : Bytes) (at past : ℕ) where
   pub shows-name : RunsTo text nameByte at past
-      → Shows text (record { token = Name (record { from = at; past = past }); place = at; past = past })
+      → ShowsToken text (record { token = Name (record { from = at; past = past }); place = at; past = past })
       (Tokens.nameToken at (Tokens.run nameByte [] at (drop at text)) .first)
   shows-name r = record { same = rw (r .same); sound = (refl, refl) }
 
   pub shows-word : (token : Token) → RunsTo text wordByte at past → (tokenOf text token at past ≡ Tokens.word (slice at past text)) ×
       Sound text token at past
-      → Shows text (record { token = token; place = at; past = past }) (Tokens.wordToken at (Tokens.run wordByte [] at (drop at text)) .first)
+      → ShowsToken text (record { token = token; place = at; past = past }) (Tokens.wordToken at (Tokens.run wordByte [] at (drop at text)) .first)
   shows-word token r w = record { same = rw (r .same, w .0); sound = w .1 }
 
   -- a word has a letter at least
@@ -59,7 +59,7 @@ module _ (text : Bytes) (at : ℕ) where
   bracket false = Malformed
 
   pub shows-bracket : (letter : Bool) → letter ≡ letterAhead
-      → Shows text (record { token = bracket letter; place = at; past = at + 1 }) (Tokens.bracketAt at (drop (suc at) text) letterAhead .first)
+      → ShowsToken text (record { token = bracket letter; place = at; past = at + 1 }) (Tokens.bracketAt at (drop (suc at) text) letterAhead .first)
   shows-bracket true e = record { same = rw (← e, add-one); sound = tt }
   shows-bracket false e = record { same = rw (← e, add-one); sound = tt }
 

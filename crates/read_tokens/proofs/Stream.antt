@@ -9,7 +9,7 @@ use lib.ListN.{length, drop}
 use Rattle.meaning.specs.Choice.{Bytes, pick}
 use Rattle.meaning.specs.Tokens as Tokens
 use Rattle.read_tokens.specs.declared.Placed.{Placed}
-use Rattle.read_tokens.specs.View.{placedOf, Shows, stream, Comes}
+use Rattle.read_tokens.specs.View.{placedOf, ShowsToken, stream, Comes}
 use Rattle.read_tokens.proofs.Onward.{lex-ends}
 
 -- what comes after a token that is not the last
@@ -81,7 +81,7 @@ module _ (text : Bytes) where
         moves = λ m. l .ends .moves m .onward;
       }
 
-  pub comes : (mode : Tokens.Mode) (at : ℕ) (t : Placed) → at ≤ length text → Shows text t (lexAt mode at .first) → Comes text mode at t
+  pub comes : (mode : Tokens.Mode) (at : ℕ) (t : Placed) → at ≤ length text → ShowsToken text t (lexAt mode at .first) → Comes text mode at t
   comes mode at t h s =
       let f : First mode at (placedOf text t) = subst (λ (p : Tokens.Placed). First mode at p) (sym (s .same)) (first mode at h) in
       record {

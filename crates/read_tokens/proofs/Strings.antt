@@ -10,7 +10,7 @@ use Rattle.meaning.specs.Tokens.{plain, quotation, quotedAt}
 use Rattle.read_characters.specs.View.{continued, Passes, Stands}
 use Rattle.read_characters.specs.declared.Character.{Character}
 use Rattle.read_characters.specs.declared.Character.the-variants.{Given, Nothing, Closed, Broken}
-use Rattle.read_tokens.specs.View.{quotationAt, Shows}
+use Rattle.read_tokens.specs.View.{quotationAt, ShowsToken}
 use Rattle.read_tokens.specs.declared.Token.{Token}
 use Rattle.read_tokens.specs.declared.Token.the-variants.{Quoted, Malformed}
 
@@ -29,7 +29,7 @@ quoted-starts text place h =
 -- what the string comes to, or how it goes on, after each character
 module _ {text : Bytes} {place at count : ℕ} (q : Quoted-to text place at count) where
   abbrev Shown : Token → ℕ → Type 0
-  Shown token past = Shows text (record { token = token; place = place; past = past }) (quotedAt place (quotationAt text place) .first)
+  Shown token past = ShowsToken text (record { token = token; place = place; past = past }) (quotedAt place (quotationAt text place) .first)
 
   abbrev pub QuotedOn : Character → Type 0
   QuotedOn (Given b past) = (at < past) × Quoted-to text place past (count + 1)

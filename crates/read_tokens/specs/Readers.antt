@@ -1,4 +1,4 @@
--- What a reader holds.
+-- What a reader holds: the table text and a place in it.
 use Prim.Native.Nat.{ℕ}
 use mathlib.Core.List.{List}
 use denote.Ref.{RefT}

@@ -1,4 +1,4 @@
--- The tokens of the code as those of the definitions: what a scanner hands back, seen in the text.
+-- Tokens as the scanners hand them back, with places in the text, and which of meaning's tokens each of them is.
 use Prim.Native.Nat.{ℕ, suc, _+_, _≤_, _<_}
 use mathlib.Core.Path.{_≡_}
 use mathlib.Core.List.{List, [], _∷_}
@@ -95,7 +95,7 @@ Sound text End place past = Unit {0}
 Sound text Malformed place past = Unit {0}
 
 -- a token of the code is one of the definitions
-pub record Shows (text : Bytes) (t : Placed) (shown : Tokens.Placed) : Type 0 where
+pub record ShowsToken (text : Bytes) (t : Placed) (shown : Tokens.Placed) : Type 0 where
   pub same : placedOf text t ≡ shown
   pub sound : Sound text (t .token) (t .place) (t .past)
 

@@ -16,7 +16,8 @@ ghost use lib.Seq.{slice};
 ghost use Rattle.meaning.specs.Classes.{inClass, alphabetic};
 ghost use Rattle.meaning.specs.Tokens as Tokens;
 ghost use Rattle.meaning.specs.Allowed.{wordByte, nameByte};
-ghost use Rattle.read_tokens.specs.View.{modeOf, runByte, RunsTo, LetterAt, quotationAt, tokenOf, Sound, Shows};
+ghost use Rattle.read_tokens.specs.View.{modeOf, runByte, RunsTo, LetterAt, quotationAt, tokenOf, Sound};
+ghost use Rattle.read_tokens.specs.View.{ShowsToken};
 
 // How a word is read: outside sentences and directly after `<` by the rule of function names, inside a sentence by that
 // of variables.
@@ -115,7 +116,7 @@ fn word_token(text: &[u8], at: usize, past: usize) -> Token
 }
 
 fn name_at(text: &[u8], at: usize) -> Placed
-    ensures { λ r. ⌜ Shows (now (text .entry)) r
+    ensures { λ r. ⌜ ShowsToken (now (text .entry)) r
         (Tokens.nameToken at (Tokens.run nameByte [] at (drop at (now (text .entry)))) .first) ⌝ }
 {
     let past = run_end(text, at, true);
@@ -131,7 +132,7 @@ fn name_at(text: &[u8], at: usize) -> Placed
 
 fn variable_at(text: &[u8], at: usize) -> Placed
     requires { ⌜ LetterAt (now text) at ⌝ }
-    ensures { λ r. ⌜ Shows (now (text .entry)) r
+    ensures { λ r. ⌜ ShowsToken (now (text .entry)) r
         (Tokens.wordToken at (Tokens.run wordByte [] at (drop at (now (text .entry)))) .first) ⌝ }
 {
     let past = run_end(text, at, false);
@@ -144,7 +145,7 @@ fn variable_at(text: &[u8], at: usize) -> Placed
 
 fn word_at(text: &[u8], at: usize, mode: Mode) -> Placed
     requires { ⌜ LetterAt (now text) at ⌝ }
-    ensures { λ r. ⌜ Shows (now (text .entry)) r
+    ensures { λ r. ⌜ ShowsToken (now (text .entry)) r
         (Tokens.wordAt (modeOf mode) at (drop at (now (text .entry))) .first) ⌝ }
 {
     match mode {
@@ -157,8 +158,8 @@ fn word_at(text: &[u8], at: usize, mode: Mode) -> Placed
 // A string from its opening quote on; all its faults stand there.
 fn quoted_at(text: &[u8], place: usize) -> Placed
     requires { ⌜ place < length (now text) ⌝ }
-    ensures { λ r. ⌜ Shows (now (text .entry)) r (Tokens.quotedAt place (quotationAt (now (text .entry)) place) .first)
-        ⌝ }
+    ensures { λ r. ⌜ ShowsToken (now (text .entry)) r
+        (Tokens.quotedAt place (quotationAt (now (text .entry)) place) .first) ⌝ }
 {
     let mut at = place + 1;
     let mut count = 0;
@@ -192,7 +193,7 @@ fn quoted_at(text: &[u8], place: usize) -> Placed
 // `<` has a letter right after it.
 fn bracket_at(text: &[u8], at: usize) -> Placed
     requires { ⌜ at < length (now text) ⌝ }
-    ensures { λ r. ⌜ Shows (now (text .entry)) r (Tokens.bracketAt at (drop (suc at) (now (text .entry)))
+    ensures { λ r. ⌜ ShowsToken (now (text .entry)) r (Tokens.bracketAt at (drop (suc at) (now (text .entry)))
         (Tokens.ahead (inClass alphabetic) (drop (suc at) (now (text .entry)))) .first) ⌝ }
 {
     if letter_ahead(text, at + 1) {
@@ -212,8 +213,8 @@ fn bracket_at(text: &[u8], at: usize) -> Placed
 
 // The token that begins at a place.
 fn token_at(text: &[u8], at: usize, mode: Mode) -> Placed
-    ensures { λ r. ⌜ Shows (now (text .entry)) r (Tokens.tokenAt (modeOf mode) at (drop at (now (text .entry))) .first)
-        ⌝ }
+    ensures { λ r. ⌜ ShowsToken (now (text .entry)) r
+        (Tokens.tokenAt (modeOf mode) at (drop at (now (text .entry))) .first) ⌝ }
 {
     if text.len() <= at {
         return Placed {
@@ -239,8 +240,8 @@ fn token_at(text: &[u8], at: usize, mode: Mode) -> Placed
 
 // The first token from a place on.
 pub fn lex(text: &[u8], from: usize, mode: Mode) -> Placed
-    ensures { λ r. ⌜ Shows (now (text .entry)) r (Tokens.lex (modeOf mode) from (drop from (now (text .entry))) .first)
-        ⌝ }
+    ensures { λ r. ⌜ ShowsToken (now (text .entry)) r
+        (Tokens.lex (modeOf mode) from (drop from (now (text .entry))) .first) ⌝ }
 {
     match skip(text, from) {
         Skipped::Found(at) => token_at(text, at, mode),

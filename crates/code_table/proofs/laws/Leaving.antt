@@ -11,7 +11,7 @@ use lib.ListN.{length, take, drop, length-take, length-replicate}
 use lib.Seq.{sets-eq, length-sets}
 use Rattle.meaning.specs.Leaving.{zeros}
 use Rattle.code_words.specs.Writing.{clearedFrom, Wrote}
-use Rattle.code_table.specs.Leaves.{Leaves}
+use Rattle.code_table.specs.Leaves.{LeavesCode}
 use Rattle.tape_words.proofs.laws.Lists.{take-again}
 
 -- words past the end of the tape don't count
@@ -38,7 +38,7 @@ module _ {words code₁ code₂ : List ℕ} {r : ℕ} (lent : List ℕ) (cleared
   same-room : length code₂ ≡ length lent
   same-room = ap length (wrote .left) ∙ length-sets code₁ 0 words ∙ room
 
-  pub leaves-code : r ≤ length code₂ → Leaves words (length lent) (record { fits = true; words = r }) code₂
+  pub leaves-code : r ≤ length code₂ → LeavesCode words (length lent) (record { fits = true; words = r }) code₂
   leaves-code h =
       let fits : leb (length words) (length lent) ≡ true = le-leb (length words) (length lent) (omega (arith, same-room, wrote .next)) in
       record {
@@ -50,7 +50,7 @@ module _ {words code₁ code₂ : List ℕ} {r : ℕ} (lent : List ℕ) (cleared
       }
 
   pub leaves-nothing : {code₃ : List ℕ} → length code₂ < r → code₃ ≡ clearedFrom 0 code₂ →
-      Leaves words (length lent) (record { fits = false; words = 0 }) code₃
+      LeavesCode words (length lent) (record { fits = false; words = 0 }) code₃
   leaves-nothing h e =
       let short : leb (length words) (length lent) ≡ false = lt-leb (length words) (length lent) (omega (arith, same-room, wrote .next)) in
       record { fits = sym short; count = rw short; cells = rw short (e ∙ cleared-whole code₂ ∙ rw same-room) }

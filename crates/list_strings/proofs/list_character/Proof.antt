@@ -5,7 +5,7 @@ use mathlib.Core.Path.{_≡_, sym, _∙_}
 use Rattle.meaning.specs.Choice.{pick}
 use Rattle.list_strings.specs.declared.State.{State}
 use Rattle.list_strings.specs.declared.State.the-variants.{InString, AfterCode}
-use Rattle.list_strings.specs.Steps.{characterStep, Wrote}
+use Rattle.list_strings.specs.Steps.{characterStep, WroteStep}
 use Rattle.list_strings.proofs.Sizes.{quoting-size}
 use borrow.Author.Needs.{needs}
 use Rattle.list_strings.proofs.list_character.Statement.{statement}
@@ -15,7 +15,7 @@ use Rattle.list_strings.proofs.list_character.Tie as tie
 left-here : (c : tie.After-is-coded) {after : State} → pick (c .is-coded .result) AfterCode InString ≡ after
     → let at-put-character = c .before .before .before in
     let a = at-put-character .before .before .before .before .before .before .before .args in
-    Wrote (a .at) (a .out .now) (characterStep (a .state) (a .character)) (record { state = after; at = at-put-character .put-character .result })
+    WroteStep (a .at) (a .out .now) (characterStep (a .state) (a .character)) (record { state = after; at = at-put-character .put-character .result })
     (at-put-character .put-character .last .1 .1 .0)
 left-here c e =
     let at-put-character = c .before .before .before in

@@ -21,6 +21,10 @@ found c =
     heads-read _ (at-table .shared-slice-known .given) (at-read .read .ensures) (c .find-heads .ensures)
     (c .find-heads .kept .1 .0 ∙ ap length (at-room .room .ensures))
 
+-- where the function began, from where the heads are found
+abbrev entry-of : (c : tie.After-find-heads) → tie.Start
+entry-of c = search
+
 read-requires : tie.Need-read-requires
 read-requires c κs = long-tape (search needs)
 
@@ -68,23 +72,15 @@ put-all-requires : tie.Need-put-all-requires
 put-all-requires c κs =
     let at-put-lines = c .before .before .before .before in
     let at-find-heads = at-put-lines .before .before .before .before .before in
-    omega (
-      arith,
-      at-find-heads .before .before .before .before .before .before .before .before .before .before .pre,
-      at-put-lines .put-lines .ensures .near,
-      found at-find-heads .few,
-    )
+    omega (arith, entry-of at-find-heads .pre, at-put-lines .put-lines .ensures .near, found at-find-heads .few)
 
 put-number-requires : tie.Need-put-number-requires
 put-number-requires c κs =
     let at-put-all = c .before .before .before in
     let at-put-lines = at-put-all .before .before .before .before .before in
     let at-find-heads = at-put-lines .before .before .before .before .before in
-    let entry = at-find-heads .before .before .before .before .before .before .before .before .before .before in
-    omega (arith, entry .pre, at-put-all .put-all .ensures .place, at-put-lines .put-lines .ensures .near, found at-find-heads .few)
-
-same-length : tie.Need-same-length
-same-length c = search needs
+    let pre = entry-of at-find-heads .pre in
+    omega (arith, at-put-all .put-all .ensures .place, at-put-lines .put-lines .ensures .near, found at-find-heads .few)
 
 returns : tie.Need-returns
 returns c =
@@ -114,5 +110,5 @@ put-profile-spec =
     slice-aggregate-put-all
     put-all-requires
     put-number-requires
-    same-length
+    (λ c. search needs)
     returns)

@@ -25,10 +25,10 @@ loop-holds c = pattern-starts _ _ _ _ _ (c .before .before .pre .0) (c .before .
 first : (c : tie.After-lex Inv-loop μ-loop) → let l = c .before .loop in
     let a = c .before .before .before .before .args in
     Comes (a .text .now) inside (l .p .at) (c .lex .result)
-first c = comes _ inside _ _ (c .before .loop .inv .held .ready .inside) (c .lex .ensures)
+first c = comes _ inside _ _ (c .before .loop .inv .going .ready .inside) (c .lex .ensures)
 
 add-requires : tie.Need-add-requires Inv-loop μ-loop
-add-requires c κs = (c .before .before .before .loop .inv .held, first (c .before .before))
+add-requires c κs = (c .before .before .before .loop .inv .going, first (c .before .before))
 
 -- after a token, whatever comes of it
 turned : (c : tie.After-add Inv-loop μ-loop) {r : Added} → c .add .result ≡ r
