@@ -53,7 +53,7 @@ same-length-2 : tie.Need-same-length-2 Inv-loop μ-loop
 same-length-2 c = long (c .before .before)
 
 same-length-3 : tie.Need-same-length-3 Inv-loop μ-loop
-same-length-3 c = omega (arith, long (c .before .before .before .before .before .before .before .before .before))
+same-length-3 c = omega (arith, long (search))
 
 returns : tie.Need-returns Inv-loop μ-loop
 returns c = conditions-done (looked (c .before) (not-true _ (c .if1 .taken)))
@@ -62,10 +62,9 @@ returns-2 : tie.Need-returns-2 Inv-loop μ-loop
 returns-2 c = conditions-many (at-comma (c .before)) (c .if2 .taken)
 
 condition-requires : tie.Need-condition-requires Inv-loop μ-loop
-condition-requires c κs = (
-  condition-ready (at-comma (c .before .before)),
-  c .before .before .before .before .before .before .before .before .before .pre .1,
-)
+condition-requires c κs =
+    let entry : tie.Start Inv-loop μ-loop = search in
+    (condition-ready (at-comma (c .before .before)), entry .pre .1)
 
 -- after a condition, whether it was read or not
 turned : (c : tie.After-condition Inv-loop μ-loop) {r : Parsed} → c .condition .result ≡ r

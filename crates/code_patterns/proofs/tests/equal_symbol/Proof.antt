@@ -38,7 +38,9 @@ put-requires : tie.Need-put-requires
 put-requires c κs = omega (arith, bounds (search))
 
 past-letter-requires : tie.Need-past-letter-requires
-past-letter-requires c κs = c .before .before .before .before .before .before .before .before .before .pre .1
+past-letter-requires c κs =
+    let entry : tie.Start = search in
+    entry .pre .1
 
 returns : tie.Need-returns
 returns c =

@@ -20,10 +20,10 @@ bounds c =
     rw (c .before .site-of .ensures, c .name-size .ensures)
     (room, named .fits, site-near (entry .args .lengths) (entry .pre .0 .0) (entry .pre .0 .1))
 
-found-here : (c : tie.After-find) → foundSite (c .find .result)
-    (c .before .before .before .before .before .before .before .before .before .args .sites .now) < 16896
+found-here : (c : tie.After-find) → let at-name-size = c .before .before .before in
+    foundSite (c .find .result) (at-name-size .before .before .before .before .before .before .args .sites .now) < 16896
 found-here c =
-    let entry = c .before .before .before .before .before .before .before .before .before in
+    let entry : tie.Start = search in
     found-good (entry .args .sites .now) (entry .pre .0 .0 .good) (c .find .result) .small
 
 looked : (c : tie.After-find) → let at-name-size = c .before .before .before in

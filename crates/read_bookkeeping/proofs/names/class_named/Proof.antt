@@ -10,17 +10,16 @@ use Rattle.read_bookkeeping.proofs.Naming.{Asked, asked-none, asked-all
 abbrev Left : tie.Start → List Class → Type 0
 Left s classes = Asked (part (s .args .text .now) (s .args .x)) classes
 
-no-digit : (c : tie.Else1) → Left (c .before .before .before .before) (upper ∷ lower ∷ alphabetic ∷ blank ∷ [])
+no-digit : (c : tie.Else1) → Left (search) (upper ∷ lower ∷ alphabetic ∷ blank ∷ [])
 no-digit c = asked-not (asked-none _) (c .before .spells .ensures) (c .if1 .left)
 
-no-upper : (c : tie.Else2) → Left (c .before .before .before .before .before .before .before) (lower ∷ alphabetic ∷ blank ∷ [])
+no-upper : (c : tie.Else2) → Left (search) (lower ∷ alphabetic ∷ blank ∷ [])
 no-upper c = asked-not (no-digit (c .before .before .before)) (c .before .spells2 .ensures) (c .if2 .left)
 
-no-lower : (c : tie.Else3) → Left (c .before .before .before .before .before .before .before .before .before .before) (alphabetic ∷ blank ∷ [])
+no-lower : (c : tie.Else3) → Left (search) (alphabetic ∷ blank ∷ [])
 no-lower c = asked-not (no-upper (c .before .before .before)) (c .before .spells3 .ensures) (c .if3 .left)
 
-no-letter : (c : tie.Else4) → Left (c .before .before .before .before .before .before .before .before .before .before .before .before .before)
-    (blank ∷ [])
+no-letter : (c : tie.Else4) → Left (search) (blank ∷ [])
 no-letter c = asked-not (no-lower (c .before .before .before)) (c .before .spells4 .ensures) (c .if4 .left)
 
 returns : tie.Need-returns
