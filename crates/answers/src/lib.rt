@@ -4,6 +4,10 @@ ghost use mathlib.Core.Path.{_≡_};
 ghost use lib.Dec.{eqb};
 ghost use Rattle.answers.specs.Numbers.{numberOf, endingNumber, isRefusal};
 
+// The lent buffer is too short for the code or the listing; a declared call is no tail call.
+pub const BUFFER_TOO_SHORT: u64 = 17;
+pub const NOT_TAIL_CALL: u64 = 19;
+
 // What a table text is answered with.
 pub enum Answer {
     Accepted,
@@ -89,5 +93,5 @@ pub fn is_refusal(number: u64) -> bool
     if number < 9 {
         return true;
     }
-    number == 17
+    number == BUFFER_TOO_SHORT
 }

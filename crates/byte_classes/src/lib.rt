@@ -344,14 +344,14 @@ pub fn is_name_byte(byte: u8) -> bool
 pub fn is_blank(byte: u8) -> bool
     ensures { λ r. ⌜ r ≡ isBlankByte byte ⌝ }
 {
-    if byte == 32 {
+    if byte == b' ' {
         return true;
     }
-    if byte == 9 {
+    if byte == b'\t' {
         return true;
     }
-    if byte == 10 {
+    if byte == b'\n' {
         return true;
     }
-    byte == 13
+    byte == b'\r'
 }

@@ -37,8 +37,8 @@ fn put_tens(number: u8, out: &mut [u8], at: usize) -> usize
     ensures { λ r. ⌜ Put at (now (out .entry))
         ((48 + number / 10 % 10) ∷ (48 + number % 10) ∷ []) r (now (out .exit)) ⌝ }
 {
-    let next = put(out, at, 48 + number / 10 % 10);
-    put(out, next, 48 + number % 10)
+    let next = put(out, at, b'0' + number / 10 % 10);
+    put(out, next, b'0' + number % 10)
 }
 
 // A byte's decimal digits.
@@ -47,12 +47,12 @@ pub fn put_decimal(number: u8, out: &mut [u8], at: usize) -> usize
     ensures { λ r. ⌜ Put at (now (out .entry)) (decimal number) r (now (out .exit)) ⌝ }
 {
     if number < 10 {
-        return put(out, at, 48 + number);
+        return put(out, at, b'0' + number);
     }
     if number < 100 {
         return put_tens(number, out, at);
     }
-    let next = put(out, at, 48 + number / 100);
+    let next = put(out, at, b'0' + number / 100);
     put_tens(number, out, next)
 }
 

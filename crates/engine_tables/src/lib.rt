@@ -1,4 +1,6 @@
 // What is asked of a table text: whether it is accepted and whether it is flat, its listing, its code.
+use answers::BUFFER_TOO_SHORT;
+use answers::NOT_TAIL_CALL;
 use tape_flatness::Place;
 use tape_flatness::nested_call;
 use tape_words::limits::MAX_TABLE;
@@ -45,7 +47,7 @@ fn tell_of_buffer(fits: bool, count: usize) -> Told
     if fits {
         return tell(0, 0, count);
     }
-    tell(17, 0, 0)
+    tell(BUFFER_TOO_SHORT, 0, 0)
 }
 
 fn read_on(table: &[u8], tape: &mut [u32]) -> Told
@@ -79,7 +81,7 @@ fn flat_on(table: &[u8], tape: &mut [u32]) -> Told
     let words = reading.words;
     let used = &tape[..words];
     match nested_call(used) {
-        Place::At(place) => tell(19, place, 0),
+        Place::At(place) => tell(NOT_TAIL_CALL, place, 0),
         Place::Nowhere => tell(number, reading.place, reading.functions),
     }
 }

@@ -9,7 +9,7 @@ use Rattle.meaning.specs.Classes.{className, digit, upper, lower, alphabetic, b
 use Rattle.list_strings.specs.declared.State.{State}
 use Rattle.list_strings.specs.Steps.{isQuoted}
 use Rattle.list_strings.proofs.Sizes.{pick-size, gap-size}
-use Rattle.list_items.specs.Steps.{ending, separator, classText, letterText}
+use Rattle.list_items.specs.Steps.{ending, separator, longestPredicate, classText, letterText}
 
 pub ending-size : (s : State) → length (ending s) ≤ 1
 ending-size s = pick-size (isQuoted s) (39 ∷ []) [] (omega arith) (omega arith)
@@ -20,7 +20,7 @@ parting-size s = rw length-append (omega (arith, ending-size s, gap-size s))
 pub letter-size : (bit : ℕ) → length (letterText bit) ≤ 2
 letter-size bit = pick-size (eqb bit 1) (32 ∷ 101 ∷ []) (32 ∷ 115 ∷ []) (omega arith) (omega arith)
 
-pub class-size : (class : ℕ) → length (classText class) ≤ 8
+pub class-size : (class : ℕ) → length (classText class) ≤ longestPredicate
 class-size class = named
   where
     four : Bytes
@@ -32,7 +32,7 @@ class-size class = named
     two : Bytes
     two = pick (eqb class 1) (className upper) three
 
-    named : length (pick (eqb class 0) (className digit) two) ≤ 8
+    named : length (pick (eqb class 0) (className digit) two) ≤ longestPredicate
     named =
         pick-size (eqb class 0) (className digit) two (omega arith)
         (pick-size (eqb class 1) (className upper) three (omega arith)

@@ -16,6 +16,10 @@ ending s = pick (isQuoted s) (39 ∷ []) []
 abbrev pub separator : State → Bytes
 separator s = ending s ++ gap s
 
+-- the bytes of the longest predicate's name, IsLetter
+abbrev pub longestPredicate : ℕ
+longestPredicate = 8
+
 -- a class's name by its number
 abbrev pub classText : ℕ → Bytes
 classText class =

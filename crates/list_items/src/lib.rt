@@ -17,9 +17,9 @@ ghost use mathlib.Core.Path.{_≡_};
 ghost use Prim.Native.Nat.{_+_, _<_};
 ghost use lib.ListN.{length};
 ghost use Rattle.byte_writing.specs.Put.{Put, farthest};
-ghost use Rattle.list_strings.specs.Steps.{WroteStep};
-ghost use Rattle.list_items.specs.Steps.{ending, separator, classText, letterText, truthText, conditionStep};
-ghost use Rattle.list_items.specs.Steps.{partedStep, endedStep};
+ghost use Rattle.list_strings.specs.Steps.{longestStep, WroteStep};
+ghost use Rattle.list_items.specs.Steps.{ending, separator, longestPredicate, classText, letterText, truthText};
+ghost use Rattle.list_items.specs.Steps.{conditionStep, partedStep, endedStep};
 
 // The closing quote, where a string is open.
 fn put_ending(state: State, out: &mut [u8], at: usize) -> usize
@@ -69,7 +69,7 @@ pub fn list_ended(state: State, text: &[u8], after: State, out: &mut [u8], at: u
 
 // A predicate's name.
 fn put_class(class: usize, out: &mut [u8], at: usize) -> usize
-    requires { ⌜ at + 8 < farthest ⌝ }
+    requires { ⌜ at + longestPredicate < farthest ⌝ }
     ensures { λ r. ⌜ Put at (now (out .entry)) (classText class) r (now (out .exit)) ⌝ }
 {
     if class == DIGIT {
@@ -106,7 +106,7 @@ fn put_letter(bit: usize, out: &mut [u8], at: usize) -> usize
 
 // A condition up to its variable's identifier.
 pub fn list_condition(state: State, carried: usize, out: &mut [u8], at: usize) -> Stepped
-    requires { ⌜ at + 20 < farthest ⌝ }
+    requires { ⌜ at + longestStep < farthest ⌝ }
     ensures { λ r. ⌜ WroteStep at (now (out .entry)) (conditionStep state carried) r (now (out .exit)) ⌝ }
 {
     let ended = put_ending(state, out, at);

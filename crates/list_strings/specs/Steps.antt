@@ -19,6 +19,10 @@ pub record Step : Type 0 where
 abbrev pub step : Bytes → State → Step
 step bytes state = record { bytes = bytes; state = state }
 
+-- no step but that of bytes handed in adds more bytes than these
+abbrev pub longestStep : ℕ
+longestStep = 20
+
 -- whether a string is open
 abbrev pub quotedIn : State → Quoted
 quotedIn Start = unquoted

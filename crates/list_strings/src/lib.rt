@@ -6,7 +6,8 @@ ghost use mathlib.Core.Path.{_≡_};
 ghost use Prim.Native.Nat.{_+_, _<_};
 ghost use Rattle.meaning.specs.Listing.{isAfterCode, isCoded, isEscaped, characterText};
 ghost use Rattle.byte_writing.specs.Put.{Put, farthest};
-ghost use Rattle.list_strings.specs.Steps.{quotedIn, isQuoted, isStart, gap, quoting, characterStep, WroteStep};
+ghost use Rattle.list_strings.specs.Steps.{longestStep, quotedIn, isQuoted, isStart, gap, quoting};
+ghost use Rattle.list_strings.specs.Steps.{characterStep, WroteStep};
 
 // How the listing stands between two words of the tape: at the beginning of a line; after an item; inside a string; in
 // one right after a code; or with so many bytes of a name to copy: a variable's or a call's, a condition's variable
@@ -76,16 +77,16 @@ fn is_after_code(state: State) -> bool
 fn is_coded(state: State, character: u8) -> bool
     ensures { λ r. ⌜ r ≡ isCoded (quotedIn state) character ⌝ }
 {
-    if character == 9 {
+    if character == b'\t' {
         return false;
     }
-    if character == 10 {
+    if character == b'\n' {
         return false;
     }
-    if character < 32 {
+    if character < b' ' {
         return true;
     }
-    if 126 < character {
+    if b'~' < character {
         return true;
     }
     if is_after_code(state) {
@@ -98,13 +99,13 @@ fn is_coded(state: State, character: u8) -> bool
 fn is_escaped(character: u8) -> bool
     ensures { λ r. ⌜ r ≡ isEscaped character ⌝ }
 {
-    if character == 39 {
+    if character == b'\'' {
         return true;
     }
-    if character == 34 {
+    if character == b'"' {
         return true;
     }
-    character == 92
+    character == b'\\'
 }
 
 // The blank between items, but for the beginning of a line.
@@ -142,10 +143,10 @@ fn put_character(state: State, character: u8, out: &mut [u8], at: usize) -> usiz
     if is_escaped(character) {
         return put_escape(character, out, at);
     }
-    if character == 9 {
+    if character == b'\t' {
         return put_escape(b't', out, at);
     }
-    if character == 10 {
+    if character == b'\n' {
         return put_escape(b'n', out, at);
     }
     put(out, at, character)
@@ -153,7 +154,7 @@ fn put_character(state: State, character: u8, out: &mut [u8], at: usize) -> usiz
 
 // A character, in a string of its own or joined to the one before it.
 pub fn list_character(state: State, character: u8, out: &mut [u8], at: usize) -> Stepped
-    requires { ⌜ at + 5 < farthest ⌝ }
+    requires { ⌜ at + longestStep < farthest ⌝ }
     ensures { λ r. ⌜ WroteStep at (now (out .entry)) (characterStep state character) r (now (out .exit)) ⌝ }
 {
     let opened = put_quoting(state, out, at);

@@ -20,13 +20,13 @@ ghost use mathlib.Core.Path.{_≡_};
 ghost use Prim.Native.Nat.{pred, _+_, _<_};
 ghost use lib.ListN.{length, take};
 ghost use Rattle.byte_writing.specs.Put.{Put, farthest};
-ghost use Rattle.list_strings.specs.Steps.{WroteStep};
+ghost use Rattle.list_strings.specs.Steps.{longestStep, WroteStep};
 ghost use Rattle.list_strings.specs.declared.State.the-variants.{Start};
 ghost use Rattle.list_table.specs.Words.{kindStep, itemStep, copyStep, wordStep, listFrom, Listable};
 
 // A word of a kind.
 pub fn list_kind(state: State, kind: u32, carried: usize, out: &mut [u8], at: usize) -> Stepped
-    requires { ⌜ at + 20 < farthest ⌝ }
+    requires { ⌜ at + longestStep < farthest ⌝ }
     ensures { λ r. ⌜ WroteStep at (now (out .entry)) (kindStep state kind carried) r (now (out .exit)) ⌝ }
 {
     match kind {
@@ -47,7 +47,7 @@ pub fn list_kind(state: State, kind: u32, carried: usize, out: &mut [u8], at: us
 
 // A word that is no byte of a name: a character, or a word of a kind.
 pub fn list_item(state: State, word: u32, out: &mut [u8], at: usize) -> Stepped
-    requires { ⌜ at + 20 < farthest ⌝ }
+    requires { ⌜ at + longestStep < farthest ⌝ }
     ensures { λ r. ⌜ WroteStep at (now (out .entry)) (itemStep state word) r (now (out .exit)) ⌝ }
 {
     if word < KIND_WIDTH {
@@ -97,7 +97,7 @@ pub fn one_less(n: usize) -> usize
 
 // One word: an item, or a byte of a name that is being copied.
 pub fn list_word(state: State, word: u32, out: &mut [u8], at: usize) -> Stepped
-    requires { ⌜ at + 20 < farthest ⌝ }
+    requires { ⌜ at + longestStep < farthest ⌝ }
     ensures { λ r. ⌜ WroteStep at (now (out .entry)) (wordStep state word) r (now (out .exit)) ⌝ }
 {
     let byte = (word % KIND_WIDTH) as u8;
