@@ -19,8 +19,11 @@ returns c = λ output «record». apply-spent _ _ _ _ _ (c .if1 .taken)
 abbrev at-count : tie.After-choose → tie.After-count-application
 at-count c = c .before .before .before .before .before .before
 
+abbrev at-if1 : tie.After-choose → tie.Else1
+at-if1 c = at-count c .before .before .before .before .before .before
+
 abbrev entry : tie.After-choose → tie.Start
-entry c = at-count c .before .before .before .before .before .before .before .before .before .before .before
+entry c = at-if1 c .before .before .before .before .before
 
 may : (c : tie.After-choose) → Payable (entry c .args .code .now) (entry c .args .allowance) (entry c .args .number) (entry c .args .g)
 may c =
@@ -29,8 +32,7 @@ may c =
       counted = pre .1 .0;
       positive = pre .1 .1 .0;
       within = pre .1 .1 .1 .0;
-      left =
-          at-count c .before .before .before .before .before .before .if1 .left;
+      left = at-if1 c .if1 .left;
     }
 
 meant : (c : tie.After-choose) (r : Choice) → c .choose .result ≡ r → choiceMeant (entry c .args .code .now) r ≡

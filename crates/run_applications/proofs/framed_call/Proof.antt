@@ -30,21 +30,20 @@ begin-frame-requires c κs =
 
 returns-3 : tie.Need-returns-3
 returns-3 c =
-    let entry = c .before .before .before .before .before .before .before .before .before .before .before .before .before .before .before .before in
-    let a = c .before .before .before .before .before .before .before .before .before .before .before .before .before .before .before .before .args in
+    let at-begin-frame = c .before .before .before .before .before in
+    let at-keep-caller = at-begin-frame .before .before .before .before in
+    let at-if2 = at-keep-caller .before .before in
+    let at-if1 = at-if2 .before in
+    let entry = at-if1 .before .before .before .before in
+    let a = entry .args in
     let k = a .g .frame in
     let calling = callingFrom k (a .g .at .0) (a .g .q .0) (a .frames .now) in
     let sized : length calling ≡ length (a .frames .now) = calling-length (a .frames .now) k (a .g .at .0) (a .g .q .0) in
-    let few : suc k < 256 = omega (arith, c .before .before .before .before .before .before .before .before .before .before .before .if2 .left) in
+    let few : suc k < 256 = omega (arith, at-if2 .if2 .left) in
     let there : HasFrame (suc k) calling = rw sized (not-crowded k (a .frames .now) (entry .pre .1 .1) few) in
-    λ input output «record» values. rw (
-      c .before .before .before .before .before .begin-frame .ensures,
-      c .before .before .before .before .before .before .before .before .before .keep-caller .ensures,
-      add-one k,
-    )
+    λ input output «record» values. rw (at-begin-frame .begin-frame .ensures, at-keep-caller .keep-caller .ensures, add-one k)
     (call-enters _ _ (a .number) (a .g) input output «record» (a .frames .now) values (entry .pre .0)
-    (c .before .before .before .before .before .before .before .before .before .before .before .before .if1 .left)
-    (omega (arith, c .before .before .before .before .before .before .before .before .before .before .before .if2 .left))
+    (at-if1 .if1 .left) (omega (arith, at-if2 .if2 .left))
     (begun (suc k) 0 0 0 calling) (rw (begun-length calling (suc k) 0 0 0 there) there) (begun-length calling (suc k) 0 0 0 there ∙ sized)
     (begun-counts calling (suc k) 0 0 0 there ∙ calling-counts (a .frames .now) k (a .g .at .0) (a .g .q .0))
     (begun-below calling (suc k) 0 0 0 there)

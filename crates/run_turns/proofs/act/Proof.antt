@@ -21,8 +21,11 @@ use Rattle.run_turns.proofs.act.Tie as tie
 
 -- WHERE A WORD IS DECODED: the registers, the code and what is lent, and the instruction as the actions from there on
 
+abbrev at-if1 : tie.After-decode → tie.Else1
+at-if1 c = c .before .before .before .before .before
+
 abbrev entry : tie.After-decode → tie.Start
-entry c = c .before .before .before .before .before .before .before .before .before .before .before .before
+entry c = at-if1 c .before .before .before .before .before .before .before
 
 abbrev g : tie.After-decode → Registers
 g c = entry c .args .g
@@ -38,7 +41,7 @@ acting : (c : tie.After-decode) → ActingInvariant (entry c .args .allowance) (
 acting c = entry c .pre .1
 
 within : (c : tie.After-decode) → g c .at .0 < length (words c)
-within c = c .before .before .before .before .before .if1 .left
+within c = at-if1 c .if1 .left
 
 read : (c : tie.After-decode) (i : Instruction) → c .decode .result ≡ i → unpackActions 0 (drop (g c .at .0) (words c)) ≡
     actionsMeant i (drop (g c .at .0 + 1) (words c))

@@ -15,7 +15,7 @@ use Rattle.run_turns.proofs.advance.Tie as tie
 -- WHERE AN APPLICATION HAS BEGUN: the registers, the code and what was lent at the entry
 
 abbrev entry : tie.After-enter → tie.Start
-entry c = c .before .before .before .before .before .before .before .before .before .before
+entry c = search
 
 abbrev words : tie.Start → Words
 words e = e .args .code .now
@@ -115,7 +115,8 @@ selected c = c .try-select .ensures _ _ _ _ (acting-second (before-select c))
 
 enter-requires : tie.Need-enter-requires
 enter-requires c κs =
-    let pre = c .before .before .before .before .before .before .before .before .before .pre in
+    let start : tie.Start = search in
+    let pre = start .pre in
     let r = pre .1 .1 .ready in
     (pre .0, (pre .1 .0, (r .room .selection, (r .room .frame, (r .room .values, r .counts)))))
 
@@ -194,10 +195,11 @@ same-length-15 c = use-enter (before-act (c .before .before .before .before .bef
 
 returns-4 : tie.Need-returns-4
 returns-4 c =
-    let at-select = (c .before .before .before .before .before .before .before .before .before .before .before .before) in
+    let at-act = c .before .before .before .before .before .before in
+    let at-select = at-act .before .before .before .before .before .before in
     let at-items = before-use (before-second (before-select at-select)) in
     turn-done _ _ (begun-first (before-items at-items)) (written at-items) (used-second (before-select at-select)) (selected at-select)
-    (c .before .before .before .before .before .before .act .ensures)
+    (at-act .act .ensures)
 
 pub advance-spec : {M : Type 1} → statement M
 advance-spec =

@@ -16,11 +16,14 @@ returns c = λ allowance input output «record» values. tries-nothing _ _ _ ref
 
 returns-2 : tie.Need-returns-2
 returns-2 c =
-    let entry = c .before .before .before .before .before .before .before .before .before .before .before .before .before .before in
+    let at-if1 = c .before .before .before in
+    let at-open-sequence = at-if1 .before .before .before in
+    let at-next = at-open-sequence .before .before .before in
+    let at-find-word = at-next .before .before in
+    let entry = at-find-word .before .before .before in
     let a = entry .args in
-    let taken = rw (c .before .before .before .before .before .before .before .before .before .next .given .1) at
-    (c .before .before .before .before .before .before .before .before .before .before .before .find-word .ensures) in
-    let opened = rw (c .before .before .before .if1 .taken) at (c .before .before .before .before .before .before .open-sequence .ensures) in
+    let taken = rw (at-next .next .given .1) at (at-find-word .find-word .ensures) in
+    let opened = rw (at-if1 .if1 .taken) at (at-open-sequence .open-sequence .ensures) in
     λ allowance input output «record» values acting. rw (taken .after, opened .1)
     (tries-action _ _ _ (Onward (stepped (a .g))) _ (taken .numbered .within) (found-means taken BeginSeq (rw (found-number taken))) refl
     (begin-kept (stepped (a .g)) (memory input output «record» (a .frames .now) values) (entry .pre .0 .frameRoom)

@@ -15,11 +15,12 @@ returns c =
 
 returns-2 : tie.Need-returns-2
 returns-2 c =
-    let taken = rw (c .before .before .before .before .before .before .before .before .before .before .before .next .given .1) at
-    (c .before .before .before .before .before .before .before .before .before .before .before .before .before .find-word .ensures) in
+    let at-use-seq = c .before .before .before .before in
+    let at-next = at-use-seq .before .before .before .before .before .before .before in
+    let taken = rw (at-next .next .given .1) at (at-next .before .before .find-word .ensures) in
     λ allowance «record» values. uses-action _ _ _ _ _ (taken .numbered .within) (found-means taken UseSeq (rw (found-number taken)))
-    (rw (c .before .before .before .before .use-seq .kept .1 .0))
-    (rw (taken .after) at (c .before .before .before .before .use-seq .ensures «record» values))
+    (rw (at-use-seq .use-seq .kept .1 .0))
+    (rw (taken .after) at (at-use-seq .use-seq .ensures «record» values))
 
 pub try-use-spec : {M : Type 1} → statement M
 try-use-spec =

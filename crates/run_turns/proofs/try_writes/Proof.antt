@@ -96,7 +96,7 @@ returns-2 c = c .before .before .before .before .loop .inv .1
 
 write-requires : tie.Need-write-requires Inv-loop μ-loop
 write-requires c κs =
-    let u = acting (c .before .before .before .before .before .before .before .before .before .before) .invariant in
+    let u = acting (search) .invariant in
     (u .ready .room .selection, (u .ready .room .written .below, (u .ready .room .frame, (u .current, u .ready .room .values))))
 
 returns-3 : tie.Need-returns-3 Inv-loop μ-loop

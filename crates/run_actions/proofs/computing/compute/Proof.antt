@@ -39,10 +39,11 @@ part-write-text-end c = handed (c .before .before) .within
 
 returns : tie.Need-returns
 returns c =
-    let a = c .before .before .before .before .before .before .before .before .before .before .before .before .before .before .args in
+    let at-count = c .before .before .before .before .before .before .before in
+    let a = at-count .before .before .before .before .before .before .before .args in
     λ «record» values frames. c .before .before .write-text .ensures (compute (operation (a .subtract))) (a .input .now) «record» values frames
     (result-writes (a .g) (memory (a .input .now) (a .output .now) «record» frames values) (operation (a .subtract))
-    (rw sub-zero (handed (c .before .before .before .before .before .before .before) .same)))
+    (rw sub-zero (handed at-count .same)))
 
 pub compute-spec : {M : Type 1} → statement M
 compute-spec =

@@ -4,15 +4,9 @@ use Rattle.run_actions.proofs.moving.open_sequence.Statement.{statement
 use Rattle.run_actions.proofs.moving.open_sequence.Tie as tie
 
 returns-2 : tie.Need-returns-2
-returns-2 c = (
-  rw (c .before .before .before .before .before .before .before .before .before .open-sequences .ensures) at
-      (c .before .before .before .before .before .before .before .before .if1 .left),
-  rw (
-    c .before .before .set-open-sequences .ensures,
-    c .before .before .before .before .before .before .keep-sequence-start .ensures,
-    c .before .before .before .before .before .before .before .before .before .open-sequences .ensures,
-  ),
-)
+returns-2 c =
+    let at-if1 : tie.Else1 = search in
+    (rw (at-if1 .before .open-sequences .ensures) at (at-if1 .if1 .left), cc)
 
 pub open-sequence-spec : {M : Type 1} → statement M
 open-sequence-spec =

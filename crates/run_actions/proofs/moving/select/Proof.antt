@@ -13,9 +13,11 @@ returns c =
 
 returns-2 : tie.Need-returns-2
 returns-2 c =
-    let entry = c .before .before .before .before .before .before .before .before .before in
+    let at-to = c .before .before .before .before in
+    let at-reach = at-to .before .before in
+    let entry = at-reach .before .before .before in
     λ output «record» values. selects _ _ (entry .pre .0 .ordered) (entry .pre .0 .inside) (entry .args .span) _
-    (sym (c .before .before .before .before .to .given .1) ∙ c .before .before .before .before .before .before .reach .ensures values)
+    (sym (at-to .to .given .1) ∙ at-reach .reach .ensures values)
 
 pub select-spec : {M : Type 1} → statement M
 select-spec =

@@ -15,17 +15,13 @@ put-requires c κs = omega (arith, c .before .before .room-from .ensures, c .bef
 
 returns-2 : tie.Need-returns-2
 returns-2 c =
-    λ input «record» values frames. rw (
-      c .before .before .before .out-after .ensures,
-      c .before .before .before .before .before .before .put .ensures,
-    )
-    (byte-written _ _ (c .before .before .before .before .before .before .before .before .before .before .before .before .pre)
-    (c .before .before .before .before .before .before .before .before .before .before .before .before .args .byte)
-    (omega (
-      arith,
-      c .before .before .before .before .before .before .before .before .before .room-from .ensures,
-      c .before .before .before .before .before .before .before .before .if1 .left,
-    )))
+    let at-out-after = c .before .before .before in
+    let at-put = at-out-after .before .before .before in
+    let at-if1 = at-put .before .before in
+    let at-room-from = at-if1 .before in
+    let entry = at-room-from .before .before .before in
+    λ input «record» values frames. rw (at-out-after .out-after .ensures, at-put .put .ensures)
+    (byte-written _ _ (entry .pre) (entry .args .byte) (omega (arith, at-room-from .room-from .ensures, at-if1 .if1 .left)))
 
 pub write-byte-spec : {M : Type 1} → statement M
 write-byte-spec =
