@@ -23,7 +23,7 @@ abbrev at-if1 : tie.After-choose → tie.Else1
 at-if1 c = at-count c .before .before .before .before .before .before
 
 abbrev entry : tie.After-choose → tie.Start
-entry c = at-if1 c .before .before .before .before .before
+entry c = search
 
 may : (c : tie.After-choose) → Payable (entry c .args .code .now) (entry c .args .allowance) (entry c .args .number) (entry c .args .g)
 may c =
@@ -45,7 +45,7 @@ meant c r e =
 count-application-requires : tie.Need-count-application-requires
 count-application-requires c κs =
     let at-if1 = c .before .before .before .before .before in
-    let entry = at-if1 .before .before .before .before .before in
+    let entry : tie.Start = search in
     let pre = entry .pre in
     let lent = pre .1 .1 .1 .1 in
     (pre .1 .1 .0, (omega (arith, lent .1 .0), λ i. omega (arith, lent .1 .1 .1 i, at-if1 .if1 .left, entry .fits .allowance)))

@@ -12,18 +12,20 @@ use Rattle.run_applications.proofs.framed_call.Statement.{statement}
 use Rattle.run_applications.proofs.framed_call.Tie as tie
 
 returns : tie.Need-returns
-returns c = λ input output «record» values. call-spent _ _ (c .before .before .before .before .args .number) _ _
-    (c .before .before .before .before .pre .0) (c .if1 .taken)
+returns c =
+    let entry : tie.Start = search in
+    λ input output «record» values. call-spent _ _ (entry .args .number) _ _ (entry .pre .0) (c .if1 .taken)
 
 returns-2 : tie.Need-returns-2
-returns-2 c = λ input output «record» values. call-full _ _ (c .before .before .before .before .before .args .number) _ _
-    (c .before .before .before .before .before .pre .0) (c .before .if1 .left) (omega (arith, c .if2 .taken))
+returns-2 c =
+    let entry : tie.Start = search in
+    λ input output «record» values. call-full _ _ (entry .args .number) _ _ (entry .pre .0) (c .before .if1 .left) (omega (arith, c .if2 .taken))
 
 begin-frame-requires : tie.Need-begin-frame-requires
 begin-frame-requires c κs =
     let at-keep-caller = c .before .before .before in
     let at-if2 = at-keep-caller .before .before in
-    let entry = at-if2 .before .before .before .before .before in
+    let entry : tie.Start = search in
     let few : suc (entry .args .g .frame) < 256 = omega (arith, at-if2 .if2 .left) in
     let there = not-crowded (entry .args .g .frame) (entry .args .frames .now) (entry .pre .1 .1) few in
     record { framed = omega (arith, few); frameRoom = omega (arith, there, at-keep-caller .keep-caller .kept .0) }
@@ -34,7 +36,7 @@ returns-3 c =
     let at-keep-caller = at-begin-frame .before .before .before .before in
     let at-if2 = at-keep-caller .before .before in
     let at-if1 = at-if2 .before in
-    let entry = at-if1 .before .before .before .before in
+    let entry : tie.Start = search in
     let a = entry .args in
     let k = a .g .frame in
     let calling = callingFrom k (a .g .at .0) (a .g .q .0) (a .frames .now) in
