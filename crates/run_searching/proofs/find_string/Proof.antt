@@ -10,7 +10,7 @@ add-find : tie.Need-add-find
 add-find c =
     let at-offset = c .before .before .before .before in
     let spelled = rw (at-offset .offset .given .1) at (at-offset .before .before .before .string-of .ensures) in
-    let pre = at-offset .before .before .before .before .before .before .before .before .before .pre in
+    let entry : tie.Start = search in
     omega (arith, spelled .near)
 
 sub-t23 : tie.Need-sub-t23
@@ -18,8 +18,8 @@ sub-t23 c =
     let at-find = c .before .before .before in
     let at-offset = at-find .before .before .before .before .before in
     let spelled = rw (at-offset .offset .given .1) at (at-offset .before .before .before .string-of .ensures) in
-    let a = at-offset .before .before .before .before .before .before .before .before .before .args in
-    string-after _ (a .field .now) (a .places) (a .first) _ _ spelled _
+    let entry : tie.Start = search in
+    string-after _ (entry .args .field .now) (entry .args .places) (entry .args .first) _ _ spelled _
     (simp sub-zero at (rw (c .before .place .given .1) at (at-find .find .ensures)))
 
 returns-4 : tie.Need-returns-4
