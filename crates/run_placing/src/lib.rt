@@ -197,7 +197,7 @@ pub fn find_place(
     if places == 0 {
         return Found::Nowhere;
     }
-    if looks_once(code, tests, count) {
+    if looks_once(code, tests, count, first + places, field.len()) {
         let at = tests.0;
         return scan(field, code[at], first, places);
     }

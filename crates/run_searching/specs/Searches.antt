@@ -1,5 +1,5 @@
 -- What a search finds, in the terms of meaning's Matching, and the tests that look for a string.
-use Prim.Native.Nat.{ℕ, suc, _≤_, _<_, _%_}
+use Prim.Native.Nat.{ℕ, suc, _+_, _≤_, _<_, _%_}
 use mathlib.Core.Path.{_≡_}
 use mathlib.Core.Bool.{Bool, true, false}
 use mathlib.Core.List.{List, [], _∷_}
@@ -8,7 +8,7 @@ use Rattle.meaning.specs.Choice.{Bytes}
 use Rattle.meaning.specs.Instructions.{fromPlace, Test, look}
 use Rattle.meaning.specs.Matching.{foundAt, foundNone, foundWrong}
 use Rattle.meaning.specs.Matching.{Found as Finding}
-use Rattle.meaning.specs.Packing.{Words, codeWord, lookNumber, fromPlaceNumber}
+use Rattle.meaning.specs.Packing.{Words, codeWord, secondIn, lookNumber, fromPlaceNumber}
 use Rattle.run_finding.specs.declared.Occurrence.{Occurrence}
 use Rattle.run_finding.specs.declared.Occurrence.the-variants.{At as Standing, Nowhere as NotThere, Unsuited}
 use Rattle.run_searching.specs.declared.Found.{Found}
@@ -23,15 +23,17 @@ foundMeant Wrong = foundWrong
 
 -- ONE LOOK
 
--- the only test is a Look from the middle template's place, by the number and the first operand of its word
-pub record OneLook (words : Words) (at count : ℕ) : Type 0 where
+-- the only test is a Look from the middle template's place, by the number and the first operand of its word, and it
+-- finds a cell in a whole of a length at each place before `past`
+pub record OneLook (words : Words) (at count past whole : ℕ) : Type 0 where
   pub one : count ≡ 1
   pub there : at < length words
   pub look : getD words at 0 % codeWord 0 0 1 0 ≡ codeWord lookNumber fromPlaceNumber 0 0
+  pub inside : past + secondIn (getD words at 0) ≤ whole
 
-abbrev pub LooksOnce : Bool → Words → ℕ → ℕ → Type 0
-LooksOnce true words at count = OneLook words at count
-LooksOnce false words at count = Unit {0}
+abbrev pub LooksOnce : Bool → Words → ℕ → ℕ → ℕ → ℕ → Type 0
+LooksOnce true words at count past whole = OneLook words at count past whole
+LooksOnce false words at count past whole = Unit {0}
 
 -- A STRING
 

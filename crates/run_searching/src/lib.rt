@@ -1,5 +1,5 @@
 // The leftmost place at which all tests pass: place by place, or by looking for a byte or a string.
-ghost use Prim.Native.Nat.{_+_, _≤_};
+ghost use Prim.Native.Nat.{_+_, _≤_, _<_, _^_};
 ghost use mathlib.Core.Path.{_≡_};
 ghost use lib.ListN.{length, drop};
 ghost use Rattle.meaning.specs.Instructions.{fromPlace};
@@ -68,9 +68,12 @@ pub fn search(
     Found::Nowhere
 }
 
-// Whether a Look from the middle template's place is the only test, the commonest that a middle template has.
-pub fn looks_once(code: &[u32], tests: CodePlace, count: usize) -> bool
-    ensures { λ r. ⌜ LooksOnce r (now (code .entry)) (tests .0) count ⌝ }
+// Whether a Look from the middle template's place is the only test, the commonest that a middle template has, and finds
+// a cell in a whole of a length at each place before one.
+pub fn looks_once(code: &[u32], tests: CodePlace, count: usize, past: usize, whole: usize) -> bool
+    requires { ⌜ past ≤ whole + 256 ⌝ }
+    requires { ⌜ whole < 2 ^ 63 ⌝ }
+    ensures { λ r. ⌜ LooksOnce r (now (code .entry)) (tests .0) count past whole ⌝ }
 {
     let at = tests.0;
     if count != 1 {
@@ -83,12 +86,16 @@ pub fn looks_once(code: &[u32], tests: CodePlace, count: usize) -> bool
     if word % SECOND != LOOK_FROM_PLACE {
         return false;
     }
+    let offset = wide(word / SECOND % OPERAND);
+    if whole < past + offset {
+        return false;
+    }
     true
 }
 
 // The leftmost of so many places so far before a byte: a Look from the middle template's place is the only test.
 pub fn scan(field: &[u8], word: u32, first: usize, places: usize) -> Found
-    requires { ⌜ first + places ≤ length (now field) + 256 ⌝ }
+    requires { ⌜ first + places + secondIn word ≤ length (now field) ⌝ }
     ensures { λ r. ⌜ foundMeant r ≡
         searched (tested (looking (fromPlace (secondIn word)) (thirdIn word)) (now (field .entry))) places first ⌝ }
 {
@@ -98,9 +105,6 @@ pub fn scan(field: &[u8], word: u32, first: usize, places: usize) -> Found
     let mut left = places;
     while 0 < left {
         let index = here + offset;
-        if field.len() <= index {
-            return Found::Wrong;
-        }
         if field[index] == byte {
             return Found::At(here);
         }
@@ -191,7 +195,7 @@ pub fn find_among(
         searched (checkAll (unpackTests count (drop (tests .0) (now (code .entry)))) (now (field .entry)))
         places first ⌝ }
 {
-    if looks_once(code, tests, count) {
+    if looks_once(code, tests, count, first + places, field.len()) {
         let at = tests.0;
         return scan(field, code[at], first, places);
     }

@@ -1,6 +1,8 @@
 -- `find_place` meets its contract.
 use borrow.Author.Needs.{needs}
 use native.Mathlib.Omega.{arith}
+use Prim.Native.Nat.{_+_}
+use lib.ListN.{length}
 use mathlib.Core.Path.{sym, _∙_}
 use Rattle.run_checking.proofs.laws.Testing.{no-tests}
 use Rattle.run_searching.specs.Searches.{OneLook}
@@ -14,7 +16,8 @@ returns c = sym (no-places _ _ _ (omega arith))
 
 -- WHERE ONE LOOK IS SCANNED FOR
 
-once : (c : tie.Then2) → let a = c .before .before .before .before .before .args in OneLook (a .code .now) (a .tests .0) (a .count)
+once : (c : tie.Then2) → let a = c .before .before .before .before .before .args in
+    OneLook (a .code .now) (a .tests .0) (a .count) (a .first + a .places) (length (a .field .now))
 once c = rw (c .if2 .taken) at (c .before .looks-once .ensures)
 
 mul-scan : tie.Need-mul-scan
@@ -23,7 +26,7 @@ mul-scan c = omega (arith, once c .there)
 returns-2 : tie.Need-returns-2
 returns-2 c =
     let a = c .before .before .before .before .before .before .before .args in
-    scanned (a .field .now) (a .code .now) (a .tests .0) (a .count) (a .places) (a .first) _ (once (c .before .before)) (c .scan .ensures)
+    scanned (a .field .now) (a .code .now) (a .tests .0) (a .count) _ _ (a .places) (a .first) _ (once (c .before .before)) (c .scan .ensures)
 
 -- WHERE THE HEAD COMES FIRST
 
@@ -52,10 +55,11 @@ find-place-spec =
     tie.close
     (tie.spec
     returns
+    (λ c. search needs)
     (λ c κs. search needs)
     mul-scan
     (λ c. search (needs, once (c .before) .there))
-    (λ c κs. search needs)
+    (λ c κs. once (c .before) .inside)
     returns-2
     (λ c κs. search needs)
     (λ c. search needs)

@@ -5,29 +5,26 @@ use lib.ListN.{length, getD, drop}
 use borrow.Author.Tests.{eq-eqb, ne-eqb}
 use Rattle.meaning.specs.Instructions.{fromPlace, look}
 use Rattle.meaning.specs.Choice.{Bytes}
-use Rattle.meaning.specs.Matching.{check, checkAll, Found, foundAt, foundWrong, search}
+use Rattle.meaning.specs.Matching.{check, checkAll, Found, foundAt, search}
 use Rattle.meaning.specs.Packing.{Words, secondIn, thirdIn, unpackTests}
-use Rattle.run_sites.proofs.laws.Lists.{nth-in, nth-out}
+use Rattle.run_sites.proofs.laws.Lists.{nth-in}
 use Rattle.run_checking.proofs.laws.Cells.{look-from}
 use Rattle.run_checking.proofs.laws.Testing.{one-test}
 use Rattle.run_searching.specs.Searches.{OneLook}
 use Rattle.run_searching.proofs.laws.Places.{next-place, search-agree}
 
 -- what is scanned for is what the tests ask
-pub scanned : (field : Bytes) (words : Words) (at count places first : ℕ) (r : Found) → OneLook words at count →
+pub scanned : (field : Bytes) (words : Words) (at count past whole places first : ℕ) (r : Found) → OneLook words at count past whole →
     r ≡ search (check (look (fromPlace (secondIn (getD words at 0))) (thirdIn (getD words at 0))) field) places first →
     r ≡ search (checkAll (unpackTests count (drop at words)) field) places first
-scanned field words at count places first r once e =
+scanned field words at count past whole places first r once e =
     let one = one-test field words at (once .there) in
     rw (once .one, search-agree _ _ places first (λ p h h′. one p), look-from _ 2 (once .look)) e
 
--- the field has no such cell, the byte stands there, or the search goes on
+-- the byte stands there, or the search goes on
 module _ (field : Bytes) (offset byte left place : ℕ) (some : 0 < left) where
   abbrev pub scanning : ℕ → ℕ → Found
   scanning left place = search (check (look (fromPlace offset) byte) field) left place
-
-  pub scan-past : length field ≤ place + offset → scanning left place ≡ foundWrong
-  scan-past h = rw (next-place (check (look (fromPlace offset) byte) field) left place some, nth-out field (place + offset) h)
 
   module _ (h : place + offset < length field) where
     pub scan-here : getD field (place + offset) 0 ≡ byte → scanning left place ≡ foundAt place
