@@ -12,7 +12,7 @@ pub struct Registers {
     pub r: OutCell,
     pub frame: usize,
     pub at: CodePlace,
-    pub steps: u32,
+    pub steps: usize,
     pub emitted: usize,
     pub callee: usize,
 }

@@ -177,7 +177,8 @@ pub fn apply(
         SimulatesApplication (now (code .entry)) allowance number g m r n) ⌝ }
 {
     let steps = g.steps;
-    if allowance <= steps {
+    let allowed = allowance as usize;
+    if allowed <= steps {
         return Next::Stopped(g, Ending::AllowanceSpent, 0);
     }
     let next = steps + 1;
@@ -211,7 +212,8 @@ fn framed_call(
         let n = memory input output «record» (now (frames .exit)) values in
         SimulatesAction (now (code .entry)) allowance (calling number) (g .at .0) g m r n) ⌝ }
 {
-    if allowance <= g.steps {
+    let allowed = allowance as usize;
+    if allowed <= g.steps {
         return Next::Stopped(g, Ending::AllowanceSpent, 0);
     }
     let frame = g.frame;

@@ -1,5 +1,5 @@
 // A run: the loop over instructions, what comes before it and after it.
-ghost use Prim.Native.Nat.{_-_, _≤_, _<_};
+ghost use Prim.Native.Nat.{_-_, _≤_, _<_, _^_};
 ghost use mathlib.Core.Path.{_≡_};
 ghost use lib.ListN.{length};
 ghost use Rattle.run_actions.specs.declared.registers.Next.the-variants.{Onward};
@@ -9,7 +9,7 @@ ghost use Rattle.meaning.specs.Runs.{runLent};
 ghost use Rattle.meaning.specs.Leaving.{roomOf as roomOfCells, afterRun};
 ghost use Rattle.run_actions.specs.States.{firstFrames, wordsFor, valuesFor, countsIn, memory};
 ghost use Rattle.run_applications.specs.Waiting.{countIn, soundIn, functionsIn};
-ghost use Rattle.run_applications.specs.Simulation.{Invariant, NextInvariant};
+ghost use Rattle.run_applications.specs.Simulation.{Invariant, NextInvariant, registersIn};
 ghost use Rattle.run_turns.specs.Turns.{IsOver};
 ghost use Rattle.run_code.specs.Following.{SimulatesUntil, HasEnded};
 ghost use Rattle.run_code.specs.Leaving.{cells, Leaves, refusedWith, finishedWith, reportedOf};
@@ -36,9 +36,12 @@ use run_turns::registers_of;
 use run_turns::status_of;
 use run_turns::step;
 
-pub fn refused(ending: Ending) -> Ran
+// A run that doesn't begin: nothing is counted.
+pub fn refused(ending: Ending, counts: &mut [u64; 64]) -> Ran
     ensures result { λ r. ⌜ r ≡ refusedWith ending ⌝ }
+    ensures leaves { λ _. ⌜ now (counts .exit) ≡ uncounted ⌝ }
 {
+    *counts = [0u64; 64];
     Ran {
         ending: ending,
         function: 0,
@@ -230,20 +233,22 @@ pub fn clear_from(cells: &mut [u8], start: usize)
     }
 }
 
-// A run that is done gives the text on out.
+// A run that is done gives the text on out. Its steps fit: they are no more than its allowance.
 fn finished(g: Registers) -> Ran
+    requires { ⌜ g .steps < 2 ^ 32 ⌝ }
     ensures result { λ r. ⌜ r ≡ finishedWith g ⌝ }
 {
     Ran {
         ending: Ending::Finished,
         function: 0,
-        steps: g.steps,
+        steps: g.steps as u32,
         text: bytes_up_to(g.r),
         emissions: g.emitted,
     }
 }
 
 fn reported(next: Next) -> Ran
+    requires { ⌜ registersIn next .steps < 2 ^ 32 ⌝ }
     ensures result { λ r. ⌜ r ≡ reportedOf next ⌝ }
 {
     match next {
@@ -253,7 +258,7 @@ fn reported(next: Next) -> Ran
         Next::Stopped(g, ending, function) => Ran {
             ending: ending,
             function: function,
-            steps: g.steps,
+            steps: g.steps as u32,
             text: 0,
             emissions: g.emitted,
         },

@@ -1,5 +1,10 @@
 // The two-stack string machine on code words.
+ghost use Prim.Native.Nat.{_≤_};
+ghost use mathlib.Core.Path.{_≡_};
+ghost use lib.ListN.{length};
+ghost use Rattle.meaning.specs.Outcome.{maxCounted};
 ghost use Rattle.meaning.specs.Leaving.{leaving};
+ghost use Rattle.run_actions.specs.States.{countsIn};
 ghost use Rattle.run_code.specs.Leaving.{cells, Leaves};
 
 mod following;
@@ -14,6 +19,16 @@ use run_actions::frames::first_values;
 use run_actions::frames::first_words;
 use run_actions::registers::Ran;
 use run_applications::declared;
+
+// The applications of each function, as they are handed back.
+fn counts_of(frames: &[usize]) -> [u64; 64]
+    requires { ⌜ maxCounted ≤ length (now frames) ⌝ }
+    ensures result { λ r. ⌜ r ≡ countsIn (now (frames .entry)) ⌝ }
+{
+    let mut counts = [0u64; 64];
+    copy_counts(frames, &mut counts);
+    counts
+}
 
 // A run of code words: what is answered, what is left in the lent cells, and how often each function was applied.
 pub fn run(
@@ -31,15 +46,14 @@ pub fn run(
         Leaves r (now (counts .exit)) (cells (now (input .exit)) (now (output .exit)) (now («record» .exit)))
         (leaving (now (code .entry)) start (now (text .entry)) before allowance)) ⌝ }
 {
-    *counts = [0u64; 64];
     if !sound_table(code) {
-        return refused(Ending::NoInstruction);
+        return refused(Ending::NoInstruction, counts);
     }
     if !declared(code, start) {
-        return refused(Ending::NoSuchStart);
+        return refused(Ending::NoSuchStart, counts);
     }
     if input.len() < text.len() {
-        return refused(Ending::TextTooLong);
+        return refused(Ending::TextTooLong, counts);
     }
     let mut frames = first_words();
     let mut values = first_values();
@@ -54,6 +68,6 @@ pub fn run(
         &mut values,
         allowance,
     );
-    copy_counts(&frames, counts);
+    *counts = counts_of(&frames);
     ran
 }

@@ -28,6 +28,7 @@ use Rattle.run_applications.specs.Waiting.{soundIn, functionsIn, waiting, outco
 use Rattle.run_applications.specs.Simulation.{Invariant, NextInvariant, registersIn, Simulates}
 use Rattle.run_code.specs.Following.{HasEnded}
 use Rattle.run_code.specs.Leaving.{cells, Tells, Leaves, refusedWith, reportedOf, clearedFrom, loadedWith}
+use Rattle.meaning_agreeing.proofs.laws.Depth.{countedOf, from-spent}
 use Rattle.run_applications.proofs.laws.Waiting.{entering-paid}
 use Rattle.run_code.proofs.laws.Tables.{unpacked}
 
@@ -95,6 +96,12 @@ module _ (room : Room) (allowance : ℕ) (words : Words) (m : Memory) where
         text = refl;
         emissions = sym (length-take-le (g .emitted) (m .«record») (k .logged));
       }
+
+  steps-end : (last : Next) → HasEnded last → countedOf (outcomeFrom room allowance words last m) .tally .steps ≡ registersIn last .steps
+  steps-end (Onward g) o = absurd o
+  steps-end (Deeper g) o = absurd o
+  steps-end (Done g) o = refl
+  steps-end (Stopped g ending function) o = refl
 
   counts-end : (last : Next) → HasEnded last → countsIn (m .frames) ≡ resultOf (textOf (outcomeFrom room allowance words last m)) .counts
   counts-end (Onward g) o = absurd o
@@ -209,6 +216,13 @@ module _ (text input input′ : Bytes) (l : Loaded text input input′) where
           room = refl;
           beyond = λ old e. e;
         }
+
+    -- no more steps are made than are allowed
+    pub steps-allowed : (last : Next) (m : Memory) → Simulates words allowance Whole Beginning Start last m → HasEnded last →
+        registersIn last .steps ≤ allowance
+    steps-allowed last m simulates over =
+        let made = ap (λ (o : Outcomes). countedOf o .tally .steps) (simulates .same) ∙ steps-end (roomOf Start) allowance words m last over in
+        omega (arith, made, from-spent (lent (roomOf Start)) (functionsIn words) start text allowance tt)
 
     -- and leaves what it should when it has been followed to its end
     pub ending : (last : Next) (m : Memory) → Simulates words allowance Whole Beginning Start last m → HasEnded last →

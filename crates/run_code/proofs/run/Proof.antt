@@ -18,7 +18,7 @@ use Rattle.run_code.proofs.run.Tie as tie
 -- WHERE THE TABLE IS LOOKED AT, WHERE IT IS SOUND, AND WHERE THE START IS DECLARED
 
 abbrev entry : tie.After-sound-table → tie.Start
-entry c = c .before .before .before .before .before .before .before
+entry c = c .before .before .before .before .before .before
 
 abbrev lent : tie.After-sound-table → Cells
 lent c = cells (entry c .args .input .now) (entry c .args .output .now) (entry c .args .«record» .now)
@@ -32,10 +32,11 @@ starts c = sym (c .before .declared .ensures) ∙ not-false _ (c .if2 .left)
 
 returns : tie.Need-returns
 returns c =
-    let at-sound-table = c .before .before in
+    let at-sound-table = c .before .before .before in
     rw (
-      c .refused .ensures,
-      leaving-unsound _ _ _ (lent at-sound-table) _ (sym (at-sound-table .sound-table .ensures) ∙ not-true _ (c .before .if1 .taken)),
+      c .refused .ensures .0,
+      c .refused .ensures .1,
+      leaving-unsound _ _ _ (lent at-sound-table) _ (sym (at-sound-table .sound-table .ensures) ∙ not-true _ (c .before .before .if1 .taken)),
     ) (refused-leaves NoInstruction (lent at-sound-table))
 
 declared-requires : tie.Need-declared-requires
@@ -43,19 +44,24 @@ declared-requires c κs = sound-counted (entry (c .before) .args .code .now) (so
 
 returns-2 : tie.Need-returns-2
 returns-2 c =
-    let at-declared = c .before .before in
+    let at-declared = c .before .before .before in
     let at-if1 = at-declared .before in
     rw (
-      c .refused2 .ensures,
-      leaving-undeclared _ _ _ (lent (at-if1 .before)) _ (sound at-if1) (sym (at-declared .declared .ensures) ∙ not-true _ (c .before .if2 .taken)),
+      c .refused2 .ensures .0,
+      c .refused2 .ensures .1,
+      leaving-undeclared _ _ _ (lent (at-if1 .before)) _ (sound at-if1)
+          (sym (at-declared .declared .ensures) ∙ not-true _ (c .before .before .if2 .taken)),
     ) (refused-leaves NoSuchStart (lent (at-if1 .before)))
 
 returns-3 : tie.Need-returns-3
 returns-3 c =
-    let at-if2 = c .before .before in
+    let at-if2 = c .before .before .before in
     let at-if1 = at-if2 .before .before in
-    rw (c .refused3 .ensures, leaving-long _ _ _ (lent (at-if1 .before)) _ (sound at-if1) (starts at-if2) (c .before .if3 .taken))
-    (refused-leaves TextTooLong (lent (at-if1 .before)))
+    rw (
+      c .refused3 .ensures .0,
+      c .refused3 .ensures .1,
+      leaving-long _ _ _ (lent (at-if1 .before)) _ (sound at-if1) (starts at-if2) (c .before .before .if3 .taken),
+    ) (refused-leaves TextTooLong (lent (at-if1 .before)))
 
 run-foreseen-requires : tie.Need-run-foreseen-requires
 run-foreseen-requires c κs =
@@ -76,18 +82,18 @@ run-foreseen-requires c κs =
       ),
     )
 
-copy-counts-requires : tie.Need-copy-counts-requires
-copy-counts-requires c κs =
-    let at-run-foreseen = c .before .before .before .before .before .before .before .before .before .before in
+counts-of-requires : tie.Need-counts-of-requires
+counts-of-requires c κs =
+    let at-run-foreseen = c .before .before .before .before .before .before .before .before .before in
     let at-words = at-run-foreseen .before .before .before .before .before .before .before in
-    (omega (arith, at-run-foreseen .run-foreseen .kept .1 .1 .1 .1 .1 .1 .0, at-words .first-words .ensures .0), refl)
+    omega (arith, at-run-foreseen .run-foreseen .kept .1 .1 .1 .1 .1 .1 .0, at-words .first-words .ensures .0)
 
 returns-4 : tie.Need-returns-4
 returns-4 c =
-    let at-run-foreseen = c .before .before .before .before .before .before .before .before .before .before .before in
+    let at-run-foreseen = c .before .before .before .before .before .before .before .before .before .before in
     let at-if3 = at-run-foreseen .before .before .before .before .before .before .before .before in
     let at-if1 = at-if3 .before .before .before in
-    rw (leaving-runs _ _ _ (lent (at-if1 .before)) _ (sound at-if1) (starts (at-if3 .before)) (at-if3 .if3 .left), c .copy-counts .ensures)
+    rw (leaving-runs _ _ _ (lent (at-if1 .before)) _ (sound at-if1) (starts (at-if3 .before)) (at-if3 .if3 .left), c .counts-of .ensures)
     (at-run-foreseen .run-foreseen .ensures)
 
 pub run-spec : {M : Type 1} → statement M
@@ -108,7 +114,7 @@ run-spec =
     (λ c. search needs)
     run-foreseen-requires
     (λ c. search needs)
-    copy-counts-requires
+    counts-of-requires
     (λ c. search needs)
     (λ c. search needs)
     (λ c. search needs)

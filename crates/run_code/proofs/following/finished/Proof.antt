@@ -7,4 +7,4 @@ returns : tie.Need-returns
 returns c = rw (c .bytes-up-to .ensures)
 
 pub finished-spec : {M : Type 1} → statement M
-finished-spec = tie.close (tie.spec (λ c κs. search needs) returns)
+finished-spec = tie.close (tie.spec (λ c. search needs) (λ c κs. search needs) returns)

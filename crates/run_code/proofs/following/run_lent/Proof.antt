@@ -8,11 +8,11 @@ use Rattle.meaning.specs.Machine.{isDeclared}
 use Rattle.meaning.specs.Outcome.{uncounted}
 use Rattle.run_actions.specs.States.{Memory, memory, countsIn}
 use Rattle.run_applications.specs.Waiting.{countIn, functionsIn}
-use Rattle.run_applications.specs.Simulation.{Invariant}
+use Rattle.run_applications.specs.Simulation.{Invariant, Simulates}
 use Rattle.run_applications.proofs.laws.Simulation.{simulates-on}
 use Rattle.run_applications.proofs.laws.Applying.{declared-some, begun-held, begun-counts}
 use Rattle.run_code.specs.Leaving.{loadedWith}
-use Rattle.run_code.proofs.laws.Leaving.{Loaded, invariant-start, starting, ending, reported-within}
+use Rattle.run_code.proofs.laws.Leaving.{Loaded, Whole, invariant-start, starting, steps-allowed, ending, reported-within}
 use borrow.Author.Needs.{needs}
 use Rattle.run_code.proofs.following.run_lent.Statement.{statement}
 use Rattle.run_code.proofs.following.run_lent.Tie as tie
@@ -86,6 +86,28 @@ follow-requires c κs =
       (p .0, (rw (at-copy .before .before .loaded .ensures) (invariant at-begin), (at-begin .begin-frame .kept .0 ∙ rooms .0, rooms .1 .0))),
     )
 
+-- the run as a whole
+simulated : (c : tie.After-follow-all) → let at-begin = beginning c in
+    let at-copy = loading at-begin in
+    let a = entry at-copy .args in
+    Simulates (a .code .now) (a .allowance)
+    (Whole _ _ _ (on-in at-copy) (a .output .now) (a .«record» .now) (at-begin .begin-frame .last .0) (a .values .now) (a .code .now) (a .start)
+    (a .allowance))
+    (loadedWith (length (a .input .now)) (length (a .text .now)) (a .start)) (begun-in at-begin) (c .follow-all .result) (left c)
+simulated c =
+    let at-begin = beginning c in
+    let at-copy = loading at-begin in
+    let followed = rw (at-copy .before .before .loaded .ensures) at (c .follow-all .ensures) in
+    simulates-on _ _ _ _ _ _ _ _ _ (starting _ _ _ (on-in at-copy) _ _ _ _ _ _ _ (invariant at-begin) (none at-begin) (declared at-copy))
+    (followed .simulates)
+
+reported-requires : tie.Need-reported-requires
+reported-requires c κs =
+    let at-follow = c .before .before .before .before .before .before .before .before .before .before in
+    let at-copy = loading (beginning at-follow) in
+    let few = steps-allowed _ _ _ (on-in at-copy) _ _ _ _ _ _ _ _ (left at-follow) (simulated at-follow) (at-follow .follow-all .ensures .ended) in
+    omega (arith, few, entry at-copy .fits .allowance)
+
 clear-from-requires-2 : tie.Need-clear-from-requires-2
 clear-from-requires-2 c κs =
     let at-follow = (c .before .before .before .before .before .before .before .before .before .before .before .before .before .before .before
@@ -107,18 +129,13 @@ returns : tie.Need-returns
 returns c =
     let at-follow = (c .before .before .before .before .before .before .before .before .before .before .before .before .before .before .before .before
     .before .before .before) in
-    let at-begin = beginning at-follow in
-    let at-copy = loading at-begin in
-    let followed = rw (at-copy .before .before .loaded .ensures) at (at-follow .follow-all .ensures) in
+    let at-copy = loading (beginning at-follow) in
     rw (
       c .before .before .before .before .before .before .clear-from .ensures,
       c .before .before .clear-from2 .ensures,
       c .before .before .before .before .before .before .before .before .reported .ensures,
     )
-    (ending _ _ _ (on-in at-copy) _ _ _ _ _ _ _ _ (left at-follow)
-    (simulates-on _ _ _ _ _ _ _ _ _ (starting _ _ _ (on-in at-copy) _ _ _ _ _ _ _ (invariant at-begin) (none at-begin) (declared at-copy))
-    (followed .simulates))
-    (followed .ended))
+    (ending _ _ _ (on-in at-copy) _ _ _ _ _ _ _ _ (left at-follow) (simulated at-follow) (at-follow .follow-all .ensures .ended))
 
 pub run-lent-spec : {M : Type 1} → statement M
 run-lent-spec =
@@ -129,7 +146,7 @@ run-lent-spec =
     (λ c κs. search needs)
     (λ c κs. search needs)
     follow-requires
-    (λ c κs. search needs)
+    reported-requires
     (λ c κs. search needs)
     clear-from-requires-2
     same-length
