@@ -11,8 +11,8 @@ use Rattle.meaning.specs.Tokens.{Token, Placed, comma, equals, lessThan, greate
 use Rattle.meaning.specs.Tokens.{itemOf, begins}
 use Rattle.meaning.specs.Grammar.{elementsOf}
 use Rattle.meaning_accepting.proofs.reading.Lists.{every-append}
-use Rattle.meaning_refusing.specs.Looking.{beforeFirst, pastFirst, afterLast, count, toList, namesFrom, called, declared, leads, begunFrom}
-use Rattle.meaning_refusing.specs.Looking.{begun, elementsIn, parting, sentenceIn}
+use Rattle.meaning_refusing.specs.Looking.{beforeFirst, pastFirst, afterLast, count, toList, namesFrom, called, leads, begunFrom}
+use Rattle.meaning_refusing.specs.Looking.{declaredNames, sentencesBegun, elementsIn, parting, sentenceIn}
 use Rattle.meaning_refusing.specs.Faults.{isMalformed, shortToken}
 use Rattle.meaning_refusing.proofs.Stages.{Stage, start, run, run-append, step}
 use Rattle.meaning_refusing.proofs.Sums.{SentenceSum, Sum, noSentence, addName, addItem, grow, next, atFirst, tallyFrom, tally}
@@ -242,8 +242,8 @@ sumOf b =
       stage = run start b;
       formed = every (λ t. not (isMalformed (t .token))) b;
       short = every (λ t. shortToken (t .token)) b;
-      names = declared b;
-      begun = begun b;
+      names = declaredNames b;
+      begun = sentencesBegun b;
       bracket = lastIs (isSign lessThan) false b;
       led = lastIs leads false b;
       sentence = sentenceOf (sentenceIn b);
@@ -270,8 +270,8 @@ sum-more b t =
       stage = step (run start b) t;
       formed = both (every (λ u. not (isMalformed (u .token))) b) (not (isMalformed (t .token)));
       short = both (every (λ u. shortToken (u .token)) b) (shortToken (t .token));
-      names = pick (not (lastIs (isSign lessThan) false b)) (addName (nameOf (t .token)) (declared b)) (declared b);
-      begun = pick (both (lastIs leads false b) (begins (t .token))) (suc (begun b)) (begun b);
+      names = pick (not (lastIs (isSign lessThan) false b)) (addName (nameOf (t .token)) (declaredNames b)) (declaredNames b);
+      begun = pick (both (lastIs leads false b) (begins (t .token))) (suc (sentencesBegun b)) (sentencesBegun b);
       bracket = isSign lessThan (t .token);
       led = leads (t .token);
       sentence = sentence-parted (parting (t .token)) (sentenceIn b) t i;

@@ -20,7 +20,7 @@ use Rattle.meaning.specs.Grammar.{noItems, stringThen, symbolThen, partThen, ca
 use Rattle.meaning.specs.Grammar.{lastSentenceParted, sentenceThen, IsFunction, isFunction, IsProgram, noFunctions, functionThen, functionPartedThen}
 use Rattle.meaning.specs.Reading.{unknownCall, unknownInSentences, unknownIn}
 use Rattle.meaning_accepting.proofs.reading.Basics.{both-left, both-right}
-use Rattle.meaning_refusing.specs.Looking.{namesFrom, declared}
+use Rattle.meaning_refusing.specs.Looking.{namesFrom, declaredNames}
 use Rattle.meaning_refusing.specs.Faults.{isUnknown, unknownFrom, undeclared}
 
 -- LOOKS ALONG TOKENS AND TREES
@@ -155,7 +155,7 @@ unfolding overTable declaredLook
 declared-table [] = refl
 declared-table (f ∷ t) = ap (λ z. f .name ∷ z) (declared-sentences (f .sentences) _ ∙ declared-table t)
 
-declared-names : {ts : List Placed} {t : Table} → IsProgram ts t → declared ts ≡ namesOf t
+declared-names : {ts : List Placed} {t : Table} → IsProgram ts t → declaredNames ts ≡ namesOf t
 unfolding declaredLook namesFrom
 declared-names {t = t} d = program-scan declaredLook d ∙ declared-table t
 
@@ -242,4 +242,4 @@ module _ (known : List Name) where
 -- the first unknown call of a tree is the first of the tokens that derive it
 pub unknown-program : (ts : List Placed) (t : Table) → IsProgram ts t → every allowedFunction t ≡ true → undeclared ts ≡ unknownIn t t
 unfolding unknownLook unknownFrom
-unknown-program ts t d a = program-scan (unknownLook (declared ts)) d ∙ unknown-table (declared ts) t (declared-names d) t a
+unknown-program ts t d a = program-scan (unknownLook (declaredNames ts)) d ∙ unknown-table (declaredNames ts) t (declared-names d) t a

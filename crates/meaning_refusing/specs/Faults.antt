@@ -20,7 +20,8 @@ use Rattle.meaning.specs.Tokens.{Token, functionName, word, quoted, sign, textE
 use Rattle.meaning.specs.Tokens.{lessThan, greaterThan, isSign, nameOf, Item, characters, symbolItem, partItem, noItem}
 use Rattle.meaning.specs.Tokens.{itemOf}
 use Rattle.meaning.specs.Grammar.{standing, IsProgram}
-use Rattle.meaning_refusing.specs.Looking.{count, declared, called, begun, elementsIn, leftSide, rightSide}
+use Rattle.meaning_refusing.specs.Looking.{count, declaredNames, called, sentencesBegun, elementsIn, leftSide}
+use Rattle.meaning_refusing.specs.Looking.{rightSide}
 use Rattle.meaning_refusing.specs.Looking.{patternIn, conditionsIn}
 
 -- 2: "comment or string without an end, escape not listed or over 255, bare double quote in a string, `<` with no
@@ -89,8 +90,8 @@ shortToken token = both (shortName (nameOf token)) (shortItem (itemOf token))
 abbrev pub withinLimits : Quota → List Placed → Bool
 withinLimits quota ts =
     both (every (λ t. shortToken (t .token)) ts)
-    (both (leb (length (declared ts)) (quota .functions))
-    (both (leb (begun ts) (quota .sentences))
+    (both (leb (length (declaredNames ts)) (quota .functions))
+    (both (leb (sentencesBegun ts) (quota .sentences))
     (both (leb (lettersIn (patternIn ts)) maxLetters)
     (both (leb (length (symbolsOf (patternIn ts))) maxSymbols)
     (both (leb (count (isSign comma) (leftSide ts)) maxConditions)
@@ -101,8 +102,8 @@ withinLimits quota ts =
 
 abbrev pub rightNames : List Placed → Bool
 rightNames ts =
-    both (distinct (declared ts))
-    (both (every (λ n. not (isReserved n)) (declared ts))
+    both (distinct (declaredNames ts))
+    (both (every (λ n. not (isReserved n)) (declaredNames ts))
     (both (every isPredicate (called (conditionsIn ts)))
     (every (λ n. not (isPredicate n)) (called (rightSide ts)))))
 
@@ -171,7 +172,7 @@ unknownFrom known after (t ∷ ts) =
     pick (both after (unknownName known (nameOf (t .token)))) (some (t .place)) later
 
 abbrev pub undeclared : List Placed → Option ℕ
-undeclared ts = unknownFrom (declared ts) false ts
+undeclared ts = unknownFrom (declaredNames ts) false ts
 
 -- REFUSED TEXTS
 

@@ -42,8 +42,8 @@ namesFrom wanted after (t ∷ ts) =
 abbrev pub called : List Placed → List Name
 called ts = namesFrom (λ after. after) false ts
 
-abbrev pub declared : List Placed → List Name
-declared ts = namesFrom not false ts
+abbrev pub declaredNames : List Placed → List Name
+declaredNames ts = namesFrom not false ts
 
 -- how many sentences begin: with a token that one can begin with, right after a `{` or a `;`; the flag says whether one
 -- of these stands right before the tokens
@@ -54,8 +54,8 @@ unfoldable pub begunFrom : Bool → List Placed → ℕ
 begunFrom led [] = 0
 begunFrom led (t ∷ ts) = pick (both led (begins (t .token))) 1 0 + begunFrom (leads (t .token)) ts
 
-abbrev pub begun : List Placed → ℕ
-begun ts = begunFrom false ts
+abbrev pub sentencesBegun : List Placed → ℕ
+sentencesBegun ts = begunFrom false ts
 
 -- characters and variables
 unfoldable pub elementsIn : List Placed → List Element

@@ -23,7 +23,7 @@ use Rattle.run_applications.specs.Waiting.{measureBelow, measure}
 -- THE INVARIANT
 
 -- an application may begin: the registers stay within what is lent and allowed, and so do the frames that wait
-pub record Ready (allowance : ℕ) (g : Registers) (m : Memory) : Type 0 where
+pub record ReadyToApply (allowance : ℕ) (g : Registers) (m : Memory) : Type 0 where
   pub room : WithinRoom g m
   pub paid : g .steps ≤ allowance
   pub counts : CountsWithin (g .steps) (m .frames)
@@ -31,7 +31,7 @@ pub record Ready (allowance : ℕ) (g : Registers) (m : Memory) : Type 0 where
 
 -- a run goes on: an application may begin, or, as the words of the current frame agree, an instruction come next
 pub record Invariant (allowance : ℕ) (g : Registers) (m : Memory) : Type 0 where
-  pub ready : Ready allowance g m
+  pub ready : ReadyToApply allowance g m
   pub current : Held (g .frame) (m .frames)
 
 -- a run goes on with an instruction that may add a frame, for which there is no room
@@ -97,7 +97,7 @@ abbrev pub SimulatesSentence : Words → ℕ → ℕ → ℕ → ℕ → Registe
 SimulatesSentence words allowance at stores stored g m next n =
     let actions = unpackActions 0 (drop (stores + stored) words) in
     let field = take (g .q .0 - g .p .0) (drop (g .p .0) (m .input)) in
-    Ready allowance g m →
+    ReadyToApply allowance g m →
     SimulatesBelow words allowance
     (returning (roomOf m) allowance words g m
     (started (lent (roomOf m)) (functionsIn words) (entering (roomOf m) allowance words) (suc (g .frame)) actions at

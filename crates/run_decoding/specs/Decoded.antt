@@ -54,14 +54,14 @@ pub record Numbered (words : Words) (at n : ℕ) : Type 0 where
   pub number : numberIn (getD words at 0) ≡ n
 
 -- it is found, and the place after it
-pub record Taken (words : Words) (at n w : ℕ) (next : CodePlace) : Type 0 where
+pub record WordTaken (words : Words) (at n w : ℕ) (next : CodePlace) : Type 0 where
   pub numbered : Numbered words at n
   pub word : w ≡ getD words at 0
   pub after : next ≡ record { 0 = at + 1 }
 
-abbrev pub Finds : Words → ℕ → ℕ → Found → Type 0
-Finds words at n (Word w next) = Taken words at n w next
-Finds words at n Other = Numbered words at n → ⊥
+abbrev pub FindsWord : Words → ℕ → ℕ → Found → Type 0
+FindsWord words at n (Word w next) = WordTaken words at n w next
+FindsWord words at n Other = Numbered words at n → ⊥
 
 -- WHAT AN INSTRUCTION MEANS
 

@@ -18,7 +18,7 @@ use code_numbers::wide::PLUS;
 use run_code_places::CodePlace;
 use run_code_places::wide;
 ghost use mathlib.Core.Path.{_≡_};
-ghost use Rattle.run_decoding.specs.Decoded.{callIn, computationIn, instructionIn, Finds};
+ghost use Rattle.run_decoding.specs.Decoded.{callIn, computationIn, instructionIn, FindsWord};
 
 // What writes to out: the selected cells, a character, a stored value.
 pub enum Write {
@@ -99,7 +99,7 @@ pub fn decode(word: u32) -> Instruction
 
 // The word at a place, where it has a number, and the place after it.
 pub fn find_word(code: &[u32], at: CodePlace, number: u32) -> Found
-    ensures { λ r. ⌜ Finds (now (code .entry)) (at .0) number r ⌝ }
+    ensures { λ r. ⌜ FindsWord (now (code .entry)) (at .0) number r ⌝ }
 {
     let from = at.0;
     if code.len() <= from {

@@ -28,7 +28,7 @@ use Rattle.run_actions.specs.States.{wordsBelow, withWord, begun}
 use Rattle.run_actions.proofs.laws.Frames.{word-set, word-kept, waiting-kept, counts-kept}
 use Rattle.run_applications.specs.Storing.{Stores}
 use Rattle.run_applications.specs.Waiting.{countIn, functionsIn, returning}
-use Rattle.run_applications.specs.Simulation.{Ready, SimulatesBelow, SimulatesSentence}
+use Rattle.run_applications.specs.Simulation.{ReadyToApply, SimulatesBelow, SimulatesSentence}
 use Rattle.meaning.proofs.laws.Remaining.{past-end}
 use Rattle.run_applications.proofs.laws.Waiting.{measure-same, waits-same, waiting-same, waiting-stop}
 
@@ -70,7 +70,7 @@ module _ (words : Words) (counted : countIn words < length words) where
 
 -- AN INSTRUCTION THAT ENDS THE RUN
 
-module _ (words : Words) (allowance : ℕ) (g : Registers) (m n : Memory) (r : Ready allowance g m) where
+module _ (words : Words) (allowance : ℕ) (g : Registers) (m n : Memory) (r : ReadyToApply allowance g m) where
   -- the outcome in the frame is the run's; the values, the frames and the counts may have changed
   pub stopping : (tocome : Outcomes) (bound : ℕ) (ending : Ending) (function : ℕ) (h : Registers) → 0 < bound →
       tocome ≡ stop (endingNumber ending) function (ledgerOf allowance h n) →

@@ -31,7 +31,7 @@ use Rattle.run_actions.proofs.laws.Frames.{counts-counted, counted-words, count
 use Rattle.run_applications.specs.Waiting.{countIn, functionsIn, entering, continuationAt, waiting, returning, outcomeOfApplication}
 use Rattle.run_applications.specs.Waiting.{outcomeOfActions, Waits, outcomeOfAction, measureWaiting}
 use Rattle.run_applications.specs.Waiting.{measureBelow, calledIn, recoveredBy}
-use Rattle.run_applications.specs.Simulation.{Ready, Invariant, SimulatesBelow, SimulatesAction, SimulatesApplication, SimulatesSentence}
+use Rattle.run_applications.specs.Simulation.{ReadyToApply, Invariant, SimulatesBelow, SimulatesAction, SimulatesApplication, SimulatesSentence}
 use Rattle.run_applications.proofs.laws.Waiting.{measure-same, held-same, waits-same, waiting-same, entering-paid}
 use Rattle.run_applications.proofs.laws.Applying.{code-at, stopping}
 
@@ -41,8 +41,8 @@ module _ (words : Words) (allowance number : ℕ) (g : Registers) (m : Memory) w
   -- the registers of a function that is called keep within what is lent, as its caller's do
   called-ready : (frame size : ℕ) (frames : List ℕ) → frame < 256 → HasFrame frame frames → length frames ≡ length (m .frames) → countsIn frames
       ≡ countsIn (m .frames) →
-      ((i : ℕ) → i < frame → Waits (length (m .input)) i frames) → Ready allowance g m →
-      Ready allowance (calledIn frame size number g) (memory (m .input) (m .output) (m .«record») frames (m .values))
+      ((i : ℕ) → i < frame → Waits (length (m .input)) i frames) → ReadyToApply allowance g m →
+      ReadyToApply allowance (calledIn frame size number g) (memory (m .input) (m .output) (m .«record») frames (m .values))
   called-ready frame size frames framed there sized counted waits r =
       record {
         room =
@@ -159,7 +159,7 @@ module _ (words : Words) (allowance number : ℕ) (g : Registers) (m : Memory) w
     counted-waiting : (k : ℕ) → wordsBelow k (m .frames) ≡ wordsBelow k (countedIn number (m .frames))
     counted-waiting k = ap (take (24 * k)) (sym (counted-words (m .frames) number (may .positive)))
 
-    ready-paid : Ready allowance g m → Ready allowance (paidOf g) (countedFor number m)
+    ready-paid : ReadyToApply allowance g m → ReadyToApply allowance (paidOf g) (countedFor number m)
     ready-paid r =
         record {
           room =

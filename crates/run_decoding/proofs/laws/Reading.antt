@@ -19,7 +19,7 @@ use Rattle.run_decoding.specs.declared.Instruction.{Instruction}
 use Rattle.run_decoding.specs.declared.Write.the-variants.{Out, OutC, OutV}
 use Rattle.run_decoding.specs.declared.Instruction.the-variants.{Go, Select, Write as Writes, BeginSeq, UseSeq, Call as Calls, Emit, Compute}
 use Rattle.run_decoding.specs.declared.Instruction.the-variants.{End, Unknown}
-use Rattle.run_decoding.specs.Decoded.{callIn, computationIn, instructionIn, Numbered, Taken, actionsMeant}
+use Rattle.run_decoding.specs.Decoded.{callIn, computationIn, instructionIn, Numbered, WordTaken, actionsMeant}
 use Rattle.meaning.proofs.laws.Remaining.{at-place, past-end}
 
 module _ (w : ℕ) (ws : Words) where
@@ -131,11 +131,11 @@ pub actions-at : (words : Words) (at : ℕ) (i : Instruction) → i ≡ instruct
 actions-at words at i e h = rw (at-place words at h, e) (meant (getD words at 0) (drop (at + 1) words))
 
 -- a word that is found, as the actions from its place on
-pub found-means : {words : Words} {at n w : ℕ} {next : CodePlace} → Taken words at n w next → (i : Instruction) → i ≡ instructionIn w →
+pub found-means : {words : Words} {at n w : ℕ} {next : CodePlace} → WordTaken words at n w next → (i : Instruction) → i ≡ instructionIn w →
     unpackActions 0 (drop at words) ≡ actionsMeant i (drop (at + 1) words)
 found-means {words} {at} t i e = actions-at words at i (e ∙ ap instructionIn (t .word)) (t .numbered .within)
 
-pub found-number : {words : Words} {at n w : ℕ} {next : CodePlace} → Taken words at n w next → numberIn w ≡ n
+pub found-number : {words : Words} {at n w : ℕ} {next : CodePlace} → WordTaken words at n w next → numberIn w ≡ n
 found-number t = ap numberIn (t .word) ∙ t .numbered .number
 
 pub actions-none : (words : Words) (at : ℕ) → length words ≤ at → unpackActions 0 (drop at words) ≡ unknownAction ∷ []

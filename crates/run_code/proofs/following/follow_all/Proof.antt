@@ -8,14 +8,14 @@ use Rattle.run_code.proofs.following.follow_all.Tie as tie
 -- WHERE THE RUN HAS BEEN FOLLOWED, AND WHERE IT GOES ON DEEPER
 
 abbrev followed : tie.After-last → tie.After-follow
-followed c = c .before .before .before .before .before .before .before .before .before .before .before .before
+followed c = search
 
 abbrev entry : tie.After-follow → tie.Start
-entry c = c .before .before .before .before .before .before .before .before .before .before .before .before
+entry c = search
 
 returns : tie.Need-returns
 returns c =
-    let at-follow = c .before .before .before .before .before .before .before .before .before .before .before in
+    let at-follow : tie.After-follow = search in
     record {
       simulates = at-follow .follow .ensures .simulates;
       ended =
