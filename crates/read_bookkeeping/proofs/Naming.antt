@@ -1,4 +1,4 @@
--- What a name is: a predicate, built in, declared, too long.
+-- What a name is: a predicate, known, too long.
 use Prim.Native.Nat.{ℕ, _+_, _-_, _≤_, _<_}
 use mathlib.Core.Path.{_≡_, refl, sym, _∙_}
 use mathlib.Core.Bool.{Bool, true, false, not, true≢false}
@@ -9,11 +9,11 @@ use lib.Dec.{leb, ltb, eqb}
 use lib.ListN.{length}
 use Rattle.meaning.specs.Choice.{Bytes, Name, pick, both, either, sameBytes}
 use Rattle.meaning.specs.Classes.{Class, className, classes}
-use Rattle.meaning.specs.Angles.{plus, minus}
-use Rattle.meaning.specs.Names.{isEmission, operationName, isBuiltIn, classNamed, predicateOf, isPredicate}
+use Rattle.meaning.specs.Names.{isBuiltIn, classNamed, predicateOf, isPredicate}
 use Rattle.meaning.specs.Answers.{overLimit, wrongName, wrongLaterVariable}
-use Rattle.meaning.specs.Allowed.{member, maxIdentifier}
+use Rattle.meaning.specs.Allowed.{member, maxName, maxIdentifier}
 use Rattle.meaning.specs.Reading.{faultUnless, calledFault, subjectFault}
+use Rattle.tape_words.specs.Finding.{isKnownAmong}
 use Rattle.read_tokens.specs.View.{part}
 use Rattle.read_tokens.specs.declared.Span.{Span}
 use Rattle.read_bookkeeping.specs.declared.names.Class.{Class as CodeClass}
@@ -59,20 +59,6 @@ module _ (name : Name) {p : Predicate} (e : predicateMeant p ≡ predicateOf nam
   pub no-predicate : p ≡ NoPredicate → false ≡ isPredicate name
   no-predicate f = rw (← e, f)
 
--- BUILT-IN NAMES
-
-module _ (n : Name) {emits : Bool} (e : emits ≡ isEmission n) where
-  pub emission-built-in : emits ≡ true → true ≡ isBuiltIn n
-  emission-built-in h = rw (← e, h)
-
-  module _ (h : emits ≡ false) {adds : Bool} (f : adds ≡ sameBytes n (operationName plus)) where
-    pub plus-built-in : adds ≡ true → true ≡ isBuiltIn n
-    plus-built-in k = rw (← e, h, ← f, k)
-
-    pub minus-built-in : adds ≡ false → (subtracts : Bool) → subtracts ≡ sameBytes n (operationName minus) → subtracts ≡ isBuiltIn n
-    minus-built-in k true g = rw (← e, h, ← f, k, ← g)
-    minus-built-in k false g = rw (← e, h, ← f, k, ← g)
-
 -- FAULTS OF NAMES
 
 module _ (text : Bytes) (x : Span) (p : Inside text x) where
@@ -111,16 +97,12 @@ pub record Asked-called (text : Bytes) (x : Span) (number : ℕ) (is : Bool) : T
   pub accepted : is ≡ eqb number 0
 
 -- a declared name, by what is wrong with it where it is called
-module _ {text : Bytes} {x : Span} {number : ℕ} {is : Bool} (a : Asked-called text x number is) {table : List ℕ} {functions : ℕ}
-    (k : Entries text table 0 functions) where
+module _ {text : Bytes} {x : Span} {number : ℕ} {is : Bool} (a : Asked-called text x number is) (names : List Name) where
   abbrev n : Name
   n = part text x
 
-  abbrev names : List Name
-  names = tableNames text table 0 functions
-
   pub declared-wrong : not is ≡ true → number ≡ declaredFaultIn names n
-  declared-wrong w = a .fault ∙ wrong (leb (length n) 24) (isPredicate n) (rw (a .fault) at (a-fault-here (a .fault) (a .accepted) w))
+  declared-wrong w = a .fault ∙ wrong (leb (length n) maxName) (isPredicate n) (rw (a .fault) at (a-fault-here (a .fault) (a .accepted) w))
     where
       wrong : (short predicate : Bool) → eqb (faultUnless short overLimit (faultUnless (not predicate) wrongName 0)) 0 ≡ false
           → faultUnless short overLimit (faultUnless (not predicate) wrongName 0)
@@ -129,17 +111,16 @@ module _ {text : Bytes} {x : Span} {number : ℕ} {is : Bool} (a : Asked-called 
       wrong true true w′ = refl
       wrong true false w′ = absurd (true≢false w′)
 
-  pub declared-is : not is ≡ false → {builtIn known : Bool} → isBuiltIn n ≡ builtIn → member n names ≡ known
-      → faultUnless (both (not builtIn) (not known)) wrongName 0 ≡ declaredFaultIn names n
-  declared-is w {builtIn} {known} f g = right (leb (length n) 24) (isPredicate n) (no-fault-here (a .fault) (a .accepted) w)
+  pub declared-known : not is ≡ false → {m : Name} → m ≡ n → {known : Bool} → known ≡ isKnownAmong names m
+      → pick known wrongName 0 ≡ declaredFaultIn names n
+  declared-known w spelled e =
+      rw (e, spelled) (right (leb (length n) maxName) (isPredicate n) (isBuiltIn n) (member n names) (no-fault-here (a .fault) (a .accepted) w))
     where
-      right : (short predicate : Bool) → faultUnless short overLimit (faultUnless (not predicate) wrongName 0) ≡ 0
-          → faultUnless (both (not builtIn) (not known)) wrongName 0
-          ≡ faultUnless short overLimit (faultUnless (both (not (either predicate (isBuiltIn n))) (not (member n names))) wrongName 0)
-      right true false z = rw (f, g)
-      right true true z = absurd (omega arith)
-      right false predicate z = absurd (omega arith)
-
-  pub declared-known : not is ≡ false → isBuiltIn n ≡ false → {known : Bool} → member n names ≡ known → pick known wrongName 0 ≡
-      declaredFaultIn names n
-  declared-known w f {known} g = fault-if known wrongName ∙ declared-is w f g
+      right : (short predicate builtIn among : Bool) → faultUnless short overLimit (faultUnless (not predicate) wrongName 0) ≡ 0
+          → pick (either builtIn among) wrongName 0
+          ≡ faultUnless short overLimit (faultUnless (both (not (either predicate builtIn)) (not among)) wrongName 0)
+      right true false true among z = refl
+      right true false false true z = refl
+      right true false false false z = refl
+      right true true builtIn among z = absurd (omega arith)
+      right false predicate builtIn among z = absurd (omega arith)

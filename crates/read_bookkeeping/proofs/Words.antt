@@ -1,23 +1,24 @@
 -- Words written on the tape, one after the other.
 use Prim.Native.Nat.{ℕ, suc, _+_, _-_, _≤_, _<_}
 use mathlib.Core.Path.{_≡_, refl, sym, ap, _∙_}
-use mathlib.Core.List.{List, [], _∷_, _++_}
+use mathlib.Core.List.{List, [], _∷_, _++_, append-assoc}
 use native.Mathlib.Nat.{add-zero}
 use native.Mathlib.Numerals.{add-one}
 use native.Mathlib.Omega.{arith}
 use lib.Dec.{T, lt→ltb}
-use lib.ListN.{length, getD, set, drop, length-append}
-use lib.Seq.{slice, slice-empty, length-slice, length-sets}
+use lib.ListN.{length, getD, set, take, drop, length-append}
+use lib.Seq.{slice, slice-empty, length-slice, length-sets, length-take-le, set-set, set-comm, sets-eq, take-at, drop-at, take-append-seam}
 use Rattle.meaning.specs.Choice.{Bytes, every}
 use Rattle.meaning.specs.Tokens as Tokens
-use Rattle.read_tokens.specs.View.{IsClosed, charactersIn}
+use Rattle.read_tokens.specs.View.{IsClosed, charactersIn, part}
 use Rattle.read_characters.specs.View.{continued, Passes, Stands}
 use Rattle.read_characters.specs.declared.Character.{Character}
 use Rattle.read_characters.specs.declared.Character.the-variants.{Given, Nothing, Closed, Broken}
 use Rattle.read_tokens.specs.declared.Span.{Span}
 use Rattle.meaning.proofs.laws.Places.{slice-suc}
-use Rattle.read_bookkeeping.specs.Tables.{Inside}
+use Rattle.read_bookkeeping.specs.Tables.{Inside, OnTape}
 use Rattle.read_bookkeeping.specs.Written.{written, Wrote, stringFrom, isQuiet, Ready}
+use Rattle.read_bookkeeping.proofs.Lengths.{part-length}
 use Rattle.read_bookkeeping.proofs.Tabling.{every-append, every-one}
 
 -- ON THE TAPE
@@ -51,6 +52,49 @@ written-append [] b tape at = rw (add-zero at)
 written-append (v ∷ a) b tape at =
     let e : at + suc (length a) ≡ suc at + length a = omega arith in
     rw e (written-append a b (set tape at v) (suc at))
+
+-- a store before what is written
+set-written : (ws tape : List ℕ) (i at w : ℕ) → i < at → set (written tape at ws) i w ≡ written (set tape i w) at ws
+unfolding written
+set-written [] tape i at w h = refl
+set-written (v ∷ ws) tape i at w h =
+    set-written ws (set tape at v) i (suc at) w (omega arith) ∙ ap (λ (l : List ℕ). written l (suc at) ws) (set-comm tape at i v w (λ e. omega arith))
+
+-- what is written over, by as many words or more, doesn't matter
+pub written-over : (a b tape : List ℕ) (at : ℕ) → length a ≤ length b → written (written tape at a) at b ≡ written tape at b
+unfolding written
+written-over [] b tape at h = refl
+written-over (v ∷ a) [] tape at h = absurd (omega arith)
+written-over (v ∷ a) (w ∷ b) tape at h =
+    rw (set-written a (set tape at v) at (suc at) w (omega arith), set-set tape at v w) (written-over a b (set tape at w) (suc at) (omega arith))
+
+-- words that fit stand there afterwards, and those before them are kept
+module _ (ws tape : List ℕ) (at : ℕ) (fits : at + length ws ≤ length tape) where
+  abbrev rest : List ℕ
+  rest = drop (at + length ws) tape
+
+  split : written tape at ws ≡ take at tape ++ (ws ++ rest)
+  unfolding written
+  split = sets-eq ws tape at fits ∙ append-assoc (take at tape) ws rest
+
+  long : length (take at tape) ≡ at
+  long = length-take-le at tape (omega arith)
+
+  pub written-there : take (length ws) (drop at (written tape at ws)) ≡ ws
+  written-there = rw (split, drop-at (take at tape) (ws ++ rest) at long) (take-append-seam ws rest)
+
+  pub written-before : take at (written tape at ws) ≡ take at tape
+  written-before = rw split (take-at (take at tape) (ws ++ rest) at long)
+
+pub on-tape : {text : Bytes} {x : Span} {tape tape′ : List ℕ} {at to : ℕ} → Inside text x → at + (x .past - x .from) ≤ length tape
+    → Wrote tape at (part text x) to tape′
+    → OnTape text x tape′ at
+on-tape {text} {x} {tape} {at = at} i h w =
+    let l = part-length text x i in
+    record {
+      inside = rw (wrote-length w) h;
+      same = rw (w .same, ← l) (written-there (part text x) tape at (rw l h));
+    }
 
 -- A NAME AFTER A WORD
 

@@ -1,21 +1,29 @@
--- Names in the text, and tables of them. An entry of a table is 32 times the place of a name and its length.
-use Prim.Native.Nat.{ℕ, suc, _+_, _/_, _%_, _≤_}
+-- Names and identifiers in the text, and tables of identifiers. An entry of a table is 32 times the place of an
+-- identifier, plus its length.
+use Prim.Native.Nat.{ℕ, suc, _+_, _-_, _/_, _%_, _≤_}
+use mathlib.Core.Path.{_≡_}
 use mathlib.Core.Bool.{Bool, not}
 use mathlib.Core.List.{List, [], _∷_}
 use lib.Dec.{T, leb}
-use lib.ListN.{length}
+use lib.ListN.{length, take, drop}
 use lib.Seq.{slice}
 use Rattle.meaning.specs.Choice.{Bytes, Name, pick, both, every, sameBytes}
 use Rattle.meaning.specs.Names.{isReserved}
 use Rattle.meaning.specs.Answers.{wrongName}
 use Rattle.meaning.specs.Allowed.{member}
 use Rattle.meaning.specs.Reading.{lengthFault, faultUnless}
+use Rattle.read_tokens.specs.View.{part}
 use Rattle.read_tokens.specs.declared.Span.{Span}
 
 -- a part that lies in the text
 pub record Inside (text : Bytes) (s : Span) : Type 0 where
   pub forward : s .from ≤ s .past
   pub inside : s .past ≤ length text
+
+-- a part of the text stands on the tape too, from a place on
+pub record OnTape (text : Bytes) (s : Span) (tape : List ℕ) (at : ℕ) : Type 0 where
+  pub inside : at + (s .past - s .from) ≤ length tape
+  pub same : take (s .past - s .from) (drop at tape) ≡ part text s
 
 -- the name of an entry
 abbrev pub nameIn : Bytes → ℕ → Name

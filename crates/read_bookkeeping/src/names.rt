@@ -1,24 +1,26 @@
-// Names and identifiers: parts of the text, and tables of them. An entry of a table is 32 times the place of a name,
-// plus the name's length.
+// Names and identifiers: parts of the text, and tables of identifiers. An entry of a table is 32 times the place of an
+// identifier, plus its length.
 use crate::progress::fault_if;
 use answers::Answer;
 use answers::is_accepted;
 use read_tokens::Span;
-use tape_words::limits::MAX_FUNCTIONS;
 use tape_words::limits::MAX_IDENTIFIER;
 use tape_words::limits::MAX_NAME;
+use tape_words::names::is_known;
 ghost use mathlib.Core.Path.{_≡_};
 ghost use Prim.Native.Nat.{_+_, _-_, _*_, _≤_, _<_};
-ghost use lib.ListN.{length};
+ghost use lib.ListN.{length, take};
 ghost use Rattle.meaning.specs.Choice.{sameBytes, startsWith};
-ghost use Rattle.meaning.specs.Names.{isBuiltIn, predicateOf, isPredicate};
+ghost use Rattle.meaning.specs.Names.{predicateOf, isPredicate};
 ghost use Rattle.meaning.specs.Reading.{calledFault, subjectFault};
 ghost use Rattle.read_tokens.specs.View.{part};
+ghost use Rattle.tape_words.specs.Words.{headNames};
 ghost use Rattle.answers.specs.Numbers.{numberOf};
 ghost use Rattle.read_bookkeeping.specs.Classed.{predicateMeant};
-ghost use Rattle.read_bookkeeping.specs.Tables.{Inside, tableNames, Entries, position, declaredFaultIn};
+ghost use Rattle.read_bookkeeping.specs.Tables.{Inside, OnTape, tableNames, Entries, position};
+ghost use Rattle.read_bookkeeping.specs.Tables.{declaredFaultIn};
 
-// More than the length of every name and identifier.
+// More than the length of every identifier.
 const ENTRY: usize = 32;
 
 // The byte classes that conditions ask for.
@@ -34,13 +36,6 @@ pub enum Class {
 pub enum Predicate {
     Asks(Class),
     NoPredicate,
-}
-
-// A table of no functions yet.
-pub fn function_room() -> [usize; MAX_FUNCTIONS]
-    ensures { λ r. ⌜ length r ≡ 64 ⌝ }
-{
-    [0; MAX_FUNCTIONS]
 }
 
 // A table of no variables yet: s-variables from entry 0, e-variables from entry 16.
@@ -69,7 +64,7 @@ pub fn same(text: &[u8], x: Span, y: Span) -> bool
 }
 
 // Whether text[x] begins with `word`.
-pub fn begins_with(text: &[u8], x: Span, word: &[u8]) -> bool
+fn begins_with(text: &[u8], x: Span, word: &[u8]) -> bool
     requires { ⌜ Inside (now text) x ⌝ }
     ensures { λ r. ⌜ r ≡ startsWith (now (word .entry)) (part (now (text .entry)) x) ⌝ }
 {
@@ -155,20 +150,6 @@ fn is_predicate(text: &[u8], x: Span) -> bool
     }
 }
 
-// Whether a call of text[x] needs no declaration: emissions begin with `Emit`, and two names compute with angles.
-pub fn is_built_in(text: &[u8], x: Span) -> bool
-    requires { ⌜ Inside (now text) x ⌝ }
-    ensures { λ r. ⌜ r ≡ isBuiltIn (part (now (text .entry)) x) ⌝ }
-{
-    if begins_with(text, x, b"Emit") {
-        return true;
-    }
-    if spells(text, x, b"DmAdd") {
-        return true;
-    }
-    spells(text, x, b"DmSub")
-}
-
 // What is wrong with text[x] as a called name.
 pub fn called_fault(text: &[u8], x: Span) -> Answer
     requires { ⌜ Inside (now text) x ⌝ }
@@ -180,24 +161,27 @@ pub fn called_fault(text: &[u8], x: Span) -> Answer
     fault_if(is_predicate(text, x), Answer::WrongName)
 }
 
-// What is wrong with text[x] as a declared name, where the first `functions` entries of `names` are declared before it.
-pub fn declared_fault(text: &[u8], names: &[usize], functions: usize, x: Span) -> Answer
-    requires { ⌜ Inside (now text) x × Entries (now text) (now names) 0 functions ⌝ }
+// What is wrong with text[x] as a declared name. It stands on the tape too, from `at` on, as do the names at the first
+// `functions` heads, which are declared before it: what a name means is asked there.
+pub fn declared_fault(
+    text: &[u8],
+    x: Span,
+    tape: &[u32],
+    at: usize,
+    heads: &[usize],
+    functions: usize,
+) -> Answer
+    requires { ⌜ Inside (now text) x × OnTape (now text) x (now tape) at × (functions ≤ length (now heads)) ⌝ }
     ensures { λ r. ⌜ numberOf r
-        ≡ declaredFaultIn (tableNames (now (text .entry)) (now (names .entry)) 0 functions)
+        ≡ declaredFaultIn (headNames (now (tape .entry)) (take functions (now (heads .entry))))
         (part (now (text .entry)) x) ⌝ }
 {
     let fault = called_fault(text, x);
     if !is_accepted(fault) {
         return fault;
     }
-    if is_built_in(text, x) {
-        return Answer::WrongName;
-    }
-    fault_if(
-        find(text, names, 0, functions, x) < functions,
-        Answer::WrongName,
-    )
+    let known = is_known(tape, heads, functions, at, x.past - x.from);
+    fault_if(known, Answer::WrongName)
 }
 
 // What is wrong with the variable text[x] after the pattern, whose own of its kind are table[from..to].

@@ -21,15 +21,14 @@ pub fn put(tape: &mut [u32], at: usize, word: u32)
     }
 }
 
-// A word, and the bytes of a part of the text after it.
-pub fn put_named(text: &[u8], tape: &mut [u32], at: usize, word: u32, x: Span) -> usize
-    requires { ⌜ Inside (now text) x × (at + 1 + (x .past - x .from) ≤ 32768) ⌝ }
-    ensures { λ r. ⌜ Wrote (now (tape .entry)) at (word ∷ part (now (text .entry)) x) r (now (tape .exit)) ×
+// The bytes of a part of the text.
+pub fn put_bytes(text: &[u8], tape: &mut [u32], at: usize, x: Span) -> usize
+    requires { ⌜ Inside (now text) x × (at + (x .past - x .from) ≤ 32768) ⌝ }
+    ensures { λ r. ⌜ Wrote (now (tape .entry)) at (part (now (text .entry)) x) r (now (tape .exit)) ×
         T (every isQuiet (part (now (text .entry)) x)) ⌝ }
 {
-    put(tape, at, word);
     let past = x.past;
-    let mut to = at + 1;
+    let mut to = at;
     let mut i = x.from;
     while i < past {
         let byte = text[i];
@@ -38,6 +37,16 @@ pub fn put_named(text: &[u8], tape: &mut [u32], at: usize, word: u32, x: Span) -
         i += 1;
     }
     to
+}
+
+// A word, and the bytes of a part of the text after it.
+pub fn put_named(text: &[u8], tape: &mut [u32], at: usize, word: u32, x: Span) -> usize
+    requires { ⌜ Inside (now text) x × (at + 1 + (x .past - x .from) ≤ 32768) ⌝ }
+    ensures { λ r. ⌜ Wrote (now (tape .entry)) at (word ∷ part (now (text .entry)) x) r (now (tape .exit)) ×
+        T (every isQuiet (part (now (text .entry)) x)) ⌝ }
+{
+    put(tape, at, word);
+    put_bytes(text, tape, at + 1, x)
 }
 
 // A word of a kind and a name's length, and the name's bytes after it.

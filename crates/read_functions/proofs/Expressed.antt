@@ -57,27 +57,25 @@ tape-call place n a e =
     ap (λ (ws : List ℕ). named (callKind + place) n ++ ws) (sym (append-assoc (expressionTape a) (tapeWord closeKind 0 ∷ []) (expressionTape e)))
     ∙ sym (append-assoc (named (callKind + place) n) (expressionTape a ++ tapeWord closeKind 0 ∷ []) (expressionTape e))
 
-module _ (text : Bytes) where
-  stands-characters : (cs : Bytes) (e : Expression) → T (every isQuiet cs) → Stands text e → Stands text (thenCharacters cs e)
-  unfolding Stands thenCharacters
-  stands-characters [] e q h = h
-  stands-characters (c ∷ cs) e q h = (every-head isQuiet c cs q, stands-characters cs e (every-tail isQuiet c cs q) h)
+stands-characters : (cs : Bytes) (e : Expression) → T (every isQuiet cs) → Stands e → Stands (thenCharacters cs e)
+unfolding Stands thenCharacters
+stands-characters [] e q h = h
+stands-characters (c ∷ cs) e q h = (every-head isQuiet c cs q, stands-characters cs e (every-tail isQuiet c cs q) h)
 
-  stands-item : (item : Item) (e : Expression) → T (every isQuiet (itemTape item)) → Stands text e → Stands text (thenItem item e)
-  unfolding Stands
-  stands-item (characters cs) e q h = stands-characters cs e q h
-  stands-item (symbolItem x) e q h = (q, h)
-  stands-item (partItem x) e q h = (q, h)
-  stands-item noItem e q h = h
+stands-item : (item : Item) (e : Expression) → T (every isQuiet (itemTape item)) → Stands e → Stands (thenItem item e)
+unfolding Stands
+stands-item (characters cs) e q h = stands-characters cs e q h
+stands-item (symbolItem x) e q h = (q, h)
+stands-item (partItem x) e q h = (q, h)
+stands-item noItem e q h = h
 
-  stands-call : {place : ℕ} {n : Name} (a e : Expression) → CallStands text place n → Stands text a → Stands text e
-      → Stands text (thenCall place n a e)
-  unfolding Stands
-  stands-call a e s g h = (s, g, h)
+stands-call : (place : ℕ) {n : Name} (a e : Expression) → CallStands n → Stands a → Stands e → Stands (thenCall place n a e)
+unfolding Stands
+stands-call place a e s g h = (s, g, h)
 
-  stands-end : Stands text end
-  unfolding Stands
-  stands-end = tt
+stands-end : Stands end
+unfolding Stands
+stands-end = tt
 
 tape-end : expressionTape end ≡ []
 unfolding expressionTape
@@ -112,7 +110,7 @@ pub record Behind (text table : List ℕ) (symbols parts depth : ℕ) (start : E
   pub enough : length (stream text Tokens.inside (s .at)) ≤ left
   pub shorter : length (stream text Tokens.inside (s .at)) ≤ length (stream text Tokens.inside (start .at))
   pub tapes : (e : Expression) → expressionTape (first e) ≡ words ++ expressionTape e
-  pub stand : (e : Expression) → Stands text e → Stands text (first e)
+  pub stand : (e : Expression) → Stands e → Stands (first e)
   pub went : Went text (start .at) (start .words) tape₀ (s .at) (s .words) tape words
 
 pub record Expressed (text table : List ℕ) (symbols parts depth : ℕ) (start : ExpressionCounts) (tape₀ tape : List ℕ) (s : ExpressionCounts) : Type 0
@@ -172,7 +170,7 @@ module _ {text table : List ℕ} {symbols parts depth : ℕ} {start : Expression
       ≡ withFirst (b .first) (withFirst f (expressionAt text table symbols parts (b .left - 1) depth next))
       → length (stream text Tokens.inside (next .at)) ≤ length ts
       → ((e : Expression) → expressionTape (f e) ≡ added ++ expressionTape e)
-      → ((e : Expression) → Stands text e → Stands text (f e))
+      → ((e : Expression) → Stands e → Stands (f e))
       → Went text (s .at) (s .words) tape (next .at) (next .words) tape′ added
       → Behind text table symbols parts depth start tape₀ tape′ next bound
   behind-more {next} f added same less tapes stand went =
@@ -218,7 +216,7 @@ module _ {text table : List ℕ} {symbols parts depth : ℕ} {start : Expression
       let item = itemAt text t in
       behind-more b (i .unrolled) (thenItem item) (itemTape item) (at-step b (i .unrolled) ∙ rw (y, g .fault, g .progress, g .at))
       (rw (g .at) (omega arith))
-      (tape-item item) (λ e h. stands-item text item e (g .quiet) h) (g .went)
+      (tape-item item) (λ e h. stands-item item e (g .quiet) h) (g .went)
 
   pub item-taken : {next : ExpressionCounts} → r ≡ Taken next → Expressed text table symbols parts depth start tape₀ tape′ next
   item-taken e =
@@ -267,7 +265,7 @@ module _ {text table : List ℕ} {symbols parts depth : ℕ} {start : Expression
         went = rw (b .tapes end, tape-end, append-nil (b .words), g .1) (went-before (b .went) (q .comes));
         progress = refl;
         going = going-on (q .so .going) (ready-place (q .so .going .ready) (q .comes));
-        stands = b .stand end (stands-end text);
+        stands = b .stand end stands-end;
       })
 
 -- A CALL
@@ -326,7 +324,7 @@ module _ {text table : List ℕ} {symbols parts depth : ℕ} {start : Expression
       behind-more b unrolled (thenCall (d .place) (d .name) (d .argument)) (callTape d) (at-call b ∙ rw (read .same, h .progress, h .tokens))
       (rw (h .tokens) at (h .shorter))
       (tape-call (d .place) (d .name) (d .argument))
-      (λ e g. stands-call text (d .argument) e (h .named) (h .stands) g)
+      (λ e g. stands-call (d .place) (d .argument) e (h .named) (h .stands) g)
       (went-from (omega (arith, c .onward, c .forward)) (rw (given k (q .other) .1) at (h .went)))
 
   -- what the call's reader came to, with every bound that is large enough

@@ -2,19 +2,21 @@
 use Prim.Native.Nat.{ℕ, zero, suc, _+_, _-_, _*_, _≤_, _<_}
 use mathlib.Core.Path.{_≡_, refl, sym, _∙_, ap}
 use mathlib.Core.Bool.{Bool, true, false, false≢true}
-use mathlib.Core.List.{List, [], _∷_, _++_, append-assoc, append-nil, map-append}
+use mathlib.Core.List.{List, [], _∷_, _++_, append-assoc, append-nil}
+use native.Mathlib.Numerals.{add-one}
 use native.Mathlib.Omega.{arith}
 use lib.Dec.{T, ltb, eqb}
-use lib.ListN.{length, set, length-append, length-set}
+use lib.ListN.{length, take, set, length-append, length-set}
+use lib.Seq.{take-suc-set}
 use types.Run.{OneOf, miss}
 use denote.Enum.Declared.{tagOf}
 use borrow.Author.Tests.{lt-ltb, le-ltb}
 use Rattle.meaning.specs.Choice.{Bytes, Name, pick, every}
 use Rattle.meaning.specs.Answers.{overLimit}
 use Rattle.meaning.specs.Tree.{Function, Table}
-use Rattle.meaning.specs.Allowed.{namesOf}
+use Rattle.meaning.specs.Allowed.{maxTable, maxFunctions, maxName, namesOf}
 use Rattle.tape_layout.specs.Tape as Tape
-use Rattle.tape_layout.specs.Tape.{named, functionKind, functionTape}
+use Rattle.tape_layout.specs.Tape.{named, functionKind, functionTape, sentencesTape}
 use Rattle.meaning.specs.Tokens as Tokens
 use Rattle.meaning.specs.Reading as Reading
 use Rattle.meaning.specs.Reading.{Parsed, stopped, parsed, follow}
@@ -33,7 +35,8 @@ use Rattle.read_functions.specs.declared.sentences.ParsedSentences.{Pars
 use Rattle.read_functions.specs.declared.sentences.ParsedSentences.the-variants.{Stopped, Done}
 use Rattle.read_functions.specs.declared.functions.ParsedTable.{ParsedTable}
 use Rattle.read_functions.specs.declared.functions.ParsedTable.the-variants.{Stopped as StoppedTable, Done as DoneTable}
-use Rattle.read_bookkeeping.specs.Tables.{Inside, nameIn, inText, tableNames, declaredFaultIn}
+use Rattle.tape_words.specs.Words.{headNames}
+use Rattle.read_bookkeeping.specs.Tables.{Inside, OnTape, declaredFaultIn}
 use Rattle.answers.specs.Numbers.{numberOf}
 use Rattle.read_bookkeeping.specs.Answered.{AgreesBy}
 use Rattle.read_bookkeeping.specs.Written.{Wrote, isQuiet, Ready, Went}
@@ -43,14 +46,16 @@ use Rattle.read_functions.specs.declared.functions.Stage.{Stage}
 use Rattle.read_functions.specs.declared.functions.Stage.the-variants.{Onward, Over}
 use Rattle.read_functions.specs.Expressions.{faultAt}
 use Rattle.read_functions.specs.Sentences.{SentencesRead, sentencesOutcome}
+use Rattle.read_functions.specs.Functions.{headsFrom, Heads}
 use Rattle.read_functions.specs.Functions.{FunctionStands, fromBrace, declared, Declarable, BodyRead, Opening, nameFault, DeclaredRead, SpareTo}
 use Rattle.read_functions.specs.Functions.{isEnd, functionsOf, FunctionsRead, Functioned, StageIs, Underway, firstStage, tableOutcome, Declares}
-use Rattle.read_bookkeeping.proofs.Lengths.{within}
-use Rattle.read_bookkeeping.proofs.Tabling.{Grown, grown, entry-name, entry-inside, none-yet, no-names}
+use Rattle.read_bookkeeping.proofs.Lengths.{part-length, within}
+use Rattle.read_bookkeeping.proofs.Words.{written-over, written-before, on-tape}
 use Rattle.read_bookkeeping.proofs.Going.{check-wrong, stops-by, reads-by, ReadAt, has-read, pass-follow, follow-alone, makes, went-none, went-from}
-use Rattle.read_bookkeeping.proofs.Going.{went-on, went-then, ready-after, name-went, stops-too, name-quiet}
+use Rattle.read_bookkeeping.proofs.Going.{went-on, went-then, went-length, ready-after, name-went, stops-too, name-quiet}
 use Rattle.read_bookkeeping.proofs.Tokening.{NameFirst, sign-shown, passes-on, name-first, names-not, refused-by, ready-place, FaultOf, NoName}
 use Rattle.read_functions.proofs.Sentencing.{each-none, each-more}
+use Rattle.read_functions.proofs.Noting.{begins, heads-more, names-noted, noted-kept}
 use Rattle.read_tokens.proofs.Variants.{by-kind}
 
 -- A FUNCTION AFTER ITS NAME
@@ -66,7 +71,7 @@ pub record AfterBrace (text : Bytes) (words : ℕ) (n : Span) (at : ℕ) : Type 
   pub taken : Taken text Tokens.outside 123 (n .past) at
 
 module _ {text : Bytes} {words : ℕ} {n : Span} {at : ℕ} (b : AfterBrace text words n at) where
-  pub name-room : Inside text n × (words + 1 + (n .past - n .from) ≤ 32768)
+  pub name-room : Inside text n × (words + 1 + (n .past - n .from) ≤ maxTable)
   name-room = (b .name .inside, omega (arith, b .name .after, b .name .short, b .name .inside .forward, b .taken .onward, b .taken .inside))
 
   module _ {tape tape₁ : List ℕ} {word to : ℕ} (e : word ≡ 2048 + (n .past - n .from))
@@ -95,86 +100,131 @@ module _ {text : Bytes} {words : ℕ} {n : Span} {at : ℕ} (b : AfterBrace text
 
 -- A FUNCTION
 
-abbrev FunctionAgrees : Bytes → List ℕ → ℕ → ℕ → ℕ → Code.Placed → List ℕ → List ℕ → List ℕ → ParsedSentences → Type 0
-FunctionAgrees text names functions limit words t tape tape′ names′ r =
-    AgreesBy sentencesOutcome (DeclaredRead text limit (t .place) words functions tape tape′ names names′)
-    (Reading.parseFunction (nameFault functions (tableNames text names 0 functions)) limit (stream text Tokens.outside (t .place))) r
+abbrev FunctionAgrees : Bytes → List ℕ → List ℕ → ℕ → ℕ → ℕ → Code.Placed → List ℕ → List ℕ → ParsedSentences → Type 0
+FunctionAgrees text tape heads functions limit words t tape′ heads′ r =
+    AgreesBy sentencesOutcome (DeclaredRead text limit (t .place) words functions tape tape′ heads heads′)
+    (Reading.parseFunction (nameFault functions (headNames tape (take functions heads))) limit (stream text Tokens.outside (t .place))) r
 
-module _ {text names : List ℕ} {functions words : ℕ} {t : Code.Placed} {limit : ℕ} (o : Opening text names functions words t) where
-  pub function-nameless : {tape tape′ names′ : List ℕ} {fault : Fault} → NoName (t .token)
+module _ {text tape heads : List ℕ} {functions words : ℕ} {t : Code.Placed} {limit : ℕ} (o : Opening text tape heads functions words t) where
+  pub function-nameless : {tape′ heads′ : List ℕ} {fault : Fault} → NoName (t .token)
       → FaultOf t fault
-      → FunctionAgrees text names functions limit words t tape tape′ names′ (Stopped fault)
+      → FunctionAgrees text tape heads functions limit words t tape′ heads′ (Stopped fault)
   function-nameless n f = refused-by refl (o .comes) (names-not (o .comes) _ _ n) f
 
   module _ {n : Span} (e : t .token ≡ NameToken n) where
-    pub function-many : {tape tape′ names′ : List ℕ} → 64 ≤ functions
-        → FunctionAgrees text names functions limit words t tape tape′ names′ (Stopped (faultAt OverLimit (t .place)))
-    function-many h = stops-by refl (rw (name-first (o .comes) e .unrolled, le-ltb functions 64 h))
+    pub function-many : {tape′ heads′ : List ℕ} → maxFunctions ≤ functions
+        → FunctionAgrees text tape heads functions limit words t tape′ heads′ (Stopped (faultAt OverLimit (t .place)))
+    function-many h = stops-by refl (rw (name-first (o .comes) e .unrolled, le-ltb functions maxFunctions h))
 
 -- a name comes, and one more function may
-pub record NameComes (text names : List ℕ) (functions words : ℕ) (t : Code.Placed) (n : Span) : Type 0 where
-  pub opening : Opening text names functions words t
+pub record NameComes (text tape heads : List ℕ) (functions words : ℕ) (t : Code.Placed) (n : Span) : Type 0 where
+  pub opening : Opening text tape heads functions words t
   pub is : t .token ≡ NameToken n
-  pub few : functions < 64
+  pub few : functions < maxFunctions
 
-module _ {text names : List ℕ} {functions words : ℕ} {t : Code.Placed} {n : Span} (m : NameComes text names functions words t n) where
+module _ {text tape heads : List ℕ} {functions words : ℕ} {t : Code.Placed} {n : Span} (m : NameComes text tape heads functions words t n) where
   pub named-here : NameFirst text Tokens.outside (t .place) t n
   named-here = name-first (m .opening .comes) (m .is)
 
+  name-after : words + (n .past - n .from) ≤ length text
+  name-after = omega (arith, m .opening .ready .charged, named-here .from, named-here .inside .forward, named-here .inside .inside)
+
+  pub copy-room : Inside text n × (words + (n .past - n .from) ≤ maxTable)
+  copy-room = (named-here .inside, omega (arith, name-after, m .opening .ready .short))
+
+-- its name is copied to the tape's end
+pub record NameCopied (text tape tape₁ heads : List ℕ) (functions words : ℕ) (t : Code.Placed) (n : Span) : Type 0 where
+  pub comes : NameComes text tape heads functions words t n
+  pub to : ℕ
+  pub wrote : Wrote tape words (View.part text n) to tape₁
+
+module _ {text tape tape₁ heads : List ℕ} {functions words : ℕ} {t : Code.Placed} {n : Span}
+    (m : NameCopied text tape tape₁ heads functions words t n) where
+  abbrev here : NameFirst text Tokens.outside (t .place) t n
+  here = named-here (m .comes)
+
+  abbrev opens : Opening text tape heads functions words t
+  opens = m .comes .opening
+
+  copy-fits : words + (n .past - n .from) ≤ length tape
+  copy-fits = omega (arith, name-after (m .comes), opens .room)
+
+  pub name-standing : Inside text n × OnTape text n tape₁ words × (functions ≤ length heads)
+  name-standing = (here .inside, on-tape (here .inside) copy-fits (m .wrote), omega (arith, opens .few, opens .long))
+
+  names-kept : headNames tape₁ (take functions heads) ≡ headNames tape (take functions heads)
+  names-kept =
+      let fits : words + length (View.part text n) ≤ length tape = rw (part-length text n (here .inside)) copy-fits in
+      let kept : take words tape₁ ≡ take words tape = rw (m .wrote .same) (written-before (View.part text n) tape words fits) in
+      names-noted (noted-kept (opens .named) kept) ∙ sym (names-noted (opens .named))
+
+  -- the fault of the name, as it is asked of the tape
+  abbrev NameWrong : ℕ → Type 0
+  NameWrong fault = fault ≡ declaredFaultIn (headNames tape₁ (take functions heads)) (View.part text n)
+
   module _ {limit : ℕ} where
-    pub function-misnamed : {tape tape′ names′ : List ℕ} {answer : Answer}
-        → numberOf answer ≡ declaredFaultIn (tableNames text names 0 functions) (View.part text n)
+    pub function-misnamed : {tape′ heads′ : List ℕ} {answer : Answer}
+        → NameWrong (numberOf answer)
         → eqb (numberOf answer) 0 ≡ false
-        → FunctionAgrees text names functions limit words t tape tape′ names′ (Stopped (faultAt answer (t .place)))
+        → FunctionAgrees text tape heads functions limit words t tape′ heads′ (Stopped (faultAt answer (t .place)))
     function-misnamed {answer = answer} f w =
-        stops-by refl (rw (named-here .unrolled, lt-ltb functions 64 (m .few), ← f) (check-wrong (numberOf answer) _ _ w))
+        let g : numberOf answer ≡ declaredFaultIn (headNames tape (take functions heads)) (View.part text n) = rw names-kept at f in
+        stops-by refl (rw (here .unrolled, lt-ltb functions maxFunctions (m .comes .few), ← g) (check-wrong (numberOf answer) _ _ w))
 
 -- its name has no fault
-pub record Named {text names : List ℕ} {functions words : ℕ} {t : Code.Placed} {n : Span} (name : NameComes text names functions words t n) : Type 0
+pub record Named {text tape tape₁ heads : List ℕ} {functions words : ℕ} {t : Code.Placed} {n : Span}
+    (name : NameCopied text tape tape₁ heads functions words t n) : Type 0
   where
-    pub sound : declaredFaultIn (tableNames text names 0 functions) (View.part text n) ≡ 0
+    pub sound : declaredFaultIn (headNames tape₁ (take functions heads)) (View.part text n) ≡ 0
 
-module _ {text names : List ℕ} {functions words : ℕ} {t : Code.Placed} {n : Span} {name : NameComes text names functions words t n} (m : Named name)
+module _ {text tape tape₁ heads : List ℕ} {functions words : ℕ} {t : Code.Placed} {n : Span}
+    {name : NameCopied text tape tape₁ heads functions words t n} (m : Named name)
   where
-    abbrev here : NameFirst text Tokens.outside (t .place) t n
-    here = named-here name
-
     pub declarable : Declarable text words n
     declarable =
         record {
-          after = omega (arith, name .opening .ready .charged, here .from);
-          inside = here .inside;
-          brief = within text n (here .inside) 24 3 _ (m .sound);
-          short = name .opening .ready .short;
+          after = omega (arith, opens name .ready .charged, here name .from);
+          inside = here name .inside;
+          brief = within text n (here name .inside) maxName 3 _ (m .sound);
+          short = opens name .ready .short;
         }
 
-    pub function-reads : {tape tape′ names′ : List ℕ} {entry limit : ℕ} {r : ParsedSentences}
-        → entry ≡ n .from * 32 + (n .past - n .from)
-        → names′ ≡ set names functions entry
-        → BodyAgrees text limit words n tape tape′ r
-        → FunctionAgrees text names functions limit words t tape tape′ names′ r
-    function-reads {names′ = names′} {entry = entry} {limit} x w a =
-        let brief : n .past - n .from < 32 = omega (arith, declarable .brief) in
-        let inside : T (inText text entry) = rw x (entry-inside text n (here .inside) brief) in
-        let spelled : nameIn text entry ≡ View.part text n = rw x (entry-name text n (here .inside) brief) in
-        let o = name .opening in
-        let g : Grown text names names′ 0 functions (View.part text n) =
-        rw (w, ← spelled) (grown text names 0 functions (o .entries) entry (rw (o .long) (name .few)) inside)
-        in
+    -- the function's words stand where its name was copied to
+    function-went : (f : Function) {at at′ words′ : ℕ} {tape′ : List ℕ} → f .name ≡ View.part text n
+        → Went text at words tape₁ at′ words′ tape′ (functionTape f)
+        → Went text at words tape at′ words′ tape′ (functionTape f)
+    function-went f e w =
+        let longer : length (View.part text n) ≤ length (functionTape f) =
+        rw (← e, length-append (f .name) (sentencesTape (f .sentences))) (omega arith) in
+        record {
+          onward = w .onward;
+          inside = w .inside;
+          charged = w .charged;
+          counted = w .counted;
+          wrote = w .wrote ∙ rw (name .wrote .same) (written-over (View.part text n) (functionTape f) tape words longer);
+        }
+
+    pub function-reads : {tape′ heads′ : List ℕ} {limit : ℕ} {r : ParsedSentences}
+        → heads′ ≡ set heads functions words
+        → BodyAgrees text limit words n tape₁ tape′ r
+        → FunctionAgrees text tape heads functions limit words t tape′ heads′ r
+    function-reads {limit = limit} w a =
+        let few : functions < length heads = rw (opens name .long) (name .comes .few) in
+        let sound : declaredFaultIn (headNames tape (take functions heads)) (View.part text n) ≡ 0 = rw (names-kept name) at (m .sound) in
         makes (declared (View.part text n)) _
         (λ ss rest s h. record {
           read =
               record {
                 tokens = h .tokens;
-                went = went-from (omega (arith, here .from)) (h .went);
+                went = went-from (omega (arith, here name .from)) (function-went (declared (View.part text n) ss) refl (h .went));
                 left = h .left;
                 stands = h .stands;
               };
-          entries = g .entries;
-          names = g .names;
-          long = rw w (length-set names functions entry ∙ o .long);
+          noted = rw (w, add-one) (take-suc-set heads functions words few);
+          few = name .comes .few;
+          long = rw w (length-set heads functions words ∙ opens name .long);
         })
-        (rw (here .unrolled, lt-ltb functions 64 (name .few), m .sound, ← here .past)
+        (rw (here name .unrolled, lt-ltb functions maxFunctions (name .comes .few), sound, ← (here name .past))
         (pass-follow 123 (stream text Tokens.outside (n .past)) (λ ts. Reading.parseSentences limit ts)
         (λ ss rest. parsed (declared (View.part text n) ss) rest)))
         a
@@ -220,19 +270,19 @@ module _ (limit : ℕ) (before : Table) (t : Tokens.Placed) (ts : List Tokens.Pl
   functions-next more room n e = rw (n, e)
 
   -- the faults of a name before the last function and after it
-  fault-is : (count : ℕ) {room : Bool} → ltb count 64 ≡ room
+  fault-is : (count : ℕ) {room : Bool} → ltb count maxFunctions ≡ room
       → Reading.parseFunction (λ n. pick room (declaredFaultIn (namesOf before) n) overLimit) limit (t ∷ ts)
       ≡ Reading.parseFunction (nameFault count (namesOf before)) limit (t ∷ ts)
   fault-is count e = ap (λ (room : Bool). Reading.parseFunction (λ n. pick room (declaredFaultIn (namesOf before) n) overLimit) limit (t ∷ ts))
       (sym e)
 
   -- what stops a function stops the functions
-  functions-stop : (room count : ℕ) {number place : ℕ} → count + room ≡ 64 → Reading.isTextEnd (t .token) ≡ false
+  functions-stop : (room count : ℕ) {number place : ℕ} → count + room ≡ maxFunctions → Reading.isTextEnd (t .token) ≡ false
       → Reading.parseFunction (nameFault count (namesOf before)) limit (t ∷ ts) ≡ stopped number place
       → Reading.parseFunctions room limit before (t ∷ ts) ≡ stopped number place
   unfolding Reading.parseFunctions
-  functions-stop zero count n e h = rw (e, fault-is count (le-ltb count 64 (omega arith)) ∙ h)
-  functions-stop (suc room) count n e h = rw (e, fault-is count (lt-ltb count 64 (omega arith)) ∙ h)
+  functions-stop zero count n e h = rw (e, fault-is count (le-ltb count maxFunctions (omega arith)) ∙ h)
+  functions-stop (suc room) count n e h = rw (e, fault-is count (lt-ltb count maxFunctions (omega arith)) ∙ h)
 
 -- one function more
 tape-more : (fs : Table) (f : Function) → Tape.tape (fs ++ f ∷ []) ≡ Tape.tape fs ++ functionTape f
@@ -247,21 +297,24 @@ tape-none = refl
 -- ONE AFTER ANOTHER
 
 abbrev FunctionsAgree : Bytes → List ℕ → List ℕ → List ℕ → ParsedTable → Type 0
-FunctionsAgree text start tape names r =
-    AgreesBy tableOutcome (FunctionsRead text start tape names) (functionsOf text) r
+FunctionsAgree text start tape heads r =
+    AgreesBy tableOutcome (FunctionsRead text start tape heads) (functionsOf text) r
 
-pub functions-start : (text start names : List ℕ) → length text ≤ 32768 → length names ≡ 64 → StageIs text start start names 0 firstStage
-functions-start text start names h l =
+pub functions-start : (text start heads : List ℕ) → length text ≤ maxTable → length text ≤ length start → length heads ≡ maxFunctions
+    → StageIs text start start heads 0 firstStage
+unfolding headsFrom
+functions-start text start heads h room l =
     record {
       before = [];
       same = refl;
       went = rw tape-none (went-none text 0 0 start (record { inside = omega arith; charged = omega arith; short = h }));
-      entries = none-yet text names 0 (omega arith);
-      names = no-names text names 0;
+      noted = refl;
+      few = omega arith;
       counted = refl;
       long = l;
-      stand = each-none (FunctionStands text);
+      stand = each-none FunctionStands;
       short = h;
+      room = room;
     }
 
 -- a token is read again at its place
@@ -277,87 +330,92 @@ comes-again c =
       sound = c .sound;
     }
 
-module _ {text start tape names : List ℕ} {at words count left : ℕ} {t : Code.Placed}
-    (k : Functioned text start tape names at words count left) (c : Comes text Tokens.outside at t) where
+module _ {text start tape heads : List ℕ} {at words count left : ℕ} {t : Code.Placed}
+    (k : Functioned text start tape heads at words count left) (c : Comes text Tokens.outside at t) where
   -- the tokens after it
   abbrev following : List Tokens.Placed
   following =
       pick (Tokens.isLastToken (tokenOf text (t .token) (t .place) (t .past))) []
       (stream text (Tokens.modeAfter Tokens.outside (tokenOf text (t .token) (t .place) (t .past))) (t .past))
 
-  few : count ≤ 64
-  few = omega (arith, k .entries .inside, k .long)
-
-  functions-done : isEnd (t .token) ≡ true → FunctionsAgree text start tape names
+  functions-done : isEnd (t .token) ≡ true → FunctionsAgree text start tape heads
       (DoneTable (record { words = words; functions = count; left = left }))
   functions-done e =
       reads-by refl (k .before) following
-      (k .same ∙ rw (c .unrolled) (functions-end left (k .before) (placedOf text t) following (64 - count)
+      (k .same ∙ rw (c .unrolled) (functions-end left (k .before) (placedOf text t) following (maxFunctions - count)
       (end-same text (t .place) (t .past) (t .token) ∙ e)))
-      (record { at = at; went = k .went; entries = k .entries; names = k .names; count = k .counted; stand = k .stand })
+      (record { at = at; went = k .went; noted = k .noted; few = omega (arith, k .few, k .long); count = k .counted; stand = k .stand })
 
-  -- the function that comes next, by the names before it
+  -- the function that comes next, by the heads before it
   abbrev nextFunction : Parsed Function
-  nextFunction = Reading.parseFunction (nameFault count (tableNames text names 0 count)) left (stream text Tokens.outside (t .place))
+  nextFunction = Reading.parseFunction (nameFault count (headNames tape (take count heads))) left (stream text Tokens.outside (t .place))
+
+  -- the tape begins with the functions before it, and their heads are noted
+  heads-here : Heads tape heads words count (k .before)
+  heads-here = record { written = begins (k .went) (k .room); noted = k .noted; stand = k .stand }
 
   next-is : Reading.parseFunction (nameFault count (namesOf (k .before))) left (stream text Tokens.outside at) ≡ nextFunction
   next-is =
       ap (λ (ts : List Tokens.Placed). Reading.parseFunction (nameFault count (namesOf (k .before))) left ts) (sym (c .again))
-      ∙ ap (λ (known : List Name). Reading.parseFunction (nameFault count known) left (stream text Tokens.outside (t .place))) (k .names)
+      ∙ ap (λ (known : List Name). Reading.parseFunction (nameFault count known) left (stream text Tokens.outside (t .place)))
+      (sym (names-noted heads-here))
 
 -- another function comes after those
-pub record Another {text start tape names : List ℕ} {at words count left : ℕ} (others : Functioned text start tape names at words count left)
+pub record Another {text start tape heads : List ℕ} {at words count left : ℕ} (others : Functioned text start tape heads at words count left)
     (t : Code.Placed) : Type 0 where
   pub comes : Comes text Tokens.outside at t
   pub is : isEnd (t .token) ≡ false
 
-module _ {text start tape names : List ℕ} {at words count left : ℕ} {k : Functioned text start tape names at words count left} {t : Code.Placed}
+module _ {text start tape heads : List ℕ} {at words count left : ℕ} {k : Functioned text start tape heads at words count left} {t : Code.Placed}
     (n : Another k t) where
-  opening : Opening text names count words t
+  opening : Opening text tape heads count words t
   opening =
       record {
+        before = k .before;
         comes = comes-again (n .comes);
         ready = ready-place (ready-after (k .short) (k .went)) (n .comes);
-        entries = k .entries;
+        named = heads-here k (n .comes);
+        few = k .few;
         long = k .long;
+        room = k .room;
       }
 
   not-end : Reading.isTextEnd (tokenOf text (t .token) (t .place) (t .past)) ≡ false
   not-end = end-same text (t .place) (t .past) (t .token) ∙ n .is
 
-  function-stops : {tape′ names′ : List ℕ} {fault : Fault} {r : ParsedSentences} → FunctionAgrees text names count left words t tape tape′ names′ r →
+  function-stops : {tape′ heads′ : List ℕ} {fault : Fault} {r : ParsedSentences} → FunctionAgrees text tape heads count left words t tape′ heads′ r →
       r ≡ Stopped fault
-      → FunctionsAgree text start tape′ names′ (StoppedTable fault)
+      → FunctionsAgree text start tape′ heads′ (StoppedTable fault)
   function-stops a q =
       let c = n .comes in
       stops-too a (ap sentencesOutcome q) refl λ h.
       k .same
       ∙ rw (c .unrolled)
-      (functions-stop left (k .before) (placedOf text t) (following k c) (64 - count) count (omega (arith, few k c)) not-end
+      (functions-stop left (k .before) (placedOf text t) (following k c) (maxFunctions - count) count (omega (arith, k .few)) not-end
       (rw (c .unrolled) at (next-is k c ∙ h)))
 
 -- a function was read after those
-pub record OneMore (text start tape₁ names₁ : List ℕ) (count : ℕ) (p : SentencesEnd) : Type 0 where
+pub record OneMore (text start tape₁ heads₁ : List ℕ) (count : ℕ) (p : SentencesEnd) : Type 0 where
   pub tape : List ℕ
-  pub names : List ℕ
+  pub heads : List ℕ
   pub at : ℕ
   pub words : ℕ
   pub left : ℕ
   pub token : Code.Placed
-  pub others : Functioned text start tape names at words count left
+  pub others : Functioned text start tape heads at words count left
   pub next : Another others token
-  pub read : ReadAt (DeclaredRead text left (token .place) words count tape tape₁ names names₁) (nextFunction others (next .comes)) p
+  pub read : ReadAt (DeclaredRead text left (token .place) words count tape tape₁ heads heads₁) (nextFunction others (next .comes)) p
 
-one-more : {text start tape names tape₁ names₁ : List ℕ} {at words count left : ℕ} {k : Functioned text start tape names at words count left}
+one-more : {text start tape heads tape₁ heads₁ : List ℕ} {at words count left : ℕ} {k : Functioned text start tape heads at words count left}
     {t : Code.Placed}
     {p : SentencesEnd} {r : ParsedSentences} → Another k t
-    → FunctionAgrees text names count left words t tape tape₁ names₁ r
+    → FunctionAgrees text tape heads count left words t tape₁ heads₁ r
     → r ≡ Done p
-    → OneMore text start tape₁ names₁ count p
+    → OneMore text start tape₁ heads₁ count p
 one-more n a q =
     record {
       tape = _;
-      names = _;
+      heads = _;
       at = _;
       words = _;
       left = _;
@@ -367,30 +425,36 @@ one-more n a q =
       read = has-read _ _ refl (rw q at a);
     }
 
-module _ {text start tape₁ names₁ : List ℕ} {count : ℕ} {p : SentencesEnd} (o : OneMore text start tape₁ names₁ count p) where
-  -- it was one of at most 64
-  room-before : count < 64
-  room-before = omega (arith, o .read .how .entries .inside, o .read .how .long)
+module _ {text start tape₁ heads₁ : List ℕ} {count : ℕ} {p : SentencesEnd} (o : OneMore text start tape₁ heads₁ count p) where
+  -- it was one of those that a table may have
+  room-before : count < maxFunctions
+  room-before = o .read .how .few
 
   at-next : functionsOf text
-      ≡ Reading.parseFunctions (64 - (count + 1)) (p .left) (o .others .before ++ o .read .value ∷ [])
+      ≡ Reading.parseFunctions (maxFunctions - (count + 1)) (p .left) (o .others .before ++ o .read .value ∷ [])
       (Reading.passSpare (stream text Tokens.outside (p .at)))
   at-next =
       let c = o .next .comes in
       let t = placedOf text (o .token) in
       let q : Reading.parseFunction (Reading.declaredFault (o .others .before)) (o .left) (t ∷ following (o .others) c) ≡
       parsed (o .read .value) (o .read .rest) =
-      fault-is (o .left) (o .others .before) t (following (o .others) c) count (lt-ltb count 64 room-before) ∙
+      fault-is (o .left) (o .others .before) t (following (o .others) c) count (lt-ltb count maxFunctions room-before) ∙
       (rw (c .unrolled) at (next-is (o .others) c ∙ o .read .same))
       in
-      let n : 64 - count ≡ suc (64 - (count + 1)) = omega (arith, room-before) in
+      let n : maxFunctions - count ≡ suc (maxFunctions - (count + 1)) = omega (arith, room-before) in
       let l : o .left - length (o .read .value .sentences) ≡ p .left = omega (arith, o .read .how .read .left) in
       o .others .same
       ∙ rw (c .unrolled)
-      (functions-next (o .left) (o .others .before) t (following (o .others) c) (64 - count) (64 - (count + 1)) n (not-end (o .next))
+      (functions-next (o .left) (o .others .before) t (following (o .others) c) (maxFunctions - count) (maxFunctions - (count + 1)) n
+      (not-end (o .next))
       ∙ rw (q, o .read .how .read .tokens, l))
 
-  function-goes : {at′ : ℕ} → SpareTo text (p .at) at′ → Functioned text start tape₁ names₁ at′ (p .words) (count + 1) (p .left)
+  heads-grown : take count (o .heads) ++ o .words ∷ [] ≡ headsFrom 0 (o .others .before ++ o .read .value ∷ [])
+  heads-grown =
+      let counted : 0 + length (Tape.tape (o .others .before)) ≡ o .words = sym (o .others .went .counted) in
+      rw (o .others .noted, heads-more (o .others .before) (o .read .value) 0, counted)
+
+  function-goes : {at′ : ℕ} → SpareTo text (p .at) at′ → Functioned text start tape₁ heads₁ at′ (p .words) (count + 1) (p .left)
   function-goes {at′} s =
       record {
         before = o .others .before ++ o .read .value ∷ [];
@@ -398,75 +462,76 @@ module _ {text start tape₁ names₁ : List ℕ} {count : ℕ} {p : SentencesEn
         went =
             rw (tape-more (o .others .before) (o .read .value))
             (went-then (o .others .went) (went-on at′ (went-from (o .next .comes .onward) (o .read .how .read .went)) (s .onward) (s .inside)));
-        entries = o .read .how .entries;
-        names = map-append (λ (f : Function). f .name) (o .others .before) (o .read .value ∷ []) ∙ rw (o .others .names) (sym (o .read .how .names));
+        noted = o .read .how .noted ∙ heads-grown;
+        few = omega (arith, room-before);
         counted = rw (length-append (o .others .before) (o .read .value ∷ [])) (omega (arith, o .others .counted));
         long = o .read .how .long;
-        stand = each-more (FunctionStands text) (o .others .before) (o .read .value) (o .others .stand) (o .read .how .read .stands);
+        stand = each-more FunctionStands (o .others .before) (o .read .value) (o .others .stand) (o .read .how .read .stands);
         short = o .others .short;
+        room = rw (went-length (o .read .how .read .went)) (o .others .room);
       }
 
 -- STAGES
 
 -- what is over stays so
-pub stage-over : {text tape names : List ℕ} {at : ℕ} {stage : Stage} {p : ParsedTable} → stage ≡ Over p →
-    Declares text tape names at stage tape names at stage
+pub stage-over : {text tape heads : List ℕ} {at : ℕ} {stage : Stage} {p : ParsedTable} → stage ≡ Over p →
+    Declares text tape heads at stage tape heads at stage
 stage-over e = record { keeps = λ start s. s; falls = λ o. absurd (false≢true (rw e at o)) }
 
-pub place-inside : {text tape names : List ℕ} {at : ℕ} {stage : Stage} {n : Tally} → Underway text tape names at stage → stage ≡ Onward n →
+pub place-inside : {text tape heads : List ℕ} {at : ℕ} {stage : Stage} {n : Tally} → Underway text tape heads at stage → stage ≡ Onward n →
     at ≤ length text
 place-inside u e = (rw e at (u .is)) .went .inside
 
 -- more may come, and a token does
-pub record StageAt (text tape names : List ℕ) (at : ℕ) (stage : Stage) (n : Tally) (t : Code.Placed) : Type 0 where
-  pub underway : Underway text tape names at stage
+pub record StageAt (text tape heads : List ℕ) (at : ℕ) (stage : Stage) (n : Tally) (t : Code.Placed) : Type 0 where
+  pub underway : Underway text tape heads at stage
   pub onward : stage ≡ Onward n
   pub comes : Comes text Tokens.outside at t
 
-module _ {text tape names : List ℕ} {at : ℕ} {stage : Stage} {n : Tally} {t : Code.Placed} (k : StageAt text tape names at stage n t) where
-  functioned : {start : List ℕ} → StageIs text start tape names at stage → Functioned text start tape names at (n .words) (n .functions) (n .left)
+module _ {text tape heads : List ℕ} {at : ℕ} {stage : Stage} {n : Tally} {t : Code.Placed} (k : StageAt text tape heads at stage n t) where
+  functioned : {start : List ℕ} → StageIs text start tape heads at stage → Functioned text start tape heads at (n .words) (n .functions) (n .left)
   functioned s = rw (k .onward) at s
 
-  abbrev so-far : Functioned text (k .underway .start) tape names at (n .words) (n .functions) (n .left)
+  abbrev so-far : Functioned text (k .underway .start) tape heads at (n .words) (n .functions) (n .left)
   so-far = functioned (k .underway .is)
 
   abbrev Changed : List ℕ → List ℕ → ℕ → Stage → Type 0
-  Changed tape′ names′ at′ stage′ = Declares text tape names at stage tape′ names′ at′ stage′
+  Changed tape′ heads′ at′ stage′ = Declares text tape heads at stage tape′ heads′ at′ stage′
 
   -- the reading is over
-  ends-with : {tape′ names′ : List ℕ} {p : ParsedTable}
-      → ((start : List ℕ) → Functioned text start tape names at (n .words) (n .functions) (n .left) → FunctionsAgree text start tape′ names′ p)
-      → Changed tape′ names′ at (Over p)
+  ends-with : {tape′ heads′ : List ℕ} {p : ParsedTable}
+      → ((start : List ℕ) → Functioned text start tape heads at (n .words) (n .functions) (n .left) → FunctionsAgree text start tape′ heads′ p)
+      → Changed tape′ heads′ at (Over p)
   ends-with a =
-      record { keeps = λ start s. a start (functioned s); falls = λ o. rw (k .onward) (omega (arith, few so-far (k .comes))) }
+      record { keeps = λ start s. a start (functioned s); falls = λ o. rw (k .onward) (omega (arith, so-far .few)) }
 
-  pub stage-ends : isEnd (t .token) ≡ true → Changed tape names at (Over (DoneTable n))
+  pub stage-ends : isEnd (t .token) ≡ true → Changed tape heads at (Over (DoneTable n))
   stage-ends e = ends-with (λ start f. functions-done f (k .comes) e)
 
   module _ (e : isEnd (t .token) ≡ false) where
-    another : {start : List ℕ} (f : Functioned text start tape names at (n .words) (n .functions) (n .left)) → Another f t
+    another : {start : List ℕ} (f : Functioned text start tape heads at (n .words) (n .functions) (n .left)) → Another f t
     another f = record { comes = k .comes; is = e }
 
-    pub stage-opening : Opening text names (n .functions) (n .words) t
+    pub stage-opening : Opening text tape heads (n .functions) (n .words) t
     stage-opening = opening (another so-far)
 
-    module _ {tape′ names′ : List ℕ} {r : ParsedSentences} (a : FunctionAgrees text names (n .functions) (n .left) (n .words) t tape tape′ names′ r)
+    module _ {tape′ heads′ : List ℕ} {r : ParsedSentences} (a : FunctionAgrees text tape heads (n .functions) (n .left) (n .words) t tape′ heads′ r)
       where
-        pub stage-stops : {fault : Fault} → r ≡ Stopped fault → Changed tape′ names′ at (Over (StoppedTable fault))
+        pub stage-stops : {fault : Fault} → r ≡ Stopped fault → Changed tape′ heads′ at (Over (StoppedTable fault))
         stage-stops q = ends-with (λ start f. function-stops (another f) a q)
 
         module _ {p : SentencesEnd} (q : r ≡ Done p) where
-          more : {start : List ℕ} → Functioned text start tape names at (n .words) (n .functions) (n .left) →
-              OneMore text start tape′ names′ (n .functions) p
+          more : {start : List ℕ} → Functioned text start tape heads at (n .words) (n .functions) (n .left) →
+              OneMore text start tape′ heads′ (n .functions) p
           more f = one-more (another f) a q
 
           pub stage-inside : p .at ≤ length text
           stage-inside = more so-far .read .how .read .went .inside
 
-          pub stage-few : n .functions < 64
+          pub stage-few : n .functions < maxFunctions
           stage-few = room-before (more so-far)
 
           pub stage-goes : {at′ : ℕ} → SpareTo text (p .at) at′
-              → Changed tape′ names′ at′ (Onward (record { words = p .words; functions = n .functions + 1; left = p .left }))
+              → Changed tape′ heads′ at′ (Onward (record { words = p .words; functions = n .functions + 1; left = p .left }))
           stage-goes s =
               record { keeps = λ start f. function-goes (more (functioned f)) s; falls = λ o. rw (k .onward) (omega (arith, stage-few)) }

@@ -6,4 +6,5 @@ pub mod Calling
 pub mod Expressed
 pub mod Sentenced
 pub mod Sentencing
+pub mod Noting
 pub mod Functioned

@@ -113,16 +113,8 @@ module _ {text : Bytes} {depth : ℕ} {s : ExpressionCounts} {place : ℕ} {t : 
     omega (arith, call .ready .short, call .comes .forward, call .comes .inside),
   )
 
-  -- the name stands in the text
-  name-stands : T (every isQuiet (View.part text n)) → CallStands text (t .place) (View.part text n)
-  name-stands q =
-      let e : n .from + (n .past - n .from) ≡ n .past = omega (arith, here .inside .forward) in
-      record {
-        same = rw (name-length, ← here .from, e);
-        inside = rw name-length (omega (arith, here .from, here .inside .forward, here .inside .inside));
-        short = rw name-length name-short;
-        quiet = q;
-      }
+  name-stands : T (every isQuiet (View.part text n)) → CallStands (View.part text n)
+  name-stands q = record { short = rw name-length name-short; quiet = q }
 
   pub call-opens : {tape tape′ : List ℕ} {words : ℕ}
       → Wrote tape (s .words) (((9 + t .place) * 256 + (n .past - n .from)) ∷ View.part text n) words tape′ × T (every isQuiet (View.part text n))

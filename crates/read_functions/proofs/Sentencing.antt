@@ -33,7 +33,7 @@ pub each-none : {A : Type 0} (holds : A → Type 0) → Each holds []
 unfolding Each
 each-none holds = tt
 
-pub each-append : {A : Type 0} (holds : A → Type 0) (xs ys : List A) → Each holds xs → Each holds ys → Each holds (xs ++ ys)
+each-append : {A : Type 0} (holds : A → Type 0) (xs ys : List A) → Each holds xs → Each holds ys → Each holds (xs ++ ys)
 unfolding Each
 each-append holds [] ys h k = k
 each-append holds (x ∷ xs) ys h k = (h .0, each-append holds xs ys (h .1) k)
@@ -106,7 +106,7 @@ pub record Sentenced (text start : List ℕ) (limit from words : ℕ) (tape : Li
       follow (Reading.parseSentences left (stream text Tokens.inside at)) (behind before)
   pub went : Went text from words start at to tape (partedTape before)
   pub counted : left + length before ≡ limit
-  pub stand : Each (SentenceStands text) before
+  pub stand : Each SentenceStands before
   pub short : length text ≤ 32768
 
 abbrev SentencesAgree : Bytes → ℕ → ℕ → ℕ → List ℕ → List ℕ → ParsedSentences → Type 0
@@ -121,7 +121,7 @@ sentences-start text start limit from words r =
       same = follow-alone (Reading.parseSentences limit (stream text Tokens.inside from));
       went = rw parted-none (went-none text from words start r);
       counted = omega arith;
-      stand = each-none (SentenceStands text);
+      stand = each-none SentenceStands;
       short = r .short;
     }
 
@@ -187,8 +187,8 @@ module _ {text start : List ℕ} {limit from words left : ℕ} {tape₁ : List �
     counted-more : left - 1 + length (before ++ last ∷ []) ≡ limit
     counted-more = rw (length-append before (last ∷ [])) (omega (arith, o .others .counted, some-left))
 
-    stand-more : Each (SentenceStands text) (before ++ last ∷ [])
-    stand-more = each-more (SentenceStands text) before last (o .others .stand) (read-so .read .stands)
+    stand-more : Each SentenceStands (before ++ last ∷ [])
+    stand-more = each-more SentenceStands before last (o .others .stand) (read-so .read .stands)
 
 -- what comes after it is known
 pub record Sequelled {text start : List ℕ} {limit from words left : ℕ} {tape₁ : List ℕ} {s : Progress}

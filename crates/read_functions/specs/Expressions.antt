@@ -6,8 +6,8 @@ use mathlib.Core.Bool.{true, false}
 use mathlib.Core.List.{List, [], _∷_, _++_}
 use lib.Dec.{T, eqb}
 use lib.ListN.{length, set}
-use lib.Seq.{slice}
 use Rattle.meaning.specs.Choice.{Bytes, Name, every}
+use Rattle.meaning.specs.Allowed.{maxName}
 use Rattle.meaning.specs.Tree.{Expression, end, thenCharacter, thenSymbol, thenPart, thenCall}
 use Rattle.tape_layout.specs.Tape.{tapeWord, named, symbolKind, partKind, callKind, closeKind, expressionTape}
 use Rattle.meaning.specs.Tokens as Tokens
@@ -45,22 +45,20 @@ pub record Going (text : Bytes) (table : List ℕ) (symbols parts : ℕ) (s : Ex
   pub few : s .items ≤ 128
   pub ready : Ready text (s .at) (s .words)
 
--- WHAT STANDS IN THE TEXT
+-- WHAT STANDS ON THE TAPE
 
--- a called name stands at its place
-pub record CallStands (text : Bytes) (place : ℕ) (n : Name) : Type 0 where
-  pub same : n ≡ slice place (place + length n) text
-  pub inside : place + length n ≤ length text
-  pub short : length n ≤ 24
+-- a called name
+pub record CallStands (n : Name) : Type 0 where
+  pub short : length n ≤ maxName
   pub quiet : T (every isQuiet n)
 
--- every called name stands at its place, and no other word opens a call
-unfoldable pub Stands : Bytes → Expression → Type 0
-Stands text end = Unit {0}
-Stands text (thenCharacter c e) = T (isQuiet c) × Stands text e
-Stands text (thenSymbol x e) = T (every isQuiet (named symbolKind x)) × Stands text e
-Stands text (thenPart x e) = T (every isQuiet (named partKind x)) × Stands text e
-Stands text (thenCall place n a e) = CallStands text place n × Stands text a × Stands text e
+-- every called name is short, and no other word opens a call
+unfoldable pub Stands : Expression → Type 0
+Stands end = Unit {0}
+Stands (thenCharacter c e) = T (isQuiet c) × Stands e
+Stands (thenSymbol x e) = T (every isQuiet (named symbolKind x)) × Stands e
+Stands (thenPart x e) = T (every isQuiet (named partKind x)) × Stands e
+Stands (thenCall place n a e) = CallStands n × Stands a × Stands e
 
 -- ITEMS
 
@@ -144,7 +142,7 @@ pub record ExpressionRead (text : Bytes) (table : List ℕ) (symbols parts : ℕ
   pub went : Went text (start .at) (start .words) tape (s .at) (s .words) tape′ (expressionTape (i .expression))
   pub progress : i .progress ≡ progressAt text table parts s
   pub going : Going text table symbols parts s
-  pub stands : Stands text (i .expression)
+  pub stands : Stands (i .expression)
 
 -- a called name with its place
 pub record CalledName : Type 0 where
@@ -169,7 +167,7 @@ pub record OpeningRead (text : Bytes) (depth : ℕ) (s : ExpressionCounts) (tape
   pub few : s .items < 128
   pub counted : start .items ≡ s .items + 1
   pub passed : start .passed ≡ s .passed
-  pub stands : CallStands text (n .place) (n .name)
+  pub stands : CallStands (n .name)
 
 abbrev pub callTape : Reading.Called → List ℕ
 callTape c = named (callKind + c .place) (c .name) ++ (expressionTape (c .argument) ++ tapeWord closeKind 0 ∷ [])
@@ -182,8 +180,8 @@ pub record CallRead (text : Bytes) (table : List ℕ) (symbols parts : ℕ) (sta
   pub went : Went text (start .at) (start .words) tape (s .at) (s .words) tape′ (callTape c)
   pub progress : c .progress ≡ progressAt text table parts s
   pub going : Going text table symbols parts s
-  pub named : CallStands text (c .place) (c .name)
-  pub stands : Stands text (c .argument)
+  pub named : CallStands (c .name)
+  pub stands : Stands (c .argument)
 
 -- the end of a call's argument: its `>` and the word for it
 abbrev pub CloseGives : Bytes → ExpressionCounts → List ℕ → List ℕ → ParsedExpression → Type 0

@@ -4,11 +4,11 @@ use mathlib.Core.Path.{_≡_}
 use mathlib.Core.Bool.{Bool, true, false}
 use mathlib.Core.List.{List, [], _∷_, _++_}
 use lib.Dec.{T, ltb}
-use lib.ListN.{length}
+use lib.ListN.{length, take}
 use Rattle.meaning.specs.Choice.{Bytes, Name, pick, every}
 use Rattle.meaning.specs.Answers.{overLimit}
 use Rattle.meaning.specs.Tree.{Sentence, Function, Table}
-use Rattle.meaning.specs.Allowed.{maxFunctions, namesOf}
+use Rattle.meaning.specs.Allowed.{maxTable, maxFunctions, maxSentences, maxName}
 use Rattle.tape_layout.specs.Tape as Tape
 use Rattle.tape_layout.specs.Tape.{named, functionKind, functionTape}
 use Rattle.meaning.specs.Tokens as Tokens
@@ -27,14 +27,27 @@ use Rattle.read_functions.specs.declared.functions.ParsedTable.{ParsedTa
 use Rattle.read_functions.specs.declared.functions.ParsedTable.the-variants.{Stopped, Done}
 use Rattle.read_functions.specs.declared.functions.Stage.{Stage}
 use Rattle.read_functions.specs.declared.functions.Stage.the-variants.{Onward, Over}
-use Rattle.read_bookkeeping.specs.Tables.{Inside, tableNames, Entries, declaredFaultIn}
+use Rattle.read_bookkeeping.specs.Tables.{Inside, declaredFaultIn}
 use Rattle.read_bookkeeping.specs.Written.{isQuiet, Ready, Went}
 use Rattle.read_functions.specs.Sentences.{Each, SentenceStands}
 
--- every called name of a function stands at its place, and no other word opens a call
-pub record FunctionStands (text : Bytes) (f : Function) : Type 0 where
+-- every called name of a function is short, and no other word of it opens a call
+pub record FunctionStands (f : Function) : Type 0 where
   pub name : T (every isQuiet (named functionKind (f .name)))
-  pub sentences : Each (SentenceStands text) (f .sentences)
+  pub sentences : Each SentenceStands (f .sentences)
+
+-- HEADS
+
+-- the places of the functions' words on a tape, where the first stands at a place
+unfoldable pub headsFrom : ℕ → Table → List ℕ
+headsFrom at [] = []
+headsFrom at (f ∷ fs) = at ∷ headsFrom (at + length (functionTape f)) fs
+
+-- the tape begins with the words of these functions, and their heads are noted
+pub record Heads (tape heads : List ℕ) (words functions : ℕ) (t : Table) : Type 0 where
+  pub written : take words tape ≡ Tape.tape t
+  pub noted : take functions heads ≡ headsFrom 0 t
+  pub stand : Each FunctionStands t
 
 -- A FUNCTION
 
@@ -49,8 +62,8 @@ declared n ss = record { name = n; sentences = ss }
 pub record Declarable (text : Bytes) (words : ℕ) (n : Span) : Type 0 where
   pub after : words ≤ n .from
   pub inside : Inside text n
-  pub brief : n .past - n .from ≤ 24
-  pub short : length text ≤ 32768
+  pub brief : n .past - n .from ≤ maxName
+  pub short : length text ≤ maxTable
 
 -- a function was read, with so many sentences that might come
 pub record FunctionRead (text : Bytes) (limit at words : ℕ) (tape tape′ : List ℕ) (f : Function)
@@ -58,7 +71,7 @@ pub record FunctionRead (text : Bytes) (limit at words : ℕ) (tape tape′ : Li
   pub tokens : rest ≡ stream text Tokens.outside (p .at)
   pub went : Went text at words tape (p .at) (p .words) tape′ (functionTape f)
   pub left : p .left + length (f .sentences) ≡ limit
-  pub stands : FunctionStands text f
+  pub stands : FunctionStands f
 
 -- the sentences of a function with this name were read, and its name before them
 abbrev pub BodyRead : Bytes → ℕ → ℕ → ℕ → Name → List ℕ → List ℕ → List Sentence → List Tokens.Placed → SentencesEnd
@@ -66,23 +79,26 @@ abbrev pub BodyRead : Bytes → ℕ → ℕ → ℕ → Name → List ℕ → Li
 BodyRead text limit at words n tape tape′ ss rest p = FunctionRead text limit at words tape tape′ (declared n ss) rest p
 
 -- what may come next is safe: a token after so many functions
-pub record Opening (text names : List ℕ) (functions words : ℕ) (t : Placed) : Type 0 where
+pub record Opening (text tape heads : List ℕ) (functions words : ℕ) (t : Placed) : Type 0 where
+  pub before : Table
   pub comes : Comes text Tokens.outside (t .place) t
   pub ready : Ready text (t .place) words
-  pub entries : Entries text names 0 functions
-  pub long : length names ≡ 64
+  pub named : Heads tape heads words functions before
+  pub few : functions ≤ maxFunctions
+  pub long : length heads ≡ maxFunctions
+  pub room : length text ≤ length tape
 
 -- the fault of a name after so many functions with these names
 abbrev pub nameFault : ℕ → List Name → Name → ℕ
 nameFault functions names n = pick (ltb functions maxFunctions) (declaredFaultIn names n) overLimit
 
--- a function was read, and its name added to the table
-pub record DeclaredRead (text : Bytes) (limit at words functions : ℕ) (tape tape′ table table′ : List ℕ) (f : Function)
+-- a function was read, and its head noted
+pub record DeclaredRead (text : Bytes) (limit at words functions : ℕ) (tape tape′ heads heads′ : List ℕ) (f : Function)
     (rest : List Tokens.Placed) (p : SentencesEnd) : Type 0 where
   pub read : FunctionRead text limit at words tape tape′ f rest p
-  pub entries : Entries text table′ 0 (functions + 1)
-  pub names : tableNames text table′ 0 (functions + 1) ≡ tableNames text table 0 functions ++ f .name ∷ []
-  pub long : length table′ ≡ 64
+  pub noted : take (functions + 1) heads′ ≡ take functions heads ++ words ∷ []
+  pub few : functions < maxFunctions
+  pub long : length heads′ ≡ maxFunctions
 
 -- FUNCTIONS
 
@@ -104,29 +120,31 @@ isEnd Malformed = false
 
 -- what the definition reads of a text's functions
 abbrev pub functionsOf : Bytes → Parsed Table
-functionsOf text = Reading.parseFunctions 64 512 [] (stream text Tokens.outside 0)
+functionsOf text = Reading.parseFunctions maxFunctions maxSentences [] (stream text Tokens.outside 0)
 
 -- the functions of a text were read, up to this place
-pub record FunctionsRead (text : Bytes) (tape tape′ table : List ℕ) (t : Table) (rest : List Tokens.Placed)
+pub record FunctionsRead (text : Bytes) (tape tape′ heads : List ℕ) (t : Table) (rest : List Tokens.Placed)
     (p : Tally) : Type 0 where
   pub at : ℕ
   pub went : Went text 0 0 tape at (p .words) tape′ (Tape.tape t)
-  pub entries : Entries text table 0 (p .functions)
-  pub names : namesOf t ≡ tableNames text table 0 (p .functions)
+  pub noted : take (p .functions) heads ≡ headsFrom 0 t
+  pub few : p .functions ≤ length heads
   pub count : p .functions ≡ length t
-  pub stand : Each (FunctionStands text) t
+  pub stand : Each FunctionStands t
 
 -- the functions from the start, where the tape was this, are those from a place on after these
-pub record Functioned (text start tape table : List ℕ) (at words count left : ℕ) : Type 0 where
+pub record Functioned (text start tape heads : List ℕ) (at words count left : ℕ) : Type 0 where
   pub before : Table
-  pub same : functionsOf text ≡ Reading.parseFunctions (64 - count) left before (stream text Tokens.outside at)
+  pub same : functionsOf text
+      ≡ Reading.parseFunctions (maxFunctions - count) left before (stream text Tokens.outside at)
   pub went : Went text 0 0 start at words tape (Tape.tape before)
-  pub entries : Entries text table 0 count
-  pub names : namesOf before ≡ tableNames text table 0 count
+  pub noted : take count heads ≡ headsFrom 0 before
+  pub few : count ≤ maxFunctions
   pub counted : count ≡ length before
-  pub long : length table ≡ 64
-  pub stand : Each (FunctionStands text) before
-  pub short : length text ≤ 32768
+  pub long : length heads ≡ maxFunctions
+  pub stand : Each FunctionStands before
+  pub short : length text ≤ maxTable
+  pub room : length text ≤ length tape
 
 abbrev pub tableOutcome : ParsedTable → Outcome Tally
 tableOutcome (Stopped fault) = halted fault
@@ -134,16 +152,16 @@ tableOutcome (Done n) = reached n
 
 -- how reading stands at a place, from a tape at the start on
 abbrev pub StageIs : Bytes → List ℕ → List ℕ → List ℕ → ℕ → Stage → Type 0
-StageIs text start tape table at (Onward n) = Functioned text start tape table at (n .words) (n .functions) (n .left)
-StageIs text start tape table at (Over p) =
-    AgreesBy tableOutcome (FunctionsRead text start tape table) (functionsOf text) p
+StageIs text start tape heads at (Onward n) = Functioned text start tape heads at (n .words) (n .functions) (n .left)
+StageIs text start tape heads at (Over p) =
+    AgreesBy tableOutcome (FunctionsRead text start tape heads) (functionsOf text) p
 
-pub record Underway (text tape table : List ℕ) (at : ℕ) (stage : Stage) : Type 0 where
+pub record Underway (text tape heads : List ℕ) (at : ℕ) (stage : Stage) : Type 0 where
   pub start : List ℕ
-  pub is : StageIs text start tape table at stage
+  pub is : StageIs text start tape heads at stage
 
 abbrev pub firstStage : Stage
-firstStage = Onward (record { words = 0; functions = 0; left = 512 })
+firstStage = Onward (record { words = 0; functions = 0; left = maxSentences })
 
 abbrev pub onward : Stage → Bool
 onward (Onward n) = true
@@ -155,11 +173,11 @@ outcomeOf (Over p) = p
 
 -- the declarations that may still come, and the end of the text
 abbrev pub toCome : Stage → ℕ
-toCome (Onward n) = 65 - n .functions
+toCome (Onward n) = maxFunctions + 1 - n .functions
 toCome (Over p) = 0
 
 -- a declaration was read: reading stands at the place reached as it stood before, and less may come
-pub record Declares (text tape table : List ℕ) (at : ℕ) (stage : Stage) (tape′ table′ : List ℕ) (at′ : ℕ)
+pub record Declares (text tape heads : List ℕ) (at : ℕ) (stage : Stage) (tape′ heads′ : List ℕ) (at′ : ℕ)
     (stage′ : Stage) : Type 0 where
-  pub keeps : (start : List ℕ) → StageIs text start tape table at stage → StageIs text start tape′ table′ at′ stage′
+  pub keeps : (start : List ℕ) → StageIs text start tape heads at stage → StageIs text start tape′ heads′ at′ stage′
   pub falls : onward stage ≡ true → toCome stage′ < toCome stage

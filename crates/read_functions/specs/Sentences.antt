@@ -34,11 +34,11 @@ unfoldable pub Each : {A : Type 0} → (A → Type 0) → List A → Type 0
 Each holds [] = Unit {0}
 Each holds (x ∷ xs) = holds x × Each holds xs
 
--- every called name of a sentence stands at its place, and no other word opens a call
-pub record SentenceStands (text : Bytes) (s : Sentence) : Type 0 where
+-- every called name of a sentence is short, and no other word of it opens a call
+pub record SentenceStands (s : Sentence) : Type 0 where
   pub pattern : T (every isQuiet (patternTape (s .pattern)))
   pub conditions : T (every isQuiet (conditionsTape (s .conditions)))
-  pub expression : Stands text (s .expression)
+  pub expression : Stands (s .expression)
 
 -- `parseSentence` from its `=` on
 abbrev pub fromEquals : List Name → List Name → List Tokens.Placed → Parsed Reading.Items
@@ -51,14 +51,14 @@ pub record EqualsRead (text : Bytes) (at words : ℕ) (tape tape′ : List ℕ) 
     (rest : List Tokens.Placed) (s : Progress) : Type 0 where
   pub tokens : rest ≡ stream text Tokens.inside (s .at)
   pub went : Went text at words tape (s .at) (s .words) tape′ (tapeWord equalsKind 0 ∷ expressionTape (i .expression))
-  pub stands : Stands text (i .expression)
+  pub stands : Stands (i .expression)
 
 -- a sentence was read
 pub record SentenceRead (text : Bytes) (at words : ℕ) (tape tape′ : List ℕ) (s : Sentence) (rest : List Tokens.Placed)
     (p : Progress) : Type 0 where
   pub tokens : rest ≡ stream text Tokens.inside (p .at)
   pub went : Went text at words tape (p .at) (p .words) tape′ (sentenceTape s)
-  pub stands : SentenceStands text s
+  pub stands : SentenceStands s
 
 -- a token that a sentence can begin with
 abbrev pub beginsSentence : Token → Bool
@@ -113,7 +113,7 @@ pub record SentencesRead (text : Bytes) (limit at words : ℕ) (tape tape′ : L
   pub tokens : rest ≡ stream text Tokens.outside (p .at)
   pub went : Went text at words tape (p .at) (p .words) tape′ (sentencesTape ss)
   pub left : p .left + length ss ≡ limit
-  pub stand : Each (SentenceStands text) ss
+  pub stand : Each SentenceStands ss
 
 abbrev pub sentencesOutcome : ParsedSentences → Outcome SentencesEnd
 sentencesOutcome (Stopped fault) = halted fault

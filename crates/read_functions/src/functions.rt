@@ -5,12 +5,12 @@ use crate::sentences::sentences;
 use answers::Answer;
 use answers::is_accepted;
 use read_bookkeeping::names::declared_fault;
-use read_bookkeeping::names::entry;
 use read_bookkeeping::progress::Fault;
 use read_bookkeeping::progress::Passed;
 use read_bookkeeping::progress::is_sign;
 use read_bookkeeping::progress::pass;
 use read_bookkeeping::progress::refuse;
+use read_bookkeeping::writing::put_bytes;
 use read_bookkeeping::writing::put_named;
 use read_tokens::Mode;
 use read_tokens::Placed;
@@ -22,12 +22,12 @@ use tape_words::limits::MAX_SENTENCES;
 use tape_words::wide::FUNCTION_WORD;
 ghost use mathlib.Core.Path.{_≡_};
 ghost use Prim.Native.Nat.{_≤_};
-ghost use lib.ListN.{length};
+ghost use lib.ListN.{length, take};
 ghost use Rattle.meaning.specs.Tokens as Tokens;
 ghost use Rattle.meaning.specs.Reading as Reading;
 ghost use Rattle.read_tokens.specs.View.{part, stream};
 ghost use Rattle.read_bookkeeping.specs.Answered.{AgreesBy};
-ghost use Rattle.read_bookkeeping.specs.Tables.{tableNames};
+ghost use Rattle.tape_words.specs.Words.{headNames};
 ghost use Rattle.read_functions.specs.Sentences.{sentencesOutcome};
 ghost use Rattle.read_functions.specs.Functions.{fromBrace, Declarable, BodyRead, Opening, nameFault};
 ghost use Rattle.read_functions.specs.Functions.{DeclaredRead};
@@ -75,21 +75,22 @@ fn body(text: &[u8], tape: &mut [u32], name: Span, limit: usize, words: usize) -
     sentences(text, tape, limit, at, to)
 }
 
-// A function from its name to its `}`; the name is added to the table of names.
+// A function from its name to its `}`; its head is noted. Its name is copied to the tape's end first, since what a name
+// means is asked of the tape.
 fn function(
     text: &[u8],
     tape: &mut [u32],
-    names: &mut [usize; MAX_FUNCTIONS],
+    heads: &mut [usize; MAX_FUNCTIONS],
     functions: usize,
     limit: usize,
     t: Placed,
     words: usize,
 ) -> ParsedSentences
-    requires { ⌜ Opening (now text) (now names) functions words t ⌝ }
+    requires { ⌜ Opening (now text) (now tape) (now heads) functions words t ⌝ }
     ensures { λ r. ⌜ AgreesBy sentencesOutcome (DeclaredRead (now (text .entry)) limit (t .place) words functions
-        (now (tape .entry)) (now (tape .exit)) (now (names .entry)) (now (names .exit)))
-        (Reading.parseFunction (nameFault functions (tableNames (now (text .entry)) (now (names .entry)) 0 functions))
-        limit (stream (now (text .entry)) Tokens.outside (t .place))) r ⌝ }
+        (now (tape .entry)) (now (tape .exit)) (now (heads .entry)) (now (heads .exit)))
+        (Reading.parseFunction (nameFault functions (headNames (now (tape .entry)) (take functions
+        (now (heads .entry))))) limit (stream (now (text .entry)) Tokens.outside (t .place))) r ⌝ }
 {
     let token = t.token;
     let Token::Name(name) = token else {
@@ -98,11 +99,12 @@ fn function(
     if MAX_FUNCTIONS <= functions {
         return ParsedSentences::Stopped(fault_at(Answer::OverLimit, t.place));
     }
-    let fault = declared_fault(text, names, functions, name);
+    put_bytes(text, tape, words, name);
+    let fault = declared_fault(text, name, tape, words, heads, functions);
     if !is_accepted(fault) {
         return ParsedSentences::Stopped(fault_at(fault, t.place));
     }
-    names[functions] = entry(name);
+    heads[functions] = words;
     body(text, tape, name, limit, words)
 }
 
@@ -152,17 +154,17 @@ pub fn outcome(stage: Stage) -> ParsedTable
     }
 }
 
-// Reads the declaration that comes at a place, with a spare `;` after it, and adds its name to the table of names.
+// Reads the declaration that comes at a place, with a spare `;` after it, and notes its head.
 pub fn declaration(
     text: &[u8],
     at: usize,
     tape: &mut [u32],
-    names: &mut [usize; MAX_FUNCTIONS],
+    heads: &mut [usize; MAX_FUNCTIONS],
     stage: Stage,
 ) -> Reached
-    requires { ⌜ Underway (now text) (now tape) (now names) at stage ⌝ }
-    ensures { λ r. ⌜ Declares (now (text .entry)) (now (tape .entry)) (now (names .entry)) at stage (now (tape .exit))
-        (now (names .exit)) (r .at) (r .stage) ⌝ }
+    requires { ⌜ Underway (now text) (now tape) (now heads) at stage ⌝ }
+    ensures { λ r. ⌜ Declares (now (text .entry)) (now (tape .entry)) (now (heads .entry)) at stage (now (tape .exit))
+        (now (heads .exit)) (r .at) (r .stage) ⌝ }
 {
     let Stage::Onward(n) = stage else {
         return Reached { stage, at };
@@ -172,7 +174,7 @@ pub fn declaration(
         let stage = Stage::Over(ParsedTable::Done(n));
         return Reached { stage, at };
     }
-    match function(text, tape, names, n.functions, n.left, t, n.words) {
+    match function(text, tape, heads, n.functions, n.left, t, n.words) {
         ParsedSentences::Stopped(fault) => {
             let stage = Stage::Over(ParsedTable::Stopped(fault));
             Reached { stage, at }

@@ -8,39 +8,36 @@ use read_functions::functions::outcome;
 use read_tokens::reader;
 use read_tokens::reader::Reader;
 use tape_words::limits::MAX_FUNCTIONS;
-ghost use mathlib.Core.Path.{_≡_};
-ghost use Prim.Native.Nat.{_≤_};
-ghost use lib.ListN.{length};
 ghost use Rattle.read_bookkeeping.specs.Answered.{AgreesBy};
 ghost use Rattle.read_functions.specs.Functions.{functionsOf, FunctionsRead, tableOutcome, Underway};
-ghost use Rattle.read_table.specs.Through.{GoesOn};
+ghost use Rattle.read_table.specs.Through.{Readable, GoesOn};
 
 // Reads the next declaration, and the reader goes on to the place that was reached.
 fn next_declaration<'s, 'a, 't, 'n>(
     reader: &'s mut Reader<'a>,
     tape: &'t mut [u32],
-    names: &'n mut [usize; MAX_FUNCTIONS],
+    heads: &'n mut [usize; MAX_FUNCTIONS],
     stage: Stage,
 ) -> Stage
-    requires { ⌜ Underway (now (now reader .text)) (now tape) (now names) (now reader .at) stage ⌝ }
-    ensures { λ r. ⌜ GoesOn (now (reader .entry)) (now (tape .entry)) (now (names .entry)) stage (now (reader .exit))
-        (now (tape .exit)) (now (names .exit)) r ⌝ }
+    requires { ⌜ Underway (now (now reader .text)) (now tape) (now heads) (now reader .at) stage ⌝ }
+    ensures { λ r. ⌜ GoesOn (now (reader .entry)) (now (tape .entry)) (now (heads .entry)) stage (now (reader .exit))
+        (now (tape .exit)) (now (heads .exit)) r ⌝ }
 {
-    let reached = declaration(reader.text, reader.at, tape, names, stage);
+    let reached = declaration(reader.text, reader.at, tape, heads, stage);
     reader.at = reached.at;
     reached.stage
 }
 
-// Reads the functions of a text and fills the table of their names.
-pub fn functions(text: &[u8], tape: &mut [u32], names: &mut [usize; MAX_FUNCTIONS]) -> ParsedTable
-    requires { ⌜ (length (now text) ≤ 32768) × (length (now names) ≡ 64) ⌝ }
+// Reads the functions of a text and notes their heads.
+pub fn functions(text: &[u8], tape: &mut [u32], heads: &mut [usize; MAX_FUNCTIONS]) -> ParsedTable
+    requires { ⌜ Readable (now text) (now tape) (now heads) ⌝ }
     ensures { λ r. ⌜ AgreesBy tableOutcome (FunctionsRead (now (text .entry)) (now (tape .entry)) (now (tape .exit))
-        (now (names .exit))) (functionsOf (now (text .entry))) r ⌝ }
+        (now (heads .exit))) (functionsOf (now (text .entry))) r ⌝ }
 {
     let mut reader = reader::new(text);
     let mut stage = first_stage();
     while is_onward(stage) {
-        stage = next_declaration(&mut reader, tape, names, stage);
+        stage = next_declaration(&mut reader, tape, heads, stage);
     }
     outcome(stage)
 }

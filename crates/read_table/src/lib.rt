@@ -6,9 +6,9 @@ use answers::Answer;
 use calls::Unknown;
 use calls::unknown_call;
 use functions::functions;
-use read_bookkeeping::names::function_room;
 use read_functions::functions::ParsedTable;
 use tape_words::limits::MAX_TABLE;
+use tape_words::tape::room;
 ghost use mathlib.Core.Path.{_≡_};
 ghost use Rattle.read_table.specs.Reads.{LongEnough, Reads, refusedWith};
 
@@ -39,21 +39,22 @@ pub fn read(text: &[u8], tape: &mut [u32]) -> Reading
     if MAX_TABLE < text.len() {
         return refusal(Answer::TableTooLong, 0);
     }
-    let mut names = function_room();
-    let table = match functions(text, tape, &mut names) {
+    let mut heads = room();
+    let table = match functions(text, tape, &mut heads) {
         ParsedTable::Stopped(fault) => {
             let answer = fault.answer;
             return refusal(answer, fault.place);
         }
         ParsedTable::Done(table) => table,
     };
-    match unknown_call(text, tape, &names, table.functions, table.words) {
+    let words = table.words;
+    match unknown_call(&tape[..words], &heads, table.functions) {
         Unknown::At(place) => refusal(Answer::UndeclaredName, place),
         Unknown::Nowhere => Reading {
             answer: Answer::Accepted,
             place: 0,
             functions: table.functions,
-            words: table.words,
+            words: words,
         },
     }
 }

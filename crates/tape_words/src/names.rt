@@ -11,7 +11,7 @@ ghost use Rattle.meaning.specs.Choice.{sameBytes, startsWith};
 ghost use Rattle.meaning.specs.Angles.{plus, minus};
 ghost use Rattle.meaning.specs.Names.{isEmission, operationName, callingOf, isBuiltIn, isRecovering};
 ghost use Rattle.tape_words.specs.Words.{headName, headNames};
-ghost use Rattle.tape_words.specs.Finding.{numberAmong, callingIn, recovererAmong};
+ghost use Rattle.tape_words.specs.Finding.{numberAmong, callingIn, isKnownAmong, recovererAmong};
 
 // How a call of a name is done: as an emission, as an angle call, by whether it subtracts, or by applying the function
 // declared under it.
@@ -180,6 +180,18 @@ pub fn is_built_in(tape: &[u32], from: usize, size: usize) -> bool
         return true;
     }
     is_difference(tape, from, size)
+}
+
+// A call of it can be done: it is built in, or one of `count` heads has it.
+pub fn is_known(tape: &[u32], heads: &[usize], count: usize, from: usize, size: usize) -> bool
+    requires { ⌜ (count ≤ length (now heads)) × (from + size ≤ length (now tape)) ⌝ }
+    ensures { λ r. ⌜ r ≡ isKnownAmong (headNames (now (tape .entry)) (take count (now (heads .entry))))
+        (take size (drop from (now (tape .entry)))) ⌝ }
+{
+    if is_built_in(tape, from, size) {
+        return true;
+    }
+    0 < find(tape, heads, count, from, size)
 }
 
 // It begins with Recover.

@@ -4,15 +4,16 @@ use native.Mathlib.Omega.{arith}
 use mathlib.Core.Path.{_≡_, refl, sym, ap, _∙_}
 use mathlib.Core.Bool.{Bool, true, false}
 use mathlib.Core.List.{List, [], _∷_, _++_}
-use lib.Dec.{eqb}
+use lib.Dec.{eqb, ltb}
 use lib.ListN.{length, take, drop, getD, drop-of-length-le, length-append}
 use lib.Seq.{drop-drop, take-nil, take-length}
-use borrow.Author.Tests.{eq-eqb, ne-eqb}
-use Rattle.meaning.specs.Choice.{Name, pick, both, sameBytes, startsWith}
+use borrow.Author.Tests.{eq-eqb, ne-eqb, lt-ltb}
+use Rattle.meaning.specs.Choice.{Name, pick, both, either, sameBytes, startsWith}
 use Rattle.meaning.specs.Angles.{plus, minus}
 use Rattle.meaning.specs.Names.{asAngles, asFunction, isEmission, operationName, callingOf, builtIn, isBuiltIn, recoverPrefix, isRecovering}
+use Rattle.meaning.specs.Allowed.{member}
 use Rattle.tape_words.specs.Words.{carried, headName, headNames}
-use Rattle.tape_words.specs.Finding.{numberAmong, callingIn, recovererAmong}
+use Rattle.tape_words.specs.Finding.{numberAmong, callingIn, isKnownAmong, recovererAmong}
 use Rattle.tape_words.specs.declared.names.Calling.the-variants.{Emission, Angles, Function}
 use native.Mathlib.Decide.{decLe}
 use native.Mathlib.Nat.{lt-of-not-le, zero-add, suc-add}
@@ -219,6 +220,25 @@ module _ (ws heads : List ℕ) (count : ℕ) (n : Name) (fits : count ≤ length
   pub found-none : {r : ℕ} (k : ℕ) → searchFrom k ≡ r → count ≤ k → 0 ≡ r
   unfolding numberAmong
   found-none k kept h = rw (front-none heads count k h) at kept
+
+-- A CALL THAT CAN BE DONE
+
+number-member : (count : ℕ) (ms : List Name) (n : Name) → ltb 0 (numberAmong count ms n) ≡ member n ms
+unfolding numberAmong member
+number-member count [] n = refl
+number-member count (m ∷ ms) n = go (sameBytes n m) (number-member (count + 1) ms n)
+  where
+    go : (b : Bool) → ltb 0 (numberAmong (count + 1) ms n) ≡ member n ms
+        → ltb 0 (pick b (count + 1) (numberAmong (count + 1) ms n)) ≡ either b (member n ms)
+    go true e = lt-ltb 0 (count + 1) (omega arith)
+    go false e = e
+
+module _ (ms : List Name) (n : Name) {is : Bool} (e : is ≡ isBuiltIn n) where
+  pub known-built-in : is ≡ true → true ≡ isKnownAmong ms n
+  known-built-in h = rw (← e, h)
+
+  pub known-declared : is ≡ false → {r : ℕ} → r ≡ numberAmong 0 ms n → ltb 0 r ≡ isKnownAmong ms n
+  known-declared h f = rw (← e, h, f) (number-member 0 ms n)
 
 -- THE FUNCTION THAT RECOVERS
 

@@ -1,68 +1,21 @@
--- `read_bookkeeping::writing::put_named` meets its contract: the word and the bytes so far are written.
+-- `read_bookkeeping::writing::put_named` meets its contract.
+use borrow.Author.Needs.{needs}
 use Rattle.read_bookkeeping.proofs.writing.put_named.Statement.{statement}
 use Rattle.read_bookkeeping.proofs.writing.put_named.Tie as tie
-use Prim.Native.Nat.{_-_}
-use native.Mathlib.Omega.{arith}
-use borrow.Author.Needs.{needs}
-use Rattle.read_bookkeeping.proofs.Words.{Copied, copy-starts, copy-goes, copy-ends, wrote-after, wrote-length}
+use Rattle.read_bookkeeping.proofs.Words.{wrote-after}
 
-abbrev Inv-loop : tie.InvT-loop
-Inv-loop text tape₀ at word past to₀ i₀ tape to i = Copied text tape₀ to₀ i₀ past tape to i
-
-abbrev μ-loop : tie.MeasureT-loop
-μ-loop text tape₀ at word past to₀ i₀ tape to i = past - i
-
-add-to : tie.Need-add-to Inv-loop μ-loop
-add-to c = let p = c .before .before .before .before .before .before .pre .1 in omega arith
-
-loop-holds : tie.Need-loop-holds Inv-loop μ-loop
-loop-holds c =
-    let entry = c .before .before .before .before .before .before in
-    copy-starts _ _ _ (entry .args .x) (entry .pre .0) (entry .pre .1)
-
-shared-slice-read-byte : tie.Need-shared-slice-read-byte Inv-loop μ-loop
-shared-slice-read-byte c = let n = c .before .before .loop .inv in omega arith
-
-cast-put : tie.Need-cast-put Inv-loop μ-loop
-cast-put c = omega (arith, c .before .shared-slice-known2 .given (c .before .before .before .loop .i))
-
-add-to-2 : tie.Need-add-to-2 Inv-loop μ-loop
-add-to-2 c = let n = c .before .before .before .before .before .before .loop .inv in omega arith
-
-add-i : tie.Need-add-i Inv-loop μ-loop
-add-i c = let n = c .before .before .before .before .before .before .loop .inv in omega arith
-
-loop-again : tie.Need-loop-again Inv-loop μ-loop
-loop-again c =
-    let at-shared-slice-known2 = c .before .before .before .before in
-    let at-loop-test = at-shared-slice-known2 .before in
-    let at-loop = at-loop-test .before in
-    copy-goes _ _ _ _ _ _ _ _ (at-loop .loop .inv) _ (at-loop-test .loop-test .taken)
-    (omega (arith, at-shared-slice-known2 .shared-slice-known2 .given (at-loop .loop .i))) (c .before .before .put2 .ensures)
-
-returns : tie.Need-returns Inv-loop μ-loop
-returns c =
-    let e = copy-ends _ _ _ _ _ _ _ _ (c .before .loop .inv) (c .loop-test .left) in
-    (wrote-after _ _ _ _ _ _ _ (c .before .before .before .before .put .ensures) (e .0), e .1)
-
-same-length : tie.Need-same-length Inv-loop μ-loop
-same-length c = wrote-length (returns c .0)
+returns : tie.Need-returns
+returns c = let at-put-bytes = c .before .before in (
+  wrote-after _ _ _ _ _ _ _ (at-put-bytes .before .before .before .before .put .ensures) (at-put-bytes .put-bytes .ensures .0),
+  at-put-bytes .put-bytes .ensures .1,
+)
 
 pub put-named-spec : {M : Type 1} → statement M
 put-named-spec =
     tie.close
     (tie.spec
-    Inv-loop
-    μ-loop
     (λ c κs. search needs)
-    add-to
-    loop-holds
-    shared-slice-read-byte
-    cast-put
+    (λ c. search needs)
     (λ c κs. search needs)
-    add-to-2
-    add-i
-    (λ c. omega arith)
-    loop-again
-    same-length
+    (λ c. search needs)
     returns)

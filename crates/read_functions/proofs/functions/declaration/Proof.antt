@@ -15,7 +15,7 @@ use Rattle.read_functions.proofs.Functioned.{stage-few, stage-goes}
 token-here : (c : tie.After-lex)
     → let at-stage = c .before .before in
     let a = at-stage .before .before .before .before .args in
-    StageAt (a .text .now) (a .tape .now) (a .names .now) (a .at) (a .stage) (at-stage .stage .given .0 .0) (c .lex .result)
+    StageAt (a .text .now) (a .tape .now) (a .heads .now) (a .at) (a .stage) (at-stage .stage .given .0 .0) (c .lex .result)
 token-here c =
     let at-stage = c .before .before in
     let u = at-stage .before .before .before .before .pre in

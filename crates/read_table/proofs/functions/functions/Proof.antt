@@ -1,5 +1,5 @@
 -- `functions::functions` meets its contract: a walk of its MIR, by hand. The reader is a local, which is lent to `next_declaration` in each turn of
--- the loop, and tape and names are lent again for that call. The loop goes from state to state (`Proof/Turns.antt`).
+-- the loop, and tape and heads are lent again for that call. The loop goes from state to state (`Proof/Turns.antt`).
 -- All that the proof knows of the functions called is that each meets its contract.
 -- Positions in the context: local i stands at 2 · i, after what is put in front. Assumes nothing.
 use mathlib.Core.Path.{_≡_, refl, sym, ap, subst, _∙_}
@@ -53,6 +53,7 @@ use Rattle.read_functions.specs.declared.functions.Stage.{Stage}
 use Rattle.read_functions.specs.Functions.{functionsOf, FunctionsRead, tableOutcome, Underway, firstStage, onward, outcomeOf}
 use Rattle.proof_walks.proofs.Answering.{clause, answers, answers-back, answers-lasts}
 use Rattle.proof_walks.proofs.Apart.{tokens-apart, tokens-joined, owned-apart, owned-joined}
+use Rattle.read_table.specs.Through.{Readable}
 use Rattle.proof_walks.proofs.Entering.{calls-framed, walk-enters, required-one}
 use Rattle.proof_walks.proofs.Handing.{none-passed, one-passed}
 use Rattle.proof_walks.proofs.Lending.{lent-at, Mine, Theirs, Ours, as-passed, takes-slice, lends-again, last-list, lends-slice-again}
@@ -92,7 +93,7 @@ use Rattle.read_table.proofs.functions.functions.Code.Mir as body
 use Rattle.read_table.proofs.functions.functions.Proof.Turns.{Turn, Changed, Told, Less, less-founded, at-start, may-go, next-turn, finished}
 mod Turns
 
--- the places of tape and names in the signature
+-- the places of tape and heads in the signature
 abbrev words : Slot 3
 words = plain (λ _. u32)
 
@@ -135,12 +136,12 @@ module _ {M : Type 1} (𝓤 : URA M) (H : Heap 𝓤) (A : Atoms 𝓤) (at-mem : 
   outcome-said x r = clause 𝓤 H A (lasts outcome.ended tt (x, tt)) (r ≡ outcomeOf x)
 
 module _ {M : Type 1} (𝓤 : URA M) (H : Heap 𝓤) (A : Atoms 𝓤) (W : Given 𝓤 H A) (at-mem : Memory → SProp 𝓤) (run : Routine → Fun 𝓤)
-    (κs : Lfts 3) (qs : Shares 3) (bounds : AllOutlive 3 (functions.signature .outlives) κs) (text tape names : RefT (List ℕ)) where
+    (κs : Lfts 3) (qs : Shares 3) (bounds : AllOutlive 3 (functions.signature .outlives) κs) (text tape heads : RefT (List ℕ)) where
   abbrev a : Args functions.signature κs
-  a = (text, (tape, (names, tt)))
+  a = (text, (tape, (heads, tt)))
 
   abbrev vss : Vals functions.signature κs
-  vss = (slice-vals text, (slice-vals tape, (ptr-vals names, tt)))
+  vss = (slice-vals text, (slice-vals tape, (ptr-vals heads, tt)))
 
   abbrev Post : Val → SProp 𝓤
   Post = walkOf 𝓤 H A functions.ended stayed (functions.clauses 𝓤 H A at-mem run) .post ((κs, qs, bounds, a, vss), tt)
@@ -173,16 +174,16 @@ module _ {M : Type 1} (𝓤 : URA M) (H : Heap 𝓤) (A : Atoms 𝓤) (W : Given
   -- what the loop keeps beside the locals
   abbrev Kept : State → List (Item 𝓤)
   Kept t = ‵ (Reads .own (t .reader) (reader-val (t .reader) ∷ [])) ∷ ‵ (Mine u32 (κs .1 .0) (qs .1 .0) tape (t .tape)) ∷
-      ‵ (Ours Entries (κs .1 .1 .0) (qs .1 .1 .0) names (t .names)) ∷ ‵ (flft (κs .0) (qs .0)) ∷ ‵ (flft (κs .1 .0) (qs .1 .0)) ∷
+      ‵ (Ours Entries (κs .1 .1 .0) (qs .1 .1 .0) heads (t .heads)) ∷ ‵ (flft (κs .0) (qs .0)) ∷ ‵ (flft (κs .1 .0) (qs .1 .0)) ∷
       ‵ (flft (κs .1 .1 .0) (qs .1 .1 .0)) ∷ []
 
-  exits : (t : State) (r : ParsedTable) (u : Val) → AgreesBy tableOutcome (FunctionsRead (now text) (now tape) (t .tape) (t .names))
+  exits : (t : State) (r : ParsedTable) (u : Val) → AgreesBy tableOutcome (FunctionsRead (now text) (now tape) (t .tape) (t .heads))
       (functionsOf (now text)) r
       → ent 𝓤 (⋆ 𝓤 H A (‵ (P.the-row .own r (u ∷ [])) ∷ Kept t)) (Post u)
   exits t r u said =
       qed W (‵ (P.the-row .own r (u ∷ [])) ∷ Kept t) ∵
       suffices ! _ (ends-at 𝓤 H A functions.ended stayed (functions.clauses 𝓤 H A at-mem run) W ((κs, qs, bounds, a, vss), tt) u r
-      (tt, (t .tape, (t .names, tt)))
+      (tt, (t .tape, (t .heads, tt)))
       (tt, (t .long, (tt, tt)))) $ says ! said $
       move ! (4 ∷ 5 ∷ 6 ∷ []) $ tokens-joined ! 3 κs qs $ frame ! $ move ! (1 ∷ []) $ drop ! $
       nothing ! $ move ! (3 ∷ 0 ∷ []) $ fjoin ! $ move ! (2 ∷ 0 ∷ []) $ as-passed ! u32 (κs .1 .0) (qs .1 .0) tape (t .tape) (t .long) $ fjoin ! $
@@ -228,7 +229,7 @@ module _ {M : Type 1} (𝓤 : URA M) (H : Heap 𝓤) (A : Atoms 𝓤) (W : Given
 
       -- what the locals hold from the first parameter to the stage, and the context in a state
       abbrev passed : State → List Content
-      passed t = holds (sliceVal (ptr text) (length (now text))) ∷ holds (sliceVal (ptr tape) (length (t .tape))) ∷ pointer names ∷ holds
+      passed t = holds (sliceVal (ptr text) (length (now text))) ∷ holds (sliceVal (ptr tape) (length (t .tape))) ∷ pointer heads ∷ holds
           (reader-val (t .reader)) ∷ holds (t .value) ∷ []
 
       abbrev At : State → List (Item 𝓤)
@@ -248,7 +249,7 @@ module _ {M : Type 1} (𝓤 : URA M) (H : Heap 𝓤) (A : Atoms 𝓤) (W : Given
       abbrev args : State → (ν ν₁ ν₂ : ℕ) (δ δ₁ δ₂ : GName) → Args next.signature (lifetimes ν ν₁ ν₂)
       args t ν ν₁ ν₂ δ δ₁ δ₂ = (
         record { ptr = (l₄, 0); name = δ; now = t .reader },
-        (lent-at tape δ₁ (t .tape), (lent-at names δ₂ (t .names), (t .stage, tt))),
+        (lent-at tape δ₁ (t .tape), (lent-at heads δ₂ (t .heads), (t .stage, tt))),
       )
 
       abbrev to-next : State → (ν ν₁ ν₂ : ℕ) (δ δ₁ δ₂ : GName) → Next 𝓤 H A at-mem run .Ghost
@@ -258,7 +259,7 @@ module _ {M : Type 1} (𝓤 : URA M) (H : Heap 𝓤) (A : Atoms 𝓤) (W : Given
           shares,
           (meet-⊑-right (ν ∷ []) (κs .0), tt),
           args t ν ν₁ ν₂ δ δ₁ δ₂,
-          (vptr l₄ 0 ∷ [], (sliceVal (ptr tape) (length (t .tape)) ∷ [], (ptr-vals names, (t .value ∷ [], tt)))),
+          (vptr l₄ 0 ∷ [], (sliceVal (ptr tape) (length (t .tape)) ∷ [], (ptr-vals heads, (t .value ∷ [], tt)))),
         ),
         tt,
       )
@@ -268,7 +269,7 @@ module _ {M : Type 1} (𝓤 : URA M) (H : Heap 𝓤) (A : Atoms 𝓤) (W : Given
           ∷ ‵ (flft (ν₂ ∷ []) fullShare) ∷
           ‵ (MutRef erased (ν ∷ κs .0) Reads .own (record { ptr = (l₄, 0); name = δ; now = t .reader }) (vptr l₄ 0 ∷ [])) ∷
           ‵ (Theirs u32 (κs .1 .0) (qs .1 .0) tape ν₁ δ₁ (t .tape)) ∷
-          ‵ (MutRef erased (ν₂ ∷ []) Entries .own (lent-at names δ₂ (t .names)) (ptr-vals names)) ∷ []
+          ‵ (MutRef erased (ν₂ ∷ []) Entries .own (lent-at heads δ₂ (t .heads)) (ptr-vals heads)) ∷ []
 
       goes-next : (t : State) (ν ν₁ ν₂ : ℕ) (δ δ₁ δ₂ : GName) →
           ent 𝓤 (⋆ 𝓤 H A (Lent t ν ν₁ ν₂ δ δ₁ δ₂)) (Next 𝓤 H A at-mem run .pre (to-next t ν ν₁ ν₂ δ δ₁ δ₂))
@@ -278,8 +279,8 @@ module _ {M : Type 1} (𝓤 : URA M) (H : Heap 𝓤) (A : Atoms 𝓤) (W : Given
           tokens-joined ! 4 (lifetimes ν ν₁ ν₂) shares $ move ! (counting 1 4) $
           owned-joined ! (typesAt (next.signature .params) (lifetimes ν ν₁ ν₂)) (args t ν ν₁ ν₂ δ δ₁ δ₂) (to-next t ν ν₁ ν₂ δ δ₁ δ₂ .0 .4) $
           move ! (1 ∷ 0 ∷ []) $ join ! $ frame ! $
-          use0 W (raw (fact 𝓤 (Underway (now (t .reader .text)) (t .tape) (t .names) (t .reader .at) (t .stage))))
-          (factI 𝓤 (Underway (now (t .reader .text)) (t .tape) (t .names) (t .reader .at) (t .stage)) (emp 𝓤) (may-go t)) $ done !
+          use0 W (raw (fact 𝓤 (Underway (now (t .reader .text)) (t .tape) (t .heads) (t .reader .at) (t .stage))))
+          (factI 𝓤 (Underway (now (t .reader .text)) (t .tape) (t .heads) (t .reader .at) (t .stage)) (emp 𝓤) (may-go t)) $ done !
 
       -- a turn from a state leaves the loop, or ends in a state with less to come
       abbrev Goes : State → Type 1
@@ -306,13 +307,13 @@ module _ {M : Type 1} (𝓤 : URA M) (H : Heap 𝓤) (A : Atoms 𝓤) (W : Given
           asked t true said (stays ! (copies ! 14 refl) $ assigns ! (addr ! (from ! (stop !))) (from ! (stop !)) (init ! 16 refl (tt, tt)) $
           lends-again ! 4 18 20 refl refl refl refl refl refl tt tt (fits-tape t .0) $
           assigns ! (addr ! (from ! (hop ! (look ! 6 refl) (stop !)))) (from ! (stop !)) (init ! 22 refl (tt, tt)) $
-          -- the reader is lent, and tape and names are lent again, for lifetimes of the call
+          -- the reader is lent, and tape and heads are lent again, for lifetimes of the call
           move ! (8 ∷ 24 ∷ 27 ∷ []) $ lends-local ! tt D L (κs .0) (qs .0) (t .reader) l₄ (λ ν δ.
           move ! (28 ∷ 30 ∷ []) $ lends-slice-again ! tt u32 (κs .1 .0) (qs .1 .0) tape (t .tape) (λ ν₁ δ₁.
-          move ! (31 ∷ 32 ∷ []) $ lends-reference-again ! tt Entries (κs .1 .1 .0) (qs .1 .1 .0) names (t .names) (λ ν₂ δ₂.
+          move ! (31 ∷ 32 ∷ []) $ lends-reference-again ! tt Entries (κs .1 .1 .0) (qs .1 .1 .0) heads (t .heads) (λ ν₂ δ₂.
           move ! (8 ∷ 10 ∷ 5 ∷ 2 ∷ 6 ∷ 3 ∷ 0 ∷ []) $ group ! 7 $
           use1 W (raw (Next 𝓤 H A at-mem run .pre (to-next t ν ν₁ ν₂ δ δ₁ δ₂))) (goes-next t ν ν₁ ν₂ δ δ₁ δ₂) $
-          -- [what `next_declaration` is passed; what is kept of names, of tape and of the reader; the locals]
+          -- [what `next_declaration` is passed; what is kept of heads, of tape and of the reader; the locals]
           calls-at-last ! fm (Next 𝓤 H A at-mem run) known-next (to-next t ν ν₁ ν₂ δ δ₁ δ₂)
           (and-copies ! 20 refl (and-copies ! 24 refl (and-copies ! 26 refl (and-copies ! 14 refl (no-more !))))) (λ w.
           answers-lasts ! tt S.the-row _ Changed (lasts next.ended (lifetimes ν ν₁ ν₂) (args t ν ν₁ ν₂ δ δ₁ δ₂))
@@ -320,11 +321,11 @@ module _ {M : Type 1} (𝓤 : URA M) (H : Heap 𝓤) (A : Atoms 𝓤) (W : Given
           tokens-apart ! 4 (lifetimes ν ν₁ ν₂) shares $
           -- the last values are taken apart
           move ! (4 ∷ []) $ fsplit ! $ move ! (1 ∷ []) $ last-list ! (λ e. fsplit ! $ move ! (1 ∷ []) $ drop ! $
-          -- [the last names; the last tape; the last reader; the tokens; what is kept of names, of tape and of the reader; the locals]: the
+          -- [the last heads; the last tape; the last reader; the tokens; what is kept of heads, of tape and of the reader; the locals]: the
           -- lifetimes end
           move ! (3 ∷ 10 ∷ 4 ∷ 9 ∷ 2 ∷ []) $ local-comes-back ! tt D L (κs .0) (qs .0) (ws .0) l₄ $
           move ! (5 ∷ 8 ∷ 4 ∷ []) $ slice-comes-back-at ! tt u32 (κs .1 .0) (qs .1 .0) tape 12 (t .tape) (ws .1 .0) (fits-tape t) e refl $
-          move ! (6 ∷ 7 ∷ 5 ∷ []) $ reference-comes-back ! tt Entries (κs .1 .1 .0) (qs .1 .1 .0) names (t .names) (ws .1 .1 .0) $
+          move ! (6 ∷ 7 ∷ 5 ∷ []) $ reference-comes-back ! tt Entries (κs .1 .1 .0) (qs .1 .1 .0) heads (t .heads) (ws .1 .1 .0) $
           land-last ! (from ! (stop !)) (store ! 16 refl (EL.lawful S.the-type S′.the-laws 𝓤 H A W tt .typed x _ is-x .0)) $
           forget ! 20 refl $ forget ! 22 refl $ forget ! 24 refl $ forget ! 26 refl $ forget ! 28 refl $
           move ! (counting 7 8 ++ 4 ∷ counting 15 15 ++ 5 ∷ 2 ∷ 0 ∷ 6 ∷ 3 ∷ 1 ∷ []) $
@@ -350,21 +351,21 @@ module _ {M : Type 1} (𝓤 : URA M) (H : Heap 𝓤) (A : Atoms 𝓤) (W : Given
       turns : (t : State) → Goes t
       turns t = either t (onward (t .stage)) refl
 
-    walk : (length (now text) ≤ 32768) × (length (now names) ≡ 64) → Triple 𝓤 (𝓣 .C #read-tokens·reader·new) (New 𝓤 H A at-mem run)
+    walk : Readable (now text) (now tape) (now heads) → Triple 𝓤 (𝓣 .C #read-tokens·reader·new) (New 𝓤 H A at-mem run)
         → Triple 𝓤 (𝓣 .C #read-functions·functions·first-stage) (FirstStage 𝓤 H A at-mem run)
         → ent 𝓤 (onEntry 𝓤 H A functions.signature κs qs a vss)
-        (WpFn 𝓤 H (𝓣 .C) (𝓣 .Λ) code.function (sliceVal (ptr text) (length (now text)) ∷ sliceVal (ptr tape) (length (now tape)) ∷ vptr (ptr names .0)
-        (ptr names .1) ∷ []) Post)
+        (WpFn 𝓤 H (𝓣 .C) (𝓣 .Λ) code.function (sliceVal (ptr text) (length (now text)) ∷ sliceVal (ptr tape) (length (now tape)) ∷ vptr (ptr heads .0)
+        (ptr heads .1) ∷ []) Post)
     walk req known-new known-first =
         qed W (raw (toks 𝓤 A 3 κs qs) ∷ ‵ Owned ∷ []) ∵ enter ! (𝓣 .C) (𝓣 .Λ) code.function _ _ $
         lays-out ! (λ l₀ l₁ l₂ l₃ l₄ l₅ l₆ l₇ l₈ l₉ l₁₀ l₁₁. params1 ! $
         takes-slice ! 2 refl tt (are .0 .0 .1 .0) $ takes-slice ! 4 refl tt (are .1 .0 .0 .1 .0) $ pass1 ! (init ! 6 refl (tt, tt)) $ pass0 ! $
         move ! (24 ∷ []) $ tokens-apart ! 3 κs qs $ move ! (27 ∷ []) $ owned-apart ! (typesAt (functions.signature .params) κs) a vss $
-        -- [what text, tape and names own; their tokens; the locals]: the reader is made of the text
+        -- [what text, tape and heads own; their tokens; the locals]: the reader is made of the text
         move ! (3 ∷ 0 ∷ []) $ use2 W (raw (New 𝓤 H A at-mem run .pre to-new)) goes-new $
         calls-at ! fm (New 𝓤 H A at-mem run) known-new to-new (and-copies ! 7 refl (no-more !)) (λ u.
         answers-back ! tt Reads text-token _ (λ r. r ≡ readerAt text 0) new-said u (λ r made is.
-        -- [what the reader owns; the text's token; what tape and names own; their tokens; the locals]
+        -- [what the reader owns; the text's token; what tape and heads own; their tokens; the locals]
         land ! (from ! (stop !)) (init ! 18 refl (LL.lawful D L 𝓤 H A W .typed r _ is .0)) $
         rewrite ! 18 (λ (w : Val). ‵ (fat fullShare (T′.mir erased) l₆ 0 w)) (ap only (LL.tells D L r _ is)) refl $
         rewrite ! 0 (λ (ws : List Val). ‵ (Reads .own r ws)) (LL.tells D L r _ is) refl $
@@ -379,7 +380,7 @@ module _ {M : Type 1} (𝓤 : URA M) (H : Heap 𝓤) (A : Atoms 𝓤) (W : Given
         move ! (counting 6 24 ++ 1 ∷ 2 ∷ 3 ∷ 0 ∷ 4 ∷ 5 ∷ []) $
         -- the loop
         first-part ! $ blocks ! $ loops ! 𝓣 Less less-founded (At l₀ l₁ l₂ l₃ l₄ l₅ l₆ l₇ l₈ l₉ l₁₀ l₁₁) (turns l₀ l₁ l₂ l₃ l₄ l₅ l₆ l₇ l₈ l₉ l₁₀ l₁₁)
-        (at-start (now names) req r made x v how is-x))))))
+        (at-start (now heads) req r made x v how is-x))))))
 
 pub functions-spec : {M : Type 1} → stated.statement M
 unfolding code.routine tablesOf

@@ -93,10 +93,10 @@ abbrev Declaration : {M : Type 1} (𝓤 : URA M) (H : Heap 𝓤) (A : Atoms 𝓤
 Declaration 𝓤 H A at-mem run = tripleOf 𝓤 H A declaration.signature (declaration.spec 𝓤 H A at-mem run)
 
 module _ {M : Type 1} (𝓤 : URA M) (H : Heap 𝓤) (A : Atoms 𝓤) (W : Given 𝓤 H A) (at-mem : Memory → SProp 𝓤) (run : Routine → Fun 𝓤)
-    (κs : Lfts 4) (qs : Shares 4) (bounds : AllOutlive 4 (next.signature .outlives) κs) (lent : RefT Reader) (tape names : RefT (List ℕ))
+    (κs : Lfts 4) (qs : Shares 4) (bounds : AllOutlive 4 (next.signature .outlives) κs) (lent : RefT Reader) (tape heads : RefT (List ℕ))
     (stage : Stage) where
   abbrev a : Args next.signature κs
-  a = (lent, (tape, (names, (stage, tt))))
+  a = (lent, (tape, (heads, (stage, tt))))
 
   abbrev b : ℕ
   b = ptr lent .0
@@ -144,7 +144,7 @@ module _ {M : Type 1} (𝓤 : URA M) (H : Heap 𝓤) (A : Atoms 𝓤) (W : Given
   stage-val = EL.val S.the-type S′.the-laws
 
   abbrev vss : Vals next.signature κs
-  vss = (ptr-vals lent, (slice-vals tape, (ptr-vals names, (stage-vals stage, tt))))
+  vss = (ptr-vals lent, (slice-vals tape, (ptr-vals heads, (stage-vals stage, tt))))
 
   abbrev Required : SProp 𝓤
   Required = next.clauses 𝓤 H A at-mem run κs a .requires tt
@@ -170,7 +170,7 @@ module _ {M : Type 1} (𝓤 : URA M) (H : Heap 𝓤) (A : Atoms 𝓤) (W : Given
   to-declaration = ((κs .1, qs .1, tt, passed, (v ∷ [], (vint w64 (h .at) ∷ [], vss .1))), tt)
 
   abbrev Told : Reached → Lasts declaration.ended (κs .1) passed → Type 0
-  Told r ws = Declares (now (h .text)) (now tape) (now names) (h .at) stage (ws .1 .1 .0) (ws .1 .1 .1 .0) (r .at) (r .stage)
+  Told r ws = Declares (now (h .text)) (now tape) (now heads) (h .at) stage (ws .1 .1 .0) (ws .1 .1 .1 .0) (r .at) (r .stage)
 
   -- what the text's borrow owns is kept, and the place's facts are made anew
   goes-on : (n : ℕ) → n < 2 ^ 64 → ent 𝓤 (sem 𝓤 H A Own) (sem 𝓤 H A (R .own (gone n) (T′.lowered (gone n) ∷ [])))
@@ -199,7 +199,7 @@ module _ {M : Type 1} (𝓤 : URA M) (H : Heap 𝓤) (A : Atoms 𝓤) (W : Given
       (fm : FmC 𝓤 H (W .laws) C)
       (known : Triple 𝓤 (C #read-functions·functions·declaration) (Declaration 𝓤 H A at-mem run)) where
     walk : ent 𝓤 (sep 𝓤 (onEntry 𝓤 H A next.signature κs qs a vss) Required)
-        (WpFn 𝓤 H C Λ code.function (vptr b o ∷ sliceVal (ptr tape) (length (now tape)) ∷ vptr (ptr names .0) (ptr names .1) ∷ stage-val stage ∷ [])
+        (WpFn 𝓤 H C Λ code.function (vptr b o ∷ sliceVal (ptr tape) (length (now tape)) ∷ vptr (ptr heads .0) (ptr heads .1) ∷ stage-val stage ∷ [])
         Post)
     walk =
         qed W (((‵ (flft (κs .0) (qs .0)) ⊛ raw Tokens) ⊛ ‵ Owned) ∷ raw Required ∷ []) ∵ enter ! C Λ code.function _ _ $
@@ -250,9 +250,9 @@ module _ {M : Type 1} (𝓤 : URA M) (H : Heap 𝓤) (A : Atoms 𝓤) (W : Given
         returns ! (look ! 5 refl) $ move ! (counting 5 22) $
         frees-laid ! (placed (code.function .locals) (l₀ ∷ l₁ ∷ l₂ ∷ l₃ ∷ l₄ ∷ l₅ ∷ l₆ ∷ l₇ ∷ l₈ ∷ l₉ ∷ l₁₀ ∷ []))
         (holds (stage-val (r .stage)) ∷ pointer lent ∷
-        slice tape ∷ pointer names ∷ holds (stage-val stage) ∷ holds (LL.val P.the-type P′.the-laws r) ∷ holds v ∷ holds (vint w64 (h .at)) ∷ pointer
+        slice tape ∷ pointer heads ∷ holds (stage-val stage) ∷ holds (LL.val P.the-type P′.the-laws r) ∷ holds v ∷ holds (vint w64 (h .at)) ∷ pointer
         tape ∷ slice tape ∷
-        pointer names ∷ []) $
+        pointer heads ∷ []) $
         by ! (exits r ws (LL.owed P.the-type P′.the-laws r _ is .0) told))))))))
 
 pub next-declaration-spec : {M : Type 1} → stated.statement M

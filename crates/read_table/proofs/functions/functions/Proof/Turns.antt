@@ -19,7 +19,7 @@ use Rattle.read_functions.specs.declared.functions.Stage.the-variants.{Onward, 
 use Rattle.read_functions.specs.Functions.{functionsOf, FunctionsRead, tableOutcome, StageIs, Underway, firstStage, onward, outcomeOf, toCome}
 use Rattle.read_functions.proofs.Functioned.{functions-start}
 use Rattle.read_functions.proofs.functions.Stage as S
-use Rattle.read_table.specs.Through.{GoesOn}
+use Rattle.read_table.specs.Through.{Readable, GoesOn}
 
 -- what `next_declaration` leaves: the reader and the lists
 abbrev pub Changed : Type 0
@@ -30,21 +30,21 @@ pub record Turn (text : RefT (List ℕ)) (start : List ℕ) : Type 0 where
   pub stage : Stage
   pub value : Val
   pub tape : List ℕ
-  pub names : List ℕ
+  pub heads : List ℕ
   pub typed : Is S.the-row stage (value ∷ [])
   pub same : reader .text ≡ text
   pub long : length tape ≡ length start
-  pub stands : StageIs (now text) start tape names (reader .at) stage
+  pub stands : StageIs (now text) start tape heads (reader .at) stage
 
 -- what holds in the first state, and in the last
-pub begins : (text : RefT (List ℕ)) (start names : List ℕ) → (length (now text) ≤ 32768) × (length names ≡ 64) → (r : Reader) → r ≡ readerAt text 0
-    → (x : Stage) → x ≡ firstStage → StageIs (now text) start start names (r .at) x
-begins text start names req r made x how = rw (made, how) (functions-start (now text) start names (req .0) (req .1))
+pub begins : (text : RefT (List ℕ)) (start heads : List ℕ) → Readable (now text) start heads → (r : Reader) → r ≡ readerAt text 0
+    → (x : Stage) → x ≡ firstStage → StageIs (now text) start start heads (r .at) x
+begins text start heads req r made x how = rw (made, how) (functions-start (now text) start heads (req .0) (req .1) (req .2))
 
-over : (text start tape names : List ℕ) (at : ℕ) (x : Stage) → onward x ≡ false → StageIs text start tape names at x
-    → AgreesBy tableOutcome (FunctionsRead text start tape names) (functionsOf text) (outcomeOf x)
-over text start tape names at (Onward n) said s = absurd (true≢false said)
-over text start tape names at (Over p) said s = s
+over : (text start tape heads : List ℕ) (at : ℕ) (x : Stage) → onward x ≡ false → StageIs text start tape heads at x
+    → AgreesBy tableOutcome (FunctionsRead text start tape heads) (functionsOf text) (outcomeOf x)
+over text start tape heads at (Onward n) said s = absurd (true≢false said)
+over text start tape heads at (Over p) said s = s
 
 module _ {text : RefT (List ℕ)} {start : List ℕ} where
   -- fewer declarations may come
@@ -56,30 +56,30 @@ module _ {text : RefT (List ℕ)} {start : List ℕ} where
 
   -- what `next_declaration` ensures in a state
   abbrev pub Told : Turn text start → Stage → Changed → Type 0
-  Told t x ws = GoesOn (t .reader) (t .tape) (t .names) (t .stage) (ws .0) (ws .1 .0) (ws .1 .1 .0) x
+  Told t x ws = GoesOn (t .reader) (t .tape) (t .heads) (t .stage) (ws .0) (ws .1 .0) (ws .1 .1 .0) x
 
   -- the first state
-  abbrev pub at-start : (names : List ℕ) → (length (now text) ≤ 32768) × (length names ≡ 64) → (r : Reader) → r ≡ readerAt text 0 →
+  abbrev pub at-start : (heads : List ℕ) → Readable (now text) start heads → (r : Reader) → r ≡ readerAt text 0 →
       (x : Stage) (v : Val) → x ≡ firstStage
       → Is S.the-row x (v ∷ []) → Turn text start
-  at-start names req r made x v how is =
+  at-start heads req r made x v how is =
       record {
         reader = r;
         stage = x;
         value = v;
         tape = start;
-        names = names;
+        heads = heads;
         typed = is;
         same = ap (λ (d : Reader). d .text) made;
         long = refl;
-        stands = begins text start names req r made x how;
+        stands = begins text start heads req r made x how;
       }
 
   -- the reader's text is the text, so a declaration may be read through it
-  pub stands-there : (t : Turn text start) → StageIs (now (t .reader .text)) start (t .tape) (t .names) (t .reader .at) (t .stage)
-  stands-there t = subst (λ (s : RefT (List ℕ)). StageIs (now s) start (t .tape) (t .names) (t .reader .at) (t .stage)) (sym (t .same)) (t .stands)
+  pub stands-there : (t : Turn text start) → StageIs (now (t .reader .text)) start (t .tape) (t .heads) (t .reader .at) (t .stage)
+  stands-there t = subst (λ (s : RefT (List ℕ)). StageIs (now s) start (t .tape) (t .heads) (t .reader .at) (t .stage)) (sym (t .same)) (t .stands)
 
-  pub may-go : (t : Turn text start) → Underway (now (t .reader .text)) (t .tape) (t .names) (t .reader .at) (t .stage)
+  pub may-go : (t : Turn text start) → Underway (now (t .reader .text)) (t .tape) (t .heads) (t .reader .at) (t .stage)
   may-go t = record { start = start; is = stands-there t }
 
   -- the next state
@@ -92,7 +92,7 @@ module _ {text : RefT (List ℕ)} {start : List ℕ} where
         stage = x;
         value = w;
         tape = ws .1 .0;
-        names = ws .1 .1 .0;
+        heads = ws .1 .1 .0;
         typed = is;
         same = told .same ∙ t .same;
         long = e ∙ t .long;
@@ -102,5 +102,5 @@ module _ {text : RefT (List ℕ)} {start : List ℕ} where
 
   -- the last state
   pub finished : (t : Turn text start) (r : ParsedTable) → onward (t .stage) ≡ false → r ≡ outcomeOf (t .stage)
-      → AgreesBy tableOutcome (FunctionsRead (now text) start (t .tape) (t .names)) (functionsOf (now text)) r
-  finished t r said last = rw last (over (now text) start (t .tape) (t .names) (t .reader .at) (t .stage) said (t .stands))
+      → AgreesBy tableOutcome (FunctionsRead (now text) start (t .tape) (t .heads)) (functionsOf (now text)) r
+  finished t r said last = rw last (over (now text) start (t .tape) (t .heads) (t .reader .at) (t .stage) said (t .stands))
