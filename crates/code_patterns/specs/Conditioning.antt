@@ -16,12 +16,13 @@ use Rattle.tape_words.specs.declared.tape.Parts.the-variants.{Zero, One, Two}
 use Rattle.code_patterns.specs.declared.pattern.Lengths.{Lengths}
 use Rattle.code_patterns.specs.declared.pattern.Pattern.{Pattern}
 use Rattle.code_patterns.specs.declared.symbols.Site.{Site}
+use Rattle.code_patterns.specs.declared.bounds.PartBounds.{PartBounds}
 use Rattle.code_patterns.specs.declared.conditions.Conditions.{Conditions}
 use Rattle.tape_words.specs.Words.{headName, isConditionWord}
 use Rattle.code_patterns.specs.Scans.{Scan, scanned, conditionsOnTape}
 use Rattle.code_words.specs.Writing.{Wrote, Same}
 use Rattle.code_patterns.specs.Measuring.{flag}
-use Rattle.code_patterns.specs.Testing.{AllSites, held, total}
+use Rattle.code_patterns.specs.Testing.{siteNumbers, AllSites, held, total}
 
 -- WHERE VARIABLES LIE
 
@@ -44,6 +45,10 @@ pub record Kept (m : Pattern) (names sites : List ℕ) (symbols : ℕ) : Type 0 
 
 abbrev pub cellOf : ℕ → ℕ → Site
 cellOf register offset = record { register = register; offset = offset }
+
+-- bounds by their cells' numbers
+abbrev pub boundsIn : Bounds → PartBounds
+boundsIn b = record { from = siteNumbers (b .from); to = siteNumbers (b .to) }
 
 -- the bounds of an e-variable's part, by how many there are, the templates' lengths, and whether it is the first
 abbrev pub boundsBy : Parts → Lengths → Bool → Bounds

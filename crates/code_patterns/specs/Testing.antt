@@ -10,7 +10,7 @@ use Rattle.meaning.specs.Choice.{pick, Named}
 use Rattle.meaning.specs.Tree.{Element, letter, part}
 use Rattle.meaning.specs.Instructions.{Site as MeantSite, fromStart, fromEnd, fromPlace, store}
 use Rattle.meaning.specs.Translation.{Tested, testedLetter}
-use Rattle.meaning.specs.Packing.{Words, siteRegister, siteOffset, testWord, storeWord}
+use Rattle.meaning.specs.Packing.{Words, fromStartNumber, fromEndNumber, siteRegister, siteOffset, testWord, storeWord}
 use Rattle.tape_words.specs.declared.tape.Parts.{Parts}
 use Rattle.tape_words.specs.declared.tape.Parts.the-variants.{Zero, One, Two}
 use Rattle.code_patterns.specs.declared.pattern.Lengths.{Lengths}
@@ -43,13 +43,31 @@ siteBy parts Two last o = fromEnd (last - o)
 abbrev pub siteAt : Lengths → Parts → ℕ → MeantSite
 siteAt l template o = siteBy (l .parts) template (lastOf (l .parts) l) o
 
+-- the factors of a code word's operands: the first and the third, and in the first a second register or a truth value
+abbrev pub first : ℕ
+first = 256
+
+abbrev pub third : ℕ
+third = 16777216
+
+abbrev pub secondRegister : ℕ
+secondRegister = 1024
+
+abbrev pub truth : ℕ
+truth = 1024
+
+-- what every operand is below
+abbrev pub operand : ℕ
+operand = 256
+
 -- a cell as one number, as it is kept for each different s-variable
 abbrev pub siteNumber : MeantSite → ℕ
-siteNumber s = siteRegister s + 256 * siteOffset s
+siteNumber s = siteRegister s + operand * siteOffset s
 
 abbrev pub siteIn : ℕ → MeantSite
 siteIn n =
-    pick (eqb (n % 256) 0) (fromStart (n / 256)) (pick (eqb (n % 256) 1) (fromEnd (n / 256)) (fromPlace (n / 256)))
+    pick (eqb (n % operand) fromStartNumber) (fromStart (n / operand))
+    (pick (eqb (n % operand) fromEndNumber) (fromEnd (n / operand)) (fromPlace (n / operand)))
 
 -- more than the number of every cell of a pattern
 abbrev pub siteBound : ℕ

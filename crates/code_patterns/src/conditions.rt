@@ -1,6 +1,5 @@
 // A sentence's conditions as tests.
-use crate::bounds::part_end;
-use crate::bounds::part_start;
+use crate::bounds::part_bounds;
 use crate::pattern::Pattern;
 use crate::symbols::Site;
 use crate::symbols::found_site;
@@ -31,8 +30,10 @@ ghost use mathlib.Core.Bool.{true};
 ghost use Prim.Native.Nat.{_+_, _*_, _/_, _%_, _≤_, _<_, _^_};
 ghost use lib.ListN.{length, take, drop};
 ghost use Rattle.meaning.specs.Allowed.{maxLetters};
-ghost use Rattle.meaning.specs.Packing.{codeWord, testWord, predicatePartNumber};
-ghost use Rattle.code_patterns.specs.Testing.{siteBound};
+ghost use Rattle.meaning.specs.Packing.{codeWord, testWord, predicateNumber, predicatePartNumber};
+ghost use Rattle.meaning.specs.Packing.{registers, partTruth, partClass};
+ghost use Rattle.tape_layout.specs.Tape.{kindWidth, classCount, conditionTruth};
+ghost use Rattle.code_patterns.specs.Testing.{first, third, truth, siteBound};
 ghost use Rattle.code_patterns.specs.Scans.{conditionOf};
 ghost use Rattle.code_patterns.specs.Conditioning.{located, Kept, conditionTestBy, conditionAt, conditionsDone};
 ghost use Rattle.code_patterns.specs.Conditioning.{InConditions, ConditionsOn, ConditionsAll};
@@ -56,8 +57,9 @@ fn is_condition(tape: &[u32], i: usize, count: usize) -> bool
 
 // The test of the class and truth value that a condition's word carries, on the cell that was found.
 fn symbol_word(site: usize, carried: usize) -> usize
-    requires { ⌜ (site < siteBound) × (carried < 256) ⌝ }
-    ensures { λ r. ⌜ (r ≡ 3 + 256 * site + 1024 * (carried / 5 % 2) + 16777216 * (carried % 5)) × (r < 2 ^ 32) ⌝ }
+    requires { ⌜ (site < siteBound) × (carried < kindWidth) ⌝ }
+    ensures { λ r. ⌜ (r ≡ predicateNumber + first * site + truth * (carried / conditionTruth % 2)
+        + third * (carried % classCount)) × (r < 2 ^ 32) ⌝ }
 {
     let truth = carried / CONDITION_TRUTH % 2;
     let class = carried % CLASS_COUNT;
@@ -67,9 +69,10 @@ fn symbol_word(site: usize, carried: usize) -> usize
 // The same on the part between two cells.
 fn part_word(from: Site, to: Site, carried: usize) -> usize
     requires { ⌜ (from .register ≤ 2) × (from .offset ≤ maxLetters) × (to .register ≤ 2) × (to .offset ≤ maxLetters) ⌝ }
-    requires { ⌜ carried < 256 ⌝ }
+    requires { ⌜ carried < kindWidth ⌝ }
     ensures { λ r. ⌜ (r ≡ codeWord predicatePartNumber
-        (from .register + 4 * to .register + 16 * (carried / 5 % 2) + 32 * (carried % 5))
+        (from .register + registers * to .register + partTruth * (carried / conditionTruth % 2)
+        + partClass * (carried % classCount))
         (from .offset) (to .offset)) × (r < 2 ^ 32) ⌝ }
 {
     let truth = carried / CONDITION_TRUTH % 2;
@@ -90,7 +93,7 @@ fn condition_word(
     carried: usize,
 ) -> usize
     requires { ⌜ Kept m (now names) (now sites) symbols ⌝ }
-    requires { ⌜ (from + size ≤ length (now tape)) × (carried < 256) ⌝ }
+    requires { ⌜ (from + size ≤ length (now tape)) × (carried < kindWidth) ⌝ }
     ensures { λ r. ⌜ (r ≡ testWord (conditionTestBy (located (now (tape .entry)) m (now (names .entry))
         (now (sites .entry)) symbols) (conditionOf carried (take size (drop from (now (tape .entry)))))))
         × (r < 2 ^ 32) ⌝ }
@@ -98,9 +101,8 @@ fn condition_word(
     if carried / CONDITION_PART % 2 == 1 {
         let lengths = m.lengths;
         let first = name_is(tape, m.variable, from, size);
-        let start = part_start(lengths, first);
-        let end = part_end(lengths, first);
-        return part_word(start, end, carried);
+        let bounds = part_bounds(lengths, first);
+        return part_word(bounds.from, bounds.to, carried);
     }
     let found = find(tape, names, symbols, from, size);
     symbol_word(found_site(sites, found), carried)

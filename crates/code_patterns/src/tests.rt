@@ -26,12 +26,13 @@ ghost use lib.ListN.{length, take, drop, getD, set};
 ghost use Rattle.meaning.specs.Allowed.{maxLetters};
 ghost use Rattle.meaning.specs.Instructions.{look};
 ghost use Rattle.meaning.specs.Packing.{testWord, compareNumber};
+ghost use Rattle.tape_layout.specs.Tape.{symbolWord};
 ghost use Rattle.tape_words.specs.declared.tape.Piece.the-variants.{SVariable};
 ghost use Rattle.tape_words.specs.Words.{pieceAt};
 ghost use Rattle.code_words.specs.Writing.{Wrote};
 ghost use Rattle.code_patterns.specs.Testing.{siteAt, foundSite, AllSites, InTests, TestsOn, letterDone};
 ghost use Rattle.code_patterns.specs.Testing.{partDone, testsDone, TestsAll, total, storeOfSite};
-ghost use Rattle.code_patterns.specs.Testing.{siteBound};
+ghost use Rattle.code_patterns.specs.Testing.{first, third, secondRegister, operand, siteBound};
 
 // Where the writing of tests stands: how many e-variables came before, the offset in this template, the letters and the
 // different s-variables so far, the tape's next word, and the code's.
@@ -64,7 +65,7 @@ fn past_letter(t: Tests, symbols: usize, size: usize, at: usize) -> Tests
 
 fn test_character(tape: &[u32], lengths: Lengths, code: &mut [u32], t: Tests) -> Tests
     requires { ⌜ (total lengths ≤ maxLetters) × (t .offset ≤ maxLetters) × (t .letters ≤ maxLetters) ×
-        (t .next < length (now tape)) × (getD (now tape) (t .next) 0 < 256) × (t .at < 2 ^ 62) ⌝ }
+        (t .next < length (now tape)) × (getD (now tape) (t .next) 0 < symbolWord) × (t .at < 2 ^ 62) ⌝ }
     ensures { λ r. ⌜ Wrote (now (code .entry)) (t .at)
         (testWord (look (siteAt lengths (t .parts) (t .offset)) (getD (now (tape .entry)) (t .next) 0)) ∷ [])
         (now (code .exit)) (r .at) ⌝ }
@@ -90,7 +91,8 @@ fn new_symbol(names: &mut [usize], sites: &mut [usize], site: Site, t: Tests, si
         (t .next + 1 + size < 2 ^ 62) ⌝ }
     ensures { λ r. ⌜ r ≡ letterDone t (t .symbols + 1) size (t .at) ⌝ }
     ensures { λ r. ⌜ now (names .exit) ≡ set (now (names .entry)) (t .symbols) (t .next) ⌝ }
-    ensures { λ r. ⌜ now (sites .exit) ≡ set (now (sites .entry)) (t .symbols) (site .register + 256 * site .offset) ⌝ }
+    ensures { λ r. ⌜ now (sites .exit)
+        ≡ set (now (sites .entry)) (t .symbols) (site .register + operand * site .offset) ⌝ }
 {
     let symbols = t.symbols;
     names[symbols] = t.next;
@@ -111,8 +113,8 @@ fn equal_symbol(
         (site .offset ≤ maxLetters) × (t .at < 2 ^ 62) ⌝ }
     requires { ⌜ (t .offset < 2 ^ 62) × (t .letters < 2 ^ 62) × (t .next + 1 + size < 2 ^ 62) ⌝ }
     ensures { λ r. ⌜ Wrote (now (code .entry)) (t .at)
-        ((compareNumber + 256 * foundSite found (now (sites .entry)) + 1024 * site .register + 16777216 * site .offset)
-        ∷ [])
+        ((compareNumber + first * foundSite found (now (sites .entry)) + secondRegister * site .register
+        + third * site .offset) ∷ [])
         (now (code .exit)) (r .at) ⌝ }
     ensures { λ r. ⌜ r ≡ letterDone t (t .symbols) size (r .at) ⌝ }
 {

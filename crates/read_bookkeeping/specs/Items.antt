@@ -6,28 +6,29 @@ use mathlib.Core.List.{List}
 use lib.ListN.{length}
 use Rattle.meaning.specs.Choice.{Bytes, Name}
 use Rattle.meaning.specs.Answers.{notAllowedHere}
+use Rattle.meaning.specs.Allowed.{maxSymbols}
 use Rattle.meaning.specs.Reading.{Item, itemOf, isItem}
 use Rattle.read_tokens.specs.View.{IsClosed, charactersIn, quotationAt, tokenOf}
 use Rattle.read_tokens.specs.declared.Span.{Span}
 use Rattle.read_tokens.specs.declared.Placed.{Placed}
 use Rattle.read_bookkeeping.specs.declared.progress.Fault.{Fault}
 use Rattle.answers.specs.Numbers.{numberOf}
-use Rattle.read_bookkeeping.specs.Tables.{tableNames, Entries}
+use Rattle.read_bookkeeping.specs.Tables.{maxParts, variableRoom, tableNames, Entries}
 use Rattle.read_bookkeeping.specs.Tokened.{isWord}
 
--- a table of variables: s-variables from entry 0, at most 16, and e-variables from entry 16, at most 2
+-- a table of variables
 pub record Variables (text : Bytes) (table : List ℕ) (symbols parts : ℕ) : Type 0 where
   pub symbolEntries : Entries text table 0 symbols
-  pub partEntries : Entries text table 16 (16 + parts)
-  pub fewSymbols : symbols ≤ 16
-  pub fewParts : parts ≤ 2
-  pub long : length table ≡ 18
+  pub partEntries : Entries text table maxSymbols (maxSymbols + parts)
+  pub fewSymbols : symbols ≤ maxSymbols
+  pub fewParts : parts ≤ maxParts
+  pub long : length table ≡ variableRoom
 
 abbrev pub symbolNames : Bytes → List ℕ → ℕ → List Name
 symbolNames text table symbols = tableNames text table 0 symbols
 
 abbrev pub partNames : Bytes → List ℕ → ℕ → List Name
-partNames text table parts = tableNames text table 16 (16 + parts)
+partNames text table parts = tableNames text table maxSymbols (maxSymbols + parts)
 
 -- the identifier of a variable that stands after a place
 pub record Identifier (text : Bytes) (at : ℕ) (x : Span) : Type 0 where

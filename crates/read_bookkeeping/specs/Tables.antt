@@ -1,5 +1,5 @@
--- Names and identifiers in the text, and tables of identifiers. An entry of a table is 32 times the place of an
--- identifier, plus its length.
+-- Names and identifiers in the text, and tables of identifiers. An entry of a table is `entryWidth` times the place of
+-- an identifier, plus its length.
 use Prim.Native.Nat.{ℕ, suc, _+_, _-_, _/_, _%_, _≤_}
 use mathlib.Core.Path.{_≡_}
 use mathlib.Core.Bool.{Bool, not}
@@ -25,9 +25,20 @@ pub record OnTape (text : Bytes) (s : Span) (tape : List ℕ) (at : ℕ) : Type 
   pub inside : at + (s .past - s .from) ≤ length tape
   pub same : take (s .past - s .from) (drop at tape) ≡ part text s
 
+-- more than the length of every identifier
+abbrev pub entryWidth : ℕ
+entryWidth = 32
+
+-- the entries of a table: s-variables from the first on, at most `maxSymbols`, and e-variables after that many
+abbrev pub maxParts : ℕ
+maxParts = 2
+
+abbrev pub variableRoom : ℕ
+variableRoom = 18
+
 -- the name of an entry
 abbrev pub nameIn : Bytes → ℕ → Name
-nameIn text entry = slice (entry / 32) (entry / 32 + entry % 32) text
+nameIn text entry = slice (entry / entryWidth) (entry / entryWidth + entry % entryWidth) text
 
 unfoldable pub namesIn : Bytes → List ℕ → List Name
 namesIn text [] = []
@@ -35,7 +46,7 @@ namesIn text (entry ∷ entries) = nameIn text entry ∷ namesIn text entries
 
 -- an entry's name lies in the text
 abbrev pub inText : Bytes → ℕ → Bool
-inText text entry = leb (entry / 32 + entry % 32) (length text)
+inText text entry = leb (entry / entryWidth + entry % entryWidth) (length text)
 
 -- the names of a table from one entry on and before another
 abbrev pub tableNames : Bytes → List ℕ → ℕ → ℕ → List Name

@@ -7,6 +7,7 @@ use lib.Dec.{ltb}
 use lib.ListN.{length, drop}
 use lib.Seq.{sets}
 use Rattle.meaning.specs.Choice.{Bytes}
+use Rattle.meaning.specs.Allowed.{maxTable}
 use Rattle.meaning.specs.Tokens as Tokens
 use Rattle.tape_layout.specs.Tape.{callWord}
 
@@ -32,7 +33,7 @@ isQuiet word = ltb word callWord
 pub record Ready (text : Bytes) (at words : ℕ) : Type 0 where
   pub inside : at ≤ length text
   pub charged : words ≤ at
-  pub short : length text ≤ 32768
+  pub short : length text ≤ maxTable
 
 -- from a place, and so many words on a tape, to another with these words written
 pub record Went (text : Bytes) (at words : ℕ) (tape : List ℕ) (at′ words′ : ℕ) (tape′ added : List ℕ) : Type 0 where

@@ -1,16 +1,18 @@
-// Names and identifiers: parts of the text, and tables of identifiers. An entry of a table is 32 times the place of an
-// identifier, plus its length.
+// Names and identifiers: parts of the text, and tables of identifiers. An entry of a table is ENTRY_WIDTH times the
+// place of an identifier, plus its length.
 use crate::progress::fault_if;
 use answers::Answer;
 use answers::is_accepted;
 use read_tokens::Span;
 use tape_words::limits::MAX_IDENTIFIER;
 use tape_words::limits::MAX_NAME;
+use tape_words::limits::MAX_SYMBOLS;
 use tape_words::names::is_known;
 ghost use mathlib.Core.Path.{_≡_};
 ghost use Prim.Native.Nat.{_+_, _-_, _*_, _≤_, _<_};
 ghost use lib.ListN.{length, take};
 ghost use Rattle.meaning.specs.Choice.{sameBytes, startsWith};
+ghost use Rattle.meaning.specs.Allowed.{maxTable};
 ghost use Rattle.meaning.specs.Names.{predicateOf, isPredicate};
 ghost use Rattle.meaning.specs.Reading.{calledFault, subjectFault};
 ghost use Rattle.read_tokens.specs.View.{part};
@@ -18,10 +20,16 @@ ghost use Rattle.tape_words.specs.Words.{headNames};
 ghost use Rattle.answers.specs.Numbers.{numberOf};
 ghost use Rattle.read_bookkeeping.specs.Classed.{predicateMeant};
 ghost use Rattle.read_bookkeeping.specs.Tables.{Inside, OnTape, tableNames, Entries, position};
-ghost use Rattle.read_bookkeeping.specs.Tables.{declaredFaultIn};
+ghost use Rattle.read_bookkeeping.specs.Tables.{entryWidth, variableRoom, declaredFaultIn};
 
 // More than the length of every identifier.
-const ENTRY: usize = 32;
+const ENTRY_WIDTH: usize = 32;
+
+// The e-variables of a pattern.
+const MAX_PARTS: usize = 2;
+
+// The entries of a table: s-variables from the first on, e-variables from entry MAX_SYMBOLS on.
+pub const VARIABLE_ROOM: usize = MAX_SYMBOLS + MAX_PARTS;
 
 // The byte classes that conditions ask for.
 pub enum Class {
@@ -38,19 +46,19 @@ pub enum Predicate {
     NoPredicate,
 }
 
-// A table of no variables yet: s-variables from entry 0, e-variables from entry 16.
-pub fn variable_room() -> [usize; 18]
-    ensures { λ r. ⌜ length r ≡ 18 ⌝ }
+// A table of no variables yet.
+pub fn variable_room() -> [usize; VARIABLE_ROOM]
+    ensures { λ r. ⌜ length r ≡ variableRoom ⌝ }
 {
-    [0; 18]
+    [0; VARIABLE_ROOM]
 }
 
 // The entry of text[name] in a table.
 pub fn entry(name: Span) -> usize
-    requires { ⌜ (name .from ≤ name .past) × (name .past ≤ 32768) ⌝ }
-    ensures { λ r. ⌜ r ≡ name .from * 32 + (name .past - name .from) ⌝ }
+    requires { ⌜ (name .from ≤ name .past) × (name .past ≤ maxTable) ⌝ }
+    ensures { λ r. ⌜ r ≡ name .from * entryWidth + (name .past - name .from) ⌝ }
 {
-    name.from * ENTRY + (name.past - name.from)
+    name.from * ENTRY_WIDTH + (name.past - name.from)
 }
 
 // Whether text[x] and text[y] are the same bytes.
@@ -103,10 +111,10 @@ pub fn find(text: &[u8], table: &[usize], from: usize, to: usize, x: Span) -> us
     let mut i = from;
     while i < to {
         let name = table[i];
-        let place = name / ENTRY;
+        let place = name / ENTRY_WIDTH;
         let y = Span {
             from: place,
-            past: place + name % ENTRY,
+            past: place + name % ENTRY_WIDTH,
         };
         if same(text, x, y) {
             return i;

@@ -8,6 +8,8 @@ ghost use Prim.Native.Nat.{_+_, _-_, _≤_, _<_};
 ghost use lib.Dec.{T};
 ghost use lib.ListN.{set};
 ghost use Rattle.meaning.specs.Choice.{every};
+ghost use Rattle.meaning.specs.Allowed.{maxTable};
+ghost use Rattle.tape_layout.specs.Tape.{functionWord};
 ghost use Rattle.read_tokens.specs.View.{IsClosed, charactersIn, part};
 ghost use Rattle.read_bookkeeping.specs.Tables.{Inside};
 ghost use Rattle.read_bookkeeping.specs.Written.{isQuiet, Ready, Wrote, stringFrom};
@@ -23,7 +25,7 @@ pub fn put(tape: &mut [u32], at: usize, word: u32)
 
 // The bytes of a part of the text.
 pub fn put_bytes(text: &[u8], tape: &mut [u32], at: usize, x: Span) -> usize
-    requires { ⌜ Inside (now text) x × (at + (x .past - x .from) ≤ 32768) ⌝ }
+    requires { ⌜ Inside (now text) x × (at + (x .past - x .from) ≤ maxTable) ⌝ }
     ensures { λ r. ⌜ Wrote (now (tape .entry)) at (part (now (text .entry)) x) r (now (tape .exit)) ×
         T (every isQuiet (part (now (text .entry)) x)) ⌝ }
 {
@@ -41,7 +43,7 @@ pub fn put_bytes(text: &[u8], tape: &mut [u32], at: usize, x: Span) -> usize
 
 // A word, and the bytes of a part of the text after it.
 pub fn put_named(text: &[u8], tape: &mut [u32], at: usize, word: u32, x: Span) -> usize
-    requires { ⌜ Inside (now text) x × (at + 1 + (x .past - x .from) ≤ 32768) ⌝ }
+    requires { ⌜ Inside (now text) x × (at + 1 + (x .past - x .from) ≤ maxTable) ⌝ }
     ensures { λ r. ⌜ Wrote (now (tape .entry)) at (word ∷ part (now (text .entry)) x) r (now (tape .exit)) ×
         T (every isQuiet (part (now (text .entry)) x)) ⌝ }
 {
@@ -51,7 +53,7 @@ pub fn put_named(text: &[u8], tape: &mut [u32], at: usize, word: u32, x: Span) -
 
 // A word of a kind and a name's length, and the name's bytes after it.
 pub fn put_name(text: &[u8], tape: &mut [u32], at: usize, kind: usize, x: Span) -> usize
-    requires { ⌜ Inside (now text) x × (at + 1 + (x .past - x .from) ≤ 32768) × (kind ≤ 2048) ⌝ }
+    requires { ⌜ Inside (now text) x × (at + 1 + (x .past - x .from) ≤ maxTable) × (kind ≤ functionWord) ⌝ }
     ensures { λ r. ⌜ Wrote (now (tape .entry)) at ((kind + (x .past - x .from)) ∷ part (now (text .entry)) x) r
         (now (tape .exit))
         × T (every isQuiet (part (now (text .entry)) x)) ⌝ }

@@ -16,6 +16,7 @@ use Rattle.meaning.specs.Classes.{Class, classNumber}
 use Rattle.meaning.specs.Tree.{Subject, Condition}
 use Rattle.meaning.specs.Answers.{overLimit}
 use Rattle.meaning.specs.Names.{predicateOf}
+use Rattle.tape_layout.specs.Tape.{classCount, conditionTruth, conditionPart, conditionSize, conditionWord}
 use Rattle.tape_layout.specs.Tape.{truthNumber, subjectTape, conditionTape, conditionsTape}
 use Rattle.meaning.specs.Tokens as Tokens
 use Rattle.meaning.specs.Grammar.{standing}
@@ -96,8 +97,9 @@ subject-asked : {A : Type 0} (text : Bytes) (table : List ℕ) (symbols parts : 
 subject-asked text table symbols parts false x t next = refl
 subject-asked text table symbols parts true x t next = refl
 
--- its word carries 20 for each byte of its identifier, its kind, its truth value and its class
-subject-tape : (isPart : Bool) (x : Name) {word : ℕ} (truth class : ℕ) → word ≡ 768 + length x * 20 + kindNumber isPart + truth + class
+-- its word carries the length of its identifier, its kind, its truth value and its class
+subject-tape : (isPart : Bool) (x : Name) {word : ℕ} (truth class : ℕ)
+    → word ≡ conditionWord + length x * conditionSize + kindNumber isPart + truth + class
     → subjectTape (truth + class) (subjectOf isPart x) ≡ word ∷ x
 subject-tape false x truth class e = rw e (ap (λ (w : ℕ). w ∷ x) (omega arith))
 subject-tape true x truth class e = rw e (ap (λ (w : ℕ). w ∷ x) (omega arith))
@@ -212,10 +214,10 @@ module _ (isPart : Bool) {text : Bytes} {from words : ℕ} {x : Span} where
     end-no-truth e f = refused (a .first) (at-truth ∙ rw (a .first .unrolled, says-nothing (truthIn text t) (rw e at (a .truth)))) f
 
     pub end-reads : {tape tape′ : List ℕ} {expected : Bool} {kind truth class word after : ℕ} → closing ≡ Says expected
-        → (kind ≡ kindNumber isPart) × (kind ≤ 10)
-        → (truth ≡ truthNumber expected) × (truth ≤ 5)
-        → (class ≡ classNumber c) × (class ≤ 4)
-        → word ≡ 768 + (x .past - x .from) * 20 + kind + truth + class
+        → (kind ≡ kindNumber isPart) × (kind ≤ conditionPart)
+        → (truth ≡ truthNumber expected) × (truth ≤ conditionTruth)
+        → (class ≡ classNumber c) × (class < classCount)
+        → word ≡ conditionWord + (x .past - x .from) * conditionSize + kind + truth + class
         → Wrote tape words (word ∷ View.part text x) after tape′ × T (every isQuiet (View.part text x))
         → EndAgrees text from words tape tape′ isPart x c (Done (record { at = t .past; words = after }))
     unfolding every

@@ -7,9 +7,10 @@ use mathlib.Core.Option.{Option, none, some}
 use lib.Dec.{T, eqb}
 use lib.ListN.{length}
 use Rattle.meaning.specs.Choice.{Bytes, Name, pick, every}
+use Rattle.meaning.specs.Allowed.{maxIdentifier}
 use Rattle.meaning.specs.Classes.{Class}
 use Rattle.meaning.specs.Tree.{Subject, ofSymbol, ofPart, Condition}
-use Rattle.tape_layout.specs.Tape.{conditionTape, conditionsTape}
+use Rattle.tape_layout.specs.Tape.{conditionPart, conditionTape, conditionsTape}
 use Rattle.meaning.specs.Tokens as Tokens
 use Rattle.meaning.specs.Reading.{Parsed, parsed, pass, passSubject, truthOf, passTruth}
 use Rattle.read_tokens.specs.View.{tokenOf, Sound, stream}
@@ -49,7 +50,7 @@ subjectOf true x = ofPart x
 
 abbrev pub kindNumber : Bool → ℕ
 kindNumber false = 0
-kindNumber true = 10
+kindNumber true = conditionPart
 
 -- `condition` after its variable, and from its variable on
 abbrev pub conditionEnd : Class → Subject → List Tokens.Placed → Parsed Condition
@@ -85,7 +86,7 @@ pub record Before (text : Bytes) (words at : ℕ) (x : Span) : Type 0 where
   pub after : words < x .from
   pub some : x .from < x .past
   pub before : x .past ≤ at
-  pub short : x .past - x .from ≤ 8
+  pub short : x .past - x .from ≤ maxIdentifier
 
 -- a condition and conditions were read
 pub record ConditionRead (text : Bytes) (at words : ℕ) (tape tape′ : List ℕ) (c : Condition)

@@ -26,9 +26,10 @@ use tape_words::wide::CONDITION_SIZE;
 use tape_words::wide::CONDITION_TRUTH;
 use tape_words::wide::CONDITION_WORD;
 ghost use mathlib.Core.Path.{_≡_};
-ghost use Prim.Native.Nat.{_≤_};
+ghost use Prim.Native.Nat.{_≤_, _<_};
 ghost use Rattle.meaning.specs.Classes.{classNumber};
-ghost use Rattle.tape_layout.specs.Tape.{truthNumber};
+ghost use Rattle.meaning.specs.Allowed.{maxConditions};
+ghost use Rattle.tape_layout.specs.Tape.{classCount, conditionTruth, conditionPart, truthNumber};
 ghost use Rattle.meaning.specs.Tokens.{inside};
 ghost use Rattle.meaning.specs.Reading as Reading;
 ghost use Rattle.read_tokens.specs.View.{part, stream};
@@ -78,16 +79,16 @@ fn subject_fault(
     later_fault(text, table, 0, symbols, x)
 }
 
-// The kind of a condition's variable by its number on the tape: 10 for an e-variable.
+// The kind of a condition's variable by its number on the tape.
 fn kind_number(is_part: bool) -> usize
-    ensures { λ r. ⌜ (r ≡ kindNumber «is_part») × (r ≤ 10) ⌝ }
+    ensures { λ r. ⌜ (r ≡ kindNumber «is_part») × (r ≤ conditionPart) ⌝ }
 {
     if is_part { CONDITION_PART } else { 0 }
 }
 
 // A class by its number on the tape.
 fn class_number(class: Class) -> usize
-    ensures { λ r. ⌜ (r ≡ classNumber (classMeant class)) × (r ≤ 4) ⌝ }
+    ensures { λ r. ⌜ (r ≡ classNumber (classMeant class)) × (r < classCount) ⌝ }
 {
     match class {
         Class::Digit => 0,
@@ -98,9 +99,9 @@ fn class_number(class: Class) -> usize
     }
 }
 
-// A truth value by its number on the tape: 5 for T.
+// A truth value by its number on the tape.
 fn truth_number(truth: bool) -> usize
-    ensures { λ r. ⌜ (r ≡ truthNumber truth) × (r ≤ 5) ⌝ }
+    ensures { λ r. ⌜ (r ≡ truthNumber truth) × (r ≤ conditionTruth) ⌝ }
 {
     if truth { CONDITION_TRUTH } else { 0 }
 }
@@ -262,7 +263,7 @@ pub fn conditions(
 ) -> Parsed
     requires { ⌜ Ready (now text) from words × Variables (now text) (now table) symbols parts ⌝ }
     ensures { λ r. ⌜ Agrees (ConditionsRead (now (text .entry)) from words (now (tape .entry)) (now (tape .exit)))
-        (Reading.parseConditions 8 (symbolNames (now (text .entry)) (now (table .entry)) symbols)
+        (Reading.parseConditions maxConditions (symbolNames (now (text .entry)) (now (table .entry)) symbols)
         (partNames (now (text .entry)) (now (table .entry)) parts) (stream (now (text .entry)) inside from)) r ⌝ }
 {
     let mut s = Progress {

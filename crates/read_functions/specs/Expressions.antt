@@ -7,7 +7,7 @@ use mathlib.Core.List.{List, [], _∷_, _++_}
 use lib.Dec.{T, eqb}
 use lib.ListN.{length, set}
 use Rattle.meaning.specs.Choice.{Bytes, Name, every}
-use Rattle.meaning.specs.Allowed.{maxName}
+use Rattle.meaning.specs.Allowed.{maxName, maxSymbols, maxItems, maxNesting}
 use Rattle.meaning.specs.Tree.{Expression, end, thenCharacter, thenSymbol, thenPart, thenCall}
 use Rattle.tape_layout.specs.Tape.{tapeWord, named, symbolKind, partKind, callKind, closeKind, expressionTape}
 use Rattle.meaning.specs.Tokens as Tokens
@@ -36,13 +36,13 @@ use Rattle.read_bookkeeping.specs.Items.{Variables, symbolNames, itemAt, NoItem
 -- how far an expression is: its items, and the e-variables of the table that may still come
 abbrev pub progressAt : Bytes → List ℕ → ℕ → ExpressionCounts → Reading.Progress
 progressAt text table parts s =
-    record { items = s .items; coming = tableNames text table (16 + s .passed) (16 + parts) }
+    record { items = s .items; coming = tableNames text table (maxSymbols + s .passed) (maxSymbols + parts) }
 
 -- what may come next is safe
 pub record Going (text : Bytes) (table : List ℕ) (symbols parts : ℕ) (s : ExpressionCounts) : Type 0 where
   pub variables : Variables text table symbols parts
   pub passed : s .passed ≤ parts
-  pub few : s .items ≤ 128
+  pub few : s .items ≤ maxItems
   pub ready : Ready text (s .at) (s .words)
 
 -- WHAT STANDS ON THE TAPE
@@ -163,8 +163,8 @@ pub record OpeningRead (text : Bytes) (depth : ℕ) (s : ExpressionCounts) (tape
   pub tokens : rest ≡ stream text Tokens.inside (start .at)
   pub shorter : length rest ≤ length (stream text Tokens.naming (s .at))
   pub went : Went text (s .at) (s .words) tape (start .at) (start .words) tape′ (named (callKind + n .place) (n .name))
-  pub shallow : depth < 16
-  pub few : s .items < 128
+  pub shallow : depth < maxNesting
+  pub few : s .items < maxItems
   pub counted : start .items ≡ s .items + 1
   pub passed : start .passed ≡ s .passed
   pub stands : CallStands (n .name)

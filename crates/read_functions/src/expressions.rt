@@ -41,6 +41,8 @@ ghost use Rattle.meaning.specs.Tokens as Tokens;
 ghost use Rattle.meaning.specs.Reading as Reading;
 ghost use Rattle.read_tokens.specs.View.{charactersIn, quotationAt, part, stream, Comes};
 ghost use Rattle.read_bookkeeping.specs.Answered.{AgreesBy};
+ghost use Rattle.meaning.specs.Allowed.{maxTable, maxName, maxItems};
+ghost use Rattle.tape_layout.specs.Tape.{tapeWord, partWord, callKind};
 ghost use Rattle.read_bookkeeping.specs.Tables.{Inside};
 ghost use Rattle.read_bookkeeping.specs.Tokened.{unlessWord};
 ghost use Rattle.read_bookkeeping.specs.Written.{Wrote, isQuiet, Ready};
@@ -111,8 +113,8 @@ fn take_variable(
     base: usize,
     passed: usize,
 ) -> ExpressionCounts
-    requires { ⌜ Ready (now text) (s .at) (s .words) × Identifier (now text) (s .at) x × (s .items < 128)
-        × (base ≤ 512) ⌝ }
+    requires { ⌜ Ready (now text) (s .at) (s .words) × Identifier (now text) (s .at) x × (s .items < maxItems)
+        × (base ≤ partWord) ⌝ }
     ensures { λ r. ⌜ VariableTaken (now (text .entry)) s x base passed (now (tape .entry)) (now (tape .exit)) r ⌝ }
 {
     let word = (base + (x.past - x.from)) as u32;
@@ -214,10 +216,10 @@ fn join(
 
 // The word of a call and its name, which stands at a place.
 fn put_call(text: &[u8], tape: &mut [u32], words: usize, place: usize, name: Span) -> usize
-    requires { ⌜ Inside (now text) name × (words + 1 + (name .past - name .from) ≤ 32768)
-        × (name .past - name .from ≤ 24) × (place ≤ 32768) ⌝ }
+    requires { ⌜ Inside (now text) name × (words + 1 + (name .past - name .from) ≤ maxTable)
+        × (name .past - name .from ≤ maxName) × (place ≤ maxTable) ⌝ }
     ensures { λ r. ⌜ Wrote (now (tape .entry)) words
-        (((9 + place) * 256 + (name .past - name .from)) ∷ part (now (text .entry)) name) r (now (tape .exit))
+        (tapeWord (callKind + place) (name .past - name .from) ∷ part (now (text .entry)) name) r (now (tape .exit))
         × T (every isQuiet (part (now (text .entry)) name)) ⌝ }
 {
     let word = ((CALL_KIND + place) * KIND_WIDTH + (name.past - name.from)) as u32;

@@ -30,7 +30,7 @@ use Rattle.read_bookkeeping.specs.Written.{isQuiet, Ready, Went}
 -- what may come next is safe
 pub record PatternGoing (text : Bytes) (table : List ℕ) (p : Counts) : Type 0 where
   pub variables : Variables text table (p .symbols) (p .parts)
-  pub fewLetters : p .letters ≤ 64
+  pub fewLetters : p .letters ≤ maxLetters
   pub ready : Ready text (p .at) (p .words)
 
 -- the counts are those of the elements so far

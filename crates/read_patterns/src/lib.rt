@@ -1,6 +1,7 @@
 // The pattern's reader.
 use answers::Answer;
 use answers::is_accepted;
+use read_bookkeeping::names::VARIABLE_ROOM;
 use read_bookkeeping::names::entry;
 use read_bookkeeping::names::find;
 use read_bookkeeping::progress::Fault;
@@ -27,7 +28,7 @@ ghost use Rattle.meaning.specs.Tokens as Tokens;
 ghost use Rattle.meaning.specs.Reading as Reading;
 ghost use Rattle.read_tokens.specs.View.{charactersIn, quotationAt, part, Comes};
 ghost use Rattle.answers.specs.Numbers.{numberOf};
-ghost use Rattle.read_bookkeeping.specs.Tables.{Inside, position};
+ghost use Rattle.read_bookkeeping.specs.Tables.{Inside, variableRoom, position};
 ghost use Rattle.read_bookkeeping.specs.Written.{Ready};
 ghost use Rattle.read_bookkeeping.specs.Items.{symbolNames, partNames, Identifier, StringAt};
 ghost use Rattle.read_patterns.specs.Patterns.{PatternGoing, patternSymbolFault, patternPartFault, AddsItem};
@@ -121,8 +122,8 @@ fn symbol_fault(text: &[u8], table: &[usize], p: Counts, x: Span, known: usize) 
 }
 
 // Adds a name to the table unless it was found before the end; how many there are then.
-fn remember(table: &mut [usize; 18], known: usize, symbols: usize, name: usize) -> usize
-    requires { ⌜ known < 18 ⌝ }
+fn remember(table: &mut [usize; VARIABLE_ROOM], known: usize, symbols: usize, name: usize) -> usize
+    requires { ⌜ known < variableRoom ⌝ }
     ensures { λ r. ⌜ (r ≡ pick (ltb known symbols) symbols (known + 1))
         × (now (table .exit) ≡ pick (ltb known symbols) (now (table .entry)) (set (now (table .entry)) known name)) ⌝ }
 {
@@ -134,7 +135,13 @@ fn remember(table: &mut [usize; 18], known: usize, symbols: usize, name: usize) 
 }
 
 // An s-variable added to a pattern, and to the table if it is new there.
-fn add_symbol(text: &[u8], tape: &mut [u32], table: &mut [usize; 18], p: Counts, x: Span) -> Added
+fn add_symbol(
+    text: &[u8],
+    tape: &mut [u32],
+    table: &mut [usize; VARIABLE_ROOM],
+    p: Counts,
+    x: Span,
+) -> Added
     requires { ⌜ PatternGoing (now text) (now table) p × Identifier (now text) (p .at) x ⌝ }
     ensures { λ r. ⌜ AddsItem (now (text .entry)) (now (table .entry)) p (now (tape .entry))
         (Reading.symbolItem (part (now (text .entry)) x)) (x .past) (now (table .exit)) (now (tape .exit)) r ⌝ }
@@ -179,7 +186,13 @@ fn part_fault(text: &[u8], table: &[usize], p: Counts, x: Span) -> Answer
 }
 
 // An e-variable added to a pattern and to the table.
-fn add_part(text: &[u8], tape: &mut [u32], table: &mut [usize; 18], p: Counts, x: Span) -> Added
+fn add_part(
+    text: &[u8],
+    tape: &mut [u32],
+    table: &mut [usize; VARIABLE_ROOM],
+    p: Counts,
+    x: Span,
+) -> Added
     requires { ⌜ PatternGoing (now text) (now table) p × Identifier (now text) (p .at) x ⌝ }
     ensures { λ r. ⌜ AddsItem (now (text .entry)) (now (table .entry)) p (now (tape .entry))
         (Reading.partItem (part (now (text .entry)) x)) (x .past) (now (table .exit)) (now (tape .exit)) r ⌝ }
@@ -203,7 +216,13 @@ fn add_part(text: &[u8], tape: &mut [u32], table: &mut [usize; 18], p: Counts, x
 }
 
 // A token added to a pattern, by the item that it is.
-fn add(text: &[u8], tape: &mut [u32], table: &mut [usize; 18], p: Counts, t: Placed) -> Added
+fn add(
+    text: &[u8],
+    tape: &mut [u32],
+    table: &mut [usize; VARIABLE_ROOM],
+    p: Counts,
+    t: Placed,
+) -> Added
     requires { ⌜ PatternGoing (now text) (now table) p × Comes (now text) Tokens.inside (p .at) t ⌝ }
     ensures { λ r. ⌜ AddsToken (now (text .entry)) (now (table .entry)) p (now (tape .entry)) t (now (table .exit))
         (now (tape .exit)) r ⌝ }
@@ -231,11 +250,11 @@ fn add(text: &[u8], tape: &mut [u32], table: &mut [usize; 18], p: Counts, t: Pla
 pub fn pattern(
     text: &[u8],
     tape: &mut [u32],
-    table: &mut [usize; 18],
+    table: &mut [usize; VARIABLE_ROOM],
     at: usize,
     words: usize,
 ) -> ParsedPattern
-    requires { ⌜ Ready (now text) at words × (length (now table) ≡ 18) ⌝ }
+    requires { ⌜ Ready (now text) at words × (length (now table) ≡ variableRoom) ⌝ }
     ensures { λ r. ⌜ PatternAgrees (now (text .entry)) at words (now (tape .entry)) (now (table .exit))
         (now (tape .exit)) r ⌝ }
 {

@@ -19,15 +19,15 @@ use Rattle.tape_words.specs.declared.tape.Parts.{Parts}
 use Rattle.tape_words.specs.declared.tape.Parts.the-variants.{Zero, One, Two}
 use Rattle.code_patterns.specs.declared.pattern.Lengths.{Lengths}
 use Rattle.code_patterns.specs.declared.pattern.Pattern.{Pattern}
-use Rattle.code_patterns.specs.declared.symbols.Site.{Site}
+use Rattle.code_patterns.specs.declared.bounds.PartBounds.{PartBounds}
 use Rattle.code_patterns.specs.declared.conditions.Conditions.{Conditions}
 use Rattle.tape_words.specs.Words.{carried, headNames, isConditionWord, classIn}
 use Rattle.code_patterns.specs.Scans.{Scan, scanned, prepended, conditionOf, conditionIn, conditionBy, conditionsOnTape}
 use Rattle.code_words.specs.Writing.{Wrote, Same}
 use Rattle.tape_words.specs.Finding.{numberAmong}
-use Rattle.code_patterns.specs.Testing.{siteNumbers, siteNumber, IsSite, storeOfSite, foundSite, held, total}
-use Rattle.code_patterns.specs.Conditioning.{Located, located, Kept, boundsBy, conditionTestBy, conditionAt, coming, conditionWords}
-use Rattle.code_patterns.specs.Conditioning.{conditionDone, conditionsDone, InConditions, ConditionsOn, ConditionsAll}
+use Rattle.code_patterns.specs.Testing.{siteNumber, IsSite, storeOfSite, foundSite, held, total}
+use Rattle.code_patterns.specs.Conditioning.{Located, located, Kept, boundsIn, boundsBy, conditionTestBy, conditionAt, coming}
+use Rattle.code_patterns.specs.Conditioning.{conditionWords, conditionDone, conditionsDone, InConditions, ConditionsOn, ConditionsAll}
 use Rattle.meaning.proofs.laws.Remaining.{at-place}
 use Rattle.tape_words.proofs.laws.Lists.{drop-again, reached, take-again}
 use Rattle.tape_words.proofs.laws.Names.{by-place}
@@ -96,9 +96,9 @@ truth-bit (suc zero) h = refl
 truth-bit (suc (suc n)) h = absurd (omega arith)
 
 -- the bounds of a part fit a word's operands
-pub bounds-small : (l : Lengths) (first : Bool) {from to : Site} → total l ≤ 64 → from ≡ siteNumbers (boundsBy (l .parts) l first .from)
-    → to ≡ siteNumbers (boundsBy (l .parts) l first .to) → (from .register ≤ 2) × (from .offset ≤ 64) × (to .register ≤ 2) × (to .offset ≤ 64)
-bounds-small l first h e f = rw (e, f) (by-parts (l .parts) first)
+pub bounds-small : (l : Lengths) (first : Bool) {b : PartBounds} → total l ≤ 64 → b ≡ boundsIn (boundsBy (l .parts) l first)
+    → (b .from .register ≤ 2) × (b .from .offset ≤ 64) × (b .to .register ≤ 2) × (b .to .offset ≤ 64)
+bounds-small l first h e = rw e (by-parts (l .parts) first)
   where
     by-parts : (p : Parts) (first : Bool) → let b = boundsBy p l first in
         (siteRegister (b .from) ≤ 2) × (siteOffset (b .from) ≤ 64) × (siteRegister (b .to) ≤ 2) × (siteOffset (b .to) ≤ 64)
@@ -113,13 +113,12 @@ part-word : (b : Bounds) (n : ℕ)
 part-word b n = omega (arith, class-number (n % 5) (omega arith), truth-bit (n / 5 % 2) (omega arith))
 
 -- the test of a condition on an e-variable, from what the code worked out
-pub part-asked : (known : Located) (n : ℕ) (x : Name) {first : Bool} {from to : Site} {r : ℕ} → n / 10 % 2 ≡ 1 → first ≡ sameBytes x (known .variable)
-    → let b = boundsBy (known .lengths .parts) (known .lengths) first in
-    from ≡ siteNumbers (b .from) → to ≡ siteNumbers (b .to)
-    → r ≡ codeWord 20 (from .register + 4 * to .register + 16 * (n / 5 % 2) + 32 * (n % 5)) (from .offset) (to .offset)
+pub part-asked : (known : Located) (n : ℕ) (x : Name) {first : Bool} {b : PartBounds} {r : ℕ} → n / 10 % 2 ≡ 1 → first ≡ sameBytes x (known .variable)
+    → b ≡ boundsIn (boundsBy (known .lengths .parts) (known .lengths) first)
+    → r ≡ codeWord 20 (b .from .register + 4 * b .to .register + 16 * (n / 5 % 2) + 32 * (n % 5)) (b .from .offset) (b .to .offset)
     → r ≡ testWord (conditionTestBy known (conditionOf n x))
-part-asked known n x {first} k is ef et e =
-    e ∙ rw (ef, et, eq-eqb (n / 10 % 2) 1 k, ← is) (part-word (boundsBy (known .lengths .parts) (known .lengths) first) n)
+part-asked known n x {first} k is f e =
+    e ∙ rw (f, eq-eqb (n / 10 % 2) 1 k, ← is) (part-word (boundsBy (known .lengths .parts) (known .lengths) first) n)
 
 module _ (ws : List ℕ) (m : Pattern) (names sites : List ℕ) (symbols : ℕ) (kept : Kept m names sites symbols) (x : Name) where
   abbrev found : ℕ

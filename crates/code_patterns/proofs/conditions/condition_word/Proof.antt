@@ -9,24 +9,19 @@ use Rattle.code_patterns.proofs.conditions.condition_word.Tie as tie
 
 part-word-requires : tie.Need-part-word-requires
 part-word-requires c κs =
-    let at-part-start = c .before in
-    let at-name-is = at-part-start .before in
-    let entry = at-name-is .before .before .before .before .before .before in (
-      bounds-small (entry .args .m .lengths) (at-name-is .name-is .result) (entry .pre .0 .short) (at-part-start .part-start .ensures)
-          (c .part-end .ensures),
-      entry .pre .1 .1,
-    )
+    let at-name-is = c .before in
+    let entry = at-name-is .before .before .before .before .before .before in
+    (bounds-small (entry .args .m .lengths) (at-name-is .name-is .result) (entry .pre .0 .short) (c .part-bounds .ensures), entry .pre .1 .1)
 
 returns : tie.Need-returns
 returns c =
-    let at-part-end = c .before in
-    let at-part-start = at-part-end .before in
-    let at-name-is = at-part-start .before in
+    let at-part-bounds = c .before in
+    let at-name-is = at-part-bounds .before in
     let at-if = at-name-is .before .before in
     let a = at-if .before .before .before .before .args in
     let known = located (a .tape .now) (a .m) (a .names .now) (a .sites .now) (a .symbols) in (
-      part-asked known (a .carried) _ (at-if .if1 .taken) (at-name-is .name-is .ensures) (at-part-start .part-start .ensures)
-          (at-part-end .part-end .ensures) (c .part-word .ensures .0),
+      part-asked known (a .carried) _ (at-if .if1 .taken) (at-name-is .name-is .ensures) (at-part-bounds .part-bounds .ensures)
+          (c .part-word .ensures .0),
       c .part-word .ensures .1,
     )
 
@@ -53,7 +48,6 @@ pub condition-word-spec : {M : Type 1} → statement M
 condition-word-spec =
     tie.close
     (tie.spec
-    (λ c κs. search needs)
     (λ c κs. search needs)
     (λ c κs. search needs)
     part-word-requires
