@@ -84,13 +84,13 @@ run-foreseen-requires c κs =
 
 counts-of-requires : tie.Need-counts-of-requires
 counts-of-requires c κs =
-    let at-run-foreseen = c .before .before .before .before .before .before .before .before .before in
+    let at-run-foreseen : tie.After-run-foreseen = search in
     let at-words = at-run-foreseen .before .before .before .before .before .before .before in
     omega (arith, at-run-foreseen .run-foreseen .kept .1 .1 .1 .1 .1 .1 .0, at-words .first-words .ensures .0)
 
 returns-4 : tie.Need-returns-4
 returns-4 c =
-    let at-run-foreseen = c .before .before .before .before .before .before .before .before .before .before in
+    let at-run-foreseen : tie.After-run-foreseen = search in
     let at-if3 = at-run-foreseen .before .before .before .before .before .before .before .before in
     let at-if1 = at-if3 .before .before .before in
     rw (leaving-runs _ _ _ (lent (at-if1 .before)) _ (sound at-if1) (starts (at-if3 .before)) (at-if3 .if3 .left), c .counts-of .ensures)

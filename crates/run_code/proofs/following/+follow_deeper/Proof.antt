@@ -58,7 +58,7 @@ module _ (t : ℕ) where
   at-words c = at-values c .before .before .before .before
 
   abbrev entry : lts.After-stored3 (claims t) (deeper-at t) deeper.Post → lts.Start (claims t) (deeper-at t) deeper.Post
-  entry c = at-words c .before .before .before .before .before .before .before .before .before .before
+  entry c = search
 
   abbrev many : lts.After-stored3 (claims t) (deeper-at t) deeper.Post → List ℕ
   many c = at-words c .copy-words .last .1 .1 .0
@@ -98,13 +98,13 @@ module _ (t : ℕ) where
 
   copy-words-requires-2 : lts.Need-copy-words-requires-2 (claims t) (deeper-at t) deeper.Post
   copy-words-requires-2 c κs =
-      let at-follow = c .before .before .before .before .before .before .before .before .before .before .before in
+      let at-follow : lts.After-follow (claims t) (deeper-at t) deeper.Post = search in
       (omega (arith, whole at-follow), omega (arith, entry (at-follow .before) .pre .1 .1 .1 .1 .0))
 
   returns : lts.Need-returns (claims t) (deeper-at t) deeper.Post
   returns c =
       let at-copy = c .before .before in
-      let at-follow = at-copy .before .before .before .before .before .before .before .before .before .before .before .before in
+      let at-follow : lts.After-follow (claims t) (deeper-at t) deeper.Post = search in
       let start = entry (at-follow .before) in
       let a = start .args in
       let left = at-follow .follow .last .1 .1 .1 .1 in
@@ -118,11 +118,11 @@ module _ (t : ℕ) where
 
   never : lts.After-next (claims t) (deeper-at t) deeper.Post → ⊥
   never c =
-      let at-follow = c .before .before .before .before .before .before .before .before .before .before in
+      let at-follow : lts.After-follow (claims t) (deeper-at t) deeper.Post = search in
       never-deeper _ _ (c .next .given .1) (whole at-follow) (at-follow .follow .ensures .simulates .invariant)
 
   abbrev lent : lts.After-copy-words-arg3 (claims t) (deeper-at t) deeper.Post → lts.After-stored5 (claims t) (deeper-at t) deeper.Post
-  lent c = c .before .before .before .before .before .before .before .before .before .before
+  lent c = search
 
   not-called : lts.After-stored5 (claims t) (deeper-at t) deeper.Post → ⊥
   not-called c = never (c .before .before .before .before .before .before)

@@ -20,13 +20,13 @@ use Rattle.run_code.proofs.following.run_lent.Tie as tie
 -- WHERE THE TEXT IS ON IN, WHERE THE FIRST FRAME IS EMPTY, AND WHERE THE RUN HAS BEEN FOLLOWED
 
 abbrev entry : tie.After-copy-to-in → tie.Start
-entry c = c .before .before .before .before .before .before .before .before .before .before
+entry c = search
 
 abbrev loading : tie.After-begin-frame → tie.After-copy-to-in
 loading c = c .before .before .before .before
 
 abbrev beginning : tie.After-follow-all → tie.After-begin-frame
-beginning c = c .before .before .before .before .before .before .before .before .before .before
+beginning c = search
 
 on-in : (c : tie.After-copy-to-in) → Loaded (entry c .args .text .now) (entry c .args .input .now) (c .copy-to-in .last .0)
 on-in c =
@@ -73,12 +73,12 @@ left c =
 
 copy-to-in-requires : tie.Need-copy-to-in-requires
 copy-to-in-requires c κs =
-    let pre = c .before .before .before .before .before .before .before .before .before .pre in
-    rw (c .before .loaded .ensures) (omega (arith, pre .1 .1 .1 .0))
+    let start : tie.Start = search in
+    rw (c .before .loaded .ensures) (omega (arith, start .pre .1 .1 .1 .0))
 
 follow-requires : tie.Need-follow-all-requires
 follow-requires c κs =
-    let at-begin = c .before .before .before .before .before .before .before .before .before in
+    let at-begin : tie.After-begin-frame = search in
     let at-copy = loading at-begin in
     let p = entry at-copy .pre in
     let rooms = p .1 .1 .1 .1 in (
@@ -103,32 +103,27 @@ simulated c =
 
 reported-requires : tie.Need-reported-requires
 reported-requires c κs =
-    let at-follow = c .before .before .before .before .before .before .before .before .before .before in
+    let at-follow : tie.After-follow-all = search in
     let at-copy = loading (beginning at-follow) in
     let few = steps-allowed _ _ _ (on-in at-copy) _ _ _ _ _ _ _ _ (left at-follow) (simulated at-follow) (at-follow .follow-all .ensures .ended) in
     omega (arith, few, entry at-copy .fits .allowance)
 
 clear-from-requires-2 : tie.Need-clear-from-requires-2
 clear-from-requires-2 c κs =
-    let at-follow = (c .before .before .before .before .before .before .before .before .before .before .before .before .before .before .before
-    .before) in
+    let at-follow : tie.After-follow-all = search in
     rw (c .before .before .before .before .before .reported .ensures)
-    (reported-within (c .before .before .before .before .before .before .before .before .before .before .before .before .before .before .before
-    .before .before .before .before .before .before .before .before .before .before .before .before .before .before .before .before .before
-    .before .before .before .before .before .before .before .before .args .allowance) (at-follow .follow-all .result) (left at-follow)
+    (reported-within (entry (loading (beginning at-follow)) .args .allowance) (at-follow .follow-all .result) (left at-follow)
     (at-follow .follow-all .ensures .ended) (at-follow .follow-all .ensures .simulates .invariant))
 
 same-length : tie.Need-same-length
-same-length c = c .before .before .before .before .before .before .clear-from .kept .0 ∙
-    c .before .before .before .before .before .before .before .before .before .before .before .before .before .before .before .before .before .before
-    .before .follow-all .kept .1 .1 .1 .1 .0 ∙ c .before .before .before .before .before .before .before .before .before .before .before .before
-    .before .before .before .before .before .before .before .before .before .before .before .before .before .before .before .before .before .before
-    .before .before .before .copy-to-in .kept .0
+same-length c =
+    let at-follow : tie.After-follow-all = search in
+    c .before .before .before .before .before .before .clear-from .kept .0 ∙ at-follow .follow-all .kept .1 .1 .1 .1 .0 ∙
+    loading (beginning at-follow) .copy-to-in .kept .0
 
 returns : tie.Need-returns
 returns c =
-    let at-follow = (c .before .before .before .before .before .before .before .before .before .before .before .before .before .before .before .before
-    .before .before .before) in
+    let at-follow : tie.After-follow-all = search in
     let at-copy = loading (beginning at-follow) in
     rw (
       c .before .before .before .before .before .before .clear-from .ensures,
