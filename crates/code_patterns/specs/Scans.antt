@@ -5,13 +5,13 @@ use mathlib.Core.List.{List, [], _∷_}
 use lib.Dec.{eqb}
 use lib.ListN.{take}
 use Rattle.meaning.specs.Choice.{Name}
-use Rattle.meaning.specs.Tree.{character, symbol, Element, letter, part, Subject, ofSymbol, ofPart, Condition}
+use Rattle.meaning.specs.Tree.{character, symbol, Element, letter, part, Condition}
 use Rattle.tape_layout.specs.Tape.{classCount, conditionTruth, conditionPart, conditionSize}
 use Rattle.tape_words.specs.declared.tape.Parts.{Parts}
 use Rattle.tape_words.specs.declared.tape.Parts.the-variants.{Zero, One, Two}
 use Rattle.tape_words.specs.declared.tape.Piece.{Piece}
 use Rattle.tape_words.specs.declared.tape.Piece.the-variants.{Character, SVariable, EVariable, PatternEnd}
-use Rattle.tape_words.specs.Words.{carried, pieceOf, isConditionWord, classIn}
+use Rattle.tape_words.specs.Words.{carried, subjectOf, pieceOf, isConditionWord, classIn}
 
 -- what was read, and the words after it
 pub record Scan (A : Type 0) : Type 0 where
@@ -51,10 +51,6 @@ abbrev pub patternAt : List ℕ → Scan (List Element)
 patternAt ws = patternOnTape 0 Zero 0 ws
 
 -- THE CONDITIONS
-
-abbrev pub subjectOf : Bool → Name → Subject
-subjectOf true x = ofPart x
-subjectOf false x = ofSymbol x
 
 -- a condition from what its word carries, and its variable's name
 abbrev pub conditionOf : ℕ → Name → Condition

@@ -52,7 +52,8 @@ use Rattle.read_conditions.specs.declared.Named.{Named}
 use Rattle.read_conditions.specs.declared.Named.the-variants.{Variable, Other}
 use Rattle.read_conditions.specs.declared.Closing.{Closing}
 use Rattle.read_conditions.specs.declared.Closing.the-variants.{Says, NoTruth}
-use Rattle.read_conditions.specs.Conditions.{variableOf, variableNames, subjectOf, kindNumber, conditionEnd, conditionOn}
+use Rattle.tape_words.specs.Words.{subjectOf}
+use Rattle.read_conditions.specs.Conditions.{variableOf, variableNames, kindNumber, conditionEnd, conditionOn}
 use Rattle.read_conditions.specs.Conditions.{closingAs, truthIn, truthBetween, Standing, Before, ConditionRead, ConditionsRead}
 use Rattle.meaning_accepting.proofs.reading.Basics.{no-value}
 use Rattle.read_bookkeeping.proofs.Choosing.{both-true, no-fault-here, a-fault-here}

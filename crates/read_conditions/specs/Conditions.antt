@@ -9,7 +9,7 @@ use lib.ListN.{length}
 use Rattle.meaning.specs.Choice.{Bytes, Name, pick, every}
 use Rattle.meaning.specs.Allowed.{maxIdentifier}
 use Rattle.meaning.specs.Classes.{Class}
-use Rattle.meaning.specs.Tree.{Subject, ofSymbol, ofPart, Condition}
+use Rattle.meaning.specs.Tree.{Subject, Condition}
 use Rattle.tape_layout.specs.Tape.{conditionPart, conditionTape, conditionsTape}
 use Rattle.meaning.specs.Tokens as Tokens
 use Rattle.meaning.specs.Reading.{Parsed, parsed, pass, passSubject, truthOf, passTruth}
@@ -43,11 +43,7 @@ abbrev pub variableNames : Bytes → List ℕ → ℕ → ℕ → Bool → List 
 variableNames text table symbols parts false = symbolNames text table symbols
 variableNames text table symbols parts true = partNames text table parts
 
--- a condition's subject by its kind, and that kind on the tape
-abbrev pub subjectOf : Bool → Name → Subject
-subjectOf false x = ofSymbol x
-subjectOf true x = ofPart x
-
+-- the kind of a condition's variable on the tape
 abbrev pub kindNumber : Bool → ℕ
 kindNumber false = 0
 kindNumber true = conditionPart

@@ -39,7 +39,8 @@ ghost use Rattle.read_bookkeeping.specs.Classed.{classMeant};
 ghost use Rattle.read_bookkeeping.specs.Tables.{Inside};
 ghost use Rattle.read_bookkeeping.specs.Written.{Ready};
 ghost use Rattle.read_bookkeeping.specs.Items.{Variables, symbolNames, partNames};
-ghost use Rattle.read_conditions.specs.Conditions.{variableOf, variableNames, subjectOf, kindNumber};
+ghost use Rattle.tape_words.specs.Words.{subjectOf};
+ghost use Rattle.read_conditions.specs.Conditions.{variableOf, variableNames, kindNumber};
 ghost use Rattle.read_conditions.specs.Conditions.{conditionEnd, conditionOn, closingAs, truthBetween, truthIn};
 ghost use Rattle.read_conditions.specs.Conditions.{Standing, Before, ConditionRead, ConditionsRead};
 

@@ -19,13 +19,13 @@ use Rattle.meaning.specs.Reading.{unknownCall, unknownInSentences, unknownIn}
 use Rattle.meaning.proofs.laws.Passing.{every-head, every-tail}
 use Rattle.meaning.proofs.laws.Remaining.{at-place}
 use Rattle.meaning_accepting.proofs.reading.Lists.{either-left-false}
-use Rattle.tape_words.specs.Words.{carried, headNames}
+use Rattle.tape_words.specs.Words.{carried, calledPlace, headNames}
 use Rattle.tape_words.specs.Finding.{isKnownAmong}
 use Rattle.read_bookkeeping.specs.Written.{isQuiet}
 use Rattle.read_functions.specs.Expressions.{CallStands, Stands}
 use Rattle.read_functions.specs.Sentences.{Each, SentenceStands}
 use Rattle.read_functions.specs.Functions.{FunctionStands}
-use Rattle.read_table.specs.Calls.{calledPlace, NameFollows, NamesFollow, wordKnown, Holds}
+use Rattle.read_table.specs.Calls.{NameFollows, NamesFollow, wordKnown, Holds}
 
 -- the first word that opens a call of an undeclared name, by the name's place
 unfoldable pub unknownFrom : List Name → List ℕ → Option ℕ

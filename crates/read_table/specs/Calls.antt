@@ -1,6 +1,6 @@
 -- The called names of a table that was read: which words of the tape open calls, and where the first undeclared name
 -- stands.
-use Prim.Native.Nat.{ℕ, _-_, _/_, _≤_}
+use Prim.Native.Nat.{ℕ, _≤_}
 use mathlib.Core.Path.{_≡_}
 use mathlib.Core.Bool.{Bool}
 use mathlib.Core.List.{List, [], _∷_}
@@ -9,7 +9,7 @@ use lib.ListN.{length, take}
 use Rattle.meaning.specs.Choice.{Name, either}
 use Rattle.meaning.specs.Tree.{Table}
 use Rattle.meaning.specs.Allowed.{namesOf}
-use Rattle.tape_layout.specs.Tape.{callKind, tape, kindWidth, callWord}
+use Rattle.tape_layout.specs.Tape.{tape, callWord}
 use Rattle.tape_words.specs.Words.{carried, headNames}
 use Rattle.tape_words.specs.Finding.{isKnownAmong}
 use Rattle.read_table.specs.declared.calls.Unknown.{Unknown}
@@ -22,10 +22,6 @@ use Rattle.read_functions.specs.Functions.{FunctionStands}
 abbrev pub unknownAs : Option ℕ → Unknown
 unknownAs none = Nowhere
 unknownAs (some place) = At place
-
--- a word that opens a call: its kind counts on by the place of the name in the text
-abbrev pub calledPlace : ℕ → ℕ
-calledPlace word = word / kindWidth - callKind
 
 -- the name that a word calls, if it does, stands in the words after it
 abbrev pub NameFollows : ℕ → List ℕ → Type 0

@@ -11,8 +11,8 @@ use lib.Seq.{getD-drop}
 use borrow.Author.Tests.{leb-true, ltb-false}
 use Rattle.meaning.specs.Choice.{pick}
 use Rattle.meaning.specs.Names.{isBuiltIn}
-use Rattle.tape_words.specs.Words.{nameIn}
-use Rattle.tape_flatness.specs.Scanned.{earlier, onlyIf, opensCall, closesCall, calledPlace, itemFollows, declaredCall, calledSize, CallScan}
+use Rattle.tape_words.specs.Words.{calledPlace, nameIn}
+use Rattle.tape_flatness.specs.Scanned.{earlier, onlyIf, opensCall, closesCall, itemFollows, declaredCall, calledSize, CallScan}
 use Rattle.tape_flatness.specs.Scanned.{outOfCalls, inCall, leftmostBy, callOpened, callClosed, passedWord, scannedCalls, NoneFurtherLeft}
 
 -- one more word

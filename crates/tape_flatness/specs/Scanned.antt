@@ -1,5 +1,5 @@
 -- Which of a tape's words open a declared call that is no tail call, for any words at all: 02, T-06.
-use Prim.Native.Nat.{ℕ, zero, suc, _-_, _/_, _≤_, _<_, min}
+use Prim.Native.Nat.{ℕ, zero, suc, _≤_, _<_, min}
 use mathlib.Core.Path.{_≡_}
 use mathlib.Core.Bool.{Bool, not, true, false}
 use mathlib.Core.List.{List, [], _∷_}
@@ -8,8 +8,8 @@ use lib.Dec.{eqb, leb, ltb}
 use lib.ListN.{length, drop, getD}
 use Rattle.meaning.specs.Choice.{pick, either}
 use Rattle.meaning.specs.Names.{isBuiltIn}
-use Rattle.tape_layout.specs.Tape.{tapeWord, conditionKind, closeKind, callKind, kindWidth}
-use Rattle.tape_words.specs.Words.{carried, nameIn}
+use Rattle.tape_layout.specs.Tape.{tapeWord, conditionKind, closeKind, callKind}
+use Rattle.tape_words.specs.Words.{carried, calledPlace, nameIn}
 use Rattle.tape_flatness.specs.declared.Place.{Place}
 use Rattle.tape_flatness.specs.declared.Place.the-variants.{At, Nowhere}
 
@@ -35,12 +35,8 @@ onlyIf false call = 0
 
 -- WORDS
 
--- of a call's word the number of 256 counts on from callKind, by the place of the name
 abbrev pub opensCall : ℕ → Bool
 opensCall w = leb (tapeWord callKind 0) w
-
-abbrev pub calledPlace : ℕ → ℕ
-calledPlace w = w / kindWidth - callKind
 
 abbrev pub closesCall : ℕ → Bool
 closesCall w = eqb w (tapeWord closeKind 0)

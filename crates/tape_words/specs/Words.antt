@@ -1,15 +1,16 @@
 -- What a word of the tape is where a pattern, conditions or an expression may go on, for any word at all.
-use Prim.Native.Nat.{ℕ, _%_}
-use mathlib.Core.Bool.{Bool, false}
+use Prim.Native.Nat.{ℕ, _-_, _/_, _%_}
+use mathlib.Core.Bool.{Bool, true, false}
 use mathlib.Core.List.{List, [], _∷_, map}
 use lib.Dec.{leb, ltb, eqb}
 use lib.ListN.{take, drop}
 use Rattle.meaning.specs.Choice.{Name, pick}
 use Rattle.meaning.specs.Classes.{Class, digit, upper, lower, alphabetic, blank}
 use Rattle.meaning.specs.Classes.{digitNumber, upperNumber, lowerNumber, alphabeticNumber}
+use Rattle.meaning.specs.Tree.{Subject, ofSymbol, ofPart}
 use Rattle.meaning.specs.Allowed.{maxLetters, maxConditions, maxItems, maxNesting}
 use Rattle.tape_layout.specs.Tape.{kindWidth, symbolWord, partWord, conditionWord, equalsWord, closeWord, nextWord}
-use Rattle.tape_layout.specs.Tape.{callWord}
+use Rattle.tape_layout.specs.Tape.{callKind, callWord}
 use Rattle.tape_words.specs.declared.tape.Parts.{Parts}
 use Rattle.tape_words.specs.declared.tape.Parts.the-variants.{Zero, One, Two}
 use Rattle.tape_words.specs.declared.tape.Piece.{Piece}
@@ -21,6 +22,15 @@ use Rattle.tape_words.specs.declared.tape.Item.the-variants.{Stop}
 -- what a word carries besides its kind: the length of the name after it
 abbrev pub carried : ℕ → ℕ
 carried w = w % kindWidth
+
+-- the place of a called name: the kind of a call's word counts on from `callKind` by it
+abbrev pub calledPlace : ℕ → ℕ
+calledPlace w = w / kindWidth - callKind
+
+-- a condition's variable by whether it is an e-variable
+abbrev pub subjectOf : Bool → Name → Subject
+subjectOf true x = ofPart x
+subjectOf false x = ofSymbol x
 
 -- the name after a word, as long as the tape goes
 abbrev pub nameIn : List ℕ → Name
