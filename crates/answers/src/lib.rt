@@ -6,6 +6,7 @@ ghost use Rattle.answers.specs.Numbers.{numberOf, endingNumber, isRefusa
 
 // The lent buffer is too short for the code or the listing; a declared call is no tail call.
 pub const BUFFER_TOO_SHORT: u64 = 17;
+
 pub const NOT_TAIL_CALL: u64 = 19;
 
 // What a table text is answered with.
