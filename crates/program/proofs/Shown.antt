@@ -23,7 +23,7 @@ use Rattle.engine.specs.TableRuns.{TableRun, hasFunction, withoutCode, withCode
 use Rattle.answers.specs.Numbers.{isRefusal}
 use Rattle.program_printing.specs.Texts.{refusalText}
 use Rattle.program_profile.specs.Profiles.{namesRead}
-use Rattle.program.specs.Printed.{ranText, runText, lentCells, Shows}
+use Rattle.program.specs.Printed.{ranText, runText, codeWords, startFunction, programAllowance, lentCells, Shows}
 
 -- the emissions stand at the front of the record, and the result at the front of out
 record Kept (leaving : Leaving) : Type 0 where
@@ -88,11 +88,11 @@ module _ {r : Report} {counts : List ℕ} {words : Words} {after : Cells} {run :
       rw (← answer, e, ← function, ← steps, ← (reports .counted), emissions, «record», kept .emissions, text, out, kept .text)
 
 pub shows : {table text : Bytes} {r : Report} {counts : List ℕ} {words : Words} {out «record» stackIn : Bytes}
-    → Reports r counts words (cells stackIn out «record») (tableRun (read table) 16384 1 text lentCells 100000) →
+    → Reports r counts words (cells stackIn out «record») (tableRun (read table) codeWords startFunction text lentCells programAllowance) →
     Shows table text r out «record» counts
 shows {table} {text} reports =
     let names = namesRead (read table) in
-    let kept = table-kept (read table) 16384 1 text lentCells 100000 in
+    let kept = table-kept (read table) codeWords startFunction text lentCells programAllowance in
     record {
       emissions = emissions-within reports kept names;
       result = text-within reports kept names;

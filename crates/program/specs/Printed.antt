@@ -26,16 +26,28 @@ runText names run =
     (result .text) in
     pick (isRefusal (result .answer)) (refusalText (result .answer) (run .place)) ran
 
--- "32,768 bytes each for in, out and record"
+-- "lends 16,384 words of code and 32,768 bytes each for in, out and record, starts function 1, allowance 100,000"
+abbrev pub codeWords : ℕ
+codeWords = 16384
+
+abbrev pub cellsEach : ℕ
+cellsEach = 32768
+
+abbrev pub startFunction : ℕ
+startFunction = 1
+
+abbrev pub programAllowance : ℕ
+programAllowance = 100000
+
 unfoldable pub lentBytes : Bytes
-lentBytes = zeros 32768
+lentBytes = zeros cellsEach
 
 abbrev pub lentCells : Cells
 lentCells = cells lentBytes lentBytes lentBytes
 
--- "lends 16,384 words of code .., starts function 1, allowance 100,000"
 abbrev pub printed : Bytes → Bytes → Bytes
-printed table text = runText (namesRead (read table)) (tableRun (read table) 16384 1 text lentCells 100000)
+printed table text =
+    runText (namesRead (read table)) (tableRun (read table) codeWords startFunction text lentCells programAllowance)
 
 -- what is printed is told by a report, with the emissions at the front of the record, the result at the front of out,
 -- and the counts

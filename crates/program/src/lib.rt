@@ -1,5 +1,6 @@
 // The program: a table and a text in, what the run of the table's code answers out.
 use answers::is_refusal;
+use engine::COUNTED;
 use engine::Report;
 use libc::STDIN_FILENO;
 use libc::STDOUT_FILENO;
@@ -7,40 +8,52 @@ use program_printing::put_refusal;
 use program_printing::put_result;
 use program_profile::put_profile;
 ghost use mathlib.Core.Path.{_≡_};
+ghost use Prim.Native.Nat.{_+_};
 ghost use lib.ListN.{length};
 ghost use Rattle.io.specs.Counts.{Counts};
 ghost use Rattle.program_printing.specs.Texts.{Prints};
-ghost use Rattle.program.specs.Printed.{lentBytes, printed, Shows};
+ghost use Rattle.program.specs.Printed.{codeWords, cellsEach, lentBytes, printed, Shows};
 
-// Arrays in functions of their own, so that no caller's facts hold their elements.
-fn code_room() -> [u32; 16384]
-    ensures { λ r. ⌜ length r ≡ 16384 ⌝ }
-{
-    [0u32; 16384]
-}
+// What the program lends, which function it starts, and the steps that it allows.
+const CODE_WORDS: usize = 16384;
 
-fn cell_room() -> [u8; 32768]
-    ensures { λ r. ⌜ r ≡ lentBytes ⌝ }
-{
-    [0u8; 32768]
-}
+const CELLS: usize = 32768;
+
+const START: usize = 1;
+
+const ALLOWANCE: u32 = 100000;
 
 // A byte more than the longest table and the longest text have, so that a longer one is known as such.
-fn input_room() -> [u8; 32769]
-    ensures { λ r. ⌜ length r ≡ 32769 ⌝ }
-{
-    [0u8; 32769]
-}
+const INPUT_BYTES: usize = CELLS + 1;
 
 // A line of three numbers, the emissions, the result and a line end; a line for each of 64 functions, and the total.
-fn output_room() -> [u8; 70000]
-    ensures { λ r. ⌜ length r ≡ 70000 ⌝ }
+const OUTPUT_BYTES: usize = 70000;
+
+// Arrays in functions of their own, so that no caller's facts hold their elements.
+fn code_room() -> [u32; CODE_WORDS]
+    ensures { λ r. ⌜ length r ≡ codeWords ⌝ }
 {
-    [0u8; 70000]
+    [0u32; CODE_WORDS]
 }
 
-fn count_room() -> [u64; 64] {
-    [0u64; 64]
+fn cell_room() -> [u8; CELLS]
+    ensures { λ r. ⌜ r ≡ lentBytes ⌝ }
+{
+    [0u8; CELLS]
+}
+
+fn input_room() -> [u8; INPUT_BYTES]
+    ensures { λ r. ⌜ length r ≡ cellsEach + 1 ⌝ }
+{
+    [0u8; INPUT_BYTES]
+}
+
+fn output_room() -> [u8; OUTPUT_BYTES] {
+    [0u8; OUTPUT_BYTES]
+}
+
+fn count_room() -> [u64; COUNTED] {
+    [0u64; COUNTED]
 }
 
 // Runs a table's code on what the program lends; the emissions and the result are left in the record and in out, and
@@ -50,7 +63,7 @@ fn run_table(
     text: &[u8],
     stack_out: &mut [u8],
     record: &mut [u8],
-    counts: &mut [u64; 64],
+    counts: &mut [u64; COUNTED],
 ) -> Report
     requires { ⌜ now «stack_out» ≡ lentBytes ⌝ }
     requires { ⌜ now «record» ≡ lentBytes ⌝ }
@@ -62,18 +75,18 @@ fn run_table(
     engine::translate_and_run(
         table,
         &mut code,
-        1,
+        START,
         text,
         &mut stack_in,
         stack_out,
         record,
-        100000,
+        ALLOWANCE,
         counts,
     )
 }
 
 // What is printed for a table text and a text.
-pub fn respond(table: &[u8], text: &[u8], out: &mut [u8; 70000]) -> usize
+pub fn respond(table: &[u8], text: &[u8], out: &mut [u8; OUTPUT_BYTES]) -> usize
     ensures { λ r. ⌜ Prints (printed (now (table .entry)) (now (text .entry)))
         (now (out .entry)) r (now (out .exit)) ⌝ }
 {

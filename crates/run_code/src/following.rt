@@ -37,11 +37,11 @@ use run_turns::status_of;
 use run_turns::step;
 
 // A run that doesn't begin: nothing is counted.
-pub fn refused(ending: Ending, counts: &mut [u64; 64]) -> Ran
+pub fn refused(ending: Ending, counts: &mut [u64; COUNTED]) -> Ran
     ensures result { λ r. ⌜ r ≡ refusedWith ending ⌝ }
     ensures leaves { λ _. ⌜ now (counts .exit) ≡ uncounted ⌝ }
 {
-    *counts = [0u64; 64];
+    *counts = [0u64; COUNTED];
     Ran {
         ending: ending,
         function: 0,
