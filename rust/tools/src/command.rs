@@ -11,7 +11,7 @@ use std::process::ExitCode;
 pub const DONE: u8 = 0;
 /// The run ended early.
 pub const EARLY: u8 = 1;
-/// The table is refused.
+/// The table is refused, or by `--emits` what its run hands over.
 pub const REFUSED: u8 = 2;
 /// There was nothing to run.
 pub const NOTHING: u8 = 3;

@@ -4,13 +4,14 @@ use refal0_apart::tree::Table;
 use std::io::{self, Write};
 use std::process::ExitCode;
 use tools::command::{self, Both, alike, both, file, unlike};
+use tools::emits::{more_than_settings, unknown_emission};
 use tools::endings::ending;
 use tools::history::History;
 use tools::mistakes;
 use tools::program::Run;
 use tools::shown::escaped;
 use tools::trace::said;
-use tools::warnings::{unknown_emission, warnings};
+use tools::warnings::warnings;
 
 const USAGE: &str = "usage: refal0-bench [--emits NAME,NAME..] TABLE SHEET";
 
@@ -49,8 +50,12 @@ fn benched() -> Result<u8, String> {
         Both::Different(how) => Ok(different(&how)),
         Both::Ran { run, history, .. } if !alike(&run, &history) => Ok(different(&unlike(&run, &history))),
         Both::Ran { table, run, history } => {
-            if let Some(unknown) = emits.and_then(|known| unknown_emission(&path, &text, &known)) {
-                eprintln!("{unknown}");
+            let refused = emits.and_then(|known| {
+                let unknown = unknown_emission(&path, &text, &known);
+                unknown.or_else(|| more_than_settings(&path, &table, &sheet, &history.outcome))
+            });
+            if let Some(refused) = refused {
+                eprintln!("{refused}");
                 return Ok(command::REFUSED);
             }
             let status = shown_run(&text, &table, &run, &history).map_err(|error| error.to_string())?;
