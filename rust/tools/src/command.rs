@@ -11,7 +11,7 @@ use std::process::ExitCode;
 pub const DONE: u8 = 0;
 /// The run ended early.
 pub const EARLY: u8 = 1;
-/// The table is refused.
+/// The table is refused, or by `--emits` what its run hands over.
 pub const REFUSED: u8 = 2;
 /// There was nothing to run.
 pub const NOTHING: u8 = 3;
@@ -54,10 +54,14 @@ pub fn both(table: &[u8], text: &[u8], last: usize) -> Result<Both, String> {
     };
     let tree = match read(table) {
         Ok(tree) => tree,
-        Err(refusal) => return Ok(Both::Different(format!("it refuses the table with {}", refusal.number))),
+        Err(refusal) => return Ok(Both::Different(refused_by_one(refusal.number))),
     };
     let history = history(&tree, text, last);
     Ok(Both::Ran { table: tree, run, history: Box::new(history) })
+}
+
+fn refused_by_one(number: u64) -> String {
+    format!("the proved program accepts the table, and the Refal-0 system of rust/ refuses it with {number}")
 }
 
 /// Whether both systems ended alike: answer, function, steps, applications, emissions and result.
@@ -68,4 +72,14 @@ pub fn alike(run: &Run, history: &History) -> bool {
     (run.answer, run.function, run.steps) == (outcome.answer, outcome.function, outcome.steps)
         && run.body == body
         && counts.eq(outcome.counts.0[..run.profile.len()].iter().copied())
+}
+
+/// How both systems ended, where that isn't alike.
+pub fn unlike(run: &Run, history: &History) -> String {
+    let (answer, steps) = (history.outcome.answer, history.outcome.steps);
+    let same = if (run.answer, run.steps) == (answer, steps) { ", but not with the same lines" } else { "" };
+    format!(
+        "the proved program ends with {} after {} steps, the Refal-0 system of rust/ with {answer} after {steps}{same}",
+        run.answer, run.steps
+    )
 }

@@ -4,6 +4,7 @@
 
 pub mod command;
 pub mod context;
+pub mod emits;
 pub mod endings;
 pub mod history;
 pub mod json;

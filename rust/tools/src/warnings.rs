@@ -1,6 +1,5 @@
-//! What is accepted, but is hardly meant: emissions that nobody knows, and what a run never uses.
+//! What is accepted, but is hardly meant: what a run never uses, and comments that go on too far.
 
-use crate::mistakes::headed;
 use crate::near::{near, nearest};
 use crate::spot::spot;
 use crate::tokens::{Shape, Token, declared, tokens};
@@ -12,21 +11,6 @@ const SPELT: usize = 4;
 
 fn shown(name: &[u8]) -> String {
     String::from_utf8_lossy(name).into_owned()
-}
-
-/// The first emission of a table whose name is not among the known ones: where it stands, and what may be meant.
-pub fn unknown_emission(path: &str, text: &[u8], known: &[String]) -> Option<String> {
-    let tokens = tokens(text);
-    let spoken: Vec<&Token> = tokens.iter().filter(|token| token.shape != Shape::Comment).collect();
-    let called = spoken.windows(2).filter(|pair| pair[0].shape == Shape::Open).map(|pair| pair[1]);
-    let mut emitted = called.filter(|name| name.text.starts_with(b"Emit"));
-    let unknown = emitted.find(|name| !known.iter().any(|other| other.as_bytes() == name.text))?;
-    let meant = match nearest(unknown.text, known.iter().map(String::as_bytes)) {
-        Some(near) => format!("did you mean {}?", shown(near)),
-        None => format!("--emits has {}", known.join(", ")),
-    };
-    let place = headed(path, text, unknown.place, unknown.text.len(), "refused by --emits");
-    Some(format!("{place}\n{} is emitted here, and is not among the names of --emits: {meant}", unknown.shown()))
 }
 
 /// What a person should look at, a line each, with the line of the table.

@@ -6,9 +6,10 @@ use generate::random::Random;
 use generate::trees;
 use refal0_apart::reader::read;
 use std::fs;
+use tools::emits::unknown_emission;
 use tools::mistakes::said;
 use tools::tokens::{Shape, tokens};
-use tools::warnings::{unknown_emission, warnings};
+use tools::warnings::warnings;
 
 const COUNT: usize = 20_000;
 

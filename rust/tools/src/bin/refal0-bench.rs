@@ -3,14 +3,15 @@
 use refal0_apart::tree::Table;
 use std::io::{self, Write};
 use std::process::ExitCode;
-use tools::command::{self, Both, alike, both, file};
+use tools::command::{self, Both, alike, both, file, unlike};
+use tools::emits::{more_than_settings, unknown_emission};
 use tools::endings::ending;
 use tools::history::History;
 use tools::mistakes;
 use tools::program::Run;
 use tools::shown::escaped;
 use tools::trace::said;
-use tools::warnings::{unknown_emission, warnings};
+use tools::warnings::warnings;
 
 const USAGE: &str = "usage: refal0-bench [--emits NAME,NAME..] TABLE SHEET";
 
@@ -46,12 +47,15 @@ fn benched() -> Result<u8, String> {
             eprintln!("{}", mistakes::said(&path, &text, number, place));
             Ok(command::REFUSED)
         }
-        Both::Different(how) => {
-            Err(format!("the program accepts the table, and the Refal-0 system of rust/ doesn't: {how}"))
-        }
+        Both::Different(how) => Ok(different(&how)),
+        Both::Ran { run, history, .. } if !alike(&run, &history) => Ok(different(&unlike(&run, &history))),
         Both::Ran { table, run, history } => {
-            if let Some(unknown) = emits.and_then(|known| unknown_emission(&path, &text, &known)) {
-                eprintln!("{unknown}");
+            let refused = emits.and_then(|known| {
+                let unknown = unknown_emission(&path, &text, &known);
+                unknown.or_else(|| more_than_settings(&path, &table, &sheet, &history.outcome))
+            });
+            if let Some(refused) = refused {
+                eprintln!("{refused}");
                 return Ok(command::REFUSED);
             }
             let status = shown_run(&text, &table, &run, &history).map_err(|error| error.to_string())?;
@@ -63,6 +67,7 @@ fn benched() -> Result<u8, String> {
     }
 }
 
+/// Shows a run that both systems end alike.
 fn shown_run(text: &[u8], table: &Table, run: &Run, history: &History) -> io::Result<u8> {
     let steps = if run.steps == 1 { String::from("1 step") } else { format!("{} steps", run.steps) };
     if run.answer == 0 {
@@ -82,15 +87,17 @@ fn shown_run(text: &[u8], table: &Table, run: &Run, history: &History) -> io::Re
             }
         }
         eprintln!("ended with {} after {steps}: {}", run.answer, ending(text, table, run.answer, run.function));
-        if alike(run, history) {
-            last_line(table, history);
-        }
-    }
-    if !alike(run, history) {
-        eprintln!("the Refal-0 system of rust/ ends otherwise: one of the two is wrong, please tell its developers");
+        last_line(table, history);
     }
     show_profile(run);
     Ok(if run.answer == 0 { command::DONE } else { command::EARLY })
+}
+
+/// Where the two systems differ nothing is handed to a device, whatever the proved program printed.
+fn different(how: &str) -> u8 {
+    eprintln!("refal0-bench: the two systems differ, so nothing is set: {how}");
+    eprintln!("one of the two is wrong, please tell their developers");
+    command::DIFFERENT
 }
 
 /// The trace's last line, which shows what the run was doing when it ended.

@@ -3,7 +3,7 @@
 use refal0_apart::tree::Table;
 use std::fs;
 use std::process::ExitCode;
-use tools::command::{self, Both, alike, both, file};
+use tools::command::{self, Both, alike, both, file, unlike};
 use tools::history::History;
 use tools::mistakes;
 use tools::page::page;
@@ -66,7 +66,7 @@ fn traced() -> Result<u8, String> {
         None => show(&table, &history, &closing, compared),
     }
     Ok(match run.answer {
-        _ if !alike => different(&format!("the proved program: answer {}, {} steps", run.answer, run.steps)),
+        _ if !alike => different(&unlike(&run, &history)),
         0 => command::DONE,
         _ => command::EARLY,
     })
