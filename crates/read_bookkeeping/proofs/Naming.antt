@@ -1,27 +1,25 @@
 -- What a name is: a predicate, known, too long.
 use Prim.Native.Nat.{ℕ, _+_, _-_, _≤_, _<_}
 use mathlib.Core.Path.{_≡_, refl, sym, _∙_}
-use mathlib.Core.Bool.{Bool, true, false, not, true≢false}
+use mathlib.Core.Bool.{Bool, true, false, not}
 use mathlib.Core.List.{List, [], _∷_}
 use mathlib.Core.Option.{none, some}
-use native.Mathlib.Omega.{arith}
-use lib.Dec.{leb, ltb, eqb}
+use lib.Dec.{leb, ltb}
 use lib.ListN.{length}
-use Rattle.meaning.specs.Choice.{Bytes, Name, pick, both, either, sameBytes}
+use Rattle.meaning.specs.Choice.{Bytes, Name, pick, sameBytes}
 use Rattle.meaning.specs.Classes.{Class, className, classes}
-use Rattle.meaning.specs.Names.{isBuiltIn, classNamed, predicateOf, isPredicate}
+use Rattle.meaning.specs.Names.{classNamed, predicateOf, isPredicate}
 use Rattle.meaning.specs.Answers.{overLimit, wrongName, wrongLaterVariable}
-use Rattle.meaning.specs.Allowed.{member, maxName, maxIdentifier}
+use Rattle.meaning.specs.Allowed.{member, maxIdentifier}
 use Rattle.meaning.specs.Reading.{faultUnless, calledFault, subjectFault}
-use Rattle.tape_words.specs.Finding.{isKnownAmong}
 use Rattle.read_tokens.specs.View.{part}
 use Rattle.read_tokens.specs.declared.Span.{Span}
 use Rattle.read_bookkeeping.specs.declared.names.Class.{Class as CodeClass}
 use Rattle.read_bookkeeping.specs.declared.names.Predicate.{Predicate}
 use Rattle.read_bookkeeping.specs.declared.names.Predicate.the-variants.{Asks, NoPredicate}
 use Rattle.read_bookkeeping.specs.Classed.{predicateMeant}
-use Rattle.read_bookkeeping.specs.Tables.{Inside, Entries, tableNames, position, declaredFaultIn}
-use Rattle.read_bookkeeping.proofs.Choosing.{fault-if, fault-if-not, no-fault-here, a-fault-here}
+use Rattle.read_bookkeeping.specs.Tables.{Inside, Entries, tableNames, position}
+use Rattle.read_bookkeeping.proofs.Choosing.{fault-if, fault-if-not}
 use Rattle.read_bookkeeping.proofs.Finding.{among}
 use Rattle.read_bookkeeping.proofs.Lengths.{too-long, short-enough}
 
@@ -88,39 +86,3 @@ module _ {text : Bytes} {table : List ℕ} {from to : ℕ} {x : Span} (pre : Ins
       fault-if-not known wrongLaterVariable
       ∙ later-fault-is (tableNames text table from to) (part text x) (short-enough text x (pre .0) 8 l)
       (among text table from to (pre .1) (part text x) r f h)
-
--- A DECLARED NAME
-
--- what is wrong with a name where it is called, and whether that is nothing
-pub record Asked-called (text : Bytes) (x : Span) (number : ℕ) (is : Bool) : Type 0 where
-  pub fault : number ≡ calledFault (part text x)
-  pub accepted : is ≡ eqb number 0
-
--- a declared name, by what is wrong with it where it is called
-module _ {text : Bytes} {x : Span} {number : ℕ} {is : Bool} (a : Asked-called text x number is) (names : List Name) where
-  abbrev n : Name
-  n = part text x
-
-  pub declared-wrong : not is ≡ true → number ≡ declaredFaultIn names n
-  declared-wrong w = a .fault ∙ wrong (leb (length n) maxName) (isPredicate n) (rw (a .fault) at (a-fault-here (a .fault) (a .accepted) w))
-    where
-      wrong : (short predicate : Bool) → eqb (faultUnless short overLimit (faultUnless (not predicate) wrongName 0)) 0 ≡ false
-          → faultUnless short overLimit (faultUnless (not predicate) wrongName 0)
-          ≡ faultUnless short overLimit (faultUnless (both (not (either predicate (isBuiltIn n))) (not (member n names))) wrongName 0)
-      wrong false predicate w′ = refl
-      wrong true true w′ = refl
-      wrong true false w′ = absurd (true≢false w′)
-
-  pub declared-known : not is ≡ false → {m : Name} → m ≡ n → {known : Bool} → known ≡ isKnownAmong names m
-      → pick known wrongName 0 ≡ declaredFaultIn names n
-  declared-known w spelled e =
-      rw (e, spelled) (right (leb (length n) maxName) (isPredicate n) (isBuiltIn n) (member n names) (no-fault-here (a .fault) (a .accepted) w))
-    where
-      right : (short predicate builtIn among : Bool) → faultUnless short overLimit (faultUnless (not predicate) wrongName 0) ≡ 0
-          → pick (either builtIn among) wrongName 0
-          ≡ faultUnless short overLimit (faultUnless (both (not (either predicate builtIn)) (not among)) wrongName 0)
-      right true false true among z = refl
-      right true false false true z = refl
-      right true false false false z = refl
-      right true true builtIn among z = absurd (omega arith)
-      right false predicate builtIn among z = absurd (omega arith)

@@ -16,7 +16,7 @@ use Rattle.read_characters.specs.declared.Character.{Character}
 use Rattle.read_characters.specs.declared.Character.the-variants.{Given, Nothing, Closed, Broken}
 use Rattle.read_tokens.specs.declared.Span.{Span}
 use Rattle.meaning.proofs.laws.Places.{slice-suc}
-use Rattle.read_bookkeeping.specs.Tables.{Inside, OnTape}
+use Rattle.read_bookkeeping.specs.Tables.{Inside}
 use Rattle.read_bookkeeping.specs.Written.{written, Wrote, stringFrom, isQuiet, Ready}
 use Rattle.read_bookkeeping.proofs.Lengths.{part-length}
 use Rattle.read_bookkeeping.proofs.Tabling.{every-append, every-one}
@@ -85,6 +85,11 @@ module _ (ws tape : List ℕ) (at : ℕ) (fits : at + length ws ≤ length tape)
 
   pub written-before : take at (written tape at ws) ≡ take at tape
   written-before = rw split (take-at (take at tape) (ws ++ rest) at long)
+
+-- a part of the text stands on the tape too, from a place on
+pub record OnTape (text : Bytes) (x : Span) (tape : List ℕ) (at : ℕ) : Type 0 where
+  pub inside : at + (x .past - x .from) ≤ length tape
+  pub same : take (x .past - x .from) (drop at tape) ≡ part text x
 
 pub on-tape : {text : Bytes} {x : Span} {tape tape′ : List ℕ} {at to : ℕ} → Inside text x → at + (x .past - x .from) ≤ length tape
     → Wrote tape at (part text x) to tape′

@@ -2,25 +2,22 @@
 // place of an identifier, plus its length.
 use crate::progress::fault_if;
 use answers::Answer;
-use answers::is_accepted;
 use read_tokens::Span;
 use tape_words::limits::MAX_IDENTIFIER;
 use tape_words::limits::MAX_NAME;
 use tape_words::limits::MAX_SYMBOLS;
-use tape_words::names::is_known;
 ghost use mathlib.Core.Path.{_≡_};
 ghost use Prim.Native.Nat.{_+_, _-_, _*_, _≤_, _<_};
-ghost use lib.ListN.{length, take};
+ghost use lib.ListN.{length};
 ghost use Rattle.meaning.specs.Choice.{sameBytes, startsWith};
 ghost use Rattle.meaning.specs.Allowed.{maxTable};
 ghost use Rattle.meaning.specs.Names.{predicateOf, isPredicate};
 ghost use Rattle.meaning.specs.Reading.{calledFault, subjectFault};
 ghost use Rattle.read_tokens.specs.View.{part};
-ghost use Rattle.tape_words.specs.Words.{headNames};
 ghost use Rattle.answers.specs.Numbers.{numberOf};
 ghost use Rattle.read_bookkeeping.specs.Classed.{predicateMeant};
-ghost use Rattle.read_bookkeeping.specs.Tables.{Inside, OnTape, tableNames, Entries, position};
-ghost use Rattle.read_bookkeeping.specs.Tables.{entryWidth, variableRoom, declaredFaultIn};
+ghost use Rattle.read_bookkeeping.specs.Tables.{Inside, tableNames, Entries, position};
+ghost use Rattle.read_bookkeeping.specs.Tables.{entryWidth, variableRoom};
 
 // More than the length of every identifier.
 const ENTRY_WIDTH: usize = 32;
@@ -167,29 +164,6 @@ pub fn called_fault(text: &[u8], x: Span) -> Answer
         return Answer::OverLimit;
     }
     fault_if(is_predicate(text, x), Answer::WrongName)
-}
-
-// What is wrong with text[x] as a declared name. It stands on the tape too, from `at` on, as do the names at the first
-// `functions` heads, which are declared before it: what a name means is asked there.
-pub fn declared_fault(
-    text: &[u8],
-    x: Span,
-    tape: &[u32],
-    at: usize,
-    heads: &[usize],
-    functions: usize,
-) -> Answer
-    requires { ⌜ Inside (now text) x × OnTape (now text) x (now tape) at × (functions ≤ length (now heads)) ⌝ }
-    ensures { λ r. ⌜ numberOf r
-        ≡ declaredFaultIn (headNames (now (tape .entry)) (take functions (now (heads .entry))))
-        (part (now (text .entry)) x) ⌝ }
-{
-    let fault = called_fault(text, x);
-    if !is_accepted(fault) {
-        return fault;
-    }
-    let known = is_known(tape, heads, functions, at, x.past - x.from);
-    fault_if(known, Answer::WrongName)
 }
 
 // What is wrong with the variable text[x] after the pattern, whose own of its kind are table[from..to].

@@ -1,19 +1,20 @@
 -- The functions of a table while they are read.
 use Prim.Native.Nat.{ℕ, _+_, _-_, _≤_, _<_}
 use mathlib.Core.Path.{_≡_}
-use mathlib.Core.Bool.{Bool, true, false}
+use mathlib.Core.Bool.{Bool, true, false, not}
 use mathlib.Core.List.{List, [], _∷_, _++_}
 use lib.Dec.{T, ltb}
 use lib.ListN.{length, take}
-use Rattle.meaning.specs.Choice.{Bytes, Name, pick, every}
-use Rattle.meaning.specs.Answers.{overLimit}
+use Rattle.meaning.specs.Choice.{Bytes, Name, pick, both, every}
+use Rattle.meaning.specs.Answers.{overLimit, wrongName}
+use Rattle.meaning.specs.Names.{isReserved}
 use Rattle.meaning.specs.Tree.{Sentence, Function, Table}
-use Rattle.meaning.specs.Allowed.{maxTable, maxFunctions, maxSentences, maxName}
+use Rattle.meaning.specs.Allowed.{maxTable, maxFunctions, maxSentences, maxName, member}
 use Rattle.tape_layout.specs.Tape as Tape
 use Rattle.tape_layout.specs.Tape.{named, functionKind, functionTape}
 use Rattle.meaning.specs.Tokens as Tokens
 use Rattle.meaning.specs.Reading as Reading
-use Rattle.meaning.specs.Reading.{Parsed, pass}
+use Rattle.meaning.specs.Reading.{Parsed, pass, lengthFault, faultUnless}
 use Rattle.read_tokens.specs.View.{stream, Comes}
 use Rattle.read_tokens.specs.declared.Span.{Span}
 use Rattle.read_tokens.specs.declared.Token.{Token}
@@ -27,7 +28,7 @@ use Rattle.read_functions.specs.declared.functions.ParsedTable.{ParsedTa
 use Rattle.read_functions.specs.declared.functions.ParsedTable.the-variants.{Stopped, Done}
 use Rattle.read_functions.specs.declared.functions.Stage.{Stage}
 use Rattle.read_functions.specs.declared.functions.Stage.the-variants.{Onward, Over}
-use Rattle.read_bookkeeping.specs.Tables.{Inside, declaredFaultIn}
+use Rattle.read_bookkeeping.specs.Tables.{Inside}
 use Rattle.read_bookkeeping.specs.Written.{isQuiet, Ready, Went}
 use Rattle.read_functions.specs.Sentences.{Each, SentenceStands}
 
@@ -87,6 +88,10 @@ pub record Opening (text tape heads : List ℕ) (functions words : ℕ) (t : Pla
   pub few : functions ≤ maxFunctions
   pub long : length heads ≡ maxFunctions
   pub room : length text ≤ length tape
+
+-- `declaredFault`, by the names declared before
+abbrev pub declaredFaultIn : List Name → Name → ℕ
+declaredFaultIn names n = lengthFault n (faultUnless (both (not (isReserved n)) (not (member n names))) wrongName 0)
 
 -- the fault of a name after so many functions with these names
 abbrev pub nameFault : ℕ → List Name → Name → ℕ

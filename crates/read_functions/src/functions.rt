@@ -4,7 +4,7 @@ use crate::sentences::ParsedSentences;
 use crate::sentences::sentences;
 use answers::Answer;
 use answers::is_accepted;
-use read_bookkeeping::names::declared_fault;
+use read_bookkeeping::names::called_fault;
 use read_bookkeeping::progress::Fault;
 use read_bookkeeping::progress::Passed;
 use read_bookkeeping::progress::is_sign;
@@ -19,6 +19,7 @@ use read_tokens::Token;
 use read_tokens::lex;
 use tape_words::limits::MAX_FUNCTIONS;
 use tape_words::limits::MAX_SENTENCES;
+use tape_words::names::is_known;
 use tape_words::wide::FUNCTION_WORD;
 ghost use mathlib.Core.Path.{_≡_};
 ghost use Prim.Native.Nat.{_≤_};
@@ -75,8 +76,8 @@ fn body(text: &[u8], tape: &mut [u32], name: Span, limit: usize, words: usize) -
     sentences(text, tape, limit, at, to)
 }
 
-// A function from its name to its `}`; its head is noted. Its name is copied to the tape's end first, since what a name
-// means is asked of the tape.
+// A function from its name to its `}`; its head is noted. Once its name is known to be short it is copied to the tape's
+// end, since what a name means is asked of the tape.
 fn function(
     text: &[u8],
     tape: &mut [u32],
@@ -99,10 +100,13 @@ fn function(
     if MAX_FUNCTIONS <= functions {
         return ParsedSentences::Stopped(fault_at(Answer::OverLimit, t.place));
     }
-    put_bytes(text, tape, words, name);
-    let fault = declared_fault(text, name, tape, words, heads, functions);
+    let fault = called_fault(text, name);
     if !is_accepted(fault) {
         return ParsedSentences::Stopped(fault_at(fault, t.place));
+    }
+    put_bytes(text, tape, words, name);
+    if is_known(tape, heads, functions, words, name.past - name.from) {
+        return ParsedSentences::Stopped(fault_at(Answer::WrongName, t.place));
     }
     heads[functions] = words;
     body(text, tape, name, limit, words)
