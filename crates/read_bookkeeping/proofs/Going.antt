@@ -7,10 +7,11 @@ use native.Mathlib.Omega.{arith}
 use lib.Dec.{T, eqb, lt→ltb}
 use lib.ListN.{length, set, length-append}
 use Rattle.meaning.specs.Choice.{Bytes, every}
-use Rattle.tape_layout.specs.Tape.{named}
+use Rattle.tape_layout.specs.Tape.{named, callWord, kindWidth}
 use Rattle.meaning.specs.Tokens.{Placed}
 use Rattle.meaning.specs.Reading.{Parsed, stopped, parsed, follow, whether, isSign, pass, whereFaultless}
 use Rattle.meaning.proofs.laws.Passing.{both-pass}
+use Rattle.meaning.specs.Allowed.{maxTable}
 use Rattle.read_tokens.specs.View as View
 use Rattle.read_tokens.specs.declared.Span.{Span}
 use Rattle.read_bookkeeping.specs.declared.progress.Fault.{Fault}
@@ -147,7 +148,7 @@ pub went-length : {text : Bytes} {at words : ℕ} {tape : List ℕ} {at′ words
 went-length w = wrote-length (record { reached = w .counted; same = w .wrote })
 
 -- after what was read
-pub ready-after : {text : Bytes} {at words : ℕ} {tape : List ℕ} {at′ words′ : ℕ} {tape′ added : List ℕ} → length text ≤ 32768
+pub ready-after : {text : Bytes} {at words : ℕ} {tape : List ℕ} {at′ words′ : ℕ} {tape′ added : List ℕ} → length text ≤ maxTable
     → Went text at words tape at′ words′ tape′ added → Ready text at′ words′
 ready-after h w = record { inside = w .inside; charged = w .charged; short = h }
 
@@ -188,16 +189,17 @@ word-went {words = words} {tape = tape} {word = word} r h k e =
 module _ {text : Bytes} {n : Span} (kind : ℕ) (i : Inside text n) where
   pub name-went : {at words further : ℕ} {word : ℕ} {tape tape′ : List ℕ} {words′ : ℕ} → at ≤ further → further ≤ length text
       → words + (n .past - n .from) < further
-      → word ≡ kind * 256 + (n .past - n .from)
+      → word ≡ kind * kindWidth + (n .past - n .from)
       → Wrote tape words (word ∷ View.part text n) words′ tape′
       → Went text at words tape further words′ tape′ (named kind (View.part text n))
   name-went o h c e w =
       let l = part-length text n i in
       record { onward = o; inside = h; charged = omega (arith, w .reached, l); counted = w .reached; wrote = rw (l, ← e) (w .same) }
 
-  pub name-quiet : kind * 256 + (n .past - n .from) < 2304 → T (every isQuiet (View.part text n)) → T (every isQuiet (named kind (View.part text n)))
+  pub name-quiet : kind * kindWidth + (n .past - n .from) < callWord → T (every isQuiet (View.part text n))
+      → T (every isQuiet (named kind (View.part text n)))
   unfolding every
   name-quiet s q =
-      both-pass (isQuiet (kind * 256 + length (View.part text n))) (every isQuiet (View.part text n))
-      (rw (part-length text n i) (lt→ltb (kind * 256 + (n .past - n .from)) 2304 s))
+      both-pass (isQuiet (kind * kindWidth + length (View.part text n))) (every isQuiet (View.part text n))
+      (rw (part-length text n i) (lt→ltb (kind * kindWidth + (n .past - n .from)) callWord s))
       q

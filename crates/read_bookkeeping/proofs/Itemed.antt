@@ -6,7 +6,7 @@ use native.Mathlib.Numerals.{add-one}
 use native.Mathlib.Omega.{arith}
 use lib.Dec.{T}
 use Rattle.meaning.specs.Choice.{Bytes, every}
-use Rattle.tape_layout.specs.Tape.{named}
+use Rattle.tape_layout.specs.Tape.{named, callWord, kindWidth}
 use Rattle.read_tokens.specs.View as View
 use Rattle.read_tokens.specs.View.{IsClosed, charactersIn, quotationAt}
 use Rattle.read_tokens.specs.declared.Span.{Span}
@@ -44,12 +44,12 @@ module _ {text : Bytes} {at words place past count : ℕ} (r : Ready text at wor
 
 -- a variable, of the kind 1 or 2
 module _ {text : Bytes} {at words : ℕ} {x : Span} (r : Ready text at words) (i : Identifier text at x) where
-  pub variable-went : (kind : ℕ) {word : ℕ} {tape tape′ : List ℕ} {words′ : ℕ} → word ≡ kind * 256 + (x .past - x .from)
+  pub variable-went : (kind : ℕ) {word : ℕ} {tape tape′ : List ℕ} {words′ : ℕ} → word ≡ kind * kindWidth + (x .past - x .from)
       → Wrote tape words (word ∷ View.part text x) words′ tape′
       → Went text at words tape (x .past) words′ tape′ (named kind (View.part text x))
   variable-went kind e w =
       name-went kind (identifier-inside i) (omega (arith, i .after, i .some)) (i .inside) (omega (arith, r .charged, i .after, i .some)) e w
 
-  pub variable-quiet : (kind : ℕ) → kind * 256 + (x .past - x .from) < 2304 → T (every isQuiet (View.part text x)) →
+  pub variable-quiet : (kind : ℕ) → kind * kindWidth + (x .past - x .from) < callWord → T (every isQuiet (View.part text x)) →
       T (every isQuiet (named kind (View.part text x)))
   variable-quiet kind s q = name-quiet kind (identifier-inside i) s q

@@ -10,7 +10,7 @@ use Rattle.meaning.specs.Choice.{Bytes, Name, pick, sameBytes}
 use Rattle.meaning.specs.Classes.{Class, className, classes}
 use Rattle.meaning.specs.Names.{classNamed, predicateOf, isPredicate}
 use Rattle.meaning.specs.Answers.{overLimit, wrongName, wrongLaterVariable}
-use Rattle.meaning.specs.Allowed.{member, maxIdentifier}
+use Rattle.meaning.specs.Allowed.{member, maxIdentifier, maxName}
 use Rattle.meaning.specs.Reading.{faultUnless, calledFault, subjectFault}
 use Rattle.read_tokens.specs.View.{part}
 use Rattle.read_tokens.specs.declared.Span.{Span}
@@ -60,11 +60,11 @@ module _ (name : Name) {p : Predicate} (e : predicateMeant p ≡ predicateOf nam
 -- FAULTS OF NAMES
 
 module _ (text : Bytes) (x : Span) (p : Inside text x) where
-  pub called-long : 24 < x .past - x .from → overLimit ≡ calledFault (part text x)
-  called-long h = rw (too-long text x p 24 h)
+  pub called-long : maxName < x .past - x .from → overLimit ≡ calledFault (part text x)
+  called-long h = rw (too-long text x p maxName h)
 
-  pub called-is : x .past - x .from ≤ 24 → {is : Bool} → isPredicate (part text x) ≡ is → pick is wrongName 0 ≡ calledFault (part text x)
-  called-is h {is} e = rw (short-enough text x p 24 h, e) (fault-if is wrongName)
+  pub called-is : x .past - x .from ≤ maxName → {is : Bool} → isPredicate (part text x) ≡ is → pick is wrongName 0 ≡ calledFault (part text x)
+  called-is h {is} e = rw (short-enough text x p maxName h, e) (fault-if is wrongName)
 
 -- A LATER VARIABLE
 
@@ -76,13 +76,13 @@ module _ {text : Bytes} {table : List ℕ} {from to : ℕ} {x : Span} (pre : Ins
   abbrev Later : ℕ → Type 0
   Later number = number ≡ subjectFault (tableNames text table from to) (part text x)
 
-  pub later-long : 8 < x .past - x .from → Later overLimit
-  later-long l = later-fault-is (tableNames text table from to) (part text x) (too-long text x (pre .0) 8 l) refl
+  pub later-long : maxIdentifier < x .past - x .from → Later overLimit
+  later-long l = later-fault-is (tableNames text table from to) (part text x) (too-long text x (pre .0) maxIdentifier l) refl
 
-  pub later-is : x .past - x .from ≤ 8 → (r : ℕ) → r ≡ from + position (part text x) (tableNames text table from to)
+  pub later-is : x .past - x .from ≤ maxIdentifier → (r : ℕ) → r ≡ from + position (part text x) (tableNames text table from to)
       → {known : Bool} → ltb r to ≡ known
       → Later (pick (not known) wrongLaterVariable 0)
   later-is l r f {known} h =
       fault-if-not known wrongLaterVariable
-      ∙ later-fault-is (tableNames text table from to) (part text x) (short-enough text x (pre .0) 8 l)
+      ∙ later-fault-is (tableNames text table from to) (part text x) (short-enough text x (pre .0) maxIdentifier l)
       (among text table from to (pre .1) (part text x) r f h)

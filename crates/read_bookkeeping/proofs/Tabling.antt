@@ -13,7 +13,7 @@ use Rattle.meaning.proofs.laws.Passing.{both-right, both-pass}
 use Rattle.meaning_accepting.proofs.reading.Lists.{every-append as every-both}
 use Rattle.read_tokens.specs.View.{part}
 use Rattle.read_tokens.specs.declared.Span.{Span}
-use Rattle.read_bookkeeping.specs.Tables.{Inside, nameIn, namesIn, inText, tableNames, Entries}
+use Rattle.read_bookkeeping.specs.Tables.{Inside, nameIn, namesIn, inText, tableNames, Entries, entryWidth}
 
 -- LISTS
 
@@ -91,21 +91,21 @@ no-names text table from = rw (slice-empty from table)
 
 -- THE ENTRY OF A NAME
 
-module _ (text : Bytes) (x : Span) (p : Inside text x) (short : x .past - x .from < 32) where
+module _ (text : Bytes) (x : Span) (p : Inside text x) (short : x .past - x .from < entryWidth) where
   abbrev entry : ℕ
-  entry = x .from * 32 + (x .past - x .from)
+  entry = x .from * entryWidth + (x .past - x .from)
 
-  place-of : entry / 32 ≡ x .from
+  place-of : entry / entryWidth ≡ x .from
   place-of = omega arith
 
-  ends-at : entry / 32 + entry % 32 ≡ x .past
+  ends-at : entry / entryWidth + entry % entryWidth ≡ x .past
   ends-at = omega (arith, p .forward)
 
   pub entry-name : nameIn text entry ≡ part text x
   entry-name = rw (ends-at, place-of)
 
   pub entry-inside : T (inText text entry)
-  entry-inside = le→leb (entry / 32 + entry % 32) (length text) (rw ends-at (p .inside))
+  entry-inside = le→leb (entry / entryWidth + entry % entryWidth) (length text) (rw ends-at (p .inside))
 
 -- THE ENTRIES FROM A LATER ONE ON
 

@@ -16,6 +16,7 @@ use Rattle.read_characters.specs.declared.Character.{Character}
 use Rattle.read_characters.specs.declared.Character.the-variants.{Given, Nothing, Closed, Broken}
 use Rattle.read_tokens.specs.declared.Span.{Span}
 use Rattle.meaning.proofs.laws.Places.{slice-suc}
+use Rattle.meaning.specs.Allowed.{maxTable}
 use Rattle.read_bookkeeping.specs.Tables.{Inside}
 use Rattle.read_bookkeeping.specs.Written.{written, Wrote, stringFrom, isQuiet, Ready}
 use Rattle.read_bookkeeping.proofs.Lengths.{part-length}
@@ -108,12 +109,12 @@ pub record Copied (text : Bytes) (start : List ℕ) (first from past : ℕ) (tap
   pub onward : from ≤ i
   pub low : i ≤ past
   pub inside : past ≤ length text
-  pub room : first + (past - from) ≤ 32768
+  pub room : first + (past - from) ≤ maxTable
   pub reached : to ≡ first + (i - from)
   pub same : tape ≡ written start first (slice from i text)
   pub quiet : T (every isQuiet (slice from i text))
 
-pub copy-starts : (text : Bytes) (start : List ℕ) (first : ℕ) (x : Span) → Inside text x → first + (x .past - x .from) ≤ 32768
+pub copy-starts : (text : Bytes) (start : List ℕ) (first : ℕ) (x : Span) → Inside text x → first + (x .past - x .from) ≤ maxTable
     → Copied text start first (x .from) (x .past) start first (x .from)
 unfolding every
 copy-starts text start first x p h =
@@ -177,7 +178,7 @@ pub record Spelled-to (text : Bytes) (start : List ℕ) (at from : ℕ) (tape : 
   pub quiet : T (every isQuiet characters)
   pub charged : to ≤ i
   pub inside : i ≤ length text
-  pub short : length text ≤ 32768
+  pub short : length text ≤ maxTable
 
 pub spelling-starts : (text : Bytes) (start : List ℕ) (at from : ℕ) → Ready text from at → Spelled-to text start at from start at from
 unfolding every
@@ -201,7 +202,7 @@ spelled-length s = wrote-length (record { reached = s .reached; same = s .same }
 module _ {text : Bytes} {start : List ℕ} {at from : ℕ} {tape : List ℕ} {to i : ℕ} (s : Spelled-to text start at from tape to i) where
   abbrev pub SpelledOn : Character → Type 0
   SpelledOn (Given b past) =
-      (i < past) × (past ≤ length text) × (to < 32768)
+      (i < past) × (past ≤ length text) × (to < maxTable)
       × (b < 256 → (next : List ℕ) → next ≡ set tape to b → Spelled-to text start at from next (to + 1) past)
   SpelledOn (Nothing past) = (i < past) × Spelled-to text start at from tape to past
   SpelledOn (Closed past) =

@@ -7,6 +7,7 @@ use lib.Dec.{T, leb}
 use lib.ListN.{length}
 use lib.Seq.{slice}
 use Rattle.meaning.specs.Choice.{Bytes, Name, pick, every, sameBytes}
+use Rattle.meaning.specs.Allowed.{maxSymbols}
 use Rattle.read_tokens.specs.View.{part}
 use Rattle.read_tokens.specs.declared.Span.{Span}
 
@@ -24,7 +25,7 @@ abbrev pub maxParts : ℕ
 maxParts = 2
 
 abbrev pub variableRoom : ℕ
-variableRoom = 18
+variableRoom = maxSymbols + maxParts
 
 -- the name of an entry
 abbrev pub nameIn : Bytes → ℕ → Name

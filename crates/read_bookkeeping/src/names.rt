@@ -23,7 +23,7 @@ ghost use Rattle.read_bookkeeping.specs.Tables.{entryWidth, variableRoom
 const ENTRY_WIDTH: usize = 32;
 
 // The e-variables of a pattern.
-const MAX_PARTS: usize = 2;
+pub const MAX_PARTS: usize = 2;
 
 // The entries of a table: s-variables from the first on, e-variables from entry MAX_SYMBOLS on.
 pub const VARIABLE_ROOM: usize = MAX_SYMBOLS + MAX_PARTS;

@@ -13,7 +13,7 @@ use Rattle.meaning.specs.Choice.{Bytes, pick}
 use Rattle.meaning.specs.Classes.{inClass, digit}
 use Rattle.meaning.specs.Tokens.{Quoting, plain, escaped, coded, Turn, goesOn, closes, breaks, digitValue, codeTurn, turn, quoteOn, quotation}
 use Rattle.meaning.proofs.laws.Passing.{both-left, both-right, passed}
-use Rattle.read_characters.specs.View.{Passes, Stands}
+use Rattle.read_characters.specs.View.{byteCount, Passes, Stands}
 use Rattle.read_characters.specs.declared.Character.{Character}
 use Rattle.read_characters.specs.declared.Character.the-variants.{Given, Nothing, Closed, Broken}
 use Rattle.meaning.proofs.laws.Places.{here, nothing}
@@ -49,7 +49,7 @@ taking text state at h e characters = rw (here text at h, add-one, e characters)
 -- the code so far, whatever the characters before it
 pub record Coding (text : Bytes) (first from value at : ℕ) : Type 0 where
   pub same : (characters : Bytes) → quotation (coded first) characters from (drop from text) ≡ quotation (coded value) characters at (drop at text)
-  pub small : value < 256
+  pub small : value < byteCount
   pub onward : from ≤ at
   pub inside : at ≤ length text
 
@@ -70,11 +70,11 @@ module _ (text : Bytes) (first from value at : ℕ) where
   abbrev more : ℕ
   more = value * 10 + (getD text at 0 - 48)
 
-  code-turn : CodingAt true → {small : Bool} → ltb more 256 ≡ small
+  code-turn : CodingAt true → {small : Bool} → ltb more byteCount ≡ small
       → Turns (coded value) (getD text at 0) (λ characters. pick small (goesOn (coded more) characters) breaks)
   code-turn c s characters = rw (c .class, s)
 
-  pub code-goes : CodingAt true → more < 256 → Coding text first from more (at + 1)
+  pub code-goes : CodingAt true → more < byteCount → Coding text first from more (at + 1)
   code-goes c s =
       record {
         same = λ characters. c .coding .same characters ∙ taking text (coded value) at (c .inside) (code-turn c (lt-ltb _ _ s)) characters;
@@ -83,7 +83,7 @@ module _ (text : Bytes) (first from value at : ℕ) where
         inside = omega arith;
       }
 
-  pub code-breaks : CodingAt true → 256 ≤ more → Stands text (coded first) from from (Broken (at + 1))
+  pub code-breaks : CodingAt true → byteCount ≤ more → Stands text (coded first) from from (Broken (at + 1))
   code-breaks c s = record {
     same = λ characters. c .coding .same characters ∙
         taking text (coded value) at (c .inside) (code-turn c (le-ltb _ _ s)) characters;
@@ -167,7 +167,7 @@ module _ (b : ℕ) where
   unlisted-digit u = is-digit b (u .class)
 
   pub escape-digit : Unlisted b true → (characters : Bytes) → turn escaped characters b ≡ goesOn (coded (digitValue b)) characters
-  escape-digit u characters = let d = unlisted-digit u in other u characters ∙ rw (lt-ltb (digitValue b) 256 (omega arith))
+  escape-digit u characters = let d = unlisted-digit u in other u characters ∙ rw (lt-ltb (digitValue b) byteCount (omega arith))
 
   pub escape-other : Unlisted b false → (characters : Bytes) → turn escaped characters b ≡ breaks
   escape-other u characters = other u characters

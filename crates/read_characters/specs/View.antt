@@ -9,6 +9,10 @@ use Rattle.meaning.specs.Tokens as Tokens
 use Rattle.read_characters.specs.declared.Character.{Character}
 use Rattle.read_characters.specs.declared.Character.the-variants.{Given, Nothing, Closed, Broken}
 
+-- a code is below the number of bytes
+abbrev pub byteCount : ℕ
+byteCount = 256
+
 -- how a string with these characters so far goes on after what stands at a place
 abbrev pub continued : Bytes → Character → Bytes → Tokens.Quotation
 continued text (Given b past) characters = Tokens.quotation Tokens.plain (characters ++ b ∷ []) past (drop past text)

@@ -19,10 +19,11 @@ use Rattle.meaning.specs.Names.{predicateOf}
 use Rattle.tape_layout.specs.Tape.{classCount, conditionTruth, conditionPart, conditionSize, conditionWord}
 use Rattle.tape_layout.specs.Tape.{truthNumber, subjectTape, conditionTape, conditionsTape}
 use Rattle.meaning.specs.Tokens as Tokens
-use Rattle.meaning.specs.Grammar.{standing}
+use Rattle.meaning.specs.Grammar.{standing, truthByte}
 use Rattle.meaning.specs.Reading as Reading
 use Rattle.meaning.specs.Reading.{Parsed, stopped, parsed, follow, subjectFault, itemOf, subjectOn}
 use Rattle.meaning.proofs.laws.Passing.{both-pass}
+use Rattle.meaning.specs.Allowed.{maxConditions, maxIdentifier, maxName, maxTable}
 use Rattle.read_tokens.proofs.Token as token
 use Rattle.read_tokens.proofs.Shortest.{three-bytes}
 use Rattle.read_tokens.specs.View as View
@@ -137,7 +138,8 @@ module _ (text : Bytes) (t : Code.Placed) (count : ℕ) (e : t .token ≡ Quoted
     abbrev middle : ℕ
     middle = getD text (t .place + 1) 0
 
-    three : truthIn text t ≡ pick (both (eqb middle 84) true) (some true) (pick (both (eqb middle 70) true) (some false) none)
+    three : truthIn text t
+        ≡ pick (both (eqb middle (truthByte true)) true) (some true) (pick (both (eqb middle (truthByte false)) true) (some false) none)
     unfolding sameBytes
     three =
         let q = rw e at (s .sound) in
@@ -145,7 +147,8 @@ module _ (text : Bytes) (t : Code.Placed) (count : ℕ) (e : t .token ≡ Quoted
 
     pub truth-three : {closing : Closing} → closing ≡ closingAs (truthBetween middle) → closing ≡ closingAs (truthIn text t)
     truth-three v =
-        let e : truthIn text t ≡ truthBetween middle = three ∙ rw (← (both-true (eqb middle 84)), ← (both-true (eqb middle 70))) in
+        let e : truthIn text t ≡ truthBetween middle =
+        three ∙ rw (← (both-true (eqb middle (truthByte true))), ← (both-true (eqb middle (truthByte false)))) in
         v ∙ ap closingAs (sym e)
 
 -- a condition that is read from a later place on is read from here
@@ -180,7 +183,7 @@ goes-on text place past is truth =
 
 -- the variable lies in the text, and the tape has room for it
 pub before-room : {text : Bytes} {from words : ℕ} {x : Span} → Ready text from words → Before text words from x
-    → Inside text x × (words + 1 + (x .past - x .from) ≤ 32768)
+    → Inside text x × (words + 1 + (x .past - x .from) ≤ maxTable)
 before-room r b = (
   record { forward = omega (arith, b .some); inside = omega (arith, b .before, r .inside) },
   omega (arith, b .after, b .some, b .before, r .inside, r .short),
@@ -190,18 +193,19 @@ before-room r b = (
 pub record ClosingAt (text : Bytes) (from words : ℕ) (x : Span) (close colon : ℕ) (t : Code.Placed) (closing : Closing) : Type 0 where
   pub ready : Ready text from words
   pub variable : Before text words from x
-  pub closed : Taken text Tokens.inside 62 from close
-  pub parted : Taken text Tokens.inside 58 close colon
+  pub closed : Taken text Tokens.inside Tokens.greaterThan from close
+  pub parted : Taken text Tokens.inside Tokens.colon close colon
   pub first : Comes text Tokens.inside colon t
   pub truth : closing ≡ closingAs (truthIn text t)
 
 module _ (isPart : Bool) {text : Bytes} {from words : ℕ} {x : Span} where
-  pub end-no-close : Before text words from x → (c : Class) {tape tape′ : List ℕ} {fault : Fault} → Barred text Tokens.inside 62 from fault
+  pub end-no-close : Before text words from x → (c : Class) {tape tape′ : List ℕ} {fault : Fault}
+      → Barred text Tokens.inside Tokens.greaterThan from fault
       → EndAgrees text from words tape tape′ isPart x c (Stopped fault)
   end-no-close b c k = barred-stops _ k
 
   pub end-no-colon : Before text words from x → (c : Class) {tape tape′ : List ℕ} {close : ℕ} {fault : Fault} →
-      Taken text Tokens.inside 62 from close → Barred text Tokens.inside 58 close fault
+      Taken text Tokens.inside Tokens.greaterThan from close → Barred text Tokens.inside Tokens.colon close fault
       → EndAgrees text from words tape tape′ isPart x c (Stopped fault)
   end-no-colon b c t k = stops (passes-on _ t ∙ passes-not _ k)
 
@@ -322,7 +326,7 @@ module _ {text table : List ℕ} {symbols parts from words : ℕ} {t : Code.Plac
               after = omega (arith, on .ready .charged, i .after);
               some = i .some;
               before = omega (arith, variable-here (on .first) isPart _ (s .variable) .ends);
-              short = within text x (identifier-inside i) 8 3 _ right;
+              short = within text x (identifier-inside i) maxIdentifier 3 _ right;
             },
           )
 
@@ -348,7 +352,7 @@ withName next place n ts = Reading.withClass (predicateOf n) place λ class. nex
 pub record OpenedAt (text table : List ℕ) (symbols parts from words start : ℕ) (t : Code.Placed) : Type 0 where
   pub known : Variables text table symbols parts
   pub ready : Ready text from words
-  pub opened : Taken text Tokens.inside 60 from start
+  pub opened : Taken text Tokens.inside Tokens.lessThan from start
   pub first : Comes text Tokens.naming start t
 
 -- it is a name
@@ -357,7 +361,7 @@ pub record NamedAt {text table : List ℕ} {symbols parts from words start : ℕ
   pub name : NameFirst text Tokens.naming start t n
 
 module _ {text table : List ℕ} {symbols parts from words : ℕ} where
-  pub open-not : {tape tape′ : List ℕ} {fault : Fault} → Variables text table symbols parts → Barred text Tokens.inside 60 from fault
+  pub open-not : {tape tape′ : List ℕ} {fault : Fault} → Variables text table symbols parts → Barred text Tokens.inside Tokens.lessThan from fault
       → ConditionAgrees text table symbols parts from words tape tape′ (Stopped fault)
   unfolding Reading.parseCondition
   open-not known b = barred-stops _ b
@@ -379,15 +383,15 @@ module _ {text table : List ℕ} {symbols parts from words : ℕ} where
       pub name-ready : Ready text (t .past) words
       name-ready = ready-past (ready-taken (o .ready) (o .opened)) (o .first)
 
-      pub name-long : {tape tape′ : List ℕ} → 24 < n .past - n .from
+      pub name-long : {tape tape′ : List ℕ} → maxName < n .past - n .from
           → ConditionAgrees text table symbols parts from words tape tape′ (Stopped (record { answer = OverLimit; place = t .place }))
       name-long l =
-          stops (at-name o ∙ rw (a .name .unrolled, too-long text n (a .name .inside) 24 l))
+          stops (at-name o ∙ rw (a .name .unrolled, too-long text n (a .name .inside) maxName l))
 
-      module _ (l : n .past - n .from ≤ 24) where
+      module _ (l : n .past - n .from ≤ maxName) where
         at-class : conditionNames text table symbols parts (stream text Tokens.inside from)
             ≡ withName (onNames text table symbols parts) (t .place) (View.part text n) (stream text Tokens.inside (t .past))
-        at-class = at-name o ∙ rw (a .name .unrolled, short-enough text n (a .name .inside) 24 l)
+        at-class = at-name o ∙ rw (a .name .unrolled, short-enough text n (a .name .inside) maxName l)
 
         pub class-not : {tape tape′ : List ℕ} {p : Predicate} → predicateMeant p ≡ predicateOf (View.part text n) → p ≡ NoPredicate
             → ConditionAgrees text table symbols parts from words tape tape′ (Stopped (record { answer = WrongName; place = t .place }))
@@ -404,18 +408,18 @@ module _ {text table : List ℕ} {symbols parts from words : ℕ} where
 
 module _ (symbols parts : List Name) where
   -- where no `,` stands the conditions end
-  conditions-end : (left : ℕ) (t : Tokens.Placed) (ts : List Tokens.Placed) → Reading.isSign 44 (t .token) ≡ false
+  conditions-end : (left : ℕ) (t : Tokens.Placed) (ts : List Tokens.Placed) → Reading.isSign Tokens.comma (t .token) ≡ false
       → Reading.parseConditions left symbols parts (t ∷ ts) ≡ parsed [] (t ∷ ts)
   unfolding Reading.parseConditions
   conditions-end zero t ts e = rw e
   conditions-end (suc left) t ts e = rw e
 
-  conditions-full : (t : Tokens.Placed) (ts : List Tokens.Placed) → Reading.isSign 44 (t .token) ≡ true
+  conditions-full : (t : Tokens.Placed) (ts : List Tokens.Placed) → Reading.isSign Tokens.comma (t .token) ≡ true
       → Reading.parseConditions 0 symbols parts (t ∷ ts) ≡ stopped overLimit (t .place)
   unfolding Reading.parseConditions
   conditions-full t ts e = rw e
 
-  conditions-next : (more left : ℕ) (t : Tokens.Placed) (ts : List Tokens.Placed) → more ≡ suc left → Reading.isSign 44 (t .token) ≡ true
+  conditions-next : (more left : ℕ) (t : Tokens.Placed) (ts : List Tokens.Placed) → more ≡ suc left → Reading.isSign Tokens.comma (t .token) ≡ true
       → Reading.parseConditions more symbols parts (t ∷ ts)
       ≡ follow (Reading.parseCondition symbols parts ts) (λ c ts₁. follow (Reading.parseConditions left symbols parts ts₁)
       (λ cs rest. parsed (c ∷ cs) rest))
@@ -425,11 +429,11 @@ module _ (symbols parts : List Name) where
 -- the conditions from the start are those from here with these before them
 pub record Conditioned (text start : List ℕ) (symbols parts : List Name) (from words : ℕ) (tape : List ℕ) (at to left : ℕ) : Type 0 where
   pub before : List Condition
-  pub same : Reading.parseConditions 8 symbols parts (stream text Tokens.inside from)
+  pub same : Reading.parseConditions maxConditions symbols parts (stream text Tokens.inside from)
       ≡ follow (Reading.parseConditions left symbols parts (stream text Tokens.inside at)) (behind before)
   pub went : Went text from words start at to tape (conditionsTape before)
   pub quiet : T (every isQuiet (conditionsTape before))
-  pub short : length text ≤ 32768
+  pub short : length text ≤ maxTable
 
 pub conditions-ready : {text start : List ℕ} {symbols parts : List Name} {from words : ℕ} {tape : List ℕ} {at to left : ℕ}
     → Conditioned text start symbols parts from words tape at to left → Ready text at to
@@ -441,12 +445,12 @@ tape-more [] c = append-nil (conditionTape c)
 tape-more (d ∷ cs) c = rw (tape-more cs c) (sym (append-assoc (conditionTape d) (conditionsTape cs) (conditionTape c)))
 
 pub conditions-start : (text start : List ℕ) (symbols parts : List Name) (from words : ℕ) → Ready text from words
-    → Conditioned text start symbols parts from words start from words 8
+    → Conditioned text start symbols parts from words start from words maxConditions
 unfolding conditionsTape every
 conditions-start text start symbols parts from words r =
     record {
       before = [];
-      same = follow-alone (Reading.parseConditions 8 symbols parts (stream text Tokens.inside from));
+      same = follow-alone (Reading.parseConditions maxConditions symbols parts (stream text Tokens.inside from));
       went = went-none text from words start r;
       quiet = tt;
       short = r .short;
@@ -457,16 +461,16 @@ pub record LookedAt (text start : List ℕ) (symbols parts : List Name) (from wo
     (t : Code.Placed) (comma : Bool) : Type 0 where
   pub read : Conditioned text start symbols parts from words tape at to left
   pub first : Comes text Tokens.inside at t
-  pub sign : signIs 44 (t .token) ≡ comma
+  pub sign : signIs Tokens.comma (t .token) ≡ comma
 
 abbrev ConditionsAgree : List ℕ → List ℕ → List Name → List Name → ℕ → ℕ → List ℕ → CodeParsed → Type 0
 ConditionsAgree text start symbols parts from words tape r =
-    Agrees (ConditionsRead text from words start tape) (Reading.parseConditions 8 symbols parts (stream text Tokens.inside from)) r
+    Agrees (ConditionsRead text from words start tape) (Reading.parseConditions maxConditions symbols parts (stream text Tokens.inside from)) r
 
 module _ {text start : List ℕ} {symbols parts : List Name} {from words : ℕ} {tape : List ℕ} {at to left : ℕ} {t : Code.Placed} where
   shown : {comma : Bool} → LookedAt text start symbols parts from words tape at to left t comma
-      → Reading.isSign 44 (tokenOf text (t .token) (t .place) (t .past)) ≡ comma
-  shown a = sign-shown text t 44 (a .sign)
+      → Reading.isSign Tokens.comma (tokenOf text (t .token) (t .place) (t .past)) ≡ comma
+  shown a = sign-shown text t Tokens.comma (a .sign)
 
   pub conditions-done : LookedAt text start symbols parts from words tape at to left t false
       → ConditionsAgree text start symbols parts from words tape (Done (record { at = t .place; words = to }))
@@ -501,17 +505,17 @@ module _ {text start : List ℕ} {symbols parts : List Name} {from words : ℕ} 
         → ConditionsOn tape′ r
     conditions-on z {tape′} r e = turned r e
       where
-        at-condition : Reading.parseConditions 8 symbols parts (stream text Tokens.inside from)
+        at-condition : Reading.parseConditions maxConditions symbols parts (stream text Tokens.inside from)
             ≡ follow
             (follow (Reading.parseCondition symbols parts (stream text Tokens.inside (t .past)))
             (λ d ts. follow (Reading.parseConditions (left - 1) symbols parts ts) (λ ds rest. parsed (d ∷ ds) rest)))
             (behind (a .read .before))
         at-condition =
-            let comma = takes text Tokens.inside at 44 t (a .first) (a .sign) in
+            let comma = takes text Tokens.inside at Tokens.comma t (a .first) (a .sign) in
             a .read .same
             ∙ rw (
               comma .unrolled,
-              conditions-next symbols parts left (left - 1) (standing (Tokens.sign 44) (comma .place) (t .past))
+              conditions-next symbols parts left (left - 1) (standing (Tokens.sign Tokens.comma) (comma .place) (t .past))
                   (stream text Tokens.inside (t .past)) (omega arith) refl,
             )
 

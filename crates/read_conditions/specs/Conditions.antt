@@ -12,6 +12,7 @@ use Rattle.meaning.specs.Classes.{Class}
 use Rattle.meaning.specs.Tree.{Subject, Condition}
 use Rattle.tape_layout.specs.Tape.{conditionPart, conditionTape, conditionsTape}
 use Rattle.meaning.specs.Tokens as Tokens
+use Rattle.meaning.specs.Grammar.{truthByte}
 use Rattle.meaning.specs.Reading.{Parsed, parsed, pass, passSubject, truthOf, passTruth}
 use Rattle.read_tokens.specs.View.{tokenOf, Sound, stream}
 use Rattle.read_tokens.specs.declared.Span.{Span}
@@ -51,8 +52,8 @@ kindNumber true = conditionPart
 -- `condition` after its variable, and from its variable on
 abbrev pub conditionEnd : Class → Subject → List Tokens.Placed → Parsed Condition
 conditionEnd class v ts =
-    pass 62 ts λ ts₁.
-    pass 58 ts₁ λ ts₂.
+    pass Tokens.greaterThan ts λ ts₁.
+    pass Tokens.colon ts₁ λ ts₂.
     passTruth ts₂ λ truth rest.
     parsed (record { predicate = class; subject = v; expected = truth }) rest
 
@@ -64,12 +65,16 @@ abbrev pub closingAs : Option Bool → Closing
 closingAs none = NoTruth
 closingAs (some truth) = Says truth
 
+-- the bytes of a closing string that says one
+abbrev pub truthSize : ℕ
+truthSize = 3
+
 -- the truth value of a token, and of the byte between a closing string's quotes
 abbrev pub truthIn : Bytes → Placed → Option Bool
-truthIn text t = truthOf (tokenOf text (t .token) (t .place) (t .past)) (eqb (t .past) (t .place + 3))
+truthIn text t = truthOf (tokenOf text (t .token) (t .place) (t .past)) (eqb (t .past) (t .place + truthSize))
 
 abbrev pub truthBetween : ℕ → Option Bool
-truthBetween byte = pick (eqb byte 84) (some true) (pick (eqb byte 70) (some false) none)
+truthBetween byte = pick (eqb byte (truthByte true)) (some true) (pick (eqb byte (truthByte false)) (some false) none)
 
 -- a token that ends in the text
 pub record Standing (text : Bytes) (t : Placed) : Type 0 where

@@ -44,6 +44,9 @@ ghost use Rattle.read_conditions.specs.Conditions.{variableOf, variableN
 ghost use Rattle.read_conditions.specs.Conditions.{conditionEnd, conditionOn, closingAs, truthBetween, truthIn};
 ghost use Rattle.read_conditions.specs.Conditions.{Standing, Before, ConditionRead, ConditionsRead};
 
+// The bytes of `'T'`, and of `'F'`.
+const TRUTH_SIZE: usize = 3;
+
 // A token as a variable: whether it is an e-variable, and its identifier.
 pub enum Named {
     Variable(bool, Span),
@@ -136,8 +139,8 @@ fn truth_in(text: &[u8], t: Placed) -> Closing
         return Closing::NoTruth;
     };
     let past = t.past;
-    let three = t.place + 3;
-    if past != three {
+    let end = t.place + TRUTH_SIZE;
+    if past != end {
         return Closing::NoTruth;
     }
     truth_between(text[t.place + 1])

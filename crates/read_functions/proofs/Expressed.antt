@@ -246,11 +246,11 @@ module _ {text table : List ℕ} {symbols parts depth : ℕ} {start : Expression
   word-refused {bound = bound} e h =
       let g = given e in
       let b = q .so .behind bound h in
-      stops-by refl (rw (at-step b (q .comes .unrolled), g .other, word-no-sign 60 _ (g .word), g .word, g .number, g .place))
+      stops-by refl (rw (at-step b (q .comes .unrolled), g .other, word-no-sign Tokens.lessThan _ (g .word), g .word, g .number, g .place))
 
   -- THE END
 
-  pub expression-ends : {bound : ℕ} → r ≡ Other → signIs 60 (t .token) ≡ false → length (stream text Tokens.inside (start .at)) ≤ bound
+  pub expression-ends : {bound : ℕ} → r ≡ Other → signIs Tokens.lessThan (t .token) ≡ false → length (stream text Tokens.inside (start .at)) ≤ bound
       → ExpressionAgrees text table symbols parts bound depth start tape₀ tape′
       (Done (record { at = t .place; words = s .words; items = s .items; passed = s .passed }))
   expression-ends {bound} e n h =
@@ -258,7 +258,7 @@ module _ {text table : List ℕ} {symbols parts depth : ℕ} {start : Expression
       let b = q .so .behind bound h in
       let u = q .comes .unrolled in
       reads-by refl (record { expression = b .first end; progress = progressAt text table parts s }) (stream text Tokens.inside (s .at))
-      (rw (at-step b u, u, g .0 .other, sign-shown text t 60 n, g .0 .wordless))
+      (rw (at-step b u, u, g .0 .other, sign-shown text t Tokens.lessThan n, g .0 .wordless))
       (record {
         tokens = sym (q .comes .again);
         shorter = b .shorter;
@@ -275,7 +275,7 @@ pub record AtCall {text table : List ℕ} {symbols parts depth : ℕ} {start : E
     {tape′ : List ℕ} {r : Joined}
     (k : AtToken text table symbols parts depth start tape₀ s t tape′ r) : Type 0 where
   pub other : r ≡ Other
-  pub angle : signIs 60 (t .token) ≡ true
+  pub angle : signIs Tokens.lessThan (t .token) ≡ true
 
 module _ {text table : List ℕ} {symbols parts depth : ℕ} {start : ExpressionCounts} {tape₀ : List ℕ} {s : ExpressionCounts} {t : Code.Placed}
     {tape′ : List ℕ} {r : Joined}
@@ -286,11 +286,11 @@ module _ {text table : List ℕ} {symbols parts depth : ℕ} {start : Expression
   abbrev calledAt : ℕ → Parsed Reading.Called
   calledAt left = callAt text table symbols parts left depth opened (t .place)
 
-  unrolled : stream text Tokens.inside (s .at) ≡ standing (Tokens.sign 60) (t .place) (t .past) ∷ stream text Tokens.naming (t .past)
+  unrolled : stream text Tokens.inside (s .at) ≡ standing (Tokens.sign Tokens.lessThan) (t .place) (t .past) ∷ stream text Tokens.naming (t .past)
   unrolled = sign-first text Tokens.inside (s .at) (k .comes) (q .angle)
 
   passed : s .at < t .past
-  passed = takes text Tokens.inside (s .at) 60 t (k .comes) (q .angle) .onward
+  passed = takes text Tokens.inside (s .at) Tokens.lessThan t (k .comes) (q .angle) .onward
 
   -- the call begins further on in the text
   pub call-onward : (start .at < t .past) × (t .past ≤ length text)

@@ -17,7 +17,7 @@ use Rattle.meaning.specs.Names.{isBuiltIn, isPredicate}
 use Rattle.meaning.specs.Tree.{Function, Table}
 use Rattle.meaning.specs.Allowed.{maxTable, maxFunctions, maxName, member, namesOf}
 use Rattle.tape_layout.specs.Tape as Tape
-use Rattle.tape_layout.specs.Tape.{named, functionKind, functionTape, sentencesTape}
+use Rattle.tape_layout.specs.Tape.{named, functionKind, functionTape, sentencesTape, functionWord}
 use Rattle.meaning.specs.Tokens as Tokens
 use Rattle.meaning.specs.Reading as Reading
 use Rattle.meaning.specs.Reading.{Parsed, stopped, parsed, follow, faultUnless}
@@ -70,13 +70,13 @@ BodyAgrees text limit words n tape tape′ r =
 -- the `{` was passed after a name
 pub record AfterBrace (text : Bytes) (words : ℕ) (n : Span) (at : ℕ) : Type 0 where
   pub name : Declarable text words n
-  pub taken : Taken text Tokens.outside 123 (n .past) at
+  pub taken : Taken text Tokens.outside Tokens.leftBrace (n .past) at
 
 module _ {text : Bytes} {words : ℕ} {n : Span} {at : ℕ} (b : AfterBrace text words n at) where
   pub name-room : Inside text n × (words + 1 + (n .past - n .from) ≤ maxTable)
   name-room = (b .name .inside, omega (arith, b .name .after, b .name .short, b .name .inside .forward, b .taken .onward, b .taken .inside))
 
-  module _ {tape tape₁ : List ℕ} {word to : ℕ} (e : word ≡ 2048 + (n .past - n .from))
+  module _ {tape tape₁ : List ℕ} {word to : ℕ} (e : word ≡ functionWord + (n .past - n .from))
       (w : Wrote tape words (word ∷ View.part text n) to tape₁ × T (every isQuiet (View.part text n))) where
     named-went : Went text (n .from) words tape at to tape₁ (named functionKind (View.part text n))
     named-went =
@@ -249,19 +249,23 @@ module _ {text tape tape₁ heads : List ℕ} {functions words : ℕ} {t : Code.
             long = rw w (length-set heads functions words ∙ opens .long);
           })
           (rw (here .unrolled, lt-ltb functions maxFunctions (m .comes .few), sound, ← (here .past))
-          (pass-follow 123 (stream text Tokens.outside (n .past)) (λ ts. Reading.parseSentences limit ts)
+          (pass-follow Tokens.leftBrace (stream text Tokens.outside (n .past)) (λ ts. Reading.parseSentences limit ts)
           (λ ss rest. parsed (declared (View.part text n) ss) rest)))
           a
 
 -- A SPARE `;`
 
-pub spare-passed : {text : Bytes} {at past : ℕ} → Taken text Tokens.outside 59 at past → SpareTo text at past
+pub spare-passed : {text : Bytes} {at past : ℕ} → Taken text Tokens.outside Tokens.semicolon at past → SpareTo text at past
 spare-passed k = record { tokens = rw (k .unrolled); onward = omega (arith, k .onward); inside = k .inside }
 
-pub spare-none : {text : Bytes} {at : ℕ} {t : Code.Placed} → Comes text Tokens.outside at t → signIs 59 (t .token) ≡ false →
+pub spare-none : {text : Bytes} {at : ℕ} {t : Code.Placed} → Comes text Tokens.outside at t → signIs Tokens.semicolon (t .token) ≡ false →
     SpareTo text at (t .place)
 spare-none {text} {t = t} c e =
-    record { tokens = c .again ∙ rw (c .unrolled, sign-shown text t 59 e); onward = c .onward; inside = omega (arith, c .forward, c .inside) }
+    record {
+      tokens = c .again ∙ rw (c .unrolled, sign-shown text t Tokens.semicolon e);
+      onward = c .onward;
+      inside = omega (arith, c .forward, c .inside);
+    }
 
 -- THE END
 

@@ -185,9 +185,9 @@ pub record CallRead (text : Bytes) (table : List ℕ) (symbols parts : ℕ) (sta
 
 -- the end of a call's argument: its `>` and the word for it
 abbrev pub CloseGives : Bytes → ExpressionCounts → List ℕ → List ℕ → ParsedExpression → Type 0
-CloseGives text s tape tape′ (Stopped fault) = Barred text Tokens.inside 62 (s .at) fault
+CloseGives text s tape tape′ (Stopped fault) = Barred text Tokens.inside Tokens.greaterThan (s .at) fault
 CloseGives text s tape tape′ (Done next) =
-    Taken text Tokens.inside 62 (s .at) (next .at)
+    Taken text Tokens.inside Tokens.greaterThan (s .at) (next .at)
     × (next ≡ record { at = next .at; words = s .words + 1; items = s .items; passed = s .passed })
     × (tape′ ≡ set tape (s .words) (tapeWord closeKind 0))
 

@@ -54,7 +54,7 @@ pub record Heads (tape heads : List ℕ) (words functions : ℕ) (t : Table) : T
 
 -- `function` after its name
 abbrev pub fromBrace : ℕ → List Tokens.Placed → Parsed (List Sentence)
-fromBrace limit ts = pass 123 ts λ ts₁. Reading.parseSentences limit ts₁
+fromBrace limit ts = pass Tokens.leftBrace ts λ ts₁. Reading.parseSentences limit ts₁
 
 abbrev pub declared : Name → List Sentence → Function
 declared n ss = record { name = n; sentences = ss }

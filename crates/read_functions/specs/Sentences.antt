@@ -43,7 +43,7 @@ pub record SentenceStands (s : Sentence) : Type 0 where
 -- `parseSentence` from its `=` on
 abbrev pub fromEquals : List Name → List Name → List Tokens.Placed → Parsed Reading.Items
 fromEquals symbols parts ts =
-    pass 61 ts λ ts₁.
+    pass Tokens.equals ts λ ts₁.
     unlessWord (Reading.parseExpression (length ts₁) symbols 0 (record { items = 0; coming = parts }) ts₁)
 
 -- `=` and an expression were read
@@ -67,7 +67,7 @@ beginsSentence (Symbol identifier) = true
 beginsSentence (Part identifier) = true
 beginsSentence Word = false
 beginsSentence (Quoted count) = true
-beginsSentence (Sign byte) = either (eqb byte 44) (eqb byte 61)
+beginsSentence (Sign byte) = either (eqb byte Tokens.comma) (eqb byte Tokens.equals)
 beginsSentence End = false
 beginsSentence Malformed = false
 

@@ -177,7 +177,7 @@ fn join_part(
     if end <= found {
         return Joined::Wrong(Answer::WrongLaterVariable);
     }
-    let passed = found - 15;
+    let passed = found + 1 - MAX_SYMBOLS;
     Joined::Taken(take_variable(text, tape, s, x, PART_WORD, passed))
 }
 
@@ -256,7 +256,7 @@ fn open_call(
     requires { ⌜ Ready (now text) (s .at) (s .words) × (s .words < s .at) ⌝ }
     ensures { λ r. ⌜ AgreesBy expressionOutcome
         (OpeningRead (now (text .entry)) depth s (now (tape .entry)) (now (tape .exit)))
-        (opening depth (s .items) (standing (Tokens.sign 60) place (s .at))
+        (opening depth (s .items) (standing (Tokens.sign Tokens.lessThan) place (s .at))
         (stream (now (text .entry)) Tokens.naming (s .at))) r ⌝ }
 {
     if MAX_NESTING <= depth || MAX_ITEMS <= s.items {
@@ -297,7 +297,8 @@ fn call(
         (CallRead (now (text .entry)) (now (table .entry)) symbols parts s (now (tape .entry)) (now (tape .exit)))
         (Reading.parseCall
         (Reading.parseExpression bound (symbolNames (now (text .entry)) (now (table .entry)) symbols))
-        depth (progressAt (now (text .entry)) (now (table .entry)) parts s) (standing (Tokens.sign 60) place (s .at))
+        depth (progressAt (now (text .entry)) (now (table .entry)) parts s)
+        (standing (Tokens.sign Tokens.lessThan) place (s .at))
         (stream (now (text .entry)) Tokens.naming (s .at))) r) ⌝ }
 {
     let start = match open_call(text, tape, depth, s, place) {

@@ -13,6 +13,7 @@ use Rattle.tape_layout.specs.Tape.{patternTape}
 use Rattle.meaning.specs.Tokens as Tokens
 use Rattle.meaning.specs.Reading as Reading
 use Rattle.meaning.specs.Reading.{Item, isItem, elementsOf, endsInPart, faultUnless, patternFault}
+use Rattle.read_bookkeeping.specs.Tables.{maxParts}
 use Rattle.read_tokens.specs.View.{stream}
 use Rattle.read_tokens.specs.declared.Placed.{Placed}
 use Rattle.answers.specs.declared.Answer.{Answer}
@@ -52,7 +53,7 @@ patternSymbolFault letters symbols parts x =
 
 abbrev pub patternPartFault : List Name → List Name → Bool → Name → ℕ
 patternPartFault symbols parts ending x =
-    faultUnless (ltb (length parts) 2) notAllowedHere
+    faultUnless (ltb (length parts) maxParts) notAllowedHere
     (faultUnless (leb (length x) maxIdentifier) overLimit
     (faultUnless (both (not (member x (symbols ++ parts))) (not ending)) wrongPatternVariable 0))
 

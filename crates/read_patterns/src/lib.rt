@@ -1,6 +1,7 @@
 // The pattern's reader.
 use answers::Answer;
 use answers::is_accepted;
+use read_bookkeeping::names::MAX_PARTS;
 use read_bookkeeping::names::VARIABLE_ROOM;
 use read_bookkeeping::names::entry;
 use read_bookkeeping::names::find;
@@ -169,7 +170,7 @@ fn part_fault(text: &[u8], table: &[usize], p: Counts, x: Span) -> Answer
     ensures { λ r. ⌜ numberOf r ≡ patternPartFault (symbolNames (now (text .entry)) (now (table .entry)) (p .symbols))
         (partNames (now (text .entry)) (now (table .entry)) (p .parts)) (p .ending) (part (now (text .entry)) x) ⌝ }
 {
-    if 2 <= p.parts {
+    if MAX_PARTS <= p.parts {
         return Answer::NotAllowedHere;
     }
     if MAX_IDENTIFIER < x.past - x.from {

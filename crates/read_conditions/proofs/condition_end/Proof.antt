@@ -3,7 +3,7 @@ use borrow.Author.Needs.{needs}
 use Rattle.read_conditions.proofs.condition_end.Statement.{statement}
 use Rattle.read_conditions.proofs.condition_end.Tie as tie
 use mathlib.Core.Path.{refl}
-use Rattle.meaning.specs.Tokens.{inside}
+use Rattle.meaning.specs.Tokens.{inside, greaterThan, colon}
 use Rattle.read_tokens.specs.View.{Comes}
 use Rattle.read_tokens.proofs.Stream.{comes}
 use Rattle.read_bookkeeping.specs.Tokened.{Taken}
@@ -18,7 +18,7 @@ returns c =
 abbrev start : tie.After-at → tie.Start
 start c = c .before .before .before .before .before
 
-closed : (c : tie.After-at) → let a = start c .args in Taken (a .text .now) inside 62 (a .from) (c .at .given .0 .0)
+closed : (c : tie.After-at) → let a = start c .args in Taken (a .text .now) inside greaterThan (a .from) (c .at .given .0 .0)
 closed c = rw (c .at .given .1) at (c .before .before .pass .ensures)
 
 pass-requires-2 : tie.Need-pass-requires-2
@@ -33,7 +33,7 @@ returns-2 c =
 
 parted : (c : tie.After-at2) → let at-at = c .before .before .before .before in
     let a = start at-at .args in
-    Taken (a .text .now) inside 58 (at-at .at .given .0 .0) (c .at2 .given .0 .0)
+    Taken (a .text .now) inside colon (at-at .at .given .0 .0) (c .at2 .given .0 .0)
 parted c = rw (c .at2 .given .1) at (c .before .before .pass2 .ensures)
 
 first : (c : tie.After-lex) → let at-at2 = c .before .before in

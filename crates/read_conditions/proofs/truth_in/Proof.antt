@@ -8,8 +8,8 @@ use Rattle.read_conditions.proofs.Conditioned.{truth-none, truth-long, 
 returns : tie.Need-returns
 returns c = truth-none (c .before .before .args .text .now) (c .before .before .args .t) (c .match .keys2)
 
-add-three : tie.Need-add-three
-add-three c = let s = c .before .before .before .before .pre in omega (arith, s .forward, s .inside)
+add-end : tie.Need-add-end
+add-end c = let s = c .before .before .before .before .pre in omega (arith, s .forward, s .inside)
 
 returns-2 : tie.Need-returns-2
 returns-2 c =
@@ -31,7 +31,7 @@ truth-in-spec =
     (tie.spec
     (λ c. search needs)
     returns
-    add-three
+    add-end
     returns-2
     (λ c. search needs)
     (λ c. search needs)
