@@ -12,7 +12,7 @@ use Rattle.meaning.specs.Names.{classNamed, predicateOf, isPredicate}
 use Rattle.meaning.specs.Answers.{overLimit, wrongName, wrongLaterVariable}
 use Rattle.meaning.specs.Allowed.{member, maxIdentifier, maxName}
 use Rattle.meaning.specs.Reading.{faultUnless, calledFault, subjectFault}
-use Rattle.read_tokens.specs.View.{part}
+use Rattle.read_tokens.specs.View.{spanText}
 use Rattle.read_tokens.specs.declared.Span.{Span}
 use Rattle.read_bookkeeping.specs.declared.names.Class.{Class as CodeClass}
 use Rattle.read_bookkeeping.specs.declared.names.Predicate.{Predicate}
@@ -60,10 +60,10 @@ module _ (name : Name) {p : Predicate} (e : predicateMeant p ≡ predicateOf nam
 -- FAULTS OF NAMES
 
 module _ (text : Bytes) (x : Span) (p : Inside text x) where
-  pub called-long : maxName < x .past - x .from → overLimit ≡ calledFault (part text x)
+  pub called-long : maxName < x .past - x .from → overLimit ≡ calledFault (spanText text x)
   called-long h = rw (too-long text x p maxName h)
 
-  pub called-is : x .past - x .from ≤ maxName → {is : Bool} → isPredicate (part text x) ≡ is → pick is wrongName 0 ≡ calledFault (part text x)
+  pub called-is : x .past - x .from ≤ maxName → {is : Bool} → isPredicate (spanText text x) ≡ is → pick is wrongName 0 ≡ calledFault (spanText text x)
   called-is h {is} e = rw (short-enough text x p maxName h, e) (fault-if is wrongName)
 
 -- A LATER VARIABLE
@@ -74,15 +74,15 @@ later-fault-is names x p q = rw (p, q)
 
 module _ {text : Bytes} {table : List ℕ} {from to : ℕ} {x : Span} (pre : Inside text x × Entries text table from to) where
   abbrev Later : ℕ → Type 0
-  Later number = number ≡ subjectFault (tableNames text table from to) (part text x)
+  Later number = number ≡ subjectFault (tableNames text table from to) (spanText text x)
 
   pub later-long : maxIdentifier < x .past - x .from → Later overLimit
-  later-long l = later-fault-is (tableNames text table from to) (part text x) (too-long text x (pre .0) maxIdentifier l) refl
+  later-long l = later-fault-is (tableNames text table from to) (spanText text x) (too-long text x (pre .0) maxIdentifier l) refl
 
-  pub later-is : x .past - x .from ≤ maxIdentifier → (r : ℕ) → r ≡ from + position (part text x) (tableNames text table from to)
+  pub later-is : x .past - x .from ≤ maxIdentifier → (r : ℕ) → r ≡ from + position (spanText text x) (tableNames text table from to)
       → {known : Bool} → ltb r to ≡ known
       → Later (pick (not known) wrongLaterVariable 0)
   later-is l r f {known} h =
       fault-if-not known wrongLaterVariable
-      ∙ later-fault-is (tableNames text table from to) (part text x) (short-enough text x (pre .0) maxIdentifier l)
-      (among text table from to (pre .1) (part text x) r f h)
+      ∙ later-fault-is (tableNames text table from to) (spanText text x) (short-enough text x (pre .0) maxIdentifier l)
+      (among text table from to (pre .1) (spanText text x) r f h)

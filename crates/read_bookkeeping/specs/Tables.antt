@@ -8,7 +8,6 @@ use lib.ListN.{length}
 use lib.Seq.{slice}
 use Rattle.meaning.specs.Choice.{Bytes, Name, pick, every, sameBytes}
 use Rattle.meaning.specs.Allowed.{maxSymbols}
-use Rattle.read_tokens.specs.View.{part}
 use Rattle.read_tokens.specs.declared.Span.{Span}
 
 -- a part that lies in the text
@@ -28,12 +27,12 @@ abbrev pub variableRoom : ℕ
 variableRoom = maxSymbols + maxParts
 
 -- the name of an entry
-abbrev pub nameIn : Bytes → ℕ → Name
-nameIn text entry = slice (entry / entryWidth) (entry / entryWidth + entry % entryWidth) text
+abbrev pub entryName : Bytes → ℕ → Name
+entryName text entry = slice (entry / entryWidth) (entry / entryWidth + entry % entryWidth) text
 
 unfoldable pub namesIn : Bytes → List ℕ → List Name
 namesIn text [] = []
-namesIn text (entry ∷ entries) = nameIn text entry ∷ namesIn text entries
+namesIn text (entry ∷ entries) = entryName text entry ∷ namesIn text entries
 
 -- an entry's name lies in the text
 abbrev pub inText : Bytes → ℕ → Bool

@@ -13,8 +13,8 @@ ghost use Rattle.meaning.specs.Choice.{sameBytes, startsWith};
 ghost use Rattle.meaning.specs.Allowed.{maxTable};
 ghost use Rattle.meaning.specs.Names.{predicateOf, isPredicate};
 ghost use Rattle.meaning.specs.Reading.{calledFault, subjectFault};
-ghost use Rattle.read_tokens.specs.View.{part};
-ghost use Rattle.answers.specs.Numbers.{numberOf};
+ghost use Rattle.read_tokens.specs.View.{spanText};
+ghost use Rattle.answers.specs.Numbers.{answerNumber};
 ghost use Rattle.read_bookkeeping.specs.Classed.{predicateMeant};
 ghost use Rattle.read_bookkeeping.specs.Tables.{Inside, tableNames, Entries, position};
 ghost use Rattle.read_bookkeeping.specs.Tables.{entryWidth, variableRoom};
@@ -61,7 +61,7 @@ pub fn entry(name: Span) -> usize
 // Whether text[x] and text[y] are the same bytes.
 pub fn same(text: &[u8], x: Span, y: Span) -> bool
     requires { ⌜ Inside (now text) x × Inside (now text) y ⌝ }
-    ensures { λ r. ⌜ r ≡ sameBytes (part (now (text .entry)) x) (part (now (text .entry)) y) ⌝ }
+    ensures { λ r. ⌜ r ≡ sameBytes (spanText (now (text .entry)) x) (spanText (now (text .entry)) y) ⌝ }
 {
     let from = y.from;
     let past = y.past;
@@ -71,7 +71,7 @@ pub fn same(text: &[u8], x: Span, y: Span) -> bool
 // Whether text[x] begins with `word`.
 fn begins_with(text: &[u8], x: Span, word: &[u8]) -> bool
     requires { ⌜ Inside (now text) x ⌝ }
-    ensures { λ r. ⌜ r ≡ startsWith (now (word .entry)) (part (now (text .entry)) x) ⌝ }
+    ensures { λ r. ⌜ r ≡ startsWith (now (word .entry)) (spanText (now (text .entry)) x) ⌝ }
 {
     let from = x.from;
     let past = x.past;
@@ -91,7 +91,7 @@ fn begins_with(text: &[u8], x: Span, word: &[u8]) -> bool
 // Whether text[x] is `word`.
 pub fn spells(text: &[u8], x: Span, word: &[u8]) -> bool
     requires { ⌜ Inside (now text) x ⌝ }
-    ensures { λ r. ⌜ r ≡ sameBytes (part (now (text .entry)) x) (now (word .entry)) ⌝ }
+    ensures { λ r. ⌜ r ≡ sameBytes (spanText (now (text .entry)) x) (now (word .entry)) ⌝ }
 {
     if x.past - x.from != word.len() {
         return false;
@@ -103,7 +103,8 @@ pub fn spells(text: &[u8], x: Span, word: &[u8]) -> bool
 pub fn find(text: &[u8], table: &[usize], from: usize, to: usize, x: Span) -> usize
     requires { ⌜ Inside (now text) x × Entries (now text) (now table) from to ⌝ }
     ensures { λ r. ⌜ r
-        ≡ from + position (part (now (text .entry)) x) (tableNames (now (text .entry)) (now (table .entry)) from to) ⌝ }
+        ≡ from + position (spanText (now (text .entry)) x)
+        (tableNames (now (text .entry)) (now (table .entry)) from to) ⌝ }
 {
     let mut i = from;
     while i < to {
@@ -124,7 +125,7 @@ pub fn find(text: &[u8], table: &[usize], from: usize, to: usize, x: Span) -> us
 // The class that text[x] asks for as a predicate's name, if it is one's.
 pub fn class_named(text: &[u8], x: Span) -> Predicate
     requires { ⌜ Inside (now text) x ⌝ }
-    ensures { λ r. ⌜ predicateMeant r ≡ predicateOf (part (now (text .entry)) x) ⌝ }
+    ensures { λ r. ⌜ predicateMeant r ≡ predicateOf (spanText (now (text .entry)) x) ⌝ }
 {
     if spells(text, x, b"IsDigit") {
         return Predicate::Asks(Class::Digit);
@@ -147,7 +148,7 @@ pub fn class_named(text: &[u8], x: Span) -> Predicate
 // Whether text[x] is a predicate's name.
 fn is_predicate(text: &[u8], x: Span) -> bool
     requires { ⌜ Inside (now text) x ⌝ }
-    ensures { λ r. ⌜ r ≡ isPredicate (part (now (text .entry)) x) ⌝ }
+    ensures { λ r. ⌜ r ≡ isPredicate (spanText (now (text .entry)) x) ⌝ }
 {
     match class_named(text, x) {
         Predicate::Asks(_) => true,
@@ -158,7 +159,7 @@ fn is_predicate(text: &[u8], x: Span) -> bool
 // What is wrong with text[x] as a called name.
 pub fn called_fault(text: &[u8], x: Span) -> Answer
     requires { ⌜ Inside (now text) x ⌝ }
-    ensures { λ r. ⌜ numberOf r ≡ calledFault (part (now (text .entry)) x) ⌝ }
+    ensures { λ r. ⌜ answerNumber r ≡ calledFault (spanText (now (text .entry)) x) ⌝ }
 {
     if MAX_NAME < x.past - x.from {
         return Answer::OverLimit;
@@ -169,9 +170,9 @@ pub fn called_fault(text: &[u8], x: Span) -> Answer
 // What is wrong with the variable text[x] after the pattern, whose own of its kind are table[from..to].
 pub fn later_fault(text: &[u8], table: &[usize], from: usize, to: usize, x: Span) -> Answer
     requires { ⌜ Inside (now text) x × Entries (now text) (now table) from to ⌝ }
-    ensures { λ r. ⌜ numberOf r
+    ensures { λ r. ⌜ answerNumber r
         ≡ subjectFault (tableNames (now (text .entry)) (now (table .entry)) from to)
-        (part (now (text .entry)) x) ⌝ }
+        (spanText (now (text .entry)) x) ⌝ }
 {
     if MAX_IDENTIFIER < x.past - x.from {
         return Answer::OverLimit;

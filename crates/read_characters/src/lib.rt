@@ -3,7 +3,7 @@ use byte_classes::is_digit;
 ghost use Prim.Native.Nat.{_+_, _≤_, _<_};
 ghost use lib.ListN.{length};
 ghost use Rattle.meaning.specs.Tokens as Tokens;
-ghost use Rattle.read_characters.specs.View.{byteCount, Stands};
+ghost use Rattle.read_characters.specs.View.{byteCount, StandsInString};
 
 // A code is below the number of bytes.
 const BYTE_COUNT: usize = 256;
@@ -20,7 +20,7 @@ pub enum Character {
 // A code: decimal digits as long as they go, from the value of those before.
 fn code(text: &[u8], from: usize, first: usize) -> Character
     requires { ⌜ (first < byteCount) × (from ≤ length (now text)) ⌝ }
-    ensures { λ r. ⌜ Stands (now (text .entry)) (Tokens.coded first) from from r ⌝ }
+    ensures { λ r. ⌜ StandsInString (now (text .entry)) (Tokens.coded first) from from r ⌝ }
 {
     let mut value = first;
     let mut at = from;
@@ -40,7 +40,7 @@ fn code(text: &[u8], from: usize, first: usize) -> Character
 
 // After a `\`.
 fn escape(text: &[u8], at: usize) -> Character
-    ensures { λ r. ⌜ Stands (now (text .entry)) Tokens.escaped at at r ⌝ }
+    ensures { λ r. ⌜ StandsInString (now (text .entry)) Tokens.escaped at at r ⌝ }
 {
     if text.len() <= at {
         return Character::Broken(at);
@@ -63,7 +63,7 @@ fn escape(text: &[u8], at: usize) -> Character
 }
 
 pub fn next_character(text: &[u8], at: usize) -> Character
-    ensures { λ r. ⌜ Stands (now (text .entry)) Tokens.plain at (at + 1) r ⌝ }
+    ensures { λ r. ⌜ StandsInString (now (text .entry)) Tokens.plain at (at + 1) r ⌝ }
 {
     if text.len() <= at {
         return Character::Broken(at);

@@ -29,15 +29,15 @@ use Rattle.read_conditions.specs.declared.Closing.{Closing}
 use Rattle.read_conditions.specs.declared.Closing.the-variants.{Says, NoTruth}
 
 -- a token as a variable: whether it is an e-variable, and its identifier
-abbrev pub variableOf : Token → Named
-variableOf (NameToken name) = Other
-variableOf (Symbol identifier) = Variable false identifier
-variableOf (Part identifier) = Variable true identifier
-variableOf Word = Other
-variableOf (Quoted count) = Other
-variableOf (Sign b) = Other
-variableOf End = Other
-variableOf Malformed = Other
+abbrev pub variableIn : Token → Named
+variableIn (NameToken name) = Other
+variableIn (Symbol identifier) = Variable false identifier
+variableIn (Part identifier) = Variable true identifier
+variableIn Word = Other
+variableIn (Quoted count) = Other
+variableIn (Sign b) = Other
+variableIn End = Other
+variableIn Malformed = Other
 
 -- the pattern's s-variables, or its e-variables
 abbrev pub variableNames : Bytes → List ℕ → ℕ → ℕ → Bool → List Name
@@ -70,8 +70,8 @@ abbrev pub truthSize : ℕ
 truthSize = 3
 
 -- the truth value of a token, and of the byte between a closing string's quotes
-abbrev pub truthIn : Bytes → Placed → Option Bool
-truthIn text t = truthOf (tokenOf text (t .token) (t .place) (t .past)) (eqb (t .past) (t .place + truthSize))
+abbrev pub truthSaid : Bytes → Placed → Option Bool
+truthSaid text t = truthOf (tokenOf text (t .token) (t .place) (t .past)) (eqb (t .past) (t .place + truthSize))
 
 abbrev pub truthBetween : ℕ → Option Bool
 truthBetween byte = pick (eqb byte (truthByte true)) (some true) (pick (eqb byte (truthByte false)) (some false) none)

@@ -21,7 +21,8 @@ use Rattle.read_bookkeeping.specs.Answered.{AgreesBy}
 use Rattle.read_bookkeeping.specs.Written.{Ready, Went}
 use Rattle.read_bookkeeping.specs.Tokened.{unlessWord, Taken, Barred}
 use Rattle.read_bookkeeping.specs.Items.{symbolNames}
-use Rattle.read_functions.specs.Expressions.{expressionOutcome, progressAt, Going, ExpressionRead, CalledName, opening, OpeningRead, CallRead}
+use Rattle.read_functions.specs.Expressions.{expressionOutcome, progressAt, Going, ExpressionRead}
+use Rattle.read_functions.specs.Expressions.{CalledName, callOpening, OpeningRead, CallRead}
 use Rattle.read_functions.specs.Expressions.{CloseGives, Closes}
 use Rattle.read_bookkeeping.proofs.Going.{stops-by, reads-by, ReadAt, has-read, went-then, word-went, ready-after, stops-too}
 use Rattle.read_bookkeeping.proofs.Tokening.{passes-on, passes-not}
@@ -61,7 +62,7 @@ afterName argument deeper so n ts =
 
 call-is : (argument : ℕ → Reading.Progress → List Tokens.Placed → Parsed Reading.Items) (depth : ℕ) (so : Reading.Progress) (t : Tokens.Placed)
     (ts : List Tokens.Placed)
-    → Reading.parseCall argument depth so t ts ≡ follow (opening depth (so .items) t ts) (afterName argument (suc depth) so)
+    → Reading.parseCall argument depth so t ts ≡ follow (callOpening depth (so .items) t ts) (afterName argument (suc depth) so)
 call-is argument depth so t ts =
     rw (name-follow Reading.calledFault ts (λ place n rest. parsed (record { place = place; name = n }) rest) (afterName argument (suc depth) so))
     (check-follow (Reading.callFault depth so) t (passName Reading.calledFault ts (λ place n rest. parsed (record { place = place; name = n }) rest))

@@ -23,11 +23,12 @@ use Rattle.read_functions.specs.declared.expressions.ParsedExpression.{P
 use Rattle.read_functions.specs.declared.expressions.ParsedExpression.the-variants.{Stopped, Done}
 use Rattle.read_functions.specs.declared.expressions.Joined.{Joined}
 use Rattle.read_functions.specs.declared.expressions.Joined.the-variants.{Taken, Wrong, Refused, Other}
-use Rattle.answers.specs.Numbers.{numberOf}
+use Rattle.answers.specs.Numbers.{answerNumber}
 use Rattle.read_bookkeeping.specs.Written.{isQuiet, Went}
 use Rattle.read_bookkeeping.specs.Tokened.{signIs}
-use Rattle.read_bookkeeping.specs.Items.{symbolNames, itemAt}
-use Rattle.read_functions.specs.Expressions.{expressionOutcome, progressAt, Going, CallStands, Stands, itemTape, TakenInExpression, TokenJoined}
+use Rattle.read_bookkeeping.specs.Items.{symbolNames, tokenItem}
+use Rattle.read_functions.specs.Expressions.{expressionOutcome, progressAt, Going, CallStands, ExpressionStands}
+use Rattle.read_functions.specs.Expressions.{itemTape, TakenInExpression, TokenJoined}
 use Rattle.read_functions.specs.Expressions.{JoinsToken, faultAt, callTape, CallRead}
 use Rattle.read_bookkeeping.proofs.Items.{item-then}
 use Rattle.read_bookkeeping.proofs.Going.{check-wrong, stops-by, reads-by, ReadAt, has-read, went-none, went-from, went-then, stops-too}
@@ -57,24 +58,25 @@ tape-call place n a e =
     ap (λ (ws : List ℕ). named (callKind + place) n ++ ws) (sym (append-assoc (expressionTape a) (tapeWord closeKind 0 ∷ []) (expressionTape e)))
     ∙ sym (append-assoc (named (callKind + place) n) (expressionTape a ++ tapeWord closeKind 0 ∷ []) (expressionTape e))
 
-stands-characters : (cs : Bytes) (e : Expression) → T (every isQuiet cs) → Stands e → Stands (thenCharacters cs e)
-unfolding Stands thenCharacters
+stands-characters : (cs : Bytes) (e : Expression) → T (every isQuiet cs) → ExpressionStands e → ExpressionStands (thenCharacters cs e)
+unfolding ExpressionStands thenCharacters
 stands-characters [] e q h = h
 stands-characters (c ∷ cs) e q h = (every-head isQuiet c cs q, stands-characters cs e (every-tail isQuiet c cs q) h)
 
-stands-item : (item : Item) (e : Expression) → T (every isQuiet (itemTape item)) → Stands e → Stands (thenItem item e)
-unfolding Stands
+stands-item : (item : Item) (e : Expression) → T (every isQuiet (itemTape item)) → ExpressionStands e → ExpressionStands (thenItem item e)
+unfolding ExpressionStands
 stands-item (characters cs) e q h = stands-characters cs e q h
 stands-item (symbolItem x) e q h = (q, h)
 stands-item (partItem x) e q h = (q, h)
 stands-item noItem e q h = h
 
-stands-call : (place : ℕ) {n : Name} (a e : Expression) → CallStands n → Stands a → Stands e → Stands (thenCall place n a e)
-unfolding Stands
+stands-call : (place : ℕ) {n : Name} (a e : Expression) → CallStands n → ExpressionStands a → ExpressionStands e
+    → ExpressionStands (thenCall place n a e)
+unfolding ExpressionStands
 stands-call place a e s g h = (s, g, h)
 
-stands-end : Stands end
-unfolding Stands
+stands-end : ExpressionStands end
+unfolding ExpressionStands
 stands-end = tt
 
 tape-end : expressionTape end ≡ []
@@ -110,7 +112,7 @@ pub record Behind (text table : List ℕ) (symbols parts depth : ℕ) (start : E
   pub enough : length (stream text Tokens.inside (s .at)) ≤ left
   pub shorter : length (stream text Tokens.inside (s .at)) ≤ length (stream text Tokens.inside (start .at))
   pub tapes : (e : Expression) → expressionTape (first e) ≡ words ++ expressionTape e
-  pub stand : (e : Expression) → Stands e → Stands (first e)
+  pub stand : (e : Expression) → ExpressionStands e → ExpressionStands (first e)
   pub went : Went text (start .at) (start .words) tape₀ (s .at) (s .words) tape words
 
 pub record Expressed (text table : List ℕ) (symbols parts depth : ℕ) (start : ExpressionCounts) (tape₀ tape : List ℕ) (s : ExpressionCounts) : Type 0
@@ -170,7 +172,7 @@ module _ {text table : List ℕ} {symbols parts depth : ℕ} {start : Expression
       ≡ withFirst (b .first) (withFirst f (expressionAt text table symbols parts (b .left - 1) depth next))
       → length (stream text Tokens.inside (next .at)) ≤ length ts
       → ((e : Expression) → expressionTape (f e) ≡ added ++ expressionTape e)
-      → ((e : Expression) → Stands e → Stands (f e))
+      → ((e : Expression) → ExpressionStands e → ExpressionStands (f e))
       → Went text (s .at) (s .words) tape (next .at) (next .words) tape′ added
       → Behind text table symbols parts depth start tape₀ tape′ next bound
   behind-more {next} f added same less tapes stand went =
@@ -207,13 +209,14 @@ module _ {text table : List ℕ} {symbols parts depth : ℕ} {start : Expression
       let g = given e in
       (omega (arith, g .0 .at, item-then (q .comes) (g .1) .moves), g .0 .going .ready .inside)
 
-  item-behind : {next : ExpressionCounts} (bound : ℕ) → TakenInExpression text table symbols parts s (q .tape) (itemAt text t) (t .past) tape′ next →
-      isItem (itemAt text t) ≡ true
+  item-behind : {next : ExpressionCounts} (bound : ℕ)
+      → TakenInExpression text table symbols parts s (q .tape) (tokenItem text t) (t .past) tape′ next →
+      isItem (tokenItem text t) ≡ true
       → Behind text table symbols parts depth start tape₀ (q .tape) s bound
       → Behind text table symbols parts depth start tape₀ tape′ next bound
   item-behind bound g y b =
       let i = item-then (q .comes) y in
-      let item = itemAt text t in
+      let item = tokenItem text t in
       behind-more b (i .unrolled) (thenItem item) (itemTape item) (at-step b (i .unrolled) ∙ rw (y, g .fault, g .progress, g .at))
       (rw (g .at) (omega arith))
       (tape-item item) (λ e h. stands-item item e (g .quiet) h) (g .went)
@@ -233,11 +236,11 @@ module _ {text table : List ℕ} {symbols parts depth : ℕ} {start : Expression
       let g = given e in
       let b = q .so .behind bound h in
       let i = item-then (q .comes) (g .1) in
-      let item = itemAt text t in
+      let item = tokenItem text t in
       let rest = Reading.parseExpression (b .left - 1) (symbolNames text table symbols) depth (Reading.pastItem item (progressAt text table parts s))
       (stream text Tokens.inside (t .past)) in
       stops-by refl (stopped-before (at-step b (i .unrolled)
-      ∙ rw (g .1, g .0 .fault, check-wrong (numberOf answer) (placedOf text t) (withFirst (thenItem item) rest) (g .0 .wrong))))
+      ∙ rw (g .1, g .0 .fault, check-wrong (answerNumber answer) (placedOf text t) (withFirst (thenItem item) rest) (g .0 .wrong))))
 
   -- A WORD
 

@@ -39,9 +39,9 @@ use Rattle.read_functions.specs.declared.functions.ParsedTable.the-varia
 use Rattle.tape_words.specs.Words.{headNames}
 use Rattle.tape_words.specs.Finding.{isKnownAmong}
 use Rattle.read_bookkeeping.specs.Tables.{Inside}
-use Rattle.answers.specs.Numbers.{numberOf}
+use Rattle.answers.specs.Numbers.{answerNumber}
 use Rattle.read_bookkeeping.specs.Answered.{AgreesBy}
-use Rattle.read_bookkeeping.specs.Written.{Wrote, isQuiet, Ready, Went}
+use Rattle.read_bookkeeping.specs.Written.{WroteOnTape, isQuiet, Ready, Went}
 use Rattle.read_bookkeeping.specs.Tokened.{signIs, Taken}
 use Rattle.read_functions.specs.declared.functions.Tally.{Tally}
 use Rattle.read_functions.specs.declared.functions.Stage.{Stage}
@@ -50,7 +50,8 @@ use Rattle.read_functions.specs.Expressions.{faultAt}
 use Rattle.read_functions.specs.Sentences.{SentencesRead, sentencesOutcome}
 use Rattle.read_functions.specs.Functions.{headsFrom, Heads, declaredFaultIn}
 use Rattle.read_functions.specs.Functions.{FunctionStands, fromBrace, declared, Declarable, BodyRead, Opening, nameFault, DeclaredRead, SpareTo}
-use Rattle.read_functions.specs.Functions.{isEnd, functionsOf, FunctionsRead, Functioned, StageIs, Underway, firstStage, tableOutcome, Declares}
+use Rattle.read_functions.specs.Functions.{isEndToken, functionsOf, FunctionsRead, Functioned, StageIs, Underway}
+use Rattle.read_functions.specs.Functions.{firstStage, tableOutcome, Declares}
 use Rattle.read_bookkeeping.proofs.Lengths.{part-length, within}
 use Rattle.read_bookkeeping.proofs.Words.{written-over, written-before, OnTape, on-tape}
 use Rattle.read_bookkeeping.proofs.Going.{check-wrong, stops-by, reads-by, ReadAt, has-read, pass-follow, follow-alone, makes, went-none, went-from}
@@ -64,7 +65,7 @@ use Rattle.read_tokens.proofs.Variants.{by-kind}
 
 abbrev BodyAgrees : Bytes → ℕ → ℕ → Span → List ℕ → List ℕ → ParsedSentences → Type 0
 BodyAgrees text limit words n tape tape′ r =
-    AgreesBy sentencesOutcome (BodyRead text limit (n .from) words (View.part text n) tape tape′)
+    AgreesBy sentencesOutcome (BodyRead text limit (n .from) words (View.spanText text n) tape tape′)
     (fromBrace limit (stream text Tokens.outside (n .past))) r
 
 -- the `{` was passed after a name
@@ -77,8 +78,8 @@ module _ {text : Bytes} {words : ℕ} {n : Span} {at : ℕ} (b : AfterBrace text
   name-room = (b .name .inside, omega (arith, b .name .after, b .name .short, b .name .inside .forward, b .taken .onward, b .taken .inside))
 
   module _ {tape tape₁ : List ℕ} {word to : ℕ} (e : word ≡ functionWord + (n .past - n .from))
-      (w : Wrote tape words (word ∷ View.part text n) to tape₁ × T (every isQuiet (View.part text n))) where
-    named-went : Went text (n .from) words tape at to tape₁ (named functionKind (View.part text n))
+      (w : WroteOnTape tape words (word ∷ View.spanText text n) to tape₁ × T (every isQuiet (View.spanText text n))) where
+    named-went : Went text (n .from) words tape at to tape₁ (named functionKind (View.spanText text n))
     named-went =
         name-went functionKind (b .name .inside) (omega (arith, b .name .inside .forward, b .taken .onward)) (b .taken .inside)
         (omega (arith, b .name .after, b .name .inside .forward, b .taken .onward)) e (w .0)
@@ -152,24 +153,24 @@ module _ {text tape heads : List ℕ} {functions words : ℕ} {t : Code.Placed} 
 
   -- the fault of the name, by the names at the heads
   abbrev faultHere : ℕ
-  faultHere = declaredFaultIn (headNames tape (take functions heads)) (View.part text n)
+  faultHere = declaredFaultIn (headNames tape (take functions heads)) (View.spanText text n)
 
   module _ {limit : ℕ} {tape′ heads′ : List ℕ} {answer : Answer} where
-    function-misnamed : numberOf answer ≡ faultHere → eqb (numberOf answer) 0 ≡ false
+    function-misnamed : answerNumber answer ≡ faultHere → eqb (answerNumber answer) 0 ≡ false
         → FunctionAgrees text tape heads functions limit words t tape′ heads′ (Stopped (faultAt answer (t .place)))
     function-misnamed f w =
-        stops-by refl (rw (named-here .unrolled, lt-ltb functions maxFunctions (m .few), ← f) (check-wrong (numberOf answer) _ _ w))
+        stops-by refl (rw (named-here .unrolled, lt-ltb functions maxFunctions (m .few), ← f) (check-wrong (answerNumber answer) _ _ w))
 
-    pub function-uncallable : numberOf answer ≡ Reading.calledFault (View.part text n) → eqb (numberOf answer) 0 ≡ false
+    pub function-uncallable : answerNumber answer ≡ Reading.calledFault (View.spanText text n) → eqb (answerNumber answer) 0 ≡ false
         → FunctionAgrees text tape heads functions limit words t tape′ heads′ (Stopped (faultAt answer (t .place)))
-    function-uncallable f w = function-misnamed (sym (declared-fault _ (View.part text n) ∙ rw (← f, w))) w
+    function-uncallable f w = function-misnamed (sym (declared-fault _ (View.spanText text n) ∙ rw (← f, w))) w
 
 -- its name could be called, and is copied to the tape's end
 pub record NameCopied (text tape tape₁ heads : List ℕ) (functions words : ℕ) (t : Code.Placed) (n : Span) : Type 0 where
   pub comes : NameComes text tape heads functions words t n
-  pub callable : Reading.calledFault (View.part text n) ≡ 0
+  pub callable : Reading.calledFault (View.spanText text n) ≡ 0
   pub to : ℕ
-  pub wrote : Wrote tape words (View.part text n) to tape₁
+  pub wrote : WroteOnTape tape words (View.spanText text n) to tape₁
 
 module _ {text tape tape₁ heads : List ℕ} {functions words : ℕ} {t : Code.Placed} {n : Span}
     (m : NameCopied text tape tape₁ heads functions words t n) where
@@ -190,8 +191,8 @@ module _ {text tape tape₁ heads : List ℕ} {functions words : ℕ} {t : Code.
 
   names-kept : headNames tape₁ (take functions heads) ≡ headNames tape (take functions heads)
   names-kept =
-      let fits : words + length (View.part text n) ≤ length tape = rw (part-length text n (here .inside)) copy-fits in
-      let kept : take words tape₁ ≡ take words tape = rw (m .wrote .same) (written-before (View.part text n) tape words fits) in
+      let fits : words + length (View.spanText text n) ≤ length tape = rw (part-length text n (here .inside)) copy-fits in
+      let kept : take words tape₁ ≡ take words tape = rw (m .wrote .same) (written-before (View.spanText text n) tape words fits) in
       names-noted (noted-kept (opens .named) kept) ∙ sym (names-noted (opens .named))
 
   pub declarable : Declarable text words n
@@ -204,25 +205,25 @@ module _ {text tape tape₁ heads : List ℕ} {functions words : ℕ} {t : Code.
       }
 
   -- the function's words stand where its name was copied to
-  function-went : (f : Function) {at at′ words′ : ℕ} {tape′ : List ℕ} → f .name ≡ View.part text n
+  function-went : (f : Function) {at at′ words′ : ℕ} {tape′ : List ℕ} → f .name ≡ View.spanText text n
       → Went text at words tape₁ at′ words′ tape′ (functionTape f)
       → Went text at words tape at′ words′ tape′ (functionTape f)
   function-went f e w =
-      let longer : length (View.part text n) ≤ length (functionTape f) =
+      let longer : length (View.spanText text n) ≤ length (functionTape f) =
       rw (← e, length-append (f .name) (sentencesTape (f .sentences))) (omega arith) in
       record {
         onward = w .onward;
         inside = w .inside;
         charged = w .charged;
         counted = w .counted;
-        wrote = w .wrote ∙ rw (m .wrote .same) (written-over (View.part text n) (functionTape f) tape words longer);
+        wrote = w .wrote ∙ rw (m .wrote .same) (written-over (View.spanText text n) (functionTape f) tape words longer);
       }
 
   -- whether it is known is asked of the tape
   module _ {known : Bool} (e : known ≡ isKnownAmong (headNames tape₁ (take functions heads)) (take (n .past - n .from) (drop words tape₁)))
     where
       fault-left : faultHere (m .comes) ≡ pick known wrongName 0
-      fault-left = declared-fault _ (View.part text n) ∙ rw (m .callable, e, names-kept, standing .same)
+      fault-left = declared-fault _ (View.spanText text n) ∙ rw (m .callable, e, names-kept, standing .same)
 
       pub function-known : {limit : ℕ} {tape′ heads′ : List ℕ} → known ≡ true
           → FunctionAgrees text tape heads functions limit words t tape′ heads′ (Stopped (faultAt WrongName (t .place)))
@@ -235,12 +236,12 @@ module _ {text tape tape₁ heads : List ℕ} {functions words : ℕ} {t : Code.
       function-reads {limit = limit} k w a =
           let few : functions < length heads = rw (opens .long) (m .comes .few) in
           let sound : faultHere (m .comes) ≡ 0 = fault-left ∙ rw k in
-          makes (declared (View.part text n)) _
+          makes (declared (View.spanText text n)) _
           (λ ss rest s h. record {
             read =
                 record {
                   tokens = h .tokens;
-                  went = went-from (omega (arith, here .from)) (function-went (declared (View.part text n) ss) refl (h .went));
+                  went = went-from (omega (arith, here .from)) (function-went (declared (View.spanText text n) ss) refl (h .went));
                   left = h .left;
                   stands = h .stands;
                 };
@@ -250,7 +251,7 @@ module _ {text tape tape₁ heads : List ℕ} {functions words : ℕ} {t : Code.
           })
           (rw (here .unrolled, lt-ltb functions maxFunctions (m .comes .few), sound, ← (here .past))
           (pass-follow Tokens.leftBrace (stream text Tokens.outside (n .past)) (λ ts. Reading.parseSentences limit ts)
-          (λ ss rest. parsed (declared (View.part text n) ss) rest)))
+          (λ ss rest. parsed (declared (View.spanText text n) ss) rest)))
           a
 
 -- A SPARE `;`
@@ -272,15 +273,16 @@ spare-none {text} {t = t} c e =
 abbrev allButEnd : List ℕ
 allButEnd = 0 ∷ 1 ∷ 2 ∷ 3 ∷ 4 ∷ 5 ∷ 7 ∷ []
 
-pub no-end : (t : Token) → OneOf allButEnd (tagOf token.the-type t) → false ≡ isEnd t
+pub no-end : (t : Token) → OneOf allButEnd (tagOf token.the-type t) → false ≡ isEndToken t
 no-end =
-    by-kind (λ t. OneOf allButEnd (tagOf token.the-type t) → false ≡ isEnd t) (λ n o. refl) (λ x o. refl) (λ x o. refl) (λ o. refl) (λ n o. refl)
+    by-kind (λ t. OneOf allButEnd (tagOf token.the-type t) → false ≡ isEndToken t) (λ n o. refl) (λ x o. refl) (λ x o. refl) (λ o. refl) (λ n o. refl)
     (λ b o. refl)
     (λ o. absurd (miss allButEnd 6 tt o)) (λ o. refl)
 
-end-same : (text : Bytes) (place past : ℕ) (t : Token) → Reading.isTextEnd (tokenOf text t place past) ≡ isEnd t
+end-same : (text : Bytes) (place past : ℕ) (t : Token) → Reading.isTextEnd (tokenOf text t place past) ≡ isEndToken t
 end-same text place past =
-    by-kind (λ t. Reading.isTextEnd (tokenOf text t place past) ≡ isEnd t) (λ n. refl) (λ x. refl) (λ x. refl) refl (λ n. refl) (λ b. refl) refl refl
+    by-kind (λ t. Reading.isTextEnd (tokenOf text t place past) ≡ isEndToken t) (λ n. refl) (λ x. refl) (λ x. refl) refl (λ n. refl)
+    (λ b. refl) refl refl
 
 -- THE DEFINITION
 
@@ -366,7 +368,7 @@ module _ {text start tape heads : List ℕ} {at words count left : ℕ} {t : Cod
       pick (Tokens.isLastToken (tokenOf text (t .token) (t .place) (t .past))) []
       (stream text (Tokens.modeAfter Tokens.outside (tokenOf text (t .token) (t .place) (t .past))) (t .past))
 
-  functions-done : isEnd (t .token) ≡ true → FunctionsAgree text start tape heads
+  functions-done : isEndToken (t .token) ≡ true → FunctionsAgree text start tape heads
       (DoneTable (record { words = words; functions = count; left = left }))
   functions-done e =
       reads-by refl (k .before) following
@@ -392,7 +394,7 @@ module _ {text start tape heads : List ℕ} {at words count left : ℕ} {t : Cod
 pub record Another {text start tape heads : List ℕ} {at words count left : ℕ} (others : Functioned text start tape heads at words count left)
     (t : Code.Placed) : Type 0 where
   pub comes : Comes text Tokens.outside at t
-  pub is : isEnd (t .token) ≡ false
+  pub is : isEndToken (t .token) ≡ false
 
 module _ {text start tape heads : List ℕ} {at words count left : ℕ} {k : Functioned text start tape heads at words count left} {t : Code.Placed}
     (n : Another k t) where
@@ -533,10 +535,10 @@ module _ {text tape heads : List ℕ} {at : ℕ} {stage : Stage} {n : Tally} {t 
   ends-with a =
       record { keeps = λ start s. a start (functioned s); falls = λ o. rw (k .onward) (omega (arith, so-far .few)) }
 
-  pub stage-ends : isEnd (t .token) ≡ true → Changed tape heads at (Over (DoneTable n))
+  pub stage-ends : isEndToken (t .token) ≡ true → Changed tape heads at (Over (DoneTable n))
   stage-ends e = ends-with (λ start f. functions-done f (k .comes) e)
 
-  module _ (e : isEnd (t .token) ≡ false) where
+  module _ (e : isEndToken (t .token) ≡ false) where
     another : {start : List ℕ} (f : Functioned text start tape heads at (n .words) (n .functions) (n .left)) → Another f t
     another f = record { comes = k .comes; is = e }
 

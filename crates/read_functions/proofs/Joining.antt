@@ -24,8 +24,8 @@ use Rattle.read_functions.specs.declared.expressions.ExpressionCounts.{E
 use Rattle.read_functions.specs.declared.expressions.Joined.{Joined}
 use Rattle.read_functions.specs.declared.expressions.Joined.the-variants.{Taken, Wrong, Refused, Other}
 use Rattle.read_bookkeeping.specs.Tables.{tableNames, Entries, position}
-use Rattle.answers.specs.Numbers.{numberOf}
-use Rattle.read_bookkeeping.specs.Written.{Wrote, stringFrom, isQuiet, Went}
+use Rattle.answers.specs.Numbers.{answerNumber}
+use Rattle.read_bookkeeping.specs.Written.{WroteOnTape, stringFrom, isQuiet, Went}
 use Rattle.read_bookkeeping.specs.Items.{symbolNames, Identifier, StringAt}
 use Rattle.read_functions.specs.Expressions.{progressAt, Going, itemTape, VariableTaken, ItemJoined, JoinsItem, TokenJoined, JoinsToken}
 use Rattle.read_bookkeeping.proofs.Finding.{position-coming, table-length}
@@ -39,8 +39,8 @@ use Rattle.read_functions.proofs.Onward.{going-after}
 -- an item with a fault
 wrongs : {text : Bytes} {table : List ℕ} {symbols parts : ℕ} {s : ExpressionCounts} {tape : List ℕ} {item : Item} {past : ℕ} {tape′ : List ℕ}
     {answer : Answer}
-    → eqb (numberOf answer) 0 ≡ false
-    → Reading.itemFault (symbolNames text table symbols) (progressAt text table parts s) item ≡ numberOf answer
+    → eqb (answerNumber answer) 0 ≡ false
+    → Reading.itemFault (symbolNames text table symbols) (progressAt text table parts s) item ≡ answerNumber answer
     → JoinsItem text table symbols parts s tape item past tape′ (Wrong answer)
 wrongs w f = record { gives = record { wrong = w; fault = f } }
 
@@ -56,7 +56,7 @@ module _ {text : Bytes} {table : List ℕ} {symbols parts : ℕ} {s : Expression
   string-many w = wrongs refl (rw (p .1 .counted, lt-leb (s .items + count) maxItems w))
 
   pub string-joined : s .items + count ≤ maxItems → {tape tape′ : List ℕ} {words : ℕ}
-      → Wrote tape (s .words) (charactersIn (stringFrom text (place + 1))) words tape′ ×
+      → WroteOnTape tape (s .words) (charactersIn (stringFrom text (place + 1))) words tape′ ×
       T (every isQuiet (charactersIn (stringFrom text (place + 1))))
       → JoinsItem text table symbols parts s tape string past tape′
       (Taken (record { at = past; words = words; items = s .items + count; passed = s .passed }))
@@ -80,7 +80,7 @@ module _ {text : Bytes} {table : List ℕ} {symbols parts : ℕ} {s : Expression
 module _ {text : Bytes} {table : List ℕ} {symbols parts : ℕ} {s : ExpressionCounts} {x : Span}
     (p : Going text table symbols parts s × Identifier text (s .at) x) where
   abbrev name : Name
-  name = View.part text x
+  name = View.spanText text x
 
   abbrev short : Bool
   short = leb (length name) maxIdentifier
@@ -111,8 +111,8 @@ module _ {text : Bytes} {table : List ℕ} {symbols parts : ℕ} {s : Expression
   symbol-like m {is = true} e = rw (e, few-items m)
   symbol-like m {is = false} e = rw e
 
-  pub symbol-bad : s .items < maxItems → {answer : Answer} → numberOf answer ≡ subjectFault (symbolNames text table symbols) name
-      → eqb (numberOf answer) 0 ≡ false
+  pub symbol-bad : s .items < maxItems → {answer : Answer} → answerNumber answer ≡ subjectFault (symbolNames text table symbols) name
+      → eqb (answerNumber answer) 0 ≡ false
       → {tape tape′ : List ℕ} → JoinsItem text table symbols parts s tape (symbolItem name) (x .past) tape′ (Wrong answer)
   symbol-bad m e w = wrongs w (symbol-like m refl ∙ sym e)
 
@@ -157,12 +157,12 @@ pub record Sought (text : Bytes) (table : List ℕ) (symbols parts : ℕ) (s : E
   pub here : Going text table symbols parts s × Identifier text (s .at) x
   pub few : s .items < maxItems
   pub brief : x .past - x .from ≤ maxIdentifier
-  pub found : r ≡ maxSymbols + s .passed + position (View.part text x) (progressAt text table parts s .coming)
+  pub found : r ≡ maxSymbols + s .passed + position (View.spanText text x) (progressAt text table parts s .coming)
 
 module _ {text : Bytes} {table : List ℕ} {symbols parts : ℕ} {s : ExpressionCounts} {x : Span} {r : ℕ} (q : Sought text table symbols parts s x r)
   where
     abbrev sought : Name
-    sought = View.part text x
+    sought = View.spanText text x
 
     abbrev those : List Name
     those = progressAt text table parts s .coming

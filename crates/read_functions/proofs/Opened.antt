@@ -26,10 +26,10 @@ use Rattle.read_functions.specs.declared.expressions.ExpressionCounts.{E
 use Rattle.read_functions.specs.declared.expressions.ParsedExpression.{ParsedExpression}
 use Rattle.read_functions.specs.declared.expressions.ParsedExpression.the-variants.{Stopped, Done}
 use Rattle.read_bookkeeping.specs.Tables.{Inside}
-use Rattle.answers.specs.Numbers.{numberOf}
+use Rattle.answers.specs.Numbers.{answerNumber}
 use Rattle.read_bookkeeping.specs.Answered.{AgreesBy}
-use Rattle.read_bookkeeping.specs.Written.{Wrote, isQuiet, Ready}
-use Rattle.read_functions.specs.Expressions.{expressionOutcome, CallStands, faultAt, CalledName, opening, OpeningRead}
+use Rattle.read_bookkeeping.specs.Written.{WroteOnTape, isQuiet, Ready}
+use Rattle.read_functions.specs.Expressions.{expressionOutcome, CallStands, faultAt, CalledName, callOpening, OpeningRead}
 use Rattle.read_bookkeeping.proofs.Choosing.{both-false}
 use Rattle.read_bookkeeping.proofs.Lengths.{part-length, within}
 use Rattle.read_bookkeeping.proofs.Going.{check-wrong, stops-by, reads-by, name-went}
@@ -37,7 +37,7 @@ use Rattle.read_bookkeeping.proofs.Tokening.{NameFirst, name-first, names-not, 
 
 -- what the definition reads of a call after its `<`, up to its argument
 abbrev pub openingAt : Bytes → ℕ → ExpressionCounts → ℕ → Parsed CalledName
-openingAt text depth s place = opening depth (s .items) (standing (Tokens.sign Tokens.lessThan) place (s .at)) (stream text Tokens.naming (s .at))
+openingAt text depth s place = callOpening depth (s .items) (standing (Tokens.sign Tokens.lessThan) place (s .at)) (stream text Tokens.naming (s .at))
 
 abbrev pub OpeningAgrees : Bytes → ℕ → ExpressionCounts → ℕ → List ℕ → List ℕ → ParsedExpression → Type 0
 OpeningAgrees text depth s place tape tape′ r = AgreesBy expressionOutcome (OpeningRead text depth s tape tape′) (openingAt text depth s place) r
@@ -83,16 +83,16 @@ module _ {text : Bytes} {depth : ℕ} {s : ExpressionCounts} {place : ℕ} {t : 
   pub named-here : NameFirst text Tokens.naming (s .at) t n
   named-here = name-first (call .comes) (m .is)
 
-  pub call-misnamed : {tape tape′ : List ℕ} {answer : Answer} → numberOf answer ≡ Reading.calledFault (View.part text n) → eqb (numberOf answer) 0 ≡
-      false
+  pub call-misnamed : {tape tape′ : List ℕ} {answer : Answer}
+      → answerNumber answer ≡ Reading.calledFault (View.spanText text n) → eqb (answerNumber answer) 0 ≡ false
       → OpeningAgrees text depth s place tape tape′ (Stopped (faultAt answer (t .place)))
   call-misnamed {answer = answer} f w =
-      stops-by refl (at-name call ∙ rw (named-here .unrolled, ← f) (check-wrong (numberOf answer) _ _ w))
+      stops-by refl (at-name call ∙ rw (named-here .unrolled, ← f) (check-wrong (answerNumber answer) _ _ w))
 
 -- it has no fault
 pub record CallNamed {text : Bytes} {depth : ℕ} {s : ExpressionCounts} {place : ℕ} {t : Code.Placed} {call : CallComes text depth s place t}
     {n : Span} (name : CallName call n) : Type 0 where
-  pub sound : Reading.calledFault (View.part text n) ≡ 0
+  pub sound : Reading.calledFault (View.spanText text n) ≡ 0
 
 module _ {text : Bytes} {depth : ℕ} {s : ExpressionCounts} {place : ℕ} {t : Code.Placed} {call : CallComes text depth s place t} {n : Span}
     {name : CallName call n}
@@ -100,7 +100,7 @@ module _ {text : Bytes} {depth : ℕ} {s : ExpressionCounts} {place : ℕ} {t : 
   abbrev here : NameFirst text Tokens.naming (s .at) t n
   here = named-here name
 
-  name-length : length (View.part text n) ≡ n .past - n .from
+  name-length : length (View.spanText text n) ≡ n .past - n .from
   name-length = part-length text n (here .inside)
 
   name-short : n .past - n .from ≤ maxName
@@ -114,16 +114,16 @@ module _ {text : Bytes} {depth : ℕ} {s : ExpressionCounts} {place : ℕ} {t : 
     omega (arith, call .ready .short, call .comes .forward, call .comes .inside),
   )
 
-  name-stands : T (every isQuiet (View.part text n)) → CallStands (View.part text n)
+  name-stands : T (every isQuiet (View.spanText text n)) → CallStands (View.spanText text n)
   name-stands q = record { short = rw name-length name-short; quiet = q }
 
   pub call-opens : {tape tape′ : List ℕ} {words : ℕ}
-      → Wrote tape (s .words) (((callKind + t .place) * kindWidth + (n .past - n .from)) ∷ View.part text n) words tape′
-      × T (every isQuiet (View.part text n))
+      → WroteOnTape tape (s .words) (((callKind + t .place) * kindWidth + (n .past - n .from)) ∷ View.spanText text n) words tape′
+      × T (every isQuiet (View.spanText text n))
       → OpeningAgrees text depth s place tape tape′ (Done (record { at = t .past; words = words; items = s .items + 1; passed = s .passed }))
   call-opens w =
       let k = call .comes in
-      reads-by refl (record { place = t .place; name = View.part text n }) (stream text Tokens.inside (t .past))
+      reads-by refl (record { place = t .place; name = View.spanText text n }) (stream text Tokens.inside (t .past))
       (at-name call ∙ rw (here .unrolled, m .sound))
       (record {
         tokens = refl;

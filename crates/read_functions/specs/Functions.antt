@@ -21,7 +21,7 @@ use Rattle.read_tokens.specs.declared.Token.{Token}
 use Rattle.read_tokens.specs.declared.Token.the-variants.{Name as NameToken, Symbol, Part, Word, Quoted, Sign, End}
 use Rattle.read_tokens.specs.declared.Token.the-variants.{Malformed}
 use Rattle.read_tokens.specs.declared.Placed.{Placed}
-use Rattle.read_bookkeeping.specs.Answered.{Outcome, halted, reached, AgreesBy}
+use Rattle.read_bookkeeping.specs.Answered.{ReadingOutcome, halted, reached, AgreesBy}
 use Rattle.read_functions.specs.declared.sentences.SentencesEnd.{SentencesEnd}
 use Rattle.read_functions.specs.declared.functions.Tally.{Tally}
 use Rattle.read_functions.specs.declared.functions.ParsedTable.{ParsedTable}
@@ -113,15 +113,15 @@ pub record SpareTo (text : Bytes) (at past : ℕ) : Type 0 where
   pub onward : at ≤ past
   pub inside : past ≤ length text
 
-abbrev pub isEnd : Token → Bool
-isEnd (NameToken name) = false
-isEnd (Symbol identifier) = false
-isEnd (Part identifier) = false
-isEnd Word = false
-isEnd (Quoted count) = false
-isEnd (Sign byte) = false
-isEnd End = true
-isEnd Malformed = false
+abbrev pub isEndToken : Token → Bool
+isEndToken (NameToken name) = false
+isEndToken (Symbol identifier) = false
+isEndToken (Part identifier) = false
+isEndToken Word = false
+isEndToken (Quoted count) = false
+isEndToken (Sign byte) = false
+isEndToken End = true
+isEndToken Malformed = false
 
 -- what the definition reads of a text's functions
 abbrev pub functionsOf : Bytes → Parsed Table
@@ -151,7 +151,7 @@ pub record Functioned (text start tape heads : List ℕ) (at words count left : 
   pub short : length text ≤ maxTable
   pub room : length text ≤ length tape
 
-abbrev pub tableOutcome : ParsedTable → Outcome Tally
+abbrev pub tableOutcome : ParsedTable → ReadingOutcome Tally
 tableOutcome (Stopped fault) = halted fault
 tableOutcome (Done n) = reached n
 
@@ -168,9 +168,9 @@ pub record Underway (text tape heads : List ℕ) (at : ℕ) (stage : Stage) : Ty
 abbrev pub firstStage : Stage
 firstStage = Onward (record { words = 0; functions = 0; left = maxSentences })
 
-abbrev pub onward : Stage → Bool
-onward (Onward n) = true
-onward (Over p) = false
+abbrev pub isOnward : Stage → Bool
+isOnward (Onward n) = true
+isOnward (Over p) = false
 
 abbrev pub outcomeOf : Stage → ParsedTable
 outcomeOf (Onward n) = Done n
@@ -185,4 +185,4 @@ toCome (Over p) = 0
 pub record Declares (text tape heads : List ℕ) (at : ℕ) (stage : Stage) (tape′ heads′ : List ℕ) (at′ : ℕ)
     (stage′ : Stage) : Type 0 where
   pub keeps : (start : List ℕ) → StageIs text start tape heads at stage → StageIs text start tape′ heads′ at′ stage′
-  pub falls : onward stage ≡ true → toCome stage′ < toCome stage
+  pub falls : isOnward stage ≡ true → toCome stage′ < toCome stage

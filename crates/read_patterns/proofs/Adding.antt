@@ -27,8 +27,8 @@ use Rattle.read_patterns.specs.declared.Counts.{Counts}
 use Rattle.read_patterns.specs.declared.Added.{Added}
 use Rattle.read_patterns.specs.declared.Added.the-variants.{Taken, Wrong, Refused, Other}
 use Rattle.read_bookkeeping.specs.Tables.{position, entryWidth, maxParts}
-use Rattle.answers.specs.Numbers.{numberOf}
-use Rattle.read_bookkeeping.specs.Written.{Wrote, stringFrom, isQuiet, Went}
+use Rattle.answers.specs.Numbers.{answerNumber}
+use Rattle.read_bookkeeping.specs.Written.{WroteOnTape, stringFrom, isQuiet, Went}
 use Rattle.read_bookkeeping.specs.Items.{Variables, symbolNames, partNames, Identifier, StringAt}
 use Rattle.read_patterns.specs.Patterns.{PatternGoing, Seen, patternSymbolFault, patternPartFault, ItemAdded, AddsItem, TokenAdded, AddsToken}
 use Rattle.read_bookkeeping.proofs.Finding.{position-member}
@@ -59,8 +59,8 @@ record Counting (text : Bytes) (table : List ℕ) (p : Counts) (es : List Elemen
 
 module _ {text : Bytes} {table : List ℕ} {p : Counts} {tape : List ℕ} {item : Item} {table′ tape′ : List ℕ} where
   -- an item with a fault
-  pub item-wrong : {number past : ℕ} {answer : Answer} {is : Bool} → Faulted text table p item number → numberOf answer ≡ number
-      → is ≡ eqb (numberOf answer) 0
+  pub item-wrong : {number past : ℕ} {answer : Answer} {is : Bool} → Faulted text table p item number → answerNumber answer ≡ number
+      → is ≡ eqb (answerNumber answer) 0
       → not is ≡ true
       → AddsItem text table p tape item past table′ tape′ (Wrong answer)
   item-wrong {is = is} f e q n = record { gives = record { wrong = sym q ∙ not-true is n; fault = λ before s. f before s ∙ sym e } }
@@ -111,7 +111,7 @@ module _ {text : Bytes} {table : List ℕ} {p : Counts} {place past count : ℕ}
   string-wrong w = item-wrong {is = false} (string-faulted (lt-leb (p .letters + count) maxLetters w)) refl refl refl
 
   pub string-taken : p .letters + count ≤ maxLetters → (tape tape′ : List ℕ) (words : ℕ) (ending : Bool)
-      → Wrote tape (p .words) (charactersIn (stringFrom text (place + 1))) words tape′ ×
+      → WroteOnTape tape (p .words) (charactersIn (stringFrom text (place + 1))) words tape′ ×
       T (every isQuiet (charactersIn (stringFrom text (place + 1))))
       → ending ≡ both (p .ending) (eqb count 0)
       → AddsItem text table p tape (characters string) past table tape′
@@ -139,7 +139,7 @@ record Remembered (text : Bytes) (table : List ℕ) (p : Counts) (name : Name) (
 
 module _ {text : Bytes} {table : List ℕ} {p : Counts} {x : Span} (h : PatternGoing text table p) (i : Identifier text (p .at) x) where
   abbrev name : Name
-  name = View.part text x
+  name = View.spanText text x
 
   -- its entry in the table
   abbrev entry : ℕ
@@ -151,7 +151,7 @@ module _ {text : Bytes} {table : List ℕ} {p : Counts} {x : Span} (h : PatternG
       → Faulted text table p item 0
       → Counting text table p (elementsOf item) table′ next
       → next .at ≡ x .past
-      → Wrote tape (p .words) ((kind * kindWidth + (x .past - x .from)) ∷ name) (next .words) tape′ × T (every isQuiet name)
+      → WroteOnTape tape (p .words) ((kind * kindWidth + (x .past - x .from)) ∷ name) (next .words) tape′ × T (every isQuiet name)
       → AddsItem text table p tape item (next .at) table′ tape′ (Taken next)
   variable-taken kind k s e f c r w =
       item-taken h e f c (rw r (variable-went (h .ready) i kind refl (w .0))) (variable-quiet (h .ready) i kind (omega arith) (w .1))
@@ -232,7 +232,7 @@ module _ {text : Bytes} {table : List ℕ} {p : Counts} {x : Span} (h : PatternG
         }
 
     pub symbol-taken : fault ≡ 0 → {tape tape′ table′ : List ℕ} {words symbols′ : ℕ}
-        → Wrote tape (p .words) ((symbolWord + (x .past - x .from)) ∷ name) words tape′ × T (every isQuiet name)
+        → WroteOnTape tape (p .words) ((symbolWord + (x .past - x .from)) ∷ name) words tape′ × T (every isQuiet name)
         → (symbols′ ≡ pick (ltb known (p .symbols)) (p .symbols) (known + 1))
         × (table′ ≡ pick (ltb known (p .symbols)) table (set table known entry))
         → AddsItem text table p tape (symbolItem name) (x .past) table′ tape′
@@ -270,7 +270,7 @@ module _ {text : Bytes} {table : List ℕ} {p : Counts} {x : Span} (h : PatternG
   part-short f = within text x (identifier-inside i) maxIdentifier 3 _ (no-fault (ltb (length (partNames text table (p .parts))) maxParts) 2 _ f .1)
 
   pub part-taken : partFault ≡ 0 → {tape tape′ : List ℕ} {words : ℕ}
-      → Wrote tape (p .words) ((partWord + (x .past - x .from)) ∷ name) words tape′ × T (every isQuiet name)
+      → WroteOnTape tape (p .words) ((partWord + (x .past - x .from)) ∷ name) words tape′ × T (every isQuiet name)
       → AddsItem text table p tape (partItem name) (x .past) (set table (maxSymbols + p .parts) entry) tape′
       (Taken (record { at = x .past; words = words; letters = p .letters; symbols = p .symbols; parts = p .parts + 1; ending = true }))
   unfolding lettersIn symbolsFrom partsOf

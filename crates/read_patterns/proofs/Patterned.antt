@@ -21,7 +21,7 @@ use Rattle.read_patterns.specs.declared.Counts.{Counts}
 use Rattle.read_patterns.specs.declared.Added.{Added}
 use Rattle.read_patterns.specs.declared.Added.the-variants.{Taken, Wrong, Refused, Other}
 use Rattle.read_bookkeeping.specs.Written.{isQuiet, Ready, Went}
-use Rattle.read_bookkeeping.specs.Items.{itemAt}
+use Rattle.read_bookkeeping.specs.Items.{tokenItem}
 use Rattle.read_patterns.specs.Patterns.{PatternGoing, Seen, TokenAdded, PatternAgrees}
 use Rattle.read_bookkeeping.proofs.Tabling.{none-yet, no-names, every-append}
 use Rattle.read_patterns.proofs.Elements.{tape-append}
@@ -84,14 +84,14 @@ module _ {text start : List ℕ} {at words : ℕ} {tape table : List ℕ} {p : C
       let i = item-then c (g .1) in (
         omega (arith, g .0 .at, i .moves),
         record {
-          before = k .before ++ elementsOf (itemAt text t);
+          before = k .before ++ elementsOf (tokenItem text t);
           same = k .same ∙ rw (i .unrolled, g .1, g .0 .fault (k .before) (k .seen), g .0 .at);
           going = g .0 .going;
           seen = g .0 .seen (k .before) (k .seen);
-          went = rw (tape-append (k .before) (elementsOf (itemAt text t))) (went-then (k .went) (g .0 .went));
+          went = rw (tape-append (k .before) (elementsOf (tokenItem text t))) (went-then (k .went) (g .0 .went));
           quiet =
-              rw (tape-append (k .before) (elementsOf (itemAt text t)))
-              (every-append isQuiet (patternTape (k .before)) (patternTape (elementsOf (itemAt text t))) (k .quiet) (g .0 .quiet));
+              rw (tape-append (k .before) (elementsOf (tokenItem text t)))
+              (every-append isQuiet (patternTape (k .before)) (patternTape (elementsOf (tokenItem text t))) (k .quiet) (g .0 .quiet));
         },
       )
   pattern-on (Wrong answer) g =

@@ -11,7 +11,7 @@ use Rattle.meaning.specs.Choice.{Bytes, pick, both, either}
 use Rattle.meaning.specs.Answers.{notAllowedHere, overLimit, wrongPatternVariable}
 use Rattle.meaning.specs.Allowed.{maxIdentifier, member, maxLetters, maxSymbols}
 use Rattle.meaning.specs.Reading.{faultUnless}
-use Rattle.read_tokens.specs.View.{part}
+use Rattle.read_tokens.specs.View.{spanText}
 use Rattle.read_tokens.specs.declared.Span.{Span}
 use Rattle.read_bookkeeping.specs.Tables.{position, maxParts}
 use Rattle.read_patterns.specs.declared.Counts.{Counts}
@@ -34,29 +34,29 @@ module _ {text : Bytes} {table : List ℕ} {symbols parts : ℕ} (v : Variables 
 
 -- the code's place of a name in the table of e-variables
 abbrev PartAt : Bytes → List ℕ → Counts → Span → ℕ → Type 0
-PartAt text table p x r = r ≡ maxSymbols + position (part text x) (partNames text table (p .parts))
+PartAt text table p x r = r ≡ maxSymbols + position (spanText text x) (partNames text table (p .parts))
 
 -- an s-variable, which is known at an entry
 module _ {text : Bytes} {table : List ℕ} {p : Counts} {x : Span} {known : ℕ}
-    (pre : PatternGoing text table p × Identifier text (p .at) x × (known ≡ position (part text x) (symbolNames text table (p .symbols)))) where
+    (pre : PatternGoing text table p × Identifier text (p .at) x × (known ≡ position (spanText text x) (symbolNames text table (p .symbols)))) where
   abbrev Symbol : ℕ → Type 0
-  Symbol number = number ≡ patternSymbolFault (p .letters) (symbolNames text table (p .symbols)) (partNames text table (p .parts)) (part text x)
+  Symbol number = number ≡ patternSymbolFault (p .letters) (symbolNames text table (p .symbols)) (partNames text table (p .parts)) (spanText text x)
 
-  symbol-tests : {short few room shared : Bool} → leb (length (part text x)) maxIdentifier ≡ short
+  symbol-tests : {short few room shared : Bool} → leb (length (spanText text x)) maxIdentifier ≡ short
       → leb (p .letters + 1) maxLetters ≡ few → ltb known maxSymbols ≡ room
-      → member (part text x) (partNames text table (p .parts)) ≡ shared
+      → member (spanText text x) (partNames text table (p .parts)) ≡ shared
       → Symbol (faultUnless (both short (both few room)) overLimit (faultUnless (not shared) wrongPatternVariable 0))
   symbol-tests s f r m =
       let v = pre .0 .variables in
-      let room = added-room (part text x) (symbolNames text table (p .symbols)) maxSymbols (rw (symbol-count v) (v .fewSymbols)) in
-      symbol-fault-is (p .letters) (symbolNames text table (p .symbols)) (partNames text table (p .parts)) (part text x) s f
+      let room = added-room (spanText text x) (symbolNames text table (p .symbols)) maxSymbols (rw (symbol-count v) (v .fewSymbols)) in
+      symbol-fault-is (p .letters) (symbolNames text table (p .symbols)) (partNames text table (p .parts)) (spanText text x) s f
       (room ∙ rw (← (pre .2)) r) m
 
   pub symbol-long : maxIdentifier < x .past - x .from → Symbol overLimit
   symbol-long l = symbol-tests (too-long text x (identifier-inside (pre .1)) maxIdentifier l) refl refl refl
 
   module _ (l : x .past - x .from ≤ maxIdentifier) where
-    short : leb (length (part text x)) maxIdentifier ≡ true
+    short : leb (length (spanText text x)) maxIdentifier ≡ true
     short = short-enough text x (identifier-inside (pre .1)) maxIdentifier l
 
     pub symbol-many : maxLetters ≤ p .letters → Symbol overLimit
@@ -74,21 +74,21 @@ module _ {text : Bytes} {table : List ℕ} {p : Counts} {x : Span} {known : ℕ}
       symbol-is n {is} r f e =
           fault-if is wrongPatternVariable
           ∙ symbol-tests short few (lt-ltb known maxSymbols n)
-          (among text table maxSymbols (maxSymbols + p .parts) (pre .0 .variables .partEntries) (part text x) r f e)
+          (among text table maxSymbols (maxSymbols + p .parts) (pre .0 .variables .partEntries) (spanText text x) r f e)
 
 -- an e-variable
 module _ {text : Bytes} {table : List ℕ} {p : Counts} {x : Span} (pre : PatternGoing text table p × Identifier text (p .at) x) where
   abbrev Part : ℕ → Type 0
-  Part number = number ≡ patternPartFault (symbolNames text table (p .symbols)) (partNames text table (p .parts)) (p .ending) (part text x)
+  Part number = number ≡ patternPartFault (symbolNames text table (p .symbols)) (partNames text table (p .parts)) (p .ending) (spanText text x)
 
-  part-tests : {room short symbol shared ends : Bool} → ltb (p .parts) maxParts ≡ room → leb (length (part text x)) maxIdentifier ≡ short
-      → member (part text x) (symbolNames text table (p .symbols)) ≡ symbol
-      → member (part text x) (partNames text table (p .parts)) ≡ shared
+  part-tests : {room short symbol shared ends : Bool} → ltb (p .parts) maxParts ≡ room → leb (length (spanText text x)) maxIdentifier ≡ short
+      → member (spanText text x) (symbolNames text table (p .symbols)) ≡ symbol
+      → member (spanText text x) (partNames text table (p .parts)) ≡ shared
       → p .ending ≡ ends
       → Part (faultUnless room notAllowedHere (faultUnless short overLimit
       (faultUnless (both (not (either symbol shared)) (not ends)) wrongPatternVariable 0)))
   part-tests r s m n e =
-      part-fault-is (symbolNames text table (p .symbols)) (partNames text table (p .parts)) (p .ending) (part text x)
+      part-fault-is (symbolNames text table (p .symbols)) (partNames text table (p .parts)) (p .ending) (spanText text x)
       (ap (λ (k : ℕ). ltb k 2) (part-count (pre .0 .variables)) ∙ r) s m n e
 
   pub part-third : maxParts ≤ p .parts → Part notAllowedHere
@@ -102,7 +102,7 @@ pub record PartFound (text : Bytes) (table : List ℕ) (p : Counts) (x : Span) (
   pub pre : PatternGoing text table p × Identifier text (p .at) x
   pub few : p .parts < maxParts
   pub short : x .past - x .from ≤ maxIdentifier
-  pub place : r ≡ 0 + position (part text x) (symbolNames text table (p .symbols))
+  pub place : r ≡ 0 + position (spanText text x) (symbolNames text table (p .symbols))
 
 module _ {text : Bytes} {table : List ℕ} {p : Counts} {x : Span} {r : ℕ} (f : PartFound text table p x r) where
   pub part-is : {symbol shared ends : Bool} → ltb r (p .symbols) ≡ symbol → {q : ℕ} → PartAt text table p x q → ltb q (maxSymbols + p .parts) ≡ shared
@@ -111,8 +111,8 @@ module _ {text : Bytes} {table : List ℕ} {p : Counts} {x : Span} {r : ℕ} (f 
   part-is d {q} g e n =
       let v = f .pre .0 .variables in
       part-tests (f .pre) (lt-ltb (p .parts) maxParts (f .few)) (short-enough text x (identifier-inside (f .pre .1)) maxIdentifier (f .short))
-      (among text table 0 (p .symbols) (v .symbolEntries) (part text x) r (f .place) d)
-      (among text table maxSymbols (maxSymbols + p .parts) (v .partEntries) (part text x) q g e)
+      (among text table 0 (p .symbols) (v .symbolEntries) (spanText text x) r (f .place) d)
+      (among text table maxSymbols (maxSymbols + p .parts) (v .partEntries) (spanText text x) q g e)
       n
 
   pub part-ending : p .symbols ≤ r → {q : ℕ} → PartAt text table p x q → maxSymbols + p .parts ≤ q

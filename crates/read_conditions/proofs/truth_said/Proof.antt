@@ -1,7 +1,7 @@
--- `read_conditions::truth_in` meets its contract.
+-- `read_conditions::truth_said` meets its contract.
 use borrow.Author.Needs.{needs}
-use Rattle.read_conditions.proofs.truth_in.Statement.{statement}
-use Rattle.read_conditions.proofs.truth_in.Tie as tie
+use Rattle.read_conditions.proofs.truth_said.Statement.{statement}
+use Rattle.read_conditions.proofs.truth_said.Tie as tie
 use native.Mathlib.Omega.{arith}
 use Rattle.read_conditions.proofs.Conditioned.{truth-none, truth-long, truth-three}
 
@@ -25,8 +25,8 @@ returns-3 c =
     truth-three (entry .args .text .now) (entry .args .t) _ (at-enum-told .enum-told .given .1) (entry .pre) (at-if1 .if1 .left)
     (c .truth-between .ensures)
 
-pub truth-in-spec : {M : Type 1} → statement M
-truth-in-spec =
+pub truth-said-spec : {M : Type 1} → statement M
+truth-said-spec =
     tie.close
     (tie.spec
     (λ c. search needs)
