@@ -11,12 +11,12 @@ use Rattle.answers.specs.declared.Answer.{Answer}
 use Rattle.answers.specs.declared.Answer.the-variants.{Accepted, TableTooLong, MalformedToken, NotAllowedHere}
 use Rattle.answers.specs.declared.Answer.the-variants.{OverLimit, WrongName, WrongPatternVariable}
 use Rattle.answers.specs.declared.Answer.the-variants.{WrongLaterVariable, UndeclaredName}
-use Rattle.answers.specs.Numbers.{numberOf}
+use Rattle.answers.specs.Numbers.{answerNumber}
 
 abbrev allButFirst : List ℕ
 allButFirst = 1 ∷ 2 ∷ 3 ∷ 4 ∷ 5 ∷ 6 ∷ 7 ∷ 8 ∷ []
 
-pub not-accepted : (a : Answer) → OneOf allButFirst (tagOf answer.the-type a) → false ≡ eqb (numberOf a) 0
+pub not-accepted : (a : Answer) → OneOf allButFirst (tagOf answer.the-type a) → false ≡ eqb (answerNumber a) 0
 not-accepted Accepted k = absurd (miss allButFirst 0 tt k)
 not-accepted TableTooLong k = refl
 not-accepted MalformedToken k = refl

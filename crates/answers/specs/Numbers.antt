@@ -14,16 +14,16 @@ use Rattle.answers.specs.declared.Ending.the-variants.{AllowanceSpent, I
 use Rattle.answers.specs.declared.Ending.the-variants.{NoInstruction, ArgumentNotAngles, AngleOutOfRange}
 
 -- 01 'Where each thing is checked'
-abbrev pub numberOf : Answer → ℕ
-numberOf Accepted = Answers.finished
-numberOf TableTooLong = Answers.tableTooLong
-numberOf MalformedToken = Answers.malformedToken
-numberOf NotAllowedHere = Answers.notAllowedHere
-numberOf OverLimit = Answers.overLimit
-numberOf WrongName = Answers.wrongName
-numberOf WrongPatternVariable = Answers.wrongPatternVariable
-numberOf WrongLaterVariable = Answers.wrongLaterVariable
-numberOf UndeclaredName = Answers.undeclaredName
+abbrev pub answerNumber : Answer → ℕ
+answerNumber Accepted = Answers.finished
+answerNumber TableTooLong = Answers.tableTooLong
+answerNumber MalformedToken = Answers.malformedToken
+answerNumber NotAllowedHere = Answers.notAllowedHere
+answerNumber OverLimit = Answers.overLimit
+answerNumber WrongName = Answers.wrongName
+answerNumber WrongPatternVariable = Answers.wrongPatternVariable
+answerNumber WrongLaterVariable = Answers.wrongLaterVariable
+answerNumber UndeclaredName = Answers.undeclaredName
 
 abbrev pub endingNumber : Ending → ℕ
 endingNumber Finished = Answers.finished

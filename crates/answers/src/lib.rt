@@ -2,7 +2,7 @@
 // table.
 ghost use mathlib.Core.Path.{_≡_};
 ghost use lib.Dec.{eqb};
-ghost use Rattle.answers.specs.Numbers.{numberOf, endingNumber, isRefusal};
+ghost use Rattle.answers.specs.Numbers.{answerNumber, endingNumber, isRefusal};
 
 // The lent buffer is too short for the code or the listing; a declared call is no tail call.
 pub const BUFFER_TOO_SHORT: u64 = 17;
@@ -38,8 +38,8 @@ pub enum Ending {
     AngleOutOfRange,
 }
 
-pub fn number(answer: Answer) -> u64
-    ensures { λ r. ⌜ r ≡ numberOf answer ⌝ }
+pub fn answer_number(answer: Answer) -> u64
+    ensures { λ r. ⌜ r ≡ answerNumber answer ⌝ }
 {
     match answer {
         Answer::Accepted => 0,
@@ -75,7 +75,7 @@ pub fn ending_number(ending: Ending) -> u64
 
 // Whether nothing is wrong with a text.
 pub fn is_accepted(answer: Answer) -> bool
-    ensures { λ r. ⌜ r ≡ eqb (numberOf answer) 0 ⌝ }
+    ensures { λ r. ⌜ r ≡ eqb (answerNumber answer) 0 ⌝ }
 {
     if let Answer::Accepted = answer {
         true

@@ -19,7 +19,7 @@ use Rattle.meaning.specs.Packing.{pack, placesFrom, packFunctions}
 use Rattle.meaning.specs.Leaving.{zeros, padded, over}
 use Rattle.meaning.specs.Entries.{answered, readAnswer, written, listed, translated}
 use Rattle.read_table.specs.declared.Reading.{Reading}
-use Rattle.answers.specs.Numbers.{numberOf}
+use Rattle.answers.specs.Numbers.{answerNumber}
 use Rattle.read_table.specs.Reads.{Reads}
 use Rattle.list_strings.specs.declared.State.the-variants.{Start}
 use Rattle.list_table.specs.declared.Listed.{Listed}
@@ -61,7 +61,7 @@ accepted-read : (x : Read) → Known x → {number place count : ℕ} → answer
 accepted-read (accepted t) known e z = (t, refl, known)
 accepted-read (refused n k) known e z = absurd (known (cc))
 
-module _ {text : Bytes} {r : Reading} {words : List ℕ} (reads : Reads text r words) {number : ℕ} (told : number ≡ numberOf (r .answer)) where
+module _ {text : Bytes} {r : Reading} {words : List ℕ} (reads : Reads text r words) {number : ℕ} (told : number ≡ answerNumber (r .answer)) where
   answers : answered number (r .place) (r .functions) ≡ readAnswer (read text)
   answers = rw told (reads .answer)
 

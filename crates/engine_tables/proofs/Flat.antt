@@ -16,7 +16,7 @@ use Rattle.tape_flatness.specs.Scanned.{placed, scannedCalls, nestedCall}
 use Rattle.tape_flatness.proofs.Traced.{tape-traced}
 use Rattle.read_table.specs.declared.Reading.{Reading}
 use Rattle.read_table.specs.Reads.{treeTape, Reads}
-use Rattle.answers.specs.Numbers.{numberOf}
+use Rattle.answers.specs.Numbers.{answerNumber}
 use Rattle.engine_tables.proofs.Known.{AreBytes, Known, read-known}
 
 -- a place that is there, and one that isn't
@@ -45,5 +45,6 @@ module _ {text : Bytes} {r : Reading} {words : List ℕ} (bytes : AreBytes text)
   pub nested-told : {place : ℕ} → found ≡ At place → answered notTailCall place 0 ≡ flatAnswer (read text)
   nested-told {place} e = tape-nested (read text) (read-known text bytes) place (is-found e)
 
-  pub flat-told : {number : ℕ} → number ≡ numberOf (r .answer) → found ≡ Nowhere → answered number (r .place) (r .functions) ≡ flatAnswer (read text)
+  pub flat-told : {number : ℕ} → number ≡ answerNumber (r .answer) → found ≡ Nowhere
+      → answered number (r .place) (r .functions) ≡ flatAnswer (read text)
   flat-told told e = rw told (reads .answer) ∙ tape-flat (read text) (read-known text bytes) (is-found e)

@@ -56,7 +56,11 @@ fn read_on(table: &[u8], tape: &mut [u32]) -> Told
 {
     let reading = read_table::read(table, tape);
     let answer = reading.answer;
-    tell(answers::number(answer), reading.place, reading.functions)
+    tell(
+        answers::answer_number(answer),
+        reading.place,
+        reading.functions,
+    )
 }
 
 pub fn read_table(table: &[u8]) -> Told
@@ -77,7 +81,7 @@ fn flat_on(table: &[u8], tape: &mut [u32]) -> Told
 {
     let reading = read_table::read(table, tape);
     let answer = reading.answer;
-    let number = answers::number(answer);
+    let number = answers::answer_number(answer);
     let words = reading.words;
     let used = &tape[..words];
     match nested_call(used) {
@@ -105,7 +109,7 @@ pub fn list_table(table: &[u8], buffer: &mut [u8]) -> Told
     let mut tape = tape_room();
     let reading = read_table::read(table, &mut tape);
     let answer = reading.answer;
-    let number = answers::number(answer);
+    let number = answers::answer_number(answer);
     if number != 0 {
         return tell(number, reading.place, 0);
     }
@@ -121,7 +125,7 @@ pub fn translate_table(table: &[u8], code: &mut [u32]) -> Told
     let mut tape = tape_room();
     let reading = read_table::read(table, &mut tape);
     let answer = reading.answer;
-    let number = answers::number(answer);
+    let number = answers::answer_number(answer);
     let translated = code_table::translate(&tape, reading.words, code);
     if number != 0 {
         return tell(number, reading.place, 0);

@@ -13,7 +13,7 @@ use lib.Seq.{slice, slice-cons, slice-empty, length-slice}
 use Rattle.meaning.specs.Choice.{Bytes, Name, pick, either, every, sameBytes}
 use Rattle.meaning.specs.Allowed.{member, comingAfter}
 use Rattle.meaning.proofs.laws.Passing.{every-head, every-tail}
-use Rattle.read_bookkeeping.specs.Tables.{nameIn, namesIn, inText, tableNames, Entries, position}
+use Rattle.read_bookkeeping.specs.Tables.{entryName, namesIn, inText, tableNames, Entries, position, entryWidth}
 
 -- the search from the start is that from here
 pub record Finding (text : Bytes) (table : List ℕ) (from to : ℕ) (x : Name) (i : ℕ) : Type 0 where
@@ -39,7 +39,7 @@ module _ {text : Bytes} {table : List ℕ} {from to : ℕ} {x : Name} {i : ℕ} 
     first = slice-cons i to table 0 h (f .inside)
 
     -- the entry's name lies in the text
-    pub entry-inside : getD table i 0 / 32 + getD table i 0 % 32 ≤ length text
+    pub entry-inside : getD table i 0 / entryWidth + getD table i 0 % entryWidth ≤ length text
     entry-inside = leb→le _ _ (every-head (inText text) (getD table i 0) (slice (suc i) to table) (rw first at (f .sound)))
 
     -- the entry is the name, or the search goes on after it
@@ -47,7 +47,7 @@ module _ {text : Bytes} {table : List ℕ} {from to : ℕ} {x : Name} {i : ℕ} 
     FindOn true = i ≡ from + position x (tableNames text table from to)
     FindOn false = Finding text table from to x (i + 1)
 
-    pub find-on : (is : Bool) → is ≡ sameBytes x (nameIn text (getD table i 0)) → FindOn is
+    pub find-on : (is : Bool) → is ≡ sameBytes x (entryName text (getD table i 0)) → FindOn is
     unfolding namesIn position
     find-on true e = sym (f .same ∙ rw (first, ← e) (add-zero i))
     find-on false e =

@@ -7,19 +7,20 @@ use native.Mathlib.Omega.{arith}
 use lib.Dec.{T, eqb, lt→ltb}
 use lib.ListN.{length, set, length-append}
 use Rattle.meaning.specs.Choice.{Bytes, every}
-use Rattle.tape_layout.specs.Tape.{named}
+use Rattle.tape_layout.specs.Tape.{named, callWord, kindWidth}
 use Rattle.meaning.specs.Tokens.{Placed}
 use Rattle.meaning.specs.Reading.{Parsed, stopped, parsed, follow, whether, isSign, pass, whereFaultless}
 use Rattle.meaning.proofs.laws.Passing.{both-pass}
+use Rattle.meaning.specs.Allowed.{maxTable}
 use Rattle.read_tokens.specs.View as View
 use Rattle.read_tokens.specs.declared.Span.{Span}
 use Rattle.read_bookkeeping.specs.declared.progress.Fault.{Fault}
 use Rattle.read_bookkeeping.specs.declared.progress.Progress.{Progress}
 use Rattle.read_bookkeeping.specs.declared.progress.Parsed.the-variants.{Stopped, Done}
-use Rattle.answers.specs.Numbers.{numberOf}
-use Rattle.read_bookkeeping.specs.Answered.{Outcome, halted, reached, Comes, AgreesBy, Agrees}
+use Rattle.answers.specs.Numbers.{answerNumber}
+use Rattle.read_bookkeeping.specs.Answered.{ReadingOutcome, halted, reached, ComesTo, AgreesBy, Agrees}
 use Rattle.read_bookkeeping.specs.Tables.{Inside}
-use Rattle.read_bookkeeping.specs.Written.{Wrote, isQuiet, Ready, Went}
+use Rattle.read_bookkeeping.specs.Written.{WroteOnTape, isQuiet, Ready, Went}
 use Rattle.read_bookkeeping.proofs.Lengths.{part-length}
 use Rattle.read_bookkeeping.proofs.Words.{written-none, written-one, written-append, wrote-length}
 
@@ -39,10 +40,10 @@ pub record ReadAt {A P : Type 0} (Reads : A → List Placed → P → Type 0) (p
   pub how : Reads value rest s
 
 -- whatever the code's reader hands back
-module _ {A P R : Type 0} {outcome : R → Outcome P} {Reads : A → List Placed → P → Type 0} where
+module _ {A P R : Type 0} {outcome : R → ReadingOutcome P} {Reads : A → List Placed → P → Type 0} where
   -- the definition stops with this fault
   pub stops-by : {p : Parsed A} {r : R} {fault : Fault} → outcome r ≡ halted fault
-      → p ≡ stopped (numberOf (fault .answer)) (fault .place)
+      → p ≡ stopped (answerNumber (fault .answer)) (fault .place)
       → AgreesBy outcome Reads p r
   stops-by h e = record { comes = rw (h, e) (refl, refl) }
 
@@ -54,10 +55,10 @@ module _ {A P R : Type 0} {outcome : R → Outcome P} {Reads : A → List Placed
 
   -- the code has stopped, so the definition has
   pub has-stopped : (p : Parsed A) {r : R} (fault : Fault) → outcome r ≡ halted fault → AgreesBy outcome Reads p r
-      → p ≡ stopped (numberOf (fault .answer)) (fault .place)
+      → p ≡ stopped (answerNumber (fault .answer)) (fault .place)
   has-stopped p fault h a = told p (rw h at (a .comes))
     where
-      told : (p′ : Parsed A) → Comes Reads p′ (halted fault) → p′ ≡ stopped (numberOf (fault .answer)) (fault .place)
+      told : (p′ : Parsed A) → ComesTo Reads p′ (halted fault) → p′ ≡ stopped (answerNumber (fault .answer)) (fault .place)
       told (stopped number place) c = rw (c .0, c .1)
       told (parsed value rest) c = absurd c
 
@@ -65,23 +66,23 @@ module _ {A P R : Type 0} {outcome : R → Outcome P} {Reads : A → List Placed
   pub has-read : (p : Parsed A) {r : R} (s : P) → outcome r ≡ reached s → AgreesBy outcome Reads p r → ReadAt Reads p s
   has-read p s h a = told p (rw h at (a .comes))
     where
-      told : (p′ : Parsed A) → Comes Reads p′ (reached s) → ReadAt Reads p′ s
+      told : (p′ : Parsed A) → ComesTo Reads p′ (reached s) → ReadAt Reads p′ s
       told (stopped number place) c = absurd c
       told (parsed value rest) c = record { value = value; rest = rest; same = refl; how = c }
 
 -- where it counts nothing
 module _ {A : Type 0} {Reads : A → List Placed → Progress → Type 0} where
-  pub stops : {p : Parsed A} {fault : Fault} → p ≡ stopped (numberOf (fault .answer)) (fault .place) → Agrees Reads p (Stopped fault)
+  pub stops : {p : Parsed A} {fault : Fault} → p ≡ stopped (answerNumber (fault .answer)) (fault .place) → Agrees Reads p (Stopped fault)
   stops e = stops-by refl e
 
   pub reads : {p : Parsed A} {s : Progress} (value : A) (rest : List Placed) → p ≡ parsed value rest → Reads value rest s → Agrees Reads p (Done s)
   reads value rest e r = reads-by refl value rest e r
 
 -- what stops a reader stops what begins with it
-pub stops-too : {A B P Q R S : Type 0} {outcome : R → Outcome P} {ended : S → Outcome Q} {Reads : A → List Placed → P → Type 0}
+pub stops-too : {A B P Q R S : Type 0} {outcome : R → ReadingOutcome P} {ended : S → ReadingOutcome Q} {Reads : A → List Placed → P → Type 0}
     {Makes : B → List Placed → Q → Type 0}
     {p : Parsed A} {q : Parsed B} {r : R} {s : S} {fault : Fault} → AgreesBy outcome Reads p r → outcome r ≡ halted fault → ended s ≡ halted fault
-    → (p ≡ stopped (numberOf (fault .answer)) (fault .place) → q ≡ stopped (numberOf (fault .answer)) (fault .place))
+    → (p ≡ stopped (answerNumber (fault .answer)) (fault .place) → q ≡ stopped (answerNumber (fault .answer)) (fault .place))
     → AgreesBy ended Makes q s
 stops-too {fault = fault} a e h begins = stops-by h (begins (has-stopped _ fault e a))
 
@@ -109,7 +110,8 @@ follow-alone (stopped number place) = refl
 follow-alone (parsed value rest) = refl
 
 -- what the definition makes of what it has read, the code has read
-pub makes : {A B P R : Type 0} {outcome : R → Outcome P} {Reads : A → List Placed → P → Type 0} {Makes : B → List Placed → P → Type 0} {p : Parsed B}
+pub makes : {A B P R : Type 0} {outcome : R → ReadingOutcome P} {Reads : A → List Placed → P → Type 0}
+    {Makes : B → List Placed → P → Type 0} {p : Parsed B}
     {r : R}
     (make : A → B) (q : Parsed A)
     → ((value : A) (rest : List Placed) (s : P) → Reads value rest s → Makes (make value) rest s)
@@ -118,7 +120,7 @@ pub makes : {A B P R : Type 0} {outcome : R → Outcome P} {Reads : A → List P
     → AgreesBy outcome Makes p r
 makes {A} {B} {P} {outcome = outcome} {Reads} {Makes} {p} {r} make q how e a = rw e (record { comes = made q (outcome r) (a .comes) })
   where
-    made : (q′ : Parsed A) (o : Outcome P) → Comes Reads q′ o → Comes Makes (follow q′ (λ value rest. parsed (make value) rest)) o
+    made : (q′ : Parsed A) (o : ReadingOutcome P) → ComesTo Reads q′ o → ComesTo Makes (follow q′ (λ value rest. parsed (make value) rest)) o
     made (stopped number place) (halted fault) c = c
     made (stopped number place) (reached s) c = c
     made (parsed value rest) (halted fault) c = c
@@ -147,7 +149,7 @@ pub went-length : {text : Bytes} {at words : ℕ} {tape : List ℕ} {at′ words
 went-length w = wrote-length (record { reached = w .counted; same = w .wrote })
 
 -- after what was read
-pub ready-after : {text : Bytes} {at words : ℕ} {tape : List ℕ} {at′ words′ : ℕ} {tape′ added : List ℕ} → length text ≤ 32768
+pub ready-after : {text : Bytes} {at words : ℕ} {tape : List ℕ} {at′ words′ : ℕ} {tape′ added : List ℕ} → length text ≤ maxTable
     → Went text at words tape at′ words′ tape′ added → Ready text at′ words′
 ready-after h w = record { inside = w .inside; charged = w .charged; short = h }
 
@@ -188,16 +190,17 @@ word-went {words = words} {tape = tape} {word = word} r h k e =
 module _ {text : Bytes} {n : Span} (kind : ℕ) (i : Inside text n) where
   pub name-went : {at words further : ℕ} {word : ℕ} {tape tape′ : List ℕ} {words′ : ℕ} → at ≤ further → further ≤ length text
       → words + (n .past - n .from) < further
-      → word ≡ kind * 256 + (n .past - n .from)
-      → Wrote tape words (word ∷ View.part text n) words′ tape′
-      → Went text at words tape further words′ tape′ (named kind (View.part text n))
+      → word ≡ kind * kindWidth + (n .past - n .from)
+      → WroteOnTape tape words (word ∷ View.spanText text n) words′ tape′
+      → Went text at words tape further words′ tape′ (named kind (View.spanText text n))
   name-went o h c e w =
       let l = part-length text n i in
       record { onward = o; inside = h; charged = omega (arith, w .reached, l); counted = w .reached; wrote = rw (l, ← e) (w .same) }
 
-  pub name-quiet : kind * 256 + (n .past - n .from) < 2304 → T (every isQuiet (View.part text n)) → T (every isQuiet (named kind (View.part text n)))
+  pub name-quiet : kind * kindWidth + (n .past - n .from) < callWord → T (every isQuiet (View.spanText text n))
+      → T (every isQuiet (named kind (View.spanText text n)))
   unfolding every
   name-quiet s q =
-      both-pass (isQuiet (kind * 256 + length (View.part text n))) (every isQuiet (View.part text n))
-      (rw (part-length text n i) (lt→ltb (kind * 256 + (n .past - n .from)) 2304 s))
+      both-pass (isQuiet (kind * kindWidth + length (View.spanText text n))) (every isQuiet (View.spanText text n))
+      (rw (part-length text n i) (lt→ltb (kind * kindWidth + (n .past - n .from)) callWord s))
       q

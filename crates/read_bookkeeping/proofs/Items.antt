@@ -18,7 +18,7 @@ use Rattle.read_tokens.specs.declared.Token.the-variants.{Symbol, Part, Quoted}
 use Rattle.read_tokens.proofs.Variants.{by-kind}
 use Rattle.read_tokens.specs.declared.Placed.{Placed}
 use Rattle.read_bookkeeping.specs.Tables.{Inside}
-use Rattle.read_bookkeeping.specs.Items.{Identifier, StringAt, itemAt}
+use Rattle.read_bookkeeping.specs.Items.{Identifier, StringAt, tokenItem}
 
 -- an s-variable or an e-variable
 abbrev pub variableToken : Bool → Span → Token
@@ -35,10 +35,10 @@ variableLetter true = 101
 
 -- it has at least one byte after its letter
 module _ {text : Bytes} {at : ℕ} {x : Span} (i : Identifier text at x) where
-  first : View.part text x ≡ getD text (x .from) 0 ∷ slice (suc (x .from)) (x .past) text
+  first : View.spanText text x ≡ getD text (x .from) 0 ∷ slice (suc (x .from)) (x .past) text
   first = slice-cons (x .from) (x .past) text 0 (i .some) (i .inside)
 
-  pub variable-of : (isPart : Bool) → variableOf (variableLetter isPart ∷ View.part text x) ≡ variableItem isPart (View.part text x)
+  pub variable-of : (isPart : Bool) → variableOf (variableLetter isPart ∷ View.spanText text x) ≡ variableItem isPart (View.spanText text x)
   variable-of false = rw first
   variable-of true = rw first
 
@@ -47,7 +47,7 @@ identifier-inside i = record { forward = omega (arith, i .some); inside = i .ins
 
 -- a token is an item that ends where it does
 pub record ItemHere (text : Bytes) (t : Placed) (item : Item) (past : ℕ) : Type 0 where
-  pub is : itemAt text t ≡ item
+  pub is : tokenItem text t ≡ item
   pub some : isItem item ≡ true
   pub ends : past ≡ t .past
 
@@ -80,11 +80,12 @@ module _ {text : Bytes} {mode : Tokens.Mode} {at : ℕ} {t : Placed} (c : Comes 
           inside = omega (arith, spanned .1, c .inside);
         }
 
-    pub variable-here : ItemHere text t (variableItem isPart (View.part text x)) (x .past)
+    pub variable-here : ItemHere text t (variableItem isPart (View.spanText text x)) (x .past)
     variable-here = either isPart e (variable-of variable-at isPart)
       where
-        either : (is : Bool) → t .token ≡ variableToken is x → variableOf (variableLetter is ∷ View.part text x) ≡ variableItem is (View.part text x)
-            → ItemHere text t (variableItem is (View.part text x)) (x .past)
+        either : (is : Bool) → t .token ≡ variableToken is x
+            → variableOf (variableLetter is ∷ View.spanText text x) ≡ variableItem is (View.spanText text x)
+            → ItemHere text t (variableItem is (View.spanText text x)) (x .past)
         either false d v = record { is = rw d v; some = refl; ends = spanned .1 }
         either true d v = record { is = rw d v; some = refl; ends = spanned .1 }
 
@@ -115,7 +116,7 @@ pub record Item-then (text : Bytes) (at : ℕ) (t : Placed) : Type 0 where
   pub unrolled : stream text Tokens.inside at ≡ placedOf text t ∷ stream text Tokens.inside (t .past)
   pub moves : at < t .past
 
-pub item-then : {text : Bytes} {at : ℕ} {t : Placed} → Comes text Tokens.inside at t → isItem (itemAt text t) ≡ true → Item-then text at t
+pub item-then : {text : Bytes} {at : ℕ} {t : Placed} → Comes text Tokens.inside at t → isItem (tokenItem text t) ≡ true → Item-then text at t
 item-then {text} {at} {t} c e =
     let g = item-goes-on text (t .place) (t .past) (t .token) e in
     record { unrolled = c .unrolled ∙ rw (g .1); moves = omega (arith, c .onward, c .moves (g .0)) }

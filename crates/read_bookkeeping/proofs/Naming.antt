@@ -1,27 +1,25 @@
 -- What a name is: a predicate, known, too long.
 use Prim.Native.Nat.{ℕ, _+_, _-_, _≤_, _<_}
 use mathlib.Core.Path.{_≡_, refl, sym, _∙_}
-use mathlib.Core.Bool.{Bool, true, false, not, true≢false}
+use mathlib.Core.Bool.{Bool, true, false, not}
 use mathlib.Core.List.{List, [], _∷_}
 use mathlib.Core.Option.{none, some}
-use native.Mathlib.Omega.{arith}
-use lib.Dec.{leb, ltb, eqb}
+use lib.Dec.{leb, ltb}
 use lib.ListN.{length}
-use Rattle.meaning.specs.Choice.{Bytes, Name, pick, both, either, sameBytes}
+use Rattle.meaning.specs.Choice.{Bytes, Name, pick, sameBytes}
 use Rattle.meaning.specs.Classes.{Class, className, classes}
-use Rattle.meaning.specs.Names.{isBuiltIn, classNamed, predicateOf, isPredicate}
+use Rattle.meaning.specs.Names.{classNamed, predicateOf, isPredicate}
 use Rattle.meaning.specs.Answers.{overLimit, wrongName, wrongLaterVariable}
-use Rattle.meaning.specs.Allowed.{member, maxName, maxIdentifier}
+use Rattle.meaning.specs.Allowed.{member, maxIdentifier, maxName}
 use Rattle.meaning.specs.Reading.{faultUnless, calledFault, subjectFault}
-use Rattle.tape_words.specs.Finding.{isKnownAmong}
-use Rattle.read_tokens.specs.View.{part}
+use Rattle.read_tokens.specs.View.{spanText}
 use Rattle.read_tokens.specs.declared.Span.{Span}
 use Rattle.read_bookkeeping.specs.declared.names.Class.{Class as CodeClass}
 use Rattle.read_bookkeeping.specs.declared.names.Predicate.{Predicate}
 use Rattle.read_bookkeeping.specs.declared.names.Predicate.the-variants.{Asks, NoPredicate}
 use Rattle.read_bookkeeping.specs.Classed.{predicateMeant}
-use Rattle.read_bookkeeping.specs.Tables.{Inside, Entries, tableNames, position, declaredFaultIn}
-use Rattle.read_bookkeeping.proofs.Choosing.{fault-if, fault-if-not, no-fault-here, a-fault-here}
+use Rattle.read_bookkeeping.specs.Tables.{Inside, Entries, tableNames, position}
+use Rattle.read_bookkeeping.proofs.Choosing.{fault-if, fault-if-not}
 use Rattle.read_bookkeeping.proofs.Finding.{among}
 use Rattle.read_bookkeeping.proofs.Lengths.{too-long, short-enough}
 
@@ -62,11 +60,11 @@ module _ (name : Name) {p : Predicate} (e : predicateMeant p ≡ predicateOf nam
 -- FAULTS OF NAMES
 
 module _ (text : Bytes) (x : Span) (p : Inside text x) where
-  pub called-long : 24 < x .past - x .from → overLimit ≡ calledFault (part text x)
-  called-long h = rw (too-long text x p 24 h)
+  pub called-long : maxName < x .past - x .from → overLimit ≡ calledFault (spanText text x)
+  called-long h = rw (too-long text x p maxName h)
 
-  pub called-is : x .past - x .from ≤ 24 → {is : Bool} → isPredicate (part text x) ≡ is → pick is wrongName 0 ≡ calledFault (part text x)
-  called-is h {is} e = rw (short-enough text x p 24 h, e) (fault-if is wrongName)
+  pub called-is : x .past - x .from ≤ maxName → {is : Bool} → isPredicate (spanText text x) ≡ is → pick is wrongName 0 ≡ calledFault (spanText text x)
+  called-is h {is} e = rw (short-enough text x p maxName h, e) (fault-if is wrongName)
 
 -- A LATER VARIABLE
 
@@ -76,51 +74,15 @@ later-fault-is names x p q = rw (p, q)
 
 module _ {text : Bytes} {table : List ℕ} {from to : ℕ} {x : Span} (pre : Inside text x × Entries text table from to) where
   abbrev Later : ℕ → Type 0
-  Later number = number ≡ subjectFault (tableNames text table from to) (part text x)
+  Later number = number ≡ subjectFault (tableNames text table from to) (spanText text x)
 
-  pub later-long : 8 < x .past - x .from → Later overLimit
-  later-long l = later-fault-is (tableNames text table from to) (part text x) (too-long text x (pre .0) 8 l) refl
+  pub later-long : maxIdentifier < x .past - x .from → Later overLimit
+  later-long l = later-fault-is (tableNames text table from to) (spanText text x) (too-long text x (pre .0) maxIdentifier l) refl
 
-  pub later-is : x .past - x .from ≤ 8 → (r : ℕ) → r ≡ from + position (part text x) (tableNames text table from to)
+  pub later-is : x .past - x .from ≤ maxIdentifier → (r : ℕ) → r ≡ from + position (spanText text x) (tableNames text table from to)
       → {known : Bool} → ltb r to ≡ known
       → Later (pick (not known) wrongLaterVariable 0)
   later-is l r f {known} h =
       fault-if-not known wrongLaterVariable
-      ∙ later-fault-is (tableNames text table from to) (part text x) (short-enough text x (pre .0) 8 l)
-      (among text table from to (pre .1) (part text x) r f h)
-
--- A DECLARED NAME
-
--- what is wrong with a name where it is called, and whether that is nothing
-pub record Asked-called (text : Bytes) (x : Span) (number : ℕ) (is : Bool) : Type 0 where
-  pub fault : number ≡ calledFault (part text x)
-  pub accepted : is ≡ eqb number 0
-
--- a declared name, by what is wrong with it where it is called
-module _ {text : Bytes} {x : Span} {number : ℕ} {is : Bool} (a : Asked-called text x number is) (names : List Name) where
-  abbrev n : Name
-  n = part text x
-
-  pub declared-wrong : not is ≡ true → number ≡ declaredFaultIn names n
-  declared-wrong w = a .fault ∙ wrong (leb (length n) maxName) (isPredicate n) (rw (a .fault) at (a-fault-here (a .fault) (a .accepted) w))
-    where
-      wrong : (short predicate : Bool) → eqb (faultUnless short overLimit (faultUnless (not predicate) wrongName 0)) 0 ≡ false
-          → faultUnless short overLimit (faultUnless (not predicate) wrongName 0)
-          ≡ faultUnless short overLimit (faultUnless (both (not (either predicate (isBuiltIn n))) (not (member n names))) wrongName 0)
-      wrong false predicate w′ = refl
-      wrong true true w′ = refl
-      wrong true false w′ = absurd (true≢false w′)
-
-  pub declared-known : not is ≡ false → {m : Name} → m ≡ n → {known : Bool} → known ≡ isKnownAmong names m
-      → pick known wrongName 0 ≡ declaredFaultIn names n
-  declared-known w spelled e =
-      rw (e, spelled) (right (leb (length n) maxName) (isPredicate n) (isBuiltIn n) (member n names) (no-fault-here (a .fault) (a .accepted) w))
-    where
-      right : (short predicate builtIn among : Bool) → faultUnless short overLimit (faultUnless (not predicate) wrongName 0) ≡ 0
-          → pick (either builtIn among) wrongName 0
-          ≡ faultUnless short overLimit (faultUnless (both (not (either predicate builtIn)) (not among)) wrongName 0)
-      right true false true among z = refl
-      right true false false true z = refl
-      right true false false false z = refl
-      right true true builtIn among z = absurd (omega arith)
-      right false predicate builtIn among z = absurd (omega arith)
+      ∙ later-fault-is (tableNames text table from to) (spanText text x) (short-enough text x (pre .0) maxIdentifier l)
+      (among text table from to (pre .1) (spanText text x) r f h)

@@ -12,7 +12,7 @@ use lib.Seq.{slice, slice-cons, drop-cons, take-nil}
 use borrow.Author.Tests.{eq-eqb, ne-eqb}
 use Rattle.meaning.specs.Choice.{Bytes, both, sameBytes, startsWith}
 use Rattle.meaning.proofs.laws.Beginnings.{lengths-differ, starts-short, starts-same}
-use Rattle.read_tokens.specs.View.{part}
+use Rattle.read_tokens.specs.View.{spanText}
 use Rattle.read_tokens.specs.declared.Span.{Span}
 use Rattle.read_bookkeeping.specs.Tables.{Inside}
 use Rattle.read_bookkeeping.proofs.Lengths.{part-length}
@@ -34,8 +34,8 @@ pub record Beginning (text word : Bytes) (from past i : ℕ) : Type 0 where
   pub same : startsWith word (slice from past text) ≡ startsWith (drop i word) (slice (from + i) past text)
 
 module _ (text word : Bytes) (x : Span) (p : Inside text x) where
-  pub begins-short : x .past - x .from < length word → false ≡ startsWith word (part text x)
-  begins-short h = sym (starts-short word (part text x) (rw (part-length text x p) h))
+  pub begins-short : x .past - x .from < length word → false ≡ startsWith word (spanText text x)
+  begins-short h = sym (starts-short word (spanText text x) (rw (part-length text x p) h))
 
   pub begins-starts : length word ≤ x .past - x .from → Beginning text word (x .from) (x .past) 0
   begins-starts h =
@@ -67,8 +67,8 @@ module _ (text word : Bytes) (from past i : ℕ) (m : Beginning text word from p
         }
 
 module _ (text word : Bytes) (x : Span) (p : Inside text x) where
-  pub spells-unlike : (x .past - x .from ≡ length word → ⊥) → false ≡ sameBytes (part text x) word
-  spells-unlike d = sym (lengths-differ (part text x) word (λ e. d (sym (part-length text x p) ∙ e)))
+  pub spells-unlike : (x .past - x .from ≡ length word → ⊥) → false ≡ sameBytes (spanText text x) word
+  spells-unlike d = sym (lengths-differ (spanText text x) word (λ e. d (sym (part-length text x p) ∙ e)))
 
-  pub spells-same : x .past - x .from ≡ length word → startsWith word (part text x) ≡ sameBytes (part text x) word
-  spells-same e = starts-same word (part text x) (part-length text x p ∙ e)
+  pub spells-same : x .past - x .from ≡ length word → startsWith word (spanText text x) ≡ sameBytes (spanText text x) word
+  spells-same e = starts-same word (spanText text x) (part-length text x p ∙ e)

@@ -11,9 +11,9 @@ use lib.Seq.{slice, slice-empty, take-suc-set, take-set-le, take-set-lt, drop-se
 use Rattle.meaning.specs.Choice.{Bytes, Name, every}
 use Rattle.meaning.proofs.laws.Passing.{both-right, both-pass}
 use Rattle.meaning_accepting.proofs.reading.Lists.{every-append as every-both}
-use Rattle.read_tokens.specs.View.{part}
+use Rattle.read_tokens.specs.View.{spanText}
 use Rattle.read_tokens.specs.declared.Span.{Span}
-use Rattle.read_bookkeeping.specs.Tables.{Inside, nameIn, namesIn, inText, tableNames, Entries}
+use Rattle.read_bookkeeping.specs.Tables.{Inside, entryName, namesIn, inText, tableNames, Entries, entryWidth}
 
 -- LISTS
 
@@ -27,9 +27,9 @@ every-one f x p = both-pass (f x) true p tt
 names-append : (text : Bytes) (a b : List ℕ) → namesIn text (a ++ b) ≡ namesIn text a ++ namesIn text b
 unfolding namesIn
 names-append text [] b = refl
-names-append text (e ∷ a) b = ap {B = List Name} (λ (r : List Name). nameIn text e ∷ r) (names-append text a b)
+names-append text (e ∷ a) b = ap {B = List Name} (λ (r : List Name). entryName text e ∷ r) (names-append text a b)
 
-names-one : (text : Bytes) (e : ℕ) → namesIn text (e ∷ []) ≡ nameIn text e ∷ []
+names-one : (text : Bytes) (e : ℕ) → namesIn text (e ∷ []) ≡ entryName text e ∷ []
 unfolding namesIn
 names-one text e = refl
 
@@ -64,7 +64,7 @@ module _ (text : Bytes) (table : List ℕ) (from to : ℕ) (k : Entries text tab
     kept-below h = same-slice (set table i e) (length-set table i e) (rw (take-set-le to table i e h))
 
   -- a store right after them
-  pub grown : (e : ℕ) → to < length table → T (inText text e) → Grown text table (set table to e) from to (nameIn text e)
+  pub grown : (e : ℕ) → to < length table → T (inText text e) → Grown text table (set table to e) from to (entryName text e)
   grown e h t =
       let w : slice from (suc to) (set table to e) ≡ slice from to table ++ e ∷ [] =
       rw (take-suc-set table to e h)
@@ -91,21 +91,21 @@ no-names text table from = rw (slice-empty from table)
 
 -- THE ENTRY OF A NAME
 
-module _ (text : Bytes) (x : Span) (p : Inside text x) (short : x .past - x .from < 32) where
+module _ (text : Bytes) (x : Span) (p : Inside text x) (short : x .past - x .from < entryWidth) where
   abbrev entry : ℕ
-  entry = x .from * 32 + (x .past - x .from)
+  entry = x .from * entryWidth + (x .past - x .from)
 
-  place-of : entry / 32 ≡ x .from
+  place-of : entry / entryWidth ≡ x .from
   place-of = omega arith
 
-  ends-at : entry / 32 + entry % 32 ≡ x .past
+  ends-at : entry / entryWidth + entry % entryWidth ≡ x .past
   ends-at = omega (arith, p .forward)
 
-  pub entry-name : nameIn text entry ≡ part text x
+  pub entry-name : entryName text entry ≡ spanText text x
   entry-name = rw (ends-at, place-of)
 
   pub entry-inside : T (inText text entry)
-  entry-inside = le→leb (entry / 32 + entry % 32) (length text) (rw ends-at (p .inside))
+  entry-inside = le→leb (entry / entryWidth + entry % entryWidth) (length text) (rw ends-at (p .inside))
 
 -- THE ENTRIES FROM A LATER ONE ON
 

@@ -24,15 +24,15 @@ use Rattle.read_bookkeeping.specs.declared.progress.Fault.{Fault}
 use Rattle.read_bookkeeping.specs.declared.progress.Progress.{Progress}
 use Rattle.read_bookkeeping.specs.declared.progress.Parsed.the-variants.{Stopped}
 use Rattle.read_bookkeeping.specs.Tables.{Inside}
-use Rattle.answers.specs.Numbers.{numberOf}
-use Rattle.read_bookkeeping.specs.Answered.{Outcome, halted, AgreesBy, Agrees}
+use Rattle.answers.specs.Numbers.{answerNumber}
+use Rattle.read_bookkeeping.specs.Answered.{ReadingOutcome, halted, AgreesBy, Agrees}
 use Rattle.read_bookkeeping.specs.Written.{Ready, Went}
 use Rattle.read_bookkeeping.specs.Tokened.{tokenFault, signIs, Taken, Barred}
 use Rattle.read_bookkeeping.proofs.Going.{stops-by, went-on}
 
 -- a token's fault, and a token that is no name
 abbrev pub FaultOf : Placed → Fault → Type 0
-FaultOf t fault = (numberOf (fault .answer) ≡ tokenFault (t .token)) × (fault .place ≡ t .place)
+FaultOf t fault = (answerNumber (fault .answer) ≡ tokenFault (t .token)) × (fault .place ≡ t .place)
 
 abbrev allButName : List ℕ
 allButName = 1 ∷ 2 ∷ 3 ∷ 4 ∷ 5 ∷ 6 ∷ 7 ∷ []
@@ -105,12 +105,12 @@ module _ {A : Type 0} {text : Bytes} {mode : Tokens.Mode} {byte at : ℕ} (next 
   passes-on t = rw (t .unrolled, eq-eqb byte byte refl)
 
   pub passes-not : {fault : Fault} → Barred text mode byte at fault
-      → Reading.pass byte (stream text mode at) next ≡ Reading.stopped (numberOf (fault .answer)) (fault .place)
+      → Reading.pass byte (stream text mode at) next ≡ Reading.stopped (answerNumber (fault .answer)) (fault .place)
   passes-not b = rw (b .unrolled, b .other, b .number, b .place)
 
   -- a byte that isn't there stops a reader that begins with it
-  pub barred-stops-by : {P R : Type 0} {outcome : R → Outcome P} {Reads : A → List Tokens.Placed → P → Type 0} {r : R} {fault : Fault} → outcome r ≡
-      halted fault
+  pub barred-stops-by : {P R : Type 0} {outcome : R → ReadingOutcome P} {Reads : A → List Tokens.Placed → P → Type 0} {r : R} {fault : Fault}
+      → outcome r ≡ halted fault
       → Barred text mode byte at fault
       → AgreesBy outcome Reads (Reading.pass byte (stream text mode at) next) r
   barred-stops-by h b = stops-by h (passes-not b)
@@ -124,7 +124,7 @@ module _ {A : Type 0} {text : Bytes} {mode : Tokens.Mode} {byte at : ℕ} (next 
 -- the first token from a place on is a name
 pub record NameFirst (text : Bytes) (mode : Tokens.Mode) (at : ℕ) (t : Placed) (n : Span) : Type 0 where
   pub unrolled : stream text mode at
-      ≡ standing (Tokens.functionName (View.part text n)) (t .place) (t .past) ∷ stream text (Tokens.afterName mode) (t .past)
+      ≡ standing (Tokens.functionName (View.spanText text n)) (t .place) (t .past) ∷ stream text (Tokens.afterName mode) (t .past)
   pub from : n .from ≡ t .place
   pub past : n .past ≡ t .past
   pub some : t .place < t .past
@@ -156,7 +156,7 @@ module _ {text : Bytes} {mode : Tokens.Mode} {at : ℕ} {t : Placed} (c : Comes 
 
 -- a token is refused
 module _ {text : Bytes} {mode : Tokens.Mode} {at : ℕ} {t : Placed} {fault : Fault} {A : Type 0} {p : Reading.Parsed A} where
-  pub refused-by : {P R : Type 0} {outcome : R → Outcome P} {Reads : A → List Tokens.Placed → P → Type 0} {r : R} → outcome r ≡ halted fault →
+  pub refused-by : {P R : Type 0} {outcome : R → ReadingOutcome P} {Reads : A → List Tokens.Placed → P → Type 0} {r : R} → outcome r ≡ halted fault →
       Comes text mode at t
       → p ≡ Reading.refuse (placedOf text t)
       → FaultOf t fault

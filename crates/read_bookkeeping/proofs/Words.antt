@@ -10,59 +10,62 @@ use lib.ListN.{length, getD, set, take, drop, length-append}
 use lib.Seq.{slice, slice-empty, length-slice, length-sets, length-take-le, set-set, set-comm, sets-eq, take-at, drop-at, take-append-seam}
 use Rattle.meaning.specs.Choice.{Bytes, every}
 use Rattle.meaning.specs.Tokens as Tokens
-use Rattle.read_tokens.specs.View.{IsClosed, charactersIn, part}
-use Rattle.read_characters.specs.View.{continued, Passes, Stands}
+use Rattle.read_tokens.specs.View.{IsClosed, charactersIn, spanText}
+use Rattle.read_characters.specs.View.{continued, EndsInText, StandsInString}
 use Rattle.read_characters.specs.declared.Character.{Character}
 use Rattle.read_characters.specs.declared.Character.the-variants.{Given, Nothing, Closed, Broken}
 use Rattle.read_tokens.specs.declared.Span.{Span}
 use Rattle.meaning.proofs.laws.Places.{slice-suc}
-use Rattle.read_bookkeeping.specs.Tables.{Inside, OnTape}
-use Rattle.read_bookkeeping.specs.Written.{written, Wrote, stringFrom, isQuiet, Ready}
+use Rattle.meaning.specs.Allowed.{maxTable}
+use Rattle.read_bookkeeping.specs.Tables.{Inside}
+use Rattle.read_bookkeeping.specs.Written.{writtenFrom, WroteOnTape, stringFrom, isQuiet, Ready}
 use Rattle.read_bookkeeping.proofs.Lengths.{part-length}
 use Rattle.read_bookkeeping.proofs.Tabling.{every-append, every-one}
 
 -- ON THE TAPE
 
-pub written-none : (tape : List ℕ) (at : ℕ) → written tape at [] ≡ tape
-unfolding written
+pub written-none : (tape : List ℕ) (at : ℕ) → writtenFrom tape at [] ≡ tape
+unfolding writtenFrom
 written-none tape at = refl
 
-pub written-one : (tape : List ℕ) (at w : ℕ) → set tape at w ≡ written tape at (w ∷ [])
-unfolding written
+pub written-one : (tape : List ℕ) (at w : ℕ) → set tape at w ≡ writtenFrom tape at (w ∷ [])
+unfolding writtenFrom
 written-one tape at w = refl
 
-pub written-snoc : (ws tape : List ℕ) (at w : ℕ) → set (written tape at ws) (at + length ws) w ≡ written tape at (ws ++ w ∷ [])
-unfolding written
+pub written-snoc : (ws tape : List ℕ) (at w : ℕ) → set (writtenFrom tape at ws) (at + length ws) w ≡ writtenFrom tape at (ws ++ w ∷ [])
+unfolding writtenFrom
 written-snoc [] tape at w = rw (add-zero at)
 written-snoc (v ∷ ws) tape at w =
     let e : at + suc (length ws) ≡ suc at + length ws = omega arith in
     rw e (written-snoc ws (set tape at v) (suc at) w)
 
-written-length : (tape : List ℕ) (at : ℕ) (ws : List ℕ) → length (written tape at ws) ≡ length tape
-unfolding written
+written-length : (tape : List ℕ) (at : ℕ) (ws : List ℕ) → length (writtenFrom tape at ws) ≡ length tape
+unfolding writtenFrom
 written-length tape at ws = length-sets tape at ws
 
 -- writing keeps the tape's length
-pub wrote-length : {tape : List ℕ} {at : ℕ} {words : List ℕ} {at′ : ℕ} {tape′ : List ℕ} → Wrote tape at words at′ tape′ → length tape′ ≡ length tape
+pub wrote-length : {tape : List ℕ} {at : ℕ} {words : List ℕ} {at′ : ℕ} {tape′ : List ℕ} → WroteOnTape tape at words at′ tape′
+    → length tape′ ≡ length tape
 wrote-length w = ap length (w .same) ∙ written-length _ _ _
 
-pub written-append : (a b tape : List ℕ) (at : ℕ) → written (written tape at a) (at + length a) b ≡ written tape at (a ++ b)
-unfolding written
+pub written-append : (a b tape : List ℕ) (at : ℕ) → writtenFrom (writtenFrom tape at a) (at + length a) b ≡ writtenFrom tape at (a ++ b)
+unfolding writtenFrom
 written-append [] b tape at = rw (add-zero at)
 written-append (v ∷ a) b tape at =
     let e : at + suc (length a) ≡ suc at + length a = omega arith in
     rw e (written-append a b (set tape at v) (suc at))
 
 -- a store before what is written
-set-written : (ws tape : List ℕ) (i at w : ℕ) → i < at → set (written tape at ws) i w ≡ written (set tape i w) at ws
-unfolding written
+set-written : (ws tape : List ℕ) (i at w : ℕ) → i < at → set (writtenFrom tape at ws) i w ≡ writtenFrom (set tape i w) at ws
+unfolding writtenFrom
 set-written [] tape i at w h = refl
 set-written (v ∷ ws) tape i at w h =
-    set-written ws (set tape at v) i (suc at) w (omega arith) ∙ ap (λ (l : List ℕ). written l (suc at) ws) (set-comm tape at i v w (λ e. omega arith))
+    set-written ws (set tape at v) i (suc at) w (omega arith)
+    ∙ ap (λ (l : List ℕ). writtenFrom l (suc at) ws) (set-comm tape at i v w (λ e. omega arith))
 
 -- what is written over, by as many words or more, doesn't matter
-pub written-over : (a b tape : List ℕ) (at : ℕ) → length a ≤ length b → written (written tape at a) at b ≡ written tape at b
-unfolding written
+pub written-over : (a b tape : List ℕ) (at : ℕ) → length a ≤ length b → writtenFrom (writtenFrom tape at a) at b ≡ writtenFrom tape at b
+unfolding writtenFrom
 written-over [] b tape at h = refl
 written-over (v ∷ a) [] tape at h = absurd (omega arith)
 written-over (v ∷ a) (w ∷ b) tape at h =
@@ -73,27 +76,32 @@ module _ (ws tape : List ℕ) (at : ℕ) (fits : at + length ws ≤ length tape)
   abbrev rest : List ℕ
   rest = drop (at + length ws) tape
 
-  split : written tape at ws ≡ take at tape ++ (ws ++ rest)
-  unfolding written
+  split : writtenFrom tape at ws ≡ take at tape ++ (ws ++ rest)
+  unfolding writtenFrom
   split = sets-eq ws tape at fits ∙ append-assoc (take at tape) ws rest
 
   long : length (take at tape) ≡ at
   long = length-take-le at tape (omega arith)
 
-  pub written-there : take (length ws) (drop at (written tape at ws)) ≡ ws
+  pub written-there : take (length ws) (drop at (writtenFrom tape at ws)) ≡ ws
   written-there = rw (split, drop-at (take at tape) (ws ++ rest) at long) (take-append-seam ws rest)
 
-  pub written-before : take at (written tape at ws) ≡ take at tape
+  pub written-before : take at (writtenFrom tape at ws) ≡ take at tape
   written-before = rw split (take-at (take at tape) (ws ++ rest) at long)
 
+-- a part of the text stands on the tape too, from a place on
+pub record OnTape (text : Bytes) (x : Span) (tape : List ℕ) (at : ℕ) : Type 0 where
+  pub inside : at + (x .past - x .from) ≤ length tape
+  pub same : take (x .past - x .from) (drop at tape) ≡ spanText text x
+
 pub on-tape : {text : Bytes} {x : Span} {tape tape′ : List ℕ} {at to : ℕ} → Inside text x → at + (x .past - x .from) ≤ length tape
-    → Wrote tape at (part text x) to tape′
+    → WroteOnTape tape at (spanText text x) to tape′
     → OnTape text x tape′ at
 on-tape {text} {x} {tape} {at = at} i h w =
     let l = part-length text x i in
     record {
       inside = rw (wrote-length w) h;
-      same = rw (w .same, ← l) (written-there (part text x) tape at (rw l h));
+      same = rw (w .same, ← l) (written-there (spanText text x) tape at (rw l h));
     }
 
 -- A NAME AFTER A WORD
@@ -103,12 +111,12 @@ pub record Copied (text : Bytes) (start : List ℕ) (first from past : ℕ) (tap
   pub onward : from ≤ i
   pub low : i ≤ past
   pub inside : past ≤ length text
-  pub room : first + (past - from) ≤ 32768
+  pub room : first + (past - from) ≤ maxTable
   pub reached : to ≡ first + (i - from)
-  pub same : tape ≡ written start first (slice from i text)
+  pub same : tape ≡ writtenFrom start first (slice from i text)
   pub quiet : T (every isQuiet (slice from i text))
 
-pub copy-starts : (text : Bytes) (start : List ℕ) (first : ℕ) (x : Span) → Inside text x → first + (x .past - x .from) ≤ 32768
+pub copy-starts : (text : Bytes) (start : List ℕ) (first : ℕ) (x : Span) → Inside text x → first + (x .past - x .from) ≤ maxTable
     → Copied text start first (x .from) (x .past) start first (x .from)
 unfolding every
 copy-starts text start first x p h =
@@ -145,7 +153,7 @@ module _ (text : Bytes) (start : List ℕ) (first from past : ℕ) (tape : List 
             (every-one isQuiet (getD text i 0) (lt→ltb (getD text i 0) 2304 (omega arith))));
       }
 
-  pub copy-ends : past ≤ i → Wrote start first (slice from past text) to tape × T (every isQuiet (slice from past text))
+  pub copy-ends : past ≤ i → WroteOnTape start first (slice from past text) to tape × T (every isQuiet (slice from past text))
   copy-ends h =
       let e : i ≡ past = omega (arith, n .low) in (
         record {
@@ -156,9 +164,9 @@ module _ (text : Bytes) (start : List ℕ) (first from past : ℕ) (tape : List 
       )
 
 -- the word before them
-pub wrote-after : (start tape after : List ℕ) (at word to : ℕ) (ws : List ℕ) → tape ≡ set start at word → Wrote tape (at + 1) ws to after
-    → Wrote start at (word ∷ ws) to after
-unfolding written
+pub wrote-after : (start tape after : List ℕ) (at word to : ℕ) (ws : List ℕ) → tape ≡ set start at word → WroteOnTape tape (at + 1) ws to after
+    → WroteOnTape start at (word ∷ ws) to after
+unfolding writtenFrom
 wrote-after start tape after at word to ws e w = record { reached = omega (arith, w .reached); same = w .same ∙ rw (e, add-one) }
 
 -- THE CHARACTERS OF A STRING
@@ -168,11 +176,11 @@ pub record Spelled-to (text : Bytes) (start : List ℕ) (at from : ℕ) (tape : 
   pub characters : Bytes
   pub string : stringFrom text from ≡ Tokens.quotation Tokens.plain characters i (drop i text)
   pub reached : to ≡ at + length characters
-  pub same : tape ≡ written start at characters
+  pub same : tape ≡ writtenFrom start at characters
   pub quiet : T (every isQuiet characters)
   pub charged : to ≤ i
   pub inside : i ≤ length text
-  pub short : length text ≤ 32768
+  pub short : length text ≤ maxTable
 
 pub spelling-starts : (text : Bytes) (start : List ℕ) (at from : ℕ) → Ready text from at → Spelled-to text start at from start at from
 unfolding every
@@ -196,17 +204,17 @@ spelled-length s = wrote-length (record { reached = s .reached; same = s .same }
 module _ {text : Bytes} {start : List ℕ} {at from : ℕ} {tape : List ℕ} {to i : ℕ} (s : Spelled-to text start at from tape to i) where
   abbrev pub SpelledOn : Character → Type 0
   SpelledOn (Given b past) =
-      (i < past) × (past ≤ length text) × (to < 32768)
+      (i < past) × (past ≤ length text) × (to < maxTable)
       × (b < 256 → (next : List ℕ) → next ≡ set tape to b → Spelled-to text start at from next (to + 1) past)
   SpelledOn (Nothing past) = (i < past) × Spelled-to text start at from tape to past
   SpelledOn (Closed past) =
-      Wrote start at (charactersIn (stringFrom text from)) to tape × T (every isQuiet (charactersIn (stringFrom text from)))
+      WroteOnTape start at (charactersIn (stringFrom text from)) to tape × T (every isQuiet (charactersIn (stringFrom text from)))
   SpelledOn (Broken past) = IsClosed (stringFrom text from) → ⊥
 
-  pub spelled-on : (r : Character) → Stands text Tokens.plain i (i + 1) r → SpelledOn r
+  pub spelled-on : (r : Character) → StandsInString text Tokens.plain i (i + 1) r → SpelledOn r
   spelled-on r stood = turned r (s .string ∙ stood .same (s .characters)) (stood .passes)
     where
-      turned : (r : Character) → stringFrom text from ≡ continued text r (s .characters) → Passes text (i + 1) r → SpelledOn r
+      turned : (r : Character) → stringFrom text from ≡ continued text r (s .characters) → EndsInText text (i + 1) r → SpelledOn r
       turned (Given b past) w p = (
         omega arith,
         p .1,

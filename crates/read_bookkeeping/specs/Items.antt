@@ -12,7 +12,7 @@ use Rattle.read_tokens.specs.View.{IsClosed, charactersIn, quotationAt, tokenOf
 use Rattle.read_tokens.specs.declared.Span.{Span}
 use Rattle.read_tokens.specs.declared.Placed.{Placed}
 use Rattle.read_bookkeeping.specs.declared.progress.Fault.{Fault}
-use Rattle.answers.specs.Numbers.{numberOf}
+use Rattle.answers.specs.Numbers.{answerNumber}
 use Rattle.read_bookkeeping.specs.Tables.{maxParts, variableRoom, tableNames, Entries}
 use Rattle.read_bookkeeping.specs.Tokened.{isWord}
 
@@ -45,17 +45,17 @@ pub record StringAt (text : Bytes) (at place past count : ℕ) : Type 0 where
   pub inside : past ≤ length text
 
 -- a token as an item
-abbrev pub itemAt : Bytes → Placed → Item
-itemAt text t = itemOf (tokenOf text (t .token) (t .place) (t .past))
+abbrev pub tokenItem : Bytes → Placed → Item
+tokenItem text t = itemOf (tokenOf text (t .token) (t .place) (t .past))
 
 -- a token is neither an item nor a word
 pub record NoItem (text : Bytes) (t : Placed) : Type 0 where
-  pub other : isItem (itemAt text t) ≡ false
+  pub other : isItem (tokenItem text t) ≡ false
   pub wordless : isWord (tokenOf text (t .token) (t .place) (t .past)) ≡ false
 
 -- a token is a word that is no variable, which is refused with 3 at its place
 pub record WordRefused (text : Bytes) (t : Placed) (fault : Fault) : Type 0 where
-  pub other : isItem (itemAt text t) ≡ false
+  pub other : isItem (tokenItem text t) ≡ false
   pub word : isWord (tokenOf text (t .token) (t .place) (t .past)) ≡ true
-  pub number : numberOf (fault .answer) ≡ notAllowedHere
+  pub number : answerNumber (fault .answer) ≡ notAllowedHere
   pub place : fault .place ≡ t .place

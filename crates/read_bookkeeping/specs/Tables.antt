@@ -1,29 +1,19 @@
 -- Names and identifiers in the text, and tables of identifiers. An entry of a table is `entryWidth` times the place of
 -- an identifier, plus its length.
 use Prim.Native.Nat.{ℕ, suc, _+_, _-_, _/_, _%_, _≤_}
-use mathlib.Core.Path.{_≡_}
-use mathlib.Core.Bool.{Bool, not}
+use mathlib.Core.Bool.{Bool}
 use mathlib.Core.List.{List, [], _∷_}
 use lib.Dec.{T, leb}
-use lib.ListN.{length, take, drop}
+use lib.ListN.{length}
 use lib.Seq.{slice}
-use Rattle.meaning.specs.Choice.{Bytes, Name, pick, both, every, sameBytes}
-use Rattle.meaning.specs.Names.{isReserved}
-use Rattle.meaning.specs.Answers.{wrongName}
-use Rattle.meaning.specs.Allowed.{member}
-use Rattle.meaning.specs.Reading.{lengthFault, faultUnless}
-use Rattle.read_tokens.specs.View.{part}
+use Rattle.meaning.specs.Choice.{Bytes, Name, pick, every, sameBytes}
+use Rattle.meaning.specs.Allowed.{maxSymbols}
 use Rattle.read_tokens.specs.declared.Span.{Span}
 
 -- a part that lies in the text
 pub record Inside (text : Bytes) (s : Span) : Type 0 where
   pub forward : s .from ≤ s .past
   pub inside : s .past ≤ length text
-
--- a part of the text stands on the tape too, from a place on
-pub record OnTape (text : Bytes) (s : Span) (tape : List ℕ) (at : ℕ) : Type 0 where
-  pub inside : at + (s .past - s .from) ≤ length tape
-  pub same : take (s .past - s .from) (drop at tape) ≡ part text s
 
 -- more than the length of every identifier
 abbrev pub entryWidth : ℕ
@@ -34,15 +24,15 @@ abbrev pub maxParts : ℕ
 maxParts = 2
 
 abbrev pub variableRoom : ℕ
-variableRoom = 18
+variableRoom = maxSymbols + maxParts
 
 -- the name of an entry
-abbrev pub nameIn : Bytes → ℕ → Name
-nameIn text entry = slice (entry / entryWidth) (entry / entryWidth + entry % entryWidth) text
+abbrev pub entryName : Bytes → ℕ → Name
+entryName text entry = slice (entry / entryWidth) (entry / entryWidth + entry % entryWidth) text
 
 unfoldable pub namesIn : Bytes → List ℕ → List Name
 namesIn text [] = []
-namesIn text (entry ∷ entries) = nameIn text entry ∷ namesIn text entries
+namesIn text (entry ∷ entries) = entryName text entry ∷ namesIn text entries
 
 -- an entry's name lies in the text
 abbrev pub inText : Bytes → ℕ → Bool
@@ -61,7 +51,3 @@ pub record Entries (text : Bytes) (table : List ℕ) (from to : ℕ) : Type 0 wh
 unfoldable pub position : Name → List Name → ℕ
 position x [] = 0
 position x (y ∷ ys) = let later = suc (position x ys) in pick (sameBytes x y) 0 later
-
--- `declaredFault`, by the names declared before
-abbrev pub declaredFaultIn : List Name → Name → ℕ
-declaredFaultIn names n = lengthFault n (faultUnless (both (not (isReserved n)) (not (member n names))) wrongName 0)

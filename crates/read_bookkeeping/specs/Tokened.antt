@@ -16,7 +16,7 @@ use Rattle.read_tokens.specs.declared.Token.the-variants.{Name, Symbol, Part, W
 use Rattle.read_bookkeeping.specs.declared.progress.Fault.{Fault}
 use Rattle.read_bookkeeping.specs.declared.progress.Passed.{Passed}
 use Rattle.read_bookkeeping.specs.declared.progress.Passed.the-variants.{Past, Refused}
-use Rattle.answers.specs.Numbers.{numberOf}
+use Rattle.answers.specs.Numbers.{answerNumber}
 
 abbrev pub tokenFault : Token → ℕ
 tokenFault (Name name) = notAllowedHere
@@ -79,7 +79,7 @@ pub record Barred (text : Bytes) (mode : Tokens.Mode) (byte at : ℕ) (fault : F
   pub rest : List Tokens.Placed
   pub unrolled : stream text mode at ≡ token ∷ rest
   pub other : isSign byte (token .token) ≡ false
-  pub number : numberOf (fault .answer) ≡ faultOf (token .token)
+  pub number : answerNumber (fault .answer) ≡ faultOf (token .token)
   pub place : fault .place ≡ token .place
 
 abbrev pub Passes : Bytes → Tokens.Mode → ℕ → ℕ → Passed → Type 0

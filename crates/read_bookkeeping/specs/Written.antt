@@ -12,13 +12,13 @@ use Rattle.meaning.specs.Tokens as Tokens
 use Rattle.tape_layout.specs.Tape.{callWord}
 
 -- the tape with these words from a place on
-unfoldable pub written : List ℕ → ℕ → List ℕ → List ℕ
-written tape at words = sets tape at words
+unfoldable pub writtenFrom : List ℕ → ℕ → List ℕ → List ℕ
+writtenFrom tape at words = sets tape at words
 
 -- these words were written from a place on, up to another
-pub record Wrote (tape : List ℕ) (at : ℕ) (words : List ℕ) (at′ : ℕ) (tape′ : List ℕ) : Type 0 where
+pub record WroteOnTape (tape : List ℕ) (at : ℕ) (words : List ℕ) (at′ : ℕ) (tape′ : List ℕ) : Type 0 where
   pub reached : at′ ≡ at + length words
-  pub same : tape′ ≡ written tape at words
+  pub same : tape′ ≡ writtenFrom tape at words
 
 -- a string from the place after its opening quote
 abbrev pub stringFrom : Bytes → ℕ → Tokens.Quotation
@@ -41,4 +41,4 @@ pub record Went (text : Bytes) (at words : ℕ) (tape : List ℕ) (at′ words�
   pub inside : at′ ≤ length text
   pub charged : words′ ≤ at′
   pub counted : words′ ≡ words + length added
-  pub wrote : tape′ ≡ written tape words added
+  pub wrote : tape′ ≡ writtenFrom tape words added

@@ -2,31 +2,28 @@
 // place of an identifier, plus its length.
 use crate::progress::fault_if;
 use answers::Answer;
-use answers::is_accepted;
 use read_tokens::Span;
 use tape_words::limits::MAX_IDENTIFIER;
 use tape_words::limits::MAX_NAME;
 use tape_words::limits::MAX_SYMBOLS;
-use tape_words::names::is_known;
 ghost use mathlib.Core.Path.{_≡_};
 ghost use Prim.Native.Nat.{_+_, _-_, _*_, _≤_, _<_};
-ghost use lib.ListN.{length, take};
+ghost use lib.ListN.{length};
 ghost use Rattle.meaning.specs.Choice.{sameBytes, startsWith};
 ghost use Rattle.meaning.specs.Allowed.{maxTable};
 ghost use Rattle.meaning.specs.Names.{predicateOf, isPredicate};
 ghost use Rattle.meaning.specs.Reading.{calledFault, subjectFault};
-ghost use Rattle.read_tokens.specs.View.{part};
-ghost use Rattle.tape_words.specs.Words.{headNames};
-ghost use Rattle.answers.specs.Numbers.{numberOf};
+ghost use Rattle.read_tokens.specs.View.{spanText};
+ghost use Rattle.answers.specs.Numbers.{answerNumber};
 ghost use Rattle.read_bookkeeping.specs.Classed.{predicateMeant};
-ghost use Rattle.read_bookkeeping.specs.Tables.{Inside, OnTape, tableNames, Entries, position};
-ghost use Rattle.read_bookkeeping.specs.Tables.{entryWidth, variableRoom, declaredFaultIn};
+ghost use Rattle.read_bookkeeping.specs.Tables.{Inside, tableNames, Entries, position};
+ghost use Rattle.read_bookkeeping.specs.Tables.{entryWidth, variableRoom};
 
 // More than the length of every identifier.
 const ENTRY_WIDTH: usize = 32;
 
 // The e-variables of a pattern.
-const MAX_PARTS: usize = 2;
+pub const MAX_PARTS: usize = 2;
 
 // The entries of a table: s-variables from the first on, e-variables from entry MAX_SYMBOLS on.
 pub const VARIABLE_ROOM: usize = MAX_SYMBOLS + MAX_PARTS;
@@ -64,7 +61,7 @@ pub fn entry(name: Span) -> usize
 // Whether text[x] and text[y] are the same bytes.
 pub fn same(text: &[u8], x: Span, y: Span) -> bool
     requires { ⌜ Inside (now text) x × Inside (now text) y ⌝ }
-    ensures { λ r. ⌜ r ≡ sameBytes (part (now (text .entry)) x) (part (now (text .entry)) y) ⌝ }
+    ensures { λ r. ⌜ r ≡ sameBytes (spanText (now (text .entry)) x) (spanText (now (text .entry)) y) ⌝ }
 {
     let from = y.from;
     let past = y.past;
@@ -74,7 +71,7 @@ pub fn same(text: &[u8], x: Span, y: Span) -> bool
 // Whether text[x] begins with `word`.
 fn begins_with(text: &[u8], x: Span, word: &[u8]) -> bool
     requires { ⌜ Inside (now text) x ⌝ }
-    ensures { λ r. ⌜ r ≡ startsWith (now (word .entry)) (part (now (text .entry)) x) ⌝ }
+    ensures { λ r. ⌜ r ≡ startsWith (now (word .entry)) (spanText (now (text .entry)) x) ⌝ }
 {
     let from = x.from;
     let past = x.past;
@@ -94,7 +91,7 @@ fn begins_with(text: &[u8], x: Span, word: &[u8]) -> bool
 // Whether text[x] is `word`.
 pub fn spells(text: &[u8], x: Span, word: &[u8]) -> bool
     requires { ⌜ Inside (now text) x ⌝ }
-    ensures { λ r. ⌜ r ≡ sameBytes (part (now (text .entry)) x) (now (word .entry)) ⌝ }
+    ensures { λ r. ⌜ r ≡ sameBytes (spanText (now (text .entry)) x) (now (word .entry)) ⌝ }
 {
     if x.past - x.from != word.len() {
         return false;
@@ -106,7 +103,8 @@ pub fn spells(text: &[u8], x: Span, word: &[u8]) -> bool
 pub fn find(text: &[u8], table: &[usize], from: usize, to: usize, x: Span) -> usize
     requires { ⌜ Inside (now text) x × Entries (now text) (now table) from to ⌝ }
     ensures { λ r. ⌜ r
-        ≡ from + position (part (now (text .entry)) x) (tableNames (now (text .entry)) (now (table .entry)) from to) ⌝ }
+        ≡ from + position (spanText (now (text .entry)) x)
+        (tableNames (now (text .entry)) (now (table .entry)) from to) ⌝ }
 {
     let mut i = from;
     while i < to {
@@ -127,7 +125,7 @@ pub fn find(text: &[u8], table: &[usize], from: usize, to: usize, x: Span) -> us
 // The class that text[x] asks for as a predicate's name, if it is one's.
 pub fn class_named(text: &[u8], x: Span) -> Predicate
     requires { ⌜ Inside (now text) x ⌝ }
-    ensures { λ r. ⌜ predicateMeant r ≡ predicateOf (part (now (text .entry)) x) ⌝ }
+    ensures { λ r. ⌜ predicateMeant r ≡ predicateOf (spanText (now (text .entry)) x) ⌝ }
 {
     if spells(text, x, b"IsDigit") {
         return Predicate::Asks(Class::Digit);
@@ -150,7 +148,7 @@ pub fn class_named(text: &[u8], x: Span) -> Predicate
 // Whether text[x] is a predicate's name.
 fn is_predicate(text: &[u8], x: Span) -> bool
     requires { ⌜ Inside (now text) x ⌝ }
-    ensures { λ r. ⌜ r ≡ isPredicate (part (now (text .entry)) x) ⌝ }
+    ensures { λ r. ⌜ r ≡ isPredicate (spanText (now (text .entry)) x) ⌝ }
 {
     match class_named(text, x) {
         Predicate::Asks(_) => true,
@@ -161,7 +159,7 @@ fn is_predicate(text: &[u8], x: Span) -> bool
 // What is wrong with text[x] as a called name.
 pub fn called_fault(text: &[u8], x: Span) -> Answer
     requires { ⌜ Inside (now text) x ⌝ }
-    ensures { λ r. ⌜ numberOf r ≡ calledFault (part (now (text .entry)) x) ⌝ }
+    ensures { λ r. ⌜ answerNumber r ≡ calledFault (spanText (now (text .entry)) x) ⌝ }
 {
     if MAX_NAME < x.past - x.from {
         return Answer::OverLimit;
@@ -169,35 +167,12 @@ pub fn called_fault(text: &[u8], x: Span) -> Answer
     fault_if(is_predicate(text, x), Answer::WrongName)
 }
 
-// What is wrong with text[x] as a declared name. It stands on the tape too, from `at` on, as do the names at the first
-// `functions` heads, which are declared before it: what a name means is asked there.
-pub fn declared_fault(
-    text: &[u8],
-    x: Span,
-    tape: &[u32],
-    at: usize,
-    heads: &[usize],
-    functions: usize,
-) -> Answer
-    requires { ⌜ Inside (now text) x × OnTape (now text) x (now tape) at × (functions ≤ length (now heads)) ⌝ }
-    ensures { λ r. ⌜ numberOf r
-        ≡ declaredFaultIn (headNames (now (tape .entry)) (take functions (now (heads .entry))))
-        (part (now (text .entry)) x) ⌝ }
-{
-    let fault = called_fault(text, x);
-    if !is_accepted(fault) {
-        return fault;
-    }
-    let known = is_known(tape, heads, functions, at, x.past - x.from);
-    fault_if(known, Answer::WrongName)
-}
-
 // What is wrong with the variable text[x] after the pattern, whose own of its kind are table[from..to].
 pub fn later_fault(text: &[u8], table: &[usize], from: usize, to: usize, x: Span) -> Answer
     requires { ⌜ Inside (now text) x × Entries (now text) (now table) from to ⌝ }
-    ensures { λ r. ⌜ numberOf r
+    ensures { λ r. ⌜ answerNumber r
         ≡ subjectFault (tableNames (now (text .entry)) (now (table .entry)) from to)
-        (part (now (text .entry)) x) ⌝ }
+        (spanText (now (text .entry)) x) ⌝ }
 {
     if MAX_IDENTIFIER < x.past - x.from {
         return Answer::OverLimit;

@@ -9,7 +9,7 @@ ghost use Prim.Native.Nat.{_≤_};
 ghost use lib.ListN.{length};
 ghost use Rattle.meaning.specs.Choice.{pick};
 ghost use Rattle.read_tokens.specs.View.{modeOf};
-ghost use Rattle.answers.specs.Numbers.{numberOf};
+ghost use Rattle.answers.specs.Numbers.{answerNumber};
 ghost use Rattle.read_bookkeeping.specs.Tokened.{tokenFault, signIs, wordIs, Passes};
 
 pub struct Fault {
@@ -31,14 +31,14 @@ pub enum Parsed {
 
 // An answer where something is wrong, and else that nothing is.
 pub fn fault_if(wrong: bool, answer: Answer) -> Answer
-    ensures { λ r. ⌜ numberOf r ≡ pick wrong (numberOf answer) 0 ⌝ }
+    ensures { λ r. ⌜ answerNumber r ≡ pick wrong (answerNumber answer) 0 ⌝ }
 {
     if wrong { answer } else { Answer::Accepted }
 }
 
 // A token that may not stand here, or is malformed.
 pub fn refuse(t: Placed) -> Fault
-    ensures { λ r. ⌜ (numberOf (r .answer) ≡ tokenFault (t .token)) × (r .place ≡ t .place) ⌝ }
+    ensures { λ r. ⌜ (answerNumber (r .answer) ≡ tokenFault (t .token)) × (r .place ≡ t .place) ⌝ }
 {
     let token = t.token;
     if let Token::Malformed = token {

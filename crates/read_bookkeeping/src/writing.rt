@@ -10,9 +10,9 @@ ghost use lib.ListN.{set};
 ghost use Rattle.meaning.specs.Choice.{every};
 ghost use Rattle.meaning.specs.Allowed.{maxTable};
 ghost use Rattle.tape_layout.specs.Tape.{functionWord};
-ghost use Rattle.read_tokens.specs.View.{IsClosed, charactersIn, part};
+ghost use Rattle.read_tokens.specs.View.{IsClosed, charactersIn, spanText};
 ghost use Rattle.read_bookkeeping.specs.Tables.{Inside};
-ghost use Rattle.read_bookkeeping.specs.Written.{isQuiet, Ready, Wrote, stringFrom};
+ghost use Rattle.read_bookkeeping.specs.Written.{isQuiet, Ready, WroteOnTape, stringFrom};
 
 // A word past the tape's end is left out: `reading::read` requires a tape on which none is.
 pub fn put(tape: &mut [u32], at: usize, word: u32)
@@ -26,8 +26,8 @@ pub fn put(tape: &mut [u32], at: usize, word: u32)
 // The bytes of a part of the text.
 pub fn put_bytes(text: &[u8], tape: &mut [u32], at: usize, x: Span) -> usize
     requires { ⌜ Inside (now text) x × (at + (x .past - x .from) ≤ maxTable) ⌝ }
-    ensures { λ r. ⌜ Wrote (now (tape .entry)) at (part (now (text .entry)) x) r (now (tape .exit)) ×
-        T (every isQuiet (part (now (text .entry)) x)) ⌝ }
+    ensures { λ r. ⌜ WroteOnTape (now (tape .entry)) at (spanText (now (text .entry)) x) r (now (tape .exit)) ×
+        T (every isQuiet (spanText (now (text .entry)) x)) ⌝ }
 {
     let past = x.past;
     let mut to = at;
@@ -44,8 +44,8 @@ pub fn put_bytes(text: &[u8], tape: &mut [u32], at: usize, x: Span) -> usize
 // A word, and the bytes of a part of the text after it.
 pub fn put_named(text: &[u8], tape: &mut [u32], at: usize, word: u32, x: Span) -> usize
     requires { ⌜ Inside (now text) x × (at + 1 + (x .past - x .from) ≤ maxTable) ⌝ }
-    ensures { λ r. ⌜ Wrote (now (tape .entry)) at (word ∷ part (now (text .entry)) x) r (now (tape .exit)) ×
-        T (every isQuiet (part (now (text .entry)) x)) ⌝ }
+    ensures { λ r. ⌜ WroteOnTape (now (tape .entry)) at (word ∷ spanText (now (text .entry)) x) r (now (tape .exit)) ×
+        T (every isQuiet (spanText (now (text .entry)) x)) ⌝ }
 {
     put(tape, at, word);
     put_bytes(text, tape, at + 1, x)
@@ -54,9 +54,9 @@ pub fn put_named(text: &[u8], tape: &mut [u32], at: usize, word: u32, x: Span) -
 // A word of a kind and a name's length, and the name's bytes after it.
 pub fn put_name(text: &[u8], tape: &mut [u32], at: usize, kind: usize, x: Span) -> usize
     requires { ⌜ Inside (now text) x × (at + 1 + (x .past - x .from) ≤ maxTable) × (kind ≤ functionWord) ⌝ }
-    ensures { λ r. ⌜ Wrote (now (tape .entry)) at ((kind + (x .past - x .from)) ∷ part (now (text .entry)) x) r
-        (now (tape .exit))
-        × T (every isQuiet (part (now (text .entry)) x)) ⌝ }
+    ensures { λ r. ⌜ WroteOnTape (now (tape .entry)) at
+        ((kind + (x .past - x .from)) ∷ spanText (now (text .entry)) x) r (now (tape .exit))
+        × T (every isQuiet (spanText (now (text .entry)) x)) ⌝ }
 {
     let word = (kind + (x.past - x.from)) as u32;
     put_named(text, tape, at, word, x)
@@ -65,7 +65,7 @@ pub fn put_name(text: &[u8], tape: &mut [u32], at: usize, kind: usize, x: Span) 
 // The characters of a string that is well formed, from the place after its opening quote.
 pub fn put_characters(text: &[u8], tape: &mut [u32], at: usize, from: usize) -> usize
     requires { ⌜ Ready (now text) from at × IsClosed (stringFrom (now text) from) ⌝ }
-    ensures { λ r. ⌜ Wrote (now (tape .entry)) at (charactersIn (stringFrom (now (text .entry)) from)) r
+    ensures { λ r. ⌜ WroteOnTape (now (tape .entry)) at (charactersIn (stringFrom (now (text .entry)) from)) r
         (now (tape .exit))
         × T (every isQuiet (charactersIn (stringFrom (now (text .entry)) from))) ⌝ }
 {

@@ -13,7 +13,7 @@ use Rattle.meaning.specs.Choice.{Bytes, pick}
 use Rattle.meaning.specs.Classes.{inClass, digit}
 use Rattle.meaning.specs.Tokens.{Quoting, plain, escaped, coded, Turn, goesOn, closes, breaks, digitValue, codeTurn, turn, quoteOn, quotation}
 use Rattle.meaning.proofs.laws.Passing.{both-left, both-right, passed}
-use Rattle.read_characters.specs.View.{Passes, Stands}
+use Rattle.read_characters.specs.View.{byteCount, EndsInText, StandsInString}
 use Rattle.read_characters.specs.declared.Character.{Character}
 use Rattle.read_characters.specs.declared.Character.the-variants.{Given, Nothing, Closed, Broken}
 use Rattle.meaning.proofs.laws.Places.{here, nothing}
@@ -49,12 +49,12 @@ taking text state at h e characters = rw (here text at h, add-one, e characters)
 -- the code so far, whatever the characters before it
 pub record Coding (text : Bytes) (first from value at : ℕ) : Type 0 where
   pub same : (characters : Bytes) → quotation (coded first) characters from (drop from text) ≡ quotation (coded value) characters at (drop at text)
-  pub small : value < 256
+  pub small : value < byteCount
   pub onward : from ≤ at
   pub inside : at ≤ length text
 
 module _ (text : Bytes) (first from value at : ℕ) where
-  pub code-ends : Coding text first from value at → length text ≤ at → Stands text (coded first) from from (Given value at)
+  pub code-ends : Coding text first from value at → length text ≤ at → StandsInString text (coded first) from from (Given value at)
   unfolding quotation
   code-ends r h = record { same = λ characters. r .same characters ∙ rw (nothing text at h); passes = (r .onward, r .inside) }
 
@@ -70,11 +70,11 @@ module _ (text : Bytes) (first from value at : ℕ) where
   abbrev more : ℕ
   more = value * 10 + (getD text at 0 - 48)
 
-  code-turn : CodingAt true → {small : Bool} → ltb more 256 ≡ small
+  code-turn : CodingAt true → {small : Bool} → ltb more byteCount ≡ small
       → Turns (coded value) (getD text at 0) (λ characters. pick small (goesOn (coded more) characters) breaks)
   code-turn c s characters = rw (c .class, s)
 
-  pub code-goes : CodingAt true → more < 256 → Coding text first from more (at + 1)
+  pub code-goes : CodingAt true → more < byteCount → Coding text first from more (at + 1)
   code-goes c s =
       record {
         same = λ characters. c .coding .same characters ∙ taking text (coded value) at (c .inside) (code-turn c (lt-ltb _ _ s)) characters;
@@ -83,14 +83,14 @@ module _ (text : Bytes) (first from value at : ℕ) where
         inside = omega arith;
       }
 
-  pub code-breaks : CodingAt true → 256 ≤ more → Stands text (coded first) from from (Broken (at + 1))
+  pub code-breaks : CodingAt true → byteCount ≤ more → StandsInString text (coded first) from from (Broken (at + 1))
   code-breaks c s = record {
     same = λ characters. c .coding .same characters ∙
         taking text (coded value) at (c .inside) (code-turn c (le-ltb _ _ s)) characters;
     passes = tt;
   }
 
-  pub code-stops : CodingAt false → Stands text (coded first) from from (Given value at)
+  pub code-stops : CodingAt false → StandsInString text (coded first) from from (Given value at)
   unfolding quotation
   code-stops c =
       record {
@@ -107,33 +107,33 @@ module _ (text : Bytes) (state : Quoting) (at low : ℕ) (h : (at < length text)
   passes-byte = omega arith
 
   pub stands-given : (v : ℕ) → Turns state (getD text at 0) (λ characters. goesOn plain (characters ++ v ∷ [])) →
-      Stands text state at low (Given v (at + 1))
+      StandsInString text state at low (Given v (at + 1))
   stands-given v e = record { same = taking text state at (h .0) e; passes = passes-byte }
 
-  pub stands-nothing : Turns state (getD text at 0) (goesOn plain) → Stands text state at low (Nothing (at + 1))
+  pub stands-nothing : Turns state (getD text at 0) (goesOn plain) → StandsInString text state at low (Nothing (at + 1))
   stands-nothing e = record { same = taking text state at (h .0) e; passes = passes-byte }
 
-  pub stands-closed : Turns state (getD text at 0) closes → Stands text state at low (Closed (at + 1))
+  pub stands-closed : Turns state (getD text at 0) closes → StandsInString text state at low (Closed (at + 1))
   stands-closed e = record { same = taking text state at (h .0) e; passes = passes-byte }
 
-  pub stands-broken : Turns state (getD text at 0) (λ characters. breaks) → Stands text state at low (Broken (at + 1))
+  pub stands-broken : Turns state (getD text at 0) (λ characters. breaks) → StandsInString text state at low (Broken (at + 1))
   stands-broken e = record { same = taking text state at (h .0) e; passes = tt }
 
-  pub stands-later : (next : Quoting) (r : Character) → Turns state (getD text at 0) (goesOn next) → Stands text next (at + 1) (at + 1) r →
-      Stands text state at low r
+  pub stands-later : (next : Quoting) (r : Character) → Turns state (getD text at 0) (goesOn next) → StandsInString text next (at + 1) (at + 1) r →
+      StandsInString text state at low r
   stands-later next r e s = record {
     same = λ characters. taking text state at (h .0) e characters ∙ s .same characters;
     passes =
         further r (s .passes);
   }
     where
-      further : (c : Character) → Passes text (at + 1) c → Passes text low c
+      further : (c : Character) → EndsInText text (at + 1) c → EndsInText text low c
       further (Given b past) p = (omega arith, p .1)
       further (Nothing past) p = (omega arith, p .1)
       further (Closed past) p = (omega arith, p .1)
       further (Broken past) p = tt
 
-pub stands-end : (text : Bytes) (state : Quoting) (at low : ℕ) → length text ≤ at → Stands text state at low (Broken at)
+pub stands-end : (text : Bytes) (state : Quoting) (at low : ℕ) → length text ≤ at → StandsInString text state at low (Broken at)
 unfolding quotation
 stands-end text state at low h = record { same = λ characters. rw (nothing text at h); passes = tt }
 
@@ -167,7 +167,7 @@ module _ (b : ℕ) where
   unlisted-digit u = is-digit b (u .class)
 
   pub escape-digit : Unlisted b true → (characters : Bytes) → turn escaped characters b ≡ goesOn (coded (digitValue b)) characters
-  escape-digit u characters = let d = unlisted-digit u in other u characters ∙ rw (lt-ltb (digitValue b) 256 (omega arith))
+  escape-digit u characters = let d = unlisted-digit u in other u characters ∙ rw (lt-ltb (digitValue b) byteCount (omega arith))
 
   pub escape-other : Unlisted b false → (characters : Bytes) → turn escaped characters b ≡ breaks
   escape-other u characters = other u characters

@@ -3,7 +3,10 @@ use byte_classes::is_digit;
 ghost use Prim.Native.Nat.{_+_, _≤_, _<_};
 ghost use lib.ListN.{length};
 ghost use Rattle.meaning.specs.Tokens as Tokens;
-ghost use Rattle.read_characters.specs.View.{Stands};
+ghost use Rattle.read_characters.specs.View.{byteCount, StandsInString};
+
+// A code is below the number of bytes.
+const BYTE_COUNT: usize = 256;
 
 // What stands at a place of a string: a character, a line end that gives nothing, the closing quote, or what may not
 // stand there; with the place after it.
@@ -16,8 +19,8 @@ pub enum Character {
 
 // A code: decimal digits as long as they go, from the value of those before.
 fn code(text: &[u8], from: usize, first: usize) -> Character
-    requires { ⌜ (first < 256) × (from ≤ length (now text)) ⌝ }
-    ensures { λ r. ⌜ Stands (now (text .entry)) (Tokens.coded first) from from r ⌝ }
+    requires { ⌜ (first < byteCount) × (from ≤ length (now text)) ⌝ }
+    ensures { λ r. ⌜ StandsInString (now (text .entry)) (Tokens.coded first) from from r ⌝ }
 {
     let mut value = first;
     let mut at = from;
@@ -26,9 +29,9 @@ fn code(text: &[u8], from: usize, first: usize) -> Character
         if !is_digit(byte) {
             return Character::Given(value as u8, at);
         }
-        value = value * 10 + (byte - 48) as usize;
+        value = value * 10 + (byte - b'0') as usize;
         at += 1;
-        if 255 < value {
+        if BYTE_COUNT <= value {
             return Character::Broken(at);
         }
     }
@@ -37,7 +40,7 @@ fn code(text: &[u8], from: usize, first: usize) -> Character
 
 // After a `\`.
 fn escape(text: &[u8], at: usize) -> Character
-    ensures { λ r. ⌜ Stands (now (text .entry)) Tokens.escaped at at r ⌝ }
+    ensures { λ r. ⌜ StandsInString (now (text .entry)) Tokens.escaped at at r ⌝ }
 {
     if text.len() <= at {
         return Character::Broken(at);
@@ -45,13 +48,13 @@ fn escape(text: &[u8], at: usize) -> Character
     let byte = text[at];
     let past = at + 1;
     match byte {
-        34 | 39 | 92 => Character::Given(byte, past),
-        110 => Character::Given(10, past),
-        116 => Character::Given(9, past),
-        10 => Character::Nothing(past),
+        b'"' | b'\'' | b'\\' => Character::Given(byte, past),
+        b'n' => Character::Given(b'\n', past),
+        b't' => Character::Given(b'\t', past),
+        b'\n' => Character::Nothing(past),
         _ => {
             if is_digit(byte) {
-                code(text, past, (byte - 48) as usize)
+                code(text, past, (byte - b'0') as usize)
             } else {
                 Character::Broken(past)
             }
@@ -60,7 +63,7 @@ fn escape(text: &[u8], at: usize) -> Character
 }
 
 pub fn next_character(text: &[u8], at: usize) -> Character
-    ensures { λ r. ⌜ Stands (now (text .entry)) Tokens.plain at (at + 1) r ⌝ }
+    ensures { λ r. ⌜ StandsInString (now (text .entry)) Tokens.plain at (at + 1) r ⌝ }
 {
     if text.len() <= at {
         return Character::Broken(at);
@@ -68,9 +71,9 @@ pub fn next_character(text: &[u8], at: usize) -> Character
     let byte = text[at];
     let past = at + 1;
     match byte {
-        39 => Character::Closed(past),
-        34 => Character::Broken(past),
-        92 => escape(text, past),
+        b'\'' => Character::Closed(past),
+        b'"' => Character::Broken(past),
+        b'\\' => escape(text, past),
         _ => Character::Given(byte, past),
     }
 }

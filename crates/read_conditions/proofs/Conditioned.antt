@@ -19,10 +19,11 @@ use Rattle.meaning.specs.Names.{predicateOf}
 use Rattle.tape_layout.specs.Tape.{classCount, conditionTruth, conditionPart, conditionSize, conditionWord}
 use Rattle.tape_layout.specs.Tape.{truthNumber, subjectTape, conditionTape, conditionsTape}
 use Rattle.meaning.specs.Tokens as Tokens
-use Rattle.meaning.specs.Grammar.{standing}
+use Rattle.meaning.specs.Grammar.{standing, truthByte}
 use Rattle.meaning.specs.Reading as Reading
 use Rattle.meaning.specs.Reading.{Parsed, stopped, parsed, follow, subjectFault, itemOf, subjectOn}
 use Rattle.meaning.proofs.laws.Passing.{both-pass}
+use Rattle.meaning.specs.Allowed.{maxConditions, maxIdentifier, maxName, maxTable}
 use Rattle.read_tokens.proofs.Token as token
 use Rattle.read_tokens.proofs.Shortest.{three-bytes}
 use Rattle.read_tokens.specs.View as View
@@ -43,9 +44,9 @@ use Rattle.read_bookkeeping.specs.declared.progress.Progress.{Progress}
 use Rattle.read_bookkeeping.specs.declared.progress.Parsed.{Parsed as CodeParsed}
 use Rattle.read_bookkeeping.specs.declared.progress.Parsed.the-variants.{Stopped, Done}
 use Rattle.read_bookkeeping.specs.Tables.{Inside}
-use Rattle.answers.specs.Numbers.{numberOf}
+use Rattle.answers.specs.Numbers.{answerNumber}
 use Rattle.read_bookkeeping.specs.Answered.{Agrees}
-use Rattle.read_bookkeeping.specs.Written.{Wrote, isQuiet, Ready, Went}
+use Rattle.read_bookkeeping.specs.Written.{WroteOnTape, isQuiet, Ready, Went}
 use Rattle.read_bookkeeping.specs.Tokened.{signIs, Taken, Barred}
 use Rattle.read_bookkeeping.specs.Items.{Variables, symbolNames, partNames}
 use Rattle.read_conditions.specs.declared.Named.{Named}
@@ -53,8 +54,8 @@ use Rattle.read_conditions.specs.declared.Named.the-variants.{Variable, 
 use Rattle.read_conditions.specs.declared.Closing.{Closing}
 use Rattle.read_conditions.specs.declared.Closing.the-variants.{Says, NoTruth}
 use Rattle.tape_words.specs.Words.{subjectOf}
-use Rattle.read_conditions.specs.Conditions.{variableOf, variableNames, kindNumber, conditionEnd, conditionOn}
-use Rattle.read_conditions.specs.Conditions.{closingAs, truthIn, truthBetween, Standing, Before, ConditionRead, ConditionsRead}
+use Rattle.read_conditions.specs.Conditions.{variableIn, variableNames, kindNumber, conditionEnd, conditionOn}
+use Rattle.read_conditions.specs.Conditions.{closingAs, truthSaid, truthBetween, Standing, Before, ConditionRead, ConditionsRead}
 use Rattle.meaning_accepting.proofs.reading.Basics.{no-value}
 use Rattle.read_bookkeeping.proofs.Choosing.{both-true, no-fault-here, a-fault-here}
 use Rattle.read_bookkeeping.proofs.Lengths.{too-long, short-enough, within}
@@ -70,9 +71,9 @@ use Rattle.read_bookkeeping.proofs.Tokening.{ready-past, ready-taken, went-befo
 abbrev noVariable : List ℕ
 noVariable = 0 ∷ 3 ∷ 4 ∷ 5 ∷ 6 ∷ 7 ∷ []
 
-pub no-variable : (k : Token) → OneOf noVariable (tagOf token.the-type k) → Other ≡ variableOf k
+pub no-variable : (k : Token) → OneOf noVariable (tagOf token.the-type k) → Other ≡ variableIn k
 no-variable =
-    by-kind (λ k. OneOf noVariable (tagOf token.the-type k) → Other ≡ variableOf k) (λ n o. refl) (λ x o. absurd (miss noVariable 1 tt o))
+    by-kind (λ k. OneOf noVariable (tagOf token.the-type k) → Other ≡ variableIn k) (λ n o. refl) (λ x o. absurd (miss noVariable 1 tt o))
     (λ x o. absurd (miss noVariable 2 tt o)) (λ o. refl) (λ n o. refl) (λ b o. refl) (λ o. refl) (λ o. refl)
 
 -- a token that is no variable is refused where one is to stand
@@ -85,9 +86,9 @@ abbrev Tells : Bytes → ℕ → ℕ → Token → Named → Type 0
 Tells text place past k (Variable isPart x) = k ≡ variableToken isPart x
 Tells text place past k Other = Refuses text place past k
 
-tells : (text : Bytes) (place past : ℕ) (k : Token) → Tells text place past k (variableOf k)
+tells : (text : Bytes) (place past : ℕ) (k : Token) → Tells text place past k (variableIn k)
 tells text place past =
-    by-kind (λ k. Tells text place past k (variableOf k)) (λ n s ss ps t next. refl) (λ x. refl) (λ x. refl) (λ s ss ps t next. rw s)
+    by-kind (λ k. Tells text place past k (variableIn k)) (λ n s ss ps t next. refl) (λ x. refl) (λ x. refl) (λ s ss ps t next. rw s)
     (λ n s ss ps t next. refl) (λ b s ss ps t next. refl) (λ s ss ps t next. refl) (λ s ss ps t next. refl)
 
 -- what is asked of the pattern's variables of a kind
@@ -126,26 +127,28 @@ pub says-truth : (o : Option Bool) {truth : Bool} → Says truth ≡ closingAs o
 says-truth none e = let z : _≡_ {A = ℕ} 0 1 = cc in absurd (omega arith)
 says-truth (some truth) e = cc
 
-pub truth-none : (text : Bytes) (t : Code.Placed) → OneOf allButQuoted (tagOf token.the-type (t .token)) → NoTruth ≡ closingAs (truthIn text t)
+pub truth-none : (text : Bytes) (t : Code.Placed) → OneOf allButQuoted (tagOf token.the-type (t .token)) → NoTruth ≡ closingAs (truthSaid text t)
 truth-none text t o = rw (no-string text (t .token) (t .place) (t .past) (eqb (t .past) (t .place + 3)) o)
 
 module _ (text : Bytes) (t : Code.Placed) (count : ℕ) (e : t .token ≡ Quoted count) where
-  pub truth-long : (t .past ≡ t .place + 3 → ⊥) → NoTruth ≡ closingAs (truthIn text t)
+  pub truth-long : (t .past ≡ t .place + 3 → ⊥) → NoTruth ≡ closingAs (truthSaid text t)
   truth-long d = rw (e, ne-eqb (t .past) (t .place + 3) d)
 
   module _ (s : Standing text t) (d : t .past ≡ t .place + 3) where
     abbrev middle : ℕ
     middle = getD text (t .place + 1) 0
 
-    three : truthIn text t ≡ pick (both (eqb middle 84) true) (some true) (pick (both (eqb middle 70) true) (some false) none)
+    three : truthSaid text t
+        ≡ pick (both (eqb middle (truthByte true)) true) (some true) (pick (both (eqb middle (truthByte false)) true) (some false) none)
     unfolding sameBytes
     three =
         let q = rw e at (s .sound) in
         rw (e, eq-eqb (t .past) (t .place + 3) d, three-bytes text (t .place) (t .past) d (s .inside) (q .0))
 
-    pub truth-three : {closing : Closing} → closing ≡ closingAs (truthBetween middle) → closing ≡ closingAs (truthIn text t)
+    pub truth-three : {closing : Closing} → closing ≡ closingAs (truthBetween middle) → closing ≡ closingAs (truthSaid text t)
     truth-three v =
-        let e : truthIn text t ≡ truthBetween middle = three ∙ rw (← (both-true (eqb middle 84)), ← (both-true (eqb middle 70))) in
+        let e : truthSaid text t ≡ truthBetween middle =
+        three ∙ rw (← (both-true (eqb middle (truthByte true))), ← (both-true (eqb middle (truthByte false)))) in
         v ∙ ap closingAs (sym e)
 
 -- a condition that is read from a later place on is read from here
@@ -159,7 +162,7 @@ earlier {q = q} h e a =
 
 abbrev EndAgrees : Bytes → ℕ → ℕ → List ℕ → List ℕ → Bool → Span → Class → CodeParsed → Type 0
 EndAgrees text from words tape tape′ isPart x c r =
-    Agrees (ConditionRead text from words tape tape′) (conditionEnd c (subjectOf isPart (View.part text x)) (stream text Tokens.inside from)) r
+    Agrees (ConditionRead text from words tape tape′) (conditionEnd c (subjectOf isPart (View.spanText text x)) (stream text Tokens.inside from)) r
 
 -- what is left of a condition at its closing string
 abbrev withTruth : Class → Subject → Bool → List Tokens.Placed → Parsed Condition
@@ -180,7 +183,7 @@ goes-on text place past is truth =
 
 -- the variable lies in the text, and the tape has room for it
 pub before-room : {text : Bytes} {from words : ℕ} {x : Span} → Ready text from words → Before text words from x
-    → Inside text x × (words + 1 + (x .past - x .from) ≤ 32768)
+    → Inside text x × (words + 1 + (x .past - x .from) ≤ maxTable)
 before-room r b = (
   record { forward = omega (arith, b .some); inside = omega (arith, b .before, r .inside) },
   omega (arith, b .after, b .some, b .before, r .inside, r .short),
@@ -190,47 +193,49 @@ before-room r b = (
 pub record ClosingAt (text : Bytes) (from words : ℕ) (x : Span) (close colon : ℕ) (t : Code.Placed) (closing : Closing) : Type 0 where
   pub ready : Ready text from words
   pub variable : Before text words from x
-  pub closed : Taken text Tokens.inside 62 from close
-  pub parted : Taken text Tokens.inside 58 close colon
+  pub closed : Taken text Tokens.inside Tokens.greaterThan from close
+  pub parted : Taken text Tokens.inside Tokens.colon close colon
   pub first : Comes text Tokens.inside colon t
-  pub truth : closing ≡ closingAs (truthIn text t)
+  pub truth : closing ≡ closingAs (truthSaid text t)
 
 module _ (isPart : Bool) {text : Bytes} {from words : ℕ} {x : Span} where
-  pub end-no-close : Before text words from x → (c : Class) {tape tape′ : List ℕ} {fault : Fault} → Barred text Tokens.inside 62 from fault
+  pub end-no-close : Before text words from x → (c : Class) {tape tape′ : List ℕ} {fault : Fault}
+      → Barred text Tokens.inside Tokens.greaterThan from fault
       → EndAgrees text from words tape tape′ isPart x c (Stopped fault)
   end-no-close b c k = barred-stops _ k
 
   pub end-no-colon : Before text words from x → (c : Class) {tape tape′ : List ℕ} {close : ℕ} {fault : Fault} →
-      Taken text Tokens.inside 62 from close → Barred text Tokens.inside 58 close fault
+      Taken text Tokens.inside Tokens.greaterThan from close → Barred text Tokens.inside Tokens.colon close fault
       → EndAgrees text from words tape tape′ isPart x c (Stopped fault)
   end-no-colon b c t k = stops (passes-on _ t ∙ passes-not _ k)
 
   module _ {close colon : ℕ} {t : Code.Placed} {closing : Closing} (a : ClosingAt text from words x close colon t closing) (c : Class) where
-    at-truth : conditionEnd c (subjectOf isPart (View.part text x)) (stream text Tokens.inside from)
-        ≡ Reading.passTruth (stream text Tokens.inside colon) (withTruth c (subjectOf isPart (View.part text x)))
+    at-truth : conditionEnd c (subjectOf isPart (View.spanText text x)) (stream text Tokens.inside from)
+        ≡ Reading.passTruth (stream text Tokens.inside colon) (withTruth c (subjectOf isPart (View.spanText text x)))
     at-truth = passes-on _ (a .closed) ∙ passes-on _ (a .parted)
 
     pub end-no-truth : {tape tape′ : List ℕ} {fault : Fault} → closing ≡ NoTruth → FaultOf t fault
         → EndAgrees text from words tape tape′ isPart x c (Stopped fault)
-    end-no-truth e f = refused (a .first) (at-truth ∙ rw (a .first .unrolled, says-nothing (truthIn text t) (rw e at (a .truth)))) f
+    end-no-truth e f = refused (a .first) (at-truth ∙ rw (a .first .unrolled, says-nothing (truthSaid text t) (rw e at (a .truth)))) f
 
     pub end-reads : {tape tape′ : List ℕ} {expected : Bool} {kind truth class word after : ℕ} → closing ≡ Says expected
         → (kind ≡ kindNumber isPart) × (kind ≤ conditionPart)
         → (truth ≡ truthNumber expected) × (truth ≤ conditionTruth)
         → (class ≡ classNumber c) × (class < classCount)
         → word ≡ conditionWord + (x .past - x .from) * conditionSize + kind + truth + class
-        → Wrote tape words (word ∷ View.part text x) after tape′ × T (every isQuiet (View.part text x))
+        → WroteOnTape tape words (word ∷ View.spanText text x) after tape′ × T (every isQuiet (View.spanText text x))
         → EndAgrees text from words tape tape′ isPart x c (Done (record { at = t .past; words = after }))
     unfolding every
     end-reads {expected = expected} {truth = truth} {class = class} {word = word} {after = after} e h u k w o =
         let b = a .variable in
-        let same : truthIn text t ≡ some expected = says-truth (truthIn text t) (rw e at (a .truth)) in
-        let l : length (View.part text x) ≡ x .past - x .from = length-slice (x .from) (x .past) text (omega (arith, b .before, a .ready .inside)) in
-        let q : subjectTape (truthNumber expected + classNumber c) (subjectOf isPart (View.part text x)) ≡ word ∷ View.part text x =
-        rw (← (u .0), ← (k .0)) (subject-tape isPart (View.part text x) truth class (rw (l, ← (h .0)) w))
+        let same : truthSaid text t ≡ some expected = says-truth (truthSaid text t) (rw e at (a .truth)) in
+        let l : length (View.spanText text x) ≡ x .past - x .from =
+        length-slice (x .from) (x .past) text (omega (arith, b .before, a .ready .inside)) in
+        let q : subjectTape (truthNumber expected + classNumber c) (subjectOf isPart (View.spanText text x)) ≡ word ∷ View.spanText text x =
+        rw (← (u .0), ← (k .0)) (subject-tape isPart (View.spanText text x) truth class (rw (l, ← (h .0)) w))
         in
-        let m : after ≡ words + suc (length (View.part text x)) = o .0 .reached in
-        reads (record { predicate = c; subject = subjectOf isPart (View.part text x); expected = expected }) (stream text Tokens.inside (t .past))
+        let m : after ≡ words + suc (length (View.spanText text x)) = o .0 .reached in
+        reads (record { predicate = c; subject = subjectOf isPart (View.spanText text x); expected = expected }) (stream text Tokens.inside (t .past))
         (at-truth ∙ rw (a .first .unrolled, same, goes-on text (t .place) (t .past) _ _ (t .token) same))
         (record {
           tokens = refl;
@@ -244,7 +249,7 @@ module _ (isPart : Bool) {text : Bytes} {from words : ℕ} {x : Span} where
               };
           quiet =
               rw q
-              (both-pass (isQuiet word) (every isQuiet (View.part text x)) (lt→ltb word 2304 (omega (arith, b .short, h .1, u .1, k .1))) (o .1));
+              (both-pass (isQuiet word) (every isQuiet (View.spanText text x)) (lt→ltb word 2304 (omega (arith, b .short, h .1, u .1, k .1))) (o .1));
         })
 
 -- A CONDITION AFTER ITS PREDICATE
@@ -272,15 +277,15 @@ pub record OnVariable {text table : List ℕ} {symbols parts from words : ℕ} {
 pub record OnAsked {text table : List ℕ} {symbols parts from words : ℕ} {t : Code.Placed}
     {on : OnToken text table symbols parts from words t} {isPart : Bool} {x : Span}
     (s : OnVariable on isPart x) (number : ℕ) (is : Bool) : Type 0 where
-  pub fault : number ≡ subjectFault (variableNames text table symbols parts isPart) (View.part text x)
+  pub fault : number ≡ subjectFault (variableNames text table symbols parts isPart) (View.spanText text x)
   pub accepted : is ≡ eqb number 0
 
-told : (text : Bytes) (t : Code.Placed) (named : Named) → named ≡ variableOf (t .token) → Tells text (t .place) (t .past) (t .token) named
+told : (text : Bytes) (t : Code.Placed) (named : Named) → named ≡ variableIn (t .token) → Tells text (t .place) (t .past) (t .token) named
 told text t named e = rw e (tells text (t .place) (t .past) (t .token))
 
 module _ {text table : List ℕ} {symbols parts from words : ℕ} {t : Code.Placed} where
   pub on-no-variable : OnToken text table symbols parts from words t → (c : Class) {tape tape′ : List ℕ} {fault : Fault}
-      → Other ≡ variableOf (t .token)
+      → Other ≡ variableIn (t .token)
       → FaultOf t fault
       → OnAgrees text table symbols parts from words tape tape′ c (Stopped fault)
   on-no-variable a c o f =
@@ -290,28 +295,28 @@ module _ {text table : List ℕ} {symbols parts from words : ℕ} {t : Code.Plac
       f
 
   module _ {on : OnToken text table symbols parts from words t} {isPart : Bool} {x : Span} where
-    pub on-variable : Variable isPart x ≡ variableOf (t .token) → OnVariable on isPart x
+    pub on-variable : Variable isPart x ≡ variableIn (t .token) → OnVariable on isPart x
     on-variable e = record { variable = told text t (Variable isPart x) e }
 
     pub on-inside : OnVariable on isPart x → Inside text x
     on-inside a = identifier-inside (variable-at (on .first) isPart _ (a .variable))
 
     at-subject : OnVariable on isPart x → (c : Class) → onNames text table symbols parts c (stream text Tokens.inside from)
-        ≡ Reading.whereFaultless (subjectFault (variableNames text table symbols parts isPart) (View.part text x)) (placedOf text t)
-        (conditionEnd c (subjectOf isPart (View.part text x)) (stream text Tokens.inside (t .past)))
+        ≡ Reading.whereFaultless (subjectFault (variableNames text table symbols parts isPart) (View.spanText text x)) (placedOf text t)
+        (conditionEnd c (subjectOf isPart (View.spanText text x)) (stream text Tokens.inside (t .past)))
     at-subject a c =
         let h = variable-here (on .first) isPart _ (a .variable) in
         rw (item-then (on .first) (rw (h .is) (h .some)) .unrolled, h .is)
-        (subject-asked text table symbols parts isPart (View.part text x) (placedOf text t) _)
+        (subject-asked text table symbols parts isPart (View.spanText text x) (placedOf text t) _)
 
-    pub on-wrong : {s : OnVariable on isPart x} {answer : Answer} {is : Bool} → OnAsked s (numberOf answer) is → (c : Class) {tape tape′ : List ℕ}
+    pub on-wrong : {s : OnVariable on isPart x} {answer : Answer} {is : Bool} → OnAsked s (answerNumber answer) is → (c : Class) {tape tape′ : List ℕ}
         → not is ≡ true
         → OnAgrees text table symbols parts from words tape tape′ c (Stopped (record { answer = answer; place = t .place }))
     on-wrong {s} {answer} a c w =
-        stops (at-subject s c ∙ rw (← (a .fault)) (check-wrong (numberOf answer) (placedOf text t) _ (a-fault-here (a .fault) (a .accepted) w)))
+        stops (at-subject s c ∙ rw (← (a .fault)) (check-wrong (answerNumber answer) (placedOf text t) _ (a-fault-here (a .fault) (a .accepted) w)))
 
     module _ {s : OnVariable on isPart x} {number : ℕ} {is : Bool} (a : OnAsked s number is) (w : not is ≡ false) where
-      right : subjectFault (variableNames text table symbols parts isPart) (View.part text x) ≡ 0
+      right : subjectFault (variableNames text table symbols parts isPart) (View.spanText text x) ≡ 0
       right = no-fault-here (a .fault) (a .accepted) w
 
       pub on-before : Ready text (t .past) words × Before text words (t .past) x
@@ -322,7 +327,7 @@ module _ {text table : List ℕ} {symbols parts from words : ℕ} {t : Code.Plac
               after = omega (arith, on .ready .charged, i .after);
               some = i .some;
               before = omega (arith, variable-here (on .first) isPart _ (s .variable) .ends);
-              short = within text x (identifier-inside i) 8 3 _ right;
+              short = within text x (identifier-inside i) maxIdentifier 3 _ right;
             },
           )
 
@@ -348,7 +353,7 @@ withName next place n ts = Reading.withClass (predicateOf n) place λ class. nex
 pub record OpenedAt (text table : List ℕ) (symbols parts from words start : ℕ) (t : Code.Placed) : Type 0 where
   pub known : Variables text table symbols parts
   pub ready : Ready text from words
-  pub opened : Taken text Tokens.inside 60 from start
+  pub opened : Taken text Tokens.inside Tokens.lessThan from start
   pub first : Comes text Tokens.naming start t
 
 -- it is a name
@@ -357,7 +362,7 @@ pub record NamedAt {text table : List ℕ} {symbols parts from words start : ℕ
   pub name : NameFirst text Tokens.naming start t n
 
 module _ {text table : List ℕ} {symbols parts from words : ℕ} where
-  pub open-not : {tape tape′ : List ℕ} {fault : Fault} → Variables text table symbols parts → Barred text Tokens.inside 60 from fault
+  pub open-not : {tape tape′ : List ℕ} {fault : Fault} → Variables text table symbols parts → Barred text Tokens.inside Tokens.lessThan from fault
       → ConditionAgrees text table symbols parts from words tape tape′ (Stopped fault)
   unfolding Reading.parseCondition
   open-not known b = barred-stops _ b
@@ -379,22 +384,22 @@ module _ {text table : List ℕ} {symbols parts from words : ℕ} where
       pub name-ready : Ready text (t .past) words
       name-ready = ready-past (ready-taken (o .ready) (o .opened)) (o .first)
 
-      pub name-long : {tape tape′ : List ℕ} → 24 < n .past - n .from
+      pub name-long : {tape tape′ : List ℕ} → maxName < n .past - n .from
           → ConditionAgrees text table symbols parts from words tape tape′ (Stopped (record { answer = OverLimit; place = t .place }))
       name-long l =
-          stops (at-name o ∙ rw (a .name .unrolled, too-long text n (a .name .inside) 24 l))
+          stops (at-name o ∙ rw (a .name .unrolled, too-long text n (a .name .inside) maxName l))
 
-      module _ (l : n .past - n .from ≤ 24) where
+      module _ (l : n .past - n .from ≤ maxName) where
         at-class : conditionNames text table symbols parts (stream text Tokens.inside from)
-            ≡ withName (onNames text table symbols parts) (t .place) (View.part text n) (stream text Tokens.inside (t .past))
-        at-class = at-name o ∙ rw (a .name .unrolled, short-enough text n (a .name .inside) 24 l)
+            ≡ withName (onNames text table symbols parts) (t .place) (View.spanText text n) (stream text Tokens.inside (t .past))
+        at-class = at-name o ∙ rw (a .name .unrolled, short-enough text n (a .name .inside) maxName l)
 
-        pub class-not : {tape tape′ : List ℕ} {p : Predicate} → predicateMeant p ≡ predicateOf (View.part text n) → p ≡ NoPredicate
+        pub class-not : {tape tape′ : List ℕ} {p : Predicate} → predicateMeant p ≡ predicateOf (View.spanText text n) → p ≡ NoPredicate
             → ConditionAgrees text table symbols parts from words tape tape′ (Stopped (record { answer = WrongName; place = t .place }))
         class-not d e = stops (at-class ∙ rw (← d, e))
 
         pub class-reads : {tape tape′ : List ℕ} {r : CodeParsed} {p : Predicate} {class : CodeClass} → predicateMeant p ≡
-            predicateOf (View.part text n) → p ≡ Asks class
+            predicateOf (View.spanText text n) → p ≡ Asks class
             → OnAgrees text table symbols parts (t .past) words tape tape′ (classMeant class) r
             → ConditionAgrees text table symbols parts from words tape tape′ r
         class-reads d e a₁ =
@@ -404,18 +409,18 @@ module _ {text table : List ℕ} {symbols parts from words : ℕ} where
 
 module _ (symbols parts : List Name) where
   -- where no `,` stands the conditions end
-  conditions-end : (left : ℕ) (t : Tokens.Placed) (ts : List Tokens.Placed) → Reading.isSign 44 (t .token) ≡ false
+  conditions-end : (left : ℕ) (t : Tokens.Placed) (ts : List Tokens.Placed) → Reading.isSign Tokens.comma (t .token) ≡ false
       → Reading.parseConditions left symbols parts (t ∷ ts) ≡ parsed [] (t ∷ ts)
   unfolding Reading.parseConditions
   conditions-end zero t ts e = rw e
   conditions-end (suc left) t ts e = rw e
 
-  conditions-full : (t : Tokens.Placed) (ts : List Tokens.Placed) → Reading.isSign 44 (t .token) ≡ true
+  conditions-full : (t : Tokens.Placed) (ts : List Tokens.Placed) → Reading.isSign Tokens.comma (t .token) ≡ true
       → Reading.parseConditions 0 symbols parts (t ∷ ts) ≡ stopped overLimit (t .place)
   unfolding Reading.parseConditions
   conditions-full t ts e = rw e
 
-  conditions-next : (more left : ℕ) (t : Tokens.Placed) (ts : List Tokens.Placed) → more ≡ suc left → Reading.isSign 44 (t .token) ≡ true
+  conditions-next : (more left : ℕ) (t : Tokens.Placed) (ts : List Tokens.Placed) → more ≡ suc left → Reading.isSign Tokens.comma (t .token) ≡ true
       → Reading.parseConditions more symbols parts (t ∷ ts)
       ≡ follow (Reading.parseCondition symbols parts ts) (λ c ts₁. follow (Reading.parseConditions left symbols parts ts₁)
       (λ cs rest. parsed (c ∷ cs) rest))
@@ -425,11 +430,11 @@ module _ (symbols parts : List Name) where
 -- the conditions from the start are those from here with these before them
 pub record Conditioned (text start : List ℕ) (symbols parts : List Name) (from words : ℕ) (tape : List ℕ) (at to left : ℕ) : Type 0 where
   pub before : List Condition
-  pub same : Reading.parseConditions 8 symbols parts (stream text Tokens.inside from)
+  pub same : Reading.parseConditions maxConditions symbols parts (stream text Tokens.inside from)
       ≡ follow (Reading.parseConditions left symbols parts (stream text Tokens.inside at)) (behind before)
   pub went : Went text from words start at to tape (conditionsTape before)
   pub quiet : T (every isQuiet (conditionsTape before))
-  pub short : length text ≤ 32768
+  pub short : length text ≤ maxTable
 
 pub conditions-ready : {text start : List ℕ} {symbols parts : List Name} {from words : ℕ} {tape : List ℕ} {at to left : ℕ}
     → Conditioned text start symbols parts from words tape at to left → Ready text at to
@@ -441,12 +446,12 @@ tape-more [] c = append-nil (conditionTape c)
 tape-more (d ∷ cs) c = rw (tape-more cs c) (sym (append-assoc (conditionTape d) (conditionsTape cs) (conditionTape c)))
 
 pub conditions-start : (text start : List ℕ) (symbols parts : List Name) (from words : ℕ) → Ready text from words
-    → Conditioned text start symbols parts from words start from words 8
+    → Conditioned text start symbols parts from words start from words maxConditions
 unfolding conditionsTape every
 conditions-start text start symbols parts from words r =
     record {
       before = [];
-      same = follow-alone (Reading.parseConditions 8 symbols parts (stream text Tokens.inside from));
+      same = follow-alone (Reading.parseConditions maxConditions symbols parts (stream text Tokens.inside from));
       went = went-none text from words start r;
       quiet = tt;
       short = r .short;
@@ -457,16 +462,16 @@ pub record LookedAt (text start : List ℕ) (symbols parts : List Name) (from wo
     (t : Code.Placed) (comma : Bool) : Type 0 where
   pub read : Conditioned text start symbols parts from words tape at to left
   pub first : Comes text Tokens.inside at t
-  pub sign : signIs 44 (t .token) ≡ comma
+  pub sign : signIs Tokens.comma (t .token) ≡ comma
 
 abbrev ConditionsAgree : List ℕ → List ℕ → List Name → List Name → ℕ → ℕ → List ℕ → CodeParsed → Type 0
 ConditionsAgree text start symbols parts from words tape r =
-    Agrees (ConditionsRead text from words start tape) (Reading.parseConditions 8 symbols parts (stream text Tokens.inside from)) r
+    Agrees (ConditionsRead text from words start tape) (Reading.parseConditions maxConditions symbols parts (stream text Tokens.inside from)) r
 
 module _ {text start : List ℕ} {symbols parts : List Name} {from words : ℕ} {tape : List ℕ} {at to left : ℕ} {t : Code.Placed} where
   shown : {comma : Bool} → LookedAt text start symbols parts from words tape at to left t comma
-      → Reading.isSign 44 (tokenOf text (t .token) (t .place) (t .past)) ≡ comma
-  shown a = sign-shown text t 44 (a .sign)
+      → Reading.isSign Tokens.comma (tokenOf text (t .token) (t .place) (t .past)) ≡ comma
+  shown a = sign-shown text t Tokens.comma (a .sign)
 
   pub conditions-done : LookedAt text start symbols parts from words tape at to left t false
       → ConditionsAgree text start symbols parts from words tape (Done (record { at = t .place; words = to }))
@@ -501,17 +506,17 @@ module _ {text start : List ℕ} {symbols parts : List Name} {from words : ℕ} 
         → ConditionsOn tape′ r
     conditions-on z {tape′} r e = turned r e
       where
-        at-condition : Reading.parseConditions 8 symbols parts (stream text Tokens.inside from)
+        at-condition : Reading.parseConditions maxConditions symbols parts (stream text Tokens.inside from)
             ≡ follow
             (follow (Reading.parseCondition symbols parts (stream text Tokens.inside (t .past)))
             (λ d ts. follow (Reading.parseConditions (left - 1) symbols parts ts) (λ ds rest. parsed (d ∷ ds) rest)))
             (behind (a .read .before))
         at-condition =
-            let comma = takes text Tokens.inside at 44 t (a .first) (a .sign) in
+            let comma = takes text Tokens.inside at Tokens.comma t (a .first) (a .sign) in
             a .read .same
             ∙ rw (
               comma .unrolled,
-              conditions-next symbols parts left (left - 1) (standing (Tokens.sign 44) (comma .place) (t .past))
+              conditions-next symbols parts left (left - 1) (standing (Tokens.sign Tokens.comma) (comma .place) (t .past))
                   (stream text Tokens.inside (t .past)) (omega arith) refl,
             )
 

@@ -12,6 +12,7 @@ use Rattle.meaning.specs.Classes.{Class}
 use Rattle.meaning.specs.Tree.{Subject, Condition}
 use Rattle.tape_layout.specs.Tape.{conditionPart, conditionTape, conditionsTape}
 use Rattle.meaning.specs.Tokens as Tokens
+use Rattle.meaning.specs.Grammar.{truthByte}
 use Rattle.meaning.specs.Reading.{Parsed, parsed, pass, passSubject, truthOf, passTruth}
 use Rattle.read_tokens.specs.View.{tokenOf, Sound, stream}
 use Rattle.read_tokens.specs.declared.Span.{Span}
@@ -28,15 +29,15 @@ use Rattle.read_conditions.specs.declared.Closing.{Closing}
 use Rattle.read_conditions.specs.declared.Closing.the-variants.{Says, NoTruth}
 
 -- a token as a variable: whether it is an e-variable, and its identifier
-abbrev pub variableOf : Token → Named
-variableOf (NameToken name) = Other
-variableOf (Symbol identifier) = Variable false identifier
-variableOf (Part identifier) = Variable true identifier
-variableOf Word = Other
-variableOf (Quoted count) = Other
-variableOf (Sign b) = Other
-variableOf End = Other
-variableOf Malformed = Other
+abbrev pub variableIn : Token → Named
+variableIn (NameToken name) = Other
+variableIn (Symbol identifier) = Variable false identifier
+variableIn (Part identifier) = Variable true identifier
+variableIn Word = Other
+variableIn (Quoted count) = Other
+variableIn (Sign b) = Other
+variableIn End = Other
+variableIn Malformed = Other
 
 -- the pattern's s-variables, or its e-variables
 abbrev pub variableNames : Bytes → List ℕ → ℕ → ℕ → Bool → List Name
@@ -51,8 +52,8 @@ kindNumber true = conditionPart
 -- `condition` after its variable, and from its variable on
 abbrev pub conditionEnd : Class → Subject → List Tokens.Placed → Parsed Condition
 conditionEnd class v ts =
-    pass 62 ts λ ts₁.
-    pass 58 ts₁ λ ts₂.
+    pass Tokens.greaterThan ts λ ts₁.
+    pass Tokens.colon ts₁ λ ts₂.
     passTruth ts₂ λ truth rest.
     parsed (record { predicate = class; subject = v; expected = truth }) rest
 
@@ -64,12 +65,16 @@ abbrev pub closingAs : Option Bool → Closing
 closingAs none = NoTruth
 closingAs (some truth) = Says truth
 
+-- the bytes of a closing string that says one
+abbrev pub truthSize : ℕ
+truthSize = 3
+
 -- the truth value of a token, and of the byte between a closing string's quotes
-abbrev pub truthIn : Bytes → Placed → Option Bool
-truthIn text t = truthOf (tokenOf text (t .token) (t .place) (t .past)) (eqb (t .past) (t .place + 3))
+abbrev pub truthSaid : Bytes → Placed → Option Bool
+truthSaid text t = truthOf (tokenOf text (t .token) (t .place) (t .past)) (eqb (t .past) (t .place + truthSize))
 
 abbrev pub truthBetween : ℕ → Option Bool
-truthBetween byte = pick (eqb byte 84) (some true) (pick (eqb byte 70) (some false) none)
+truthBetween byte = pick (eqb byte (truthByte true)) (some true) (pick (eqb byte (truthByte false)) (some false) none)
 
 -- a token that ends in the text
 pub record Standing (text : Bytes) (t : Placed) : Type 0 where

@@ -32,17 +32,20 @@ ghost use Rattle.meaning.specs.Allowed.{maxConditions};
 ghost use Rattle.tape_layout.specs.Tape.{classCount, conditionTruth, conditionPart, truthNumber};
 ghost use Rattle.meaning.specs.Tokens.{inside};
 ghost use Rattle.meaning.specs.Reading as Reading;
-ghost use Rattle.read_tokens.specs.View.{part, stream};
-ghost use Rattle.answers.specs.Numbers.{numberOf};
+ghost use Rattle.read_tokens.specs.View.{spanText, stream};
+ghost use Rattle.answers.specs.Numbers.{answerNumber};
 ghost use Rattle.read_bookkeeping.specs.Answered.{Agrees};
 ghost use Rattle.read_bookkeeping.specs.Classed.{classMeant};
 ghost use Rattle.read_bookkeeping.specs.Tables.{Inside};
 ghost use Rattle.read_bookkeeping.specs.Written.{Ready};
 ghost use Rattle.read_bookkeeping.specs.Items.{Variables, symbolNames, partNames};
 ghost use Rattle.tape_words.specs.Words.{subjectOf};
-ghost use Rattle.read_conditions.specs.Conditions.{variableOf, variableNames, kindNumber};
-ghost use Rattle.read_conditions.specs.Conditions.{conditionEnd, conditionOn, closingAs, truthBetween, truthIn};
+ghost use Rattle.read_conditions.specs.Conditions.{variableIn, variableNames, kindNumber};
+ghost use Rattle.read_conditions.specs.Conditions.{conditionEnd, conditionOn, closingAs, truthBetween, truthSaid};
 ghost use Rattle.read_conditions.specs.Conditions.{Standing, Before, ConditionRead, ConditionsRead};
+
+// The bytes of `'T'`, and of `'F'`.
+const TRUTH_SIZE: usize = 3;
 
 // A token as a variable: whether it is an e-variable, and its identifier.
 pub enum Named {
@@ -51,7 +54,7 @@ pub enum Named {
 }
 
 fn variable_in(token: Token) -> Named
-    ensures { λ r. ⌜ r ≡ variableOf token ⌝ }
+    ensures { λ r. ⌜ r ≡ variableIn token ⌝ }
 {
     match token {
         Token::Symbol(x) => Named::Variable(false, x),
@@ -70,9 +73,9 @@ fn subject_fault(
     x: Span,
 ) -> Answer
     requires { ⌜ Inside (now text) x × Variables (now text) (now table) symbols parts ⌝ }
-    ensures { λ r. ⌜ numberOf r
+    ensures { λ r. ⌜ answerNumber r
         ≡ Reading.subjectFault (variableNames (now (text .entry)) (now (table .entry)) symbols parts «is_part»)
-        (part (now (text .entry)) x) ⌝ }
+        (spanText (now (text .entry)) x) ⌝ }
 {
     if is_part {
         return later_fault(text, table, MAX_SYMBOLS, MAX_SYMBOLS + parts, x);
@@ -127,17 +130,17 @@ fn truth_between(byte: u8) -> Closing
 }
 
 // What the token `t` says as a closing string.
-fn truth_in(text: &[u8], t: Placed) -> Closing
+fn truth_said(text: &[u8], t: Placed) -> Closing
     requires { ⌜ Standing (now text) t ⌝ }
-    ensures { λ r. ⌜ r ≡ closingAs (truthIn (now (text .entry)) t) ⌝ }
+    ensures { λ r. ⌜ r ≡ closingAs (truthSaid (now (text .entry)) t) ⌝ }
 {
     let token = t.token;
     let Token::Quoted(_) = token else {
         return Closing::NoTruth;
     };
     let past = t.past;
-    let three = t.place + 3;
-    if past != three {
+    let end = t.place + TRUTH_SIZE;
+    if past != end {
         return Closing::NoTruth;
     }
     truth_between(text[t.place + 1])
@@ -155,7 +158,7 @@ fn condition_end(
 ) -> Parsed
     requires { ⌜ Ready (now text) from words × Before (now text) words from x ⌝ }
     ensures { λ r. ⌜ Agrees (ConditionRead (now (text .entry)) from words (now (tape .entry)) (now (tape .exit)))
-        (conditionEnd (classMeant class) (subjectOf «is_part» (part (now (text .entry)) x))
+        (conditionEnd (classMeant class) (subjectOf «is_part» (spanText (now (text .entry)) x))
         (stream (now (text .entry)) inside from)) r ⌝ }
 {
     let close = match pass(text, from, Mode::Inside, b'>') {
@@ -167,7 +170,7 @@ fn condition_end(
         Passed::Refused(fault) => return Parsed::Stopped(fault),
     };
     let t = lex(text, colon, Mode::Inside);
-    let Closing::Says(expected) = truth_in(text, t) else {
+    let Closing::Says(expected) = truth_said(text, t) else {
         return Parsed::Stopped(refuse(t));
     };
     let kind = kind_number(is_part);

@@ -21,7 +21,8 @@ use Rattle.read_bookkeeping.specs.Answered.{AgreesBy}
 use Rattle.read_bookkeeping.specs.Written.{Ready, Went}
 use Rattle.read_bookkeeping.specs.Tokened.{unlessWord, Taken, Barred}
 use Rattle.read_bookkeeping.specs.Items.{symbolNames}
-use Rattle.read_functions.specs.Expressions.{expressionOutcome, progressAt, Going, ExpressionRead, CalledName, opening, OpeningRead, CallRead}
+use Rattle.read_functions.specs.Expressions.{expressionOutcome, progressAt, Going, ExpressionRead}
+use Rattle.read_functions.specs.Expressions.{CalledName, callOpening, OpeningRead, CallRead}
 use Rattle.read_functions.specs.Expressions.{CloseGives, Closes}
 use Rattle.read_bookkeeping.proofs.Going.{stops-by, reads-by, ReadAt, has-read, went-then, word-went, ready-after, stops-too}
 use Rattle.read_bookkeeping.proofs.Tokening.{passes-on, passes-not}
@@ -51,7 +52,7 @@ name-follow {A} {B} fault (t ∷ ts) first next = chosen (Reading.nameOf (t .tok
 -- a call after its argument, and after its name
 abbrev afterArgument : CalledName → Reading.Items → List Tokens.Placed → Parsed Reading.Called
 afterArgument n given ts =
-    Reading.pass 62 ts λ rest.
+    Reading.pass Tokens.greaterThan ts λ rest.
     parsed (record { place = n .place; name = n .name; argument = given .expression; progress = given .progress }) rest
 
 abbrev afterName : (ℕ → Reading.Progress → List Tokens.Placed → Parsed Reading.Items) → ℕ → Reading.Progress → CalledName → List Tokens.Placed →
@@ -61,7 +62,7 @@ afterName argument deeper so n ts =
 
 call-is : (argument : ℕ → Reading.Progress → List Tokens.Placed → Parsed Reading.Items) (depth : ℕ) (so : Reading.Progress) (t : Tokens.Placed)
     (ts : List Tokens.Placed)
-    → Reading.parseCall argument depth so t ts ≡ follow (opening depth (so .items) t ts) (afterName argument (suc depth) so)
+    → Reading.parseCall argument depth so t ts ≡ follow (callOpening depth (so .items) t ts) (afterName argument (suc depth) so)
 call-is argument depth so t ts =
     rw (name-follow Reading.calledFault ts (λ place n rest. parsed (record { place = place; name = n }) rest) (afterName argument (suc depth) so))
     (check-follow (Reading.callFault depth so) t (passName Reading.calledFault ts (λ place n rest. parsed (record { place = place; name = n }) rest))
@@ -73,7 +74,7 @@ call-is argument depth so t ts =
 abbrev pub callAt : Bytes → List ℕ → ℕ → ℕ → ℕ → ℕ → ExpressionCounts → ℕ → Parsed Reading.Called
 callAt text table symbols parts bound depth s place =
     Reading.parseCall (Reading.parseExpression bound (symbolNames text table symbols)) depth (progressAt text table parts s)
-    (standing (Tokens.sign 60) place (s .at))
+    (standing (Tokens.sign Tokens.lessThan) place (s .at))
     (stream text Tokens.naming (s .at))
 
 abbrev pub CallAgrees : Bytes → List ℕ → ℕ → ℕ → ℕ → ℕ → ExpressionCounts → ℕ → List ℕ → List ℕ → ParsedExpression → Type 0
@@ -101,7 +102,7 @@ module _ (text table : List ℕ) (symbols parts bound depth : ℕ) (s : Expressi
       (progressAt text table parts s))
   at-opening =
       call-is (Reading.parseExpression bound (symbolNames text table symbols)) depth (progressAt text table parts s)
-      (standing (Tokens.sign 60) place (s .at))
+      (standing (Tokens.sign Tokens.lessThan) place (s .at))
       (stream text Tokens.naming (s .at))
 
   pub call-unopened : {tape tape′ : List ℕ} {r : ParsedExpression} {fault : Fault} → OpeningAgrees text depth s place tape tape′ r → r ≡ Stopped fault
@@ -147,11 +148,11 @@ module _ {text : Bytes} {depth : ℕ} {s : ExpressionCounts} {place : ℕ} {tape
     module _ {tape₂ tape₃ : List ℕ} {argument : ExpressionCounts}
         (h : ReadAt (ExpressionRead text table symbols parts start tape₁ tape₂)
         (unlessWord (expressionAt text table symbols parts bound (depth + 1) start)) argument) where
-      close-barred : {fault : Fault} → Barred text Tokens.inside 62 (argument .at) fault
+      close-barred : {fault : Fault} → Barred text Tokens.inside Tokens.greaterThan (argument .at) fault
           → CallAgrees text table symbols parts bound depth s place tape tape₃ (Stopped fault)
       close-barred x = stops-by refl (at-argument ∙ rw (h .same, h .how .tokens) (passes-not _ x))
 
-      close-done : {at : ℕ} → Taken text Tokens.inside 62 (argument .at) at
+      close-done : {at : ℕ} → Taken text Tokens.inside Tokens.greaterThan (argument .at) at
           → tape₃ ≡ set tape₂ (argument .words) (tapeWord closeKind 0)
           → CallAgrees text table symbols parts bound depth s place tape tape₃
           (Done (record { at = at; words = argument .words + 1; items = argument .items; passed = argument .passed }))

@@ -23,11 +23,12 @@ use Rattle.read_functions.specs.declared.expressions.ParsedExpression.{P
 use Rattle.read_functions.specs.declared.expressions.ParsedExpression.the-variants.{Stopped, Done}
 use Rattle.read_functions.specs.declared.expressions.Joined.{Joined}
 use Rattle.read_functions.specs.declared.expressions.Joined.the-variants.{Taken, Wrong, Refused, Other}
-use Rattle.answers.specs.Numbers.{numberOf}
+use Rattle.answers.specs.Numbers.{answerNumber}
 use Rattle.read_bookkeeping.specs.Written.{isQuiet, Went}
 use Rattle.read_bookkeeping.specs.Tokened.{signIs}
-use Rattle.read_bookkeeping.specs.Items.{symbolNames, itemAt}
-use Rattle.read_functions.specs.Expressions.{expressionOutcome, progressAt, Going, CallStands, Stands, itemTape, TakenInExpression, TokenJoined}
+use Rattle.read_bookkeeping.specs.Items.{symbolNames, tokenItem}
+use Rattle.read_functions.specs.Expressions.{expressionOutcome, progressAt, Going, CallStands, ExpressionStands}
+use Rattle.read_functions.specs.Expressions.{itemTape, TakenInExpression, TokenJoined}
 use Rattle.read_functions.specs.Expressions.{JoinsToken, faultAt, callTape, CallRead}
 use Rattle.read_bookkeeping.proofs.Items.{item-then}
 use Rattle.read_bookkeeping.proofs.Going.{check-wrong, stops-by, reads-by, ReadAt, has-read, went-none, went-from, went-then, stops-too}
@@ -57,24 +58,25 @@ tape-call place n a e =
     ap (λ (ws : List ℕ). named (callKind + place) n ++ ws) (sym (append-assoc (expressionTape a) (tapeWord closeKind 0 ∷ []) (expressionTape e)))
     ∙ sym (append-assoc (named (callKind + place) n) (expressionTape a ++ tapeWord closeKind 0 ∷ []) (expressionTape e))
 
-stands-characters : (cs : Bytes) (e : Expression) → T (every isQuiet cs) → Stands e → Stands (thenCharacters cs e)
-unfolding Stands thenCharacters
+stands-characters : (cs : Bytes) (e : Expression) → T (every isQuiet cs) → ExpressionStands e → ExpressionStands (thenCharacters cs e)
+unfolding ExpressionStands thenCharacters
 stands-characters [] e q h = h
 stands-characters (c ∷ cs) e q h = (every-head isQuiet c cs q, stands-characters cs e (every-tail isQuiet c cs q) h)
 
-stands-item : (item : Item) (e : Expression) → T (every isQuiet (itemTape item)) → Stands e → Stands (thenItem item e)
-unfolding Stands
+stands-item : (item : Item) (e : Expression) → T (every isQuiet (itemTape item)) → ExpressionStands e → ExpressionStands (thenItem item e)
+unfolding ExpressionStands
 stands-item (characters cs) e q h = stands-characters cs e q h
 stands-item (symbolItem x) e q h = (q, h)
 stands-item (partItem x) e q h = (q, h)
 stands-item noItem e q h = h
 
-stands-call : (place : ℕ) {n : Name} (a e : Expression) → CallStands n → Stands a → Stands e → Stands (thenCall place n a e)
-unfolding Stands
+stands-call : (place : ℕ) {n : Name} (a e : Expression) → CallStands n → ExpressionStands a → ExpressionStands e
+    → ExpressionStands (thenCall place n a e)
+unfolding ExpressionStands
 stands-call place a e s g h = (s, g, h)
 
-stands-end : Stands end
-unfolding Stands
+stands-end : ExpressionStands end
+unfolding ExpressionStands
 stands-end = tt
 
 tape-end : expressionTape end ≡ []
@@ -110,7 +112,7 @@ pub record Behind (text table : List ℕ) (symbols parts depth : ℕ) (start : E
   pub enough : length (stream text Tokens.inside (s .at)) ≤ left
   pub shorter : length (stream text Tokens.inside (s .at)) ≤ length (stream text Tokens.inside (start .at))
   pub tapes : (e : Expression) → expressionTape (first e) ≡ words ++ expressionTape e
-  pub stand : (e : Expression) → Stands e → Stands (first e)
+  pub stand : (e : Expression) → ExpressionStands e → ExpressionStands (first e)
   pub went : Went text (start .at) (start .words) tape₀ (s .at) (s .words) tape words
 
 pub record Expressed (text table : List ℕ) (symbols parts depth : ℕ) (start : ExpressionCounts) (tape₀ tape : List ℕ) (s : ExpressionCounts) : Type 0
@@ -170,7 +172,7 @@ module _ {text table : List ℕ} {symbols parts depth : ℕ} {start : Expression
       ≡ withFirst (b .first) (withFirst f (expressionAt text table symbols parts (b .left - 1) depth next))
       → length (stream text Tokens.inside (next .at)) ≤ length ts
       → ((e : Expression) → expressionTape (f e) ≡ added ++ expressionTape e)
-      → ((e : Expression) → Stands e → Stands (f e))
+      → ((e : Expression) → ExpressionStands e → ExpressionStands (f e))
       → Went text (s .at) (s .words) tape (next .at) (next .words) tape′ added
       → Behind text table symbols parts depth start tape₀ tape′ next bound
   behind-more {next} f added same less tapes stand went =
@@ -207,13 +209,14 @@ module _ {text table : List ℕ} {symbols parts depth : ℕ} {start : Expression
       let g = given e in
       (omega (arith, g .0 .at, item-then (q .comes) (g .1) .moves), g .0 .going .ready .inside)
 
-  item-behind : {next : ExpressionCounts} (bound : ℕ) → TakenInExpression text table symbols parts s (q .tape) (itemAt text t) (t .past) tape′ next →
-      isItem (itemAt text t) ≡ true
+  item-behind : {next : ExpressionCounts} (bound : ℕ)
+      → TakenInExpression text table symbols parts s (q .tape) (tokenItem text t) (t .past) tape′ next →
+      isItem (tokenItem text t) ≡ true
       → Behind text table symbols parts depth start tape₀ (q .tape) s bound
       → Behind text table symbols parts depth start tape₀ tape′ next bound
   item-behind bound g y b =
       let i = item-then (q .comes) y in
-      let item = itemAt text t in
+      let item = tokenItem text t in
       behind-more b (i .unrolled) (thenItem item) (itemTape item) (at-step b (i .unrolled) ∙ rw (y, g .fault, g .progress, g .at))
       (rw (g .at) (omega arith))
       (tape-item item) (λ e h. stands-item item e (g .quiet) h) (g .went)
@@ -233,11 +236,11 @@ module _ {text table : List ℕ} {symbols parts depth : ℕ} {start : Expression
       let g = given e in
       let b = q .so .behind bound h in
       let i = item-then (q .comes) (g .1) in
-      let item = itemAt text t in
+      let item = tokenItem text t in
       let rest = Reading.parseExpression (b .left - 1) (symbolNames text table symbols) depth (Reading.pastItem item (progressAt text table parts s))
       (stream text Tokens.inside (t .past)) in
       stops-by refl (stopped-before (at-step b (i .unrolled)
-      ∙ rw (g .1, g .0 .fault, check-wrong (numberOf answer) (placedOf text t) (withFirst (thenItem item) rest) (g .0 .wrong))))
+      ∙ rw (g .1, g .0 .fault, check-wrong (answerNumber answer) (placedOf text t) (withFirst (thenItem item) rest) (g .0 .wrong))))
 
   -- A WORD
 
@@ -246,11 +249,11 @@ module _ {text table : List ℕ} {symbols parts depth : ℕ} {start : Expression
   word-refused {bound = bound} e h =
       let g = given e in
       let b = q .so .behind bound h in
-      stops-by refl (rw (at-step b (q .comes .unrolled), g .other, word-no-sign 60 _ (g .word), g .word, g .number, g .place))
+      stops-by refl (rw (at-step b (q .comes .unrolled), g .other, word-no-sign Tokens.lessThan _ (g .word), g .word, g .number, g .place))
 
   -- THE END
 
-  pub expression-ends : {bound : ℕ} → r ≡ Other → signIs 60 (t .token) ≡ false → length (stream text Tokens.inside (start .at)) ≤ bound
+  pub expression-ends : {bound : ℕ} → r ≡ Other → signIs Tokens.lessThan (t .token) ≡ false → length (stream text Tokens.inside (start .at)) ≤ bound
       → ExpressionAgrees text table symbols parts bound depth start tape₀ tape′
       (Done (record { at = t .place; words = s .words; items = s .items; passed = s .passed }))
   expression-ends {bound} e n h =
@@ -258,7 +261,7 @@ module _ {text table : List ℕ} {symbols parts depth : ℕ} {start : Expression
       let b = q .so .behind bound h in
       let u = q .comes .unrolled in
       reads-by refl (record { expression = b .first end; progress = progressAt text table parts s }) (stream text Tokens.inside (s .at))
-      (rw (at-step b u, u, g .0 .other, sign-shown text t 60 n, g .0 .wordless))
+      (rw (at-step b u, u, g .0 .other, sign-shown text t Tokens.lessThan n, g .0 .wordless))
       (record {
         tokens = sym (q .comes .again);
         shorter = b .shorter;
@@ -275,7 +278,7 @@ pub record AtCall {text table : List ℕ} {symbols parts depth : ℕ} {start : E
     {tape′ : List ℕ} {r : Joined}
     (k : AtToken text table symbols parts depth start tape₀ s t tape′ r) : Type 0 where
   pub other : r ≡ Other
-  pub angle : signIs 60 (t .token) ≡ true
+  pub angle : signIs Tokens.lessThan (t .token) ≡ true
 
 module _ {text table : List ℕ} {symbols parts depth : ℕ} {start : ExpressionCounts} {tape₀ : List ℕ} {s : ExpressionCounts} {t : Code.Placed}
     {tape′ : List ℕ} {r : Joined}
@@ -286,11 +289,11 @@ module _ {text table : List ℕ} {symbols parts depth : ℕ} {start : Expression
   abbrev calledAt : ℕ → Parsed Reading.Called
   calledAt left = callAt text table symbols parts left depth opened (t .place)
 
-  unrolled : stream text Tokens.inside (s .at) ≡ standing (Tokens.sign 60) (t .place) (t .past) ∷ stream text Tokens.naming (t .past)
+  unrolled : stream text Tokens.inside (s .at) ≡ standing (Tokens.sign Tokens.lessThan) (t .place) (t .past) ∷ stream text Tokens.naming (t .past)
   unrolled = sign-first text Tokens.inside (s .at) (k .comes) (q .angle)
 
   passed : s .at < t .past
-  passed = takes text Tokens.inside (s .at) 60 t (k .comes) (q .angle) .onward
+  passed = takes text Tokens.inside (s .at) Tokens.lessThan t (k .comes) (q .angle) .onward
 
   -- the call begins further on in the text
   pub call-onward : (start .at < t .past) × (t .past ≤ length text)

@@ -1,25 +1,26 @@
 -- The readers of a function and of a table's functions.
-use Prim.Native.Nat.{ℕ, zero, suc, _+_, _-_, _*_, _≤_, _<_}
+use Prim.Native.Nat.{ℕ, zero, suc, _+_, _-_, _≤_, _<_}
 use mathlib.Core.Path.{_≡_, refl, sym, _∙_, ap}
-use mathlib.Core.Bool.{Bool, true, false, false≢true}
+use mathlib.Core.Bool.{Bool, true, false, not, false≢true}
 use mathlib.Core.List.{List, [], _∷_, _++_, append-assoc, append-nil}
 use native.Mathlib.Numerals.{add-one}
 use native.Mathlib.Omega.{arith}
-use lib.Dec.{T, ltb, eqb}
-use lib.ListN.{length, take, set, length-append, length-set}
+use lib.Dec.{T, leb, ltb, eqb}
+use lib.ListN.{length, take, drop, set, length-append, length-set}
 use lib.Seq.{take-suc-set}
 use types.Run.{OneOf, miss}
 use denote.Enum.Declared.{tagOf}
 use borrow.Author.Tests.{lt-ltb, le-ltb}
-use Rattle.meaning.specs.Choice.{Bytes, Name, pick, every}
-use Rattle.meaning.specs.Answers.{overLimit}
+use Rattle.meaning.specs.Choice.{Bytes, Name, pick, both, either, every}
+use Rattle.meaning.specs.Answers.{overLimit, wrongName}
+use Rattle.meaning.specs.Names.{isBuiltIn, isPredicate}
 use Rattle.meaning.specs.Tree.{Function, Table}
-use Rattle.meaning.specs.Allowed.{maxTable, maxFunctions, maxName, namesOf}
+use Rattle.meaning.specs.Allowed.{maxTable, maxFunctions, maxName, member, namesOf}
 use Rattle.tape_layout.specs.Tape as Tape
-use Rattle.tape_layout.specs.Tape.{named, functionKind, functionTape, sentencesTape}
+use Rattle.tape_layout.specs.Tape.{named, functionKind, functionTape, sentencesTape, functionWord}
 use Rattle.meaning.specs.Tokens as Tokens
 use Rattle.meaning.specs.Reading as Reading
-use Rattle.meaning.specs.Reading.{Parsed, stopped, parsed, follow}
+use Rattle.meaning.specs.Reading.{Parsed, stopped, parsed, follow, faultUnless}
 use Rattle.read_tokens.proofs.Token as token
 use Rattle.read_tokens.specs.View as View
 use Rattle.read_tokens.specs.View.{tokenOf, placedOf, stream, Comes}
@@ -28,7 +29,7 @@ use Rattle.read_tokens.specs.declared.Token.{Token}
 use Rattle.read_tokens.specs.declared.Token.the-variants.{Name as NameToken}
 use Rattle.read_tokens.specs.declared.Placed as Code
 use Rattle.answers.specs.declared.Answer.{Answer}
-use Rattle.answers.specs.declared.Answer.the-variants.{OverLimit}
+use Rattle.answers.specs.declared.Answer.the-variants.{OverLimit, WrongName}
 use Rattle.read_bookkeeping.specs.declared.progress.Fault.{Fault}
 use Rattle.read_functions.specs.declared.sentences.SentencesEnd.{SentencesEnd}
 use Rattle.read_functions.specs.declared.sentences.ParsedSentences.{ParsedSentences}
@@ -36,21 +37,23 @@ use Rattle.read_functions.specs.declared.sentences.ParsedSentences.the-v
 use Rattle.read_functions.specs.declared.functions.ParsedTable.{ParsedTable}
 use Rattle.read_functions.specs.declared.functions.ParsedTable.the-variants.{Stopped as StoppedTable, Done as DoneTable}
 use Rattle.tape_words.specs.Words.{headNames}
-use Rattle.read_bookkeeping.specs.Tables.{Inside, OnTape, declaredFaultIn}
-use Rattle.answers.specs.Numbers.{numberOf}
+use Rattle.tape_words.specs.Finding.{isKnownAmong}
+use Rattle.read_bookkeeping.specs.Tables.{Inside}
+use Rattle.answers.specs.Numbers.{answerNumber}
 use Rattle.read_bookkeeping.specs.Answered.{AgreesBy}
-use Rattle.read_bookkeeping.specs.Written.{Wrote, isQuiet, Ready, Went}
+use Rattle.read_bookkeeping.specs.Written.{WroteOnTape, isQuiet, Ready, Went}
 use Rattle.read_bookkeeping.specs.Tokened.{signIs, Taken}
 use Rattle.read_functions.specs.declared.functions.Tally.{Tally}
 use Rattle.read_functions.specs.declared.functions.Stage.{Stage}
 use Rattle.read_functions.specs.declared.functions.Stage.the-variants.{Onward, Over}
 use Rattle.read_functions.specs.Expressions.{faultAt}
 use Rattle.read_functions.specs.Sentences.{SentencesRead, sentencesOutcome}
-use Rattle.read_functions.specs.Functions.{headsFrom, Heads}
+use Rattle.read_functions.specs.Functions.{headsFrom, Heads, declaredFaultIn}
 use Rattle.read_functions.specs.Functions.{FunctionStands, fromBrace, declared, Declarable, BodyRead, Opening, nameFault, DeclaredRead, SpareTo}
-use Rattle.read_functions.specs.Functions.{isEnd, functionsOf, FunctionsRead, Functioned, StageIs, Underway, firstStage, tableOutcome, Declares}
+use Rattle.read_functions.specs.Functions.{isEndToken, functionsOf, FunctionsRead, Functioned, StageIs, Underway}
+use Rattle.read_functions.specs.Functions.{firstStage, tableOutcome, Declares}
 use Rattle.read_bookkeeping.proofs.Lengths.{part-length, within}
-use Rattle.read_bookkeeping.proofs.Words.{written-over, written-before, on-tape}
+use Rattle.read_bookkeeping.proofs.Words.{written-over, written-before, OnTape, on-tape}
 use Rattle.read_bookkeeping.proofs.Going.{check-wrong, stops-by, reads-by, ReadAt, has-read, pass-follow, follow-alone, makes, went-none, went-from}
 use Rattle.read_bookkeeping.proofs.Going.{went-on, went-then, went-length, ready-after, name-went, stops-too, name-quiet}
 use Rattle.read_bookkeeping.proofs.Tokening.{NameFirst, sign-shown, passes-on, name-first, names-not, refused-by, ready-place, FaultOf, NoName}
@@ -62,21 +65,21 @@ use Rattle.read_tokens.proofs.Variants.{by-kind}
 
 abbrev BodyAgrees : Bytes → ℕ → ℕ → Span → List ℕ → List ℕ → ParsedSentences → Type 0
 BodyAgrees text limit words n tape tape′ r =
-    AgreesBy sentencesOutcome (BodyRead text limit (n .from) words (View.part text n) tape tape′)
+    AgreesBy sentencesOutcome (BodyRead text limit (n .from) words (View.spanText text n) tape tape′)
     (fromBrace limit (stream text Tokens.outside (n .past))) r
 
 -- the `{` was passed after a name
 pub record AfterBrace (text : Bytes) (words : ℕ) (n : Span) (at : ℕ) : Type 0 where
   pub name : Declarable text words n
-  pub taken : Taken text Tokens.outside 123 (n .past) at
+  pub taken : Taken text Tokens.outside Tokens.leftBrace (n .past) at
 
 module _ {text : Bytes} {words : ℕ} {n : Span} {at : ℕ} (b : AfterBrace text words n at) where
   pub name-room : Inside text n × (words + 1 + (n .past - n .from) ≤ maxTable)
   name-room = (b .name .inside, omega (arith, b .name .after, b .name .short, b .name .inside .forward, b .taken .onward, b .taken .inside))
 
-  module _ {tape tape₁ : List ℕ} {word to : ℕ} (e : word ≡ 2048 + (n .past - n .from))
-      (w : Wrote tape words (word ∷ View.part text n) to tape₁ × T (every isQuiet (View.part text n))) where
-    named-went : Went text (n .from) words tape at to tape₁ (named functionKind (View.part text n))
+  module _ {tape tape₁ : List ℕ} {word to : ℕ} (e : word ≡ functionWord + (n .past - n .from))
+      (w : WroteOnTape tape words (word ∷ View.spanText text n) to tape₁ × T (every isQuiet (View.spanText text n))) where
+    named-went : Went text (n .from) words tape at to tape₁ (named functionKind (View.spanText text n))
     named-went =
         name-went functionKind (b .name .inside) (omega (arith, b .name .inside .forward, b .taken .onward)) (b .taken .inside)
         (omega (arith, b .name .after, b .name .inside .forward, b .taken .onward)) e (w .0)
@@ -116,6 +119,22 @@ module _ {text tape heads : List ℕ} {functions words : ℕ} {t : Code.Placed} 
         → FunctionAgrees text tape heads functions limit words t tape′ heads′ (Stopped (faultAt OverLimit (t .place)))
     function-many h = stops-by refl (rw (name-first (o .comes) e .unrolled, le-ltb functions maxFunctions h))
 
+-- a declared name has the fault that it has where it is called, or else may not be known
+declared-fault : (names : List Name) (n : Name)
+    → declaredFaultIn names n
+    ≡ pick (eqb (Reading.calledFault n) 0) (pick (isKnownAmong names n) wrongName 0) (Reading.calledFault n)
+declared-fault names n = by-tests (leb (length n) maxName) (isPredicate n) (isBuiltIn n) (member n names)
+  where
+    by-tests : (short predicate builtIn among : Bool)
+        → let called = faultUnless short overLimit (faultUnless (not predicate) wrongName 0) in
+        faultUnless short overLimit (faultUnless (both (not (either predicate builtIn)) (not among)) wrongName 0)
+        ≡ pick (eqb called 0) (pick (either builtIn among) wrongName 0) called
+    by-tests false predicate builtIn among = refl
+    by-tests true true builtIn among = refl
+    by-tests true false true among = refl
+    by-tests true false false true = refl
+    by-tests true false false false = refl
+
 -- a name comes, and one more function may
 pub record NameComes (text tape heads : List ℕ) (functions words : ℕ) (t : Code.Placed) (n : Span) : Type 0 where
   pub opening : Opening text tape heads functions words t
@@ -132,11 +151,26 @@ module _ {text tape heads : List ℕ} {functions words : ℕ} {t : Code.Placed} 
   pub copy-room : Inside text n × (words + (n .past - n .from) ≤ maxTable)
   copy-room = (named-here .inside, omega (arith, name-after, m .opening .ready .short))
 
--- its name is copied to the tape's end
+  -- the fault of the name, by the names at the heads
+  abbrev faultHere : ℕ
+  faultHere = declaredFaultIn (headNames tape (take functions heads)) (View.spanText text n)
+
+  module _ {limit : ℕ} {tape′ heads′ : List ℕ} {answer : Answer} where
+    function-misnamed : answerNumber answer ≡ faultHere → eqb (answerNumber answer) 0 ≡ false
+        → FunctionAgrees text tape heads functions limit words t tape′ heads′ (Stopped (faultAt answer (t .place)))
+    function-misnamed f w =
+        stops-by refl (rw (named-here .unrolled, lt-ltb functions maxFunctions (m .few), ← f) (check-wrong (answerNumber answer) _ _ w))
+
+    pub function-uncallable : answerNumber answer ≡ Reading.calledFault (View.spanText text n) → eqb (answerNumber answer) 0 ≡ false
+        → FunctionAgrees text tape heads functions limit words t tape′ heads′ (Stopped (faultAt answer (t .place)))
+    function-uncallable f w = function-misnamed (sym (declared-fault _ (View.spanText text n) ∙ rw (← f, w))) w
+
+-- its name could be called, and is copied to the tape's end
 pub record NameCopied (text tape tape₁ heads : List ℕ) (functions words : ℕ) (t : Code.Placed) (n : Span) : Type 0 where
   pub comes : NameComes text tape heads functions words t n
+  pub callable : Reading.calledFault (View.spanText text n) ≡ 0
   pub to : ℕ
-  pub wrote : Wrote tape words (View.part text n) to tape₁
+  pub wrote : WroteOnTape tape words (View.spanText text n) to tape₁
 
 module _ {text tape tape₁ heads : List ℕ} {functions words : ℕ} {t : Code.Placed} {n : Span}
     (m : NameCopied text tape tape₁ heads functions words t n) where
@@ -149,110 +183,106 @@ module _ {text tape tape₁ heads : List ℕ} {functions words : ℕ} {t : Code.
   copy-fits : words + (n .past - n .from) ≤ length tape
   copy-fits = omega (arith, name-after (m .comes), opens .room)
 
-  pub name-standing : Inside text n × OnTape text n tape₁ words × (functions ≤ length heads)
-  name-standing = (here .inside, on-tape (here .inside) copy-fits (m .wrote), omega (arith, opens .few, opens .long))
+  standing : OnTape text n tape₁ words
+  standing = on-tape (here .inside) copy-fits (m .wrote)
+
+  pub name-standing : (functions ≤ length heads) × (words + (n .past - n .from) ≤ length tape₁)
+  name-standing = (omega (arith, opens .few, opens .long), standing .inside)
 
   names-kept : headNames tape₁ (take functions heads) ≡ headNames tape (take functions heads)
   names-kept =
-      let fits : words + length (View.part text n) ≤ length tape = rw (part-length text n (here .inside)) copy-fits in
-      let kept : take words tape₁ ≡ take words tape = rw (m .wrote .same) (written-before (View.part text n) tape words fits) in
+      let fits : words + length (View.spanText text n) ≤ length tape = rw (part-length text n (here .inside)) copy-fits in
+      let kept : take words tape₁ ≡ take words tape = rw (m .wrote .same) (written-before (View.spanText text n) tape words fits) in
       names-noted (noted-kept (opens .named) kept) ∙ sym (names-noted (opens .named))
 
-  -- the fault of the name, as it is asked of the tape
-  abbrev NameWrong : ℕ → Type 0
-  NameWrong fault = fault ≡ declaredFaultIn (headNames tape₁ (take functions heads)) (View.part text n)
+  pub declarable : Declarable text words n
+  declarable =
+      record {
+        after = omega (arith, opens .ready .charged, here .from);
+        inside = here .inside;
+        brief = within text n (here .inside) maxName 3 _ (m .callable);
+        short = opens .ready .short;
+      }
 
-  module _ {limit : ℕ} where
-    pub function-misnamed : {tape′ heads′ : List ℕ} {answer : Answer}
-        → NameWrong (numberOf answer)
-        → eqb (numberOf answer) 0 ≡ false
-        → FunctionAgrees text tape heads functions limit words t tape′ heads′ (Stopped (faultAt answer (t .place)))
-    function-misnamed {answer = answer} f w =
-        let g : numberOf answer ≡ declaredFaultIn (headNames tape (take functions heads)) (View.part text n) = rw names-kept at f in
-        stops-by refl (rw (here .unrolled, lt-ltb functions maxFunctions (m .comes .few), ← g) (check-wrong (numberOf answer) _ _ w))
+  -- the function's words stand where its name was copied to
+  function-went : (f : Function) {at at′ words′ : ℕ} {tape′ : List ℕ} → f .name ≡ View.spanText text n
+      → Went text at words tape₁ at′ words′ tape′ (functionTape f)
+      → Went text at words tape at′ words′ tape′ (functionTape f)
+  function-went f e w =
+      let longer : length (View.spanText text n) ≤ length (functionTape f) =
+      rw (← e, length-append (f .name) (sentencesTape (f .sentences))) (omega arith) in
+      record {
+        onward = w .onward;
+        inside = w .inside;
+        charged = w .charged;
+        counted = w .counted;
+        wrote = w .wrote ∙ rw (m .wrote .same) (written-over (View.spanText text n) (functionTape f) tape words longer);
+      }
 
--- its name has no fault
-pub record Named {text tape tape₁ heads : List ℕ} {functions words : ℕ} {t : Code.Placed} {n : Span}
-    (name : NameCopied text tape tape₁ heads functions words t n) : Type 0
-  where
-    pub sound : declaredFaultIn (headNames tape₁ (take functions heads)) (View.part text n) ≡ 0
+  -- whether it is known is asked of the tape
+  module _ {known : Bool} (e : known ≡ isKnownAmong (headNames tape₁ (take functions heads)) (take (n .past - n .from) (drop words tape₁)))
+    where
+      fault-left : faultHere (m .comes) ≡ pick known wrongName 0
+      fault-left = declared-fault _ (View.spanText text n) ∙ rw (m .callable, e, names-kept, standing .same)
 
-module _ {text tape tape₁ heads : List ℕ} {functions words : ℕ} {t : Code.Placed} {n : Span}
-    {name : NameCopied text tape tape₁ heads functions words t n} (m : Named name)
-  where
-    pub declarable : Declarable text words n
-    declarable =
-        record {
-          after = omega (arith, opens name .ready .charged, here name .from);
-          inside = here name .inside;
-          brief = within text n (here name .inside) maxName 3 _ (m .sound);
-          short = opens name .ready .short;
-        }
+      pub function-known : {limit : ℕ} {tape′ heads′ : List ℕ} → known ≡ true
+          → FunctionAgrees text tape heads functions limit words t tape′ heads′ (Stopped (faultAt WrongName (t .place)))
+      function-known k = function-misnamed (m .comes) (sym (fault-left ∙ rw k)) refl
 
-    -- the function's words stand where its name was copied to
-    function-went : (f : Function) {at at′ words′ : ℕ} {tape′ : List ℕ} → f .name ≡ View.part text n
-        → Went text at words tape₁ at′ words′ tape′ (functionTape f)
-        → Went text at words tape at′ words′ tape′ (functionTape f)
-    function-went f e w =
-        let longer : length (View.part text n) ≤ length (functionTape f) =
-        rw (← e, length-append (f .name) (sentencesTape (f .sentences))) (omega arith) in
-        record {
-          onward = w .onward;
-          inside = w .inside;
-          charged = w .charged;
-          counted = w .counted;
-          wrote = w .wrote ∙ rw (name .wrote .same) (written-over (View.part text n) (functionTape f) tape words longer);
-        }
-
-    pub function-reads : {tape′ heads′ : List ℕ} {limit : ℕ} {r : ParsedSentences}
-        → heads′ ≡ set heads functions words
-        → BodyAgrees text limit words n tape₁ tape′ r
-        → FunctionAgrees text tape heads functions limit words t tape′ heads′ r
-    function-reads {limit = limit} w a =
-        let few : functions < length heads = rw (opens name .long) (name .comes .few) in
-        let sound : declaredFaultIn (headNames tape (take functions heads)) (View.part text n) ≡ 0 = rw (names-kept name) at (m .sound) in
-        makes (declared (View.part text n)) _
-        (λ ss rest s h. record {
-          read =
-              record {
-                tokens = h .tokens;
-                went = went-from (omega (arith, here name .from)) (function-went (declared (View.part text n) ss) refl (h .went));
-                left = h .left;
-                stands = h .stands;
-              };
-          noted = rw (w, add-one) (take-suc-set heads functions words few);
-          few = name .comes .few;
-          long = rw w (length-set heads functions words ∙ opens name .long);
-        })
-        (rw (here name .unrolled, lt-ltb functions maxFunctions (name .comes .few), sound, ← (here name .past))
-        (pass-follow 123 (stream text Tokens.outside (n .past)) (λ ts. Reading.parseSentences limit ts)
-        (λ ss rest. parsed (declared (View.part text n) ss) rest)))
-        a
+      pub function-reads : {tape′ heads′ : List ℕ} {limit : ℕ} {r : ParsedSentences} → known ≡ false
+          → heads′ ≡ set heads functions words
+          → BodyAgrees text limit words n tape₁ tape′ r
+          → FunctionAgrees text tape heads functions limit words t tape′ heads′ r
+      function-reads {limit = limit} k w a =
+          let few : functions < length heads = rw (opens .long) (m .comes .few) in
+          let sound : faultHere (m .comes) ≡ 0 = fault-left ∙ rw k in
+          makes (declared (View.spanText text n)) _
+          (λ ss rest s h. record {
+            read =
+                record {
+                  tokens = h .tokens;
+                  went = went-from (omega (arith, here .from)) (function-went (declared (View.spanText text n) ss) refl (h .went));
+                  left = h .left;
+                  stands = h .stands;
+                };
+            noted = rw (w, add-one) (take-suc-set heads functions words few);
+            few = m .comes .few;
+            long = rw w (length-set heads functions words ∙ opens .long);
+          })
+          (rw (here .unrolled, lt-ltb functions maxFunctions (m .comes .few), sound, ← (here .past))
+          (pass-follow Tokens.leftBrace (stream text Tokens.outside (n .past)) (λ ts. Reading.parseSentences limit ts)
+          (λ ss rest. parsed (declared (View.spanText text n) ss) rest)))
+          a
 
 -- A SPARE `;`
 
-pub spare-passed : {text : Bytes} {at past : ℕ} → Taken text Tokens.outside 59 at past → SpareTo text at past
+pub spare-passed : {text : Bytes} {at past : ℕ} → Taken text Tokens.outside Tokens.semicolon at past → SpareTo text at past
 spare-passed k = record { tokens = rw (k .unrolled); onward = omega (arith, k .onward); inside = k .inside }
 
-pub spare-none : {text : Bytes} {at : ℕ} {t : Code.Placed} → Comes text Tokens.outside at t → signIs 59 (t .token) ≡ false →
+pub spare-none : {text : Bytes} {at : ℕ} {t : Code.Placed} → Comes text Tokens.outside at t → signIs Tokens.semicolon (t .token) ≡ false →
     SpareTo text at (t .place)
 spare-none {text} {t = t} c e =
-    record { tokens = c .again ∙ rw (c .unrolled, sign-shown text t 59 e); onward = c .onward; inside = omega (arith, c .forward, c .inside) }
+    record {
+      tokens = c .again ∙ rw (c .unrolled, sign-shown text t Tokens.semicolon e);
+      onward = c .onward;
+      inside = omega (arith, c .forward, c .inside);
+    }
 
 -- THE END
 
 abbrev allButEnd : List ℕ
 allButEnd = 0 ∷ 1 ∷ 2 ∷ 3 ∷ 4 ∷ 5 ∷ 7 ∷ []
 
-pub no-end : (t : Token) → OneOf allButEnd (tagOf token.the-type t) → false ≡ isEnd t
+pub no-end : (t : Token) → OneOf allButEnd (tagOf token.the-type t) → false ≡ isEndToken t
 no-end =
-    by-kind (λ t. OneOf allButEnd (tagOf token.the-type t) → false ≡ isEnd t) (λ n o. refl) (λ x o. refl) (λ x o. refl) (λ o. refl) (λ n o. refl)
+    by-kind (λ t. OneOf allButEnd (tagOf token.the-type t) → false ≡ isEndToken t) (λ n o. refl) (λ x o. refl) (λ x o. refl) (λ o. refl) (λ n o. refl)
     (λ b o. refl)
     (λ o. absurd (miss allButEnd 6 tt o)) (λ o. refl)
 
-end-same : (text : Bytes) (place past : ℕ) (t : Token) → Reading.isTextEnd (tokenOf text t place past) ≡ isEnd t
+end-same : (text : Bytes) (place past : ℕ) (t : Token) → Reading.isTextEnd (tokenOf text t place past) ≡ isEndToken t
 end-same text place past =
-    by-kind (λ t. Reading.isTextEnd (tokenOf text t place past) ≡ isEnd t) (λ n. refl) (λ x. refl) (λ x. refl) refl (λ n. refl) (λ b. refl) refl refl
+    by-kind (λ t. Reading.isTextEnd (tokenOf text t place past) ≡ isEndToken t) (λ n. refl) (λ x. refl) (λ x. refl) refl (λ n. refl)
+    (λ b. refl) refl refl
 
 -- THE DEFINITION
 
@@ -338,7 +368,7 @@ module _ {text start tape heads : List ℕ} {at words count left : ℕ} {t : Cod
       pick (Tokens.isLastToken (tokenOf text (t .token) (t .place) (t .past))) []
       (stream text (Tokens.modeAfter Tokens.outside (tokenOf text (t .token) (t .place) (t .past))) (t .past))
 
-  functions-done : isEnd (t .token) ≡ true → FunctionsAgree text start tape heads
+  functions-done : isEndToken (t .token) ≡ true → FunctionsAgree text start tape heads
       (DoneTable (record { words = words; functions = count; left = left }))
   functions-done e =
       reads-by refl (k .before) following
@@ -364,7 +394,7 @@ module _ {text start tape heads : List ℕ} {at words count left : ℕ} {t : Cod
 pub record Another {text start tape heads : List ℕ} {at words count left : ℕ} (others : Functioned text start tape heads at words count left)
     (t : Code.Placed) : Type 0 where
   pub comes : Comes text Tokens.outside at t
-  pub is : isEnd (t .token) ≡ false
+  pub is : isEndToken (t .token) ≡ false
 
 module _ {text start tape heads : List ℕ} {at words count left : ℕ} {k : Functioned text start tape heads at words count left} {t : Code.Placed}
     (n : Another k t) where
@@ -505,10 +535,10 @@ module _ {text tape heads : List ℕ} {at : ℕ} {stage : Stage} {n : Tally} {t 
   ends-with a =
       record { keeps = λ start s. a start (functioned s); falls = λ o. rw (k .onward) (omega (arith, so-far .few)) }
 
-  pub stage-ends : isEnd (t .token) ≡ true → Changed tape heads at (Over (DoneTable n))
+  pub stage-ends : isEndToken (t .token) ≡ true → Changed tape heads at (Over (DoneTable n))
   stage-ends e = ends-with (λ start f. functions-done f (k .comes) e)
 
-  module _ (e : isEnd (t .token) ≡ false) where
+  module _ (e : isEndToken (t .token) ≡ false) where
     another : {start : List ℕ} (f : Functioned text start tape heads at (n .words) (n .functions) (n .left)) → Another f t
     another f = record { comes = k .comes; is = e }
 

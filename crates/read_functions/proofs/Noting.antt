@@ -14,7 +14,7 @@ use Rattle.meaning.proofs.laws.Passing.{every-head}
 use Rattle.tape_layout.specs.Tape as Tape
 use Rattle.tape_layout.specs.Tape.{callWord, tapeWord, functionKind, functionTape, sentencesTape}
 use Rattle.tape_words.specs.Words.{carried, headName, headNames}
-use Rattle.read_bookkeeping.specs.Written.{written, isQuiet, Went}
+use Rattle.read_bookkeeping.specs.Written.{writtenFrom, isQuiet, Went}
 use Rattle.read_functions.specs.Sentences.{Each}
 use Rattle.read_functions.specs.Functions.{FunctionStands, headsFrom, Heads}
 
@@ -23,7 +23,7 @@ use Rattle.read_functions.specs.Functions.{FunctionStands, headsFrom, He
 -- they are the first words
 pub begins : {text start tape words : List ℕ} {at count : ℕ} → Went text 0 0 start at count tape words → length text ≤ length tape
     → take count tape ≡ words
-unfolding written
+unfolding writtenFrom
 begins {start = start} {tape} {words} {count = count} w room =
     let same : length tape ≡ length start = rw (w .wrote) (length-sets start 0 words) in
     let counts : count ≡ length words = omega (arith, w .counted) in

@@ -2,6 +2,7 @@
 use Prim.Native.Nat.{ℕ, _≤_}
 use mathlib.Core.List.{List}
 use Rattle.meaning.specs.Choice.{Bytes}
+use Rattle.meaning.specs.Allowed.{maxItems}
 use Rattle.read_functions.specs.declared.expressions.ExpressionCounts.{ExpressionCounts}
 use Rattle.read_bookkeeping.specs.Written.{Ready, Went}
 use Rattle.read_functions.specs.Expressions.{Going}
@@ -15,7 +16,7 @@ module _ {text : Bytes} {table : List ℕ} {symbols parts : ℕ} {s : Expression
 
   -- after what was read
   pub going-after : {next : ExpressionCounts} {tape tape′ added : List ℕ} → Went text (s .at) (s .words) tape (next .at) (next .words) tape′ added
-      → next .items ≤ 128
+      → next .items ≤ maxItems
       → next .passed ≤ parts
       → Going text table symbols parts next
   going-after w few passed = record { variables = g .variables; passed = passed; few = few; ready = ready-after (g .ready .short) w }

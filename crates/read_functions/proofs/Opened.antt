@@ -8,11 +8,12 @@ use lib.Dec.{T, leb, ltb, eqb}
 use lib.ListN.{length}
 use borrow.Author.Tests.{lt-leb, le-leb, lt-ltb, le-ltb}
 use Rattle.meaning.specs.Choice.{Bytes, both, every}
-use Rattle.tape_layout.specs.Tape.{callKind}
+use Rattle.tape_layout.specs.Tape.{callKind, kindWidth}
 use Rattle.meaning.specs.Tokens as Tokens
 use Rattle.meaning.specs.Grammar.{standing}
 use Rattle.meaning.specs.Reading as Reading
 use Rattle.meaning.specs.Reading.{Parsed, parsed}
+use Rattle.meaning.specs.Allowed.{maxItems, maxName, maxNesting, maxTable}
 use Rattle.read_tokens.specs.View as View
 use Rattle.read_tokens.specs.View.{stream, Comes}
 use Rattle.read_tokens.specs.declared.Span.{Span}
@@ -25,10 +26,10 @@ use Rattle.read_functions.specs.declared.expressions.ExpressionCounts.{E
 use Rattle.read_functions.specs.declared.expressions.ParsedExpression.{ParsedExpression}
 use Rattle.read_functions.specs.declared.expressions.ParsedExpression.the-variants.{Stopped, Done}
 use Rattle.read_bookkeeping.specs.Tables.{Inside}
-use Rattle.answers.specs.Numbers.{numberOf}
+use Rattle.answers.specs.Numbers.{answerNumber}
 use Rattle.read_bookkeeping.specs.Answered.{AgreesBy}
-use Rattle.read_bookkeeping.specs.Written.{Wrote, isQuiet, Ready}
-use Rattle.read_functions.specs.Expressions.{expressionOutcome, CallStands, faultAt, CalledName, opening, OpeningRead}
+use Rattle.read_bookkeeping.specs.Written.{WroteOnTape, isQuiet, Ready}
+use Rattle.read_functions.specs.Expressions.{expressionOutcome, CallStands, faultAt, CalledName, callOpening, OpeningRead}
 use Rattle.read_bookkeeping.proofs.Choosing.{both-false}
 use Rattle.read_bookkeeping.proofs.Lengths.{part-length, within}
 use Rattle.read_bookkeeping.proofs.Going.{check-wrong, stops-by, reads-by, name-went}
@@ -36,21 +37,21 @@ use Rattle.read_bookkeeping.proofs.Tokening.{NameFirst, name-first, names-not, 
 
 -- what the definition reads of a call after its `<`, up to its argument
 abbrev pub openingAt : Bytes → ℕ → ExpressionCounts → ℕ → Parsed CalledName
-openingAt text depth s place = opening depth (s .items) (standing (Tokens.sign 60) place (s .at)) (stream text Tokens.naming (s .at))
+openingAt text depth s place = callOpening depth (s .items) (standing (Tokens.sign Tokens.lessThan) place (s .at)) (stream text Tokens.naming (s .at))
 
 abbrev pub OpeningAgrees : Bytes → ℕ → ExpressionCounts → ℕ → List ℕ → List ℕ → ParsedExpression → Type 0
 OpeningAgrees text depth s place tape tape′ r = AgreesBy expressionOutcome (OpeningRead text depth s tape tape′) (openingAt text depth s place) r
 
 -- one call too deep, one item too many
 module _ (depth items : ℕ) where
-  pub too-deep : 16 ≤ depth → both (ltb depth 16) (leb (items + 1) 128) ≡ false
-  too-deep h = rw (le-ltb depth 16 h)
+  pub too-deep : maxNesting ≤ depth → both (ltb depth maxNesting) (leb (items + 1) maxItems) ≡ false
+  too-deep h = rw (le-ltb depth maxNesting h)
 
-  pub too-many : 128 ≤ items → both (ltb depth 16) (leb (items + 1) 128) ≡ false
-  too-many h = rw (lt-leb (items + 1) 128 (omega arith)) (sym (both-false (ltb depth 16) refl))
+  pub too-many : maxItems ≤ items → both (ltb depth maxNesting) (leb (items + 1) maxItems) ≡ false
+  too-many h = rw (lt-leb (items + 1) maxItems (omega arith)) (sym (both-false (ltb depth maxNesting) refl))
 
 pub call-limited : (text : Bytes) (depth : ℕ) (s : ExpressionCounts) (place : ℕ) {tape tape′ : List ℕ} →
-    both (ltb depth 16) (leb (s .items + 1) 128) ≡ false
+    both (ltb depth maxNesting) (leb (s .items + 1) maxItems) ≡ false
     → OpeningAgrees text depth s place tape tape′ (Stopped (faultAt OverLimit place))
 call-limited text depth s place e = stops-by refl (rw e)
 
@@ -58,14 +59,14 @@ call-limited text depth s place e = stops-by refl (rw e)
 pub record CallComes (text : Bytes) (depth : ℕ) (s : ExpressionCounts) (place : ℕ) (t : Code.Placed) : Type 0 where
   pub ready : Ready text (s .at) (s .words)
   pub after : s .words < s .at
-  pub shallow : depth < 16
-  pub few : s .items < 128
+  pub shallow : depth < maxNesting
+  pub few : s .items < maxItems
   pub comes : Comes text Tokens.naming (s .at) t
 
 module _ {text : Bytes} {depth : ℕ} {s : ExpressionCounts} {place : ℕ} {t : Code.Placed} (k : CallComes text depth s place t) where
   at-name : openingAt text depth s place
       ≡ Reading.passName Reading.calledFault (stream text Tokens.naming (s .at)) (λ at n rest. parsed (record { place = at; name = n }) rest)
-  at-name = rw (lt-ltb depth 16 (k .shallow), le-leb (s .items + 1) 128 (omega (arith, k .few)))
+  at-name = rw (lt-ltb depth maxNesting (k .shallow), le-leb (s .items + 1) maxItems (omega (arith, k .few)))
 
   pub call-nameless : {tape tape′ : List ℕ} {fault : Fault} → NoName (t .token)
       → FaultOf t fault
@@ -82,16 +83,16 @@ module _ {text : Bytes} {depth : ℕ} {s : ExpressionCounts} {place : ℕ} {t : 
   pub named-here : NameFirst text Tokens.naming (s .at) t n
   named-here = name-first (call .comes) (m .is)
 
-  pub call-misnamed : {tape tape′ : List ℕ} {answer : Answer} → numberOf answer ≡ Reading.calledFault (View.part text n) → eqb (numberOf answer) 0 ≡
-      false
+  pub call-misnamed : {tape tape′ : List ℕ} {answer : Answer}
+      → answerNumber answer ≡ Reading.calledFault (View.spanText text n) → eqb (answerNumber answer) 0 ≡ false
       → OpeningAgrees text depth s place tape tape′ (Stopped (faultAt answer (t .place)))
   call-misnamed {answer = answer} f w =
-      stops-by refl (at-name call ∙ rw (named-here .unrolled, ← f) (check-wrong (numberOf answer) _ _ w))
+      stops-by refl (at-name call ∙ rw (named-here .unrolled, ← f) (check-wrong (answerNumber answer) _ _ w))
 
 -- it has no fault
 pub record CallNamed {text : Bytes} {depth : ℕ} {s : ExpressionCounts} {place : ℕ} {t : Code.Placed} {call : CallComes text depth s place t}
     {n : Span} (name : CallName call n) : Type 0 where
-  pub sound : Reading.calledFault (View.part text n) ≡ 0
+  pub sound : Reading.calledFault (View.spanText text n) ≡ 0
 
 module _ {text : Bytes} {depth : ℕ} {s : ExpressionCounts} {place : ℕ} {t : Code.Placed} {call : CallComes text depth s place t} {n : Span}
     {name : CallName call n}
@@ -99,13 +100,13 @@ module _ {text : Bytes} {depth : ℕ} {s : ExpressionCounts} {place : ℕ} {t : 
   abbrev here : NameFirst text Tokens.naming (s .at) t n
   here = named-here name
 
-  name-length : length (View.part text n) ≡ n .past - n .from
+  name-length : length (View.spanText text n) ≡ n .past - n .from
   name-length = part-length text n (here .inside)
 
-  name-short : n .past - n .from ≤ 24
-  name-short = within text n (here .inside) 24 3 _ (m .sound)
+  name-short : n .past - n .from ≤ maxName
+  name-short = within text n (here .inside) maxName 3 _ (m .sound)
 
-  pub name-room : Inside text n × (s .words + 1 + (n .past - n .from) ≤ 32768) × (n .past - n .from ≤ 24) × (t .place ≤ 32768)
+  pub name-room : Inside text n × (s .words + 1 + (n .past - n .from) ≤ maxTable) × (n .past - n .from ≤ maxName) × (t .place ≤ maxTable)
   name-room = (
     here .inside,
     omega (arith, call .after, call .ready .short, call .comes .onward, here .from, here .inside .forward, here .inside .inside),
@@ -113,15 +114,16 @@ module _ {text : Bytes} {depth : ℕ} {s : ExpressionCounts} {place : ℕ} {t : 
     omega (arith, call .ready .short, call .comes .forward, call .comes .inside),
   )
 
-  name-stands : T (every isQuiet (View.part text n)) → CallStands (View.part text n)
+  name-stands : T (every isQuiet (View.spanText text n)) → CallStands (View.spanText text n)
   name-stands q = record { short = rw name-length name-short; quiet = q }
 
   pub call-opens : {tape tape′ : List ℕ} {words : ℕ}
-      → Wrote tape (s .words) (((9 + t .place) * 256 + (n .past - n .from)) ∷ View.part text n) words tape′ × T (every isQuiet (View.part text n))
+      → WroteOnTape tape (s .words) (((callKind + t .place) * kindWidth + (n .past - n .from)) ∷ View.spanText text n) words tape′
+      × T (every isQuiet (View.spanText text n))
       → OpeningAgrees text depth s place tape tape′ (Done (record { at = t .past; words = words; items = s .items + 1; passed = s .passed }))
   call-opens w =
       let k = call .comes in
-      reads-by refl (record { place = t .place; name = View.part text n }) (stream text Tokens.inside (t .past))
+      reads-by refl (record { place = t .place; name = View.spanText text n }) (stream text Tokens.inside (t .past))
       (at-name call ∙ rw (here .unrolled, m .sound))
       (record {
         tokens = refl;

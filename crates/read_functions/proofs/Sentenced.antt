@@ -11,7 +11,7 @@ use denote.Enum.Declared.{tagOf}
 use borrow.Author.Tests.{ne-eqb}
 use Rattle.meaning.specs.Choice.{Bytes}
 use Rattle.meaning.specs.Tree.{Element, Condition, Sentence}
-use Rattle.meaning.specs.Allowed.{symbolsOf, partsOf}
+use Rattle.meaning.specs.Allowed.{symbolsOf, partsOf, maxConditions, maxTable}
 use Rattle.meaning.specs.Tokens as Tokens
 use Rattle.meaning.specs.Reading as Reading
 use Rattle.meaning.specs.Reading.{Parsed, parsed, follow}
@@ -51,8 +51,8 @@ use Rattle.read_tokens.proofs.Variants.{by-kind}
 
 -- WHERE A SENTENCE BEGINS
 
-pub begins-sign : {t : Token} {b : ℕ} → t ≡ Sign b → (b ≡ 44 → ⊥) → eqb b 61 ≡ beginsSentence t
-begins-sign {b = b} e d = rw (e, ne-eqb b 44 d)
+pub begins-sign : {t : Token} {b : ℕ} → t ≡ Sign b → (b ≡ Tokens.comma → ⊥) → eqb b Tokens.equals ≡ beginsSentence t
+begins-sign {b = b} e d = rw (e, ne-eqb b Tokens.comma d)
 
 abbrev noBeginning : List ℕ
 noBeginning = 0 ∷ 3 ∷ 6 ∷ 7 ∷ []
@@ -73,33 +73,34 @@ begins-same {text} {t = t} c =
 -- WHAT COMES AFTER A SENTENCE
 
 module _ {text : Bytes} {from : ℕ} where
-  pub ends-at-once : {past : ℕ} → Taken text Tokens.inside 125 from past → Follows text from (Ends past)
+  pub ends-at-once : {past : ℕ} → Taken text Tokens.inside Tokens.rightBrace from past → Follows text from (Ends past)
   ends-at-once k = record { gives = (λ more s. rw (k .unrolled), k .onward, k .inside) }
 
-  pub follows-nothing : {t : Code.Placed} {fault : Fault} → Comes text Tokens.inside from t → signIs 125 (t .token) ≡ false → signIs 59 (t .token) ≡
-      false
+  pub follows-nothing : {t : Code.Placed} {fault : Fault} → Comes text Tokens.inside from t → signIs Tokens.rightBrace (t .token) ≡ false
+      → signIs Tokens.semicolon (t .token) ≡ false
       → FaultOf t fault
       → Follows text from (Refused fault)
   follows-nothing {t} c e d f =
       record {
         gives = λ more s. rw (
           c .unrolled,
-          sign-shown text t 125 e,
-          sign-shown text t 59 d,
+          sign-shown text t Tokens.rightBrace e,
+          sign-shown text t Tokens.semicolon d,
           f .0 ∙ fault-same text (t .place) (t .past) (t .token),
           f .1,
         );
       }
 
-  module _ {next : ℕ} (k : Taken text Tokens.inside 59 from next) where
-    pub ends-after : {past : ℕ} → Taken text Tokens.inside 125 next past → Follows text from (Ends past)
+  module _ {next : ℕ} (k : Taken text Tokens.inside Tokens.semicolon from next) where
+    pub ends-after : {past : ℕ} → Taken text Tokens.inside Tokens.rightBrace next past → Follows text from (Ends past)
     ends-after l = record { gives = (λ more s. rw (k .unrolled, l .unrolled), omega (arith, k .onward, l .onward), l .inside) }
 
-    pub goes-after : {t : Code.Placed} → Comes text Tokens.inside next t → signIs 125 (t .token) ≡ false → Follows text from (Another (t .place))
+    pub goes-after : {t : Code.Placed} → Comes text Tokens.inside next t → signIs Tokens.rightBrace (t .token) ≡ false
+        → Follows text from (Another (t .place))
     goes-after {t} c e =
         record {
           gives = (
-            λ more s. rw (k .unrolled, c .again, c .unrolled, sign-shown text t 125 e),
+            λ more s. rw (k .unrolled, c .again, c .unrolled, sign-shown text t Tokens.rightBrace e),
             omega (arith, k .onward, c .onward),
             omega (arith, c .forward, c .inside),
           );
@@ -118,10 +119,10 @@ EqualsAgrees text table symbols parts from words tape tape′ r =
 -- the `=` was passed
 pub record AfterEquals (text : Bytes) (from words at : ℕ) : Type 0 where
   pub ready : Ready text from words
-  pub taken : Taken text Tokens.inside 61 from at
+  pub taken : Taken text Tokens.inside Tokens.equals from at
 
 module _ {text : Bytes} {from words at : ℕ} (q : AfterEquals text from words at) where
-  pub equals-room : words < 32768
+  pub equals-room : words < maxTable
   equals-room = omega (arith, q .ready .charged, q .ready .short, q .taken .onward, q .taken .inside)
 
   module _ {table : List ℕ} {symbols parts : ℕ} where
@@ -171,8 +172,8 @@ withExpression p cs i = record { pattern = p; conditions = cs; expression = i .e
 
 abbrev afterPattern : List Element → List Tokens.Placed → Parsed Sentence
 afterPattern p ts =
-    follow (Reading.parseConditions 8 (symbolsOf p) (partsOf p) ts) λ cs ts₁.
-    Reading.pass 61 ts₁ λ ts₂.
+    follow (Reading.parseConditions maxConditions (symbolsOf p) (partsOf p) ts) λ cs ts₁.
+    Reading.pass Tokens.equals ts₁ λ ts₂.
     follow (unlessWord (Reading.parseExpression (length ts₂) (symbolsOf p) 0 (record { items = 0; coming = partsOf p }) ts₂)) λ i rest.
     parsed (withExpression p cs i) rest
 
@@ -181,15 +182,15 @@ sentence-is : (ts : List Tokens.Placed) → unlessWord (Reading.parseSentence ts
 unfolding Reading.parseSentence Reading.parseConditions
 sentence-is ts =
     word-after (Reading.parsePattern [] ts) _ afterPattern (λ p ts₁.
-    word-after (Reading.parseConditions 8 (symbolsOf p) (partsOf p) ts₁) _ _ λ cs ts₂.
-    word-after-pass 61 ts₂ _ _ λ ts₃.
+    word-after (Reading.parseConditions maxConditions (symbolsOf p) (partsOf p) ts₁) _ _ λ cs ts₂.
+    word-after-pass Tokens.equals ts₂ _ _ λ ts₃.
     word-after-made (withExpression p cs) (Reading.parseExpression (length ts₃) (symbolsOf p) 0 (record { items = 0; coming = partsOf p }) ts₃))
     ∙ word-at-once (Reading.parsePattern [] ts) afterPattern (λ p w place past rest. refl)
 
 -- what the definition reads after the pattern
 abbrev conditionsAt : Bytes → List ℕ → Counts → Parsed (List Condition)
 conditionsAt text table p =
-    Reading.parseConditions 8 (symbolNames text table (p .symbols)) (partNames text table (p .parts)) (stream text Tokens.inside (p .at))
+    Reading.parseConditions maxConditions (symbolNames text table (p .symbols)) (partNames text table (p .parts)) (stream text Tokens.inside (p .at))
 
 -- the pattern was read
 pub record AfterPattern (text : Bytes) (from words : ℕ) (tape table tape₁ : List ℕ) (p : Counts) : Type 0 where
@@ -222,7 +223,7 @@ module _ {text : Bytes} {from words : ℕ} {tape table tape₁ : List ℕ} {p : 
   at-conditions =
       sentence-is _
       ∙ rw (k .read .same, k .read .how .tokens, k .read .how .symbols, k .read .how .parts)
-      (follow-same (conditionsAt text table p) (λ cs ts. pass-follow 61 ts _ _))
+      (follow-same (conditionsAt text table p) (λ cs ts. pass-follow Tokens.equals ts _ _))
 
   module _ {tape₂ : List ℕ} {r : CodeParsed} (a : Agrees (ConditionsRead text (p .at) (p .words) tape₁ tape₂) (conditionsAt text table p) r) where
     pub conditions-stop : {fault : Fault} → r ≡ Stopped fault → SentenceAgrees text from words tape tape₂ (Stopped fault)

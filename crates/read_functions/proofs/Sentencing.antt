@@ -11,6 +11,7 @@ use Rattle.tape_layout.specs.Tape.{tapeWord, nextKind, endKind, sentenceTape, s
 use Rattle.meaning.specs.Tokens as Tokens
 use Rattle.meaning.specs.Reading as Reading
 use Rattle.meaning.specs.Reading.{Parsed, follow, whether, afterSentence}
+use Rattle.meaning.specs.Allowed.{maxTable}
 use Rattle.read_tokens.specs.View.{stream}
 use Rattle.read_bookkeeping.specs.declared.progress.Fault.{Fault}
 use Rattle.read_bookkeeping.specs.declared.progress.Progress.{Progress}
@@ -107,7 +108,7 @@ pub record Sentenced (text start : List ℕ) (limit from words : ℕ) (tape : Li
   pub went : Went text from words start at to tape (partedTape before)
   pub counted : left + length before ≡ limit
   pub stand : Each SentenceStands before
-  pub short : length text ≤ 32768
+  pub short : length text ≤ maxTable
 
 abbrev SentencesAgree : Bytes → ℕ → ℕ → ℕ → List ℕ → List ℕ → ParsedSentences → Type 0
 SentencesAgree text limit from words start tape r =

@@ -13,7 +13,7 @@ use Rattle.tape_layout.specs.Tape.{tapeWord, named, symbolKind, partKind, callK
 use Rattle.meaning.specs.Tokens as Tokens
 use Rattle.meaning.specs.Reading as Reading
 use Rattle.meaning.specs.Reading.{parsed, Item, characters, symbolItem, partItem, noItem, isItem}
-use Rattle.read_tokens.specs.View.{part, stream}
+use Rattle.read_tokens.specs.View.{spanText, stream}
 use Rattle.read_tokens.specs.declared.Span.{Span}
 use Rattle.read_tokens.specs.declared.Placed.{Placed}
 use Rattle.answers.specs.declared.Answer.{Answer}
@@ -27,11 +27,11 @@ use Rattle.read_bookkeeping.specs.declared.progress.Parsed.{Parsed}
 use Rattle.read_bookkeeping.specs.declared.progress.Parsed.the-variants.{Stopped as StoppedThere, Done as DoneThere}
 use Rattle.read_functions.specs.declared.expressions.ParsedExpression.{ParsedExpression}
 use Rattle.read_functions.specs.declared.expressions.ParsedExpression.the-variants.{Stopped, Done}
-use Rattle.answers.specs.Numbers.{numberOf}
-use Rattle.read_bookkeeping.specs.Answered.{Outcome, halted, reached}
+use Rattle.answers.specs.Numbers.{answerNumber}
+use Rattle.read_bookkeeping.specs.Answered.{ReadingOutcome, halted, reached}
 use Rattle.read_bookkeeping.specs.Tokened.{Taken, Barred}
-use Rattle.read_bookkeeping.specs.Written.{Wrote, isQuiet, Ready, Went}
-use Rattle.read_bookkeeping.specs.Items.{Variables, symbolNames, itemAt, NoItem, WordRefused}
+use Rattle.read_bookkeeping.specs.Written.{WroteOnTape, isQuiet, Ready, Went}
+use Rattle.read_bookkeeping.specs.Items.{Variables, symbolNames, tokenItem, NoItem, WordRefused}
 
 -- how far an expression is: its items, and the e-variables of the table that may still come
 abbrev pub progressAt : Bytes → List ℕ → ℕ → ExpressionCounts → Reading.Progress
@@ -53,12 +53,12 @@ pub record CallStands (n : Name) : Type 0 where
   pub quiet : T (every isQuiet n)
 
 -- every called name is short, and no other word opens a call
-unfoldable pub Stands : Expression → Type 0
-Stands end = Unit {0}
-Stands (thenCharacter c e) = T (isQuiet c) × Stands e
-Stands (thenSymbol x e) = T (every isQuiet (named symbolKind x)) × Stands e
-Stands (thenPart x e) = T (every isQuiet (named partKind x)) × Stands e
-Stands (thenCall place n a e) = CallStands n × Stands a × Stands e
+unfoldable pub ExpressionStands : Expression → Type 0
+ExpressionStands end = Unit {0}
+ExpressionStands (thenCharacter c e) = T (isQuiet c) × ExpressionStands e
+ExpressionStands (thenSymbol x e) = T (every isQuiet (named symbolKind x)) × ExpressionStands e
+ExpressionStands (thenPart x e) = T (every isQuiet (named partKind x)) × ExpressionStands e
+ExpressionStands (thenCall place n a e) = CallStands n × ExpressionStands a × ExpressionStands e
 
 -- ITEMS
 
@@ -72,8 +72,8 @@ itemTape noItem = []
 -- passed then
 pub record VariableTaken (text : Bytes) (s : ExpressionCounts) (x : Span) (base passed : ℕ) (tape tape′ : List ℕ)
     (next : ExpressionCounts) : Type 0 where
-  pub wrote : Wrote tape (s .words) ((base + (x .past - x .from)) ∷ part text x) (next .words) tape′
-  pub quiet : T (every isQuiet (part text x))
+  pub wrote : WroteOnTape tape (s .words) ((base + (x .past - x .from)) ∷ spanText text x) (next .words) tape′
+  pub quiet : T (every isQuiet (spanText text x))
   pub same : next ≡ record { at = x .past; words = next .words; items = s .items + 1; passed = passed }
 
 -- an item is taken into an expression
@@ -89,8 +89,9 @@ pub record TakenInExpression (text : Bytes) (table : List ℕ) (symbols parts : 
 -- an item has a fault in an expression
 pub record WrongInExpression (text : Bytes) (table : List ℕ) (symbols parts : ℕ) (s : ExpressionCounts) (item : Item)
     (answer : Answer) : Type 0 where
-  pub wrong : eqb (numberOf answer) 0 ≡ false
-  pub fault : Reading.itemFault (symbolNames text table symbols) (progressAt text table parts s) item ≡ numberOf answer
+  pub wrong : eqb (answerNumber answer) 0 ≡ false
+  pub fault : Reading.itemFault (symbolNames text table symbols) (progressAt text table parts s) item
+      ≡ answerNumber answer
 
 abbrev pub ItemJoined : Bytes → List ℕ → ℕ → ℕ → ExpressionCounts → List ℕ → Item → ℕ → List ℕ → Joined → Type 0
 ItemJoined text table symbols parts s tape item past tape′ (Takes next) =
@@ -107,10 +108,10 @@ pub record JoinsItem (text : Bytes) (table : List ℕ) (symbols parts : ℕ) (s 
 
 abbrev pub TokenJoined : Bytes → List ℕ → ℕ → ℕ → ExpressionCounts → List ℕ → Placed → List ℕ → Joined → Type 0
 TokenJoined text table symbols parts s tape t tape′ (Takes next) =
-    TakenInExpression text table symbols parts s tape (itemAt text t) (t .past) tape′ next
-    × (isItem (itemAt text t) ≡ true)
+    TakenInExpression text table symbols parts s tape (tokenItem text t) (t .past) tape′ next
+    × (isItem (tokenItem text t) ≡ true)
 TokenJoined text table symbols parts s tape t tape′ (Wrong answer) =
-    WrongInExpression text table symbols parts s (itemAt text t) answer × (isItem (itemAt text t) ≡ true)
+    WrongInExpression text table symbols parts s (tokenItem text t) answer × (isItem (tokenItem text t) ≡ true)
 TokenJoined text table symbols parts s tape t tape′ (Refused fault) = WordRefused text t fault
 TokenJoined text table symbols parts s tape t tape′ Other = NoItem text t × (tape′ ≡ tape)
 
@@ -125,7 +126,7 @@ pub record JoinsToken (text : Bytes) (table : List ℕ) (symbols parts : ℕ) (s
 abbrev pub faultAt : Answer → ℕ → Fault
 faultAt answer place = record { answer = answer; place = place }
 
-abbrev pub expressionOutcome : ParsedExpression → Outcome ExpressionCounts
+abbrev pub expressionOutcome : ParsedExpression → ReadingOutcome ExpressionCounts
 expressionOutcome (Stopped fault) = halted fault
 expressionOutcome (Done e) = reached e
 
@@ -142,7 +143,7 @@ pub record ExpressionRead (text : Bytes) (table : List ℕ) (symbols parts : ℕ
   pub went : Went text (start .at) (start .words) tape (s .at) (s .words) tape′ (expressionTape (i .expression))
   pub progress : i .progress ≡ progressAt text table parts s
   pub going : Going text table symbols parts s
-  pub stands : Stands (i .expression)
+  pub stands : ExpressionStands (i .expression)
 
 -- a called name with its place
 pub record CalledName : Type 0 where
@@ -150,8 +151,8 @@ pub record CalledName : Type 0 where
   pub name : Name
 
 -- `call` up to its argument, with so many items before it
-abbrev pub opening : ℕ → ℕ → Tokens.Placed → List Tokens.Placed → Reading.Parsed CalledName
-opening depth items t ts =
+abbrev pub callOpening : ℕ → ℕ → Tokens.Placed → List Tokens.Placed → Reading.Parsed CalledName
+callOpening depth items t ts =
     let later : Reading.Parsed CalledName =
     Reading.passName Reading.calledFault ts λ place n rest. parsed (record { place = place; name = n }) rest
     in
@@ -181,13 +182,13 @@ pub record CallRead (text : Bytes) (table : List ℕ) (symbols parts : ℕ) (sta
   pub progress : c .progress ≡ progressAt text table parts s
   pub going : Going text table symbols parts s
   pub named : CallStands (c .name)
-  pub stands : Stands (c .argument)
+  pub stands : ExpressionStands (c .argument)
 
 -- the end of a call's argument: its `>` and the word for it
 abbrev pub CloseGives : Bytes → ExpressionCounts → List ℕ → List ℕ → ParsedExpression → Type 0
-CloseGives text s tape tape′ (Stopped fault) = Barred text Tokens.inside 62 (s .at) fault
+CloseGives text s tape tape′ (Stopped fault) = Barred text Tokens.inside Tokens.greaterThan (s .at) fault
 CloseGives text s tape tape′ (Done next) =
-    Taken text Tokens.inside 62 (s .at) (next .at)
+    Taken text Tokens.inside Tokens.greaterThan (s .at) (next .at)
     × (next ≡ record { at = next .at; words = s .words + 1; items = s .items; passed = s .passed })
     × (tape′ ≡ set tape (s .words) (tapeWord closeKind 0))
 

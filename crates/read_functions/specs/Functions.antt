@@ -1,33 +1,34 @@
 -- The functions of a table while they are read.
 use Prim.Native.Nat.{ℕ, _+_, _-_, _≤_, _<_}
 use mathlib.Core.Path.{_≡_}
-use mathlib.Core.Bool.{Bool, true, false}
+use mathlib.Core.Bool.{Bool, true, false, not}
 use mathlib.Core.List.{List, [], _∷_, _++_}
 use lib.Dec.{T, ltb}
 use lib.ListN.{length, take}
-use Rattle.meaning.specs.Choice.{Bytes, Name, pick, every}
-use Rattle.meaning.specs.Answers.{overLimit}
+use Rattle.meaning.specs.Choice.{Bytes, Name, pick, both, every}
+use Rattle.meaning.specs.Answers.{overLimit, wrongName}
+use Rattle.meaning.specs.Names.{isReserved}
 use Rattle.meaning.specs.Tree.{Sentence, Function, Table}
-use Rattle.meaning.specs.Allowed.{maxTable, maxFunctions, maxSentences, maxName}
+use Rattle.meaning.specs.Allowed.{maxTable, maxFunctions, maxSentences, maxName, member}
 use Rattle.tape_layout.specs.Tape as Tape
 use Rattle.tape_layout.specs.Tape.{named, functionKind, functionTape}
 use Rattle.meaning.specs.Tokens as Tokens
 use Rattle.meaning.specs.Reading as Reading
-use Rattle.meaning.specs.Reading.{Parsed, pass}
+use Rattle.meaning.specs.Reading.{Parsed, pass, lengthFault, faultUnless}
 use Rattle.read_tokens.specs.View.{stream, Comes}
 use Rattle.read_tokens.specs.declared.Span.{Span}
 use Rattle.read_tokens.specs.declared.Token.{Token}
 use Rattle.read_tokens.specs.declared.Token.the-variants.{Name as NameToken, Symbol, Part, Word, Quoted, Sign, End}
 use Rattle.read_tokens.specs.declared.Token.the-variants.{Malformed}
 use Rattle.read_tokens.specs.declared.Placed.{Placed}
-use Rattle.read_bookkeeping.specs.Answered.{Outcome, halted, reached, AgreesBy}
+use Rattle.read_bookkeeping.specs.Answered.{ReadingOutcome, halted, reached, AgreesBy}
 use Rattle.read_functions.specs.declared.sentences.SentencesEnd.{SentencesEnd}
 use Rattle.read_functions.specs.declared.functions.Tally.{Tally}
 use Rattle.read_functions.specs.declared.functions.ParsedTable.{ParsedTable}
 use Rattle.read_functions.specs.declared.functions.ParsedTable.the-variants.{Stopped, Done}
 use Rattle.read_functions.specs.declared.functions.Stage.{Stage}
 use Rattle.read_functions.specs.declared.functions.Stage.the-variants.{Onward, Over}
-use Rattle.read_bookkeeping.specs.Tables.{Inside, declaredFaultIn}
+use Rattle.read_bookkeeping.specs.Tables.{Inside}
 use Rattle.read_bookkeeping.specs.Written.{isQuiet, Ready, Went}
 use Rattle.read_functions.specs.Sentences.{Each, SentenceStands}
 
@@ -53,7 +54,7 @@ pub record Heads (tape heads : List ℕ) (words functions : ℕ) (t : Table) : T
 
 -- `function` after its name
 abbrev pub fromBrace : ℕ → List Tokens.Placed → Parsed (List Sentence)
-fromBrace limit ts = pass 123 ts λ ts₁. Reading.parseSentences limit ts₁
+fromBrace limit ts = pass Tokens.leftBrace ts λ ts₁. Reading.parseSentences limit ts₁
 
 abbrev pub declared : Name → List Sentence → Function
 declared n ss = record { name = n; sentences = ss }
@@ -88,6 +89,10 @@ pub record Opening (text tape heads : List ℕ) (functions words : ℕ) (t : Pla
   pub long : length heads ≡ maxFunctions
   pub room : length text ≤ length tape
 
+-- `declaredFault`, by the names declared before
+abbrev pub declaredFaultIn : List Name → Name → ℕ
+declaredFaultIn names n = lengthFault n (faultUnless (both (not (isReserved n)) (not (member n names))) wrongName 0)
+
 -- the fault of a name after so many functions with these names
 abbrev pub nameFault : ℕ → List Name → Name → ℕ
 nameFault functions names n = pick (ltb functions maxFunctions) (declaredFaultIn names n) overLimit
@@ -108,15 +113,15 @@ pub record SpareTo (text : Bytes) (at past : ℕ) : Type 0 where
   pub onward : at ≤ past
   pub inside : past ≤ length text
 
-abbrev pub isEnd : Token → Bool
-isEnd (NameToken name) = false
-isEnd (Symbol identifier) = false
-isEnd (Part identifier) = false
-isEnd Word = false
-isEnd (Quoted count) = false
-isEnd (Sign byte) = false
-isEnd End = true
-isEnd Malformed = false
+abbrev pub isEndToken : Token → Bool
+isEndToken (NameToken name) = false
+isEndToken (Symbol identifier) = false
+isEndToken (Part identifier) = false
+isEndToken Word = false
+isEndToken (Quoted count) = false
+isEndToken (Sign byte) = false
+isEndToken End = true
+isEndToken Malformed = false
 
 -- what the definition reads of a text's functions
 abbrev pub functionsOf : Bytes → Parsed Table
@@ -146,7 +151,7 @@ pub record Functioned (text start tape heads : List ℕ) (at words count left : 
   pub short : length text ≤ maxTable
   pub room : length text ≤ length tape
 
-abbrev pub tableOutcome : ParsedTable → Outcome Tally
+abbrev pub tableOutcome : ParsedTable → ReadingOutcome Tally
 tableOutcome (Stopped fault) = halted fault
 tableOutcome (Done n) = reached n
 
@@ -163,9 +168,9 @@ pub record Underway (text tape heads : List ℕ) (at : ℕ) (stage : Stage) : Ty
 abbrev pub firstStage : Stage
 firstStage = Onward (record { words = 0; functions = 0; left = maxSentences })
 
-abbrev pub onward : Stage → Bool
-onward (Onward n) = true
-onward (Over p) = false
+abbrev pub isOnward : Stage → Bool
+isOnward (Onward n) = true
+isOnward (Over p) = false
 
 abbrev pub outcomeOf : Stage → ParsedTable
 outcomeOf (Onward n) = Done n
@@ -180,4 +185,4 @@ toCome (Over p) = 0
 pub record Declares (text tape heads : List ℕ) (at : ℕ) (stage : Stage) (tape′ heads′ : List ℕ) (at′ : ℕ)
     (stage′ : Stage) : Type 0 where
   pub keeps : (start : List ℕ) → StageIs text start tape heads at stage → StageIs text start tape′ heads′ at′ stage′
-  pub falls : onward stage ≡ true → toCome stage′ < toCome stage
+  pub falls : isOnward stage ≡ true → toCome stage′ < toCome stage

@@ -23,11 +23,11 @@ use Rattle.read_functions.specs.declared.sentences.ParsedSentences.{Pars
 use Rattle.read_functions.specs.declared.sentences.ParsedSentences.the-variants.{Stopped, Done}
 use Rattle.read_functions.specs.declared.sentences.Sequel.{Sequel}
 use Rattle.read_functions.specs.declared.sentences.Sequel.the-variants.{Ends, Another, Refused}
-use Rattle.answers.specs.Numbers.{numberOf}
-use Rattle.read_bookkeeping.specs.Answered.{Outcome, halted, reached}
+use Rattle.answers.specs.Numbers.{answerNumber}
+use Rattle.read_bookkeeping.specs.Answered.{ReadingOutcome, halted, reached}
 use Rattle.read_bookkeeping.specs.Tokened.{unlessWord}
 use Rattle.read_bookkeeping.specs.Written.{isQuiet, Went}
-use Rattle.read_functions.specs.Expressions.{Stands}
+use Rattle.read_functions.specs.Expressions.{ExpressionStands}
 
 -- it holds of each element
 unfoldable pub Each : {A : Type 0} → (A → Type 0) → List A → Type 0
@@ -38,12 +38,12 @@ Each holds (x ∷ xs) = holds x × Each holds xs
 pub record SentenceStands (s : Sentence) : Type 0 where
   pub pattern : T (every isQuiet (patternTape (s .pattern)))
   pub conditions : T (every isQuiet (conditionsTape (s .conditions)))
-  pub expression : Stands (s .expression)
+  pub expression : ExpressionStands (s .expression)
 
 -- `parseSentence` from its `=` on
 abbrev pub fromEquals : List Name → List Name → List Tokens.Placed → Parsed Reading.Items
 fromEquals symbols parts ts =
-    pass 61 ts λ ts₁.
+    pass Tokens.equals ts λ ts₁.
     unlessWord (Reading.parseExpression (length ts₁) symbols 0 (record { items = 0; coming = parts }) ts₁)
 
 -- `=` and an expression were read
@@ -51,7 +51,7 @@ pub record EqualsRead (text : Bytes) (at words : ℕ) (tape tape′ : List ℕ) 
     (rest : List Tokens.Placed) (s : Progress) : Type 0 where
   pub tokens : rest ≡ stream text Tokens.inside (s .at)
   pub went : Went text at words tape (s .at) (s .words) tape′ (tapeWord equalsKind 0 ∷ expressionTape (i .expression))
-  pub stands : Stands (i .expression)
+  pub stands : ExpressionStands (i .expression)
 
 -- a sentence was read
 pub record SentenceRead (text : Bytes) (at words : ℕ) (tape tape′ : List ℕ) (s : Sentence) (rest : List Tokens.Placed)
@@ -67,7 +67,7 @@ beginsSentence (Symbol identifier) = true
 beginsSentence (Part identifier) = true
 beginsSentence Word = false
 beginsSentence (Quoted count) = true
-beginsSentence (Sign byte) = either (eqb byte 44) (eqb byte 61)
+beginsSentence (Sign byte) = either (eqb byte Tokens.comma) (eqb byte Tokens.equals)
 beginsSentence End = false
 beginsSentence Malformed = false
 
@@ -102,7 +102,7 @@ SequelGives text from (Another place) =
     × (place ≤ length text)
 SequelGives text from (Refused fault) =
     (more : List Tokens.Placed → Parsed (List Sentence)) (s : Sentence)
-    → afterSentence more s (stream text Tokens.inside from) ≡ stopped (numberOf (fault .answer)) (fault .place)
+    → afterSentence more s (stream text Tokens.inside from) ≡ stopped (answerNumber (fault .answer)) (fault .place)
 
 pub record Follows (text : Bytes) (from : ℕ) (r : Sequel) : Type 0 where
   pub gives : SequelGives text from r
@@ -115,6 +115,6 @@ pub record SentencesRead (text : Bytes) (limit at words : ℕ) (tape tape′ : L
   pub left : p .left + length ss ≡ limit
   pub stand : Each SentenceStands ss
 
-abbrev pub sentencesOutcome : ParsedSentences → Outcome SentencesEnd
+abbrev pub sentencesOutcome : ParsedSentences → ReadingOutcome SentencesEnd
 sentencesOutcome (Stopped fault) = halted fault
 sentencesOutcome (Done p) = reached p

@@ -39,17 +39,17 @@ ghost use Rattle.meaning.specs.Choice.{every};
 ghost use Rattle.meaning.specs.Grammar.{standing};
 ghost use Rattle.meaning.specs.Tokens as Tokens;
 ghost use Rattle.meaning.specs.Reading as Reading;
-ghost use Rattle.read_tokens.specs.View.{charactersIn, quotationAt, part, stream, Comes};
+ghost use Rattle.read_tokens.specs.View.{charactersIn, quotationAt, spanText, stream, Comes};
 ghost use Rattle.read_bookkeeping.specs.Answered.{AgreesBy};
 ghost use Rattle.meaning.specs.Allowed.{maxTable, maxName, maxItems};
 ghost use Rattle.tape_layout.specs.Tape.{tapeWord, partWord, callKind};
 ghost use Rattle.read_bookkeeping.specs.Tables.{Inside};
 ghost use Rattle.read_bookkeeping.specs.Tokened.{unlessWord};
-ghost use Rattle.read_bookkeeping.specs.Written.{Wrote, isQuiet, Ready};
+ghost use Rattle.read_bookkeeping.specs.Written.{WroteOnTape, isQuiet, Ready};
 ghost use Rattle.read_bookkeeping.specs.Items.{symbolNames, Identifier, StringAt};
 ghost use Rattle.read_functions.specs.Expressions.{expressionOutcome, withoutCounts, progressAt, Going};
 ghost use Rattle.read_functions.specs.Expressions.{VariableTaken, JoinsItem, JoinsToken, ExpressionRead};
-ghost use Rattle.read_functions.specs.Expressions.{opening, OpeningRead, CallRead, Closes};
+ghost use Rattle.read_functions.specs.Expressions.{callOpening, OpeningRead, CallRead, Closes};
 
 // An expression so far: the place in the text and the words on the tape, its items, and how many of the pattern's
 // e-variables can't come any more.
@@ -139,7 +139,7 @@ fn join_symbol(
 ) -> Joined
     requires { ⌜ Going (now text) (now table) symbols parts s × Identifier (now text) (s .at) x ⌝ }
     ensures { λ r. ⌜ JoinsItem (now (text .entry)) (now (table .entry)) symbols parts s (now (tape .entry))
-        (Reading.symbolItem (part (now (text .entry)) x)) (x .past) (now (tape .exit)) r ⌝ }
+        (Reading.symbolItem (spanText (now (text .entry)) x)) (x .past) (now (tape .exit)) r ⌝ }
 {
     if MAX_ITEMS <= s.items {
         return Joined::Wrong(Answer::OverLimit);
@@ -163,7 +163,7 @@ fn join_part(
 ) -> Joined
     requires { ⌜ Going (now text) (now table) symbols parts s × Identifier (now text) (s .at) x ⌝ }
     ensures { λ r. ⌜ JoinsItem (now (text .entry)) (now (table .entry)) symbols parts s (now (tape .entry))
-        (Reading.partItem (part (now (text .entry)) x)) (x .past) (now (tape .exit)) r ⌝ }
+        (Reading.partItem (spanText (now (text .entry)) x)) (x .past) (now (tape .exit)) r ⌝ }
 {
     if MAX_IDENTIFIER < x.past - x.from {
         return Joined::Wrong(Answer::OverLimit);
@@ -177,7 +177,7 @@ fn join_part(
     if end <= found {
         return Joined::Wrong(Answer::WrongLaterVariable);
     }
-    let passed = found - 15;
+    let passed = found + 1 - MAX_SYMBOLS;
     Joined::Taken(take_variable(text, tape, s, x, PART_WORD, passed))
 }
 
@@ -218,9 +218,9 @@ fn join(
 fn put_call(text: &[u8], tape: &mut [u32], words: usize, place: usize, name: Span) -> usize
     requires { ⌜ Inside (now text) name × (words + 1 + (name .past - name .from) ≤ maxTable)
         × (name .past - name .from ≤ maxName) × (place ≤ maxTable) ⌝ }
-    ensures { λ r. ⌜ Wrote (now (tape .entry)) words
-        (tapeWord (callKind + place) (name .past - name .from) ∷ part (now (text .entry)) name) r (now (tape .exit))
-        × T (every isQuiet (part (now (text .entry)) name)) ⌝ }
+    ensures { λ r. ⌜ WroteOnTape (now (tape .entry)) words
+        (tapeWord (callKind + place) (name .past - name .from) ∷ spanText (now (text .entry)) name) r (now (tape .exit))
+        × T (every isQuiet (spanText (now (text .entry)) name)) ⌝ }
 {
     let word = ((CALL_KIND + place) * KIND_WIDTH + (name.past - name.from)) as u32;
     put_named(text, tape, words, word, name)
@@ -256,7 +256,7 @@ fn open_call(
     requires { ⌜ Ready (now text) (s .at) (s .words) × (s .words < s .at) ⌝ }
     ensures { λ r. ⌜ AgreesBy expressionOutcome
         (OpeningRead (now (text .entry)) depth s (now (tape .entry)) (now (tape .exit)))
-        (opening depth (s .items) (standing (Tokens.sign 60) place (s .at))
+        (callOpening depth (s .items) (standing (Tokens.sign Tokens.lessThan) place (s .at))
         (stream (now (text .entry)) Tokens.naming (s .at))) r ⌝ }
 {
     if MAX_NESTING <= depth || MAX_ITEMS <= s.items {
@@ -297,7 +297,8 @@ fn call(
         (CallRead (now (text .entry)) (now (table .entry)) symbols parts s (now (tape .entry)) (now (tape .exit)))
         (Reading.parseCall
         (Reading.parseExpression bound (symbolNames (now (text .entry)) (now (table .entry)) symbols))
-        depth (progressAt (now (text .entry)) (now (table .entry)) parts s) (standing (Tokens.sign 60) place (s .at))
+        depth (progressAt (now (text .entry)) (now (table .entry)) parts s)
+        (standing (Tokens.sign Tokens.lessThan) place (s .at))
         (stream (now (text .entry)) Tokens.naming (s .at))) r) ⌝ }
 {
     let start = match open_call(text, tape, depth, s, place) {

@@ -4,7 +4,7 @@ use crate::sentences::ParsedSentences;
 use crate::sentences::sentences;
 use answers::Answer;
 use answers::is_accepted;
-use read_bookkeeping::names::declared_fault;
+use read_bookkeeping::names::called_fault;
 use read_bookkeeping::progress::Fault;
 use read_bookkeeping::progress::Passed;
 use read_bookkeeping::progress::is_sign;
@@ -19,19 +19,20 @@ use read_tokens::Token;
 use read_tokens::lex;
 use tape_words::limits::MAX_FUNCTIONS;
 use tape_words::limits::MAX_SENTENCES;
+use tape_words::names::is_known;
 use tape_words::wide::FUNCTION_WORD;
 ghost use mathlib.Core.Path.{_≡_};
 ghost use Prim.Native.Nat.{_≤_};
 ghost use lib.ListN.{length, take};
 ghost use Rattle.meaning.specs.Tokens as Tokens;
 ghost use Rattle.meaning.specs.Reading as Reading;
-ghost use Rattle.read_tokens.specs.View.{part, stream};
+ghost use Rattle.read_tokens.specs.View.{spanText, stream};
 ghost use Rattle.read_bookkeeping.specs.Answered.{AgreesBy};
 ghost use Rattle.tape_words.specs.Words.{headNames};
 ghost use Rattle.read_functions.specs.Sentences.{sentencesOutcome};
 ghost use Rattle.read_functions.specs.Functions.{fromBrace, Declarable, BodyRead, Opening, nameFault};
 ghost use Rattle.read_functions.specs.Functions.{DeclaredRead};
-ghost use Rattle.read_functions.specs.Functions.{SpareTo, isEnd, firstStage, onward, outcomeOf, Underway};
+ghost use Rattle.read_functions.specs.Functions.{SpareTo, isEndToken, firstStage, isOnward, outcomeOf, Underway};
 ghost use Rattle.read_functions.specs.Functions.{Declares};
 
 // The words on the tape, the functions that were read, and the sentences that may still come.
@@ -63,7 +64,7 @@ pub struct Reached {
 fn body(text: &[u8], tape: &mut [u32], name: Span, limit: usize, words: usize) -> ParsedSentences
     requires { ⌜ Declarable (now text) words name ⌝ }
     ensures { λ r. ⌜ AgreesBy sentencesOutcome (BodyRead (now (text .entry)) limit (name .from) words
-        (part (now (text .entry)) name) (now (tape .entry)) (now (tape .exit)))
+        (spanText (now (text .entry)) name) (now (tape .entry)) (now (tape .exit)))
         (fromBrace limit (stream (now (text .entry)) Tokens.outside (name .past))) r ⌝ }
 {
     let at = match pass(text, name.past, Mode::Outside, b'{') {
@@ -75,8 +76,8 @@ fn body(text: &[u8], tape: &mut [u32], name: Span, limit: usize, words: usize) -
     sentences(text, tape, limit, at, to)
 }
 
-// A function from its name to its `}`; its head is noted. Its name is copied to the tape's end first, since what a name
-// means is asked of the tape.
+// A function from its name to its `}`; its head is noted. Once its name is known to be short it is copied to the tape's
+// end, since what a name means is asked of the tape.
 fn function(
     text: &[u8],
     tape: &mut [u32],
@@ -99,10 +100,13 @@ fn function(
     if MAX_FUNCTIONS <= functions {
         return ParsedSentences::Stopped(fault_at(Answer::OverLimit, t.place));
     }
-    put_bytes(text, tape, words, name);
-    let fault = declared_fault(text, name, tape, words, heads, functions);
+    let fault = called_fault(text, name);
     if !is_accepted(fault) {
         return ParsedSentences::Stopped(fault_at(fault, t.place));
+    }
+    put_bytes(text, tape, words, name);
+    if is_known(tape, heads, functions, words, name.past - name.from) {
+        return ParsedSentences::Stopped(fault_at(Answer::WrongName, t.place));
     }
     heads[functions] = words;
     body(text, tape, name, limit, words)
@@ -117,8 +121,8 @@ fn pass_spare(text: &[u8], at: usize) -> usize
     if is_sign(t, b';') { t.past } else { t.place }
 }
 
-fn is_end(t: Placed) -> bool
-    ensures { λ r. ⌜ r ≡ isEnd (t .token) ⌝ }
+fn is_end_token(t: Placed) -> bool
+    ensures { λ r. ⌜ r ≡ isEndToken (t .token) ⌝ }
 {
     let token = t.token;
     if let Token::End = token { true } else { false }
@@ -136,7 +140,7 @@ pub fn first_stage() -> Stage
 }
 
 pub fn is_onward(stage: Stage) -> bool
-    ensures { λ r. ⌜ r ≡ onward stage ⌝ }
+    ensures { λ r. ⌜ r ≡ isOnward stage ⌝ }
 {
     match stage {
         Stage::Onward(_) => true,
@@ -170,7 +174,7 @@ pub fn declaration(
         return Reached { stage, at };
     };
     let t = lex(text, at, Mode::Outside);
-    if is_end(t) {
+    if is_end_token(t) {
         let stage = Stage::Over(ParsedTable::Done(n));
         return Reached { stage, at };
     }

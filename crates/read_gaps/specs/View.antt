@@ -13,6 +13,10 @@ abbrev pub skippedOf : Bytes → Skipped → Tokens.Skipped
 skippedOf text (Found at) = Tokens.found at (drop at text)
 skippedOf text (Unclosed slash past) = Tokens.unclosed slash past
 
+-- so many bytes of a comment are compared at once
+abbrev pub comparedAtOnce : ℕ
+comparedAtOnce = 16
+
 -- inside a comment nothing changes from a place to another
 pub record Plain (text : Bytes) (from past : ℕ) : Type 0 where
   pub same : (slash : ℕ) → Tokens.skip (Tokens.commented slash) from (drop from text)

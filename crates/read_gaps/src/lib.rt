@@ -6,7 +6,13 @@ ghost use Prim.Native.Nat.{_+_, _≤_};
 ghost use lib.Dec.{eqb};
 ghost use lib.ListN.{length, drop};
 ghost use Rattle.meaning.specs.Tokens as Tokens;
-ghost use Rattle.read_gaps.specs.View.{skippedOf, Plain, Ends};
+ghost use Rattle.read_gaps.specs.View.{skippedOf, comparedAtOnce, Plain, Ends};
+
+// So many bytes of a comment are compared at once.
+const COMPARED_AT_ONCE: usize = 16;
+
+// The bytes of `/*`, and of `*/`.
+const MARK_SIZE: usize = 2;
 
 // Where a comment ends: the place after its `*/`, or the end of the text where it has none.
 enum Comment {
@@ -31,32 +37,32 @@ fn byte_ahead(text: &[u8], at: usize, byte: u8) -> bool
     }
 }
 
-// Whether one of sixteen bytes is a `*`: no byte ends the loop early, so that all are compared at once.
+// Whether one of the next bytes is a `*`: no byte ends the loop early, so that all are compared at once.
 fn star_within(text: &[u8], from: usize) -> bool
-    requires { ⌜ from + 16 ≤ length (now text) ⌝ }
-    ensures { λ r. ⌜ (r ≡ false → Plain (now (text .entry)) from (from + 16)) ⌝ }
+    requires { ⌜ from + comparedAtOnce ≤ length (now text) ⌝ }
+    ensures { λ r. ⌜ (r ≡ false → Plain (now (text .entry)) from (from + comparedAtOnce)) ⌝ }
 {
     let mut any = false;
     let mut at = from;
-    while at < from + 16 {
+    while at < from + COMPARED_AT_ONCE {
         let byte = text[at];
-        any = any | (byte == 42);
+        any = any | (byte == b'*');
         at += 1;
     }
     any
 }
 
-// The place after the bytes without a `*`, sixteen by sixteen.
+// The place after the bytes without a `*`, so many at a time.
 fn plain_past(text: &[u8], from: usize) -> usize
     requires { ⌜ from ≤ length (now text) ⌝ }
     ensures { λ r. ⌜ Plain (now (text .entry)) from r ⌝ }
 {
     let mut at = from;
-    while 16 <= text.len() - at {
+    while COMPARED_AT_ONCE <= text.len() - at {
         if star_within(text, at) {
             return at;
         }
-        at += 16;
+        at += COMPARED_AT_ONCE;
     }
     at
 }
@@ -68,9 +74,9 @@ fn comment_past(text: &[u8], from: usize) -> Comment
     let mut at = from;
     while at < text.len() {
         let byte = text[at];
-        if byte == 42 {
-            if byte_ahead(text, at + 1, 47) {
-                let past = at + 2;
+        if byte == b'*' {
+            if byte_ahead(text, at + 1, b'/') {
+                let past = at + MARK_SIZE;
                 return Comment::Ended(past);
             }
             at += 1;
@@ -91,8 +97,8 @@ pub fn skip(text: &[u8], from: usize) -> Skipped
         let byte = text[at];
         if is_blank(byte) {
             at += 1;
-        } else if byte == 47 && byte_ahead(text, at + 1, 42) {
-            match comment_past(text, at + 2) {
+        } else if byte == b'/' && byte_ahead(text, at + 1, b'*') {
+            match comment_past(text, at + MARK_SIZE) {
                 Comment::Ended(past) => {
                     at = past;
                 }

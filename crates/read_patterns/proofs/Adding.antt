@@ -11,8 +11,8 @@ use borrow.Author.Tests.{lt-leb, le-leb, leb-true, ltb-true, ltb-false, not-true
 use Rattle.meaning.specs.Choice.{Bytes, Name, pick, both, every}
 use Rattle.meaning.specs.Tree.{symbol, Element, letter, part}
 use Rattle.meaning.specs.Answers.{overLimit}
-use Rattle.meaning.specs.Allowed.{added, member, symbolsFrom, partsOf, lettersIn}
-use Rattle.tape_layout.specs.Tape.{named, patternTape}
+use Rattle.meaning.specs.Allowed.{added, member, symbolsFrom, partsOf, lettersIn, maxIdentifier, maxLetters, maxSymbols}
+use Rattle.tape_layout.specs.Tape.{named, patternTape, kindWidth, partWord, symbolWord}
 use Rattle.meaning.specs.Reading.{Item, characters, symbolItem, partItem, elementsOf, endsInPart, faultUnless, patternFault}
 use Rattle.meaning_accepting.proofs.reading.Basics.{both-left, both-right}
 use Rattle.meaning_accepting.proofs.reading.PatternFacts.{parts-append, letters-append, symbols-append, characters-parts, characters-letters}
@@ -26,9 +26,9 @@ use Rattle.answers.specs.declared.Answer.the-variants.{OverLimit}
 use Rattle.read_patterns.specs.declared.Counts.{Counts}
 use Rattle.read_patterns.specs.declared.Added.{Added}
 use Rattle.read_patterns.specs.declared.Added.the-variants.{Taken, Wrong, Refused, Other}
-use Rattle.read_bookkeeping.specs.Tables.{position}
-use Rattle.answers.specs.Numbers.{numberOf}
-use Rattle.read_bookkeeping.specs.Written.{Wrote, stringFrom, isQuiet, Went}
+use Rattle.read_bookkeeping.specs.Tables.{position, entryWidth, maxParts}
+use Rattle.answers.specs.Numbers.{answerNumber}
+use Rattle.read_bookkeeping.specs.Written.{WroteOnTape, stringFrom, isQuiet, Went}
 use Rattle.read_bookkeeping.specs.Items.{Variables, symbolNames, partNames, Identifier, StringAt}
 use Rattle.read_patterns.specs.Patterns.{PatternGoing, Seen, patternSymbolFault, patternPartFault, ItemAdded, AddsItem, TokenAdded, AddsToken}
 use Rattle.read_bookkeeping.proofs.Finding.{position-member}
@@ -51,7 +51,7 @@ Faulted text table p item number = (before : List Element) → Seen text table p
 -- what is counted with these elements added
 record Counting (text : Bytes) (table : List ℕ) (p : Counts) (es : List Element) (table′ : List ℕ) (next : Counts) : Type 0 where
   variables : Variables text table′ (next .symbols) (next .parts)
-  few : next .letters ≤ 64
+  few : next .letters ≤ maxLetters
   letters : p .letters + lettersIn es ≡ next .letters
   symbols : symbolsFrom (symbolNames text table (p .symbols)) es ≡ symbolNames text table′ (next .symbols)
   parts : partNames text table (p .parts) ++ partsOf es ≡ partNames text table′ (next .parts)
@@ -59,8 +59,8 @@ record Counting (text : Bytes) (table : List ℕ) (p : Counts) (es : List Elemen
 
 module _ {text : Bytes} {table : List ℕ} {p : Counts} {tape : List ℕ} {item : Item} {table′ tape′ : List ℕ} where
   -- an item with a fault
-  pub item-wrong : {number past : ℕ} {answer : Answer} {is : Bool} → Faulted text table p item number → numberOf answer ≡ number
-      → is ≡ eqb (numberOf answer) 0
+  pub item-wrong : {number past : ℕ} {answer : Answer} {is : Bool} → Faulted text table p item number → answerNumber answer ≡ number
+      → is ≡ eqb (answerNumber answer) 0
       → not is ≡ true
       → AddsItem text table p tape item past table′ tape′ (Wrong answer)
   item-wrong {is = is} f e q n = record { gives = record { wrong = sym q ∙ not-true is n; fault = λ before s. f before s ∙ sym e } }
@@ -103,21 +103,21 @@ module _ {text : Bytes} {table : List ℕ} {p : Counts} {place past count : ℕ}
   abbrev string : Bytes
   string = charactersIn (quotationAt text place)
 
-  string-faulted : {is : Bool} → leb (p .letters + count) 64 ≡ is → Faulted text table p (characters string) (faultUnless is overLimit 0)
+  string-faulted : {is : Bool} → leb (p .letters + count) maxLetters ≡ is → Faulted text table p (characters string) (faultUnless is overLimit 0)
   string-faulted e before s = rw (s .letters, pre .1 .counted, e)
 
-  pub string-wrong : {tape table′ tape′ : List ℕ} → 64 < p .letters + count
+  pub string-wrong : {tape table′ tape′ : List ℕ} → maxLetters < p .letters + count
       → AddsItem text table p tape (characters string) past table′ tape′ (Wrong OverLimit)
-  string-wrong w = item-wrong {is = false} (string-faulted (lt-leb (p .letters + count) 64 w)) refl refl refl
+  string-wrong w = item-wrong {is = false} (string-faulted (lt-leb (p .letters + count) maxLetters w)) refl refl refl
 
-  pub string-taken : p .letters + count ≤ 64 → (tape tape′ : List ℕ) (words : ℕ) (ending : Bool)
-      → Wrote tape (p .words) (charactersIn (stringFrom text (place + 1))) words tape′ ×
+  pub string-taken : p .letters + count ≤ maxLetters → (tape tape′ : List ℕ) (words : ℕ) (ending : Bool)
+      → WroteOnTape tape (p .words) (charactersIn (stringFrom text (place + 1))) words tape′ ×
       T (every isQuiet (charactersIn (stringFrom text (place + 1))))
       → ending ≡ both (p .ending) (eqb count 0)
       → AddsItem text table p tape (characters string) past table tape′
       (Taken (record { at = past; words = words; letters = p .letters + count; symbols = p .symbols; parts = p .parts; ending = ending }))
   string-taken few tape tape′ words ending w e =
-      item-taken (pre .0) (tape-string string) (string-faulted (le-leb (p .letters + count) 64 few))
+      item-taken (pre .0) (tape-string string) (string-faulted (le-leb (p .letters + count) maxLetters few))
       (record {
         variables = pre .0 .variables;
         few = few;
@@ -139,19 +139,19 @@ record Remembered (text : Bytes) (table : List ℕ) (p : Counts) (name : Name) (
 
 module _ {text : Bytes} {table : List ℕ} {p : Counts} {x : Span} (h : PatternGoing text table p) (i : Identifier text (p .at) x) where
   abbrev name : Name
-  name = View.part text x
+  name = View.spanText text x
 
   -- its entry in the table
   abbrev entry : ℕ
-  entry = x .from * 32 + (x .past - x .from)
+  entry = x .from * entryWidth + (x .past - x .from)
 
   -- a variable of a kind, whose word is written with it
-  variable-taken : {tape : List ℕ} {item : Item} {table′ tape′ : List ℕ} {next : Counts} (kind : ℕ) → kind ≤ 2 → x .past - x .from ≤ 8
+  variable-taken : {tape : List ℕ} {item : Item} {table′ tape′ : List ℕ} {next : Counts} (kind : ℕ) → kind ≤ 2 → x .past - x .from ≤ maxIdentifier
       → patternTape (elementsOf item) ≡ named kind name
       → Faulted text table p item 0
       → Counting text table p (elementsOf item) table′ next
       → next .at ≡ x .past
-      → Wrote tape (p .words) ((kind * 256 + (x .past - x .from)) ∷ name) (next .words) tape′ × T (every isQuiet name)
+      → WroteOnTape tape (p .words) ((kind * kindWidth + (x .past - x .from)) ∷ name) (next .words) tape′ × T (every isQuiet name)
       → AddsItem text table p tape item (next .at) table′ tape′ (Taken next)
   variable-taken kind k s e f c r w =
       item-taken h e f c (rw r (variable-went (h .ready) i kind refl (w .0))) (variable-quiet (h .ready) i kind (omega arith) (w .1))
@@ -178,7 +178,7 @@ module _ {text : Bytes} {table : List ℕ} {p : Counts} {x : Span} (h : PatternG
     is-member : {is : Bool} → ltb known (p .symbols) ≡ is → member name (symbolNames text table (p .symbols)) ≡ is
     is-member e = rw (← (position-member name (symbolNames text table (p .symbols))), symbol-count (h .variables), ← known-place) e
 
-    remembered : x .past - x .from ≤ 8 → known < 16 → (is : Bool) → ltb known (p .symbols) ≡ is
+    remembered : x .past - x .from ≤ maxIdentifier → known < maxSymbols → (is : Bool) → ltb known (p .symbols) ≡ is
         → Remembered text table p name (pick is table (set table known entry)) (pick is (p .symbols) (known + 1))
     remembered s n true e =
         record {
@@ -191,7 +191,7 @@ module _ {text : Bytes} {table : List ℕ} {p : Counts} {x : Span} (h : PatternG
         let v = h .variables in
         let g = grown text table 0 (p .symbols) (v .symbolEntries) entry (omega (arith, v .long))
         (entry-inside text x (identifier-inside i) (omega arith)) in
-        let r = kept-above text table 16 (16 + p .parts) (v .partEntries) (p .symbols) entry (omega arith) in
+        let r = kept-above text table maxSymbols (maxSymbols + p .parts) (v .partEntries) (p .symbols) entry (omega arith) in
         rw w
         (record {
           variables =
@@ -210,28 +210,29 @@ module _ {text : Bytes} {table : List ℕ} {p : Counts} {x : Span} (h : PatternG
 
     -- what the tests say where there is no fault
     record Fitting : Type 0 where
-      short : x .past - x .from ≤ 8
-      few : p .letters + 1 ≤ 64
-      room : known < 16
+      short : x .past - x .from ≤ maxIdentifier
+      few : p .letters + 1 ≤ maxLetters
+      room : known < maxSymbols
 
     fitting : fault ≡ 0 → Fitting
     fitting f =
-        let a = leb (length name) 8 in
-        let b = leb (p .letters + 1) 64 in
-        let c = leb (length (added name (symbolNames text table (p .symbols)))) 16 in
+        let a = leb (length name) maxIdentifier in
+        let b = leb (p .letters + 1) maxLetters in
+        let c = leb (length (added name (symbolNames text table (p .symbols)))) maxSymbols in
         let t = no-fault (both a (both b c)) 3 _ f .0 in
         let u = both-right a (both b c) t in
-        let e : c ≡ ltb known 16 =
-        added-room name (symbolNames text table (p .symbols)) 16 (rw (symbol-count (h .variables)) (h .variables .fewSymbols)) ∙ rw (← known-place)
+        let e : c ≡ ltb known maxSymbols =
+        added-room name (symbolNames text table (p .symbols)) maxSymbols (rw (symbol-count (h .variables)) (h .variables .fewSymbols))
+        ∙ rw (← known-place)
         in
         record {
-          short = rw (part-length text x (identifier-inside i)) at (leb-true (length name) 8 (both-left a (both b c) t));
-          few = leb-true (p .letters + 1) 64 (both-left b c u);
-          room = ltb-true known 16 (sym e ∙ both-right b c u);
+          short = rw (part-length text x (identifier-inside i)) at (leb-true (length name) maxIdentifier (both-left a (both b c) t));
+          few = leb-true (p .letters + 1) maxLetters (both-left b c u);
+          room = ltb-true known maxSymbols (sym e ∙ both-right b c u);
         }
 
     pub symbol-taken : fault ≡ 0 → {tape tape′ table′ : List ℕ} {words symbols′ : ℕ}
-        → Wrote tape (p .words) ((256 + (x .past - x .from)) ∷ name) words tape′ × T (every isQuiet name)
+        → WroteOnTape tape (p .words) ((symbolWord + (x .past - x .from)) ∷ name) words tape′ × T (every isQuiet name)
         → (symbols′ ≡ pick (ltb known (p .symbols)) (p .symbols) (known + 1))
         × (table′ ≡ pick (ltb known (p .symbols)) table (set table known entry))
         → AddsItem text table p tape (symbolItem name) (x .past) table′ tape′
@@ -263,14 +264,14 @@ module _ {text : Bytes} {table : List ℕ} {p : Counts} {x : Span} (h : PatternG
   pub part-few : partFault ≡ 0 → p .parts < 2
   part-few f =
       rw (part-count (h .variables)) at
-      (ltb-true (length (partNames text table (p .parts))) 2 (no-fault (ltb (length (partNames text table (p .parts))) 2) 2 _ f .0))
+      (ltb-true (length (partNames text table (p .parts))) maxParts (no-fault (ltb (length (partNames text table (p .parts))) maxParts) 2 _ f .0))
 
-  part-short : partFault ≡ 0 → x .past - x .from ≤ 8
-  part-short f = within text x (identifier-inside i) 8 3 _ (no-fault (ltb (length (partNames text table (p .parts))) 2) 2 _ f .1)
+  part-short : partFault ≡ 0 → x .past - x .from ≤ maxIdentifier
+  part-short f = within text x (identifier-inside i) maxIdentifier 3 _ (no-fault (ltb (length (partNames text table (p .parts))) maxParts) 2 _ f .1)
 
   pub part-taken : partFault ≡ 0 → {tape tape′ : List ℕ} {words : ℕ}
-      → Wrote tape (p .words) ((512 + (x .past - x .from)) ∷ name) words tape′ × T (every isQuiet name)
-      → AddsItem text table p tape (partItem name) (x .past) (set table (16 + p .parts) entry) tape′
+      → WroteOnTape tape (p .words) ((partWord + (x .past - x .from)) ∷ name) words tape′ × T (every isQuiet name)
+      → AddsItem text table p tape (partItem name) (x .past) (set table (maxSymbols + p .parts) entry) tape′
       (Taken (record { at = x .past; words = words; letters = p .letters; symbols = p .symbols; parts = p .parts + 1; ending = true }))
   unfolding lettersIn symbolsFrom partsOf
   part-taken f w =
@@ -278,10 +279,11 @@ module _ {text : Bytes} {table : List ℕ} {p : Counts} {x : Span} (h : PatternG
       let few = part-few f in
       let short = part-short f in
       let o =
-      grown text table 16 (16 + p .parts) (v .partEntries) entry (omega (arith, v .long)) (entry-inside text x (identifier-inside i) (omega arith))
+      grown text table maxSymbols (maxSymbols + p .parts) (v .partEntries) entry (omega (arith, v .long))
+      (entry-inside text x (identifier-inside i) (omega arith))
       in
-      let k = kept-below text table 0 (p .symbols) (v .symbolEntries) (16 + p .parts) entry (omega (arith, v .fewSymbols)) in
-      let a : 16 + (p .parts + 1) ≡ 16 + p .parts + 1 = omega arith in
+      let k = kept-below text table 0 (p .symbols) (v .symbolEntries) (maxSymbols + p .parts) entry (omega (arith, v .fewSymbols)) in
+      let a : maxSymbols + (p .parts + 1) ≡ maxSymbols + p .parts + 1 = omega arith in
       variable-taken 2 (omega arith) short (tape-one (part name)) (λ before s. part-faulted before s ∙ f)
       (record {
         variables =
@@ -290,7 +292,7 @@ module _ {text : Bytes} {table : List ℕ} {p : Counts} {x : Span} (h : PatternG
               partEntries = rw a (o .entries);
               fewSymbols = v .fewSymbols;
               fewParts = omega arith;
-              long = length-set table (16 + p .parts) entry ∙ v .long;
+              long = length-set table (maxSymbols + p .parts) entry ∙ v .long;
             };
         few = h .fewLetters;
         letters = add-zero (p .letters);

@@ -9,9 +9,9 @@ use lib.ListN.{length, length-append}
 use borrow.Author.Tests.{lt-leb, le-leb, lt-ltb, ltb-true, ltb-false}
 use Rattle.meaning.specs.Choice.{Name, pick, both, either, sameBytes}
 use Rattle.meaning.specs.Answers.{notAllowedHere, overLimit, wrongPatternVariable}
-use Rattle.meaning.specs.Allowed.{member, added, maxIdentifier, maxSymbols}
+use Rattle.meaning.specs.Allowed.{member, added, maxIdentifier, maxSymbols, maxLetters}
 use Rattle.meaning.specs.Reading.{faultUnless}
-use Rattle.read_bookkeeping.specs.Tables.{position}
+use Rattle.read_bookkeeping.specs.Tables.{position, maxParts}
 use Rattle.read_patterns.specs.Patterns.{patternSymbolFault, patternPartFault}
 use Rattle.meaning_accepting.proofs.reading.Lists.{member-append}
 use Rattle.read_bookkeeping.proofs.Finding.{position-member}
@@ -46,7 +46,7 @@ added-room x ys n h = chosen (member x ys) (position-member x ys)
 -- the tests in the order of their numbers
 pub symbol-fault-is : (letters : ℕ) (symbols parts : List Name) (x : Name) {short few room shared : Bool}
     → leb (length x) maxIdentifier ≡ short
-    → leb (letters + 1) 64 ≡ few
+    → leb (letters + 1) maxLetters ≡ few
     → leb (length (added x symbols)) maxSymbols ≡ room
     → member x parts ≡ shared
     → faultUnless (both short (both few room)) overLimit (faultUnless (not shared) wrongPatternVariable 0) ≡
@@ -54,7 +54,7 @@ pub symbol-fault-is : (letters : ℕ) (symbols parts : List Name) (x : Name) {sh
 symbol-fault-is letters symbols parts x p q r s = rw (p, q, r, s)
 
 pub part-fault-is : (symbols parts : List Name) (ending : Bool) (x : Name) {room short symbol shared ends : Bool}
-    → ltb (length parts) 2 ≡ room
+    → ltb (length parts) maxParts ≡ room
     → leb (length x) maxIdentifier ≡ short
     → member x symbols ≡ symbol
     → member x parts ≡ shared

@@ -8,10 +8,11 @@ use lib.Dec.{T}
 use lib.ListN.{length}
 use Rattle.meaning.specs.Choice.{every}
 use Rattle.meaning.specs.Tree.{Element}
-use Rattle.meaning.specs.Allowed.{symbolsFrom, partsOf, lettersIn}
+use Rattle.meaning.specs.Allowed.{symbolsFrom, partsOf, lettersIn, maxSymbols}
 use Rattle.tape_layout.specs.Tape.{patternTape}
 use Rattle.meaning.specs.Tokens.{inside}
 use Rattle.meaning.specs.Reading.{endsInPart, elementsOf, parsePattern}
+use Rattle.read_bookkeeping.specs.Tables.{variableRoom}
 use Rattle.read_tokens.specs.View.{stream, Comes}
 use Rattle.read_tokens.specs.declared.Placed as Code
 use Rattle.read_patterns.specs.declared.ParsedPattern.{ParsedPattern}
@@ -20,7 +21,7 @@ use Rattle.read_patterns.specs.declared.Counts.{Counts}
 use Rattle.read_patterns.specs.declared.Added.{Added}
 use Rattle.read_patterns.specs.declared.Added.the-variants.{Taken, Wrong, Refused, Other}
 use Rattle.read_bookkeeping.specs.Written.{isQuiet, Ready, Went}
-use Rattle.read_bookkeeping.specs.Items.{itemAt}
+use Rattle.read_bookkeeping.specs.Items.{tokenItem}
 use Rattle.read_patterns.specs.Patterns.{PatternGoing, Seen, TokenAdded, PatternAgrees}
 use Rattle.read_bookkeeping.proofs.Tabling.{none-yet, no-names, every-append}
 use Rattle.read_patterns.proofs.Elements.{tape-append}
@@ -38,7 +39,7 @@ pub record Patterned (text start : List ℕ) (at words : ℕ) (tape table : List
   pub went : Went text at words start (p .at) (p .words) tape (patternTape before)
   pub quiet : T (every isQuiet (patternTape before))
 
-pub pattern-starts : (text start table : List ℕ) (at words : ℕ) → Ready text at words → length table ≡ 18
+pub pattern-starts : (text start table : List ℕ) (at words : ℕ) → Ready text at words → length table ≡ variableRoom
     → Patterned text start at words start table (record { at = at; words = words; letters = 0; symbols = 0; parts = 0; ending = false })
 unfolding patternTape every symbolsFrom partsOf lettersIn endsInPart
 pattern-starts text start table at words r l =
@@ -50,7 +51,7 @@ pattern-starts text start table at words r l =
             variables =
                 record {
                   symbolEntries = none-yet text table 0 (omega arith);
-                  partEntries = none-yet text table 16 (omega (arith, l));
+                  partEntries = none-yet text table maxSymbols (omega (arith, l));
                   fewSymbols = omega arith;
                   fewParts = omega arith;
                   long = l;
@@ -58,7 +59,7 @@ pattern-starts text start table at words r l =
             fewLetters = omega arith;
             ready = r;
           };
-      seen = record { letters = refl; symbols = no-names text table 0; parts = no-names text table 16; ending = refl };
+      seen = record { letters = refl; symbols = no-names text table 0; parts = no-names text table maxSymbols; ending = refl };
       went = went-none text at words start r;
       quiet = tt;
     }
@@ -83,14 +84,14 @@ module _ {text start : List ℕ} {at words : ℕ} {tape table : List ℕ} {p : C
       let i = item-then c (g .1) in (
         omega (arith, g .0 .at, i .moves),
         record {
-          before = k .before ++ elementsOf (itemAt text t);
+          before = k .before ++ elementsOf (tokenItem text t);
           same = k .same ∙ rw (i .unrolled, g .1, g .0 .fault (k .before) (k .seen), g .0 .at);
           going = g .0 .going;
           seen = g .0 .seen (k .before) (k .seen);
-          went = rw (tape-append (k .before) (elementsOf (itemAt text t))) (went-then (k .went) (g .0 .went));
+          went = rw (tape-append (k .before) (elementsOf (tokenItem text t))) (went-then (k .went) (g .0 .went));
           quiet =
-              rw (tape-append (k .before) (elementsOf (itemAt text t)))
-              (every-append isQuiet (patternTape (k .before)) (patternTape (elementsOf (itemAt text t))) (k .quiet) (g .0 .quiet));
+              rw (tape-append (k .before) (elementsOf (tokenItem text t)))
+              (every-append isQuiet (patternTape (k .before)) (patternTape (elementsOf (tokenItem text t))) (k .quiet) (g .0 .quiet));
         },
       )
   pattern-on (Wrong answer) g =

@@ -13,6 +13,7 @@ use Rattle.tape_layout.specs.Tape.{patternTape}
 use Rattle.meaning.specs.Tokens as Tokens
 use Rattle.meaning.specs.Reading as Reading
 use Rattle.meaning.specs.Reading.{Item, isItem, elementsOf, endsInPart, faultUnless, patternFault}
+use Rattle.read_bookkeeping.specs.Tables.{maxParts}
 use Rattle.read_tokens.specs.View.{stream}
 use Rattle.read_tokens.specs.declared.Placed.{Placed}
 use Rattle.answers.specs.declared.Answer.{Answer}
@@ -21,9 +22,9 @@ use Rattle.read_patterns.specs.declared.ParsedPattern.{ParsedPattern}
 use Rattle.read_patterns.specs.declared.ParsedPattern.the-variants.{Stopped, Done}
 use Rattle.read_patterns.specs.declared.Added.{Added}
 use Rattle.read_patterns.specs.declared.Added.the-variants.{Taken, Wrong, Refused, Other}
-use Rattle.read_bookkeeping.specs.Items.{Variables, symbolNames, partNames, itemAt, WordRefused, NoItem}
-use Rattle.answers.specs.Numbers.{numberOf}
-use Rattle.read_bookkeeping.specs.Answered.{Outcome, halted, reached, AgreesBy}
+use Rattle.read_bookkeeping.specs.Items.{Variables, symbolNames, partNames, tokenItem, WordRefused, NoItem}
+use Rattle.answers.specs.Numbers.{answerNumber}
+use Rattle.read_bookkeeping.specs.Answered.{ReadingOutcome, halted, reached, AgreesBy}
 use Rattle.read_bookkeeping.specs.Tokened.{unlessWord}
 use Rattle.read_bookkeeping.specs.Written.{isQuiet, Ready, Went}
 
@@ -52,7 +53,7 @@ patternSymbolFault letters symbols parts x =
 
 abbrev pub patternPartFault : List Name → List Name → Bool → Name → ℕ
 patternPartFault symbols parts ending x =
-    faultUnless (ltb (length parts) 2) notAllowedHere
+    faultUnless (ltb (length parts) maxParts) notAllowedHere
     (faultUnless (leb (length x) maxIdentifier) overLimit
     (faultUnless (both (not (member x (symbols ++ parts))) (not ending)) wrongPatternVariable 0))
 
@@ -68,8 +69,8 @@ pub record TakenInPattern (text : Bytes) (table : List ℕ) (p : Counts) (tape :
 
 -- an item has a fault in a pattern
 pub record WrongInPattern (text : Bytes) (table : List ℕ) (p : Counts) (item : Item) (answer : Answer) : Type 0 where
-  pub wrong : eqb (numberOf answer) 0 ≡ false
-  pub fault : (before : List Element) → Seen text table p before → patternFault before item ≡ numberOf answer
+  pub wrong : eqb (answerNumber answer) 0 ≡ false
+  pub fault : (before : List Element) → Seen text table p before → patternFault before item ≡ answerNumber answer
 
 -- what comes of an item
 abbrev pub ItemAdded : Bytes → List ℕ → Counts → List ℕ → Item → ℕ → List ℕ → List ℕ → Added → Type 0
@@ -86,9 +87,9 @@ pub record AddsItem (text : Bytes) (table : List ℕ) (p : Counts) (tape : List 
 -- what comes of a token
 abbrev pub TokenAdded : Bytes → List ℕ → Counts → List ℕ → Placed → List ℕ → List ℕ → Added → Type 0
 TokenAdded text table p tape t table′ tape′ (Taken next) =
-    TakenInPattern text table p tape (itemAt text t) (t .past) table′ tape′ next × (isItem (itemAt text t) ≡ true)
+    TakenInPattern text table p tape (tokenItem text t) (t .past) table′ tape′ next × (isItem (tokenItem text t) ≡ true)
 TokenAdded text table p tape t table′ tape′ (Wrong answer) =
-    WrongInPattern text table p (itemAt text t) answer × (isItem (itemAt text t) ≡ true)
+    WrongInPattern text table p (tokenItem text t) answer × (isItem (tokenItem text t) ≡ true)
 TokenAdded text table p tape t table′ tape′ (Refused fault) = WordRefused text t fault
 TokenAdded text table p tape t table′ tape′ Other = NoItem text t × (table′ ≡ table) × (tape′ ≡ tape)
 
@@ -106,7 +107,7 @@ pub record PatternRead (text : Bytes) (at words : ℕ) (tape table′ tape′ : 
   pub symbols : symbolsOf p ≡ symbolNames text table′ (s .symbols)
   pub parts : partsOf p ≡ partNames text table′ (s .parts)
 
-abbrev pub patternOutcome : ParsedPattern → Outcome Counts
+abbrev pub patternOutcome : ParsedPattern → ReadingOutcome Counts
 patternOutcome (Stopped fault) = halted fault
 patternOutcome (Done p) = reached p
 

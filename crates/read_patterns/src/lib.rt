@@ -1,6 +1,7 @@
 // The pattern's reader.
 use answers::Answer;
 use answers::is_accepted;
+use read_bookkeeping::names::MAX_PARTS;
 use read_bookkeeping::names::VARIABLE_ROOM;
 use read_bookkeeping::names::entry;
 use read_bookkeeping::names::find;
@@ -26,8 +27,8 @@ ghost use lib.ListN.{length, set};
 ghost use Rattle.meaning.specs.Choice.{pick, both};
 ghost use Rattle.meaning.specs.Tokens as Tokens;
 ghost use Rattle.meaning.specs.Reading as Reading;
-ghost use Rattle.read_tokens.specs.View.{charactersIn, quotationAt, part, Comes};
-ghost use Rattle.answers.specs.Numbers.{numberOf};
+ghost use Rattle.read_tokens.specs.View.{charactersIn, quotationAt, spanText, Comes};
+ghost use Rattle.answers.specs.Numbers.{answerNumber};
 ghost use Rattle.read_bookkeeping.specs.Tables.{Inside, variableRoom, position};
 ghost use Rattle.read_bookkeeping.specs.Written.{Ready};
 ghost use Rattle.read_bookkeeping.specs.Items.{symbolNames, partNames, Identifier, StringAt};
@@ -100,10 +101,10 @@ fn add_string(
 // What is wrong with an s-variable of a pattern, which is found at an entry of the table.
 fn symbol_fault(text: &[u8], table: &[usize], p: Counts, x: Span, known: usize) -> Answer
     requires { ⌜ PatternGoing (now text) (now table) p × Identifier (now text) (p .at) x
-        × (known ≡ position (part (now text) x) (symbolNames (now text) (now table) (p .symbols))) ⌝ }
-    ensures { λ r. ⌜ numberOf r ≡ patternSymbolFault (p .letters)
+        × (known ≡ position (spanText (now text) x) (symbolNames (now text) (now table) (p .symbols))) ⌝ }
+    ensures { λ r. ⌜ answerNumber r ≡ patternSymbolFault (p .letters)
         (symbolNames (now (text .entry)) (now (table .entry)) (p .symbols))
-        (partNames (now (text .entry)) (now (table .entry)) (p .parts)) (part (now (text .entry)) x) ⌝ }
+        (partNames (now (text .entry)) (now (table .entry)) (p .parts)) (spanText (now (text .entry)) x) ⌝ }
 {
     if MAX_IDENTIFIER < x.past - x.from {
         return Answer::OverLimit;
@@ -144,7 +145,7 @@ fn add_symbol(
 ) -> Added
     requires { ⌜ PatternGoing (now text) (now table) p × Identifier (now text) (p .at) x ⌝ }
     ensures { λ r. ⌜ AddsItem (now (text .entry)) (now (table .entry)) p (now (tape .entry))
-        (Reading.symbolItem (part (now (text .entry)) x)) (x .past) (now (table .exit)) (now (tape .exit)) r ⌝ }
+        (Reading.symbolItem (spanText (now (text .entry)) x)) (x .past) (now (table .exit)) (now (tape .exit)) r ⌝ }
 {
     let known = find(text, table, 0, p.symbols, x);
     let fault = symbol_fault(text, table, p, x, known);
@@ -166,10 +167,11 @@ fn add_symbol(
 // What is wrong with an e-variable of a pattern.
 fn part_fault(text: &[u8], table: &[usize], p: Counts, x: Span) -> Answer
     requires { ⌜ PatternGoing (now text) (now table) p × Identifier (now text) (p .at) x ⌝ }
-    ensures { λ r. ⌜ numberOf r ≡ patternPartFault (symbolNames (now (text .entry)) (now (table .entry)) (p .symbols))
-        (partNames (now (text .entry)) (now (table .entry)) (p .parts)) (p .ending) (part (now (text .entry)) x) ⌝ }
+    ensures { λ r. ⌜ answerNumber r
+        ≡ patternPartFault (symbolNames (now (text .entry)) (now (table .entry)) (p .symbols))
+        (partNames (now (text .entry)) (now (table .entry)) (p .parts)) (p .ending) (spanText (now (text .entry)) x) ⌝ }
 {
-    if 2 <= p.parts {
+    if MAX_PARTS <= p.parts {
         return Answer::NotAllowedHere;
     }
     if MAX_IDENTIFIER < x.past - x.from {
@@ -195,7 +197,7 @@ fn add_part(
 ) -> Added
     requires { ⌜ PatternGoing (now text) (now table) p × Identifier (now text) (p .at) x ⌝ }
     ensures { λ r. ⌜ AddsItem (now (text .entry)) (now (table .entry)) p (now (tape .entry))
-        (Reading.partItem (part (now (text .entry)) x)) (x .past) (now (table .exit)) (now (tape .exit)) r ⌝ }
+        (Reading.partItem (spanText (now (text .entry)) x)) (x .past) (now (table .exit)) (now (tape .exit)) r ⌝ }
 {
     let fault = part_fault(text, table, p, x);
     if !is_accepted(fault) {

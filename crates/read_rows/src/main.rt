@@ -21,7 +21,7 @@ fn row(text: &[u8], length: usize) {
     let mut tape = tape_room();
     let outcome = read_table::read(&text[0..length], &mut tape);
     let answer = outcome.answer;
-    io::print_decimal(1, answers::number(answer));
+    io::print_decimal(1, answers::answer_number(answer));
     io::write_all(1, b" ");
     io::print_decimal(1, outcome.place as u64);
     io::write_all(1, b"\n");

@@ -22,7 +22,7 @@ use Rattle.meaning_accepting.proofs.reading.Lists.{either-left-false}
 use Rattle.tape_words.specs.Words.{carried, calledPlace, headNames}
 use Rattle.tape_words.specs.Finding.{isKnownAmong}
 use Rattle.read_bookkeeping.specs.Written.{isQuiet}
-use Rattle.read_functions.specs.Expressions.{CallStands, Stands}
+use Rattle.read_functions.specs.Expressions.{CallStands, ExpressionStands}
 use Rattle.read_functions.specs.Sentences.{Each, SentenceStands}
 use Rattle.read_functions.specs.Functions.{FunctionStands}
 use Rattle.read_table.specs.Calls.{NameFollows, NamesFollow, wordKnown, Holds}
@@ -134,8 +134,8 @@ module _ (t : Table) where
 
   -- THE TREE
 
-  expression-finds : (e : Expression) → Stands e → Finds (expressionTape e) (unknownCall t e)
-  unfolding expressionTape Stands unknownCall
+  expression-finds : (e : Expression) → ExpressionStands e → Finds (expressionTape e) (unknownCall t e)
+  unfolding expressionTape ExpressionStands unknownCall
   expression-finds end s = none-finds
   expression-finds (thenCharacter c e) s = word-then c (s .0) (expression-finds e (s .1))
   expression-finds (thenSymbol x e) s = quiet-then (named symbolKind x) (s .0) (expression-finds e (s .1))

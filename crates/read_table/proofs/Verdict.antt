@@ -23,11 +23,11 @@ use Rattle.read_functions.specs.declared.functions.ParsedTable.{ParsedTable}
 use Rattle.read_functions.specs.declared.functions.ParsedTable.the-variants.{Stopped, Done}
 use Rattle.read_table.specs.declared.calls.Unknown.{Unknown}
 use Rattle.read_table.specs.declared.calls.Unknown.the-variants.{At, Nowhere}
-use Rattle.answers.specs.Numbers.{numberOf}
+use Rattle.answers.specs.Numbers.{answerNumber}
 use Rattle.read_bookkeeping.specs.Answered.{AgreesBy}
 use Rattle.read_functions.specs.Functions.{Heads, functionsOf, FunctionsRead, tableOutcome}
 use Rattle.read_table.specs.Calls.{unknownAs, NamesFollow, Holds}
-use Rattle.read_table.specs.Reads.{Reads, refusedWith}
+use Rattle.read_table.specs.Reads.{Reads, refusedAt}
 use Rattle.read_bookkeeping.proofs.Going.{ReadAt, has-stopped, has-read}
 use Rattle.read_functions.proofs.Noting.{begins, names-noted}
 use Rattle.read_table.proofs.Called.{tape-follows}
@@ -46,7 +46,8 @@ module _ (text : Bytes) where
   read-short h = rw (le-leb (length text) maxTable h)
 
   -- a refusal, whatever is on the tape
-  refuses : (answer : Answer) (place : ℕ) (tape′ : List ℕ) (r : Reading) → r ≡ refusedWith answer place → read text ≡ refused (numberOf answer) place
+  refuses : (answer : Answer) (place : ℕ) (tape′ : List ℕ) (r : Reading) → r ≡ refusedAt answer place
+      → read text ≡ refused (answerNumber answer) place
       → Reads text r tape′
   refuses answer place tape′ r e f = record { answer = rw (e, f); words = rw (e, f); tape = rw (e, f) }
 
@@ -56,7 +57,7 @@ module _ (text : Bytes) where
       → Reads text r tape′
   accepts t count words tape′ r e f c n h = record { answer = rw (e, f, c); words = rw (e, f) n; tape = rw (e, f) h }
 
-  pub too-long : {tape′ : List ℕ} {r : Reading} → maxTable < length text → r ≡ refusedWith TableTooLong 0 → Reads text r tape′
+  pub too-long : {tape′ : List ℕ} {r : Reading} → maxTable < length text → r ≡ refusedAt TableTooLong 0 → Reads text r tape′
   too-long h e = refuses TableTooLong 0 _ _ e (read-long h)
 
 -- THE FUNCTIONS
@@ -70,7 +71,7 @@ pub record TableRead (text tape′ heads : List ℕ) (p : Tally) : Type 0 where
 
 module _ {text start tape′ heads : List ℕ} {q : ParsedTable} (h : length text ≤ maxTable)
     (a : AgreesBy tableOutcome (FunctionsRead text start tape′ heads) (functionsOf text) q) where
-  pub functions-stop : {fault : Fault} {r : Reading} → q ≡ Stopped fault → r ≡ refusedWith (fault .answer) (fault .place) → Reads text r tape′
+  pub functions-stop : {fault : Fault} {r : Reading} → q ≡ Stopped fault → r ≡ refusedAt (fault .answer) (fault .place) → Reads text r tape′
   functions-stop {fault} f e = refuses text (fault .answer) (fault .place) _ _ e
       (read-short text h ∙ ap verdict (has-stopped _ fault refl (rw f at a)))
 
@@ -108,7 +109,7 @@ module _ {text tape′ heads : List ℕ} {p : Tally} (k : TableRead text tape′
     judged : {o : Option ℕ} → unknownIn table table ≡ o → read text ≡ known o table
     judged e = read-short text (k .short) ∙ ap verdict (k .read .same) ∙ ap (λ o. known o table) e
 
-    pub call-unknown : {place : ℕ} {r : Reading} → found ≡ At place → r ≡ refusedWith UndeclaredName place → Reads text r tape′
+    pub call-unknown : {place : ℕ} {r : Reading} → found ≡ At place → r ≡ refusedAt UndeclaredName place → Reads text r tape′
     call-unknown {place} e f = refuses text UndeclaredName place _ _ f (judged (is-some (unknownIn table table) (sym (search table held) ∙ e)))
       where
         is-some : (o : Option ℕ) → unknownAs o ≡ At place → o ≡ some place

@@ -10,7 +10,7 @@ use Rattle.meaning.specs.Reading.{Read, accepted, refused, read}
 use Rattle.meaning.specs.Entries.{answered, readAnswer}
 use Rattle.answers.specs.declared.Answer.{Answer}
 use Rattle.read_table.specs.declared.Reading.{Reading}
-use Rattle.answers.specs.Numbers.{numberOf}
+use Rattle.answers.specs.Numbers.{answerNumber}
 
 -- the words of an accepted table; a refused one has none
 abbrev pub treeTape : Read → List ℕ
@@ -23,10 +23,10 @@ pub record LongEnough (text : Bytes) (tape : List ℕ) : Type 0 where
 
 -- a text was read: what is answered, how many words its tree has, and that the tape begins with them
 pub record Reads (text : Bytes) (r : Reading) (tape′ : List ℕ) : Type 0 where
-  pub answer : answered (numberOf (r .answer)) (r .place) (r .functions) ≡ readAnswer (read text)
+  pub answer : answered (answerNumber (r .answer)) (r .place) (r .functions) ≡ readAnswer (read text)
   pub words : r .words ≡ length (treeTape (read text))
   pub tape : take (r .words) tape′ ≡ treeTape (read text)
 
 -- a refusal
-abbrev pub refusedWith : Answer → ℕ → Reading
-refusedWith answer place = record { answer = answer; place = place; functions = 0; words = 0 }
+abbrev pub refusedAt : Answer → ℕ → Reading
+refusedAt answer place = record { answer = answer; place = place; functions = 0; words = 0 }

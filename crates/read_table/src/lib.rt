@@ -10,7 +10,7 @@ use read_functions::functions::ParsedTable;
 use tape_words::limits::MAX_TABLE;
 use tape_words::tape::room;
 ghost use mathlib.Core.Path.{_≡_};
-ghost use Rattle.read_table.specs.Reads.{LongEnough, Reads, refusedWith};
+ghost use Rattle.read_table.specs.Reads.{LongEnough, Reads, refusedAt};
 
 // An answer and its place; of an accepted table how many functions it has, and how many words its tape.
 pub struct Reading {
@@ -21,7 +21,7 @@ pub struct Reading {
 }
 
 fn refusal(answer: Answer, place: usize) -> Reading
-    ensures { λ r. ⌜ r ≡ refusedWith answer place ⌝ }
+    ensures { λ r. ⌜ r ≡ refusedAt answer place ⌝ }
 {
     Reading {
         answer: answer,

@@ -7,7 +7,7 @@ use native.Mathlib.Omega.{arith}
 use lib.ListN.{length, drop, length-append}
 use Rattle.meaning.specs.Choice.{Bytes}
 use Rattle.meaning.specs.Tokens.{plain, quotation, quotedAt}
-use Rattle.read_characters.specs.View.{continued, Passes, Stands}
+use Rattle.read_characters.specs.View.{continued, EndsInText, StandsInString}
 use Rattle.read_characters.specs.declared.Character.{Character}
 use Rattle.read_characters.specs.declared.Character.the-variants.{Given, Nothing, Closed, Broken}
 use Rattle.read_tokens.specs.View.{quotationAt, ShowsToken}
@@ -37,10 +37,10 @@ module _ {text : Bytes} {place at count : ℕ} (q : Quoted-to text place at coun
   QuotedOn (Closed past) = Shown (Quoted count) past
   QuotedOn (Broken past) = Shown Malformed past
 
-  pub quoted-on : (r : Character) → Stands text plain at (at + 1) r → QuotedOn r
+  pub quoted-on : (r : Character) → StandsInString text plain at (at + 1) r → QuotedOn r
   quoted-on r s = turned r (q .same ∙ s .same (q .characters)) (s .passes)
     where
-      turned : (r : Character) → quotationAt text place ≡ continued text r (q .characters) → Passes text (at + 1) r → QuotedOn r
+      turned : (r : Character) → quotationAt text place ≡ continued text r (q .characters) → EndsInText text (at + 1) r → QuotedOn r
       turned (Given b past) w p = (
         omega arith,
         record {

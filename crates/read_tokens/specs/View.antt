@@ -59,14 +59,14 @@ quotationAt text place = Tokens.quotation Tokens.plain [] (suc place) (drop (suc
 -- TOKENS
 
 -- a part of the text
-abbrev pub part : Bytes → Span → Bytes
-part text s = slice (s .from) (s .past) text
+abbrev pub spanText : Bytes → Span → Bytes
+spanText text s = slice (s .from) (s .past) text
 
 -- a token at a place, which ends before another
 abbrev pub tokenOf : Bytes → Token → ℕ → ℕ → Tokens.Token
-tokenOf text (Name name) place past = Tokens.functionName (part text name)
-tokenOf text (Symbol identifier) place past = Tokens.word (115 ∷ part text identifier)
-tokenOf text (Part identifier) place past = Tokens.word (101 ∷ part text identifier)
+tokenOf text (Name name) place past = Tokens.functionName (spanText text name)
+tokenOf text (Symbol identifier) place past = Tokens.word (115 ∷ spanText text identifier)
+tokenOf text (Part identifier) place past = Tokens.word (101 ∷ spanText text identifier)
 tokenOf text Word place past = Tokens.word (slice place past text)
 tokenOf text (Quoted count) place past = Tokens.quoted (charactersIn (quotationAt text place))
 tokenOf text (Sign b) place past = Tokens.sign b

@@ -106,10 +106,10 @@ fn word_token(text: &[u8], at: usize, past: usize) -> Token
     if past <= at + 1 {
         return Token::Word;
     }
-    if byte == 115 {
+    if byte == b's' {
         return Token::Symbol(identifier);
     }
-    if byte == 101 {
+    if byte == b'e' {
         return Token::Part(identifier);
     }
     Token::Word
@@ -198,7 +198,7 @@ fn bracket_at(text: &[u8], at: usize) -> Placed
 {
     if letter_ahead(text, at + 1) {
         Placed {
-            token: Token::Sign(60),
+            token: Token::Sign(b'<'),
             place: at,
             past: at + 1,
         }
@@ -228,8 +228,8 @@ fn token_at(text: &[u8], at: usize, mode: Mode) -> Placed
         return word_at(text, at, mode);
     }
     match byte {
-        39 => quoted_at(text, at),
-        60 => bracket_at(text, at),
+        b'\'' => quoted_at(text, at),
+        b'<' => bracket_at(text, at),
         _ => Placed {
             token: Token::Sign(byte),
             place: at,

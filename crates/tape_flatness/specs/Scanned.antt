@@ -33,6 +33,14 @@ abbrev pub onlyIf : Bool → ℕ → ℕ
 onlyIf true call = call
 onlyIf false call = 0
 
+-- so many words are joined at once
+abbrev pub joinedAtOnce : ℕ
+joinedAtOnce = 8
+
+-- an argument of fewer words is short
+abbrev pub shortArgument : ℕ
+shortArgument = 16
+
 -- WORDS
 
 abbrev pub opensCall : ℕ → Bool

@@ -14,15 +14,17 @@ ghost use mathlib.Core.Path.{_≡_};
 ghost use mathlib.Core.Bool.{true};
 ghost use Prim.Native.Nat.{ℕ, _+_, _≤_, _<_};
 ghost use lib.ListN.{length, drop, getD};
+ghost use Rattle.tape_layout.specs.Tape.{kindWidth};
 ghost use Rattle.tape_words.specs.Words.{carried, headName};
 ghost use Rattle.tape_flatness.specs.Scanned.{earlier, placeOf, opensCall, itemFollows, declaredCall};
 ghost use Rattle.tape_flatness.specs.Scanned.{outOfCalls, scannedCalls, Below, ArgumentPassed, NoneFurtherLeft};
-ghost use Rattle.tape_flatness.specs.Scanned.{nestedCall};
+ghost use Rattle.tape_flatness.specs.Scanned.{nestedCall, joinedAtOnce, shortArgument};
 
-// So many words are looked at together, and so many of an argument one by one before that.
-const GROUP: usize = 8;
+// So many words are joined at once.
+const JOINED_AT_ONCE: usize = 8;
 
-const FEW: usize = 16;
+// An argument of fewer words is short.
+const SHORT_ARGUMENT: usize = 16;
 
 // The furthest call that a word can tell: it has 32 bits.
 const FURTHEST: usize = 16777207;
@@ -102,14 +104,15 @@ fn name_end(tape: &[u32], i: usize) -> usize
     i + word_at(tape, i) % KIND_WIDTH
 }
 
-// Eight words joined bit by bit: none of them is greater. No word ends the loop early, so that all are joined at once.
+// The next words joined bit by bit: none of them is greater. No word ends the loop early, so that all are joined at
+// once.
 fn joined(tape: &[u32], from: usize) -> usize
-    requires { ⌜ from + 8 ≤ length (now tape) ⌝ }
-    ensures { λ r. ⌜ Below (r + 1) (now (tape .entry)) from (from + 8) ⌝ }
+    requires { ⌜ from + joinedAtOnce ≤ length (now tape) ⌝ }
+    ensures { λ r. ⌜ Below (r + 1) (now (tape .entry)) from (from + joinedAtOnce) ⌝ }
 {
     let mut all = 0usize;
     let mut k = 0;
-    while k < GROUP {
+    while k < JOINED_AT_ONCE {
         let word = word_inside(tape, from + k);
         all = all | word;
         k += 1;
@@ -117,17 +120,17 @@ fn joined(tape: &[u32], from: usize) -> usize
     all
 }
 
-// The place after the words below a bound, eight by eight.
-fn eights_past(tape: &[u32], from: usize, bound: usize) -> usize
+// The place after the words below a bound, so many at a time.
+fn groups_past(tape: &[u32], from: usize, bound: usize) -> usize
     requires { ⌜ from ≤ length (now tape) ⌝ }
     ensures { λ r. ⌜ Below bound (now (tape .entry)) from r ⌝ }
 {
     let mut at = from;
-    while GROUP <= tape.len() - at {
+    while JOINED_AT_ONCE <= tape.len() - at {
         if bound <= joined(tape, at) {
             return at;
         }
-        at += GROUP;
+        at += JOINED_AT_ONCE;
     }
     at
 }
@@ -140,7 +143,7 @@ fn low_past(tape: &[u32], from: usize, bound: usize) -> usize
     if bound <= word_at(tape, from) {
         return from;
     }
-    let mut at = eights_past(tape, from, bound);
+    let mut at = groups_past(tape, from, bound);
     while at < tape.len() {
         if bound <= word_inside(tape, at) {
             return at;
@@ -152,12 +155,12 @@ fn low_past(tape: &[u32], from: usize, bound: usize) -> usize
 
 // How far from the end of a name the words after its argument begin, if that is short and has no call; else 0.
 fn short_past(tape: &[u32], end: usize) -> usize
-    requires { ⌜ end + 16 < length (now tape) ⌝ }
-    ensures { λ r. ⌜ (r ≤ 17) × ((r ≡ 0 → ⊥) → (leftmost : ℕ)
+    requires { ⌜ end + shortArgument < length (now tape) ⌝ }
+    ensures { λ r. ⌜ (r ≤ shortArgument + 1) × ((r ≡ 0 → ⊥) → (leftmost : ℕ)
         → ArgumentPassed (now (tape .entry)) (end + 1) leftmost (end + r) leftmost) ⌝ }
 {
     let mut k = 1;
-    while k <= FEW {
+    while k <= SHORT_ARGUMENT {
         let word = word_inside(tape, end + k);
         if CLOSE_WORD <= word {
             if word == CLOSE_WORD {
@@ -205,10 +208,10 @@ fn pass_items(tape: &[u32], from: usize, leftmost: usize) -> Passed
 
 // What follows the end of an outermost call's name. A short argument without calls is passed by one test for each word.
 fn pass_argument(tape: &[u32], end: usize, leftmost: usize) -> Passed
-    requires { ⌜ end < length (now tape) + 256 ⌝ }
+    requires { ⌜ end < length (now tape) + kindWidth ⌝ }
     ensures { λ r. ⌜ (end < r .next) × ArgumentPassed (now (tape .entry)) (end + 1) leftmost (r .next) (r .leftmost) ⌝ }
 {
-    if end + FEW < tape.len() {
+    if end + SHORT_ARGUMENT < tape.len() {
         let past = short_past(tape, end);
         if past != 0 {
             return Passed {

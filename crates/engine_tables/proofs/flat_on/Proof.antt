@@ -17,8 +17,8 @@ returns : tie.Need-returns
 returns c =
     let at-place = c .before .before in
     let at-nested-call = at-place .before .before in
-    let at-number = at-nested-call .before .before in
-    let at-read = at-number .before .before .before in
+    let at-answer-number = at-nested-call .before .before in
+    let at-read = at-answer-number .before .before .before in
     c .tell .ensures ∙
     nested-told (at-read .before .before .before .shared-slice-known .given) (at-read .read .ensures)
     (at-nested-call .nested-call .ensures) (at-place .place .given .1)
@@ -27,11 +27,11 @@ returns-2 : tie.Need-returns-2
 returns-2 c =
     let at-enum-told = c .before in
     let at-nested-call = at-enum-told .before .before in
-    let at-number = at-nested-call .before .before in
-    let at-read = at-number .before .before .before in
+    let at-answer-number = at-nested-call .before .before in
+    let at-read = at-answer-number .before .before .before in
     c .tell2 .ensures ∙
     flat-told (at-read .before .before .before .shared-slice-known .given) (at-read .read .ensures)
-    (at-nested-call .nested-call .ensures) (at-number .number .ensures) (at-enum-told .enum-told .given .1)
+    (at-nested-call .nested-call .ensures) (at-answer-number .answer-number .ensures) (at-enum-told .enum-told .given .1)
 
 pub flat-on-spec : {M : Type 1} → statement M
 flat-on-spec =

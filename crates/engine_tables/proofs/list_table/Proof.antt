@@ -11,16 +11,16 @@ read-requires c κs = long-tape (search needs)
 returns : tie.Need-returns
 returns c =
     rw (c .tell .ensures)
-    (refused-listed (c .before .before .before .before .read .ensures) (c .before .before .number .ensures) (c .before .if1 .taken) _)
+    (refused-listed (c .before .before .before .before .read .ensures) (c .before .before .answer-number .ensures) (c .before .if1 .taken) _)
 
 returns-2 : tie.Need-returns-2
 returns-2 c =
     let at-list = c .before .before .before in
     let at-if1 = at-list .before .before .before in
-    let at-number = at-if1 .before in
-    let at-read = at-number .before .before in
+    let at-answer-number = at-if1 .before in
+    let at-read = at-answer-number .before .before in
     let at-shared-slice-known = at-read .before .before .before .before in
-    rw (c .tell-of-buffer .ensures) (accepted-listed (at-read .read .ensures) (at-number .number .ensures)
+    rw (c .tell-of-buffer .ensures) (accepted-listed (at-read .read .ensures) (at-answer-number .answer-number .ensures)
     (at-shared-slice-known .shared-slice-known .given)
     (at-if1 .if1 .left) (at-list .list .ensures))
 

@@ -4,7 +4,7 @@ use Rattle.engine_tables.proofs.read_on.Statement.{statement}
 use Rattle.engine_tables.proofs.read_on.Tie as tie
 
 returns : tie.Need-returns
-returns c = rw (c .tell .ensures, c .before .number .ensures) (c .before .before .before .before .read .ensures .answer)
+returns c = rw (c .tell .ensures, c .before .answer-number .ensures) (c .before .before .before .before .read .ensures .answer)
 
 pub read-on-spec : {M : Type 1} → statement M
 read-on-spec =

@@ -11,18 +11,18 @@ read-requires c κs = long-tape (search needs)
 returns : tie.Need-returns
 returns c =
     let at-translate = c .before .before .before .before in
-    let at-number = at-translate .before .before .before in
-    let at-read = at-number .before .before in
-    rw (c .tell .ensures) (refused-translated (at-read .read .ensures) (at-number .number .ensures) (c .before .if1 .taken)
+    let at-answer-number = at-translate .before .before .before in
+    let at-read = at-answer-number .before .before in
+    rw (c .tell .ensures) (refused-translated (at-read .read .ensures) (at-answer-number .answer-number .ensures) (c .before .if1 .taken)
     (at-translate .translate .ensures))
 
 returns-2 : tie.Need-returns-2
 returns-2 c =
     let at-translate = c .before .before .before .before in
-    let at-number = at-translate .before .before .before in
-    let at-read = at-number .before .before in
+    let at-answer-number = at-translate .before .before .before in
+    let at-read = at-answer-number .before .before in
     let at-shared-slice-known = at-read .before .before .before .before in
-    rw (c .tell-of-buffer .ensures) (accepted-translated (at-read .read .ensures) (at-number .number .ensures)
+    rw (c .tell-of-buffer .ensures) (accepted-translated (at-read .read .ensures) (at-answer-number .answer-number .ensures)
     (at-shared-slice-known .shared-slice-known .given)
     (c .before .if1 .left) (at-translate .translate .ensures))
 

@@ -3,7 +3,7 @@ use borrow.Author.Needs.{needs}
 use Rattle.read_conditions.proofs.condition_end.Statement.{statement}
 use Rattle.read_conditions.proofs.condition_end.Tie as tie
 use mathlib.Core.Path.{refl}
-use Rattle.meaning.specs.Tokens.{inside}
+use Rattle.meaning.specs.Tokens.{inside, greaterThan, colon}
 use Rattle.read_tokens.specs.View.{Comes}
 use Rattle.read_tokens.proofs.Stream.{comes}
 use Rattle.read_bookkeeping.specs.Tokened.{Taken}
@@ -18,7 +18,7 @@ returns c =
 abbrev start : tie.After-at → tie.Start
 start c = c .before .before .before .before .before
 
-closed : (c : tie.After-at) → let a = start c .args in Taken (a .text .now) inside 62 (a .from) (c .at .given .0 .0)
+closed : (c : tie.After-at) → let a = start c .args in Taken (a .text .now) inside greaterThan (a .from) (c .at .given .0 .0)
 closed c = rw (c .at .given .1) at (c .before .before .pass .ensures)
 
 pass-requires-2 : tie.Need-pass-requires-2
@@ -33,7 +33,7 @@ returns-2 c =
 
 parted : (c : tie.After-at2) → let at-at = c .before .before .before .before in
     let a = start at-at .args in
-    Taken (a .text .now) inside 58 (at-at .at .given .0 .0) (c .at2 .given .0 .0)
+    Taken (a .text .now) inside colon (at-at .at .given .0 .0) (c .at2 .given .0 .0)
 parted c = rw (c .at2 .given .1) at (c .before .before .pass2 .ensures)
 
 first : (c : tie.After-lex) → let at-at2 = c .before .before in
@@ -41,27 +41,27 @@ first : (c : tie.After-lex) → let at-at2 = c .before .before in
     Comes (a .text .now) inside (at-at2 .at2 .given .0 .0) (c .lex .result)
 first c = comes _ inside _ _ (parted (c .before .before) .inside) (c .lex .ensures)
 
-abbrev started : tie.After-truth-in → tie.Start
+abbrev started : tie.After-truth-said → tie.Start
 started c = start (c .before .before .before .before .before .before .before)
 
-closing : (c : tie.After-truth-in) → let at-at2 = c .before .before .before in
+closing : (c : tie.After-truth-said) → let at-at2 = c .before .before .before in
     let at-at = at-at2 .before .before .before .before in
     let a = start at-at .args in
     ClosingAt (a .text .now) (a .from) (a .words) (a .x) (at-at .at .given .0 .0) (at-at2 .at2 .given .0 .0) (c .before .lex .result)
-    (c .truth-in .result)
+    (c .truth-said .result)
 closing c =
     let at-at2 = c .before .before .before in
     let at-at = at-at2 .before .before .before .before in
     let p = start at-at .pre in
-    record { ready = p .0; variable = p .1; closed = closed at-at; parted = parted at-at2; first = first (c .before); truth = c .truth-in .ensures }
+    record { ready = p .0; variable = p .1; closed = closed at-at; parted = parted at-at2; first = first (c .before); truth = c .truth-said .ensures }
 
-truth-in-requires : tie.Need-truth-in-requires
-truth-in-requires c κs = let m = first c in record { forward = m .forward; inside = m .inside; sound = m .sound }
+truth-said-requires : tie.Need-truth-said-requires
+truth-said-requires c κs = let m = first c in record { forward = m .forward; inside = m .inside; sound = m .sound }
 
 returns-3 : tie.Need-returns-3
 returns-3 c =
-    let at-truth-in = c .before .before .before in
-    end-no-truth (started at-truth-in .args .is-part) (closing at-truth-in) _ (c .before .enum-told .given .1) (c .refuse .ensures)
+    let at-truth-said = c .before .before .before in
+    end-no-truth (started at-truth-said .args .is-part) (closing at-truth-said) _ (c .before .enum-told .given .1) (c .refuse .ensures)
 
 put-named-requires : tie.Need-put-named-requires
 put-named-requires c κs =
@@ -74,8 +74,8 @@ returns-4 c =
     let at-truth-number = at-class-number .before in
     let at-kind-number = at-truth-number .before in
     let at-expected = at-kind-number .before .before in
-    let at-truth-in = at-expected .before .before in
-    end-reads (started at-truth-in .args .is-part) (closing at-truth-in) _ (at-expected .expected .given .1) (at-kind-number .kind-number .ensures)
+    let at-truth-said = at-expected .before .before in
+    end-reads (started at-truth-said .args .is-part) (closing at-truth-said) _ (at-expected .expected .given .1) (at-kind-number .kind-number .ensures)
     (at-truth-number .truth-number .ensures) (at-class-number .class-number .ensures) refl (c .before .before .put-named .ensures)
 
 pub condition-end-spec : {M : Type 1} → statement M
@@ -91,7 +91,7 @@ condition-end-spec =
     (λ c. search needs)
     returns-2
     (λ c κs. search needs)
-    truth-in-requires
+    truth-said-requires
     (λ c. search needs)
     (λ c. search needs)
     (λ c κs. search needs)

@@ -5,7 +5,7 @@ use Rattle.read_conditions.proofs.condition_on.Tie as tie
 use mathlib.Core.Path.{sym, _∙_}
 use Rattle.meaning.specs.Tokens.{inside}
 use Rattle.read_tokens.proofs.Stream.{comes}
-use Rattle.answers.specs.Numbers.{numberOf}
+use Rattle.answers.specs.Numbers.{answerNumber}
 use Rattle.read_conditions.proofs.Conditioned.{OnToken, OnVariable, OnAsked, on-no-variable, on-variable, on-inside, on-wrong, on-before}
 use Rattle.read_conditions.proofs.Conditioned.{on-reads}
 
@@ -22,7 +22,7 @@ variable : (c : tie.After-is-part) → let v = c .is-part .given .0 in OnVariabl
 variable c = on-variable (sym (c .is-part .given .1) ∙ c .before .before .variable-in .ensures)
 
 asked : (c : tie.After-is-accepted)
-    → OnAsked (variable (c .before .before .before)) (numberOf (c .before .subject-fault .result)) (c .is-accepted .result)
+    → OnAsked (variable (c .before .before .before)) (answerNumber (c .before .subject-fault .result)) (c .is-accepted .result)
 asked c = record { fault = c .before .subject-fault .ensures; accepted = c .is-accepted .ensures }
 
 returns : tie.Need-returns

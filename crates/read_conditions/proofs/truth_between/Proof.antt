@@ -2,6 +2,8 @@
 use Rattle.read_conditions.proofs.truth_between.Statement.{statement}
 use Rattle.read_conditions.proofs.truth_between.Tie as tie
 use borrow.Author.Tests.{ne-eqb}
+use Rattle.meaning.specs.Grammar.{truthByte}
+use mathlib.Core.Bool.{true, false}
 
 returns : tie.Need-returns
 returns c = rw (c .if1 .taken)
@@ -10,7 +12,7 @@ returns-2 : tie.Need-returns-2
 returns-2 c = rw (c .if2 .taken)
 
 returns-3 : tie.Need-returns-3
-returns-3 c = rw (ne-eqb _ 84 (c .before .if1 .left), ne-eqb _ 70 (c .if2 .left))
+returns-3 c = rw (ne-eqb _ (truthByte true) (c .before .if1 .left), ne-eqb _ (truthByte false) (c .if2 .left))
 
 pub truth-between-spec : {M : Type 1} → statement M
 truth-between-spec = tie.close (tie.spec

@@ -5,14 +5,14 @@ use Prim.Native.Nat.{_+_, _-_, _≤_}
 use mathlib.Core.Path.{_≡_, sym}
 use mathlib.Core.Bool.{false}
 use native.Mathlib.Omega.{arith}
-use Rattle.read_gaps.specs.View.{Plain}
+use Rattle.read_gaps.specs.View.{comparedAtOnce, Plain}
 use Rattle.read_gaps.proofs.Gaps.{plain-starts, plain-still}
 
 abbrev Inv-loop : tie.InvT-loop
-Inv-loop text from any₀ at₀ any at = (at ≤ from + 16) × (any ≡ false → Plain text from at)
+Inv-loop text from any₀ at₀ any at = (at ≤ from + comparedAtOnce) × (any ≡ false → Plain text from at)
 
 abbrev μ-loop : tie.MeasureT-loop
-μ-loop text from any₀ at₀ any at = from + 16 - at
+μ-loop text from any₀ at₀ any at = from + comparedAtOnce - at
 
 loop-holds : tie.Need-loop-holds Inv-loop μ-loop
 loop-holds c = (omega arith, λ e. plain-starts _ _)
@@ -22,7 +22,7 @@ loop-again c = (omega arith, plain-still _ _ _ (c .before .before .loop .any) (o
 
 returns : tie.Need-returns Inv-loop μ-loop
 returns c =
-    let e : c .before .loop .at ≡ c .before .before .args .from + 16 = omega arith in
+    let e : c .before .loop .at ≡ c .before .before .args .from + comparedAtOnce = omega arith in
     rw (sym e) (c .before .loop .inv .1)
 
 pub star-within-spec : {M : Type 1} → statement M

@@ -5,12 +5,12 @@ use Prim.Native.Nat.{_+_, _-_, _<_}
 use mathlib.Core.Path.{refl}
 use lib.ListN.{length, getD}
 use borrow.Author.Tests.{not-false}
-use Rattle.run_glancing.proofs.laws.Sentences.{Comes, none-left, passed-over, dropped}
+use Rattle.run_glancing.proofs.laws.Sentences.{ChoiceKept, none-left, passed-over, dropped}
 use Rattle.run_glancing.proofs.glance.Statement.{statement}
 use Rattle.run_glancing.proofs.glance.Tie as tie
 
 abbrev Inv-loop : tie.InvT-loop
-Inv-loop code field at₀ at = Comes code field at₀ at
+Inv-loop code field at₀ at = ChoiceKept code field at₀ at
 
 abbrev μ-loop : tie.MeasureT-loop
 μ-loop code field at₀ at = length code - at

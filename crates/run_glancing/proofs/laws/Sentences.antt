@@ -53,10 +53,10 @@ passes-over words at d =
     )
 
 -- the choice from a place on is the choice from the first place on
-pub record Comes (words : Words) (field : Bytes) (at₀ at : ℕ) : Type 0 where
+pub record ChoiceKept (words : Words) (field : Bytes) (at₀ at : ℕ) : Type 0 where
   pub same : choosing words field at ≡ choosing words field at₀
 
-module _ (words : Words) (field : Bytes) (at₀ at : ℕ) (c : Comes words field at₀ at) where
+module _ (words : Words) (field : Bytes) (at₀ at : ℕ) (c : ChoiceKept words field at₀ at) where
   -- the end of a function that none recovers
   pub none-left : at < length words → getD words at 0 ≡ 19 → choosing words field at₀ ≡ chosenNone 0
   none-left h e = sym (c .same) ∙ choosing-end words field at h (rw e) ∙ rw e
@@ -64,7 +64,7 @@ module _ (words : Words) (field : Bytes) (at₀ at : ℕ) (c : Comes words field
   -- a sentence that is out
   pub passed-over : 2 ≤ length words - at →
       tried (metricIn (getD words at 0)) (getD words (at + 1) 0) (drop (at + 2) words) field ≡ foundNone →
-      Comes words field at₀ (at + (2 + bodyIn (getD words (at + 1) 0)))
+      ChoiceKept words field at₀ (at + (2 + bodyIn (getD words (at + 1) 0)))
   passed-over h out =
       let first = sentence-first (getD words at 0) _ _ field out in
       record { same = sym (rw out at (choosing-next words field at h first)) ∙ c .same }

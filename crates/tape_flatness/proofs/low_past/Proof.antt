@@ -1,5 +1,4 @@
 -- `tape_flatness::low_past` meets its contract.
-use native.Mathlib.Omega.{arith}
 use borrow.Author.Needs.{needs}
 use Prim.Native.Nat.{_-_}
 use lib.ListN.{length}
@@ -18,7 +17,7 @@ returns : tie.Need-returns Inv-loop μ-loop
 returns c = below-starts _ _ _ (c .before .before .before .pre)
 
 loop-holds : tie.Need-loop-holds Inv-loop μ-loop
-loop-holds c = c .eights-past .ensures
+loop-holds c = c .groups-past .ensures
 
 returns-2 : tie.Need-returns-2 Inv-loop μ-loop
 returns-2 c = c .before .before .before .loop .inv

@@ -1,16 +1,17 @@
 -- `tape_flatness::short_past` meets its contract.
 use native.Mathlib.Omega.{arith}
 use Prim.Native.Nat.{_+_, _-_, _≤_}
-use mathlib.Core.Path.{_≡_, refl}
+use mathlib.Core.Path.{refl}
+use Rattle.tape_flatness.specs.Scanned.{shortArgument}
 use Rattle.tape_flatness.proofs.Low.{Unchanged, short-goes, short-ends}
 use Rattle.tape_flatness.proofs.short_past.Statement.{statement}
 use Rattle.tape_flatness.proofs.short_past.Tie as tie
 
 abbrev Inv-loop : tie.InvT-loop
-Inv-loop tape end k₀ k = (k ≤ 17) × Unchanged tape (end + 1) (end + k)
+Inv-loop tape end k₀ k = (k ≤ shortArgument + 1) × Unchanged tape (end + 1) (end + k)
 
 abbrev μ-loop : tie.MeasureT-loop
-μ-loop tape end k₀ k = 17 - k
+μ-loop tape end k₀ k = shortArgument + 1 - k
 
 loop-holds : tie.Need-loop-holds Inv-loop μ-loop
 loop-holds c = (omega arith, λ s. refl)

@@ -4,11 +4,11 @@ use Rattle.read_bookkeeping.proofs.names.class_named.Statement.{stateme
 use Rattle.read_bookkeeping.proofs.names.class_named.Tie as tie
 use mathlib.Core.List.{List, [], _∷_}
 use Rattle.meaning.specs.Classes.{Class, upper, lower, alphabetic, blank}
-use Rattle.read_tokens.specs.View.{part}
+use Rattle.read_tokens.specs.View.{spanText}
 use Rattle.read_bookkeeping.proofs.Naming.{Asked, asked-none, asked-all, asked-is, asked-not}
 
 abbrev Left : tie.Start → List Class → Type 0
-Left s classes = Asked (part (s .args .text .now) (s .args .x)) classes
+Left s classes = Asked (spanText (s .args .text .now) (s .args .x)) classes
 
 no-digit : (c : tie.Else1) → Left (search) (upper ∷ lower ∷ alphabetic ∷ blank ∷ [])
 no-digit c = asked-not (asked-none _) (c .before .spells .ensures) (c .if1 .left)

@@ -7,11 +7,11 @@ use mathlib.Core.Bool.{Bool}
 use native.Mathlib.Omega.{arith}
 use borrow.Author.Needs.{scaled-fits}
 use lib.ListN.{length}
-use Rattle.read_tokens.specs.View.{part}
+use Rattle.read_tokens.specs.View.{spanText}
 use Rattle.read_bookkeeping.proofs.Finding.{Finding, find-starts, find-ends, entry-inside, FindOn, find-on}
 
 abbrev Inv-loop : tie.InvT-loop
-Inv-loop text table from to x i₀ i = Finding text table from to (part text x) i
+Inv-loop text table from to x i₀ i = Finding text table from to (spanText text x) i
 
 abbrev μ-loop : tie.MeasureT-loop
 μ-loop text table from to x i₀ i = to - i

@@ -3,11 +3,11 @@ use borrow.Author.Needs.{needs}
 use Rattle.read_functions.proofs.expressions.close_call.Statement.{statement}
 use Rattle.read_functions.proofs.expressions.close_call.Tie as tie
 use mathlib.Core.Path.{refl}
-use Rattle.meaning.specs.Tokens.{inside}
+use Rattle.meaning.specs.Tokens.{inside, greaterThan}
 use Rattle.read_bookkeeping.specs.Tokened.{Taken}
 
 closed-here : (c : tie.After-at) → let a = c .before .before .before .before .before .args in
-    Taken (a .text .now) inside 62 (a .s .at) (c .at .given .0 .0)
+    Taken (a .text .now) inside greaterThan (a .s .at) (c .at .given .0 .0)
 closed-here c = rw (c .at .given .1) at (c .before .before .pass .ensures)
 
 returns : tie.Need-returns

@@ -17,8 +17,7 @@ sought-here c =
       here = at-if1 .before .before .before .before .before .pre;
       few = at-if2 .if2 .left;
       brief = at-if1 .if1 .left;
-      found =
-          c .find .ensures;
+      found = c .find .ensures;
     }
 
 returns : tie.Need-returns
@@ -56,6 +55,7 @@ join-part-spec =
     (λ c. search needs)
     find-requires
     returns-3
+    (λ c. search needs)
     (λ c. search needs)
     take-variable-requires
     (λ c. search needs)

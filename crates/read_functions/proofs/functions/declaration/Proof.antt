@@ -7,7 +7,7 @@ use native.Mathlib.Omega.{arith}
 use borrow.Author.Needs.{needs}
 use Rattle.meaning.specs.Tokens.{outside}
 use Rattle.read_tokens.proofs.Stream.{comes}
-use Rattle.read_functions.specs.Functions.{isEnd}
+use Rattle.read_functions.specs.Functions.{isEndToken}
 use Rattle.read_functions.proofs.Functioned.{StageAt, place-inside, stage-over, stage-ends, stage-opening, stage-stops, stage-inside}
 use Rattle.read_functions.proofs.Functioned.{stage-few, stage-goes}
 
@@ -23,16 +23,16 @@ token-here c =
     record { underway = u; onward = e; comes = comes _ outside _ _ (place-inside u e) (c .lex .ensures) }
 
 -- it is not the end
-more-here : (c : tie.Else1) → isEnd (c .before .before .lex .result .token) ≡ false
-more-here c = sym (c .before .is-end .ensures) ∙ c .if1 .left
+more-here : (c : tie.Else1) → isEndToken (c .before .before .lex .result .token) ≡ false
+more-here c = sym (c .before .is-end-token .ensures) ∙ c .if1 .left
 
 returns : tie.Need-returns
 returns c = stage-over (c .enum-told .given .1)
 
 returns-2 : tie.Need-returns-2
 returns-2 c =
-    let at-is-end = c .before in
-    stage-ends (token-here (at-is-end .before)) (sym (at-is-end .is-end .ensures) ∙ c .if1 .taken)
+    let at-is-end-token = c .before in
+    stage-ends (token-here (at-is-end-token .before)) (sym (at-is-end-token .is-end-token .ensures) ∙ c .if1 .taken)
 
 function-requires : tie.Need-function-requires
 function-requires c κs =

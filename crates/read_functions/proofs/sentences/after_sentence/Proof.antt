@@ -4,7 +4,7 @@ use Rattle.read_functions.proofs.sentences.after_sentence.Statement.{st
 use Rattle.read_functions.proofs.sentences.after_sentence.Tie as tie
 use mathlib.Core.Path.{sym, _∙_}
 use borrow.Author.Tests.{not-true, not-false}
-use Rattle.meaning.specs.Tokens.{inside}
+use Rattle.meaning.specs.Tokens.{inside, semicolon}
 use Rattle.read_tokens.specs.View.{Comes}
 use Rattle.read_bookkeeping.specs.Tokened.{Taken}
 use Rattle.read_tokens.proofs.Stream.{comes}
@@ -18,7 +18,7 @@ token-here c = comes _ inside _ _ (c .before .before .pre) (c .lex .ensures)
 passed-here : (c : tie.Else2)
     → let at-lex = c .before .before .before .before in
     let a = at-lex .before .before .args in
-    Taken (a .text .now) inside 59 (a .from) (at-lex .lex .result .past)
+    Taken (a .text .now) inside semicolon (a .from) (at-lex .lex .result .past)
 passed-here c = is-taken (token-here (c .before .before .before .before)) (c .before .is-sign2 .ensures) (not-false _ (c .if2 .left))
 
 next-here : (c : tie.After-lex2)

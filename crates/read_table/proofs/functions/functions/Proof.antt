@@ -50,7 +50,7 @@ use Rattle.read_tokens.specs.Readers.{readerAt}
 use Rattle.read_functions.specs.declared.functions.ParsedTable.{ParsedTable}
 use Rattle.read_bookkeeping.specs.Answered.{AgreesBy}
 use Rattle.read_functions.specs.declared.functions.Stage.{Stage}
-use Rattle.read_functions.specs.Functions.{functionsOf, FunctionsRead, tableOutcome, Underway, firstStage, onward, outcomeOf}
+use Rattle.read_functions.specs.Functions.{functionsOf, FunctionsRead, tableOutcome, Underway, firstStage, isOnward, outcomeOf}
 use Rattle.proof_walks.proofs.Answering.{clause, answers, answers-back, answers-lasts}
 use Rattle.proof_walks.proofs.Apart.{tokens-apart, tokens-joined, owned-apart, owned-joined}
 use Rattle.read_table.specs.Through.{Readable}
@@ -128,8 +128,8 @@ module _ {M : Type 1} (𝓤 : URA M) (H : Heap 𝓤) (A : Atoms 𝓤) (at-mem : 
   first-said x = clause 𝓤 H A (lasts first-stage.ended tt tt) (x ≡ firstStage)
 
   onward-said : (x : Stage) (y : Bool) → ent 𝓤 (ensured 𝓤 H A is-onward.ended (is-onward.clauses 𝓤 H A at-mem run) tt (x, tt) tt y)
-      (fact 𝓤 (y ≡ onward x))
-  onward-said x y = clause 𝓤 H A (lasts is-onward.ended tt (x, tt)) (y ≡ onward x)
+      (fact 𝓤 (y ≡ isOnward x))
+  onward-said x y = clause 𝓤 H A (lasts is-onward.ended tt (x, tt)) (y ≡ isOnward x)
 
   outcome-said : (x : Stage) (r : ParsedTable) → ent 𝓤 (ensured 𝓤 H A outcome.ended (outcome.clauses 𝓤 H A at-mem run) tt (x, tt) tt r)
       (fact 𝓤 (r ≡ outcomeOf x))
@@ -287,7 +287,7 @@ module _ {M : Type 1} (𝓤 : URA M) (H : Heap 𝓤) (A : Atoms 𝓤) (W : Given
       Goes t = Seq (Go {0}) W (At t) (runs (𝓣 .C) (𝓣 .Λ) En body.turn-1 (anyQ (afterTurn 𝓤 H (Below 𝓤 H A Less At t) Left)))
 
       -- `is_onward` is asked
-      asked : (t : State) (y : Bool) → onward (t .stage) ≡ y → {rest : Code} {q : After 𝓤 H} →
+      asked : (t : State) (y : Bool) → isOnward (t .stage) ≡ y → {rest : Code} {q : After 𝓤 H} →
           Seq (Go {0}) W (laid En (vacant ∷ (passed t ++ vacant ∷ holds (vbool y) ∷ [])) ++ Kept t) (runs (𝓣 .C) (𝓣 .Λ) En rest q)
           → Seq (Go {0}) W (At t) (runs (𝓣 .C) (𝓣 .Λ) En (seq (call #read-functions·functions·is-onward (copy (place 5 []) ∷ []) (place 7 [])) rest)
           q)
@@ -295,13 +295,13 @@ module _ {M : Type 1} (𝓤 : URA M) (H : Heap 𝓤) (A : Atoms 𝓤) (W : Given
           owned ! S.the-row (Is S.the-row) (EL.makes S.the-type S′.the-plain 𝓤 H A) (t .stage) (t .value ∷ []) (t .typed) $
           use1 W (raw (IsOnward 𝓤 H A at-mem run .pre (to-onward (t .stage) (t .value)))) (one-passed 𝓤 H A W S.the-row (t .stage) (t .value ∷ [])) $
           calls-at ! fm (IsOnward 𝓤 H A at-mem run) known-onward (to-onward (t .stage) (t .value)) (and-copies ! 11 refl (no-more !)) (λ w.
-          answers ! tt Boolean _ (λ z. z ≡ onward (t .stage)) (onward-said 𝓤 H A at-mem run (t .stage)) w
+          answers ! tt Boolean _ (λ z. z ≡ isOnward (t .stage)) (onward-said 𝓤 H A at-mem run (t .stage)) w
           (λ z e is. drop ! $ land ! (from ! (stop !)) (init ! 14 refl (bool-lawful 𝓤 H A W .typed z _ is .0)) $
           rewrite ! 14 (λ (v : Val). ‵ (fat fullShare tyBool l₇ 0 v)) (ap only is) refl $
           rewrite ! 14 (λ (x : Bool). ‵ (fat fullShare tyBool l₇ 0 (vbool x))) (e ∙ said) refl $ k))
 
       -- a turn that reads a declaration
-      goes-on : (t : State) → onward (t .stage) ≡ true → Goes t
+      goes-on : (t : State) → isOnward (t .stage) ≡ true → Goes t
       unfolding afterTurn
       goes-on t said =
           asked t true said (stays ! (copies ! 14 refl) $ assigns ! (addr ! (from ! (stop !))) (from ! (stop !)) (init ! 16 refl (tt, tt)) $
@@ -332,7 +332,7 @@ module _ {M : Type 1} (𝓤 : URA M) (H : Heap 𝓤) (A : Atoms 𝓤) (W : Given
           again ! Less At t (next-turn t x w ws told e is-x) (told .declares .falls said)))))))))
 
       -- the turn that leaves the loop, and the rest of the body
-      ends : (t : State) → onward (t .stage) ≡ false → Goes t
+      ends : (t : State) → isOnward (t .stage) ≡ false → Goes t
       unfolding afterTurn
       ends t said =
           asked t false said (leaves-loop ! (copies ! 14 refl) $ exec ! (𝓣 .C) (𝓣 .Λ) En body.t-5 (atRet En Post) $
@@ -344,12 +344,12 @@ module _ {M : Type 1} (𝓤 : URA M) (H : Heap 𝓤) (A : Atoms 𝓤) (W : Given
           move ! (counting 1 24) $
           frees-laid ! En (holds u ∷ (passed t ++ vacant ∷ holds (vbool false) ∷ [])) $ by ! (exits t r u (finished t r said last)))))
 
-      either : (t : State) (y : Bool) → onward (t .stage) ≡ y → Goes t
+      either : (t : State) (y : Bool) → isOnward (t .stage) ≡ y → Goes t
       either t true said = goes-on t said
       either t false said = ends t said
 
       turns : (t : State) → Goes t
-      turns t = either t (onward (t .stage)) refl
+      turns t = either t (isOnward (t .stage)) refl
 
     walk : Readable (now text) (now tape) (now heads) → Triple 𝓤 (𝓣 .C #read-tokens·reader·new) (New 𝓤 H A at-mem run)
         → Triple 𝓤 (𝓣 .C #read-functions·functions·first-stage) (FirstStage 𝓤 H A at-mem run)

@@ -16,7 +16,7 @@ use Rattle.read_functions.specs.declared.functions.ParsedTable.{ParsedTable}
 use Rattle.read_bookkeeping.specs.Answered.{AgreesBy}
 use Rattle.read_functions.specs.declared.functions.Stage.{Stage}
 use Rattle.read_functions.specs.declared.functions.Stage.the-variants.{Onward, Over}
-use Rattle.read_functions.specs.Functions.{functionsOf, FunctionsRead, tableOutcome, StageIs, Underway, firstStage, onward, outcomeOf, toCome}
+use Rattle.read_functions.specs.Functions.{functionsOf, FunctionsRead, tableOutcome, StageIs, Underway, firstStage, isOnward, outcomeOf, toCome}
 use Rattle.read_functions.proofs.Functioned.{functions-start}
 use Rattle.read_functions.proofs.functions.Stage as S
 use Rattle.read_table.specs.Through.{Readable, GoesOn}
@@ -41,7 +41,7 @@ pub begins : (text : RefT (List ℕ)) (start heads : List ℕ) → Readable (now
     → (x : Stage) → x ≡ firstStage → StageIs (now text) start start heads (r .at) x
 begins text start heads req r made x how = rw (made, how) (functions-start (now text) start heads (req .0) (req .1) (req .2))
 
-over : (text start tape heads : List ℕ) (at : ℕ) (x : Stage) → onward x ≡ false → StageIs text start tape heads at x
+over : (text start tape heads : List ℕ) (at : ℕ) (x : Stage) → isOnward x ≡ false → StageIs text start tape heads at x
     → AgreesBy tableOutcome (FunctionsRead text start tape heads) (functionsOf text) (outcomeOf x)
 over text start tape heads at (Onward n) said s = absurd (true≢false said)
 over text start tape heads at (Over p) said s = s
@@ -101,6 +101,6 @@ module _ {text : RefT (List ℕ)} {start : List ℕ} where
       }
 
   -- the last state
-  pub finished : (t : Turn text start) (r : ParsedTable) → onward (t .stage) ≡ false → r ≡ outcomeOf (t .stage)
+  pub finished : (t : Turn text start) (r : ParsedTable) → isOnward (t .stage) ≡ false → r ≡ outcomeOf (t .stage)
       → AgreesBy tableOutcome (FunctionsRead (now text) start (t .tape) (t .heads)) (functionsOf (now text)) r
   finished t r said last = rw last (over (now text) start (t .tape) (t .heads) (t .reader .at) (t .stage) said (t .stands))

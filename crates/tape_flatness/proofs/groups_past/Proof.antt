@@ -1,11 +1,11 @@
--- `tape_flatness::eights_past` meets its contract.
+-- `tape_flatness::groups_past` meets its contract.
 use native.Mathlib.Omega.{arith}
 use Prim.Native.Nat.{_-_}
 use lib.ListN.{length}
 use Rattle.tape_flatness.specs.Scanned.{Below}
 use Rattle.tape_flatness.proofs.Low.{below-starts, below-joins, below-less}
-use Rattle.tape_flatness.proofs.eights_past.Statement.{statement}
-use Rattle.tape_flatness.proofs.eights_past.Tie as tie
+use Rattle.tape_flatness.proofs.groups_past.Statement.{statement}
+use Rattle.tape_flatness.proofs.groups_past.Tie as tie
 
 abbrev Inv-loop : tie.InvT-loop
 Inv-loop tape from bound at₀ at = Below bound tape from at
@@ -28,8 +28,8 @@ loop-again c = below-joins (c .before .before .before .loop .inv) (below-less (c
 returns-2 : tie.Need-returns-2 Inv-loop μ-loop
 returns-2 c = c .before .loop .inv
 
-pub eights-past-spec : {M : Type 1} → statement M
-eights-past-spec =
+pub groups-past-spec : {M : Type 1} → statement M
+groups-past-spec =
     tie.close
     (tie.spec
     Inv-loop
