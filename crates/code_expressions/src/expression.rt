@@ -1,6 +1,7 @@
 // A sentence's expression as actions: item by item, with the open calls in an array.
 use crate::naming::number_of;
 use crate::naming::size_of;
+use arithmetic::less;
 use code_actions::spans::Stand;
 use code_actions::spans::ends_pattern;
 use code_actions::spans::rest_of;
@@ -27,7 +28,6 @@ use tape_words::names::calling_of;
 use tape_words::names::name_is;
 use tape_words::tape::Item;
 use tape_words::tape::item_at;
-use tape_words::tape::less;
 use tape_words::tape::word_at;
 ghost use mathlib.Core.Path.{_≡_};
 ghost use mathlib.Core.Bool.{true, false};

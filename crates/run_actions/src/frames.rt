@@ -9,6 +9,7 @@ ghost use Rattle.run_actions.specs.States.{frameWords, firstFrames, word
 ghost use Rattle.run_actions.specs.States.{crowdedAt, withWord, frameWord};
 ghost use Rattle.run_actions.specs.States.{countsIn, countedIn, CountsWithin, begun, callingFrom};
 ghost use Rattle.run_actions.specs.States.{openedSlot, returnSlot, selectionSlot, storedSlot};
+use arithmetic::less;
 use code_numbers::wide::LEFT;
 use code_numbers::wide::MAX_STORED;
 use code_numbers::wide::NULL;
@@ -16,7 +17,6 @@ use code_numbers::wide::RIGHT;
 use code_numbers::wide::WHOLE;
 use run_cells::places::InCell;
 use run_cells::places::OutCell;
-use run_cells::places::less;
 use run_code_places::CodePlace;
 
 // The start is frame 0.

@@ -1,5 +1,5 @@
 // What one test says at a range of places, before any of them is searched.
-ghost use Prim.Native.Nat.{_+_, _-_, _≤_, _<_, _%_, _/_, _^_, min};
+ghost use Prim.Native.Nat.{_+_, _-_, _≤_, _<_, _%_, _/_, _^_};
 ghost use mathlib.Core.Path.{_≡_};
 ghost use lib.ListN.{length, getD};
 ghost use Rattle.meaning.specs.Choice.{pick};
@@ -7,6 +7,8 @@ ghost use Rattle.meaning.specs.Matching.{check as tested};
 ghost use Rattle.meaning.specs.Packing.{numberIn, firstIn, testOf, fromPlaceNumber, predicatePartNumber, registers};
 ghost use Rattle.byte_classes.specs.Tests.{Answers};
 ghost use Rattle.run_narrowing.specs.Narrowed.{asksPlace, Sifts};
+use arithmetic::less;
+use arithmetic::lesser;
 use code_numbers::BLANK;
 use code_numbers::FIRST;
 use code_numbers::FROM_PLACE;
@@ -17,7 +19,6 @@ use code_numbers::PREDICATE_PART;
 use code_numbers::REGISTERS;
 use code_numbers::SECOND;
 use code_numbers::THIRD;
-use run_cells::places::less;
 use run_class_runs::leading;
 use run_class_runs::trailing;
 use run_code_places::CodePlace;
@@ -44,12 +45,6 @@ fn asks_place(word: u32) -> bool
         return true;
     }
     registers / REGISTERS % REGISTERS == FROM_PLACE
-}
-
-fn least(a: usize, b: usize) -> usize
-    ensures { λ r. ⌜ r ≡ min a b ⌝ }
-{
-    if a < b { a } else { b }
 }
 
 // The places before a turn, or those from it on.
@@ -109,7 +104,7 @@ fn sift_first(bits: &[u8; 256], field: &[u8], word: u32, first: usize, places: u
     part_at(
         first,
         places,
-        least(passing, places),
+        lesser(passing, places),
         operand / PART_TRUTH % 2 == 1,
     )
 }
@@ -147,7 +142,7 @@ fn sift_second(bits: &[u8; 256], field: &[u8], word: u32, first: usize, places: 
     part_at(
         first,
         places,
-        least(turn, places),
+        lesser(turn, places),
         operand / PART_TRUTH % 2 != 1,
     )
 }
