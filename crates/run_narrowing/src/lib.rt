@@ -6,6 +6,7 @@ ghost use Rattle.meaning.specs.Choice.{pick};
 ghost use Rattle.meaning.specs.Matching.{check as tested};
 ghost use Rattle.meaning.specs.Packing.{numberIn, firstIn, testOf, fromPlaceNumber, predicatePartNumber, registers};
 ghost use Rattle.byte_classes.specs.Tests.{Answers};
+ghost use Rattle.run_searching.specs.Searches.{PlacesWithin};
 ghost use Rattle.run_narrowing.specs.Narrowed.{asksPlace, Sifts};
 use arithmetic::less;
 use arithmetic::lesser;
@@ -69,7 +70,7 @@ fn part_at(first: usize, places: usize, turn: usize, early: bool) -> Sifted
 // A condition on the first part: up to a turn all its bytes are in the class, and after it they aren't.
 fn sift_first(bits: &[u8; 256], field: &[u8], word: u32, first: usize, places: usize) -> Sifted
     requires { ⌜ Answers (now bits) ⌝ }
-    requires { ⌜ first + places ≤ length (now field) + 256 ⌝ }
+    requires { ⌜ PlacesWithin first places (length (now field)) ⌝ }
     requires { ⌜ 0 < places ⌝ }
     requires { ⌜ numberIn word ≡ predicatePartNumber ⌝ }
     requires { ⌜ firstIn word / registers % registers ≡ fromPlaceNumber ⌝ }
@@ -112,7 +113,7 @@ fn sift_first(bits: &[u8; 256], field: &[u8], word: u32, first: usize, places: u
 // A condition on the second part: from a turn on all its bytes are in the class, and before it they aren't.
 fn sift_second(bits: &[u8; 256], field: &[u8], word: u32, first: usize, places: usize) -> Sifted
     requires { ⌜ Answers (now bits) ⌝ }
-    requires { ⌜ first + places ≤ length (now field) + 256 ⌝ }
+    requires { ⌜ PlacesWithin first places (length (now field)) ⌝ }
     requires { ⌜ 0 < places ⌝ }
     requires { ⌜ numberIn word ≡ predicatePartNumber ⌝ }
     requires { ⌜ firstIn word % registers ≡ fromPlaceNumber ⌝ }
@@ -158,7 +159,7 @@ pub fn sift(
     places: usize,
 ) -> Sifted
     requires { ⌜ Answers (now bits) ⌝ }
-    requires { ⌜ first + places ≤ length (now field) + 256 ⌝ }
+    requires { ⌜ PlacesWithin first places (length (now field)) ⌝ }
     requires { ⌜ 0 < places ⌝ }
     requires { ⌜ at < length (now code) ⌝ }
     ensures { λ r. ⌜ Sifts r (tested (testOf (getD (now (code .entry)) at 0)) (now (field .entry))) first places ⌝ }
